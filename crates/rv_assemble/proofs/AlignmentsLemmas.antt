@@ -9,10 +9,10 @@ use Rattle.rv_statement.specs.Statement.{StatementKind, Label, Numbered, Instruc
 use Rattle.rv_statement.specs.declared.directive.Choice.{Choice}
 use Rattle.rv_unit_laws.specs.Sections.{Section, entered_by}
 use Rattle.rv_unit_laws.specs.Contributions.{AlignmentForm, As_power, As_bytes, Contribution, Nothing, Bytes, Zero_bytes, Alignment, contribution}
-use Rattle.rv_unit_laws.specs.Tables.{Tables, Assignment, at_start, here, value, is_power, greatest_alignment, alignment_as, or_none, contributed, changed_at, is_defined, may_set, with_assignment, with_section, with_data, with_contribution, with_choice, with_chosen, assigned_by, chosen, after, after_directive, after_all, tables, alignments_of}
+use Rattle.rv_unit_laws.specs.Tables.{Tables, Assignment, at_start, here, value_by_tables, is_power, greatest_alignment, alignment_as, or_none, contributed, changed_at, is_defined, may_set, with_assignment, with_section, with_data, with_contribution, with_choice, with_chosen, assigned_by, choice_in, after, after_directive, after_all, tables, alignments_of}
 use Rattle.rv_unit_laws.proofs.EnteringLemmas.{entering}
 use Rattle.rv_unit_laws.proofs.GrownLemmas.{IsPower, alignment_new, data_alignments, grown_all}
-use Rattle.rv_object.specs.Valid.{is_alignment}
+use Rattle.rv_object.specs.Valid.{is_section_alignment}
 
 -- ---- no alignment is greater
 
@@ -89,10 +89,10 @@ low_contribution t v (Alignment form number) h = low_data t (contributed v (here
 
 low_directive : (t : Tables) (k : ℕ) (d : Directive) → IsLow t → IsLow (after_directive t k d)
 low_directive t k d h =
-    let v : Expression → Value = value t false k (here t) in
+    let v : Expression → Value = value_by_tables t false k (here t) in
     let entered = with_section t (entered_by d) in
     let named = with_assignment entered (assigned_by v k d) in
-    low_contribution (with_chosen named (chosen d)) v (contribution d) (low_chosen named (chosen d) (low_set entered (assigned_by v k d) (low_section t (entered_by d) h)))
+    low_contribution (with_chosen named (choice_in d)) v (contribution d) (low_chosen named (choice_in d) (low_set entered (assigned_by v k d) (low_section t (entered_by d) h)))
 
 low_after : (t : Tables) (k : ℕ) (says : StatementKind) → IsLow t → IsLow (after t k says)
 low_after t k (Label name) h = either (is_defined t k name) t (record t { labels = t.labels ++ record { name = name; ordinal = k; place = here t } ∷ [] }) h h
@@ -111,7 +111,7 @@ low_start ss (suc (suc j)) = omega arith
 
 -- ---- so each is one that sections have
 
-a_power : (k : ℕ) → k < 13 → is_alignment (2 ^ k) ≡ true
+a_power : (k : ℕ) → k < 13 → is_section_alignment (2 ^ k) ≡ true
 a_power zero h = refl
 a_power (suc zero) h = refl
 a_power (suc (suc zero)) h = refl
@@ -137,8 +137,8 @@ below k low = go (nat_lt k 13) refl
         let more : 2 ^ 12 < 2 ^ k = pow-lt (let f : 12 < k = omega (arith, over) in f) in
         absurd (omega (arith, more, low))
 
-of_power : (n : ℕ) → IsPower n → n ≤ 4096 → is_alignment n ≡ true
-of_power n (k, is) low = ap is_alignment is ∙ a_power k (below k (subst (λ m. m ≤ 4096) is low))
+of_power : (n : ℕ) → IsPower n → n ≤ 4096 → is_section_alignment n ≡ true
+of_power n (k, is) low = ap is_section_alignment is ∙ a_power k (below k (subst (λ m. m ≤ 4096) is low))
 
-pub aligned : (ss : List Statement) (j : ℕ) → is_alignment (slice_index_or (alignments_of (tables ss)) j 1) ≡ true
+pub aligned : (ss : List Statement) (j : ℕ) → is_section_alignment (slice_index_or (alignments_of (tables ss)) j 1) ≡ true
 aligned ss j = of_power (slice_index_or (alignments_of (tables ss)) j 1) (grown_all ss 1 ss j) (low_all (at_start ss) 1 ss (low_start ss) j)

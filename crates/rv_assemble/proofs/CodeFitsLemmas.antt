@@ -31,7 +31,7 @@ use Rattle.rv_object.specs.Valid.{is_align}
 use Rattle.rv_assemble_laws.specs.CodeFields.{symbol_field, low_field, low_field_at, label_field, field_of, relax_fields, part_fields}
 use Rattle.rv_assemble_laws.specs.Coded.{constants, IsCodedPart, AreCodedParts}
 use Rattle.rv_assemble_laws.specs.Templates.{Template, Datum, Open, absolute_kind, add_kind, subtract_kind, value_bytes, value_fields, template_fields, IsWide, IsWidth, HasField, IsTemplate, align_field, padding_templates, contribution_templates}
-use Rattle.rv_assemble_laws.specs.LaidStatements.{LaidStatement, Part, part_of, part_bytes, parts_of, parts, expression_value as values, coded_templates, templates, HasSize}
+use Rattle.rv_assemble_laws.specs.LaidStatements.{LaidStatement, LaidPart, laid_part, part_bytes, parts_of, parts, expression_value as values, coded_templates, templates, HasSize}
 use Rattle.rv_assemble.proofs.SettledLemmas.{IsIn}
 use Rattle.rv_assemble.proofs.RoomLemmas.{nops_long, IsRoom, HasRoom, directive_room}
 use Rattle.rv_assemble.proofs.FieldListsLemmas.{all_split, all_join}
@@ -171,18 +171,18 @@ part_fits named compressed t v s (Joined k i j) bytes (open_at, other, (first, (
     (relax_fits (length bytes) s.ordinal s.options.relax)
 
 -- the one field of a padding, which has all bytes of its part
-pub record IsPadding (p : Part) : Type 0 where
+pub record IsPadding (p : LaidPart) : Type 0 where
   pub bytes : ℕ
   pub field : template_fields p.ordinal p.template ≡ align_field p.ordinal bytes ∷ []
   pub long : length (part_bytes p) ≡ bytes
   pub room : IsRoom bytes
 
 -- the fields of a part of a statement lie in its bytes, or are a padding
-abbrev pub Holds : Part → Type 0
+abbrev pub Holds : LaidPart → Type 0
 Holds p = AllByRecursion (FitsIn (length (part_bytes p))) (template_fields p.ordinal p.template) ⊎ IsPadding p
 
 code_fits : (named : Option Compressed) (compressed : Bool) (t : Tables) (v : Expression → Value) (s : Located) (ordinal : ℕ) (ps : List CodePart) (coded : List (List ℕ)) → AreCodedParts named compressed ps coded
-    → AllByRecursion Holds (map (part_of ordinal) (coded_templates (part_fields t v s) ps coded))
+    → AllByRecursion Holds (map (laid_part ordinal) (coded_templates (part_fields t v s) ps coded))
 code_fits named compressed t v s ordinal [] [] h = tt
 code_fits named compressed t v s ordinal [] (bytes ∷ coded) h = absurd h
 code_fits named compressed t v s ordinal (p ∷ ps) [] h = absurd h
@@ -243,20 +243,20 @@ value_fits ordinal width (Difference q r plus) h =
 value_fits ordinal width (Faulty code) h = absurd h
 
 abbrev AreTemplates : ℕ → List Template → Type 0
-AreTemplates ordinal ts = AllByRecursion (λ (p : Part). IsTemplate p.template) (map (part_of ordinal) ts)
+AreTemplates ordinal ts = AllByRecursion (λ (p : LaidPart). IsTemplate p.template) (map (laid_part ordinal) ts)
 
 values_fit : (ordinal width : ℕ) (v : Expression → Value) (es : List Expression) → AreTemplates ordinal (map (λ e. Datum width (v e)) es)
-    → AllByRecursion Holds (map (part_of ordinal) (map (λ e. Datum width (v e)) es))
+    → AllByRecursion Holds (map (laid_part ordinal) (map (λ e. Datum width (v e)) es))
 values_fit ordinal width v [] h = tt
 values_fit ordinal width v (e ∷ es) (h, hs) = (inl (value_fits ordinal width (v e) h), values_fit ordinal width v es hs)
 
-padding_fits : (executable : Bool) (ordinal bytes : ℕ) → (executable ≡ true → IsRoom bytes) → AllByRecursion Holds (map (part_of ordinal) (padding_templates executable ordinal bytes))
+padding_fits : (executable : Bool) (ordinal bytes : ℕ) → (executable ≡ true → IsRoom bytes) → AllByRecursion Holds (map (laid_part ordinal) (padding_templates executable ordinal bytes))
 padding_fits true ordinal zero h = tt
 padding_fits true ordinal (suc n) h = (inr (record { bytes = suc n; field = refl; long = nops_long (suc n) (h refl).0; room = h refl }), tt)
 padding_fits false ordinal bytes h = (inl tt, tt)
 
 contribution_fits : (executable : Bool) (ordinal bytes : ℕ) (v : Expression → Value) (c : Contribution) → (executable ≡ true → HasRoom c bytes) → AreTemplates ordinal (contribution_templates executable ordinal v c bytes)
-    → AllByRecursion Holds (map (part_of ordinal) (contribution_templates executable ordinal v c bytes))
+    → AllByRecursion Holds (map (laid_part ordinal) (contribution_templates executable ordinal v c bytes))
 contribution_fits executable ordinal bytes v Nothing r h = tt
 contribution_fits executable ordinal bytes v (Bytes (Numbers width es)) r h = values_fit ordinal width v es h
 contribution_fits executable ordinal bytes v (Bytes (Texts ended strings)) r h = (inl tt, tt)
@@ -266,27 +266,27 @@ contribution_fits executable ordinal bytes v (Alignment f number) r h = padding_
 -- ---- statements
 
 kind_fits : (t : Tables) (s : LaidStatement) (multiple : ℕ) (kind : StatementKind) → HasSize (values t s.located) s multiple kind → AreTemplates s.located.ordinal (templates t s kind)
-    → AllByRecursion Holds (map (part_of s.located.ordinal) (templates t s kind))
+    → AllByRecursion Holds (map (laid_part s.located.ordinal) (templates t s kind))
 kind_fits t s multiple (Label name) size h = tt
 kind_fits t s multiple (Numbered number) size h = tt
 kind_fits t s multiple (Instruction mnemonic operands) size h =
-    subst (λ o. AllByRecursion Holds (map (part_of s.located.ordinal) (coded_templates (part_fields t (values t s.located) s.located) (unwrap_or o []) s.coded))) (sym size.parts)
+    subst (λ o. AllByRecursion Holds (map (laid_part s.located.ordinal) (coded_templates (part_fields t (values t s.located) s.located) (unwrap_or o []) s.coded))) (sym size.parts)
     (code_fits (named_form (constants (values t s.located)) mnemonic operands) (s.located.options.rvc && are_closed size.ps) t (values t s.located) s.located s.located.ordinal size.ps s.coded size.coded_as)
 kind_fits t s multiple (Directs d) size h =
     contribution_fits s.located.home.executable s.located.ordinal s.bytes (values t s.located) (contribution d) (λ e. directive_room (values t s.located) s multiple d e size) h
 
 laid_fits : (t : Tables) (home : Section) (multiple : ℕ) (s : LaidStatement) → IsIn home s → (s.located.placed ≡ true → HasSize (values t s.located) s multiple s.located.kind)
-    → AllByRecursion (λ (p : Part). IsTemplate p.template) (parts_of t s) → AllByRecursion Holds (parts_of t s)
+    → AllByRecursion (λ (p : LaidPart). IsTemplate p.template) (parts_of t s) → AllByRecursion Holds (parts_of t s)
 laid_fits t home multiple s h size k = go s.located.placed refl
   where
     go : (b : Bool) → s.located.placed ≡ b → AllByRecursion Holds (parts_of t s)
     go true e = kind_fits t s multiple s.located.kind (size e) k
-    go false e = subst (λ ts. AllByRecursion Holds (map (part_of s.located.ordinal) ts)) (sym (h.bare e t s)) tt
+    go false e = subst (λ ts. AllByRecursion Holds (map (laid_part s.located.ordinal) ts)) (sym (h.bare e t s)) tt
 
 pub all_fit : (t : Tables) (home : Section) (multiple : ℕ) (laid : List LaidStatement) → AllByRecursion (IsIn home) laid
-    → AllByRecursion (λ s. s.located.placed ≡ true → HasSize (values t s.located) s multiple s.located.kind) laid → AllByRecursion (λ (p : Part). IsTemplate p.template) (parts t laid)
+    → AllByRecursion (λ s. s.located.placed ≡ true → HasSize (values t s.located) s multiple s.located.kind) laid → AllByRecursion (λ (p : LaidPart). IsTemplate p.template) (parts t laid)
     → AllByRecursion Holds (parts t laid)
 all_fit t home multiple [] h z k = tt
 all_fit t home multiple (s ∷ ss) (h, hs) (z, zs) k =
-    let both = all_split (λ (p : Part). IsTemplate p.template) (parts_of t s) (parts t ss) k in
+    let both = all_split (λ (p : LaidPart). IsTemplate p.template) (parts_of t s) (parts t ss) k in
     all_join Holds (parts_of t s) (parts t ss) (laid_fits t home multiple s h z both.0) (all_fit t home multiple ss hs zs both.1)

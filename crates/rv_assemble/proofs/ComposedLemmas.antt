@@ -19,7 +19,7 @@ use Rattle.rv_source_laws.specs.Located.{Located, located_now, located_from, has
 use Rattle.rv_object.specs.declared.relocation.Relocation.{Relocation as DeclaredRelocation}
 use Rattle.rv_object.specs.declared.row.Row.{Row}
 use Rattle.rv_object.specs.Object.{Contents, Relocation, Section, Symbol, size_of}
-use Rattle.rv_object.specs.Valid.{are_paddings, is_below, is_even, is_loaded_alone, fit_inside, are_indexed, are_defined, is_row_in, are_rows, is_alignment}
+use Rattle.rv_object.specs.Valid.{are_paddings, is_below, is_even, is_loaded_alone, fit_inside, are_indexed, are_defined, is_row_in, are_rows, is_section_alignment}
 use Rattle.rv_assemble_laws.specs.Refusals.{statements_fault}
 use Rattle.rv_assemble_laws.proofs.FaultlessLemmas.{no_first_fault}
 use Rattle.rv_assemble_laws.specs.LaidStatements.{LaidStatement, expression_value, HasSize, part_bytes, parts, laid_in, end_of}
@@ -301,7 +301,7 @@ module _ (ss : List Statement) (d : Draft) (extents : List Extent) (lists : List
     is_makeable = record {
       named = name_is_string home.name (sections_named ss j home kept.1 there);
       kept = kept_by made.contents home.name (names_kept ss j home kept.0 there);
-      aligned = subst (λ n. is_alignment n ≡ true) alignment (aligned ss j);
+      aligned = subst (λ n. is_section_alignment n ≡ true) alignment (aligned ss j);
       even = even_by home.executable made.contents stop size (λ code. end_even t home (slice_index_or (alignments_of t) j 1) laid code inside drafted.sizes drafted.tile);
       alone = ap (is_loaded_alone home.loaded) relocations ∙ alone_by home.loaded (relocations_from number 0 (parts t laid));
       inside = ap (fit_inside made.contents) relocations ∙ ap (λ c. fit_inside c (if home.loaded then relocations_from number 0 (parts t laid) else [])) contents

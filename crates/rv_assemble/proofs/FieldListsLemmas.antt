@@ -12,7 +12,7 @@ use Rattle.rv_unit_laws.specs.Sections.{Section}
 use Rattle.rv_unit_laws.specs.Tables.{Tables}
 use Rattle.rv_object.specs.Object.{Relocation, Symbol}
 use Rattle.rv_assemble_laws.specs.Templates.{Open, template_fields}
-use Rattle.rv_assemble_laws.specs.LaidStatements.{LaidStatement, Part, parts_of, parts, part_bytes, laid_in, Tile}
+use Rattle.rv_assemble_laws.specs.LaidStatements.{LaidStatement, LaidPart, parts_of, parts, part_bytes, laid_in, Tile}
 use Rattle.rv_assemble_laws.specs.Symbols.{SymbolUse, use_of, references_in, references_of, references}
 use Rattle.rv_assemble_laws.specs.IsObjectOf.{Numbering, relocation_at, relocations_from, IsNumbered, ArePartsNumbered}
 use Rattle.rv_assemble_laws.specs.Fields.{Field, field_at, fields_from, fields_at, fields}
@@ -45,14 +45,14 @@ module _ (number : Numbering) where
   of_part section offset [] = refl
   of_part section offset (f ∷ fs) = ap (λ l. relocation_at number offset f ∷ l) (of_part section offset fs)
 
-  of_parts : (section offset : ℕ) (ps : List Part) → map (numbered number) (fields_from section offset ps) ≡ relocations_from number offset ps
+  of_parts : (section offset : ℕ) (ps : List LaidPart) → map (numbered number) (fields_from section offset ps) ≡ relocations_from number offset ps
   of_parts section offset [] = refl
   of_parts section offset (p ∷ ps) =
       map-append (numbered number) (map (field_at section offset) (template_fields p.ordinal p.template)) (fields_from section (offset + length (part_bytes p)) ps)
       ∙ ap (λ l. l ++ map (numbered number) (fields_from section (offset + length (part_bytes p)) ps)) (of_part section offset (template_fields p.ordinal p.template))
       ∙ ap (λ l. map (relocation_at number offset) (template_fields p.ordinal p.template) ++ l) (of_parts section (offset + length (part_bytes p)) ps)
 
-  pub behind : (offset : ℕ) (ps qs : List Part) → relocations_from number offset (ps ++ qs) ≡ relocations_from number offset ps ++ relocations_from number (offset + length (flat_map part_bytes ps)) qs
+  pub behind : (offset : ℕ) (ps qs : List LaidPart) → relocations_from number offset (ps ++ qs) ≡ relocations_from number offset ps ++ relocations_from number (offset + length (flat_map part_bytes ps)) qs
   behind offset [] qs = ap (λ n. relocations_from number n qs) (let e : offset ≡ offset + 0 = omega arith in e)
   behind offset (p ∷ ps) qs =
       let own = map (relocation_at number offset) (template_fields p.ordinal p.template) in
@@ -80,7 +80,7 @@ if_append : {X : Type 0} (b : Bool) (xs ys : List X) → (if b then xs else []) 
 if_append true xs ys = refl
 if_append false xs ys = refl
 
-parts_in : (j section offset : ℕ) (b : Bool) → (section == j) ≡ b → (ps : List Part) → in_section j (fields_from section offset ps) ≡ (if b then fields_from section offset ps else [])
+parts_in : (j section offset : ℕ) (b : Bool) → (section == j) ≡ b → (ps : List LaidPart) → in_section j (fields_from section offset ps) ≡ (if b then fields_from section offset ps else [])
 parts_in j section offset true e [] = refl
 parts_in j section offset false e [] = refl
 parts_in j section offset b e (p ∷ ps) =
@@ -93,10 +93,10 @@ parts_in j section offset b e (p ∷ ps) =
 
 module _ (t : Tables) (number : Numbering) (sections : List Section) (j : ℕ) (home : Section) (at : slice_get sections j ≡ Some home) where
   -- the relocations of the parts of a section, where it is loaded
-  abbrev loaded : ℕ → List Part → List Relocation
+  abbrev loaded : ℕ → List LaidPart → List Relocation
   loaded offset ps = if home.loaded then relocations_from number offset ps else []
 
-  loaded_behind : (offset : ℕ) (ps qs : List Part) → loaded offset ps ++ loaded (offset + length (flat_map part_bytes ps)) qs ≡ loaded offset (ps ++ qs)
+  loaded_behind : (offset : ℕ) (ps qs : List LaidPart) → loaded offset ps ++ loaded (offset + length (flat_map part_bytes ps)) qs ≡ loaded offset (ps ++ qs)
   loaded_behind offset ps qs =
       if_append home.loaded (relocations_from number offset ps) (relocations_from number (offset + length (flat_map part_bytes ps)) qs)
       ∙ ap (λ l. if home.loaded then l else []) (sym (behind number offset ps qs))
@@ -150,7 +150,7 @@ uses_of_part : (section offset : ℕ) (opens : List Open) → flat_map use_of_fi
 uses_of_part section offset [] = refl
 uses_of_part section offset (f ∷ fs) = ap (λ l. use_of f.ordinal f.symbol ++ l) (uses_of_part section offset fs)
 
-uses_of_parts : (section offset : ℕ) (ps : List Part) → flat_map use_of_field (fields_from section offset ps) ≡ flat_map references_in ps
+uses_of_parts : (section offset : ℕ) (ps : List LaidPart) → flat_map use_of_field (fields_from section offset ps) ≡ flat_map references_in ps
 uses_of_parts section offset [] = refl
 uses_of_parts section offset (p ∷ ps) =
     flat_map-append use_of_field (map (field_at section offset) (template_fields p.ordinal p.template)) (fields_from section (offset + length (part_bytes p)) ps)

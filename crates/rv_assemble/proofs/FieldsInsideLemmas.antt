@@ -15,7 +15,7 @@ use Rattle.rv_unit_laws.specs.Tables.{Tables}
 use Rattle.rv_object.specs.Object.{Contents, Relocation, size_of}
 use Rattle.rv_object.specs.Valid.{is_align, is_padding, is_padding_of, padding_of, held, are_apart, are_all_apart, are_paddings}
 use Rattle.rv_assemble_laws.specs.Templates.{Open, template_fields, padding_templates, contribution_templates}
-use Rattle.rv_assemble_laws.specs.LaidStatements.{LaidStatement, Part, expression_value, templates, part_of, part_bytes, parts_of, parts, Tile}
+use Rattle.rv_assemble_laws.specs.LaidStatements.{LaidStatement, LaidPart, expression_value, templates, laid_part, part_bytes, parts_of, parts, Tile}
 use Rattle.rv_assemble_laws.specs.IsObjectOf.{Numbering, relocation_at, relocations_from}
 use Rattle.rv_assemble_laws.proofs.FilledLemmas.{bytes_append}
 use Rattle.rv_source_laws.proofs.HeldLemmas.{ContributionHeld, IsHeld, none_left}
@@ -27,23 +27,23 @@ use Rattle.rv_assemble.proofs.EvenCodeLemmas.{IsEvenPart}
 
 -- ---- sections without bytes in the file
 
-abbrev HasNoField : Part → Type 0
+abbrev HasNoField : LaidPart → Type 0
 HasNoField p = template_fields p.ordinal p.template ≡ []
 
-padding_bare : (executable : Bool) (ordinal bytes : ℕ) → (executable ≡ true → bytes ≡ 0) → AllByRecursion HasNoField (map (part_of ordinal) (padding_templates executable ordinal bytes))
+padding_bare : (executable : Bool) (ordinal bytes : ℕ) → (executable ≡ true → bytes ≡ 0) → AllByRecursion HasNoField (map (laid_part ordinal) (padding_templates executable ordinal bytes))
 padding_bare true ordinal zero none = tt
 padding_bare true ordinal (suc n) none = absurd (let e = none refl in cc)
 padding_bare false ordinal bytes none = (refl, tt)
 
 contribution_bare : (home : Section) (executable : Bool) (v : Expression → Value) (ordinal bytes : ℕ) (c : Contribution) → is_nobits home ≡ true → ContributionHeld home c → (executable ≡ true → bytes ≡ 0)
-    → AllByRecursion HasNoField (map (part_of ordinal) (contribution_templates executable ordinal v c bytes))
+    → AllByRecursion HasNoField (map (laid_part ordinal) (contribution_templates executable ordinal v c bytes))
 contribution_bare home executable v ordinal bytes Nothing e h none = tt
 contribution_bare home executable v ordinal bytes (Bytes contents) e h none = absurd (let f : is_nobits home ≡ false = h.1 in cc)
 contribution_bare home executable v ordinal bytes (Zero_bytes count) e h none = (refl, tt)
 contribution_bare home executable v ordinal bytes (Alignment f number) e h none = padding_bare executable ordinal bytes none
 
 statement_bare : (home : Section) (t : Tables) (s : LaidStatement) (kind : StatementKind) → is_nobits home ≡ true → IsHeld home kind → (s.located.home.executable ≡ true → s.bytes ≡ 0)
-    → AllByRecursion HasNoField (map (part_of s.located.ordinal) (templates t s kind))
+    → AllByRecursion HasNoField (map (laid_part s.located.ordinal) (templates t s kind))
 statement_bare home t s (Label name) e h none = tt
 statement_bare home t s (Numbered number) e h none = tt
 statement_bare home t s (Instruction mnemonic operands) e h none = absurd (let f : is_nobits home ≡ false = h.1 in cc)
@@ -60,7 +60,7 @@ parts_bare t home offset (s ∷ ss) e (h, hs) (at, bytes, tile) none =
     (statement_bare home t s s.located.kind e h.held (λ code. bytes ∙ ap length (both (sym (ap (λ (x : Section). x.executable) h.same) ∙ code)).0))
     (parts_bare t home (offset + s.bytes) ss e hs tile (λ code. (both code).1))
 
-no_relocations : (number : Numbering) (offset : ℕ) (ps : List Part) → AllByRecursion HasNoField ps → relocations_from number offset ps ≡ []
+no_relocations : (number : Numbering) (offset : ℕ) (ps : List LaidPart) → AllByRecursion HasNoField ps → relocations_from number offset ps ≡ []
 no_relocations number offset [] h = refl
 no_relocations number offset (p ∷ ps) (h, hs) =
     ap (λ l. map (relocation_at number offset) l ++ relocations_from number (offset + length (part_bytes p)) ps) h ∙ no_relocations number (offset + length (part_bytes p)) ps hs
@@ -80,12 +80,12 @@ opens_within number place total n (f ∷ fs) l (h, hs) =
     let own = h.0 in
     ap (λ b. b && list_all (Fits total) (map (relocation_at number place) fs)) (le-leb (place + width_of f.kind) total (omega (arith, own, l))) ∙ opens_within number place total n fs l hs
 
-part_within : (number : Numbering) (place total : ℕ) (p : Part) → place + length (part_bytes p) ≤ total → Holds p → list_all (Fits total) (map (relocation_at number place) (template_fields p.ordinal p.template)) ≡ true
+part_within : (number : Numbering) (place total : ℕ) (p : LaidPart) → place + length (part_bytes p) ≤ total → Holds p → list_all (Fits total) (map (relocation_at number place) (template_fields p.ordinal p.template)) ≡ true
 part_within number place total p l (inl h) = opens_within number place total (length (part_bytes p)) (template_fields p.ordinal p.template) l h
 part_within number place total p l (inr h) =
     ap (λ fs. list_all (Fits total) (map (relocation_at number place) fs)) h.field ∙ ap (λ b. b && true) (le-leb (place + 0) total (omega (arith, l)))
 
-pub parts_within : (number : Numbering) (offset total : ℕ) (ps : List Part) → AllByRecursion Holds ps → offset + length (flat_map part_bytes ps) ≤ total
+pub parts_within : (number : Numbering) (offset total : ℕ) (ps : List LaidPart) → AllByRecursion Holds ps → offset + length (flat_map part_bytes ps) ≤ total
     → list_all (Fits total) (relocations_from number offset ps) ≡ true
 parts_within number offset total [] h l = refl
 parts_within number offset total (p ∷ ps) (h, hs) l =
@@ -118,14 +118,14 @@ room_lies executable c place n room lies =
     go false h = refl
     go true h = ap (λ b. b && nat_le (place + n) (size_of c)) (eq-eqb (place % 2) 0 (h refl).0) ∙ le-leb (place + n) (size_of c) (h refl).1
 
-part_lies : (executable : Bool) (c : Contents) (number : Numbering) (place : ℕ) (p : Part) → Lies executable c place (length (part_bytes p)) → Holds p
+part_lies : (executable : Bool) (c : Contents) (number : Numbering) (place : ℕ) (p : LaidPart) → Lies executable c place (length (part_bytes p)) → Holds p
     → list_all (is_padding executable c) (map (relocation_at number place) (template_fields p.ordinal p.template)) ≡ true
 part_lies executable c number place p lies (inl h) = opens_plain executable c number place (length (part_bytes p)) (template_fields p.ordinal p.template) h
 part_lies executable c number place p lies (inr h) =
     ap (λ fs. list_all (is_padding executable c) (map (relocation_at number place) fs)) h.field
     ∙ ap (λ b. b && true) (room_lies executable c place h.bytes h.room (subst (λ n. Lies executable c place n) h.long lies))
 
-parts_lie : (executable : Bool) (c : Contents) (number : Numbering) (offset : ℕ) (ps : List Part) → AllByRecursion Holds ps → (executable ≡ true → AllByRecursion IsEvenPart ps) → Lies executable c offset (length (flat_map part_bytes ps))
+parts_lie : (executable : Bool) (c : Contents) (number : Numbering) (offset : ℕ) (ps : List LaidPart) → AllByRecursion Holds ps → (executable ≡ true → AllByRecursion IsEvenPart ps) → Lies executable c offset (length (flat_map part_bytes ps))
     → list_all (is_padding executable c) (relocations_from number offset ps) ≡ true
 parts_lie executable c number offset [] h even lies = refl
 parts_lie executable c number offset (p ∷ ps) (h, hs) even lies =
@@ -205,25 +205,25 @@ opens_behind : (number : Numbering) (place n : ℕ) (fs : List Open) → n ≤ p
 opens_behind number place n [] l = tt
 opens_behind number place n (f ∷ fs) l = (l, opens_behind number place n fs l)
 
-part_before : (number : Numbering) (place : ℕ) (p : Part) → Holds p → AllByRecursion (Before (place + length (part_bytes p))) (map (relocation_at number place) (template_fields p.ordinal p.template))
+part_before : (number : Numbering) (place : ℕ) (p : LaidPart) → Holds p → AllByRecursion (Before (place + length (part_bytes p))) (map (relocation_at number place) (template_fields p.ordinal p.template))
 part_before number place p (inl h) = opens_before number place (length (part_bytes p)) (template_fields p.ordinal p.template) h
 part_before number place p (inr h) =
     let l = h.long in
     let first : place + h.bytes ≤ place + length (part_bytes p) = omega (arith, l) in
     subst (λ fs. AllByRecursion (Before (place + length (part_bytes p))) (map (relocation_at number place) fs)) (sym h.field) (first, tt)
 
-part_apart : (number : Numbering) (place : ℕ) (p : Part) → Holds p → are_all_apart (map (relocation_at number place) (template_fields p.ordinal p.template)) ≡ true
+part_apart : (number : Numbering) (place : ℕ) (p : LaidPart) → Holds p → are_all_apart (map (relocation_at number place) (template_fields p.ordinal p.template)) ≡ true
 part_apart number place p (inl h) =
     apart_all (map (relocation_at number place) (template_fields p.ordinal p.template)) (opens_are_plain number place (length (part_bytes p)) (template_fields p.ordinal p.template) h)
 part_apart number place p (inr h) = ap (λ fs. are_all_apart (map (relocation_at number place) fs)) h.field
 
-parts_behind : (number : Numbering) (n offset : ℕ) (ps : List Part) → n ≤ offset → AllByRecursion (Behind n) (relocations_from number offset ps)
+parts_behind : (number : Numbering) (n offset : ℕ) (ps : List LaidPart) → n ≤ offset → AllByRecursion (Behind n) (relocations_from number offset ps)
 parts_behind number n offset [] l = tt
 parts_behind number n offset (p ∷ ps) l =
     all_join (Behind n) (map (relocation_at number offset) (template_fields p.ordinal p.template)) (relocations_from number (offset + length (part_bytes p)) ps)
     (opens_behind number offset n (template_fields p.ordinal p.template) l) (parts_behind number n (offset + length (part_bytes p)) ps (omega (arith, l)))
 
-parts_apart : (number : Numbering) (offset : ℕ) (ps : List Part) → AllByRecursion Holds ps → are_all_apart (relocations_from number offset ps) ≡ true
+parts_apart : (number : Numbering) (offset : ℕ) (ps : List LaidPart) → AllByRecursion Holds ps → are_all_apart (relocations_from number offset ps) ≡ true
 parts_apart number offset [] h = refl
 parts_apart number offset (p ∷ ps) (h, hs) =
     apart_both (offset + length (part_bytes p)) (map (relocation_at number offset) (template_fields p.ordinal p.template)) (relocations_from number (offset + length (part_bytes p)) ps)
@@ -232,7 +232,7 @@ parts_apart number offset (p ∷ ps) (h, hs) =
 
 -- ---- all of it
 
-pub paddings_lie : (number : Numbering) (executable : Bool) (c : Contents) (loaded : Bool) (ps : List Part) → AllByRecursion Holds ps → (executable ≡ true → AllByRecursion IsEvenPart ps) → length (flat_map part_bytes ps) ≤ size_of c
+pub paddings_lie : (number : Numbering) (executable : Bool) (c : Contents) (loaded : Bool) (ps : List LaidPart) → AllByRecursion Holds ps → (executable ≡ true → AllByRecursion IsEvenPart ps) → length (flat_map part_bytes ps) ≤ size_of c
     → are_paddings executable c (if loaded then relocations_from number 0 ps else []) ≡ true
 paddings_lie number executable c false ps h even l = none executable
   where

@@ -17,7 +17,7 @@ use Rattle.rv_object.specs.declared.symbol.Definition.TheVariants.{Undefined, Ab
 use Rattle.rv_object.specs.Object.{Relocation, Symbol}
 use Rattle.rv_object.specs.Valid.{is_below, is_defined_in}
 use Rattle.rv_assemble_laws.specs.Templates.{Open, template_fields}
-use Rattle.rv_assemble_laws.specs.LaidStatements.{LaidStatement, Part, part_bytes}
+use Rattle.rv_assemble_laws.specs.LaidStatements.{LaidStatement, LaidPart, part_bytes}
 use Rattle.rv_assemble_laws.specs.Symbols.{use_of, laid_at, after_statement, after_found, assigned_definition, statement_definition, local_symbol, shared_symbol, references, is_meant, are_together, unnamed_symbols, is_absolute, named_symbols, local_symbols, exports_of, exports, missing_name, distinct_from, undefined_symbols, symbols_of, StandsFor}
 use Rattle.rv_assemble_laws.specs.IsObjectOf.{Numbering, relocation_at, relocations_from, IsNumbered, ArePartsNumbered}
 use Rattle.rv_assemble.proofs.SettledLemmas.{IsSettled}
@@ -52,7 +52,7 @@ module _ (t : Tables) (all : List LaidStatement) (number : Numbering) (symbols :
       let both = all_split (IsNumbered t all number symbols) (use_of f.ordinal f.symbol) (flat_map (λ f. use_of f.ordinal f.symbol) fs) h in
       ap (λ b. b && list_all IsIndexed (map (relocation_at number place) fs)) (open_indexed f.ordinal f.symbol both.0) ∙ opens_indexed place fs both.1
 
-  pub parts_indexed : (offset : ℕ) (ps : List Part) → ArePartsNumbered t all number symbols ps → list_all IsIndexed (relocations_from number offset ps) ≡ true
+  pub parts_indexed : (offset : ℕ) (ps : List LaidPart) → ArePartsNumbered t all number symbols ps → list_all IsIndexed (relocations_from number offset ps) ≡ true
   parts_indexed offset [] h = refl
   parts_indexed offset (p ∷ ps) (h, hs) =
       list_all-append IsIndexed (map (relocation_at number offset) (template_fields p.ordinal p.template)) (relocations_from number (offset + length (part_bytes p)) ps)

@@ -13,8 +13,8 @@ use Rattle.rv_statement.specs.declared.directive.DirectiveWord.TheVariants as wo
 use Rattle.rv_statement.specs.declared.directive.Choice.{Choice}
 use Rattle.rv_statement.specs.Statement.{Operand, Value, Word, Quoted, Directive, StatementKind, Label, Numbered, Instruction, Directs, Statement}
 use Rattle.rv_parse_laws.specs.Words.{named_in, choices}
-use Rattle.rv_parse_laws.specs.Syntax.{is_section_name, places, chosen, directed, AreOperands, Part, Ends, Says, IsPart, StopsPart, IsStatement}
-use Rattle.rv_parse_laws.specs.Reading.{told, said, Reads}
+use Rattle.rv_parse_laws.specs.Syntax.{is_section_name, operand_slots, option_directive, directed, AreOperands, SourcePart, Ends, Says, IsPart, StopsPart, IsStatement}
+use Rattle.rv_parse_laws.specs.Reading.{told, statements_of_parts, Reads}
 use Rattle.rv_object.specs.Valid.{is_kept_name}
 use Rattle.rv_assemble.specs.KeptNames.{opens_kept, OpenOthers}
 
@@ -28,11 +28,11 @@ section_kept name (Quoted flags ∷ []) h = h
 section_kept name (Quoted flags ∷ Word kind ∷ size) h = h
 section_kept name _ h = refl
 
-choice_kept : (found : Option Choice) → opens_kept (Directs (chosen found)) ≡ true
+choice_kept : (found : Option Choice) → opens_kept (Directs (option_directive found)) ≡ true
 choice_kept (Some choice) = refl
 choice_kept None = refl
 
-directed_kept : (word : DirectiveWord) (ts : List Token) (os : List Operand) → AreOperands (places word) ts os → opens_kept (Directs (directed word os)) ≡ true
+directed_kept : (word : DirectiveWord) (ts : List Token) (os : List Operand) → AreOperands (operand_slots word) ts os → opens_kept (Directs (directed word os)) ≡ true
 directed_kept words.Section ts os (one, rest, now, later, is, (name, joined, good, names), others, says) =
     subst (λ (l : List Operand). opens_kept (Directs (directed words.Section l)) ≡ true) (sym (says ∙ ap (λ l. l ++ later) names)) (section_kept name later (kept_name name good))
 directed_kept (words.Enters section) ts os h = refl
@@ -74,16 +74,16 @@ statement_kept ts (Instruction mnemonic operands) h = refl
 statement_kept ts (Directs directive) (t, rest, word, operands, is, colon, begun, h, says) =
     subst (λ (d : Directive). opens_kept (Directs d) ≡ true) (sym says) (directed_kept word rest operands h)
 
-told_kept : (p : Part) (ts : List Token) → IsPart p ts → OpenOthers (told p ts)
+told_kept : (p : SourcePart) (ts : List Token) → IsPart p ts → OpenOthers (told p ts)
 told_kept Ends ts h = refl
 told_kept (Says statement) [] h = refl
 told_kept (Says statement) (t ∷ ts) h = ap (λ b. b && true) (statement_kept (t ∷ ts) statement h)
 
-parts_kept : (ps : List (Piece Part Token)) → Each IsPart StopsPart ps [] → OpenOthers (said ps)
+parts_kept : (ps : List (Piece SourcePart Token)) → Each IsPart StopsPart ps [] → OpenOthers (statements_of_parts ps)
 parts_kept [] h = refl
 parts_kept (p ∷ ps) (is, stops, each) =
-    list_all-append (λ (s : Statement). opens_kept s.kind) (told p.kind p.text) (said ps)
-    ∙ ap (λ b. b && list_all (λ (s : Statement). opens_kept s.kind) (said ps)) (told_kept p.kind p.text is) ∙ parts_kept ps each
+    list_all-append (λ (s : Statement). opens_kept s.kind) (told p.kind p.text) (statements_of_parts ps)
+    ∙ ap (λ b. b && list_all (λ (s : Statement). opens_kept s.kind) (statements_of_parts ps)) (told_kept p.kind p.text is) ∙ parts_kept ps each
 
 pub sections_kept : (bytes : List ℕ) (ss : List Statement) → Reads bytes ss → OpenOthers ss
 sections_kept bytes ss (short, lines, few, ts, ps, lexes, cuts, says, opens) = subst OpenOthers (sym says) (parts_kept ps cuts.each)

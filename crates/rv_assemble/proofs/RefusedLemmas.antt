@@ -6,18 +6,18 @@ use Rattle.rv_lexer.specs.declared.fault.SourceFault.{SourceFault}
 use Rattle.rv_lexer.specs.declared.fault.SourceFault.TheVariants.{At, OutOfMemory}
 use Rattle.rv_statement.specs.Statement.{Statement}
 use Rattle.rv_parse_laws.specs.Reading.{Reads}
-use Rattle.rv_unit_laws.specs.Faults.{first_fault}
+use Rattle.rv_unit_laws.specs.Faults.{first_unit_fault}
 use Rattle.rv_object.specs.declared.object.Object.{Object as DeclaredObject}
 use Rattle.rv_object.specs.View.{object_of}
 use Rattle.rv_assemble_laws.specs.IsObjectOf.{IsObjectOf}
 use Rattle.rv_assemble_laws.specs.Refusals.{code_fault, else_fault, statements_fault}
-use Rattle.rv_draft.specs.Draft.{IsRefused}
+use Rattle.rv_draft.specs.Draft.{IsRefusedSource}
 use Rattle.rv_assemble.specs.FirstFault.{IsFirstFault}
 
-pub all_sound : (ss : List Statement) → first_fault ss ≡ None → code_fault ss ≡ None → statements_fault ss ≡ None
+pub all_sound : (ss : List Statement) → first_unit_fault ss ≡ None → code_fault ss ≡ None → statements_fault ss ≡ None
 all_sound ss good code = ap (λ f. else_fault f (code_fault ss)) good ∙ code
 
-of_code : (text : List ℕ) (ss : List Statement) (e : SourceFault) → Reads text ss → first_fault ss ≡ None → IsRefused ss e → IsFirstFault text e
+of_code : (text : List ℕ) (ss : List Statement) (e : SourceFault) → Reads text ss → first_unit_fault ss ≡ None → IsRefusedSource ss e → IsFirstFault text e
 of_code text ss (At code line) reads good (inl h) = inr (ss, reads, inl (ap (λ f. else_fault f (code_fault ss)) good ∙ h))
 of_code text ss (At code line) reads good (inr (none, long)) = inr (ss, reads, inr (all_sound ss good none, long))
 of_code text ss OutOfMemory reads good h = tt
@@ -27,6 +27,6 @@ pub object_read : (text : List ℕ) (ss : List Statement) (r : Result DeclaredOb
 object_read text ss (Ok o) reads sound h = (ss, reads, sound, h)
 object_read text ss (Err e) reads sound h = tt
 
-pub fault_read : (text : List ℕ) (ss : List Statement) (r : Result DeclaredObject SourceFault) → Reads text ss → first_fault ss ≡ None → IfErr r (λ e. IsRefused ss e) → IfErr r (λ e. IsFirstFault text e)
+pub fault_read : (text : List ℕ) (ss : List Statement) (r : Result DeclaredObject SourceFault) → Reads text ss → first_unit_fault ss ≡ None → IfErr r (λ e. IsRefusedSource ss e) → IfErr r (λ e. IsFirstFault text e)
 fault_read text ss (Ok o) reads good h = tt
 fault_read text ss (Err e) reads good h = of_code text ss e reads good h

@@ -8,7 +8,7 @@ use Rattle.std.specs.List.{AllByRecursion, slice_get}
 use Rattle.rv_statement.specs.Statement.{StatementKind, Label, Numbered, Instruction, Directs, Statement, Sets, Aligns_to_power, Aligns_to_bytes, Values, Strings, Zeros}
 use Rattle.rv_unit_laws.specs.Sections.{Section, text_section}
 use Rattle.rv_unit_laws.specs.Tables.{Tables, at_start, after, tables, opened_of}
-use Rattle.rv_unit_laws.specs.Faults.{first_fault}
+use Rattle.rv_unit_laws.specs.Faults.{first_unit_fault}
 use Rattle.rv_source_laws.specs.Located.{Located, located_from, is_placed}
 use Rattle.rv_source_laws.proofs.HeldLemmas.{IsHeld, Held, all_held}
 use Rattle.rv_source_laws.proofs.HomesLemmas.{homes_from}
@@ -54,7 +54,7 @@ settled_by : (sections : List Section) (laid : List LaidStatement) → AllByRecu
 settled_by sections [] h k b = tt
 settled_by sections (s ∷ ss) (h, hs) (k, ks) (b, bs) = (record { home = h; held = k; bare = b }, settled_by sections ss hs ks bs)
 
-pub settled : (ss : List Statement) (laid : List LaidStatement) → first_fault ss ≡ None → map (λ s. s.located) laid ≡ located_from 1 1 (at_start ss) ss
+pub settled : (ss : List Statement) (laid : List LaidStatement) → first_unit_fault ss ≡ None → map (λ s. s.located) laid ≡ located_from 1 1 (at_start ss) ss
     → AllByRecursion (IsSettled (opened_of (tables ss)).sections) laid
 settled ss laid good is =
     let sections = (opened_of (tables ss)).sections in

@@ -8,7 +8,7 @@ use Rattle.std.specs.Prelude.{⊤, if◌then◌else◌, flat_map, is_some, unwra
 use Rattle.std.specs.List.{AllByRecursion, list_all}
 use Rattle.rv_isa.specs.Kinds.{is_low_part}
 use Rattle.rv_isa.specs.declared.kind.Kind.{Kind}
-use Rattle.rv_text_laws.specs.Bytes.{value as digits_value}
+use Rattle.rv_text_laws.specs.Bytes.{digits_value as digits_value}
 use Rattle.rv_text_laws.specs.Expression.{Primary, Literal, Symbol, Here, Reference, Tree, Leaf, Unary, Paren, Binary}
 use Rattle.rv_text_laws.specs.Values.{Value, Constant, Symbolic, Difference, Faulty}
 use Rattle.rv_statement.specs.declared.pseudo.Function.TheVariants.{Hi, Lo, PcrelHi, PcrelLo}
@@ -23,7 +23,7 @@ use Rattle.rv_source_laws.specs.Lines.{other_operand, operand_of}
 use Rattle.rv_assemble_laws.specs.CodeFields.{symbol_field, low_field, low_field_at, label_field, field_of, relax_fields, part_fields}
 use Rattle.rv_assemble_laws.specs.Coded.{constants}
 use Rattle.rv_assemble_laws.specs.Templates.{Datum, Open, padding_templates, contribution_templates}
-use Rattle.rv_assemble_laws.specs.LaidStatements.{LaidStatement, expression_value, part_of, parts_of, coded_templates, templates}
+use Rattle.rv_assemble_laws.specs.LaidStatements.{LaidStatement, expression_value, laid_part, parts_of, coded_templates, templates}
 use Rattle.rv_assemble_laws.specs.Symbols.{SymbolUse, use_of, references_in, references_of, references}
 use Rattle.rv_assemble_laws.specs.ShownNames.{primary_names, tree_names, own_names, said_names, are_shown, HasNames, is_shown_use, AreShown}
 use Rattle.rv_symbols.specs.SymbolUse.{is_meant_use, AreMeant}
@@ -71,7 +71,7 @@ module _ (t : Tables) where
 
   -- ---- parts
 
-  of_value : (ordinal width : ℕ) (v : Value) → Pass (λ p. is_known (used ordinal p)) v → list_all is_known (references_in (part_of ordinal (Datum width v))) ≡ true
+  of_value : (ordinal width : ℕ) (v : Value) → Pass (λ p. is_known (used ordinal p)) v → list_all is_known (references_in (laid_part ordinal (Datum width v))) ≡ true
   of_value ordinal width (Constant n) h = refl
   of_value ordinal width (Symbolic p at k) h = and_join (is_known (used ordinal p)) true h refl
   of_value ordinal width (Difference p q k) (h, l) = and_join (is_known (used ordinal p)) (is_known (used ordinal q) && true) h (and_join (is_known (used ordinal q)) true l refl)
@@ -81,21 +81,21 @@ module _ (t : Tables) where
   all_append xs ys h k = list_all-append is_known xs ys ∙ and_join (list_all is_known xs) (list_all is_known ys) h k
 
   of_values : (l : Located) (width : ℕ) (es : List Expression) → are_shown (flat_map tree_names es) ≡ true
-      → list_all is_known (flat_map references_in (map (part_of l.ordinal) (map (λ e. Datum width (expression_value t l e)) es))) ≡ true
+      → list_all is_known (flat_map references_in (map (laid_part l.ordinal) (map (λ e. Datum width (expression_value t l e)) es))) ≡ true
   of_values l width [] h = refl
   of_values l width (e ∷ es) h =
       let both = both_shown (tree_names e) (flat_map tree_names es) h in
-      all_append (references_in (part_of l.ordinal (Datum width (expression_value t l e)))) (flat_map references_in (map (part_of l.ordinal) (map (λ e. Datum width (expression_value t l e)) es)))
+      all_append (references_in (laid_part l.ordinal (Datum width (expression_value t l e)))) (flat_map references_in (map (laid_part l.ordinal) (map (λ e. Datum width (expression_value t l e)) es)))
       (of_value l.ordinal width (expression_value t l e) (by_value (λ q. meaning t true l.ordinal (place_of l) q) (λ p. is_known (used l.ordinal p)) e (leaves_known l.ordinal (place_of l) e both.0)))
       (of_values l width es both.1)
 
-  of_padding : (executable : Bool) (ordinal bytes : ℕ) → list_all is_known (flat_map references_in (map (part_of ordinal) (padding_templates executable ordinal bytes))) ≡ true
+  of_padding : (executable : Bool) (ordinal bytes : ℕ) → list_all is_known (flat_map references_in (map (laid_part ordinal) (padding_templates executable ordinal bytes))) ≡ true
   of_padding true ordinal zero = refl
   of_padding true ordinal (suc n) = refl
   of_padding false ordinal bytes = refl
 
   of_contribution : (l : Located) (bytes : ℕ) (c : Contribution) → are_shown (flat_map tree_names (in_contribution c)) ≡ true
-      → list_all is_known (flat_map references_in (map (part_of l.ordinal) (contribution_templates l.home.executable l.ordinal (expression_value t l) c bytes))) ≡ true
+      → list_all is_known (flat_map references_in (map (laid_part l.ordinal) (contribution_templates l.home.executable l.ordinal (expression_value t l) c bytes))) ≡ true
   of_contribution l bytes Nothing h = refl
   of_contribution l bytes (Bytes (Numbers width values)) h = of_values l width values h
   of_contribution l bytes (Bytes (Texts ended strings)) h = refl
@@ -175,15 +175,15 @@ module _ (t : Tables) where
       ∙ all_append (uses (field_of t (expression_value t l) l.ordinal (operand_of l.kind) k)) (uses (relax_fields l.options.relax l.ordinal)) (of_operand l (operand_of l.kind) k h) (of_relax l.options.relax l.ordinal)
 
   of_code : (l : Located) (ordinal : ℕ) (ps : List CodePart) (coded : List (List ℕ)) → IsKnown l (operand_of l.kind)
-      → list_all is_known (flat_map references_in (map (part_of ordinal) (coded_templates (part_fields t (expression_value t l) l) ps coded))) ≡ true
+      → list_all is_known (flat_map references_in (map (laid_part ordinal) (coded_templates (part_fields t (expression_value t l) l) ps coded))) ≡ true
   of_code l ordinal [] coded h = refl
   of_code l ordinal (p ∷ ps) [] h = refl
   of_code l ordinal (p ∷ ps) (bytes ∷ coded) h =
-      all_append (uses (part_fields t (expression_value t l) l p)) (flat_map references_in (map (part_of ordinal) (coded_templates (part_fields t (expression_value t l) l) ps coded)))
+      all_append (uses (part_fields t (expression_value t l) l p)) (flat_map references_in (map (laid_part ordinal) (coded_templates (part_fields t (expression_value t l) l) ps coded)))
       (of_part l p h) (of_code l ordinal ps coded h)
 
   of_statement : (s : LaidStatement) (kind : StatementKind) → kind ≡ s.located.kind → are_shown (said_names kind) ≡ true
-      → list_all is_known (flat_map references_in (map (part_of s.located.ordinal) (templates t s kind))) ≡ true
+      → list_all is_known (flat_map references_in (map (laid_part s.located.ordinal) (templates t s kind))) ≡ true
   of_statement s (Label name) e h = refl
   of_statement s (Numbered number) e h = refl
   of_statement s (Instruction mnemonic operands) e h =

@@ -6,13 +6,13 @@ use Rattle.std.specs.List.{AllByRecursion}
 use Rattle.std.specs.Prelude.{Bool, true, false, flat_map, if◌then◌else◌}
 use Rattle.std.proofs.lemmas.Option.{slice_get_within}
 use Rattle.rv_statement.specs.Statement.{Statement}
-use Rattle.rv_unit_laws.specs.Faults.{first_fault}
+use Rattle.rv_unit_laws.specs.Faults.{first_unit_fault}
 use Rattle.rv_unit_laws.specs.Sections.{Section}
 use Rattle.rv_unit_laws.specs.Tables.{Tables, at_start, after, tables, opened_of}
 use Rattle.rv_unit.specs.Items.{offsets_of}
 use Rattle.rv_source_laws.specs.Located.{located_from}
 use Rattle.rv_assemble_laws.specs.Templates.{Open, template_fields}
-use Rattle.rv_assemble_laws.specs.LaidStatements.{LaidStatement, Part, part_bytes, parts_of}
+use Rattle.rv_assemble_laws.specs.LaidStatements.{LaidStatement, LaidPart, part_bytes, parts_of}
 use Rattle.rv_assemble_laws.specs.Symbols.{references}
 use Rattle.rv_assemble_laws.specs.Fields.{Field, field_at, fields_from, fields_at, fields}
 use Rattle.rv_assemble_laws.specs.ShownNames.{used_names, HasNames, AreShown}
@@ -24,7 +24,7 @@ use Rattle.rv_draft.specs.Draft.{item_of, field_of, IsDraft}
 use Rattle.rv_symbols.specs.declared.symbol_use.SymbolUse.{SymbolUse as CodeUse}
 use Rattle.rv_symbols.specs.SymbolUse.{AreMeant, uses_of}
 use Rattle.rv_symbols.specs.HasSymbols.{AreLaid}
-use Rattle.rv_assemble.specs.Tabled.{use_of, uses_in}
+use Rattle.rv_assemble.specs.Tabled.{field_use, uses_in}
 use Rattle.rv_assemble.proofs.SettledLemmas.{IsSettled, settled}
 use Rattle.rv_assemble.proofs.FieldListsLemmas.{use_of_field, uses_of_fields, all_join}
 use Rattle.rv_assemble.proofs.UsesKnownLemmas.{are_shown_uses, are_meant_uses}
@@ -33,9 +33,9 @@ offsets_are : (laid : List LaidStatement) → map (λ s. s.offset) laid ≡ offs
 offsets_are [] = refl
 offsets_are (s ∷ ss) = ap (λ l. s.offset ∷ l) (offsets_are ss)
 
-uses_are : (fs : List OpenField) → flat_map use_of fs ≡ flat_map use_of_field (map field_of fs)
+uses_are : (fs : List OpenField) → flat_map field_use fs ≡ flat_map use_of_field (map field_of fs)
 uses_are [] = refl
-uses_are (f ∷ fs) = ap (λ l. use_of f ++ l) (uses_are fs)
+uses_are (f ∷ fs) = ap (λ l. field_use f ++ l) (uses_are fs)
 
 count_from : (k : ℕ) (t : Tables) (ss : List Statement) → length (located_from 1 k t ss) ≡ length ss
 count_from k t [] = refl
@@ -47,7 +47,7 @@ opens_inside : (n section offset : ℕ) → section < n → (fs : List Open) →
 opens_inside n section offset h [] = tt
 opens_inside n section offset h (f ∷ fs) = (h, opens_inside n section offset h fs)
 
-parts_inside : (n section offset : ℕ) → section < n → (ps : List Part) → AllByRecursion (λ (f : Field). f.section < n) (fields_from section offset ps)
+parts_inside : (n section offset : ℕ) → section < n → (ps : List LaidPart) → AllByRecursion (λ (f : Field). f.section < n) (fields_from section offset ps)
 parts_inside n section offset h [] = tt
 parts_inside n section offset h (p ∷ ps) =
     all_join (λ (f : Field). f.section < n) (map (field_at section offset) (template_fields p.ordinal p.template)) (fields_from section (offset + length (part_bytes p)) ps) (opens_inside n section offset h (template_fields p.ordinal p.template))
@@ -100,7 +100,7 @@ module _ (ss : List Statement) (d : Draft) (h : IsDraft ss d) where
   pub uses_meant : HasNames ss → AreMeant (tables ss) (uses_in d)
   uses_meant names = subst (AreMeant (tables ss)) (sym uses_named) (are_meant_uses ss h.laid names h.located)
 
-  pub fields_inside : first_fault ss ≡ None → AllByRecursion (λ (f : OpenField). f.section < length (opened_of (tables ss)).sections) d.fields.items
+  pub fields_inside : first_unit_fault ss ≡ None → AllByRecursion (λ (f : OpenField). f.section < length (opened_of (tables ss)).sections) d.fields.items
   fields_inside good =
       unmapped (length (opened_of (tables ss)).sections) d.fields.items
       (subst (λ fs. AllByRecursion (λ (f : Field). f.section < length (opened_of (tables ss)).sections) fs) (sym h.open_fields)
@@ -108,8 +108,8 @@ module _ (ss : List Statement) (d : Draft) (h : IsDraft ss d) where
 
 -- ---- one more
 
-pub uses_more : (made now : List CodeUse) (fs : List OpenField) (i : ℕ) (d : OpenField) → i < length fs → uses_of now ≡ uses_of made ++ use_of (get_or fs i d) → uses_of made ++ flat_map use_of (drop i fs) ≡ flat_map use_of fs
-    → uses_of now ++ flat_map use_of (drop (i + 1) fs) ≡ flat_map use_of fs
+pub uses_more : (made now : List CodeUse) (fs : List OpenField) (i : ℕ) (d : OpenField) → i < length fs → uses_of now ≡ uses_of made ++ field_use (get_or fs i d) → uses_of made ++ flat_map field_use (drop i fs) ≡ flat_map field_use fs
+    → uses_of now ++ flat_map field_use (drop (i + 1) fs) ≡ flat_map field_use fs
 uses_more made now fs i d inside is h =
-    ap (λ l. l ++ flat_map use_of (drop (i + 1) fs)) is ∙ append_assoc (uses_of made) (use_of (get_or fs i d)) (flat_map use_of (drop (i + 1) fs))
-    ∙ ap (λ l. uses_of made ++ flat_map use_of l) (sym (drop_more fs i d inside)) ∙ h
+    ap (λ l. l ++ flat_map field_use (drop (i + 1) fs)) is ∙ append_assoc (uses_of made) (field_use (get_or fs i d)) (flat_map field_use (drop (i + 1) fs))
+    ∙ ap (λ l. uses_of made ++ flat_map field_use l) (sym (drop_more fs i d inside)) ∙ h

@@ -7,7 +7,7 @@ use Rattle.rv_text_laws.specs.declared.operator.UnaryOperator.TheVariants.{Negat
 use Rattle.rv_text_laws.specs.declared.operator.BinaryOperator.{BinaryOperator}
 use Rattle.rv_text_laws.specs.declared.operator.BinaryOperator.TheVariants.{Multiply, Divide, Remainder, ShiftLeft, ShiftRight, Or, And, ExclusiveOr, Add, Subtract}
 use Rattle.rv_text_laws.specs.Expression.{Primary, Literal, Symbol, Here, Reference, Tree, Leaf, Unary, Paren, Binary}
-use Rattle.rv_text_laws.specs.Values.{Meaning, Known, InSection, Open, Refused, Value, Constant, Symbolic, Difference, Faulty, arithmetic, refused, apart, sum, difference, constants, both, alone, meant, primary_value, value_of}
+use Rattle.rv_text_laws.specs.Values.{Meaning, Known, InSection, Open, Refused, Value, Constant, Symbolic, Difference, Faulty, arithmetic, refused, apart, sum, difference, constants_alone, both, unary_value, meant, primary_value, value_of}
 
 -- the symbols of a value pass a test
 abbrev pub Pass : (Primary → Bool) → Value → Type 0
@@ -102,7 +102,7 @@ module _ (m : Primary → Meaning) (q : Primary → Bool) where
   by_difference (Difference p r n) (Faulty c) h k = tt
   by_difference (Faulty c) w h k = by_refused Subtract (Faulty c) w
 
-  by_constants : (o : BinaryOperator) (v w : Value) → Pass q (constants o v w)
+  by_constants : (o : BinaryOperator) (v w : Value) → Pass q (constants_alone o v w)
   by_constants o (Constant a) (Constant b) = by_arithmetic o a b
   by_constants o (Constant a) (Symbolic p at k) = tt
   by_constants o (Constant a) (Difference p r k) = tt
@@ -123,7 +123,7 @@ module _ (m : Primary → Meaning) (q : Primary → Bool) where
   by_both And v w h k = by_constants And v w
   by_both ExclusiveOr v w h k = by_constants ExclusiveOr v w
 
-  by_alone : (o : UnaryOperator) (v : Value) → Pass q v → Pass q (alone o v)
+  by_alone : (o : UnaryOperator) (v : Value) → Pass q v → Pass q (unary_value o v)
   by_alone Keep v h = h
   by_alone Negate (Constant a) h = tt
   by_alone Negate (Symbolic p at k) h = tt

@@ -4,7 +4,7 @@ use Rattle.std.specs.Prelude.{ℕ, ⊤, List, ◌⊎◌}
 use Rattle.rv_lexer.specs.declared.fault.SourceCode.{SourceCode}
 use Rattle.rv_lexer.specs.declared.fault.SourceFault.{SourceFault}
 use Rattle.rv_lexer.specs.declared.fault.SourceFault.TheVariants.{At, OutOfMemory}
-use Rattle.rv_lexer.specs.Fault.{number_of}
+use Rattle.rv_lexer.specs.Fault.{source_fault_number}
 use Rattle.rv_statement.specs.Statement.{Statement}
 use Rattle.rv_parse_laws.specs.Reading.{Reads}
 use Rattle.rv_parse_laws.specs.Refusals.{Refuses}
@@ -14,11 +14,11 @@ use Rattle.rv_assemble_laws.specs.Refusals.{IsStatementsFault}
 abbrev pub IsReadFault : List ℕ → SourceCode → ℕ → Type 0
 IsReadFault text code line =
     (ss : List Statement) × Reads text ss
-    × IsStatementsFault ss (record { code = number_of code; line = line })
+    × IsStatementsFault ss (record { code = source_fault_number code; line = line })
 
 -- a fault of the text; else one of its statements. Memory may run out anywhere
 abbrev pub IsFirstFault : List ℕ → SourceFault → Type 0
 IsFirstFault text (At code line) =
-    Refuses text (record { code = number_of code; line = line })
+    Refuses text (record { code = source_fault_number code; line = line })
     ⊎ IsReadFault text code line
 IsFirstFault text OutOfMemory = ⊤

@@ -11,7 +11,7 @@ use Rattle.rv_object.specs.declared.row.Row.{Row}
 use Rattle.rv_object.specs.declared.relocation.Relocation.{Relocation as DeclaredRelocation}
 use Rattle.rv_object.specs.Object.{Relocation, Section}
 use Rattle.rv_object.specs.Parts.{relocation_of}
-use Rattle.rv_object.specs.Valid.{is_alignment, is_string, keeps_name, is_even, is_loaded_alone, fit_inside, are_paddings}
+use Rattle.rv_object.specs.Valid.{is_section_alignment, is_string, keeps_name, is_even, is_loaded_alone, fit_inside, are_paddings}
 use Rattle.rv_assemble_laws.specs.Fields.{Field}
 use Rattle.rv_assemble_laws.specs.IsObjectOf.{contents_of}
 use Rattle.rv_unit.specs.declared.item.Item.{Item}
@@ -85,7 +85,7 @@ section_by home alignment stop bytes rs = record {
 pub record IsMakeable (x : Section) : Type 0 where
   pub named : is_string x.name ≡ true
   pub kept : keeps_name x.contents x.name ≡ true
-  pub aligned : is_alignment x.alignment ≡ true
+  pub aligned : is_section_alignment x.alignment ≡ true
   pub even : is_even x.executable x.contents ≡ true
   pub alone : is_loaded_alone x.loaded x.relocations ≡ true
   pub inside : fit_inside x.contents x.relocations ≡ true

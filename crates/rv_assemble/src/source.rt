@@ -3,14 +3,14 @@
 ghost use Rattle.std.specs.Prelude.{◌≡◌, List, None, IfOk, IfErr};
 ghost use Rattle.rv_statement.specs.Statement.{Statement};
 ghost use Rattle.rv_parse_laws.specs.Reading.{Reads};
-ghost use Rattle.rv_unit_laws.specs.Faults.{first_fault};
+ghost use Rattle.rv_unit_laws.specs.Faults.{first_unit_fault};
 ghost use Rattle.rv_unit.specs.Unit.{said, IsFilled};
 ghost use Rattle.rv_object.specs.View.{object_of};
 ghost use Rattle.rv_assemble_laws.specs.IsObjectOf.{IsObjectOf};
 ghost use Rattle.rv_assemble_laws.specs.Refusals.{statements_fault};
 ghost use Rattle.rv_assemble_laws.specs.ShownNames.{HasNames};
 ghost use Rattle.rv_assemble_laws.specs.Small.{AreSmall};
-ghost use Rattle.rv_draft.specs.Draft.{IsRefused};
+ghost use Rattle.rv_draft.specs.Draft.{IsRefusedSource};
 ghost use Rattle.rv_assemble.specs.FirstFault.{IsFirstFault};
 ghost use Rattle.rv_assemble.specs.KeptNames.{OpenKept};
 
@@ -43,13 +43,13 @@ pub fn assemble(alloc: Global, source: &[u8]) -> Result<Object<'_>, SourceFault>
 /// The object of a unit.
 fn assembled<'a>(alloc: Global, unit: Unit<'a>) -> Result<Object<'a>, SourceFault>
     requires filled { IsFilled unit }
-    requires good { first_fault (said unit) ≡ None }
+    requires good { first_unit_fault (said unit) ≡ None }
     requires names { HasNames (said unit) }
     requires small { AreSmall (said unit) }
     requires kept { OpenKept (said unit) }
     ensures sound { IfOk result (λ o. statements_fault (said unit.entry) ≡ None) }
     ensures object { IfOk result (λ o. IsObjectOf (said unit.entry) (object_of o)) }
-    ensures refuses { IfErr result (λ fault. IsRefused (said unit.entry) fault) }
+    ensures refuses { IfErr result (λ fault. IsRefusedSource (said unit.entry) fault) }
 {
     let draft = Draft::of(alloc, &unit)?;
     let table = table(alloc, &unit, &draft)?;

@@ -1,13 +1,13 @@
 //! The symbols of a draft.
 
 ghost use Rattle.std.specs.Prelude.{◌≡◌, ◌++◌, None, IfOk, OnOk, flat_map};
-ghost use Rattle.rv_unit_laws.specs.Faults.{first_fault};
+ghost use Rattle.rv_unit_laws.specs.Faults.{first_unit_fault};
 ghost use Rattle.rv_unit.specs.Unit.{said, IsFilled};
 ghost use Rattle.rv_assemble_laws.specs.ShownNames.{HasNames};
 ghost use Rattle.rv_assemble_laws.specs.Small.{AreSmall};
 ghost use Rattle.rv_draft.specs.Draft.{IsDraft};
 ghost use Rattle.rv_symbols.specs.SymbolUse.{uses_of};
-ghost use Rattle.rv_assemble.specs.Tabled.{use_of, HasTable};
+ghost use Rattle.rv_assemble.specs.Tabled.{field_use, HasTable};
 
 use rv_draft::{Draft, OpenField};
 use rv_symbols::{SymbolTable, SymbolUse, symbols};
@@ -21,7 +21,7 @@ pub(crate) fn table<'a>(
     draft: &Draft<'a>,
 ) -> Result<SymbolTable<'a>, AllocError>
     requires filled { IsFilled unit.now }
-    requires good { first_fault (said unit.now) ≡ None }
+    requires good { first_unit_fault (said unit.now) ≡ None }
     requires names { HasNames (said unit.now) }
     requires small { AreSmall (said unit.now) }
     requires draft { IsDraft (said unit.now) draft.now }
@@ -33,7 +33,7 @@ pub(crate) fn table<'a>(
 
 /// Adds the symbol that a field names, if there is one.
 fn put_use<'a>(uses: &mut Vec<SymbolUse<'a>>, field: &OpenField<'a>) -> Result<(), AllocError>
-    ensures { OnOk result (uses_of uses.new.items ≡ uses_of uses.old.items ++ use_of field.now) }
+    ensures { OnOk result (uses_of uses.new.items ≡ uses_of uses.old.items ++ field_use field.now) }
 {
     let Some(symbol) = field.symbol else {
         return Ok(());
@@ -47,7 +47,7 @@ fn put_use<'a>(uses: &mut Vec<SymbolUse<'a>>, field: &OpenField<'a>) -> Result<(
 
 /// The symbols that fields name, in their order.
 fn uses<'a>(alloc: Global, fields: &[OpenField<'a>]) -> Result<Vec<SymbolUse<'a>>, AllocError>
-    ensures { IfOk result (λ uses. uses_of uses.items ≡ flat_map use_of fields.now) }
+    ensures { IfOk result (λ uses. uses_of uses.items ≡ flat_map field_use fields.now) }
 {
     let mut uses = Vec::with_capacity(alloc, fields.len())?;
     for index in 0..fields.len() {

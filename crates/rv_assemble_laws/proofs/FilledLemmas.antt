@@ -3,9 +3,9 @@
 use Rattle.std.proofs.Common.{◌≡◌, ℕ, ◌+◌, List, [], ◌∷◌, ◌++◌, length, refl, sym, ap, ◌∙◌, arith, length-append}
 use Rattle.std.specs.Prelude.{flat_map}
 use Rattle.rv_unit_laws.specs.Tables.{Tables}
-use Rattle.rv_assemble_laws.specs.LaidStatements.{LaidStatement, Part, Tile, end_of, part_bytes, parts, parts_of}
+use Rattle.rv_assemble_laws.specs.LaidStatements.{LaidStatement, LaidPart, Tile, end_of, part_bytes, parts, parts_of}
 
-pub bytes_append : (xs ys : List Part) → flat_map part_bytes (xs ++ ys) ≡ flat_map part_bytes xs ++ flat_map part_bytes ys
+pub bytes_append : (xs ys : List LaidPart) → flat_map part_bytes (xs ++ ys) ≡ flat_map part_bytes xs ++ flat_map part_bytes ys
 bytes_append [] ys = refl
 bytes_append (x ∷ xs) ys = ap (λ l. part_bytes x ++ l) (bytes_append xs ys) ∙ sym (append_assoc (part_bytes x) (flat_map part_bytes xs) (flat_map part_bytes ys))
   where

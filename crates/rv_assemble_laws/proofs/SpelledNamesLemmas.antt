@@ -10,7 +10,7 @@ use Rattle.rv_text_laws.specs.declared.class.Class.TheVariants as classes
 use Rattle.rv_text_laws.specs.Bytes.{class, is_letter, is_decimal, is_word, between}
 use Rattle.rv_text_laws.specs.Cut.{Piece, texts, Each}
 use Rattle.rv_text_laws.specs.Grammar.{Kind, Space, Line_comment, Block_comment, Newline, Punctuation, Name, Number, Reference, Bad_word, Text, Character, Bad_byte, Bad_token, End, IsWord, direction, Spells, Stops}
-use Rattle.rv_text_laws.specs.Joined.{bytes_of, AreAfter, IsJoined}
+use Rattle.rv_text_laws.specs.Joined.{joined_bytes, AreAfter, IsJoined}
 use Rattle.rv_text_laws.specs.Lexing.{Token, Lexes, tokens_of, placed, is_gap, bad, last_kind, last}
 use Rattle.rv_text_laws.specs.declared.punct.Punct.{Punct}
 use Rattle.rv_text_laws.specs.declared.punct.Punct.TheVariants as puncts
@@ -32,8 +32,8 @@ use Rattle.rv_statement.specs.Statement.{Expression, Operand, Register, Value, A
 use Rattle.rv_parse_laws.specs.declared.role.Role.{Role}
 use Rattle.rv_parse_laws.specs.declared.role.Role.TheVariants as roles
 use Rattle.rv_parse_laws.specs.Words.{named_in, choices}
-use Rattle.rv_parse_laws.specs.Syntax.{Slot, A_register_of, A_zero, Some_accesses, A_symbol, A_string, Some_flags, At_sign, A_type, An_option, A_plt, A_comma, An_opening, A_closing, register_of, kept_in, symbol_of, is_symbol, is_zero, accesses_of, is_at, is_plt, is_comma, is_opening, is_closing, single, A_value, An_address_by, An_address, A_callee, A_section, A_target, Slots, Stops as Ends_here, Takes, Chooses, Locates, Lists, Anything, IsValue, IsValueIn, IsOneIn, IsArgument, IsBase, IsLinked, IsOperand, IsTaken, IsFurther, AreItems, AreOperands, label_named, label_of, valued, targets, is_register, slots, places, source, registers_alone, registers_and_base, registers_before, parcel_slots, with_constant, names_in, values_in, chosen, directed, Part, Ends, Says, IsPart, StopsPart, IsStatement}
-use Rattle.rv_parse_laws.specs.Reading.{told, said, Reads}
+use Rattle.rv_parse_laws.specs.Syntax.{Slot, A_register_of, A_zero, Some_accesses, A_symbol, A_string, Some_flags, At_sign, A_type, An_option, A_plt, A_comma, An_opening, A_closing, register_of, kept_in, token_symbol, is_symbol, is_zero, accesses_of, is_at_sign, is_plt, is_comma, is_opening, is_closing, single, A_value, An_address_by, An_address, A_callee, A_section, A_target, Slots, Stops as Ends_here, Takes, Chooses, Locates, Lists, Anything, IsValue, IsValueIn, IsOneIn, IsArgument, IsBase, IsLinked, IsOperand, TakesSlot, IsFurther, AreItems, AreOperands, label_named, label_of, valued, targets, is_register, slots, operand_slots, source, registers_alone, registers_and_base, registers_before, parcel_slots, with_constant, names_in, values_in, option_directive, directed, SourcePart, Ends, Says, IsPart, StopsPart, IsStatement}
+use Rattle.rv_parse_laws.specs.Reading.{told, statements_of_parts, Reads}
 use Rattle.rv_source_laws.specs.Program.{in_operand}
 use Rattle.rv_text_laws.proofs.RunsLemmas.{pick}
 use Rattle.rv_map.specs.Name.{is_name, is_name_byte}
@@ -268,7 +268,7 @@ AllShown os = are_good_operands os ≡ true
 same_operands : (os ps : List Operand) → Some os ≡ Some ps → AllShown os → AllShown ps
 same_operands os ps e h = let is : os ≡ ps = cc in subst AllShown is h
 
-symbol_shown : (k : Kind) (name : List ℕ) → good k ≡ true → symbol_of k ≡ Some name → is_name name ≡ true
+symbol_shown : (k : Kind) (name : List ℕ) → good k ≡ true → token_symbol k ≡ Some name → is_name name ≡ true
 unfolding good
 symbol_shown (Name n) name h e =
     pick (λ (x : Option (List ℕ)). x ≡ Some name → is_name name ≡ true) (is_symbol n) _ _
@@ -293,7 +293,7 @@ single_shown Some_accesses k os h e = go (accesses_of k) e
     go : (o : Option AccessSet) → option_map (λ set. Accesses set ∷ []) o ≡ Some os → AllShown os
     go None e = absurd (cc)
     go (Some set) e = same_operands (Accesses set ∷ []) os e refl
-single_shown A_symbol k os h e = go (symbol_of k) (λ name f. symbol_shown k name h f) e
+single_shown A_symbol k os h e = go (token_symbol k) (λ name f. symbol_shown k name h f) e
   where
     go : (o : Option (List ℕ)) → ((name : List ℕ) → o ≡ Some name → is_name name ≡ true) → option_map (λ name. Word name ∷ []) o ≡ Some os → AllShown os
     go None f e = absurd (cc)
@@ -302,7 +302,7 @@ single_shown A_string (Text bytes) os h e = same_operands (Quoted bytes ∷ []) 
 single_shown A_string _ os h e = absurd (cc)
 single_shown Some_flags (Text bytes) os h e = same_operands (Quoted bytes ∷ []) os e refl
 single_shown Some_flags _ os h e = absurd (cc)
-single_shown At_sign k os h e = when_none (is_at k) os e
+single_shown At_sign k os h e = when_none (is_at_sign k) os e
 single_shown A_type (Name name) os h e = same_operands (Word name ∷ []) os e (and_from _ _ (and_from _ _ h refl) refl)
 single_shown A_type _ os h e = absurd (cc)
 single_shown An_option (Name name) os h e =
@@ -410,7 +410,7 @@ operand_shown A_closing ts os s g h = one_token_shown A_closing ts os g h
 abbrev Shows : (List Token → List Operand → Type 0) → Type 0
 Shows N = (ts : List Token) (os : List Operand) → are_good ts ≡ true → N ts os → AllShown os
 
-taken_shown : (s : Slot) (N : List Token → List Operand → Type 0) → is_plain s ≡ true → Shows N → Shows (IsTaken s N)
+taken_shown : (s : Slot) (N : List Token → List Operand → Type 0) → is_plain s ≡ true → Shows N → Shows (TakesSlot s N)
 taken_shown s N plain later ts os g (one, rest, now, more, is, operand, further, says) =
     let k = all_parts (λ (t : Token). good t.kind) one rest (subst (λ (us : List Token). are_good us ≡ true) is g) in
     subst AllShown (sym says) (joined_shown now more (operand_shown s one now plain k.0 operand) (later rest more k.1 further))
@@ -579,7 +579,7 @@ is_section_word : DirectiveWord → Bool
 is_section_word words.Section = true
 is_section_word _ = false
 
-chosen_shown : (o : Option Choice) → SaysShown (Directs (chosen o))
+chosen_shown : (o : Option Choice) → SaysShown (Directs (option_directive o))
 chosen_shown (Some choice) = refl
 chosen_shown None = refl
 
@@ -607,7 +607,7 @@ directed_shown words.Option _ plain h = refl
 directed_shown words.Ignored os plain h = refl
 
 -- the bytes of a name that goes on, and those of the whole
-added_shown : (k : Kind) (bytes : List ℕ) → good k ≡ true → bytes_of k ≡ Some bytes → list_all is_name_byte bytes ≡ true
+added_shown : (k : Kind) (bytes : List ℕ) → good k ≡ true → joined_bytes k ≡ Some bytes → list_all is_name_byte bytes ≡ true
 unfolding good
 added_shown (Name name) bytes h e =
     let is : name ≡ bytes = cc in
@@ -649,7 +649,7 @@ section_shown name (Quoted flags ∷ []) h = and_from _ _ h refl
 section_shown name (Quoted flags ∷ Word kind ∷ size) h = and_from _ _ h refl
 section_shown name _ h = refl
 
-section_word_shown : (word : DirectiveWord) (ts : List Token) (os : List Operand) → is_section_word word ≡ true → are_good ts ≡ true → AreOperands (places word) ts os
+section_word_shown : (word : DirectiveWord) (ts : List Token) (os : List Operand) → is_section_word word ≡ true → are_good ts ≡ true → AreOperands (operand_slots word) ts os
     → SaysShown (Directs (directed word os))
 unfolding is_section_word
 section_word_shown words.Section ts os e g (one, rest, now, later, is, (name, joined, fine, names), others, says) =
@@ -658,7 +658,7 @@ section_word_shown words.Section ts os e g (one, rest, now, later, is, (name, jo
     (section_shown name later (joined_name_shown one name h.0 joined))
 section_word_shown _ ts os e g h = absurd (cc)
 
-places_plain : (word : DirectiveWord) → is_section_word word ≡ false → are_plain (places word) ≡ true
+places_plain : (word : DirectiveWord) → is_section_word word ≡ false → are_plain (operand_slots word) ≡ true
 unfolding are_plain is_plain is_section_word
 places_plain words.Section h = absurd (cc)
 places_plain (words.Enters section) h = refl
@@ -686,11 +686,11 @@ labelled_shown (Bad_word word) name h e =
     (λ _ e. absurd (cc)) (λ _ e. absurd (cc)) e
 labelled_shown _ name h e = absurd (cc)
 
-directive_shown : (word : DirectiveWord) (ts : List Token) (os : List Operand) → are_good ts ≡ true → AreOperands (places word) ts os → SaysShown (Directs (directed word os))
+directive_shown : (word : DirectiveWord) (ts : List Token) (os : List Operand) → are_good ts ≡ true → AreOperands (operand_slots word) ts os → SaysShown (Directs (directed word os))
 directive_shown word ts os g h = go (is_section_word word) refl
   where
     go : (b : Bool) → is_section_word word ≡ b → SaysShown (Directs (directed word os))
-    go false e = directed_shown word os e (operands_shown (places word) (places_plain word e) ts os g h)
+    go false e = directed_shown word os e (operands_shown (operand_slots word) (places_plain word e) ts os g h)
     go true e = section_word_shown word ts os e g h
 
 statement_shown : (ts : List Token) (kind : StatementKind) → are_good ts ≡ true → IsStatement ts kind → SaysShown kind
@@ -710,16 +710,16 @@ statement_shown ts (Directs directive) g (t, rest, word, operands, is, colon, be
 abbrev AllSaid : List Statement → Type 0
 AllSaid ss = list_all (λ (s : Statement). are_shown (said_names s.kind)) ss ≡ true
 
-told_shown : (p : Part) (ts : List Token) → are_good ts ≡ true → IsPart p ts → AllSaid (told p ts)
+told_shown : (p : SourcePart) (ts : List Token) → are_good ts ≡ true → IsPart p ts → AllSaid (told p ts)
 told_shown Ends ts g h = refl
 told_shown (Says statement) [] g h = refl
 told_shown (Says statement) (t ∷ ts) g h = and_from _ _ (statement_shown (t ∷ ts) statement g h) refl
 
-parts_shown : (ps : List (Piece Part Token)) → are_good (texts ps ++ []) ≡ true → Each IsPart StopsPart ps [] → AllSaid (said ps)
+parts_shown : (ps : List (Piece SourcePart Token)) → are_good (texts ps ++ []) ≡ true → Each IsPart StopsPart ps [] → AllSaid (statements_of_parts ps)
 parts_shown [] g h = refl
 parts_shown (p ∷ ps) g (is, stops, each) =
     let k = all_parts (λ (t : Token). good t.kind) p.text (texts ps ++ []) (subst (λ (us : List Token). are_good us ≡ true) (append_assoc p.text (texts ps) []) g) in
-    all_both (λ (s : Statement). are_shown (said_names s.kind)) (told p.kind p.text) (said ps) (told_shown p.kind p.text k.0 is) (parts_shown ps k.1 each)
+    all_both (λ (s : Statement). are_shown (said_names s.kind)) (told p.kind p.text) (statements_of_parts ps) (told_shown p.kind p.text k.0 is) (parts_shown ps k.1 each)
 
 pub spelled_names : (bytes : List ℕ) (ss : List Statement) → Reads bytes ss → HasNames ss
 spelled_names bytes ss (short, lines, few, ts, ps, lexes, cuts, says, opens) =

@@ -13,7 +13,7 @@ use Rattle.rv_isa_laws.specs.Arithmetic.{wrapped}
 use Rattle.rv_compress.specs.declared.form.Compressed.{Compressed}
 use Rattle.rv_compress.specs.declared.parcel.ParcelOperation.TheVariants as parcels
 use Rattle.rv_compress.specs.declared.parcel.RegisterSet.TheVariants.{Short}
-use Rattle.rv_compress.specs.Mnemonics.{is_in}
+use Rattle.rv_compress.specs.Mnemonics.{is_of_set}
 use Rattle.rv_compress.specs.Parcel.{expansion}
 use Rattle.rv_text_laws.specs.Values.{Value, Constant, Symbolic, Difference, Faulty}
 use Rattle.rv_statement.specs.declared.mnemonic.Mnemonic.{Mnemonic}
@@ -25,7 +25,7 @@ use Rattle.rv_statement.specs.declared.pseudo.SwappedBranchOperation.{SwappedBra
 use Rattle.rv_statement.specs.declared.pseudo.SwappedBranchOperation.TheVariants.{Bgt, Ble, Bgtu, Bleu}
 use Rattle.rv_statement.specs.Statement.{StatementKind, Label, Numbered, Instruction, Directs, Statement, Operand, Register, Value as Of_value, Applied, Target, Accesses, Word, Quoted, Expression}
 use Rattle.rv_parse_laws.specs.Syntax.{with_constant}
-use Rattle.rv_pseudo_laws.specs.Code.{Part as CodePart, Closed, Open as OpenPart, Joined, Constants, by_number, by_part, signed_12, upper_20, number_of, by_constant, i_type, s_type, u_type, shift_by, jalr, unary, branch, near, far, through, zero_branch, swapped_branch, short_branch, named_form, code}
+use Rattle.rv_pseudo_laws.specs.Code.{Part as CodePart, Closed, Open as OpenPart, Joined, Constants, by_number, by_part, signed_12, upper_20, constant_number, by_constant, i_type, s_type, u_type, shift_by, jalr, unary, branch, near, far, through, zero_branch, swapped_branch, short_branch, named_form, code}
 use Rattle.rv_pseudo_laws.specs.Li.{li}
 use Rattle.rv_unit_laws.specs.Contributions.{Contribution, Nothing, Bytes, Zero_bytes, Alignment, Numbers, Texts, contribution}
 use Rattle.rv_unit_laws.specs.Tables.{Tables, Definition, definition, meaning, after}
@@ -35,7 +35,7 @@ use Rattle.rv_source_laws.specs.Program.{place_of, in_operand, in_contribution, 
 use Rattle.rv_assemble_laws.specs.CodeFields.{symbol_field, low_field, low_field_at, label_field, field_of, relax_fields, part_fields}
 use Rattle.rv_assemble_laws.specs.Coded.{constants}
 use Rattle.rv_assemble_laws.specs.ShownNames.{primary_names, tree_names, own_names, said_names, used_names}
-use Rattle.rv_assemble_laws.specs.LaidStatements.{LaidStatement, expression_value, part_of, coded_templates, templates, parts_of}
+use Rattle.rv_assemble_laws.specs.LaidStatements.{LaidStatement, expression_value, laid_part, coded_templates, templates, parts_of}
 use Rattle.rv_assemble_laws.specs.Symbols.{SymbolUse, use_of, references_in, references_of, references}
 use Rattle.rv_assemble_laws.specs.Templates.{Open, Template, value_fields, padding_templates, contents_templates, contribution_templates}
 use Rattle.rv_assemble_laws.specs.Small.{weight, all_said}
@@ -100,7 +100,7 @@ few_upper v make o = omega arith
 
 few_constant : (v : Constants) (m : Option Mnemonic) (rd rs1 : ℕ) (o : Operand) → IsFew (by_constant v m rd rs1 o)
 few_constant v (Some (Immediate operation)) rd rs1 o = few_signed v false (λ k. of_immediate operation (i_type rd rs1 k)) o
-few_constant v (Some (Shift operation)) rd rs1 o = few_number (λ k. of_shift operation (shift_by rd rs1 (wrapped k))) (number_of v o)
+few_constant v (Some (Shift operation)) rd rs1 o = few_number (λ k. of_shift operation (shift_by rd rs1 (wrapped k))) (constant_number v o)
 few_constant v m rd rs1 o = omega arith
 
 few_if : (b : Bool) (x y : List CodePart) → opens x ≤ 2 → opens y ≤ 2 → opens (if b then x else y) ≤ 2
@@ -139,7 +139,7 @@ few_li make None = omega arith
 few_li make (Some k) = closed_few (make k)
 
 few_short_branch : (operation : BranchOperation) (rs : ℕ) → IsFew (short_branch operation rs)
-few_short_branch operation rs = go (is_in Short rs)
+few_short_branch operation rs = go (is_of_set Short rs)
   where
     go : (b : Bool) → IsFew (if b then Some (branch 2 operation rs 0) else None)
     go true = few_branch 2 operation rs 0
@@ -153,7 +153,7 @@ few_code : (v : Constants) (rvc : Bool) (n : ℕ) (m : Mnemonic) (os : List Oper
 few_code v rvc n (Registers operation) (Register rd ∷ Register rs1 ∷ Register rs2 ∷ []) = omega arith
 few_code v rvc n (Registers operation) (Register rd ∷ Register rs1 ∷ o ∷ []) = few_constant v (with_constant operation) rd rs1 o
 few_code v rvc n (Immediate operation) (Register rd ∷ Register rs1 ∷ o ∷ []) = few_signed v false (λ k. of_immediate operation (i_type rd rs1 k)) o
-few_code v rvc n (Shift operation) (Register rd ∷ Register rs1 ∷ o ∷ []) = few_number (λ k. of_shift operation (shift_by rd rs1 (wrapped k))) (number_of v o)
+few_code v rvc n (Shift operation) (Register rd ∷ Register rs1 ∷ o ∷ []) = few_number (λ k. of_shift operation (shift_by rd rs1 (wrapped k))) (constant_number v o)
 few_code v rvc n (Upper operation) (Register rd ∷ o ∷ []) = few_upper v (λ k. of_upper operation (u_type rd k)) o
 few_code v rvc n (Load operation) (Register rd ∷ Register rs1 ∷ []) = omega arith
 few_code v rvc n (Load operation) (Register rd ∷ Target x ∷ []) = few_found (rd == 0) _ (omega arith)
@@ -190,7 +190,7 @@ few_code v rvc n Nop [] = omega arith
 few_code v rvc n (Unary operation) (Register rd ∷ Register rs ∷ []) = closed_few (unary rvc operation rd rs)
 few_code v rvc n (Compare operation) (Register rd ∷ Register a ∷ Register b ∷ []) = omega arith
 few_code v rvc n La (Register rd ∷ Target x ∷ []) = omega arith
-few_code v rvc n Li (Register rd ∷ o ∷ []) = few_li (li rd) (number_of v o)
+few_code v rvc n Li (Register rd ∷ o ∷ []) = few_li (li rd) (constant_number v o)
 few_code v rvc n Call (Register rd ∷ Target x ∷ []) = few_found (rd == 0) (far n rd rd) (few_far n rd rd)
 few_code v rvc n Call (Target x ∷ []) = few_far n 1 1
 few_code v rvc n Tail (Target x ∷ []) = few_far n 0 6
@@ -257,14 +257,14 @@ module _ (t : Tables) (s : Located) where
   heft = operand_heft (operand_of s.kind)
 
   abbrev Parts : List Template → ℕ
-  Parts ts = use_heft (flat_map references_in (map (part_of s.ordinal) ts))
+  Parts ts = use_heft (flat_map references_in (map (laid_part s.ordinal) ts))
 
   part_light : (ps : List CodePart) (coded : List (List ℕ)) → Parts (coded_templates (part_fields t (expression_value t s) s) ps coded) ≤ opens ps * heft
   part_light [] coded = omega arith
   part_light (p ∷ ps) [] = omega arith
   part_light (Closed i ∷ ps) (bytes ∷ coded) = part_light ps coded
   part_light (OpenPart k i ∷ ps) (bytes ∷ coded) =
-      let a = use_append (uses (field_of t (expression_value t s) s.ordinal (operand_of s.kind) k)) (flat_map references_in (map (part_of s.ordinal) (coded_templates (part_fields t (expression_value t s) s) ps coded))) in
+      let a = use_append (uses (field_of t (expression_value t s) s.ordinal (operand_of s.kind) k)) (flat_map references_in (map (laid_part s.ordinal) (coded_templates (part_fields t (expression_value t s) s) ps coded))) in
       let b = field_light (operand_of s.kind) k in
       let c = part_light ps coded in
       more (opens ps) _ _ _ a b c
@@ -274,7 +274,7 @@ module _ (t : Tables) (s : Located) where
   part_light (Joined k i j ∷ ps) (bytes ∷ coded) =
       let fields = field_of t (expression_value t s) s.ordinal (operand_of s.kind) k in
       let relax = relax_fields s.options.relax s.ordinal in
-      let a = use_append (uses (fields ++ relax)) (flat_map references_in (map (part_of s.ordinal) (coded_templates (part_fields t (expression_value t s) s) ps coded))) in
+      let a = use_append (uses (fields ++ relax)) (flat_map references_in (map (laid_part s.ordinal) (coded_templates (part_fields t (expression_value t s) s) ps coded))) in
       let d = uses_append fields relax in
       let e = relax_light s.options.relax in
       let b = field_light (operand_of s.kind) k in
@@ -295,7 +295,7 @@ module _ (t : Tables) (s : Located) where
   numbers_light : (width : ℕ) (es : List Expression) → Parts (contents_templates (expression_value t s) (Numbers width es)) ≤ weight (flat_map tree_names es)
   numbers_light width [] = omega arith
   numbers_light width (e ∷ es) =
-      let a = use_append (uses (value_fields s.ordinal width (expression_value t s e))) (flat_map references_in (map (part_of s.ordinal) (contents_templates (expression_value t s) (Numbers width es)))) in
+      let a = use_append (uses (value_fields s.ordinal width (expression_value t s e))) (flat_map references_in (map (laid_part s.ordinal) (contents_templates (expression_value t s) (Numbers width es)))) in
       let b = data_light width (expression_value t s e) in
       let c = by_value (λ q. meaning t true s.ordinal (place_of s) q) e in
       let d = numbers_light width es in
@@ -335,7 +335,7 @@ twice (suc zero) h x m a b c = omega (arith, a, c)
 twice (suc (suc zero)) h x m a b c = omega (arith, a, c)
 twice (suc (suc (suc n))) h x m a b c = absurd (omega (arith, b))
 
-kind_light : (t : Tables) (s : LaidStatement) (kind : StatementKind) → s.located.kind ≡ kind → use_heft (flat_map references_in (map (part_of s.located.ordinal) (templates t s kind))) ≤ 2 * weight (said_names kind)
+kind_light : (t : Tables) (s : LaidStatement) (kind : StatementKind) → s.located.kind ≡ kind → use_heft (flat_map references_in (map (laid_part s.located.ordinal) (templates t s kind))) ≤ 2 * weight (said_names kind)
 kind_light t s (Label name) is = omega arith
 kind_light t s (Numbered number) is = omega arith
 kind_light t s (Instruction mnemonic operands) is =

@@ -7,7 +7,7 @@ use Rattle.rv_text_laws.specs.declared.operator.UnaryOperator.TheVariants.{Negat
 use Rattle.rv_text_laws.specs.declared.operator.BinaryOperator.{BinaryOperator}
 use Rattle.rv_text_laws.specs.declared.operator.BinaryOperator.TheVariants.{Multiply, Divide, Remainder, ShiftLeft, ShiftRight, Or, And, ExclusiveOr, Add, Subtract}
 use Rattle.rv_text_laws.specs.Expression.{Primary, Literal, Symbol, Here, Reference, Tree, Leaf, Unary, Paren, Binary}
-use Rattle.rv_text_laws.specs.Values.{Meaning, Known, InSection, Open, Refused, Value, Constant, Symbolic, Difference, Faulty, arithmetic, refused, apart, sum, difference, constants, both, alone, meant, primary_value, value_of}
+use Rattle.rv_text_laws.specs.Values.{Meaning, Known, InSection, Open, Refused, Value, Constant, Symbolic, Difference, Faulty, arithmetic, refused, apart, sum, difference, constants_alone, both, unary_value, meant, primary_value, value_of}
 use Rattle.rv_assemble_laws.specs.ShownNames.{primary_names, tree_names}
 use Rattle.rv_assemble_laws.specs.Small.{weight}
 use Rattle.rv_assemble_laws.proofs.WeightsLemmas.{weight_append}
@@ -93,7 +93,7 @@ by_difference (Difference p r n) (Difference s u j) = omega arith
 by_difference (Difference p r n) (Faulty c) = omega arith
 by_difference (Faulty c) w = by_refused Subtract (Faulty c) w (value_heft (Faulty c) + value_heft w)
 
-by_constants : (o : BinaryOperator) (v w : Value) (n : ℕ) → value_heft (constants o v w) ≤ n
+by_constants : (o : BinaryOperator) (v w : Value) (n : ℕ) → value_heft (constants_alone o v w) ≤ n
 by_constants o (Constant a) (Constant b) n = by_arithmetic o a b n
 by_constants o (Constant a) (Symbolic p at k) n = omega arith
 by_constants o (Constant a) (Difference p r k) n = omega arith
@@ -114,7 +114,7 @@ by_both Or v w = by_constants Or v w (value_heft v + value_heft w)
 by_both And v w = by_constants And v w (value_heft v + value_heft w)
 by_both ExclusiveOr v w = by_constants ExclusiveOr v w (value_heft v + value_heft w)
 
-by_alone : (o : UnaryOperator) (v : Value) → value_heft (alone o v) ≤ value_heft v
+by_alone : (o : UnaryOperator) (v : Value) → value_heft (unary_value o v) ≤ value_heft v
 by_alone Keep v = omega arith
 by_alone Negate (Constant a) = omega arith
 by_alone Negate (Symbolic p at k) = omega arith

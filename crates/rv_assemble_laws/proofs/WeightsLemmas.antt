@@ -9,7 +9,7 @@ use Rattle.rv_text_laws.specs.declared.class.Class.TheVariants as classes
 use Rattle.rv_text_laws.specs.Bytes.{class, is_decimal}
 use Rattle.rv_text_laws.specs.Cut.{Piece, texts, Each}
 use Rattle.rv_text_laws.specs.Grammar.{Kind, Space, Line_comment, Block_comment, Newline, Punctuation, Name, Number, Reference, Bad_word, Text, Character, Bad_byte, Bad_token, End, direction, Spells, Stops}
-use Rattle.rv_text_laws.specs.Joined.{bytes_of, AreAfter, IsJoined}
+use Rattle.rv_text_laws.specs.Joined.{joined_bytes, AreAfter, IsJoined}
 use Rattle.rv_text_laws.specs.Lexing.{Token, Lexes, tokens_of, placed, is_gap, bad, last_kind, last}
 use Rattle.rv_text_laws.specs.declared.punct.Punct.{Punct}
 use Rattle.rv_text_laws.specs.declared.punct.Punct.TheVariants as puncts
@@ -27,8 +27,8 @@ use Rattle.rv_statement.specs.Statement.{Expression, Operand, Register, Value, A
 use Rattle.rv_parse_laws.specs.declared.role.Role.{Role}
 use Rattle.rv_parse_laws.specs.declared.role.Role.TheVariants as roles
 use Rattle.rv_parse_laws.specs.Words.{named_in, choices}
-use Rattle.rv_parse_laws.specs.Syntax.{Slot, A_register_of, A_zero, Some_accesses, A_symbol, A_string, Some_flags, At_sign, A_type, An_option, A_plt, A_comma, An_opening, A_closing, register_of, kept_in, symbol_of, is_symbol, is_zero, accesses_of, is_at, is_plt, is_comma, is_opening, is_closing, single, A_value, An_address_by, An_address, A_callee, A_section, A_target, Slots, Stops as Ends_here, Takes, Chooses, Locates, Lists, Anything, IsValue, IsValueIn, IsOneIn, IsArgument, IsBase, IsLinked, IsOperand, IsTaken, IsFurther, AreItems, AreOperands, label_named, label_of, targets, is_register, slots, places, names_in, values_in, chosen, directed, Part, Ends, Says, IsPart, StopsPart, IsStatement}
-use Rattle.rv_parse_laws.specs.Reading.{told, said, longest_source, Reads}
+use Rattle.rv_parse_laws.specs.Syntax.{Slot, A_register_of, A_zero, Some_accesses, A_symbol, A_string, Some_flags, At_sign, A_type, An_option, A_plt, A_comma, An_opening, A_closing, register_of, kept_in, token_symbol, is_symbol, is_zero, accesses_of, is_at_sign, is_plt, is_comma, is_opening, is_closing, single, A_value, An_address_by, An_address, A_callee, A_section, A_target, Slots, Stops as Ends_here, Takes, Chooses, Locates, Lists, Anything, IsValue, IsValueIn, IsOneIn, IsArgument, IsBase, IsLinked, IsOperand, TakesSlot, IsFurther, AreItems, AreOperands, label_named, label_of, targets, is_register, slots, operand_slots, names_in, values_in, option_directive, directed, SourcePart, Ends, Says, IsPart, StopsPart, IsStatement}
+use Rattle.rv_parse_laws.specs.Reading.{told, statements_of_parts, longest_source, Reads}
 use Rattle.rv_source_laws.specs.Program.{in_operand}
 use Rattle.rv_assemble_laws.specs.ShownNames.{primary_names, tree_names, said_names}
 use Rattle.rv_assemble_laws.specs.Small.{weight, all_said, AreSmall}
@@ -175,7 +175,7 @@ load_append (x ∷ xs) ys = let rest = load_append xs ys in omega (arith, rest)
 same_operands : (os ps : List Operand) (n : ℕ) → Some os ≡ Some ps → load os ≤ n → load ps ≤ n
 same_operands os ps n e h = let is : os ≡ ps = cc in subst (λ l. load l ≤ n) is h
 
-symbol_light : (k : Kind) (name : List ℕ) → symbol_of k ≡ Some name → 1 + length name ≤ heft k
+symbol_light : (k : Kind) (name : List ℕ) → token_symbol k ≡ Some name → 1 + length name ≤ heft k
 symbol_light (Name n) name e = go (is_symbol n) e
   where
     go : (b : Bool) → (if b then Some n else None) ≡ Some name → 1 + length name ≤ 1 + length n
@@ -199,7 +199,7 @@ single_light Some_accesses k os e = go (accesses_of k) e
     go : (o : Option AccessSet) → option_map (λ set. Accesses set ∷ []) o ≡ Some os → load os ≤ heft k
     go None e = absurd (cc)
     go (Some set) e = same_operands (Accesses set ∷ []) os (heft k) e (omega arith)
-single_light A_symbol k os e = go (symbol_of k) (symbol_light k) e
+single_light A_symbol k os e = go (token_symbol k) (symbol_light k) e
   where
     go : (o : Option (List ℕ)) → ((name : List ℕ) → o ≡ Some name → 1 + length name ≤ heft k) → option_map (λ name. Word name ∷ []) o ≡ Some os → load os ≤ heft k
     go None f e = absurd (cc)
@@ -208,7 +208,7 @@ single_light A_string (Text bytes) os e = same_operands (Quoted bytes ∷ []) os
 single_light A_string _ os e = absurd (cc)
 single_light Some_flags (Text bytes) os e = same_operands (Quoted bytes ∷ []) os 0 e (omega arith)
 single_light Some_flags _ os e = absurd (cc)
-single_light At_sign k os e = when_none (is_at k) os (heft k) e
+single_light At_sign k os e = when_none (is_at_sign k) os (heft k) e
 single_light A_type (Name name) os e = same_operands (Word name ∷ []) os (1 + length name) e (omega arith)
 single_light A_type _ os e = absurd (cc)
 single_light An_option (Name name) os e = go (is_some (named_in choices name)) e
@@ -269,7 +269,7 @@ one_token_light : (s : Slot) (ts : List Token) (os : List Operand) → ((t : Tok
 one_token_light s ts os (t, is, e) = let a = ap total is in let b = single_light s t.kind os e in omega (arith, a, b)
 
 -- the name of a section is several tokens
-added_light : (k : Kind) (bytes : List ℕ) → bytes_of k ≡ Some bytes → length bytes ≤ heft k
+added_light : (k : Kind) (bytes : List ℕ) → joined_bytes k ≡ Some bytes → length bytes ≤ heft k
 added_light (Name name) bytes e = let is : name ≡ bytes = cc in let a = ap length is in omega (arith, a)
 added_light (Number word number) bytes e = let is : word ≡ bytes = cc in let a = ap length is in omega (arith, a)
 added_light (Reference digits forward) bytes e =
@@ -326,7 +326,7 @@ operand_light A_closing ts os h = one_token_light A_closing ts os h
 abbrev IsLight : (List Token → List Operand → Type 0) → Type 0
 IsLight N = (ts : List Token) (os : List Operand) → N ts os → load os ≤ total ts
 
-taken_light : (s : Slot) (N : List Token → List Operand → Type 0) → IsLight N → IsLight (IsTaken s N)
+taken_light : (s : Slot) (N : List Token → List Operand → Type 0) → IsLight N → IsLight (TakesSlot s N)
 taken_light s N later ts os (one, rest, now, more, is, operand, further, says) =
     let a = ap total is ∙ total_append one rest in
     let b = operand_light s one now operand in
@@ -400,7 +400,7 @@ words_light (Quoted bytes ∷ os) = let rest = words_light os in omega (arith, r
 no_more : (names : List (List ℕ)) → weight (names ++ []) ≡ weight names
 no_more names = let a = weight_append names [] in omega (arith, a)
 
-chosen_light : (o : Option Choice) → Said (Directs (chosen o)) ≡ 0
+chosen_light : (o : Option Choice) → Said (Directs (option_directive o)) ≡ 0
 chosen_light (Some choice) = refl
 chosen_light None = refl
 
@@ -459,7 +459,7 @@ statement_light ts (Instruction mnemonic operands) (t, rest, is, colon, begun, h
     omega (arith, a, b, c)
 statement_light ts (Directs directive) (t, rest, word, operands, is, colon, begun, h, says) =
     let a = ap total is in
-    let b = operands_light (places word) rest operands h in
+    let b = operands_light (operand_slots word) rest operands h in
     let c = directed_light word operands in
     let d = ap (λ d. Said (Directs d)) says in
     omega (arith, a, b, c, d)
@@ -470,15 +470,15 @@ said_append : (xs ys : List Statement) → all_said (xs ++ ys) ≡ all_said xs +
 said_append [] ys = let n = all_said ys in let e : n ≡ 0 + n = omega arith in e
 said_append (x ∷ xs) ys = let rest = said_append xs ys in omega (arith, rest)
 
-told_light : (p : Part) (ts : List Token) → IsPart p ts → all_said (told p ts) ≤ total ts
+told_light : (p : SourcePart) (ts : List Token) → IsPart p ts → all_said (told p ts) ≤ total ts
 told_light Ends ts h = omega arith
 told_light (Says statement) [] h = omega arith
 told_light (Says statement) (t ∷ ts) h = let a = statement_light (t ∷ ts) statement h in omega (arith, a)
 
-parts_light : (ps : List (Piece Part Token)) → Each IsPart StopsPart ps [] → all_said (said ps) ≤ total (texts ps)
+parts_light : (ps : List (Piece SourcePart Token)) → Each IsPart StopsPart ps [] → all_said (statements_of_parts ps) ≤ total (texts ps)
 parts_light [] each = omega arith
 parts_light (p ∷ ps) (is, stops, each) =
-    let a = said_append (told p.kind p.text) (said ps) in
+    let a = said_append (told p.kind p.text) (statements_of_parts ps) in
     let b = told_light p.kind p.text is in
     let c = parts_light ps each in
     let d = total_append p.text (texts ps) in

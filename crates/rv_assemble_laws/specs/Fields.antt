@@ -5,7 +5,7 @@ use Rattle.rv_isa.specs.declared.kind.Kind.{Kind}
 use Rattle.rv_text_laws.specs.Expression.{Primary}
 use Rattle.rv_unit_laws.specs.Tables.{Tables}
 use Rattle.rv_assemble_laws.specs.Templates.{Open, template_fields}
-use Rattle.rv_assemble_laws.specs.LaidStatements.{LaidStatement, Part, part_bytes, parts_of}
+use Rattle.rv_assemble_laws.specs.LaidStatements.{LaidStatement, LaidPart, part_bytes, parts_of}
 
 -- an open field: the index of its section and its offset there, what it takes, the symbol, if there
 -- is one, as the statement of an ordinal names it, and the addend
@@ -30,7 +30,7 @@ field_at section place f =
 
 -- those of parts of a section that follow one another from an offset on, each at the start of its
 -- part
-abbrev pub fields_from : ℕ → ℕ → List Part → List Field
+abbrev pub fields_from : ℕ → ℕ → List LaidPart → List Field
 fields_from section offset [] = []
 fields_from section offset (p ∷ ps) =
     map (field_at section offset) (template_fields p.ordinal p.template)

@@ -15,7 +15,7 @@ use Rattle.rv_object.specs.declared.row.Row.{Row}
 use Rattle.rv_object.specs.Object.{Contents, Progbits, Note, Nobits, Relocation, Section, Symbol, Object}
 use Rattle.rv_assemble_laws.specs.Refusals.{statements_fault}
 use Rattle.rv_assemble_laws.specs.Templates.{Open, template_fields, IsTemplate}
-use Rattle.rv_assemble_laws.specs.LaidStatements.{LaidStatement, Part, expression_value, part_bytes, parts, laid_in, Tile, end_of, HasSize}
+use Rattle.rv_assemble_laws.specs.LaidStatements.{LaidStatement, LaidPart, expression_value, part_bytes, parts, laid_in, Tile, end_of, HasSize}
 use Rattle.rv_source_laws.specs.Sizes.{AreLeast}
 use Rattle.rv_assemble_laws.specs.Symbols.{SymbolUse, references_in, laid_at, symbols_of, StandsFor}
 
@@ -51,7 +51,7 @@ relocation_at number place f =
     }
 
 -- the fields of parts that follow one another from an offset on, each at the start of its part
-abbrev pub relocations_from : Numbering → ℕ → List Part → List Relocation
+abbrev pub relocations_from : Numbering → ℕ → List LaidPart → List Relocation
 relocations_from number offset [] = []
 relocations_from number offset (p ∷ ps) =
     map (relocation_at number offset) (template_fields p.ordinal p.template)
@@ -70,7 +70,8 @@ abbrev pub IsNumbered : Tables → List LaidStatement → Numbering → List Sym
 IsNumbered t all number symbols r =
     StandsFor t all r.ordinal r.symbol (slice_get symbols (number r.ordinal r.symbol))
 
-abbrev pub ArePartsNumbered : Tables → List LaidStatement → Numbering → List Symbol → List Part →
+abbrev pub ArePartsNumbered : Tables → List LaidStatement → Numbering → List Symbol →
+    List LaidPart →
     Type 0
 ArePartsNumbered t all number symbols ps =
     AllByRecursion (λ p. AllByRecursion (IsNumbered t all number symbols) (references_in p)) ps

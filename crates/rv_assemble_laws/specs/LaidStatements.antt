@@ -4,7 +4,7 @@
 use Rattle.std.specs.Prelude.{◌≡◌, ℕ, ◌+◌, ◌*◌, ◌%◌, ◌<◌, Bool, true, false, ◌==◌, ⊤, List, [], ◌∷◌, length, filter, flat_map, map, Option, Some, None, unwrap_or}
 use Rattle.rv_text_laws.specs.Values.{Value, Constant}
 use Rattle.rv_statement.specs.Statement.{StatementKind, Label, Numbered, Instruction, Directs, Expression, Directive, Aligns_to_power, Aligns_to_bytes, Values, Strings, Zeros}
-use Rattle.rv_unit_laws.specs.Tables.{Tables, value, alignment_of, padding, string_bytes}
+use Rattle.rv_unit_laws.specs.Tables.{Tables, value_by_tables, alignment_of, padding, string_bytes}
 use Rattle.rv_unit_laws.specs.Contributions.{contribution}
 use Rattle.rv_object.specs.Padding.{operations_in}
 use Rattle.rv_pseudo_laws.specs.Code.{Part as CodePart, code}
@@ -26,15 +26,15 @@ pub record LaidStatement : Type 0 where
 
 -- what an expression of a statement is in its file
 abbrev pub expression_value : Tables → Located → Expression → Value
-expression_value t s e = value t true s.ordinal (place_of s) e
+expression_value t s e = value_by_tables t true s.ordinal (place_of s) e
 
 -- a part of a section's bytes, with the ordinal of the statement that says it
-pub record Part : Type 0 where
+pub record LaidPart : Type 0 where
   pub ordinal : ℕ
   pub template : Template
 
-abbrev pub part_of : ℕ → Template → Part
-part_of ordinal template = record { ordinal = ordinal; template = template }
+abbrev pub laid_part : ℕ → Template → LaidPart
+laid_part ordinal template = record { ordinal = ordinal; template = template }
 
 -- the code of a statement part by part, each with its open fields
 abbrev pub coded_templates : (CodePart → List Open) → List CodePart → List (List ℕ) → List Template
@@ -54,10 +54,10 @@ templates t s (Directs directive) =
     contribution_templates s.located.home.executable s.located.ordinal
     (expression_value t s.located) (contribution directive) s.bytes
 
-abbrev pub parts_of : Tables → LaidStatement → List Part
-parts_of t s = map (part_of s.located.ordinal) (templates t s s.located.kind)
+abbrev pub parts_of : Tables → LaidStatement → List LaidPart
+parts_of t s = map (laid_part s.located.ordinal) (templates t s s.located.kind)
 
-abbrev pub part_bytes : Part → List ℕ
+abbrev pub part_bytes : LaidPart → List ℕ
 part_bytes p = template_bytes p.template
 
 -- ---- sections
@@ -67,7 +67,7 @@ abbrev pub laid_in : ℕ → List LaidStatement → List LaidStatement
 laid_in section laid = filter (λ s. s.located.section == section) laid
 
 -- the parts of a section: those of its statements, in order
-abbrev pub parts : Tables → List LaidStatement → List Part
+abbrev pub parts : Tables → List LaidStatement → List LaidPart
 parts t laid = flat_map (parts_of t) laid
 
 -- each statement of a section begins where the one before ends, from an offset on, and has the

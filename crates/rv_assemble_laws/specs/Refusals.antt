@@ -5,8 +5,8 @@ use Rattle.std.specs.Prelude.{◌≡◌, ◌⊎◌, ⊤, ℕ, ◌+◌, Bool, tru
 use Rattle.rv_text_laws.specs.Codes.{limit, lowest}
 use Rattle.rv_text_laws.specs.Values.{Value}
 use Rattle.rv_statement.specs.Statement.{StatementKind, Instruction, Directs, Statement, Expression}
-use Rattle.rv_unit_laws.specs.Tables.{Tables, tables, value, longest_section, alignment_of}
-use Rattle.rv_unit_laws.specs.Faults.{StatementFault, at_line, first_fault}
+use Rattle.rv_unit_laws.specs.Tables.{Tables, tables, value_by_tables, longest_section, alignment_of}
+use Rattle.rv_unit_laws.specs.Faults.{StatementFault, at_line, first_unit_fault}
 use Rattle.rv_source_laws.specs.Located.{Located, located}
 use Rattle.rv_source_laws.specs.Program.{place_of}
 use Rattle.rv_assemble_laws.specs.Coded.{IsCode}
@@ -18,7 +18,8 @@ use Rattle.rv_assemble_laws.specs.InstructionFaults.{instruction_faults, is_labe
 -- the faults of a statement as code: those of an instruction
 abbrev pub code_faults_at : Tables → Located → List ℕ
 code_faults_at t s =
-    instruction_faults (λ e. value t true s.ordinal (place_of s) e) (is_label t s.ordinal) s.kind
+    instruction_faults (λ e. value_by_tables t true s.ordinal (place_of s) e)
+    (is_label t s.ordinal) s.kind
 
 abbrev pub code_fault_from : Tables → List Located → Option StatementFault
 code_fault_from t [] = None
@@ -43,7 +44,8 @@ HasCodeSize executable v rvc kind bytes = bytes ≡ 0
 
 abbrev pub HasSizeAt : Tables → Located → ℕ → Type 0
 HasSizeAt t s bytes =
-    HasCodeSize s.home.executable (λ e. value t true s.ordinal (place_of s) e) s.options.rvc s.kind
+    HasCodeSize s.home.executable (λ e. value_by_tables t true s.ordinal (place_of s) e)
+    s.options.rvc s.kind
     bytes
 
 -- those of statements, one after the other
@@ -82,7 +84,7 @@ else_fault None other = other
 
 -- labels and directives come first, then code
 abbrev pub statements_fault : List Statement → Option StatementFault
-statements_fault ss = else_fault (first_fault ss) (code_fault ss)
+statements_fault ss = else_fault (first_unit_fault ss) (code_fault ss)
 
 -- the fault for which a source is refused: sizes come after all others
 abbrev pub IsStatementsFault : List Statement → StatementFault → Type 0

@@ -19,7 +19,7 @@ use Rattle.rv_object.specs.declared.symbol.Definition.{Definition as Defined}
 use Rattle.rv_object.specs.declared.symbol.Definition.TheVariants.{Undefined, Absolute, InSection, Skipped}
 use Rattle.rv_object.specs.Object.{Symbol}
 use Rattle.rv_assemble_laws.specs.Templates.{template_fields}
-use Rattle.rv_assemble_laws.specs.LaidStatements.{LaidStatement, Part, parts_of}
+use Rattle.rv_assemble_laws.specs.LaidStatements.{LaidStatement, LaidPart, parts_of}
 
 -- ---- definitions
 
@@ -77,7 +77,7 @@ abbrev pub use_of : ℕ → Option Primary → List SymbolUse
 use_of ordinal None = []
 use_of ordinal (Some symbol) = record { ordinal = ordinal; symbol = symbol } ∷ []
 
-abbrev pub references_in : Part → List SymbolUse
+abbrev pub references_in : LaidPart → List SymbolUse
 references_in p =
     flat_map (λ f. use_of f.ordinal f.symbol) (template_fields p.ordinal p.template)
 
@@ -94,15 +94,16 @@ abbrev pub is_unnamed : Primary → Bool
 is_unnamed (Named name) = false
 is_unnamed _ = true
 
-abbrev pub is_at : ℕ → Option Definition → Bool
-is_at ordinal None = false
-is_at ordinal (Some d) = d.ordinal == ordinal
+abbrev pub is_defined_at : ℕ → Option Definition → Bool
+is_defined_at ordinal None = false
+is_defined_at ordinal (Some d) = d.ordinal == ordinal
 
 -- whether a reference without a name means a statement
 abbrev pub is_meant : Tables → List SymbolUse → LaidStatement → Bool
 is_meant t rs s =
     list_any
-    (λ r. is_unnamed r.symbol && is_at s.located.ordinal (definition t r.ordinal r.symbol)) rs
+    (λ r. is_unnamed r.symbol
+    && is_defined_at s.located.ordinal (definition t r.ordinal r.symbol)) rs
 
 abbrev pub are_together : LaidStatement → LaidStatement → Bool
 are_together s q = (s.located.section == q.located.section) && (s.offset == q.offset)

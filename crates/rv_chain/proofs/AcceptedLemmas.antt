@@ -8,7 +8,7 @@ use Rattle.rv_isa_laws.specs.Platform.{stack_start, stack_end}
 use Rattle.rv_lexer.specs.declared.fault.SourceCode.{SourceCode}
 use Rattle.rv_lexer.specs.declared.fault.SourceFault.{SourceFault}
 use Rattle.rv_lexer.specs.declared.fault.SourceFault.TheVariants.{At, OutOfMemory}
-use Rattle.rv_lexer.specs.Fault.{number_of}
+use Rattle.rv_lexer.specs.Fault.{source_fault_number}
 use Rattle.rv_statement.specs.Statement.{Statement}
 use Rattle.rv_parse_laws.specs.Reading.{longest_source, Reads}
 use Rattle.rv_parse_laws.specs.Refusals.{SyntaxFault, Refuses}
@@ -22,7 +22,7 @@ use Rattle.rv_image.proofs.ApartLemmas.{loaded_apart}
 use Rattle.rv_elf.specs.FirstTrue.{no_fault_parts}
 use Rattle.rv_elf.specs.Sections.{program_headers, is_load}
 use Rattle.rv_disasm.specs.declared.code.Code.{Code}
-use Rattle.rv_disasm.specs.Raw.{IsSourced, IsRawListing, bytes_of, is_executable, lines_text, raw_lines}
+use Rattle.rv_disasm.specs.Raw.{IsSourced, IsRawListing, raw_bytes, is_executable, lines_text, raw_lines}
 use Rattle.rv_object.specs.Object.{Object}
 use Rattle.rv_object.specs.View.{object_of}
 use Rattle.rv_assemble_laws.specs.Refusals.{statements_fault, IsStatementsFault, IsTooLong}
@@ -80,11 +80,11 @@ tested file sound =
     loaded_apart file [] (program_headers file) d.0
 
 fits : (file : List ℕ) (image : Image) (text : List ℕ) (listing : IsRawListing image text) → first_fault file ≡ None → ImageOf file image
-    → listing.segment.address + length (flat_map bytes_of (listing.before ++ listing.after)) ≤ stack_start
+    → listing.segment.address + length (flat_map raw_bytes (listing.before ++ listing.after)) ≤ stack_start
 fits file image text listing sound loads =
     let apart : are_apart image.segments ≡ true = ap are_apart loads.segments ∙ tested file sound in
     let low = ends listing.segment (executable_off image.segments listing.segment apart listing.alone) listing.below in
-    let size : length listing.segment.bytes ≡ length (flat_map bytes_of (listing.before ++ listing.after)) = ap length listing.bytes in
+    let size : length listing.segment.bytes ≡ length (flat_map raw_bytes (listing.before ++ listing.after)) = ap length listing.bytes in
     omega (arith, low, size)
 
 -- ---- one text
@@ -122,13 +122,13 @@ module _ (no_fault : HaveNoFault) (has_program : HaveAProgram)
         let short = reading.0 in
         let same = one_reading text ss said reading (it_reads short) in
         let sound = no_fault listing.before listing.after (short_of short) in
-        absurd (faultless _ sound.0 sound.1 (subst (λ l. IsStatementsFault l (record { code = number_of code; line = line })) same faulty))
+        absurd (faultless _ sound.0 sound.1 (subst (λ l. IsStatementsFault l (record { code = source_fault_number code; line = line })) same faulty))
       where
         faultless : (f : StatementFault) → statements_fault said ≡ None → ((g : StatementFault) → IsTooLong said g → ⊥) → IsStatementsFault said f → ⊥
         faultless f none sized (inl e) = let no : Some f ≡ None = sym e ∙ none in absurd (cc)
         faultless f none sized (inr (sound, long)) = sized f long
 
-    has_object : (start : ℕ) (relax gc : Bool) (fault : LinkFault) (os : List Object) → IsTextStart start → start + length (flat_map bytes_of (listing.before ++ listing.after)) ≤ stack_start → AreObjectsFrom (text ∷ []) os
+    has_object : (start : ℕ) (relax gc : Bool) (fault : LinkFault) (os : List Object) → IsTextStart start → start + length (flat_map raw_bytes (listing.before ++ listing.after)) ≤ stack_start → AreObjectsFrom (text ∷ []) os
         → HasNoProgram os start relax gc fault → fault ≡ links.OutOfMemory
     has_object start relax gc fault [] begins room are none = absurd are
     has_object start relax gc fault (o ∷ p ∷ os) begins room (one, more) none = absurd more
@@ -142,8 +142,8 @@ module _ (no_fault : HaveNoFault) (has_program : HaveAProgram)
       begins : IsTextStart start
       begins = subst IsTextStart (sym starts) (listing.aligned, listing.below)
 
-      room : start + length (flat_map bytes_of (listing.before ++ listing.after)) ≤ stack_start
-      room = subst (λ n. n + length (flat_map bytes_of (listing.before ++ listing.after)) ≤ stack_start) (sym starts) (fits file image text listing sound loads)
+      room : start + length (flat_map raw_bytes (listing.before ++ listing.after)) ≤ stack_start
+      room = subst (λ n. n + length (flat_map raw_bytes (listing.before ++ listing.after)) ≤ stack_start) (sym starts) (fits file image text listing sound loads)
 
       named_none : (f : LinkFault) → IsNamed (Link f) → f ≡ links.OutOfMemory → ⊥
       named_none f named e = subst (λ g. IsNamed (Link g)) e named

@@ -6,7 +6,7 @@ use Rattle.std.specs.List.{AllByRecursion}
 use Rattle.rv_elf.specs.declared.fault.FileFault.{FileFault}
 use Rattle.rv_elf.specs.Sections.{section_count}
 use Rattle.rv_object.specs.Object.{Section, Object}
-use Rattle.rv_object.specs.Valid.{is_alignment, fit_inside, are_paddings, are_rows}
+use Rattle.rv_object.specs.Valid.{is_section_alignment, fit_inside, are_paddings, are_rows}
 use Rattle.rv_object_file_laws.specs.Parts.{is_kept, kept, row_records}
 use Rattle.rv_object_file_laws.specs.FirstFault.{first_fault}
 use Rattle.rv_object_file_laws.specs.ObjectOf.{ObjectOf, section_in, row_in}
@@ -49,7 +49,7 @@ is_sound : (file : List ℕ) (o : Object) → IsObjectIn file o → IsSound o
 is_sound file o (none, is) =
     let valid : AllByRecursion IsValid o.sections = subst (λ ss. AllByRecursion IsValid ss) (sym is.sections) (all_valid file none) in
     record {
-      alignments = weaken IsValid (λ s. IsTrue (is_alignment s.alignment)) (λ s v. v.aligned) o.sections valid;
+      alignments = weaken IsValid (λ s. IsTrue (is_section_alignment s.alignment)) (λ s v. v.aligned) o.sections valid;
       inside = weaken IsValid (λ s. IsTrue (fit_inside s.contents s.relocations)) (λ s v. v.inside) o.sections valid;
       paddings = weaken IsValid (λ s. IsTrue (are_paddings s.executable s.contents s.relocations)) (λ s v. v.paddings) o.sections valid;
       rows = ap (are_rows o.sections) is.rows ∙ ap (λ ss. are_rows ss (map (row_in file) (row_records file))) is.sections ∙ object_rows file none;

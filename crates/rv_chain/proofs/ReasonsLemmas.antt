@@ -11,7 +11,7 @@ use Rattle.rv_object_laws.specs.Without.{without}
 use Rattle.rv_object_laws.proofs.WithoutLemmas.{as_many_objects}
 use Rattle.rv_link.specs.declared.fault.LinkFault.{LinkFault}
 use Rattle.rv_link.specs.declared.fault.LinkFault.TheVariants as links
-use Rattle.rv_link.specs.Fault.{number_of}
+use Rattle.rv_link.specs.Fault.{link_fault_number}
 use Rattle.rv_link.specs.Refusals.{AreWithin, ArePast, HasNoProgram}
 use Rattle.rv_link.proofs.LeftLemmas.{alike, past_unlinked}
 use Rattle.rv_unique_link_laws.specs.Asked.{IsSound}
@@ -56,7 +56,7 @@ past_by n start links.ImageTooLarge h = absurd h
 past_by n start links.OutOfMemory h = absurd h
 
 same_fault : (f g : LinkFault) → f ≡ g → IsSameFault f g
-same_fault f g e = (ap number_of e, ap name_in e)
+same_fault f g e = (ap link_fault_number e, ap name_in e)
 
 one_past : (n : ℕ) (f g : LinkFault) → IsPastBy n f → IsPastBy n g → IsSameFault f g
 one_past n f g (inl (is, many)) (inl (was, more)) = same_fault f g (is ∙ sym was)

@@ -12,7 +12,7 @@ use Rattle.rv_image.specs.Executable.{Part, segment_of_part, has_memory, exe_of,
 use Rattle.rv_image.proofs.LoadedAgainLemmas.{reload_image}
 use Rattle.rv_disasm.specs.declared.code.Code.{Code}
 use Rattle.rv_disasm.specs.declared.code.Code.TheVariants.{Word, Parcel}
-use Rattle.rv_disasm.specs.Raw.{bytes_of, is_executable}
+use Rattle.rv_disasm.specs.Raw.{raw_bytes, is_executable}
 use Rattle.rv_chain_laws.specs.Headline.{AllRead}
 use Rattle.rv_reassembly_laws.specs.Reassembles.{RawListingsReassemble}
 use Rattle.rv_chain.specs.Building.{IsProgramFrom}
@@ -20,14 +20,14 @@ use Rattle.rv_chain.specs.Reassembled.{Reassembles}
 
 -- ---- a listing has an instruction, and so its segment has bytes
 
-code_some : (code : Code) (rest : List ℕ) → 0 < length (bytes_of code ++ rest)
-code_some (Word i) rest = let e : length (bytes_of (Word i) ++ rest) ≡ 4 + length rest = length-append (bytes_of (Word i)) rest in omega (arith, e)
-code_some (Parcel c) rest = let e : length (bytes_of (Parcel c) ++ rest) ≡ 2 + length rest = length-append (bytes_of (Parcel c)) rest in omega (arith, e)
+code_some : (code : Code) (rest : List ℕ) → 0 < length (raw_bytes code ++ rest)
+code_some (Word i) rest = let e : length (raw_bytes (Word i) ++ rest) ≡ 4 + length rest = length-append (raw_bytes (Word i)) rest in omega (arith, e)
+code_some (Parcel c) rest = let e : length (raw_bytes (Parcel c) ++ rest) ≡ 2 + length rest = length-append (raw_bytes (Parcel c)) rest in omega (arith, e)
 
-codes_some : (before after : List Code) → 0 < length after → 0 < length (flat_map bytes_of (before ++ after))
+codes_some : (before after : List Code) → 0 < length after → 0 < length (flat_map raw_bytes (before ++ after))
 codes_some [] [] h = absurd (let no : 0 < 0 = h in omega arith)
-codes_some [] (code ∷ after) h = code_some code (flat_map bytes_of after)
-codes_some (code ∷ before) after h = code_some code (flat_map bytes_of (before ++ after))
+codes_some [] (code ∷ after) h = code_some code (flat_map raw_bytes after)
+codes_some (code ∷ before) after h = code_some code (flat_map raw_bytes (before ++ after))
 
 -- ---- of the parts of an executable the first alone is executable
 

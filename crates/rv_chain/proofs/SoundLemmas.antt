@@ -14,7 +14,7 @@ use Rattle.rv_unit_laws.specs.Tables.{Tables, tables, opened_of}
 use Rattle.rv_source_laws.specs.Located.{has_row}
 use Rattle.rv_object.specs.declared.row.Row.{Row}
 use Rattle.rv_object.specs.Object.{Contents, Relocation, Section, Symbol, Object, size_of}
-use Rattle.rv_object.specs.Valid.{is_alignment, fit_inside, are_paddings, is_row_in, are_rows}
+use Rattle.rv_object.specs.Valid.{is_section_alignment, fit_inside, are_paddings, is_row_in, are_rows}
 use Rattle.rv_assemble_laws.specs.LaidStatements.{LaidStatement, part_bytes, parts, laid_in, end_of}
 use Rattle.rv_assemble_laws.specs.IsObjectOf.{Numbering, relocations_from, contents_of, IsSectionOf, AreSectionsOf, row_of, rows_at, IsObjectOf}
 use Rattle.rv_assemble_laws.proofs.FaultlessLemmas.{no_first_fault}
@@ -142,8 +142,8 @@ module _ (ss : List Statement) (o : Object) (h : IsObjectOf ss o) where
         go true = parts_within h.number 0 (length full) (parts t laid) held (let f : 0 + length full ≤ length full = omega arith in f)
         go false = refl
 
-    on_multiple : IsTrue (is_alignment x.alignment)
-    on_multiple = subst (λ n. is_alignment n ≡ true) (sym is.alignment) (aligned ss j)
+    on_multiple : IsTrue (is_section_alignment x.alignment)
+    on_multiple = subst (λ n. is_section_alignment n ≡ true) (sym is.alignment) (aligned ss j)
 
     fitting : IsTrue (fit_inside x.contents x.relocations)
     fitting =
@@ -197,7 +197,7 @@ module _ (ss : List Statement) (o : Object) (h : IsObjectOf ss o) where
 
   pub sound : IsSound o
   sound = record {
-    alignments = every (λ x. IsTrue (is_alignment x.alignment)) on_multiple;
+    alignments = every (λ x. IsTrue (is_section_alignment x.alignment)) on_multiple;
     inside = every (λ x. IsTrue (fit_inside x.contents x.relocations)) fitting;
     paddings = every (λ x. IsTrue (are_paddings x.executable x.contents x.relocations)) padded;
     rows = ap (are_rows o.sections) h.rows ∙ rows_lie h.laid all_settled ends_inside;

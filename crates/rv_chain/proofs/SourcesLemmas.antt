@@ -3,7 +3,7 @@
 use Rattle.std.proofs.Common.{◌≡◌, ℕ, ◌+◌, Bool, ◌⊎◌, inl, inr, List, length, map, refl, sym, ap, subst, ◌∙◌, None, Some}
 use Rattle.std.specs.Prelude.{if◌then◌else◌, ◌==◌}
 use Rattle.std.specs.List.{AllByRecursion}
-use Rattle.rv_lexer.specs.Fault.{number_of}
+use Rattle.rv_lexer.specs.Fault.{source_fault_number}
 use Rattle.rv_lexer.specs.declared.fault.SourceCode.{SourceCode}
 use Rattle.rv_lexer.specs.declared.fault.SourceCode.TheVariants as codes
 use Rattle.rv_lexer.specs.declared.fault.SourceFault.{SourceFault}
@@ -41,7 +41,7 @@ code_of n =
     else if n == 13 then codes.NotConstant else if n == 14 then codes.ImmediateRange else if n == 15 then codes.WrongSection else if n == 16 then codes.OptionStack
     else codes.Limit
 
-code_back : (c : SourceCode) → code_of (number_of c) ≡ c
+code_back : (c : SourceCode) → code_of (source_fault_number c) ≡ c
 code_back codes.BadByte = refl
 code_back codes.BadToken = refl
 code_back codes.NestingTooDeep = refl
@@ -60,7 +60,7 @@ code_back codes.WrongSection = refl
 code_back codes.OptionStack = refl
 code_back codes.Limit = refl
 
-same_at : (c d : SourceCode) (l m : ℕ) → number_of c ≡ number_of d → l ≡ m → sources.At c l ≡ sources.At d m
+same_at : (c d : SourceCode) (l m : ℕ) → source_fault_number c ≡ source_fault_number d → l ≡ m → sources.At c l ≡ sources.At d m
 same_at c d l m e f = ap (λ x. sources.At x l) (sym (code_back c) ∙ ap code_of e ∙ code_back d) ∙ ap (λ n. sources.At d n) f
 
 -- ---- the laws of sources
@@ -112,13 +112,13 @@ module _ (laws : SourceLaws) where
 
   one_at : (text : List ℕ) (c d : SourceCode) (l m : ℕ) → IsFirstFault text (sources.At c l) → IsFirstFault text (sources.At d m) → sources.At c l ≡ sources.At d m
   one_at text c d l m (inl h) (inl k) =
-      let same = laws.one_fault text (record { code = number_of c; line = l }) (record { code = number_of d; line = m }) h k in
+      let same = laws.one_fault text (record { code = source_fault_number c; line = l }) (record { code = source_fault_number d; line = m }) h k in
       same_at c d l m (ap (λ (f : TextFault). f.code) same) (ap (λ (f : TextFault). f.line) same)
   one_at text c d l m (inl h) (inr (ss, reads, is)) = absurd (laws.not_both text ss _ reads h)
   one_at text c d l m (inr (ss, reads, is)) (inl k) = absurd (laws.not_both text ss _ reads k)
   one_at text c d l m (inr (ss, reads, is)) (inr (others, read, was)) =
-      let f : StatementsFault = record { code = number_of c; line = l } in
-      let g : StatementsFault = record { code = number_of d; line = m } in
+      let f : StatementsFault = record { code = source_fault_number c; line = l } in
+      let g : StatementsFault = record { code = source_fault_number d; line = m } in
       let there : IsStatementsFault ss g = subst (λ x. IsStatementsFault x g) (sym (laws.one_reading text ss others reads read)) was in
       let same : f ≡ g = laws.once ss f g is there in
       same_at c d l m (ap (λ (x : StatementsFault). x.code) same) (ap (λ (x : StatementsFault). x.line) same)

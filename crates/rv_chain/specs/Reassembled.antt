@@ -3,7 +3,7 @@
 use Rattle.std.specs.Prelude.{◌≡◌, ◌⊎◌, ◌<◌, ℕ, Bool, List, [], ◌∷◌, length, filter, None}
 use Rattle.rv_text_laws.specs.Codes.{limit}
 use Rattle.rv_lexer.specs.declared.fault.SourceFault.TheVariants.{At}
-use Rattle.rv_lexer.specs.Fault.{number_of}
+use Rattle.rv_lexer.specs.Fault.{source_fault_number}
 use Rattle.rv_parse_laws.specs.Reading.{longest_source}
 use Rattle.rv_image.specs.Segment.{Segment}
 use Rattle.rv_image.specs.Image.{Image}
@@ -36,7 +36,7 @@ Reassembles texts start executable =
 -- the one source is longer than a source may be, which is a fault at line 0
 abbrev pub IsTooLongFor : List ℕ → Fault → Type 0
 IsTooLongFor text (Source number (At code line)) =
-    (longest_source < length text) × (number ≡ 1) × (number_of code ≡ limit) × (line ≡ 0)
+    (longest_source < length text) × (number ≡ 1) × (source_fault_number code ≡ limit) × (line ≡ 0)
 IsTooLongFor text fault = ⊥
 
 -- where it is the raw listing of what a file without a fault is loaded as, what refuses it is its

@@ -6,7 +6,7 @@ use Rattle.std.proofs.lemmas.Bool.{eqb-true, and_parts}
 use Rattle.rv_isa_laws.specs.Memory.{Mem, Right, Read, Write, Execute, may, some_has, bytes_at, with_byte, with_bytes, number_at, with_number}
 use Rattle.std.proofs.lemmas.List.{length-take}
 use Rattle.rv_isa_laws.specs.Hart.{Hart, LoadText, LoadOutside, StoreText, StoreOutside, register}
-use Rattle.rv_isa_laws.specs.Effect.{Effect, Goes, Loads, Stores, Reserves, Conditional, Updates, Calls, Breaks, Next, On, Over, apply, calls, reads, writes, load_refusal, store_refusal, answer}
+use Rattle.rv_isa_laws.specs.Effect.{Effect, Goes, Loads, Stores, Reserves, Conditional, Updates, Calls, Breaks, Next, On, Over, apply, environment_call, reads, writes, load_refusal, store_refusal, answer}
 
 -- memory m of the machine beside memory s of the source run: both have these rights, they are equal where something can be
 -- read, and what can be executed is as it was at first
@@ -135,7 +135,7 @@ module _ (has : ℕ → Right → Bool) (fixed : (a : ℕ) → a < 2 ^ 64 → ha
       (refl, beside))
       (refl, beside)
 
-  calls_alike : (h : Hart) (m s : Mem) → Beside has first m s → Alike has first (calls h m) (calls h s)
+  calls_alike : (h : Hart) (m s : Mem) → Beside has first m s → Alike has first (environment_call h m) (environment_call h s)
   calls_alike h m s beside =
       on_test (register h 17 == 63) _ _ _ _ (reads_alike h m s beside)
       (on_test (register h 17 == 64) _ _ _ _ (writes_alike h m s beside)

@@ -12,7 +12,7 @@ use Rattle.rv_compress.specs.declared.form.Compressed.{Compressed}
 use Rattle.rv_compress.specs.Parcel.{StandsFor}
 use Rattle.rv_compress.specs.Front.{FrontSpells}
 use Rattle.rv_source_laws.specs.Lines.{Line, Lie}
-use Rattle.rv_disasm.specs.Lines.{front, taken, line, lines}
+use Rattle.rv_disasm.specs.Lines.{front, length_read, line, lines}
 use Rattle.rv_disasm.proofs.FrontsLemmas.{spelled_front}
 use Rattle.rv_disasm.proofs.LinesOnLemmas.{lines_step, lines_end}
 use Rattle.rv_chain_laws.specs.Contents.{AreEncoded}
@@ -83,7 +83,7 @@ lines_shown reader named (l ∷ ls) a stop bytes (at, lie) (written, (rest, join
     let long : length (written ++ rest) ≡ length written + length rest = length-append written rest in
     let behind : drop l.bytes (written ++ rest) ≡ rest = ap (λ n. drop n (written ++ rest)) (sym here) ∙ drop_front written rest in
     ap (λ b. lines reader 0 a b) joined
-    ∙ lines_step reader a l.bytes (written ++ rest) (omega (arith, long, here, some)) some (sym (ap taken found))
+    ∙ lines_step reader a l.bytes (written ++ rest) (omega (arith, long, here, some)) some (sym (ap length_read found))
     ∙ ap (λ f. line a f ++ lines reader 0 (a + l.bytes) (drop l.bytes (written ++ rest))) found
     ∙ ap (λ x. line x (Some (l.instruction, l.bytes)) ++ lines reader 0 (a + l.bytes) (drop l.bytes (written ++ rest))) (sym at)
     ∙ ap (λ b. line_text l ++ lines reader 0 (a + l.bytes) b) behind

@@ -11,7 +11,7 @@ use Rattle.rv_map.specs.declared.map.Row.{Row}
 use Rattle.rv_map.specs.declared.map.SectionId.{SectionId}
 use Rattle.rv_collect_laws.specs.Graph.{is_dropped}
 use Rattle.rv_source_laws.specs.Located.{Located, located_from, located_of, located, left, has_row, without_address}
-use Rattle.rv_source_laws.specs.Program.{Mapped, first_of, statements_of, seated, mapped_of}
+use Rattle.rv_source_laws.specs.Program.{Mapped, first_of, mapped_statements, seated, mapped_of}
 use Rattle.rv_source_laws.specs.Fits.{input_section, input_sections_of_file, input_sections_of, mapped_in}
 use Rattle.rv_source_laws.proofs.HomesLemmas.{IsHomeIn, homes_from, all_join}
 use Rattle.rv_source_laws.proofs.LeftLemmas.{IsLeftIn, home_left, all_left}
@@ -56,7 +56,7 @@ IsSeated P s = P s.located × (s.located.home.loaded ≡ true)
 abbrev pub IsAtHome : List SectionId → (ℕ → List Section) → Mapped → Type 0
 IsAtHome drops sections s = IsSeated (IsLeftIn drops sections) s
 
-pub seats : (P : Located → Type 0) (ts : List Located) (rows : List Row) → AllByRecursion P ts → AllByRecursion (IsSeated P) (mapped_of (statements_of ts rows))
+pub seats : (P : Located → Type 0) (ts : List Located) (rows : List Row) → AllByRecursion P ts → AllByRecursion (IsSeated P) (mapped_of (mapped_statements ts rows))
 seats P [] rows h = tt
 seats P (t ∷ ts) rows (q, qs) = go (has_row t) refl (seats P ts (drop 1 rows) qs) (seats P ts rows qs)
   where
@@ -64,14 +64,14 @@ seats P (t ∷ ts) rows (q, qs) = go (has_row t) refl (seats P ts (drop 1 rows) 
     seat None rest e h = h
     seat (Some row) rest e h = ((q, (and_parts _ t.home.loaded e).1), h)
 
-    go : (b : Bool) → has_row t ≡ b → AllByRecursion (IsSeated P) (mapped_of (statements_of ts (drop 1 rows))) → AllByRecursion (IsSeated P) (mapped_of (statements_of ts rows)) → AllByRecursion (IsSeated P) (mapped_of (if b then record { located = t; row = first_of rows } ∷ statements_of ts (drop 1 rows) else record { located = t; row = None } ∷ statements_of ts rows))
-    go true e taken left = seat (first_of rows) (mapped_of (statements_of ts (drop 1 rows))) e taken
+    go : (b : Bool) → has_row t ≡ b → AllByRecursion (IsSeated P) (mapped_of (mapped_statements ts (drop 1 rows))) → AllByRecursion (IsSeated P) (mapped_of (mapped_statements ts rows)) → AllByRecursion (IsSeated P) (mapped_of (if b then record { located = t; row = first_of rows } ∷ mapped_statements ts (drop 1 rows) else record { located = t; row = None } ∷ mapped_statements ts rows))
+    go true e taken left = seat (first_of rows) (mapped_of (mapped_statements ts (drop 1 rows))) e taken
     go false e taken left = left
 
 are_in : (sources : List (List Statement)) → AreOf (sections_in sources) 1 sources
 are_in sources i = ap (sections_in sources) (let e : 1 + i ≡ suc i = omega arith in e)
 
-pub homes : (drops : List SectionId) (sources : List (List Statement)) (rows : List Row) → AllByRecursion (IsAtHome drops (sections_in sources)) (mapped_of (statements_of (left drops sources) rows))
+pub homes : (drops : List SectionId) (sources : List (List Statement)) (rows : List Row) → AllByRecursion (IsAtHome drops (sections_in sources)) (mapped_of (mapped_statements (left drops sources) rows))
 homes drops sources rows =
     seats (IsLeftIn drops (sections_in sources)) (left drops sources) rows
     (all_left (IsHomeIn (sections_in sources)) (IsLeftIn drops (sections_in sources)) drops (located sources) (home_left drops (sections_in sources)) (homes_of (sections_in sources) 1 sources (are_in sources)))

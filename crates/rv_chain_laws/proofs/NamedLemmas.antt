@@ -9,7 +9,7 @@ use Rattle.rv_isa.specs.declared.instruction.Format.{Format}
 use Rattle.rv_isa.specs.declared.instruction.Format.TheVariants.{Registers, Immediate, Shift, Upper, Load, Store, Branch, Jal, Jalr, LoadReserved, Atomic, Fence, Ecall, Ebreak}
 use Rattle.rv_parse_laws.specs.Names.{word_of}
 use Rattle.rv_parse_laws.proofs.NamesLemmas.{means}
-use Rattle.rv_disasm.specs.Instruction.{register, in_parentheses, based, target, operands, accesses, is_tso, is_between, text_of}
+use Rattle.rv_disasm.specs.Instruction.{abi_register, in_parentheses, based, target_text, operands, accesses, is_tso, is_between, text_of}
 use Rattle.rv_disasm.specs.Numbers.{prefixed}
 use Rattle.rv_chain_laws.specs.Named.{IsNamedAlike, ListingsNameAlike}
 
@@ -50,18 +50,18 @@ fence address x = go (is_tso x) (is_between x) refl refl
     go false false other is = inr refl
 
 pub named_alike : ListingsNameAlike
-named_alike address (Registers o x) = inl (before (Registers o x) _ (register x.rd) (register x.rs1 ∷ register x.rs2 ∷ []) refl)
-named_alike address (Immediate o x) = inl (before (Immediate o x) _ (register x.rd) (register x.rs1 ∷ signed_decimal x.immediate ∷ []) refl)
-named_alike address (Shift o x) = inl (before (Shift o x) _ (register x.rd) (register x.rs1 ∷ decimal x.amount ∷ []) refl)
-named_alike address (Upper o x) = inl (before (Upper o x) _ (register x.rd) (prefixed x.immediate ∷ []) refl)
-named_alike address (Load o x) = inl (before (Load o x) _ (register x.rd) (based x.immediate x.rs1 ∷ []) refl)
-named_alike address (Store o x) = inl (before (Store o x) _ (register x.rs2) (based x.immediate x.rs1 ∷ []) refl)
-named_alike address (Branch o x) = inl (before (Branch o x) _ (register x.rs1) (register x.rs2 ∷ target address x.offset ∷ []) refl)
-named_alike address (Jal x) = inl (before (Jal x) _ (register x.rd) (target address x.offset ∷ []) refl)
-named_alike address (Jalr x) = inl (before (Jalr x) _ (register x.rd) (based x.immediate x.rs1 ∷ []) refl)
-named_alike address (LoadReserved false x) = inl (before (LoadReserved false x) _ (register x.rd) (in_parentheses x.rs1 ∷ []) refl)
-named_alike address (LoadReserved true x) = inl (before (LoadReserved true x) _ (register x.rd) (in_parentheses x.rs1 ∷ []) refl)
-named_alike address (Atomic o double x) = inl (before (Atomic o double x) _ (register x.rd) (register x.rs2 ∷ in_parentheses x.rs1 ∷ []) refl)
+named_alike address (Registers o x) = inl (before (Registers o x) _ (abi_register x.rd) (abi_register x.rs1 ∷ abi_register x.rs2 ∷ []) refl)
+named_alike address (Immediate o x) = inl (before (Immediate o x) _ (abi_register x.rd) (abi_register x.rs1 ∷ signed_decimal x.immediate ∷ []) refl)
+named_alike address (Shift o x) = inl (before (Shift o x) _ (abi_register x.rd) (abi_register x.rs1 ∷ decimal x.amount ∷ []) refl)
+named_alike address (Upper o x) = inl (before (Upper o x) _ (abi_register x.rd) (prefixed x.immediate ∷ []) refl)
+named_alike address (Load o x) = inl (before (Load o x) _ (abi_register x.rd) (based x.immediate x.rs1 ∷ []) refl)
+named_alike address (Store o x) = inl (before (Store o x) _ (abi_register x.rs2) (based x.immediate x.rs1 ∷ []) refl)
+named_alike address (Branch o x) = inl (before (Branch o x) _ (abi_register x.rs1) (abi_register x.rs2 ∷ target_text address x.offset ∷ []) refl)
+named_alike address (Jal x) = inl (before (Jal x) _ (abi_register x.rd) (target_text address x.offset ∷ []) refl)
+named_alike address (Jalr x) = inl (before (Jalr x) _ (abi_register x.rd) (based x.immediate x.rs1 ∷ []) refl)
+named_alike address (LoadReserved false x) = inl (before (LoadReserved false x) _ (abi_register x.rd) (in_parentheses x.rs1 ∷ []) refl)
+named_alike address (LoadReserved true x) = inl (before (LoadReserved true x) _ (abi_register x.rd) (in_parentheses x.rs1 ∷ []) refl)
+named_alike address (Atomic o double x) = inl (before (Atomic o double x) _ (abi_register x.rd) (abi_register x.rs2 ∷ in_parentheses x.rs1 ∷ []) refl)
 named_alike address (Fence x) = fence address x
 named_alike address Ecall = inl (lone Ecall _ refl)
 named_alike address Ebreak = inl (lone Ebreak _ refl)

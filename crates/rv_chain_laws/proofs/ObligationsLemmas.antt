@@ -18,7 +18,7 @@ use Rattle.rv_statement.specs.declared.pseudo.Function.TheVariants.{Hi, Lo, Pcre
 use Rattle.rv_pseudo_laws.specs.Code.{Part, Closed}
 use Rattle.rv_pseudo_laws.specs.Filled.{FieldValue, filled}
 use Rattle.rv_source_laws.specs.Program.{Mapped, Program, form, resolved, address, number, has_values}
-use Rattle.rv_source_laws.specs.Lines.{Line, Lie, AreLines, constant_of, constants, no_operation, parts_of, parts, other_operand, operand_of, operand_value, field_value, paired, gives, expansion}
+use Rattle.rv_source_laws.specs.Lines.{Line, Lie, AreLines, constant_of, constants, no_operation, parts_by_size, parts, other_operand, operand_of, operand_value, field_value, paired, gives, expansion}
 use Rattle.rv_source_laws.specs.Meaning.{statement_effect, meaning, is_untaken, cost}
 use Rattle.rv_source_laws.specs.Fits.{IsRowOf, IsCodeRow, CodeFits, StatementFits}
 use Rattle.rv_chain_laws.specs.Walks.{then_walk, walk, Does, LinesDoAsMeant}
@@ -164,7 +164,7 @@ module _ (p : Program) (s : Mapped) (lines : List Line) (are : AreLines p s line
       let fills = shown (has_values p s) (field_value p s) s.row.address (parts p s) h.ps (insts lines) h.are are.0 in
       as_kind (Instruction mnemonic operands) _ is fills.valued (λ h. refl)
       (comes (number p s) (paired p s) (constants p s.located) (field_value p s) s.located.options.rvc mnemonic operands s.row.address s.row.bytes h.ps lines
-      (ap (parts_of (constants p s.located) s.located.options.rvc s.row.bytes) (sym is) ∙ h.are)
+      (ap (parts_by_size (constants p s.located) s.located.options.rvc s.row.bytes) (sym is) ∙ h.are)
       (record { is = fills.same; lie = are.1; small = small; valid = counts.0; taken = h.code.taken; some = some; below = below })
       (λ e target. field_leads p s mnemonic operands e is target)
       (λ e k known. constant_is (λ q. address p s.located q) (form p s.located e) k known)
@@ -180,8 +180,8 @@ module _ (p : Program) (s : Mapped) (lines : List Line) (are : AreLines p s line
       (does_as meant meant (λ h. length (insts lines)) (λ h. if (s.row.bytes == 8) && false then 1 else length (insts lines)) s.row.address lines
       (does_padding (field_value p s) n s.row.address s.row.bytes lines fills.same are.1 some below) (λ h r. refl) (λ h. unpassed (s.row.bytes == 8) (length (insts lines))))
 
-  parts_at : (k : StatementKind) → s.located.kind ≡ k → parts p s ≡ parts_of (constants p s.located) s.located.options.rvc s.row.bytes k
-  parts_at k is = ap (parts_of (constants p s.located) s.located.options.rvc s.row.bytes) is
+  parts_at : (k : StatementKind) → s.located.kind ≡ k → parts p s ≡ parts_by_size (constants p s.located) s.located.options.rvc s.row.bytes k
+  parts_at k is = ap (parts_by_size (constants p s.located) s.located.options.rvc s.row.bytes) is
 
   does_directive : (d : Directive) → s.located.kind ≡ Directs d → Does (meaning p s) (cost p s) s.row.address lines
   does_directive (Aligns_to_power exponent) is = does_alignment (Aligns_to_power exponent) _ is (parts_at (Directs (Aligns_to_power exponent)) is) (λ h. refl)

@@ -4,7 +4,7 @@ use Rattle.std.proofs.Common.{◌⊎◌, inl, inr, ℕ, ◌%◌, ◌^◌, ◌<�
 use Rattle.std.specs.Prelude.{◌&&◌, ◌||◌, ◌==◌, if◌then◌else◌, min}
 use Rattle.rv_isa_laws.specs.Memory.{Mem, Read, Write, may}
 use Rattle.rv_isa_laws.specs.Hart.{Hart, register}
-use Rattle.rv_isa_laws.specs.Effect.{Effect, Goes, Loads, Stores, Reserves, Conditional, Updates, Calls, Breaks, Next, On, Over, apply, calls, answer, bad_file, bad_address, no_call}
+use Rattle.rv_isa_laws.specs.Effect.{Effect, Goes, Loads, Stores, Reserves, Conditional, Updates, Calls, Breaks, Next, On, Over, apply, environment_call, answer, bad_file, bad_address, no_call}
 use Rattle.rv_isa_laws.specs.Kept.{GoesOn}
 
 abbrev pub OnNext : (Hart → Type 0) → Next → Type 0
@@ -42,7 +42,7 @@ module _ (P : Hart → Type 0) (kept : IsKept P) where
   on_if true x y f g = f
   on_if false x y f g = g
 
-  calls_on : (h : Hart) (m : Mem) → P h → OnNext P (calls h m)
+  calls_on : (h : Hart) (m : Mem) → P h → OnNext P (environment_call h m)
   calls_on h m ok =
       on_if (register h 17 == 63) _ _
       (on_if (register h 10 == 0) _ _

@@ -32,14 +32,14 @@ use Rattle.rv_compress.specs.declared.parcel.ParcelOperation.TheVariants as parc
 use Rattle.rv_compress.specs.declared.parcel.RegisterSet.TheVariants.{Short}
 use Rattle.rv_compress.specs.declared.parcel.OperandShape.{OperandShape}
 use Rattle.rv_compress.specs.declared.parcel.OperandShape.TheVariants as shapes
-use Rattle.rv_compress.specs.Mnemonics.{is_in, are_in, register_sets, shape_of, takes_number, form_with, form_of}
+use Rattle.rv_compress.specs.Mnemonics.{is_of_set, are_in, register_sets, shape_of, takes_number, form_with, form_of}
 use Rattle.rv_compress.specs.Parcel.{expansion}
 use Rattle.rv_statement.specs.declared.mnemonic.Mnemonic.{Mnemonic}
 use Rattle.rv_statement.specs.declared.mnemonic.Mnemonic.TheVariants.{Registers, Immediate, Shift, Upper, Load, Store, Branch, Jal, Jalr, LoadReserved, Atomic, Fence, FenceTso, Ecall, Ebreak, Nop, Unary, Compare, ZeroBranch, SwappedBranch, J, Jr, Ret, La, Li, Call, Tail, Jump, Parcel}
 use Rattle.rv_statement.specs.declared.pseudo.Function.TheVariants.{Hi, Lo, PcrelHi, PcrelLo}
 use Rattle.rv_statement.specs.Statement.{Operand, Register, Value, Applied, Target, Accesses, Word, Quoted, Expression}
 use Rattle.rv_parse_laws.specs.Syntax.{with_constant}
-use Rattle.rv_pseudo_laws.specs.Code.{Part, Closed, Open, Constants, opened, by_number, by_part, signed_12, upper_20, number_of, by_amount, by_constant, by_form, parcel_form, branch, i_type, s_type, b_type, u_type, shift_by, jal, jalr, code}
+use Rattle.rv_pseudo_laws.specs.Code.{Part, Closed, Open, Constants, opened, by_number, by_part, signed_12, upper_20, constant_number, by_amount, by_constant, by_form, parcel_form, branch, i_type, s_type, b_type, u_type, shift_by, jal, jalr, code}
 use Rattle.rv_pseudo_laws.specs.Filled.{FieldValue, filled}
 use Rattle.rv_source_laws.specs.Lines.{other_operand, operand_number, distance, operand_gives}
 use Rattle.rv_source_laws.specs.Holes.{constant_hole, form_hole, parcel_hole}
@@ -197,13 +197,13 @@ module _ (v : Expression → ℕ) (pair : Expression → ℤ) (c : Constants) (f
       ∙ ap make (sym (ap Given other)))
   said_signed store make q o other takes lower = tt
 
-  amount_is : (q : Option Operand) (o : Operand) → Other q o → (k : ℤ) → number_of c o ≡ Some k → k ≡ Given q
+  amount_is : (q : Option Operand) (o : Operand) → Other q o → (k : ℤ) → constant_number c o ≡ Some k → k ≡ Given q
   amount_is q (Value e) other k s = known e k s ∙ sym (ap Given other)
   amount_is q (Applied Lo e) other k s = half_known lo e (c e) refl k s ∙ sym (ap Given other)
   amount_is q o other k s = absurd (cc)
 
   said_amount : (make : ℕ → Inst) (q : Option Operand) (o : Operand) → Other q o → Said (make (wrapped (Given q))) (by_amount c make o)
-  said_amount make q o other = said_number (λ k. make (wrapped k)) (Given q) (number_of c o) (amount_is q o other)
+  said_amount make q o other = said_number (λ k. make (wrapped k)) (Given q) (constant_number c o) (amount_is q o other)
 
   -- an upper part that is known is below 2 ^ 20
   upper_known : (operation : UpperOperation) (rd : ℕ) (n k : ℤ) → k ≡ n → AllByRecursion IsValid (of_upper operation (u_type rd (wrapped k)) ∷ [])
@@ -269,8 +269,8 @@ module _ (v : Expression → ℕ) (pair : Expression → ℤ) (c : Constants) (f
   said_by_form operation rs n (Some k) same = said_form operation rs k n (same k refl)
 
   said_numbered : (operation : ParcelOperation) (rs : List ℕ) (q : Option Operand) (o : Operand) → Other q o
-      → SaidForm (form_hole operation rs) (Given q) (by_form (form_of operation rs) (number_of c o))
-  said_numbered operation rs q o other = said_by_form operation rs (Given q) (number_of c o) (amount_is q o other)
+      → SaidForm (form_hole operation rs) (Given q) (by_form (form_of operation rs) (constant_number c o))
+  said_numbered operation rs q o other = said_by_form operation rs (Given q) (constant_number c o) (amount_is q o other)
 
   said_parcel : (operation : ParcelOperation) (shape : OperandShape) (operands : List Operand)
       → SaidForm (parcel_hole operation shape operands) (Given (other_operand operands)) (parcel_form c operation shape operands)
@@ -344,7 +344,7 @@ module _ (v : Expression → ℕ) (pair : Expression → ℤ) (c : Constants) (f
   said_code rvc bytes Ebreak [] p takes = λ valid. refl
   said_code rvc bytes Nop [] p takes = λ valid. refl
   said_code rvc bytes (Parcel parcels.J) (Target e ∷ []) p takes = said_jump true 0 e takes
-  said_code rvc bytes (Parcel parcels.Beqz) (Register rs ∷ Target e ∷ []) p takes = said_short_branch (is_in Short rs) Beq rs e takes
-  said_code rvc bytes (Parcel parcels.Bnez) (Register rs ∷ Target e ∷ []) p takes = said_short_branch (is_in Short rs) Bne rs e takes
+  said_code rvc bytes (Parcel parcels.Beqz) (Register rs ∷ Target e ∷ []) p takes = said_short_branch (is_of_set Short rs) Beq rs e takes
+  said_code rvc bytes (Parcel parcels.Bnez) (Register rs ∷ Target e ∷ []) p takes = said_short_branch (is_of_set Short rs) Bne rs e takes
   said_code rvc bytes (Parcel operation) operands p takes = said_parcel operation (shape_of operation) operands
   said_code rvc bytes mnemonic operands p takes = tt

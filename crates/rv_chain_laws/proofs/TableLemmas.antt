@@ -11,10 +11,10 @@ use Rattle.rv_statement.specs.declared.mnemonic.Mnemonic.TheVariants.{Load, Stor
 use Rattle.rv_statement.specs.declared.pseudo.Function.TheVariants.{Lo}
 use Rattle.rv_statement.specs.Statement.{Operand, Register, Value, Applied, Target, Expression}
 use Rattle.rv_pseudo_laws.specs.Li.{is_signed, li}
-use Rattle.rv_pseudo_laws.specs.Code.{Part, Closed, Constants, number_of, through, code}
+use Rattle.rv_pseudo_laws.specs.Code.{Part, Closed, Constants, constant_number, through, code}
 use Rattle.rv_pseudo_laws.specs.Filled.{FieldValue}
 use Rattle.rv_source_laws.specs.Lines.{Line, other_operand, operand_number, operand_gives}
-use Rattle.rv_source_laws.specs.Meaning.{taken, pseudo_effect, one_instruction, else_alone, else_goes_if, is_passed, number_in}
+use Rattle.rv_source_laws.specs.Meaning.{taken, pseudo_effect, one_instruction, else_alone, else_goes_if, is_passed, signed_operand}
 use Rattle.rv_chain_laws.specs.Walks.{Does}
 use Rattle.rv_chain_laws.proofs.ShapesLemmas.{insts, does_as}
 use Rattle.rv_chain_laws.proofs.RowsLemmas.{Row, row_as, valid_parts, Leads, SetsTo, row_alone, row_unary, row_compare, row_branch, row_zero_branch, row_swapped_branch}
@@ -59,7 +59,7 @@ by_other first second o ps e = by (first == second) refl e
 -- the number of `li`
 record IsNumber (v : Expression → ℕ) (operand : Operand) (k : ℤ) : Type 0 where
   fits : is_signed 64 k ≡ true
-  is : wrapped k ≡ number_in v operand
+  is : wrapped k ≡ signed_operand v operand
 
 value_number : (v : Expression → ℕ) (c : Constants) (e : Expression) (k : ℤ) → ((e : Expression) (k : ℤ) → c e ≡ Some k → k ≡ signed 64 (v e)) → c e ≡ Some k → IsNumber v (Value e) k
 value_number v c e k known s =
@@ -74,14 +74,14 @@ low_number v c e k (Some n) known s t =
     let same : k ≡ lo (signed 64 (v e)) = sym part ∙ ap lo (known e n s) in
     record { fits = ap (is_signed 64) same ∙ low_fits (signed 64 (v e)); is = ap wrapped same }
 
-number_is : (v : Expression → ℕ) (c : Constants) (operand : Operand) (k : ℤ) → ((e : Expression) (k : ℤ) → c e ≡ Some k → k ≡ signed 64 (v e)) → number_of c operand ≡ Some k → IsNumber v operand k
+number_is : (v : Expression → ℕ) (c : Constants) (operand : Operand) (k : ℤ) → ((e : Expression) (k : ℤ) → c e ≡ Some k → k ≡ signed 64 (v e)) → constant_number c operand ≡ Some k → IsNumber v operand k
 number_is v c (Value e) k known s = value_number v c e k known s
 number_is v c (Applied Lo e) k known s = low_number v c e k (c e) known refl s
 number_is v c operand k known s = absurd (cc)
 
 load_immediate : (v : Expression → ℕ) (c : Constants) (operand : Operand) (o : Option ℤ) (rd : ℕ) (f : FieldValue) (address size : ℕ) (ps : List Part) (lines : List Line)
-    → ((e : Expression) (k : ℤ) → c e ≡ Some k → k ≡ signed 64 (v e)) → number_of c operand ≡ o → option_map (λ k. map Closed (li rd k)) o ≡ Some ps
-    → Row f address size ps lines → SetsTo rd (λ h. number_in v operand) address size lines
+    → ((e : Expression) (k : ℤ) → c e ≡ Some k → k ≡ signed 64 (v e)) → constant_number c operand ≡ o → option_map (λ k. map Closed (li rd k)) o ≡ Some ps
+    → Row f address size ps lines → SetsTo rd (λ h. signed_operand v operand) address size lines
 load_immediate v c operand None rd f address size ps lines known e same r = absurd (cc)
 load_immediate v c operand (Some k) rd f address size ps lines known e same r =
     let n = number_is v c operand k known e in
@@ -121,7 +121,7 @@ comes v pair c f rvc (Compare operation) (Register rd ∷ Register a ∷ Registe
 comes v pair c f rvc La (Register rd ∷ Target e ∷ []) address size ps lines is r to known takes =
     unbranched _ address size lines (row_near rd (v e) f address size lines (row_as f address size ps _ lines is r) (to e refl))
 comes v pair c f rvc Li (Register rd ∷ o ∷ []) address size ps lines is r to known takes =
-    unbranched _ address size lines (load_immediate v c o (number_of c o) rd f address size ps lines known refl is r)
+    unbranched _ address size lines (load_immediate v c o (constant_number c o) rd f address size ps lines known refl is r)
 comes v pair c f rvc Call (Register rd ∷ Target e ∷ []) address size ps lines is r to known takes =
     let b = by_register rd _ ps is in
     unbranched _ address size lines (row_call rd (v e) f address size lines b.some (row_as f address size ps _ lines b.same r) (to e refl))

@@ -18,7 +18,7 @@ use Rattle.rv_resolve.specs.Names.{place_of}
 use Rattle.rv_collect.specs.declared.walk.Walk.{Walk}
 use Rattle.rv_collect.specs.Drops.{id_at}
 use Rattle.rv_collect.specs.Targets.{leads_in, target_in}
-use Rattle.rv_collect.specs.Marks.{AreLike, rows_of, mark_at, marked_by, is_marked}
+use Rattle.rv_collect.specs.Marks.{AreLike, mark_rows, mark_at, marked_by, is_marked}
 use Rattle.rv_collect.proofs.LoadedLemmas.{IsLoaded}
 use Rattle.rv_collect.proofs.RowsLemmas.{row_in, apart_right, one_less}
 use Rattle.rv_collect.specs.Walk.{done_of, queued, IsWalk, IsReached, Entered, Referred, Grows, IsMarked, IsPlaceMarked, AreFollowed, AreFollowedTo, IsEnded}
@@ -97,7 +97,7 @@ module _ (os : List Object) (old new : Walk) (file index : ℕ) where
     pub has : Has (graph_of os) (id_at file index)
     pub unmarked : mark_at old.marks file index ≡ false
     pub marks : (f i : ℕ) → mark_at new.marks f i ≡ (((f == file) && (i == index)) || mark_at old.marks f i)
-    pub like : map length (rows_of new.marks) ≡ map length (rows_of old.marks)
+    pub like : map length (mark_rows new.marks) ≡ map length (mark_rows old.marks)
     pub queue : new.queue.items ≡ old.queue.items ++ (file, index) ∷ []
 
   module _ (m : IsMore) where

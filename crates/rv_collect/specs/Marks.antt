@@ -11,11 +11,11 @@ use Rattle.rv_collect.specs.Drops.{mark_in}
 use Rattle.rv_collect_laws.specs.Graph.{outside}
 
 -- the marks of files, and those of one, from 0
-abbrev pub rows_of : Marks → List (List Bool)
-rows_of marks = map (λ (row : Vec Bool). row.items) marks.files.items
+abbrev pub mark_rows : Marks → List (List Bool)
+mark_rows marks = map (λ (row : Vec Bool). row.items) marks.files.items
 
 abbrev pub row_of : Marks → ℕ → List Bool
-row_of marks file = slice_index_or (rows_of marks) file []
+row_of marks file = slice_index_or (mark_rows marks) file []
 
 -- the mark of a section, by its file and its index there, both from 0
 abbrev pub mark_at : Marks → (file index : ℕ) → Bool
@@ -23,7 +23,7 @@ mark_at marks file index = mark_in (row_of marks file) index
 
 -- each section of each object has one, and nothing else has
 abbrev pub AreLike : List Object → Marks → Type 0
-AreLike os marks = map length (rows_of marks) ≡ map (λ o. length o.sections) os
+AreLike os marks = map length (mark_rows marks) ≡ map (λ o. length o.sections) os
 
 -- the marked sections, by their numbers from 1
 abbrev pub marked_by : (ℕ → ℕ → Bool) → (file section : ℕ) → Bool

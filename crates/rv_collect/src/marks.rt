@@ -15,7 +15,7 @@ pub(crate) struct Marks {
 }
 
 impl Marks {
-    ghost use Rattle.rv_collect.specs.Marks.{AreLike, mark_at, row_of, rows_of};
+    ghost use Rattle.rv_collect.specs.Marks.{AreLike, mark_at, row_of, mark_rows};
 
     /// Marks for the sections of objects, of which none is marked.
     pub(crate) fn none(alloc: Global, objects: &[Object<'_>]) -> Result<Marks, AllocError>
@@ -53,7 +53,7 @@ impl Marks {
         requires { index < length (row_of self.old file) }
         ensures marked { (f i : ℕ) → mark_at self.new f i
             ≡ (f == file) && (i == index) || mark_at self.old f i }
-        ensures like { map length (rows_of self.new) ≡ map length (rows_of self.old) }
+        ensures like { map length (mark_rows self.new) ≡ map length (mark_rows self.old) }
     {
         let row = &mut self.files[file];
         row[index] = true;

@@ -51,12 +51,12 @@ parcel_name Sdsp = codes "c.sdsp"
 
 -- ---- registers
 
-abbrev pub is_in : RegisterSet → ℕ → Bool
-is_in Any r = nat_lt r 32
-is_in Nonzero r = nat_lt r 32 && not (r == 0)
-is_in Short r = nat_le 8 r && nat_lt r 16
-is_in Stack r = r == 2
-is_in Upper r = nat_lt r 32 && not (r == 0) && not (r == 2)
+abbrev pub is_of_set : RegisterSet → ℕ → Bool
+is_of_set Any r = nat_lt r 32
+is_of_set Nonzero r = nat_lt r 32 && not (r == 0)
+is_of_set Short r = nat_le 8 r && nat_lt r 16
+is_of_set Stack r = r == 2
+is_of_set Upper r = nat_lt r 32 && not (r == 0) && not (r == 2)
 
 -- those of each mnemonic, as they are written; the last one of an address is its base
 abbrev pub register_sets : ParcelOperation → List RegisterSet
@@ -97,7 +97,7 @@ register_sets Sdsp = Any ∷ Stack ∷ []
 -- registers are as many as the sets, each one of its own
 abbrev pub are_in : List RegisterSet → List ℕ → Bool
 are_in [] [] = true
-are_in (set ∷ sets) (r ∷ rs) = is_in set r && are_in sets rs
+are_in (set ∷ sets) (r ∷ rs) = is_of_set set r && are_in sets rs
 are_in _ _ = false
 
 -- of two registers those that a mnemonic has
@@ -108,7 +108,7 @@ own_registers operation first second =
 -- a register is one of the set, if there is one
 abbrev pub holds : Option RegisterSet → ℕ → Bool
 holds None r = true
-holds (Some set) r = is_in set r
+holds (Some set) r = is_of_set set r
 
 -- ---- what stands beside them
 

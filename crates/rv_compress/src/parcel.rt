@@ -81,7 +81,7 @@ pub enum OperandShape {
 impl RegisterSet {
     /// Whether a register is one of the set.
     pub fn contains(self, reg: Reg) -> bool
-        ensures { result ≡ is.is_in self reg }
+        ensures { result ≡ is.is_of_set self reg }
     {
         let number = reg.number();
         match self {

@@ -14,7 +14,7 @@ use Rattle.rv_compress.specs.Parcel.{parcel, IsLine, IsNoHint, SpellsForm}
 use Rattle.rv_compress.specs.Front.{front_parcel, front_word}
 use Rattle.rv_disasm.specs.declared.code.Code.{Code}
 use Rattle.rv_disasm.specs.declared.code.Code.TheVariants.{Word, Parcel}
-use Rattle.rv_disasm.specs.Raw.{bytes_of, has_source, IsSourced}
+use Rattle.rv_disasm.specs.Raw.{raw_bytes, has_source, IsSourced}
 use Rattle.rv_disasm.specs.RawParts.{IsFront}
 use Rattle.rv_disasm.proofs.OneFormLemmas.{one_form}
 
@@ -41,7 +41,7 @@ begins_parcel c bytes rest line same = subst (λ b. BeginsParcel b c) (sym same)
 one_word : (w : ℕ) (i j : Inst) → Spells w i → Spells w j → i ≡ j
 one_word w i j s t = same_Some i j (sym ((word_read-exact w i).1 s) ∙ (word_read-exact w j).1 t)
 
-pub one_code : (bytes r s : List ℕ) (c d : Code) → IsSourced c → IsSourced d → bytes ≡ bytes_of c ++ r → bytes ≡ bytes_of d ++ s → c ≡ d
+pub one_code : (bytes r s : List ℕ) (c d : Code) → IsSourced c → IsSourced d → bytes ≡ raw_bytes c ++ r → bytes ≡ raw_bytes d ++ s → c ≡ d
 one_code bytes r s (Word i) (Word j) (v, f) (w, g) e h =
     ap (λ k. Word k) (one_word (front_word bytes) i j (begins_word i bytes r v e).spells (begins_word j bytes s w h).spells)
 one_code bytes r s (Word i) (Parcel d) (v, f) (l, n) e h = absurd ((begins_parcel d bytes s l h).begins (begins_word i bytes r v e).begins)
@@ -50,25 +50,25 @@ one_code bytes r s (Parcel c) (Parcel d) (l, n) (k, m) e h =
     ap (λ x. Parcel x) (one_form (front_parcel bytes) c d (begins_parcel c bytes r l e).spells n (begins_parcel d bytes s k h).spells m)
 
 -- and what is left behind it
-pub same_rest : (c d : Code) (r s : List ℕ) → c ≡ d → bytes_of c ++ r ≡ bytes_of d ++ s → r ≡ s
-same_rest c d r s is e = append_cancel_left (bytes_of c) r s (e ∙ ap (λ k. bytes_of k ++ s) (sym is))
+pub same_rest : (c d : Code) (r s : List ℕ) → c ≡ d → raw_bytes c ++ r ≡ raw_bytes d ++ s → r ≡ s
+same_rest c d r s is e = append_cancel_left (raw_bytes c) r s (e ∙ ap (λ k. raw_bytes k ++ s) (sym is))
 
 -- ---- what a function finds
 
-some_front : (bytes rest : List ℕ) (c : Code) → IsSourced c → bytes ≡ bytes_of c ++ rest → IsFront (Some c) bytes
+some_front : (bytes rest : List ℕ) (c : Code) → IsSourced c → bytes ≡ raw_bytes c ++ rest → IsFront (Some c) bytes
 some_front bytes rest c sourced same d = (
-  λ e. subst (λ k. IsSourced k × ((r : List ℕ) × (bytes ≡ bytes_of k ++ r))) (same_Some c d e) (sourced, (rest, same)),
+  λ e. subst (λ k. IsSourced k × ((r : List ℕ) × (bytes ≡ raw_bytes k ++ r))) (same_Some c d e) (sourced, (rest, same)),
   λ f. ap (λ k. Some k) (one_code bytes rest f.1.0 c d sourced f.0 same f.1.1),
 )
 
-no_front : (bytes : List ℕ) → ((c : Code) (rest : List ℕ) → IsSourced c → bytes ≡ bytes_of c ++ rest → ⊥) → IsFront None bytes
+no_front : (bytes : List ℕ) → ((c : Code) (rest : List ℕ) → IsSourced c → bytes ≡ raw_bytes c ++ rest → ⊥) → IsFront None bytes
 no_front bytes never d = (λ e. absurd (none-some d e), λ f. absurd (never d f.1.0 f.0 f.1.1))
 
 -- at bytes that begin a word
 pub no_word : (bytes : List ℕ) → slice_index bytes 0 % 4 ≡ 3 → ((i : Inst) → 4 ≤ length bytes → Spells (front_word bytes) i → has_source (format_of i) ≡ true → ⊥) → IsFront None bytes
 no_word bytes begins never = no_front bytes go
   where
-    go : (c : Code) (rest : List ℕ) → IsSourced c → bytes ≡ bytes_of c ++ rest → ⊥
+    go : (c : Code) (rest : List ℕ) → IsSourced c → bytes ≡ raw_bytes c ++ rest → ⊥
     go (Word i) rest (v, f) same = let b = begins_word i bytes rest v same in never i b.room b.spells f
     go (Parcel c) rest (l, n) same = (begins_parcel c bytes rest l same).begins begins
 
@@ -76,7 +76,7 @@ no_word bytes begins never = no_front bytes go
 pub no_parcel : (bytes : List ℕ) → slice_index bytes 0 % 4 ≢ 3 → ((c : Compressed) → 2 ≤ length bytes → SpellsForm (front_parcel bytes) c → IsNoHint c → ⊥) → IsFront None bytes
 no_parcel bytes begins never = no_front bytes go
   where
-    go : (c : Code) (rest : List ℕ) → IsSourced c → bytes ≡ bytes_of c ++ rest → ⊥
+    go : (c : Code) (rest : List ℕ) → IsSourced c → bytes ≡ raw_bytes c ++ rest → ⊥
     go (Word i) rest (v, f) same = absurd (begins (begins_word i bytes rest v same).begins)
     go (Parcel c) rest (l, n) same = let b = begins_parcel c bytes rest l same in never c b.room b.spells n
 

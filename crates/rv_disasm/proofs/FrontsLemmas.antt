@@ -10,7 +10,7 @@ use Rattle.rv_isa_laws.specs.Reader.{Reader}
 use Rattle.rv_encode.specs.Word.{Spells}
 use Rattle.rv_compress.specs.Parcel.{StandsFor}
 use Rattle.rv_compress.specs.Front.{FrontSpells, front_word, front_parcel}
-use Rattle.rv_disasm.specs.Lines.{whole, front}
+use Rattle.rv_disasm.specs.Lines.{read_whole, front}
 
 begins_word : (b : ℕ) → b % 4 ≡ 3 → (b % 4 == 3) ≡ true
 begins_word b h = grind (arith, nat_tests)
@@ -30,11 +30,11 @@ le_true m n h = grind (arith, nat_tests)
 true_le : (m n : ℕ) → nat_le m n ≡ true → m ≤ n
 true_le m n h = grind (arith, nat_tests)
 
-whole_from : (count : ℕ) (bytes : List ℕ) (found : Option Inst) (i : Inst) → count ≤ length bytes → found ≡ Some i → whole count bytes found ≡ Some (i, count)
+whole_from : (count : ℕ) (bytes : List ℕ) (found : Option Inst) (i : Inst) → count ≤ length bytes → found ≡ Some i → read_whole count bytes found ≡ Some (i, count)
 whole_from count bytes found i room is =
-    ap (λ f. whole count bytes f) is ∙ cond-true _ _ _ (le_true count (length bytes) room)
+    ap (λ f. read_whole count bytes f) is ∙ cond-true _ _ _ (le_true count (length bytes) room)
 
-whole_some : (count : ℕ) (bytes : List ℕ) (found : Option Inst) (i : Inst) (n : ℕ) → whole count bytes found ≡ Some (i, n) → (count ≤ length bytes) × (found ≡ Some i) × (n ≡ count)
+whole_some : (count : ℕ) (bytes : List ℕ) (found : Option Inst) (i : Inst) (n : ℕ) → read_whole count bytes found ≡ Some (i, n) → (count ≤ length bytes) × (found ≡ Some i) × (n ≡ count)
 whole_some count bytes None i n h = elim (cases_Bool (nat_le count (length bytes))) [
   | inl all ↦ let none = sym (cond-true _ _ _ all) ∙ h in absurd (cc)
   | inr few ↦ let none = sym (cond-false _ _ _ few) ∙ h in absurd (cc)

@@ -6,13 +6,13 @@ use Rattle.std.proofs.lemmas.Bool.{and_parts, leb-true}
 use Rattle.rv_isa_laws.specs.Memory.{Execute}
 use Rattle.rv_map.specs.declared.map.Row.{Row}
 use Rattle.rv_image.specs.Segment.{Segment}
-use Rattle.rv_image.specs.Memory.{has_flag}
+use Rattle.rv_image.specs.Memory.{gives_right}
 use Rattle.rv_disasm.specs.Listing.{holds}
 
 -- where a row that a segment holds begins and ends
 pub held_parts : (row : Row) (s : Segment) → holds row s ≡ true → (s.address ≤ row.address) × (row.address + row.bytes ≤ s.address + length s.bytes)
 held_parts row s h =
-    let runs = has_flag s.flags Execute in
+    let runs = gives_right s.flags Execute in
     let below = nat_le s.address row.address in
     let above = nat_le (row.address + row.bytes) (s.address + length s.bytes) in
     let parts = and_parts (runs && below) above h in

@@ -6,7 +6,7 @@ use Rattle.rv_isa_laws.specs.Reader.{Reader}
 use Rattle.rv_encode.specs.Word.{Spells}
 use Rattle.rv_compress.specs.Parcel.{StandsFor}
 use Rattle.rv_map.specs.declared.map.Row.{Row}
-use Rattle.rv_disasm.specs.Lines.{front, taken, line, lines}
+use Rattle.rv_disasm.specs.Lines.{front, length_read, line, lines}
 use Rattle.rv_disasm.specs.Listing.{statement, entry}
 
 -- the bytes of the line before are passed over
@@ -18,12 +18,12 @@ passed reader (suc k) address (b ∷ bytes) =
     passed reader k (suc address) bytes ∙ ap (λ a. lines reader 0 a (drop k bytes)) (let same : suc address + k ≡ address + suc k = omega arith in same)
 
 first : (reader : Reader Spells StandsFor) (address b : ℕ) (bytes : List ℕ) →
-    lines reader 0 address (b ∷ bytes) ≡ line address (front reader (b ∷ bytes)) ++ lines reader (taken (front reader (b ∷ bytes)) - 1) (suc address) bytes
+    lines reader 0 address (b ∷ bytes) ≡ line address (front reader (b ∷ bytes)) ++ lines reader (length_read (front reader (b ∷ bytes)) - 1) (suc address) bytes
 unfolding lines
 first reader address b bytes = refl
 
 -- the first line, and the others
-pub lines_step : (reader : Reader Spells StandsFor) (address count : ℕ) (bytes : List ℕ) → 0 < length bytes → 1 ≤ count → count ≡ taken (front reader bytes) →
+pub lines_step : (reader : Reader Spells StandsFor) (address count : ℕ) (bytes : List ℕ) → 0 < length bytes → 1 ≤ count → count ≡ length_read (front reader bytes) →
     lines reader 0 address bytes ≡ line address (front reader bytes) ++ lines reader 0 (address + count) (drop count bytes)
 lines_step reader address count [] some more is = absurd (omega (arith, some))
 lines_step reader address zero (b ∷ bytes) some more is = absurd (omega (arith, more))
@@ -50,7 +50,7 @@ entry_none reader row (b ∷ bytes) none = absurd (omega (arith, none))
 
 -- a loop that has added the line at an offset, from where the rest stands
 pub lines_more : (reader : Reader Spells StandsFor) (all text new bytes rest : List ℕ) (address offset count : ℕ) → rest ≡ drop offset bytes → offset < length bytes → 1 ≤ count →
-    count ≡ taken (front reader rest) → new ≡ text ++ line (address + offset) (front reader rest) →
+    count ≡ length_read (front reader rest) → new ≡ text ++ line (address + offset) (front reader rest) →
     text ++ lines reader 0 (address + offset) (drop offset bytes) ≡ all → new ++ lines reader 0 (address + (offset + count)) (drop (offset + count) bytes) ≡ all
 lines_more reader all text new bytes rest address offset count is within more counted added so_far =
     let long = length-drop offset bytes in

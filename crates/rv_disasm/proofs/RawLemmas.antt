@@ -15,21 +15,21 @@ use Rattle.rv_image.specs.Segment.{Segment, segment_of}
 use Rattle.rv_image.specs.Image.{Image}
 use Rattle.rv_disasm.specs.declared.code.Code.{Code}
 use Rattle.rv_disasm.specs.declared.code.Code.TheVariants.{Word, Parcel}
-use Rattle.rv_disasm.specs.Raw.{bytes_of, IsSourced, code_text, lines_text, raw_lines, is_executable, IsRawListing}
+use Rattle.rv_disasm.specs.Raw.{raw_bytes, IsSourced, code_text, lines_text, raw_lines, is_executable, IsRawListing}
 use Rattle.rv_disasm.specs.RawParts.{IsFront, AreCodes, AreAdded, IsCut}
 use Rattle.rv_disasm.proofs.CodesLemmas.{one_code, same_rest}
 
 -- ---- lists of instructions
 
-some_bytes : (c : Code) → 0 < length (bytes_of c)
+some_bytes : (c : Code) → 0 < length (raw_bytes c)
 some_bytes (Word i) = omega arith
 some_bytes (Parcel c) = omega arith
 
 -- bytes that begin with an instruction are not at their end
-not_ended : (c : Code) (rest : List ℕ) → [] ≡ bytes_of c ++ rest → ⊥
+not_ended : (c : Code) (rest : List ℕ) → [] ≡ raw_bytes c ++ rest → ⊥
 not_ended c rest e =
     let some = some_bytes c in
-    let long : 0 ≡ length (bytes_of c) + length rest = ap length e ∙ length-append (bytes_of c) rest in
+    let long : 0 ≡ length (raw_bytes c) + length rest = ap length e ∙ length-append (raw_bytes c) rest in
     absurd (omega (arith, some, long))
 
 all_join : {X : Type 0} (P : X → Type 0) (xs ys : List X) → AllByRecursion P xs → AllByRecursion P ys → AllByRecursion P (xs ++ ys)
@@ -41,25 +41,25 @@ all_split P [] ys a = (tt, a)
 all_split P (x ∷ xs) ys (p, a) = let parts = all_split P xs ys a in ((p, parts.0), parts.1)
 
 -- behind instructions with which bytes begin stand others, where all of them are instructions
-left_of : (cs ds : List Code) (rest : List ℕ) → AllByRecursion IsSourced cs → AllByRecursion IsSourced ds → flat_map bytes_of cs ++ rest ≡ flat_map bytes_of ds →
+left_of : (cs ds : List Code) (rest : List ℕ) → AllByRecursion IsSourced cs → AllByRecursion IsSourced ds → flat_map raw_bytes cs ++ rest ≡ flat_map raw_bytes ds →
     (es : List Code) × AreCodes rest es × (ds ≡ cs ++ es)
 left_of [] ds rest _ sourced e = (ds, record { sourced = sourced; same = e }, refl)
-left_of (c ∷ cs) [] rest all sourced e = absurd (not_ended c (flat_map bytes_of cs ++ rest) (sym e ∙ append_assoc (bytes_of c) (flat_map bytes_of cs) rest))
+left_of (c ∷ cs) [] rest all sourced e = absurd (not_ended c (flat_map raw_bytes cs ++ rest) (sym e ∙ append_assoc (raw_bytes c) (flat_map raw_bytes cs) rest))
 left_of (c ∷ cs) (d ∷ ds) rest (s, all) (t, sourced) e =
-    let front : bytes_of c ++ (flat_map bytes_of cs ++ rest) ≡ bytes_of d ++ flat_map bytes_of ds = sym (append_assoc (bytes_of c) (flat_map bytes_of cs) rest) ∙ e in
-    let same : c ≡ d = one_code (bytes_of d ++ flat_map bytes_of ds) (flat_map bytes_of cs ++ rest) (flat_map bytes_of ds) c d s t (sym front) refl in
-    let left = left_of cs ds rest all sourced (same_rest c d (flat_map bytes_of cs ++ rest) (flat_map bytes_of ds) same front) in
+    let front : raw_bytes c ++ (flat_map raw_bytes cs ++ rest) ≡ raw_bytes d ++ flat_map raw_bytes ds = sym (append_assoc (raw_bytes c) (flat_map raw_bytes cs) rest) ∙ e in
+    let same : c ≡ d = one_code (raw_bytes d ++ flat_map raw_bytes ds) (flat_map raw_bytes cs ++ rest) (flat_map raw_bytes ds) c d s t (sym front) refl in
+    let left = left_of cs ds rest all sourced (same_rest c d (flat_map raw_bytes cs ++ rest) (flat_map raw_bytes ds) same front) in
     (left.0, left.1, ap (λ k. k ∷ ds) (sym same) ∙ ap (λ l. c ∷ l) left.2)
 
 -- bytes are those of one list of instructions
 one_list : (bytes : List ℕ) (cs ds : List Code) → AreCodes bytes cs → AreCodes bytes ds → ds ≡ cs
 one_list bytes cs ds a b =
-    let left = left_of cs ds [] a.sourced b.sourced (append-nil (flat_map bytes_of cs) ∙ sym a.same ∙ b.same) in
+    let left = left_of cs ds [] a.sourced b.sourced (append-nil (flat_map raw_bytes cs) ∙ sym a.same ∙ b.same) in
     go left.0 left.1 left.2
   where
     go : (es : List Code) → AreCodes [] es → ds ≡ cs ++ es → ds ≡ cs
     go [] none e = e ∙ append-nil cs
-    go (d ∷ es) some e = absurd (not_ended d (flat_map bytes_of es) some.same)
+    go (d ∷ es) some e = absurd (not_ended d (flat_map raw_bytes es) some.same)
 
 -- ---- a walk over bytes
 
@@ -67,27 +67,27 @@ one_list bytes cs ds a b =
 pub record IsBegun (bytes rest old new : List ℕ) : Type 0 where
   pub cs : List Code
   pub sourced : AllByRecursion IsSourced cs
-  pub same : bytes ≡ flat_map bytes_of cs ++ rest
+  pub same : bytes ≡ flat_map raw_bytes cs ++ rest
   pub lines : new ≡ old ++ lines_text (map code_text cs)
 
 pub begun : (bytes text : List ℕ) → IsBegun bytes bytes text text
 begun bytes text = record { cs = []; sourced = tt; same = refl; lines = sym (append-nil text) }
 
-pub begun_more : (bytes rest old now new : List ℕ) (offset count : ℕ) (c : Code) → rest ≡ drop offset bytes → IsFront (Some c) rest → count ≡ length (bytes_of c) →
+pub begun_more : (bytes rest old now new : List ℕ) (offset count : ℕ) (c : Code) → rest ≡ drop offset bytes → IsFront (Some c) rest → count ≡ length (raw_bytes c) →
     new ≡ now ++ code_text c ++ 10 ∷ [] → IsBegun bytes (drop offset bytes) old now → IsBegun bytes (drop (offset + count) bytes) old new
 begun_more bytes rest old now new offset count c is found counted added so_far =
     let front = (found c).0 refl in
     let behind : drop (offset + count) bytes ≡ front.1.0 =
-    sym (drop-drop count offset bytes) ∙ ap (drop count) (sym is ∙ front.1.1) ∙ ap (λ n. drop n (bytes_of c ++ front.1.0)) counted ∙ drop-append_seam (bytes_of c) front.1.0 in
-    let here : drop offset bytes ≡ bytes_of c ++ drop (offset + count) bytes = sym is ∙ front.1.1 ∙ ap (λ r. bytes_of c ++ r) (sym behind) in
+    sym (drop-drop count offset bytes) ∙ ap (drop count) (sym is ∙ front.1.1) ∙ ap (λ n. drop n (raw_bytes c ++ front.1.0)) counted ∙ drop-append_seam (raw_bytes c) front.1.0 in
+    let here : drop offset bytes ≡ raw_bytes c ++ drop (offset + count) bytes = sym is ∙ front.1.1 ∙ ap (λ r. raw_bytes c ++ r) (sym behind) in
     record {
       cs = so_far.cs ++ c ∷ [];
       sourced = all_join IsSourced so_far.cs (c ∷ []) so_far.sourced (front.0, tt);
       same =
-          so_far.same ∙ ap (λ r. flat_map bytes_of so_far.cs ++ r) here
-          ∙ sym (append_assoc (flat_map bytes_of so_far.cs) (bytes_of c) (drop (offset + count) bytes))
+          so_far.same ∙ ap (λ r. flat_map raw_bytes so_far.cs ++ r) here
+          ∙ sym (append_assoc (flat_map raw_bytes so_far.cs) (raw_bytes c) (drop (offset + count) bytes))
           ∙ ap (λ r. r ++ drop (offset + count) bytes)
-          (ap (λ r. flat_map bytes_of so_far.cs ++ r) (sym (append-nil (bytes_of c))) ∙ sym (flat_map-append bytes_of so_far.cs (c ∷ [])));
+          (ap (λ r. flat_map raw_bytes so_far.cs ++ r) (sym (append-nil (raw_bytes c))) ∙ sym (flat_map-append raw_bytes so_far.cs (c ∷ [])));
       lines =
           added ∙ append_assoc now (code_text c) (10 ∷ []) ∙ ap (λ t. t ++ (code_text c ++ 10 ∷ [])) so_far.lines
           ∙ append_assoc old (lines_text (map code_text so_far.cs)) (code_text c ++ 10 ∷ [])
@@ -100,7 +100,7 @@ begun_more bytes rest old now new offset count c is found counted added so_far =
 pub begun_all : (bytes old new : List ℕ) (offset : ℕ) → length bytes ≤ offset → IsBegun bytes (drop offset bytes) old new → AreAdded bytes old new
 begun_all bytes old new offset past so_far = record {
   cs = so_far.cs;
-  codes = record { sourced = so_far.sourced; same = so_far.same ∙ ap (λ r. flat_map bytes_of so_far.cs ++ r) (drop_all offset bytes past) ∙ append-nil (flat_map bytes_of so_far.cs) };
+  codes = record { sourced = so_far.sourced; same = so_far.same ∙ ap (λ r. flat_map raw_bytes so_far.cs ++ r) (drop_all offset bytes past) ∙ append-nil (flat_map raw_bytes so_far.cs) };
   lines = so_far.lines;
 }
 
@@ -113,7 +113,7 @@ begun_none bytes rest old now offset is within found so_far ds codes =
   where
     go : (es : List Code) → AreCodes (drop offset bytes) es → ⊥
     go [] none = let long = sym (length-drop offset bytes) ∙ ap length none.same in absurd (omega (arith, long, within))
-    go (e ∷ es) some = absurd (none-some e ((found e).1 (some.sourced.0, (flat_map bytes_of es, is ∙ some.same))))
+    go (e ∷ es) some = absurd (none-some e ((found e).1 (some.sourced.0, (flat_map raw_bytes es, is ∙ some.same))))
 
 -- ---- segments and images
 
@@ -151,20 +151,20 @@ one_of : {X : Type 0} (x y : X) → x ∷ [] ≡ y ∷ [] → x ≡ y
 one_of x y e = cc
 
 -- a list of instructions with an element has bytes
-some_length : (cs : List Code) → 0 < length cs → 0 < length (flat_map bytes_of cs)
+some_length : (cs : List Code) → 0 < length cs → 0 < length (flat_map raw_bytes cs)
 some_length [] some = absurd (omega (arith, some))
-some_length (c ∷ cs) some = let n = some_bytes c in let long = length-append (bytes_of c) (flat_map bytes_of cs) in omega (arith, n, long)
+some_length (c ∷ cs) some = let n = some_bytes c in let long = length-append (raw_bytes c) (flat_map raw_bytes cs) in omega (arith, n, long)
 
 -- and the other way round
-some_codes : (cs : List Code) → 0 < length (flat_map bytes_of cs) → 0 < length cs
+some_codes : (cs : List Code) → 0 < length (flat_map raw_bytes cs) → 0 < length cs
 some_codes [] some = absurd (omega (arith, some))
 some_codes (c ∷ cs) some = omega arith
 
 -- what a raw listing says of a segment that alone can be executed
 pub record IsShown (s : Segment) (start : ℕ) (before after : List Code) : Type 0 where
-  pub cut : IsCut s start (flat_map bytes_of before) (flat_map bytes_of after)
-  pub sourced_before : AreCodes (flat_map bytes_of before) before
-  pub sourced_after : AreCodes (flat_map bytes_of after) after
+  pub cut : IsCut s start (flat_map raw_bytes before) (flat_map raw_bytes after)
+  pub sourced_before : AreCodes (flat_map raw_bytes before) before
+  pub sourced_after : AreCodes (flat_map raw_bytes after) after
 
 pub shown : (image : Image) (text : List ℕ) (s : Segment) → filter is_executable image.segments ≡ s ∷ [] → (r : IsRawListing image text) → IsShown s image.entry r.before r.after
 shown image text s alone r =
@@ -175,7 +175,7 @@ shown image text s alone r =
       cut = record {
         aligned = r.aligned;
         below = r.below;
-        bytes = r.bytes ∙ flat_map-append bytes_of r.before r.after;
+        bytes = r.bytes ∙ flat_map-append raw_bytes r.before r.after;
         some = some_length r.after r.some;
         entry = r.entry;
       };
@@ -210,7 +210,7 @@ listed image s b a first begins labelled text alone cut is before label after = 
   before = before.cs;
   after = after.cs;
   sourced = all_join IsSourced before.cs after.cs before.codes.sourced after.codes.sourced;
-  bytes = cut.bytes ∙ ap (λ x. x ++ a) before.codes.same ∙ ap (λ x. flat_map bytes_of before.cs ++ x) after.codes.same ∙ sym (flat_map-append bytes_of before.cs after.cs);
+  bytes = cut.bytes ∙ ap (λ x. x ++ a) before.codes.same ∙ ap (λ x. flat_map raw_bytes before.cs ++ x) after.codes.same ∙ sym (flat_map-append raw_bytes before.cs after.cs);
   some = some_codes after.cs (subst (λ x. 0 < length x) after.codes.same cut.some);
   entry = cut.entry ∙ ap (λ x. s.address + length x) before.codes.same;
   shows =
@@ -224,19 +224,19 @@ pub no_before : (image : Image) (s : Segment) (b a : List ℕ) → filter is_exe
     (text : List ℕ) → IsRawListing image text → ⊥
 no_before image s b a alone cut never text r =
     let k = shown image text s alone r in
-    never r.before (subst (λ x. AreCodes x r.before) (sym (one_cut s image.entry b a (flat_map bytes_of r.before) (flat_map bytes_of r.after) cut k.cut).0) k.sourced_before)
+    never r.before (subst (λ x. AreCodes x r.before) (sym (one_cut s image.entry b a (flat_map raw_bytes r.before) (flat_map raw_bytes r.after) cut k.cut).0) k.sourced_before)
 
 pub no_after : (image : Image) (s : Segment) (b a : List ℕ) → filter is_executable image.segments ≡ s ∷ [] → IsCut s image.entry b a → ((cs : List Code) → AreCodes a cs → ⊥) →
     (text : List ℕ) → IsRawListing image text → ⊥
 no_after image s b a alone cut never text r =
     let k = shown image text s alone r in
-    never r.after (subst (λ x. AreCodes x r.after) (sym (one_cut s image.entry b a (flat_map bytes_of r.before) (flat_map bytes_of r.after) cut k.cut).1) k.sourced_after)
+    never r.after (subst (λ x. AreCodes x r.after) (sym (one_cut s image.entry b a (flat_map raw_bytes r.before) (flat_map raw_bytes r.after) cut k.cut).1) k.sourced_after)
 
 pub one_raw_listing : (image : Image) (text other : List ℕ) → IsRawListing image text → IsRawListing image other → text ≡ other
 one_raw_listing image text other r q =
     let a = shown image text r.segment r.alone r in
     let b = shown image other r.segment r.alone q in
-    let same = one_cut r.segment image.entry (flat_map bytes_of r.before) (flat_map bytes_of r.after) (flat_map bytes_of q.before) (flat_map bytes_of q.after) a.cut b.cut in
-    let before : q.before ≡ r.before = one_list (flat_map bytes_of q.before) r.before q.before (subst (λ x. AreCodes x r.before) same.0 a.sourced_before) b.sourced_before in
-    let after : q.after ≡ r.after = one_list (flat_map bytes_of q.after) r.after q.after (subst (λ x. AreCodes x r.after) same.1 a.sourced_after) b.sourced_after in
+    let same = one_cut r.segment image.entry (flat_map raw_bytes r.before) (flat_map raw_bytes r.after) (flat_map raw_bytes q.before) (flat_map raw_bytes q.after) a.cut b.cut in
+    let before : q.before ≡ r.before = one_list (flat_map raw_bytes q.before) r.before q.before (subst (λ x. AreCodes x r.before) same.0 a.sourced_before) b.sourced_before in
+    let after : q.after ≡ r.after = one_list (flat_map raw_bytes q.after) r.after q.after (subst (λ x. AreCodes x r.after) same.1 a.sourced_after) b.sourced_after in
     r.shows ∙ ap (λ cs. lines_text (raw_lines cs r.after)) (sym before) ∙ ap (λ ds. lines_text (raw_lines q.before ds)) (sym after) ∙ sym q.shows

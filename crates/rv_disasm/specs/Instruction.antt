@@ -18,20 +18,20 @@ use Rattle.rv_disasm.specs.Numbers.{prefixed}
 -- ---- operands
 
 -- by its ABI name: x8 is s0
-abbrev pub register : ℕ → List ℕ
-register r = slice_index_or abi_names r []
+abbrev pub abi_register : ℕ → List ℕ
+abi_register r = slice_index_or abi_names r []
 
 -- (a0)
 abbrev pub in_parentheses : ℕ → List ℕ
-in_parentheses r = codes "(" ++ register r ++ codes ")"
+in_parentheses r = codes "(" ++ abi_register r ++ codes ")"
 
 -- 8(sp)
 abbrev pub based : ℤ → ℕ → List ℕ
 based offset r = signed_decimal offset ++ in_parentheses r
 
 -- the address to which a branch or a jump at this address leads (ISA, 2.5)
-abbrev pub target : ℕ → ℤ → List ℕ
-target address offset = prefixed (sum_of address (wrapped offset))
+abbrev pub target_text : ℕ → ℤ → List ℕ
+target_text address offset = prefixed (sum_of address (wrapped offset))
 
 -- how far a target is from its instruction: .+4, .-4
 abbrev pub distant : ℤ → List ℕ
@@ -40,7 +40,7 @@ distant (negsuc n) = codes ".-" ++ decimal (suc n)
 
 -- the one or the other
 abbrev pub shown_target : Targets → ℤ → List ℕ
-shown_target (Addresses address) = target address
+shown_target (Addresses address) = target_text address
 shown_target Distances = distant
 
 -- a blank before the first operand, and a comma before each other
@@ -85,33 +85,35 @@ fence_text x =
 
 abbrev pub text_with : (ℤ → List ℕ) → Format → List ℕ
 text_with to (Registers operation x) =
-    register_name operation ++ operands (register x.rd ∷ register x.rs1 ∷ register x.rs2 ∷ [])
+    register_name operation ++ operands (abi_register x.rd ∷ abi_register x.rs1 ∷
+    abi_register x.rs2 ∷ [])
 text_with to (Immediate operation x) =
     immediate_name operation
-    ++ operands (register x.rd ∷ register x.rs1 ∷ signed_decimal x.immediate ∷ [])
+    ++ operands (abi_register x.rd ∷ abi_register x.rs1 ∷ signed_decimal x.immediate ∷ [])
 text_with to (Shift operation x) =
-    shift_name operation ++ operands (register x.rd ∷ register x.rs1 ∷ decimal x.amount ∷ [])
+    shift_name operation ++ operands (abi_register x.rd ∷ abi_register x.rs1 ∷ decimal x.amount ∷
+    [])
 text_with to (Upper operation x) =
-    upper_name operation ++ operands (register x.rd ∷ prefixed x.immediate ∷ [])
+    upper_name operation ++ operands (abi_register x.rd ∷ prefixed x.immediate ∷ [])
 text_with to (Load operation x) =
-    load_name operation ++ operands (register x.rd ∷ based x.immediate x.rs1 ∷ [])
+    load_name operation ++ operands (abi_register x.rd ∷ based x.immediate x.rs1 ∷ [])
 text_with to (Store operation x) =
-    store_name operation ++ operands (register x.rs2 ∷ based x.immediate x.rs1 ∷ [])
+    store_name operation ++ operands (abi_register x.rs2 ∷ based x.immediate x.rs1 ∷ [])
 text_with to (Branch operation x) =
-    branch_name operation ++ operands (register x.rs1 ∷ register x.rs2 ∷ to x.offset ∷ [])
-text_with to (Jal x) = codes "jal" ++ operands (register x.rd ∷ to x.offset ∷ [])
+    branch_name operation ++ operands (abi_register x.rs1 ∷ abi_register x.rs2 ∷ to x.offset ∷ [])
+text_with to (Jal x) = codes "jal" ++ operands (abi_register x.rd ∷ to x.offset ∷ [])
 text_with to (Jalr x) =
-    codes "jalr" ++ operands (register x.rd ∷ based x.immediate x.rs1 ∷ [])
+    codes "jalr" ++ operands (abi_register x.rd ∷ based x.immediate x.rs1 ∷ [])
 text_with to (LoadReserved double x) =
     load_reserved_name double ++ ordering x.acquire x.release
-    ++ operands (register x.rd ∷ in_parentheses x.rs1 ∷ [])
+    ++ operands (abi_register x.rd ∷ in_parentheses x.rs1 ∷ [])
 text_with to (Atomic operation double x) =
     atomic_name operation double ++ ordering x.acquire x.release
-    ++ operands (register x.rd ∷ register x.rs2 ∷ in_parentheses x.rs1 ∷ [])
+    ++ operands (abi_register x.rd ∷ abi_register x.rs2 ∷ in_parentheses x.rs1 ∷ [])
 text_with to (Fence x) = fence_text x
 text_with to Ecall = codes "ecall"
 text_with to Ebreak = codes "ebreak"
 
 -- with the address of the target, from its own
 abbrev pub text_of : ℕ → Format → List ℕ
-text_of address format = text_with (target address) format
+text_of address format = text_with (target_text address) format

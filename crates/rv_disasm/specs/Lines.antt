@@ -12,8 +12,8 @@ use Rattle.rv_map.specs.Text.{hexadecimal}
 use Rattle.rv_disasm.specs.Instruction.{text_of}
 
 -- what is read, with its length, where the bytes are enough
-abbrev pub whole : ℕ → List ℕ → Option Inst → Option (Inst × ℕ)
-whole count bytes found =
+abbrev pub read_whole : ℕ → List ℕ → Option Inst → Option (Inst × ℕ)
+read_whole count bytes found =
     if nat_le count (length bytes) then option_map (λ i. (i, count)) found else None
 
 -- the instruction at the front of bytes and its length: the low bits 11 begin a word, others a
@@ -21,17 +21,17 @@ whole count bytes found =
 abbrev pub front : Reader Spells StandsFor → List ℕ → Option (Inst × ℕ)
 front reader bytes =
     if slice_index bytes 0 % 4 == 3
-    then whole 4 bytes (reader.word (front_word bytes))
-    else whole 2 bytes (reader.parcel (front_parcel bytes))
+    then read_whole 4 bytes (reader.word (front_word bytes))
+    else read_whole 2 bytes (reader.parcel (front_parcel bytes))
 
 -- what a line shows, and how many bytes it stands for: 2 where they spell nothing
 abbrev pub shown : ℕ → Option (Inst × ℕ) → List ℕ
 shown address None = codes "unknown"
 shown address (Some (i, count)) = text_of address (format_of i)
 
-abbrev pub taken : Option (Inst × ℕ) → ℕ
-taken None = 2
-taken (Some (i, count)) = count
+abbrev pub length_read : Option (Inst × ℕ) → ℕ
+length_read None = 2
+length_read (Some (i, count)) = count
 
 abbrev pub line : ℕ → Option (Inst × ℕ) → List ℕ
 line address found = hexadecimal address ++ codes ": " ++ shown address found ++ 10 ∷ []
@@ -42,4 +42,4 @@ lines reader inside address [] = []
 lines reader (suc inside) address (b ∷ bytes) = lines reader inside (suc address) bytes
 lines reader zero address (b ∷ bytes) =
     let found = front reader (b ∷ bytes) in
-    line address found ++ lines reader (taken found - 1) (suc address) bytes
+    line address found ++ lines reader (length_read found - 1) (suc address) bytes

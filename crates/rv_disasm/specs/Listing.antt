@@ -11,14 +11,14 @@ use Rattle.rv_map.specs.declared.map.Row.{Row}
 use Rattle.rv_map.specs.Map.{Map}
 use Rattle.rv_image.specs.Segment.{Segment}
 use Rattle.rv_image.specs.Image.{Image}
-use Rattle.rv_image.specs.Memory.{has_flag}
+use Rattle.rv_image.specs.Memory.{gives_right}
 use Rattle.rv_disasm.specs.Lines.{lines}
 use Rattle.rv_disasm.specs.Order.{IsInOrder}
 
 -- whether the segment can be executed and has all bytes of the row
 abbrev pub holds : Row → Segment → Bool
 holds row s =
-    has_flag s.flags Execute && nat_le s.address row.address
+    gives_right s.flags Execute && nat_le s.address row.address
     && nat_le (row.address + row.bytes) (s.address + length s.bytes)
 
 -- the row's bytes in the segment that holds them; none where none does

@@ -14,7 +14,7 @@ use Rattle.rv_encode.specs.Word.{form, word}
 use Rattle.rv_compress.specs.Parcel.{parcel, IsLine, IsNoHint}
 use Rattle.rv_image.specs.Segment.{Segment}
 use Rattle.rv_image.specs.Image.{Image}
-use Rattle.rv_image.specs.Memory.{has_flag}
+use Rattle.rv_image.specs.Memory.{gives_right}
 use Rattle.rv_disasm.specs.declared.code.Code.{Code}
 use Rattle.rv_disasm.specs.declared.code.Code.TheVariants.{Word, Parcel}
 use Rattle.rv_disasm.specs.Instruction.{is_tso, is_between, distant, text_with}
@@ -23,9 +23,9 @@ use Rattle.rv_disasm.specs.Parcels.{parcel_text}
 -- ---- instructions as they lie in memory
 
 -- the four bytes of a word, or the two of a parcel
-abbrev pub bytes_of : Code → List ℕ
-bytes_of (Word i) = little_endian 4 (word (form i))
-bytes_of (Parcel c) = little_endian 2 (parcel c)
+abbrev pub raw_bytes : Code → List ℕ
+raw_bytes (Word i) = little_endian 4 (word (form i))
+raw_bytes (Parcel c) = little_endian 2 (parcel c)
 
 -- a source can write every word but some fences
 abbrev pub has_source : Format → Bool
@@ -57,7 +57,7 @@ raw_lines before after =
 -- ---- the listing of an image
 
 abbrev pub is_executable : Segment → Bool
-is_executable s = has_flag s.flags Execute
+is_executable s = gives_right s.flags Execute
 
 -- the image has one executable segment. Its bytes are instructions, one after another, each of
 -- which a source can write, and one of them is at the entry
@@ -70,7 +70,7 @@ pub record IsRawListing (image : Image) (text : List ℕ) : Type 0 where
   pub before : List Code
   pub after : List Code
   pub sourced : AllByRecursion IsSourced (before ++ after)
-  pub bytes : segment.bytes ≡ flat_map bytes_of (before ++ after)
+  pub bytes : segment.bytes ≡ flat_map raw_bytes (before ++ after)
   pub some : 0 < length after
-  pub entry : image.entry ≡ segment.address + length (flat_map bytes_of before)
+  pub entry : image.entry ≡ segment.address + length (flat_map raw_bytes before)
   pub shows : text ≡ lines_text (raw_lines before after)

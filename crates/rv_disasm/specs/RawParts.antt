@@ -6,19 +6,19 @@ use Rattle.std.specs.List.{AllByRecursion}
 use Rattle.rv_isa_laws.specs.Platform.{stack_start}
 use Rattle.rv_image.specs.Segment.{Segment}
 use Rattle.rv_disasm.specs.declared.code.Code.{Code}
-use Rattle.rv_disasm.specs.Raw.{bytes_of, IsSourced, code_text, lines_text}
+use Rattle.rv_disasm.specs.Raw.{raw_bytes, IsSourced, code_text, lines_text}
 
 -- what is found is the instruction with which the bytes begin, where a source can write it: none
 -- exactly where there is no such
 abbrev pub IsFront : Option Code → List ℕ → Type 0
 IsFront found bytes =
     (code : Code) →
-    found ≡ Some code ↔ (IsSourced code × ((rest : List ℕ) × (bytes ≡ bytes_of code ++ rest)))
+    found ≡ Some code ↔ (IsSourced code × ((rest : List ℕ) × (bytes ≡ raw_bytes code ++ rest)))
 
 -- the bytes are those of these instructions, each of which a source can write
 pub record AreCodes (bytes : List ℕ) (cs : List Code) : Type 0 where
   pub sourced : AllByRecursion IsSourced cs
-  pub same : bytes ≡ flat_map bytes_of cs
+  pub same : bytes ≡ flat_map raw_bytes cs
 
 -- the lines of such instructions were added to a text
 pub record AreAdded (bytes old new : List ℕ) : Type 0 where

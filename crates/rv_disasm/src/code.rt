@@ -5,7 +5,7 @@
 ghost use Rattle.std.specs.Prelude.{◌≡◌, ◌≢◌, ◌≤◌, ◌%◌, ◌++◌, ◌∷◌, [], OnOk, length, slice_index};
 ghost use Rattle.rv_isa.specs.Operations.{format_of};
 ghost use Rattle.rv_compress.specs.Front.{front_parcel, front_word};
-ghost use Rattle.rv_disasm.specs.Raw.{bytes_of, code_text, has_source};
+ghost use Rattle.rv_disasm.specs.Raw.{raw_bytes, code_text, has_source};
 ghost use Rattle.rv_disasm.specs.RawParts.{IsFront};
 
 use crate::instruction::{Targets, is_between, is_tso, put_instruction};
@@ -27,7 +27,7 @@ pub enum Code {
 impl Code {
     /// How many bytes it has.
     pub(crate) fn bytes(&self) -> usize
-        ensures { result ≡ length (bytes_of self.now) }
+        ensures { result ≡ length (raw_bytes self.now) }
     {
         match self {
             Code::Word(_) => 4,

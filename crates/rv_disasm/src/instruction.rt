@@ -60,7 +60,7 @@ pub(crate) fn put(text: &mut Vec<u8>, name: &str) -> Result<(), AllocError>
 /// Adds a register by its ABI name, after a byte.
 #[tactic(auto, using(crate::proofs::RegistersLemmas::register_is))]
 pub(crate) fn put_register(text: &mut Vec<u8>, before: u8, reg: Reg) -> Result<(), AllocError>
-    ensures { OnOk result (text.new.items ≡ text.old.items ++ before ∷ shows.register reg) }
+    ensures { OnOk result (text.new.items ≡ text.old.items ++ before ∷ shows.abi_register reg) }
 {
     text.push(before)?;
     text.extend_from_slice(reg.abi_name().as_bytes())?;
@@ -97,7 +97,7 @@ fn target(address: u64, offset: i32) -> u64
 fn put_registers(text: &mut Vec<u8>, name: &str, x: RType) -> Result<(), AllocError>
     ensures { OnOk result (text.new.items ≡ text.old.items ++ name.now
         ++ shows.operands
-        (shows.register x.rd ∷ shows.register x.rs1 ∷ shows.register x.rs2 ∷ [])) }
+        (shows.abi_register x.rd ∷ shows.abi_register x.rs1 ∷ shows.abi_register x.rs2 ∷ [])) }
 {
     put(text, name)?;
     put_register(text, b' ', x.rd)?;
@@ -109,7 +109,7 @@ fn put_registers(text: &mut Vec<u8>, name: &str, x: RType) -> Result<(), AllocEr
 fn put_immediate(text: &mut Vec<u8>, name: &str, x: IType) -> Result<(), AllocError>
     ensures { OnOk result (text.new.items ≡ text.old.items ++ name.now
         ++ shows.operands
-        (shows.register x.rd ∷ shows.register x.rs1 ∷ signed_decimal x.immediate ∷ [])) }
+        (shows.abi_register x.rd ∷ shows.abi_register x.rs1 ∷ signed_decimal x.immediate ∷ [])) }
 {
     put(text, name)?;
     put_register(text, b' ', x.rd)?;
@@ -120,7 +120,8 @@ fn put_immediate(text: &mut Vec<u8>, name: &str, x: IType) -> Result<(), AllocEr
 
 fn put_shift(text: &mut Vec<u8>, name: &str, x: Shift) -> Result<(), AllocError>
     ensures { OnOk result (text.new.items ≡ text.old.items ++ name.now
-        ++ shows.operands (shows.register x.rd ∷ shows.register x.rs1 ∷ decimal x.amount ∷ [])) }
+        ++ shows.operands (shows.abi_register x.rd ∷ shows.abi_register x.rs1 ∷ decimal x.amount ∷
+        [])) }
 {
     put(text, name)?;
     put_register(text, b' ', x.rd)?;
@@ -131,7 +132,7 @@ fn put_shift(text: &mut Vec<u8>, name: &str, x: Shift) -> Result<(), AllocError>
 
 fn put_upper(text: &mut Vec<u8>, name: &str, x: UType) -> Result<(), AllocError>
     ensures { OnOk result (text.new.items ≡ text.old.items ++ name.now
-        ++ shows.operands (shows.register x.rd ∷ prefixed x.immediate ∷ [])) }
+        ++ shows.operands (shows.abi_register x.rd ∷ prefixed x.immediate ∷ [])) }
 {
     put(text, name)?;
     put_register(text, b' ', x.rd)?;
@@ -148,7 +149,7 @@ fn put_access(
     base: Reg,
 ) -> Result<(), AllocError>
     ensures { OnOk result (text.new.items ≡ text.old.items ++ name.now
-        ++ shows.operands (shows.register reg ∷ shows.based offset base ∷ [])) }
+        ++ shows.operands (shows.abi_register reg ∷ shows.based offset base ∷ [])) }
 {
     put(text, name)?;
     put_register(text, b' ', reg)?;
@@ -160,7 +161,7 @@ fn put_access(
 fn put_branch(text: &mut Vec<u8>, targets: Targets, name: &str, x: BType) -> Result<(), AllocError>
     ensures { OnOk result (text.new.items ≡ text.old.items ++ name.now
         ++ shows.operands
-        (shows.register x.rs1 ∷ shows.register x.rs2
+        (shows.abi_register x.rs1 ∷ shows.abi_register x.rs2
         ∷ shows.shown_target targets x.offset ∷ [])) }
 {
     put(text, name)?;
@@ -172,7 +173,7 @@ fn put_branch(text: &mut Vec<u8>, targets: Targets, name: &str, x: BType) -> Res
 
 fn put_jump(text: &mut Vec<u8>, targets: Targets, x: JType) -> Result<(), AllocError>
     ensures { OnOk result (text.new.items ≡ text.old.items ++ codes "jal"
-        ++ shows.operands (shows.register x.rd ∷ shows.shown_target targets x.offset ∷ [])) }
+        ++ shows.operands (shows.abi_register x.rd ∷ shows.shown_target targets x.offset ∷ [])) }
 {
     put(text, "jal")?;
     put_register(text, b' ', x.rd)?;
@@ -195,7 +196,7 @@ fn ordering(acquire: bool, release: bool) -> &'static str
 /// Adds an atomic's mnemonic and its first operand.
 fn put_ordered(text: &mut Vec<u8>, name: &str, order: &str, reg: Reg) -> Result<(), AllocError>
     ensures { OnOk result (text.new.items
-        ≡ text.old.items ++ name.now ++ order.now ++ 32 ∷ shows.register reg) }
+        ≡ text.old.items ++ name.now ++ order.now ++ 32 ∷ shows.abi_register reg) }
 {
     put(text, name)?;
     put(text, order)?;
@@ -206,7 +207,7 @@ fn put_ordered(text: &mut Vec<u8>, name: &str, order: &str, reg: Reg) -> Result<
 fn put_load_reserved(text: &mut Vec<u8>, double: bool, x: Reserve) -> Result<(), AllocError>
     ensures { OnOk result (text.new.items ≡ text.old.items
         ++ shows.load_reserved_name double ++ order x.acquire x.release
-        ++ shows.operands (shows.register x.rd ∷ shows.in_parentheses x.rs1 ∷ [])) }
+        ++ shows.operands (shows.abi_register x.rd ∷ shows.in_parentheses x.rs1 ∷ [])) }
 {
     let name = if double { "lr.d" } else { "lr.w" };
     put_ordered(text, name, ordering(x.acquire, x.release), x.rd)?;
@@ -219,7 +220,7 @@ fn put_atomic(text: &mut Vec<u8>, name: &str, x: Atomic) -> Result<(), AllocErro
     ensures { OnOk result (text.new.items ≡ text.old.items
         ++ name.now ++ order x.acquire x.release
         ++ shows.operands
-        (shows.register x.rd ∷ shows.register x.rs2 ∷ shows.in_parentheses x.rs1 ∷ [])) }
+        (shows.abi_register x.rd ∷ shows.abi_register x.rs2 ∷ shows.in_parentheses x.rs1 ∷ [])) }
 {
     put_ordered(text, name, ordering(x.acquire, x.release), x.rd)?;
     put_register(text, b',', x.rs2)?;

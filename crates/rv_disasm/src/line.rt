@@ -6,7 +6,7 @@ ghost use Rattle.std.specs.Prelude.{◌≡◌, ◌+◌, ◌<◌, ◌≤◌, ◌^
 ghost use Rattle.rv_encode.specs.Word.{Spells};
 ghost use Rattle.rv_compress.specs.Parcel.{StandsFor};
 ghost use Rattle.rv_isa_laws.specs.Reader.{Reader};
-ghost use Rattle.rv_disasm.specs.Lines.{front, shown, taken, line, lines};
+ghost use Rattle.rv_disasm.specs.Lines.{front, shown, length_read, line, lines};
 
 use crate::instruction::{Targets, put_instruction};
 use rv_compress::next_inst;
@@ -32,7 +32,7 @@ fn put_line(text: &mut Vec<u8>, address: u64, bytes: &[u8]) -> Result<usize, All
     ensures text { (reader : Reader Spells StandsFor) → IfOk result (λ _.
         text.new.items ≡ text.old.items ++ line address (front reader bytes.now)) }
     ensures count { (reader : Reader Spells StandsFor) → IfOk result (λ count.
-        count ≡ taken (front reader bytes.now)) }
+        count ≡ length_read (front reader bytes.now)) }
     ensures some { IfOk result (λ count. (1 ≤ count) × (count ≤ 4)) }
 {
     put_hexadecimal(text, address)?;
@@ -47,7 +47,7 @@ fn put_front(text: &mut Vec<u8>, address: u64, bytes: &[u8]) -> Result<usize, Al
     ensures text { (reader : Reader Spells StandsFor) → IfOk result (λ _.
         text.new.items ≡ text.old.items ++ shown address (front reader bytes.now)) }
     ensures count { (reader : Reader Spells StandsFor) → IfOk result (λ count.
-        count ≡ taken (front reader bytes.now)) }
+        count ≡ length_read (front reader bytes.now)) }
     ensures some { IfOk result (λ count. (1 ≤ count) × (count ≤ 4)) }
 {
     match next_inst(bytes) {

@@ -62,7 +62,7 @@ pub(crate) fn put_parcel(text: &mut Vec<u8>, form: &Compressed) -> Result<(), Al
 /// Adds two registers.
 fn put_registers(text: &mut Vec<u8>, first: Reg, second: Reg) -> Result<(), AllocError>
     ensures { OnOk result (text.new.items ≡ text.old.items
-        ++ shows.operands (shows.register first ∷ shows.register second ∷ [])) }
+        ++ shows.operands (shows.abi_register first ∷ shows.abi_register second ∷ [])) }
 {
     put_register(text, b' ', first)?;
     put_register(text, b',', second)?;
@@ -72,7 +72,7 @@ fn put_registers(text: &mut Vec<u8>, first: Reg, second: Reg) -> Result<(), Allo
 /// Adds a register and a number with its sign.
 fn put_immediate(text: &mut Vec<u8>, reg: Reg, immediate: i32) -> Result<(), AllocError>
     ensures { OnOk result (text.new.items ≡ text.old.items
-        ++ shows.operands (shows.register reg ∷ signed_decimal immediate ∷ [])) }
+        ++ shows.operands (shows.abi_register reg ∷ signed_decimal immediate ∷ [])) }
 {
     put_register(text, b' ', reg)?;
     put_signed(text, b',', immediate)?;
@@ -82,7 +82,7 @@ fn put_immediate(text: &mut Vec<u8>, reg: Reg, immediate: i32) -> Result<(), All
 /// Adds the operands of `c.addi4spn`.
 fn put_stack_address(text: &mut Vec<u8>, rd: Reg, immediate: u32) -> Result<(), AllocError>
     ensures { OnOk result (text.new.items ≡ text.old.items
-        ++ shows.operands (shows.register rd ∷ shows.register 2 ∷ decimal immediate ∷ [])) }
+        ++ shows.operands (shows.abi_register rd ∷ shows.abi_register 2 ∷ decimal immediate ∷ [])) }
 {
     put_registers(text, rd, Reg::SP)?;
     put_decimal(text, b',', u64::from(immediate))?;
@@ -92,7 +92,7 @@ fn put_stack_address(text: &mut Vec<u8>, rd: Reg, immediate: u32) -> Result<(), 
 /// Adds the operands of `c.lui`.
 fn put_upper(text: &mut Vec<u8>, rd: Reg, immediate: u32) -> Result<(), AllocError>
     ensures { OnOk result (text.new.items ≡ text.old.items
-        ++ shows.operands (shows.register rd ∷ prefixed immediate ∷ [])) }
+        ++ shows.operands (shows.abi_register rd ∷ prefixed immediate ∷ [])) }
 {
     put_register(text, b' ', rd)?;
     put_prefixed(text, b',', u64::from(immediate))?;
@@ -102,7 +102,7 @@ fn put_upper(text: &mut Vec<u8>, rd: Reg, immediate: u32) -> Result<(), AllocErr
 /// Adds the operands of a shift.
 fn put_amount(text: &mut Vec<u8>, rd: Reg, amount: u8) -> Result<(), AllocError>
     ensures { OnOk result (text.new.items ≡ text.old.items
-        ++ shows.operands (shows.register rd ∷ decimal amount ∷ [])) }
+        ++ shows.operands (shows.abi_register rd ∷ decimal amount ∷ [])) }
 {
     put_register(text, b' ', rd)?;
     put_decimal(text, b',', u64::from(amount))?;
@@ -112,7 +112,7 @@ fn put_amount(text: &mut Vec<u8>, rd: Reg, amount: u8) -> Result<(), AllocError>
 /// Adds the operands of a load or a store.
 fn put_access(text: &mut Vec<u8>, reg: Reg, offset: u32, base: Reg) -> Result<(), AllocError>
     ensures { OnOk result (text.new.items ≡ text.old.items
-        ++ shows.operands (shows.register reg ∷ shows.based (pos offset) base ∷ [])) }
+        ++ shows.operands (shows.abi_register reg ∷ shows.based (pos offset) base ∷ [])) }
 {
     put_register(text, b' ', reg)?;
     put_decimal(text, b',', u64::from(offset))?;
@@ -123,7 +123,7 @@ fn put_access(text: &mut Vec<u8>, reg: Reg, offset: u32, base: Reg) -> Result<()
 /// Adds the operands of `c.beqz` and `c.bnez`.
 fn put_branch(text: &mut Vec<u8>, rs1: Reg, offset: i32) -> Result<(), AllocError>
     ensures { OnOk result (text.new.items ≡ text.old.items
-        ++ shows.operands (shows.register rs1 ∷ shows.distant offset ∷ [])) }
+        ++ shows.operands (shows.abi_register rs1 ∷ shows.distant offset ∷ [])) }
 {
     put_register(text, b' ', rs1)?;
     put_distance(text, b',', offset)?;

@@ -11,7 +11,7 @@ use Rattle.rv_statement.specs.declared.mnemonic.Mnemonic.{Mnemonic}
 use Rattle.rv_statement.specs.Statement.{StatementKind, Label, Numbered, Instruction, Directs, Expression, Operand}
 use Rattle.rv_pseudo_laws.specs.Code.{Part as CodePart, Closed, Open as OpenPart, Joined, named_form, code}
 use Rattle.rv_pseudo_laws.specs.Filled.{are_closed}
-use Rattle.rv_unit_laws.specs.Tables.{Tables, tables, value}
+use Rattle.rv_unit_laws.specs.Tables.{Tables, tables, value_by_tables}
 use Rattle.rv_unit.specs.Unit.{said}
 use Rattle.rv_source_laws.specs.Located.{Located}
 use Rattle.rv_source_laws.specs.Program.{place_of}
@@ -19,7 +19,7 @@ use Rattle.rv_source_laws.specs.Lines.{operand_of}
 use Rattle.rv_assemble_laws.specs.CodeFields.{field_of, relax_fields, part_fields}
 use Rattle.rv_assemble_laws.specs.Coded.{AreCodedParts, constants}
 use Rattle.rv_assemble_laws.specs.Templates.{Open, align_field}
-use Rattle.rv_assemble_laws.specs.LaidStatements.{LaidStatement, part_of, coded_templates, expression_value}
+use Rattle.rv_assemble_laws.specs.LaidStatements.{LaidStatement, laid_part, coded_templates, expression_value}
 use Rattle.rv_assemble_laws.specs.Fields.{Field, field_at, fields_from}
 use Rattle.rv_instruction.specs.declared.encoded.Coded.{Coded}
 use Rattle.rv_instruction.specs.Code.{IsCodeOf, coded_by, encoded_bytes, shape_in, shape_of}
@@ -45,7 +45,7 @@ own_parts t v l (Joined k i j) = refl
 module _ (fields : Kind → List Open) (more : List Open) (own : CodePart → List Open) (section ordinal : ℕ) (named : Option Compressed) (rvc : Bool) where
   pub parts_fields : ((p : CodePart) → own p ≡ shape_opens fields more (shape_of p)) → (ps : List CodePart) (found : List Coded) (coded : List (List ℕ)) (place : ℕ)
       → map shape_in found ≡ map shape_of ps → AreCodedParts named rvc ps (coded_by found) → AreCodedParts named rvc ps coded
-      → coded_fields fields more section place found ≡ fields_from section place (map (part_of ordinal) (coded_templates own ps coded))
+      → coded_fields fields more section place found ≡ fields_from section place (map (laid_part ordinal) (coded_templates own ps coded))
   parts_fields are [] [] [] place same a b = refl
   parts_fields are [] [] (x ∷ coded) place same a b = absurd b
   parts_fields are [] (c ∷ found) coded place same a b = absurd a
@@ -67,14 +67,14 @@ code_fields_of : (v : Expression → Value) (rvc : Bool) (m n bytes : ℕ) (mnem
     → (fields : Kind → List Open) (more : List Open) (own : CodePart → List Open) (section place ordinal : ℕ)
     → ((p : CodePart) → own p ≡ shape_opens fields more (shape_of p))
     → coded_fields fields more section place found
-    ≡ fields_from section place (map (part_of ordinal) (coded_templates own (unwrap_or (code (constants v) rvc bytes mnemonic operands) []) (coded_by coded)))
+    ≡ fields_from section place (map (laid_part ordinal) (coded_templates own (unwrap_or (code (constants v) rvc bytes mnemonic operands) []) (coded_by coded)))
 code_fields_of v rvc m n bytes mnemonic operands found coded f g long size fields more own section place ordinal are =
     let there : code (constants v) rvc bytes mnemonic operands ≡ Some g.is.ps = ap (λ n. code (constants v) rvc n mnemonic operands) size ∙ g.is.parts in
     let here : code (constants v) rvc bytes mnemonic operands ≡ Some f.is.ps = ap (λ n. code (constants v) rvc n mnemonic operands) (sym long) ∙ f.is.parts in
     let same : f.is.ps ≡ g.is.ps = some_parts f.is.ps g.is.ps (sym here ∙ there) in
     let one = subst (λ ps. AreCodedParts (named_form (constants v) mnemonic operands) (rvc && are_closed ps) ps (coded_by found)) same f.is.coded_as in
     parts_fields fields more own section ordinal (named_form (constants v) mnemonic operands) (rvc && are_closed g.is.ps) are g.is.ps found (coded_by coded) place (f.shapes ∙ ap (λ ps. map shape_of ps) same) one g.is.coded_as
-    ∙ ap (λ o. fields_from section place (map (part_of ordinal) (coded_templates own (unwrap_or o []) (coded_by coded)))) (sym there)
+    ∙ ap (λ o. fields_from section place (map (laid_part ordinal) (coded_templates own (unwrap_or o []) (coded_by coded)))) (sym there)
 
 no_fields : (fields : Kind → List Open) (more : List Open) (section place : ℕ) (found : List Coded) → found ≡ [] → coded_fields fields more section place found ≡ []
 no_fields fields more section place [] e = refl
@@ -105,7 +105,7 @@ spot_fields spot index says choices l x found coded at plain size coded_as is lo
     let here : Expression → Value = λ e. value_in spot index e in
     let there : Expression → Value = λ e. expression_value t l e in
     let same : here ≡ there =
-    ap (λ q. λ e. value t true (index + 1) q e) (sym at.place) ∙ ap (λ n. λ e. value t true n (place_of l) e) (sym at.own) in
+    ap (λ q. λ e. value_by_tables t true (index + 1) q e) (sym at.place) ∙ ap (λ n. λ e. value_by_tables t true n (place_of l) e) (sym at.own) in
     let ordinal : spot.ordinal ≡ l.ordinal = at.ordinal ∙ sym at.own in
     let is' = subst (λ k. IsCoded there l.options.rvc k found) (sym at.kind) (subst (λ r. IsCoded there r says found) (sym at.compressed) (subst (λ v. IsCoded v choices.compressed says found) same is)) in
     ap (λ v. coded_fields (λ k. field_of t v spot.ordinal (operand_of says) k) (relax_fields choices.relax spot.ordinal) section x.offset found) same
@@ -121,11 +121,11 @@ free_row None free = refl
 free_row (Some ps) free = free
 
 closed_fields : (own : CodePart → List Open) (section place ordinal : ℕ) → ((i : Inst) → own (Closed i) ≡ []) → (ps : List CodePart) (coded : List (List ℕ))
-    → are_closed ps ≡ true → fields_from section place (map (part_of ordinal) (coded_templates own ps coded)) ≡ []
+    → are_closed ps ≡ true → fields_from section place (map (laid_part ordinal) (coded_templates own ps coded)) ≡ []
 closed_fields own section place ordinal none [] coded closed = refl
 closed_fields own section place ordinal none (p ∷ ps) [] closed = refl
 closed_fields own section place ordinal none (Closed i ∷ ps) (x ∷ coded) closed =
-    ap (λ o. map (field_at section place) o ++ fields_from section (place + length x) (map (part_of ordinal) (coded_templates own ps coded))) (none i)
+    ap (λ o. map (field_at section place) o ++ fields_from section (place + length x) (map (laid_part ordinal) (coded_templates own ps coded))) (none i)
     ∙ closed_fields own section (place + length x) ordinal none ps coded closed
 closed_fields own section place ordinal none (OpenPart k i ∷ ps) (x ∷ coded) closed = absurd (cc)
 closed_fields own section place ordinal none (Joined k i j ∷ ps) (x ∷ coded) closed = absurd (cc)

@@ -4,7 +4,7 @@ use Rattle.std.proofs.Common.{◌≡◌, ℕ, zero, suc, ◌-◌, Bool, true, fa
 use Rattle.std.specs.Prelude.{slice_index, is_some, if◌then◌else◌}
 use Rattle.rv_text_laws.specs.Values.{Value}
 use Rattle.rv_statement.specs.Statement.{StatementKind, Label, Numbered, Instruction, Directs, Expression, Statement}
-use Rattle.rv_unit_laws.specs.Faults.{first_fault}
+use Rattle.rv_unit_laws.specs.Faults.{first_unit_fault}
 use Rattle.rv_unit_laws.specs.Sections.{text_section}
 use Rattle.rv_unit_laws.specs.Tables.{Tables, at_start, tables, opened_of}
 use Rattle.rv_source_laws.specs.Located.{Located, located_from}
@@ -94,7 +94,7 @@ lengths_agree t (s ∷ ss) [] h = absurd h
 lengths_agree t (s ∷ ss) (n ∷ ns) (h, hs) = (λ e. code_same s.home.executable n (n - data_of (λ x. expression_value t s x) s.offset s.kind) e, lengths_agree t ss ns hs)
 
 -- the least sizes are the least lengths of code
-pub least_lengths : (ss : List Statement) (ns : List ℕ) → first_fault ss ≡ None → AreSizes (tables ss) (located_from 1 1 (at_start ss) ss) ns → AreLeast (tables ss) (located_from 1 1 (at_start ss) ss) ns
+pub least_lengths : (ss : List Statement) (ns : List ℕ) → first_unit_fault ss ≡ None → AreSizes (tables ss) (located_from 1 1 (at_start ss) ss) ns → AreLeast (tables ss) (located_from 1 1 (at_start ss) ss) ns
     → AreLeast (tables ss) (located_from 1 1 (at_start ss) ss) (code_lengths (tables ss) (located_from 1 1 (at_start ss) ss) ns)
 least_lengths ss ns good sizes least =
     let t = tables ss in

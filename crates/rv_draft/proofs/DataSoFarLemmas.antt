@@ -7,10 +7,10 @@ use Rattle.std.proofs.lemmas.Bool.{eqb-true, eq-eqb}
 use Rattle.rv_text_laws.specs.Values.{Value}
 use Rattle.rv_statement.specs.Statement.{StatementKind, Label, Numbered, Instruction, Directs, Expression, Statement}
 use Rattle.rv_unit_laws.specs.Sections.{Section, is_nobits}
-use Rattle.rv_unit_laws.specs.Tables.{Tables, SectionOffset as Standing, at_start, after, after_all, tables, stood, value, alignments_of, longest_section}
+use Rattle.rv_unit_laws.specs.Tables.{Tables, SectionOffset as Standing, at_start, after, after_all, tables, stood, value_by_tables, alignments_of, longest_section}
 use Rattle.rv_unit.specs.Unit.{passed}
 use Rattle.rv_source_laws.specs.Located.{Located, located_now, located_from, is_placed}
-use Rattle.rv_assemble_laws.specs.LaidStatements.{LaidStatement, Part, part_bytes, laid_in, expression_value}
+use Rattle.rv_assemble_laws.specs.LaidStatements.{LaidStatement, LaidPart, part_bytes, laid_in, expression_value}
 use Rattle.rv_assemble_laws.specs.Fields.{Field}
 use Rattle.rv_instruction.specs.declared.encoded.Coded.{Coded}
 use Rattle.rv_assemble_laws.proofs.FilledLemmas.{bytes_append}
@@ -202,8 +202,8 @@ laid_next ss is codes i s x here item =
 
 -- what a statement puts into its section, by where it stands
 pub record Puts (t : Tables) (k o : ℕ) (q : Standing) (loaded : Bool) (says : StatementKind) (x : Item) (old new : List (Vec ℕ)) (had found : List OpenField) : Type 0 where
-  pub grows : GrowsBy old new q.section (flat_map part_bytes (data_said o (λ e. value t true k q e) says x.bytes))
-  pub fields : map field_of found ≡ map field_of had ++ fields_said loaded q.section x.offset (data_said o (λ e. value t true k q e) says x.bytes)
+  pub grows : GrowsBy old new q.section (flat_map part_bytes (data_said o (λ e. value_by_tables t true k q e) says x.bytes))
+  pub fields : map field_of found ≡ map field_of had ++ fields_said loaded q.section x.offset (data_said o (λ e. value_by_tables t true k q e) says x.bytes)
 
 pub puts_at : (t u : Tables) (k o : ℕ) (p q : Standing) (h g : Section) (says : StatementKind) (x : Item) (old new : List (Vec ℕ)) (had found : List OpenField) → t ≡ u → o ≡ k → p ≡ q → h ≡ g
     → Puts t k o p h.loaded says x old new had found → Puts u k k q g.loaded says x old new had found
@@ -257,14 +257,14 @@ module _ (ss : List Statement) (is : List Item) (codes : List (List Coded)) (sta
   abbrev full_rest : List LaidStatement
   full_rest = drop (i + 1) (laid_statements ss is codes)
 
-  abbrev said : List Part
-  said = data_said (i + 1) (λ e. value t true (i + 1) (stood (passed ss i) (i + 1) s.kind) e) s.kind x.bytes
+  abbrev said : List LaidPart
+  said = data_said (i + 1) (λ e. value_by_tables t true (i + 1) (stood (passed ss i) (i + 1) s.kind) e) s.kind x.bytes
 
   abbrev PutsHere : Type 0
   PutsHere = Puts t (i + 1) (i + 1) (stood (passed ss i) (i + 1) s.kind) st.home.loaded s.kind x old new had found
 
   -- by whether the section is one of data
-  abbrev Parts : Bool → List Part
+  abbrev Parts : Bool → List LaidPart
   Parts b = if b then said else []
 
   bytes_by : (b : Bool) → is_filled st.home ≡ b → (is_filled st.home ≡ true → PutsHere) → (is_filled st.home ≡ false → new ≡ old)
@@ -299,7 +299,7 @@ module _ (ss : List Statement) (is : List Item) (codes : List (List Coded)) (sta
       ∙ ap (λ b. bytes_in old j ++ flat_map part_bytes (flat_map (data_parts t) (if b then laid_statement ∷ laid_in j rest else laid_in j rest))) (sym f)
 
   -- the parts whose fields may stay open, by whether the section is one of code
-  abbrev Opens : Bool → List Part
+  abbrev Opens : Bool → List LaidPart
   Opens b = if b then code_said t full s.kind else data_parts t full
 
   -- one statement more, by what it adds

@@ -7,7 +7,7 @@ use Rattle.std.specs.Global.{Vec}
 use Rattle.rv_statement.specs.Statement.{Statement}
 use Rattle.rv_unit_laws.specs.Sections.{Section, text_section, is_nobits}
 use Rattle.rv_unit_laws.specs.Tables.{Tables, at_start, tables, longest_section, opened_of}
-use Rattle.rv_unit_laws.specs.Faults.{first_fault}
+use Rattle.rv_unit_laws.specs.Faults.{first_unit_fault}
 use Rattle.rv_source_laws.specs.Located.{located, located_from}
 use Rattle.rv_source_laws.specs.Compressed.{is_compressed, is_compressed_code}
 use Rattle.rv_source_laws.specs.Sizes.{AreLeast}
@@ -33,7 +33,7 @@ use Rattle.rv_draft.proofs.WholeLemmas.{one_file}
 
 -- what the passes over a source have found
 pub record Passed (ss : List Statement) (lengths : List ℕ) (code : List (Vec ℕ)) (sizes : List CodeSize) (d : Draft) : Type 0 where
-  pub good : first_fault ss ≡ None
+  pub good : first_unit_fault ss ≡ None
   pub wide : AllByRecursion (λ s. IsWideKind s.kind) ss
   pub whole : IsWhole (tables ss) (located (ss ∷ [])) lengths code sizes
   pub items : AreItems 1 (at_start ss) (λ j. 0) ss d.items.items (λ j. slice_index d.ends.items j)

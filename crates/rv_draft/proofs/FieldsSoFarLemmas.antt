@@ -8,7 +8,7 @@ use Rattle.rv_isa_laws.specs.Bytes.{little_endian}
 use Rattle.rv_text_laws.specs.Values.{Value, Constant, Symbolic, Difference, Faulty}
 use Rattle.rv_statement.specs.Statement.{Expression}
 use Rattle.rv_assemble_laws.specs.Templates.{Datum, value_bytes, value_fields}
-use Rattle.rv_assemble_laws.specs.LaidStatements.{Part, part_of, part_bytes}
+use Rattle.rv_assemble_laws.specs.LaidStatements.{LaidPart, laid_part, part_bytes}
 use Rattle.rv_assemble_laws.specs.Fields.{Field, field_at, fields_from}
 use Rattle.rv_draft.specs.DataParts.{fields_said}
 
@@ -24,8 +24,8 @@ value_long width (Difference q r k) = length-replicate {A = ℕ} width 0
 value_long width (Faulty code) = length-replicate {A = ℕ} width 0
 
 module _ (section ordinal width : ℕ) (v : Expression → Value) where
-  abbrev Parts : List Expression → List Part
-  Parts es = map (λ e. part_of ordinal (Datum width (v e))) es
+  abbrev Parts : List Expression → List LaidPart
+  Parts es = map (λ e. laid_part ordinal (Datum width (v e))) es
 
   abbrev Own : Bool → ℕ → Expression → List Field
   Own loaded place e = if loaded then map (field_at section place) (value_fields ordinal width (v e)) else []
@@ -57,13 +57,13 @@ module _ (section ordinal width : ℕ) (v : Expression → Value) where
       sym (none_left loaded (place + width) (old ++ Own loaded place e)) ∙ joined loaded place (place + width) e [] old refl
 
 -- the templates of values
-pub bytes_as : (ordinal width : ℕ) (v : Expression → Value) (es : List Expression) → flat_map (λ e. value_bytes width (v e)) es ≡ flat_map part_bytes (map (part_of ordinal) (map (λ e. Datum width (v e)) es))
+pub bytes_as : (ordinal width : ℕ) (v : Expression → Value) (es : List Expression) → flat_map (λ e. value_bytes width (v e)) es ≡ flat_map part_bytes (map (laid_part ordinal) (map (λ e. Datum width (v e)) es))
 bytes_as ordinal width v [] = refl
 bytes_as ordinal width v (e ∷ es) = ap (λ l. value_bytes width (v e) ++ l) (bytes_as ordinal width v es)
 
-pub parts_as : (ordinal width : ℕ) (v : Expression → Value) (es : List Expression) → map (λ e. part_of ordinal (Datum width (v e))) es ≡ map (part_of ordinal) (map (λ e. Datum width (v e)) es)
+pub parts_as : (ordinal width : ℕ) (v : Expression → Value) (es : List Expression) → map (λ e. laid_part ordinal (Datum width (v e))) es ≡ map (laid_part ordinal) (map (λ e. Datum width (v e)) es)
 parts_as ordinal width v [] = refl
-parts_as ordinal width v (e ∷ es) = ap (λ l. part_of ordinal (Datum width (v e)) ∷ l) (parts_as ordinal width v es)
+parts_as ordinal width v (e ∷ es) = ap (λ l. laid_part ordinal (Datum width (v e)) ∷ l) (parts_as ordinal width v es)
 
 -- the places of values
 pub place_more : (offset width i place next : ℕ) → place ≡ offset + width * i → next ≡ place + width → next ≡ offset + width * (i + 1)

@@ -12,9 +12,9 @@ use Rattle.rv_statement.specs.declared.mnemonic.Mnemonic.{Mnemonic}
 use Rattle.rv_statement.specs.Statement.{StatementKind, Label, Numbered, Instruction, Directs, Statement, Operand, Expression, Directive, Enters, Sets, Aligns_to_power, Aligns_to_bytes, Values, Strings, Zeros}
 use Rattle.rv_unit_laws.specs.Contributions.{contribution}
 use Rattle.rv_unit_laws.specs.Sections.{Section, is_nobits, section_at, current_section}
-use Rattle.rv_unit_laws.specs.Tables.{Tables, SectionOffset, at_start, here, value, power_alignment, byte_alignment, alignment_of, padding, string_bytes, after, tables, stood, opened_of, alignments_of}
+use Rattle.rv_unit_laws.specs.Tables.{Tables, SectionOffset, at_start, here, value_by_tables, power_alignment, byte_alignment, alignment_of, padding, string_bytes, after, tables, stood, opened_of, alignments_of}
 use Rattle.rv_text_laws.specs.Codes.{faulty_if}
-use Rattle.rv_unit_laws.specs.Faults.{value_faults, power_faults, bytes_faults, code_alignment_faults, alignment_faults, past_section, directive_faults, faults, first_fault}
+use Rattle.rv_unit_laws.specs.Faults.{value_faults, power_faults, bytes_faults, code_alignment_faults, alignment_faults, past_section, directive_faults, faults, first_unit_fault}
 use Rattle.rv_unit_laws.proofs.OpenedLemmas.{after_opened}
 use Rattle.rv_unit.proofs.ConstantsLemmas.{constant_whole}
 use Rattle.rv_object.specs.Padding.{no_operations, operations_in}
@@ -26,7 +26,7 @@ use Rattle.rv_assemble_laws.specs.Coded.{joined, constants, AreCodedParts, IsCod
 use Rattle.rv_source_laws.specs.Sizes.{code_padding}
 use Rattle.rv_source_laws.proofs.HeldLemmas.{Held, IsHeld, DirectiveHeld, none_left, no_test}
 use Rattle.rv_assemble_laws.specs.Templates.{Datum, Open, value_bytes, HasField, IsWide, IsWidth, IsTemplate, padding_templates, contribution_templates}
-use Rattle.rv_assemble_laws.specs.LaidStatements.{LaidStatement, Part, expression_value, part_of, coded_templates, templates, part_bytes, parts_of, IsMultiple, IsPaddedIn, HasSize}
+use Rattle.rv_assemble_laws.specs.LaidStatements.{LaidStatement, LaidPart, expression_value, laid_part, coded_templates, templates, part_bytes, parts_of, IsMultiple, IsPaddedIn, HasSize}
 use Rattle.rv_assemble_laws.specs.Fields.{Field, fields_from, fields_at}
 use Rattle.rv_instruction.specs.declared.encoded.Coded.{Coded as CodedPart}
 use Rattle.rv_instruction.specs.Code.{coded_by, instructions_of, IsCodeOf}
@@ -71,13 +71,13 @@ placed_as t k (Directs d) = placed_directive t k d
 
 -- the bytes of code are those of its parts
 coded_bytes : (o : ℕ) (fields : CodePart → List Open) (named : Option Compressed) (compressed : Bool) (ps : List CodePart) (coded : List (List ℕ)) → AreCodedParts named compressed ps coded
-    → flat_map part_bytes (map (part_of o) (coded_templates fields ps coded)) ≡ joined coded
+    → flat_map part_bytes (map (laid_part o) (coded_templates fields ps coded)) ≡ joined coded
 coded_bytes o fields named compressed [] [] h = refl
 coded_bytes o fields named compressed [] (bytes ∷ coded) h = absurd h
 coded_bytes o fields named compressed (p ∷ ps) [] h = absurd h
 coded_bytes o fields named compressed (p ∷ ps) (bytes ∷ coded) h = ap (λ l. bytes ++ l) (coded_bytes o fields named compressed ps coded h.1)
 
-coded_are : (o : ℕ) (fields : CodePart → List Open) (ps : List CodePart) (coded : List (List ℕ)) → AllByRecursion (λ (p : Part). IsTemplate p.template) (map (part_of o) (coded_templates fields ps coded))
+coded_are : (o : ℕ) (fields : CodePart → List Open) (ps : List CodePart) (coded : List (List ℕ)) → AllByRecursion (λ (p : LaidPart). IsTemplate p.template) (map (laid_part o) (coded_templates fields ps coded))
 coded_are o fields [] coded = tt
 coded_are o fields (p ∷ ps) [] = tt
 coded_are o fields (p ∷ ps) (bytes ∷ coded) = (tt, coded_are o fields ps coded)
@@ -94,8 +94,8 @@ module _ (all : Tables) (s : Located) (x : Item) (begins : ℕ) (found : List Co
   abbrev bytes : List ℕ
   bytes = joined (coded_by found)
 
-  abbrev Parts : StatementKind → List Part
-  Parts says = map (part_of s.ordinal) (templates all laid_statement says)
+  abbrev Parts : StatementKind → List LaidPart
+  Parts says = map (laid_part s.ordinal) (templates all laid_statement says)
 
   -- its padding, and all that it has as code
   abbrev pads : StatementKind → ℕ
@@ -117,9 +117,9 @@ module _ (all : Tables) (s : Located) (x : Item) (begins : ℕ) (found : List Co
 
   -- an instruction has the parts that its bytes ask for
   code_parts : (mnemonic : Mnemonic) (operands : List Operand) → x.bytes ≡ length bytes → (asked : ℕ) (own : IsCodeOf worth s.options.rvc asked mnemonic operands found)
-      → Parts (Instruction mnemonic operands) ≡ map (part_of s.ordinal) (coded_templates (part_fields all worth s) own.is.ps (coded_by found))
+      → Parts (Instruction mnemonic operands) ≡ map (laid_part s.ordinal) (coded_templates (part_fields all worth s) own.is.ps (coded_by found))
   code_parts mnemonic operands size asked own =
-      ap (λ p. map (part_of s.ordinal) (coded_templates (part_fields all worth s) (unwrap_or p []) (coded_by found)))
+      ap (λ p. map (laid_part s.ordinal) (coded_templates (part_fields all worth s) (unwrap_or p []) (coded_by found)))
       (ap (λ n. code (constants worth) s.options.rvc n mnemonic operands) size ∙ own.is.parts)
 
   code_bytes : (mnemonic : Mnemonic) (operands : List Operand) → x.bytes ≡ length bytes → Own (Instruction mnemonic operands)
@@ -130,12 +130,12 @@ module _ (all : Tables) (s : Located) (x : Item) (begins : ℕ) (found : List Co
 
   -- bytes
 
-  values_long : (w : ℕ) (es : List Expression) → length (flat_map part_bytes (map (part_of s.ordinal) (map (λ e. Datum w (worth e)) es))) ≡ w * length es
+  values_long : (w : ℕ) (es : List Expression) → length (flat_map part_bytes (map (laid_part s.ordinal) (map (λ e. Datum w (worth e)) es))) ≡ w * length es
   values_long w [] = omega arith
   values_long w (e ∷ es) =
       let own = value_long w (worth e) in
       let rest = values_long w es in
-      let both = length-append (value_bytes w (worth e)) (flat_map part_bytes (map (part_of s.ordinal) (map (λ e. Datum w (worth e)) es))) in
+      let both = length-append (value_bytes w (worth e)) (flat_map part_bytes (map (laid_part s.ordinal) (map (λ e. Datum w (worth e)) es))) in
       omega (arith, own, rest, both)
 
   zeros_long : (n : ℕ) → length (zeros n ++ []) ≡ n
@@ -151,17 +151,17 @@ module _ (all : Tables) (s : Located) (x : Item) (begins : ℕ) (found : List Co
   no_pad true = refl
   no_pad false = refl
 
-  padding_long : (b : Bool) (n : ℕ) → (b ≡ true → n % 2 ≡ 0) → n ≡ length (flat_map part_bytes (map (part_of s.ordinal) (padding_templates b s.ordinal n)))
+  padding_long : (b : Bool) (n : ℕ) → (b ≡ true → n % 2 ≡ 0) → n ≡ length (flat_map part_bytes (map (laid_part s.ordinal) (padding_templates b s.ordinal n)))
   padding_long true zero even = refl
   padding_long true (suc n) even = sym (ap length (append-nil (no_operations (suc n))) ∙ length_even (suc n) (even refl))
   padding_long false n even = sym (zeros_long n)
 
-  padding_whole : (b : Bool) (n : ℕ) → b ≡ true → flat_map part_bytes (map (part_of s.ordinal) (padding_templates b s.ordinal n)) ≡ no_operations n
+  padding_whole : (b : Bool) (n : ℕ) → b ≡ true → flat_map part_bytes (map (laid_part s.ordinal) (padding_templates b s.ordinal n)) ≡ no_operations n
   padding_whole true zero e = refl
   padding_whole true (suc n) e = append-nil (no_operations (suc n))
   padding_whole false n e = absurd (cc)
 
-  padding_are : (b : Bool) (n : ℕ) → AllByRecursion (λ (p : Part). IsTemplate p.template) (map (part_of s.ordinal) (padding_templates b s.ordinal n))
+  padding_are : (b : Bool) (n : ℕ) → AllByRecursion (λ (p : LaidPart). IsTemplate p.template) (map (laid_part s.ordinal) (padding_templates b s.ordinal n))
   padding_are true zero = tt
   padding_are true (suc n) = (tt, tt)
   padding_are false n = (tt, tt)
@@ -173,7 +173,7 @@ module _ (all : Tables) (s : Located) (x : Item) (begins : ℕ) (found : List Co
   padded_bytes false d a e none h = absurd (cc)
 
   aligned_bytes : (d : Directive) (a : Option ℕ) → found ≡ [] → IsItemPadded s.home.executable (code_size (pads (Directs d)) found) x begins a
-      → x.bytes ≡ length (flat_map part_bytes (map (part_of s.ordinal) (padding_templates s.home.executable s.ordinal x.bytes)))
+      → x.bytes ≡ length (flat_map part_bytes (map (laid_part s.ordinal) (padding_templates s.home.executable s.ordinal x.bytes)))
   aligned_bytes d a none h =
       padding_long s.home.executable x.bytes (λ e. ap (λ n. n % 2) (padded_bytes s.home.executable d a e none h) ∙ padding_of_even s.home.executable worth (Directs d))
 
@@ -246,14 +246,14 @@ module _ (all : Tables) (s : Located) (x : Item) (begins : ℕ) (found : List Co
   said_data (Label name) filled held = refl
   said_data (Numbered number) filled held = refl
   said_data (Directs d) filled held =
-      ap (λ b. map (part_of s.ordinal) (contribution_templates b s.ordinal worth (contribution d) x.bytes)) (filled_other s.home.executable (not (is_nobits s.home)) filled)
+      ap (λ b. map (laid_part s.ordinal) (contribution_templates b s.ordinal worth (contribution d) x.bytes)) (filled_other s.home.executable (not (is_nobits s.home)) filled)
 
   data_filled : (b n : Bool) → b ≡ false → n ≡ false → (not b && not n) ≡ true
   data_filled b n e f = ap (λ c. not c && not n) e ∙ ap not f
 
   -- open fields
 
-  abbrev Fields : List Part → List Field
+  abbrev Fields : List LaidPart → List Field
   Fields ps = fields_from s.section x.offset ps
 
   -- no values of data stand in code
@@ -263,8 +263,8 @@ module _ (all : Tables) (s : Located) (x : Item) (begins : ℕ) (found : List Co
   code_fields (Instruction mnemonic operands) e held = refl
   code_fields (Directs (Values w vs)) e held = absurd (both_ways s.home.executable held.0 e)
   code_fields (Directs (Strings ended strings)) e held = refl
-  code_fields (Directs (Aligns_to_power n)) e held = ap (λ b. Fields (map (part_of s.ordinal) (padding_templates b s.ordinal x.bytes))) (sym e)
-  code_fields (Directs (Aligns_to_bytes n)) e held = ap (λ b. Fields (map (part_of s.ordinal) (padding_templates b s.ordinal x.bytes))) (sym e)
+  code_fields (Directs (Aligns_to_power n)) e held = ap (λ b. Fields (map (laid_part s.ordinal) (padding_templates b s.ordinal x.bytes))) (sym e)
+  code_fields (Directs (Aligns_to_bytes n)) e held = ap (λ b. Fields (map (laid_part s.ordinal) (padding_templates b s.ordinal x.bytes))) (sym e)
   code_fields (Directs _) e held = refl
 
   no_fields : (says : StatementKind) → s.home.executable ≡ false → is_filled s.home ≡ false → IsHeld s.home says → Fields (Parts says) ≡ []
@@ -273,11 +273,11 @@ module _ (all : Tables) (s : Located) (x : Item) (begins : ℕ) (found : List Co
   no_fields (Instruction mnemonic operands) other e held = absurd (both_ways s.home.executable other held.0)
   no_fields (Directs (Values w vs)) other e held = absurd (both_ways (is_filled s.home) e (data_filled s.home.executable (is_nobits s.home) held.0 held.1))
   no_fields (Directs (Strings ended strings)) other e held = refl
-  no_fields (Directs (Aligns_to_power n)) other e held = ap (λ b. Fields (map (part_of s.ordinal) (padding_templates b s.ordinal x.bytes))) other
-  no_fields (Directs (Aligns_to_bytes n)) other e held = ap (λ b. Fields (map (part_of s.ordinal) (padding_templates b s.ordinal x.bytes))) other
+  no_fields (Directs (Aligns_to_power n)) other e held = ap (λ b. Fields (map (laid_part s.ordinal) (padding_templates b s.ordinal x.bytes))) other
+  no_fields (Directs (Aligns_to_bytes n)) other e held = ap (λ b. Fields (map (laid_part s.ordinal) (padding_templates b s.ordinal x.bytes))) other
   no_fields (Directs _) other e held = refl
 
-  abbrev Chosen : Bool → Bool → StatementKind → List Part
+  abbrev Chosen : Bool → Bool → StatementKind → List LaidPart
   Chosen executable filled says = if executable then code_said all laid_statement says else if filled then data_said s.ordinal worth says x.bytes else []
 
   chosen_fields : (executable filled : Bool) (says : StatementKind) → s.home.executable ≡ executable → is_filled s.home ≡ filled → IsHeld s.home says → Fields (Chosen executable filled says) ≡ Fields (Parts says)
@@ -327,14 +327,14 @@ module _ (all : Tables) (s : Located) (x : Item) (begins : ℕ) (found : List Co
   -- templates
 
   all_templates : (says : StatementKind) → ((w : ℕ) (vs : List Expression) → says ≡ Directs (Values w vs) → AllByRecursion (λ e. HasField w (worth e)) vs)
-      → AllByRecursion (λ (p : Part). IsTemplate p.template) (Parts says)
+      → AllByRecursion (λ (p : LaidPart). IsTemplate p.template) (Parts says)
   all_templates (Label name) h = tt
   all_templates (Numbered number) h = tt
   all_templates (Instruction mnemonic operands) h =
       coded_are s.ordinal (part_fields all worth s) (unwrap_or (code (constants worth) s.options.rvc x.bytes mnemonic operands) []) (coded_by found)
   all_templates (Directs (Values w vs)) h = go vs (h w vs refl)
     where
-      go : (es : List Expression) → AllByRecursion (λ e. HasField w (worth e)) es → AllByRecursion (λ (p : Part). IsTemplate p.template) (map (part_of s.ordinal) (map (λ e. Datum w (worth e)) es))
+      go : (es : List Expression) → AllByRecursion (λ e. HasField w (worth e)) es → AllByRecursion (λ (p : LaidPart). IsTemplate p.template) (map (laid_part s.ordinal) (map (λ e. Datum w (worth e)) es))
       go [] k = tt
       go (e ∷ es) k = (k.0, go es k.1)
   all_templates (Directs (Strings ended strings)) h = (tt, tt)
@@ -375,10 +375,10 @@ have_fields w v (e ∷ es) is none =
 fields_one : (all t : Tables) (k : ℕ) (s : Statement) → faults all t k s.kind ≡ [] → IsWideKind s.kind → HaveFields all (located_now 1 k t s)
 fields_one all t k s none wide w vs e =
     let sound : faults all t k (Directs (Values w vs)) ≡ [] = subst (λ says. faults all t k says ≡ []) e none in
-    let own = none_left (flat_map (λ x. value_faults w (value all true k (here t) x)) vs)
+    let own = none_left (flat_map (λ x. value_faults w (value_by_tables all true k (here t) x)) vs)
     (faulty_if ((current_section (opened_of t)).executable || is_nobits (current_section (opened_of t))) 15 ++ past_section (current_section (opened_of t)).executable (here t).offset (w * length vs)) sound in
-    subst (λ says. AllByRecursion (λ x. HasField w (value all true k (stood t k says) x)) vs) (sym e)
-    (have_fields w (λ x. value all true k (here t) x) vs (wide w vs e) own.0)
+    subst (λ says. AllByRecursion (λ x. HasField w (value_by_tables all true k (stood t k says) x)) vs) (sym e)
+    (have_fields w (λ x. value_by_tables all true k (here t) x) vs (wide w vs e) own.0)
 
 fields_all : (all : Tables) (k : ℕ) (t : Tables) (ss : List Statement) → AreSound all k t ss → AllByRecursion (λ s. IsWideKind s.kind) ss → AllByRecursion (HaveFields all) (located_from 1 k t ss)
 fields_all all k t [] h wide = tt
@@ -406,16 +406,16 @@ spare_by : (executable nobits : Bool) (offset : ℕ) (a : Option ℕ) → (if ex
 spare_by true nobits offset a none e = spare_code nobits a none e
 spare_by false nobits offset a none e = refl
 
-module _ (all t : Tables) (k : ℕ) (whole : (e : Expression) (n : ℕ) → value all false k (here t) e ≡ Constant n → value all true k (here t) e ≡ Constant n) where
+module _ (all t : Tables) (k : ℕ) (whole : (e : Expression) (n : ℕ) → value_by_tables all false k (here t) e ≡ Constant n → value_by_tables all true k (here t) e ≡ Constant n) where
   abbrev current : Section
   current = current_section (opened_of t)
 
   abbrev Spare : StatementKind → Section → Type 0
-  Spare says home = is_nobits home ≡ true → statement_padding home.executable (λ e. value all true k (stood t k says) e) says ≡ 0
+  Spare says home = is_nobits home ≡ true → statement_padding home.executable (λ e. value_by_tables all true k (stood t k says) e) says ≡ 0
 
   power_spare : (e : Expression) → directive_faults all t k (Aligns_to_power e) ≡ [] → Spare (Directs (Aligns_to_power e)) current
   power_spare e none empty =
-      let w = value all false k (here t) e in
+      let w = value_by_tables all false k (here t) e in
       let parts = none_left (power_faults w) (alignment_faults current (here t).offset (power_alignment w)) none in
       let (n, is) = a_power w parts.0 in
       ap (λ a. if current.executable then code_padding a else 0) (ap power_alignment (whole e n is ∙ sym is))
@@ -423,7 +423,7 @@ module _ (all t : Tables) (k : ℕ) (whole : (e : Expression) (n : ℕ) → valu
 
   bytes_spare : (e : Expression) → directive_faults all t k (Aligns_to_bytes e) ≡ [] → Spare (Directs (Aligns_to_bytes e)) current
   bytes_spare e none empty =
-      let w = value all false k (here t) e in
+      let w = value_by_tables all false k (here t) e in
       let parts = none_left (bytes_faults w) (alignment_faults current (here t).offset (byte_alignment w)) none in
       let (n, is) = a_multiple w parts.0 in
       ap (λ a. if current.executable then code_padding a else 0) (ap byte_alignment (whole e n is ∙ sym is))
@@ -446,12 +446,12 @@ module _ (all t : Tables) (k : ℕ) (whole : (e : Expression) (n : ℕ) → valu
   said_spare (Instruction mnemonic operands) none = λ empty. refl
   said_spare (Directs d) none = directive_spare d none
 
-spare_all : (all : Tables) (k : ℕ) (t : Tables) (ss : List Statement) → ((k : ℕ) (p : SectionOffset) (e : Expression) (n : ℕ) → value all false k p e ≡ Constant n → value all true k p e ≡ Constant n)
+spare_all : (all : Tables) (k : ℕ) (t : Tables) (ss : List Statement) → ((k : ℕ) (p : SectionOffset) (e : Expression) (n : ℕ) → value_by_tables all false k p e ≡ Constant n → value_by_tables all true k p e ≡ Constant n)
     → AreSound all k t ss → AllByRecursion (IsSpare all) (located_from 1 k t ss)
 spare_all all k t [] whole h = tt
 spare_all all k t (s ∷ ss) whole h = (said_spare all t k (whole k (here t)) s.kind h.0, spare_all all (suc k) (after t k s.kind) ss whole h.1)
 
-pub all_spare : (ss : List Statement) → first_fault ss ≡ None → AllByRecursion (IsSpare (tables ss)) (located_from 1 1 (at_start ss) ss)
+pub all_spare : (ss : List Statement) → first_unit_fault ss ≡ None → AllByRecursion (IsSpare (tables ss)) (located_from 1 1 (at_start ss) ss)
 all_spare ss good = spare_all (tables ss) 1 (at_start ss) ss (constant_whole ss) (sound ss good)
 
 -- ---- laid statements
@@ -503,5 +503,5 @@ fits_from all k t before last (s ∷ ss) (x ∷ is) (c ∷ codes) items sized co
   fits_from all (suc k) (after t k s.kind) (grown before x) last ss is codes items.1 sized.1 coded.1 held.1 fields.1 spare.1,
 )
 
-pub have_all_fields : (ss : List Statement) → first_fault ss ≡ None → AllByRecursion (λ s. IsWideKind s.kind) ss → AllByRecursion (HaveFields (tables ss)) (located_from 1 1 (at_start ss) ss)
+pub have_all_fields : (ss : List Statement) → first_unit_fault ss ≡ None → AllByRecursion (λ s. IsWideKind s.kind) ss → AllByRecursion (HaveFields (tables ss)) (located_from 1 1 (at_start ss) ss)
 have_all_fields ss good wide = fields_all (tables ss) 1 (at_start ss) ss (sound ss good) wide

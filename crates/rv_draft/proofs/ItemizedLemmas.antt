@@ -6,7 +6,7 @@ use Rattle.std.proofs.lemmas.List.{get_or-set_same, get_or-set_other}
 use Rattle.std.proofs.lemmas.Bool.{eqb-true, eqb-false, cases_eq}
 use Rattle.rv_statement.specs.Statement.{Statement}
 use Rattle.rv_unit_laws.specs.Sections.{Section}
-use Rattle.rv_unit_laws.specs.Tables.{Tables, SectionOffset as Standing, tables, value, stood, alignments_of}
+use Rattle.rv_unit_laws.specs.Tables.{Tables, SectionOffset as Standing, tables, value_by_tables, stood, alignments_of}
 use Rattle.rv_unit_tables.specs.declared.section_offset.SectionOffset.{SectionOffset}
 use Rattle.rv_unit_tables.specs.declared.section.Extent.{Extent}
 use Rattle.rv_unit.specs.declared.unit.Unit.{Unit as SourceUnit}
@@ -72,26 +72,26 @@ item_at u i s p e before x at there section offset line shown absent =
     }
 
 pub sized_at : (u : SourceUnit) (i : ℕ) (s : Statement) (p : SectionOffset) (e : Extent) (size : CodeSize) (x : Item) → IsFilled u → StandsAt u i s p → IsExtentAt u.tables.extents.items p.section e → x.section ≡ p.section
-    → (is_placed (passed (said u) i) (i + 1) s.kind ≡ true → IsSized (λ t. value (tables (said u)) true (i + 1) (offset_of p) t) e.section.executable x e.alignment size s.kind)
+    → (is_placed (passed (said u) i) (i + 1) s.kind ≡ true → IsSized (λ t. value_by_tables (tables (said u)) true (i + 1) (offset_of p) t) e.section.executable x e.alignment size s.kind)
     → IsSizedAt (tables (said u)) (said u) i s size x
 sized_at u i s p e size x filled at there section h shown =
     let all = tables (said u) in
     let begins : e.alignment ≡ slice_index_or (alignments_of all) x.section 1 =
     sym there.alignment ∙ ap (λ l. slice_index_or l p.section 1) (alignments_are u.tables.extents.items ∙ ap (λ (t : Tables). alignments_of t) filled.tables) ∙ ap (λ n. slice_index_or (alignments_of all) n 1) (sym section) in
     let home = home_at u i s p e at there in
-    subst (λ (h : Section). IsSized (λ t. value all true (i + 1) (stood (passed (said u) i) (i + 1) s.kind) t) h.executable x (slice_index_or (alignments_of all) x.section 1) size s.kind) home
-    (subst (λ n. IsSized (λ t. value all true (i + 1) (stood (passed (said u) i) (i + 1) s.kind) t) e.section.executable x n size s.kind) begins
-    (subst (λ (q : Standing). IsSized (λ t. value all true (i + 1) q t) e.section.executable x e.alignment size s.kind) at.place (h shown)))
+    subst (λ (h : Section). IsSized (λ t. value_by_tables all true (i + 1) (stood (passed (said u) i) (i + 1) s.kind) t) h.executable x (slice_index_or (alignments_of all) x.section 1) size s.kind) home
+    (subst (λ n. IsSized (λ t. value_by_tables all true (i + 1) (stood (passed (said u) i) (i + 1) s.kind) t) e.section.executable x n size s.kind) begins
+    (subst (λ (q : Standing). IsSized (λ t. value_by_tables all true (i + 1) q t) e.section.executable x e.alignment size s.kind) at.place (h shown)))
 
 -- a statement that has a size, and for which its section has room
 pub room_at : (u : SourceUnit) (i : ℕ) (s : Statement) (p : SectionOffset) (e : Extent) (size : CodeSize) (ends : ℕ → ℕ) (stop : ℕ) → IsFilled u → StandsAt u i s p → IsExtentAt u.tables.extents.items p.section e
     → (let st = located_at (said u) i s in
     IsRoomy (λ t. expression_value (tables (said u)) st t) st.home.executable (slice_index_or (alignments_of (tables (said u))) st.section 1) (ends st.section) stop size s.kind)
-    → HasRoom (λ t. value (tables (said u)) true (i + 1) (offset_of p) t) e.section.executable e.alignment (ends p.section) size s.kind
+    → HasRoom (λ t. value_by_tables (tables (said u)) true (i + 1) (offset_of p) t) e.section.executable e.alignment (ends p.section) size s.kind
 room_at u i s p e size ends stop filled at there roomy =
     let all = tables (said u) in
     let st = located_at (said u) i s in
-    let RoomAt : Standing → Section → ℕ → Type 0 = λ q home begins. HasRoom (λ t. value all true (i + 1) q t) home.executable begins (ends q.section) size s.kind in
+    let RoomAt : Standing → Section → ℕ → Type 0 = λ q home begins. HasRoom (λ t. value_by_tables all true (i + 1) q t) home.executable begins (ends q.section) size s.kind in
     let begins : slice_index_or (alignments_of all) p.section 1 ≡ e.alignment =
     ap (λ l. slice_index_or l p.section 1) (sym (alignments_are u.tables.extents.items ∙ ap (λ (t : Tables). alignments_of t) filled.tables)) ∙ there.alignment in
     let room : RoomAt (stood (passed (said u) i) (i + 1) s.kind) st.home (slice_index_or (alignments_of all) st.section 1) = record { size = roomy.size; room = roomy.room } in

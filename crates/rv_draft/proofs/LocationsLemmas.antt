@@ -10,7 +10,7 @@ use Rattle.rv_statement.specs.Statement.{StatementKind, Label, Numbered, Instruc
 use Rattle.rv_unit_laws.specs.Contributions.{Contribution, Nothing, contribution}
 use Rattle.rv_unit_laws.specs.Sections.{Section, Opened, section_at, current_section, entered_by}
 use Rattle.rv_statement.specs.declared.directive.Choice.{Choice}
-use Rattle.rv_unit_laws.specs.Tables.{Tables, SectionOffset, Assignment, at_start, here, stands, meaning, value, assigned, assigned_by, is_location, gives_location, is_defined, may_set, chosen, with_assignment, with_section, with_chosen, with_contribution, after, after_directive, after_all, tables, opened_of}
+use Rattle.rv_unit_laws.specs.Tables.{Tables, SectionOffset, Assignment, at_start, here, stands, meaning, value_by_tables, assigned, assigned_by, is_location, gives_location, is_defined, may_set, choice_in, with_assignment, with_section, with_chosen, with_contribution, after, after_directive, after_all, tables, opened_of}
 use Rattle.rv_unit_laws.proofs.EnteringLemmas.{entering}
 use Rattle.rv_unit_laws.proofs.MeantLemmas.{HasMeaning, value_meant}
 use Rattle.rv_unit_laws.proofs.OpenedLemmas.{after_opened}
@@ -64,7 +64,7 @@ no_code true section offset p e = absurd (cc)
 no_code false section offset p e = refl
 
 set_lies : (t : Tables) (k : ℕ) (ls : List Located) (line : ℕ) (name : List ℕ) (e : Expression) (section offset plus : ℕ)
-    → value t false k (here t) e ≡ Symbolic Here (InSection section offset) plus
+    → value_by_tables t false k (here t) e ≡ Symbolic Here (InSection section offset) plus
     → Found ls k ≡ Some (located_now 1 k t (record { line = line; kind = Directs (Sets name e) }))
     → (l : Located) × (Found ls k ≡ Some l) × InData l
 set_lies t k ls line name e section offset plus is found =
@@ -107,7 +107,7 @@ module _ (ls : List Located) where
 
   -- what `.set` assigns
   set_one : (t : Tables) (k line : ℕ) (name : List ℕ) (e : Expression) → Found ls k ≡ Some (located_now 1 k t (record { line = line; kind = Directs (Sets name e) }))
-      → (v : Value) → value t false k (here t) e ≡ v → (a : Assignment) → assigned name k v ≡ Some a → Lies ls a
+      → (v : Value) → value_by_tables t false k (here t) e ≡ v → (a : Assignment) → assigned name k v ≡ Some a → Lies ls a
   set_one t k line name e found (Constant n) is a at location =
       let kept : is_location (record { name = name; ordinal = k; meaning = Known n; plus = 0 }) ≡ is_location a = same _ a at in absurd (cc)
     where
@@ -128,17 +128,17 @@ module _ (ls : List Located) where
   set_one t k line name e found (Faulty code) is a at location = absurd (cc)
 
   one_directive : (t : Tables) (k line : ℕ) (d : Directive) → Found ls k ≡ Some (located_now 1 k t (record { line = line; kind = Directs d }))
-      → (a : Assignment) → assigned_by (value t false k (here t)) k d ≡ Some a → Lies ls a
-  one_directive t k line (Sets name e) found a at = set_one t k line name e found (value t false k (here t) e) refl a at
+      → (a : Assignment) → assigned_by (value_by_tables t false k (here t)) k d ≡ Some a → Lies ls a
+  one_directive t k line (Sets name e) found a at = set_one t k line name e found (value_by_tables t false k (here t) e) refl a at
   one_directive t k line _ found a at = absurd (cc)
 
   lie_directive : (t : Tables) (k line : ℕ) (d : Directive) → Found ls k ≡ Some (located_now 1 k t (record { line = line; kind = Directs d })) → AllLie t → AllLie (after_directive t k d)
   lie_directive t k line d found h =
-      let v : Expression → Value = value t false k (here t) in
+      let v : Expression → Value = value_by_tables t false k (here t) in
       let entered = with_section t (entered_by d) in
       let named = with_assignment entered (assigned_by v k d) in
-      lie_contribution (with_chosen named (chosen d)) v (contribution d)
-      (lie_chosen named (chosen d) (lie_assigned entered (assigned_by v k d) (one_directive t k line d found) (lie_section t (entered_by d) h)))
+      lie_contribution (with_chosen named (choice_in d)) v (contribution d)
+      (lie_chosen named (choice_in d) (lie_assigned entered (assigned_by v k d) (one_directive t k line d found) (lie_section t (entered_by d) h)))
 
   lie_after : (t : Tables) (k line : ℕ) (says : StatementKind) → Found ls k ≡ Some (located_now 1 k t (record { line = line; kind = says })) → AllLie t → AllLie (after t k says)
   lie_after t k line (Label name) found h = lie_if (is_defined t k name) t _ h h

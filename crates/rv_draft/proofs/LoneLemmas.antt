@@ -20,7 +20,7 @@ use Rattle.rv_statement.specs.declared.statement.StatementKind.TheVariants.{With
 use Rattle.rv_statement.specs.Statement.{StatementKind, Label, Numbered, Instruction, Directs, Expression}
 use Rattle.rv_statement.specs.View.{with_expression, statement_kind}
 use Rattle.rv_pseudo_laws.specs.Code.{Part, Open, code, jal, branch, zero_branch, swapped_branch, through}
-use Rattle.rv_unit_laws.specs.Tables.{tables, value}
+use Rattle.rv_unit_laws.specs.Tables.{tables, value_by_tables}
 use Rattle.rv_unit.specs.Unit.{said}
 use Rattle.rv_source_laws.specs.Located.{Located}
 use Rattle.rv_source_laws.specs.Program.{place_of}
@@ -134,7 +134,7 @@ lone_said spot index says choices l x coded k at plain size coded_as lone =
     let here : Expression → Value = λ e. value_in spot index e in
     let there : Expression → Value = λ e. expression_value t l e in
     let same : here ≡ there =
-    ap (λ q. λ e. value t true (index + 1) q e) (sym at.place) ∙ ap (λ n. λ e. value t true n (place_of l) e) (sym at.own) in
+    ap (λ q. λ e. value_by_tables t true (index + 1) q e) (sym at.place) ∙ ap (λ n. λ e. value_by_tables t true n (place_of l) e) (sym at.own) in
     let is = subst (λ v. IsCoded v choices.compressed says coded) (sym same) (subst (λ r. IsCoded there r says coded) at.compressed (subst (λ m. IsCoded there l.options.rvc m coded) at.kind coded_as)) in
     let shapes = lone_shapes there l.options.rvc l.kind x.bytes coded k (subst (λ m. IsLone m x.bytes k) (sym at.kind) lone) coded_as size in
     sym (lone_coded (own_opens spot index says) (relax_fields choices.relax spot.ordinal) spot.place.section x.offset (lone_shape k) coded shapes)

@@ -5,7 +5,7 @@ use Rattle.std.specs.Global.{Vec}
 use Rattle.rv_text_laws.specs.Values.{Value}
 use Rattle.rv_statement.specs.Statement.{StatementKind, Label, Numbered, Instruction, Directs, Expression, Statement}
 use Rattle.rv_text_laws.specs.Codes.{lowest}
-use Rattle.rv_unit_laws.specs.Tables.{Tables, SectionOffset as Standing, at_start, after, tables, value, alignment_at}
+use Rattle.rv_unit_laws.specs.Tables.{Tables, SectionOffset as Standing, at_start, after, tables, value_by_tables, alignment_at}
 use Rattle.rv_unit_tables.specs.Sections.{offset_of}
 use Rattle.rv_unit.specs.declared.unit.Unit.{Unit as SourceUnit}
 use Rattle.rv_unit.specs.Unit.{said, IsFilled, IsScope}
@@ -106,8 +106,8 @@ made_spot spot u i x rvc bytes same filled next at on made =
     let st = located_at (said u) i x in
     let kind = x.kind in
     let p = offset_of spot.place in
-    let here = subst (λ (q : Standing). IsCoded (λ e. value (tables (said u)) true (i + 1) q e) st.options.rvc kind made.coded) (sym at.place) made.is in
-    let there = subst (λ w. IsCoded (λ e. value (tables (said w)) true (i + 1) p e) st.options.rvc kind made.coded) (sym same) here in
+    let here = subst (λ (q : Standing). IsCoded (λ e. value_by_tables (tables (said u)) true (i + 1) q e) st.options.rvc kind made.coded) (sym at.place) made.is in
+    let there = subst (λ w. IsCoded (λ e. value_by_tables (tables (said w)) true (i + 1) p e) st.options.rvc kind made.coded) (sym same) here in
     record {
       index = i;
       filled = subst IsFilled (sym same) filled;

@@ -7,8 +7,8 @@ use Rattle.rv_statement.specs.Statement.{StatementKind, Label, Numbered, Instruc
 use Rattle.rv_text_laws.specs.Values.{Value}
 use Rattle.rv_text_laws.specs.Codes.{limit}
 use Rattle.rv_unit_laws.specs.Sections.{Section, Opened, text_section, section_at, current_section}
-use Rattle.rv_unit_laws.specs.Tables.{Tables, SectionOffset, at_start, here, value, alignment_of, stood, after, after_all, tables, longest_section, opened_of, ends_of, alignments_of}
-use Rattle.rv_unit_laws.specs.Faults.{first_fault}
+use Rattle.rv_unit_laws.specs.Tables.{Tables, SectionOffset, at_start, here, value_by_tables, alignment_of, stood, after, after_all, tables, longest_section, opened_of, ends_of, alignments_of}
+use Rattle.rv_unit_laws.specs.Faults.{first_unit_fault}
 use Rattle.rv_unit_laws.proofs.GrownLemmas.{BeginsAt, puts, grows_after, grown_all, begins_multiple}
 use Rattle.rv_unit_laws.proofs.OpenedLemmas.{after_opened, open_inside, stood_all, stood_start}
 use Rattle.rv_unit.specs.Unit.{passed}
@@ -101,7 +101,7 @@ if_some : (b : Bool) (code : ℕ) → (if b then Some code else None) ≡ None �
 if_some true code e = absurd (cc)
 if_some false code e = refl
 
-module _ (ss : List Statement) (i : ℕ) (s : Statement) (here_is : drop i ss ≡ s ∷ drop (i + 1) ss) (good : first_fault ss ≡ None) where
+module _ (ss : List Statement) (i : ℕ) (s : Statement) (here_is : drop i ss ≡ s ∷ drop (i + 1) ss) (good : first_unit_fault ss ≡ None) where
   abbrev t : Tables
   t = passed ss i
 
@@ -130,9 +130,9 @@ module _ (ss : List Statement) (i : ℕ) (s : Statement) (here_is : drop i ss �
       (all_at (IsHomeIn (λ file. (opened_of all).sections)) (located_from 1 1 (at_start ss) ss) i st (drop (i + 1) (located_from 1 1 (at_start ss) ss)) next
       (homes_from (λ file. (opened_of all).sections) 1 1 (at_start ss) ss refl (text_section, refl)))
 
-  multiples : (d : Directive) → s.kind ≡ Directs d → puts d ≡ true → BeginsAt (alignment_of (value t false k (here t)) d) (slice_index_or (alignments_of all) t.current 1)
+  multiples : (d : Directive) → s.kind ≡ Directs d → puts d ≡ true → BeginsAt (alignment_of (value_by_tables t false k (here t)) d) (slice_index_or (alignments_of all) t.current 1)
   multiples d is h =
-      subst (λ (u : Tables). BeginsAt (alignment_of (value t false k (here t)) d) (slice_index_or (alignments_of u) t.current 1))
+      subst (λ (u : Tables). BeginsAt (alignment_of (value_by_tables t false k (here t)) d) (slice_index_or (alignments_of u) t.current 1))
       (sym (whole_rest ss i within ∙ ap (after_all t k) here_is ∙ ap (λ y. after_all (after t k y) (suc k) (drop (i + 1) ss)) is))
       (begins_multiple t k (suc k) d (drop (i + 1) ss) h (grown_all ss 1 (take i ss)) inside)
 
@@ -146,7 +146,7 @@ module _ (ss : List Statement) (i : ℕ) (s : Statement) (here_is : drop i ss �
     -- what a place with its section says
     abbrev RoomyIn : ℕ → SectionOffset → Opened → Type 0
     RoomyIn offset p o =
-        IsRoomy (λ e. value all true k p e) (section_at o p.section).executable (slice_index_or (alignments_of all) p.section 1) offset (slice_index_or (ends_of (after t k s.kind)) p.section 0) own s.kind
+        IsRoomy (λ e. value_by_tables all true k p e) (section_at o p.section).executable (slice_index_or (alignments_of all) p.section 1) offset (slice_index_or (ends_of (after t k s.kind)) p.section 0) own s.kind
 
     pub roomy_at : (offset : ℕ) → offset ≤ longest_section → is_placed t k s.kind ≡ true → (st.home.executable ≡ true → offset + size_bytes own ≤ longest_section)
         → (st.home.executable ≡ false → offset ≤ slice_index_or (ends_of t) st.section 0)

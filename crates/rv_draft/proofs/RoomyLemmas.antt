@@ -9,7 +9,7 @@ use Rattle.rv_layout_laws.specs.Alignment.{aligned}
 use Rattle.rv_text_laws.specs.Values.{Value, Constant, Symbolic, Difference, Faulty}
 use Rattle.rv_statement.specs.Statement.{StatementKind, Label, Numbered, Instruction, Directs, Expression, Directive, Sets, Aligns_to_power, Aligns_to_bytes, Values, Strings, Zeros}
 use Rattle.rv_unit_laws.specs.Sections.{Section, is_nobits, current_section}
-use Rattle.rv_unit_laws.specs.Tables.{Tables, here, value, alignment_of, power_alignment, byte_alignment, counted, or_none, within, padding, data_bytes, string_bytes, longest_section, after, opened_of, ends_of}
+use Rattle.rv_unit_laws.specs.Tables.{Tables, here, value_by_tables, alignment_of, power_alignment, byte_alignment, counted, or_none, within, padding, data_bytes, string_bytes, longest_section, after, opened_of, ends_of}
 use Rattle.rv_text_laws.specs.Codes.{faulty_if}
 use Rattle.rv_unit_laws.specs.Faults.{size_faults, power_faults, bytes_faults, value_faults, code_alignment_faults, past_section, alignment_faults, directive_faults, faults}
 use Rattle.rv_unit_laws.proofs.GrownLemmas.{BeginsAt, puts, end_behind}
@@ -95,17 +95,17 @@ multiple (Some n) begins h = h
 -- ---- one statement
 
 module _ (all t : Tables) (k begins offset : ℕ) (own : CodeSize) (low : offset ≤ longest_section) (inside : t.current < length (opened_of t).sections)
-    (whole : (e : Expression) (n : ℕ) → value all false k (here t) e ≡ Constant n → value all true k (here t) e ≡ Constant n)
-    (past : (e : Expression) (n : ℕ) → value all false k (here t) e ≡ Constant n → value t false k (here t) e ≡ Constant n)
+    (whole : (e : Expression) (n : ℕ) → value_by_tables all false k (here t) e ≡ Constant n → value_by_tables all true k (here t) e ≡ Constant n)
+    (past : (e : Expression) (n : ℕ) → value_by_tables all false k (here t) e ≡ Constant n → value_by_tables t false k (here t) e ≡ Constant n)
     (before : (current_section (opened_of t)).executable ≡ false → offset ≤ (here t).offset) where
   abbrev home : Section
   home = current_section (opened_of t)
 
   abbrev v : Expression → Value
-  v e = value all true k (here t) e
+  v e = value_by_tables all true k (here t) e
 
   abbrev first : Expression → Value
-  first e = value t false k (here t) e
+  first e = value_by_tables t false k (here t) e
 
   abbrev stop : StatementKind → ℕ
   stop says = slice_index_or (ends_of (after t k says)) t.current 0
@@ -155,7 +155,7 @@ module _ (all t : Tables) (k begins offset : ℕ) (own : CodeSize) (low : offset
 
   values_here : (width : ℕ) (values : List Expression) → directive_faults all t k (Values width values) ≡ [] → Here (Directs (Values width values))
   values_here width values none =
-      let later = none_left (flat_map (λ e. value_faults width (value all true k (here t) e)) values) (faulty_if (home.executable || is_nobits home) 15 ++ past_section home.executable (here t).offset (width * length values)) none in
+      let later = none_left (flat_map (λ e. value_faults width (value_by_tables all true k (here t) e)) values) (faulty_if (home.executable || is_nobits home) 15 ++ past_section home.executable (here t).offset (width * length values)) none in
       let last = none_left (faulty_if (home.executable || is_nobits home) 15) (past_section home.executable (here t).offset (width * length values)) later.1 in
       let other = (or_parts home.executable (is_nobits home) (no_test (home.executable || is_nobits home) 15 last.0)).0 in
       let fits = past_fits home.executable (here t).offset (width * length values) other last.1 in
@@ -175,7 +175,7 @@ module _ (all t : Tables) (k begins offset : ℕ) (own : CodeSize) (low : offset
 
   zeros_here : (count : Expression) → directive_faults all t k (Zeros count) ≡ [] → Here (Directs (Zeros count))
   zeros_here count none =
-      let w = value all false k (here t) count in
+      let w = value_by_tables all false k (here t) count in
       let past_faults : Option ℕ → List ℕ = λ o. elim o [ None ↦ [] | Some n ↦ past_section home.executable (here t).offset n ] in
       let later = none_left (size_faults w) (faulty_if home.executable 15 ++ past_faults (counted w)) none in
       let last = none_left (faulty_if home.executable 15) (past_faults (counted w)) later.1 in
@@ -226,7 +226,7 @@ module _ (all t : Tables) (k begins offset : ℕ) (own : CodeSize) (low : offset
 
   power_here : (e : Expression) → BeginsAt (alignment_of first (Aligns_to_power e)) begins → directive_faults all t k (Aligns_to_power e) ≡ [] → Fits → Here (Directs (Aligns_to_power e))
   power_here e multiples none fits =
-      let w = value all false k (here t) e in
+      let w = value_by_tables all false k (here t) e in
       let parts = none_left (power_faults w) (alignment_faults home (here t).offset (power_alignment w)) none in
       let (n, is) = a_power w parts.0 in
       let now : power_alignment (v e) ≡ power_alignment w = ap power_alignment (whole e n is ∙ sym is) in
@@ -238,7 +238,7 @@ module _ (all t : Tables) (k begins offset : ℕ) (own : CodeSize) (low : offset
 
   bytes_here : (e : Expression) → BeginsAt (alignment_of first (Aligns_to_bytes e)) begins → directive_faults all t k (Aligns_to_bytes e) ≡ [] → Fits → Here (Directs (Aligns_to_bytes e))
   bytes_here e multiples none fits =
-      let w = value all false k (here t) e in
+      let w = value_by_tables all false k (here t) e in
       let parts = none_left (bytes_faults w) (alignment_faults home (here t).offset (byte_alignment w)) none in
       let (n, is) = a_multiple w parts.0 in
       let now : byte_alignment (v e) ≡ byte_alignment w = ap byte_alignment (whole e n is ∙ sym is) in

@@ -12,7 +12,7 @@ use Rattle.rv_unit_laws.proofs.GrownLemmas.{grown_all}
 use Rattle.rv_source_laws.specs.Located.{Located, located_now, located_from}
 use Rattle.rv_source_laws.proofs.HomesLemmas.{IsHomeIn, all_join}
 use Rattle.rv_assemble_laws.specs.Templates.{IsTemplate}
-use Rattle.rv_assemble_laws.specs.LaidStatements.{LaidStatement, Part, expression_value, part_bytes, parts, parts_of, laid_in, Tile, end_of, HasSize}
+use Rattle.rv_assemble_laws.specs.LaidStatements.{LaidStatement, LaidPart, expression_value, part_bytes, parts, parts_of, laid_in, Tile, end_of, HasSize}
 use Rattle.rv_assemble_laws.specs.Fields.{fields_at, fields}
 use Rattle.rv_assemble_laws.proofs.FilledLemmas.{bytes_append}
 use Rattle.rv_unit.specs.declared.item.Item.{Item}
@@ -211,9 +211,9 @@ module _ (t : Tables) (j : ℕ) (home : Section) where
   all_sizes (s ∷ ss) h =
       ((λ e. subst (λ n. HasSize (expression_value t s.located) s (slice_index_or (alignments_of t) n 1) s.located.kind) h.0.index (h.0.fit.size e)), all_sizes ss h.1)
 
-  pub section_templates : (laid : List LaidStatement) → AllByRecursion Of laid → AllByRecursion (λ (p : Part). IsTemplate p.template) (parts t laid)
+  pub section_templates : (laid : List LaidStatement) → AllByRecursion Of laid → AllByRecursion (λ (p : LaidPart). IsTemplate p.template) (parts t laid)
   section_templates [] h = tt
-  section_templates (s ∷ ss) h = all_join (λ (p : Part). IsTemplate p.template) (parts_of t s) (parts t ss) h.0.fit.templates (section_templates ss h.1)
+  section_templates (s ∷ ss) h = all_join (λ (p : LaidPart). IsTemplate p.template) (parts_of t s) (parts t ss) h.0.fit.templates (section_templates ss h.1)
 
 -- ---- the open fields
 

@@ -5,7 +5,7 @@ use Rattle.std.specs.Prelude.{⊤}
 use Rattle.rv_statement.specs.Statement.{Statement}
 use Rattle.rv_unit_laws.specs.Tables.{Tables, at_start, after, after_all, tables}
 use Rattle.rv_text_laws.specs.Codes.{lowest}
-use Rattle.rv_unit_laws.specs.Faults.{faults, first_fault_from, first_fault}
+use Rattle.rv_unit_laws.specs.Faults.{faults, first_fault_from, first_unit_fault}
 use Rattle.rv_unit_laws.proofs.FewLemmas.{no_fault_from}
 use Rattle.rv_unit.specs.Unit.{passed}
 use Rattle.rv_source_laws.proofs.HeldLemmas.{no_lowest, no_fault}
@@ -21,7 +21,7 @@ sound_from all k t (s ∷ ss) e =
     let parts = no_fault s.line (lowest (faults all t k s.kind)) (first_fault_from all (after t k s.kind) (suc k) ss) e in
     (no_lowest (faults all t k s.kind) parts.0, sound_from all (suc k) (after t k s.kind) ss parts.1)
 
-pub sound : (ss : List Statement) → first_fault ss ≡ None → AreSound (tables ss) 1 (at_start ss) ss
+pub sound : (ss : List Statement) → first_unit_fault ss ≡ None → AreSound (tables ss) 1 (at_start ss) ss
 sound ss e = sound_from (tables ss) 1 (at_start ss) ss (no_fault_from ss e)
 
 sound_left : (all : Tables) (k : ℕ) (t : Tables) (ss : List Statement) (i : ℕ) (s : Statement) (rest : List Statement) → drop i ss ≡ s ∷ rest → AreSound all k t ss
@@ -36,5 +36,5 @@ sound_left all k t (x ∷ xs) (suc i) s rest e h =
     (sound_left all (suc k) (after t k x.kind) xs i s rest e h.1)
 
 -- of the statement at an index of a source
-pub sound_at : (ss : List Statement) (i : ℕ) (s : Statement) (rest : List Statement) → drop i ss ≡ s ∷ rest → first_fault ss ≡ None → faults (tables ss) (passed ss i) (i + 1) s.kind ≡ []
+pub sound_at : (ss : List Statement) (i : ℕ) (s : Statement) (rest : List Statement) → drop i ss ≡ s ∷ rest → first_unit_fault ss ≡ None → faults (tables ss) (passed ss i) (i + 1) s.kind ≡ []
 sound_at ss i s rest e good = sound_left (tables ss) 1 (at_start ss) ss i s rest e (sound ss good)

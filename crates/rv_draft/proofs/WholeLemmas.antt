@@ -7,11 +7,11 @@ use Rattle.rv_instruction.specs.Code.{near_forms_of}
 use Rattle.rv_text_laws.specs.Values.{Value}
 use Rattle.rv_lexer.specs.declared.fault.SourceFault.{SourceFault}
 use Rattle.rv_lexer.specs.declared.fault.SourceFault.TheVariants.{At, OutOfMemory}
-use Rattle.rv_lexer.specs.Fault.{number_of}
+use Rattle.rv_lexer.specs.Fault.{source_fault_number}
 use Rattle.rv_statement.specs.Statement.{Expression, Statement}
 use Rattle.rv_text_laws.specs.Codes.{lowest}
 use Rattle.rv_unit_laws.specs.Faults.{StatementFault}
-use Rattle.rv_unit_laws.specs.Tables.{Tables, SectionOffset as Standing, at_start, tables, value, stood}
+use Rattle.rv_unit_laws.specs.Tables.{Tables, SectionOffset as Standing, at_start, tables, value_by_tables, stood}
 use Rattle.rv_unit_tables.specs.declared.section_offset.SectionOffset.{SectionOffset}
 use Rattle.rv_unit.specs.declared.unit.Unit.{Unit as SourceUnit}
 use Rattle.rv_unit_tables.specs.Sections.{offset_of}
@@ -38,15 +38,15 @@ CodeTo ss i c = IsCodeSoFar (tables ss) (located_from 1 1 (at_start ss) ss) (dro
 
 -- what is added where the statement stands
 added_there : (t : Tables) (o wanted : ℕ) (rvc on a b : Bool) (c d : Coder) (s : Statement) (p q : Standing) (faults others : List ℕ) → p ≡ q → faults ≡ others → rvc ≡ on → a ≡ b
-    → IsAdded c d p.section a faults (λ e. value t true o p e) rvc wanted s → IsAdded c d q.section b others (λ e. value t true o q e) on wanted s
+    → IsAdded c d p.section a faults (λ e. value_by_tables t true o p e) rvc wanted s → IsAdded c d q.section b others (λ e. value_by_tables t true o q e) on wanted s
 added_there t o wanted rvc on a b c d s p q faults others e f g k h =
-    subst (λ r. IsAdded c d q.section b others (λ e. value t true o q e) r wanted s) g
-    (subst (λ l. IsAdded c d q.section b l (λ e. value t true o q e) rvc wanted s) f
-    (subst (λ x. IsAdded c d q.section x faults (λ e. value t true o q e) rvc wanted s) k (subst (λ (r : Standing). IsAdded c d r.section a faults (λ e. value t true o r e) rvc wanted s) e h)))
+    subst (λ r. IsAdded c d q.section b others (λ e. value_by_tables t true o q e) r wanted s) g
+    (subst (λ l. IsAdded c d q.section b l (λ e. value_by_tables t true o q e) rvc wanted s) f
+    (subst (λ x. IsAdded c d q.section x faults (λ e. value_by_tables t true o q e) rvc wanted s) k (subst (λ (r : Standing). IsAdded c d r.section a faults (λ e. value_by_tables t true o r e) rvc wanted s) e h)))
 
 pub code_more : (u : SourceUnit) (i wanted : ℕ) (x : Statement) (p : SectionOffset) (rvc b : Bool) (c d : Coder) (faults : List ℕ) → StandsAt u i x p → CodeTo (said u) i c
     → faults ≡ code_faults_at (tables (said u)) (located_at (said u) i x) → rvc ≡ (located_at (said u) i x).options.rvc → b ≡ (located_at (said u) i x).home.executable
-    → IsAdded c d p.section b faults (λ e. value (tables (said u)) true (i + 1) (offset_of p) e) rvc wanted x → CodeTo (said u) (i + 1) d
+    → IsAdded c d p.section b faults (λ e. value_by_tables (tables (said u)) true (i + 1) (offset_of p) e) rvc wanted x → CodeTo (said u) (i + 1) d
 code_more u i wanted x p rvc b c d faults at h same on home added =
     let ss = said u in
     let all = located_from 1 1 (at_start ss) ss in
@@ -58,7 +58,7 @@ code_more u i wanted x p rvc b c d faults at h same on home added =
 -- and how long it is
 pub told_more : (u : SourceUnit) (i wanted : ℕ) (x : Statement) (p : SectionOffset) (rvc b : Bool) (c d : Coder) (faults : List ℕ) → StandsAt u i x p
     → faults ≡ code_faults_at (tables (said u)) (located_at (said u) i x) → rvc ≡ (located_at (said u) i x).options.rvc → b ≡ (located_at (said u) i x).home.executable
-    → IsAdded c d p.section b faults (λ e. value (tables (said u)) true (i + 1) (offset_of p) e) rvc wanted x → HasLengthAt (tables (said u)) (located_at (said u) i x) wanted
+    → IsAdded c d p.section b faults (λ e. value_by_tables (tables (said u)) true (i + 1) (offset_of p) e) rvc wanted x → HasLengthAt (tables (said u)) (located_at (said u) i x) wanted
     → bytes_of_sizes d.sizes.items ≡ bytes_of_sizes c.sizes.items ++ wanted ∷ []
 told_more u i wanted x p rvc b c d faults at same on home added told =
     let t = tables (said u) in
@@ -102,14 +102,14 @@ one_file ss = append-nil (located_from 1 1 (at_start ss) ss)
 -- a statement with a fault is the first
 pub code_wrong : (u : SourceUnit) (i wanted : ℕ) (x : Statement) (p : SectionOffset) (rvc b : Bool) (c d : Coder) (faults : List ℕ) (fault : SourceFault) → StandsAt u i x p → CodeTo (said u) i c
     → faults ≡ code_faults_at (tables (said u)) (located_at (said u) i x)
-    → Adds c d p.section b faults (λ e. value (tables (said u)) true (i + 1) (offset_of p) e) rvc wanted x (Err fault) → (lengths : List ℕ) → IsSourceCode (said u) lengths (Err fault)
+    → Adds c d p.section b faults (λ e. value_by_tables (tables (said u)) true (i + 1) (offset_of p) e) rvc wanted x (Err fault) → (lengths : List ℕ) → IsSourceCode (said u) lengths (Err fault)
 code_wrong u i wanted x p rvc b c d faults OutOfMemory at h same wrong lengths = tt
 code_wrong u i wanted x p rvc b c d faults (At code line) at h same wrong lengths =
     let ss = said u in
     let all = located_from 1 1 (at_start ss) ss in
-    fault_first ss (number_of code) x.line line
+    fault_first ss (source_fault_number code) x.line line
     (ap (λ l. code_fault_from (tables ss) l) (one_file ss)
-    ∙ wrong_code (tables ss) all (located_at ss i x) (drop (i + 1) all) c (number_of code)
+    ∙ wrong_code (tables ss) all (located_at ss i x) (drop (i + 1) all) c (source_fault_number code)
     (subst (λ rest. IsCodeSoFar (tables ss) all rest c) at.next h)
     (ap lowest (sym same) ∙ wrong.0))
     wrong.1

@@ -6,7 +6,7 @@ use Rattle.rv_isa_laws.specs.Bytes.{little_endian, zeros}
 use Rattle.rv_statement.specs.Records.{plain_in, statement_in, recorded}
 use Rattle.rv_statement.specs.Statement.{Expression, Directs, Ignored, Values, Statement as SpecStatement}
 use Rattle.rv_statement.specs.Statements.{statements_of}
-use Rattle.rv_statement.specs.View.{bytes_of, plain_of, with_expression, with_function, statement_kind, statement_of}
+use Rattle.rv_statement.specs.View.{width_bytes, plain_of, with_expression, with_function, statement_kind, statement_of}
 use Rattle.rv_statement.specs.declared.directive.Width.{Width}
 use Rattle.rv_statement.specs.declared.directive.Width.TheVariants as widths
 use Rattle.rv_statement.specs.declared.pseudo.Function.{Function}
@@ -24,14 +24,14 @@ use Rattle.rv_statement.specs.declared.statements.Statements.{Statements}
 use Rattle.rv_assemble_laws.specs.Templates.{IsWidth}
 use Rattle.rv_draft.proofs.FittedLemmas.{IsWideKind}
 
-bytes_wide : (width : Width) → IsWidth (bytes_of width)
+bytes_wide : (width : Width) → IsWidth (width_bytes width)
 bytes_wide widths.Byte = inl refl
 bytes_wide widths.Half = inr (inl refl)
 bytes_wide widths.Word = inr (inr (inl refl))
 bytes_wide widths.Double = inr (inr (inr refl))
 
 -- no number is zeros
-pub no_number : (width : Width) → little_endian (bytes_of width) 0 ≡ zeros (bytes_of width)
+pub no_number : (width : Width) → little_endian (width_bytes width) 0 ≡ zeros (width_bytes width)
 no_number widths.Byte = refl
 no_number widths.Half = refl
 no_number widths.Word = refl
@@ -50,8 +50,8 @@ function_no (operations.Li rd) function x w vs e = absurd (cc)
 function_no _ function x w vs e = absurd (cc)
 
 kind_wide : (kind : StatementKind) → IsWideKind (statement_kind kind)
-kind_wide (kinds.Value width one) w vs e = let same : bytes_of width ≡ w = cc in subst (λ n. IsWidth n) same (bytes_wide width)
-kind_wide (kinds.Values width values) w vs e = let same : bytes_of width ≡ w = cc in subst (λ n. IsWidth n) same (bytes_wide width)
+kind_wide (kinds.Value width one) w vs e = let same : width_bytes width ≡ w = cc in subst (λ n. IsWidth n) same (bytes_wide width)
+kind_wide (kinds.Values width values) w vs e = let same : width_bytes width ≡ w = cc in subst (λ n. IsWidth n) same (bytes_wide width)
 kind_wide (kinds.Plain p) w vs e = absurd (plain_no p w vs e)
 kind_wide (kinds.With operation x) w vs e = absurd (with_no operation _ w vs e)
 kind_wide (kinds.WithFunction operation function x) w vs e = absurd (function_no operation function _ w vs e)

@@ -5,7 +5,7 @@ use Rattle.std.specs.Global.{Vec}
 use Rattle.rv_text_laws.specs.Values as values
 use Rattle.rv_lexer.specs.declared.fault.SourceFault.{SourceFault}
 use Rattle.rv_lexer.specs.declared.fault.SourceFault.TheVariants.{At, OutOfMemory}
-use Rattle.rv_lexer.specs.Fault.{number_of}
+use Rattle.rv_lexer.specs.Fault.{source_fault_number}
 use Rattle.rv_statement.specs.Statement.{Expression, Statement}
 use Rattle.rv_text_laws.specs.Codes.{lowest}
 use Rattle.rv_unit_laws.specs.Faults.{StatementFault}
@@ -45,7 +45,7 @@ abbrev pub Adds :
 Adds old new section executable faults v rvc wanted s (Ok done) =
     IsAdded old new section executable faults v rvc wanted s
 Adds old new section executable faults v rvc wanted s (Err (At code at)) =
-    (lowest faults ≡ Some (number_of code)) × (at ≡ s.line)
+    (lowest faults ≡ Some (source_fault_number code)) × (at ≡ s.line)
 Adds old new section executable faults v rvc wanted s (Err OutOfMemory) = Unit {0}
 
 -- the code of the statements so far; with any code of the rest it makes up the whole
@@ -90,7 +90,7 @@ abbrev pub IsAllCode :
     Tables → List Located → List ℕ → Result SectionCode SourceFault → Type 0
 IsAllCode t all lengths (Ok c) = IsWhole t all lengths c.sections.items c.sizes.items
 IsAllCode t all lengths (Err (At code line)) =
-    IsLong t all lengths (record { code = number_of code; line = line })
+    IsLong t all lengths (record { code = source_fault_number code; line = line })
 IsAllCode t all lengths (Err OutOfMemory) = Unit {0}
 
 -- the first fault of a source as code, or of the sizes of its code
@@ -103,5 +103,5 @@ abbrev pub IsSourceCode : List Statement → List ℕ → Result SectionCode Sou
 IsSourceCode ss lengths (Ok c) =
     IsWhole (tables ss) (located (ss ∷ [])) lengths c.sections.items c.sizes.items
 IsSourceCode ss lengths (Err (At code line)) =
-    IsCodeFault ss (record { code = number_of code; line = line })
+    IsCodeFault ss (record { code = source_fault_number code; line = line })
 IsSourceCode ss lengths (Err OutOfMemory) = Unit {0}

@@ -10,7 +10,7 @@ use Rattle.rv_unit_laws.specs.Tables.{Tables, at_start, tables, longest_section}
 use Rattle.rv_source_laws.specs.Located.{Located, located_from}
 use Rattle.rv_assemble_laws.specs.Refusals.{code_faults_at}
 use Rattle.rv_assemble_laws.specs.Templates.{Template, padding_templates, contribution_templates}
-use Rattle.rv_assemble_laws.specs.LaidStatements.{LaidStatement, Part, expression_value, part_of, part_bytes, laid_in, templates}
+use Rattle.rv_assemble_laws.specs.LaidStatements.{LaidStatement, LaidPart, expression_value, laid_part, part_bytes, laid_in, templates}
 use Rattle.rv_assemble_laws.specs.Fields.{Field, fields_from}
 use Rattle.rv_draft.specs.declared.field.OpenField.{OpenField}
 use Rattle.rv_draft.specs.declared.item.CodeSize.{CodeSize}
@@ -38,11 +38,11 @@ data_templates ordinal v (Instruction mnemonic operands) bytes = []
 data_templates ordinal v (Directs directive) bytes =
     contribution_templates false ordinal v (contribution directive) bytes
 
-abbrev pub data_said : ℕ → (Expression → Value) → StatementKind → ℕ → List Part
-data_said ordinal v says bytes = map (part_of ordinal) (data_templates ordinal v says bytes)
+abbrev pub data_said : ℕ → (Expression → Value) → StatementKind → ℕ → List LaidPart
+data_said ordinal v says bytes = map (laid_part ordinal) (data_templates ordinal v says bytes)
 
 -- the open fields of parts from an offset of a section on, where that one is loaded
-abbrev pub fields_said : Bool → ℕ → ℕ → List Part → List Field
+abbrev pub fields_said : Bool → ℕ → ℕ → List LaidPart → List Field
 fields_said loaded section offset ps = if loaded then fields_from section offset ps else []
 
 -- values of data end where a section may end
@@ -53,7 +53,7 @@ HasRoomFor says offset =
 
 -- ---- the statements of a source
 
-abbrev pub data_parts : Tables → LaidStatement → List Part
+abbrev pub data_parts : Tables → LaidStatement → List LaidPart
 data_parts t s =
     if is_filled s.located.home
     then data_said s.located.ordinal (λ e. expression_value t s.located e) s.located.kind s.bytes
@@ -66,17 +66,17 @@ is_alignment (Directs (Aligns_to_bytes e)) = true
 is_alignment says = false
 
 -- the parts of padding in code
-abbrev pub padding_said : ℕ → ℕ → List Part
-padding_said ordinal bytes = map (part_of ordinal) (padding_templates true ordinal bytes)
+abbrev pub padding_said : ℕ → ℕ → List LaidPart
+padding_said ordinal bytes = map (laid_part ordinal) (padding_templates true ordinal bytes)
 
 -- the parts of an instruction, and of an alignment in code
-abbrev pub code_said : Tables → LaidStatement → StatementKind → List Part
+abbrev pub code_said : Tables → LaidStatement → StatementKind → List LaidPart
 code_said t s (Instruction mnemonic operands) =
-    map (part_of s.located.ordinal) (templates t s (Instruction mnemonic operands))
+    map (laid_part s.located.ordinal) (templates t s (Instruction mnemonic operands))
 code_said t s kind = if is_alignment kind then padding_said s.located.ordinal s.bytes else []
 
 -- the parts whose fields may stay open: those of code, and of data
-abbrev pub open_parts : Tables → LaidStatement → List Part
+abbrev pub open_parts : Tables → LaidStatement → List LaidPart
 open_parts t s =
     if s.located.home.executable then code_said t s s.located.kind else data_parts t s
 

@@ -6,7 +6,7 @@ use Rattle.std.specs.List.{AllByRecursion, list_any}
 use Rattle.rv_text.specs.Nodes.{symbol_of}
 use Rattle.rv_lexer.specs.declared.fault.SourceFault.{SourceFault}
 use Rattle.rv_lexer.specs.declared.fault.SourceFault.TheVariants.{At, OutOfMemory}
-use Rattle.rv_lexer.specs.Fault.{number_of}
+use Rattle.rv_lexer.specs.Fault.{source_fault_number}
 use Rattle.rv_statement.specs.Statement.{Statement}
 use Rattle.rv_unit_laws.specs.Sections.{Section, is_nobits, goes_to_text}
 use Rattle.rv_unit_laws.specs.Tables.{Tables, at_start, tables, longest_section, opened_of, alignment_at}
@@ -85,6 +85,7 @@ pub record IsDraft (ss : List Statement) (d : Draft) : Type 0 where
   pub compressed : d.rvc ≡ list_any (λ s. is_compressed_code s.located) laid
 
 -- the first fault of a source as code, or of the sizes of its code; memory may run out
-abbrev pub IsRefused : List Statement → SourceFault → Type 0
-IsRefused ss (At code line) = IsCodeFault ss (record { code = number_of code; line = line })
-IsRefused ss OutOfMemory = Unit {0}
+abbrev pub IsRefusedSource : List Statement → SourceFault → Type 0
+IsRefusedSource ss (At code line) =
+    IsCodeFault ss (record { code = source_fault_number code; line = line })
+IsRefusedSource ss OutOfMemory = Unit {0}

@@ -9,7 +9,7 @@ use Rattle.rv_statement.specs.declared.statement.Operation.TheVariants as operat
 use Rattle.rv_statement.specs.declared.statement.StatementKind.{StatementKind as SourceKind}
 use Rattle.rv_statement.specs.declared.statement.StatementKind.TheVariants.{With}
 use Rattle.rv_pseudo_laws.specs.Code.{Part, Constants, code}
-use Rattle.rv_instruction.specs.Code.{Shape, shape_by, shape_of, is_call}
+use Rattle.rv_instruction.specs.Code.{Shape, shape_by, shape_of, is_call_field}
 
 -- the kind of the field of a branch of so many bytes: one of eight has two parts
 abbrev pub branch_kind : ℕ → Option Kind
@@ -44,7 +44,7 @@ lone_kind _ bytes = None
 
 -- a part with such a field: a call is two instructions
 abbrev pub lone_shape : Kind → Shape
-lone_shape k = shape_by (Some k) (if is_call (Some k) then 2 else 1)
+lone_shape k = shape_by (Some k) (if is_call_field (Some k) then 2 else 1)
 
 -- the code of a statement in so many bytes is one part, with a field of this kind
 abbrev pub IsLone : StatementKind → ℕ → Kind → Type 0

@@ -12,7 +12,7 @@ use Rattle.rv_source_laws.specs.Located.{Located}
 use Rattle.rv_source_laws.specs.Program.{place_of}
 use Rattle.rv_assemble_laws.specs.CodeFields.{relax_fields}
 use Rattle.rv_assemble_laws.specs.Templates.{Open, Datum, value_fields}
-use Rattle.rv_assemble_laws.specs.LaidStatements.{Part, part_of, part_bytes}
+use Rattle.rv_assemble_laws.specs.LaidStatements.{LaidPart, laid_part, part_bytes}
 use Rattle.rv_assemble_laws.specs.Fields.{Field, field_at}
 use Rattle.rv_instruction.specs.Code.{Shape, encoded_bytes, shape_in, MayHave}
 use Rattle.rv_instruction.specs.Opened.{fields_of}
@@ -38,12 +38,12 @@ abbrev pub value_in : Spot → ℕ → Expression → Value
 value_in spot index e = values_at spot.scope.now index spot.place e
 
 -- the parts of values of a width
-abbrev pub parts_in : Spot → ℕ → ℕ → List Expression → List Part
+abbrev pub parts_in : Spot → ℕ → ℕ → List Expression → List LaidPart
 parts_in spot index width es =
-    map (λ e. part_of spot.ordinal (Datum width (value_in spot index e))) es
+    map (λ e. laid_part spot.ordinal (Datum width (value_in spot index e))) es
 
 -- the parts of a statement that says this in so many bytes
-abbrev pub said_in : Spot → StatementKind → ℕ → ℕ → List Part
+abbrev pub said_in : Spot → StatementKind → ℕ → ℕ → List LaidPart
 said_in spot says bytes index = data_said spot.ordinal (λ e. value_in spot index e) says bytes
 
 -- the fields of a value at a place
@@ -52,7 +52,7 @@ own_fields spot place width v =
     map (field_at spot.place.section place) (value_fields spot.ordinal width v)
 
 -- the fields of parts from an offset on, where the section is loaded
-abbrev pub fields_in : Spot → ℕ → List Part → List Field
+abbrev pub fields_in : Spot → ℕ → List LaidPart → List Field
 fields_in spot offset ps = fields_said spot.loaded spot.place.section offset ps
 
 -- ---- what is added, by the index of the statement
@@ -65,7 +65,7 @@ AddsFields spot old new more =
     AtSpot spot (λ index. map field_of new ≡ map field_of old ++ more index)
 
 -- the section where the statement stands grows by the bytes of parts
-abbrev pub AddsParts : Spot → List (Vec ℕ) → List (Vec ℕ) → (ℕ → List Part) → Type 0
+abbrev pub AddsParts : Spot → List (Vec ℕ) → List (Vec ℕ) → (ℕ → List LaidPart) → Type 0
 AddsParts spot old new ps =
     AtSpot spot (λ index. GrowsBy old new spot.place.section (flat_map part_bytes (ps index)))
 

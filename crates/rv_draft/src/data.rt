@@ -10,7 +10,7 @@ ghost use Rattle.std.specs.Int.{w64, int_wrap};
 ghost use Rattle.rv_isa_laws.specs.Bytes.{little_endian, zeros};
 ghost use Rattle.rv_text.specs.Expr.{tree_of_expr};
 ghost use Rattle.rv_text.specs.Nodes.{symbol_of};
-ghost use Rattle.rv_statement.specs.View.{bytes_of, quoted, statement_kind, statement_of};
+ghost use Rattle.rv_statement.specs.View.{width_bytes, quoted, statement_kind, statement_of};
 ghost use Rattle.rv_unit_laws.specs.Tables.{at_start, tables, string_bytes, longest_section};
 ghost use Rattle.rv_unit_tables.specs.Sections.{section_of};
 ghost use Rattle.rv_unit.specs.Faults.{ForValue};
@@ -50,7 +50,7 @@ pub(crate) struct Spot<'s, 'u, 'a> {
 
 /// The bytes of a width.
 fn width_in_bytes(width: Width) -> u32
-    ensures value { result ≡ bytes_of width }
+    ensures value { result ≡ width_bytes width }
     ensures low { result ≤ 8 }
 {
     match width {
@@ -65,7 +65,7 @@ fn width_in_bytes(width: Width) -> u32
 #[inline(always)]
 fn put_number(bytes: &mut Vec<u8>, width: Width, number: u64) -> Result<(), AllocError>
     ensures { OnOk result
-        (bytes.new.items ≡ bytes.old.items ++ little_endian (bytes_of width) number) }
+        (bytes.new.items ≡ bytes.old.items ++ little_endian (width_bytes width) number) }
 {
     let all = number.to_le_bytes();
     match width {
@@ -114,7 +114,7 @@ fn put_strings(bytes: &mut Vec<u8>, ended: bool, strings: &[&[u8]]) -> Result<()
 #[tactic(auto, using(crate::proofs::WidthsLemmas::no_number))]
 fn number_in(value: &Outcome<'_>) -> u64
     ensures { ForValue value.now (λ v. (width : Width)
-        → little_endian (bytes_of width) result ≡ value_bytes (bytes_of width) v) }
+        → little_endian (width_bytes width) result ≡ value_bytes (width_bytes width) v) }
 {
     match value {
         Ok(Value::Constant(number)) => *number,
@@ -128,7 +128,7 @@ fn number_in(value: &Outcome<'_>) -> u64
 /// Adds the bytes of a value: a constant, else zeros.
 fn put_bytes(bytes: &mut Vec<u8>, width: Width, value: &Outcome<'_>) -> Result<(), AllocError>
     ensures { OnOk result (ForValue value.now
-        (λ v. bytes.new.items ≡ bytes.old.items ++ value_bytes (bytes_of width) v)) }
+        (λ v. bytes.new.items ≡ bytes.old.items ++ value_bytes (width_bytes width) v)) }
 {
     put_number(bytes, width, number_in(value))
 }
@@ -137,7 +137,7 @@ fn put_bytes(bytes: &mut Vec<u8>, width: Width, value: &Outcome<'_>) -> Result<(
 
 /// The kind of an address in the bytes of a width.
 fn absolute_kind(width: Width) -> Kind
-    ensures { result ≡ laws.absolute_kind (bytes_of width) }
+    ensures { result ≡ laws.absolute_kind (width_bytes width) }
 {
     match width {
         Width::Byte => Kind::Abs64,
@@ -149,7 +149,7 @@ fn absolute_kind(width: Width) -> Kind
 
 /// The kind of what is added in the bytes of a width.
 fn add_kind(width: Width) -> Kind
-    ensures { result ≡ laws.add_kind (bytes_of width) }
+    ensures { result ≡ laws.add_kind (width_bytes width) }
 {
     match width {
         Width::Byte => Kind::Add8,
@@ -161,7 +161,7 @@ fn add_kind(width: Width) -> Kind
 
 /// The kind of what is taken off in the bytes of a width.
 fn subtract_kind(width: Width) -> Kind
-    ensures { result ≡ laws.subtract_kind (bytes_of width) }
+    ensures { result ≡ laws.subtract_kind (width_bytes width) }
 {
     match width {
         Width::Byte => Kind::Sub8,
@@ -230,7 +230,7 @@ fn put_fields<'a>(
     value: &Outcome<'a>,
 ) -> Result<(), AllocError>
     ensures { OnOk result (ForValue value.now (λ v. map field_of fields.new.items
-        ≡ map field_of fields.old.items ++ own_fields spot.now place (bytes_of width) v)) }
+        ≡ map field_of fields.old.items ++ own_fields spot.now place (width_bytes width) v)) }
 {
     match value {
         Ok(Value::Constant(_)) => Ok(()),
@@ -259,10 +259,10 @@ fn put_evaluated<'a>(
     expression: &Expr<'a>,
 ) -> Result<(), AllocError>
     ensures bytes { OnOk result (AddsBytes spot.now bytes.old.items bytes.new.items
-        (λ index. value_bytes (bytes_of width)
+        (λ index. value_bytes (width_bytes width)
         (value_in spot.now index (tree_of_expr expression.now)))) }
     ensures fields { OnOk result (AddsFields spot.now fields.old.items fields.new.items
-        (λ index. if (spot.now).loaded then own_fields spot.now place (bytes_of width)
+        (λ index. if (spot.now).loaded then own_fields spot.now place (width_bytes width)
         (value_in spot.now index (tree_of_expr expression.now)) else [])) }
 {
     let value = spot.scope.value(spot.place, expression, 0);
@@ -284,10 +284,10 @@ fn put_value<'a>(
     expression: &Expr<'a>,
 ) -> Result<(), AllocError>
     ensures bytes { OnOk result (AddsBytes spot.now bytes.old.items bytes.new.items
-        (λ index. value_bytes (bytes_of width)
+        (λ index. value_bytes (width_bytes width)
         (value_in spot.now index (tree_of_expr expression.now)))) }
     ensures fields { OnOk result (AddsFields spot.now fields.old.items fields.new.items
-        (λ index. if (spot.now).loaded then own_fields spot.now place (bytes_of width)
+        (λ index. if (spot.now).loaded then own_fields spot.now place (width_bytes width)
         (value_in spot.now index (tree_of_expr expression.now)) else [])) }
 {
     match expression {
@@ -305,13 +305,13 @@ fn put_values<'a>(
     width: Width,
     values: &[Expr<'a>],
 ) -> Result<(), AllocError>
-    requires { offset + bytes_of width * length values.now ≤ longest_section }
+    requires { offset + width_bytes width * length values.now ≤ longest_section }
     ensures bytes { OnOk result (AddsBytes spot.now bytes.old.items bytes.new.items
-        (λ index. flat_map (λ e. value_bytes (bytes_of width) (value_in spot.now index e))
+        (λ index. flat_map (λ e. value_bytes (width_bytes width) (value_in spot.now index e))
         (map tree_of_expr values.now))) }
     ensures fields { OnOk result (AddsFields spot.now fields.old.items fields.new.items
         (λ index. fields_in spot.now offset
-        (parts_in spot.now index (bytes_of width) (map tree_of_expr values.now)))) }
+        (parts_in spot.now index (width_bytes width) (map tree_of_expr values.now)))) }
 {
     let mut place = offset;
     for value in values {
@@ -331,11 +331,11 @@ fn put_one<'a>(
     value: &Expr<'a>,
 ) -> Result<(), AllocError>
     ensures bytes { OnOk result (AddsBytes spot.now bytes.old.items bytes.new.items
-        (λ index. flat_map (λ e. value_bytes (bytes_of width) (value_in spot.now index e))
+        (λ index. flat_map (λ e. value_bytes (width_bytes width) (value_in spot.now index e))
         (tree_of_expr value.now ∷ []))) }
     ensures fields { OnOk result (AddsFields spot.now fields.old.items fields.new.items
         (λ index. fields_in spot.now offset
-        (parts_in spot.now index (bytes_of width) (tree_of_expr value.now ∷ [])))) }
+        (parts_in spot.now index (width_bytes width) (tree_of_expr value.now ∷ [])))) }
 {
     put_value(bytes, fields, spot, offset, width, value)
 }

@@ -6,7 +6,7 @@
 //! (`IsMade`).
 
 ghost use Rattle.std.specs.Prelude.{◌≡◌, None, IfOk, IfErr};
-ghost use Rattle.rv_unit_laws.specs.Faults.{first_fault};
+ghost use Rattle.rv_unit_laws.specs.Faults.{first_unit_fault};
 ghost use Rattle.rv_unit.specs.Unit.{said, IsFilled};
 ghost use Rattle.rv_assemble_laws.specs.Refusals.{code_fault};
 
@@ -36,16 +36,16 @@ pub struct Draft<'a> {
 }
 
 impl<'a> Draft<'a> {
-    ghost use Rattle.rv_draft.specs.Draft.{IsDraft, IsRefused};
+    ghost use Rattle.rv_draft.specs.Draft.{IsDraft, IsRefusedSource};
 
     /// The draft of a source without faulty labels and directives; or its first fault as code, or
     /// that its code is too long, at the line of the statement.
     pub fn of(alloc: Global, unit: &Unit<'a>) -> Result<Draft<'a>, SourceFault>
         requires filled { IsFilled unit.now }
-        requires good { first_fault (said unit.now) ≡ None }
+        requires good { first_unit_fault (said unit.now) ≡ None }
         ensures draft { IfOk result (λ d. IsDraft (said unit.now) d) }
         ensures sound { IfOk result (λ _. code_fault (said unit.now) ≡ None) }
-        ensures refuses { IfErr result (λ e. IsRefused (said unit.now) e) }
+        ensures refuses { IfErr result (λ e. IsRefusedSource (said unit.now) e) }
     {
         let layout = Layout::of(alloc, unit)?;
         let code = code(alloc, unit, &layout)?;

@@ -15,7 +15,7 @@ ghost use Rattle.rv_assemble_laws.specs.CodeFields.{relax_fields};
 ghost use Rattle.rv_assemble_laws.specs.Fields.{field_at, fields_from};
 ghost use Rattle.rv_assemble_laws.specs.Templates.{align_field, open_at};
 ghost use Rattle.rv_instruction.specs.declared.encoded.Coded.{Coded as SpecCoded};
-ghost use Rattle.rv_instruction.specs.Code.{encoded_instructions, shape_in, is_call as of_call};
+ghost use Rattle.rv_instruction.specs.Code.{encoded_instructions, shape_in, is_call_field as of_call};
 ghost use Rattle.rv_instruction.specs.Opened.{opens_of, open_of};
 ghost use Rattle.rv_layout.specs.Code.{bytes_coded, IsCoded};
 ghost use Rattle.rv_draft.specs.Coded.{IsCodedAt, HasBytes};

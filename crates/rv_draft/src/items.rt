@@ -7,8 +7,8 @@
 ghost use Rattle.std.specs.Prelude.{◌≡◌, ◌&&◌, ◌+◌, ◌*◌, ◌<◌, ◌≤◌, ℕ, true, false, [], ◌∷◌, ◌++◌, length, map, slice_index, slice_set, None, IfOk, IfErr};
 ghost use Rattle.rv_text_laws.specs.Values as values;
 ghost use Rattle.rv_lexer.specs.declared.fault.SourceFault.TheVariants.{OutOfMemory};
-ghost use Rattle.rv_statement.specs.View.{bytes_of, quoted, statement_kind};
-ghost use Rattle.rv_unit_laws.specs.Faults.{first_fault};
+ghost use Rattle.rv_statement.specs.View.{width_bytes, quoted, statement_kind};
+ghost use Rattle.rv_unit_laws.specs.Faults.{first_unit_fault};
 ghost use Rattle.rv_unit_laws.specs.Tables as laws;
 ghost use Rattle.rv_unit.specs.Unit.{said, IsFilled};
 ghost use Rattle.rv_source_laws.specs.Located.{located};
@@ -48,8 +48,8 @@ fn fitting(bytes: u64, line: u32) -> Result<u32, SourceFault>
 
 /// The bytes of values of data.
 fn bytes_of_values(width: Width, count: usize, line: u32) -> Result<u32, SourceFault>
-    ensures size { IfOk result (λ n. n ≡ bytes_of width * count) }
-    ensures refuses { IfErr result (λ _. bytes_of width * count ≤ laws.longest_section → ⊥) }
+    ensures size { IfOk result (λ n. n ≡ width_bytes width * count) }
+    ensures refuses { IfErr result (λ _. width_bytes width * count ≤ laws.longest_section → ⊥) }
 {
     fitting(values_size(width, count), line)
 }
@@ -349,7 +349,7 @@ pub(crate) fn items(
     ensures sized { IfOk result (λ r.
         AreSized (laws.tables (said unit.now)) 1 (laws.at_start (said unit.now)) (said unit.now)
         r.0.items sizes.items) }
-    ensures refuses { IfErr result (λ e. first_fault (said unit.now) ≡ None
+    ensures refuses { IfErr result (λ e. first_unit_fault (said unit.now) ≡ None
         → size_fault_from (λ j. 0) (located (said unit.now ∷ [])) (bytes_of_sizes sizes.items) ≡ None
         → e ≡ OutOfMemory) }
 {

@@ -77,7 +77,7 @@ pub(crate) fn lone_kind(kind: &StatementKind<'_>, bytes: u32) -> Option<Kind>
 
 /// Whether a field is that of a call, which is two instructions.
 pub(crate) fn is_call(kind: &Kind) -> bool
-    ensures { result ≡ code.is_call (Some kind.now) }
+    ensures { result ≡ code.is_call_field (Some kind.now) }
 {
     matches!(kind, Kind::CallPlt)
 }

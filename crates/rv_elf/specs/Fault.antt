@@ -5,36 +5,36 @@ use Rattle.rv_elf.specs.declared.fault.FileFault.{FileFault}
 use Rattle.rv_elf.specs.declared.fault.FileFault.TheVariants.{Truncated, BadMagic, WrongClass, WrongMachine, BadTable, BadString, BadIndex, Overlap, UnsupportedRelocation, UnsupportedSection, NotExecutable, Dynamic, MemoryLimit, NotObject, OutOfMemory}
 
 -- the number after the `F` (from 1); none for want of memory
-abbrev pub number_of : FileFault → Option ℕ
-number_of Truncated = Some 1
-number_of BadMagic = Some 2
-number_of WrongClass = Some 3
-number_of WrongMachine = Some 4
-number_of BadTable = Some 5
-number_of BadString = Some 6
-number_of BadIndex = Some 7
-number_of Overlap = Some 8
-number_of (UnsupportedRelocation number) = Some 9
-number_of (UnsupportedSection type) = Some 10
-number_of NotExecutable = Some 11
-number_of Dynamic = Some 12
-number_of MemoryLimit = Some 13
-number_of NotObject = Some 14
-number_of OutOfMemory = None
+abbrev pub file_fault_number : FileFault → Option ℕ
+file_fault_number Truncated = Some 1
+file_fault_number BadMagic = Some 2
+file_fault_number WrongClass = Some 3
+file_fault_number WrongMachine = Some 4
+file_fault_number BadTable = Some 5
+file_fault_number BadString = Some 6
+file_fault_number BadIndex = Some 7
+file_fault_number Overlap = Some 8
+file_fault_number (UnsupportedRelocation number) = Some 9
+file_fault_number (UnsupportedSection type) = Some 10
+file_fault_number NotExecutable = Some 11
+file_fault_number Dynamic = Some 12
+file_fault_number MemoryLimit = Some 13
+file_fault_number NotObject = Some 14
+file_fault_number OutOfMemory = None
 
-abbrev pub name_of : FileFault → List ℕ
-name_of Truncated = codes "Truncated"
-name_of BadMagic = codes "BadMagic"
-name_of WrongClass = codes "WrongClass"
-name_of WrongMachine = codes "WrongMachine"
-name_of BadTable = codes "BadTable"
-name_of BadString = codes "BadString"
-name_of BadIndex = codes "BadIndex"
-name_of Overlap = codes "Overlap"
-name_of (UnsupportedRelocation number) = codes "UnsupportedRelocation"
-name_of (UnsupportedSection type) = codes "UnsupportedSection"
-name_of NotExecutable = codes "NotExecutable"
-name_of Dynamic = codes "Dynamic"
-name_of MemoryLimit = codes "MemoryLimit"
-name_of NotObject = codes "NotObject"
-name_of OutOfMemory = codes "out of memory"
+abbrev pub file_fault_name : FileFault → List ℕ
+file_fault_name Truncated = codes "Truncated"
+file_fault_name BadMagic = codes "BadMagic"
+file_fault_name WrongClass = codes "WrongClass"
+file_fault_name WrongMachine = codes "WrongMachine"
+file_fault_name BadTable = codes "BadTable"
+file_fault_name BadString = codes "BadString"
+file_fault_name BadIndex = codes "BadIndex"
+file_fault_name Overlap = codes "Overlap"
+file_fault_name (UnsupportedRelocation number) = codes "UnsupportedRelocation"
+file_fault_name (UnsupportedSection type) = codes "UnsupportedSection"
+file_fault_name NotExecutable = codes "NotExecutable"
+file_fault_name Dynamic = codes "Dynamic"
+file_fault_name MemoryLimit = codes "MemoryLimit"
+file_fault_name NotObject = codes "NotObject"
+file_fault_name OutOfMemory = codes "out of memory"

@@ -64,13 +64,13 @@ abbrev pub is_nobits : SectionHeader → Bool
 is_nobits h = h.sh_type == sht_nobits
 
 -- the bytes that the file has of a section: none past its end
-abbrev pub contents_of : List ℕ → SectionHeader → List ℕ
-contents_of file h =
+abbrev pub file_contents : List ℕ → SectionHeader → List ℕ
+file_contents file h =
     if is_nobits h || is_past file h.sh_offset h.sh_size then []
     else take h.sh_size (drop h.sh_offset file)
 
-abbrev pub section_of : List ℕ → ℕ → List ℕ
-section_of file i = contents_of file (section_header_of file i)
+abbrev pub indexed_contents : List ℕ → ℕ → List ℕ
+indexed_contents file i = file_contents file (section_header_of file i)
 
 -- the bytes before the first zero byte; none where there is no zero byte
 abbrev pub before_zero : List ℕ → Option (List ℕ)

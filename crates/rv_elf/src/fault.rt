@@ -2,7 +2,7 @@
 
 ghost use Rattle.std.specs.Prelude.{◌≡◌};
 ghost use Rattle.rv_elf.specs.declared.fault.FileFault.TheVariants.{OutOfMemory};
-ghost use Rattle.rv_elf.specs.Fault.{number_of, name_of};
+ghost use Rattle.rv_elf.specs.Fault.{file_fault_number, file_fault_name};
 
 use std::alloc::{AllocError, AllocFailed};
 use thiserror::Error;
@@ -61,7 +61,7 @@ pub enum FileFault {
 impl FileFault {
     /// Its number as messages show it, 1 to 14; `None` for want of memory.
     pub fn number(&self) -> Option<u32>
-        ensures { result ≡ number_of self.now }
+        ensures { result ≡ file_fault_number self.now }
     {
         Some(match self {
             FileFault::Truncated => 1,
@@ -84,7 +84,7 @@ impl FileFault {
 
     /// Its name as messages show it.
     pub fn name(&self) -> &'static str
-        ensures { result.now ≡ name_of self.now }
+        ensures { result.now ≡ file_fault_name self.now }
     {
         match self {
             FileFault::Truncated => "Truncated",

@@ -5,7 +5,7 @@ ghost use Rattle.rv_elf.specs.Fields.{file_header_size, program_header_size, sym
 ghost use Rattle.rv_elf.specs.FirstFault.{Finds, open_tests};
 ghost use Rattle.rv_elf.specs.Numbers.{shn_loreserve};
 ghost use Rattle.rv_elf.specs.Records.{file_header_in, program_header_at, symbol_at, rela_at};
-ghost use Rattle.rv_elf.specs.Sections.{HasPrograms, HasSections, program_count, section_count, section_header_of, section_of, contents_of, string_at};
+ghost use Rattle.rv_elf.specs.Sections.{HasPrograms, HasSections, program_count, section_count, section_header_of, indexed_contents, file_contents, string_at};
 
 use crate::checks::{check_tables, file_type, lies_past};
 use crate::fault::FileFault;
@@ -79,7 +79,7 @@ impl<'a> ElfView<'a> {
     /// The bytes that the file has of a section with this header: none of one of zeros (`SHT_NOBITS`), and none
     /// where the contents do not lie in the file.
     pub fn contents(&self, header: &SectionHeader) -> &'a [u8]
-        ensures { result.now ≡ contents_of self.now.file.now header.now }
+        ensures { result.now ≡ file_contents self.now.file.now header.now }
     {
         let no_bytes = header.sh_type == SHT_NOBITS || header.sh_size == 0;
         if no_bytes || lies_past(self.file, header.sh_offset, header.sh_size) {
@@ -92,7 +92,7 @@ impl<'a> ElfView<'a> {
     /// The bytes that the file has of a section, as `contents` of its header.
     pub fn section(&self, index: SectionIndex) -> &'a [u8]
         requires { index.0 < section_count self.now.file.now }
-        ensures { result.now ≡ section_of self.now.file.now index.0 }
+        ensures { result.now ≡ indexed_contents self.now.file.now index.0 }
     {
         self.contents(&self.section_header(index))
     }
@@ -101,8 +101,9 @@ impl<'a> ElfView<'a> {
     pub fn name(&self, section: SectionIndex, offset: u32) -> Option<&'a [u8]>
         requires { section.0 < section_count self.now.file.now }
         ensures { MatchOption result
-            (string_at (section_of self.now.file.now section.0) offset ≡ None)
-            (λ name. string_at (section_of self.now.file.now section.0) offset ≡ Some name.now) }
+            (string_at (indexed_contents self.now.file.now section.0) offset ≡ None)
+            (λ name. string_at (indexed_contents self.now.file.now section.0) offset
+            ≡ Some name.now) }
     {
         string_in(self.section(section), offset)
     }
@@ -111,9 +112,9 @@ impl<'a> ElfView<'a> {
     pub fn symbol(&self, section: SectionIndex, index: SymbolIndex) -> Symbol
         requires section { section.0 < section_count self.now.file.now }
         requires inside { symbol_size * index.0 + symbol_size
-            ≤ length (section_of self.now.file.now section.0) }
+            ≤ length (indexed_contents self.now.file.now section.0) }
         ensures { result ≡ symbol_at (symbol_size * index.0)
-            (section_of self.now.file.now section.0) }
+            (indexed_contents self.now.file.now section.0) }
     {
         symbol_in(self.section(section), index)
     }
@@ -122,9 +123,9 @@ impl<'a> ElfView<'a> {
     pub fn rela(&self, section: SectionIndex, index: u32) -> Rela
         requires section { section.0 < section_count self.now.file.now }
         requires inside { rela_size * index + rela_size
-            ≤ length (section_of self.now.file.now section.0) }
+            ≤ length (indexed_contents self.now.file.now section.0) }
         ensures { result ≡ rela_at (rela_size * index)
-            (section_of self.now.file.now section.0) }
+            (indexed_contents self.now.file.now section.0) }
     {
         rela_in(self.section(section), index)
     }

@@ -16,8 +16,8 @@ use Rattle.rv_statement.specs.declared.mnemonic.Mnemonic.TheVariants.{Immediate,
 use Rattle.rv_pseudo_laws.specs.Li.{addi, addiw, lui}
 use Rattle.rv_pseudo_laws.specs.Code.{Closed}
 use Rattle.rv_assemble_laws.specs.Coded.{IsCode}
-use Rattle.rv_examples.specs.KnownCode.{without_names, own, number, adds_word, adds_parcel, loads_words, loads_both}
-use Rattle.rv_examples.specs.Parcels.{step, own_step, steps_named, steps_chosen}
+use Rattle.rv_examples.specs.KnownCode.{without_names, own, number_operands, adds_word, adds_parcel, loads_words, loads_both}
+use Rattle.rv_examples.specs.Parcels.{sp_16, own_step, steps_named, steps_chosen}
 
 abbrev adds : Inst
 adds = addi 10 10 (pos 5)
@@ -107,7 +107,7 @@ parcel = record {
   count = refl;
 }
 
-pub named : (rvc : Bool) → IsCode without_names rvc (Parcel parcels.Addi) (number 5) 2 adds_parcel 1
+pub named : (rvc : Bool) → IsCode without_names rvc (Parcel parcels.Addi) (number_operands 5) 2 adds_parcel 1
 named rvc = record {
   ps = Closed adds ∷ [];
   parts = refl;
@@ -116,7 +116,7 @@ named rvc = record {
   count = refl;
 }
 
-pub steps_by_name : IsCode without_names true (Parcel parcels.Addi16sp) step 2 steps_named 1
+pub steps_by_name : IsCode without_names true (Parcel parcels.Addi16sp) sp_16 2 steps_named 1
 steps_by_name = record {
   ps = Closed steps ∷ [];
   parts = refl;
@@ -134,7 +134,7 @@ steps_by_choice = record {
   count = refl;
 }
 
-pub words : IsCode without_names false Li (number 2048) 8 loads_words 2
+pub words : IsCode without_names false Li (number_operands 2048) 8 loads_words 2
 words = record {
   ps = Closed upper ∷ Closed low ∷ [];
   parts = refl;
@@ -143,7 +143,7 @@ words = record {
   count = refl;
 }
 
-pub mixed : IsCode without_names true Li (number 2048) 6 loads_both 2
+pub mixed : IsCode without_names true Li (number_operands 2048) 6 loads_both 2
 mixed = record {
   ps = Closed upper ∷ Closed low ∷ [];
   parts = refl;

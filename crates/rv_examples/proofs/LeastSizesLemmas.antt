@@ -8,7 +8,7 @@ use Rattle.rv_layout_laws.specs.declared.item.Forms.TheVariants.{Settled, Compre
 use Rattle.rv_layout_laws.specs.declared.item.Item.{Item}
 use Rattle.rv_layout_laws.specs.Offsets.{AtMost, Reaches}
 use Rattle.rv_layout_laws.specs.Branches.{Offers, largest, half, item_at, ReachesBy, IsGood, IsLeastGood}
-use Rattle.rv_examples.specs.BranchSizes.{beyond, branches, IsLeastSize}
+use Rattle.rv_examples.specs.BranchSizes.{beyond, beqz_a0, IsLeastSize}
 use Rattle.rv_examples.specs.Refused.{jumps}
 
 -- a label, and a branch of these forms to it and so many bytes more
@@ -111,21 +111,21 @@ no_word other a h =
     subst (Holds CompressedBranch (pos 4096)) a h in
     no_reach 4096 4096 (omega arith) (four (omega arith))
 
-pub branches_in_two : IsLeastSize (branches (beyond 254)) 2
+pub branches_in_two : IsLeastSize (beqz_a0 (beyond 254)) 2
 unfolding int_wrap
 branches_in_two =
     least_good CompressedBranch (pos 254) 2 (inl refl) (λ lt. parcel_reaches)
     (λ other o h. ⊎_elim (λ a. omega (arith, a))
     (λ b. ⊎_elim (λ a. omega (arith, a)) (λ a. omega (arith, a)) b) o)
 
-pub branches_in_four : IsLeastSize (branches (beyond 256)) 4
+pub branches_in_four : IsLeastSize (beqz_a0 (beyond 256)) 4
 unfolding int_wrap
 branches_in_four =
     least_good CompressedBranch (pos 256) 4 (inr (inl refl)) (λ lt. word_reaches)
     (λ other o h. ⊎_elim (λ a. absurd (no_parcel 256 other (omega arith) a h))
     (λ b. ⊎_elim (λ a. omega (arith, a)) (λ a. omega (arith, a)) b) o)
 
-pub branches_in_eight : IsLeastSize (branches (beyond 4096)) 8
+pub branches_in_eight : IsLeastSize (beqz_a0 (beyond 4096)) 8
 unfolding int_wrap
 branches_in_eight =
     least_good CompressedBranch (pos 4096) 8 (inr (inr refl)) (λ lt. absurd (omega (arith, lt)))

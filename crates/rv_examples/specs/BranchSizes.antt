@@ -10,7 +10,7 @@ use Rattle.rv_statement.specs.Statement.{StatementKind, Label, Instruction, Stat
 use Rattle.rv_unit_laws.specs.Tables.{tables}
 use Rattle.rv_source_laws.specs.Located.{located}
 use Rattle.rv_source_laws.specs.Sizes.{AreLeast}
-use Rattle.rv_examples.specs.Exit7.{said, constant}
+use Rattle.rv_examples.specs.Exit7.{on_line, constant}
 use Rattle.rv_examples.specs.Refused.{x}
 
 -- `x + k`
@@ -18,11 +18,11 @@ abbrev pub beyond : ℕ → Expression
 beyond k = Binary Add x (constant k)
 
 -- `beqz a0, e`
-abbrev pub branches : Expression → StatementKind
-branches e = Instruction (ZeroBranch Beqz) (Register 10 ∷ Target e ∷ [])
+abbrev pub beqz_a0 : Expression → StatementKind
+beqz_a0 e = Instruction (ZeroBranch Beqz) (Register 10 ∷ Target e ∷ [])
 
 abbrev pub after_label : StatementKind → List Statement
-after_label s = said 1 (Label (codes "x")) ∷ said 2 s ∷ []
+after_label s = on_line 1 (Label (codes "x")) ∷ on_line 2 s ∷ []
 
 -- the label has no bytes, and the branch these
 abbrev pub IsLeastSize : StatementKind → ℕ → Type 0

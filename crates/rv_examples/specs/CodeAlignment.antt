@@ -8,15 +8,15 @@
 use Rattle.std.specs.Prelude.{List, [], ◌∷◌, Some, None, codes}
 use Rattle.rv_statement.specs.Statement.{Directs, Statement, Opens, Aligns_to_power}
 use Rattle.rv_map.specs.Map.{Map}
-use Rattle.rv_examples.specs.Exit7.{said, constant, row, region, exit7_map}
+use Rattle.rv_examples.specs.Exit7.{on_line, constant, row, region, exit7_map}
 use Rattle.rv_examples.specs.Data.{call}
 
 abbrev pub two_sections : List Statement
 two_sections =
-    said 1 call
-    ∷ said 2 (Directs (Opens (codes ".text.b") (Some (codes "ax")) None))
-    ∷ said 3 (Directs (Aligns_to_power (constant 4)))
-    ∷ said 4 call
+    on_line 1 call
+    ∷ on_line 2 (Directs (Opens (codes ".text.b") (Some (codes "ax")) None))
+    ∷ on_line 3 (Directs (Aligns_to_power (constant 4)))
+    ∷ on_line 4 call
     ∷ []
 
 -- as it is linked: the second section begins at a multiple of 16, after a gap, and so its alignment

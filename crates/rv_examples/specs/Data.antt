@@ -12,7 +12,7 @@ use Rattle.rv_statement.specs.declared.directive.Binding.TheVariants as bindings
 use Rattle.rv_statement.specs.Statement.{StatementKind, Label, Numbered, Instruction, Directs, Statement, Expression, Register, Value, Enters, Opens, Binds, Sets, Aligns_to_power, Aligns_to_bytes, Values, Strings, Zeros}
 use Rattle.rv_map.specs.Globals.{global}
 use Rattle.rv_map.specs.Map.{Map}
-use Rattle.rv_examples.specs.Exit7.{said, constant, norvc, globl, load, row, region}
+use Rattle.rv_examples.specs.Exit7.{on_line, constant, norvc, globl, load, row, region}
 
 abbrev pub call : StatementKind
 call = Instruction Ecall []
@@ -38,20 +38,20 @@ symbol name = Leaf (Symbol name)
 --     .ascii "hello"
 abbrev pub hello : List Statement
 hello =
-    said 1 norvc
-    ∷ said 2 (globl (codes "_start"))
-    ∷ said 3 (Label (codes "_start"))
-    ∷ said 4 (load 10 1)
-    ∷ said 5 (Instruction (Upper Lui) (Register 11 ∷ Value (constant 17) ∷ []))
-    ∷ said 6 (load 12 5)
-    ∷ said 7 (load 17 64)
-    ∷ said 8 call
-    ∷ said 9 (load 10 0)
-    ∷ said 10 (load 17 93)
-    ∷ said 11 call
-    ∷ said 12 (Directs (Opens (codes ".rodata") None None))
-    ∷ said 13 (Label (codes "msg"))
-    ∷ said 14 (Directs (Strings false (codes "hello" ∷ [])))
+    on_line 1 norvc
+    ∷ on_line 2 (globl (codes "_start"))
+    ∷ on_line 3 (Label (codes "_start"))
+    ∷ on_line 4 (load 10 1)
+    ∷ on_line 5 (Instruction (Upper Lui) (Register 11 ∷ Value (constant 17) ∷ []))
+    ∷ on_line 6 (load 12 5)
+    ∷ on_line 7 (load 17 64)
+    ∷ on_line 8 call
+    ∷ on_line 9 (load 10 0)
+    ∷ on_line 10 (load 17 93)
+    ∷ on_line 11 call
+    ∷ on_line 12 (Directs (Opens (codes ".rodata") None None))
+    ∷ on_line 13 (Label (codes "msg"))
+    ∷ on_line 14 (Directs (Strings false (codes "hello" ∷ [])))
     ∷ []
 
 abbrev pub hello_map : Map
@@ -123,29 +123,30 @@ says_hello = record { console = codes "hello"; «end» = Exited 0 }
 --     .local table
 abbrev pub figures : List Statement
 figures =
-    said 1 (Directs (Binds bindings.Global (codes "_start" ∷ codes "limit" ∷ codes "table" ∷ [])))
-    ∷ said 2 (Label (codes "_start"))
-    ∷ said 3 call
-    ∷ said 4 (Directs (Enters Data))
-    ∷ said 5 (Directs (Sets (codes "limit") (constant 7)))
-    ∷ said 6 (Label (codes "table"))
-    ∷ said 7 (Directs (Values 1 (constant 1 ∷ symbol (codes "limit") ∷ [])))
-    ∷ said 8 (Directs (Aligns_to_power (constant 2)))
-    ∷ said 9 (Numbered 1)
-    ∷ said 10
+    on_line 1 (Directs (Binds bindings.Global (codes "_start" ∷ codes "limit" ∷ codes "table" ∷
+    [])))
+    ∷ on_line 2 (Label (codes "_start"))
+    ∷ on_line 3 call
+    ∷ on_line 4 (Directs (Enters Data))
+    ∷ on_line 5 (Directs (Sets (codes "limit") (constant 7)))
+    ∷ on_line 6 (Label (codes "table"))
+    ∷ on_line 7 (Directs (Values 1 (constant 1 ∷ symbol (codes "limit") ∷ [])))
+    ∷ on_line 8 (Directs (Aligns_to_power (constant 2)))
+    ∷ on_line 9 (Numbered 1)
+    ∷ on_line 10
     (Directs
     (Values 4
     (Unary Negate (constant 1) ∷ Leaf (Reference (codes "1") false) ∷ symbol (codes "_end") ∷
     [])))
-    ∷ said 11 (Directs (Sets (codes "limit") (constant 9)))
-    ∷ said 12 (Directs (Sets (codes "here") (Binary Add (Leaf Here) (constant 2))))
-    ∷ said 13 (Directs (Values 2 (symbol (codes "limit") ∷ [])))
-    ∷ said 14 (Directs (Values 8 (symbol (codes "here") ∷ [])))
-    ∷ said 15 (Directs (Enters Bss))
-    ∷ said 16 (Directs (Aligns_to_bytes (constant 8)))
-    ∷ said 17 (Label (codes "room"))
-    ∷ said 18 (Directs (Zeros (symbol (codes "limit"))))
-    ∷ said 19 (Directs (Binds bindings.Local (codes "table" ∷ [])))
+    ∷ on_line 11 (Directs (Sets (codes "limit") (constant 9)))
+    ∷ on_line 12 (Directs (Sets (codes "here") (Binary Add (Leaf Here) (constant 2))))
+    ∷ on_line 13 (Directs (Values 2 (symbol (codes "limit") ∷ [])))
+    ∷ on_line 14 (Directs (Values 8 (symbol (codes "here") ∷ [])))
+    ∷ on_line 15 (Directs (Enters Bss))
+    ∷ on_line 16 (Directs (Aligns_to_bytes (constant 8)))
+    ∷ on_line 17 (Label (codes "room"))
+    ∷ on_line 18 (Directs (Zeros (symbol (codes "limit"))))
+    ∷ on_line 19 (Directs (Binds bindings.Local (codes "table" ∷ [])))
     ∷ []
 
 abbrev pub figures_map : Map
@@ -204,17 +205,17 @@ figures_data =
 --     .word b - a, 5 % 3 << 2
 abbrev pub differences : List Statement
 differences =
-    said 1 norvc
-    ∷ said 2 (globl (codes "_start"))
-    ∷ said 3 (Label (codes "_start"))
-    ∷ said 4 call
-    ∷ said 5 (Directs (Enters Data))
-    ∷ said 6 (Label (codes "a"))
-    ∷ said 7
+    on_line 1 norvc
+    ∷ on_line 2 (globl (codes "_start"))
+    ∷ on_line 3 (Label (codes "_start"))
+    ∷ on_line 4 call
+    ∷ on_line 5 (Directs (Enters Data))
+    ∷ on_line 6 (Label (codes "a"))
+    ∷ on_line 7
     (Directs (Values 1 (Binary Add (constant 2) (Binary Or (constant 3) (constant 4)) ∷ [])))
-    ∷ said 8 (Directs (Aligns_to_power (constant 2)))
-    ∷ said 9 (Label (codes "b"))
-    ∷ said 10
+    ∷ on_line 8 (Directs (Aligns_to_power (constant 2)))
+    ∷ on_line 9 (Label (codes "b"))
+    ∷ on_line 10
     (Directs
     (Values 4
     (Binary Subtract (symbol (codes "b")) (symbol (codes "a")) ∷

@@ -20,8 +20,8 @@ use Rattle.rv_map.specs.Map.{Map}
 use Rattle.rv_map.specs.declared.map.Row.{Row}
 use Rattle.rv_map.specs.declared.map.Region.{Region}
 
-abbrev pub said : ℕ → StatementKind → Statement
-said line says = record { line = line; kind = says }
+abbrev pub on_line : ℕ → StatementKind → Statement
+on_line line says = record { line = line; kind = says }
 
 abbrev pub constant : ℕ → Expression
 constant k = Leaf (Literal k)
@@ -40,12 +40,12 @@ load rd k = Instruction Li (Register rd ∷ Value (constant k) ∷ [])
 
 abbrev pub exit7 : List Statement
 exit7 =
-    said 1 norvc
-    ∷ said 2 (globl (codes "_start"))
-    ∷ said 3 (Label (codes "_start"))
-    ∷ said 3 (load 10 7)
-    ∷ said 4 (load 17 93)
-    ∷ said 5 (Instruction Ecall [])
+    on_line 1 norvc
+    ∷ on_line 2 (globl (codes "_start"))
+    ∷ on_line 3 (Label (codes "_start"))
+    ∷ on_line 3 (load 10 7)
+    ∷ on_line 4 (load 17 93)
+    ∷ on_line 5 (Instruction Ecall [])
     ∷ []
 
 abbrev pub row : ℕ → ℕ → ℕ → ℕ → ℕ → ℕ → Row
@@ -88,15 +88,15 @@ exit7_map = record {
 -- the same with `addi a0, a0, -8` before `li a7, 93`
 abbrev pub exit255 : List Statement
 exit255 =
-    said 1 norvc
-    ∷ said 2 (globl (codes "_start"))
-    ∷ said 3 (Label (codes "_start"))
-    ∷ said 3 (load 10 7)
-    ∷ said 4
+    on_line 1 norvc
+    ∷ on_line 2 (globl (codes "_start"))
+    ∷ on_line 3 (Label (codes "_start"))
+    ∷ on_line 3 (load 10 7)
+    ∷ on_line 4
     (Instruction (Immediate Addi)
     (Register 10 ∷ Register 10 ∷ Value (Unary Negate (constant 8)) ∷ []))
-    ∷ said 5 (load 17 93)
-    ∷ said 6 (Instruction Ecall [])
+    ∷ on_line 5 (load 17 93)
+    ∷ on_line 6 (Instruction Ecall [])
     ∷ []
 
 abbrev pub exit255_map : Map
@@ -123,17 +123,17 @@ exits code = record { console = []; «end» = Exited code }
 -- the two lines that end it in a file of their own: the run goes on from the one file to the next
 abbrev pub first_file : List Statement
 first_file =
-    said 1 norvc
-    ∷ said 2 (globl (codes "_start"))
-    ∷ said 3 (Label (codes "_start"))
-    ∷ said 3 (load 10 7)
+    on_line 1 norvc
+    ∷ on_line 2 (globl (codes "_start"))
+    ∷ on_line 3 (Label (codes "_start"))
+    ∷ on_line 3 (load 10 7)
     ∷ []
 
 abbrev pub second_file : List Statement
 second_file =
-    said 1 norvc
-    ∷ said 2 (load 17 93)
-    ∷ said 3 (Instruction Ecall [])
+    on_line 1 norvc
+    ∷ on_line 2 (load 17 93)
+    ∷ on_line 3 (Instruction Ecall [])
     ∷ []
 
 abbrev pub two_files_map : Map

@@ -13,8 +13,8 @@ without_names e = value_of (λ name. Refused 0) e
 abbrev pub own : ℕ → List Operand
 own k = Register 10 ∷ Register 10 ∷ Of_value (constant k) ∷ []
 
-abbrev pub number : ℕ → List Operand
-number k = Register 10 ∷ Of_value (constant k) ∷ []
+abbrev pub number_operands : ℕ → List Operand
+number_operands k = Register 10 ∷ Of_value (constant k) ∷ []
 
 -- `addi a0, a0, 5` as a word and as a parcel
 abbrev pub adds_word : List (List ℕ)

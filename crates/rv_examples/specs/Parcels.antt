@@ -9,7 +9,7 @@ use Rattle.rv_statement.specs.declared.pseudo.Function.{Function}
 use Rattle.rv_statement.specs.Statement.{StatementKind, Label, Instruction, Statement, Operand, Expression, Register, Value, Applied, Target}
 use Rattle.rv_map.specs.Globals.{global}
 use Rattle.rv_map.specs.Map.{Map}
-use Rattle.rv_examples.specs.Exit7.{said, constant, norvc, globl, load, row, region, exit7_map}
+use Rattle.rv_examples.specs.Exit7.{on_line, constant, norvc, globl, load, row, region, exit7_map}
 
 -- ---- statements
 
@@ -31,8 +31,8 @@ jumps_short e = Instruction (Parcel J) (Target e ∷ [])
 -- ---- bytes
 
 -- `sp, 16` of `c.addi16sp`, and `sp, sp, 16` of `addi`, of which `c.addi` is chosen
-abbrev pub step : List Operand
-step = Register 2 ∷ Value (constant 16) ∷ []
+abbrev pub sp_16 : List Operand
+sp_16 = Register 2 ∷ Value (constant 16) ∷ []
 
 abbrev pub own_step : List Operand
 own_step = Register 2 ∷ Register 2 ∷ Value (constant 16) ∷ []
@@ -48,12 +48,12 @@ steps_chosen = (0x41 ∷ 0x01 ∷ []) ∷ []
 -- it exits with 7: `c.li a0, 7` in place of `li a0, 7`
 abbrev pub parcel7 : List Statement
 parcel7 =
-    said 1 norvc
-    ∷ said 2 (globl (codes "_start"))
-    ∷ said 3 (Label (codes "_start"))
-    ∷ said 3 (parcel Li (constant 7))
-    ∷ said 4 (load 17 93)
-    ∷ said 5 (Instruction Ecall [])
+    on_line 1 norvc
+    ∷ on_line 2 (globl (codes "_start"))
+    ∷ on_line 3 (Label (codes "_start"))
+    ∷ on_line 3 (parcel Li (constant 7))
+    ∷ on_line 4 (load 17 93)
+    ∷ on_line 5 (Instruction Ecall [])
     ∷ []
 
 abbrev pub parcel7_map : Map

@@ -18,7 +18,7 @@ use Rattle.rv_isa.specs.declared.operation.LoadOperation.TheVariants.{Ld}
 use Rattle.rv_isa.specs.declared.operation.StoreOperation.TheVariants.{Sd}
 use Rattle.rv_statement.specs.Statement.{StatementKind, Label, Instruction, Directs, Statement, Expression, Register, Value, Applied, Target, Enters, Opens, Sets, Aligns_to_power, Chooses}
 use Rattle.rv_unit_laws.specs.Faults.{StatementFault}
-use Rattle.rv_examples.specs.Exit7.{said, constant, norvc}
+use Rattle.rv_examples.specs.Exit7.{on_line, constant, norvc}
 use Rattle.rv_examples.specs.Data.{call, symbol}
 
 -- a fault by its code and its line
@@ -26,8 +26,8 @@ abbrev pub fault : ℕ → ℕ → Option StatementFault
 fault code line = Some (record { code = code; line = line })
 
 -- one instruction at line 2, where compressed code is off
-abbrev pub alone : StatementKind → List Statement
-alone s = said 1 norvc ∷ said 2 s ∷ []
+abbrev pub lone : StatementKind → List Statement
+lone s = on_line 1 norvc ∷ on_line 2 s ∷ []
 
 -- `addi a0, a0, e`
 abbrev pub adds : Expression → StatementKind
@@ -113,63 +113,63 @@ abbrev pub set_x : StatementKind
 set_x = Directs (Sets (codes "x") (constant 8))
 
 abbrev pub after_set : StatementKind → List Statement
-after_set s = said 1 norvc ∷ said 2 set_x ∷ said 3 s ∷ []
+after_set s = on_line 1 norvc ∷ on_line 2 set_x ∷ on_line 3 s ∷ []
 
 abbrev pub before_set : StatementKind → List Statement
-before_set s = said 1 norvc ∷ said 2 s ∷ said 3 set_x ∷ []
+before_set s = on_line 1 norvc ∷ on_line 2 s ∷ on_line 3 set_x ∷ []
 
 abbrev pub before_label : StatementKind → List Statement
-before_label s = said 1 norvc ∷ said 2 s ∷ said 3 (Label (codes "x")) ∷ []
+before_label s = on_line 1 norvc ∷ on_line 2 s ∷ on_line 3 (Label (codes "x")) ∷ []
 
 -- after the location `.set x, .`
 abbrev pub after_location : StatementKind → List Statement
 after_location s =
-    said 1 norvc
-    ∷ said 2 (Directs (Enters Data))
-    ∷ said 3 (Directs (Sets (codes "x") (Leaf Here)))
-    ∷ said 4 (Directs (Enters Text))
-    ∷ said 5 s
+    on_line 1 norvc
+    ∷ on_line 2 (Directs (Enters Data))
+    ∷ on_line 3 (Directs (Sets (codes "x") (Leaf Here)))
+    ∷ on_line 4 (Directs (Enters Text))
+    ∷ on_line 5 s
     ∷ []
 
 -- where compressed code is on
 abbrev pub compressed : StatementKind → List Statement
-compressed s = said 1 s ∷ []
+compressed s = on_line 1 s ∷ []
 
 -- `.align 3` in code at line 2, and a statement after it
 abbrev pub after_padding : StatementKind → List Statement
 after_padding s =
-    said 1 norvc ∷ said 2 (Directs (Aligns_to_power (constant 3))) ∷ said 3 s ∷ []
+    on_line 1 norvc ∷ on_line 2 (Directs (Aligns_to_power (constant 3))) ∷ on_line 3 s ∷ []
 
 -- `.align 2` in a section of code without bytes
 abbrev pub padding_without_bytes : List Statement
 padding_without_bytes =
-    said 1 (Directs (Opens (codes "later") (Some (codes "ax")) (Some (codes "nobits"))))
-    ∷ said 2 (Directs (Aligns_to_power (constant 2)))
+    on_line 1 (Directs (Opens (codes "later") (Some (codes "ax")) (Some (codes "nobits"))))
+    ∷ on_line 2 (Directs (Aligns_to_power (constant 2)))
     ∷ []
 
 -- compressed code is off at line 3, and on again at line 5
 abbrev pub options : List Statement
 options =
-    said 1 (Directs (Chooses Push))
-    ∷ said 2 (Directs (Chooses Norvc))
-    ∷ said 3 call
-    ∷ said 4 (Directs (Chooses Pop))
-    ∷ said 5 call
+    on_line 1 (Directs (Chooses Push))
+    ∷ on_line 2 (Directs (Chooses Norvc))
+    ∷ on_line 3 call
+    ∷ on_line 4 (Directs (Chooses Pop))
+    ∷ on_line 5 call
     ∷ []
 
 -- a division by zero stands before a number out of range
 abbrev pub two_faults : List Statement
 two_faults =
-    said 1 norvc
-    ∷ said 2 (adds (Binary Divide (constant 1) (constant 0)))
-    ∷ said 3 (adds (constant 2048))
+    on_line 1 norvc
+    ∷ on_line 2 (adds (Binary Divide (constant 1) (constant 0)))
+    ∷ on_line 3 (adds (constant 2048))
     ∷ []
 
 -- the faults of labels and directives come before those of instructions
 abbrev pub directive_later : List Statement
 directive_later =
-    said 1 norvc
-    ∷ said 2 (adds (constant 2048))
-    ∷ said 3 (Label (codes "x"))
-    ∷ said 4 (Label (codes "x"))
+    on_line 1 norvc
+    ∷ on_line 2 (adds (constant 2048))
+    ∷ on_line 3 (Label (codes "x"))
+    ∷ on_line 4 (Label (codes "x"))
     ∷ []

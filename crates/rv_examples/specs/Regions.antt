@@ -34,7 +34,7 @@ rodata_bytes source m =
     contents (spelled (program (source ∷ []) m)) m.rodata.start
     (input_sections goes_to_rodata (source ∷ []) m)
 
-abbrev pub data_bytes : List Statement → Map → List ℕ
-data_bytes source m =
+abbrev pub example_data : List Statement → Map → List ℕ
+example_data source m =
     contents (spelled (program (source ∷ []) m)) m.data.start
     (input_sections goes_to_data (source ∷ []) m)

@@ -6,10 +6,10 @@ ghost use Rattle.rv_compress.specs.declared.parcel.ParcelOperation.TheVariants a
 ghost use Rattle.rv_statement.specs.declared.mnemonic.Mnemonic.TheVariants.{Immediate, Li, Call, La, ZeroBranch, Parcel};
 ghost use Rattle.rv_statement.specs.declared.pseudo.ZeroBranchOperation.TheVariants.{Beqz};
 ghost use Rattle.rv_assemble_laws.specs.Coded.{IsCode};
-ghost use Rattle.rv_examples.specs.KnownCode.{without_names, own, number, adds_word, adds_parcel, loads_words, loads_both};
+ghost use Rattle.rv_examples.specs.KnownCode.{without_names, own, number_operands, adds_word, adds_parcel, loads_words, loads_both};
 ghost use Rattle.rv_examples.specs.Refused.{jumps};
-ghost use Rattle.rv_examples.specs.BranchSizes.{beyond, branches, IsLeastSize};
-ghost use Rattle.rv_examples.specs.Parcels.{step, own_step, steps_named, steps_chosen};
+ghost use Rattle.rv_examples.specs.BranchSizes.{beyond, beqz_a0, IsLeastSize};
+ghost use Rattle.rv_examples.specs.Parcels.{sp_16, own_step, steps_named, steps_chosen};
 ghost use Rattle.rv_examples.specs.OpenCode.{with_symbols, to_x, own_to_x, calls_x, loads_x, branches_short, branches_word, branches_over};
 
 /// `addi a0, a0, 5` is a word, and a parcel where compressed code is on.
@@ -20,8 +20,8 @@ pub fn code_is_least()
 
 /// `li a0, 2048` is two instructions: two words, and a parcel and a word where compressed code is on.
 pub fn long_constants_are_two()
-    ensures words { IsCode without_names false Li (number 2048) 8 loads_words 2 }
-    ensures both { IsCode without_names true Li (number 2048) 6 loads_both 2 }
+    ensures words { IsCode without_names false Li (number_operands 2048) 8 loads_words 2 }
+    ensures both { IsCode without_names true Li (number_operands 2048) 6 loads_both 2 }
 {}
 
 /// `call x` is one part of two words, and `la a0, x` two parts of a word each, with compressed code
@@ -45,10 +45,10 @@ pub fn branches_have_three_sizes()
 /// A `c.` statement is the parcel that it names, with compressed code on or off, and also where another one is chosen for
 /// its instruction.
 pub fn parcels_are_named()
-    ensures adds { IsCode without_names false (Parcel parcels.Addi) (number 5) 2 adds_parcel 1 }
-    ensures compressed { IsCode without_names true (Parcel parcels.Addi) (number 5) 2
+    ensures adds { IsCode without_names false (Parcel parcels.Addi) (number_operands 5) 2 adds_parcel 1 }
+    ensures compressed { IsCode without_names true (Parcel parcels.Addi) (number_operands 5) 2
         adds_parcel 1 }
-    ensures steps { IsCode without_names true (Parcel parcels.Addi16sp) step 2 steps_named 1 }
+    ensures steps { IsCode without_names true (Parcel parcels.Addi16sp) sp_16 2 steps_named 1 }
     ensures chosen { IsCode without_names true (Immediate Addi) own_step 2 steps_chosen 1 }
     ensures branch { IsCode with_symbols false (Parcel parcels.Beqz) own_to_x 2 branches_short 1 }
 {}
@@ -62,7 +62,7 @@ pub fn jumps_are_least()
 /// A branch that has a parcel reaches less than 256 bytes in 2 and less than 4096 in 4, and takes 8
 /// from there on.
 pub fn branches_are_least()
-    ensures near { IsLeastSize (branches (beyond 254)) 2 }
-    ensures word { IsLeastSize (branches (beyond 256)) 4 }
-    ensures far { IsLeastSize (branches (beyond 4096)) 8 }
+    ensures near { IsLeastSize (beqz_a0 (beyond 254)) 2 }
+    ensures word { IsLeastSize (beqz_a0 (beyond 256)) 4 }
+    ensures far { IsLeastSize (beqz_a0 (beyond 4096)) 8 }
 {}

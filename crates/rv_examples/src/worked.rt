@@ -18,10 +18,10 @@ ghost use Rattle.rv_chain_laws.specs.SourceListing.{IsSourceListing};
 ghost use Rattle.rv_examples.specs.Data.{hello, hello_map, says_hello, hello_text, figures, figures_map, figures_data, differences, differences_map, differences_data};
 ghost use Rattle.rv_examples.specs.Parcels.{parcel7, parcel7_map};
 ghost use Rattle.rv_examples.specs.CodeAlignment.{two_sections, with_gap, without_gap};
-ghost use Rattle.rv_examples.specs.Regions.{text_sections, text_bytes, rodata_bytes, data_bytes};
+ghost use Rattle.rv_examples.specs.Regions.{text_sections, text_bytes, rodata_bytes, example_data};
 ghost use Rattle.rv_statement.specs.declared.directive.Binding.TheVariants.{Local, Global};
 ghost use Rattle.rv_unit_laws.specs.declared.section_type.SectionType.TheVariants.{Progbits, Nobits, Note};
-ghost use Rattle.rv_unit_laws.specs.Sections.{section_of};
+ghost use Rattle.rv_unit_laws.specs.Sections.{section_with};
 ghost use Rattle.rv_unit_laws.specs.Bindings.{bindings_of};
 ghost use Rattle.rv_source_laws.specs.Compressed.{is_compressed};
 ghost use Rattle.rv_source_laws.specs.Fits.{Fits, Holds, gaps_of};
@@ -148,17 +148,18 @@ pub fn figures_bind()
 
 /// The types of sections: what is given, else what the front of the name says.
 pub fn sections_have_types()
-    ensures note { (section_of (codes ".n") None (Some (codes "note"))).section_type ≡ Note }
-    ensures nobits { (section_of (codes ".n") None (Some (codes "nobits"))).section_type ≡ Nobits }
-    ensures given { (section_of (codes ".bss") None (Some (codes "progbits"))).section_type
+    ensures note { (section_with (codes ".n") None (Some (codes "note"))).section_type ≡ Note }
+    ensures nobits { (section_with (codes ".n") None (Some (codes "nobits"))).section_type
+        ≡ Nobits }
+    ensures given { (section_with (codes ".bss") None (Some (codes "progbits"))).section_type
         ≡ Progbits }
-    ensures zeroed { (section_of (codes ".sbss.x") None None).section_type ≡ Nobits }
-    ensures other { (section_of (codes ".note.x") None None).section_type ≡ Progbits }
+    ensures zeroed { (section_with (codes ".sbss.x") None None).section_type ≡ Nobits }
+    ensures other { (section_with (codes ".note.x") None None).section_type ≡ Progbits }
 {}
 
 /// The bytes of its data: a constant has its latest earlier value.
 pub fn figures_spell()
-    ensures { data_bytes figures figures_map ≡ figures_data }
+    ensures { example_data figures figures_map ≡ figures_data }
 {}
 
 /// A section of code begins at a multiple of the greatest of its alignments: a map without the gap
@@ -178,5 +179,5 @@ pub fn differences_fit()
 
 /// The bytes of its data: a difference of two places is a number, and `|` and `%` bind as GNU as has it.
 pub fn differences_spell()
-    ensures { data_bytes differences differences_map ≡ differences_data }
+    ensures { example_data differences differences_map ≡ differences_data }
 {}

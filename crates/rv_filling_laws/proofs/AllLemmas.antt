@@ -17,7 +17,7 @@ use Rattle.rv_compress.specs.declared.form.Compressed.{Compressed}
 use Rattle.rv_compress.specs.Encoded.{IsEncodedIn, IsEncodedAs}
 use Rattle.rv_pseudo_laws.specs.Code.{Part, Closed, Open, Joined}
 use Rattle.rv_pseudo_laws.specs.Filled.{FieldValue, AreTaken, IsTaken, is_closed, filled, part_bytes}
-use Rattle.rv_pseudo_laws.specs.Runs.{Sized, instructions_of, bytes_of}
+use Rattle.rv_pseudo_laws.specs.Runs.{Sized, instructions_of, sum_of_bytes}
 use Rattle.rv_pseudo_laws.specs.Valid.{IsValidPart}
 use Rattle.rv_pseudo_laws.proofs.FillingLemmas.{filled_valid}
 use Rattle.rv_filling_laws.specs.Parts.{AreFew, IsEncodedPart, IsCallPart, IsNamedPart, AreFillable, AreEncoded, patched_part, patched_parts, sized, sized_part, sized_parts}
@@ -118,7 +118,7 @@ all_few named (l ∷ ls) bytes (front, (rest, whole, own, others)) =
     subst (AreFew (suc (length ls))) (ap (λ n. n + length rest) (sym (form_long named l.instruction l.bytes front own)) ∙ sym (ap length whole ∙ length-append front rest))
     (few_more (length ls) (length rest) l.bytes (two_or_four named l.instruction l.bytes front own) (all_few named ls rest others))
 
-pub all_long : (named : Option Compressed) (ls : List Sized) (bytes : List ℕ) → AreEncoded named ls bytes → bytes_of ls ≡ length bytes
+pub all_long : (named : Option Compressed) (ls : List Sized) (bytes : List ℕ) → AreEncoded named ls bytes → sum_of_bytes ls ≡ length bytes
 all_long named [] bytes h = sym (ap length h)
 all_long named (l ∷ ls) bytes (front, (rest, whole, own, others)) =
     sum_by-cons (λ (l : Sized). l.bytes) l ls ∙ ap (λ n. l.bytes + n) (all_long named ls rest others)

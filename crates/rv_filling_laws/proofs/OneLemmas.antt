@@ -32,7 +32,7 @@ use Rattle.rv_pseudo_laws.specs.Code.{Joined}
 use Rattle.rv_pseudo_laws.specs.Valid.{fills_branch, fills_jump, fills_call, fills_upper, fills_lower, fills_store, fills, IsOpen}
 use Rattle.rv_pseudo_laws.proofs.FormatsLemmas.{branch_format}
 use Rattle.rv_pseudo_laws.proofs.FillingLemmas.{even}
-use Rattle.rv_filling_laws.specs.Parts.{is_call, IsEncodedPart}
+use Rattle.rv_filling_laws.specs.Parts.{fills_call_pair, IsEncodedPart}
 use Rattle.rv_filling_laws.proofs.FormsLemmas.{rebuilt, immediate_opcode, immediate_funct3, load_funct3, store_funct3, branch_funct3, upper_opcode, immediate_form, load_form, store_form, branch_form, upper_form, immediate_selectors, load_selectors, store_selectors, branch_selectors, upper_selector}
 
 -- ---- words
@@ -206,7 +206,7 @@ as_word i bytes (inr (n, short)) = four_not_two n
 word_encoded : (i : Inst) (f : Form) → form i ≡ f → IsEncodedIn i 4 (word_bytes f)
 word_encoded i f e = inl (refl, ap word_bytes (sym e))
 
-call_filled_by : (f g : Format) (k : Kind) (v : ℤ) (i j : Inst) (first second : List ℕ) → IsValidFormat f → IsValidFormat g → is_call k f g ≡ true → Takes k v
+call_filled_by : (f g : Format) (k : Kind) (v : ℤ) (i j : Inst) (first second : List ℕ) → IsValidFormat f → IsValidFormat g → fills_call_pair k f g ≡ true → Takes k v
     → first ≡ word_bytes (form (instruction_of f)) → second ≡ word_bytes (form (instruction_of g))
     → IsEncodedPart None (Joined k (format_with f v i) (format_with g v j)) (patched k v (first ++ second))
 call_filled_by (format.Upper operation x) (format.Jalr y) k v i j first second valid valid' e t a b =
@@ -225,14 +225,14 @@ call_filled_by (format.Jal x) g k v i j first second valid valid' e t a b = absu
 call_filled_by (format.Upper operation x) g k v i j first second valid valid' e t a b = absurd (cc)
 call_filled_by f g k v i j first second valid valid' e t a b = absurd (cc)
 
-pub call_filled : (k : Kind) (v : ℤ) (i j : Inst) (bytes : List ℕ) → IsOpen k i → IsOpen k j → is_call k (format_of i) (format_of j) ≡ true → Takes k v
+pub call_filled : (k : Kind) (v : ℤ) (i j : Inst) (bytes : List ℕ) → IsOpen k i → IsOpen k j → fills_call_pair k (format_of i) (format_of j) ≡ true → Takes k v
     → IsEncodedPart None (Joined k i j) bytes → IsEncodedPart None (Joined k (with_value v i) (with_value v j)) (patched k v bytes)
 call_filled k v i j bytes (valid, a) (valid', b) e t (first, (second, x, y, whole)) =
     subst (λ l. IsEncodedPart None (Joined k (with_value v i) (with_value v j)) (patched k v l)) (sym whole)
     (call_filled_by (format_of i) (format_of j) k v i j first second valid valid' e t
     (as_word i first x ∙ ap (λ i. word_bytes (form i)) (sym (rebuilt i))) (as_word j second y ∙ ap (λ i. word_bytes (form i)) (sym (rebuilt j))))
 
-pub call_width : (k : Kind) (f g : Format) → is_call k f g ≡ true → width_of k ≡ 8
+pub call_width : (k : Kind) (f g : Format) → fills_call_pair k f g ≡ true → width_of k ≡ 8
 call_width k (format.Upper operation x) (format.Jalr y) e = (call_kind k e).1
 call_width k (format.Upper operation x) g e = absurd (cc)
 call_width k (format.Jal x) g e = absurd (cc)

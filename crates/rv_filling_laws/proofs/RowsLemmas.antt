@@ -14,7 +14,7 @@ use Rattle.rv_isa_laws.specs.Halves.{hi, lo}
 use Rattle.rv_compress.specs.declared.form.Compressed.{Compressed}
 use Rattle.rv_compress.specs.declared.parcel.ParcelOperation.TheVariants as parcels
 use Rattle.rv_compress.specs.declared.parcel.RegisterSet.TheVariants.{Short}
-use Rattle.rv_compress.specs.Mnemonics.{is_in}
+use Rattle.rv_compress.specs.Mnemonics.{is_of_set}
 use Rattle.rv_compress.specs.Parcel.{expansion}
 use Rattle.rv_statement.specs.declared.mnemonic.Mnemonic.{Mnemonic}
 use Rattle.rv_statement.specs.declared.mnemonic.Mnemonic.TheVariants.{Registers, Immediate, Shift, Upper, Load, Store, Branch, Jal, Jalr, LoadReserved, Atomic, Fence, FenceTso, Ecall, Ebreak, Nop, Unary, Compare, ZeroBranch, SwappedBranch, J, Jr, Ret, La, Li, Call, Tail, Jump, Parcel}
@@ -26,7 +26,7 @@ use Rattle.rv_statement.specs.declared.pseudo.Function.TheVariants.{Hi, Lo, Pcre
 use Rattle.rv_statement.specs.Statement.{Operand, Register, Value, Applied, Target, Accesses}
 use Rattle.rv_parse_laws.specs.Syntax.{with_constant}
 use Rattle.rv_pseudo_laws.specs.Li.{li}
-use Rattle.rv_pseudo_laws.specs.Code.{Part, Closed, Open, Joined, Constants, i_type, s_type, b_type, u_type, shift_by, jalr, jal, auipc, unary, inverted, branch, jump, near, far, through, zero_branch, swapped_branch, by_number, by_part, signed_12, upper_20, number_of, by_amount, by_constant, named_form, short_branch, code}
+use Rattle.rv_pseudo_laws.specs.Code.{Part, Closed, Open, Joined, Constants, i_type, s_type, b_type, u_type, shift_by, jalr, jal, auipc, unary, inverted, branch, jump, near, far, through, zero_branch, swapped_branch, by_number, by_part, signed_12, upper_20, constant_number, by_amount, by_constant, named_form, short_branch, code}
 use Rattle.rv_pseudo_laws.proofs.ParcelsLemmas.{named_code}
 use Rattle.rv_filling_laws.specs.Parts.{IsCallPart, IsNamedPart}
 
@@ -129,7 +129,7 @@ short_by true operation rs = branch_calls 2 operation rs 0
 short_by false operation rs = tt
 
 short_calls : (operation : BranchOperation) (rs : ℕ) → AreCalls (short_branch operation rs)
-short_calls operation rs = short_by (is_in Short rs) operation rs
+short_calls operation rs = short_by (is_of_set Short rs) operation rs
 
 -- ---- all rows
 
@@ -172,7 +172,7 @@ rows_calls v rvc bytes Nop [] = (tt, tt)
 rows_calls v rvc bytes (Unary operation) (Register rd ∷ Register rs ∷ []) = closed_calls (unary rvc operation rd rs)
 rows_calls v rvc bytes (Compare operation) (Register rd ∷ Register a ∷ Register b ∷ []) = (tt, tt)
 rows_calls v rvc bytes La (Register rd ∷ Target e ∷ []) = (tt, (tt, tt))
-rows_calls v rvc bytes Li (Register rd ∷ o ∷ []) = sequence_calls rd (number_of v o)
+rows_calls v rvc bytes Li (Register rd ∷ o ∷ []) = sequence_calls rd (constant_number v o)
 rows_calls v rvc bytes Call (Register rd ∷ Target e ∷ []) = through_calls rd (far bytes rd rd) (far_calls bytes rd rd)
 rows_calls v rvc bytes Call (Target e ∷ []) = far_calls bytes 1 1
 rows_calls v rvc bytes Tail (Target e ∷ []) = far_calls bytes 0 6

@@ -30,15 +30,15 @@ IsEncodedPart named (Joined k i j) bytes =
     × IsEncodedIn i 4 first × IsEncodedIn j 4 second × (bytes ≡ first ++ second))
 
 -- a kind of a call fills an upper part and the `jalr` after it
-abbrev pub is_call : Kind → Format → Format → Bool
-is_call k (format.Upper operation x) (format.Jalr y) = fills_call k
-is_call k f g = false
+abbrev pub fills_call_pair : Kind → Format → Format → Bool
+fills_call_pair k (format.Upper operation x) (format.Jalr y) = fills_call k
+fills_call_pair k f g = false
 
 -- two instructions that are filled as one are those of a call
 abbrev pub IsCallPart : Part → Type 0
 IsCallPart (Closed i) = ⊤
 IsCallPart (Open k i) = ⊤
-IsCallPart (Joined k i j) = is_call k (format_of i) (format_of j) ≡ true
+IsCallPart (Joined k i j) = fills_call_pair k (format_of i) (format_of j) ≡ true
 
 -- a form is named of closed parts alone
 abbrev pub IsNamedPart : Option Compressed → Part → Type 0

@@ -17,8 +17,8 @@ ghost use Rattle.rv_statement.specs.Statement.{Operand};
 ghost use Rattle.rv_pseudo_laws.specs.Code.{Part, Joined, Constants, named_form, code};
 ghost use Rattle.rv_pseudo_laws.specs.Filled.{FieldValue, AreTaken, filled, is_closed, part_bytes};
 ghost use Rattle.rv_pseudo_laws.specs.Valid.{IsOpen};
-ghost use Rattle.rv_pseudo_laws.specs.Runs.{Sized, bytes_of, instructions_of};
-ghost use Rattle.rv_filling_laws.specs.Parts.{is_call, AreFew, IsEncodedPart, IsCallPart, IsNamedPart, AreFillable, AreEncoded, patched_parts, sized_parts};
+ghost use Rattle.rv_pseudo_laws.specs.Runs.{Sized, sum_of_bytes, instructions_of};
+ghost use Rattle.rv_filling_laws.specs.Parts.{fills_call_pair, AreFew, IsEncodedPart, IsCallPart, IsNamedPart, AreFillable, AreEncoded, patched_parts, sized_parts};
 
 /// An instruction whose open field is patched with a value that it takes is the instruction with that value, in as many
 /// bytes; so are both of a call.
@@ -27,7 +27,7 @@ pub fn open_fields_fill()
         IsEncodedIn i (width_of k) bytes →
         IsEncodedIn (with_value v i) (width_of k) (patched k v bytes) }
     ensures calls { (named : Option Compressed) (k : Kind) (v : ℤ) (i j : Inst) (bytes : List ℕ) →
-        IsOpen k i → IsOpen k j → is_call k (format_of i) (format_of j) ≡ true → Takes k v →
+        IsOpen k i → IsOpen k j → fills_call_pair k (format_of i) (format_of j) ≡ true → Takes k v →
         IsEncodedPart named (Joined k i j) bytes →
         IsEncodedPart named (Joined k (with_value v i) (with_value v j)) (patched k v bytes) }
 {}
@@ -68,7 +68,7 @@ pub fn parts_fill()
 /// How many bytes there are: of instructions one after another, and of an open part as its relocation's kind says.
 pub fn sizes_agree()
     ensures total { (named : Option Compressed) (ls : List Sized) (bytes : List ℕ) →
-        AreEncoded named ls bytes → bytes_of ls ≡ length bytes }
+        AreEncoded named ls bytes → sum_of_bytes ls ≡ length bytes }
     ensures few { (named : Option Compressed) (ls : List Sized) (bytes : List ℕ) →
         AreEncoded named ls bytes → AreFew (length ls) (length bytes) }
     ensures parts { (named : Option Compressed) (p : Part) (bytes : List ℕ) →

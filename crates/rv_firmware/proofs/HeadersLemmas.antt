@@ -11,7 +11,7 @@ use Rattle.rv_elf.specs.FirstFault.{first_true, header_tests, open_tests, type_t
 use Rattle.rv_elf.specs.FirstTrue.{no_fault_parts}
 use Rattle.rv_elf.specs.Sections.{records, program_headers}
 use Rattle.rv_firmware.specs.Blocks.{Block}
-use Rattle.rv_firmware.specs.FirmwareOf.{is_kept, is_cut, block_in, firmware_tests, contents_tests}
+use Rattle.rv_firmware.specs.FirmwareOf.{is_flashed, is_cut, block_in, firmware_tests, contents_tests}
 
 abbrev pub headers_from : ℕ → ℕ → List ℕ → List ProgramHeader
 headers_from count place file = records program_header_at 56 count place file
@@ -37,7 +37,7 @@ pub all_cut : (test : ProgramHeader → Bool) (count i place : ℕ) (file : List
 all_cut test count i place file below = ap (list_all test) (headers_cut count i place file below)
 
 abbrev pub kept : List ℕ → List ProgramHeader → List Block
-kept file ps = map (block_in file) (filter is_kept ps)
+kept file ps = map (block_in file) (filter is_flashed ps)
 
 pub kept_cut : (count i place : ℕ) (file : List ℕ) → i < count →
     kept file (headers_from (count - i) (place + 56 * i) file)
@@ -46,8 +46,8 @@ kept_cut count i place file below =
     let here = program_header_at (place + 56 * i) file in
     let rest = headers_from (count - (i + 1)) (place + 56 * (i + 1)) file in
     ap (kept file) (headers_cut count i place file below)
-    ∙ ap (map (block_in file)) (filter-append is_kept (here ∷ []) rest)
-    ∙ map-append (block_in file) (filter is_kept (here ∷ [])) (filter is_kept rest)
+    ∙ ap (map (block_in file)) (filter-append is_flashed (here ∷ []) rest)
+    ∙ map-append (block_in file) (filter is_flashed (here ∷ [])) (filter is_flashed rest)
 
 -- in a file without a fault no contents lie past its end
 pub none_is_cut : (file : List ℕ) → first_true (firmware_tests file) ≡ None → list_any (is_cut file) (program_headers file) ≡ false

@@ -21,8 +21,8 @@ abbrev pub firmware_of : DeclaredFirmware → Firmware
 firmware_of f = record { blocks = map block_of f.blocks.items; entry = f.entry }
 
 -- what is loaded and has bytes in the file
-abbrev pub is_kept : ProgramHeader → Bool
-is_kept p = is_load p && not (p.p_filesz == 0)
+abbrev pub is_flashed : ProgramHeader → Bool
+is_flashed p = is_load p && not (p.p_filesz == 0)
 
 -- the contents of a segment, where they are kept: at its physical address
 abbrev pub block_in : List ℕ → ProgramHeader → Block
@@ -30,7 +30,7 @@ block_in file p = record { address = p.p_paddr; bytes = take p.p_filesz (drop p.
 
 abbrev pub firmware_in : List ℕ → Firmware
 firmware_in file = record {
-  blocks = map (block_in file) (filter is_kept (program_headers file));
+  blocks = map (block_in file) (filter is_flashed (program_headers file));
   entry = number_in e_entry 0 file;
 }
 
@@ -48,7 +48,7 @@ firmware_tests file =
 
 -- all addresses have 32 bits
 abbrev pub is_low : ProgramHeader → Bool
-is_low p = not (is_kept p) || nat_le (p.p_paddr + p.p_filesz) (2 ^ 32)
+is_low p = not (is_flashed p) || nat_le (p.p_paddr + p.p_filesz) (2 ^ 32)
 
 abbrev pub are_low : List ℕ → Bool
 are_low file =

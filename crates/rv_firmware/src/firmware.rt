@@ -9,7 +9,7 @@ ghost use Rattle.rv_elf.specs.FirstFault.{Finds};
 ghost use Rattle.rv_elf.specs.Sections.{program_headers};
 ghost use Rattle.rv_firmware.specs.declared.fault.FirmwareFault.TheVariants.{Memory};
 ghost use Rattle.rv_firmware.specs.Blocks.{block_of};
-ghost use Rattle.rv_firmware.specs.FirmwareOf.{firmware_of, firmware_in, firmware_tests, is_kept, is_cut, is_low, are_low, block_in, IsRefused};
+ghost use Rattle.rv_firmware.specs.FirmwareOf.{firmware_of, firmware_in, firmware_tests, is_flashed, is_cut, is_low, are_low, block_in, IsRefused};
 
 use crate::block::Block;
 use crate::fault::FirmwareFault;
@@ -129,7 +129,7 @@ fn is_low(program: ProgramHeader) -> bool
 
 /// Whether a program header has bytes in the file that are loaded.
 fn is_kept(program: ProgramHeader) -> bool
-    ensures { result ≡ is_kept program }
+    ensures { result ≡ is_flashed program }
 {
     program.p_type == PT_LOAD && program.p_filesz != 0
 }
@@ -141,7 +141,7 @@ fn blocks<'a>(alloc: Global, view: &ElfView<'a>) -> Result<Vec<Block<'a>>, Alloc
     requires low { are_low view.now.file.now ≡ true }
     ensures { IfOk result (λ blocks. map block_of blocks.items
         ≡ map (block_in view.now.file.now)
-        (filter is_kept (program_headers view.now.file.now))) }
+        (filter is_flashed (program_headers view.now.file.now))) }
 {
     let count = view.header().e_phnum;
     let mut blocks = Vec::new(alloc);
@@ -161,7 +161,7 @@ fn put_block<'a>(
     requires low { is_low program ≡ true }
     ensures { OnOk result (map block_of blocks.new.items
         ≡ map block_of blocks.old.items
-        ++ map (block_in file.now) (filter is_kept (program ∷ []))) }
+        ++ map (block_in file.now) (filter is_flashed (program ∷ []))) }
 {
     if !is_kept(program) {
         return Ok(());

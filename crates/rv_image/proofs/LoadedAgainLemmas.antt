@@ -19,7 +19,7 @@ use Rattle.rv_image.specs.ImageOf.{ImageOf, segment_in}
 use Rattle.rv_elf.specs.FirstFault.{first_true, header_tests, table_tests, type_tests}
 use Rattle.rv_elf.specs.Sections.{is_past}
 use Rattle.rv_image.specs.FirstFault.{first_fault, load_tests, programs_tests, whole_tests, loaded_size, programs_from}
-use Rattle.rv_image.specs.Executable.{Part, all_parts, parts, has_memory, memory_size_of, header_of, program_of, program_bytes, exe_of, linked_image}
+use Rattle.rv_image.specs.Executable.{Part, all_parts, parts_with_memory, has_memory, memory_size_of, header_of, program_of, program_bytes, exe_of, linked_image}
 use Rattle.rv_elf.specs.FirstTrue.{first_true_none}
 use Rattle.rv_image.proofs.PartsLemmas.{AllFit, programs_read, length-programs}
 use Rattle.rv_image.proofs.ContentsLemmas.{Ascending, AllStand, extends, all_stand, filter_stand, filter_ascend}
@@ -37,7 +37,7 @@ small_flag : (b : Bool) → (if b then 1 else 0) < 2 ^ 32
 small_flag true = omega arith
 small_flag false = omega arith
 
-header_reads : (l : Linked) (rest : List ℕ) → l.map.entry < 2 ^ 64 → length (parts l) < 2 ^ 16 → HasHeader (header_of l) (file_header_bytes (header_of l) ++ rest)
+header_reads : (l : Linked) (rest : List ℕ) → l.map.entry < 2 ^ 64 → length (parts_with_memory l) < 2 ^ 16 → HasHeader (header_of l) (file_header_bytes (header_of l) ++ rest)
 unfolding file_header_bytes number_in
 header_reads l rest small few = record {
   magic = refl;
@@ -89,16 +89,16 @@ type_sound l file reads =
     let executable : not (number_in e_type 0 file == et_exec) ≡ false = ap (λ h. not (h.e_type == et_exec)) reads.fields in
     (λ i. first_true ((executable i, NotExecutable) ∷ []))
 
-table_sound : (l : Linked) (file : List ℕ) → HasHeader (header_of l) file → length (parts l) ≤ 3 → 64 + 56 * length (parts l) ≤ length file → first_true (table_tests file) ≡ None
+table_sound : (l : Linked) (file : List ℕ) → HasHeader (header_of l) file → length (parts_with_memory l) ≤ 3 → 64 + 56 * length (parts_with_memory l) ≤ length file → first_true (table_tests file) ≡ None
 unfolding table_tests
 table_sound l file reads few long =
     let sections : nat_le shn_loreserve (section_count file) ≡ false = ap (λ h. nat_le shn_loreserve h.e_shnum) reads.fields in
-    let programs_few : (program_count file == pn_xnum) ≡ false = ap (λ h. h.e_phnum == pn_xnum) reads.fields ∙ ne_eqb (length (parts l)) pn_xnum (λ e. omega arith) in
+    let programs_few : (program_count file == pn_xnum) ≡ false = ap (λ h. h.e_phnum == pn_xnum) reads.fields ∙ ne_eqb (length (parts_with_memory l)) pn_xnum (λ e. omega arith) in
     let program_size : (not (program_count file == 0) && not (number_in e_phentsize 0 file == 56)) ≡ false = and_right _ _ (ap (λ h. not (h.e_phentsize == 56)) reads.fields) in
     let section_size : (not (section_count file == 0) && not (number_in e_shentsize 0 file == 64)) ≡ false = and_left _ _ (ap (λ h. not (h.e_shnum == 0)) reads.fields) in
     let names : (not (names_section file == 0) && nat_le (section_count file) (names_section file)) ≡ false = and_left _ _ (ap (λ h. not (h.e_shstrndx == 0)) reads.fields) in
     let program_end : is_past file (number_in e_phoff 0 file) (56 * program_count file) ≡ false =
-    ap (λ h. is_past file h.e_phoff (56 * h.e_phnum)) reads.fields ∙ within file 64 (56 * length (parts l)) long in
+    ap (λ h. is_past file h.e_phoff (56 * h.e_phnum)) reads.fields ∙ within file 64 (56 * length (parts_with_memory l)) long in
     let section_end : is_past file (number_in e_shoff 0 file) (64 * section_count file) ≡ false = ap (λ h. is_past file (number_in e_shoff 0 file) (64 * h.e_shnum)) reads.fields in
     (λ i. first_true ((sections i, BadTable) ∷ (programs_few i, BadTable) ∷ (program_size i, BadTable) ∷ (section_size i, BadTable) ∷ (names i, BadTable)
     ∷ (program_end i, Truncated) ∷ (section_end i, Truncated) ∷ []))
@@ -176,20 +176,20 @@ module _ (l : Linked) (laid : IsLaidOut l) where
     ),
   )
 
-few_parts : (l : Linked) → length (parts l) ≤ 3
+few_parts : (l : Linked) → length (parts_with_memory l) ≤ 3
 few_parts l = length-filtered (all_parts l)
 
 -- the header and the program headers end before the first contents
-pub short : (l : Linked) → length (file_header_bytes (header_of l) ++ flat_map (program_bytes l.map.text.start) (parts l)) ≤ 0x1000
+pub short : (l : Linked) → length (file_header_bytes (header_of l) ++ flat_map (program_bytes l.map.text.start) (parts_with_memory l)) ≤ 0x1000
 short l =
-    let table = flat_map (program_bytes l.map.text.start) (parts l) in
-    omega (arith, length-append (file_header_bytes (header_of l)) table, length-header (header_of l), length-programs l.map.text.start (parts l), few_parts l)
+    let table = flat_map (program_bytes l.map.text.start) (parts_with_memory l) in
+    omega (arith, length-append (file_header_bytes (header_of l)) table, length-header (header_of l), length-programs l.map.text.start (parts_with_memory l), few_parts l)
 
 -- the file is the header, then the program headers, then more
-file_is : (l : Linked) → (extra : List ℕ) × (exe_of l ≡ file_header_bytes (header_of l) ++ (flat_map (program_bytes l.map.text.start) (parts l) ++ extra))
+file_is : (l : Linked) → (extra : List ℕ) × (exe_of l ≡ file_header_bytes (header_of l) ++ (flat_map (program_bytes l.map.text.start) (parts_with_memory l) ++ extra))
 file_is l =
     let start = l.map.text.start in
-    let table = flat_map (program_bytes start) (parts l) in
+    let table = flat_map (program_bytes start) (parts_with_memory l) in
     let more = extends start (file_header_bytes (header_of l) ++ table) (all_parts l) in
     (more.0, more.1 ∙ append_assoc (file_header_bytes (header_of l)) table more.0)
 
@@ -199,33 +199,33 @@ behind_header l rest = refl
 
 module _ (l : Linked) (laid : IsLaidOut l) where
   pub reads : HasHeader (header_of l) (exe_of l)
-  reads = let whole = file_is l in rw whole.1 (header_reads l (flat_map (program_bytes l.map.text.start) (parts l) ++ whole.0) laid.entry (omega (arith, few_parts l)))
+  reads = let whole = file_is l in rw whole.1 (header_reads l (flat_map (program_bytes l.map.text.start) (parts_with_memory l) ++ whole.0) laid.entry (omega (arith, few_parts l)))
 
-  pub long : 64 + 56 * length (parts l) ≤ length (exe_of l)
+  pub long : 64 + 56 * length (parts_with_memory l) ≤ length (exe_of l)
   long =
       let whole = file_is l in
-      let table = flat_map (program_bytes l.map.text.start) (parts l) in
-      rw whole.1 (omega (arith, length-append (file_header_bytes (header_of l)) (table ++ whole.0), length-append table whole.0, length-header (header_of l), length-programs l.map.text.start (parts l)))
+      let table = flat_map (program_bytes l.map.text.start) (parts_with_memory l) in
+      rw whole.1 (omega (arith, length-append (file_header_bytes (header_of l)) (table ++ whole.0), length-append table whole.0, length-header (header_of l), length-programs l.map.text.start (parts_with_memory l)))
 
-  pub programs_are : program_headers (exe_of l) ≡ map (program_of l.map.text.start) (parts l)
+  pub programs_are : program_headers (exe_of l) ≡ map (program_of l.map.text.start) (parts_with_memory l)
   programs_are =
       let whole = file_is l in
-      let table = flat_map (program_bytes l.map.text.start) (parts l) in
+      let table = flat_map (program_bytes l.map.text.start) (parts_with_memory l) in
       let here : drop 64 (exe_of l) ≡ table ++ whole.0 = ap (drop 64) whole.1 ∙ behind_header l (table ++ whole.0) in
       ap (λ h. programs_from h.e_phnum h.e_phoff (exe_of l)) reads.fields
-      ∙ programs_read l.map.text.start (parts l) whole.0 64 (exe_of l) (filter_fit l.map.text.start (all_parts l) (fit l laid)) here
+      ∙ programs_read l.map.text.start (parts_with_memory l) whole.0 64 (exe_of l) (filter_fit l.map.text.start (all_parts l) (fit l laid)) here
 
-  pub stand : AllStand l.map.text.start (exe_of l) (parts l)
+  pub stand : AllStand l.map.text.start (exe_of l) (parts_with_memory l)
   stand =
       let start = l.map.text.start in
-      let table = flat_map (program_bytes start) (parts l) in
+      let table = flat_map (program_bytes start) (parts_with_memory l) in
       let room : length (file_header_bytes (header_of l) ++ table) ≤ 0x1000 + (start - start) = omega (arith, short l) in
       filter_stand start (exe_of l) (all_parts l) (all_stand start (file_header_bytes (header_of l) ++ table) (all_parts l) start stack_start (omega arith) (ascend l laid) room)
 
   pub memory_fits : loaded_size (program_headers (exe_of l)) ≤ memory_limit
   memory_fits =
       let sizes : loaded_size (program_headers (exe_of l)) ≡ sum_by memory_size_of (all_parts l) =
-      ap loaded_size programs_are ∙ loaded_parts l.map.text.start (parts l) ∙ filter_memory (all_parts l) in
+      ap loaded_size programs_are ∙ loaded_parts l.map.text.start (parts_with_memory l) ∙ filter_memory (all_parts l) in
       rw sizes (omega (arith, laid.limit, laid.data_fills, laid.bss_after_data, laid.bss_ends))
 
   pub reload_fault : first_fault (exe_of l) ≡ None
@@ -234,7 +234,7 @@ module _ (l : Linked) (laid : IsLaidOut l) where
       let file = exe_of l in
       let tests = programs_tests file [] (program_headers file) in
       let sound : first_true tests ≡ None = ap (λ ps. first_true (programs_tests file [] ps)) programs_are
-      ∙ programs_sound l.map.text.start file [] (parts l) l.map.text.start stand refl (filter_ascend l.map.text.start (all_parts l) stack_start (ascend l laid)) in
+      ∙ programs_sound l.map.text.start file [] (parts_with_memory l) l.map.text.start stand refl (filter_ascend l.map.text.start (all_parts l) stack_start (ascend l laid)) in
       first_true_none (header_tests file) (type_tests file ++ (table_tests file ++ (tests ++ whole_tests file))) (header_sound l file reads (omega (arith, long)))
       ∙ first_true_none (type_tests file) (table_tests file ++ (tests ++ whole_tests file)) (type_sound l file reads)
       ∙ first_true_none (table_tests file) (tests ++ whole_tests file) (table_sound l file reads (few_parts l) long)
@@ -251,8 +251,8 @@ module _ (l : Linked) (laid : IsLaidOut l) where
     riscv = ap (λ h. h.e_machine) reads.fields;
     entry = sym (ap (λ h. h.e_entry) reads.fields);
     segments = sym (ap (λ ps. map (segment_in (exe_of l)) (filter is_load ps)) programs_are
-        ∙ ap (map (segment_in (exe_of l))) (filter_loads l.map.text.start (parts l))
-        ∙ segments_same l.map.text.start (exe_of l) (parts l) stand);
+        ∙ ap (map (segment_in (exe_of l))) (filter_loads l.map.text.start (parts_with_memory l))
+        ∙ segments_same l.map.text.start (exe_of l) (parts_with_memory l) stand);
   }
 
 -- a file has one image

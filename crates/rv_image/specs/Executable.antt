@@ -18,8 +18,8 @@ pub record Part : Type 0 where
   pub zeros : ℕ
   pub flags : ℕ
 
-abbrev pub part_of : DeclaredPart → Part
-part_of part =
+abbrev pub segment_part : DeclaredPart → Part
+segment_part part =
     record {
       address = part.address;
       stored = part.stored.now;
@@ -46,8 +46,8 @@ abbrev pub has_memory : Part → Bool
 has_memory part = not (memory_size_of part == 0)
 
 -- those that have memory
-abbrev pub parts : Linked → List Part
-parts l = filter has_memory (all_parts l)
+abbrev pub parts_with_memory : Linked → List Part
+parts_with_memory l = filter has_memory (all_parts l)
 
 -- where the file has a segment: text, which begins at this start, at 1000h, the others as far
 -- after it as in memory
@@ -66,7 +66,7 @@ header_of l = record {
   e_flags = if l.rvc then ef_riscv_rvc else 0;
   e_ehsize = file_header_size;
   e_phentsize = program_header_size;
-  e_phnum = length (parts l);
+  e_phnum = length (parts_with_memory l);
   e_shentsize = 0;
   e_shnum = 0;
   e_shstrndx = 0;
@@ -104,7 +104,8 @@ with_parts start file (part ∷ rest) =
 abbrev pub exe_of : Linked → List ℕ
 exe_of l =
     with_parts l.map.text.start
-    (file_header_bytes (header_of l) ++ flat_map (program_bytes l.map.text.start) (parts l))
+    (file_header_bytes (header_of l)
+    ++ flat_map (program_bytes l.map.text.start) (parts_with_memory l))
     (all_parts l)
 
 abbrev pub segment_of_part : Part → Segment
@@ -124,5 +125,5 @@ linked_image l = record {
         address = part.address;
         bytes = part.stored ++ replicate part.zeros 0;
         flags = part.flags;
-      }) (parts l);
+      }) (parts_with_memory l);
 }

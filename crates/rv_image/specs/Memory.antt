@@ -21,14 +21,14 @@ byte_in None a = 0
 byte_in (Some s) a = slice_index s.bytes (a - s.address)
 
 -- PF_X is 1, PF_W is 2, PF_R is 4
-abbrev pub has_flag : ℕ → Right → Bool
-has_flag flags Execute = flags % 2 == 1
-has_flag flags Write = flags / 2 % 2 == 1
-has_flag flags Read = flags / 4 % 2 == 1
+abbrev pub gives_right : ℕ → Right → Bool
+gives_right flags Execute = flags % 2 == 1
+gives_right flags Write = flags / 2 % 2 == 1
+gives_right flags Read = flags / 4 % 2 == 1
 
 abbrev pub right_in : Option Segment → Right → Bool
 right_in None right = false
-right_in (Some s) right = has_flag s.flags right
+right_in (Some s) right = gives_right s.flags right
 
 -- the stack can be read and written
 abbrev pub in_stack : ℕ → Right → Bool

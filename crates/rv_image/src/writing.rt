@@ -2,7 +2,7 @@
 
 ghost use Rattle.std.specs.Prelude.{◌≡◌, ◌<◌, ◌≤◌, ◌+◌, ◌^◌, length, filter, flat_map, [], ◌∷◌, ◌++◌, IfOk, OnOk, ◌-◌};
 ghost use Rattle.rv_elf.specs.Numbers.{pf_x, pf_w, pf_r};
-ghost use Rattle.rv_image.specs.Executable.{exe_of, parts, has_memory, header_of, program_of, program_bytes, with_contents, with_parts, all_parts, offset_of, part_of, memory_size_of};
+ghost use Rattle.rv_image.specs.Executable.{exe_of, parts_with_memory, has_memory, header_of, program_of, program_bytes, with_contents, with_parts, all_parts, offset_of, segment_part, memory_size_of};
 ghost use Rattle.rv_image.specs.Linked.{linked_of};
 
 use crate::linked::Linked;
@@ -58,7 +58,7 @@ fn header(linked: &Linked) -> FileHeader
 
 /// How many segments have memory.
 fn count(linked: &Linked) -> u16
-    ensures { result ≡ length (parts (linked_of linked.now)) }
+    ensures { result ≡ length (parts_with_memory (linked_of linked.now)) }
 {
     let text = u16::from(text(linked).has_memory());
     let rodata = u16::from(rodata(linked).has_memory());
@@ -70,7 +70,8 @@ fn count(linked: &Linked) -> u16
 fn put_programs(file: &mut ElfWriter, linked: &Linked) -> Result<(), AllocError>
     ensures bytes { OnOk result
         (file.new ≡ file.old
-        ++ flat_map (program_bytes linked.now.map.text.start) (parts (linked_of linked.now))) }
+        ++ flat_map (program_bytes linked.now.map.text.start)
+        (parts_with_memory (linked_of linked.now))) }
 {
     let start = linked.map.text.start;
     put_program(file, start, text(linked))?;
@@ -94,7 +95,7 @@ fn put_parts(file: &mut ElfWriter, linked: &Linked) -> Result<(), AllocError>
 }
 
 fn text(linked: &Linked) -> Part<'_>
-    ensures { part_of result
+    ensures { segment_part result
         ≡ record {
           address = linked.now.map.text.start;
           stored = linked.now.text.items;
@@ -111,7 +112,7 @@ fn text(linked: &Linked) -> Part<'_>
 }
 
 fn rodata(linked: &Linked) -> Part<'_>
-    ensures { part_of result
+    ensures { segment_part result
         ≡ record {
           address = linked.now.map.rodata.start;
           stored = linked.now.rodata.items;
@@ -128,7 +129,7 @@ fn rodata(linked: &Linked) -> Part<'_>
 }
 
 fn data(linked: &Linked) -> Part<'_>
-    ensures { part_of result
+    ensures { segment_part result
         ≡ record {
           address = linked.now.map.data.start;
           stored = linked.now.data.items;
@@ -148,14 +149,14 @@ fn data(linked: &Linked) -> Part<'_>
 impl Part<'_> {
     /// The bytes of memory that it has.
     fn memory_size(&self) -> u64
-        requires { memory_size_of (part_of self.now) < 2 ^ 64 }
-        ensures { result ≡ memory_size_of (part_of self.now) }
+        requires { memory_size_of (segment_part self.now) < 2 ^ 64 }
+        ensures { result ≡ memory_size_of (segment_part self.now) }
     {
         self.stored.len() as u64 + self.zeros
     }
 
     fn has_memory(&self) -> bool
-        ensures { result ≡ has_memory (part_of self.now) }
+        ensures { result ≡ has_memory (segment_part self.now) }
     {
         !self.stored.is_empty() || self.zeros > 0
     }
@@ -163,11 +164,11 @@ impl Part<'_> {
 
 /// A program header, for a part that has memory.
 fn put_program(file: &mut ElfWriter, start: u64, part: Part) -> Result<(), AllocError>
-    requires below { memory_size_of (part_of part) < 2 ^ 64 }
+    requires below { memory_size_of (segment_part part) < 2 ^ 64 }
     requires after { start ≤ part.address }
     requires far { part.address < 2 ^ 63 }
     ensures bytes { OnOk result (file.new ≡ file.old
-        ++ flat_map (program_bytes start) (filter has_memory (part_of part.entry ∷ []))) }
+        ++ flat_map (program_bytes start) (filter has_memory (segment_part part.entry ∷ []))) }
 {
     if !part.has_memory() {
         return Ok(());
@@ -178,10 +179,10 @@ fn put_program(file: &mut ElfWriter, start: u64, part: Part) -> Result<(), Alloc
 
 /// The program header of a part.
 fn program_header(start: u64, part: Part) -> ProgramHeader
-    requires below { memory_size_of (part_of part) < 2 ^ 64 }
+    requires below { memory_size_of (segment_part part) < 2 ^ 64 }
     requires after { start ≤ part.address }
     requires far { part.address < 2 ^ 63 }
-    ensures { result ≡ program_of start (part_of part.entry) }
+    ensures { result ≡ program_of start (segment_part part.entry) }
 {
     ProgramHeader {
         p_type: PT_LOAD,
@@ -199,12 +200,13 @@ fn program_header(start: u64, part: Part) -> ProgramHeader
 fn put_part(file: &mut ElfWriter, start: u64, part: Part) -> Result<(), AllocError>
     requires after { start ≤ part.address }
     requires far { part.address < 2 ^ 63 }
-    requires room { length file.old ≤ offset_of start (part_of part) }
+    requires room { length file.old ≤ offset_of start (segment_part part) }
     ensures bytes { OnOk result
         (file.new ≡ with_contents file.old
-        (offset_of start (part_of part.entry)) part.entry.stored.now) }
+        (offset_of start (segment_part part.entry)) part.entry.stored.now) }
     ensures length { OnOk result
-        (length file.new ≤ offset_of start (part_of part.entry) + length part.entry.stored.now) }
+        (length file.new
+        ≤ offset_of start (segment_part part.entry) + length part.entry.stored.now) }
 {
     if part.stored.is_empty() {
         return Ok(());

@@ -18,7 +18,7 @@ use Rattle.rv_statement.specs.declared.statement.Plain.TheVariants as plains
 use Rattle.rv_statement.specs.Statement.{Expression}
 use Rattle.rv_statement.specs.View.{plain_of, parcel_registers, with_operand}
 use Rattle.rv_parse_laws.specs.Syntax.{with_constant}
-use Rattle.rv_pseudo_laws.specs.Code.{Part, Closed, Open, Joined, Constants, i_type, s_type, u_type, shift_by, jalr, by_number, signed_12, upper_20, number_of, by_constant, unary, named_form}
+use Rattle.rv_pseudo_laws.specs.Code.{Part, Closed, Open, Joined, Constants, i_type, s_type, u_type, shift_by, jalr, by_number, signed_12, upper_20, constant_number, by_constant, unary, named_form}
 use Rattle.rv_pseudo_laws.specs.Filled.{are_closed}
 use Rattle.rv_pseudo_laws.specs.Li.{li}
 use Rattle.rv_pseudo.specs.declared.template.Template.{Template}
@@ -51,7 +51,7 @@ upper_same c (Some Lo) make e = refl
 upper_same c (Some PcrelHi) make e = refl
 upper_same c (Some PcrelLo) make e = refl
 
-number_same : (c : Constants) (function : Option Function) (e : Expression) → number_of c (number_operand function e) ≡ number_of (λ t. c e) (number_operand function e)
+number_same : (c : Constants) (function : Option Function) (e : Expression) → constant_number c (number_operand function e) ≡ constant_number (λ t. c e) (number_operand function e)
 number_same c None e = refl
 number_same c (Some Hi) e = refl
 number_same c (Some Lo) e = refl
@@ -66,7 +66,7 @@ constant_same c _ rd rs1 function e = refl
 
 pub row_same : (operation : Operation) (function : Option Function) (c : Constants) (rvc : Bool) (bytes : ℕ) (other : Bool) (others : ℕ) (e : Expression)
     → takes_target operation ≡ false
-    → lines.parts_of c rvc bytes (with_operand operation (number_operand function e)) ≡ pseudo.parts_of (λ t. c e) other others (with_operand operation (number_operand function e))
+    → lines.parts_by_size c rvc bytes (with_operand operation (number_operand function e)) ≡ pseudo.parts_of (λ t. c e) other others (with_operand operation (number_operand function e))
 row_same (operations.Registers operation rd rs1) None c rvc bytes other others e away = constant_same c (with_constant operation) rd rs1 None e
 row_same (operations.Registers operation rd rs1) (Some g) c rvc bytes other others e away = constant_same c (with_constant operation) rd rs1 (Some g) e
 row_same (operations.Immediate operation rd rs1) function c rvc bytes other others e away = signed_same c function false (λ k. of_immediate operation (i_type rd rs1 k)) e
@@ -149,7 +149,7 @@ plain_closed (plains.Parcel operation a b) c rvc bytes = ap are_free (bare_row o
 plain_closed plains.Ecall c rvc bytes = refl
 plain_closed _ c rvc bytes = refl
 
-pub plain_same : (p : Plain) (c : Constants) (rvc : Bool) (bytes : ℕ) → lines.parts_of c rvc bytes (plain_of p) ≡ pseudo.parts_of c rvc bytes (plain_of p)
+pub plain_same : (p : Plain) (c : Constants) (rvc : Bool) (bytes : ℕ) → lines.parts_by_size c rvc bytes (plain_of p) ≡ pseudo.parts_of c rvc bytes (plain_of p)
 plain_same plains.Ecall c rvc bytes = refl
 plain_same _ c rvc bytes = refl
 
@@ -191,7 +191,7 @@ constant_free : (form : Option Mnemonic) (rd rs1 : ℕ) (function : Option Funct
     → are_free (by_constant (λ t. number) form rd rs1 (number_operand function e)) ≡ true
 constant_free (Some (mnemonics.Immediate i)) rd rs1 function number e known = signed_free function number false (λ k. of_immediate i (i_type rd rs1 k)) e known
 constant_free (Some (mnemonics.Shift i)) rd rs1 function number e known =
-    by_number_free (λ k. of_shift i (shift_by rd rs1 (wrapped k))) (number_of (λ t. number) (number_operand function e))
+    by_number_free (λ k. of_shift i (shift_by rd rs1 (wrapped k))) (constant_number (λ t. number) (number_operand function e))
 constant_free _ rd rs1 function number e known = refl
 
 pub row_closed : (operation : Operation) (function : Option Function) (number : Option ℤ) (rvc : Bool) (bytes : ℕ) (e : Expression)
@@ -201,7 +201,7 @@ row_closed (operations.Registers operation rd rs1) None n rvc bytes e f away = c
 row_closed (operations.Registers operation rd rs1) (Some g) n rvc bytes e f away = constant_free (with_constant operation) rd rs1 (Some g) n e f
 row_closed (operations.Immediate operation rd rs1) function n rvc bytes e f away = signed_free function n false (λ k. of_immediate operation (i_type rd rs1 k)) e f
 row_closed (operations.Shift operation rd rs1) function n rvc bytes e f away =
-    by_number_free (λ k. of_shift operation (shift_by rd rs1 (wrapped k))) (number_of (λ t. n) (number_operand function e))
+    by_number_free (λ k. of_shift operation (shift_by rd rs1 (wrapped k))) (constant_number (λ t. n) (number_operand function e))
 row_closed (operations.Upper operation rd) function n rvc bytes e f away = upper_free function n (λ n. of_upper operation (u_type rd n)) e f
 row_closed (operations.Load operation rd rs1) None n rvc bytes e f away = signed_free None n false (λ k. of_load operation (i_type rd rs1 k)) e f
 row_closed (operations.Load operation rd rs1) (Some g) n rvc bytes e f away = signed_free (Some g) n false (λ k. of_load operation (i_type rd rs1 k)) e f
@@ -215,9 +215,9 @@ row_closed (operations.JalrLinked rs1) None n rvc bytes e f away = signed_free N
 row_closed (operations.JalrLinked rs1) (Some g) n rvc bytes e f away = signed_free (Some g) n false (jalr 1 rs1) e f
 row_closed (operations.Jr rs) None n rvc bytes e f away = signed_free None n false (jalr 0 rs) e f
 row_closed (operations.Jr rs) (Some g) n rvc bytes e f away = signed_free (Some g) n false (jalr 0 rs) e f
-row_closed (operations.Li rd) function n rvc bytes e f away = li_free rd (number_of (λ t. n) (number_operand function e))
+row_closed (operations.Li rd) function n rvc bytes e f away = li_free rd (constant_number (λ t. n) (number_operand function e))
 row_closed (operations.Parcel operation a b) function n rvc bytes e f away =
-    ap are_free (number_row operation a b function e (λ t. n) rvc bytes) ∙ form_free (form_told operation a b (number_of (λ t. n) (number_operand function e)))
+    ap are_free (number_row operation a b function e (λ t. n) rvc bytes) ∙ form_free (form_told operation a b (constant_number (λ t. n) (number_operand function e)))
 row_closed _ function n rvc bytes e f away = absurd (cc)
 
 -- what a field takes of a constant is known

@@ -25,7 +25,7 @@ use Rattle.rv_statement.specs.declared.statement.Plain.{Plain}
 use Rattle.rv_statement.specs.declared.statement.Plain.TheVariants as plains
 use Rattle.rv_statement.specs.Statement.{Expression, Statement, StatementKind, Label, Numbered, Instruction, Directs, Operand, Register, Value, Applied, Target}
 use Rattle.rv_statement.specs.View.{plain_of, parcel_registers, parcel_operands, shaped}
-use Rattle.rv_pseudo_laws.specs.Code.{Part, Closed, Constants, number_of, by_form, parcel_form, named_form, code}
+use Rattle.rv_pseudo_laws.specs.Code.{Part, Closed, Constants, constant_number, by_form, parcel_form, named_form, code}
 use Rattle.rv_pseudo_laws.specs.Filled.{are_closed}
 use Rattle.rv_pseudo_laws.specs.InstructionFaults.{Worth, Number, number_faults, low_faults, operand_faults, else_unplaced, has_row, faults}
 use Rattle.rv_pseudo_laws.proofs.ParcelsLemmas.{named_code}
@@ -52,7 +52,7 @@ none_named (Directs directive) v e = refl
 -- ---- the form that is named, by the numbers of the operands alone
 
 abbrev pub IsSame : Constants → Constants → Operand → Type 0
-IsSame v w o = number_of v o ≡ number_of w o
+IsSame v w o = constant_number v o ≡ constant_number w o
 
 parcel_same : (v w : Constants) (operation : ParcelOperation) (shape : OperandShape) (operands : List Operand) → AllByRecursion (IsSame v w) operands
     → parcel_form v operation shape operands ≡ parcel_form w operation shape operands
@@ -87,7 +87,7 @@ behind_registers : (v w : Constants) (rs : List ℕ) (operands : List Operand) �
 behind_registers v w [] operands same = same
 behind_registers v w (r ∷ rs) operands same = (refl, behind_registers v w rs operands same)
 
-pub same_operands : (v w : Constants) (shape : OperandShape) (operation : ParcelOperation) (a b : ℕ) (o : Operand) → number_of v o ≡ number_of w o
+pub same_operands : (v w : Constants) (shape : OperandShape) (operation : ParcelOperation) (a b : ℕ) (o : Operand) → constant_number v o ≡ constant_number w o
     → AllByRecursion (IsSame v w) (parcel_operands shape operation a b o)
 same_operands v w shapes.Address operation a b o same = (refl, (same, (refl, tt)))
 same_operands v w shapes.Registers operation a b o same = behind_registers v w (take (length (register_sets operation)) (a ∷ b ∷ [])) (o ∷ []) (same, tt)
@@ -98,14 +98,14 @@ pub same_registers : (v w : Constants) (rs : List ℕ) → AllByRecursion (IsSam
 same_registers v w [] = tt
 same_registers v w (r ∷ rs) = (refl, same_registers v w rs)
 
-shaped_same : (v : Constants) (shape : OperandShape) (e : Expression) → number_of v (shaped shape e) ≡ number_of (λ t. v e) (shaped shape e)
+shaped_same : (v : Constants) (shape : OperandShape) (e : Expression) → constant_number v (shaped shape e) ≡ constant_number (λ t. v e) (shaped shape e)
 shaped_same v shapes.Registers e = refl
 shaped_same v shapes.Number e = refl
 shaped_same v shapes.Address e = refl
 shaped_same v shapes.Target e = refl
 
 pub operand_same : (v : Constants) (operation : ParcelOperation) (a b : ℕ) (function : Option Function) (e : Expression)
-    → number_of v (operand (operations.Parcel operation a b) function e) ≡ number_of (λ t. v e) (operand (operations.Parcel operation a b) function e)
+    → constant_number v (operand (operations.Parcel operation a b) function e) ≡ constant_number (λ t. v e) (operand (operations.Parcel operation a b) function e)
 operand_same v operation a b None e = shaped_same v (shape_of operation) e
 operand_same v operation a b (Some Hi) e = refl
 operand_same v operation a b (Some Lo) e = refl
@@ -163,7 +163,7 @@ low_sound w operation rs None form worth e = absurd (cc)
 low_sound w operation rs (Some k) form worth e = ap (low_faults (Parcel operation)) (worth k refl) ∙ number_sound operation rs (lo k) form e
 
 operand_sound : (v : Constants) (w : Expression → Worth) → AreWorth v w → (operation : ParcelOperation) (rs : List ℕ) (o : Operand) (form : Compressed)
-    → by_form (form_of operation rs) (number_of v o) ≡ Some form → operand_faults w (Parcel operation) o ≡ []
+    → by_form (form_of operation rs) (constant_number v o) ≡ Some form → operand_faults w (Parcel operation) o ≡ []
 operand_sound v w worth operation rs (Value e) form named = value_sound (w e) operation rs (v e) form (worth e) named
 operand_sound v w worth operation rs (Applied Lo e) form named = low_sound (w e) operation rs (v e) form (worth e) named
 operand_sound v w worth operation rs _ form named = absurd (cc)

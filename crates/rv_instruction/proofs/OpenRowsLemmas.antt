@@ -16,7 +16,7 @@ use Rattle.rv_isa.specs.Kinds.{width_of}
 use Rattle.rv_isa.specs.Operations.{of_immediate, of_upper, of_load, of_store, of_branch}
 use Rattle.rv_compress.specs.declared.parcel.ParcelOperation.TheVariants as parcels
 use Rattle.rv_compress.specs.declared.parcel.RegisterSet.TheVariants.{Short}
-use Rattle.rv_compress.specs.Mnemonics.{is_in}
+use Rattle.rv_compress.specs.Mnemonics.{is_of_set}
 use Rattle.rv_compress.specs.Parcel.{parcel, IsShort, IsBranch, IsJump}
 use Rattle.rv_compress.specs.declared.form.Compressed.TheVariants as compressed
 use Rattle.rv_statement.specs.declared.mnemonic.Mnemonic.{Mnemonic}
@@ -62,7 +62,7 @@ pub record AreOpen (F : ℕ → List Part) (forms : Option Forms) (b : ℕ) : Ty
 -- the row of what a statement says with an expression that is no constant
 pub record OpenRow (kind : StatementKind) (e : Expression) (forms : Option Forms) (b : ℕ) : Type 0 where
   pub F : ℕ → List Part
-  pub rows : (c : Constants) (rvc : Bool) (size : ℕ) → c e ≡ None → lines.parts_of c rvc size kind ≡ Some (F size)
+  pub rows : (c : Constants) (rvc : Bool) (size : ℕ) → c e ≡ None → lines.parts_by_size c rvc size kind ≡ Some (F size)
   pub are : AreOpen F forms b
 
 -- the bytes for which its code is asked
@@ -274,13 +274,13 @@ parcel_open k i b short two has = record {
   fit = λ o. (inr (short, has), tt);
 }
 
-short_in : (r : ℕ) → (is_in Short r && true) ≡ true → is_in Short r ≡ true
-short_in r e = (and_parts (is_in Short r) true e).0
+short_in : (r : ℕ) → (is_of_set Short r && true) ≡ true → is_of_set Short r ≡ true
+short_in r e = (and_parts (is_of_set Short r) true e).0
 
-in_line : (r : ℕ) → is_in Short r ≡ true → IsShort r
+in_line : (r : ℕ) → is_of_set Short r ≡ true → IsShort r
 in_line r e = grind (arith, nat_tests)
 
-short_is : (o : BranchOperation) (r : ℕ) → is_in Short r ≡ true → short_branch o r ≡ Some (branch 2 o r 0)
+short_is : (o : BranchOperation) (r : ℕ) → is_of_set Short r ≡ true → short_branch o r ≡ Some (branch 2 o r 0)
 short_is o r e = ap (λ t. if t then Some (branch 2 o r 0) else None) e
 
 -- ---- through a register
@@ -356,7 +356,7 @@ none_taken Lo o e upper low = absurd (cc)
 none_taken PcrelLo o e upper low = absurd (cc)
 
 by_parts : (kind : StatementKind) (e : Expression) (b : ℕ) (row : Constants → Option (List Part)) → PartRow row e
-    → ((c : Constants) (rvc : Bool) (size : ℕ) → lines.parts_of c rvc size kind ≡ row c) → OpenRow kind e None b
+    → ((c : Constants) (rvc : Bool) (size : ℕ) → lines.parts_by_size c rvc size kind ≡ row c) → OpenRow kind e None b
 by_parts kind e b row p rows = record {
   F = λ n. Open p.kind p.made ∷ [];
   rows = λ c rvc size none. rows c rvc size ∙ p.rows c none;
@@ -412,7 +412,7 @@ part_row operations.CallLinked f rvc b e t = none_taken f operations.CallLinked 
 part_row operations.Tail f rvc b e t = none_taken f operations.Tail t refl refl
 
 made_of : (kind : StatementKind) (e : Expression) (forms : Option Forms) (b : ℕ) (F : ℕ → List Part)
-    → ((c : Constants) (rvc : Bool) (size : ℕ) → lines.parts_of c rvc size kind ≡ Some (F size)) → AreOpen F forms b → OpenRow kind e forms b
+    → ((c : Constants) (rvc : Bool) (size : ℕ) → lines.parts_by_size c rvc size kind ≡ Some (F size)) → AreOpen F forms b → OpenRow kind e forms b
 made_of kind e forms b F rows are = record { F = F; rows = λ c rvc size none. rows c rvc size; are = are }
 
 target_row : (o : Operation) (rvc : Bool) (b : ℕ) (e : Expression) → is_bad_scratch o ≡ false → is_written o ≡ true → takes_target o ≡ true → IsRowOf o None rvc b e

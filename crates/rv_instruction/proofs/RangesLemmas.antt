@@ -49,7 +49,7 @@ closed_fit (Open k i ∷ ps) closed = absurd (cc)
 closed_fit (Joined k i j ∷ ps) closed = absurd (cc)
 
 valid_row : (kind : StatementKind) (c : Constants) (rvc : Bool) (bytes : ℕ) (ps : List Part) → is_instruction kind ≡ true
-    → AreInRange c kind → lines.parts_of c rvc bytes kind ≡ Some ps → AllByRecursion IsValidPart ps
+    → AreInRange c kind → lines.parts_by_size c rvc bytes kind ≡ Some ps → AllByRecursion IsValidPart ps
 valid_row (Instruction mnemonic operands) c rvc bytes ps known ranges row = code_valid c rvc bytes mnemonic operands ps ranges row
 valid_row (Label name) c rvc bytes ps known ranges row = absurd (cc)
 valid_row (Numbered number) c rvc bytes ps known ranges row = absurd (cc)

@@ -51,8 +51,8 @@ is_instruction _ = false
 
 -- the rows of a statement have these parts
 pub record HasRows (v : Expression → values.Value) (rvc : Bool) (bytes : ℕ) (kind : StatementKind) (ps : List Part) : Type 0 where
-  pub asked : lines.parts_of (constants v) rvc (asked_of kind bytes) kind ≡ Some ps
-  pub own : (size : ℕ) → (are_closed ps ≡ false → size ≡ code_bytes ps) → lines.parts_of (constants v) rvc size kind ≡ Some ps
+  pub asked : lines.parts_by_size (constants v) rvc (asked_of kind bytes) kind ≡ Some ps
+  pub own : (size : ℕ) → (are_closed ps ≡ false → size ≡ code_bytes ps) → lines.parts_by_size (constants v) rvc size kind ≡ Some ps
   pub near : OffersAny (near_forms_of rvc kind) bytes → is_some (near_forms_of rvc kind) ≡ true → (are_closed ps ≡ false) × (code_bytes ps ≡ bytes)
 
 has_row : (kind : StatementKind) (v : Expression → values.Value) (rvc : Bool) (bytes : ℕ) (found : List Template) → is_instruction kind ≡ true
@@ -67,7 +67,7 @@ never_near forms e some = absurd (cc)
 
 -- the same row whatever its bytes, where no form is near
 steady : (kind : StatementKind) (v : Expression → values.Value) (rvc : Bool) (bytes : ℕ) (ps : List Part) → near_forms_of rvc kind ≡ None
-    → ((size : ℕ) → lines.parts_of (constants v) rvc size kind ≡ Some ps) → HasRows v rvc bytes kind ps
+    → ((size : ℕ) → lines.parts_by_size (constants v) rvc size kind ≡ Some ps) → HasRows v rvc bytes kind ps
 steady kind v rvc bytes ps none rows = record {
   asked = rows (asked_of kind bytes);
   own = λ size is. rows size;
@@ -85,7 +85,7 @@ plain_near plains.Ecall rvc = refl
 plain_near _ rvc = refl
 
 pub plain_row : (p : Plain) (rvc : Bool) (found : List Template) → ((bytes : ℕ) → AreTemplates rvc bytes (plain_of p) found)
-    → (c : Constants) (bytes : ℕ) → lines.parts_of c rvc bytes (plain_of p) ≡ Some (parts_in found)
+    → (c : Constants) (bytes : ℕ) → lines.parts_by_size c rvc bytes (plain_of p) ≡ Some (parts_in found)
 plain_row p rvc found are c bytes = plain_same p c rvc bytes ∙ row_back _ found (plain_closed p c rvc bytes) (are bytes c)
 
 pub bare_templates : (p : Plain) (rvc : Bool) (found : ArrayVec Template) → AnswersBare rvc (plain_of p) (Ok found) → (bytes : ℕ) → AreTemplates rvc bytes (plain_of p) found.items
@@ -151,20 +151,20 @@ answered operation function told rvc bytes found answers =
 
 -- the parts of an operation with a constant, in any form
 pub constant_row : (operation : Operation) (function : Option Function) (k : ℤ) (rvc : Bool) (bytes : ℕ) (found : ArrayVec Template) → IsOfNumber operation function (Some k) rvc bytes found
-    → (c : Constants) (e : Expression) (other : Bool) (size : ℕ) → c e ≡ Some k → lines.parts_of c other size (statement_with operation function e) ≡ Some (parts_in found.items)
+    → (c : Constants) (e : Expression) (other : Bool) (size : ℕ) → c e ≡ Some k → lines.parts_by_size c other size (statement_with operation function e) ≡ Some (parts_in found.items)
 constant_row operation function k rvc bytes found is c e other size constant =
     let away = good_away operation function k is.taken in
     let spelled = ap (with_operand operation) (away_operand operation function e away) in
-    ap (lines.parts_of c other size) spelled ∙ row_same operation function c other size rvc bytes e away
+    ap (lines.parts_by_size c other size) spelled ∙ row_same operation function c other size rvc bytes e away
     ∙ ap (λ o. pseudo.parts_of (λ t. o) rvc bytes (with_operand operation (number_operand function e))) constant
     ∙ row_back _ found.items (row_closed operation function (Some k) rvc bytes e (taken_known operation function k is.taken) away)
     (ap (λ s. option_map all_templates (pseudo.parts_of (λ t. Some k) rvc bytes s)) (sym spelled) ∙ is.rows e)
 
 known_row : (operation : Operation) (function : Option Function) (k : ℤ) (rvc : Bool) (bytes : ℕ) (found : ArrayVec Template) → IsOfNumber (known_as operation function) function (Some k) rvc bytes found
     → (v : Expression → values.Value) (x : Expression) (other : Bool) (size : ℕ) → constants v x ≡ Some k
-    → lines.parts_of (constants v) other size (statement_with operation function x) ≡ Some (parts_in found.items)
+    → lines.parts_by_size (constants v) other size (statement_with operation function x) ≡ Some (parts_in found.items)
 known_row operation function k rvc bytes found is v x other size e =
-    ap (lines.parts_of (constants v) other size) (sym (part_statement operation function x))
+    ap (lines.parts_by_size (constants v) other size) (sym (part_statement operation function x))
     ∙ constant_row (known_as operation function) function k rvc bytes found is (constants v) x other size e
 
 away_near : (operation : Operation) (function : Option Function) (rvc : Bool) (e : Expression) → takes_target operation ≡ false → near_forms_of rvc (statement_with operation function e) ≡ None

@@ -15,7 +15,7 @@ use Rattle.rv_text_laws.specs.Expression.{Primary}
 use Rattle.rv_text_laws.specs.Values as values
 use Rattle.rv_lexer.specs.declared.fault.SourceFault.{SourceFault}
 use Rattle.rv_lexer.specs.declared.fault.SourceFault.TheVariants.{At, OutOfMemory}
-use Rattle.rv_lexer.specs.Fault.{number_of}
+use Rattle.rv_lexer.specs.Fault.{source_fault_number}
 use Rattle.rv_statement.specs.declared.mnemonic.Mnemonic.{Mnemonic}
 use Rattle.rv_statement.specs.declared.pseudo.Function.{Function}
 use Rattle.rv_statement.specs.declared.pseudo.Function.TheVariants.{PcrelLo}
@@ -115,15 +115,15 @@ abbrev pub Codes :
 Codes rvc bytes v l s (Ok found) =
     (instruction_faults v l s.kind ≡ []) × HasCode v rvc bytes s.kind found.items
 Codes rvc bytes v l s (Err (At code at)) =
-    (lowest (instruction_faults v l s.kind) ≡ Some (number_of code)) × (at ≡ s.line)
+    (lowest (instruction_faults v l s.kind) ≡ Some (source_fault_number code)) × (at ≡ s.line)
 Codes rvc bytes v l s (Err OutOfMemory) = ⊥
 
 -- ---- templates as parts
 
 -- the relocation of a call stands at the first of its two instructions
-abbrev pub is_call : Option Kind → Bool
-is_call (Some kinds.CallPlt) = true
-is_call _ = false
+abbrev pub is_call_field : Option Kind → Bool
+is_call_field (Some kinds.CallPlt) = true
+is_call_field _ = false
 
 abbrev pub part_by : Inst → Option Kind → Part
 part_by i None = Closed i
@@ -135,7 +135,7 @@ part_of t = part_by t.inst t.reloc
 abbrev pub is_pair : List Template → Bool
 is_pair [] = false
 is_pair (t ∷ []) = false
-is_pair (t ∷ u ∷ []) = is_call t.reloc
+is_pair (t ∷ u ∷ []) = is_call_field t.reloc
 is_pair (t ∷ u ∷ w ∷ ts) = false
 
 abbrev pub call_of : Inst → Inst → Part
@@ -143,7 +143,7 @@ call_of i j = Joined kinds.CallPlt i j
 
 abbrev pub pair_of : Template → Template → List Part
 pair_of t u =
-    if is_call t.reloc then call_of t.inst u.inst ∷ []
+    if is_call_field t.reloc then call_of t.inst u.inst ∷ []
     else part_of t ∷ part_of u ∷ []
 
 abbrev pub parts_in : List Template → List Part
@@ -208,7 +208,7 @@ abbrev pub IsExpanded :
 IsExpanded rvc bytes v l s (Ok found) =
     (instruction_faults v l s.kind ≡ []) × HasTemplates v rvc bytes s.kind found.items
 IsExpanded rvc bytes v l s (Err (At code at)) =
-    (lowest (instruction_faults v l s.kind) ≡ Some (number_of code)) × (at ≡ s.line)
+    (lowest (instruction_faults v l s.kind) ≡ Some (source_fault_number code)) × (at ≡ s.line)
 IsExpanded rvc bytes v l s (Err OutOfMemory) = ⊥
 
 -- the operands of a statement of code are in their ranges
@@ -229,10 +229,11 @@ worth_for function l v = worth (λ q. asks_label function && l q) v
 -- ---- constants
 
 -- the constant that a value is, or its fault at a line
-abbrev pub IsNumber : values.Value → ℕ → Result ℕ SourceFault → Type 0
-IsNumber v line (Ok n) = v ≡ values.Constant n
-IsNumber v line (Err (At code at)) = (constant_faults v ≡ number_of code ∷ []) × (at ≡ line)
-IsNumber v line (Err OutOfMemory) = ⊥
+abbrev pub IsConstant : values.Value → ℕ → Result ℕ SourceFault → Type 0
+IsConstant v line (Ok n) = v ≡ values.Constant n
+IsConstant v line (Err (At code at)) =
+    (constant_faults v ≡ source_fault_number code ∷ []) × (at ≡ line)
+IsConstant v line (Err OutOfMemory) = ⊥
 
 -- ---- one instruction
 

@@ -17,8 +17,8 @@ use Rattle.rv_pseudo.specs.Templates.{statement_with}
 use Rattle.rv_source_laws.specs.Sizes.{Near, near_forms, far_form, target_in, is_short_register, jump_forms}
 
 -- the section of a statement, by its ordinal
-abbrev pub section_in : List SectionOffset → ℕ → Option ℕ
-section_in places ordinal =
+abbrev pub section_by_ordinal : List SectionOffset → ℕ → Option ℕ
+section_by_ordinal places ordinal =
     if ordinal == 0 then None
     else option_map (λ (p : SectionOffset). p.section) (slice_get places (ordinal - 1))
 

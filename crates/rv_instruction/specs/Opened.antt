@@ -11,7 +11,7 @@ use Rattle.rv_statement.specs.Statement.{StatementKind, Expression}
 use Rattle.rv_pseudo_laws.specs.Code.{Part, Constants}
 use Rattle.rv_pseudo_laws.specs.Filled.{are_closed}
 use Rattle.rv_unit_laws.specs.Tables.{Tables}
-use Rattle.rv_source_laws.specs.Lines.{operand_of, parts_of}
+use Rattle.rv_source_laws.specs.Lines.{operand_of, parts_by_size}
 use Rattle.rv_assemble_laws.specs.Templates.{Open}
 use Rattle.rv_assemble_laws.specs.CodeFields.{symbol_field, low_field, label_field, field_of}
 use Rattle.rv_instruction.specs.declared.opened.Reference.{Reference}
@@ -53,4 +53,4 @@ are_free (Some parts) = are_closed parts
 -- the code of such a statement leaves no field open, whatever its names stand for
 abbrev pub LeavesNone : StatementKind → Type 0
 LeavesNone kind =
-    (v : Constants) (rvc : Bool) (bytes : ℕ) → are_free (parts_of v rvc bytes kind) ≡ true
+    (v : Constants) (rvc : Bool) (bytes : ℕ) → are_free (parts_by_size v rvc bytes kind) ≡ true

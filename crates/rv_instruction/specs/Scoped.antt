@@ -7,7 +7,7 @@ use Rattle.rv_lexer.specs.declared.fault.SourceFault.{SourceFault}
 use Rattle.rv_text.specs.declared.evaluation.Value.{Value}
 use Rattle.rv_text.specs.Eval.{IsOutcome}
 use Rattle.rv_statement.specs.Statement.{StatementKind, Expression}
-use Rattle.rv_unit_laws.specs.Tables.{tables, value, stood}
+use Rattle.rv_unit_laws.specs.Tables.{tables, value_by_tables, stood}
 use Rattle.rv_unit_tables.specs.declared.section_offset.SectionOffset.{SectionOffset}
 use Rattle.rv_unit_tables.specs.Sections.{offset_of}
 use Rattle.rv_unit.specs.declared.scope.Scope.{Scope}
@@ -21,7 +21,7 @@ use Rattle.rv_assemble_laws.specs.InstructionFaults.{instruction_faults, is_labe
 -- the values of expressions in the statement at this index from 0, which stands at this offset
 abbrev pub values_at : Scope → ℕ → SectionOffset → Expression → values.Value
 values_at scope index place e =
-    value (tables (said scope.unit.now)) true (index + 1) (offset_of place) e
+    value_by_tables (tables (said scope.unit.now)) true (index + 1) (offset_of place) e
 
 -- the form of a parcel that the statement at this index names
 abbrev pub named_at : Scope → ℕ → SectionOffset → StatementKind → Option Compressed

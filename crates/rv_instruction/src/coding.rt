@@ -14,7 +14,7 @@ ghost use Rattle.rv_statement.specs.View.{plain_of, statement_of};
 ghost use Rattle.rv_unit.specs.Unit.{IsFilled, IsScope};
 ghost use Rattle.rv_pseudo.specs.Templates.{statement_with};
 ghost use Rattle.rv_instruction.specs.Code as laws;
-ghost use Rattle.rv_instruction.specs.Code.{encoded_instructions, Codes, AreCodable, IsExpanded, IsNumber, IsOneOf, MayHave};
+ghost use Rattle.rv_instruction.specs.Code.{encoded_instructions, Codes, AreCodable, IsExpanded, IsConstant, IsOneOf, MayHave};
 ghost use Rattle.rv_instruction.specs.Scoped.{values_at, labels_at, named_at, AtNext};
 
 use crate::encoded::{Code, Encoded, encode_all, in_least_form, in_named_form, one_part};
@@ -30,7 +30,7 @@ use rv_unit::{Scope, SectionOffset};
 
 /// The number of an expression that has to be a constant, by its value; else its fault at a line.
 pub fn constant(value: Result<Value<'_>, SourceFault>, line: u32) -> Result<u64, SourceFault>
-    ensures { (v : values.Value) → IsOutcome value.entry line v → IsNumber v line result }
+    ensures { (v : values.Value) → IsOutcome value.entry line v → IsConstant v line result }
 {
     match value? {
         Value::Constant(number) => Ok(number),

@@ -152,7 +152,7 @@ pub fn near_forms(kind: &StatementKind<'_>, compressed: bool) -> Option<Forms>
 
 /// The section of the statement of an ordinal.
 fn section_at(places: &[SectionOffset], ordinal: u32) -> Option<u32>
-    ensures is { result ≡ laws.section_in places.now ordinal }
+    ensures is { result ≡ laws.section_by_ordinal places.now ordinal }
     ensures some { IfSome result (λ _. 1 ≤ ordinal) }
 {
     if ordinal == 0 {
@@ -203,7 +203,8 @@ fn leading(
     plus: u64,
 ) -> Item
     ensures { result ≡ laws.branch_in section forms
-        (laws.near_in (laws.section_in places.now) section (Some (definition_of definition)) plus) }
+        (laws.near_in (laws.section_by_ordinal places.now) section
+        (Some (definition_of definition)) plus) }
 {
     match section_at(places, definition.ordinal) {
         Some(other) if other == section => {
@@ -228,7 +229,7 @@ fn target_item<'a>(
 ) -> Item
     ensures { AtNext scope.now (λ index. ForValue value.now (λ v.
         result ≡ laws.branch_in section forms
-        (laws.near_value_in (laws.section_in places.now) section
+        (laws.near_value_in (laws.section_by_ordinal places.now) section
         (tables (said (scope.now).unit.now)) (index + 1) v))) }
 {
     match value {
@@ -250,7 +251,7 @@ pub fn item<'a>(
     compressed: bool,
     bytes: u32,
 ) -> Item
-    ensures { AtNext scope.now (λ index. result ≡ laws.item_in (laws.section_in places.now)
+    ensures { AtNext scope.now (λ index. result ≡ laws.item_in (laws.section_by_ordinal places.now)
         place.section (tables (said (scope.now).unit.now)) (index + 1)
         (values_at scope.now index place) compressed bytes (statement_kind (statement.now).kind)) }
 {

@@ -24,8 +24,8 @@ name_of Ecall = codes "ecall"
 name_of Ebreak = codes "ebreak"
 
 -- an instruction's mnemonic; the ordering bits of an atomic are no part of it
-abbrev pub mnemonic_of : Inst → List ℕ
-mnemonic_of i = name_of (format_of i)
+abbrev pub mnemonic_text : Inst → List ℕ
+mnemonic_text i = name_of (format_of i)
 
 -- the end of an atomic's mnemonic that its bits aq and rl have (ISA, 8.1)
 abbrev pub ordering : Bool → Bool → List ℕ

@@ -1,13 +1,13 @@
 //! The names of instructions.
 
 ghost use Rattle.std.specs.Prelude.{◌≡◌};
-ghost use Rattle.rv_isa.specs.Mnemonics.{mnemonic_of};
+ghost use Rattle.rv_isa.specs.Mnemonics.{mnemonic_text};
 
 use crate::instruction::{Format, Inst};
 
 /// The instruction's mnemonic in lower case, an atomic's without `.aq` and `.rl`.
 pub fn mnemonic(inst: Inst) -> &'static str
-    ensures { result.now ≡ mnemonic_of inst }
+    ensures { result.now ≡ mnemonic_text inst }
 {
     match inst.format() {
         Format::Registers(operation, _) => operation.name(),

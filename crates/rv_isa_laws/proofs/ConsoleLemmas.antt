@@ -6,7 +6,7 @@ use Rattle.std.proofs.lemmas.List.{append-nil}
 use Rattle.rv_isa.specs.declared.instruction.Inst.{Inst}
 use Rattle.rv_isa_laws.specs.Memory.{Mem, Read, Write, may}
 use Rattle.rv_isa_laws.specs.Hart.{Hart, Outcome, register}
-use Rattle.rv_isa_laws.specs.Effect.{Effect, Goes, Loads, Stores, Reserves, Conditional, Updates, Calls, Breaks, Next, On, Over, apply, calls, follow}
+use Rattle.rv_isa_laws.specs.Effect.{Effect, Goes, Loads, Stores, Reserves, Conditional, Updates, Calls, Breaks, Next, On, Over, apply, environment_call, follow}
 use Rattle.rv_isa_laws.specs.Kept.{GoesOn, Kept}
 use Rattle.rv_isa_laws.specs.Meaning.{effect}
 use Rattle.rv_isa_laws.specs.Reader.{Reader}
@@ -32,7 +32,7 @@ begins_if : (front : List ℕ) (t : Bool) (x y : Next) → Begins front x → Be
 begins_if front true x y f g = f
 begins_if front false x y f g = g
 
-calls_begin : (front : List ℕ) (h : Hart) (m : Mem) → IsFront front h.console → Begins front (calls h m)
+calls_begin : (front : List ℕ) (h : Hart) (m : Mem) → IsFront front h.console → Begins front (environment_call h m)
 calls_begin front h m f =
     begins_if front (register h 17 == 63) _ _
     (begins_if front (register h 10 == 0) _ _

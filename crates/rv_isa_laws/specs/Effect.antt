@@ -64,8 +64,8 @@ writes h m =
     else On (answer h bad_file) m
 
 -- the environment's calls, by a7: 63 reads, 64 writes, 93 exits with a0 modulo 256
-abbrev pub calls : Hart → Mem → Next
-calls h m =
+abbrev pub environment_call : Hart → Mem → Next
+environment_call h m =
     let a7 = register h 17 in
     if a7 == 63 then reads h m
     else if a7 == 64 then writes h m
@@ -102,7 +102,7 @@ apply (Updates a n new next) m =
     then (let old = number_at m a n in On (next old) (with_number m a n (new old)))
     else Over (store_refusal m a n))
     else Over (MisalignedAtomic a)
-apply (Calls next) m = calls next m
+apply (Calls next) m = environment_call next m
 apply Breaks m = Over Breakpoint
 
 -- what a step comes to: its end at the hart before it, or what the rest makes of hart and memory

@@ -4,10 +4,12 @@ use Rattle.std.specs.Prelude.{◌≡◌, ◌⊎◌, ℕ, ◌<◌, ◌^◌, List,
 use Rattle.std.specs.Str.Parse.{IsNumeral, digits_value}
 
 -- digits of a radix, one at least, that write this number below 2^64
-abbrev pub IsNumber : ℕ → List ℕ → ℕ → Type 0
-IsNumber radix digits n = IsNumeral radix digits × (digits_value radix digits ≡ n) × (n < 2 ^ 64)
+abbrev pub IsRadixNumber : ℕ → List ℕ → ℕ → Type 0
+IsRadixNumber radix digits n =
+    IsNumeral radix digits × (digits_value radix digits ≡ n) × (n < 2 ^ 64)
 
 -- a start of a text: decimal, or `0x` and hexadecimal digits
 abbrev pub IsStart : List ℕ → ℕ → Type 0
 IsStart text n =
-    IsNumber 10 text n ⊎ ((digits : List ℕ) × (text ≡ codes "0x" ++ digits) × IsNumber 16 digits n)
+    IsRadixNumber 10 text n ⊎ ((digits : List ℕ) × (text ≡ codes "0x" ++ digits)
+    × IsRadixNumber 16 digits n)

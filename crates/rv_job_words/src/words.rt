@@ -4,7 +4,7 @@
 //! bounds and digits are promised (`decimal`, `text_start`).
 
 ghost use Rattle.std.specs.Prelude.{◌≤◌, ℕ, IfSome, IfNone};
-ghost use Rattle.rv_job_words.specs.Numbers.{IsNumber, IsStart};
+ghost use Rattle.rv_job_words.specs.Numbers.{IsRadixNumber, IsStart};
 
 use crate::error::CliError;
 use crate::words_of_assembling::parse_assemble;
@@ -312,8 +312,8 @@ pub(crate) fn number(
 /// A number below 2^64 in digits of a radix alone, one at least.
 fn in_radix(text: &str, radix: u32) -> Option<u64>
     requires { (2 ≤ radix) × (radix ≤ 36) }
-    ensures some { IfSome result (λ n. IsNumber radix text.now n) }
-    ensures none { IfNone result ((n : ℕ) → IsNumber radix text.now n → ⊥) }
+    ensures some { IfSome result (λ n. IsRadixNumber radix text.now n) }
+    ensures none { IfNone result ((n : ℕ) → IsRadixNumber radix text.now n → ⊥) }
 {
     if text.starts_with('+') {
         return None;
@@ -323,8 +323,8 @@ fn in_radix(text: &str, radix: u32) -> Option<u64>
 
 /// A decimal number below 2^64: digits alone, one at least.
 pub fn decimal(text: &str) -> Option<u64>
-    ensures some { IfSome result (λ n. IsNumber 10 text.now n) }
-    ensures none { IfNone result ((n : ℕ) → IsNumber 10 text.now n → ⊥) }
+    ensures some { IfSome result (λ n. IsRadixNumber 10 text.now n) }
+    ensures none { IfNone result ((n : ℕ) → IsRadixNumber 10 text.now n → ⊥) }
 {
     in_radix(text, 10)
 }

@@ -6,7 +6,7 @@ use Rattle.std.proofs.lemmas.List.{length-map}
 use Rattle.std.proofs.lemmas.Option.{slice_get-get_or}
 use Rattle.rv_statement.specs.Statement.{Statement, Numbered}
 use Rattle.rv_unit_laws.specs.Sections.{Section}
-use Rattle.rv_unit_laws.specs.Tables.{Tables, SectionOffset as Standing, tables, value}
+use Rattle.rv_unit_laws.specs.Tables.{Tables, SectionOffset as Standing, tables, value_by_tables}
 use Rattle.rv_unit_tables.specs.declared.section_offset.SectionOffset.{SectionOffset}
 use Rattle.rv_unit_tables.specs.declared.section.Extent.{Extent}
 use Rattle.rv_unit_tables.specs.Sections.{offset_of, extent_section}
@@ -49,7 +49,7 @@ place_inside u i d p filled inside is =
 
 -- the faults of a statement as code, by where it stands
 abbrev pub faults_in : Tables → ℕ → Standing → Statement → List ℕ
-faults_in t o p s = instruction_faults (λ e. value t true o p e) (is_label t o) s.kind
+faults_in t o p s = instruction_faults (λ e. value_by_tables t true o p e) (is_label t o) s.kind
 
 pub faults_there : (u : SourceUnit) (i : ℕ) (x : Statement) (p : SectionOffset) → StandsAt u i x p
     → faults_in (tables (said u)) (i + 1) (offset_of p) x ≡ code_faults_at (tables (said u)) (located_at (said u) i x)

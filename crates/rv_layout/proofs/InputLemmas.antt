@@ -14,7 +14,7 @@ use Rattle.rv_layout_laws.specs.declared.item.Item.{Item}
 use Rattle.rv_layout_laws.specs.Branches.{is_branch, item_at}
 use Rattle.rv_sizes.specs.Passes.{IsInput, TargetsItsSection}
 use Rattle.rv_unit_laws.specs.Sections.{Section, text_section}
-use Rattle.rv_unit_laws.specs.Tables.{Tables, Definition, sure_definition, at_start, after, tables, opened_of, value}
+use Rattle.rv_unit_laws.specs.Tables.{Tables, Definition, sure_definition, at_start, after, tables, opened_of, value_by_tables}
 use Rattle.rv_unit_tables.specs.Sections.{extent_section}
 use Rattle.rv_unit_tables.proofs.LookupsLemmas.{sections_are}
 use Rattle.rv_unit.specs.declared.unit.Unit.{Unit as SourceUnit}
@@ -126,10 +126,10 @@ module _ (all : List Located) where
 
   target_found : (t : Tables) (s : Located) (o : Option Expression) (n : Near) → elim o [
     | None ↦ None
-    | Some e ↦ near_value t all s (value t true s.ordinal (place_of s) e)
+    | Some e ↦ near_value t all s (value_by_tables t true s.ordinal (place_of s) e)
   ] ≡ Some n → Leads all s.section n
   target_found t s None n e = absurd (cc)
-  target_found t s (Some x) n e = value_found t s (value t true s.ordinal (place_of s) x) n e
+  target_found t s (Some x) n e = value_found t s (value_by_tables t true s.ordinal (place_of s) x) n e
 
 -- ---- each statement
 

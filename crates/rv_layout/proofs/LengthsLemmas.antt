@@ -12,7 +12,7 @@ use Rattle.rv_text_laws.specs.Values.{Value}
 use Rattle.rv_text_laws.specs.Expression.{Primary}
 use Rattle.rv_lexer.specs.declared.fault.SourceFault.{SourceFault}
 use Rattle.rv_lexer.specs.declared.fault.SourceFault.TheVariants.{At, OutOfMemory}
-use Rattle.rv_lexer.specs.Fault.{number_of}
+use Rattle.rv_lexer.specs.Fault.{source_fault_number}
 use Rattle.rv_statement.specs.declared.mnemonic.Mnemonic.{Mnemonic}
 use Rattle.rv_statement.specs.Statement.{StatementKind, Label, Numbered, Instruction, Directs, Statement, Expression, Operand}
 use Rattle.rv_pseudo_laws.specs.Code.{Part, Closed, Open, Joined, named_form, code}
@@ -101,5 +101,5 @@ same_length v rvc (Directs directive) found coded none (n, h) (m, k) = none_long
 pub not_refused : (rvc : Bool) (bytes : ℕ) (v : Expression → Value) (l : Primary → Bool) (s : Statement) (fault : SourceFault)
     → Codes rvc bytes v l s (Err fault) → instruction_faults v l s.kind ≡ [] → ⊥
 not_refused rvc bytes v l s (At code at) (low, line) none =
-    let both : None ≡ Some (number_of code) = sym (ap lowest none) ∙ low in cc
+    let both : None ≡ Some (source_fault_number code) = sym (ap lowest none) ∙ low in cc
 not_refused rvc bytes v l s OutOfMemory h none = h

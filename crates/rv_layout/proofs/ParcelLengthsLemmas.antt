@@ -9,7 +9,7 @@ use Rattle.rv_compress.specs.declared.form.Compressed.{Compressed}
 use Rattle.rv_compress.specs.declared.parcel.ParcelOperation.{ParcelOperation}
 use Rattle.rv_compress.specs.declared.parcel.ParcelOperation.TheVariants as parcels
 use Rattle.rv_compress.specs.declared.parcel.RegisterSet.TheVariants.{Short}
-use Rattle.rv_compress.specs.Mnemonics.{is_in, shape_of}
+use Rattle.rv_compress.specs.Mnemonics.{is_of_set, shape_of}
 use Rattle.rv_compress.specs.Parcel.{expansion}
 use Rattle.rv_statement.specs.declared.mnemonic.Mnemonic.TheVariants.{Parcel}
 use Rattle.rv_statement.specs.declared.statement.Operation.{Operation}
@@ -74,8 +74,8 @@ short_row false operation rs = tt
 
 parcel_row : (v : Constants) (rvc : Bool) (n : ℕ) (operation : ParcelOperation) (os : List Operand) → IsParcel (named_form v (Parcel operation) os) (code v rvc n (Parcel operation) os)
 parcel_row v rvc n parcels.J (Target e ∷ []) = refl
-parcel_row v rvc n parcels.Beqz (Register rs ∷ Target e ∷ []) = short_row (is_in Short rs) Beq rs
-parcel_row v rvc n parcels.Bnez (Register rs ∷ Target e ∷ []) = short_row (is_in Short rs) Bne rs
+parcel_row v rvc n parcels.Beqz (Register rs ∷ Target e ∷ []) = short_row (is_of_set Short rs) Beq rs
+parcel_row v rvc n parcels.Bnez (Register rs ∷ Target e ∷ []) = short_row (is_of_set Short rs) Bne rs
 parcel_row v rvc n operation os = form_row (named_form v (Parcel operation) os)
 
 parcel_told : (operation : ParcelOperation) (os : List Operand) (rvc : Bool) → HasOneLength rvc (Instruction (Parcel operation) os) 2

@@ -10,7 +10,7 @@ use Rattle.rv_layout_laws.specs.declared.item.Forms.{Forms}
 use Rattle.rv_layout_laws.specs.declared.item.Forms.TheVariants.{Settled, CompressedBranch, Branch, CompressedJump}
 use Rattle.rv_layout_laws.specs.declared.item.Item.{Item}
 use Rattle.rv_layout_laws.specs.Branches.{branches, IsLeastGood, Offers, item_at}
-use Rattle.rv_unit_laws.specs.Tables.{Tables, SectionOffset as Standing, Definition, sure_definition, at_start, after, places_from, tables, value}
+use Rattle.rv_unit_laws.specs.Tables.{Tables, SectionOffset as Standing, Definition, sure_definition, at_start, after, places_from, tables, value_by_tables}
 use Rattle.rv_unit.specs.declared.unit.Unit.{Unit as SourceUnit}
 use Rattle.rv_unit.specs.Unit.{said, IsFilled}
 use Rattle.std.proofs.lemmas.List.{length-append}
@@ -27,7 +27,7 @@ use Rattle.rv_source_laws.specs.Program.{place_of}
 use Rattle.rv_source_laws.specs.Sizes.{near_forms, near_at, near_value, near_target, target_in, settled, branch_item, item_by_kind, items_of, AreLeast}
 use Rattle.rv_source_laws.specs.Sizes as sizes
 use Rattle.rv_assemble_laws.specs.LaidStatements.{expression_value}
-use Rattle.rv_instruction.specs.Near.{section_in, near_by, near_in, near_value_in, near_target_in, branch_in, item_by, item_in}
+use Rattle.rv_instruction.specs.Near.{section_by_ordinal, near_by, near_in, near_value_in, near_target_in, branch_in, item_by, item_in}
 
 -- ---- the section of a statement, by its ordinal
 
@@ -75,7 +75,7 @@ mapped_section (p ∷ ps) (suc j) = mapped_section ps j
 
 -- by the places of a unit
 abbrev pub Agrees : List SectionOffset → List Located → Type 0
-Agrees places all = (n : ℕ) → option_map (λ (s : Located). s.section) (Found n all) ≡ section_in places n
+Agrees places all = (n : ℕ) → option_map (λ (s : Located). s.section) (Found n all) ≡ section_by_ordinal places n
 
 pub places_agree : (places : List SectionOffset) (ss : List Statement) → map offset_of places ≡ places_from (at_start ss) 1 ss → Agrees places (located_from 1 1 (at_start ss) ss)
 places_agree places ss stand zero = ap (option_map (λ (s : Located). s.section)) (found_none 0 (at_start ss) ss)
@@ -98,11 +98,11 @@ module _ (places : List SectionOffset) (all : List Located) (agree : Agrees plac
   by_section None r section ordinal plus e = ap (λ x. near_by x section ordinal plus) e
   by_section (Some s) r section ordinal plus e = ap (λ x. near_by x section ordinal plus) e
 
-  near_same : (section : ℕ) (d : Option Definition) (plus : ℕ) → near_at all section d plus ≡ near_in (section_in places) section d plus
+  near_same : (section : ℕ) (d : Option Definition) (plus : ℕ) → near_at all section d plus ≡ near_in (section_by_ordinal places) section d plus
   near_same section None plus = refl
-  near_same section (Some d) plus = by_section (Found d.ordinal all) (section_in places d.ordinal) section d.ordinal plus (agree d.ordinal)
+  near_same section (Some d) plus = by_section (Found d.ordinal all) (section_by_ordinal places d.ordinal) section d.ordinal plus (agree d.ordinal)
 
-  value_same : (t : Tables) (s : Located) (v : Value) → near_value t all s v ≡ near_value_in (section_in places) s.section t s.ordinal v
+  value_same : (t : Tables) (s : Located) (v : Value) → near_value t all s v ≡ near_value_in (section_by_ordinal places) s.section t s.ordinal v
   value_same t s (values.Symbolic symbol at plus) = near_same s.section (sure_definition t s.ordinal symbol) plus
   value_same t s (values.Constant n) = refl
   value_same t s (values.Difference a b plus) = refl
@@ -110,17 +110,17 @@ module _ (places : List SectionOffset) (all : List Located) (agree : Agrees plac
 
   target_same : (t : Tables) (s : Located) (o : Option Expression) → elim o [
     | None ↦ None
-    | Some e ↦ near_value t all s (value t true s.ordinal (place_of s) e)
-  ] ≡ near_target_in (section_in places) s.section t s.ordinal (λ e. value t true s.ordinal (place_of s) e) o
+    | Some e ↦ near_value t all s (value_by_tables t true s.ordinal (place_of s) e)
+  ] ≡ near_target_in (section_by_ordinal places) s.section t s.ordinal (λ e. value_by_tables t true s.ordinal (place_of s) e) o
   target_same t s None = refl
-  target_same t s (Some e) = value_same t s (value t true s.ordinal (place_of s) e)
+  target_same t s (Some e) = value_same t s (value_by_tables t true s.ordinal (place_of s) e)
 
   branch_same : (s : Located) (forms : Forms) (n : Option sizes.Near) → branch_item s forms n ≡ branch_in s.section forms n
   branch_same s forms None = refl
   branch_same s forms (Some n) = refl
 
   forms_same : (t : Tables) (s : Located) (bytes : ℕ) (os : List Operand) (forms : Option Forms)
-      → sizes.item_by t all s bytes os forms ≡ item_by s.section bytes forms (near_target_in (section_in places) s.section t s.ordinal (λ e. value t true s.ordinal (place_of s) e) (target_in os))
+      → sizes.item_by t all s bytes os forms ≡ item_by s.section bytes forms (near_target_in (section_by_ordinal places) s.section t s.ordinal (λ e. value_by_tables t true s.ordinal (place_of s) e) (target_in os))
   forms_same t s bytes os None = refl
   forms_same t s bytes os (Some (Settled size)) = refl
   forms_same t s bytes os (Some CompressedBranch) = branch_same s CompressedBranch (near_target t all s os) ∙ ap (branch_in s.section CompressedBranch) (target_same t s (target_in os))
@@ -128,7 +128,7 @@ module _ (places : List SectionOffset) (all : List Located) (agree : Agrees plac
   forms_same t s bytes os (Some CompressedJump) = branch_same s CompressedJump (near_target t all s os) ∙ ap (branch_in s.section CompressedJump) (target_same t s (target_in os))
 
   pub item_same : (t : Tables) (s : Located) (bytes : ℕ) (kind : StatementKind)
-      → item_by_kind t all s bytes kind ≡ item_in (section_in places) s.section t s.ordinal (λ e. value t true s.ordinal (place_of s) e) s.options.rvc bytes kind
+      → item_by_kind t all s bytes kind ≡ item_in (section_by_ordinal places) s.section t s.ordinal (λ e. value_by_tables t true s.ordinal (place_of s) e) s.options.rvc bytes kind
   item_same t s bytes (Instruction mnemonic os) = forms_same t s bytes os (near_forms s.options.rvc mnemonic os)
   item_same t s bytes (Label name) = refl
   item_same t s bytes (Numbered number) = refl
@@ -275,26 +275,26 @@ measured_begin ss = ([], none_long (located_from 1 1 (at_start ss) ss), none_tak
 -- the item of a statement where it stands
 seen_there : (u : SourceUnit) (i : ℕ) (x : Statement) (p : SectionOffset) (rvc : Bool) (bytes : ℕ) (item : Item) → IsFilled u → StandsAt u i x p
     → rvc ≡ (located_at (said u) i x).options.rvc
-    → item ≡ item_in (section_in u.places.items) p.section (tables (said u)) (i + 1) (λ e. value (tables (said u)) true (i + 1) (offset_of p) e) rvc bytes x.kind
+    → item ≡ item_in (section_by_ordinal u.places.items) p.section (tables (said u)) (i + 1) (λ e. value_by_tables (tables (said u)) true (i + 1) (offset_of p) e) rvc bytes x.kind
     → item ≡ item_by_kind (tables (said u)) (located_from 1 1 (at_start (said u)) (said u)) (located_at (said u) i x) bytes x.kind
 seen_there u i x p rvc bytes item filled at on is =
     let ss = said u in
     let s = located_at ss i x in
-    let there = subst (λ (q : Standing). item ≡ item_in (section_in u.places.items) q.section (tables ss) (i + 1) (λ e. value (tables ss) true (i + 1) q e) rvc bytes x.kind) at.place is in
-    let here = subst (λ b. item ≡ item_in (section_in u.places.items) s.section (tables ss) (i + 1) (λ e. value (tables ss) true (i + 1) (place_of s) e) b bytes x.kind) on there in
+    let there = subst (λ (q : Standing). item ≡ item_in (section_by_ordinal u.places.items) q.section (tables ss) (i + 1) (λ e. value_by_tables (tables ss) true (i + 1) q e) rvc bytes x.kind) at.place is in
+    let here = subst (λ b. item ≡ item_in (section_by_ordinal u.places.items) s.section (tables ss) (i + 1) (λ e. value_by_tables (tables ss) true (i + 1) (place_of s) e) b bytes x.kind) on there in
     here ∙ sym (item_same u.places.items (located_from 1 1 (at_start ss) ss) (places_agree u.places.items ss filled.stand) (tables ss) s bytes x.kind)
 
 -- how long a statement is where it stands
 long_there : (u : SourceUnit) (i : ℕ) (x : Statement) (p : SectionOffset) (rvc b : Bool) (bytes : ℕ) → StandsAt u i x p
     → rvc ≡ (located_at (said u) i x).options.rvc → b ≡ (located_at (said u) i x).home.executable
-    → HasLength (λ e. value (tables (said u)) true (i + 1) (offset_of p) e) rvc (faults_in (tables (said u)) (i + 1) (offset_of p) x)
-    (beside_of b (λ e. value (tables (said u)) true (i + 1) (offset_of p) e) p.offset x.kind) x.kind bytes
+    → HasLength (λ e. value_by_tables (tables (said u)) true (i + 1) (offset_of p) e) rvc (faults_in (tables (said u)) (i + 1) (offset_of p) x)
+    (beside_of b (λ e. value_by_tables (tables (said u)) true (i + 1) (offset_of p) e) p.offset x.kind) x.kind bytes
     → HasSizeAt (tables (said u)) (located_at (said u) i x) bytes
 long_there u i x p rvc b bytes at on home h =
     let t = tables (said u) in
     let s = located_at (said u) i x in
     let kind = x.kind in
-    let there = subst (λ (q : Standing). HasLength (λ e. value t true (i + 1) q e) rvc (faults_in t (i + 1) q x) (beside_of b (λ e. value t true (i + 1) q e) q.offset kind) kind bytes) at.place h in
+    let there = subst (λ (q : Standing). HasLength (λ e. value_by_tables t true (i + 1) q e) rvc (faults_in t (i + 1) q x) (beside_of b (λ e. value_by_tables t true (i + 1) q e) q.offset kind) kind bytes) at.place h in
     subst (λ c. HasLength (λ e. expression_value t s e) s.options.rvc (code_faults_at t s) (beside_of c (λ e. expression_value t s e) s.offset kind) kind bytes) home
     (subst (λ r. HasLength (λ e. expression_value t s e) r (code_faults_at t s) (beside_of b (λ e. expression_value t s e) s.offset kind) kind bytes) on there)
 
@@ -302,9 +302,9 @@ long_there u i x p rvc b bytes at on home h =
 abbrev pub SeenThere : SourceUnit → ℕ → Standing → ℕ → List SectionOffset → Bool → Bool → Statement → Item → Type 0
 SeenThere u ordinal q section places b rvc s item =
     (bytes : ℕ)
-    × HasLength (λ e. value (tables (said u)) true ordinal q e) rvc (faults_in (tables (said u)) ordinal q s)
-    (beside_of b (λ e. value (tables (said u)) true ordinal q e) q.offset s.kind) s.kind bytes
-    × (item ≡ item_in (section_in places) section (tables (said u)) ordinal (λ e. value (tables (said u)) true ordinal q e) rvc bytes s.kind)
+    × HasLength (λ e. value_by_tables (tables (said u)) true ordinal q e) rvc (faults_in (tables (said u)) ordinal q s)
+    (beside_of b (λ e. value_by_tables (tables (said u)) true ordinal q e) q.offset s.kind) s.kind bytes
+    × (item ≡ item_in (section_by_ordinal places) section (tables (said u)) ordinal (λ e. value_by_tables (tables (said u)) true ordinal q e) rvc bytes s.kind)
 
 pub measured_more : (u : SourceUnit) (i : ℕ) (x : Statement) (p : SectionOffset) (rvc b : Bool) (old new : List Item) (item : Item) → IsFilled u → StandsAt u i x p
     → rvc ≡ (located_at (said u) i x).options.rvc → b ≡ (located_at (said u) i x).home.executable

@@ -24,7 +24,7 @@ use Rattle.rv_statement.specs.View.{plain_of, statement_kind}
 use Rattle.rv_layout_laws.specs.declared.item.Forms.{Forms}
 use Rattle.rv_layout_laws.specs.declared.item.Forms.TheVariants.{Settled, Branch as FullBranch}
 use Rattle.rv_parse_laws.specs.Syntax.{with_constant}
-use Rattle.rv_pseudo_laws.specs.Code.{Part, Closed, Open, Joined, Constants, code, signed_12, upper_20, number_of, by_number, by_part, by_amount, by_constant, i_type, s_type, u_type, shift_by, jal, jalr, named_form}
+use Rattle.rv_pseudo_laws.specs.Code.{Part, Closed, Open, Joined, Constants, code, signed_12, upper_20, constant_number, by_number, by_part, by_amount, by_constant, i_type, s_type, u_type, shift_by, jal, jalr, named_form}
 use Rattle.rv_pseudo_laws.specs.Filled.{are_closed}
 use Rattle.rv_source_laws.specs.Sizes.{near_forms, branch_forms, jump_forms, is_short_branch, is_short_register}
 use Rattle.rv_assemble_laws.specs.Coded.{AreCodedParts, constants, joined}
@@ -137,7 +137,7 @@ upper_word v make (Applied PcrelHi e) = refl
 upper_word v make o = tt
 
 amount_word : (v : Constants) (make : ℕ → Inst) (o : Operand) → IsWord (by_amount v make o)
-amount_word v make o = number_word (λ k. make (wrapped k)) (number_of v o)
+amount_word v make o = number_word (λ k. make (wrapped k)) (constant_number v o)
 
 constant_word : (v : Constants) (form : Option Mnemonic) (rd rs1 : ℕ) (o : Operand) → IsWord (by_constant v form rd rs1 o)
 constant_word v (Some (mnemonics.Immediate operation)) rd rs1 o = signed_word v false (λ k. of_immediate operation (i_type rd rs1 k)) o

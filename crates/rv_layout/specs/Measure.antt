@@ -20,7 +20,7 @@ use Rattle.rv_assemble_laws.specs.Refusals.{code_faults_at}
 use Rattle.rv_assemble_laws.specs.LaidStatements.{expression_value}
 use Rattle.rv_instruction.specs.declared.encoded.Coded.{Coded}
 use Rattle.rv_instruction.specs.Code.{near_forms_of, MayHave}
-use Rattle.rv_instruction.specs.Near.{section_in, item_in}
+use Rattle.rv_instruction.specs.Near.{section_by_ordinal, item_in}
 use Rattle.rv_instruction.specs.Scoped.{values_at, faults_at}
 use Rattle.rv_layout.specs.Code.{bytes_coded, beside_of, beside_at, IsCoded}
 
@@ -125,7 +125,7 @@ IsSeenAs scope index places place executable rvc kind item =
     (bytes : ℕ)
     × HasLength (values_at scope index place) rvc (faults_at scope index place kind)
     (beside_of executable (values_at scope index place) place.offset kind) kind bytes
-    × (item ≡ item_in (section_in places) place.section (tables (said scope.unit.now))
+    × (item ≡ item_in (section_by_ordinal places) place.section (tables (said scope.unit.now))
     (index + 1) (values_at scope index place) rvc bytes kind)
 
 -- items are what sizes see of a source's statements, by the bytes of those that are settled

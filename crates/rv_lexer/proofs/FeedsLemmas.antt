@@ -12,7 +12,7 @@ use Rattle.rv_text_laws.specs.Bytes.{class, spelling, is_word, in_line, is_digit
 use Rattle.rv_text_laws.specs.Strings.{Atom, Plain, Named, Octal, Hexadecimal, named, is_plain, is_character, SpellsAtom, StopsAtom}
 use Rattle.rv_text_laws.specs.Grammar.{Kind, Space, Line_comment, Block_comment, Newline, Punctuation, Name, Number, Reference, Bad_word, Text, Character, Bad_byte, Bad_token, End, Spells, IsWord}
 use Rattle.rv_text_laws.specs.Lexing.{newlines}
-use Rattle.rv_text_laws.specs.Front.{lexeme_at, number_in, number_kind, digits_kind}
+use Rattle.rv_text_laws.specs.Front.{lexeme_at, word_number, number_kind, digits_kind}
 use Rattle.rv_lexer.specs.declared.token.TokenKind.{TokenKind}
 use Rattle.rv_lexer.specs.declared.token.TokenKind.TheVariants as code
 use Rattle.rv_lexer.specs.Token.{kind_of}
@@ -123,5 +123,5 @@ numbers_no_feeds word None = refl
 numbers_no_feeds word (Some n) = refl
 
 pub digits_no_feeds : (word : List ℕ) (r : Option (List ℕ × Bool)) → has_feeds (digits_kind word r) ≡ false
-digits_no_feeds word None = numbers_no_feeds word (number_in word)
+digits_no_feeds word None = numbers_no_feeds word (word_number word)
 digits_no_feeds word (Some r) = refl

@@ -7,7 +7,7 @@ use Rattle.std.proofs.Math.Seq.{take-append_seam}
 use Rattle.rv_text_laws.specs.Cut.{Piece, texts, Each, cut}
 use Rattle.rv_text_laws.specs.Strings.{Atom, byte_of, SpellsAtom, StopsAtom}
 use Rattle.rv_text_laws.specs.Grammar as grammar
-use Rattle.rv_text_laws.specs.Front.{begins, atom_at, closed_string, closed_escape, character_at}
+use Rattle.rv_text_laws.specs.Front.{has_first, atom_at, closed_string, closed_escape, character_at}
 use Rattle.rv_text_laws.proofs.CutLemmas.{front, cuts, unique, cut-some, cut-none}
 use Rattle.rv_text_laws.proofs.AtomsLemmas.{atoms}
 use Rattle.rv_text_laws.proofs.CommentsLemmas.{begins_is}
@@ -51,7 +51,7 @@ unfolding string_bytes
 inside_bytes ps each = ap (λ c. map (λ a. byte_of a.kind) c.0) (unique atoms (texts ps) ps [] (record { whole = sym (append-nil (texts ps)); each = each }) nothing_left)
 
 -- a string that is closed, and one that is not
-pub closed : (bytes rest : List ℕ) (n : ℕ) → (cut atom_at bytes).1 ≡ rest → begins 34 rest ≡ true → n + length rest ≡ length bytes
+pub closed : (bytes rest : List ℕ) (n : ℕ) → (cut atom_at bytes).1 ≡ rest → has_first 34 rest ≡ true → n + length rest ≡ length bytes
     → Some (grammar.Text (string_bytes (take n bytes)), n + 2) ≡ closed_string (cut atom_at bytes)
 closed bytes rest n end quote count =
     let c = (cuts atoms bytes).0 in
@@ -64,21 +64,21 @@ closed bytes rest n end quote count =
         let inside : take n bytes ≡ texts ps = ap (λ m. take m bytes) len ∙ ap (take (length (texts ps))) whole ∙ take-append_seam (texts ps) after in
         let text : string_bytes (take n bytes) ≡ map (λ a. byte_of a.kind) ps = ap string_bytes inside ∙ inside_bytes ps (each_end ps after each) in
         let size : n + 2 ≡ suc (suc (length (texts ps))) = omega arith in
-        let test : begins 34 after ≡ true = ap (begins 34) same ∙ quote in
+        let test : has_first 34 after ≡ true = ap (has_first 34) same ∙ quote in
         ap (λ b. Some (grammar.Text b, n + 2)) text
         ∙ ap (λ m. Some (grammar.Text (map (λ a. byte_of a.kind) ps), m)) size
         ∙ sym (ap (λ t. cond t (Some (grammar.Text (map (λ a. byte_of a.kind) ps), suc (suc (length (texts ps))))) None) test)
 
-pub unclosed : (bytes rest : List ℕ) → (cut atom_at bytes).1 ≡ rest → begins 34 rest ≡ false → None ≡ closed_string (cut atom_at bytes)
+pub unclosed : (bytes rest : List ℕ) → (cut atom_at bytes).1 ≡ rest → has_first 34 rest ≡ false → None ≡ closed_string (cut atom_at bytes)
 unclosed bytes rest end quote =
-    let test : begins 34 (cut atom_at bytes).1 ≡ false = ap (begins 34) end ∙ quote in
+    let test : has_first 34 (cut atom_at bytes).1 ≡ false = ap (has_first 34) end ∙ quote in
     sym (ap (λ t. cond t (Some (grammar.Text (map (λ a. byte_of a.kind) (cut atom_at bytes).0), suc (suc (length (texts (cut atom_at bytes).0))))) None) test)
 
 -- the bounds of a string
 pub string_within : (bs : List ℕ) (k : grammar.Kind) (n : ℕ) → Some (k, n + 2) ≡ closed_string (cut atom_at bs) → n + 1 ≤ length bs
 string_within bs k n e = go (cut atom_at bs).0 (cut atom_at bs).1 (cuts atoms bs).0.whole e
   where
-    by_test : (t : Bool) (ps : List (Piece Atom ℕ)) (rest : List ℕ) → begins 34 rest ≡ t → bs ≡ texts ps ++ rest
+    by_test : (t : Bool) (ps : List (Piece Atom ℕ)) (rest : List ℕ) → has_first 34 rest ≡ t → bs ≡ texts ps ++ rest
         → ◌≡◌ {A = Option (grammar.Kind × ℕ)} (Some (k, n + 2)) (cond t (Some (grammar.Text (map (λ a. byte_of a.kind) ps), suc (suc (length (texts ps))))) None) → n + 1 ≤ length bs
     by_test false ps rest test whole is = cc
     by_test true ps rest test whole is =
@@ -87,7 +87,7 @@ string_within bs k n e = go (cut atom_at bs).0 (cut atom_at bs).1 (cuts atoms bs
         omega (arith, size, ap length whole, length-append (texts ps) rest, ap length r.1)
 
     go : (ps : List (Piece Atom ℕ)) (rest : List ℕ) → bs ≡ texts ps ++ rest → Some (k, n + 2) ≡ closed_string (ps, rest) → n + 1 ≤ length bs
-    go ps rest whole is = by_test (begins 34 rest) ps rest refl whole is
+    go ps rest whole is = by_test (has_first 34 rest) ps rest refl whole is
 
 -- a character by an escape
 
@@ -95,7 +95,7 @@ by_escape : (x : ℕ) (xs : List ℕ) → (x == 92) ≡ true → character_at (x
 unfolding atom_at
 by_escape x xs t = rw t refl
 
-pub escaped : (bytes : List ℕ) (b n : ℕ) (t : Bool) → begins 92 bytes ≡ true → ◌≡◌ {A = Option (ℕ × ℕ)} (Some (b, n)) (option_map (λ f. (byte_of f.0, f.1)) (atom_at bytes)) → begins 39 (drop n bytes) ≡ t
+pub escaped : (bytes : List ℕ) (b n : ℕ) (t : Bool) → has_first 92 bytes ≡ true → ◌≡◌ {A = Option (ℕ × ℕ)} (Some (b, n)) (option_map (λ f. (byte_of f.0, f.1)) (atom_at bytes)) → has_first 39 (drop n bytes) ≡ t
     → cond {A = Option (grammar.Kind × ℕ)} t (Some (grammar.Character b, suc (suc n))) None ≡ character_at bytes
 escaped [] b n t back atom quote = cc
 escaped (x ∷ xs) b n t back atom quote = go (atom_at (x ∷ xs)) (by_escape x xs back) atom
@@ -106,13 +106,13 @@ escaped (x ∷ xs) b n t back atom quote = go (atom_at (x ∷ xs)) (by_escape x 
     go (Some (a, m)) is e =
         let same : b ≡ byte_of a = (some_pair_parts b (byte_of a) n m e).0 in
         let len : n ≡ m = (some_pair_parts b (byte_of a) n m e).1 in
-        let test : begins 39 (drop m (x ∷ xs)) ≡ t = ap (λ k. begins 39 (drop k (x ∷ xs))) (sym len) ∙ quote in
+        let test : has_first 39 (drop m (x ∷ xs)) ≡ t = ap (λ k. has_first 39 (drop k (x ∷ xs))) (sym len) ∙ quote in
         ap (λ k. cond {A = Option (grammar.Kind × ℕ)} t (Some (grammar.Character k, suc (suc n))) None) same
         ∙ ap (λ k. cond {A = Option (grammar.Kind × ℕ)} t (Some (grammar.Character (byte_of a), suc (suc k))) None) len
         ∙ ap (λ u. cond {A = Option (grammar.Kind × ℕ)} u (Some (grammar.Character (byte_of a), suc (suc m))) None) (sym test)
         ∙ sym is
 
-pub not_escaped : (bytes : List ℕ) → begins 92 bytes ≡ true → ◌≡◌ {A = Option (ℕ × ℕ)} None (option_map (λ f. (byte_of f.0, f.1)) (atom_at bytes)) → None ≡ character_at bytes
+pub not_escaped : (bytes : List ℕ) → has_first 92 bytes ≡ true → ◌≡◌ {A = Option (ℕ × ℕ)} None (option_map (λ f. (byte_of f.0, f.1)) (atom_at bytes)) → None ≡ character_at bytes
 not_escaped [] back atom = cc
 not_escaped (x ∷ xs) back atom = go (atom_at (x ∷ xs)) (by_escape x xs back) atom
   where

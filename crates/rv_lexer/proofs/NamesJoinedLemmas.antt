@@ -4,7 +4,7 @@ use Rattle.std.proofs.Common.{◌≡◌, ℕ, ◌-◌, true, List, ◌∷◌, ta
 use Rattle.std.specs.Prelude.{is_some}
 use Rattle.rv_text_laws.specs.Lexing as lexing
 use Rattle.rv_text_laws.specs.Grammar.{Name}
-use Rattle.rv_text_laws.specs.Joined.{bytes_of, joins, joined_at}
+use Rattle.rv_text_laws.specs.Joined.{joined_bytes, joins, joined_at}
 use Rattle.rv_text_laws.proofs.JoinsLemmas.{Joining, joining_first, joining_more, joining_end, no_name, parts_join, joined_parts}
 use Rattle.rv_lexer.specs.declared.cursor.Cursor.{Cursor}
 use Rattle.rv_lexer.specs.declared.token.TokenKind.{TokenKind}
@@ -27,13 +27,13 @@ some_bytes (Some bytes) e = (bytes, refl)
 
 -- a token that goes on with it
 pub went_on : (at : ℕ) (bytes : List ℕ) (all : List lexing.Token) (start stop : ℕ) (c d : Cursor) → Joining at bytes all start stop (left c)
-    → c.next.start ≡ stop → is_some (bytes_of (kind_of c.next.kind)) ≡ true → left c ≡ token_of c.next ∷ left d → Joining at bytes all start c.next.stop (left d)
+    → c.next.start ≡ stop → is_some (joined_bytes (kind_of c.next.kind)) ≡ true → left c ≡ token_of c.next ∷ left d → Joining at bytes all start c.next.stop (left d)
 went_on at bytes all start stop c d j offset some one =
-    let b = some_bytes (bytes_of (kind_of c.next.kind)) some in
+    let b = some_bytes (joined_bytes (kind_of c.next.kind)) some in
     joining_more at bytes all start stop (token_of c.next) (left d) b.0
     (subst (λ (ts : List lexing.Token). Joining at bytes all start stop ts) one j) (parts_join stop (token_of c.next) b.0 offset b.1)
 
-no_join : (offset : ℕ) (t : lexing.Token) → (t.start ≡ offset → is_some (bytes_of t.kind) ≡ true → ⊥) → joins offset t ≡ None
+no_join : (offset : ℕ) (t : lexing.Token) → (t.start ≡ offset → is_some (joined_bytes t.kind) ≡ true → ⊥) → joins offset t ≡ None
 no_join offset t other = go (joins offset t) refl
   where
     go : (o : Option (List ℕ)) → joins offset t ≡ o → o ≡ None
@@ -42,7 +42,7 @@ no_join offset t other = go (joins offset t) refl
 
 -- a token that does not
 pub ended : (at : ℕ) (bytes : List ℕ) (all : List lexing.Token) (start stop : ℕ) (c : Cursor) → Joining at bytes all start stop (left c)
-    → (c.next.start ≡ stop → is_some (bytes_of (kind_of c.next.kind)) ≡ true → ⊥)
+    → (c.next.start ≡ stop → is_some (joined_bytes (kind_of c.next.kind)) ≡ true → ⊥)
     → joined_at all ≡ Some (take (stop - start) (drop (start - at) bytes), left c)
 unfolding left
 ended at bytes all start stop c j other = joining_end at bytes all start stop (token_of c.next) _ j (no_join stop (token_of c.next) other)

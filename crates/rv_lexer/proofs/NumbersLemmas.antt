@@ -4,12 +4,12 @@ use Rattle.std.proofs.Common.{◌≡◌, ℕ, zero, suc, ◌+◌, ◌*◌, ◌^�
 use Rattle.std.proofs.lemmas.Bool.{le-ltb, lt-ltb}
 use Rattle.std.specs.List.{list_all}
 use Rattle.std.proofs.Math.Nat.{pow-zero, pow-suc, one-le-mul, le-mul_of_pos_right}
-use Rattle.rv_text_laws.specs.Bytes.{is_digit, digit, value}
+use Rattle.rv_text_laws.specs.Bytes.{is_digit, digit, digits_value}
 use Rattle.rv_text_laws.specs.Front.{number_by, after_zero}
 
 -- the number of digits already read, with the rest
 abbrev pub number_with : ℕ → ℕ → List ℕ → ℕ
-number_with base number rest = number * base ^ length rest + value base rest
+number_with base number rest = number * base ^ length rest + digits_value base rest
 
 -- what the whole spells
 abbrev pub number_on : ℕ → ℕ → List ℕ → Option ℕ
@@ -17,7 +17,7 @@ number_on base number rest = cond (list_all (is_digit base) rest && nat_lt (numb
 
 pub on_start : (base : ℕ) (ds : List ℕ) → number_by base ds ≡ number_on base 0 ds
 on_start base ds =
-    let same : value base ds ≡ number_with base 0 ds = omega arith in
+    let same : digits_value base ds ≡ number_with base 0 ds = omega arith in
     ap (λ n. cond (list_all (is_digit base) ds && nat_lt n (2 ^ 64)) (Some n) None) same
 
 regrouped : (n b x g v : ℕ) → n * (x * b) + (g * x + v) ≡ (n * b + g) * x + v
@@ -25,8 +25,8 @@ regrouped n b x g v = omega arith
 
 with_digit : (base number d : ℕ) (rest : List ℕ) → number_with base number (d ∷ rest) ≡ number_with base (number * base + digit d) rest
 with_digit base number d rest =
-    ap (λ p. number * p + (digit d * base ^ length rest + value base rest)) (pow-suc base (length rest))
-    ∙ regrouped number base (base ^ length rest) (digit d) (value base rest)
+    ap (λ p. number * p + (digit d * base ^ length rest + digits_value base rest)) (pow-suc base (length rest))
+    ∙ regrouped number base (base ^ length rest) (digit d) (digits_value base rest)
 
 pub on_digit : (base number d : ℕ) (rest : List ℕ) → is_digit base d ≡ true → number_on base number (d ∷ rest) ≡ number_on base (number * base + digit d) rest
 on_digit base number d rest good =

@@ -8,7 +8,7 @@ use Rattle.rv_lexer.specs.declared.syntax_error.SyntaxError.{SyntaxError}
 use Rattle.rv_lexer.specs.declared.syntax_error.ReadError.{ReadError}
 use Rattle.rv_lexer.specs.declared.syntax_error.ReadError.TheVariants as errors
 use Rattle.rv_lexer.specs.Token.{token_of, kind_of}
-use Rattle.rv_lexer.specs.Fault.{number_of}
+use Rattle.rv_lexer.specs.Fault.{source_fault_number}
 use Rattle.rv_lexer.specs.Left.{tokens_left}
 
 -- the next token, and unless it is the last those of the lexer
@@ -18,7 +18,7 @@ left c =
 
 -- what an error of the code stands for
 abbrev pub syntax_error_of : SyntaxError → laws.SyntaxError
-syntax_error_of w = record { offset = w.offset; line = w.line; code = number_of w.code }
+syntax_error_of w = record { offset = w.offset; line = w.line; code = source_fault_number w.code }
 
 -- a call's error is that of the reading, unless memory ran out
 abbrev pub Fails : {Y : Type 0} → ReadError → Result Y laws.SyntaxError → Type 0

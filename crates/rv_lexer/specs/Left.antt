@@ -12,7 +12,7 @@ unfoldable pub tokens_left : Lexer → List lexing.Token
 tokens_left lexer = tokens_from lexer.at lexer.line lexer.rest.now
 
 -- the next token of a lexer, and unless that is the last the lexer that has the tokens after it
-abbrev pub Gives : Lexer → Token → Lexer → Type 0
-Gives before next lexer =
+abbrev pub GivesToken : Lexer → Token → Lexer → Type 0
+GivesToken before next lexer =
     tokens_left before
     ≡ token_of next ∷ (if lexing.is_last (kind_of next.kind) then [] else tokens_left lexer)

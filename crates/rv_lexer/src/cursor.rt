@@ -3,10 +3,10 @@
 ghost use Rattle.std.specs.Prelude.{◌≡◌, ◌∷◌, false, option_map, is_some};
 ghost use Rattle.rv_text_laws.specs.Lexing.{is_last};
 ghost use Rattle.rv_text_laws.specs.SyntaxError.{wrong};
-ghost use Rattle.rv_text_laws.specs.Joined.{bytes_of, joined_at};
-ghost use Rattle.rv_lexer.specs.Fault.{number_of};
+ghost use Rattle.rv_text_laws.specs.Joined.{joined_bytes, joined_at};
+ghost use Rattle.rv_lexer.specs.Fault.{source_fault_number};
 ghost use Rattle.rv_lexer.specs.Token.{token_of, kind_of};
-ghost use Rattle.rv_lexer.specs.Left.{Gives};
+ghost use Rattle.rv_lexer.specs.Left.{GivesToken};
 
 use crate::fault::SourceCode;
 use crate::lexer::Lexer;
@@ -16,7 +16,7 @@ use rv_text_laws::Punct;
 
 /// A token that goes on with a name, where no gap is between.
 fn joins(kind: TokenKind<'_>) -> bool
-    ensures { result ≡ is_some (bytes_of (kind_of kind.entry)) }
+    ensures { result ≡ is_some (joined_bytes (kind_of kind.entry)) }
 {
     matches!(
         kind,
@@ -36,7 +36,7 @@ pub struct Cursor<'a> {
     /// The lexer that gave it, before it did.
     before: Lexer<'a>,
     lexer: Lexer<'a>,
-    ghost gives: { Gives before next lexer },
+    ghost gives: { GivesToken before next lexer },
 }
 
 impl<'a> Cursor<'a> {
@@ -97,7 +97,8 @@ impl<'a> Cursor<'a> {
 
     /// The next token is wrong.
     pub fn wrong(&self, code: SourceCode) -> SyntaxError
-        ensures { syntax_error_of result ≡ wrong (token_of self.now.next) (number_of code) }
+        ensures { syntax_error_of result
+            ≡ wrong (token_of self.now.next) (source_fault_number code) }
     {
         SyntaxError::at(self.next, code)
     }

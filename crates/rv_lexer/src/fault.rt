@@ -1,7 +1,7 @@
 //! Why a source is refused.
 
 ghost use Rattle.std.specs.Prelude.{◌≡◌};
-ghost use Rattle.rv_lexer.specs.Fault.{number_of, name_of};
+ghost use Rattle.rv_lexer.specs.Fault.{source_fault_number, source_fault_name};
 
 use std::alloc::{AllocError, AllocFailed};
 use thiserror::Error;
@@ -48,7 +48,7 @@ pub enum SourceCode {
 impl SourceCode {
     /// The number after the `E`.
     pub fn number(self) -> u8
-        ensures { result ≡ number_of self }
+        ensures { result ≡ source_fault_number self }
     {
         match self {
             SourceCode::BadByte => 1,
@@ -73,7 +73,7 @@ impl SourceCode {
 
     /// The name that messages show after the number.
     pub fn name(self) -> &'static str
-        ensures { result.now ≡ name_of self }
+        ensures { result.now ≡ source_fault_name self }
     {
         match self {
             SourceCode::BadByte => "BadByte",

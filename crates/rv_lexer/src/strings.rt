@@ -8,7 +8,7 @@ ghost use Rattle.rv_text_laws.specs.Cut.{cut};
 ghost use Rattle.rv_text_laws.specs.Bytes.{is_digit};
 ghost use Rattle.rv_text_laws.specs.Strings.{byte_of, named, is_plain, is_character};
 ghost use Rattle.rv_text_laws.specs.Grammar as grammar;
-ghost use Rattle.rv_text_laws.specs.Front.{begins, number_by, escape_at, atom_at, closed_string, character_at};
+ghost use Rattle.rv_text_laws.specs.Front.{has_first, number_by, escape_at, atom_at, closed_string, character_at};
 ghost use Rattle.rv_lexer.specs.Token.{string_bytes};
 
 use crate::word::{is_digit, number_by};
@@ -81,7 +81,7 @@ fn hexadecimal(digits: &[u8]) -> Option<(u8, usize)>
 
 /// Whether the bytes begin with this one.
 pub(crate) fn begins(byte: u8, bytes: &[u8]) -> bool
-    ensures { result ≡ begins byte bytes.now }
+    ensures { result ≡ has_first byte bytes.now }
 {
     match bytes {
         [] => false,
@@ -232,7 +232,7 @@ pub fn string_size(text: &[u8]) -> usize
 
 /// A character that stands for itself, after its apostrophe: its byte, and its length with both.
 fn plain_character(bytes: &[u8]) -> Option<(u8, usize)>
-    requires { begins 92 bytes.now ≡ false }
+    requires { has_first 92 bytes.now ≡ false }
     ensures { option_map (λ r. (grammar.Character r.0, r.1)) result ≡ character_at bytes.now }
 {
     match bytes {

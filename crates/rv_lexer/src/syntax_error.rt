@@ -2,8 +2,8 @@
 
 ghost use Rattle.std.specs.Prelude.{◌≡◌, ◌==◌};
 ghost use Rattle.rv_text_laws.specs.Codes.{limit};
-ghost use Rattle.rv_text_laws.specs.SyntaxError.{is_long, offset_of, wrong};
-ghost use Rattle.rv_lexer.specs.Fault.{number_of};
+ghost use Rattle.rv_text_laws.specs.SyntaxError.{is_long, fault_offset, wrong};
+ghost use Rattle.rv_lexer.specs.Fault.{source_fault_number};
 ghost use Rattle.rv_lexer.specs.Token.{token_of, kind_of};
 
 use crate::fault::SourceCode;
@@ -31,7 +31,7 @@ impl SyntaxError {
 
     /// The fault of a token with this code.
     pub fn at(token: Token<'_>, code: SourceCode) -> Self
-        ensures { syntax_error_of result ≡ wrong (token_of token.entry) (number_of code) }
+        ensures { syntax_error_of result ≡ wrong (token_of token.entry) (source_fault_number code) }
     {
         SyntaxError {
             offset: offset_of(token, code),
@@ -94,15 +94,15 @@ fn is_long(kind: TokenKind<'_>) -> bool
 
 /// The code of what is too long or too many.
 fn is_limit(code: SourceCode) -> bool
-    ensures { result ≡ (number_of code == limit) }
+    ensures { result ≡ (source_fault_number code == limit) }
 {
     matches!(code, SourceCode::Limit)
 }
 
 /// The offset of a token's fault: of its first byte, but a name's limit at the first byte past it.
-#[tactic(auto, unfolding(rv_text_laws::specs::SyntaxError::offset_of))]
+#[tactic(auto, unfolding(rv_text_laws::specs::SyntaxError::fault_offset))]
 fn offset_of(token: Token<'_>, code: SourceCode) -> usize
-    ensures { result ≡ offset_of (token_of token.entry) (number_of code) }
+    ensures { result ≡ fault_offset (token_of token.entry) (source_fault_number code) }
 {
     if is_limit(code) && is_long(token.kind) {
         token.start as usize + LONGEST_NAME

@@ -3,7 +3,7 @@
 ghost use Rattle.std.specs.Prelude.{◌≡◌, ◌==◌, ◌||◌, ◌<◌, ◌≤◌, false, None, length, option_map};
 ghost use Rattle.std.specs.List.{prefix_len};
 ghost use Rattle.rv_text_laws.specs.Bytes.{is_word, is_digit};
-ghost use Rattle.rv_text_laws.specs.Front.{number_by, after_zero, number_in, with_direction, reference_in, digits_kind};
+ghost use Rattle.rv_text_laws.specs.Front.{number_by, after_zero, word_number, with_direction, reference_in, digits_kind};
 ghost use Rattle.rv_lexer.specs.Token.{kind_of};
 
 use crate::class::{digit, is_word};
@@ -57,9 +57,9 @@ fn after_zero(rest: &[u8]) -> Option<u64>
 }
 
 /// The number that a word writes.
-#[tactic(auto, unfolding(rv_text_laws::specs::Front::number_in))]
+#[tactic(auto, unfolding(rv_text_laws::specs::Front::word_number))]
 fn number_in(word: &[u8]) -> Option<u64>
-    ensures { result ≡ number_in word.now }
+    ensures { result ≡ word_number word.now }
 {
     match word {
         [] => None,

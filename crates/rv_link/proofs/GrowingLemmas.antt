@@ -14,7 +14,7 @@ use Rattle.rv_object_laws.specs.Values.{patched_at, applied, initial_bytes}
 use Rattle.rv_shorten.specs.Sections.{short_section_of}
 use Rattle.rv_relax.specs.Plan.{moves_of}
 use Rattle.rv_placement.specs.declared.placement.Placement.{Placement}
-use Rattle.rv_placement.specs.Placement.{starts_of, section_in, section_at}
+use Rattle.rv_placement.specs.Placement.{starts_of, section_in, object_section}
 use Rattle.rv_isa.specs.declared.kind.Kind.{Kind}
 use Rattle.rv_isa.specs.Kinds.{width_of}
 use Rattle.rv_isa_laws.specs.Bytes.{little_endian, zeros}
@@ -22,7 +22,7 @@ use Rattle.rv_reloc.specs.Fields.{patched}
 use Rattle.rv_link.specs.declared.fixed.Input.{Input}
 use Rattle.rv_link_values.specs.Values.{IsInputAt}
 use Rattle.rv_link.proofs.StepsLemmas.{all_inside, kept_long}
-use Rattle.rv_link.specs.Filled.{IsInput, IsInside, input_at, linked_in, worth}
+use Rattle.rv_link.specs.Filled.{IsPlacedInput, IsInside, input_at, linked_in, worth}
 use Rattle.rv_link.specs.Regions.{left_from, IsGrown}
 
 -- ---- starts
@@ -117,14 +117,14 @@ found_at os file o e =
       go (x ∷ xs) zero e = cc
       go (x ∷ xs) (suc file) e = go xs file e
 
-pub found_object : (os : List Object) (file index : ℕ) (s : Section) → section_at os file index ≡ Some s → slice_get os file ≡ Some (object_at os (file + 1))
+pub found_object : (os : List Object) (file index : ℕ) (s : Section) → object_section os file index ≡ Some s → slice_get os file ≡ Some (object_at os (file + 1))
 found_object os file index s e = go (slice_get os file) refl e where
   go : (x : Option Object) → slice_get os file ≡ x → section_in x index ≡ Some s → slice_get os file ≡ Some (object_at os (file + 1))
   go None f e = absurd (cc)
   go (Some o) f e = f ∙ ap Some (sym (found_at os file o f))
 
 -- as `rv_link_values` asks for it
-pub found_section : (os : List Object) (file index : ℕ) (s : Section) → section_at os file index ≡ Some s → IsInputAt os file index (input_at os file index s)
+pub found_section : (os : List Object) (file index : ℕ) (s : Section) → object_section os file index ≡ Some s → IsInputAt os file index (input_at os file index s)
 found_section os file index s e = record {
   numbered = refl;
   at = found_object os file index s e;
@@ -132,13 +132,13 @@ found_section os file index s e = record {
   there = ap (λ x. section_in x index) (sym (found_object os file index s e)) ∙ e;
 }
 
-pub front_of : (os : List Object) (file index : ℕ) (s : Section) → section_at os file index ≡ Some s
+pub front_of : (os : List Object) (file index : ℕ) (s : Section) → object_section os file index ≡ Some s
     → drop index (object_at os (file + 1)).sections ≡ s ∷ drop (index + 1) (object_at os (file + 1)).sections
 front_of os file index s e =
     get_front (object_at os (file + 1)).sections index s (ap (λ x. section_in x index) (sym (found_object os file index s e)) ∙ e)
     ∙ ap (λ n. s ∷ drop n (object_at os (file + 1)).sections) (sym (add-one index))
 
-module _ (os : List Object) (file index : ℕ) (s : Section) (goes : Section → Bool) (stands : section_at os file index ≡ Some s) where
+module _ (os : List Object) (file index : ℕ) (s : Section) (goes : Section → Bool) (stands : object_section os file index ≡ Some s) where
   rest : ℕ → List Section → List InputSection
   rest n ss = inputs_from goes (file + 1) (object_at os (file + 1)) n ss
 
@@ -185,7 +185,7 @@ applied_length ms w (r ∷ rs) bytes (one, h) =
     applied_length ms w rs (patched_at (new_offset ms r.place) r.kind (w r) bytes) (subst (λ n. AllByRecursion (IsInside ms n) rs) (sym same) h) ∙ same
 
 -- a section has as many bytes in the program as are left of it
-pub linked_long : (os : List Object) (p : Placement) (x : Input) → IsInput os p x
+pub linked_long : (os : List Object) (p : Placement) (x : Input) → IsPlacedInput os p x
     → length (linked_in os p (input_at os x.file x.index (short_section_of x.section.now))) ≡ size (starts_of p) (input_at os x.file x.index (short_section_of x.section.now))
 linked_long os p x is =
     let s : Section = short_section_of x.section.now in

@@ -18,13 +18,13 @@ use Rattle.rv_isa_laws.specs.Platform.{stack_start}
 use Rattle.rv_relax.specs.Plan.{moves_of}
 use Rattle.rv_placement.specs.declared.placement.PlacedSection.{PlacedSection}
 use Rattle.rv_placement.specs.declared.placement.Placement.{Placement}
-use Rattle.rv_placement.specs.Placement.{starts_of, start_in, placed_in, placed_at, section_in, section_at, are_roomy_in, are_roomy, IsPlacement}
+use Rattle.rv_placement.specs.Placement.{starts_of, start_in, placed_in, placed_at, section_in, object_section, are_roomy_in, are_roomy, IsPlacement}
 use Rattle.rv_resolve.specs.declared.names.Names.{Names}
 use Rattle.rv_resolve.specs.Shown.{shown_globals, regions_of}
 use Rattle.rv_link.specs.declared.regions.Regions.{Regions}
 use Rattle.rv_link.specs.Filled.{IsTaken}
 use Rattle.rv_link.specs.Untaken.{AreTaken}
-use Rattle.rv_link.specs.Regions.{AreGrown, IsNamed}
+use Rattle.rv_link.specs.Regions.{AreGrown, HasLinkNames}
 use Rattle.rv_link.specs.Made.{made}
 use Rattle.rv_link.proofs.StandingLemmas.{all_at}
 
@@ -85,7 +85,7 @@ has_its_room os start p placed roomy file o index s at there =
     let (qs, qs_there, long) = places_at p.files.items os placed.each file o at in
     let inside : index < length qs.items = omega (arith, long, slice_get_within o.sections index s there) in
     let (q, q_there) = some_at qs.items index inside in
-    let stands : section_at os file index ≡ Some s = ap (λ z. section_in z index) at ∙ there in
+    let stands : object_section os file index ≡ Some s = ap (λ z. section_in z index) at ∙ there in
     let found : placed_at p file index ≡ Some q = ap (λ z. placed_in z index) qs_there ∙ q_there in
     let back : suc file - 1 ≡ file = omega arith in
     let starts : starts_of p (suc file) index ≡ q.start = ap (λ n. start_in (placed_at p n index)) back ∙ ap start_in found in
@@ -96,7 +96,7 @@ has_its_room os start p placed roomy file o index s at there =
 
 -- ---- the whole
 
-pub is_link : (drops : List SectionId) (os : List Object) (start : ℕ) (names : Names) (p : Placement) (entry : ℕ) (r : Regions) → length os ≤ most_files → start % 4096 ≡ 0 → start < stack_start → IsNamed os names → IsPlacement os start p → are_roomy p ≡ true
+pub is_link : (drops : List SectionId) (os : List Object) (start : ℕ) (names : Names) (p : Placement) (entry : ℕ) (r : Regions) → length os ≤ most_files → start % 4096 ≡ 0 → start < stack_start → HasLinkNames os names → IsPlacement os start p → are_roomy p ≡ true
     → entry_of (starts_of p) os ≡ Some entry → entry % 2 ≡ 0 → AreGrown os p (λ goes. []) r → IsMap (made drops os p entry r).map → IsLinkOf os start (made drops os p entry r)
 is_link drops os start names p entry r few page low named placed roomy begins even grown readable =
     let resolved = named.resolved (starts_of p) (record (regions_of p) { globals = shown_globals os p }) refl in

@@ -22,7 +22,7 @@ use Rattle.rv_object_laws.specs.Names.{Export, chosen, is_defined, is_export, ex
 use Rattle.rv_object_laws.proofs.TextInputsLemmas.{all_append}
 use Rattle.rv_shorten.specs.declared.object.ShortObject.{ShortObject}
 use Rattle.rv_shorten.specs.Cutting.{cut_definition, cut_symbol}
-use Rattle.rv_shorten.specs.View.{short_object_of, moves_of}
+use Rattle.rv_shorten.specs.View.{short_object_of, moves_by_section}
 use Rattle.rv_placement.specs.declared.placement.Placement.{Placement}
 use Rattle.rv_placement.specs.Placement.{starts_of, IsPlacement}
 use Rattle.rv_resolve.specs.Shown.{regions_of, shown_globals}
@@ -46,7 +46,7 @@ can_show_cut mss (s ∷ ss) = ((s.shown, low_cut mss s.definition s.low), can_sh
 
 can_show : (objects : List ShortObject) → AllByRecursion (λ o. AllByRecursion CanShow o.symbols) (map short_object_of objects)
 can_show [] = tt
-can_show (x ∷ xs) = (can_show_cut (moves_of x) x.whole.now.symbols.items, can_show xs)
+can_show (x ∷ xs) = (can_show_cut (moves_by_section x) x.whole.now.symbols.items, can_show xs)
 
 -- ---- definitions for all files
 

@@ -14,11 +14,11 @@ use Rattle.rv_object_laws.specs.Moves.{Move, moves, new_offset}
 use Rattle.rv_object_laws.proofs.TextInputsLemmas.{all_append}
 use Rattle.rv_shorten.specs.declared.object.ShortObject.{ShortObject}
 use Rattle.rv_shorten.specs.Cutting.{cut_row_of}
-use Rattle.rv_shorten.specs.View.{short_object_of, moves_of as cuts_of}
+use Rattle.rv_shorten.specs.View.{short_object_of, moves_by_section as cuts_of}
 use Rattle.rv_relax.specs.Plan.{moves_of}
 use Rattle.rv_relax.proofs.RisingLemmas.{plan_rises}
 use Rattle.rv_placement.specs.declared.placement.Placement.{Placement}
-use Rattle.rv_placement.specs.Placement.{starts_of, section_at, IsPlacement}
+use Rattle.rv_placement.specs.Placement.{starts_of, object_section, IsPlacement}
 use Rattle.rv_placement.proofs.FoundLemmas.{in_object, is_placed, start_is}
 
 -- ---- lists
@@ -69,7 +69,7 @@ module _ (os : List Object) (start : ℕ) (p : Placement) (is : IsPlacement os s
       → IsRow (row_in (starts_of p) (suc file) o r)
   row_known file o at few r lies numbered =
       let (s, there, within) = row_stands r (slice_get o.sections r.section) lies in
-      let stands : section_at os file r.section ≡ Some s = in_object os file r.section o at ∙ there in
+      let stands : object_section os file r.section ≡ Some s = in_object os file r.section o at ∙ there in
       let (q, found) = is_placed os start p is file r.section s stands in
       let low = is.low file r.section s q stands found in
       let planned : moves_of q.plan ≡ moves q.start s = is.planned file r.section s q stands found in

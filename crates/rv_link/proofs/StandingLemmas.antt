@@ -14,9 +14,9 @@ use Rattle.rv_shorten.specs.View.{short_object_of}
 use Rattle.rv_relax.specs.Plan.{moves_of}
 use Rattle.rv_placement.specs.declared.placement.PlacedSection.{PlacedSection}
 use Rattle.rv_placement.specs.declared.placement.Placement.{Placement}
-use Rattle.rv_placement.specs.Placement.{starts_of, start_in, placed_in, placed_at, section_in, section_at, are_roomy_in, are_roomy, IsPlacement}
+use Rattle.rv_placement.specs.Placement.{starts_of, start_in, placed_in, placed_at, section_in, object_section, are_roomy_in, are_roomy, IsPlacement}
 use Rattle.rv_link.specs.declared.fixed.Input.{Input}
-use Rattle.rv_link.specs.Filled.{IsInput}
+use Rattle.rv_link.specs.Filled.{IsPlacedInput}
 use Rattle.rv_link.proofs.GrowingLemmas.{found_at}
 
 pub read : {A B : Type 0} (f : A → B) (xs : List A) (i : ℕ) (x : A) → i < length xs → x ≡ get_or xs i x → slice_get (map f xs) i ≡ Some (f x)
@@ -83,20 +83,20 @@ module _ (objects : List ShortObject) (first : ℕ) (p : Placement) (placed : Is
     places_there = read_plain p.files.items file qs ((counts p.files.items (map short_object_of objects) placed.each file (short_object_of o) object_there qs qs_is).0) qs_is
 
     pub input_is : (x : Input) → x.file ≡ file → x.index ≡ index → x.section.now ≡ get_or (get_or objects file o).sections.items index x.section.now → x.placed.now ≡ get_or qs.items index x.placed.now
-        → IsInput (map short_object_of objects) p x
+        → IsPlacedInput (map short_object_of objects) p x
     input_is x e f s_is q_is =
         let same_file : file ≡ x.file = sym e in
         let same_index : index ≡ x.index = sym f in
         let own : x.section.now ≡ get_or o.sections.items index x.section.now = s_is ∙ ap (λ z. get_or z.sections.items index x.section.now) (sym o_is) in
         let s_there : slice_get (map short_section_of o.sections.items) index ≡ Some (short_section_of x.section.now) = read short_section_of o.sections.items index x.section.now index_low own in
-        let stands : section_at (map short_object_of objects) file index ≡ Some (short_section_of x.section.now) = ap (λ z. section_in z index) object_there ∙ s_there in
+        let stands : object_section (map short_object_of objects) file index ≡ Some (short_section_of x.section.now) = ap (λ z. section_in z index) object_there ∙ s_there in
         let q_there : slice_get qs.items index ≡ Some x.placed.now = read_plain qs.items index x.placed.now (subst (λ n. index < n) (sym places_long) index_low) q_is in
         let at : placed_at p file index ≡ Some x.placed.now = ap (λ z. placed_in z index) places_there ∙ q_there in
         let back : file + 1 - 1 ≡ file = omega arith in
         let start : starts_of p (file + 1) index ≡ x.placed.now.start = ap (λ n. start_in (placed_at p n index)) back ∙ ap start_in at in
         let row : are_roomy_in qs.items ≡ true = all_at (λ g. are_roomy_in g.items) p.files.items file qs roomy places_there in
         record {
-          stands = subst (λ n. section_at (map short_object_of objects) n x.index ≡ Some (short_section_of x.section.now)) same_file (subst (λ n. section_at (map short_object_of objects) file n ≡ Some (short_section_of x.section.now)) same_index stands);
+          stands = subst (λ n. object_section (map short_object_of objects) n x.index ≡ Some (short_section_of x.section.now)) same_file (subst (λ n. object_section (map short_object_of objects) file n ≡ Some (short_section_of x.section.now)) same_index stands);
           start = subst (λ n. starts_of p (n + 1) x.index ≡ x.placed.now.start) same_file (subst (λ n. starts_of p (file + 1) n ≡ x.placed.now.start) same_index start);
           planned = placed.planned file index (short_section_of x.section.now) x.placed.now stands at;
           room = all_at (λ q. list_all has_room (moves_of q.plan)) qs.items index x.placed.now row q_there;

@@ -12,7 +12,7 @@ use Rattle.rv_object.specs.Valid.{are_paddings, fit_inside}
 use Rattle.rv_object.specs.Parts.{relocation_of}
 use Rattle.rv_object.specs.declared.relocation.Relocation.{Relocation as Declared}
 use Rattle.rv_object_laws.specs.Moves.{Move, moves, new_offset, kept, has_room}
-use Rattle.rv_object_laws.specs.Inputs.{InputSection, is_nobits}
+use Rattle.rv_object_laws.specs.Inputs.{InputSection, has_no_bytes}
 use Rattle.rv_object_laws.specs.Values.{applied, patched_at, value, initial_bytes}
 use Rattle.rv_shorten.specs.Cutting.{cut_relocation}
 use Rattle.rv_placement.specs.declared.placement.Placement.{Placement}
@@ -147,7 +147,7 @@ kept_long s base ms same room paddings =
     kept_size ms (initial_bytes s.contents) follow' ∙ ap (new_offset ms) (initial_size s.contents)
 
 -- a section without bytes has no field
-pub none_inside : (c : Contents) (ms : List Move) (size : ℕ) (rs : List Relocation) → is_nobits c ≡ true → IsTrue (fit_inside c rs) → AllByRecursion (IsInside ms size) rs
+pub none_inside : (c : Contents) (ms : List Move) (size : ℕ) (rs : List Relocation) → has_no_bytes c ≡ true → IsTrue (fit_inside c rs) → AllByRecursion (IsInside ms size) rs
 none_inside c ms size [] e h = tt
 none_inside (Nobits zeroed) ms size (r ∷ rs) e h =
     let parts : ((width_of r.kind == 0) ≡ true) × (fit_inside (Nobits zeroed) rs ≡ true) = and_parts (width_of r.kind == 0) (fit_inside (Nobits zeroed) rs) h in

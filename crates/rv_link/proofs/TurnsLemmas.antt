@@ -6,7 +6,7 @@ use Rattle.std.specs.Global.{Vec}
 use Rattle.std.specs.List.{AllByRecursion}
 use Rattle.rv_map.specs.declared.map.Region.{Region}
 use Rattle.rv_object.specs.Object.{Section, Object}
-use Rattle.rv_object_laws.specs.Inputs.{InputSection, is_nobits, goes_to_text, goes_to_rodata, goes_to_data, inputs_from, inputs_of, inputs, Stand}
+use Rattle.rv_object_laws.specs.Inputs.{InputSection, has_no_bytes, goes_to_text, goes_to_rodata, goes_to_data, inputs_from, inputs_of, inputs, Stand}
 use Rattle.rv_object_laws.specs.Names.{object_at, no_object}
 use Rattle.std.proofs.lemmas.List.{drop_more, drop_all}
 use Rattle.rv_isa_laws.specs.Bytes.{zeros}
@@ -16,13 +16,13 @@ use Rattle.rv_placement.specs.declared.placement.Placement.{Placement}
 use Rattle.rv_placement.specs.Placement.{starts_of, IsPlacement}
 use Rattle.rv_link.specs.declared.fixed.Input.{Input}
 use Rattle.rv_link.specs.declared.regions.Regions.{Regions}
-use Rattle.rv_link.specs.Filled.{IsInput, input_at, linked_in}
+use Rattle.rv_link.specs.Filled.{IsPlacedInput, input_at, linked_in}
 use Rattle.rv_link.specs.declared.fault.LinkFault.{LinkFault}
 use Rattle.rv_link.specs.Untaken.{AreTaken, AreUntaken, IsFirstUntaken, OrMemory, AreUnfilled}
 use Rattle.rv_link.specs.Regions.{left_from, left_files, IsGrown, AreGrown}
 use Rattle.rv_link.proofs.GrowingLemmas.{later, grown_first, grown_next, grown_same, left_takes, left_skips, linked_long}
 
-module _ (os : List Object) (p : Placement) (x : Input) (is : IsInput os p x) where
+module _ (os : List Object) (p : Placement) (x : Input) (is : IsPlacedInput os p x) where
   -- a region that a section goes to
   one : (goes : Section → Bool) (region : Region) (out new : List ℕ) → goes (short_section_of x.section.now) ≡ true
       → IsGrown (linked_in os p) (starts_of p) region (inputs goes os) (left_from os x.file x.index goes) out
@@ -65,8 +65,8 @@ module _ (os : List Object) (p : Placement) (x : Input) (is : IsInput os p x) wh
     pub not_loaded : x.section.now.whole.now.loaded ≡ false → AreGrown os p (left_from os x.file (x.index + 1)) r
     not_loaded e = record {
       text = other goes_to_text p.text r.text.items (ap (λ b. b && x.section.now.whole.now.executable) e) grown.text;
-      rodata = other goes_to_rodata p.rodata r.rodata.items (ap (λ b. b && not x.section.now.whole.now.executable && not (is_nobits (short_section_of x.section.now).contents) && not x.section.now.whole.now.writable) e) grown.rodata;
-      «data» = other goes_to_data p.data r.data.items (ap (λ b. b && not x.section.now.whole.now.executable && not (is_nobits (short_section_of x.section.now).contents) && x.section.now.whole.now.writable) e) grown.data;
+      rodata = other goes_to_rodata p.rodata r.rodata.items (ap (λ b. b && not x.section.now.whole.now.executable && not (has_no_bytes (short_section_of x.section.now).contents) && not x.section.now.whole.now.writable) e) grown.rodata;
+      «data» = other goes_to_data p.data r.data.items (ap (λ b. b && not x.section.now.whole.now.executable && not (has_no_bytes (short_section_of x.section.now).contents) && x.section.now.whole.now.writable) e) grown.data;
       taken = λ h. grown.taken (subst (λ l. AllByRecursion (AreTaken os p) l) (sym (left_skips os x.file x.index (short_section_of x.section.now) is_loaded is.stands e)) h);
       first = λ fault h. grown.first fault (subst (λ l. IsFirstUntaken os p fault l) (sym (left_skips os x.file x.index (short_section_of x.section.now) is_loaded is.stands e)) h);
     }
@@ -82,18 +82,18 @@ module _ (os : List Object) (p : Placement) (x : Input) (is : IsInput os p x) wh
     pub text_is : (a b : Bool) → x.section.now.whole.now.loaded ≡ a → x.section.now.whole.now.executable ≡ b → goes_to_text (short_section_of x.section.now) ≡ (a && b)
     text_is a b e f = ap (λ l. l && x.section.now.whole.now.executable) e ∙ ap (λ l. a && l) f
 
-    pub rodata_is : (a b n w : Bool) → x.section.now.whole.now.loaded ≡ a → x.section.now.whole.now.executable ≡ b → is_nobits (short_section_of x.section.now).contents ≡ n → x.section.now.whole.now.writable ≡ w
+    pub rodata_is : (a b n w : Bool) → x.section.now.whole.now.loaded ≡ a → x.section.now.whole.now.executable ≡ b → has_no_bytes (short_section_of x.section.now).contents ≡ n → x.section.now.whole.now.writable ≡ w
         → goes_to_rodata (short_section_of x.section.now) ≡ (a && not b && not n && not w)
     rodata_is a b n w e f g h =
-        ap (λ l. l && not x.section.now.whole.now.executable && not (is_nobits (short_section_of x.section.now).contents) && not x.section.now.whole.now.writable) e
-        ∙ ap (λ l. a && not l && not (is_nobits (short_section_of x.section.now).contents) && not x.section.now.whole.now.writable) f
+        ap (λ l. l && not x.section.now.whole.now.executable && not (has_no_bytes (short_section_of x.section.now).contents) && not x.section.now.whole.now.writable) e
+        ∙ ap (λ l. a && not l && not (has_no_bytes (short_section_of x.section.now).contents) && not x.section.now.whole.now.writable) f
         ∙ ap (λ l. a && not b && not l && not x.section.now.whole.now.writable) g ∙ ap (λ l. a && not b && not n && not l) h
 
-    pub data_is : (a b n w : Bool) → x.section.now.whole.now.loaded ≡ a → x.section.now.whole.now.executable ≡ b → is_nobits (short_section_of x.section.now).contents ≡ n → x.section.now.whole.now.writable ≡ w
+    pub data_is : (a b n w : Bool) → x.section.now.whole.now.loaded ≡ a → x.section.now.whole.now.executable ≡ b → has_no_bytes (short_section_of x.section.now).contents ≡ n → x.section.now.whole.now.writable ≡ w
         → goes_to_data (short_section_of x.section.now) ≡ (a && not b && not n && w)
     data_is a b n w e f g h =
-        ap (λ l. l && not x.section.now.whole.now.executable && not (is_nobits (short_section_of x.section.now).contents) && x.section.now.whole.now.writable) e
-        ∙ ap (λ l. a && not l && not (is_nobits (short_section_of x.section.now).contents) && x.section.now.whole.now.writable) f
+        ap (λ l. l && not x.section.now.whole.now.executable && not (has_no_bytes (short_section_of x.section.now).contents) && x.section.now.whole.now.writable) e
+        ∙ ap (λ l. a && not l && not (has_no_bytes (short_section_of x.section.now).contents) && x.section.now.whole.now.writable) f
         ∙ ap (λ l. a && not b && not l && x.section.now.whole.now.writable) g ∙ ap (λ l. a && not b && not n && l) h
 
     module _ (loaded : x.section.now.whole.now.loaded ≡ true) (here : AreTaken os p (input_at os x.file x.index (short_section_of x.section.now))) where
@@ -115,7 +115,7 @@ module _ (os : List Object) (p : Placement) (x : Input) (is : IsInput os p x) wh
           first = behind;
         }
 
-        pub in_rodata : x.section.now.whole.now.executable ≡ false → is_nobits (short_section_of x.section.now).contents ≡ false → x.section.now.whole.now.writable ≡ false
+        pub in_rodata : x.section.now.whole.now.executable ≡ false → has_no_bytes (short_section_of x.section.now).contents ≡ false → x.section.now.whole.now.writable ≡ false
             → out.items ≡ r.rodata.items ++ (zeros (x.placed.now.start - (p.rodata.start + length r.rodata.items)) ++ linked_in os p (input_at os x.file x.index (short_section_of x.section.now)))
             → AreGrown os p (left_from os x.file (x.index + 1)) (record { text = r.text; rodata = out; «data» = r.data })
         in_rodata e n w made = record {
@@ -126,7 +126,7 @@ module _ (os : List Object) (p : Placement) (x : Input) (is : IsInput os p x) wh
           first = behind;
         }
 
-        pub in_data : x.section.now.whole.now.executable ≡ false → is_nobits (short_section_of x.section.now).contents ≡ false → x.section.now.whole.now.writable ≡ true
+        pub in_data : x.section.now.whole.now.executable ≡ false → has_no_bytes (short_section_of x.section.now).contents ≡ false → x.section.now.whole.now.writable ≡ true
             → out.items ≡ r.data.items ++ (zeros (x.placed.now.start - (p.data.start + length r.data.items)) ++ linked_in os p (input_at os x.file x.index (short_section_of x.section.now)))
             → AreGrown os p (left_from os x.file (x.index + 1)) (record { text = r.text; rodata = r.rodata; «data» = out })
         in_data e n w made = record {
@@ -137,7 +137,7 @@ module _ (os : List Object) (p : Placement) (x : Input) (is : IsInput os p x) wh
           first = behind;
         }
 
-      pub in_bss : x.section.now.whole.now.executable ≡ false → is_nobits (short_section_of x.section.now).contents ≡ true → AreGrown os p (left_from os x.file (x.index + 1)) r
+      pub in_bss : x.section.now.whole.now.executable ≡ false → has_no_bytes (short_section_of x.section.now).contents ≡ true → AreGrown os p (left_from os x.file (x.index + 1)) r
       in_bss e n = record {
         text = other goes_to_text p.text r.text.items (text_is true false loaded e) grown.text;
         rodata = other goes_to_rodata p.rodata r.rodata.items (rodata_is true false true _ loaded e n refl) grown.rodata;

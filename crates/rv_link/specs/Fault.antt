@@ -11,31 +11,31 @@ use Rattle.rv_link.specs.declared.fault.LinkFault.{LinkFault}
 use Rattle.rv_link.specs.declared.fault.LinkFault.TheVariants.{Overflow, OddTarget, DanglingPcrel, AlignmentShort, Undefined, Duplicate, EntryMissing, ImageTooLarge, BadTextStart, TooManyFiles, OutOfMemory}
 
 -- the number after the `L` (from 1); none for want of memory
-abbrev pub number_of : LinkFault → Option ℕ
-number_of Overflow = Some 1
-number_of OddTarget = Some 2
-number_of DanglingPcrel = Some 3
-number_of AlignmentShort = Some 4
-number_of (Undefined name) = Some 5
-number_of (Duplicate name) = Some 6
-number_of EntryMissing = Some 7
-number_of ImageTooLarge = Some 8
-number_of BadTextStart = Some 9
-number_of TooManyFiles = Some 10
-number_of OutOfMemory = None
+abbrev pub link_fault_number : LinkFault → Option ℕ
+link_fault_number Overflow = Some 1
+link_fault_number OddTarget = Some 2
+link_fault_number DanglingPcrel = Some 3
+link_fault_number AlignmentShort = Some 4
+link_fault_number (Undefined name) = Some 5
+link_fault_number (Duplicate name) = Some 6
+link_fault_number EntryMissing = Some 7
+link_fault_number ImageTooLarge = Some 8
+link_fault_number BadTextStart = Some 9
+link_fault_number TooManyFiles = Some 10
+link_fault_number OutOfMemory = None
 
-abbrev pub name_of : LinkFault → List ℕ
-name_of Overflow = codes "Overflow"
-name_of OddTarget = codes "OddTarget"
-name_of DanglingPcrel = codes "DanglingPcrel"
-name_of AlignmentShort = codes "AlignmentShort"
-name_of (Undefined name) = codes "Undefined"
-name_of (Duplicate name) = codes "Duplicate"
-name_of EntryMissing = codes "EntryMissing"
-name_of ImageTooLarge = codes "ImageTooLarge"
-name_of BadTextStart = codes "BadTextStart"
-name_of TooManyFiles = codes "TooManyFiles"
-name_of OutOfMemory = codes "out of memory"
+abbrev pub link_fault_name : LinkFault → List ℕ
+link_fault_name Overflow = codes "Overflow"
+link_fault_name OddTarget = codes "OddTarget"
+link_fault_name DanglingPcrel = codes "DanglingPcrel"
+link_fault_name AlignmentShort = codes "AlignmentShort"
+link_fault_name (Undefined name) = codes "Undefined"
+link_fault_name (Duplicate name) = codes "Duplicate"
+link_fault_name EntryMissing = codes "EntryMissing"
+link_fault_name ImageTooLarge = codes "ImageTooLarge"
+link_fault_name BadTextStart = codes "BadTextStart"
+link_fault_name TooManyFiles = codes "TooManyFiles"
+link_fault_name OutOfMemory = codes "out of memory"
 
 abbrev pub of_patch : PatchFault → LinkFault
 of_patch patches.Overflow = Overflow

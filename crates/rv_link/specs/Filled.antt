@@ -13,7 +13,7 @@ use Rattle.rv_shorten.specs.Sections.{short_section_of}
 use Rattle.rv_shorten.specs.View.{short_object_of}
 use Rattle.rv_relax.specs.Plan.{moves_of}
 use Rattle.rv_placement.specs.declared.placement.Placement.{Placement}
-use Rattle.rv_placement.specs.Placement.{starts_of, section_at}
+use Rattle.rv_placement.specs.Placement.{starts_of, object_section}
 use Rattle.rv_link.specs.declared.fixed.Input.{Input}
 use Rattle.rv_link.specs.declared.fixed.Fixed.{Fixed}
 use Rattle.rv_resolve.specs.Shown.{outer_in}
@@ -31,15 +31,15 @@ input_of f x = input_at (objects_of f) x.file x.index (short_section_of x.sectio
 
 -- the section is one of the objects, and what is placed for it is where it starts, with room for
 -- its paddings
-pub record IsInput (os : List Object) (p : Placement) (x : Input) : Type 0 where
-  pub stands : section_at os x.file x.index ≡ Some (short_section_of x.section.now)
+pub record IsPlacedInput (os : List Object) (p : Placement) (x : Input) : Type 0 where
+  pub stands : object_section os x.file x.index ≡ Some (short_section_of x.section.now)
   pub start : starts_of p (x.file + 1) x.index ≡ x.placed.now.start
   pub planned : moves_of x.placed.now.plan
       ≡ moves x.placed.now.start (short_section_of x.section.now)
   pub room : IsTrue (list_all has_room (moves_of x.placed.now.plan))
 
 abbrev pub IsInputOf : Fixed → Input → Type 0
-IsInputOf f x = IsInput (objects_of f) f.placement.now x
+IsInputOf f x = IsPlacedInput (objects_of f) f.placement.now x
 
 -- the value of a relocation where objects stand so
 abbrev pub worth : List Object → Placement → InputSection → Relocation → ℤ
@@ -60,8 +60,8 @@ IsInside ms size r = 0 < width_of r.kind → new_offset ms r.place + width_of r.
 abbrev pub linked_in : List Object → Placement → InputSection → List ℕ
 linked_in os p i = linked_bytes (outer_in os p) (starts_of p) os i
 
-abbrev pub bytes_of : Fixed → Input → List ℕ
-bytes_of f x = linked_in (objects_of f) f.placement.now (input_of f x)
+abbrev pub input_bytes : Fixed → Input → List ℕ
+input_bytes f x = linked_in (objects_of f) f.placement.now (input_of f x)
 
 -- the fields of a section take their values
 abbrev pub AreTakenOf : Fixed → Input → Type 0

@@ -68,7 +68,7 @@ pub record AreGrown (os : List Object) (p : Placement)
 -- ---- passes
 
 -- names that have one definition for all files at most, and a meaning wherever they are referred to
-pub record IsNamed (os : List Object) (names : Names) : Type 0 where
+pub record HasLinkNames (os : List Object) (names : Names) : Type 0 where
   pub table : IsNames os names
   pub once : AreDistinct (global_names os)
   pub meant : first_undefined os ≡ None

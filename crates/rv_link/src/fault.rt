@@ -1,7 +1,7 @@
 //! Why objects cannot be linked.
 
 ghost use Rattle.std.specs.Prelude.{◌≡◌};
-ghost use Rattle.rv_link.specs.Fault.{number_of, name_of};
+ghost use Rattle.rv_link.specs.Fault.{link_fault_number, link_fault_name};
 
 use rv_link_values::ValueFault;
 use rv_placement::PlacementFault;
@@ -49,7 +49,7 @@ pub enum LinkFault {
 impl LinkFault {
     /// Its number as messages show it; `None` for want of memory.
     pub fn number(&self) -> Option<u8>
-        ensures { result ≡ number_of self.now }
+        ensures { result ≡ link_fault_number self.now }
     {
         match self {
             LinkFault::Overflow => Some(1),
@@ -68,7 +68,7 @@ impl LinkFault {
 
     /// Its name as messages show it.
     pub fn name(&self) -> &'static str
-        ensures { result.now ≡ name_of self.now }
+        ensures { result.now ≡ link_fault_name self.now }
     {
         match self {
             LinkFault::Overflow => "Overflow",

@@ -8,7 +8,7 @@ ghost use Rattle.std.specs.List.{AllByRecursion};
 ghost use Rattle.rv_isa.specs.Kinds.{is_low_part};
 ghost use Rattle.rv_isa_laws.specs.Bytes.{zeros};
 ghost use Rattle.rv_object.specs.Parts.{relocation_of};
-ghost use Rattle.rv_object_laws.specs.Inputs.{is_nobits};
+ghost use Rattle.rv_object_laws.specs.Inputs.{has_no_bytes};
 ghost use Rattle.rv_object_laws.specs.Moves.{kept, new_offset};
 ghost use Rattle.rv_object_laws.specs.Values.{applied, initial_bytes, value};
 ghost use Rattle.rv_object_laws.specs.Names.{object_at};
@@ -23,7 +23,7 @@ ghost use Rattle.rv_link.specs.Filled.{
   AreTakenOf,
   IsInside,
   IsInputOf,
-  bytes_of,
+  input_bytes,
   input_of,
   objects_of,
   worth,
@@ -127,7 +127,7 @@ impl<'p, 'o, 'a, 'n> Fixed<'p, 'o, 'a, 'n> {
     pub(crate) fn judge(&self, input: &Input<'_, '_, '_>) -> Result<(), LinkFault>
         requires fixed { IsFixed self.now }
         requires input { IsInputOf self.now input.now }
-        requires zeroed { is_nobits (short_section_of (input.now).section.now).contents ≡ true }
+        requires zeroed { has_no_bytes (short_section_of (input.now).section.now).contents ≡ true }
         ensures taken { OnOk result (AreTakenOf self.now input.now) }
         ensures refuses { IfErr result (λ fault. AreUntakenOf self.now input.now fault) }
     {
@@ -144,7 +144,8 @@ impl<'p, 'o, 'a, 'n> Fixed<'p, 'o, 'a, 'n> {
     ) -> Result<(), LinkFault>
         requires fixed { IsFixed self.now }
         requires input { IsInputOf self.now input.now }
-        ensures bytes { OnOk result (out.new.items ≡ out.old.items ++ bytes_of self.now input.now) }
+        ensures bytes { OnOk result (out.new.items ≡ out.old.items
+            ++ input_bytes self.now input.now) }
         // each of its relocations has a value, which its field takes
         ensures taken { OnOk result (AreTakenOf self.now input.now) }
         ensures refuses { IfErr result (OrMemory (AreUntakenOf self.now input.now)) }
@@ -168,7 +169,7 @@ impl<'p, 'o, 'a, 'n> Fixed<'p, 'o, 'a, 'n> {
         requires later { region + length out.old.items ≤ (input.now).placed.now.start }
         ensures bytes { OnOk result (out.new.items ≡ out.old.items
             ++ (zeros ((input.now).placed.now.start - (region + length out.old.items))
-            ++ bytes_of self.now input.now)) }
+            ++ input_bytes self.now input.now)) }
         // each of its relocations has a value, which its field takes
         ensures taken { OnOk result (AreTakenOf self.now input.now) }
         ensures refuses { IfErr result (OrMemory (AreUntakenOf self.now input.now)) }

@@ -24,7 +24,7 @@ ghost use Rattle.rv_resolve.specs.Undefined.{first_undefined};
 ghost use Rattle.rv_link.specs.declared.fault.LinkFault.TheVariants.{EntryMissing, OutOfMemory};
 ghost use Rattle.rv_link.specs.Untaken.{AreUnfilled};
 ghost use Rattle.rv_link.specs.Refusals.{AreDoubled, AreWithin, ArePast, AreUnnamed, AreUnplaced, IsOddEntry, IsUnlinked};
-ghost use Rattle.rv_link.specs.Regions.{AreGrown, IsNamed, IsReady, IsPlaced};
+ghost use Rattle.rv_link.specs.Regions.{AreGrown, HasLinkNames, IsReady, IsPlaced};
 
 use crate::details::{globals as globals_of_map, rows as rows_of_map};
 use crate::fault::LinkFault;
@@ -109,7 +109,7 @@ fn resolve(
     names: &Names<'_>,
 ) -> Result<(), LinkFault>
     requires { IsNames (map short_object_of objects.now) names.now }
-    ensures named { OnOk result (IsNamed (map short_object_of objects.now) names.now) }
+    ensures named { OnOk result (HasLinkNames (map short_object_of objects.now) names.now) }
     ensures refuses { IfErr result (AreUnnamed (map short_object_of objects.now)) }
 {
     match names.undefined(objects) {

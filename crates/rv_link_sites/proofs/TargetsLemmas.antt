@@ -15,7 +15,7 @@ use Rattle.rv_object_laws.specs.Names.{Place, no_object, object_at, symbol_place
 use Rattle.rv_object_laws.specs.CallSites.{start_padding, home, moving, past_end, target_place, base, text_offset, excess, sites_of, length_of}
 use Rattle.rv_object_laws.specs.Within.{LeadsWithin, IsWithin}
 use Rattle.rv_object_laws.proofs.TextLineLemmas.{sites_text, sites_within}
-use Rattle.rv_placement.specs.Placement.{section_in, section_at}
+use Rattle.rv_placement.specs.Placement.{section_in, object_section}
 use Rattle.rv_resolve.specs.Names.{place_of}
 use Rattle.rv_link_sites.specs.declared.line.Line.{Line}
 use Rattle.rv_link_sites.specs.Line.{end_from, next, ended, ended_files, IsLine}
@@ -30,7 +30,7 @@ in_file [] n k = refl
 in_file (o ∷ os) zero k = refl
 in_file (o ∷ os) (suc n) k = in_file os n k
 
-section_here : (os : List Object) (n k : ℕ) → section_at os n k ≡ slice_get (object_at os (n + 1)).sections k
+section_here : (os : List Object) (n k : ℕ) → object_section os n k ≡ slice_get (object_at os (n + 1)).sections k
 section_here os n k =
     in_file os n k ∙ ap (λ m. slice_get (slice_index_or os m no_object).sections k) (let e : n ≡ n + 1 - 1 = omega arith in e)
 
@@ -49,7 +49,7 @@ low_section stop (t ∷ ss) zero s at text =
     by false e size up = absurd (cc)
 low_section stop (t ∷ ss) (suc k) s at text = low_section (next stop t) ss k s at text
 
-low_files : (stop : ℕ) (os : List Object) (n k : ℕ) (s : Section) → section_at os n k ≡ Some s → goes_to_text s ≡ true → first_of stop os n k + size_of s.contents ≤ ended_files stop os
+low_files : (stop : ℕ) (os : List Object) (n k : ℕ) (s : Section) → object_section os n k ≡ Some s → goes_to_text s ≡ true → first_of stop os n k + size_of s.contents ≤ ended_files stop os
 low_files stop [] n k s at text = absurd (cc)
 low_files stop (o ∷ os) zero k s at text =
     let one = low_section stop o.sections k s at text in
@@ -57,7 +57,7 @@ low_files stop (o ∷ os) zero k s at text =
     omega (arith, one, up)
 low_files stop (o ∷ os) (suc n) k s at text = low_files (ended stop o.sections) os n k s at text
 
-object_there : (os : List Object) (n k : ℕ) (s : Section) → section_at os n k ≡ Some s → (o : Object) × (slice_get os n ≡ Some o) × (slice_get o.sections k ≡ Some s)
+object_there : (os : List Object) (n k : ℕ) (s : Section) → object_section os n k ≡ Some s → (o : Object) × (slice_get os n ≡ Some o) × (slice_get o.sections k ≡ Some s)
 object_there [] n k s at = absurd (cc)
 object_there (o ∷ os) zero k s at = (o, refl, at)
 object_there (o ∷ os) (suc n) k s at = object_there os n k s at
@@ -69,16 +69,16 @@ in_text (Some s) h = (s, refl, h)
 -- what the line tells of a section of text
 pub record ToldByLine (os : List Object) (l : Line) (n k : ℕ) : Type 0 where
   pub section : Section
-  pub there : section_at os n k ≡ Some section
+  pub there : object_section os n k ≡ Some section
   pub entry : ℕ
   pub file : slice_get l.files.items n ≡ Some entry
   pub first : slice_get l.places.items (entry + 2 * k) ≡ Some (base os (n + 1) k)
   pub end : slice_get l.places.items (suc (entry + 2 * k)) ≡ Some (base os (n + 1) k + size_of section.contents)
   pub low : base os (n + 1) k + size_of section.contents ≤ ended_files 0 os
 
-pub stands : (os : List Object) (l : Line) (n k : ℕ) → IsLine os l → is_in_text (section_at os n k) ≡ true → ToldByLine os l n k
+pub stands : (os : List Object) (l : Line) (n k : ℕ) → IsLine os l → is_in_text (object_section os n k) ≡ true → ToldByLine os l n k
 stands os l n k line text =
-    let t = in_text (section_at os n k) text in
+    let t = in_text (object_section os n k) text in
     let o = object_there os n k t.0 t.1 in
     let found = at_files 0 0 os n k o.0 t.0 o.1 o.2 t.2 in
     let is = base_is os n k o.0 t.0 o.1 o.2 t.2 in
@@ -99,20 +99,20 @@ module _ (os : List Object) (n k offset : ℕ) where
   abbrev there : Place
   there = place_of (n, k, offset)
 
-  home_here : home os there ≡ section_at os n k
+  home_here : home os there ≡ object_section os n k
   home_here = sym (section_here os n k)
 
   -- a section that goes to text, or none
-  target_if : (b : Bool) → is_in_text (section_at os n k) ≡ b → (if b then Some (record { offset = text_offset os (Some there); past_end = excess os (Some there) }) else None) ≡ text_target os (Some there)
+  target_if : (b : Bool) → is_in_text (object_section os n k) ≡ b → (if b then Some (record { offset = text_offset os (Some there); past_end = excess os (Some there) }) else None) ≡ text_target os (Some there)
   target_if b h = sym (ap (λ b. if b then Some (record { offset = text_offset os (Some there); past_end = excess os (Some there) }) else None) (ap is_in_text home_here ∙ h))
 
-  pub offset_none : is_in_text (section_at os n k) ≡ false → None ≡ text_target os (Some there)
+  pub offset_none : is_in_text (object_section os n k) ≡ false → None ≡ text_target os (Some there)
   offset_none h = target_if false h
 
-  pub offset_some : (start end w past : ℕ) → is_in_text (section_at os n k) ≡ true → start ≡ base os (n + 1) k → ((s : Section) → section_at os n k ≡ Some s → end ≡ start + size_of s.contents)
+  pub offset_some : (start end w past : ℕ) → is_in_text (object_section os n k) ≡ true → start ≡ base os (n + 1) k → ((s : Section) → object_section os n k ≡ Some s → end ≡ start + size_of s.contents)
       → w ≡ min (start + offset) end → past ≡ start + offset - end → Some (record { offset = w; past_end = past }) ≡ text_target os (Some there)
   offset_some start end w past text is ends least beyond =
-      let t = in_text (section_at os n k) text in
+      let t = in_text (object_section os n k) text in
       let end_is = ends t.0 t.1 in
       let here = home_here ∙ t.1 in
       let fits : w ≡ base os (n + 1) k + min offset (size_of t.0.contents) = omega (arith, is, end_is, least) in

@@ -21,7 +21,7 @@ abbrev pub objects_of : Text → List Object
 objects_of t = map object_of t.objects.now
 
 -- what the names of the objects mean, and where their sections stand
-pub record IsLaid (t : Text) : Type 0 where
+pub record IsLaidText (t : Text) : Type 0 where
   pub names : IsNames (objects_of t) t.names.now
   pub line : IsLine (objects_of t) t.line
   pub low : ended_files 0 (objects_of t) ≤ 9 * 2 ^ 123

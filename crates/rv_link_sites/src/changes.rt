@@ -16,7 +16,7 @@ ghost use Rattle.rv_object.specs.Sections.{section_of};
 ghost use Rattle.rv_object_laws.specs.CallSites as laws;
 ghost use Rattle.rv_link_sites.specs.Between.{IsBefore, Rise};
 ghost use Rattle.rv_link_sites.specs.Line.{end_from, text_sites, text_starts};
-ghost use Rattle.rv_link_sites.specs.Text.{call_of, can_shorten, input_of, objects_of, IsGiven, IsLaid, IsLying};
+ghost use Rattle.rv_link_sites.specs.Text.{call_of, can_shorten, input_of, objects_of, IsGiven, IsLaidText, IsLying};
 
 use crate::between::{Before, is_allowed};
 use crate::entries::Entries;
@@ -75,7 +75,7 @@ fn constant(addend: i64, past_end: u64) -> i64
 
 /// A call, if its words, its target and the symbols of its object allow that it is shortened.
 fn call(text: &Text<'_, '_, '_>, input: &Input<'_, '_>, relocation: &Relocation) -> Option<Call>
-    requires laid { IsLaid text.now }
+    requires laid { IsLaidText text.now }
     requires given { IsGiven text.now input.now }
     requires within { (relocation.now).place + 8
         ≤ length (stored (section_of ((input.now).section).now).contents) }
@@ -110,7 +110,7 @@ fn put_call(
     first: u128,
     relocation: &Relocation,
 ) -> Result<(), AllocError>
-    requires laid { IsLaid text.now }
+    requires laid { IsLaidText text.now }
     requires given { IsGiven text.now input.now }
     requires low { first + (relocation.now).place < 2 ^ 128 }
     requires within { (relocation.now).place + 8
@@ -144,7 +144,7 @@ fn put_change(
     relocation: &Relocation,
     after: &[Relocation],
 ) -> Result<(), AllocError>
-    requires laid { IsLaid text.now }
+    requires laid { IsLaidText text.now }
     requires given { IsGiven text.now input.now }
     requires low { first + size_of (section_of ((input.now).section).now).contents ≤ 9 * 2 ^ 123 }
     requires lying { IsLying (section_of ((input.now).section).now) (relocation_of relocation.now) }
@@ -183,7 +183,7 @@ fn put_changes(
     first: u128,
     sorted: &[Relocation],
 ) -> Result<(), AllocError>
-    requires laid { IsLaid text.now }
+    requires laid { IsLaidText text.now }
     requires given { IsGiven text.now input.now }
     requires low { first + size_of (section_of ((input.now).section).now).contents ≤ 9 * 2 ^ 123 }
     requires sized { size_of (section_of ((input.now).section).now).contents < 2 ^ 64 }
@@ -230,7 +230,7 @@ pub(crate) fn put_section(
     input: &Input<'_, '_>,
     stop: u128,
 ) -> Result<u128, AllocError>
-    requires laid { IsLaid text.now }
+    requires laid { IsLaidText text.now }
     requires given { IsGiven text.now input.now }
     requires low { end_from stop (section_of ((input.now).section).now) ≤ 9 * 2 ^ 123 }
     ensures end { IfOk result (λ end. end ≡ end_from stop (section_of ((input.now).section).now)) }

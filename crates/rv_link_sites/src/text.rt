@@ -8,9 +8,9 @@ ghost use Rattle.rv_object.specs.View.{object_of};
 ghost use Rattle.rv_object_laws.specs.Inputs.{InputSection};
 ghost use Rattle.rv_object_laws.specs.CallSites.{base, target_place};
 ghost use Rattle.rv_object_laws.specs.Names as laws;
-ghost use Rattle.rv_placement.specs.Placement.{section_at};
+ghost use Rattle.rv_placement.specs.Placement.{object_section};
 ghost use Rattle.rv_resolve.specs.Names.{IsNames, place_of};
-ghost use Rattle.rv_link_sites.specs.Text.{IsLaid, objects_of, text_target};
+ghost use Rattle.rv_link_sites.specs.Text.{IsLaidText, objects_of, text_target};
 
 use crate::line::Line;
 use rv_object::{Object, Relocation};
@@ -37,7 +37,7 @@ pub(crate) struct Target {
 
 /// Whether a section, by its file and its index there, both from 0, goes to text.
 fn is_in_text(objects: &[Object<'_>], file: usize, section: usize) -> bool
-    ensures { result ≡ laws.is_in_text (section_at (map object_of objects.now) file section) }
+    ensures { result ≡ laws.is_in_text (object_section (map object_of objects.now) file section) }
 {
     match objects.get(file) {
         Some(object) => match object.sections.get(section) {
@@ -56,7 +56,7 @@ impl<'t, 'a, 'o> Text<'t, 'a, 'o> {
         names: &'t Names<'o>,
     ) -> Result<Text<'t, 'a, 'o>, AllocError>
         requires { IsNames (map object_of objects.now) names.now }
-        ensures laid { IfOk result IsLaid }
+        ensures laid { IfOk result IsLaidText }
         ensures same { IfOk result (λ text. objects_of text ≡ map object_of objects.now) }
     {
         let line = Line::of(alloc, objects)?;
@@ -69,7 +69,7 @@ impl<'t, 'a, 'o> Text<'t, 'a, 'o> {
 
     /// Where the symbol of a relocation of a file, from 0, stands, if that is in text.
     pub(crate) fn target(&self, file: usize, relocation: &Relocation) -> Option<Target>
-        requires { IsLaid self.now }
+        requires { IsLaidText self.now }
         ensures { (i : InputSection) → i.file ≡ file + 1
             → slice_get (objects_of self.now) file ≡ Some i.object → result
             ≡ text_target (objects_of self.now)
@@ -82,7 +82,7 @@ impl<'t, 'a, 'o> Text<'t, 'a, 'o> {
 
     /// Where the symbol at an index of a file stands, both from 0.
     fn place(&self, file: usize, index: u32) -> Option<(usize, u32, u64)>
-        requires { IsLaid self.now }
+        requires { IsLaidText self.now }
         ensures { (o : SaidObject) → slice_get (objects_of self.now) file ≡ Some o
             → option_map place_of result
             ≡ option_and_then (laws.symbol_place (objects_of self.now) (file + 1))
@@ -95,7 +95,7 @@ impl<'t, 'a, 'o> Text<'t, 'a, 'o> {
 
     /// Where an offset of a section stands, by its file and its index there, both from 0, if it is in text.
     fn offset(&self, file: usize, section: usize, offset: u64) -> Option<Target>
-        requires { IsLaid self.now }
+        requires { IsLaidText self.now }
         ensures { result
             ≡ text_target (objects_of self.now) (Some (place_of (file, section, offset))) }
     {
@@ -112,10 +112,10 @@ impl<'t, 'a, 'o> Text<'t, 'a, 'o> {
 
     /// Where the first byte of a section of text stands, by its file and its index there, both from 0, and its end.
     fn stand(&self, file: usize, section: usize) -> (u128, u128)
-        requires laid { IsLaid self.now }
-        requires text { laws.is_in_text (section_at (objects_of self.now) file section) ≡ true }
+        requires laid { IsLaidText self.now }
+        requires text { laws.is_in_text (object_section (objects_of self.now) file section) ≡ true }
         ensures start { result.0 ≡ base (objects_of self.now) (file + 1) section }
-        ensures end { (s : Section) → section_at (objects_of self.now) file section ≡ Some s
+        ensures end { (s : Section) → object_section (objects_of self.now) file section ≡ Some s
             → result.1 ≡ result.0 + size_of s.contents }
         ensures order { result.0 ≤ result.1 }
         ensures low { result.1 ≤ 9 * 2 ^ 123 }

@@ -11,7 +11,7 @@ ghost use Rattle.rv_relax.specs.Plan.{placed_sites, placed_starts};
 ghost use Rattle.rv_resolve.specs.Names.{IsNames};
 ghost use Rattle.rv_link_sites.specs.Entries.{AreEntries};
 ghost use Rattle.rv_link_sites.specs.Line as walk;
-ghost use Rattle.rv_link_sites.specs.Text.{IsLaid, objects_of};
+ghost use Rattle.rv_link_sites.specs.Text.{IsLaidText, objects_of};
 
 use crate::changes::{Input, Marked, put_section};
 use crate::entries::Entries;
@@ -49,7 +49,7 @@ pub fn placed(
 
 /// Adds the sites of all objects.
 fn put_all(alloc: Global, marked: &mut Marked, text: &Text<'_, '_, '_>) -> Result<(), AllocError>
-    requires { IsLaid text.now }
+    requires { IsLaidText text.now }
     ensures sites { OnOk result
         (marked.new.sites.items ≡ marked.old.sites.items ++ sites_of (objects_of text.now)) }
     ensures starts { OnOk result (marked.new.starts.items
@@ -71,7 +71,7 @@ fn put_object(
     object: &Object<'_>,
     first: u128,
 ) -> Result<u128, AllocError>
-    requires laid { IsLaid text.now }
+    requires laid { IsLaidText text.now }
     requires at { slice_get (objects_of text.now) file ≡ Some (object_of object.now) }
     requires low { walk.ended first (object_of object.now).sections ≤ 9 * 2 ^ 123 }
     ensures end { IfOk result (λ end. end ≡ walk.ended first (object_of object.now).sections) }
@@ -101,7 +101,7 @@ fn put_at(
     index: usize,
     stop: u128,
 ) -> Result<u128, AllocError>
-    requires laid { IsLaid text.now }
+    requires laid { IsLaidText text.now }
     requires at { slice_get (objects_of text.now) file ≡ Some (object_of object.now) }
     requires entries { AreEntries (object_of object.now) entries.now }
     requires inside { index < length (object.now).sections.items }

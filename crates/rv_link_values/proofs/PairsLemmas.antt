@@ -12,7 +12,7 @@ use Rattle.rv_object_laws.specs.Values.{own_value, high_at, value_at, value_in}
 use Rattle.rv_relax.specs.Plan.{moves_of}
 use Rattle.rv_placement.specs.declared.placement.PlacedSection.{PlacedSection}
 use Rattle.rv_placement.specs.declared.placement.Placement.{Placement}
-use Rattle.rv_placement.specs.Placement.{starts_of, start_in, placed_at, section_in, section_at, IsPlacement}
+use Rattle.rv_placement.specs.Placement.{starts_of, start_in, placed_at, section_in, object_section, IsPlacement}
 use Rattle.rv_resolve.specs.Names.{place_of}
 use Rattle.rv_link_values.specs.Highs.{high_in, high_of}
 use Rattle.rv_link_values.specs.Values.{IsInputAt}
@@ -26,26 +26,26 @@ same_object os file o at =
     ap (λ n. slice_index_or os n no_object) same ∙ sym (unwrap_or-slice_get os file no_object) ∙ ap (λ x. Rattle.std.specs.Prelude.unwrap_or x no_object) at
 
 -- the sections of an object that isn't there are those of none
-sections_at : (os : List Object) (file index : ℕ) → slice_get (object_at os (file + 1)).sections index ≡ section_at os file index
+sections_at : (os : List Object) (file index : ℕ) → slice_get (object_at os (file + 1)).sections index ≡ object_section os file index
 sections_at os file index = by (slice_get os file) refl
   where
-    by : (f : Option Object) → slice_get os file ≡ f → slice_get (object_at os (file + 1)).sections index ≡ section_at os file index
+    by : (f : Option Object) → slice_get os file ≡ f → slice_get (object_at os (file + 1)).sections index ≡ object_section os file index
     by (Some o) at = ap (λ x. slice_get x.sections index) (same_object os file o at) ∙ sym (ap (λ x. section_in x index) at)
     by None at =
         let same : file + 1 - 1 ≡ file = omega arith in
         let none : object_at os (file + 1) ≡ no_object = ap (λ n. slice_index_or os n no_object) same ∙ sym (unwrap_or-slice_get os file no_object) ∙ ap (λ x. Rattle.std.specs.Prelude.unwrap_or x no_object) at in
         ap (λ x. slice_get x.sections index) none ∙ sym (ap (λ x. section_in x index) at)
 
-section_cases : (os : List Object) (file index : ℕ) → (section_at os file index ≡ None) ⊎ ((o : Object) × (s : Section) × (slice_get os file ≡ Some o) × (slice_get o.sections index ≡ Some s))
+section_cases : (os : List Object) (file index : ℕ) → (object_section os file index ≡ None) ⊎ ((o : Object) × (s : Section) × (slice_get os file ≡ Some o) × (slice_get o.sections index ≡ Some s))
 section_cases os file index = by (slice_get os file) refl
   where
     within : (o : Object) → slice_get os file ≡ Some o → (s : Option Section) → slice_get o.sections index ≡ s
-        → (section_at os file index ≡ None) ⊎ ((o : Object) × (s : Section) × (slice_get os file ≡ Some o) × (slice_get o.sections index ≡ Some s))
+        → (object_section os file index ≡ None) ⊎ ((o : Object) × (s : Section) × (slice_get os file ≡ Some o) × (slice_get o.sections index ≡ Some s))
     within o at None none = inl (ap (λ x. section_in x index) at ∙ none)
     within o at (Some s) stands = inr (o, s, at, stands)
 
     by : (f : Option Object) → slice_get os file ≡ f
-        → (section_at os file index ≡ None) ⊎ ((o : Object) × (s : Section) × (slice_get os file ≡ Some o) × (slice_get o.sections index ≡ Some s))
+        → (object_section os file index ≡ None) ⊎ ((o : Object) × (s : Section) × (slice_get os file ≡ Some o) × (slice_get o.sections index ≡ Some s))
     by None at = inl (ap (λ x. section_in x index) at)
     by (Some o) at = within o at (slice_get o.sections index) refl
 
@@ -55,7 +55,7 @@ module _ (os : List Object) (start : ℕ) (p : Placement) (is : IsPlacement os s
   abbrev worth : Option ℤ
   worth = value_at outer (starts_of p) os (Some (place_of (file, index, offset)))
 
-  absent : section_at os file index ≡ None → worth ≡ None
+  absent : object_section os file index ≡ None → worth ≡ None
   absent none = ap (value_in outer (starts_of p) (file + 1) (object_at os (file + 1)) index offset) (sections_at os file index ∙ none)
 
   start_is : (q : PlacedSection) → placed_at p file index ≡ Some q → starts_of p (file + 1) index ≡ q.start
@@ -66,10 +66,10 @@ module _ (os : List Object) (start : ℕ) (p : Placement) (is : IsPlacement os s
   high_found : (q : PlacedSection) → placed_at p file index ≡ Some q → (o : Object) (s : Section) → slice_get os file ≡ Some o → slice_get o.sections index ≡ Some s
       → high_at (moves (starts_of p (file + 1) index) s) offset s.relocations ≡ high_of p os file index (new_offset (moves_of q.plan) offset)
   high_found q there o s at stands =
-      let section : section_at os file index ≡ Some s = ap (λ x. section_in x index) at ∙ stands in
+      let section : object_section os file index ≡ Some s = ap (λ x. section_in x index) at ∙ stands in
       ap (λ a. high_at (moves a s) offset s.relocations) (start_is q there)
       ∙ ap (λ ms. high_at ms offset s.relocations) (sym (is.planned file index s q section there))
-      ∙ sym (ap (λ w. high_in w (section_at os file index) (new_offset (moves_of q.plan) offset)) there ∙ ap (λ t. high_in (Some q) t (new_offset (moves_of q.plan) offset)) section)
+      ∙ sym (ap (λ w. high_in w (object_section os file index) (new_offset (moves_of q.plan) offset)) there ∙ ap (λ t. high_in (Some q) t (new_offset (moves_of q.plan) offset)) section)
 
   present : (q : PlacedSection) → placed_at p file index ≡ Some q → (o : Object) (s : Section) → slice_get os file ≡ Some o → slice_get o.sections index ≡ Some s
       → worth ≡ option_map (own_value outer (starts_of p (file + 1)) o (starts_of p (file + 1) index) s) (high_of p os file index (new_offset (moves_of q.plan) offset))
@@ -94,7 +94,7 @@ module _ (os : List Object) (start : ℕ) (p : Placement) (is : IsPlacement os s
       → (n : ℤ) → ((i : InputSection) → IsInputAt os file index i → n ≡ own_value outer (starts_of p i.file) i.object (starts_of p i.file i.index) i.section r)
       → Some n ≡ worth
   with_high q there r high n claim = elim (section_cases os file index) [
-    | inl gone ↦ absurd (let none : Some r ≡ None = sym high ∙ ap (λ w. high_in w (section_at os file index) (new_offset (moves_of q.plan) offset)) there ∙ ap (λ t. high_in (Some q) t (new_offset (moves_of q.plan) offset)) gone in cc)
+    | inl gone ↦ absurd (let none : Some r ≡ None = sym high ∙ ap (λ w. high_in w (object_section os file index) (new_offset (moves_of q.plan) offset)) there ∙ ap (λ t. high_in (Some q) t (new_offset (moves_of q.plan) offset)) gone in cc)
     | inr (o, s, at, stands) ↦
         let i : InputSection = record { file = file + 1; object = o; index = index; section = s } in
         ap Some (claim i (record { numbered = refl; at = at; indexed = refl; there = stands }))

@@ -11,7 +11,7 @@ use Rattle.rv_object_laws.specs.Values.{moved}
 use Rattle.rv_relax.specs.Plan.{moves_of}
 use Rattle.rv_placement.specs.declared.placement.PlacedSection.{PlacedSection}
 use Rattle.rv_placement.specs.declared.placement.Placement.{Placement}
-use Rattle.rv_placement.specs.Placement.{starts_of, start_in, placed_in, placed_at, section_in, section_at, IsPlacement}
+use Rattle.rv_placement.specs.Placement.{starts_of, start_in, placed_in, placed_at, section_in, object_section, IsPlacement}
 use Rattle.rv_link_values.specs.Values.{IsInputAt}
 
 -- ---- each section has its place
@@ -31,14 +31,14 @@ each_at (f ∷ fs) (o ∷ os) e zero index s at =
     some_at f.items index (omega (arith, slice_get_within o.sections index s at))
 each_at (f ∷ fs) (o ∷ os) e (suc file) index s at = each_at fs os (let same : map (λ f. length f.items) fs ≡ map (λ o. length o.sections) os = cc in same) file index s at
 
-pub not_placed : (os : List Object) (start : ℕ) (p : Placement) → IsPlacement os start p → (file index : ℕ) (s : Section) → section_at os file index ≡ Some s → placed_at p file index ≡ None → ⊥
+pub not_placed : (os : List Object) (start : ℕ) (p : Placement) → IsPlacement os start p → (file index : ℕ) (s : Section) → object_section os file index ≡ Some s → placed_at p file index ≡ None → ⊥
 not_placed os start p is file index s at none =
     let (q, there) = each_at p.files.items os is.each file index s at in
     let both : Some q ≡ None = sym there ∙ none in cc
 
 -- ---- what offsets become
 
-pub section_of_input : (os : List Object) (file index : ℕ) (i : InputSection) → IsInputAt os file index i → section_at os file index ≡ Some i.section
+pub section_of_input : (os : List Object) (file index : ℕ) (i : InputSection) → IsInputAt os file index i → object_section os file index ≡ Some i.section
 section_of_input os file index i at = ap (λ o. section_in o index) at.at ∙ at.there
 
 pub start_of_input : (os : List Object) (p : Placement) (file index : ℕ) (i : InputSection) → IsInputAt os file index i → (q : PlacedSection) → placed_at p file index ≡ Some q

@@ -13,7 +13,7 @@ use Rattle.rv_object_laws.specs.Values.{is_high}
 use Rattle.rv_relax.specs.Plan.{moves_of}
 use Rattle.rv_placement.specs.declared.placement.PlacedSection.{PlacedSection}
 use Rattle.rv_placement.specs.declared.placement.Placement.{Placement}
-use Rattle.rv_placement.specs.Placement.{placed_at, section_at}
+use Rattle.rv_placement.specs.Placement.{placed_at, object_section}
 use Rattle.rv_link_values.specs.declared.high.HighPlace.{HighPlace}
 use Rattle.rv_link_values.specs.declared.high.Highs.{Highs}
 
@@ -47,7 +47,7 @@ high_in (Some q) (Some s) offset = high_to (new_offset (moves_of q.plan)) offset
 -- of placed objects, both counted from 0
 abbrev pub high_of : Placement → List Object → ℕ → ℕ → ℕ → Option Relocation
 high_of p os file section offset =
-    high_in (placed_at p file section) (section_at os file section) offset
+    high_in (placed_at p file section) (object_section os file section) offset
 
 -- ---- what is added
 

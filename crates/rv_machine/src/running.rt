@@ -27,7 +27,7 @@ ghost use Rattle.rv_isa_laws.specs.Run.{step as step_of, machine_run};
 ghost use Rattle.rv_machine.specs.Flow.{reading, writing};
 ghost use Rattle.rv_machine.specs.Hart.{hart_of};
 ghost use Rattle.rv_machine.specs.Streams.{MayFollow, Accords, Fails, FailsBy};
-ghost use Rattle.rv_machine.specs.StreamSteps.{input_of, HasRead, StepsTo};
+ghost use Rattle.rv_machine.specs.StreamSteps.{input_left, HasRead, StepsTo};
 ghost use Rattle.rv_machine.specs.declared.running.RunFault.TheVariants.{OutOfMemory};
 
 use crate::calls::answer;
@@ -80,8 +80,8 @@ fn take_in<R: GuestIn, M: Memory>(
     transfer: Transfer,
 ) -> Result<u64, IoFailed>
     requires { may (M.mem memory.old) transfer.address transfer.count ToWrite ≡ true }
-    ensures read { let before = input_of intake.old.ended (R.ends reader.old) (R.left reader.old) in
-        let after = input_of intake.new.ended (R.ends reader.new) (R.left reader.new) in
+    ensures read { let before = input_left intake.old.ended (R.ends reader.old) (R.left reader.old) in
+        let after = input_left intake.new.ended (R.ends reader.new) (R.left reader.new) in
         MatchResult result
         (λ moved. (read : List ℕ) × (length read ≡ moved) × HasRead before after read
         × (M.mem memory.new ≡ with_bytes (M.mem memory.old) transfer.address read))
@@ -115,8 +115,8 @@ fn read<R: GuestIn, M: Memory>(
     transfer: Transfer,
 ) -> Result<(), IoFailed>
     requires { may (M.mem memory.old) transfer.address transfer.count ToWrite ≡ true }
-    ensures read { let before = input_of intake.old.ended (R.ends reader.old) (R.left reader.old) in
-        let after = input_of intake.new.ended (R.ends reader.new) (R.left reader.new) in
+    ensures read { let before = input_left intake.old.ended (R.ends reader.old) (R.left reader.old) in
+        let after = input_left intake.new.ended (R.ends reader.new) (R.left reader.new) in
         (read : List ℕ) × HasRead before after read × MatchResult result
         (λ _. (rest console : List ℕ) → MayFollow (intake.new.ended ≡ false) rest →
         reading transfer (hart_of hart.old (read ++ rest) console) (M.mem memory.old)
@@ -167,9 +167,9 @@ pub(crate) fn step<R: GuestIn, W: GuestOut, M: Memory>(
     reader: &mut R,
     writer: &mut W,
 ) -> Result<Option<End>, RunFault>
-    ensures steps { let before = input_of intake.old.ended (R.ends reader.old)
+    ensures steps { let before = input_left intake.old.ended (R.ends reader.old)
         (R.left reader.old) in
-        let after = input_of intake.new.ended (R.ends reader.new) (R.left reader.new) in
+        let after = input_left intake.new.ended (R.ends reader.new) (R.left reader.new) in
         (read written : List ℕ) × HasRead before after read
         × Appends (W.written writer.old) (W.written writer.new) written
         × ((r : Reader Spells StandsFor) → StepsTo result read written (intake.new.ended ≡ false)

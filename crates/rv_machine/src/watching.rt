@@ -13,9 +13,9 @@ ghost use Rattle.rv_isa_laws.specs.Reader.{Reader};
 ghost use Rattle.rv_isa_laws.specs.Run.{run as run_of};
 ghost use Rattle.rv_machine.specs.Hart.{hart_of};
 ghost use Rattle.rv_machine.specs.LastState.{last_state};
-ghost use Rattle.rv_machine.specs.Registers.{value_of};
+ghost use Rattle.rv_machine.specs.Registers.{register_value};
 ghost use Rattle.rv_machine.specs.Streams.{Accords, MayFollow};
-ghost use Rattle.rv_machine.specs.StreamSteps.{input_of, HasRead};
+ghost use Rattle.rv_machine.specs.StreamSteps.{input_left, HasRead};
 
 use crate::end::End;
 use crate::hart::Hart;
@@ -96,7 +96,7 @@ impl<M: Memory + Drop> Watched<M> {
     /// The value of a register.
     #[inline]
     pub fn register(&self, register: Reg) -> u64
-        ensures { result ≡ value_of self.now.hart.registers register }
+        ensures { result ≡ register_value self.now.hart.registers register }
     {
         self.hart.registers.get(register)
     }
@@ -120,9 +120,9 @@ pub fn run_watched<M: Memory + Drop, R: GuestIn, W: GuestOut, T: Watcher<M>>(
 ) -> Result<End, WatchFault>
     // What was read and written, and the run from the machine's hart and memory for what was read and, unless a take
     // gave nothing, for every input that begins with it: it comes to this end, and leaves this hart and this memory.
-    ensures runs { let before = input_of machine.old.intake.ended (R.ends reader.old)
+    ensures runs { let before = input_left machine.old.intake.ended (R.ends reader.old)
         (R.left reader.old) in
-        let after = input_of machine.new.intake.ended (R.ends reader.new) (R.left reader.new) in
+        let after = input_left machine.new.intake.ended (R.ends reader.new) (R.left reader.new) in
         IfOk result (λ e. (read written : List ℕ) × HasRead before after read
         × Appends (W.written writer.old) (W.written writer.new) written
         × ((r : Reader Spells StandsFor) (rest : List ℕ) →

@@ -14,7 +14,7 @@ use Rattle.rv_image.specs.declared.segment.Segment.{Segment as DeclaredSegment}
 use Rattle.std.proofs.lemmas.Option.{slice_get-get_or}
 use Rattle.std.proofs.lemmas.List.{get_or-map, length-map}
 use Rattle.rv_memory.specs.Flat.{memory_of, AreDisjoint, with_part, no_segment}
-use Rattle.rv_image.specs.Memory.{lies_in, segment_at, has_flag, byte_in, right_in}
+use Rattle.rv_image.specs.Memory.{lies_in, segment_at, gives_right, byte_in, right_in}
 use Rattle.rv_memory.proofs.MemoryLemmas.{byte-below, byte-above, byte-inside, has-with_bytes}
 
 -- an address that a segment holds lies in its range, and one in its range is held
@@ -104,7 +104,7 @@ bytes-within ss i s a k (suc n) apart at fits e within =
 
 -- a range in a segment has the rights of its flags
 pub may-within : (ss : List Segment) (i : ℕ) (s : Segment) (a n : ℕ) (r : Right) → AreDisjoint ss → slice_get ss i ≡ Some s →
-    s.address + length s.bytes ≤ 2 ^ 64 → s.address ≤ a → a + n ≤ s.address + length s.bytes → has_flag s.flags r ≡ true →
+    s.address + length s.bytes ≤ 2 ^ 64 → s.address ≤ a → a + n ≤ s.address + length s.bytes → gives_right s.flags r ≡ true →
     may (memory_of ss) a n r ≡ true
 may-within ss i s a zero r apart at fits low high right = refl
 may-within ss i s a (suc n) r apart at fits low high right =

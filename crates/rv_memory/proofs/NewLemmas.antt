@@ -9,7 +9,7 @@ use Rattle.rv_isa_laws.specs.Memory.{Right, Read, Write, Execute}
 use Rattle.rv_image.specs.Segment.{Segment, meets_segment, meets_stack, are_apart}
 use Rattle.rv_isa_laws.specs.Platform.{stack_start, stack_end}
 use Rattle.rv_image.specs.Image.{Image}
-use Rattle.rv_image.specs.Memory.{lies_in, segment_at, byte_in, right_in, has_flag, in_stack, mem_of}
+use Rattle.rv_image.specs.Memory.{lies_in, segment_at, byte_in, right_in, gives_right, in_stack, mem_of}
 use Rattle.rv_memory.specs.Flat.{memory_of, AreDisjoint}
 use Rattle.rv_memory.proofs.FlatLemmas.{same-memory}
 
@@ -125,7 +125,7 @@ or-none false = refl
 
 right-cond : (b : Bool) (u : Segment) (o p : Option Segment) (x : ℕ) (r : Right) → (b ≡ true → in_stack x r ≡ false) →
     right_in o r ≡ (right_in p r || in_stack x r) → right_in (cond b (Some u) o) r ≡ (right_in (cond b (Some u) p) r || in_stack x r)
-right-cond true u o p x r away e = let h : in_stack x r ≡ false = away refl in rw h (or-none (has_flag u.flags r))
+right-cond true u o p x r away e = let h : in_stack x r ≡ false = away refl in rw h (or-none (gives_right u.flags r))
 right-cond false u o p x r away e = e
 
 with-stack-right : (ss : List Segment) (stack : Segment) (x : ℕ) (r : Right) → IsStack stack → are_apart ss ≡ true →

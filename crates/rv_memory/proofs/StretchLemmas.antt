@@ -4,7 +4,7 @@ use Rattle.std.proofs.Common.{◌≡◌, ℕ, zero, suc, ◌+◌, ◌-◌, ◌%�
 use Rattle.rv_isa_laws.specs.Memory.{Right}
 use Rattle.rv_image.specs.Segment.{Segment, segment_of}
 use Rattle.rv_image.specs.declared.segment.Segment.{Segment as DeclaredSegment}
-use Rattle.rv_image.specs.Memory.{has_flag}
+use Rattle.rv_image.specs.Memory.{gives_right}
 use Rattle.std.specs.Prelude.{set}
 use Rattle.rv_memory.specs.Flat.{no_segment, with_part}
 use Rattle.rv_memory.specs.Stretches.{IsStretch, AreAlike}
@@ -65,7 +65,7 @@ still before after i start room bytes r alike known x low =
       within = omega (arith, wide.within, count);
       starts = alike.addresses i ∙ wide.starts;
       fits = omega (arith, wide.fits, size);
-      gives = ap (λ (f : ℕ). has_flag f r) (alike.flags i) ∙ wide.gives;
+      gives = ap (λ (f : ℕ). gives_right f r) (alike.flags i) ∙ wide.gives;
     }
 
 -- what holds for more bytes holds for fewer
@@ -84,7 +84,7 @@ narrower ss i start room more bytes r fewer known x low =
 pub record IsNear (s : Segment) (a k bytes : ℕ) (r : Right) : Type 0 where
   pub place : a ≡ s.address + k
   pub fits : k + bytes ≤ length s.bytes
-  pub right : has_flag s.flags r ≡ true
+  pub right : gives_right s.flags r ≡ true
 
 pub near-is : (ss : List Segment) (i start room bytes a k : ℕ) (s : Segment) (r : Right) → IsStretch ss i start room bytes r → k < room →
     0 < bytes → get_or ss i no_segment ≡ s → k ≡ (a + (2 ^ 64 - start)) % 2 ^ 64 → a < 2 ^ 64 → start < 2 ^ 64 → s.address + length s.bytes ≤ 2 ^ 64 → IsNear s a k bytes r
@@ -96,7 +96,7 @@ near-is ss i start room bytes a k s r known low some e is small begins ends =
     record {
       place = place;
       fits = fits;
-      right = ap (λ (t : Segment). has_flag t.flags r) (sym e) ∙ wide.gives;
+      right = ap (λ (t : Segment). gives_right t.flags r) (sym e) ∙ wide.gives;
     }
 
 -- each segment ends at the end of the addresses or before

@@ -3,7 +3,7 @@
 use Rattle.std.specs.Prelude.{◌≡◌, ℕ, ◌+◌, ◌<◌, ◌≤◌, true, List, length, slice_index_or}
 use Rattle.rv_isa_laws.specs.Memory.{Right}
 use Rattle.rv_image.specs.Segment.{Segment}
-use Rattle.rv_image.specs.Memory.{has_flag}
+use Rattle.rv_image.specs.Memory.{gives_right}
 use Rattle.rv_memory.specs.Flat.{no_segment}
 
 -- the segment at index i begins at an address, has so many bytes and gives the right
@@ -11,7 +11,7 @@ pub record IsWide (segments : List Segment) (i start size : ℕ) (right : Right)
   pub within : i < length segments
   pub starts : (slice_index_or segments i no_segment).address ≡ start
   pub fits : size ≤ length (slice_index_or segments i no_segment).bytes
-  pub gives : has_flag (slice_index_or segments i no_segment).flags right ≡ true
+  pub gives : gives_right (slice_index_or segments i no_segment).flags right ≡ true
 
 -- as many bytes as that from each of the first addresses on lie in the segment,
 -- which gives the right

@@ -47,7 +47,7 @@ ghost use Rattle.rv_image.specs.Segment.{segment_of};
 ghost use Rattle.rv_memory.specs.Rights.{right_of, IsWidth, IsToLoad, MayLoad};
 ghost use Rattle.rv_memory.specs.Flat.{memory_of, AreDisjoint, no_segment, with_part};
 ghost use Rattle.rv_memory.specs.Stretches.{AreAlike, IsStretch};
-ghost use Rattle.rv_image.specs.Memory.{lies_in, has_flag, segment_at, mem_of};
+ghost use Rattle.rv_image.specs.Memory.{lies_in, gives_right, segment_at, mem_of};
 ghost use Rattle.rv_image.specs.Image.{image_of};
 
 use crate::memory::{Memory, Right};
@@ -124,7 +124,7 @@ pub(crate) fn is_held(segment: &Segment, address: u64) -> bool
 /// Whether the segment's bytes have the right.
 #[inline(always)]
 pub(crate) fn is_given(segment: &Segment, right: Right) -> bool
-    ensures { result ≡ has_flag segment.now.flags (right_of right) }
+    ensures { result ≡ gives_right segment.now.flags (right_of right) }
 {
     match right {
         Right::Execute => segment.flags % 2 == 1,

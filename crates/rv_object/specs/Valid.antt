@@ -15,8 +15,8 @@ use Rattle.rv_isa.specs.Kinds.{width_of}
 use Rattle.rv_object.specs.Object.{Contents, Progbits, Note, Nobits, Relocation, Section, Symbol, size_of}
 
 -- a power of two, 4096 at most
-abbrev pub is_alignment : ℕ → Bool
-is_alignment n =
+abbrev pub is_section_alignment : ℕ → Bool
+is_section_alignment n =
     list_any (λ k. n == 2 ^ k) (0 ∷ 1 ∷ 2 ∷ 3 ∷ 4 ∷ 5 ∷ 6 ∷ 7 ∷ 8 ∷ 9 ∷ 10 ∷ 11 ∷ 12 ∷ [])
 
 -- a name ends before the first zero byte in its file

@@ -2,7 +2,7 @@
 
 ghost use Rattle.std.specs.Prelude.{IsTrue, map};
 ghost use Rattle.rv_object.specs.Parts.{relocation_of, contents_of};
-ghost use Rattle.rv_object.specs.Valid.{is_alignment, is_string, keeps_name, is_even, is_loaded_alone, fit_inside, are_paddings};
+ghost use Rattle.rv_object.specs.Valid.{is_section_alignment, is_string, keeps_name, is_even, is_loaded_alone, fit_inside, are_paddings};
 
 use crate::contents::Contents;
 use crate::relocation::Relocation;
@@ -29,7 +29,7 @@ pub struct Section<'a> {
     /// Bytes of the program have another name than the rows.
     pub ghost kept: { IsTrue (keeps_name (contents_of contents) name.now) },
     /// A power of two, from 1 to 4096.
-    pub ghost aligned: { IsTrue (is_alignment alignment) },
+    pub ghost aligned: { IsTrue (is_section_alignment alignment) },
     /// Code ends at an even offset.
     pub ghost even: { IsTrue (is_even executable (contents_of contents)) },
     /// Only sections with a place in memory have relocations.

@@ -11,7 +11,7 @@ use Rattle.std.proofs.lemmas.Bool.{cond-true, cond-false, eqb-true}
 use Rattle.std.proofs.lemmas.Bool.Decides.{nat_tests}
 use Rattle.rv_elf.specs.Sections.{section_count}
 use Rattle.rv_object_file_laws.specs.Parts.{FileSection, is_kept, is_index, kept, kept_at, kept_before}
-use Rattle.rv_object_checks.specs.Found.{section_at, sections_from, place_of, place_at, places_of}
+use Rattle.rv_object_checks.specs.Found.{section_at, sections_from, place_among_kept, place_at, places_of}
 use Rattle.rv_object_checks.proofs.SectionsFromLemmas.{sections_are}
 
 other_index : (k j : ℕ) → k < j → (k == j) ≡ false
@@ -114,16 +114,16 @@ place_is file i below = go (is_kept file (section_at file (i + 1))) refl
   where
     go : (b : Bool) → is_kept file (section_at file (i + 1)) ≡ b →
         place_at file (i + 1) ≡ (if is_kept file (section_at file (i + 1)) then Some (length (filter (is_kept file) (sections_from file i 1))) else None)
-    go true e = ap (place_of file) (kept_here file (i + 1) (omega arith) (omega arith) e) ∙ ap Some (count_before file i below) ∙ sym (cond-true _ _ _ e)
-    go false e = ap (place_of file) (not_kept file (i + 1) e) ∙ sym (cond-false _ _ _ e)
+    go true e = ap (place_among_kept file) (kept_here file (i + 1) (omega arith) (omega arith) e) ∙ ap Some (count_before file i below) ∙ sym (cond-true _ _ _ e)
+    go false e = ap (place_among_kept file) (not_kept file (i + 1) e) ∙ sym (cond-false _ _ _ e)
 
 -- a section has a place just where it is kept
 pub has_place : (file : List ℕ) (j : ℕ) → 0 < j → j < section_count file → is_some (place_at file j) ≡ is_kept file (section_at file j)
 has_place file j some below = go (is_kept file (section_at file j)) refl
   where
     go : (b : Bool) → is_kept file (section_at file j) ≡ b → is_some (place_at file j) ≡ is_kept file (section_at file j)
-    go true e = ap (λ o. is_some (place_of file o)) (kept_here file j some below e) ∙ sym e
-    go false e = ap (λ o. is_some (place_of file o)) (not_kept file j e) ∙ sym e
+    go true e = ap (λ o. is_some (place_among_kept file o)) (kept_here file j some below e) ∙ sym e
+    go false e = ap (λ o. is_some (place_among_kept file o)) (not_kept file j e) ∙ sym e
 
 map_at : (file : List ℕ) (n k j : ℕ) (d : Option ℕ) → j < n → get_or (map (λ s. place_at file s.index) (sections_from file n k)) j d ≡ place_at file (k + j)
 map_at file zero k j d low = absurd (omega arith)
@@ -136,7 +136,7 @@ map_long file (suc n) k = ap suc (map_long file n (suc k))
 
 pub placed_at : (file : List ℕ) (j : ℕ) (d : Option ℕ) → j < max 1 (section_count file) → get_or (places_of file) j d ≡ place_at file j
 unfolding places_of
-placed_at file zero d low = sym (ap (place_of file) (none_kept file))
+placed_at file zero d low = sym (ap (place_among_kept file) (none_kept file))
 placed_at file (suc j) d low =
     let same : 1 + j ≡ suc j = omega arith in
     ap (λ ss. get_or (map (λ s. place_at file s.index) ss) j d) (sections_are file) ∙ map_at file (section_count file - 1) 1 j d (omega arith) ∙ ap (place_at file) same
@@ -188,16 +188,16 @@ places_all file i all = ap (λ n. None ∷ map (λ s. place_at file s.index) (se
 pub kept_by : (file : List ℕ) (j : ℕ) → j < max 1 (section_count file) → kept_at file j ≡ (if is_some (place_at file j) then Some (section_at file j) else None)
 kept_by file zero below =
     let nothing = none_kept file in
-    nothing ∙ sym (cond-false _ _ _ (ap (λ o. is_some (place_of file o)) nothing))
+    nothing ∙ sym (cond-false _ _ _ (ap (λ o. is_some (place_among_kept file o)) nothing))
 kept_by file (suc j) below = go (is_kept file (section_at file (suc j))) refl
   where
     go : (b : Bool) → is_kept file (section_at file (suc j)) ≡ b → kept_at file (suc j) ≡ (if is_some (place_at file (suc j)) then Some (section_at file (suc j)) else None)
     go true e =
         let here = kept_here file (suc j) (omega arith) (omega arith) e in
-        here ∙ sym (cond-true _ _ _ (ap (λ o. is_some (place_of file o)) here))
+        here ∙ sym (cond-true _ _ _ (ap (λ o. is_some (place_among_kept file o)) here))
     go false e =
         let nothing = not_kept file (suc j) e in
-        nothing ∙ sym (cond-false _ _ _ (ap (λ o. is_some (place_of file o)) nothing))
+        nothing ∙ sym (cond-false _ _ _ (ap (λ o. is_some (place_among_kept file o)) nothing))
 
 none_past : (file : List ℕ) (n k j : ℕ) → (0 < n → k + n ≤ j) → find (is_index j) (filter (is_kept file) (sections_from file n k)) ≡ None
 none_past file zero k j past = refl
@@ -215,7 +215,7 @@ long_places file =
     omega (arith, long)
 
 pub some_below : (file : List ℕ) (j : ℕ) → j < max 1 (section_count file) → is_some (place_at file j) ≡ true → j < section_count file
-some_below file zero below h = absurd (clash (sym h ∙ ap (λ o. is_some (place_of file o)) (none_kept file)))
+some_below file zero below h = absurd (clash (sym h ∙ ap (λ o. is_some (place_among_kept file o)) (none_kept file)))
   where
     clash : true ≡ false → ⊥
     clash e = cc

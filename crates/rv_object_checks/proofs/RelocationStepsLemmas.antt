@@ -20,7 +20,7 @@ use Rattle.rv_object.specs.Object.{Relocation, Contents, Nobits, Progbits, size_
 use Rattle.rv_object.specs.Valid.{is_align, held, fits_inside, is_padding, is_padding_of, padding_of}
 use Rattle.rv_object_file_laws.specs.FirstFault.{relocations_tests, relocation_tests}
 use Rattle.rv_object_file_laws.specs.Parts.{relocation_in, relocations_in, extent_of}
-use Rattle.rv_object_checks.specs.Stretches.{Holds}
+use Rattle.rv_object_checks.specs.Stretches.{HoldsCode}
 use Rattle.rv_object_checks.proofs.SymbolFieldsLemmas.{number_behind}
 use Rattle.rv_elf.specs.FirstTrue.{first_true_none, first_true_some}
 
@@ -62,15 +62,15 @@ only_in r = one_in r [] ∙ one_alone (relocation_in r)
 pub record Going (h : SectionHeader) (symbols : ℕ) (before : List Relocation) (all : List Rela) (p f : List (ℕ × ℕ)) (left : List Rela) : Type 0 where
   pub mid : List Relocation
   pub same : first_true (relocations_tests h symbols before all) ≡ first_true (relocations_tests h symbols mid left)
-  pub hold : Holds h p f mid
+  pub hold : HoldsCode h p f mid
   pub whole : before ++ relocations_in all ≡ mid ++ relocations_in left
 
-pub begin : (h : SectionHeader) (symbols : ℕ) (before : List Relocation) (all left : List Rela) (p f : List (ℕ × ℕ)) → left ≡ all → Holds h p f before → Going h symbols before all p f left
+pub begin : (h : SectionHeader) (symbols : ℕ) (before : List Relocation) (all left : List Rela) (p f : List (ℕ × ℕ)) → left ≡ all → HoldsCode h p f before → Going h symbols before all p f left
 begin h symbols before all left p f e hold = record { mid = before; same = ap (λ rs. first_true (relocations_tests h symbols before rs)) (sym e); hold = hold; whole = ap (λ rs. before ++ relocations_in rs) (sym e) }
 
 pub step : (h : SectionHeader) (symbols : ℕ) (before : List Relocation) (all : List Rela) (p f p' f' : List (ℕ × ℕ)) (left rest : List Rela) (r : Rela)
     → left ≡ r ∷ rest → (g : Going h symbols before all p f left)
-    → first_true (relocation_tests h symbols g.mid r) ≡ None → Holds h p' f' (g.mid ++ option_to_list (relocation_in r))
+    → first_true (relocation_tests h symbols g.mid r) ≡ None → HoldsCode h p' f' (g.mid ++ option_to_list (relocation_in r))
     → Going h symbols before all p' f' rest
 step h symbols before all p f p' f' left rest r e g none hold = record {
   mid = g.mid ++ option_to_list (relocation_in r);
@@ -95,10 +95,10 @@ append_nothing (x ∷ xs) = ap (λ ys. x ∷ ys) (append_nothing xs)
 
 pub done : (h : SectionHeader) (symbols : ℕ) (before : List Relocation) (all : List Rela) (p f : List (ℕ × ℕ)) (left : List Rela)
     → left ≡ [] → Going h symbols before all p f left
-    → (first_true (relocations_tests h symbols before all) ≡ None) × Holds h p f (before ++ relocations_in all)
+    → (first_true (relocations_tests h symbols before all) ≡ None) × HoldsCode h p f (before ++ relocations_in all)
 done h symbols before all p f left e g = (
   g.same ∙ ap (λ rs. first_true (relocations_tests h symbols g.mid rs)) e,
-  subst (Holds h p f) (sym (g.whole ∙ (ap (λ rs. g.mid ++ relocations_in rs) e ∙ append_nothing g.mid))) g.hold,
+  subst (HoldsCode h p f) (sym (g.whole ∙ (ap (λ rs. g.mid ++ relocations_in rs) e ∙ append_nothing g.mid))) g.hold,
 )
 
 -- ---- what a relocation holds lies in the section

@@ -9,7 +9,7 @@ use Rattle.std.proofs.lemmas.List.{length-drop, get_or-drop, append_assoc, appen
 use Rattle.memchr.specs.Find.{IsFirst, Passes, places, places_from}
 use Rattle.rv_map.specs.Name.{is_name_byte}
 use Rattle.rv_elf.specs.declared.section_header.SectionHeader.{SectionHeader}
-use Rattle.rv_elf.specs.Sections.{before_zero, string_at, section_of, names_section}
+use Rattle.rv_elf.specs.Sections.{before_zero, string_at, indexed_contents, names_section}
 use Rattle.rv_object_file_laws.specs.FirstFault.{is_none}
 use Rattle.rv_object_file_laws.specs.Parts.{name_at, name_of}
 use Rattle.rv_object_checks.specs.Names.{strings_end, names_end, is_unshown, can_show}
@@ -98,7 +98,7 @@ named file h fits other = go (names_section file == 0) refl
     go : (b : Bool) → (names_section file == 0) ≡ b → nat_lt h.sh_name (names_end file) ≡ not (is_none (name_of file h))
     go true e = ap (nat_lt h.sh_name) (cond-true (names_section file == 0) _ _ e) ∙ below h.sh_name (2 ^ 32) fits ∙ ap (λ o. not (is_none o)) (sym (cond-true (names_section file == 0) _ _ e))
     go false e =
-        let table = section_of file (names_section file) in
+        let table = indexed_contents file (names_section file) in
         ap (nat_lt h.sh_name) (cond-false (names_section file == 0) _ _ e) ∙ not_le (strings_end table) h.sh_name
         ∙ ap not (sym (no_string table h.sh_name)) ∙ ap (λ o. not (is_none o)) (name_is table h.sh_name other)
         ∙ ap (λ o. not (is_none o)) (sym (cond-false (names_section file == 0) _ _ e))

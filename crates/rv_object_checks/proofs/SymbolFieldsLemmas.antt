@@ -13,7 +13,7 @@ use Rattle.rv_elf.specs.declared.symbol.Symbol.{Symbol}
 use Rattle.rv_elf.specs.Fields as at
 use Rattle.rv_elf.specs.Records.{symbol_at}
 use Rattle.rv_elf.specs.Sections.{string_at, symbols_in}
-use Rattle.rv_object_file_laws.specs.FirstFault.{is_none, is_bad_name, is_shared, symbol_tests}
+use Rattle.rv_object_file_laws.specs.FirstFault.{is_none, is_bad_name, is_shared_record, symbol_tests}
 use Rattle.rv_object_file_laws.specs.Parts.{name_at}
 use Rattle.rv_object_checks.specs.Names.{can_show}
 use Rattle.rv_object_checks.proofs.StringsLemmas.{name_is}
@@ -35,22 +35,22 @@ symbol_behind p bytes = λ i. record {
 }
 
 -- a symbol that all objects see wants a name that a map can show, any other one that ends
-shared_name : (s : Symbol) (o : Option (List ℕ)) → is_shared s ≡ true → not (can_show o) ≡ is_bad_name s o
+shared_name : (s : Symbol) (o : Option (List ℕ)) → is_shared_record s ≡ true → not (can_show o) ≡ is_bad_name s o
 shared_name s None global = refl
 shared_name s (Some name) global = ap (λ b. b && not (is_name name)) (sym global)
 
-local_name : (s : Symbol) (o : Option (List ℕ)) → is_shared s ≡ false → is_none o ≡ is_bad_name s o
+local_name : (s : Symbol) (o : Option (List ℕ)) → is_shared_record s ≡ false → is_none o ≡ is_bad_name s o
 local_name s None local = refl
 local_name s (Some name) local = ap (λ b. b && not (is_name name)) (sym local)
 
-pub bad_shared : (names : List ℕ) (s : Symbol) → (s.st_name ≡ 0 → ⊥) → is_shared s ≡ true → not (can_show (string_at names s.st_name)) ≡ is_bad_name s (name_at names s.st_name)
+pub bad_shared : (names : List ℕ) (s : Symbol) → (s.st_name ≡ 0 → ⊥) → is_shared_record s ≡ true → not (can_show (string_at names s.st_name)) ≡ is_bad_name s (name_at names s.st_name)
 bad_shared names s some global = shared_name s (string_at names s.st_name) global ∙ ap (is_bad_name s) (name_is names s.st_name some)
 
 twice : (b : Bool) → not (not b) ≡ b
 twice true = refl
 twice false = refl
 
-pub bad_local : (names : List ℕ) (s : Symbol) → (s.st_name ≡ 0 → ⊥) → is_shared s ≡ false → not (not (is_none (string_at names s.st_name))) ≡ is_bad_name s (name_at names s.st_name)
+pub bad_local : (names : List ℕ) (s : Symbol) → (s.st_name ≡ 0 → ⊥) → is_shared_record s ≡ false → not (not (is_none (string_at names s.st_name))) ≡ is_bad_name s (name_at names s.st_name)
 bad_local names s some local =
     twice (is_none (string_at names s.st_name)) ∙ local_name s (string_at names s.st_name) local ∙ ap (is_bad_name s) (name_is names s.st_name some)
 

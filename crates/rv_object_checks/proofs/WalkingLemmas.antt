@@ -15,14 +15,14 @@ use Rattle.rv_elf.specs.declared.fault.FileFault.{FileFault}
 use Rattle.rv_elf.specs.declared.fault.FileFault.TheVariants.{OutOfMemory}
 use Rattle.rv_elf.specs.declared.section_header.SectionHeader.{SectionHeader}
 use Rattle.rv_elf.specs.FirstFault.{first_true}
-use Rattle.rv_elf.specs.Sections.{section_count, section_header_of, contents_of, relas_in}
+use Rattle.rv_elf.specs.Sections.{section_count, section_header_of, file_contents, relas_in}
 use Rattle.rv_object.specs.Object.{Relocation}
 use Rattle.rv_object_file_laws.specs.FirstFault.{section_tests, records_tests, rela_tests, relocations_tests, sections_tests, symbol_count}
 use Rattle.rv_object_file_laws.specs.Parts.{FileSection, is_symbol_table, is_rela, is_rows, is_loaded, relocates, relas_of, relocation_in, relocations_in}
 use Rattle.rv_object_checks.specs.declared.places.Places.{Places}
 use Rattle.rv_object_checks.specs.Found.{section_at, sections_from}
 use Rattle.rv_object_checks.specs.Held.{fields_of}
-use Rattle.rv_object_checks.specs.Stretches.{Holds, AreHeld}
+use Rattle.rv_object_checks.specs.Stretches.{HoldsCode, AreHeld}
 use Rattle.rv_object_checks.specs.Tests.{tests_behind, size_tests, link_tests}
 use Rattle.rv_object_checks.specs.Walk.{relocations_before, HoldsOf, HoldBefore, AreEmpty}
 use Rattle.rv_elf.specs.FirstTrue.{first_true_none, first_true_some}
@@ -104,20 +104,20 @@ any_more P file i old new here was is follows =
 
 relas_more : (file : List ℕ) (ss us : List FileSection) → relas_of file (ss ++ us) ≡ relas_of file ss ++ relas_of file us
 relas_more file [] us = refl
-relas_more file (s ∷ ss) us = ap (λ rs. relas_in (contents_of file s.header) ++ rs) (relas_more file ss us)
-    ∙ sym (append_assoc (relas_in (contents_of file s.header)) (relas_of file ss) (relas_of file us))
+relas_more file (s ∷ ss) us = ap (λ rs. relas_in (file_contents file s.header) ++ rs) (relas_more file ss us)
+    ∙ sym (append_assoc (relas_in (file_contents file s.header)) (relas_of file ss) (relas_of file us))
 
 append_none : {X : Type 0} (xs : List X) → xs ++ [] ≡ xs
 append_none [] = refl
 append_none (x ∷ xs) = ap (λ ys. x ∷ ys) (append_none xs)
 
 module _ (file : List ℕ) (before : List FileSection) (s : FileSection) (t : ℕ) where
-  pub before_more : relocates t s ≡ true → relocations_before file (before ++ s ∷ []) t ≡ relocations_before file before t ++ relocations_in (relas_in (contents_of file s.header))
+  pub before_more : relocates t s ≡ true → relocations_before file (before ++ s ∷ []) t ≡ relocations_before file before t ++ relocations_in (relas_in (file_contents file s.header))
   before_more here =
       let mine = filter (relocates t) before in
       ap (λ ss. relocations_in (relas_of file ss)) (filter-append (relocates t) before (s ∷ []) ∙ ap (λ us. mine ++ us) (cond-true _ (s ∷ []) [] here))
-      ∙ ap relocations_in (relas_more file mine (s ∷ []) ∙ ap (λ rs. relas_of file mine ++ rs) (append_none (relas_in (contents_of file s.header))))
-      ∙ filter_map-append relocation_in (relas_of file mine) (relas_in (contents_of file s.header))
+      ∙ ap relocations_in (relas_more file mine (s ∷ []) ∙ ap (λ rs. relas_of file mine ++ rs) (append_none (relas_in (file_contents file s.header))))
+      ∙ filter_map-append relocation_in (relas_of file mine) (relas_in (file_contents file s.header))
 
   pub before_same : relocates t s ≡ false → relocations_before file (before ++ s ∷ []) t ≡ relocations_before file before t
   before_same other =
@@ -150,7 +150,7 @@ some_if P o x e p = subst (λ q. IfSome q P) e p
 module _ (file : List ℕ) (before : List FileSection) (s : FileSection) (all : List Places) where
   -- a section that relocates this one
   pub hold_more : (target : ℕ) (new : Places) → target < section_count file → is_rela s.header ≡ true → s.header.sh_info ≡ target →
-      HoldsOf file target (relocations_before file before target ++ relocations_in (relas_in (contents_of file s.header))) new →
+      HoldsOf file target (relocations_before file before target ++ relocations_in (relas_in (file_contents file s.header))) new →
       HoldBefore file before all → HoldBefore file (before ++ s ∷ []) (set all target new)
   hold_more target new inside rela info holds was = record {
     long = set_long all target new ∙ was.long;
@@ -179,15 +179,15 @@ module _ (file : List ℕ) (before : List FileSection) (s : FileSection) (all : 
 -- a check of relocations, and what it answers of those before them
 abbrev Answers : {X : Type 0} → SectionHeader → ℕ → List ℕ → Places → Places → Result X FileFault → Type 0
 Answers target symbols bytes old new result =
-    (rs : List Relocation) → Holds target old.paddings.by_end.entries (fields_of old) rs → MatchResult result
+    (rs : List Relocation) → HoldsCode target old.paddings.by_end.entries (fields_of old) rs → MatchResult result
     (λ _. (first_true (relocations_tests target symbols rs (relas_in bytes)) ≡ None)
-    × Holds target new.paddings.by_end.entries (fields_of new) (rs ++ relocations_in (relas_in bytes)))
+    × HoldsCode target new.paddings.by_end.entries (fields_of new) (rs ++ relocations_in (relas_in bytes)))
     (λ fault. (fault ≡ OutOfMemory) ⊎ (first_true (relocations_tests target symbols rs (relas_in bytes)) ≡ Some fault))
 
 -- what a check of relocations answers is what one of their section does
 pub target_done : {X : Type 0} (file : List ℕ) (before : List FileSection) (i : ℕ) (h target : SectionHeader) (symbols : ℕ) (bytes : List ℕ) (all : List Places) (old new : Places) (result : Result X FileFault) →
     is_rela h ≡ true → h.sh_info < section_count file → target ≡ section_header_of file h.sh_info → is_loaded target ≡ true →
-    symbols ≡ symbol_count file h → bytes ≡ contents_of file h → old ≡ get_or all h.sh_info old →
+    symbols ≡ symbol_count file h → bytes ≡ file_contents file h → old ≡ get_or all h.sh_info old →
     Answers target symbols bytes old new result →
     HoldBefore file before all → MatchResult result
     (λ _. (first_true (rela_tests file before h) ≡ None) × HoldBefore file (before ++ record { index = i; header = h } ∷ []) (set all h.sh_info new))
@@ -202,7 +202,7 @@ target_done {X = X} file before i h target symbols bytes all old new result rela
 
     these : first_true (rela_tests file before h) ≡ first_true (relocations_tests (section_header_of file h.sh_info) symbols (relocations_before file before h.sh_info) (relas_in bytes))
     these = ap first_true (cond-true _ _ _ loaded)
-        ∙ ap (λ n. first_true (relocations_tests (section_header_of file h.sh_info) n (relocations_before file before h.sh_info) (relas_in (contents_of file h)))) (sym counted)
+        ∙ ap (λ n. first_true (relocations_tests (section_header_of file h.sh_info) n (relocations_before file before h.sh_info) (relas_in (file_contents file h)))) (sym counted)
         ∙ ap (λ bs. first_true (relocations_tests (section_header_of file h.sh_info) symbols (relocations_before file before h.sh_info) (relas_in bs))) (sym are)
 
     go : (r : Result X FileFault) → MatchResult r

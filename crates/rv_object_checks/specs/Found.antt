@@ -16,13 +16,13 @@ sections_from file zero i = []
 sections_from file (suc n) i = section_at file i ∷ sections_from file n (suc i)
 
 -- the place of a section among those that an object keeps
-abbrev pub place_of : List ℕ → Option FileSection → Option ℕ
-place_of file None = None
-place_of file (Some s) = Some (kept_before file s.index)
+abbrev pub place_among_kept : List ℕ → Option FileSection → Option ℕ
+place_among_kept file None = None
+place_among_kept file (Some s) = Some (kept_before file s.index)
 
 -- the place of the section of an index; none where it is not kept
 abbrev pub place_at : List ℕ → ℕ → Option ℕ
-place_at file i = place_of file (kept_at file i)
+place_at file i = place_among_kept file (kept_at file i)
 
 -- the first section of rows
 abbrev pub rows_section : List ℕ → Option FileSection

@@ -2,7 +2,7 @@
 -- and the names of a file's sections.
 
 use Rattle.std.specs.Prelude.{ℕ, suc, ◌^◌, ◌==◌, Bool, false, not, List, [], ◌∷◌, Option, None, Some, if◌then◌else◌}
-use Rattle.rv_elf.specs.Sections.{names_section, section_of}
+use Rattle.rv_elf.specs.Sections.{names_section, indexed_contents}
 use Rattle.rv_map.specs.Name.{is_name, is_name_byte}
 
 -- where the last string of a table ends: behind its last zero byte
@@ -23,8 +23,9 @@ can_show (Some name) = is_name name
 -- the names of a file's sections; where no section has them each offset has a name,
 -- and that is empty
 abbrev pub names_table : List ℕ → List ℕ
-names_table file = if names_section file == 0 then [] else section_of file (names_section file)
+names_table file =
+    if names_section file == 0 then [] else indexed_contents file (names_section file)
 
 abbrev pub names_end : List ℕ → ℕ
 names_end file = if names_section file == 0 then 2 ^ 32
-    else strings_end (section_of file (names_section file))
+    else strings_end (indexed_contents file (names_section file))

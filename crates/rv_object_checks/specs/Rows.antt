@@ -23,6 +23,6 @@ room_of None = None
 room_of (Some s) = if is_loaded s.header then Some s.header.sh_size else None
 
 -- the row lies in a section of so many bytes
-abbrev pub lies_in : Record → Option ℕ → Bool
-lies_in r None = false
-lies_in r (Some size) = nat_le (r.r_offset + r.r_bytes) size
+abbrev pub row_lies_in : Record → Option ℕ → Bool
+row_lies_in r None = false
+row_lies_in r (Some size) = nat_le (r.r_offset + r.r_bytes) size

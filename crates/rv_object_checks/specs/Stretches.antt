@@ -58,5 +58,5 @@ pub record AreHeld (paddings fields : List (ℕ × ℕ)) (rs : List Relocation) 
   pub filled : (a b : ℕ) → a < b → list_any (starts_in a b) fields ≡ list_any (fills_in a b) rs
 
 -- the same, of a section with this header: nothing is kept of one that is no code
-abbrev pub Holds : SectionHeader → List (ℕ × ℕ) → List (ℕ × ℕ) → List Relocation → Type 0
-Holds h paddings fields rs = is_executable h ≡ true → AreHeld paddings fields rs
+abbrev pub HoldsCode : SectionHeader → List (ℕ × ℕ) → List (ℕ × ℕ) → List Relocation → Type 0
+HoldsCode h paddings fields rs = is_executable h ≡ true → AreHeld paddings fields rs

@@ -7,7 +7,7 @@ use Rattle.rv_object.specs.Object.{Relocation}
 use Rattle.rv_object_file_laws.specs.Parts.{FileSection, is_loaded, relocates, relas_of, relocations_in}
 use Rattle.rv_object_checks.specs.declared.places.Places.{Places}
 use Rattle.rv_object_checks.specs.Held.{fields_of}
-use Rattle.rv_object_checks.specs.Stretches.{Holds, AreHeld}
+use Rattle.rv_object_checks.specs.Stretches.{HoldsCode, AreHeld}
 
 -- the relocations of a section in these sections
 abbrev pub relocations_before : List ℕ → List FileSection → ℕ → List Relocation
@@ -15,7 +15,7 @@ relocations_before file before t = relocations_in (relas_of file (filter (reloca
 
 abbrev pub HoldsOf : List ℕ → ℕ → List Relocation → Places → Type 0
 HoldsOf file t rs places =
-    Holds (section_header_of file t) places.paddings.by_end.entries (fields_of places) rs
+    HoldsCode (section_header_of file t) places.paddings.by_end.entries (fields_of places) rs
 
 -- of each loaded section, by its index
 pub record HoldBefore (file : List ℕ) (before : List FileSection) (all : List Places) : Type 0 where

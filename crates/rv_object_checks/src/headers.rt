@@ -1,7 +1,7 @@
 //! What headers of sections say.
 
 ghost use Rattle.std.specs.Prelude.{◌≡◌, ◌==◌, ◌||◌};
-ghost use Rattle.rv_object.specs.Valid.{is_alignment};
+ghost use Rattle.rv_object.specs.Valid.{is_section_alignment};
 ghost use Rattle.rv_object_file_laws.specs.FirstFault.{is_unsupported};
 ghost use Rattle.rv_object_file_laws.specs.Parts.{is_loaded, is_executable, is_symbol_table, is_rela};
 
@@ -50,7 +50,7 @@ pub(crate) fn is_unsupported(header: &SectionHeader) -> bool
 
 /// Whether the section may begin at a multiple of this many bytes: 0, or a power of two up to 4096.
 pub(crate) fn is_aligned(alignment: u64) -> bool
-    ensures { result ≡ (alignment == 0 || is_alignment alignment) }
+    ensures { result ≡ (alignment == 0 || is_section_alignment alignment) }
 {
     matches!(
         alignment,

@@ -14,7 +14,7 @@ ghost use Rattle.rv_object.specs.Valid.{fits_inside, is_padding, is_padding_of};
 ghost use Rattle.rv_object_file_laws.specs.FirstFault.{relocations_tests, relocation_tests, is_misplaced};
 ghost use Rattle.rv_object_file_laws.specs.Parts.{is_executable, extent_of, kind_numbered, relocation_by, relocation_in, relocations_in};
 ghost use Rattle.rv_object_checks.specs.Held.{fields_of};
-ghost use Rattle.rv_object_checks.specs.Stretches.{Holds, placed};
+ghost use Rattle.rv_object_checks.specs.Stretches.{HoldsCode, placed};
 
 use crate::places::{Places, is_align};
 use rv_elf::{FileFault, RELA_SIZE, Rela, SHF_EXECINSTR, SHT_NOBITS, SectionHeader, rela_in};
@@ -33,12 +33,12 @@ pub(crate) fn check_relocations(
     records: &[u8],
 ) -> Result<(), FileFault>
     ensures { (before : List Relocation)
-        → Holds header.now places.old.paddings.by_end.entries (fields_of places.old)
+        → HoldsCode header.now places.old.paddings.by_end.entries (fields_of places.old)
         before
         → MatchResult result
         (λ _. (first_true (relocations_tests header.now symbols before (relas_in records.now))
         ≡ None)
-        × Holds header.now places.new.paddings.by_end.entries (fields_of places.new)
+        × HoldsCode header.now places.new.paddings.by_end.entries (fields_of places.new)
         (before ++ relocations_in (relas_in records.now)))
         (λ fault. (fault ≡ OutOfMemory)
         ⊎ (first_true (relocations_tests header.now symbols before (relas_in records.now))
@@ -68,11 +68,11 @@ fn check_relocation(
     rela: &Rela,
 ) -> Result<(), FileFault>
     ensures { (before : List Relocation)
-        → Holds header.now places.old.paddings.by_end.entries (fields_of places.old)
+        → HoldsCode header.now places.old.paddings.by_end.entries (fields_of places.old)
         before
         → MatchResult result
         (λ _. (first_true (relocation_tests header.now symbols before rela.now) ≡ None)
-        × Holds header.now places.new.paddings.by_end.entries (fields_of places.new)
+        × HoldsCode header.now places.new.paddings.by_end.entries (fields_of places.new)
         (before ++ option_to_list (relocation_in rela.now)))
         (λ fault. (fault ≡ OutOfMemory)
         ⊎ (first_true (relocation_tests header.now symbols before rela.now) ≡ Some fault)) }
@@ -105,11 +105,11 @@ fn is_placed(
     kind: Option<Kind>,
 ) -> Result<bool, AllocError>
     ensures { IfOk result (λ good. (before : List Relocation)
-        → Holds header.now places.old.paddings.by_end.entries (fields_of places.old)
+        → HoldsCode header.now places.old.paddings.by_end.entries (fields_of places.old)
         before
         → MatchBool good
         ((is_misplaced header.now before (relocation_by rela.now kind) ≡ false)
-        × Holds header.now places.new.paddings.by_end.entries (fields_of places.new)
+        × HoldsCode header.now places.new.paddings.by_end.entries (fields_of places.new)
         (before ++ option_to_list (relocation_by rela.now kind)))
         (is_misplaced header.now before (relocation_by rela.now kind) ≡ true)) }
 {

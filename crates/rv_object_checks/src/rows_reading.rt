@@ -3,12 +3,12 @@
 ghost use Rattle.std.specs.Prelude.{◌≡◌, ◌+◌, ◌*◌, ◌≤◌, ◌<◌, true, nat_le, Some, None, flat_map, length, if◌then◌else◌};
 ghost use Rattle.rv_elf.specs.Fields.{field, number_in};
 ghost use Rattle.rv_elf.specs.FirstFault.{Finds};
-ghost use Rattle.rv_elf.specs.Sections.{contents_of, section_count};
+ghost use Rattle.rv_elf.specs.Sections.{file_contents, section_count};
 ghost use Rattle.rv_object_file_laws.specs.FirstFault.{row_tests};
 ghost use Rattle.rv_object_file_laws.specs.Parts.{kept_at};
 ghost use Rattle.rv_object_file_laws.specs.Rows.{row_size, row_at, rows_in};
 ghost use Rattle.rv_object_checks.specs.Found.{section_at};
-ghost use Rattle.rv_object_checks.specs.Rows.{record_of, room_of, lies_in};
+ghost use Rattle.rv_object_checks.specs.Rows.{record_of, room_of, row_lies_in};
 
 use crate::headers::is_loaded;
 use crate::rows::{ROW_SIZE, RowRecord};
@@ -70,7 +70,7 @@ struct Home {
 pub(crate) fn check_rows(tables: &Tables<'_>, header: &SectionHeader) -> Result<(), FileFault>
     ensures { Finds
         (flat_map (row_tests tables.now.names.view.file.now)
-        (rows_in (contents_of tables.now.names.view.file.now header.now))) result }
+        (rows_in (file_contents tables.now.names.view.file.now header.now))) result }
 {
     let bytes = tables.names.view.contents(header);
     let mut home = home_at(tables, 0);
@@ -135,7 +135,7 @@ fn size_at(tables: &Tables<'_>, index: u32) -> Option<u64>
 
 /// Whether the row lies in a section of so many bytes; in none where there is no such section.
 fn lies_in(row: &RowRecord, size: Option<u64>) -> bool
-    ensures { result ≡ lies_in (record_of row.now) size }
+    ensures { result ≡ row_lies_in (record_of row.now) size }
 {
     match size {
         Some(size) => ends_inside(row, size),

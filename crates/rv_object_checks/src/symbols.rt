@@ -4,9 +4,9 @@ ghost use Rattle.std.specs.Prelude.{◌≡◌, ◌⊎◌, ◌+◌, ◌*◌, ◌/
 ghost use Rattle.rv_elf.specs.Fields.{symbol_size};
 ghost use Rattle.rv_elf.specs.FirstFault.{Finds, first_true};
 ghost use Rattle.rv_elf.specs.Records.{symbol_at};
-ghost use Rattle.rv_elf.specs.Sections.{section_count, section_of, contents_of, symbols_in};
+ghost use Rattle.rv_elf.specs.Sections.{section_count, indexed_contents, file_contents, symbols_in};
 ghost use Rattle.rv_elf.specs.declared.fault.FileFault.TheVariants.{OutOfMemory};
-ghost use Rattle.rv_object_file_laws.specs.FirstFault.{symbol_tests, symbol_count, is_bad_name, has_binding, has_home, is_shared};
+ghost use Rattle.rv_object_file_laws.specs.FirstFault.{symbol_tests, symbol_count, is_bad_name, has_binding, has_home, is_shared_record};
 ghost use Rattle.rv_object_file_laws.specs.Parts.{is_section, name_at};
 
 use crate::strings::Strings;
@@ -42,12 +42,12 @@ pub(crate) fn check_symbols(
     requires { is_section view.now.file.now header.now.sh_link ≡ true }
     ensures { MatchResult result
         (λ _. first_true (flat_map
-        (symbol_tests view.now.file.now (section_of view.now.file.now header.now.sh_link))
-        (drop 1 (symbols_in (contents_of view.now.file.now header.now)))) ≡ None)
+        (symbol_tests view.now.file.now (indexed_contents view.now.file.now header.now.sh_link))
+        (drop 1 (symbols_in (file_contents view.now.file.now header.now)))) ≡ None)
         (λ fault. (fault ≡ OutOfMemory)
         ⊎ (first_true (flat_map
-        (symbol_tests view.now.file.now (section_of view.now.file.now header.now.sh_link))
-        (drop 1 (symbols_in (contents_of view.now.file.now header.now)))) ≡ Some fault)) }
+        (symbol_tests view.now.file.now (indexed_contents view.now.file.now header.now.sh_link))
+        (drop 1 (symbols_in (file_contents view.now.file.now header.now)))) ≡ Some fault)) }
 {
     let names = Strings::of(alloc, view.section(SectionIndex(header.sh_link as u16)))?;
     check_table(view, &names, view.contents(header))
@@ -98,7 +98,7 @@ fn is_bad_name(names: &Strings<'_>, symbol: &Symbol) -> bool
 
 /// Whether all objects see the symbol.
 fn is_shared(symbol: &Symbol) -> bool
-    ensures { result ≡ is_shared symbol.now }
+    ensures { result ≡ is_shared_record symbol.now }
 {
     symbol.st_info / 16 == STB_GLOBAL || symbol.st_info / 16 == STB_WEAK
 }

@@ -10,17 +10,17 @@ use Rattle.rv_elf.specs.declared.fault.FileFault.TheVariants.{Truncated, BadTabl
 use Rattle.rv_elf.specs.declared.section_header.SectionHeader.{SectionHeader}
 use Rattle.rv_elf.specs.Fields.{number_in, e_type}
 use Rattle.rv_elf.specs.FirstFault.{first_true, header_tests, table_tests}
-use Rattle.rv_elf.specs.Sections.{is_past, section_count, section_header_of, section_of, contents_of, symbols_in, relas_in}
+use Rattle.rv_elf.specs.Sections.{is_past, section_count, section_header_of, indexed_contents, file_contents, symbols_in, relas_in}
 use Rattle.rv_object.specs.declared.row.Row.{Row}
 use Rattle.rv_object.specs.Object.{Contents, Progbits, Note, Nobits, Section, Object, size_of, stored}
-use Rattle.rv_object.specs.Valid.{is_alignment, is_row_in}
+use Rattle.rv_object.specs.Valid.{is_section_alignment, is_row_in}
 use Rattle.rv_object_file_laws.specs.Rows.{rows_in, rows_name, row_bytes}
 use Rattle.rv_object_file_laws.specs.Parts.{FileSection, name_of, sections, is_section, is_loaded, is_executable, is_symbol_table, is_rela, is_rows, symbols_of, relocates, relas_of, relocations_in}
 use Rattle.rv_object_file_laws.specs.ObjectOf.{names_of}
 use Rattle.rv_object_file_laws.specs.FirstFault.{is_rela_linked, is_none, record_size, is_linked, is_unsupported, section_tests, symbol_tests, row_tests, relocations_tests, symbol_count, rela_tests, records_tests, sections_tests, object_tests, first_fault}
 use Rattle.rv_object_file_laws.specs.Known.{IsSection, IsObject}
 use Rattle.rv_layout_laws.specs.Alignment.{aligned}
-use Rattle.rv_object_file_laws.specs.Written.{relocations_bytes, table_piece, Piece, table_of, kind_of, section_piece, rela_pieces, row_pieces, row_record, header_of, symtab_index, last_index, section_names, symbol_names, symbols_bytes, symbol_record, file_header_of, file_of, HasFile}
+use Rattle.rv_object_file_laws.specs.Written.{relocations_bytes, table_piece, UnplacedSection, table_of, kind_of, section_piece, rela_pieces, row_pieces, row_record, header_of, symtab_index, last_index, section_names, symbol_names, symbols_bytes, symbol_record, file_header_of, file_of, HasFile}
 use Rattle.rv_object_file_laws.proofs.LaidLemmas.{listed, Shows, AllShow}
 use Rattle.rv_object_file_laws.proofs.ListsLemmas.{all_append, all_mapped, all_weaker, any_none, filter_none, flat_map_none}
 use Rattle.rv_object_file_laws.proofs.HeadingLemmas.{header_sound, table_sound}
@@ -56,11 +56,11 @@ past_none true past h = refl
 past_none false past h = h refl
 
 -- the tests of one header
-one_header : (file : List ℕ) (names : List (List ℕ)) (i at : ℕ) (p : Piece) (before : List FileSection) → Shows file names i at p →
+one_header : (file : List ℕ) (names : List (List ℕ)) (i at : ℕ) (p : UnplacedSection) (before : List FileSection) → Shows file names i at p →
     ((p.kind == 2) && list_any (λ s. is_symbol_table s.header) before) ≡ false →
     (is_rows file (header_of names at p) && list_any (λ s. is_rows file s.header) before) ≡ false →
     p.size % record_size file (header_of names at p) ≡ 0 →
-    (p.alignment == 0 || is_alignment p.alignment) ≡ true →
+    (p.alignment == 0 || is_section_alignment p.alignment) ≡ true →
     (is_executable (header_of names at p) && not (p.size % 2 == 0)) ≡ false →
     is_linked file (header_of names at p) ≡ true →
     is_unsupported (header_of names at p) ≡ false →
@@ -70,7 +70,7 @@ one_header file names i at p before shows symbols rows multiple alignment even l
     let h : SectionHeader = header_of names at p in
     let past : (not (p.kind == 8) && is_past file (aligned 8 at) p.size) ≡ false = past_none (p.kind == 8) (is_past file (aligned 8 at) p.size) shows.past in
     let whole : not (p.size % record_size file h == 0) ≡ false = ap (λ n. not (n == 0)) multiple in
-    let power : not (p.alignment == 0 || is_alignment p.alignment) ≡ false = not_from_true _ alignment in
+    let power : not (p.alignment == 0 || is_section_alignment p.alignment) ≡ false = not_from_true _ alignment in
     let name : is_none (name_of file h) ≡ false = ap is_none shows.name in
     let link : not (is_linked file h) ≡ false = not_from_true _ linked in
     (λ j. first_true ((past j, Truncated) ∷ (symbols j, BadTable) ∷ (rows j, BadTable) ∷ (whole j, BadTable) ∷ (power j, BadTable) ∷ (even j, BadTable)
@@ -78,11 +78,11 @@ one_header file names i at p before shows symbols rows multiple alignment even l
 
 -- ---- sections without records
 
-pub record Plain (p : Piece) : Type 0 where
+pub record Plain (p : UnplacedSection) : Type 0 where
   pub no_symbols : (p.kind == 2) ≡ false
   pub no_relas : (p.kind == 4) ≡ false
   pub no_rows : piece_rows p ≡ false
-  pub power : (p.alignment == 0 || is_alignment p.alignment) ≡ true
+  pub power : (p.alignment == 0 || is_section_alignment p.alignment) ≡ true
   pub even : ((p.flags / 4 % 2 == 1) && not (p.size % 2 == 0)) ≡ false
   pub supported : (p.kind == 17 || ((p.flags / 2 % 2 == 1) && not (p.kind == 1 || p.kind == 7 || p.kind == 8))) ≡ false
 
@@ -98,7 +98,7 @@ plain_size a b c e f g = (λ j. size_by (e j) (f j) (g j))
 plain_records : {X : Type 0} (a b c : Bool) (x y z : List X) → a ≡ false → b ≡ false → c ≡ false → (if a then x else if b then y else if c then z else []) ≡ []
 plain_records a b c x y z e f g = (λ j. if e j then x else if f j then y else if g j then z else [])
 
-plain_passes : (file : List ℕ) (names : List (List ℕ)) (i at : ℕ) (p : Piece) (before : List FileSection) → Shows file names i at p → Plain p →
+plain_passes : (file : List ℕ) (names : List (List ℕ)) (i at : ℕ) (p : UnplacedSection) (before : List FileSection) → Shows file names i at p → Plain p →
     (first_true (section_tests file before (header_of names at p)) ≡ None) × (first_true (records_tests file before (header_of names at p)) ≡ None)
 plain_passes file names i at p before shows plain =
     let h : SectionHeader = header_of names at p in
@@ -109,11 +109,11 @@ plain_passes file names i at p before shows plain =
           (plain_linked (p.kind == 2) (p.kind == 4) (is_section file p.link) (is_rela_linked file h) plain.no_symbols plain.no_relas)
           plain.supported,
       ap first_true (plain_records (p.kind == 2) (p.kind == 4) (is_rows file h)
-          (flat_map (symbol_tests file (section_of file p.link)) (drop 1 (symbols_in (contents_of file h)))) (rela_tests file before h) (flat_map (row_tests file) (rows_in (contents_of file h)))
+          (flat_map (symbol_tests file (indexed_contents file p.link)) (drop 1 (symbols_in (file_contents file h)))) (rela_tests file before h) (flat_map (row_tests file) (rows_in (file_contents file h)))
           plain.no_symbols plain.no_relas rows),
     )
 
-plains_pass : (file : List ℕ) (names : List (List ℕ)) (i at : ℕ) (ps : List Piece) (before : List FileSection) → AllShow file names i at ps → AllByRecursion Plain ps →
+plains_pass : (file : List ℕ) (names : List (List ℕ)) (i at : ℕ) (ps : List UnplacedSection) (before : List FileSection) → AllShow file names i at ps → AllByRecursion Plain ps →
     Passes file before (listed names i at ps)
 plains_pass file names i at [] before shows plain = tt
 plains_pass file names i at (p ∷ ps) before shows plain =
@@ -137,7 +137,7 @@ section_plain s sound =
       no_symbols = answers.is_symbols;
       no_relas = answers.is_relas;
       no_rows = answers.is_rows;
-      power = or_right (s.alignment == 0) (is_alignment s.alignment) sound.aligned;
+      power = or_right (s.alignment == 0) (is_section_alignment s.alignment) sound.aligned;
       even = ap (λ b. b && not (size_of s.contents % 2 == 0)) bits.1 ∙ even_code s.executable (size_of s.contents % 2 == 0) sound.even;
       supported = ap (λ b. kind_of s.contents == 17 || (b && not (kind_of s.contents == 1 || kind_of s.contents == 7 || kind_of s.contents == 8))) bits.0
           ∙ kinds_supported s.contents s.loaded;
@@ -171,7 +171,7 @@ relocations_pass : (file : List ℕ) (names : List (List ℕ)) (symtab count ind
 relocations_pass file names symtab count index i at s before symbols shows place home sound fits none =
     let h : SectionHeader = header_of names at (rela_piece symtab index s) in
     let target : SectionHeader = section_header_of file index in
-    let tests : List (Bool × FileFault) = relocations_tests target (symbol_count file h) (relocations_in (relas_of file (filter (relocates index) before))) (relas_in (contents_of file h)) in
+    let tests : List (Bool × FileFault) = relocations_tests target (symbol_count file h) (relocations_in (relas_of file (filter (relocates index) before))) (relas_in (file_contents file h)) in
     let bits = flag_bits s.writable s.loaded s.executable in
     let relas = ap relas_in (shows.contents refl) ∙ relas_read count s.relocations symbols.few fits in
     elim (cases_Bool (is_loaded target)) [
@@ -199,8 +199,8 @@ relas_pass : (file : List ℕ) (names : List (List ℕ)) (symtab count index i a
     Passes file before (listed names i at (rela_pieces symtab index ss))
 relas_pass file names symtab count index i at [] before symbols shows homes sound fits none low high = tt
 relas_pass file names symtab count index i at (s ∷ ss) before symbols shows homes sound fits none low high =
-    let without : List Piece = rela_pieces symtab (suc index) ss in
-    let some : List Piece = rela_piece symtab index s ∷ without in
+    let without : List UnplacedSection = rela_pieces symtab (suc index) ss in
+    let some : List UnplacedSection = rela_piece symtab index s ∷ without in
     elim (cases_Bool (length s.relocations == 0)) [
       | inl e ↦
           let same : rela_pieces symtab index (s ∷ ss) ≡ without = cond-true (length s.relocations == 0) without some e in
@@ -242,14 +242,14 @@ rows_pass : (file : List ℕ) (names : List (List ℕ)) (i at count : ℕ) (rs :
     list_any (λ s. is_rows file s.header) before ≡ false → Passes file before (listed names i at (row_pieces rs))
 rows_pass file names i at count [] before few shows fits fine none = tt
 rows_pass file names i at count (r ∷ rs) before few shows fits fine none =
-    let p : Piece = table_piece rows_name 1
+    let p : UnplacedSection = table_piece rows_name 1
     (flat_map (λ row. row_bytes (row_record row)) (r ∷ rs)) 0 0 1 0 in
     let h : SectionHeader = header_of names at p in
     let rows : is_rows file h ≡ true = rows_seen file names i at p shows.0 in
     let size : record_size file h ≡ 32 = cond-true (is_rows file h) 32 1 rows in
     let whole : p.size % 32 ≡ 0 = omega (arith, length-rows (r ∷ rs)) in (
       one_header file names i at p before shows.0 refl (and_right _ _ none) (ap (λ n. p.size % n) size ∙ whole) refl refl refl refl,
-      ap first_true (cond-true (is_rows file h) (flat_map (row_tests file) (rows_in (contents_of file h))) [] rows)
+      ap first_true (cond-true (is_rows file h) (flat_map (row_tests file) (rows_in (file_contents file h))) [] rows)
           ∙ ap (λ t. first_true (flat_map (row_tests file) (rows_in t))) (shows.0.contents refl)
           ∙ ap (λ t. first_true (flat_map (row_tests file) t)) (rows_read count (r ∷ rs) few fits)
           ∙ flat_map_none (row_tests file) (map row_record (r ∷ rs)) fine,
@@ -271,17 +271,17 @@ tables_pass o file before has f r count none =
     let groups = small.groups in
     let i = symtab_index o in
     let at = f.at_tables in
-    let p : Piece = symtab_piece o in
+    let p : UnplacedSection = symtab_piece o in
     let first : FileSection = entry names i at p in
     let whole : length (symbols_bytes (last_index o) o) % 24 ≡ 0 = omega (arith, length-symbols (last_index o) o) in
-    let read : symbols_in (contents_of file (header_of names at p)) ≡ _ = sym (ap (symbols_of file) r.symbols) ∙ r.records in
-    let table : section_of file (i + 1) ≡ table_of strings = sym (ap (names_of file) r.symbols) ∙ r.strings in
+    let read : symbols_in (file_contents file (header_of names at p)) ≡ _ = sym (ap (symbols_of file) r.symbols) ∙ r.records in
+    let table : indexed_contents file (i + 1) ≡ table_of strings = sym (ap (names_of file) r.symbols) ∙ r.strings in
     let rest = plains_pass file names (suc i) (aligned 8 at + length p.bytes) (strtab_piece o ∷ names_piece o ∷ []) (before ++ first ∷ []) f.show_tables.1
     (strings_plain (codes ".strtab") (table_of strings), (strings_plain (codes ".shstrtab") (table_of names), tt)) in (
       one_header file names i at p before f.show_tables.0 none refl whole refl refl (is_there file (i + 1) (omega arith) (omega (arith, count))) refl,
-      ap (λ ss. first_true (flat_map (symbol_tests file (section_of file (i + 1))) (drop 1 ss))) read
-          ∙ flat_map_none (symbol_tests file (section_of file (i + 1))) (map (symbol_record strings (last_index o)) o.symbols)
-          (symbols_sound file (length o.sections) (last_index o) (suc (last_index o)) strings (section_of file (i + 1)) o.symbols count (omega (arith, groups)) (omega arith) table r.named),
+      ap (λ ss. first_true (flat_map (symbol_tests file (indexed_contents file (i + 1))) (drop 1 ss))) read
+          ∙ flat_map_none (symbol_tests file (indexed_contents file (i + 1))) (map (symbol_record strings (last_index o)) o.symbols)
+          (symbols_sound file (length o.sections) (last_index o) (suc (last_index o)) strings (indexed_contents file (i + 1)) o.symbols count (omega (arith, groups)) (omega arith) table r.named),
       rest,
     )
 

@@ -7,11 +7,11 @@ use Rattle.std.proofs.lemmas.List.{length-append, length-replicate, length-map, 
 use Rattle.rv_elf.specs.declared.section_header.SectionHeader.{SectionHeader}
 use Rattle.rv_elf.specs.Fields.{number_in, e_shoff}
 use Rattle.rv_elf.specs.Records.{file_header_bytes, section_header_bytes}
-use Rattle.rv_elf.specs.Sections.{names_section, section_of, section_count}
+use Rattle.rv_elf.specs.Sections.{names_section, indexed_contents, section_count}
 use Rattle.rv_object.specs.Object.{Object}
 use Rattle.rv_object_file_laws.specs.Parts.{sections}
 use Rattle.rv_object_file_laws.specs.Known.{IsSection, IsObject}
-use Rattle.rv_object_file_laws.specs.Written.{Piece, table_of, contents_from, headers_offset, headers_from, section_piece, row_pieces, symtab_index, last_index, first_pieces, pieces, section_names, symbol_names, symbols_bytes, locals, file_header_of, file_of, HasFile}
+use Rattle.rv_object_file_laws.specs.Written.{UnplacedSection, table_of, contents_from, headers_offset, headers_from, section_piece, row_pieces, symtab_index, last_index, first_pieces, pieces, section_names, symbol_names, symbols_bytes, locals, file_header_of, file_of, HasFile}
 use Rattle.rv_object_file_laws.proofs.StringsLemmas.{is_among}
 use Rattle.rv_object_file_laws.proofs.LaidLemmas.{after, length-contents, all_stand, Headed, all_headed, sections_are, headers_fit, length-headers, listed, listed-append, AllShow, IsSized, all_show, show-append}
 use Rattle.rv_object_file_laws.proofs.ListsLemmas.{all_append, all_mapped, all_weaker}
@@ -42,10 +42,10 @@ groups_filed : (o : Object) (file : List ℕ) → sections file ≡ listed (sect
     ReadsHeader (file_header_of o) file → headers_offset 64 (pieces o) + 64 * (1 + length (pieces o)) ≤ length file → 64 ≤ length file → IsFiled o file
 groups_filed o file all shows reads long starts =
     let names = section_names o in
-    let p₁ : List Piece = map section_piece o.sections in
-    let p₂ : List Piece = rela_group o in
-    let p₃ : List Piece = row_pieces o.rows in
-    let p₄ : List Piece = tables o in
+    let p₁ : List UnplacedSection = map section_piece o.sections in
+    let p₂ : List UnplacedSection = rela_group o in
+    let p₃ : List UnplacedSection = row_pieces o.rows in
+    let p₄ : List UnplacedSection = tables o in
     let at₂ = after 64 p₁ in
     let at₃ = after at₂ p₂ in
     let at₄ = after at₃ p₃ in
@@ -91,9 +91,9 @@ all_fine o known has =
     let small = small_of o has in
     let last = small.last in
     let groups = small.groups in
-    let p₁ : List Piece = map section_piece o.sections in
-    let p₂ : List Piece = rela_group o in
-    let p₃ : List Piece = row_pieces o.rows in
+    let p₁ : List UnplacedSection = map section_piece o.sections in
+    let p₂ : List UnplacedSection = rela_group o in
+    let p₃ : List UnplacedSection = row_pieces o.rows in
     let symtab = table_fine (codes ".symtab") 2 (symbols_bytes (last_index o) o) (symtab_index o + 1) (1 + locals o.symbols) 8 24
     (omega arith) (omega (arith, last)) (omega (arith, locals_within o.symbols, has.symbols)) (omega arith) (omega arith) refl in
     let strtab = table_fine (codes ".strtab") 3 (table_of (symbol_names o)) 0 0 1 0 (omega arith) (omega arith) (omega arith) (omega arith) (omega arith) refl in
@@ -106,8 +106,8 @@ all_fine o known has =
 all_named : (o : Object) → AllByRecursion (λ p. is_among p.name (section_names o) ≡ true) (pieces o)
 all_named o =
     let names : List (List ℕ) = section_names o in
-    let same : map (λ p. p.name) (pieces o) ≡ names = map-append (λ (p : Piece). p.name) (first_pieces o) (names_piece o ∷ []) in
-    all_unmapped (λ n. is_among n names ≡ true) (λ (p : Piece). p.name) (pieces o)
+    let same : map (λ p. p.name) (pieces o) ≡ names = map-append (λ (p : UnplacedSection). p.name) (first_pieces o) (names_piece o ∷ []) in
+    all_unmapped (λ n. is_among n names ≡ true) (λ (p : UnplacedSection). p.name) (pieces o)
     (subst (AllByRecursion (λ n. is_among n names ≡ true)) (sym same) (all_among [] names))
 
 -- a file of these parts: a header, contents, the header of section 0, and those of the pieces
@@ -115,7 +115,7 @@ from_parts : (o : Object) (null : List ℕ) → IsObject o → HasFile o → len
     (file : List ℕ) → file ≡ file_header_bytes (file_header_of o) ++ (contents_from 64 (pieces o) ++ (null ++ flat_map section_header_bytes (headers_from (section_names o) 64 (pieces o)))) →
     length file < 2 ^ 64 → IsFiled o file
 from_parts o null known has nulls file whole small =
-    let ps : List Piece = pieces o in
+    let ps : List UnplacedSection = pieces o in
     let names : List (List ℕ) = section_names o in
     let hs : List SectionHeader = headers_from names 64 ps in
     let heading : List ℕ = file_header_bytes (file_header_of o) in
@@ -163,8 +163,8 @@ from_parts o null known has nulls file whole small =
     let all = sections_are file null [] end hs fit nulls reads.sections count (nulled ∙ ap (λ t. null ++ t) (sym none)) in
     let other = ap (λ n. n == 0) reads.names ∙ ne_eqb (last_index o) 0 (λ e. omega arith) in
     let index : names_section file ≡ 1 + length (first_pieces o) = reads.names ∙ omega (arith, piece_count o, length-append (first_pieces o) (names_piece o ∷ [])) in
-    let strings : section_of file (names_section file) ≡ table_of names =
-    ap (section_of file) index ∙ last_bytes file names 1 64 (first_pieces o) (names_piece o) stand headed refl refl in
+    let strings : indexed_contents file (names_section file) ≡ table_of names =
+    ap (indexed_contents file) index ∙ last_bytes file names 1 64 (first_pieces o) (names_piece o) stand headed refl refl in
     let named = named_all file names 64 ps other strings fine (all_named o) in
     let shows = all_show file names 1 64 ps stand (all_weaker IsFine IsSized (λ p f. f.sized) ps fine) headed named in
     groups_filed o file all shows reads (omega (arith, size)) (omega (arith, size))

@@ -10,36 +10,36 @@ use Rattle.rv_object_file_laws.specs.Rows.{rows_name}
 use Rattle.rv_object_file_laws.specs.Parts.{FileSection, is_named, is_rows, is_kept, is_index}
 use Rattle.rv_object_file_laws.specs.Known.{IsSection}
 use Rattle.rv_layout_laws.specs.Alignment.{aligned}
-use Rattle.rv_object_file_laws.specs.Written.{Piece, kind_of, section_piece, rela_pieces, row_pieces, header_of, has_relocations}
+use Rattle.rv_object_file_laws.specs.Written.{UnplacedSection, kind_of, section_piece, rela_pieces, row_pieces, header_of, has_relocations}
 use Rattle.rv_object_file_laws.proofs.LaidLemmas.{listed, Shows, AllShow}
 use Rattle.rv_object_file_laws.proofs.ListsLemmas.{all_mapped}
 
-abbrev pub entry : List (List ℕ) → ℕ → ℕ → Piece → FileSection
+abbrev pub entry : List (List ℕ) → ℕ → ℕ → UnplacedSection → FileSection
 entry names i at p = record { index = i; header = header_of names at p }
 
 -- ---- tests of a piece
 
-abbrev pub piece_rows : Piece → Bool
+abbrev pub piece_rows : UnplacedSection → Bool
 piece_rows p = p.kind == 1 && bytes_eq p.name rows_name
 
-abbrev pub piece_kept : Piece → Bool
+abbrev pub piece_kept : UnplacedSection → Bool
 piece_kept p = (p.kind == 1 && not (piece_rows p)) || p.kind == 7 || p.kind == 8
 
-pub rows_seen : (file : List ℕ) (names : List (List ℕ)) (i at : ℕ) (p : Piece) → Shows file names i at p → is_rows file (header_of names at p) ≡ piece_rows p
+pub rows_seen : (file : List ℕ) (names : List (List ℕ)) (i at : ℕ) (p : UnplacedSection) → Shows file names i at p → is_rows file (header_of names at p) ≡ piece_rows p
 rows_seen file names i at p shows = ap (λ n. p.kind == 1 && is_named rows_name n) shows.name
 
-pub kept_seen : (file : List ℕ) (names : List (List ℕ)) (i at : ℕ) (p : Piece) → Shows file names i at p → is_kept file (entry names i at p) ≡ piece_kept p
+pub kept_seen : (file : List ℕ) (names : List (List ℕ)) (i at : ℕ) (p : UnplacedSection) → Shows file names i at p → is_kept file (entry names i at p) ≡ piece_kept p
 kept_seen file names i at p shows = ap (λ b. (p.kind == 1 && not b) || p.kind == 7 || p.kind == 8) (rows_seen file names i at p shows)
 
 -- a fact of each piece is one of each section
-pub listed_all : (file : List ℕ) (names : List (List ℕ)) (Q : Piece → Type 0) (P : FileSection → Type 0) →
-    ((i at : ℕ) (p : Piece) → Shows file names i at p → Q p → P (entry names i at p)) →
-    (i at : ℕ) (ps : List Piece) → AllShow file names i at ps → AllByRecursion Q ps → AllByRecursion P (listed names i at ps)
+pub listed_all : (file : List ℕ) (names : List (List ℕ)) (Q : UnplacedSection → Type 0) (P : FileSection → Type 0) →
+    ((i at : ℕ) (p : UnplacedSection) → Shows file names i at p → Q p → P (entry names i at p)) →
+    (i at : ℕ) (ps : List UnplacedSection) → AllShow file names i at ps → AllByRecursion Q ps → AllByRecursion P (listed names i at ps)
 listed_all file names Q P f i at [] shows h = tt
 listed_all file names Q P f i at (p ∷ ps) shows h = (f i at p shows.0 h.0, listed_all file names Q P f (suc i) (aligned 8 at + length p.bytes) ps shows.1 h.1)
 
 -- the answers of the tests of a kind of piece
-pub record Answers (kept rows symbols relas : Bool) (p : Piece) : Type 0 where
+pub record Answers (kept rows symbols relas : Bool) (p : UnplacedSection) : Type 0 where
   pub is_kept : piece_kept p ≡ kept
   pub is_rows : piece_rows p ≡ rows
   pub is_symbols : (p.kind == 2) ≡ symbols
@@ -90,8 +90,8 @@ length-relas symtab index (s ∷ ss) = elim (cases_Bool (length s.relocations ==
 -- ---- sections by their indices
 
 -- the section of an index of the list, where the list has it
-pub find_listed : (names : List (List ℕ)) (i at k : ℕ) (ps : List Piece) → i ≤ k → k < i + length ps →
-    (place : ℕ) × (p : Piece) × (find (is_index k) (listed names i at ps) ≡ Some (entry names k place p))
+pub find_listed : (names : List (List ℕ)) (i at k : ℕ) (ps : List UnplacedSection) → i ≤ k → k < i + length ps →
+    (place : ℕ) × (p : UnplacedSection) × (find (is_index k) (listed names i at ps) ≡ Some (entry names k place p))
 find_listed names i at k [] low high = absurd (omega arith)
 find_listed names i at k (p ∷ ps) low high = elim (cases_Bool (i == k)) [
   | inl e ↦
@@ -104,7 +104,7 @@ find_listed names i at k (p ∷ ps) low high = elim (cases_Bool (i == k)) [
       (more.0, more.1, cond-false (i == k) (Some (entry names i at p)) (find (is_index k) (listed names (suc i) next ps)) e ∙ more.2)
 ]
 
-pub find_beyond : (names : List (List ℕ)) (i at k : ℕ) (ps : List Piece) → i + length ps ≤ k → find (is_index k) (listed names i at ps) ≡ None
+pub find_beyond : (names : List (List ℕ)) (i at k : ℕ) (ps : List UnplacedSection) → i + length ps ≤ k → find (is_index k) (listed names i at ps) ≡ None
 find_beyond names i at k [] high = refl
 find_beyond names i at k (p ∷ ps) high =
     let next = aligned 8 at + length p.bytes in
@@ -112,7 +112,7 @@ find_beyond names i at k (p ∷ ps) high =
     ∙ find_beyond names (suc i) next k ps (omega arith)
 
 -- how many have a smaller index
-pub count_before : (names : List (List ℕ)) (i at k : ℕ) (ps : List Piece) → k ≤ i + length ps → length (filter (λ s. nat_lt s.index k) (listed names i at ps)) ≡ k - i
+pub count_before : (names : List (List ℕ)) (i at k : ℕ) (ps : List UnplacedSection) → k ≤ i + length ps → length (filter (λ s. nat_lt s.index k) (listed names i at ps)) ≡ k - i
 count_before names i at k [] high = omega arith
 count_before names i at k (p ∷ ps) high =
     let next = aligned 8 at + length p.bytes in

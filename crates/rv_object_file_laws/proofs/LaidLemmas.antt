@@ -9,10 +9,10 @@ use Rattle.rv_elf.specs.declared.section_header.SectionHeader.{SectionHeader}
 use Rattle.rv_elf.specs.Fields.{number_in, e_shoff, section_header_size}
 use Rattle.rv_elf.specs.ReadBack.{FitsSectionHeader, section_header_there}
 use Rattle.rv_elf.specs.Records.{section_header_at, section_header_bytes}
-use Rattle.rv_elf.specs.Sections.{records, is_past, is_nobits, contents_of, section_header_of, section_count}
+use Rattle.rv_elf.specs.Sections.{records, is_past, is_nobits, file_contents, section_header_of, section_count}
 use Rattle.rv_object_file_laws.specs.Parts.{FileSection, numbered, sections, name_of}
 use Rattle.rv_layout_laws.specs.Alignment.{aligned}
-use Rattle.rv_object_file_laws.specs.Written.{table_of, Piece, zeros_at, contents_from, headers_offset, header_of, headers_from}
+use Rattle.rv_object_file_laws.specs.Written.{table_of, UnplacedSection, zeros_at, contents_from, headers_offset, header_of, headers_from}
 use Rattle.rv_object_file_laws.proofs.StringsLemmas.{name_offset_within}
 use Rattle.rv_object_file_laws.proofs.RecordsLemmas.{length-section_header, records_back}
 
@@ -20,22 +20,22 @@ pub aligned_up : (at : ℕ) → at ≤ aligned 8 at
 aligned_up at = omega arith
 
 -- where the contents of these pieces end, before they are filled up to a multiple of 8
-abbrev pub after : ℕ → List Piece → ℕ
+abbrev pub after : ℕ → List UnplacedSection → ℕ
 after at [] = at
 after at (p ∷ ps) = after (aligned 8 at + length p.bytes) ps
 
-pub after-append : (at : ℕ) (ps qs : List Piece) → after at (ps ++ qs) ≡ after (after at ps) qs
+pub after-append : (at : ℕ) (ps qs : List UnplacedSection) → after at (ps ++ qs) ≡ after (after at ps) qs
 after-append at [] qs = refl
 after-append at (p ∷ ps) qs = after-append (aligned 8 at + length p.bytes) ps qs
 
-pub end_after : (at : ℕ) (ps : List Piece) → at ≤ headers_offset at ps
+pub end_after : (at : ℕ) (ps : List UnplacedSection) → at ≤ headers_offset at ps
 end_after at [] = aligned_up at
 end_after at (p ∷ ps) = omega (arith, aligned_up at, end_after (aligned 8 at + length p.bytes) ps)
 
 length-zeros : (at : ℕ) → length (zeros_at at) ≡ aligned 8 at - at
 length-zeros at = length-replicate {A = ℕ} (aligned 8 at - at) 0
 
-pub length-contents : (at : ℕ) (ps : List Piece) → at + length (contents_from at ps) ≡ headers_offset at ps
+pub length-contents : (at : ℕ) (ps : List UnplacedSection) → at + length (contents_from at ps) ≡ headers_offset at ps
 length-contents at [] = omega (arith, length-zeros at, aligned_up at)
 length-contents at (p ∷ ps) =
     let next = aligned 8 at + length p.bytes in
@@ -51,15 +51,15 @@ length-contents at (p ∷ ps) =
 -- ---- contents
 
 -- the file has the bytes of a piece at its place
-pub record Stands (file : List ℕ) (at : ℕ) (p : Piece) : Type 0 where
+pub record Stands (file : List ℕ) (at : ℕ) (p : UnplacedSection) : Type 0 where
   pub within : aligned 8 at + length p.bytes ≤ length file
   pub bytes : take (length p.bytes) (drop (aligned 8 at) file) ≡ p.bytes
 
-abbrev pub AllStand : List ℕ → ℕ → List Piece → Type 0
+abbrev pub AllStand : List ℕ → ℕ → List UnplacedSection → Type 0
 AllStand file at [] = Unit {0}
 AllStand file at (p ∷ ps) = Stands file at p × AllStand file (aligned 8 at + length p.bytes) ps
 
-pub all_stand : (file rest : List ℕ) (at : ℕ) (ps : List Piece) → at ≤ length file → drop at file ≡ contents_from at ps ++ rest → AllStand file at ps
+pub all_stand : (file rest : List ℕ) (at : ℕ) (ps : List UnplacedSection) → at ≤ length file → drop at file ≡ contents_from at ps ++ rest → AllStand file at ps
 all_stand file rest at [] long here = tt
 all_stand file rest at (p ∷ ps) long here =
     let next = aligned 8 at + length p.bytes in
@@ -84,7 +84,7 @@ not_past file place size h = grind (arith, nat_tests)
 -- ---- headers
 
 -- what the fields of a header hold of a piece
-pub record FitsPiece (p : Piece) : Type 0 where
+pub record FitsPiece (p : UnplacedSection) : Type 0 where
   pub kind : p.kind < 2 ^ 32
   pub flags : p.flags < 2 ^ 64
   pub size : p.size < 2 ^ 64
@@ -121,7 +121,7 @@ sections_are file null rest place hs fits size start count here =
     records_back section_header_at 64 section_header_bytes (λ h. h) FitsSectionHeader length-section_header section_header_there hs (place + 64) file rest fits behind ∙ map-id hs in
     (λ i. drop 1 (numbered 0 (records section_header_at 64 (count i) (start i) file))) ∙ ap (numbered 1) all
 
-pub headers_fit : (names : List (List ℕ)) (at : ℕ) (ps : List Piece) → length (table_of names) < 2 ^ 32 → AllByRecursion FitsPiece ps → headers_offset at ps < 2 ^ 64 →
+pub headers_fit : (names : List (List ℕ)) (at : ℕ) (ps : List UnplacedSection) → length (table_of names) < 2 ^ 32 → AllByRecursion FitsPiece ps → headers_offset at ps < 2 ^ 64 →
     AllByRecursion FitsSectionHeader (headers_from names at ps)
 headers_fit names at [] small fits room = tt
 headers_fit names at (p ∷ ps) small fits room =
@@ -141,16 +141,16 @@ headers_fit names at (p ∷ ps) small fits room =
       headers_fit names next ps small fits.1 room,
     )
 
-pub length-headers : (names : List (List ℕ)) (at : ℕ) (ps : List Piece) → length (headers_from names at ps) ≡ length ps
+pub length-headers : (names : List (List ℕ)) (at : ℕ) (ps : List UnplacedSection) → length (headers_from names at ps) ≡ length ps
 length-headers names at [] = refl
 length-headers names at (p ∷ ps) = ap suc (length-headers names (aligned 8 at + length p.bytes) ps)
 
 -- ---- the sections of these pieces, from an index and a place on
 
-abbrev pub listed : List (List ℕ) → ℕ → ℕ → List Piece → List FileSection
+abbrev pub listed : List (List ℕ) → ℕ → ℕ → List UnplacedSection → List FileSection
 listed names i at ps = numbered i (headers_from names at ps)
 
-pub listed-append : (names : List (List ℕ)) (i at : ℕ) (ps qs : List Piece) →
+pub listed-append : (names : List (List ℕ)) (i at : ℕ) (ps qs : List UnplacedSection) →
     listed names i at (ps ++ qs) ≡ listed names i at ps ++ listed names (i + length ps) (after at ps) qs
 listed-append names i at [] qs = let none : i ≡ i + 0 = omega arith in ap (λ n. listed names n at qs) none
 listed-append names i at (p ∷ ps) qs =
@@ -159,25 +159,25 @@ listed-append names i at (p ∷ ps) qs =
     ap (λ ss. record { index = i; header = header_of names at p } ∷ ss) (listed-append names (suc i) next ps qs ∙ ap (λ n. listed names (suc i) next ps ++ listed names n (after next ps) qs) step)
 
 -- what is read of the section that a piece became
-pub record Shows (file : List ℕ) (names : List (List ℕ)) (i at : ℕ) (p : Piece) : Type 0 where
+pub record Shows (file : List ℕ) (names : List (List ℕ)) (i at : ℕ) (p : UnplacedSection) : Type 0 where
   pub of : section_header_of file i ≡ header_of names at p
   pub name : name_of file (header_of names at p) ≡ Some p.name
   pub past : is_nobits (header_of names at p) ≡ false → is_past file (aligned 8 at) p.size ≡ false
-  pub contents : is_nobits (header_of names at p) ≡ false → contents_of file (header_of names at p) ≡ p.bytes
+  pub contents : is_nobits (header_of names at p) ≡ false → file_contents file (header_of names at p) ≡ p.bytes
 
-abbrev pub AllShow : List ℕ → List (List ℕ) → ℕ → ℕ → List Piece → Type 0
+abbrev pub AllShow : List ℕ → List (List ℕ) → ℕ → ℕ → List UnplacedSection → Type 0
 AllShow file names i at [] = Unit {0}
 AllShow file names i at (p ∷ ps) = Shows file names i at p × AllShow file names (suc i) (aligned 8 at + length p.bytes) ps
 
 -- a piece with bytes in the file says how many
-abbrev pub IsSized : Piece → Type 0
+abbrev pub IsSized : UnplacedSection → Type 0
 IsSized p = (p.kind == 8) ≡ false → p.size ≡ length p.bytes
 
-abbrev pub AllNamed : List ℕ → List (List ℕ) → ℕ → List Piece → Type 0
+abbrev pub AllNamed : List ℕ → List (List ℕ) → ℕ → List UnplacedSection → Type 0
 AllNamed file names at [] = Unit {0}
 AllNamed file names at (p ∷ ps) = (name_of file (header_of names at p) ≡ Some p.name) × AllNamed file names (aligned 8 at + length p.bytes) ps
 
-one_shows : (file : List ℕ) (names : List (List ℕ)) (i at : ℕ) (p : Piece) → Stands file at p → IsSized p →
+one_shows : (file : List ℕ) (names : List (List ℕ)) (i at : ℕ) (p : UnplacedSection) → Stands file at p → IsSized p →
     section_header_of file i ≡ header_of names at p → name_of file (header_of names at p) ≡ Some p.name → Shows file names i at p
 one_shows file names i at p stands sized of name =
     let past : is_nobits (header_of names at p) ≡ false → is_past file (aligned 8 at) p.size ≡ false =
@@ -190,13 +190,13 @@ one_shows file names i at p stands sized of name =
           ∙ ap (λ n. take n (drop (aligned 8 at) file)) (sized e) ∙ stands.bytes;
     }
 
-pub all_show : (file : List ℕ) (names : List (List ℕ)) (i at : ℕ) (ps : List Piece) → AllStand file at ps → AllByRecursion IsSized ps →
+pub all_show : (file : List ℕ) (names : List (List ℕ)) (i at : ℕ) (ps : List UnplacedSection) → AllStand file at ps → AllByRecursion IsSized ps →
     Headed file i (headers_from names at ps) → AllNamed file names at ps → AllShow file names i at ps
 all_show file names i at [] stand sized headed named = tt
 all_show file names i at (p ∷ ps) stand sized headed named =
     (one_shows file names i at p stand.0 sized.0 headed.0 named.0, all_show file names (suc i) (aligned 8 at + length p.bytes) ps stand.1 sized.1 headed.1 named.1)
 
-pub show-append : (file : List ℕ) (names : List (List ℕ)) (i at : ℕ) (ps qs : List Piece) → AllShow file names i at (ps ++ qs) →
+pub show-append : (file : List ℕ) (names : List (List ℕ)) (i at : ℕ) (ps qs : List UnplacedSection) → AllShow file names i at (ps ++ qs) →
     AllShow file names i at ps × AllShow file names (i + length ps) (after at ps) qs
 show-append file names i at [] qs h = let none : i ≡ i + 0 = omega arith in (tt, subst (λ n. AllShow file names n at qs) none h)
 show-append file names i at (p ∷ ps) qs h =

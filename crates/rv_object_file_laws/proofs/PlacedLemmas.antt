@@ -7,14 +7,14 @@ use Rattle.std.proofs.lemmas.Bool.Decides.{nat_tests}
 use Rattle.std.proofs.lemmas.List.{length-append, length-map}
 use Rattle.rv_elf.specs.declared.section_header.SectionHeader.{SectionHeader}
 use Rattle.rv_elf.specs.Records.{section_header_bytes}
-use Rattle.rv_elf.specs.Sections.{is_past, names_section, section_of, contents_of}
+use Rattle.rv_elf.specs.Sections.{is_past, names_section, indexed_contents, file_contents}
 use Rattle.rv_object.specs.Object.{Contents, Progbits, Note, Nobits, Section, Symbol, Object, stored, size_of}
-use Rattle.rv_object.specs.Valid.{is_alignment, is_string}
+use Rattle.rv_object.specs.Valid.{is_section_alignment, is_string}
 use Rattle.rv_object.specs.declared.row.Row.{Row}
 use Rattle.rv_object_file_laws.specs.Known.{IsSection}
 use Rattle.rv_object_file_laws.specs.Parts.{name_at}
 use Rattle.rv_layout_laws.specs.Alignment.{aligned}
-use Rattle.rv_object_file_laws.specs.Written.{name_offset, Piece, table_of, table_piece, headers_offset, headers_from, kind_of, flag_if, section_piece, rela_pieces, row_pieces, symtab_index, last_index, pieces, section_names, symbol_names, symbols_bytes, is_local, locals}
+use Rattle.rv_object_file_laws.specs.Written.{name_offset, UnplacedSection, table_of, table_piece, headers_offset, headers_from, kind_of, flag_if, section_piece, rela_pieces, row_pieces, symtab_index, last_index, pieces, section_names, symbol_names, symbols_bytes, is_local, locals}
 use Rattle.rv_object_file_laws.proofs.RecordsLemmas.{length-section_header}
 use Rattle.rv_object_file_laws.proofs.StringsLemmas.{is_among, name_back}
 use Rattle.rv_object_file_laws.proofs.LaidLemmas.{end_after, AllStand, not_past, FitsPiece, Headed, IsSized, AllNamed}
@@ -23,7 +23,7 @@ use Rattle.rv_object_file_laws.proofs.GroupsLemmas.{length-relas}
 -- ---- what holds of each piece
 
 -- what a header can hold of it, but for the size of its bytes
-pub record IsFine (p : Piece) : Type 0 where
+pub record IsFine (p : UnplacedSection) : Type 0 where
   pub kind : p.kind < 2 ^ 32
   pub flags : p.flags < 2 ^ 64
   pub link : p.link < 2 ^ 32
@@ -34,7 +34,7 @@ pub record IsFine (p : Piece) : Type 0 where
   pub large : (p.kind == 8) ≡ true → p.size < 2 ^ 64
   pub string : is_string p.name ≡ true
 
-pub pieces_fit : (at : ℕ) (ps : List Piece) → headers_offset at ps < 2 ^ 64 → AllByRecursion IsFine ps → AllByRecursion FitsPiece ps
+pub pieces_fit : (at : ℕ) (ps : List UnplacedSection) → headers_offset at ps < 2 ^ 64 → AllByRecursion IsFine ps → AllByRecursion FitsPiece ps
 pieces_fit at [] room fine = tt
 pieces_fit at (p ∷ ps) room fine =
     let next = aligned 8 at + length p.bytes in
@@ -46,7 +46,7 @@ pieces_fit at (p ∷ ps) room fine =
       pieces_fit next ps room fine.1,
     )
 
-alignment_small : (n : ℕ) → is_alignment n ≡ true → n < 2 ^ 64
+alignment_small : (n : ℕ) → is_section_alignment n ≡ true → n < 2 ^ 64
 alignment_small n h = grind (arith, nat_tests)
 
 kind_small : (c : Contents) → kind_of c < 2 ^ 32
@@ -120,25 +120,25 @@ locals_within (y ∷ ys) = elim (cases_Bool (is_local y)) [
 
 -- ---- the pieces of an object, in four groups
 
-abbrev pub symtab_piece : Object → Piece
+abbrev pub symtab_piece : Object → UnplacedSection
 symtab_piece o = table_piece (codes ".symtab") 2 (symbols_bytes (last_index o) o) (symtab_index o + 1) (1 + locals o.symbols) 8 24
 
-abbrev pub strtab_piece : Object → Piece
+abbrev pub strtab_piece : Object → UnplacedSection
 strtab_piece o = table_piece (codes ".strtab") 3 (table_of (symbol_names o)) 0 0 1 0
 
-abbrev pub names_piece : Object → Piece
+abbrev pub names_piece : Object → UnplacedSection
 names_piece o = table_piece (codes ".shstrtab") 3 (table_of (section_names o)) 0 0 1 0
 
-abbrev pub tables : Object → List Piece
+abbrev pub tables : Object → List UnplacedSection
 tables o = symtab_piece o ∷ strtab_piece o ∷ names_piece o ∷ []
 
-abbrev pub rela_group : Object → List Piece
+abbrev pub rela_group : Object → List UnplacedSection
 rela_group o = rela_pieces (symtab_index o) 1 o.sections
 
 pub four_groups : (o : Object) → pieces o ≡ map section_piece o.sections ++ (rela_group o ++ (row_pieces o.rows ++ tables o))
 four_groups o =
-    let two : List Piece = symtab_piece o ∷ strtab_piece o ∷ [] in
-    let last : List Piece = names_piece o ∷ [] in
+    let two : List UnplacedSection = symtab_piece o ∷ strtab_piece o ∷ [] in
+    let last : List UnplacedSection = names_piece o ∷ [] in
     append_assoc (map section_piece o.sections) (rela_group o ++ (row_pieces o.rows ++ two)) last
     ∙ ap (λ ps. map section_piece o.sections ++ ps) (append_assoc (rela_group o) (row_pieces o.rows ++ two) last
     ∙ ap (λ ps. rela_group o ++ ps) (append_assoc (row_pieces o.rows) two last))
@@ -163,24 +163,24 @@ length-header_table [] = refl
 length-header_table (h ∷ hs) = omega (arith, length-append (section_header_bytes h) (flat_map section_header_bytes hs), length-section_header h, length-header_table hs)
 
 -- the bytes of the last piece, as its section has them
-pub last_bytes : (file : List ℕ) (names : List (List ℕ)) (i at : ℕ) (ps : List Piece) (q : Piece) → AllStand file at (ps ++ q ∷ []) →
-    Headed file i (headers_from names at (ps ++ q ∷ [])) → (q.kind == 8) ≡ false → q.size ≡ length q.bytes → section_of file (i + length ps) ≡ q.bytes
+pub last_bytes : (file : List ℕ) (names : List (List ℕ)) (i at : ℕ) (ps : List UnplacedSection) (q : UnplacedSection) → AllStand file at (ps ++ q ∷ []) →
+    Headed file i (headers_from names at (ps ++ q ∷ [])) → (q.kind == 8) ≡ false → q.size ≡ length q.bytes → indexed_contents file (i + length ps) ≡ q.bytes
 last_bytes file names i at [] q stand headed bytes sized =
     let none : i + 0 ≡ i = omega arith in
     let past = ap (is_past file (aligned 8 at)) sized ∙ not_past file (aligned 8 at) (length q.bytes) stand.0.within in
-    ap (section_of file) none ∙ ap (contents_of file) headed.0
+    ap (indexed_contents file) none ∙ ap (file_contents file) headed.0
     ∙ cond-false _ [] _ (or_from _ _ bytes past)
     ∙ ap (λ n. take n (drop (aligned 8 at) file)) sized ∙ stand.0.bytes
 last_bytes file names i at (p ∷ ps) q stand headed bytes sized =
     let next : i + suc (length ps) ≡ suc i + length ps = omega arith in
-    ap (section_of file) next ∙ last_bytes file names (suc i) (aligned 8 at + length p.bytes) ps q stand.1 headed.1 bytes sized
+    ap (indexed_contents file) next ∙ last_bytes file names (suc i) (aligned 8 at + length p.bytes) ps q stand.1 headed.1 bytes sized
 
 pub all_unmapped : {X Y : Type 0} (P : Y → Type 0) (f : X → Y) (xs : List X) → AllByRecursion P (map f xs) → AllByRecursion (λ x. P (f x)) xs
 all_unmapped P f [] h = tt
 all_unmapped P f (x ∷ xs) h = (h.0, all_unmapped P f xs h.1)
 
-pub named_all : (file : List ℕ) (names : List (List ℕ)) (at : ℕ) (ps : List Piece) → (names_section file == 0) ≡ false →
-    section_of file (names_section file) ≡ table_of names → AllByRecursion IsFine ps → AllByRecursion (λ p. is_among p.name names ≡ true) ps → AllNamed file names at ps
+pub named_all : (file : List ℕ) (names : List (List ℕ)) (at : ℕ) (ps : List UnplacedSection) → (names_section file == 0) ≡ false →
+    indexed_contents file (names_section file) ≡ table_of names → AllByRecursion IsFine ps → AllByRecursion (λ p. is_among p.name names ≡ true) ps → AllNamed file names at ps
 named_all file names at [] other table fine among = tt
 named_all file names at (p ∷ ps) other table fine among = (
   cond-false (names_section file == 0) _ _ other ∙ ap (λ t. name_at t (name_offset names p.name)) table

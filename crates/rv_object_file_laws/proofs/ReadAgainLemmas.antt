@@ -6,15 +6,15 @@ use Rattle.std.proofs.lemmas.Bool.{cond-true, and_left, and_parts, ltb-true, fal
 use Rattle.std.proofs.lemmas.List.Elements.{filter-append}
 use Rattle.std.proofs.lemmas.Option.{slice_get_within}
 use Rattle.rv_elf.specs.Records.{symbol_at}
-use Rattle.rv_elf.specs.Sections.{section_of, contents_of, symbols_in}
+use Rattle.rv_elf.specs.Sections.{indexed_contents, file_contents, symbols_in}
 use Rattle.rv_object.specs.declared.row.Row.{Row}
 use Rattle.rv_object.specs.Object.{Relocation, Section, Symbol, Object}
 use Rattle.rv_object.specs.Valid.{is_below, is_defined_in, is_row_in}
 use Rattle.rv_object_file_laws.specs.Rows.{rows_in}
-use Rattle.rv_object_file_laws.specs.Parts.{FileSection, sections, is_kept, is_rows, is_symbol_table, is_rela, symbol_table, symbols_of, symbol_records, rows_of, row_records, relocates, relas_of}
+use Rattle.rv_object_file_laws.specs.Parts.{FileSection, sections, is_kept, is_rows, is_symbol_table, is_rela, symbol_table, symbols_of, symbol_records, row_records_of, row_records, relocates, relas_of}
 use Rattle.rv_object_file_laws.specs.ObjectOf.{ObjectOf, section_in, names_of, symbol_in, row_in}
 use Rattle.rv_object_file_laws.specs.Known.{IsRelocation, IsSection, IsSymbol, IsRow, IsObject}
-use Rattle.rv_object_file_laws.specs.Written.{Piece, table_of, section_piece, row_pieces, symtab_index, last_index, section_names, symbol_names, symbols_bytes, symbol_number, symbol_record, row_record, file_of, HasFile}
+use Rattle.rv_object_file_laws.specs.Written.{UnplacedSection, table_of, section_piece, row_pieces, symtab_index, last_index, section_names, symbol_names, symbols_bytes, symbol_number, symbol_record, row_record, file_of, HasFile}
 use Rattle.rv_object_file_laws.proofs.StringsLemmas.{is_among}
 use Rattle.rv_object_file_laws.proofs.LaidLemmas.{listed, AllShow}
 use Rattle.rv_object_file_laws.proofs.ListsLemmas.{all_weaker, filter_all, filter_none, find_past, find_none}
@@ -78,10 +78,10 @@ rvc_back false = refl
 -- the rows of the group of rows
 rows_found : (file : List ℕ) (names : List (List ℕ)) (i at count : ℕ) (rs : List Row) (rest : List FileSection) → count < 0xFF00 → AllByRecursion (FitsIn count) rs →
     AllShow file names i at (row_pieces rs) → AllByRecursion (λ s. is_rows file s.header ≡ false) rest →
-    rows_of file (find (λ s. is_rows file s.header) (listed names i at (row_pieces rs) ++ rest)) ≡ map row_record rs
-rows_found file names i at count [] rest few fits shows none = ap (rows_of file) (find_none (λ s. is_rows file s.header) rest none)
+    row_records_of file (find (λ s. is_rows file s.header) (listed names i at (row_pieces rs) ++ rest)) ≡ map row_record rs
+rows_found file names i at count [] rest few fits shows none = ap (row_records_of file) (find_none (λ s. is_rows file s.header) rest none)
 rows_found file names i at count (r ∷ rs) rest few fits shows none =
-    ap (rows_of file) (cond-true _ _ (find (λ s. is_rows file s.header) rest) (rows_seen file names i at _ shows.0 ∙ refl))
+    ap (row_records_of file) (cond-true _ _ (find (λ s. is_rows file s.header) rest) (rows_seen file names i at _ shows.0 ∙ refl))
     ∙ ap rows_in (shows.0.contents refl) ∙ rows_read count (r ∷ rs) few fits
 
 -- the four groups of sections of a written file
@@ -118,7 +118,7 @@ sorted o file known f =
     let names : List (List ℕ) = section_names o in
     let i₂ = 1 + length o.sections in
     let i₃ = i₂ + length (rela_group o) in
-    let p₁ : List Piece = map section_piece o.sections in
+    let p₁ : List UnplacedSection = map section_piece o.sections in
     let one = sections_answer o.sections known.all_sections in
     let two = relas_answer (symtab_index o) 1 o.sections in
     let three = rows_answer o.rows in
@@ -187,9 +187,9 @@ read_of o file known has f =
       symbols = table;
       records = ap (symbols_of file) table ∙ ap symbols_in (f.show_tables.0.contents refl)
           ∙ symbols_read (length o.sections) (last_index o) o (omega (arith, groups)) (omega (arith, last)) has.symbol_strings named;
-      strings = ap (names_of file) table ∙ ap (section_of file) beside ∙ ap (contents_of file) f.show_tables.1.0.of ∙ f.show_tables.1.0.contents refl;
-      rows = ap (λ ss. rows_of file (find (λ t. is_rows file t.header) ss)) f.all
-          ∙ ap (rows_of file) (find_past (λ t. is_rows file t.header) a (b ++ (c ++ d)) s.rows_sections ∙ find_past (λ t. is_rows file t.header) b (c ++ d) s.rows_relas)
+      strings = ap (names_of file) table ∙ ap (indexed_contents file) beside ∙ ap (file_contents file) f.show_tables.1.0.of ∙ f.show_tables.1.0.contents refl;
+      rows = ap (λ ss. row_records_of file (find (λ t. is_rows file t.header) ss)) f.all
+          ∙ ap (row_records_of file) (find_past (λ t. is_rows file t.header) a (b ++ (c ++ d)) s.rows_sections ∙ find_past (λ t. is_rows file t.header) b (c ++ d) s.rows_relas)
           ∙ rows_found file names i₃ f.at_rows (length o.sections) o.rows d (omega (arith, groups, last)) placed f.show_rows s.rows_tables;
       relas = λ k. ap (λ ss. relas_of file (filter (relocates k) ss)) f.all
           ∙ ap (relas_of file) (filter_groups (relocates k) a b c d

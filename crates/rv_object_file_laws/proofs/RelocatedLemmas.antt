@@ -16,7 +16,7 @@ use Rattle.rv_object.specs.Object.{Relocation, Section}
 use Rattle.rv_object_file_laws.specs.Parts.{FileSection, kind_numbered, symbol_index, relocation_by, relocation_in, relocations_in, relocates, relas_of}
 use Rattle.rv_object_file_laws.specs.Known.{IsRelocation}
 use Rattle.rv_layout_laws.specs.Alignment.{aligned}
-use Rattle.rv_object_file_laws.specs.Written.{Piece, table_piece, symbol_number, rela_of, relocations_bytes, rela_pieces}
+use Rattle.rv_object_file_laws.specs.Written.{UnplacedSection, table_piece, symbol_number, rela_of, relocations_bytes, rela_pieces}
 use Rattle.rv_object_file_laws.proofs.RecordsLemmas.{length-rela, records_back}
 use Rattle.rv_object_file_laws.proofs.LaidLemmas.{listed, Shows, AllShow}
 use Rattle.rv_object_file_laws.proofs.GroupsLemmas.{entry}
@@ -150,7 +150,7 @@ pub relas_later : (index : ℕ) (s : Section) (ss : List Section) (k : ℕ) → 
 relas_later index s ss k below =
     ap (λ rs. rs ++ relas_at (suc index) ss k) (cond-false (index == k) (map rela_of s.relocations) [] (ne_eqb index k (λ e. omega arith)))
 
-abbrev pub rela_piece : ℕ → ℕ → Section → Piece
+abbrev pub rela_piece : ℕ → ℕ → Section → UnplacedSection
 rela_piece symtab index s = table_piece (codes ".rela" ++ s.name) 4 (relocations_bytes s.relocations) symtab index 8 24
 
 -- one section of relocations more
@@ -176,8 +176,8 @@ pub relas_for : (file : List ℕ) (names : List (List ℕ)) (symtab index i at :
     relas_of file (filter (relocates k) (listed names i at (rela_pieces symtab index ss))) ≡ relas_at index ss k
 relas_for file names symtab index i at [] k count few shows fits = refl
 relas_for file names symtab index i at (s ∷ ss) k count few shows fits =
-    let none : List Piece = rela_pieces symtab (suc index) ss in
-    let some : List Piece = rela_piece symtab index s ∷ none in
+    let none : List UnplacedSection = rela_pieces symtab (suc index) ss in
+    let some : List UnplacedSection = rela_piece symtab index s ∷ none in
     elim (cases_Bool (length s.relocations == 0)) [
       | inl e ↦
           let same : rela_pieces symtab index (s ∷ ss) ≡ none = cond-true (length s.relocations == 0) none some e in

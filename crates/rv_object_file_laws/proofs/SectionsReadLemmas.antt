@@ -4,9 +4,9 @@ use Rattle.std.proofs.Common.{◌≡◌, ℕ, zero, suc, ◌+◌, ◌/◌, ◌%�
 use Rattle.std.specs.List.{AllByRecursion}
 use Rattle.std.proofs.lemmas.Bool.{eqb-true, false≢true}
 use Rattle.std.proofs.lemmas.List.{nil_from_length}
-use Rattle.rv_elf.specs.Sections.{contents_of}
+use Rattle.rv_elf.specs.Sections.{file_contents}
 use Rattle.rv_object.specs.Object.{Contents, Progbits, Note, Nobits, Relocation, Section, stored, size_of}
-use Rattle.rv_object.specs.Valid.{is_alignment, is_loaded_alone}
+use Rattle.rv_object.specs.Valid.{is_section_alignment, is_loaded_alone}
 use Rattle.rv_object_file_laws.specs.Parts.{sections, is_loaded, contents_in, relocates, relas_of, relocations_in}
 use Rattle.rv_object_file_laws.specs.ObjectOf.{section_in}
 use Rattle.rv_object_file_laws.specs.Known.{IsSection}
@@ -29,7 +29,7 @@ flag_bits false true false = (refl, refl, refl)
 flag_bits false false true = (refl, refl, refl)
 flag_bits false false false = (refl, refl, refl)
 
-pub alignment_above : (n : ℕ) → is_alignment n ≡ true → max 1 n ≡ n
+pub alignment_above : (n : ℕ) → is_section_alignment n ≡ true → max 1 n ≡ n
 alignment_above zero h = absurd (false≢true h)
 alignment_above (suc n) h = omega arith
 
@@ -40,13 +40,13 @@ contents_made kind size bytes = if kind == 8 then Nobits size else if kind == 7 
 pub contents_back : (file : List ℕ) (names : List (List ℕ)) (i at : ℕ) (s : Section) (c : Contents) → s.contents ≡ c →
     Shows file names i at (section_piece s) → contents_in file (header_of names at (section_piece s)) ≡ c
 contents_back file names i at s (Progbits bytes) e shows =
-    (λ j. contents_made (kind_of (e j)) (size_of (e j)) (contents_of file (header_of names at (section_piece s))))
+    (λ j. contents_made (kind_of (e j)) (size_of (e j)) (file_contents file (header_of names at (section_piece s))))
     ∙ ap (λ b. Progbits b) (shows.contents (ap (λ c. kind_of c == 8) e) ∙ ap stored e)
 contents_back file names i at s (Note bytes) e shows =
-    (λ j. contents_made (kind_of (e j)) (size_of (e j)) (contents_of file (header_of names at (section_piece s))))
+    (λ j. contents_made (kind_of (e j)) (size_of (e j)) (file_contents file (header_of names at (section_piece s))))
     ∙ ap (λ b. Note b) (shows.contents (ap (λ c. kind_of c == 8) e) ∙ ap stored e)
 contents_back file names i at s (Nobits size) e shows =
-    (λ j. contents_made (kind_of (e j)) (size_of (e j)) (contents_of file (header_of names at (section_piece s))))
+    (λ j. contents_made (kind_of (e j)) (size_of (e j)) (file_contents file (header_of names at (section_piece s))))
 
 pub fields_back : (loaded : Bool) (rs : List Relocation) → is_loaded_alone loaded rs ≡ true → (if loaded then rs else []) ≡ rs
 fields_back true rs h = refl

@@ -24,7 +24,7 @@ use Rattle.rv_object_file_laws.specs.Parts.{kept, kept_at, kept_before, is_index
 use Rattle.rv_object_file_laws.specs.ObjectOf.{names_of, binding_numbered, definition_in, definition_by, symbol_in, row_in}
 use Rattle.rv_object_file_laws.specs.Known.{IsSymbol, IsRow}
 use Rattle.rv_layout_laws.specs.Alignment.{aligned}
-use Rattle.rv_object_file_laws.specs.Written.{section_piece, name_offset, table_of, binding_number, section_index_of, value_of, symbol_record, symbols_bytes, symbol_names, row_record}
+use Rattle.rv_object_file_laws.specs.Written.{section_piece, name_offset, table_of, binding_number, section_index_of, definition_value, symbol_record, symbols_bytes, symbol_names, row_record}
 use Rattle.rv_object_file_laws.proofs.RecordsLemmas.{length-symbol, FitsRow, length-row, row_back, records_back}
 use Rattle.rv_object_file_laws.proofs.StringsLemmas.{is_among, name_back, name_offset_within}
 use Rattle.rv_object_file_laws.proofs.LaidLemmas.{listed}
@@ -100,7 +100,7 @@ at_back file names ss k s keeps has =
 -- ---- what a symbol is
 
 pub definition_back : (file : List ℕ) (names : List (List ℕ)) (ss : List Section) (last : ℕ) (s : SymbolRecord) (d : Definition) → KeepsSections file names ss →
-    length ss < last → last < 0xFF00 → is_defined_in (length ss) d ≡ true → s.st_shndx ≡ section_index_of last d → s.st_value ≡ value_of d → definition_in file s ≡ d
+    length ss < last → last < 0xFF00 → is_defined_in (length ss) d ≡ true → s.st_shndx ≡ section_index_of last d → s.st_value ≡ definition_value d → definition_in file s ≡ d
 definition_back file names ss last s Undefined keeps high few inside home value = cond-true (s.st_shndx == 0) _ _ (eq-eqb s.st_shndx 0 home)
 definition_back file names ss last s (Absolute v) keeps high few inside home value =
     cond-false (s.st_shndx == 0) _ _ (ne_eqb s.st_shndx 0 (λ e. omega arith)) ∙ cond-true (s.st_shndx == 0xFFF1) _ _ (eq-eqb s.st_shndx 0xFFF1 home)

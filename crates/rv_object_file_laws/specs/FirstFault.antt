@@ -12,9 +12,9 @@ use Rattle.rv_elf.specs.declared.rela.Rela.{Rela}
 use Rattle.rv_elf.specs.Fields.{number_in, e_type, symbol_size, rela_size}
 use Rattle.rv_elf.specs.FirstFault.{first_true, header_tests, table_tests}
 use Rattle.rv_elf.specs.Numbers.{et_rel, sht_progbits, sht_note, sht_nobits, sht_group, shn_undef, shn_abs, stb_local, stb_global, stb_weak}
-use Rattle.rv_elf.specs.Sections.{is_past, section_count, section_header_of, section_of, contents_of, symbols_in, relas_in}
+use Rattle.rv_elf.specs.Sections.{is_past, section_count, section_header_of, indexed_contents, file_contents, symbols_in, relas_in}
 use Rattle.rv_object.specs.Object.{Relocation}
-use Rattle.rv_object.specs.Valid.{is_alignment, fits_inside, is_padding, are_apart}
+use Rattle.rv_object.specs.Valid.{is_section_alignment, fits_inside, is_padding, are_apart}
 use Rattle.rv_object_file_laws.specs.Parts.{FileSection, sections, is_section, is_loaded, is_executable, name_at, name_of, is_symbol_table, is_rela, is_rows, kept_at, extent_of, relocates, relas_of, kind_numbered, relocation_in, relocations_in}
 use Rattle.rv_object_file_laws.specs.Rows.{RowRecord, row_size, rows_in}
 
@@ -53,7 +53,7 @@ section_tests file before h =
     ∷ (is_symbol_table h && list_any (λ s. is_symbol_table s.header) before, BadTable)
     ∷ (is_rows file h && list_any (λ s. is_rows file s.header) before, BadTable)
     ∷ (not (h.sh_size % record_size file h == 0), BadTable)
-    ∷ (not (h.sh_addralign == 0 || is_alignment h.sh_addralign), BadTable)
+    ∷ (not (h.sh_addralign == 0 || is_section_alignment h.sh_addralign), BadTable)
     ∷ (is_executable h && not (h.sh_size % 2 == 0), BadTable)
     ∷ (is_none (name_of file h), BadString)
     ∷ (not (is_linked file h), BadIndex)
@@ -63,15 +63,15 @@ section_tests file before h =
 -- ---- symbols
 
 -- all objects see it
-abbrev pub is_shared : SymbolRecord → Bool
-is_shared s = s.st_info / 16 == stb_global || s.st_info / 16 == stb_weak
+abbrev pub is_shared_record : SymbolRecord → Bool
+is_shared_record s = s.st_info / 16 == stb_global || s.st_info / 16 == stb_weak
 
 abbrev pub is_bad_name : SymbolRecord → Option (List ℕ) → Bool
 is_bad_name s None = true
-is_bad_name s (Some name) = is_shared s && not (is_name name)
+is_bad_name s (Some name) = is_shared_record s && not (is_name name)
 
 abbrev pub has_binding : SymbolRecord → Bool
-has_binding s = s.st_info / 16 == stb_local || is_shared s
+has_binding s = s.st_info / 16 == stb_local || is_shared_record s
 
 -- it is undefined, a number, or in a section; a common symbol is none of these
 abbrev pub has_home : List ℕ → SymbolRecord → Bool
@@ -129,17 +129,17 @@ rela_tests file before h =
     if is_loaded (section_header_of file h.sh_info)
     then relocations_tests (section_header_of file h.sh_info) (symbol_count file h)
     (relocations_in (relas_of file (filter (relocates h.sh_info) before)))
-    (relas_in (contents_of file h))
+    (relas_in (file_contents file h))
     else []
 
 -- the records of a section; symbol 0 is none
 abbrev pub records_tests : List ℕ → List FileSection → SectionHeader → List (Bool × FileFault)
 records_tests file before h =
     if is_symbol_table h
-    then flat_map (symbol_tests file (section_of file h.sh_link))
-    (drop 1 (symbols_in (contents_of file h)))
+    then flat_map (symbol_tests file (indexed_contents file h.sh_link))
+    (drop 1 (symbols_in (file_contents file h)))
     else if is_rela h then rela_tests file before h
-    else if is_rows file h then flat_map (row_tests file) (rows_in (contents_of file h))
+    else if is_rows file h then flat_map (row_tests file) (rows_in (file_contents file h))
     else []
 
 abbrev pub sections_tests : List ℕ → List FileSection → List FileSection → List (Bool × FileFault)

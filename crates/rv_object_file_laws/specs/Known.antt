@@ -6,8 +6,8 @@ use Rattle.std.specs.Int.{w64}
 use Rattle.std.specs.Int.RustNames.{FitsSigned}
 use Rattle.rv_object.specs.declared.row.Row.{Row}
 use Rattle.rv_object.specs.Object.{Relocation, Section, Symbol, Object, size_of}
-use Rattle.rv_object.specs.Valid.{is_alignment, is_string, keeps_name, is_even, is_loaded_alone, fit_inside, are_paddings, is_shown, are_indexed, are_defined, are_rows}
-use Rattle.rv_object_file_laws.specs.Written.{value_of}
+use Rattle.rv_object.specs.Valid.{is_section_alignment, is_string, keeps_name, is_even, is_loaded_alone, fit_inside, are_paddings, is_shown, are_indexed, are_defined, are_rows}
+use Rattle.rv_object_file_laws.specs.Written.{definition_value}
 
 pub record IsRelocation (r : Relocation) : Type 0 where
   pub offset : r.place < 2 ^ 64
@@ -16,7 +16,7 @@ pub record IsRelocation (r : Relocation) : Type 0 where
 pub record IsSection (s : Section) : Type 0 where
   pub named : IsTrue (is_string s.name)
   pub kept : IsTrue (keeps_name s.contents s.name)
-  pub aligned : IsTrue (is_alignment s.alignment)
+  pub aligned : IsTrue (is_section_alignment s.alignment)
   pub even : IsTrue (is_even s.executable s.contents)
   pub alone : IsTrue (is_loaded_alone s.loaded s.relocations)
   pub inside : IsTrue (fit_inside s.contents s.relocations)
@@ -26,7 +26,7 @@ pub record IsSection (s : Section) : Type 0 where
 
 pub record IsSymbol (s : Symbol) : Type 0 where
   pub shown : IsTrue (is_shown s.binding s.name)
-  pub value : value_of s.definition < 2 ^ 64
+  pub value : definition_value s.definition < 2 ^ 64
 
 pub record IsRow (r : Row) : Type 0 where
   pub in_line : r.line < 2 ^ 32

@@ -5,7 +5,7 @@ use Rattle.std.specs.Prelude.{◌≡◌, ℕ, ◌/◌, ◌%◌, ◌==◌, max, L
 use Rattle.rv_elf.specs.declared.symbol.Symbol.{Symbol as SymbolRecord}
 use Rattle.rv_elf.specs.Fields.{number_in, ei_magic, ei_class, ei_data, ei_version, e_type, e_machine, e_flags}
 use Rattle.rv_elf.specs.Numbers.{elfmag, et_rel, em_riscv, shn_undef, shn_abs, stb_local, stb_weak}
-use Rattle.rv_elf.specs.Sections.{section_of}
+use Rattle.rv_elf.specs.Sections.{indexed_contents}
 use Rattle.rv_object.specs.declared.symbol.Binding.{Binding}
 use Rattle.rv_object.specs.declared.symbol.Binding.TheVariants.{Local, Global, Weak}
 use Rattle.rv_object.specs.declared.symbol.Definition.{Definition}
@@ -31,7 +31,7 @@ section_in file s = record {
 -- the string table of the symbols' names
 abbrev pub names_of : List ℕ → Option FileSection → List ℕ
 names_of file None = []
-names_of file (Some s) = section_of file s.header.sh_link
+names_of file (Some s) = indexed_contents file s.header.sh_link
 
 abbrev pub binding_numbered : ℕ → Binding
 binding_numbered number =

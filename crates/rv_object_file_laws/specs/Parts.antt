@@ -10,7 +10,7 @@ use Rattle.rv_elf.specs.declared.section_header.SectionHeader.{SectionHeader}
 use Rattle.rv_elf.specs.declared.symbol.Symbol.{Symbol as SymbolRecord}
 use Rattle.rv_elf.specs.declared.rela.Rela.{Rela}
 use Rattle.rv_elf.specs.Numbers.{sht_progbits, sht_symtab, sht_rela, sht_note, sht_nobits, shf_write, shf_alloc, shf_execinstr}
-use Rattle.rv_elf.specs.Sections.{section_headers, section_of, section_count, names_section, contents_of, string_at, symbols_in, relas_in}
+use Rattle.rv_elf.specs.Sections.{section_headers, indexed_contents, section_count, names_section, file_contents, string_at, symbols_in, relas_in}
 use Rattle.rv_object.specs.Object.{Contents, Progbits, Note, Nobits, Relocation}
 use Rattle.rv_object_file_laws.specs.Rows.{RowRecord, rows_name, rows_in}
 
@@ -52,7 +52,7 @@ name_at names offset = if offset == 0 then Some [] else string_at names offset
 abbrev pub name_of : List ℕ → SectionHeader → Option (List ℕ)
 name_of file h =
     if names_section file == 0 then Some []
-    else name_at (section_of file (names_section file)) h.sh_name
+    else name_at (indexed_contents file (names_section file)) h.sh_name
 
 abbrev pub is_named : List ℕ → Option (List ℕ) → Bool
 is_named name None = false
@@ -91,7 +91,8 @@ kept_at file i = find (is_index i) (kept file)
 
 abbrev pub contents_in : List ℕ → SectionHeader → Contents
 contents_in file h = if h.sh_type == sht_nobits then Nobits h.sh_size
-    else if h.sh_type == sht_note then Note (contents_of file h) else Progbits (contents_of file h)
+    else if h.sh_type == sht_note then Note (file_contents file h)
+    else Progbits (file_contents file h)
 
 -- as many bytes as the header says, wherever the file ends
 abbrev pub extent_of : SectionHeader → Contents
@@ -103,18 +104,18 @@ symbol_table file = find (λ s. is_symbol_table s.header) (sections file)
 
 abbrev pub symbols_of : List ℕ → Option FileSection → List SymbolRecord
 symbols_of file None = []
-symbols_of file (Some s) = symbols_in (contents_of file s.header)
+symbols_of file (Some s) = symbols_in (file_contents file s.header)
 
 abbrev pub symbol_records : List ℕ → List SymbolRecord
 symbol_records file = symbols_of file (symbol_table file)
 
 -- the first section of rows, and these
-abbrev pub rows_of : List ℕ → Option FileSection → List RowRecord
-rows_of file None = []
-rows_of file (Some s) = rows_in (contents_of file s.header)
+abbrev pub row_records_of : List ℕ → Option FileSection → List RowRecord
+row_records_of file None = []
+row_records_of file (Some s) = rows_in (file_contents file s.header)
 
 abbrev pub row_records : List ℕ → List RowRecord
-row_records file = rows_of file (find (λ s. is_rows file s.header) (sections file))
+row_records file = row_records_of file (find (λ s. is_rows file s.header) (sections file))
 
 -- the sections with relocations of the section of an index
 abbrev pub relocates : ℕ → FileSection → Bool
@@ -122,7 +123,7 @@ relocates i s = is_rela s.header && (s.header.sh_info == i)
 
 -- the relocations in these sections, in the order of the file
 abbrev pub relas_of : List ℕ → List FileSection → List Rela
-relas_of file ss = flat_map (λ s. relas_in (contents_of file s.header)) ss
+relas_of file ss = flat_map (λ s. relas_in (file_contents file s.header)) ss
 
 -- ---- relocations
 

@@ -49,7 +49,7 @@ name_offset names name = offset_in (strings_of names) name
 -- ---- what a section becomes
 
 -- a section of the file, but for its offset
-pub record Piece : Type 0 where
+pub record UnplacedSection : Type 0 where
   pub name : List ℕ
   pub kind : ℕ
   pub flags : ℕ
@@ -72,7 +72,7 @@ abbrev pub flags_of : Section → ℕ
 flags_of s =
     flag_if s.writable shf_write + flag_if s.loaded shf_alloc + flag_if s.executable shf_execinstr
 
-abbrev pub section_piece : Section → Piece
+abbrev pub section_piece : Section → UnplacedSection
 section_piece s = record {
   name = s.name;
   kind = kind_of s.contents;
@@ -86,7 +86,7 @@ section_piece s = record {
 }
 
 -- a table of records, or of bytes where the entry size is 0
-abbrev pub table_piece : List ℕ → ℕ → List ℕ → ℕ → ℕ → ℕ → ℕ → Piece
+abbrev pub table_piece : List ℕ → ℕ → List ℕ → ℕ → ℕ → ℕ → ℕ → UnplacedSection
 table_piece name kind bytes link info alignment entry_size = record {
   name = name;
   kind = kind;
@@ -118,7 +118,7 @@ abbrev pub relocations_bytes : List Relocation → List ℕ
 relocations_bytes rs = flat_map (λ r. rela_bytes (rela_of r)) rs
 
 -- one for each section that has relocations; the first section has index 1
-abbrev pub rela_pieces : ℕ → ℕ → List Section → List Piece
+abbrev pub rela_pieces : ℕ → ℕ → List Section → List UnplacedSection
 rela_pieces symtab index [] = []
 rela_pieces symtab index (s ∷ ss) =
     if length s.relocations == 0 then rela_pieces symtab (suc index) ss
@@ -139,7 +139,7 @@ row_record r = record {
   r_reserved = 0;
 }
 
-abbrev pub row_pieces : List Row → List Piece
+abbrev pub row_pieces : List Row → List UnplacedSection
 row_pieces [] = []
 row_pieces (r ∷ rs) =
     table_piece rows_name sht_progbits (flat_map (λ row. row_bytes (row_record row)) (r ∷ rs))
@@ -159,11 +159,11 @@ section_index_of last (Absolute value) = shn_abs
 section_index_of last (InSection section offset) = suc section
 section_index_of last (Skipped value) = last
 
-abbrev pub value_of : Definition → ℕ
-value_of Undefined = 0
-value_of (Absolute value) = value
-value_of (InSection section offset) = offset
-value_of (Skipped value) = value
+abbrev pub definition_value : Definition → ℕ
+definition_value Undefined = 0
+definition_value (Absolute value) = value
+definition_value (InSection section offset) = offset
+definition_value (Skipped value) = value
 
 -- without a type and a size
 abbrev pub symbol_record : List (List ℕ) → ℕ → Symbol → SymbolRecord
@@ -172,7 +172,7 @@ symbol_record names last s = record {
   st_info = binding_number s.binding * 16;
   st_other = 0;
   st_shndx = section_index_of last s.definition;
-  st_value = value_of s.definition;
+  st_value = definition_value s.definition;
   st_size = 0;
 }
 
@@ -205,7 +205,7 @@ abbrev pub last_index : Object → ℕ
 last_index o = symtab_index o + 2
 
 -- all but the table of the sections' names
-abbrev pub first_pieces : Object → List Piece
+abbrev pub first_pieces : Object → List UnplacedSection
 first_pieces o = map section_piece o.sections
     ++ (rela_pieces (symtab_index o) 1 o.sections
     ++ (row_pieces o.rows
@@ -217,7 +217,7 @@ first_pieces o = map section_piece o.sections
 abbrev pub section_names : Object → List (List ℕ)
 section_names o = map (λ p. p.name) (first_pieces o) ++ codes ".shstrtab" ∷ []
 
-abbrev pub pieces : Object → List Piece
+abbrev pub pieces : Object → List UnplacedSection
 pieces o = first_pieces o
     ++ table_piece (codes ".shstrtab") sht_strtab (table_of (section_names o)) 0 0 1 0 ∷ []
 
@@ -228,16 +228,16 @@ abbrev pub zeros_at : ℕ → List ℕ
 zeros_at at = replicate (aligned 8 at - at) 0
 
 -- the contents from an offset on, the last up to a multiple of 8 as well
-abbrev pub contents_from : ℕ → List Piece → List ℕ
+abbrev pub contents_from : ℕ → List UnplacedSection → List ℕ
 contents_from at [] = zeros_at at
 contents_from at (p ∷ ps) =
     zeros_at at ++ (p.bytes ++ contents_from (aligned 8 at + length p.bytes) ps)
 
-abbrev pub headers_offset : ℕ → List Piece → ℕ
+abbrev pub headers_offset : ℕ → List UnplacedSection → ℕ
 headers_offset at [] = aligned 8 at
 headers_offset at (p ∷ ps) = headers_offset (aligned 8 at + length p.bytes) ps
 
-abbrev pub header_of : List (List ℕ) → ℕ → Piece → SectionHeader
+abbrev pub header_of : List (List ℕ) → ℕ → UnplacedSection → SectionHeader
 header_of names at p = record {
   sh_name = name_offset names p.name;
   sh_type = p.kind;
@@ -251,7 +251,7 @@ header_of names at p = record {
   sh_entsize = p.entry_size;
 }
 
-abbrev pub headers_from : List (List ℕ) → ℕ → List Piece → List SectionHeader
+abbrev pub headers_from : List (List ℕ) → ℕ → List UnplacedSection → List SectionHeader
 headers_from names at [] = []
 headers_from names at (p ∷ ps) =
     header_of names at p ∷ headers_from names (aligned 8 at + length p.bytes) ps

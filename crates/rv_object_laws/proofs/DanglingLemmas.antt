@@ -14,7 +14,7 @@ use Rattle.rv_object_laws.specs.CallSites.{target_place}
 use Rattle.rv_object_laws.specs.Collects.{id_of, loaded_sections, lies_in, entry_place, leads_to, is_at, graph_of, Collects}
 use Rattle.rv_object_laws.specs.Inputs.{InputSection, inputs_from, inputs_of, inputs}
 use Rattle.rv_object_laws.specs.IsLinkOf.{is_loaded}
-use Rattle.rv_object_laws.specs.Left.{IsOfLoaded, is_left, left_of, Stays, ReferToKept}
+use Rattle.rv_object_laws.specs.Left.{IsOfLoaded, is_left, left_of, IsNotDropped, ReferToKept}
 use Rattle.rv_object_laws.specs.Names.{Place}
 use Rattle.rv_object_laws.specs.Without.{without}
 use Rattle.rv_object_laws.proofs.EntryLeftLemmas.{entry_place_left}
@@ -52,7 +52,7 @@ any_id test (x ∷ xs) = ap (λ b. test (id_of x) || b) (any_id test xs)
 has_input : (os : List Object) (i : InputSection) → ((test : InputSection → Bool) → test i ≡ true → list_any test (inputs is_loaded os) ≡ true) → Has (graph_of os) (id_of i)
 has_input os i there = sym (any_id (is_same (id_of i)) (inputs is_loaded os)) ∙ there (λ j. is_same (id_of i) (id_of j)) (same_laws.refl (id_of i))
 
-no_drops : (drops : List SectionId) (p : Option Place) → drops ≡ [] → Stays drops p
+no_drops : (drops : List SectionId) (p : Option Place) → drops ≡ [] → IsNotDropped drops p
 no_drops drops None e = tt
 no_drops drops (Some p) e = ap (λ d. is_dropped d p.file p.section) e
 
@@ -63,7 +63,7 @@ module _ (os : List Object) (drops : List SectionId) (collected : Collects true 
   kept_least = rest_least (graph_of os) drops collected
 
   -- a place in a section that stays as one of the graph is not dropped
-  place_stays : (p : Option Place) → ((t : SectionId) → lies_in t p ≡ true → Has (graph_of os) t → staying (graph_of os) drops t ≡ true) → Stays drops p
+  place_stays : (p : Option Place) → ((t : SectionId) → lies_in t p ≡ true → Has (graph_of os) t → staying (graph_of os) drops t ≡ true) → IsNotDropped drops p
   place_stays None h = tt
   place_stays (Some p) h = by (is_one_of drops it) refl
     where
@@ -79,7 +79,7 @@ module _ (os : List Object) (drops : List SectionId) (collected : Collects true 
           let has = drops_within true (graph_of os) drops collected it e in
           absurd (true≢false (sym e ∙ not-true (is_one_of drops it) (and_parts (is_one_of (loaded_sections os) it) (not (is_one_of drops it)) (h it here has)).1))
 
-  begin_stays : Stays drops (entry_place os)
+  begin_stays : IsNotDropped drops (entry_place os)
   begin_stays = place_stays (entry_place os) (λ t lies has. kept_least.closed.first t has lies)
 
   -- a section that is left stays as one of the graph
@@ -88,7 +88,7 @@ module _ (os : List Object) (drops : List SectionId) (collected : Collects true 
 
   -- where a relocation of a section that is left leads is left
   target_stays : (i : InputSection) (r : Relocation) → ((test : InputSection → Bool) → test i ≡ true → list_any test (inputs is_loaded os) ≡ true)
-      → ((test : Relocation → Bool) → test r ≡ true → list_any test i.section.relocations ≡ true) → is_left drops i ≡ true → Stays drops (target_place os i r)
+      → ((test : Relocation → Bool) → test r ≡ true → list_any test i.section.relocations ≡ true) → is_left drops i ≡ true → IsNotDropped drops (target_place os i r)
   target_stays i r there its left =
       place_stays (target_place os i r)
       (λ t lies has. kept_least.closed.further (id_of i) t (left_stays i there left) has
@@ -97,21 +97,21 @@ module _ (os : List Object) (drops : List SectionId) (collected : Collects true 
 
   kept_lead : ReferToKept drops (without drops os)
   kept_lead =
-      subst (AllByRecursion (λ i. AllByRecursion (λ r. Stays drops (target_place (without drops os) i r)) i.section.relocations)) (sym (inputs_left is_loaded loaded_is drops os))
-      (all_kept (is_left drops) (left_of drops) (λ i. AllByRecursion (λ r. Stays drops (target_place (without drops os) i r)) i.section.relocations) (inputs is_loaded os)
-      (all_found (λ i. is_left drops i ≡ true → AllByRecursion (λ r. Stays drops (target_place (without drops os) (left_of drops i) r)) i.section.relocations) (inputs is_loaded os)
-      (λ i there left. all_found (λ r. Stays drops (target_place (without drops os) (left_of drops i) r)) i.section.relocations
-      (λ r its. subst (Stays drops) (sym (target_place_left drops os i r)) (target_stays i r there its left)))))
+      subst (AllByRecursion (λ i. AllByRecursion (λ r. IsNotDropped drops (target_place (without drops os) i r)) i.section.relocations)) (sym (inputs_left is_loaded loaded_is drops os))
+      (all_kept (is_left drops) (left_of drops) (λ i. AllByRecursion (λ r. IsNotDropped drops (target_place (without drops os) i r)) i.section.relocations) (inputs is_loaded os)
+      (all_found (λ i. is_left drops i ≡ true → AllByRecursion (λ r. IsNotDropped drops (target_place (without drops os) (left_of drops i) r)) i.section.relocations) (inputs is_loaded os)
+      (λ i there left. all_found (λ r. IsNotDropped drops (target_place (without drops os) (left_of drops i) r)) i.section.relocations
+      (λ r its. subst (IsNotDropped drops) (sym (target_place_left drops os i r)) (target_stays i r there its left)))))
 
 -- no relocation of what is left leads to a dropped section
 pub refer_to_kept : (gc : Bool) (os : List Object) (drops : List SectionId) → Collects gc os drops → ReferToKept drops (without drops os)
 refer_to_kept false os drops e =
-    all_found (λ i. AllByRecursion (λ r. Stays drops (target_place (without drops os) i r)) i.section.relocations) (inputs is_loaded (without drops os))
-    (λ i there. all_found (λ r. Stays drops (target_place (without drops os) i r)) i.section.relocations (λ r its. no_drops drops (target_place (without drops os) i r) e))
+    all_found (λ i. AllByRecursion (λ r. IsNotDropped drops (target_place (without drops os) i r)) i.section.relocations) (inputs is_loaded (without drops os))
+    (λ i there. all_found (λ r. IsNotDropped drops (target_place (without drops os) i r)) i.section.relocations (λ r its. no_drops drops (target_place (without drops os) i r) e))
 refer_to_kept true os drops collected = kept_lead os drops collected
 
 -- a run does not begin in a dropped section
-pub entry_stays : (gc : Bool) (os : List Object) (drops : List SectionId) → Collects gc os drops → Stays drops (entry_place os)
+pub entry_stays : (gc : Bool) (os : List Object) (drops : List SectionId) → Collects gc os drops → IsNotDropped drops (entry_place os)
 entry_stays false os drops e = no_drops drops (entry_place os) e
 entry_stays true os drops collected = begin_stays os drops collected
 

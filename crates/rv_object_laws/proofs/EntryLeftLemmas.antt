@@ -12,7 +12,7 @@ use Rattle.rv_object.specs.declared.symbol.Definition.TheVariants as definitions
 use Rattle.rv_object.specs.Object.{Section, Object}
 use Rattle.rv_object_laws.specs.Collects.{run_place, entry_place}
 use Rattle.rv_object_laws.specs.Inputs.{goes_to_text, Starts}
-use Rattle.rv_object_laws.specs.Left.{export_left, Stays}
+use Rattle.rv_object_laws.specs.Left.{export_left, IsNotDropped}
 use Rattle.rv_object_laws.specs.Names.{Export, Place, place_in, chosen, is_in_text, can_begin, export_address, run_start, entry_of}
 use Rattle.rv_object_laws.specs.Without.{without_section, without_object, without}
 use Rattle.rv_object_laws.proofs.NamesLeftLemmas.{chosen_left}
@@ -24,17 +24,17 @@ place_if b file d = if b then place_in file d else None
 
 -- a place in a section that is left is one where a run can begin as before; a dropped one had none
 same_in_section : (drops : List SectionId) (file section offset : ℕ) (s : Option Section) (even : Bool)
-    → Stays drops (place_if (is_in_text s && even) file (definitions.InSection section offset)) → (b : Bool) → is_dropped drops file section ≡ b
+    → IsNotDropped drops (place_if (is_in_text s && even) file (definitions.InSection section offset)) → (b : Bool) → is_dropped drops file section ≡ b
     → place_if (is_in_text (option_map (without_section b) s) && even) file (definitions.InSection section offset) ≡ place_if (is_in_text s && even) file (definitions.InSection section offset)
 same_in_section drops file section offset None even stays b e = refl
 same_in_section drops file section offset (Some s) even stays false e = refl
 same_in_section drops file section offset (Some s) even stays true e = by (goes_to_text s && even) stays
   where
-    by : (c : Bool) → Stays drops (place_if c file (definitions.InSection section offset)) → None ≡ place_if c file (definitions.InSection section offset)
+    by : (c : Bool) → IsNotDropped drops (place_if c file (definitions.InSection section offset)) → None ≡ place_if c file (definitions.InSection section offset)
     by true left = absurd (true≢false (sym e ∙ left))
     by false left = refl
 
-same_definition : (drops : List SectionId) (file : ℕ) (o : Object) (d : Definition) → Stays drops (place_if (can_begin o d) file d)
+same_definition : (drops : List SectionId) (file : ℕ) (o : Object) (d : Definition) → IsNotDropped drops (place_if (can_begin o d) file d)
     → place_if (can_begin (without_object (is_dropped drops file) o) d) file d ≡ place_if (can_begin o d) file d
 same_definition drops file o definitions.Undefined stays = refl
 same_definition drops file o (definitions.Absolute n) stays = refl
@@ -44,10 +44,10 @@ same_definition drops file o (definitions.InSection section offset) stays =
     ∙ same_in_section drops file section offset (slice_get o.sections section) (offset % 2 == 0) stays (is_dropped drops file section) refl
 
 -- where the place at which a run begins is left, it is the same
-pub entry_place_left : (drops : List SectionId) (os : List Object) → Stays drops (entry_place os) → entry_place (without drops os) ≡ entry_place os
+pub entry_place_left : (drops : List SectionId) (os : List Object) → IsNotDropped drops (entry_place os) → entry_place (without drops os) ≡ entry_place os
 entry_place_left drops os stays = ap (option_and_then run_place) (chosen_left drops os (codes "_start")) ∙ by (chosen os (codes "_start")) stays
   where
-    by : (c : Option Export) → Stays drops (option_and_then run_place c) → option_and_then run_place (option_map (export_left drops) c) ≡ option_and_then run_place c
+    by : (c : Option Export) → IsNotDropped drops (option_and_then run_place c) → option_and_then run_place (option_map (export_left drops) c) ≡ option_and_then run_place c
     by None left = refl
     by (Some e) left = same_definition drops e.file e.object e.symbol.definition left
 

@@ -8,7 +8,7 @@ use Rattle.rv_map.specs.declared.map.SectionId.{SectionId}
 use Rattle.rv_map.specs.Regions.{is_text, is_bss, is_data, is_rodata}
 use Rattle.rv_collect_laws.specs.Graph.{is_dropped}
 use Rattle.rv_object.specs.Object.{Section, Object}
-use Rattle.rv_object_laws.specs.Inputs.{InputSection, is_nobits, goes_to_text, goes_to_bss, goes_to_data, goes_to_rodata, inputs_from, inputs_of, inputs}
+use Rattle.rv_object_laws.specs.Inputs.{InputSection, has_no_bytes, goes_to_text, goes_to_bss, goes_to_data, goes_to_rodata, inputs_from, inputs_of, inputs}
 use Rattle.rv_object_laws.specs.IsLinkOf.{is_loaded}
 use Rattle.rv_object_laws.specs.Left.{IsOfLoaded, is_left, left_of}
 use Rattle.rv_object_laws.specs.Without.{without_section, without_sections, without_object, without_from, without}
@@ -22,13 +22,13 @@ pub text_is : IsOfLoaded goes_to_text
 text_is s e = ap (λ b. is_text b s.executable) e
 
 pub rodata_is : IsOfLoaded goes_to_rodata
-rodata_is s e = ap (λ b. is_rodata b s.executable (is_nobits s.contents) s.writable) e
+rodata_is s e = ap (λ b. is_rodata b s.executable (has_no_bytes s.contents) s.writable) e
 
 pub data_is : IsOfLoaded goes_to_data
-data_is s e = ap (λ b. is_data b s.executable (is_nobits s.contents) s.writable) e
+data_is s e = ap (λ b. is_data b s.executable (has_no_bytes s.contents) s.writable) e
 
 pub bss_is : IsOfLoaded goes_to_bss
-bss_is s e = ap (λ b. is_bss b s.executable (is_nobits s.contents)) e
+bss_is s e = ap (λ b. is_bss b s.executable (has_no_bytes s.contents)) e
 
 -- ---- the sections that are left
 

@@ -11,23 +11,23 @@ use Rattle.rv_object_laws.specs.Moves.{alignment_of, alignments_of, moves, new_o
 
 -- ---- regions
 
-abbrev pub is_nobits : Contents → Bool
-is_nobits (Nobits size) = true
-is_nobits (Progbits bytes) = false
-is_nobits (Note bytes) = false
+abbrev pub has_no_bytes : Contents → Bool
+has_no_bytes (Nobits size) = true
+has_no_bytes (Progbits bytes) = false
+has_no_bytes (Note bytes) = false
 
 -- the region to which a section goes, if it has a place in memory
 abbrev pub goes_to_text : Section → Bool
 goes_to_text s = is_text s.loaded s.executable
 
 abbrev pub goes_to_bss : Section → Bool
-goes_to_bss s = is_bss s.loaded s.executable (is_nobits s.contents)
+goes_to_bss s = is_bss s.loaded s.executable (has_no_bytes s.contents)
 
 abbrev pub goes_to_data : Section → Bool
-goes_to_data s = is_data s.loaded s.executable (is_nobits s.contents) s.writable
+goes_to_data s = is_data s.loaded s.executable (has_no_bytes s.contents) s.writable
 
 abbrev pub goes_to_rodata : Section → Bool
-goes_to_rodata s = is_rodata s.loaded s.executable (is_nobits s.contents) s.writable
+goes_to_rodata s = is_rodata s.loaded s.executable (has_no_bytes s.contents) s.writable
 
 -- ---- input sections
 

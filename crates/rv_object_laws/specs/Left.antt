@@ -39,13 +39,13 @@ export_left drops e = record {
 }
 
 -- a place, where there is one, stands in no dropped section
-abbrev pub Stays : List SectionId → Option Place → Type 0
-Stays drops None = ⊤
-Stays drops (Some p) = is_dropped drops p.file p.section ≡ false
+abbrev pub IsNotDropped : List SectionId → Option Place → Type 0
+IsNotDropped drops None = ⊤
+IsNotDropped drops (Some p) = is_dropped drops p.file p.section ≡ false
 
 -- no relocation of objects leads to a dropped section
 abbrev pub ReferToKept : List SectionId → List Object → Type 0
 ReferToKept drops os =
     AllByRecursion
-    (λ i. AllByRecursion (λ r. Stays drops (target_place os i r)) i.section.relocations)
+    (λ i. AllByRecursion (λ r. IsNotDropped drops (target_place os i r)) i.section.relocations)
     (inputs is_loaded os)

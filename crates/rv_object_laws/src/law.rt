@@ -14,7 +14,7 @@ ghost use Rattle.rv_object_laws.specs.CallSites.{length_of, sites_of, target_pla
 ghost use Rattle.rv_object_laws.specs.Collects.{Collects, entry_place};
 ghost use Rattle.rv_object_laws.specs.Inputs.{InputSection, Starts, goes_to_bss, goes_to_data, goes_to_rodata, goes_to_text, inputs};
 ghost use Rattle.rv_object_laws.specs.IsLinkOf.{by_ordinal, is_loaded};
-ghost use Rattle.rv_object_laws.specs.Left.{IsOfLoaded, ReferToKept, Stays, export_left, is_left, left_of};
+ghost use Rattle.rv_object_laws.specs.Left.{IsOfLoaded, ReferToKept, IsNotDropped, export_left, is_left, left_of};
 ghost use Rattle.rv_object_laws.specs.Moves.{alignments_of, kept, moves, new_offset};
 ghost use Rattle.rv_object_laws.specs.Names.{chosen, chosen_exports, entry_of, global_names, object_at, shared_place, symbol_place};
 ghost use Rattle.rv_object_laws.specs.Rising.{Rise};
@@ -102,7 +102,7 @@ pub fn nothing_dangles()
     ensures refer { (gc : Bool) (objects : List Object) (drops : List SectionId) →
         Collects gc objects drops → ReferToKept drops (without drops objects) }
     ensures stays { (gc : Bool) (objects : List Object) (drops : List SectionId) →
-        Collects gc objects drops → Stays drops (entry_place objects) }
+        Collects gc objects drops → IsNotDropped drops (entry_place objects) }
     ensures begins { (gc : Bool) (objects : List Object) (drops : List SectionId) →
         Collects gc objects drops → entry_place (without drops objects) ≡ entry_place objects }
 {}

@@ -9,11 +9,11 @@ use Rattle.std.proofs.lemmas.Bool.Decides.{nat_tests}
 use Rattle.std.proofs.lemmas.List.{append-nil, length-map, map-set}
 use Rattle.std.proofs.lemmas.Option.{slice_get_read}
 use Rattle.rv_elf.specs.declared.section_header.SectionHeader.{SectionHeader}
-use Rattle.rv_elf.specs.Sections.{section_count, section_header_of, contents_of, relas_in}
+use Rattle.rv_elf.specs.Sections.{section_count, section_header_of, file_contents, relas_in}
 use Rattle.rv_object.specs.declared.relocation.Relocation.{Relocation as DeclaredRelocation}
 use Rattle.rv_object.specs.Object.{Relocation}
 use Rattle.rv_object.specs.Parts.{relocation_of}
-use Rattle.rv_object_checks.specs.Found.{section_at, sections_from, place_of, place_at}
+use Rattle.rv_object_checks.specs.Found.{section_at, sections_from, place_among_kept, place_at}
 use Rattle.rv_object_file_laws.specs.FirstFault.{is_linked, is_rela_linked, first_fault}
 use Rattle.rv_object_file_laws.specs.Parts.{FileSection, sections, kept, kept_at, kept_before, is_kept, is_loaded, is_rela, is_section, is_symbol_table, symbol_table, relocates, relocations_in}
 use Rattle.rv_object_reader.specs.Collected.{list_so_far, lists_so_far, lists_of, lists_in}
@@ -56,12 +56,12 @@ list_other file before s t other =
     (sym (collected_append file t.index before (s ∷ []) ∙ ap (λ rs. collected file t.index before ++ rs) (collected_other file t.index s other) ∙ append-nil (collected file t.index before)))
 
 list_here : (file : List ℕ) (before : List FileSection) (s t : FileSection) → relocates t.index s ≡ true → is_loaded t.header ≡ true →
-    list_so_far file (before ++ s ∷ []) t ≡ list_so_far file before t ++ relocations_in (relas_in (contents_of file s.header))
+    list_so_far file (before ++ s ∷ []) t ≡ list_so_far file before t ++ relocations_in (relas_in (file_contents file s.header))
 list_here file before s t here loaded =
     cond-true (is_loaded t.header) (collected file t.index (before ++ s ∷ [])) [] loaded
     ∙ collected_append file t.index before (s ∷ [])
     ∙ ap (λ rs. collected file t.index before ++ rs) (collected_here file t.index s here)
-    ∙ ap (λ rs. rs ++ relocations_in (relas_in (contents_of file s.header))) (sym (cond-true (is_loaded t.header) (collected file t.index before) [] loaded))
+    ∙ ap (λ rs. rs ++ relocations_in (relas_in (file_contents file s.header))) (sym (cond-true (is_loaded t.header) (collected file t.index before) [] loaded))
 
 list_unloaded : (file : List ℕ) (before : List FileSection) (t : FileSection) → is_loaded t.header ≡ false → list_so_far file before t ≡ []
 list_unloaded file before t e = cond-false (is_loaded t.header) (collected file t.index before) [] e
@@ -79,7 +79,7 @@ lists_unkept file before s e =
     map_unkept file (list_so_far file before) (list_so_far file (before ++ s ∷ [])) s.header.sh_info (go (kept_at file s.header.sh_info) e)
     (λ t other. list_other file before s t (names_other s t other))
   where
-    go : (o : Option FileSection) → place_of file o ≡ None → o ≡ None
+    go : (o : Option FileSection) → place_among_kept file o ≡ None → o ≡ None
     go None h = refl
     go (Some t) h = cc
 
@@ -93,7 +93,7 @@ pub lists_unloaded : (file : List ℕ) (before : List FileSection) (s : FileSect
 lists_unloaded file before s out = go (kept_at file s.header.sh_info) refl
   where
     go : (o : Option FileSection) → kept_at file s.header.sh_info ≡ o → lists_so_far file before ≡ lists_so_far file (before ++ s ∷ [])
-    go None e = lists_unkept file before s (ap (place_of file) e)
+    go None e = lists_unkept file before s (ap (place_among_kept file) e)
     go (Some t) e =
         let j = s.header.sh_info in
         let is = (kept_found file j t e).is in
@@ -107,7 +107,7 @@ lists_unloaded file before s out = go (kept_at file s.header.sh_info) refl
 pub place_below : (file : List ℕ) (j place : ℕ) → place_at file j ≡ Some place → place < length (kept file)
 place_below file j place e = go (kept_at file j) refl e
   where
-    go : (o : Option FileSection) → kept_at file j ≡ o → place_of file o ≡ Some place → place < length (kept file)
+    go : (o : Option FileSection) → kept_at file j ≡ o → place_among_kept file o ≡ Some place → place < length (kept file)
     go None k h = cc
     go (Some t) k h =
         let same : kept_before file t.index ≡ place = cc in
@@ -122,7 +122,7 @@ lists_long file f lists is =
 
 pub lists_here : (file : List ℕ) (before : List FileSection) (s : FileSection) (place : ℕ) (lists : List (Vec DeclaredRelocation)) (old new : Vec DeclaredRelocation) →
     is_rela s.header ≡ true → is_loaded (section_header_of file s.header.sh_info) ≡ true → place_at file s.header.sh_info ≡ Some place → old ≡ get_or lists place old →
-    map relocation_of new.items ≡ map relocation_of old.items ++ relocations_in (relas_in (contents_of file s.header)) →
+    map relocation_of new.items ≡ map relocation_of old.items ++ relocations_in (relas_in (file_contents file s.header)) →
     lists_in lists ≡ lists_so_far file before → lists_in (set lists place new) ≡ lists_so_far file (before ++ s ∷ [])
 lists_here file before s place lists old new rela loaded at read more was = go (kept_at file s.header.sh_info) refl at
   where
@@ -132,7 +132,7 @@ lists_here file before s place lists old new rela loaded at read more was = go (
     plain : Vec DeclaredRelocation → List Relocation
     plain list = map relocation_of list.items
 
-    go : (o : Option FileSection) → kept_at file s.header.sh_info ≡ o → place_of file o ≡ Some place → lists_in (set lists place new) ≡ lists_so_far file (before ++ s ∷ [])
+    go : (o : Option FileSection) → kept_at file s.header.sh_info ≡ o → place_among_kept file o ≡ Some place → lists_in (set lists place new) ≡ lists_so_far file (before ++ s ∷ [])
     go None k h = cc
     go (Some t) k h =
         let j = s.header.sh_info in
@@ -146,7 +146,7 @@ lists_here file before s place lists old new rela loaded at read more was = go (
         let theirs = get_map (list_so_far file before) (kept file) (kept_before file j) t (kept_place file j t k) in
         let both : Some (plain old) ≡ Some (list_so_far file before t) = sym mine ∙ ap (λ ls. slice_get ls place) was ∙ ap (slice_get (lists_so_far file before)) (sym same) ∙ theirs in
         let equal : plain old ≡ list_so_far file before t = cc in
-        let grown : plain new ≡ list_so_far file (before ++ s ∷ []) t = more ∙ ap (λ rs. rs ++ relocations_in (relas_in (contents_of file s.header))) equal ∙ sym (list_here file before s t names on) in
+        let grown : plain new ≡ list_so_far file (before ++ s ∷ []) t = more ∙ ap (λ rs. rs ++ relocations_in (relas_in (file_contents file s.header))) equal ∙ sym (list_here file before s t names on) in
         map-set plain lists place new ∙ ap (λ ls. set ls place (plain new)) was ∙ ap (set (lists_so_far file before) place) grown
         ∙ ap (λ p. set (lists_so_far file before) p (list_so_far file (before ++ s ∷ []) t)) (sym same)
         ∙ map_kept file (list_so_far file before) (list_so_far file (before ++ s ∷ [])) j t k (λ u other. list_other file before s u (names_other s u other))
@@ -209,7 +209,7 @@ pub record PlaceAt (file : List ℕ) (j place : ℕ) : Type 0 where
 pub place_says : (file : List ℕ) (j place : ℕ) → place_at file j ≡ Some place → PlaceAt file j place
 place_says file j place e = go (kept_at file j) refl e
   where
-    go : (o : Option FileSection) → kept_at file j ≡ o → place_of file o ≡ Some place → PlaceAt file j place
+    go : (o : Option FileSection) → kept_at file j ≡ o → place_among_kept file o ≡ Some place → PlaceAt file j place
     go None k h = cc
     go (Some t) k h =
         let is = (kept_found file j t k).is in

@@ -6,9 +6,9 @@ use Rattle.std.proofs.lemmas.Bool.Decides.{nat_tests}
 use Rattle.std.proofs.lemmas.List.{length-take, length-drop, length-replicate}
 use Rattle.rv_isa.specs.Kinds.{width_of}
 use Rattle.rv_elf.specs.declared.section_header.SectionHeader.{SectionHeader}
-use Rattle.rv_elf.specs.Sections.{is_past, is_nobits, contents_of, before_zero, string_at, names_section, section_of}
+use Rattle.rv_elf.specs.Sections.{is_past, is_nobits, file_contents, before_zero, string_at, names_section, indexed_contents}
 use Rattle.rv_object.specs.Object.{Contents, Progbits, Note, Nobits, Relocation, size_of}
-use Rattle.rv_object.specs.Valid.{is_alignment, is_string, keeps_name, is_even, fits_inside, is_padding, is_padding_of, padding_of, is_align}
+use Rattle.rv_object.specs.Valid.{is_section_alignment, is_string, keeps_name, is_even, fits_inside, is_padding, is_padding_of, padding_of, is_align}
 use Rattle.rv_object_file_laws.specs.Parts.{FileSection, is_kept, is_named, is_executable, name_at, name_of, contents_in, extent_of}
 use Rattle.rv_object_file_laws.specs.Rows.{rows_name}
 use Rattle.rv_object_file_laws.specs.FirstFault.{is_none}
@@ -36,9 +36,9 @@ name_string names offset = go (offset == 0)
 pub name_ends : (file : List ℕ) (h : SectionHeader) → is_string (unwrap_or (name_of file h) []) ≡ true
 name_ends file h = go (names_section file == 0)
   where
-    go : (b : Bool) → is_string (unwrap_or (cond b (Some []) (name_at (section_of file (names_section file)) h.sh_name)) []) ≡ true
+    go : (b : Bool) → is_string (unwrap_or (cond b (Some []) (name_at (indexed_contents file (names_section file)) h.sh_name)) []) ≡ true
     go true = refl
-    go false = name_string (section_of file (names_section file)) h.sh_name
+    go false = name_string (indexed_contents file (names_section file)) h.sh_name
 
 -- ---- contents
 
@@ -46,7 +46,7 @@ name_ends file h = go (names_section file == 0)
 abbrev pub contents_by : Bool → Bool → ℕ → List ℕ → Contents
 contents_by nobits note size bytes = if nobits then Nobits size else if note then Note bytes else Progbits bytes
 
-pub bytes_length : (file : List ℕ) (h : SectionHeader) → (h.sh_type == 8) ≡ false → is_past file h.sh_offset h.sh_size ≡ false → length (contents_of file h) ≡ h.sh_size
+pub bytes_length : (file : List ℕ) (h : SectionHeader) → (h.sh_type == 8) ≡ false → is_past file h.sh_offset h.sh_size ≡ false → length (file_contents file h) ≡ h.sh_size
 bytes_length file h type within =
     ap length (cond-false (is_nobits h || is_past file h.sh_offset h.sh_size) [] (take h.sh_size (drop h.sh_offset file)) (rw (type, within) refl))
     ∙ length-take h.sh_size (drop h.sh_offset file) ∙ grind (arith, nat_tests, length-drop)
@@ -66,14 +66,14 @@ extent_size : (nobits : Bool) (size : ℕ) → size_of (if nobits then Nobits si
 extent_size true size = refl
 extent_size false size = length-replicate {A = ℕ} size 0
 
-pub stored_length : (file : List ℕ) (h : SectionHeader) → HeaderSays file h → (h.sh_type == 8) ≡ false → length (contents_of file h) ≡ h.sh_size
+pub stored_length : (file : List ℕ) (h : SectionHeader) → HeaderSays file h → (h.sh_type == 8) ≡ false → length (file_contents file h) ≡ h.sh_size
 stored_length file h says type = bytes_length file h type (sym (ap (λ b. not b && is_past file h.sh_offset h.sh_size) type) ∙ says.stands)
 
 pub size_says : (file : List ℕ) (h : SectionHeader) → HeaderSays file h → size_of (contents_in file h) ≡ h.sh_size
-size_says file h says = size_by (h.sh_type == 8) (h.sh_type == 7) h.sh_size (contents_of file h) (stored_length file h says)
+size_says file h says = size_by (h.sh_type == 8) (h.sh_type == 7) h.sh_size (file_contents file h) (stored_length file h says)
 
 pub fits_says : (file : List ℕ) (h : SectionHeader) → HeaderSays file h → (r : Relocation) → fits_inside (contents_in file h) r ≡ fits_inside (extent_of h) r
-fits_says file h says r = fits_by (h.sh_type == 8) (h.sh_type == 7) h.sh_size (contents_of file h) (stored_length file h says) r
+fits_says file h says r = fits_by (h.sh_type == 8) (h.sh_type == 7) h.sh_size (file_contents file h) (stored_length file h says) r
 
 padding_by : (x : Bool) (c d : Contents) (place : ℕ) (o : Option ℕ) → size_of c ≡ size_of d → is_padding_of x c place o ≡ is_padding_of x d place o
 padding_by x c d place None e = refl
@@ -95,11 +95,11 @@ even_says file h says = ap (λ n. not (is_executable h) || (n % 2 == 0)) (size_s
 
 -- ---- alignment
 
-pub aligned_says : (n : ℕ) → not (n == 0 || is_alignment n) ≡ false → is_alignment (max 1 n) ≡ true
+pub aligned_says : (n : ℕ) → not (n == 0 || is_section_alignment n) ≡ false → is_section_alignment (max 1 n) ≡ true
 aligned_says zero h = refl
 aligned_says (suc n) h = let same : max 1 (suc n) ≡ suc n = omega arith in
     let some : (suc n == 0) ≡ false = grind (arith, nat_tests) in
-    ap is_alignment same ∙ go (is_alignment (suc n)) (sym (ap (λ b. not (b || is_alignment (suc n))) some) ∙ h)
+    ap is_section_alignment same ∙ go (is_section_alignment (suc n)) (sym (ap (λ b. not (b || is_section_alignment (suc n))) some) ∙ h)
   where
     go : (b : Bool) → not b ≡ false → b ≡ true
     go true e = refl
@@ -126,4 +126,4 @@ kept_says file s says keeps = go (name_of file s.header) says.named keeps
         (((s.header.sh_type == 1) && not ((s.header.sh_type == 1) && is_named rows_name o)) || (s.header.sh_type == 7) || (s.header.sh_type == 8)) ≡ true →
         keeps_name (contents_in file s.header) (unwrap_or o []) ≡ true
     go None n k = absurd (true≢false n)
-    go (Some name) n k = kept_by (s.header.sh_type == 1) (s.header.sh_type == 7) (s.header.sh_type == 8) name s.header.sh_size (contents_of file s.header) k
+    go (Some name) n k = kept_by (s.header.sh_type == 1) (s.header.sh_type == 7) (s.header.sh_type == 8) name s.header.sh_size (file_contents file s.header) k

@@ -12,7 +12,7 @@ use Rattle.rv_isa.specs.declared.kind.Kind.{Kind}
 use Rattle.rv_elf.specs.declared.section_header.SectionHeader.{SectionHeader}
 use Rattle.rv_elf.specs.declared.rela.Rela.{Rela}
 use Rattle.rv_elf.specs.FirstFault.{first_true}
-use Rattle.rv_elf.specs.Sections.{section_header_of, contents_of, relas_in}
+use Rattle.rv_elf.specs.Sections.{section_header_of, file_contents, relas_in}
 use Rattle.rv_object.specs.Object.{Relocation}
 use Rattle.rv_object.specs.Valid.{fits_inside, is_padding, are_apart, are_all_apart, is_below}
 use Rattle.rv_object_file_laws.specs.Parts.{FileSection, sections, is_loaded, is_executable, is_symbol_table, is_rela, extent_of, symbol_records, relocates, relas_of, kind_numbered, symbol_index, relocation_by, relocation_in, relocations_in}
@@ -88,14 +88,14 @@ collected file i ss = relocations_in (relas_of file (filter (relocates i) ss))
 pub collected_append : (file : List ℕ) (i : ℕ) (xs ys : List FileSection) → collected file i (xs ++ ys) ≡ collected file i xs ++ collected file i ys
 collected_append file i xs ys =
     ap (λ ss. relocations_in (relas_of file ss)) (filter-append (relocates i) xs ys)
-    ∙ ap relocations_in (flat_map-append (λ s. relas_in (contents_of file s.header)) (filter (relocates i) xs) (filter (relocates i) ys))
+    ∙ ap relocations_in (flat_map-append (λ s. relas_in (file_contents file s.header)) (filter (relocates i) xs) (filter (relocates i) ys))
     ∙ filter_map-append relocation_in (relas_of file (filter (relocates i) xs)) (relas_of file (filter (relocates i) ys))
 
 -- one section adds its own, if it names the section
-pub collected_here : (file : List ℕ) (i : ℕ) (s : FileSection) → relocates i s ≡ true → collected file i (s ∷ []) ≡ relocations_in (relas_in (contents_of file s.header))
+pub collected_here : (file : List ℕ) (i : ℕ) (s : FileSection) → relocates i s ≡ true → collected file i (s ∷ []) ≡ relocations_in (relas_in (file_contents file s.header))
 collected_here file i s e =
     ap (λ ss. relocations_in (relas_of file ss)) (cond-true (relocates i s) (s ∷ []) [] e)
-    ∙ ap relocations_in (append-nil (relas_in (contents_of file s.header)))
+    ∙ ap relocations_in (append-nil (relas_in (file_contents file s.header)))
 
 pub collected_other : (file : List ℕ) (i : ℕ) (s : FileSection) → relocates i s ≡ false → collected file i (s ∷ []) ≡ []
 collected_other file i s e = ap (λ ss. relocations_in (relas_of file ss)) (cond-false (relocates i s) (s ∷ []) [] e)
@@ -103,14 +103,14 @@ collected_other file i s e = ap (λ ss. relocations_in (relas_of file ss)) (cond
 -- the tests of the relocations of a loaded section
 tests_are : (file : List ℕ) (before : List FileSection) (h : SectionHeader) (i : ℕ) → is_rela h ≡ true → h.sh_info ≡ i → is_loaded (section_header_of file i) ≡ true →
     symbol_count file h ≡ length (symbol_records file) →
-    records_tests file before h ≡ relocations_tests (section_header_of file i) (length (symbol_records file)) (collected file i before) (relas_in (contents_of file h))
+    records_tests file before h ≡ relocations_tests (section_header_of file i) (length (symbol_records file)) (collected file i before) (relas_in (file_contents file h))
 tests_are file before h i rela info loaded count =
     cond-false (is_symbol_table h) _ _ (no_symbols h.sh_type rela)
     ∙ cond-true (is_rela h) _ _ rela
     ∙ ap (λ j. if is_loaded (section_header_of file j)
-    then relocations_tests (section_header_of file j) (symbol_count file h) (collected file j before) (relas_in (contents_of file h)) else []) info
+    then relocations_tests (section_header_of file j) (symbol_count file h) (collected file j before) (relas_in (file_contents file h)) else []) info
     ∙ cond-true (is_loaded (section_header_of file i)) _ [] loaded
-    ∙ ap (λ n. relocations_tests (section_header_of file i) n (collected file i before) (relas_in (contents_of file h))) count
+    ∙ ap (λ n. relocations_tests (section_header_of file i) n (collected file i before) (relas_in (file_contents file h))) count
 
 section_more : (file : List ℕ) → first_fault file ≡ None → (i : ℕ) (before : List FileSection) (s : FileSection) → is_loaded (section_header_of file i) ≡ true → Passed file before s →
     Good (section_header_of file i) (length (symbol_records file)) (collected file i before) →
@@ -128,7 +128,7 @@ section_more file none i before s loaded passes good = go (relocates i s) refl
         let tests = tests_are file before s.header i both.0 info loaded count in
         subst (Good (section_header_of file i) (length (symbol_records file)))
         (sym (collected_append file i before (s ∷ []) ∙ ap (λ qs. collected file i before ++ qs) (collected_here file i s e)))
-        (relocations_good (section_header_of file i) (length (symbol_records file)) (collected file i before) (relas_in (contents_of file s.header)) (ap first_true (sym tests) ∙ passes.inner) good)
+        (relocations_good (section_header_of file i) (length (symbol_records file)) (collected file i before) (relas_in (file_contents file s.header)) (ap first_true (sym tests) ∙ passes.inner) good)
 
 target_good : (file : List ℕ) → first_fault file ≡ None → (i : ℕ) (before ss : List FileSection) → is_loaded (section_header_of file i) ≡ true → AllPassed file before ss →
     Good (section_header_of file i) (length (symbol_records file)) (collected file i before) →

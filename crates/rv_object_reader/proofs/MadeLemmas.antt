@@ -8,7 +8,7 @@ use Rattle.rv_elf.specs.declared.symbol.Symbol.{Symbol as SymbolRecord}
 use Rattle.rv_elf.specs.FirstFault.{first_true}
 use Rattle.rv_elf.specs.Sections.{records, section_count}
 use Rattle.rv_object.specs.declared.row.Row.{Row}
-use Rattle.rv_object_checks.specs.Found.{section_at, sections_from, place_of, place_at}
+use Rattle.rv_object_checks.specs.Found.{section_at, sections_from, place_among_kept, place_at}
 use Rattle.rv_object_file_laws.specs.FirstFault.{has_binding, has_home, symbol_tests, is_row_of, row_tests, first_fault}
 use Rattle.rv_object_file_laws.specs.Parts.{FileSection, sections, is_kept, is_index, kept_at, kept_before, row_records}
 use Rattle.rv_object_file_laws.specs.Rows.{RowRecord}
@@ -122,7 +122,7 @@ home_by : (file : List ℕ) (r : RowRecord) (o : Option FileSection) → kept_at
 home_by file r None e h = absurd (true≢false (sym h))
 home_by file r (Some s) e h =
     let f = kept_found file r.r_section s e in
-    record { within = f.within; place = ap (place_of file) e ∙ ap (λ t. Some (kept_before file t.index)) f.is }
+    record { within = f.within; place = ap (place_among_kept file) e ∙ ap (λ t. Some (kept_before file t.index)) f.is }
 
 pub home_of : (file : List ℕ) (r : RowRecord) → IsHome file r → Home file r.r_section
 home_of file r h = home_by file r (kept_at file r.r_section) refl h

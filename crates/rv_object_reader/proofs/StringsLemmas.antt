@@ -8,7 +8,7 @@ use Rattle.std.proofs.lemmas.Bool.Decides.{nat_tests}
 use Rattle.std.proofs.lemmas.List.{length-drop, get_or-drop}
 use Rattle.memchr.specs.Find.{IsFirst, Passes, is_byte}
 use Rattle.rv_elf.specs.declared.section_header.SectionHeader.{SectionHeader}
-use Rattle.rv_elf.specs.Sections.{before_zero, string_at, names_section, section_of}
+use Rattle.rv_elf.specs.Sections.{before_zero, string_at, names_section, indexed_contents}
 use Rattle.rv_object_checks.specs.Names.{names_table}
 use Rattle.rv_object_file_laws.specs.Parts.{name_at, name_of}
 
@@ -74,7 +74,7 @@ pub named_in : (file : List ℕ) (h : SectionHeader) → unwrap_or (name_at (nam
 named_in file h = by (names_section file == 0)
   where
     table : List ℕ
-    table = section_of file (names_section file)
+    table = indexed_contents file (names_section file)
 
     by : (b : Bool) → unwrap_or (name_at (cond b [] table) h.sh_name) [] ≡ unwrap_or (cond b (Some []) (name_at table h.sh_name)) []
     by true = nothing_named h.sh_name

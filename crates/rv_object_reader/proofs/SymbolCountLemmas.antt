@@ -8,7 +8,7 @@ use Rattle.std.proofs.lemmas.Bool.Decides.{nat_tests}
 use Rattle.rv_elf.specs.declared.section_header.SectionHeader.{SectionHeader}
 use Rattle.rv_elf.specs.FirstFault.{first_true}
 use Rattle.rv_elf.specs.Records.{symbol_at}
-use Rattle.rv_elf.specs.Sections.{records, section_count, section_header_of, contents_of}
+use Rattle.rv_elf.specs.Sections.{records, section_count, section_header_of, file_contents}
 use Rattle.rv_object_checks.specs.Found.{section_at, sections_from}
 use Rattle.rv_object_file_laws.specs.FirstFault.{section_tests, is_linked, is_rela_linked, symbol_count, first_fault}
 use Rattle.rv_object_file_laws.specs.Parts.{FileSection, is_section, is_loaded, is_symbol_table, is_rela, symbol_table, symbols_of, symbol_records}
@@ -96,7 +96,7 @@ counted_at file none i low high table =
     let found : symbol_table file ≡ Some (section_at file i) =
     ap (find is_table) (sections_are file) ∙ table_found file [] (section_count file - 1) 1 i walk table (omega arith) (omega arith) in
     ap (λ n. n / 24) (sym (stored_length file h (says_at file none i low high) (stored h.sh_type table)))
-    ∙ sym (records_long symbol_at 24 (length (contents_of file h) / 24) 0 (contents_of file h))
+    ∙ sym (records_long symbol_at 24 (length (file_contents file h) / 24) 0 (file_contents file h))
     ∙ ap (λ s. length (symbols_of file s)) (sym found)
 
 implied : (a b : Bool) → (not a || b) ≡ true → a ≡ true → b ≡ true

@@ -6,7 +6,7 @@ use Rattle.std.proofs.lemmas.Bool.{and_from}
 use Rattle.std.proofs.lemmas.List.Folds.{list_all-map}
 use Rattle.rv_elf.specs.Sections.{section_count, section_header_of}
 use Rattle.rv_object.specs.Object.{Contents, Relocation, Section}
-use Rattle.rv_object.specs.Valid.{is_alignment, is_string, keeps_name, is_even, is_loaded_alone, fit_inside, fits_inside, is_padding, are_paddings, are_all_apart, is_below}
+use Rattle.rv_object.specs.Valid.{is_section_alignment, is_string, keeps_name, is_even, is_loaded_alone, fit_inside, fits_inside, is_padding, are_paddings, are_all_apart, is_below}
 use Rattle.rv_object_file_laws.specs.Parts.{sections, kept, is_kept, is_loaded, is_executable, contents_in, extent_of, symbol_records}
 use Rattle.rv_object_file_laws.specs.FirstFault.{first_fault}
 use Rattle.rv_object_file_laws.specs.ObjectOf.{section_in}
@@ -20,7 +20,7 @@ use Rattle.rv_object_reader.proofs.ContentsLemmas.{name_ends, even_says, aligned
 pub record IsValid (s : Section) : Type 0 where
   pub ends : is_string s.name ≡ true
   pub keeps : keeps_name s.contents s.name ≡ true
-  pub aligned : is_alignment s.alignment ≡ true
+  pub aligned : is_section_alignment s.alignment ≡ true
   pub even : is_even s.executable s.contents ≡ true
   pub alone : is_loaded_alone s.loaded s.relocations ≡ true
   pub inside : fit_inside s.contents s.relocations ≡ true

@@ -9,14 +9,14 @@ use Rattle.std.proofs.lemmas.List.Folds.{list_all-map}
 use Rattle.rv_map.specs.Name.{is_name}
 use Rattle.rv_elf.specs.declared.symbol.Symbol.{Symbol as SymbolRecord}
 use Rattle.rv_elf.specs.FirstFault.{first_true}
-use Rattle.rv_elf.specs.Sections.{section_of, contents_of, symbols_in}
+use Rattle.rv_elf.specs.Sections.{indexed_contents, file_contents, symbols_in}
 use Rattle.rv_object.specs.declared.symbol.Binding.TheVariants.{Local, Global, Weak}
 use Rattle.rv_object.specs.declared.symbol.Definition.TheVariants.{Undefined, Absolute}
 use Rattle.rv_object.specs.Object.{Section, Symbol}
 use Rattle.rv_object.specs.Valid.{is_string, is_shown, is_defined_in, is_row_in, are_indexed, are_defined, are_rows}
-use Rattle.rv_object_file_laws.specs.Parts.{FileSection, sections, kept, is_kept, is_index, is_loaded, is_symbol_table, is_rela, is_rows, kept_at, kept_before, name_at, symbol_table, symbols_of, symbol_records, rows_of, row_records}
+use Rattle.rv_object_file_laws.specs.Parts.{FileSection, sections, kept, is_kept, is_index, is_loaded, is_symbol_table, is_rela, is_rows, kept_at, kept_before, name_at, symbol_table, symbols_of, symbol_records, row_records_of, row_records}
 use Rattle.rv_object_file_laws.specs.Rows.{RowRecord, rows_in}
-use Rattle.rv_object_file_laws.specs.FirstFault.{is_shared, is_bad_name, has_binding, has_home, symbol_tests, is_row_of, row_tests, first_fault}
+use Rattle.rv_object_file_laws.specs.FirstFault.{is_shared_record, is_bad_name, has_binding, has_home, symbol_tests, is_row_of, row_tests, first_fault}
 use Rattle.rv_object_file_laws.specs.ObjectOf.{section_in, names_of, definition_by, symbol_in, row_in}
 use Rattle.rv_object_reader.proofs.FirstTrueLemmas.{not_false, all_false, flat_map_parts}
 use Rattle.rv_object_reader.proofs.WalkLemmas.{fine, passed_find, header_says}
@@ -38,10 +38,10 @@ good_symbols file none = go (symbol_table file) refl
     go None e = tt
     go (Some t) e =
         let found = passed_find file (λ s. is_symbol_table s.header) t [] (sections file) (fine file none).walk e in
-        flat_map_parts (symbol_tests file (section_of file t.header.sh_link)) (drop 1 (symbols_in (contents_of file t.header)))
+        flat_map_parts (symbol_tests file (indexed_contents file t.header.sh_link)) (drop 1 (symbols_in (file_contents file t.header)))
         (ap first_true (sym (cond-true (is_symbol_table t.header) _ _ found.test)) ∙ found.passes.inner)
 
-shown_name : (o : Option (List ℕ)) (s : SymbolRecord) → is_bad_name s o ≡ false → is_shared s ≡ true → is_name (unwrap_or o []) ≡ true
+shown_name : (o : Option (List ℕ)) (s : SymbolRecord) → is_bad_name s o ≡ false → is_shared_record s ≡ true → is_name (unwrap_or o []) ≡ true
 shown_name None s h e = absurd (true≢false h)
 shown_name (Some name) s h e = not_false (is_name name) (sym (ap (λ b. b && not (is_name name)) e) ∙ h)
 
@@ -61,7 +61,7 @@ symbol_shown file s good =
     let a = all_false (symbol_tests file names s) good in
     let both = and_parts (has_binding s) (has_home file s) (not_false (has_binding s && has_home file s) a.1.0) in
     shown_by (s.st_info / 16 == 0) (s.st_info / 16 == 2) (unwrap_or (name_at names s.st_name) []) (name_string names s.st_name)
-    (λ e. shown_name (name_at names s.st_name) s a.0 (other_true (s.st_info / 16 == 0) (is_shared s) both.0 e))
+    (λ e. shown_name (name_at names s.st_name) s a.0 (other_true (s.st_info / 16 == 0) (is_shared_record s) both.0 e))
 
 -- ---- definitions
 
@@ -95,12 +95,12 @@ no_relas type e = grind (arith, nat_tests)
 pub good_rows : (file : List ℕ) → first_fault file ≡ None → AllByRecursion (IsGoodRow file) (row_records file)
 good_rows file none = go (find (λ s. is_rows file s.header) (sections file)) refl
   where
-    go : (o : Option FileSection) → find (λ s. is_rows file s.header) (sections file) ≡ o → AllByRecursion (IsGoodRow file) (rows_of file o)
+    go : (o : Option FileSection) → find (λ s. is_rows file s.header) (sections file) ≡ o → AllByRecursion (IsGoodRow file) (row_records_of file o)
     go None e = tt
     go (Some t) e =
         let found = passed_find file (λ s. is_rows file s.header) t [] (sections file) (fine file none).walk e in
         let bytes = and_parts (t.header.sh_type == 1) _ found.test in
-        flat_map_parts (row_tests file) (rows_in (contents_of file t.header))
+        flat_map_parts (row_tests file) (rows_in (file_contents file t.header))
         (ap first_true (sym (cond-false (is_symbol_table t.header) _ _ (no_symbols t.header.sh_type bytes.0)
         ∙ cond-false (is_rela t.header) _ _ (no_relas t.header.sh_type bytes.0)
         ∙ cond-true (is_rows file t.header) _ _ found.test)) ∙ found.passes.inner)

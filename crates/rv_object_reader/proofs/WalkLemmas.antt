@@ -8,7 +8,7 @@ use Rattle.rv_elf.specs.FirstFault.{first_true, header_tests, table_tests}
 use Rattle.rv_elf.specs.Numbers.{et_rel, sht_nobits}
 use Rattle.rv_elf.specs.Records.{section_header_at}
 use Rattle.rv_elf.specs.Sections.{records, section_count, is_past}
-use Rattle.rv_object.specs.Valid.{is_alignment}
+use Rattle.rv_object.specs.Valid.{is_section_alignment}
 use Rattle.rv_object_file_laws.specs.Parts.{FileSection, numbered, sections, is_executable, name_of}
 use Rattle.rv_object_file_laws.specs.FirstFault.{is_none, is_linked, section_tests, records_tests, sections_tests, object_tests, first_fault}
 use Rattle.rv_object_checks.specs.Found.{section_at, sections_from}
@@ -81,7 +81,7 @@ passed_find file p s before (x ∷ ss) h e = go (p x) refl e (passed_find file p
 -- what the header of a section says
 pub record HeaderSays (file : List ℕ) (h : SectionHeader) : Type 0 where
   pub stands : (not (h.sh_type == sht_nobits) && is_past file h.sh_offset h.sh_size) ≡ false
-  pub alignment : (not (h.sh_addralign == 0 || is_alignment h.sh_addralign)) ≡ false
+  pub alignment : (not (h.sh_addralign == 0 || is_section_alignment h.sh_addralign)) ≡ false
   pub even : (is_executable h && not (h.sh_size % 2 == 0)) ≡ false
   pub named : is_none (name_of file h) ≡ false
   pub links : is_linked file h ≡ true

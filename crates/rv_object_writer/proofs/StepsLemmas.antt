@@ -15,7 +15,7 @@ use Rattle.rv_layout_laws.specs.Alignment.{aligned}
 use Rattle.rv_object_writer.specs.declared.piece.Piece.{Piece as DeclaredPiece}
 use Rattle.rv_object_writer.specs.Pieces.{body_bytes, piece_of, rows_bytes}
 use Rattle.rv_object_file_laws.proofs.SymbolsReadLemmas.{length-rows}
-use Rattle.rv_object_file_laws.specs.Written.{Piece, zeros_at, contents_from, headers_offset, headers_from, header_of, rela_pieces, row_pieces, has_relocations, is_local, locals}
+use Rattle.rv_object_file_laws.specs.Written.{UnplacedSection, zeros_at, contents_from, headers_offset, headers_from, header_of, rela_pieces, row_pieces, has_relocations, is_local, locals}
 
 -- the next of those that are left
 pub left : {A : Type 0} (xs : List A) (i : ℕ) (x d : A) → i < length xs → x ≡ get_or xs i d → drop i xs ≡ x ∷ drop (i + 1) xs
@@ -56,7 +56,7 @@ length-header h = refl
 pub not_below : (at : ℕ) → at ≤ aligned 8 at
 not_below at = omega arith
 
-pub contents_end : (at : ℕ) (ps : List Piece) → at + length (contents_from at ps) ≡ headers_offset at ps
+pub contents_end : (at : ℕ) (ps : List UnplacedSection) → at + length (contents_from at ps) ≡ headers_offset at ps
 contents_end at [] =
     let zeros : length (zeros_at at) ≡ aligned 8 at - at = length-replicate {A = ℕ} (aligned 8 at - at) 0 in
     let up = not_below at in
@@ -71,7 +71,7 @@ contents_end at (p ∷ ps) =
     let end : next + length rest ≡ headers_offset next ps = contents_end next ps in
     omega arith
 
-pub begins_below : (at : ℕ) (ps : List Piece) → aligned 8 at ≤ headers_offset at ps
+pub begins_below : (at : ℕ) (ps : List UnplacedSection) → aligned 8 at ≤ headers_offset at ps
 begins_below at [] = omega arith
 begins_below at (p ∷ ps) =
     let next = aligned 8 at + length p.bytes in
@@ -88,7 +88,7 @@ ends_on ps i at offset total d inside is end =
     ∙ ap (λ l. headers_offset at (map piece_of l)) (sym (left ps i (get_or ps i d) d inside refl)) ∙ end
 
 -- the parts of a file, whose header is written over the zeros that keep its place
-pub whole_file : (h : FileHeader) (ps : List Piece) (start one two set later new rest : List ℕ) → start ≡ [] → one ≡ start ++ replicate 64 0
+pub whole_file : (h : FileHeader) (ps : List UnplacedSection) (start one two set later new rest : List ℕ) → start ≡ [] → one ≡ start ++ replicate 64 0
     → two ≡ one ++ contents_from (length one) ps → set ≡ file_header_bytes h ++ drop 64 two → later ≡ set ++ replicate 64 0 → new ≡ later ++ rest
     → new ≡ file_header_bytes h ++ (contents_from 64 ps ++ (replicate 64 0 ++ rest))
 whole_file h ps start one two set later new rest empty place contents header zeros headers =
@@ -103,7 +103,7 @@ whole_file h ps start one two set later new rest empty place contents header zer
     ∙ append_assoc (file_header_bytes h ++ contents_from 64 ps) zero_header rest ∙ append_assoc (file_header_bytes h) (contents_from 64 ps) (zero_header ++ rest)
 
 -- with the place of its header, a file that ends with contents has the length up to the section headers
-pub length_so_far : (ps : List Piece) (start one two : List ℕ) → start ≡ [] → one ≡ start ++ replicate 64 0 → two ≡ one ++ contents_from (length one) ps
+pub length_so_far : (ps : List UnplacedSection) (start one two : List ℕ) → start ≡ [] → one ≡ start ++ replicate 64 0 → two ≡ one ++ contents_from (length one) ps
     → length two ≡ headers_offset 64 ps
 length_so_far ps start one two empty place contents =
     let zero_header : List ℕ = replicate 64 0 in
@@ -111,7 +111,7 @@ length_so_far ps start one two empty place contents =
     ap length contents ∙ length-append one (contents_from (length one) ps)
     ∙ ap (λ n. n + length (contents_from n ps)) size ∙ contents_end 64 ps
 
-pub contents_more : (p : Piece) (ps : List Piece) (out new : List ℕ) → new ≡ (out ++ zeros_at (length out)) ++ p.bytes
+pub contents_more : (p : UnplacedSection) (ps : List UnplacedSection) (out new : List ℕ) → new ≡ (out ++ zeros_at (length out)) ++ p.bytes
     → new ++ contents_from (length new) ps ≡ out ++ contents_from (length out) (p ∷ ps)
 contents_more p ps out new grown =
     let at = length out in
@@ -124,7 +124,7 @@ contents_more p ps out new grown =
     ap (λ n. new ++ contents_from n ps) is ∙ ap (λ l. l ++ rest) grown
     ∙ append_assoc (out ++ zeros_at at) p.bytes rest ∙ append_assoc out (zeros_at at) (p.bytes ++ rest)
 
-pub headers_more : (ns : List (List ℕ)) (at next : ℕ) (p : Piece) (ps : List Piece) (out new : List ℕ)
+pub headers_more : (ns : List (List ℕ)) (at next : ℕ) (p : UnplacedSection) (ps : List UnplacedSection) (out new : List ℕ)
     → new ≡ out ++ section_header_bytes (header_of ns at p) → next ≡ aligned 8 at + length p.bytes
     → new ++ flat_map section_header_bytes (headers_from ns next ps) ≡ out ++ flat_map section_header_bytes (headers_from ns at (p ∷ ps))
 headers_more ns at next p ps out new grown is =
@@ -138,12 +138,12 @@ pub relas_more : (symtab i : ℕ) (s : Section) (ss : List Section)
     → rela_pieces symtab i (s ∷ ss) ≡ rela_pieces symtab i (s ∷ []) ++ rela_pieces symtab (suc i) ss
 relas_more symtab i s ss = by (length s.relocations == 0) _ (rela_pieces symtab (suc i) ss)
   where
-    by : (b : Bool) (p : Piece) (ps : List Piece) → (if b then ps else p ∷ ps) ≡ (if b then [] else p ∷ []) ++ ps
+    by : (b : Bool) (p : UnplacedSection) (ps : List UnplacedSection) → (if b then ps else p ∷ ps) ≡ (if b then [] else p ∷ []) ++ ps
     by true p ps = refl
     by false p ps = refl
 
 -- one section later
-pub relas_step : (symtab i : ℕ) (xs : List DeclaredSection) (x : DeclaredSection) → i < length xs → x ≡ get_or xs i x → (old new whole : List Piece)
+pub relas_step : (symtab i : ℕ) (xs : List DeclaredSection) (x : DeclaredSection) → i < length xs → x ≡ get_or xs i x → (old new whole : List UnplacedSection)
     → new ≡ old ++ rela_pieces symtab (i + 1) (section_of x ∷ []) → old ++ rela_pieces symtab (suc i) (map section_of (drop i xs)) ≡ whole
     → new ++ rela_pieces symtab (suc (i + 1)) (map section_of (drop (i + 1) xs)) ≡ whole
 relas_step symtab i xs x inside is old new whole grown so_far =
@@ -159,7 +159,7 @@ pub relas_count : (symtab i : ℕ) (ss : List Section) → length (rela_pieces s
 relas_count symtab i [] = refl
 relas_count symtab i (s ∷ ss) = by (length s.relocations == 0) _ (rela_pieces symtab (suc i) ss) s (filter has_relocations ss) (relas_count symtab (suc i) ss)
   where
-    by : (b : Bool) (p : Piece) (ps : List Piece) (t : Section) (ts : List Section) → length ps ≡ length ts
+    by : (b : Bool) (p : UnplacedSection) (ps : List UnplacedSection) (t : Section) (ts : List Section) → length ps ≡ length ts
         → length (if b then ps else p ∷ ps) ≡ length (if not b then t ∷ ts else ts)
     by true p ps t ts e = e
     by false p ps t ts e = ap suc e

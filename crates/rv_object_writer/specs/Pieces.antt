@@ -8,7 +8,7 @@ use Rattle.rv_elf.specs.Numbers.{sht_rela, et_rel, em_riscv}
 use Rattle.rv_object.specs.Object.{Object}
 use Rattle.rv_object_file_laws.specs.Known.{IsRelocation, IsSymbol}
 use Rattle.rv_object_file_laws.specs.Rows.{row_bytes}
-use Rattle.rv_object_file_laws.specs.Written.{Piece, table_piece, rela_pieces, row_record, symtab_index, last_index, headers_offset, symbols_bytes, symbol_names, table_of}
+use Rattle.rv_object_file_laws.specs.Written.{UnplacedSection, table_piece, rela_pieces, row_record, symtab_index, last_index, headers_offset, symbols_bytes, symbol_names, table_of}
 use Rattle.rv_object_writer.specs.declared.pieces.Tables.{Tables}
 use Rattle.rv_object.specs.declared.row.Row.{Row}
 use Rattle.rv_object_writer.specs.declared.piece.Body.{Body}
@@ -23,7 +23,7 @@ abbrev pub body_bytes : Body → List ℕ
 body_bytes (Bytes bytes) = bytes.now
 body_bytes (Rows rows) = rows_bytes rows.now
 
-abbrev pub piece_of : DeclaredPiece → Piece
+abbrev pub piece_of : DeclaredPiece → UnplacedSection
 piece_of p = record {
   name = p.name.now;
   kind = p.kind;
@@ -37,7 +37,7 @@ piece_of p = record {
 }
 
 -- relocations by the symbols of the table of this index
-abbrev pub rela_piece : ℕ → RelaTable → Piece
+abbrev pub rela_piece : ℕ → RelaTable → UnplacedSection
 rela_piece symtab t = table_piece t.name.items sht_rela t.bytes.items symtab t.section 8 rela_size
 
 -- the tables of an object
@@ -53,7 +53,7 @@ pub record HaveKnownNumbers (o : Object) : Type 0 where
   pub all_symbols : AllByRecursion IsSymbol o.symbols
 
 -- the header of a file with these sections, of which the last has their names
-abbrev pub header_by : Bool → ℕ → List Piece → FileHeader
+abbrev pub header_by : Bool → ℕ → List UnplacedSection → FileHeader
 header_by rvc last ps = record {
   e_type = et_rel;
   e_machine = em_riscv;

@@ -22,7 +22,7 @@ found_in (s ∷ ss) name =
     if bytes_eq s name then Some 0 else option_map (λ o. length s + 1 + o) (found_in ss name)
 
 -- the table has these strings, in this order
-pub record IsTable (strings : List (List ℕ)) (t : StringTable) : Type 0 where
+pub record IsStringTable (strings : List (List ℕ)) (t : StringTable) : Type 0 where
   pub all : t.bytes.items ≡ terminated strings
   pub found : (name : List ℕ) →
       get_by (λ (k : Bor (List ℕ)). bytes_eq name k.now) t.offsets ≡ found_in strings name

@@ -3,9 +3,9 @@
 ghost use Rattle.std.specs.Prelude.{[], ◌∷◌, ◌++◌, map, codes, IfOk};
 ghost use Rattle.rv_object.specs.Parts.{symbol_of};
 ghost use Rattle.rv_object.specs.Object.{Symbol as SaidSymbol};
-ghost use Rattle.rv_object_file_laws.specs.Written.{strings_of, Piece as SaidPiece};
+ghost use Rattle.rv_object_file_laws.specs.Written.{strings_of, UnplacedSection as SaidPiece};
 ghost use Rattle.rv_object_writer.specs.Pieces.{piece_of};
-ghost use Rattle.rv_object_writer.specs.Strings.{IsTable};
+ghost use Rattle.rv_object_writer.specs.Strings.{IsStringTable};
 
 use crate::piece::Piece;
 use crate::strings::StringTable;
@@ -20,7 +20,7 @@ pub(crate) fn symbol_names<'o>(
     alloc: Global,
     symbols: &'o [Symbol<'o>],
 ) -> Result<StringTable<'o>, AllocError>
-    ensures { IfOk result (λ t. IsTable
+    ensures { IfOk result (λ t. IsStringTable
         (strings_of (map (λ (s : SaidSymbol). s.name) (map symbol_of symbols.now))) t) }
 {
     let mut names = StringTable::new(alloc)?;
@@ -35,7 +35,7 @@ pub(crate) fn section_names<'p>(
     alloc: Global,
     pieces: &[Piece<'p>],
 ) -> Result<StringTable<'p>, AllocError>
-    ensures { IfOk result (λ t. IsTable
+    ensures { IfOk result (λ t. IsStringTable
         (strings_of (map (λ (p : SaidPiece). p.name) (map piece_of pieces.now)
         ++ codes ".shstrtab" ∷ [])) t) }
 {

@@ -18,11 +18,11 @@ pub(crate) struct StringTable<'n> {
 }
 
 impl<'n> StringTable<'n> {
-    ghost use Rattle.rv_object_writer.specs.Strings.{IsTable, with_string, terminated};
+    ghost use Rattle.rv_object_writer.specs.Strings.{IsStringTable, with_string, terminated};
 
     /// A table of the empty name.
     pub(crate) fn new(alloc: Global) -> Result<Self, AllocError>
-        ensures { IfOk result (λ t. IsTable ([] ∷ []) t) }
+        ensures { IfOk result (λ t. IsStringTable ([] ∷ []) t) }
     {
         let mut strings = StringTable {
             bytes: Vec::new(alloc),
@@ -34,8 +34,8 @@ impl<'n> StringTable<'n> {
 
     /// Adds a name, unless it is there.
     pub(crate) fn put(&mut self, name: &'n [u8]) -> Result<(), AllocError>
-        ensures { OnOk result ((strings : List (List ℕ)) → IsTable strings self.old
-            → IsTable (with_string strings name.now) self.new) }
+        ensures { OnOk result ((strings : List (List ℕ)) → IsStringTable strings self.old
+            → IsStringTable (with_string strings name.now) self.new) }
     {
         if self.offsets.get(&name).is_some() {
             return Ok(());
@@ -49,7 +49,7 @@ impl<'n> StringTable<'n> {
 
     /// The offset of a name; of one that is not there, that of the end.
     pub(crate) fn offset(&self, name: &[u8]) -> u64
-        ensures { (strings : List (List ℕ)) → IsTable strings self.now
+        ensures { (strings : List (List ℕ)) → IsStringTable strings self.now
             → result ≡ offset_in strings name.now }
     {
         match self.offsets.get(&name) {
@@ -60,7 +60,7 @@ impl<'n> StringTable<'n> {
 
     /// The names, each with a zero byte behind it.
     pub(crate) fn bytes(&self) -> &[u8]
-        ensures { (strings : List (List ℕ)) → IsTable strings self.now
+        ensures { (strings : List (List ℕ)) → IsStringTable strings self.now
             → result.now ≡ terminated strings }
     {
         self.bytes.as_slice()
@@ -68,7 +68,7 @@ impl<'n> StringTable<'n> {
 
     /// The same, without the table.
     pub(crate) fn into_bytes(self) -> Vec<u8>
-        ensures { (strings : List (List ℕ)) → IsTable strings self.entry
+        ensures { (strings : List (List ℕ)) → IsStringTable strings self.entry
             → result.items ≡ terminated strings }
     {
         let StringTable { bytes, offsets } = self;

@@ -14,9 +14,9 @@ ghost use Rattle.rv_object.specs.Sections.{section_of};
 ghost use Rattle.rv_object_file_laws.specs.Known.{IsRelocation, IsSymbol};
 ghost use Rattle.rv_object_file_laws.specs.Rows.{row_bytes};
 ghost use Rattle.rv_object_file_laws.specs.Rows as fields;
-ghost use Rattle.rv_object_file_laws.specs.Written.{strings_of, symbol_number, rela_of, relocations_bytes, row_record, binding_number, section_index_of, value_of, symbol_record, is_local, locals, rela_pieces};
+ghost use Rattle.rv_object_file_laws.specs.Written.{strings_of, symbol_number, rela_of, relocations_bytes, row_record, binding_number, section_index_of, definition_value, symbol_record, is_local, locals, rela_pieces};
 ghost use Rattle.rv_object_writer.specs.Pieces.{rela_piece, rows_bytes};
-ghost use Rattle.rv_object_writer.specs.Strings.{IsTable};
+ghost use Rattle.rv_object_writer.specs.Strings.{IsStringTable};
 
 use crate::strings::StringTable;
 use rv_elf::{
@@ -237,8 +237,8 @@ fn section_index(last: u128, definition: Definition) -> u16
 
 /// The value of a symbol.
 fn value(definition: Definition) -> u64
-    ensures is { result ≡ value_of definition }
-    ensures small { value_of definition < 2 ^ 64 }
+    ensures is { result ≡ definition_value definition }
+    ensures small { definition_value definition < 2 ^ 64 }
 {
     match definition {
         Definition::Undefined => 0,
@@ -256,7 +256,7 @@ fn put_symbol(
     last: u128,
     symbol: &Symbol<'_>,
 ) -> Result<(), AllocError>
-    ensures written { OnOk result ((ns : List (List ℕ)) → IsTable (strings_of ns) names.now
+    ensures written { OnOk result ((ns : List (List ℕ)) → IsStringTable (strings_of ns) names.now
         → out.new ≡ out.old ++ symbol_bytes (symbol_record ns last (symbol_of symbol.now))) }
     ensures known { OnOk result (IsSymbol (symbol_of symbol.now)) }
 {
@@ -279,7 +279,8 @@ pub(crate) fn symbols_table(
     last: u128,
     symbols: &[Symbol<'_>],
 ) -> Result<Vec<u8>, AllocError>
-    ensures written { IfOk result (λ bytes. (ns : List (List ℕ)) → IsTable (strings_of ns) names.now
+    ensures written { IfOk result (λ bytes. (ns : List (List ℕ)) →
+        IsStringTable (strings_of ns) names.now
         → bytes.items ≡ replicate symbol_size 0
         ++ flat_map (λ s. symbol_bytes (symbol_record ns last s)) (map symbol_of symbols.now)) }
     ensures known { IfOk result (λ bytes. AllByRecursion IsSymbol (map symbol_of symbols.now)) }

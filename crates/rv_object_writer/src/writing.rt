@@ -15,7 +15,7 @@ ghost use Rattle.rv_object_file_laws.specs.ObjectOf.{ObjectOf};
 ghost use Rattle.rv_layout_laws.specs.Alignment.{aligned};
 ghost use Rattle.rv_object_file_laws.specs.Written.{zeros_at, contents_from, headers_offset, header_of, headers_from, HasFile, file_of, strings_of, section_names as file_names};
 ghost use Rattle.rv_object_writer.specs.Pieces.{body_bytes, piece_of, header_by, AreTables};
-ghost use Rattle.rv_object_writer.specs.Strings.{IsTable};
+ghost use Rattle.rv_object_writer.specs.Strings.{IsStringTable};
 
 use crate::names::section_names;
 use crate::piece::{Body, Piece};
@@ -66,7 +66,7 @@ fn write_named(
 ) -> Result<Vec<u8>, AllocError>
     requires tables { AreTables (object_of object.now) tables.now }
     requires room { (tables.now).symtab + 2 < 2 ^ 128 }
-    requires names { IsTable (strings_of (file_names (object_of object.now))) names.now }
+    requires names { IsStringTable (strings_of (file_names (object_of object.now))) names.now }
     ensures { IfOk result (λ file. file.items ≡ file_of (object_of object.now)) }
 {
     let strings = names.bytes();
@@ -89,7 +89,7 @@ fn put_file(
     pieces: &[Piece<'_>],
     names: &StringTable<'_>,
 ) -> Result<Vec<u8>, AllocError>
-    ensures { IfOk result (λ file. (ns : List (List ℕ)) → IsTable (strings_of ns) names.now
+    ensures { IfOk result (λ file. (ns : List (List ℕ)) → IsStringTable (strings_of ns) names.now
         → file.items ≡ file_header_bytes (header_by rvc last (map piece_of pieces.now))
         ++ (contents_from file_header_size (map piece_of pieces.now)
         ++ (replicate section_header_size 0
@@ -189,7 +189,7 @@ fn put_section_header(
     offset: u64,
     piece: &Piece<'_>,
 ) -> Result<(), AllocError>
-    ensures { OnOk result ((ns : List (List ℕ)) (at : ℕ) → IsTable (strings_of ns) names.now
+    ensures { OnOk result ((ns : List (List ℕ)) (at : ℕ) → IsStringTable (strings_of ns) names.now
         → offset ≡ aligned 8 at
         → out.new ≡ out.old ++ section_header_bytes (header_of ns at (piece_of piece.now))) }
 {
@@ -216,7 +216,7 @@ fn put_headers(
     names: &StringTable<'_>,
 ) -> Result<(), AllocError>
     requires { headers_offset file_header_size (map piece_of pieces.now) < 2 ^ 64 }
-    ensures { OnOk result ((ns : List (List ℕ)) → IsTable (strings_of ns) names.now
+    ensures { OnOk result ((ns : List (List ℕ)) → IsStringTable (strings_of ns) names.now
         → out.new ≡ out.old ++ flat_map section_header_bytes
         (headers_from ns file_header_size (map piece_of pieces.now))) }
 {

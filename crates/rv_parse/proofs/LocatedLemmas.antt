@@ -9,8 +9,8 @@ use Rattle.rv_statement.specs.declared.pseudo.Function.{Function}
 use Rattle.rv_statement.specs.declared.mnemonic.Mnemonic.{Mnemonic}
 use Rattle.rv_statement.specs.Statement.{Expression, Operand, Register, Value, Target, Instruction}
 use Rattle.rv_parse_laws.specs.declared.role.Role.TheVariants as roles
-use Rattle.rv_parse_laws.specs.Syntax.{is_number, A_register, A_target, An_address, A_comma, Slots, Locates, and_then, slots}
-use Rattle.rv_parse_laws.specs.Parsing.{◌>>=◌, seen_as, operand_at, operands_at, ended_at, taking, value_at, value_in, base_at, base_next, target_behind, target_next}
+use Rattle.rv_parse_laws.specs.Syntax.{is_of_numbers, A_register, A_target, An_address, A_comma, Slots, Locates, and_then, slots}
+use Rattle.rv_parse_laws.specs.Parsing.{◌>>=◌, seen_as, operand_at, operands_at, ended_at, taking, value_at, value_operand_at, base_at, base_next, target_behind, target_next}
 use Rattle.rv_parse_laws.proofs.StepsLemmas.{pair_parts}
 use Rattle.rv_parse_laws.proofs.AddressesLemmas.{value_read, target_read, unread_no_target, base_no_target}
 use Rattle.rv_parse_laws.proofs.LocatedLemmas.{target_at, target_parts}
@@ -26,38 +26,38 @@ based_err ts w next e = rw (base_no_target ts next, next, e) refl
 pub based_ok : (ts : List Token) (os : List Operand) (rest : List Token) → base_next ts ≡ true → base_at Any ts ≡ Ok (os, rest) → location_at ts ≡ Ok ((false, os), rest)
 based_ok ts os rest next e = rw (base_no_target ts next, next, e) refl
 
-unread_err : (ts : List Token) (w : SyntaxError) → base_next ts ≡ false → value_in roles.Operand ts ≡ Err w → location_at ts ≡ Err w
+unread_err : (ts : List Token) (w : SyntaxError) → base_next ts ≡ false → value_operand_at roles.Operand ts ≡ Err w → location_at ts ≡ Err w
 unread_err ts w next e = rw (unread_no_target ts w e, next, e) refl
 
-pub unread_fail : (ts : List Token) (e : ReadError) → base_next ts ≡ false → Fails e (value_in roles.Operand ts) → Fails e (location_at ts)
+pub unread_fail : (ts : List Token) (e : ReadError) → base_next ts ≡ false → Fails e (value_operand_at roles.Operand ts) → Fails e (location_at ts)
 unread_fail ts (refusals.At w) next h = unread_err ts (syntax_error_of w) next h
 unread_fail ts refusals.OutOfMemory next h = tt
 
-pub offset_err : (ts : List Token) (o : Operand) (us : List Token) (w : SyntaxError) → base_next ts ≡ false → value_in roles.Operand ts ≡ Ok (o, us) → target_behind o us ≡ false
+pub offset_err : (ts : List Token) (o : Operand) (us : List Token) (w : SyntaxError) → base_next ts ≡ false → value_operand_at roles.Operand ts ≡ Ok (o, us) → target_behind o us ≡ false
     → base_at Any us ≡ Err w → location_at ts ≡ Err w
 offset_err ts o us w next e none f = rw (target_read ts o us e ∙ none, next, e, f) refl
 
-pub offset_ok : (ts : List Token) (o : Operand) (us : List Token) (os : List Operand) (rest : List Token) → base_next ts ≡ false → value_in roles.Operand ts ≡ Ok (o, us)
+pub offset_ok : (ts : List Token) (o : Operand) (us : List Token) (os : List Operand) (rest : List Token) → base_next ts ≡ false → value_operand_at roles.Operand ts ≡ Ok (o, us)
     → target_behind o us ≡ false → base_at Any us ≡ Ok (os, rest) → location_at ts ≡ Ok ((false, o ∷ os), rest)
 offset_ok ts o us os rest next e none f = rw (target_read ts o us e ∙ none, next, e, f) refl
 
 -- a target is an expression that is read
-read_as : (ts : List Token) (e : Expression) (us : List Token) → value_in roles.Operand ts ≡ Ok (Value e, us) → target_next ts ≡ true → value_at ts ≡ Ok (e, us)
+read_as : (ts : List Token) (e : Expression) (us : List Token) → value_operand_at roles.Operand ts ≡ Ok (Value e, us) → target_next ts ≡ true → value_at ts ≡ Ok (e, us)
 read_as ts e us read next =
     let p = target_parts ts next in
-    let same = pair_parts (Value p.0) (Value e) p.1 us (value_in roles.Operand ts) (value_read ts p.0 p.1 p.2) read in
+    let same = pair_parts (Value p.0) (Value e) p.1 us (value_operand_at roles.Operand ts) (value_read ts p.0 p.1 p.2) read in
     let one : p.0 ≡ e = cc in
     p.2 ∙ ap (λ (x : Expression). Ok (x, p.1)) one ∙ ap (λ (xs : List Token). Ok (e, xs)) same.1
 
-pub number_err : (t : Token) (ts : List Token) (f : Option Function) (e : Expression) (us : List Token) → value_in roles.Operand (t ∷ ts) ≡ Ok (applied f e, us) → target_behind (applied f e) us ≡ true
-    → is_number e ≡ true → location_at (t ∷ ts) ≡ Err (wrong t unsupported_here)
+pub number_err : (t : Token) (ts : List Token) (f : Option Function) (e : Expression) (us : List Token) → value_operand_at roles.Operand (t ∷ ts) ≡ Ok (applied f e, us) → target_behind (applied f e) us ≡ true
+    → is_of_numbers e ≡ true → location_at (t ∷ ts) ≡ Err (wrong t unsupported_here)
 number_err t ts None e us read next number =
     let there : target_next (t ∷ ts) ≡ true = target_read (t ∷ ts) (Value e) us read ∙ next in
     rw (there, target_at t ts e us (read_as (t ∷ ts) e us read there), number) refl
 number_err t ts (Some f) e us read next number = absurd (cc)
 
-pub target_ok : (t : Token) (ts : List Token) (f : Option Function) (e : Expression) (us : List Token) → value_in roles.Operand (t ∷ ts) ≡ Ok (applied f e, us) → target_behind (applied f e) us ≡ true
-    → is_number e ≡ false → location_at (t ∷ ts) ≡ Ok ((true, Target e ∷ []), us)
+pub target_ok : (t : Token) (ts : List Token) (f : Option Function) (e : Expression) (us : List Token) → value_operand_at roles.Operand (t ∷ ts) ≡ Ok (applied f e, us) → target_behind (applied f e) us ≡ true
+    → is_of_numbers e ≡ false → location_at (t ∷ ts) ≡ Ok ((true, Target e ∷ []), us)
 target_ok t ts None e us read next other =
     let there : target_next (t ∷ ts) ≡ true = target_read (t ∷ ts) (Value e) us read ∙ next in
     rw (there, target_at t ts e us (read_as (t ∷ ts) e us read there), other) refl

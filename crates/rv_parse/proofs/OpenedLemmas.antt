@@ -10,7 +10,7 @@ use Rattle.rv_statement.specs.declared.statement.Statement.{Statement}
 use Rattle.rv_parse_laws.specs.Syntax.{A_section, A_comma}
 use Rattle.rv_parse_laws.specs.Opening.{opens}
 use Rattle.rv_parse_laws.specs.WrongOpening.{is_section}
-use Rattle.rv_parse_laws.specs.Parsing.{operand_at, seen_as, section_at, flags_wrong, named_wrong}
+use Rattle.rv_parse_laws.specs.Parsing.{operand_at, seen_as, section_name_at, flags_wrong, named_wrong}
 use Rattle.rv_parse.specs.Opened.{NameSet, Has, is_had, Knows}
 
 pub section_no_last : (k : Kind) → is_section k ≡ true → is_last k ≡ false
@@ -31,15 +31,15 @@ name_not (Ok x) w e = absurd (cc)
 name_not (Err v) w e = cc
 
 pub named_left : (known : List ℕ → Bool) (ts us vs : List Token) (name : List ℕ) → operand_at A_section ts ≡ Ok (Word name ∷ [], us) → operand_at (A_comma A_section) us ≡ Ok ([], vs)
-    → named_wrong known (section_at ts) ≡ flags_wrong (known name) vs
-named_left known ts us vs name e comma = rw (name_read (section_at ts) name us e) (rw comma refl)
+    → named_wrong known (section_name_at ts) ≡ flags_wrong (known name) vs
+named_left known ts us vs name e comma = rw (name_read (section_name_at ts) name us e) (rw comma refl)
 
 pub comma_wrong : (known : List ℕ → Bool) (ts us : List Token) (name : List ℕ) (w : SyntaxError) → operand_at A_section ts ≡ Ok (Word name ∷ [], us) → operand_at (A_comma A_section) us ≡ Err w
-    → named_wrong known (section_at ts) ≡ None
-comma_wrong known ts us name w e comma = rw (name_read (section_at ts) name us e) (rw comma refl)
+    → named_wrong known (section_name_at ts) ≡ None
+comma_wrong known ts us name w e comma = rw (name_read (section_name_at ts) name us e) (rw comma refl)
 
-pub name_wrong : (known : List ℕ → Bool) (ts : List Token) (w : SyntaxError) → operand_at A_section ts ≡ Err w → named_wrong known (section_at ts) ≡ None
-name_wrong known ts w e = rw (name_not (section_at ts) w e) refl
+pub name_wrong : (known : List ℕ → Bool) (ts : List Token) (w : SyntaxError) → operand_at A_section ts ≡ Err w → named_wrong known (section_name_at ts) ≡ None
+name_wrong known ts w e = rw (name_not (section_name_at ts) w e) refl
 
 -- a statement more
 either : (a b : Bool) → (a || b) ≡ (b || (a || false))

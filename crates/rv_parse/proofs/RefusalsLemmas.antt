@@ -6,13 +6,13 @@ use Rattle.rv_text_laws.specs.Front.{tokens_from}
 use Rattle.rv_text_laws.proofs.TokensLemmas.{given}
 use Rattle.rv_lexer.specs.declared.fault.SourceCode.{SourceCode}
 use Rattle.rv_lexer.specs.declared.fault.SourceCode.TheVariants.{Limit}
-use Rattle.rv_lexer.specs.Fault.{number_of}
+use Rattle.rv_lexer.specs.Fault.{source_fault_number}
 use Rattle.rv_statement.specs.Statement.{Statement}
 use Rattle.rv_text_laws.specs.Codes.{limit}
 use Rattle.rv_parse_laws.specs.Opening.{is_opened}
 use Rattle.rv_parse_laws.specs.Parsing as parsing
 use Rattle.rv_text_laws.specs.SyntaxError as wrongs
-use Rattle.rv_parse_laws.specs.Reading.{said, longest_source}
+use Rattle.rv_parse_laws.specs.Reading.{statements_of_parts, longest_source}
 use Rattle.rv_statement.specs.Limits.{most_statements}
 use Rattle.rv_parse_laws.specs.Refusals.{SaysUpTo, Refuses}
 use Rattle.rv_parse_laws.proofs.FirstFaultLemmas.{FirstInTokens, wrong_first, past_first, all_good, line_refused, before_tokens, token_refused}
@@ -24,7 +24,7 @@ use Rattle.rv_parse.specs.Lines.{past_line}
 use Rattle.rv_parse.proofs.PastLineLemmas.{past_found, past_least, past_none}
 
 -- no code is above the limit's
-pub code_within : (code : SourceCode) → number_of code ≤ limit
+pub code_within : (code : SourceCode) → source_fault_number code ≤ limit
 code_within Limit = omega arith
 code_within _ = omega arith
 
@@ -35,10 +35,10 @@ first_in_tokens bytes ts w is (t, us, ss, (ps, cut, opens, said_is), no_end, sto
     lexes : lexing.Lexes bytes ts
     lexes = subst (lexing.Lexes bytes) (sym is) (given bytes)
 
-    counts : length ss ≡ length (said ps)
+    counts : length ss ≡ length (statements_of_parts ps)
     counts = ap (λ (xs : List Statement). length xs) said_is
 
-    few : (length ss < most_statements) ⊎ ((length ss ≡ most_statements) × (w.offset ≡ t.start)) → (length (said ps) < most_statements) ⊎ ((length (said ps) ≡ most_statements) × (w.offset ≡ t.start))
+    few : (length ss < most_statements) ⊎ ((length ss ≡ most_statements) × (w.offset ≡ t.start)) → (length (statements_of_parts ps) < most_statements) ⊎ ((length (statements_of_parts ps) ≡ most_statements) × (w.offset ≡ t.start))
     few (inl fewer) = inl (subst (λ n. n < most_statements) counts fewer)
     few (inr (most, here)) = inr (sym counts ∙ most, here)
 
@@ -65,7 +65,7 @@ line_alone bytes ts ss place line short is (ps, cut, opens, said_is) few past li
 
 -- the tokens' first fault before a line that is too long, or where there is none
 pub token_before : (bytes : List ℕ) (ts : List lexing.Token) (w : SyntaxError) (place : ℕ) → length bytes ≤ longest_source → ts ≡ tokens_from 0 1 bytes → RefusesTokens ts (refusals.At w)
-    → past_line 0 0 bytes ≡ Some place → w.offset ≤ place → Refuses bytes (record { code = number_of w.code; line = w.line })
+    → past_line 0 0 bytes ≡ Some place → w.offset ≤ place → Refuses bytes (record { code = source_fault_number w.code; line = w.line })
 token_before bytes ts w place short is refuses past before =
     token_refused bytes (syntax_error_of w) short (first_in_tokens bytes ts w is refuses) (code_within w.code)
     (λ q at. within q (past_least bytes place q past at))
@@ -74,6 +74,6 @@ token_before bytes ts w place short is refuses past before =
     within q le = omega (arith, before, le)
 
 pub token_alone : (bytes : List ℕ) (ts : List lexing.Token) (w : SyntaxError) → length bytes ≤ longest_source → ts ≡ tokens_from 0 1 bytes → RefusesTokens ts (refusals.At w)
-    → past_line 0 0 bytes ≡ None → Refuses bytes (record { code = number_of w.code; line = w.line })
+    → past_line 0 0 bytes ≡ None → Refuses bytes (record { code = source_fault_number w.code; line = w.line })
 token_alone bytes ts w short is refuses none =
     token_refused bytes (syntax_error_of w) short (first_in_tokens bytes ts w is refuses) (code_within w.code) (λ q at. absurd (past_none bytes none q at))

@@ -7,7 +7,7 @@ use Rattle.rv_statement.specs.View.{statement_kind}
 use Rattle.rv_statement.specs.declared.mnemonic.Mnemonic.{Mnemonic}
 use Rattle.rv_statement.specs.declared.directive.DirectiveWord.{DirectiveWord}
 use Rattle.rv_statement.specs.declared.statement.StatementKind.{StatementKind}
-use Rattle.rv_parse_laws.specs.Syntax.{is_end, slots, places, directed}
+use Rattle.rv_parse_laws.specs.Syntax.{is_end, slots, operand_slots, directed}
 use Rattle.rv_lexer.specs.declared.cursor.Cursor.{Cursor}
 use Rattle.rv_text_laws.specs.Codes.{limit}
 use Rattle.rv_statement.specs.Limits.{most_statements}
@@ -16,7 +16,7 @@ use Rattle.rv_parse_laws.specs.Refusals.{Refuses}
 use Rattle.rv_lexer.specs.declared.fault.SourceFault.{SourceFault}
 use Rattle.rv_lexer.specs.declared.fault.SourceFault.TheVariants as faults
 use Rattle.rv_text_laws.specs.Lexing as lexing
-use Rattle.rv_lexer.specs.Fault.{number_of}
+use Rattle.rv_lexer.specs.Fault.{source_fault_number}
 use Rattle.rv_parse_laws.specs.Opening.{is_opened}
 use Rattle.rv_parse_laws.specs.Parsing as parsing
 use Rattle.rv_text_laws.specs.SyntaxError as wrongs
@@ -48,14 +48,14 @@ abbrev pub ReadsDirective : DirectiveWord → Cursor → Cursor → Result State
 ReadsDirective word old new result =
     Answers (λ k. (statement_kind k, left new)) result
     (parsing.seen_as (λ os. Directs (directed word os))
-    (parsing.operands_at (places word) (left old)))
+    (parsing.operands_at (operand_slots word) (left old)))
 
 abbrev pub GivesDirective : DirectiveWord → Cursor → Cursor → Result StatementKind SyntaxError →
     Type 0
 GivesDirective word old new result =
     Gives (λ k. (statement_kind k, left new)) result
     (parsing.seen_as (λ os. Directs (directed word os))
-    (parsing.operands_at (places word) (left old)))
+    (parsing.operands_at (operand_slots word) (left old)))
 
 -- No further statement is answered at the token t, which begins the tokens ts behind so many
 -- statements, where these names are known: the part there is wrong, or it is a statement too many;
@@ -80,5 +80,5 @@ RefusesTokens ts refusals.OutOfMemory = Unit {0}
 -- the bytes are refused with the code and the line of the fault, unless memory ran out
 abbrev pub RefusedWith : List ℕ → SourceFault → Type 0
 RefusedWith bytes (faults.At code line) =
-    Refuses bytes (record { code = number_of code; line = line })
+    Refuses bytes (record { code = source_fault_number code; line = line })
 RefusedWith bytes faults.OutOfMemory = Unit {0}

@@ -3,7 +3,7 @@
 use Rattle.rv_text.specs.declared.expr.Expr.{Expr}
 use Rattle.rv_text.specs.Expr.{expr_of, tree_of_expr}
 use Rattle.rv_text.specs.Nodes.{are_numbers}
-use Rattle.rv_parse_laws.specs.Syntax.{is_number}
+use Rattle.rv_parse_laws.specs.Syntax.{is_of_numbers}
 use Rattle.rv_statement.specs.Statement.{Expression, Operand, Register, Value, Applied, Target}
 use Rattle.std.specs.Prelude.{◌≡◌, Bool, true, false, List, [], ◌∷◌, Option, Some, None}
 use Rattle.rv_statement.specs.declared.pseudo.Function.{Function}
@@ -21,11 +21,11 @@ operand_of a = applied a.function (tree_of_expr a.expression)
 
 -- the nodes of an expression tell whether it has numbers alone
 abbrev pub TellsNumbers : Expr → Type 0
-TellsNumbers e = are_numbers (expr_of e) ≡ is_number (tree_of_expr e)
+TellsNumbers e = are_numbers (expr_of e) ≡ is_of_numbers (tree_of_expr e)
 
 -- an expression as an operand
-abbrev pub value_of : Expr → Operand
-value_of e = Value (tree_of_expr e)
+abbrev pub operand_of_value : Expr → Operand
+operand_of_value e = Value (tree_of_expr e)
 
 -- where a load or a store goes, and whether it is a target
 abbrev pub location_of : Location → Bool × List Operand

@@ -12,7 +12,7 @@ ghost use Rattle.rv_statement.specs.View.{statement_kind};
 ghost use Rattle.rv_parse_laws.specs.Syntax.{A_symbol, A_string, A_value, directed};
 ghost use Rattle.rv_parse_laws.specs.declared.role.Role.TheVariants as roles;
 ghost use Rattle.rv_parse_laws.specs.Parsing.{operands_at, items_at, any_at, seen_as};
-ghost use Rattle.rv_parse.specs.View.{value_of};
+ghost use Rattle.rv_parse.specs.View.{operand_of_value};
 ghost use Rattle.rv_parse_words.specs.View.{word_of, string_of};
 ghost use Rattle.rv_parse.specs.Slots.{flags_slots, type_slots, further_items, prepended};
 ghost use Rattle.rv_parse.specs.Left.{Gives, GivesDirective, ReadsDirective};
@@ -63,8 +63,8 @@ fn several<'a>(
     cursor: &mut Cursor<'a>,
     first: Expr<'a>,
 ) -> Result<Vec<Expr<'a>>, ReadError>
-    ensures { Answers (λ values. (map value_of values.items, left cursor.new)) result
-        (prepended (value_of first.entry ∷ [])
+    ensures { Answers (λ values. (map operand_of_value values.items, left cursor.new)) result
+        (prepended (operand_of_value first.entry ∷ [])
         (further_items (A_value roles.Directive) (left cursor.old))) }
 {
     let mut values = Vec::new(alloc);

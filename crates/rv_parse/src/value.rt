@@ -9,7 +9,7 @@ ghost use Rattle.rv_parse_laws.specs.Faults.{may_call, wrong_function};
 ghost use Rattle.rv_lexer.specs.Token.{token_of};
 ghost use Rattle.rv_parse.specs.View.{operand_of, TellsNumbers};
 ghost use Rattle.rv_parse_laws.specs.Syntax.{A_callee, is_refused_by, targets, valued};
-ghost use Rattle.rv_parse_laws.specs.Parsing.{operand_at, value_at, value_in, label_at, plt_at, argument_at, target_behind, enclosed_at, called_at, applied_at};
+ghost use Rattle.rv_parse_laws.specs.Parsing.{operand_at, value_at, value_operand_at, label_at, plt_at, argument_at, target_behind, enclosed_at, called_at, applied_at};
 ghost use Rattle.rv_parse.specs.Left.{Gives};
 
 use crate::slot;
@@ -48,7 +48,7 @@ fn expression<'a>(alloc: Global, cursor: &mut Cursor<'a>) -> Result<Expr<'a>, Re
 pub fn value<'a>(alloc: Global, cursor: &mut Cursor<'a>, role: Role) -> Result<Expr<'a>, ReadError>
     requires { may_call role ≡ false }
     ensures { Answers (λ e. (valued role (tree_of_expr e), left cursor.new)) result
-        (value_in role (left cursor.old)) }
+        (value_operand_at role (left cursor.old)) }
 {
     let first = cursor.next;
     let value = expression(alloc, cursor)?;
@@ -222,7 +222,7 @@ pub fn value_or_function<'a>(
 ) -> Result<Argument<'a>, ReadError>
     requires { targets role ≡ false }
     ensures read { Answers (λ a. (operand_of a, left cursor.new)) result
-        (value_in role (left cursor.old)) }
+        (value_operand_at role (left cursor.old)) }
     ensures number { IfOk result (λ a. a.function ≡ None → TellsNumbers a.expression) }
 {
     let first = cursor.next;

@@ -4,7 +4,7 @@ use Rattle.std.proofs.Common.{◌≡◌, ℕ, ◌<◌, Bool, true, false, cond, 
 use Rattle.std.proofs.lemmas.Bool.{and_parts}
 use Rattle.rv_text_laws.specs.declared.punct.Punct.TheVariants.{Open, Percent}
 use Rattle.rv_text_laws.specs.Grammar.{Kind, Punctuation, Name as NameToken}
-use Rattle.rv_text_laws.specs.Lexing.{Token, ended}
+use Rattle.rv_text_laws.specs.Lexing.{Token, is_ended}
 use Rattle.rv_text_laws.specs.SyntaxError.{SyntaxError, wrong, Read}
 use Rattle.rv_text_laws.specs.Expression.{begins, An_opening as Opens, No_operand, tree_of}
 use Rattle.rv_text_laws.specs.ExpressionAt.{Wants, read_from, expression_at}
@@ -15,7 +15,7 @@ use Rattle.rv_compress.specs.declared.parcel.RegisterSet.{RegisterSet}
 use Rattle.rv_statement.specs.Statement.{Expression, Operand, Register, Value, Applied}
 use Rattle.rv_parse_laws.specs.Syntax.{is_register, register_of, kept_in, valued, is_refused, is_refused_by, function_in, is_percent, is_opening, is_colon, Slot, A_register_of, A_register, An_address_by, A_closing, An_opening, single, front_begins, IsValueIn, IsBase, IsOperand}
 use Rattle.rv_parse_laws.specs.Faults.{wrong_first}
-use Rattle.rv_parse_laws.specs.Parsing.{◌>>=◌, seen_as, allowed, value_at, enclosed_at, named_at, applied_at, value_in, single_at, base_at, base_next, offset_at, is_target, target_behind, target_next, operand_at}
+use Rattle.rv_parse_laws.specs.Parsing.{◌>>=◌, seen_as, allowed, value_at, enclosed_at, named_at, applied_at, value_operand_at, single_at, base_at, base_next, offset_at, is_target_next, target_behind, target_next, operand_at}
 use Rattle.rv_parse_laws.proofs.StepsLemmas.{bind_ok, seen_ok, pair_parts, bind_err, seen_err}
 use Rattle.rv_parse_laws.proofs.FailingLemmas.{Failing, at_once, behind, first_of, first_same, same_first, never, wrongs}
 use Rattle.rv_parse_laws.proofs.LastTokensLemmas.{register_no_last, opening_no_last, closing_no_last}
@@ -81,7 +81,7 @@ opening_err : (set : RegisterSet) (o : Token) (text : List Token) (w : SyntaxErr
 opening_err set o text w none is = rw (none, is) refl
 
 -- where a base is wrong
-pub base_wrong : (set : RegisterSet) (ts : List Token) (w : SyntaxError) → ended ts ≡ true → base_at set ts ≡ Err w → Failing (List Operand) (IsBase set) (base_at set) ts w
+pub base_wrong : (set : RegisterSet) (ts : List Token) (w : SyntaxError) → is_ended ts ≡ true → base_at set ts ≡ Err w → Failing (List Operand) (IsBase set) (base_at set) ts w
 base_wrong set ts w end e = elim (bind_err (single_at (An_opening A_register) ts) (λ o. single_at (A_register_of set) o.1 >>= λ r. seen_as (λ none. r.0) (single_at A_closing r.1)) w e) [
   | inl f ↦ (let k = single_fault (An_opening A_register) ts w end f in record {
     before = [];
@@ -96,7 +96,7 @@ base_wrong set ts w end e = elim (bind_err (single_at (An_opening A_register) ts
       second o.0 a.0.1 o.1 (opening_is A_register o.0.kind a.0.0 o.2).0 o.3 a.2)
 ]
   where
-    second : (o : Token) (us : List Token) → ts ≡ o ∷ us → is_opening o.kind ≡ true → ended us ≡ true → (single_at (A_register_of set) us >>= λ r. seen_as (λ none. r.0) (single_at A_closing r.1)) ≡ Err w
+    second : (o : Token) (us : List Token) → ts ≡ o ∷ us → is_opening o.kind ≡ true → is_ended us ≡ true → (single_at (A_register_of set) us >>= λ r. seen_as (λ none. r.0) (single_at A_closing r.1)) ≡ Err w
         → Failing (List Operand) (IsBase set) (base_at set) ts w
     second o us whole opens end e = elim (bind_err (single_at (A_register_of set) us) (λ r. seen_as (λ none. r.0) (single_at A_closing r.1)) w e) [
       | inl f ↦ (let k = single_fault (A_register_of set) us w end f in record {
@@ -186,7 +186,7 @@ base_begins : (set : RegisterSet) (rest : List Token) (os : List Operand) (more 
 base_begins set rest os more (o, r, c, number, w, opens, named, closed, is) = rw w (rw (opens, kept_is set (register_of r.kind) number named) refl)
 
 -- an expression is a value
-pub value_read : (ts : List Token) (e : Expression) (rest : List Token) → value_at ts ≡ Ok (e, rest) → value_in roles.Operand ts ≡ Ok (Value e, rest)
+pub value_read : (ts : List Token) (e : Expression) (rest : List Token) → value_at ts ≡ Ok (e, rest) → value_operand_at roles.Operand ts ≡ Ok (Value e, rest)
 unfolding expression_at
 value_read [] e rest read = absurd (cc)
 value_read (t ∷ ts) e rest read = rw (no_percent t ts e rest read, read) refl
@@ -201,7 +201,7 @@ applied_is_none t (n ∷ us) o rest e = go (function_in roles.Operand n.kind) e
         ap (λ x. target_behind x rest) s.2
     go None e = absurd (cc)
 
-pub target_read : (ts : List Token) (o : Operand) (rest : List Token) → value_in roles.Operand ts ≡ Ok (o, rest) → target_next ts ≡ target_behind o rest
+pub target_read : (ts : List Token) (o : Operand) (rest : List Token) → value_operand_at roles.Operand ts ≡ Ok (o, rest) → target_next ts ≡ target_behind o rest
 target_read [] o rest e = absurd (cc)
 target_read (t ∷ ts) o rest e = go (value_at (t ∷ ts)) refl
   where
@@ -210,24 +210,24 @@ target_read (t ∷ ts) o rest e = go (value_at (t ∷ ts)) refl
     plain true v none e = sym (applied_is_none t ts o rest e)
     plain false v none e = absurd (never (o, rest) v (sym e ∙ ap (λ r. seen_as (valued roles.Operand) (allowed (λ x. is_refused roles.Operand x) t r)) none))
 
-    go : (r : Read Expression) → value_at (t ∷ ts) ≡ r → is_target r ≡ target_behind o rest
+    go : (r : Read Expression) → value_at (t ∷ ts) ≡ r → is_target_next r ≡ target_behind o rest
     go (Ok (x, us)) read =
-        let p = pair_parts (Value x) o us rest (value_in roles.Operand (t ∷ ts)) (value_read (t ∷ ts) x us read) e in
+        let p = pair_parts (Value x) o us rest (value_operand_at roles.Operand (t ∷ ts)) (value_read (t ∷ ts) x us read) e in
         ap (λ vs. not (front_begins (An_opening A_register) vs)) p.1 ∙ ap (λ y. target_behind y rest) p.0
     go (Err v) none = plain (is_percent t.kind) v none e
 
 -- where no value is read no target comes next, nor where a register in parentheses does
-pub unread_no_target : (ts : List Token) (w : SyntaxError) → value_in roles.Operand ts ≡ Err w → target_next ts ≡ false
+pub unread_no_target : (ts : List Token) (w : SyntaxError) → value_operand_at roles.Operand ts ≡ Err w → target_next ts ≡ false
 unread_no_target ts w e = go (value_at ts) refl
   where
-    go : (r : Read Expression) → value_at ts ≡ r → is_target r ≡ false
+    go : (r : Read Expression) → value_at ts ≡ r → is_target_next r ≡ false
     go (Ok (x, rest)) read = absurd (never (Value x, rest) w (sym (value_read ts x rest read) ∙ e))
     go (Err v) none = refl
 
 pub base_no_target : (ts : List Token) → base_next ts ≡ true → target_next ts ≡ false
 base_no_target ts next = go (value_at ts) refl
   where
-    go : (r : Read Expression) → value_at ts ≡ r → is_target r ≡ false
+    go : (r : Read Expression) → value_at ts ≡ r → is_target_next r ≡ false
     go (Ok (x, rest)) read = absurd (base_no_value ts x rest next read)
     go (Err v) none = refl
 
@@ -252,7 +252,7 @@ pub address_is : (set : RegisterSet) (text : List Token) (os : List Operand) →
 address_is set text os (inl base) rest = rw (base_begins set text os rest base) (base_is set text os base rest)
 address_is set text os (inr (one, more, e, base, w, v, b, is)) rest =
     let closed = base_closes set more base rest b in
-    let value : value_in roles.Operand (one ++ (more ++ rest)) ≡ Ok (e, more ++ rest) = value_in_is roles.Operand one (more ++ rest) e v closed in
+    let value : value_operand_at roles.Operand (one ++ (more ++ rest)) ≡ Ok (e, more ++ rest) = value_in_is roles.Operand one (more ++ rest) e v closed in
     let none : base_next (one ++ (more ++ rest)) ≡ false = no_base_in roles.Operand one (more ++ rest) e v closed in
     rw (w, is) (rw (append_assoc one more rest, none, value, base_is set more base b rest) refl)
 
@@ -260,7 +260,7 @@ address_is set text os (inr (one, more, e, base, w, v, b, is)) rest =
 pub address_no_target : (set : RegisterSet) (text : List Token) (os : List Operand) → IsOperand (An_address_by set) text os → (rest : List Token) → target_next (text ++ rest) ≡ false
 address_no_target set text os (inl base) rest = base_no_target (text ++ rest) (base_begins set text os rest base)
 address_no_target set text os (inr (one, more, e, base, w, v, b, is)) rest =
-    let read : value_in roles.Operand (one ++ (more ++ rest)) ≡ Ok (e, more ++ rest) = value_in_is roles.Operand one (more ++ rest) e v (base_closes set more base rest b) in
+    let read : value_operand_at roles.Operand (one ++ (more ++ rest)) ≡ Ok (e, more ++ rest) = value_in_is roles.Operand one (more ++ rest) e v (base_closes set more base rest b) in
     ap (λ us. target_next (us ++ rest)) w ∙ ap target_next (append_assoc one more rest) ∙ target_read (one ++ (more ++ rest)) e (more ++ rest) read
     ∙ behind_opening e (more ++ rest) (base_opens set more base rest b)
 
@@ -282,7 +282,7 @@ address_found set ts os rest e = go (base_next ts) e
     go : (b : Bool) → cond b (base_at set ts) (offset_at set ts) ≡ Ok (os, rest) → (text : List Token) × (ts ≡ text ++ rest) × IsOperand (An_address_by set) text os
     go true e = let f = base_found set ts os rest e in (f.0, f.1, inl f.2)
     go false e =
-        let a = bind_ok (value_in roles.Operand ts) (λ v. seen_as (λ os. v.0 ∷ os) (base_at set v.1)) (os, rest) e in
+        let a = bind_ok (value_operand_at roles.Operand ts) (λ v. seen_as (λ os. v.0 ∷ os) (base_at set v.1)) (os, rest) e in
         let b = seen_ok (λ os. a.0.0 ∷ os) (base_at set a.0.1) os rest a.2 in
         let v = value_found roles.Operand ts a.0.0 a.0.1 a.1 in
         let f = base_found set a.0.1 b.0 rest b.1 in
@@ -299,10 +299,10 @@ AddressWrong set ts w =
     × (target_next ts ≡ false → (text : List Token) → target_next (x.before ++ x.at ∷ text) ≡ false)
 
 -- where a register in parentheses is none of the set, or is not closed
-based_wrong : (set : RegisterSet) (ts : List Token) (w : SyntaxError) → ended ts ≡ true → base_next ts ≡ true → base_at set ts ≡ Err w → AddressWrong set ts w
+based_wrong : (set : RegisterSet) (ts : List Token) (w : SyntaxError) → is_ended ts ≡ true → base_next ts ≡ true → base_at set ts ≡ Err w → AddressWrong set ts w
 based_wrong set ts w end next e =
     let p = base_parts ts next in
-    let last : ended (p.1 ∷ p.2) ≡ true = ended_more p.0 (p.1 ∷ p.2) (opening_no_last p.0.kind p.5) (ap ended (sym p.4) ∙ end) in
+    let last : is_ended (p.1 ∷ p.2) ≡ true = ended_more p.0 (p.1 ∷ p.2) (opening_no_last p.0.kind p.5) (ap is_ended (sym p.4) ∙ end) in
     subst (λ us. AddressWrong set us w) (sym p.4)
     (by_register p.0 p.1 p.2 p.3 p.5 p.6 last (ap (base_at set) (sym p.4) ∙ e) (kept_in set (register_of p.1.kind)) refl)
   where
@@ -320,7 +320,7 @@ based_wrong set ts w end next e =
         → base_at set (o ∷ r ∷ us) ≡ seen_as (λ none. Register number ∷ []) (single_at A_closing us)
     closing o r us number opens kept = rw (opens, kept) refl
 
-    by_register : (o r : Token) (us : List Token) (n : ℕ) → is_opening o.kind ≡ true → register_of r.kind ≡ Some n → ended (r ∷ us) ≡ true → base_at set (o ∷ r ∷ us) ≡ Err w
+    by_register : (o r : Token) (us : List Token) (n : ℕ) → is_opening o.kind ≡ true → register_of r.kind ≡ Some n → is_ended (r ∷ us) ≡ true → base_at set (o ∷ r ∷ us) ≡ Err w
         → (x : Option ℕ) → kept_in set (register_of r.kind) ≡ x → AddressWrong set (o ∷ r ∷ us) w
     by_register o r us n opens named last e None none =
         let is : w ≡ wrong r (wrong_first (A_register_of set) r.kind) = wrongs w (wrong r (wrong_first (A_register_of set) r.kind)) (sym e ∙ other o r us opens none) in (
@@ -354,14 +354,14 @@ based_wrong set ts w end next e =
 abbrev to_offset : (set : RegisterSet) (one : List Token) (e : Operand) → IsValueIn roles.Operand one e → (us : List Token) (os : List Operand) → IsBase set us os → (all : List Operand) × IsOperand (An_address_by set) (one ++ us) all
 to_offset set one e v us os base = (e ∷ os, inr (one, us, e, os, refl, v, base, refl))
 
-offset_wrong : (set : RegisterSet) (ts : List Token) (w : SyntaxError) → ended ts ≡ true → base_next ts ≡ false → offset_at set ts ≡ Err w → AddressWrong set ts w
+offset_wrong : (set : RegisterSet) (ts : List Token) (w : SyntaxError) → is_ended ts ≡ true → base_next ts ≡ false → offset_at set ts ≡ Err w → AddressWrong set ts w
 unfolding behind
-offset_wrong set ts w end next e = elim (bind_err (value_in roles.Operand ts) (λ v. seen_as (λ os. v.0 ∷ os) (base_at set v.1)) w e) [
+offset_wrong set ts w end next e = elim (bind_err (value_operand_at roles.Operand ts) (λ v. seen_as (λ os. v.0 ∷ os) (base_at set v.1)) w e) [
   | inl f ↦ valued (value_wrong roles.Operand ts w end f)
   | inr good ↦ based good.0.0 good.0.1 (value_found roles.Operand ts good.0.0 good.0.1 good.1) (seen_err (λ os. good.0.0 ∷ os) (base_at set good.0.1) w good.2)
 ]
   where
-    value_err : (us : List Token) → base_next us ≡ false → value_in roles.Operand us ≡ Err w → operand_at (An_address_by set) us ≡ Err w
+    value_err : (us : List Token) → base_next us ≡ false → value_operand_at roles.Operand us ≡ Err w → operand_at (An_address_by set) us ≡ Err w
     value_err us none fails = rw (none, fails) refl
 
     valued : ValueWrong roles.Operand ts w → AddressWrong set ts w
@@ -383,13 +383,13 @@ offset_wrong set ts w end next e = elim (bind_err (value_in roles.Operand ts) (�
             let all = to_offset set (x.before ++ x.goes.0) x.goes.1 x.goes.2 text os base in
             (x.goes.0 ++ text, all.0, subst (λ us. IsOperand (An_address_by set) us all.0) (append_assoc x.before x.goes.0 text) all.1)
 
-    base_err : (us : List Token) (e : Operand) (rest : List Token) → base_next us ≡ false → value_in roles.Operand us ≡ Ok (e, rest) → base_at set rest ≡ Err w
+    base_err : (us : List Token) (e : Operand) (rest : List Token) → base_next us ≡ false → value_operand_at roles.Operand us ≡ Ok (e, rest) → base_at set rest ≡ Err w
         → operand_at (An_address_by set) us ≡ Err w
     base_err us e rest none read fails = rw (none, read, fails) refl
 
     based : (e : Operand) (rest : List Token) → ValueFound roles.Operand ts e rest → base_at set rest ≡ Err w → AddressWrong set ts w
     based e rest v fails =
-        let last : ended rest ≡ true = v.ended_rest end in
+        let last : is_ended rest ≡ true = v.ended_rest end in
         let f = base_wrong set rest w last fails in
         subst (λ us. AddressWrong set us w) (sym v.whole) (
           behind (List Operand) (List Operand) (IsOperand (An_address_by set)) (IsBase set) (operand_at (An_address_by set)) (base_at set) v.text rest w
@@ -406,7 +406,7 @@ offset_wrong set ts w end next e = elim (bind_err (value_in roles.Operand ts) (�
             target_read (v.text ++ us) e us (v.steady us first) ∙ behind_alike e us rest first
             ∙ sym (target_read (v.text ++ rest) e rest (v.steady rest refl)) ∙ none
 
-pub address_wrong : (set : RegisterSet) (ts : List Token) (w : SyntaxError) → ended ts ≡ true → operand_at (An_address_by set) ts ≡ Err w → AddressWrong set ts w
+pub address_wrong : (set : RegisterSet) (ts : List Token) (w : SyntaxError) → is_ended ts ≡ true → operand_at (An_address_by set) ts ≡ Err w → AddressWrong set ts w
 address_wrong set ts w end e = go (base_next ts) refl e
   where
     go : (b : Bool) → base_next ts ≡ b → cond b (base_at set ts) (offset_at set ts) ≡ Err w → AddressWrong set ts w
@@ -417,21 +417,21 @@ pub address_some : (set : RegisterSet) (text : List Token) (os : List Operand) �
 address_some set text os (inl (o, r, c, number, w, opens, named, closed, is)) = rw w (omega arith)
 address_some set text os (inr (one, rest, e, base, w, v, b, is)) = rw w (omega (arith, value_in_some roles.Operand one e v, length-append one rest))
 
-base_ended : (set : RegisterSet) (text : List Token) (os : List Operand) (rest : List Token) → IsBase set text os → ended (text ++ rest) ≡ true → ended rest ≡ true
+base_ended : (set : RegisterSet) (text : List Token) (os : List Operand) (rest : List Token) → IsBase set text os → is_ended (text ++ rest) ≡ true → is_ended rest ≡ true
 base_ended set text os rest (o, r, c, number, w, opens, named, closed, is) end =
-    ended_more c rest (closing_no_last c.kind closed) (ended_more r (c ∷ rest) (register_no_last r.kind number (kept_is set (register_of r.kind) number named)) (ended_more o (r ∷ c ∷ rest) (opening_no_last o.kind opens) (ap (λ us. ended (us ++ rest)) (sym w) ∙ end)))
+    ended_more c rest (closing_no_last c.kind closed) (ended_more r (c ∷ rest) (register_no_last r.kind number (kept_is set (register_of r.kind) number named)) (ended_more o (r ∷ c ∷ rest) (opening_no_last o.kind opens) (ap (λ us. is_ended (us ++ rest)) (sym w) ∙ end)))
 
-pub address_ended : (set : RegisterSet) (ts : List Token) (os : List Operand) (rest : List Token) → ended ts ≡ true → operand_at (An_address_by set) ts ≡ Ok (os, rest) → ended rest ≡ true
+pub address_ended : (set : RegisterSet) (ts : List Token) (os : List Operand) (rest : List Token) → is_ended ts ≡ true → operand_at (An_address_by set) ts ≡ Ok (os, rest) → is_ended rest ≡ true
 address_ended set ts os rest end e = go (base_next ts) e
   where
-    go : (b : Bool) → cond b (base_at set ts) (offset_at set ts) ≡ Ok (os, rest) → ended rest ≡ true
-    go true e = let f = base_found set ts os rest e in base_ended set f.0 os rest f.2 (ap ended (sym f.1) ∙ end)
+    go : (b : Bool) → cond b (base_at set ts) (offset_at set ts) ≡ Ok (os, rest) → is_ended rest ≡ true
+    go true e = let f = base_found set ts os rest e in base_ended set f.0 os rest f.2 (ap is_ended (sym f.1) ∙ end)
     go false e =
-        let a = bind_ok (value_in roles.Operand ts) (λ v. seen_as (λ os. v.0 ∷ os) (base_at set v.1)) (os, rest) e in
+        let a = bind_ok (value_operand_at roles.Operand ts) (λ v. seen_as (λ os. v.0 ∷ os) (base_at set v.1)) (os, rest) e in
         let b = seen_ok (λ os. a.0.0 ∷ os) (base_at set a.0.1) os rest a.2 in
         let v = value_found roles.Operand ts a.0.0 a.0.1 a.1 in
         let f = base_found set a.0.1 b.0 rest b.1 in
-        base_ended set f.0 b.0 rest f.2 (ap ended (sym f.1) ∙ v.ended_rest end)
+        base_ended set f.0 b.0 rest f.2 (ap is_ended (sym f.1) ∙ v.ended_rest end)
 
 pub address_live : (set : RegisterSet) → (t : Token) × (us : List Token) × (os : List Operand) × IsOperand (An_address_by set) (t ∷ us) os × (is_colon t.kind ≡ false)
 address_live set = (an_opening, a_register set ∷ a_closing ∷ [], (base_goes set).1, inl (base_goes set).2, refl)

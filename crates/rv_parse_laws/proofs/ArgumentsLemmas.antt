@@ -5,7 +5,7 @@ use Rattle.std.proofs.lemmas.List.{append-nil}
 use Rattle.std.proofs.lemmas.Bool.{and_parts, and_right}
 use Rattle.rv_text_laws.specs.declared.punct.Punct.TheVariants.{Open, Close}
 use Rattle.rv_text_laws.specs.Grammar.{Kind, Punctuation, Name as NameToken}
-use Rattle.rv_text_laws.specs.Lexing.{Token, ended}
+use Rattle.rv_text_laws.specs.Lexing.{Token, is_ended}
 use Rattle.rv_text_laws.specs.SyntaxError.{SyntaxError, wrong, Read}
 use Rattle.rv_text_laws.specs.Expression.{follows, A_closing as Closing, EndsBefore}
 use Rattle.rv_text_laws.proofs.ExpressionWrongLemmas.{ended_more, ended_behind}
@@ -15,10 +15,10 @@ use Rattle.rv_statement.specs.Statement.{Expression, Operand, Applied}
 use Rattle.rv_parse_laws.specs.declared.role.Role.{Role}
 use Rattle.rv_parse_laws.specs.declared.role.Role.TheVariants as roles
 use Rattle.rv_parse_laws.specs.Words.{named_in, function_words}
-use Rattle.rv_parse_laws.specs.Syntax.{is_symbol, is_percent, is_opening, is_closing, targets, valued, is_number, is_refused, is_refused_by, may_stand, standing, function_in, label_named, A_register, A_closing, An_opening, single, IsValue, IsArgument, IsApplied, IsValueIn}
+use Rattle.rv_parse_laws.specs.Syntax.{is_symbol, is_percent, is_opening, is_closing, targets, valued, is_of_numbers, is_refused, is_refused_by, may_stand, standing, function_in, label_named, A_register, A_closing, An_opening, single, IsValue, IsArgument, IsApplied, IsValueIn}
 use Rattle.rv_text_laws.specs.Codes.{bad_operands, unsupported_here}
 use Rattle.rv_parse_laws.specs.Faults.{may_call, is_name, wrong_or, wrong_symbol, wrong_function, wrong_first}
-use Rattle.rv_parse_laws.specs.Parsing.{◌>>=◌, seen_as, value_at, allowed, single_at, label_at, argument_at, enclosed_at, called_at, named_at, applied_at, value_in}
+use Rattle.rv_parse_laws.specs.Parsing.{◌>>=◌, seen_as, value_at, allowed, single_at, label_at, argument_at, enclosed_at, called_at, named_at, applied_at, value_operand_at}
 use Rattle.rv_parse_laws.proofs.StepsLemmas.{bind_ok, seen_ok, taken_ok, bind_err, seen_err, taken_err}
 use Rattle.rv_parse_laws.proofs.FailingLemmas.{Failing, Shown, at_once, heads, first_of, same_first, first_is, wrongs}
 use Rattle.rv_parse_laws.proofs.LastTokensLemmas.{opening_no_last, label_no_last, function_no_last, percent_no_last, closing_no_last}
@@ -57,11 +57,11 @@ pub record ArgumentFound (f : Function) (ts : List Token) (e : Expression) (rest
   pub whole : ts ≡ text ++ rest
   pub is : IsArgument f text e
   pub steady : (us : List Token) → first_of us ≡ first_of rest → argument_at f (text ++ us) ≡ Ok (e, us)
-  pub ended_rest : ended ts ≡ true → ended rest ≡ true
+  pub ended_rest : is_ended ts ≡ true → is_ended rest ≡ true
 
-ended_after : (ts text rest : List Token) (at : Token) (more : List Token) → ts ≡ text ++ rest → rest ≡ at ∷ more → ended ts ≡ true → ended rest ≡ true
+ended_after : (ts text rest : List Token) (at : Token) (more : List Token) → ts ≡ text ++ rest → rest ≡ at ∷ more → is_ended ts ≡ true → is_ended rest ≡ true
 ended_after ts text rest at more whole is end =
-    ap ended is ∙ sym (ended_behind text at more) ∙ ap (λ us. ended (text ++ us)) (sym is) ∙ ap ended (sym whole) ∙ end
+    ap is_ended is ∙ sym (ended_behind text at more) ∙ ap (λ us. is_ended (text ++ us)) (sym is) ∙ ap is_ended (sym whole) ∙ end
 
 label_found : (ts : List Token) (e : Expression) (rest : List Token) → label_at ts ≡ Ok (e, rest) → ArgumentFound PcrelLo ts e rest
 label_found [] e rest h = absurd (cc)
@@ -72,7 +72,7 @@ label_found (t ∷ ts) e rest h =
       whole = ap (λ us. t ∷ us) k.1;
       is = (t, refl, k.0);
       steady = λ us first. rw k.0 refl;
-      ended_rest = λ end. ap ended (sym k.1) ∙ ended_more t ts (label_no_last t.kind e k.0) end;
+      ended_rest = λ end. ap is_ended (sym k.1) ∙ ended_more t ts (label_no_last t.kind e k.0) end;
     }
 
 tested_found : (T : Expression → Bool) (p : Token) (ts : List Token) (e : Expression) (rest : List Token) → allowed T p (value_at ts) ≡ Ok (e, rest)
@@ -118,7 +118,7 @@ pub record TestedWrong (T : Expression → Bool) (p : Token) (ts : List Token) (
   pub whole : ts ≡ before ++ at ∷ more
   pub shown : (w ≡ wrong p unsupported_here) ⊎ ((code : ℕ) × (w ≡ wrong at code))
   pub fails : (text : List Token) → allowed T p (value_at (before ++ at ∷ text)) ≡ Err w
-  pub goes : (us : List Token) × (e : Expression) × IsValue (before ++ us) e × (is_number e ≡ false)
+  pub goes : (us : List Token) × (e : Expression) × IsValue (before ++ us) e × (is_of_numbers e ≡ false)
   pub closed : before ≡ [] → is_opening at.kind ≡ false
   pub some : (w ≡ wrong p unsupported_here) → (before ≡ [] → ⊥) ⊎ ((code : ℕ) × (w ≡ wrong at code))
 
@@ -126,7 +126,7 @@ no_front : (front : List Token) → 0 < length front → front ≡ [] → ⊥
 no_front [] some e = omega (arith, some)
 no_front (t ∷ front) some e = cc
 
-pub tested_wrong : (T : Expression → Bool) (p : Token) (ts : List Token) (w : SyntaxError) → ended ts ≡ true → allowed T p (value_at ts) ≡ Err w → TestedWrong T p ts w
+pub tested_wrong : (T : Expression → Bool) (p : Token) (ts : List Token) (w : SyntaxError) → is_ended ts ≡ true → allowed T p (value_at ts) ≡ Err w → TestedWrong T p ts w
 tested_wrong T p ts w end e = elim (allowed_err T p (value_at ts) w e) [
   | inl f ↦ (let x = value_unread ts w end f in record {
     before = x.before;
@@ -156,7 +156,7 @@ tested_wrong T p ts w end e = elim (allowed_err T p (value_at ts) w e) [
     }
 
 by_unread : (f : Function) (ts : List Token) (w : SyntaxError) → ((us : List Token) → argument_at f us ≡ value_at us)
-    → ((us : List Token) (e : Expression) → IsValue us e → is_number e ≡ false → IsArgument f us e × (is_refused_by f e ≡ false)) → Unread ts w → ArgumentWrong f ts w
+    → ((us : List Token) (e : Expression) → IsValue us e → is_of_numbers e ≡ false → IsArgument f us e × (is_refused_by f e ≡ false)) → Unread ts w → ArgumentWrong f ts w
 by_unread f ts w same to x =
     let g = to (x.before ++ x.goes.0) x.goes.1 x.goes.2 x.goes.3 in
     record {
@@ -180,7 +180,7 @@ some_label = rw_symbol a_symbol_is
         go true h = refl
         go false h = absurd (cc)
 
-label_wrong : (ts : List Token) (w : SyntaxError) → ended ts ≡ true → label_at ts ≡ Err w → ArgumentWrong PcrelLo ts w
+label_wrong : (ts : List Token) (w : SyntaxError) → is_ended ts ≡ true → label_at ts ≡ Err w → ArgumentWrong PcrelLo ts w
 label_wrong [] w end e = absurd (cc)
 label_wrong (t ∷ ts) w end e =
     let k = taken_err t ts (label_named t.kind) (wrong_symbol t.kind) w e in
@@ -195,7 +195,7 @@ label_wrong (t ∷ ts) w end e =
       goes = (a_symbol ∷ [], a_name, (a_symbol, refl, some_label), refl);
     }
 
-pub argument_wrong : (f : Function) (ts : List Token) (w : SyntaxError) → ended ts ≡ true → argument_at f ts ≡ Err w → ArgumentWrong f ts w
+pub argument_wrong : (f : Function) (ts : List Token) (w : SyntaxError) → is_ended ts ≡ true → argument_at f ts ≡ Err w → ArgumentWrong f ts w
 argument_wrong PcrelLo ts w end e = label_wrong ts w end e
 argument_wrong Hi ts w end e = by_unread Hi ts w (λ us. refl) (λ us x v n. (v, refl)) (value_unread ts w end e)
 argument_wrong Lo ts w end e = by_unread Lo ts w (λ us. refl) (λ us x v n. (v, refl)) (value_unread ts w end e)
@@ -244,15 +244,15 @@ function_may role _ f h = absurd (cc)
 applied_text : (p n q c : Token) (argument rest : List Token) → (p ∷ n ∷ q ∷ (argument ++ c ∷ [])) ++ rest ≡ p ∷ n ∷ q ∷ (argument ++ c ∷ rest)
 applied_text p n q c argument rest = ap (λ us. p ∷ n ∷ q ∷ us) (append_assoc argument (c ∷ []) rest)
 
-applied_in : (role : Role) (p n : Token) (f : Function) (us : List Token) → is_percent p.kind ≡ true → function_in role n.kind ≡ Some f → value_in role (p ∷ n ∷ us) ≡ called_at f p us
+applied_in : (role : Role) (p n : Token) (f : Function) (us : List Token) → is_percent p.kind ≡ true → function_in role n.kind ≡ Some f → value_operand_at role (p ∷ n ∷ us) ≡ called_at f p us
 applied_in role p n f us percent is = rw (function_may role n.kind f is, percent, is) refl
 
-pub applied_is : (role : Role) (text rest : List Token) (o : Operand) → IsApplied role text o → value_in role (text ++ rest) ≡ Ok (o, rest)
+pub applied_is : (role : Role) (text rest : List Token) (o : Operand) → IsApplied role text o → value_operand_at role (text ++ rest) ≡ Ok (o, rest)
 applied_is role text rest o (p, n, q, argument, c, f, e, w, percent, is, opens, arg, closes, good, v) =
-    rw (w, v) (ap (value_in role) (applied_text p n q c argument rest) ∙ applied_in role p n f (q ∷ (argument ++ c ∷ rest)) percent is ∙ called_is f p q argument e c rest opens arg closes good)
+    rw (w, v) (ap (value_operand_at role) (applied_text p n q c argument rest) ∙ applied_in role p n f (q ∷ (argument ++ c ∷ rest)) percent is ∙ called_is f p q argument e c rest opens arg closes good)
 
 -- a value, or a function of one
-pub value_in_is : (role : Role) (text rest : List Token) (o : Operand) → IsValueIn role text o → Closes rest → value_in role (text ++ rest) ≡ Ok (o, rest)
+pub value_in_is : (role : Role) (text rest : List Token) (o : Operand) → IsValueIn role text o → Closes rest → value_operand_at role (text ++ rest) ≡ Ok (o, rest)
 value_in_is role text rest o (inr applied) closes = applied_is role text rest o applied
 value_in_is role [] rest o (inl (e, v, good, is)) closes = absurd (omega (arith, value_some [] e v))
 value_in_is role (t ∷ ts) rest o (inl (e, v, good, is)) closes =
@@ -261,7 +261,7 @@ value_in_is role (t ∷ ts) rest o (inl (e, v, good, is)) closes =
     ∙ ap (seen_as (valued role)) (ap (allowed (λ x. is_refused role x) t) read ∙ is_allowed (λ x. is_refused role x) t e rest good))
   where
     plain : (role : Role) (t : Token) (ts us : List Token) → (may_call role && is_percent t.kind) ≡ false → first_of us ≡ first_of (t ∷ ts)
-        → value_in role us ≡ seen_as (valued role) (allowed (λ x. is_refused role x) t (value_at us))
+        → value_operand_at role us ≡ seen_as (valued role) (allowed (λ x. is_refused role x) t (value_at us))
     plain role t ts us h first = let f = first_is t ts us first in rw f.1 (rw h refl)
 
 pub value_in_some : (role : Role) (text : List Token) (o : Operand) → IsValueIn role text o → 0 < length text
@@ -273,11 +273,11 @@ pub record ValueFound (role : Role) (ts : List Token) (o : Operand) (rest : List
   pub text : List Token
   pub whole : ts ≡ text ++ rest
   pub is : IsValueIn role text o
-  pub steady : (us : List Token) → first_of us ≡ first_of rest → value_in role (text ++ us) ≡ Ok (o, us)
-  pub ended_rest : ended ts ≡ true → ended rest ≡ true
+  pub steady : (us : List Token) → first_of us ≡ first_of rest → value_operand_at role (text ++ us) ≡ Ok (o, us)
+  pub ended_rest : is_ended ts ≡ true → is_ended rest ≡ true
 
 plain_in : (role : Role) (t : Token) (ts us : List Token) → (may_call role && is_percent t.kind) ≡ false → first_of us ≡ first_of (t ∷ ts)
-    → value_in role us ≡ seen_as (valued role) (allowed (λ x. is_refused role x) t (value_at us))
+    → value_operand_at role us ≡ seen_as (valued role) (allowed (λ x. is_refused role x) t (value_at us))
 plain_in role t ts us h first = let f = first_is t ts us first in rw f.1 (rw h refl)
 
 plain_found : (role : Role) (t : Token) (ts : List Token) (o : Operand) (rest : List Token) → (may_call role && is_percent t.kind) ≡ false
@@ -323,15 +323,15 @@ applied_found role p (n ∷ ts) o rest percent e = go (function_in role n.kind) 
           whole = ap (λ us. p ∷ n ∷ us) (q.1 ∙ ap (λ us. q.0 ∷ us) (x.whole ∙ ap (λ us. x.text ++ us) d.1 ∙ sym (append_assoc x.text (d.0 ∷ []) rest)));
           is = inr spelled;
           steady = λ us first. applied_is role (p ∷ n ∷ q.0 ∷ (x.text ++ d.0 ∷ [])) us o spelled;
-          ended_rest = λ end. ended_more d.0 rest (closing_no_last d.0.kind closes) (ap ended (sym d.1) ∙ x.ended_rest (ended_more q.0 a.0.1 (opening_no_last q.0.kind opens)
-              (ap ended (sym q.1) ∙ ended_more n ts (function_no_last role n.kind f is) (ended_more p (n ∷ ts) (percent_no_last p.kind percent) end))));
+          ended_rest = λ end. ended_more d.0 rest (closing_no_last d.0.kind closes) (ap is_ended (sym d.1) ∙ x.ended_rest (ended_more q.0 a.0.1 (opening_no_last q.0.kind opens)
+              (ap is_ended (sym q.1) ∙ ended_more n ts (function_no_last role n.kind f is) (ended_more p (n ∷ ts) (percent_no_last p.kind percent) end))));
         }
 
     go : (x : Option Function) → function_in role n.kind ≡ x → named_at p n ts x ≡ Ok (o, rest) → ValueFound role (p ∷ n ∷ ts) o rest
     go (Some f) is e = called f is e
     go None is e = absurd (cc)
 
-pub value_found : (role : Role) (ts : List Token) (o : Operand) (rest : List Token) → value_in role ts ≡ Ok (o, rest) → ValueFound role ts o rest
+pub value_found : (role : Role) (ts : List Token) (o : Operand) (rest : List Token) → value_operand_at role ts ≡ Ok (o, rest) → ValueFound role ts o rest
 value_found role [] o rest e = absurd (cc)
 value_found role (t ∷ ts) o rest e = go (may_call role && is_percent t.kind) refl e
   where
@@ -343,12 +343,12 @@ value_found role (t ∷ ts) o rest e = go (may_call role && is_percent t.kind) r
 pub value_goes : (role : Role) → (o : Operand) × IsValueIn role (a_symbol ∷ []) o
 value_goes role = (valued role a_name, inl (a_name, name_goes, and_right (targets role) false refl, refl))
 
-number_allowed : (role : Role) (e : Expression) → is_number e ≡ false → is_refused role e ≡ false
-number_allowed role e h = and_right (targets role) (is_number e) h
+number_allowed : (role : Role) (e : Expression) → is_of_numbers e ≡ false → is_refused role e ≡ false
+number_allowed role e h = and_right (targets role) (is_of_numbers e) h
 
 -- where a value is wrong; an opening parenthesis can begin one
 abbrev pub ValueWrong : Role → List Token → SyntaxError → Type 0
-ValueWrong role ts w = (x : Failing Operand (IsValueIn role) (value_in role) ts w) × (x.before ≡ [] → is_opening x.at.kind ≡ false)
+ValueWrong role ts w = (x : Failing Operand (IsValueIn role) (value_operand_at role) ts w) × (x.before ≡ [] → is_opening x.at.kind ≡ false)
 
 shown_in_plain : (t : Token) (ts before : List Token) (at : Token) (more : List Token) (w : SyntaxError) → t ∷ ts ≡ before ++ at ∷ more → (before ≡ [] → w ≡ wrong t unsupported_here → ⊥)
     → (w ≡ wrong t unsupported_here) ⊎ ((code : ℕ) × (w ≡ wrong at code)) → Shown before at w
@@ -365,7 +365,7 @@ shown_by t ts w T x = elim x.shown [
   ]
 ]
 
-plain_wrong : (role : Role) (t : Token) (ts : List Token) (w : SyntaxError) → ended (t ∷ ts) ≡ true → (may_call role && is_percent t.kind) ≡ false
+plain_wrong : (role : Role) (t : Token) (ts : List Token) (w : SyntaxError) → is_ended (t ∷ ts) ≡ true → (may_call role && is_percent t.kind) ≡ false
     → seen_as (valued role) (allowed (λ x. is_refused role x) t (value_at (t ∷ ts))) ≡ Err w → ValueWrong role (t ∷ ts) w
 plain_wrong role t ts w end h e =
     let x = tested_wrong (λ x. is_refused role x) t (t ∷ ts) w end (seen_err (valued role) (allowed (λ x. is_refused role x) t (value_at (t ∷ ts))) w e) in (
@@ -452,9 +452,9 @@ named_shown p n w e = go (is_name n.kind) e
     go true e = ([], n ∷ [], p, bad_operands, refl, sym e)
     go false e = at_once (p ∷ []) n (wrong_or n.kind bad_operands) w (sym e)
 
-applied_wrong : (role : Role) (p : Token) (ts : List Token) (w : SyntaxError) → ended (p ∷ ts) ≡ true → is_percent p.kind ≡ true → may_call role ≡ true → applied_at role p ts ≡ Err w
+applied_wrong : (role : Role) (p : Token) (ts : List Token) (w : SyntaxError) → is_ended (p ∷ ts) ≡ true → is_percent p.kind ≡ true → may_call role ≡ true → applied_at role p ts ≡ Err w
     → ValueWrong role (p ∷ ts) w
-applied_wrong role p [] w end percent may e = let none : ended [] ≡ true = ended_more p [] (percent_no_last p.kind percent) end in absurd (cc)
+applied_wrong role p [] w end percent may e = let none : is_ended [] ≡ true = ended_more p [] (percent_no_last p.kind percent) end in absurd (cc)
 applied_wrong role p (n ∷ ts) w end percent may e = go (function_in role n.kind) refl e
   where
     unnamed : function_in role n.kind ≡ None → wrong_function p n ≡ w → ValueWrong role (p ∷ n ∷ ts) w
@@ -471,13 +471,13 @@ applied_wrong role p (n ∷ ts) w end percent may e = go (function_in role n.kin
       λ none. absurd (cc),
     )
 
-    called : (f : Function) → function_in role n.kind ≡ Some f → ended ts ≡ true → called_at f p ts ≡ Err w → ValueWrong role (p ∷ n ∷ ts) w
+    called : (f : Function) → function_in role n.kind ≡ Some f → is_ended ts ≡ true → called_at f p ts ≡ Err w → ValueWrong role (p ∷ n ∷ ts) w
     called f is last e = elim (allowed_err (λ x. is_refused_by f x) p (enclosed_at f ts) w (seen_err (Applied f) (allowed (λ x. is_refused_by f x) p (enclosed_at f ts)) w e)) [
       | inl h ↦ unenclosed h
       | inr r ↦ enclosed r.0 r.1 r.2 r.3 r.4
     ]
       where
-        opened : (q : Token) (us : List Token) → ts ≡ q ∷ us → is_opening q.kind ≡ true → ended us ≡ true → (argument_at f us >>= λ a. seen_as (λ none. a.0) (single_at A_closing a.1)) ≡ Err w
+        opened : (q : Token) (us : List Token) → ts ≡ q ∷ us → is_opening q.kind ≡ true → is_ended us ≡ true → (argument_at f us >>= λ a. seen_as (λ none. a.0) (single_at A_closing a.1)) ≡ Err w
             → ValueWrong role (p ∷ n ∷ ts) w
         opened q us whole opens last e = elim (bind_err (argument_at f us) (λ a. seen_as (λ none. a.0) (single_at A_closing a.1)) w e) [
           | inl h ↦ (let x = argument_wrong f us w last h in (
@@ -559,7 +559,7 @@ applied_wrong role p (n ∷ ts) w end percent may e = go (function_in role n.kin
     go (Some f) is e = called f is (ended_more n ts (function_no_last role n.kind f is) (ended_more p (n ∷ ts) (percent_no_last p.kind percent) end)) e
     go None none e = unnamed none (wrongs _ w e)
 
-pub value_wrong : (role : Role) (ts : List Token) (w : SyntaxError) → ended ts ≡ true → value_in role ts ≡ Err w → ValueWrong role ts w
+pub value_wrong : (role : Role) (ts : List Token) (w : SyntaxError) → is_ended ts ≡ true → value_operand_at role ts ≡ Err w → ValueWrong role ts w
 value_wrong role [] w end e = absurd (cc)
 value_wrong role (t ∷ ts) w end e = go (may_call role && is_percent t.kind) refl e
   where

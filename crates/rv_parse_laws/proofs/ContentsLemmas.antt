@@ -6,13 +6,13 @@ use Rattle.rv_text_laws.specs.Lexing.{Token}
 use Rattle.rv_text_laws.specs.SyntaxError.{longest_name}
 use Rattle.rv_statement.specs.Statement.{Operand, Value, Target, Word}
 use Rattle.rv_parse_laws.specs.declared.role.Role.{Role}
-use Rattle.rv_parse_laws.specs.Syntax.{A_value, A_section, targets, is_number, is_section_name, IsValueIn}
+use Rattle.rv_parse_laws.specs.Syntax.{A_value, A_section, targets, is_of_numbers, is_section_name, IsValueIn}
 use Rattle.rv_parse_laws.specs.Content.{left_out, content_fault}
 
 pub value_content : (role : Role) (ts : List Token) (o : Operand) → IsValueIn role ts o → content_fault true (A_value role) o ≡ None
 value_content role ts o (inl (e, v, good, is)) = rw is (go (targets role) good)
   where
-    go : (b : Bool) → (b && is_number e) ≡ false → content_fault true (A_value role) (cond b (Target e) (Value e)) ≡ None
+    go : (b : Bool) → (b && is_of_numbers e) ≡ false → content_fault true (A_value role) (cond b (Target e) (Value e)) ≡ None
     go true h = rw h refl
     go false h = refl
 value_content role ts o (inr (p, n, q, argument, c, f, e, w, percent, is, opens, arg, shut, good, v)) = rw v (rw good refl)

@@ -6,13 +6,13 @@ use Rattle.rv_text_laws.specs.Lexing.{Token, Lexes, newlines}
 use Rattle.rv_text_laws.proofs.CutLemmas.{unique, nothing_none}
 use Rattle.rv_text_laws.proofs.TokensLemmas.{one_list}
 use Rattle.rv_statement.specs.Statement.{Statement}
-use Rattle.rv_parse_laws.specs.Syntax.{Part, IsPart, StopsPart, is_end}
+use Rattle.rv_parse_laws.specs.Syntax.{SourcePart, IsPart, StopsPart, is_end}
 use Rattle.rv_parse_laws.specs.Opening.{is_opened}
 use Rattle.rv_parse_laws.specs.WrongOpening.{IsWrongOpening}
 use Rattle.rv_parse_laws.specs.Parsing.{part_at, opening_at, checked_at}
 use Rattle.rv_text_laws.specs.Codes.{limit}
-use Rattle.rv_text_laws.specs.SyntaxError.{SyntaxError, wrong, offset_of}
-use Rattle.rv_parse_laws.specs.Reading.{AreParts, Reads, said, IsPastLine, longest_source}
+use Rattle.rv_text_laws.specs.SyntaxError.{SyntaxError, wrong, fault_offset}
+use Rattle.rv_parse_laws.specs.Reading.{AreParts, Reads, statements_of_parts, IsPastLine, longest_source}
 use Rattle.rv_statement.specs.Limits.{most_statements}
 use Rattle.rv_parse_laws.specs.Opening.{OpenWell}
 use Rattle.rv_parse_laws.proofs.OpenedWellLemmas.{all_open_well}
@@ -62,18 +62,18 @@ fronts (a ∷ xs) (b ∷ ys) x y us vs e =
     ]
 
 -- a token with which nothing goes on
-wrong_read : (bytes : List ℕ) (ts : List Token) (parts : List (Piece Part Token)) (t : Token) (us : List Token) (w : SyntaxError) → Lexes bytes ts → AreParts ts parts (t ∷ us)
-    → AllOpenWell [] parts (t ∷ us) → part_at (t ∷ us) ≡ Err w → OpensWell (said parts) (t ∷ us) → WrongPart bytes t w
+wrong_read : (bytes : List ℕ) (ts : List Token) (parts : List (Piece SourcePart Token)) (t : Token) (us : List Token) (w : SyntaxError) → Lexes bytes ts → AreParts ts parts (t ∷ us)
+    → AllOpenWell [] parts (t ∷ us) → part_at (t ∷ us) ≡ Err w → OpensWell (statements_of_parts parts) (t ∷ us) → WrongPart bytes t w
 wrong_read bytes ts parts t us w lexes cut opens e well =
     let s = part_wrong (t ∷ us) w (ended_rest bytes ts (texts parts) t us lexes cut.whole) e in
     let shown = s.is_wrong in
     let code : w.code ≡ shown.3 = ap (λ (x : SyntaxError). x.code) shown.5 in
-    let place : w.offset ≡ offset_of shown.2 w.code = ap (λ (x : SyntaxError). x.offset) shown.5 ∙ ap (offset_of shown.2) (sym code) in
+    let place : w.offset ≡ fault_offset shown.2 w.code = ap (λ (x : SyntaxError). x.offset) shown.5 ∙ ap (fault_offset shown.2) (sym code) in
     let there : t ∷ us ≡ shown.0 ++ shown.2 ∷ (shown.1 ++ s.more) = shown_whole (t ∷ us) s.before s.at s.more w s.whole shown in
     let whole : ts ≡ (texts parts ++ shown.0) ++ shown.2 ∷ (shown.1 ++ s.more) = cut.whole ∙ ap (λ xs. texts parts ++ xs) there ∙ sym (append_assoc (texts parts) shown.0 (shown.2 ∷ (shown.1 ++ s.more))) in
-    let line : shown.2.line ≡ 1 + newlines (take (offset_of shown.2 w.code) bytes) = token_line bytes ts (texts parts ++ shown.0) shown.2 (shown.1 ++ s.more) lexes whole w.code in
+    let line : shown.2.line ≡ 1 + newlines (take (fault_offset shown.2 w.code) bytes) = token_line bytes ts (texts parts ++ shown.0) shown.2 (shown.1 ++ s.more) lexes whole w.code in
     let from = (standing_at bytes t.start shown.0 shown.2 (shown.1 ++ s.more) (subst (Standing bytes t.start) there (standing_from bytes ts (texts parts) t us lexes cut.whole))).0 in
-    let least : shown.2.start ≤ offset_of shown.2 w.code = place_at_least shown.2 w.code in
+    let least : shown.2.start ≤ fault_offset shown.2 w.code = place_at_least shown.2 w.code in
     record {
       stands = inl (record {
         tokens = ts;
@@ -89,7 +89,7 @@ wrong_read bytes ts parts t us w lexes cut opens e well =
         whole = s.whole;
         goes = (s.goes.1, s.goes.0, s.goes.2.0, s.goes.2.1);
         stops = λ h. stops_there (t ∷ us) w s h.0 h.1 (h.2, subst (IsPart h.0) (append_assoc s.before (s.at ∷ []) h.1) h.3);
-        opens_well = front_opens (said parts) (s.before ++ s.at ∷ []) (t ∷ us) s.more (s.whole ∙ sym (append_assoc s.before (s.at ∷ []) s.more)) well;
+        opens_well = front_opens (statements_of_parts parts) (s.before ++ s.at ∷ []) (t ∷ us) s.more (s.whole ∙ sym (append_assoc s.before (s.at ∷ []) s.more)) well;
         front = shown.0;
         shown = shown.2;
         back = shown.1;
@@ -108,7 +108,7 @@ wrong_read bytes ts parts t us w lexes cut opens e well =
         let o = statement_occurs (t ∷ us) k.0 k.1 k.2 in
         let same : wrong k.0 k.1 ≡ wrong u code = sym k.3 ∙ is in
         let codes : k.1 ≡ code = ap (λ (x : SyntaxError). x.code) same in
-        let offsets : offset_of k.0 k.1 ≡ offset_of u code = ap (λ (x : SyntaxError). x.offset) same in
+        let offsets : fault_offset k.0 k.1 ≡ fault_offset u code = ap (λ (x : SyntaxError). x.offset) same in
         let standing : Standing bytes t.start (t ∷ us) = standing_from bytes ts (texts parts) t us lexes cut.whole in
         elim (fronts o.0 front k.0 u o.1 back (sym o.2 ∙ there)) [
           | inl x ↦ subst (λ v. IsWrongStatement (t ∷ us) v code) x.1 (subst (IsWrongStatement (t ∷ us) k.0) codes k.2)
@@ -119,14 +119,14 @@ wrong_read bytes ts parts t us w lexes cut opens e well =
         ]
 
 -- an opening that is wrong
-wrong_opened : (bytes : List ℕ) (ts : List Token) (parts : List (Piece Part Token)) (t : Token) (us : List Token) (w : SyntaxError) → Lexes bytes ts → AreParts ts parts (t ∷ us)
-    → AllOpenWell [] parts (t ∷ us) → OpeningThere (is_opened (said parts)) (t ∷ us) w → WrongPart bytes t w
+wrong_opened : (bytes : List ℕ) (ts : List Token) (parts : List (Piece SourcePart Token)) (t : Token) (us : List Token) (w : SyntaxError) → Lexes bytes ts → AreParts ts parts (t ∷ us)
+    → AllOpenWell [] parts (t ∷ us) → OpeningThere (is_opened (statements_of_parts parts)) (t ∷ us) w → WrongPart bytes t w
 wrong_opened bytes ts parts t us w lexes cut opens x =
     let whole : ts ≡ (texts parts ++ x.before) ++ x.at ∷ x.more = cut.whole ∙ ap (λ xs. texts parts ++ xs) x.whole ∙ sym (append_assoc (texts parts) x.before (x.at ∷ x.more)) in
-    let line : x.at.line ≡ 1 + newlines (take (offset_of x.at x.code) bytes) = token_line bytes ts (texts parts ++ x.before) x.at x.more lexes whole x.code in
+    let line : x.at.line ≡ 1 + newlines (take (fault_offset x.at x.code) bytes) = token_line bytes ts (texts parts ++ x.before) x.at x.more lexes whole x.code in
     let from = (standing_at bytes t.start x.before x.at x.more (subst (Standing bytes t.start) x.whole (standing_from bytes ts (texts parts) t us lexes cut.whole))).0 in
-    let least : x.at.start ≤ offset_of x.at x.code = place_at_least x.at x.code in
-    let place : w.offset ≡ offset_of x.at x.code = ap (λ (v : SyntaxError). v.offset) x.is_wrong in
+    let least : x.at.start ≤ fault_offset x.at x.code = place_at_least x.at x.code in
+    let place : w.offset ≡ fault_offset x.at x.code = ap (λ (v : SyntaxError). v.offset) x.is_wrong in
     let code : w.code ≡ x.code = ap (λ (v : SyntaxError). v.code) x.is_wrong in
     record {
       stands = inr (record {
@@ -138,16 +138,16 @@ wrong_opened bytes ts parts t us w lexes cut opens x =
         more = x.more;
         cut = subst (AreParts ts parts) x.whole cut;
         opens = subst (AllOpenWell [] parts) x.whole opens;
-        wrong = subst (IsWrongOpening (said parts) x.before x.at) (sym code) x.is;
-        place_is = place ∙ ap (offset_of x.at) (sym code);
+        wrong = subst (IsWrongOpening (statements_of_parts parts) x.before x.at) (sym code) x.is;
+        place_is = place ∙ ap (fault_offset x.at) (sym code);
       });
       line = ap (λ (v : SyntaxError). v.line) x.is_wrong ∙ line ∙ ap (λ n. 1 + newlines (take n bytes)) (sym place);
       behind = omega (arith, from, least, place);
     }
 
-pub wrong_part : (bytes : List ℕ) (ts : List Token) (parts : List (Piece Part Token)) (t : Token) (us : List Token) (w : SyntaxError) → Lexes bytes ts → AreParts ts parts (t ∷ us)
-    → AllOpenWell [] parts (t ∷ us) → checked_at (is_opened (said parts)) (t ∷ us) ≡ Err w → WrongPart bytes t w
-wrong_part bytes ts parts t us w lexes cut opens e = elim (checked_err (said parts) (t ∷ us) w e) [
+pub wrong_part : (bytes : List ℕ) (ts : List Token) (parts : List (Piece SourcePart Token)) (t : Token) (us : List Token) (w : SyntaxError) → Lexes bytes ts → AreParts ts parts (t ∷ us)
+    → AllOpenWell [] parts (t ∷ us) → checked_at (is_opened (statements_of_parts parts)) (t ∷ us) ≡ Err w → WrongPart bytes t w
+wrong_part bytes ts parts t us w lexes cut opens e = elim (checked_err (statements_of_parts parts) (t ∷ us) w e) [
   | inl x ↦ wrong_opened bytes ts parts t us w lexes cut opens x
   | inr x ↦ wrong_read bytes ts parts t us w lexes cut opens x.0 x.1
 ]
@@ -157,7 +157,7 @@ goes_on_front : (rest before : List Token) (at : Token) (more all : List Token) 
 goes_on_front rest before at more all is (p, after, label, spelled) =
     (p, more ++ after, label, subst (IsPart p) (ap (λ us. us ++ after) is ∙ append_assoc before (at ∷ more) after ∙ sym (append_assoc before (at ∷ []) (more ++ after))) spelled)
 
-same_errors : (t u : Token) (c d : ℕ) → ◌≡◌ {A = Result (Part × List Token) SyntaxError} (Err (wrong t c)) (Err (wrong u d)) → (offset_of t c ≡ offset_of u d) × (c ≡ d)
+same_errors : (t u : Token) (c d : ℕ) → ◌≡◌ {A = Result (SourcePart × List Token) SyntaxError} (Err (wrong t c)) (Err (wrong u d)) → (fault_offset t c ≡ fault_offset u d) × (c ≡ d)
 same_errors t u c d e =
     let same : wrong t c ≡ wrong u d = cc in
     (ap (λ (x : SyntaxError). x.offset) same, ap (λ (x : SyntaxError). x.code) same)
@@ -168,13 +168,13 @@ one_wrong bytes p c q d x y =
     let tokens : x.tokens ≡ y.tokens = one_list bytes x.tokens y.tokens x.lexes y.lexes in
     let one : cut find_part x.tokens ≡ (x.parts, x.rest) = unique finds_parts x.tokens x.parts x.rest x.cut (nothing_none finds_parts x.rest x.nothing) in
     let two : cut find_part y.tokens ≡ (y.parts, y.rest) = unique finds_parts y.tokens y.parts y.rest y.cut (nothing_none finds_parts y.rest y.nothing) in
-    let rests : y.rest ≡ x.rest = ap (λ (z : List (Piece Part Token) × List Token). z.1) (sym two ∙ ap (cut find_part) (sym tokens) ∙ one) in
+    let rests : y.rest ≡ x.rest = ap (λ (z : List (Piece SourcePart Token) × List Token). z.1) (sym two ∙ ap (cut find_part) (sym tokens) ∙ one) in
     let one : part_at x.rest ≡ Err (wrong x.shown c) = statement_wrongs x.rest x.shown c x.fault_is in
     let two : part_at y.rest ≡ Err (wrong y.shown d) = statement_wrongs y.rest y.shown d y.fault_is in
     let k = same_errors x.shown y.shown c d (sym one ∙ ap part_at (sym rests) ∙ two) in
     (x.place_is ∙ k.0 ∙ sym y.place_is, k.1)
 
-same_wrongs : (t u : Token) (c d : ℕ) → Some (wrong t c) ≡ Some (wrong u d) → (offset_of t c ≡ offset_of u d) × (c ≡ d)
+same_wrongs : (t u : Token) (c d : ℕ) → Some (wrong t c) ≡ Some (wrong u d) → (fault_offset t c ≡ fault_offset u d) × (c ≡ d)
 same_wrongs t u c d e =
     let same : wrong t c ≡ wrong u d = cc in
     (ap (λ (x : SyntaxError). x.offset) same, ap (λ (x : SyntaxError). x.code) same)
@@ -185,11 +185,11 @@ one_opening bytes p c q d x y =
     let tokens : y.tokens ≡ x.tokens = one_list bytes y.tokens x.tokens y.lexes x.lexes in
     go (comparable x.tokens x.parts y.parts (x.before ++ x.at ∷ x.more) (y.before ++ y.at ∷ y.more) x.cut (subst (λ xs. AreParts xs y.parts (y.before ++ y.at ∷ y.more)) tokens y.cut))
   where
-    here : x.before ++ x.at ∷ x.more ≡ y.before ++ y.at ∷ y.more → said y.parts ≡ said x.parts → (p ≡ q) × (c ≡ d)
+    here : x.before ++ x.at ∷ x.more ≡ y.before ++ y.at ∷ y.more → statements_of_parts y.parts ≡ statements_of_parts x.parts → (p ≡ q) × (c ≡ d)
     here rests says =
-        let one = opening_found (said x.parts) x.before x.at c x.more x.wrong in
-        let two = opening_found (said x.parts) y.before y.at d y.more (subst (λ ss. IsWrongOpening ss y.before y.at d) says y.wrong) in
-        let k = same_wrongs x.at y.at c d (sym one ∙ ap (opening_at (is_opened (said x.parts))) rests ∙ two) in
+        let one = opening_found (statements_of_parts x.parts) x.before x.at c x.more x.wrong in
+        let two = opening_found (statements_of_parts x.parts) y.before y.at d y.more (subst (λ ss. IsWrongOpening ss y.before y.at d) says y.wrong) in
+        let k = same_wrongs x.at y.at c d (sym one ∙ ap (opening_at (is_opened (statements_of_parts x.parts))) rests ∙ two) in
         (x.place_is ∙ k.0 ∙ sym y.place_is, k.1)
 
     go : GoesOn x.parts (x.before ++ x.at ∷ x.more) y.parts (y.before ++ y.at ∷ y.more) ⊎ GoesOn y.parts (y.before ++ y.at ∷ y.more) x.parts (x.before ++ x.at ∷ x.more)
@@ -205,13 +205,13 @@ not_token_and_opening bytes p c q d x y =
     let tokens : y.tokens ≡ x.tokens = one_list bytes y.tokens x.tokens y.lexes x.lexes in
     go (comparable x.tokens x.parts y.parts x.rest (y.before ++ y.at ∷ y.more) x.cut (subst (λ xs. AreParts xs y.parts (y.before ++ y.at ∷ y.more)) tokens y.cut))
   where
-    here : x.rest ≡ y.before ++ y.at ∷ y.more → said y.parts ≡ said x.parts → ⊥
+    here : x.rest ≡ y.before ++ y.at ∷ y.more → statements_of_parts y.parts ≡ statements_of_parts x.parts → ⊥
     here rests says =
-        let wrong : IsWrongOpening (said x.parts) y.before y.at d = subst (λ ss. IsWrongOpening ss y.before y.at d) says y.wrong in
+        let wrong : IsWrongOpening (statements_of_parts x.parts) y.before y.at d = subst (λ ss. IsWrongOpening ss y.before y.at d) says y.wrong in
         elim (fronts x.before y.before x.at y.at x.more y.more (sym x.whole ∙ rests)) [
           | inl s ↦ x.opens_well y.before y.at [] d (ap (λ us. us ++ x.at ∷ []) s.0 ∙ ap (λ (t : Token). y.before ++ t ∷ []) s.1) wrong
           | inr (inl z) ↦ x.stops (goes_on_front x.rest x.before x.at z.0 y.before z.1
-              (subst (λ us. CanGoOn us y.before) (sym rests) (opening_goes (said x.parts) y.before y.at d y.more wrong)))
+              (subst (λ us. CanGoOn us y.before) (sym rests) (opening_goes (statements_of_parts x.parts) y.before y.at d y.more wrong)))
           | inr (inr z) ↦ x.opens_well y.before y.at (z.0 ++ x.at ∷ []) d (ap (λ us. us ++ x.at ∷ []) z.1 ∙ append_assoc y.before (y.at ∷ z.0) (x.at ∷ [])) wrong
         ]
 
@@ -233,23 +233,23 @@ behind_first t us [] rest whole some = absurd (omega (arith, some))
 behind_first t us (v ∷ vs) rest whole some = (vs, tails whole)
 
 -- a wrong token stands behind the first token of good parts
-behind_good : (bytes : List ℕ) (t : Token) (us : List Token) (m : Piece Part Token) (more : List (Piece Part Token)) (rest before : List Token) (at : Token) (others : List Token) (p code : ℕ)
-    → Standing bytes t.start (t ∷ us) → AreParts (t ∷ us) (m ∷ more) rest → rest ≡ before ++ at ∷ others → p ≡ offset_of at code → t.start < p
+behind_good : (bytes : List ℕ) (t : Token) (us : List Token) (m : Piece SourcePart Token) (more : List (Piece SourcePart Token)) (rest before : List Token) (at : Token) (others : List Token) (p code : ℕ)
+    → Standing bytes t.start (t ∷ us) → AreParts (t ∷ us) (m ∷ more) rest → rest ≡ before ++ at ∷ others → p ≡ fault_offset at code → t.start < p
 behind_good bytes t us m more rest before at others p code standing cut whole place =
     let f = behind_first t us m.text (texts more ++ rest) (cut.whole ∙ append_assoc m.text (texts more) rest) (finds_parts.some m.kind m.text cut.each.0) in
     let is : us ≡ (f.0 ++ (texts more ++ before)) ++ at ∷ others =
     f.1 ∙ ap (λ xs. f.0 ++ (texts more ++ xs)) whole ∙ ap (λ xs. f.0 ++ xs) (sym (append_assoc (texts more) before (at ∷ others)))
     ∙ sym (append_assoc f.0 (texts more ++ before) (at ∷ others)) in
-    let h = (standing_at bytes (suc (offset_of t limit)) (f.0 ++ (texts more ++ before)) at others (subst (Standing bytes (suc (offset_of t limit))) is standing.2)).0 in
-    let least : at.start ≤ offset_of at code = place_at_least at code in
+    let h = (standing_at bytes (suc (fault_offset t limit)) (f.0 ++ (texts more ++ before)) at others (subst (Standing bytes (suc (fault_offset t limit))) is standing.2)).0 in
+    let least : at.start ≤ fault_offset at code = place_at_least at code in
     omega (arith, h, place_at_least t limit, least, place)
 
 apart : (a b : ℕ) → a ≤ b → (a ≡ b → ⊥) → a < b
 apart a b le other = grind arith
 
 -- behind a cut up to a token, where the part there is good or wrong behind the token, what is wrong stands behind it
-pub wrong_behind : (bytes : List ℕ) (ts : List Token) (ps : List (Piece Part Token)) (t : Token) (us : List Token) (p c : ℕ) → Lexes bytes ts → AreParts ts ps (t ∷ us)
-    → AllOpenWell [] ps (t ∷ us) → ((w : SyntaxError) → checked_at (is_opened (said ps)) (t ∷ us) ≡ Err w → w.offset ≡ t.start → ⊥) → IsFaulty bytes p c → t.start < p
+pub wrong_behind : (bytes : List ℕ) (ts : List Token) (ps : List (Piece SourcePart Token)) (t : Token) (us : List Token) (p c : ℕ) → Lexes bytes ts → AreParts ts ps (t ∷ us)
+    → AllOpenWell [] ps (t ∷ us) → ((w : SyntaxError) → checked_at (is_opened (statements_of_parts ps)) (t ∷ us) ≡ Err w → w.offset ≡ t.start → ⊥) → IsFaulty bytes p c → t.start < p
 wrong_behind bytes ts ps t us p c lexes cut opens not (inl x) =
     let tokens : x.tokens ≡ ts = one_list bytes x.tokens ts x.lexes lexes in
     go (comparable ts ps x.parts (t ∷ us) x.rest cut (subst (λ xs. AreParts xs x.parts x.rest) tokens x.cut))
@@ -257,7 +257,7 @@ wrong_behind bytes ts ps t us p c lexes cut opens not (inl x) =
     here : x.rest ≡ t ∷ us → t.start < p
     here same =
         let e = wrong_there (t ∷ us) (subst (λ xs. NothingReads IsPart StopsPart xs) same x.nothing) in
-        let v = checked_wrong (said ps) (t ∷ us) e.0 e.1 in
+        let v = checked_wrong (statements_of_parts ps) (t ∷ us) e.0 e.1 in
         let k = wrong_part bytes ts ps t us v.0 lexes cut opens v.1 in
         let place : v.0.offset ≡ p = (one_faulty bytes v.0.offset v.0.code p c k.stands (inl x)).0 in
         let le : t.start ≤ p = omega (arith, k.behind, place) in
@@ -280,8 +280,8 @@ wrong_behind bytes ts ps t us p c lexes cut opens not (inr x) =
     here : t ∷ us ≡ x.before ++ x.at ∷ x.more → t.start < p
     here same =
         let from = (standing_at bytes t.start x.before x.at x.more (subst (Standing bytes t.start) same standing)).0 in
-        let some = opening_behind (said x.parts) x.before x.at c x.wrong in
-        let least : x.at.start ≤ offset_of x.at c = place_at_least x.at c in
+        let some = opening_behind (statements_of_parts x.parts) x.before x.at c x.wrong in
+        let least : x.at.start ≤ fault_offset x.at c = place_at_least x.at c in
         let place = x.place_is in
         omega (arith, from, some, least, place)
 
@@ -292,26 +292,26 @@ wrong_behind bytes ts ps t us p c lexes cut opens not (inr x) =
     go (inr (m ∷ more, is, d)) = absurd (opens_on x.parts ps m more _ _ is d opens x.before x.at x.more c refl x.wrong)
 
 -- what a cut does not go on with
-abbrev pub StopsHere : List (Piece Part Token) → List Token → Type 0
-StopsHere ps rest = (m : Piece Part Token) (more : List (Piece Part Token)) (other : List Token) → AreParts rest (m ∷ more) other → OpensWell (said ps) rest → ⊥
+abbrev pub StopsHere : List (Piece SourcePart Token) → List Token → Type 0
+StopsHere ps rest = (m : Piece SourcePart Token) (more : List (Piece SourcePart Token)) (other : List Token) → AreParts rest (m ∷ more) other → OpensWell (statements_of_parts ps) rest → ⊥
 
-stops_here : (ps : List (Piece Part Token)) (rest : List Token) (w : SyntaxError) → checked_at (is_opened (said ps)) rest ≡ Err w → StopsHere ps rest
-stops_here ps rest w e m more other cut well = elim (checked_err (said ps) rest w e) [
+stops_here : (ps : List (Piece SourcePart Token)) (rest : List Token) (w : SyntaxError) → checked_at (is_opened (statements_of_parts ps)) rest ≡ Err w → StopsHere ps rest
+stops_here ps rest w e m more other cut well = elim (checked_err (statements_of_parts ps) rest w e) [
   | inl x ↦ well x.before x.at x.more x.code x.whole x.is
   | inr x ↦ no_further rest m more other (no_part rest w x.0) cut
 ]
 
 -- a statement too many is the rest of a cut that goes as far as it can, or the cut says more
-past_where : (bytes : List ℕ) (ts : List Token) (ps : List (Piece Part Token)) (rest : List Token) (q : ℕ) → Lexes bytes ts → AreParts ts ps rest → StopsHere ps rest
-    → (x : PastStatements bytes q) → ((rest ≡ x.at ∷ x.more) × (length (said ps) ≡ most_statements)) ⊎ (most_statements < length (said ps))
+past_where : (bytes : List ℕ) (ts : List Token) (ps : List (Piece SourcePart Token)) (rest : List Token) (q : ℕ) → Lexes bytes ts → AreParts ts ps rest → StopsHere ps rest
+    → (x : PastStatements bytes q) → ((rest ≡ x.at ∷ x.more) × (length (statements_of_parts ps) ≡ most_statements)) ⊎ (most_statements < length (statements_of_parts ps))
 past_where bytes ts ps rest q lexes cut ends x =
     let tokens : x.tokens ≡ ts = one_list bytes x.tokens ts x.lexes lexes in
     go (comparable ts x.parts ps (x.at ∷ x.more) rest (subst (λ xs. AreParts xs x.parts (x.at ∷ x.more)) tokens x.cut) cut)
   where
-    go : GoesOn x.parts (x.at ∷ x.more) ps rest ⊎ GoesOn ps rest x.parts (x.at ∷ x.more) → ((rest ≡ x.at ∷ x.more) × (length (said ps) ≡ most_statements)) ⊎ (most_statements < length (said ps))
+    go : GoesOn x.parts (x.at ∷ x.more) ps rest ⊎ GoesOn ps rest x.parts (x.at ∷ x.more) → ((rest ≡ x.at ∷ x.more) × (length (statements_of_parts ps) ≡ most_statements)) ⊎ (most_statements < length (statements_of_parts ps))
     go (inl on) = elim (same_or_more x.at x.more x.parts ps rest x.begins_one on) [
       | inl s ↦ inl (sym s.0, sym s.1 ∙ x.most)
-      | inr more ↦ inr (subst (λ n. n < length (said ps)) x.most more)
+      | inr more ↦ inr (subst (λ n. n < length (statements_of_parts ps)) x.most more)
     ]
     go (inr ([], is, c)) = inl (c.whole, nothing_more_said ps x.parts is ∙ x.most)
     go (inr (m ∷ more, is, c)) = absurd (ends m more (x.at ∷ x.more) c (opens_on ps x.parts m more rest (x.at ∷ x.more) is c x.opens))
@@ -327,8 +327,8 @@ pub record FirstInTokens (bytes : List ℕ) (w : SyntaxError) : Type 0 where
   pub line : w.line ≡ 1 + newlines (take w.offset bytes)
 
 -- the part at the front of the rest is wrong, and no statement too many begins before that place
-pub wrong_first : (bytes : List ℕ) (ts : List Token) (ps : List (Piece Part Token)) (t : Token) (us : List Token) (w : SyntaxError) → Lexes bytes ts → AreParts ts ps (t ∷ us)
-    → AllOpenWell [] ps (t ∷ us) → checked_at (is_opened (said ps)) (t ∷ us) ≡ Err w → w.code ≤ limit → (length (said ps) < most_statements) ⊎ ((length (said ps) ≡ most_statements) × (w.offset ≡ t.start)) → FirstInTokens bytes w
+pub wrong_first : (bytes : List ℕ) (ts : List Token) (ps : List (Piece SourcePart Token)) (t : Token) (us : List Token) (w : SyntaxError) → Lexes bytes ts → AreParts ts ps (t ∷ us)
+    → AllOpenWell [] ps (t ∷ us) → checked_at (is_opened (statements_of_parts ps)) (t ∷ us) ≡ Err w → w.code ≤ limit → (length (statements_of_parts ps) < most_statements) ⊎ ((length (statements_of_parts ps) ≡ most_statements) × (w.offset ≡ t.start)) → FirstInTokens bytes w
 wrong_first bytes ts ps t us w lexes cut opens e low few = record {
   stands = inl k.stands;
   first = first;
@@ -338,12 +338,12 @@ wrong_first bytes ts ps t us w lexes cut opens e low few = record {
     k : WrongPart bytes t w
     k = wrong_part bytes ts ps t us w lexes cut opens e
 
-    at_past : (x : Token) (p c : ℕ) (xs : List Token) → t ∷ us ≡ x ∷ xs → length (said ps) ≡ most_statements → c ≡ limit → p ≡ x.start
-        → (length (said ps) < most_statements) ⊎ ((length (said ps) ≡ most_statements) × (w.offset ≡ t.start)) → (w.offset < p) ⊎ ((w.offset ≡ p) × (w.code ≤ c))
+    at_past : (x : Token) (p c : ℕ) (xs : List Token) → t ∷ us ≡ x ∷ xs → length (statements_of_parts ps) ≡ most_statements → c ≡ limit → p ≡ x.start
+        → (length (statements_of_parts ps) < most_statements) ⊎ ((length (statements_of_parts ps) ≡ most_statements) × (w.offset ≡ t.start)) → (w.offset < p) ⊎ ((w.offset ≡ p) × (w.code ≤ c))
     at_past x p c xs same all is place (inl fewer) = absurd (omega (arith, all, fewer))
     at_past x p c xs same all is place (inr (count, here)) = inr (here ∙ ap (λ (y : Token). y.start) (heads same) ∙ sym place, subst (λ n. w.code ≤ n) (sym is) low)
 
-    too_many : (length (said ps) < most_statements) ⊎ ((length (said ps) ≡ most_statements) × (w.offset ≡ t.start)) → most_statements < length (said ps) → ⊥
+    too_many : (length (statements_of_parts ps) < most_statements) ⊎ ((length (statements_of_parts ps) ≡ most_statements) × (w.offset ≡ t.start)) → most_statements < length (statements_of_parts ps) → ⊥
     too_many (inl fewer) more = omega (arith, fewer, more)
     too_many (inr (count, here)) more = omega (arith, count, more)
 
@@ -355,8 +355,8 @@ wrong_first bytes ts ps t us w lexes cut opens e low few = record {
     ]
 
 -- a statement too many begins, and the part there is good or wrong behind its first token
-pub past_first : (bytes : List ℕ) (ts : List Token) (ps : List (Piece Part Token)) (t : Token) (us : List Token) → Lexes bytes ts → AreParts ts ps (t ∷ us)
-    → AllOpenWell [] ps (t ∷ us) → is_end t.kind ≡ false → length (said ps) ≡ most_statements → ((w : SyntaxError) → checked_at (is_opened (said ps)) (t ∷ us) ≡ Err w → w.offset ≡ t.start → ⊥)
+pub past_first : (bytes : List ℕ) (ts : List Token) (ps : List (Piece SourcePart Token)) (t : Token) (us : List Token) → Lexes bytes ts → AreParts ts ps (t ∷ us)
+    → AllOpenWell [] ps (t ∷ us) → is_end t.kind ≡ false → length (statements_of_parts ps) ≡ most_statements → ((w : SyntaxError) → checked_at (is_opened (statements_of_parts ps)) (t ∷ us) ≡ Err w → w.offset ≡ t.start → ⊥)
     → FirstInTokens bytes (record { offset = t.start; line = t.line; code = limit })
 past_first bytes ts ps t us lexes cut opens no_end most not = record {
   stands = inr (refl, record { tokens = ts; lexes = lexes; parts = ps; at = t; more = us; cut = cut; opens = opens; most = most; begins_one = no_end; place_is = refl });
@@ -364,7 +364,7 @@ past_first bytes ts ps t us lexes cut opens no_end most not = record {
   line = token_line bytes ts (texts ps) t us lexes cut.whole 0 ∙ ap (λ n. 1 + newlines (take n bytes)) (place_of_none t);
 }
   where
-    same_token : (x : Token) (xs : List Token) (qs : List (Piece Part Token)) → is_end x.kind ≡ false → length (said qs) ≡ most_statements
+    same_token : (x : Token) (xs : List Token) (qs : List (Piece SourcePart Token)) → is_end x.kind ≡ false → length (statements_of_parts qs) ≡ most_statements
         → GoesOn ps (t ∷ us) qs (x ∷ xs) ⊎ GoesOn qs (x ∷ xs) ps (t ∷ us) → t ≡ x
     same_token x xs qs no_end' most' (inl on) = elim (same_or_more t us ps qs (x ∷ xs) no_end on) [
       | inl s ↦ heads s.0
@@ -384,7 +384,7 @@ past_first bytes ts ps t us lexes cut opens no_end most not = record {
         inr (ap (λ (y : Token). y.start) same ∙ sym x.place_is, subst (λ n. limit ≤ n) (sym is) (omega arith))
 
 -- no fault stands at the tokens of statements that are all read, and not too many
-pub all_good : (bytes : List ℕ) (ts : List Token) (ps : List (Piece Part Token)) → Lexes bytes ts → AreParts ts ps [] → AllOpenWell [] ps [] → length (said ps) ≤ most_statements
+pub all_good : (bytes : List ℕ) (ts : List Token) (ps : List (Piece SourcePart Token)) → Lexes bytes ts → AreParts ts ps [] → AllOpenWell [] ps [] → length (statements_of_parts ps) ≤ most_statements
     → (p c : ℕ) → InTokens bytes p c → ⊥
 all_good bytes ts ps lexes parts opens few p c fault = go fault
   where
@@ -409,7 +409,7 @@ all_good bytes ts ps lexes parts opens few p c fault = go fault
         let tokens : ts ≡ x.tokens = one_list bytes ts x.tokens lexes x.lexes in
         let one : cut find_part ts ≡ (ps, []) = unique finds_parts ts ps [] parts (nothing_none finds_parts [] nothing) in
         let two : cut find_part x.tokens ≡ (x.parts, x.rest) = unique finds_parts x.tokens x.parts x.rest x.cut (nothing_none finds_parts x.rest x.nothing) in
-        let rests : [] ≡ x.rest = ap (λ (z : List (Piece Part Token) × List Token). z.1) (sym one ∙ ap (cut find_part) tokens ∙ two) in
+        let rests : [] ≡ x.rest = ap (λ (z : List (Piece SourcePart Token) × List Token). z.1) (sym one ∙ ap (cut find_part) tokens ∙ two) in
         no_rest x.before x.at x.more (rests ∙ x.whole)
     go (inr (is, x)) = elim (past_where bytes ts ps [] p lexes parts (λ m more other d well. no_further [] m more other nothing d) x) [
       | inl s ↦ no_rest [] x.at x.more s.0

@@ -14,7 +14,7 @@ use Rattle.rv_statement.specs.declared.mnemonic.Mnemonic.{Mnemonic}
 use Rattle.rv_statement.specs.Statement.{Operand, Word, Value, Directs}
 use Rattle.rv_parse_laws.specs.Words.{named_in, choices, frame_directive, directive_words, directive_named, mnemonic_named, begun_by, beginning}
 use Rattle.rv_parse_laws.specs.declared.beginning.Beginning.TheVariants as beginnings
-use Rattle.rv_parse_laws.specs.Syntax.{begins, chosen, directed}
+use Rattle.rv_parse_laws.specs.Syntax.{begins, option_directive, directed}
 use Rattle.rv_parse_laws.specs.Opening.{opens_well}
 use Rattle.rv_parse_laws.specs.WrongOpening.{is_section}
 
@@ -76,7 +76,7 @@ section_of (NameToken word) h = go (mnemonic_named word) (directive_named word) 
 section_of _ h = absurd (cc)
 
 -- the other directives open nothing
-chosen_open : (known : List ℕ → Bool) (o : Option Choice) → opens_well known (Directs (chosen o)) ≡ true
+chosen_open : (known : List ℕ → Bool) (o : Option Choice) → opens_well known (Directs (option_directive o)) ≡ true
 chosen_open known None = refl
 chosen_open known (Some choice) = refl
 

@@ -4,7 +4,7 @@ use Rattle.std.proofs.Common.{◌≡◌, Bool, true, false, cond, ◌||◌, ◌&
 use Rattle.std.proofs.lemmas.Bool.{and_parts}
 use Rattle.rv_text_laws.specs.declared.punct.Punct.TheVariants.{Comma, Open}
 use Rattle.rv_text_laws.specs.Grammar.{Kind, Punctuation}
-use Rattle.rv_text_laws.specs.Lexing.{Token, ended}
+use Rattle.rv_text_laws.specs.Lexing.{Token, is_ended}
 use Rattle.rv_text_laws.specs.SyntaxError.{SyntaxError, wrong}
 use Rattle.rv_compress.specs.declared.parcel.RegisterSet.{RegisterSet}
 use Rattle.rv_compress.specs.declared.parcel.RegisterSet.TheVariants.{Any}
@@ -16,7 +16,7 @@ use Rattle.rv_statement.specs.declared.mnemonic.Mnemonic.TheVariants.{Registers,
 use Rattle.rv_statement.specs.declared.directive.DirectiveWord.{DirectiveWord}
 use Rattle.rv_statement.specs.declared.directive.DirectiveWord.TheVariants as words
 use Rattle.rv_statement.specs.Statement.{Operand}
-use Rattle.rv_parse_laws.specs.Syntax.{is_comma, is_end, is_opening, with_constant, source, registers_alone, registers_and_base, registers_before, parcel_slots, last, Slot, A_value, A_target, An_address_by, A_callee, A_section, A_comma, An_opening, single, front_begins, Slots, Stops, Takes, Chooses, Locates, Lists, Anything, slots, places, IsOperand, IsTaken, AreOperands, colon_next, EndsHere}
+use Rattle.rv_parse_laws.specs.Syntax.{is_comma, is_end, is_opening, with_constant, source, registers_alone, registers_and_base, registers_before, parcel_slots, last, Slot, A_value, A_target, An_address_by, A_callee, A_section, A_comma, An_opening, single, front_begins, Slots, Stops, Takes, Chooses, Locates, Lists, Anything, slots, operand_slots, IsOperand, TakesSlot, AreOperands, colon_next, EndsHere}
 use Rattle.rv_parse_laws.specs.Faults.{wrong_after}
 use Rattle.rv_parse_laws.specs.declared.role.Role.TheVariants as roles
 use Rattle.rv_parse_laws.specs.Parsing.{taking, operands_at}
@@ -96,7 +96,7 @@ slots_sound (Registers operation) = sound_source (is_some (with_constant operati
 slots_sound (Parcel operation) = parcel_sound (shape_of operation) (register_sets operation)
 slots_sound _ = refl
 
-pub places_sound : (word : DirectiveWord) → sound (places word) ≡ true
+pub places_sound : (word : DirectiveWord) → sound (operand_slots word) ≡ true
 places_sound (words.Enters section) = refl
 places_sound _ = refl
 
@@ -275,11 +275,11 @@ operands_live Anything = ([], [], (refl, refl), refl)
 
 -- where a choice is made
 chosen_wrong : (s : Slot) (more others : Slots) (ts : List Token) (w : SyntaxError) → front_begins s ts ≡ true
-    → Failing (List Operand) (IsTaken s (λ us ps. AreOperands more us ps)) (taking s (λ us. operands_at more us)) ts w
+    → Failing (List Operand) (TakesSlot s (λ us ps. AreOperands more us ps)) (taking s (λ us. operands_at more us)) ts w
     → Failing (List Operand) (λ us ps. AreOperands (Chooses s more others) us ps) (λ us. operands_at (Chooses s more others) us) ts w
 unfolding operands_at
 chosen_wrong s more others ts w begins x =
-    alike (List Operand) (List Operand) (λ us ps. AreOperands (Chooses s more others) us ps) (IsTaken s (λ us ps. AreOperands more us ps))
+    alike (List Operand) (List Operand) (λ us ps. AreOperands (Chooses s more others) us ps) (TakesSlot s (λ us ps. AreOperands more us ps))
     (λ us. operands_at (Chooses s more others) us) (taking s (λ us. operands_at more us)) ts w
     (λ us ps taken. (ps, inl taken)) (λ us first h. rw (front_same s us ts first ∙ begins) h) x
 
@@ -315,19 +315,19 @@ stop_wrong s ts w (t, us, whole, no_end, is) = record {
   goes = ([], [], (refl, refl));
 }
 
-pub operands_wrong : (ss : Slots) (ts : List Token) (w : SyntaxError) → ended ts ≡ true → operands_at ss ts ≡ Err w
+pub operands_wrong : (ss : Slots) (ts : List Token) (w : SyntaxError) → is_ended ts ≡ true → operands_at ss ts ≡ Err w
     → Failing (List Operand) (λ us ps. AreOperands ss us ps) (λ us. operands_at ss us) ts w
 unfolding operands_at
 operands_wrong (Stops s) ts w end e = stop_wrong s ts w (ended_err s ts w end e)
 operands_wrong (Takes s more) ts w end e =
-    alike (List Operand) (List Operand) (λ us ps. AreOperands (Takes s more) us ps) (IsTaken s (λ us ps. AreOperands more us ps))
+    alike (List Operand) (List Operand) (λ us ps. AreOperands (Takes s more) us ps) (TakesSlot s (λ us ps. AreOperands more us ps))
     (λ us. operands_at (Takes s more) us) (taking s (λ us. operands_at more us)) ts w (λ us ps taken. (ps, taken)) (λ us first h. h)
     (taken_wrong s (λ us. operands_at more us) (λ us ps. AreOperands more us ps) ts w (operands_go more) end e (λ os rest h last f. operands_wrong more rest w last f))
 operands_wrong (Chooses s more others) ts w end e =
     go (front_begins s ts) refl e (λ rest last f. operands_wrong more rest w last f) (λ h. operands_wrong others ts w end h)
   where
     go : (b : Bool) → front_begins s ts ≡ b → cond b (taking s (λ us. operands_at more us) ts) (operands_at others ts) ≡ Err w
-        → ((rest : List Token) → ended rest ≡ true → operands_at more rest ≡ Err w → Failing (List Operand) (λ us ps. AreOperands more us ps) (λ us. operands_at more us) rest w)
+        → ((rest : List Token) → is_ended rest ≡ true → operands_at more rest ≡ Err w → Failing (List Operand) (λ us ps. AreOperands more us ps) (λ us. operands_at more us) rest w)
         → (operands_at others ts ≡ Err w → Failing (List Operand) (λ us ps. AreOperands others us ps) (λ us. operands_at others us) ts w)
         → Failing (List Operand) (λ us ps. AreOperands (Chooses s more others) us ps) (λ us. operands_at (Chooses s more others) us) ts w
     go true begins e ih other =

@@ -6,12 +6,12 @@ use Rattle.std.proofs.lemmas.List.{append-nil}
 use Rattle.std.proofs.lemmas.Bool.{and_parts, and_from}
 use Rattle.rv_text_laws.specs.declared.punct.Punct.TheVariants.{Comma, Semicolon}
 use Rattle.rv_text_laws.specs.Grammar.{Kind, Newline, Punctuation, End}
-use Rattle.rv_text_laws.specs.Lexing.{Token, ended}
+use Rattle.rv_text_laws.specs.Lexing.{Token, is_ended}
 use Rattle.rv_text_laws.specs.SyntaxError.{SyntaxError, wrong, Read, nowhere, is_long}
 use Rattle.rv_text_laws.specs.Joined.{joined_at}
 use Rattle.rv_text_laws.proofs.ExpressionWrongLemmas.{ended_more}
 use Rattle.rv_statement.specs.Statement.{Operand}
-use Rattle.rv_parse_laws.specs.Syntax.{is_comma, is_end, is_wrong, is_any, Slot, A_value, An_address_by, A_callee, A_section, IsOperand, IsTaken, IsFurther, AreItems, EndsHere}
+use Rattle.rv_parse_laws.specs.Syntax.{is_comma, is_end, is_wrong, is_any, Slot, A_value, An_address_by, A_callee, A_section, IsOperand, TakesSlot, IsFurther, AreItems, EndsHere}
 use Rattle.rv_parse_laws.specs.Faults.{wrong_after, wrong_any}
 use Rattle.rv_parse_laws.specs.Parsing.{◌>>=◌, seen_as, operand_at, end_at, ended_at, taking, further, items_in, items_at, any_at}
 use Rattle.rv_parse_laws.proofs.StepsLemmas.{bind_ok, tested_ok, pair_parts, bind_err, tested_err}
@@ -63,7 +63,7 @@ ended_found s ts os rest e =
     let f = end_found s ts b.0 b.1 in
     (f.0 ∙ p.1, sym p.0, subst EndsHere p.1 f.1)
 
-pub ended_err : (s : Slot) (ts : List Token) (w : SyntaxError) → ended ts ≡ true → ended_at s ts ≡ Err w
+pub ended_err : (s : Slot) (ts : List Token) (w : SyntaxError) → is_ended ts ≡ true → ended_at s ts ≡ Err w
     → (t : Token) × (us : List Token) × (ts ≡ t ∷ us) × (is_end t.kind ≡ false) × (w ≡ wrong t (wrong_after s t.kind))
 ended_err s [] w end e = absurd (cc)
 ended_err s (t ∷ ts) w end e = elim (bind_err (end_at s (t ∷ ts)) (λ r. Ok ([], r)) w e) [
@@ -125,7 +125,7 @@ Items s us os = (n : ℕ) × AreItems n s us os
 abbrev pub Behind : Slot → List Token → List Operand → Type 0
 Behind s us os = ((us ≡ []) × (os ≡ [])) ⊎ IsFurther (λ vs ps. Items s vs ps) us os
 
-to_items : (s : Slot) (ts : List Token) (os : List Operand) → IsTaken s (λ us ps. Behind s us ps) ts os → Items s ts os
+to_items : (s : Slot) (ts : List Token) (os : List Operand) → TakesSlot s (λ us ps. Behind s us ps) ts os → Items s ts os
 to_items s ts os (one, rest, now, later, w, is, inl (none, nil), v) =
     let text : one ≡ ts = sym (w ∙ ap (λ us. one ++ us) none ∙ append-nil one) in
     let same : now ≡ os = sym (v ∙ ap (λ ps. now ++ ps) nil ∙ append-nil now) in
@@ -163,7 +163,7 @@ items_found_in zero s ts os rest le e = absurd (none ts le (sym (items_step s ts
 items_found_in (suc room) s ts os rest le e = finish
     (taken_found s (further s (λ us. items_at s us)) (λ us ps. Behind s us ps) ts os rest (λ now us h ps f. next us ps (operand_shorter s ts now us h) f (λ vs ps less g. items_found_in room s vs ps rest less g)) (sym (items_step s ts) ∙ e))
   where
-    finish : FoundTo (IsTaken s (λ us ps. Behind s us ps)) ts os rest → FoundTo (λ us ps. Items s us ps) ts os rest
+    finish : FoundTo (TakesSlot s (λ us ps. Behind s us ps)) ts os rest → FoundTo (λ us ps. Items s us ps) ts os rest
     finish (text, whole, is, ends) = (text, whole, to_items s text os is, ends)
 
     next : (us : List Token) (ps : List Operand) → length us < length ts → further s (λ us. items_at s us) us ≡ Ok (ps, rest)
@@ -179,17 +179,17 @@ items_found_in (suc room) s ts os rest le e = finish
 pub items_found : (s : Slot) (ts : List Token) (os : List Operand) (rest : List Token) → items_at s ts ≡ Ok (os, rest) → FoundTo (λ us ps. Items s us ps) ts os rest
 items_found s ts os rest e = items_found_in (length ts) s ts os rest (omega arith) e
 
-items_wrong_in : (room : ℕ) (s : Slot) (ts : List Token) (w : SyntaxError) → length ts ≤ room → ended ts ≡ true → items_at s ts ≡ Err w → Failing (List Operand) (λ us ps. Items s us ps) (λ us. items_at s us) ts w
+items_wrong_in : (room : ℕ) (s : Slot) (ts : List Token) (w : SyntaxError) → length ts ≤ room → is_ended ts ≡ true → items_at s ts ≡ Err w → Failing (List Operand) (λ us ps. Items s us ps) (λ us. items_at s us) ts w
 items_wrong_in zero s [] w le end e = absurd (cc)
 items_wrong_in zero s (t ∷ ts) w le end e = absurd (omega (arith, le))
 items_wrong_in (suc room) s ts w le end e =
-    alike (List Operand) (List Operand) (λ us ps. Items s us ps) (IsTaken s (λ us ps. Behind s us ps)) (λ us. items_at s us) (taking s (further s (λ us. items_at s us))) ts w
+    alike (List Operand) (List Operand) (λ us ps. Items s us ps) (TakesSlot s (λ us ps. Behind s us ps)) (λ us. items_at s us) (taking s (further s (λ us. items_at s us))) ts w
     (λ us ps is. (ps, to_items s us ps is)) (λ us first h. items_step s us ∙ h)
     (taken_wrong s (further s (λ us. items_at s us)) (λ us ps. Behind s us ps) ts w ([], [], inl (refl, refl)) end (sym (items_step s ts) ∙ e)
     (λ os rest h last f. next rest (operand_shorter s ts os rest h) last f (λ us less last g. items_wrong_in room s us w less last g)))
   where
-    next : (us : List Token) → length us < length ts → ended us ≡ true → further s (λ us. items_at s us) us ≡ Err w
-        → ((vs : List Token) → length vs ≤ room → ended vs ≡ true → items_at s vs ≡ Err w → Failing (List Operand) (λ us ps. Items s us ps) (λ us. items_at s us) vs w)
+    next : (us : List Token) → length us < length ts → is_ended us ≡ true → further s (λ us. items_at s us) us ≡ Err w
+        → ((vs : List Token) → length vs ≤ room → is_ended vs ≡ true → items_at s vs ≡ Err w → Failing (List Operand) (λ us ps. Items s us ps) (λ us. items_at s us) vs w)
         → Failing (List Operand) (λ us ps. Behind s us ps) (further s (λ us. items_at s us)) us w
     next [] lt last f ih = absurd (cc)
     next (t ∷ us) lt last f ih = go (is_comma t.kind) refl f
@@ -215,7 +215,7 @@ items_wrong_in (suc room) s ts w le end e =
               goes = ([], [], inl (refl, refl));
             }
 
-pub items_wrong : (s : Slot) (ts : List Token) (w : SyntaxError) → ended ts ≡ true → items_at s ts ≡ Err w → Failing (List Operand) (λ us ps. Items s us ps) (λ us. items_at s us) ts w
+pub items_wrong : (s : Slot) (ts : List Token) (w : SyntaxError) → is_ended ts ≡ true → items_at s ts ≡ Err w → Failing (List Operand) (λ us ps. Items s us ps) (λ us. items_at s us) ts w
 items_wrong s ts w end e = items_wrong_in (length ts) s ts w (omega arith) end e
 
 -- tokens that are not looked at
@@ -248,12 +248,12 @@ any_found (t ∷ ts) os rest e = go (is_end t.kind) refl e (any_found ts os rest
         more true any e = let f = ih e in (t ∷ f.0, ap (λ xs. t ∷ xs) f.1, (and_from (is_any t.kind) (list_all (λ (t : Token). is_any t.kind) f.0) any f.2.0, f.2.1), f.3)
         more false any e = absurd (cc)
 
-pub any_wrong : (ts : List Token) (w : SyntaxError) → ended ts ≡ true → any_at ts ≡ Err w → Failing (List Operand) AreAny any_at ts w
+pub any_wrong : (ts : List Token) (w : SyntaxError) → is_ended ts ≡ true → any_at ts ≡ Err w → Failing (List Operand) AreAny any_at ts w
 any_wrong [] w end e = absurd (cc)
 any_wrong (t ∷ ts) w end e = go (is_end t.kind) refl e (any_wrong ts w)
   where
     go : (b : Bool) → is_end t.kind ≡ b → cond b (Ok ([], t ∷ ts)) (cond (is_any t.kind) (any_at ts) (Err (wrong t (wrong_any t.kind)))) ≡ Err w
-        → (ended ts ≡ true → any_at ts ≡ Err w → Failing (List Operand) AreAny any_at ts w) → Failing (List Operand) AreAny any_at (t ∷ ts) w
+        → (is_ended ts ≡ true → any_at ts ≡ Err w → Failing (List Operand) AreAny any_at ts w) → Failing (List Operand) AreAny any_at (t ∷ ts) w
     go true h e ih = absurd (never ([], t ∷ ts) w e)
     go false h e ih = more (is_any t.kind) refl e
       where

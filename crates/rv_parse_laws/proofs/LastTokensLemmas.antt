@@ -5,7 +5,7 @@ use Rattle.rv_text_laws.specs.Grammar.{Kind, Punctuation, Name as NameToken, Num
 use Rattle.rv_text_laws.specs.Lexing.{is_last}
 use Rattle.rv_isa.specs.declared.operation.AccessSet.{AccessSet}
 use Rattle.rv_statement.specs.Statement.{Operand, Expression}
-use Rattle.rv_parse_laws.specs.Syntax.{register_of, symbol_of, accesses_of, is_comma, is_colon, is_opening, is_closing, is_at, is_plt, is_zero, is_any, is_percent, function_in, label_named, A_string, A_type, single}
+use Rattle.rv_parse_laws.specs.Syntax.{register_of, token_symbol, accesses_of, is_comma, is_colon, is_opening, is_closing, is_at_sign, is_plt, is_zero, is_any, is_percent, function_in, label_named, A_string, A_type, single}
 use Rattle.rv_statement.specs.declared.pseudo.Function.{Function}
 use Rattle.rv_parse_laws.specs.declared.role.Role.{Role}
 use Rattle.rv_parse_laws.specs.Parsing.{width}
@@ -52,7 +52,7 @@ pub colon_no_last : (k : Kind) → is_colon k ≡ true → is_last k ≡ false
 colon_no_last (Punctuation sign) h = refl
 colon_no_last _ h = absurd (cc)
 
-pub at_no_last : (k : Kind) → is_at k ≡ true → is_last k ≡ false
+pub at_no_last : (k : Kind) → is_at_sign k ≡ true → is_last k ≡ false
 at_no_last (Punctuation sign) h = refl
 at_no_last _ h = absurd (cc)
 
@@ -60,7 +60,7 @@ pub plt_no_last : (k : Kind) → is_plt k ≡ true → is_last k ≡ false
 plt_no_last (NameToken name) h = refl
 plt_no_last _ h = absurd (cc)
 
-pub symbol_no_last : (k : Kind) (name : List ℕ) → symbol_of k ≡ Some name → is_last k ≡ false
+pub symbol_no_last : (k : Kind) (name : List ℕ) → token_symbol k ≡ Some name → is_last k ≡ false
 symbol_no_last (NameToken word) name h = refl
 symbol_no_last _ name h = absurd (cc)
 

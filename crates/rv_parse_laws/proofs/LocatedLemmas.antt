@@ -3,16 +3,16 @@
 
 use Rattle.std.proofs.Common.{◌≡◌, Bool, true, false, cond, not, List, [], ◌∷◌, ◌++◌, append_assoc, Option, Some, None, is_some, Ok, Err, refl, sym, ◌∙◌, ap, subst, arith, ◌⊎◌, inl, inr}
 use Rattle.std.proofs.lemmas.List.{append-nil}
-use Rattle.rv_text_laws.specs.Lexing.{Token, ended}
+use Rattle.rv_text_laws.specs.Lexing.{Token, is_ended}
 use Rattle.rv_text_laws.specs.Codes.{unsupported_here}
 use Rattle.rv_text_laws.specs.SyntaxError.{SyntaxError, wrong, Read}
 use Rattle.rv_text_laws.proofs.ExpressionWrongLemmas.{ended_behind}
 use Rattle.rv_compress.specs.declared.parcel.RegisterSet.TheVariants.{Any}
 use Rattle.rv_statement.specs.Statement.{Expression, Operand, Target}
 use Rattle.rv_parse_laws.specs.declared.role.Role.TheVariants as roles
-use Rattle.rv_parse_laws.specs.Syntax.{is_opening, is_end, is_number, A_register, A_target, An_address, An_opening, front_begins, IsValue, IsOperand, IsTaken, EndsHere}
+use Rattle.rv_parse_laws.specs.Syntax.{is_opening, is_end, is_of_numbers, A_register, A_target, An_address, An_opening, front_begins, IsValue, IsOperand, TakesSlot, EndsHere}
 use Rattle.rv_parse_laws.specs.Faults.{wrong_after}
-use Rattle.rv_parse_laws.specs.Parsing.{seen_as, value_at, is_target, target_next, operand_at, ended_at, taking}
+use Rattle.rv_parse_laws.specs.Parsing.{seen_as, value_at, is_target_next, target_next, operand_at, ended_at, taking}
 use Rattle.rv_parse_laws.proofs.StepsLemmas.{bind_err, seen_err}
 use Rattle.rv_parse_laws.proofs.FailingLemmas.{Failing, at_once, behind, first_of, first_is, wrongs}
 use Rattle.rv_parse_laws.proofs.ValuesLemmas.{closes, value_is, value_some, Ended, value_ended, sum_goes}
@@ -26,7 +26,7 @@ abbrev pub located : (List Token → Read (List Operand)) → List Token → Rea
 located R ts = cond (target_next ts) (taking A_target R ts) (taking An_address (ended_at An_address) ts)
 
 abbrev pub IsLocated : (List Token → List Operand → Type 0) → List Token → List Operand → Type 0
-IsLocated N ts os = IsOperand An_address ts os ⊎ IsTaken A_target N ts os
+IsLocated N ts os = IsOperand An_address ts os ⊎ TakesSlot A_target N ts os
 
 -- behind a target there is a comma or the end
 abbrev pub Parted : List Token → Type 0
@@ -37,7 +37,7 @@ unopened t us h = rw h refl
 
 target_stands : (one rest : List Token) (now : List Operand) → IsOperand A_target one now → Parted rest → target_next (one ++ rest) ≡ true
 target_stands one rest now (o, inl (e, v, good, is), alone) (t, us, w, ends, shut) =
-    ap is_target (value_is one rest e v (t, us, w, ends)) ∙ ap (λ xs. not (front_begins (An_opening A_register) xs)) w ∙ ap not (unopened t us shut)
+    ap is_target_next (value_is one rest e v (t, us, w, ends)) ∙ ap (λ xs. not (front_begins (An_opening A_register) xs)) w ∙ ap not (unopened t us shut)
 target_stands one rest now (o, inr (p, n, q, argument, c, f, e, w, percent, is, opens, arg, shut, good, v), alone) parted = let no = function_may roles.Target n.kind f is in absurd (cc)
 
 pub target_there : (R : List Token → Read (List Operand)) (one more rest : List Token) (now later : List Operand) → IsOperand A_target one now → Parted (more ++ rest)
@@ -62,7 +62,7 @@ located_found R N ts os rest ih e = go (target_next ts) e
     go false e = whole (taken_found An_address (ended_at An_address) (λ us ps. (us ≡ []) × (ps ≡ [])) ts os rest
         (λ now us h ps g. let f = ended_found An_address us ps rest g in ([], f.0, (refl, f.1), f.2)) e)
       where
-        whole : FoundTo (IsTaken An_address (λ us ps. (us ≡ []) × (ps ≡ []))) ts os rest → FoundTo (IsLocated N) ts os rest
+        whole : FoundTo (TakesSlot An_address (λ us ps. (us ≡ []) × (ps ≡ []))) ts os rest → FoundTo (IsLocated N) ts os rest
         whole (text, w, (one, others, now, later, parts, is, (none, nil), v), ends) =
             let same : one ≡ text = sym (parts ∙ ap (λ us. one ++ us) none ∙ append-nil one) in
             let all : now ≡ os = sym (v ∙ ap (λ ps. now ++ ps) nil ∙ append-nil now) in
@@ -70,8 +70,8 @@ located_found R N ts os rest ih e = go (target_next ts) e
 
 -- a target, where the expression is read
 pub target_at : (t : Token) (ts : List Token) (e : Expression) (rest : List Token) → value_at (t ∷ ts) ≡ Ok (e, rest)
-    → operand_at A_target (t ∷ ts) ≡ cond (is_number e) (Err (wrong t unsupported_here)) (Ok (Target e ∷ [], rest))
-target_at t ts e rest read = rw read (go (is_number e))
+    → operand_at A_target (t ∷ ts) ≡ cond (is_of_numbers e) (Err (wrong t unsupported_here)) (Ok (Target e ∷ [], rest))
+target_at t ts e rest read = rw read (go (is_of_numbers e))
   where
     go : (b : Bool) → seen_as (λ o. o ∷ []) (seen_as Target (cond {A = Read Expression} b (Err (wrong t unsupported_here)) (Ok (e, rest)))) ≡ cond b (Err (wrong t unsupported_here)) (Ok (Target e ∷ [], rest))
     go true = refl
@@ -83,18 +83,18 @@ target_wrong : (R : List Token → Read (List Operand)) (N : List Token → List
     → taking A_target R (front ++ at ∷ more) ≡ Err w → (R (at ∷ more) ≡ Err w → Failing (List Operand) N R (at ∷ more) w)
     → Failing (List Operand) (IsLocated N) (located R) (front ++ at ∷ more) w
 target_wrong R N [] at more w x live v shut read e ih = absurd (omega (arith, value_some [] x v))
-target_wrong R N (t ∷ front) at more w x (text, later, n) v shut read e ih = go (is_number x) refl
+target_wrong R N (t ∷ front) at more w x (text, later, n) v shut read e ih = go (is_of_numbers x) refl
   where
     next : (us : List Token) → target_next (t ∷ (front ++ at ∷ us)) ≡ true
-    next us = ap is_target (read us) ∙ ap not (unopened at us shut)
+    next us = ap is_target_next (read us) ∙ ap not (unopened at us shut)
 
-    number_err : is_number x ≡ true → (us : List Token) → taking A_target R (t ∷ (front ++ at ∷ us)) ≡ Err (wrong t unsupported_here)
+    number_err : is_of_numbers x ≡ true → (us : List Token) → taking A_target R (t ∷ (front ++ at ∷ us)) ≡ Err (wrong t unsupported_here)
     number_err number us = rw (target_at t (front ++ at ∷ us) x (at ∷ us) (read us), number) refl
 
-    behind_target : is_number x ≡ false → (us : List Token) → taking A_target R (t ∷ (front ++ at ∷ us)) ≡ seen_as (λ os. Target x ∷ os) (R (at ∷ us))
+    behind_target : is_of_numbers x ≡ false → (us : List Token) → taking A_target R (t ∷ (front ++ at ∷ us)) ≡ seen_as (λ os. Target x ∷ os) (R (at ∷ us))
     behind_target other us = rw (target_at t (front ++ at ∷ us) x (at ∷ us) (read us), other) refl
 
-    numbered : is_number x ≡ true → w ≡ wrong t unsupported_here → Failing (List Operand) (IsLocated N) (located R) (t ∷ (front ++ at ∷ more)) w
+    numbered : is_of_numbers x ≡ true → w ≡ wrong t unsupported_here → Failing (List Operand) (IsLocated N) (located R) (t ∷ (front ++ at ∷ more)) w
     numbered number is =
         let g = sum_goes (t ∷ front) x v in
         record {
@@ -111,10 +111,10 @@ target_wrong R N (t ∷ front) at more w x (text, later, n) v shut read e ih = g
           );
         }
 
-    located_err : is_number x ≡ false → (us : List Token) → R (at ∷ us) ≡ Err w → located R (t ∷ (front ++ at ∷ us)) ≡ Err w
+    located_err : is_of_numbers x ≡ false → (us : List Token) → R (at ∷ us) ≡ Err w → located R (t ∷ (front ++ at ∷ us)) ≡ Err w
     located_err other us f = rw (next us) (behind_target other us ∙ ap (seen_as (λ os. Target x ∷ os)) f)
 
-    go : (b : Bool) → is_number x ≡ b → Failing (List Operand) (IsLocated N) (located R) (t ∷ (front ++ at ∷ more)) w
+    go : (b : Bool) → is_of_numbers x ≡ b → Failing (List Operand) (IsLocated N) (located R) (t ∷ (front ++ at ∷ more)) w
     go true number = numbered number (wrongs w (wrong t unsupported_here) (sym e ∙ number_err number more))
     go false other =
         behind (List Operand) (List Operand) (IsLocated N) N (located R) R (t ∷ front) (at ∷ more) w
@@ -131,7 +131,7 @@ target_parts ts next = go (value_at ts) refl next
     shut true h = absurd (cc)
     shut false h = refl
 
-    go : (r : Read Expression) → value_at ts ≡ r → is_target r ≡ true → (x : Expression) × (rest : List Token) × (value_at ts ≡ Ok (x, rest)) × (front_begins (An_opening A_register) rest ≡ false)
+    go : (r : Read Expression) → value_at ts ≡ r → is_target_next r ≡ true → (x : Expression) × (rest : List Token) × (value_at ts ≡ Ok (x, rest)) × (front_begins (An_opening A_register) rest ≡ false)
     go (Ok (x, rest)) read h = (x, rest, read, shut (front_begins (An_opening A_register) rest) h)
     go (Err w) none h = absurd (cc)
 
@@ -150,15 +150,15 @@ unended_err : (R : List Token → Read (List Operand)) (text : List Token) (os :
 unended_err R text os t us w is no_end shown = rw (address_no_target Any text os is (t ∷ us), address_is Any text os is (t ∷ us)) (rw (no_end, shown) refl)
 
 pub located_wrong : (R : List Token → Read (List Operand)) (N : List Token → List Operand → Type 0) (ts : List Token) (w : SyntaxError)
-    → (text : List Token) × (os : List Operand) × N text os → ended ts ≡ true → located R ts ≡ Err w
-    → ((rest : List Token) → ended rest ≡ true → R rest ≡ Err w → Failing (List Operand) N R rest w) → Failing (List Operand) (IsLocated N) (located R) ts w
+    → (text : List Token) × (os : List Operand) × N text os → is_ended ts ≡ true → located R ts ≡ Err w
+    → ((rest : List Token) → is_ended rest ≡ true → R rest ≡ Err w → Failing (List Operand) N R rest w) → Failing (List Operand) (IsLocated N) (located R) ts w
 located_wrong R N ts w live end e ih = go (target_next ts) refl e
   where
     by_ended : (x : Expression) (rest : List Token) → front_begins (An_opening A_register) rest ≡ false → Ended ts x rest → taking A_target R ts ≡ Err w
         → Failing (List Operand) (IsLocated N) (located R) ts w
     by_ended x rest shut v e =
         let whole : ts ≡ v.text ++ v.at ∷ v.more = v.whole ∙ ap (λ us. v.text ++ us) v.rest_is in
-        let last : ended (v.at ∷ v.more) ≡ true = sym (ended_behind v.text v.at v.more) ∙ ap ended (sym whole) ∙ end in
+        let last : is_ended (v.at ∷ v.more) ≡ true = sym (ended_behind v.text v.at v.more) ∙ ap is_ended (sym whole) ∙ end in
         subst (λ us. Failing (List Operand) (IsLocated N) (located R) us w) (sym whole)
         (target_wrong R N v.text v.at v.more w x live v.is (shut_is v.at v.more (ap (front_begins (An_opening A_register)) (sym v.rest_is) ∙ shut))
         (λ us. v.steady (v.at ∷ us) (sym (ap first_of v.rest_is))) (ap (taking A_target R) (sym whole) ∙ e) (λ f. ih (v.at ∷ v.more) last f))

@@ -17,11 +17,11 @@ use Rattle.rv_parse_laws.specs.declared.role.Role.TheVariants as roles
 use Rattle.rv_parse_laws.specs.declared.beginning.Beginning.{Beginning}
 use Rattle.rv_parse_laws.specs.declared.beginning.Beginning.TheVariants as beginnings
 use Rattle.rv_parse_laws.specs.Faults.{wrong_first}
-use Rattle.rv_parse_laws.specs.Syntax.{Slots, last as last_slot, A_value, Stops, Takes, Chooses, A_section, Some_flags, At_sign, A_type, A_comma, and_maybe, section_slots, is_comma, is_at, is_colon, is_end, single, begins, places, directed, AreOperands, Part, Ends, Says, IsPart, StopsPart, IsStatement, EndsHere}
+use Rattle.rv_parse_laws.specs.Syntax.{Slots, last as last_slot, A_value, Stops, Takes, Chooses, A_section, Some_flags, At_sign, A_type, A_comma, and_maybe, section_slots, is_comma, is_at_sign, is_colon, is_end, single, begins, operand_slots, directed, AreOperands, SourcePart, Ends, Says, IsPart, StopsPart, IsStatement, EndsHere}
 use Rattle.rv_parse_laws.specs.Opening.{is_opened, is_good, opens_well, OpenWell}
 use Rattle.rv_parse_laws.specs.WrongOpening.{flags_fault, type_fault, is_section}
-use Rattle.rv_parse_laws.specs.Parsing.{named_or, section_at, single_at, front_fault, behind_read, type_wrong, flags_wrong, named_wrong, opening_at}
-use Rattle.rv_parse_laws.specs.Reading.{told, said}
+use Rattle.rv_parse_laws.specs.Parsing.{named_or, section_name_at, single_at, front_fault, behind_read, type_wrong, flags_wrong, named_wrong, opening_at}
+use Rattle.rv_parse_laws.specs.Reading.{told, statements_of_parts}
 use Rattle.rv_parse_laws.specs.Refusals.{OpensWell, AllOpenWell}
 use Rattle.rv_parse_laws.proofs.ValuesLemmas.{closes}
 use Rattle.rv_parse_laws.proofs.SectionsLemmas.{section_is, none_at}
@@ -116,7 +116,7 @@ unfolding typed
 type_here known rest ts after os (inr (front, (none, says))) ends = (inl says, rw (none, says) (comma_less known (λ vs. after_at known vs) after ends))
 type_here known rest ts after os (inl (one, more, now, later, whole, (c, is, e), (two, others, here, last, split, (s, sign, f), n, told_by), says)) ends =
     let comma = empty_when (is_comma c.kind) now e in
-    let at = empty_when (is_at s.kind) here f in
+    let at = empty_when (is_at_sign s.kind) here f in
     let w = word_here known rest others after last n in
     let all : ts ++ after ≡ c ∷ s ∷ (others ++ after) =
     ap (λ us. us ++ after) (whole ∙ ap (λ us. us ++ more) is ∙ ap (λ us. c ∷ us) (split ∙ ap (λ us. us ++ others) sign)) in
@@ -150,12 +150,12 @@ opened_by known name letters more (inl is) = rw is refl
 opened_by known name letters more (inr (word, size, is)) = rw is refl
 
 section_here : (known : List ℕ → Bool) (ts after : List Token) (os : List Operand) → AreOperands section_slots ts os → EndsHere after
-    → nothing (named_wrong known (section_at (ts ++ after))) ≡ opens_well known (Directs (directed words.Section os))
+    → nothing (named_wrong known (section_name_at (ts ++ after))) ≡ opens_well known (Directs (directed words.Section os))
 section_here known ts after os (one, rest, now, later, whole, (name, joined, good, is), inr (front, (none, nobody)), says) (e, more, end_is, ends) =
     let all : ts ++ after ≡ one ++ after = ap (λ us. us ++ after) (whole ∙ ap (λ us. one ++ us) none) ∙ append_assoc one [] after in
-    let read : section_at (one ++ after) ≡ Ok (name, after) = section_is one after name (joined, good) (e, more, end_is, end_joins e.kind ends) in
+    let read : section_name_at (one ++ after) ≡ Ok (name, after) = section_is one after name (joined, good) (e, more, end_is, end_joins e.kind ends) in
     let os_is : os ≡ Word name ∷ [] = says ∙ ap (λ xs. xs ++ later) is ∙ ap (λ xs. Word name ∷ xs) nobody in
-    ap (λ us. nothing (named_wrong known (section_at us))) all ∙ ap (λ r. nothing (named_wrong known r)) read
+    ap (λ us. nothing (named_wrong known (section_name_at us))) all ∙ ap (λ r. nothing (named_wrong known r)) read
     ∙ named_comma_less (λ us. flags_wrong (known name) us) after (e, more, end_is, ends) ∙ sym (ap (λ xs. opens_well known (Directs (directed words.Section xs))) os_is)
   where
     end_joins : (k : Kind) → is_end k ≡ true → closes k ≡ true
@@ -168,12 +168,12 @@ section_here known ts after os (one, rest, now, later, whole, (name, joined, goo
     let behind = flags_here (known name) (last_slot (A_value roles.Directive)) others after last n ends in
     let all : ts ++ after ≡ one ++ (c ∷ (others ++ after)) =
     ap (λ us. us ++ after) whole ∙ append_assoc one rest after ∙ ap (λ us. one ++ (us ++ after)) (split ∙ ap (λ us. us ++ others) c_is) in
-    let read : section_at (one ++ (c ∷ (others ++ after))) ≡ Ok (name, c ∷ (others ++ after)) =
+    let read : section_name_at (one ++ (c ∷ (others ++ after))) ≡ Ok (name, c ∷ (others ++ after)) =
     section_is one (c ∷ (others ++ after)) name (joined, good) (c, others ++ after, refl, comma_joins c.kind at.0) in
     let os_is : os ≡ Word name ∷ Quoted behind.0 ∷ behind.1 =
     says ∙ ap (λ xs. xs ++ later) is ∙ ap (λ xs. Word name ∷ xs) (told_by ∙ ap (λ xs. xs ++ last) at.1 ∙ behind.2) in
     let step : named_wrong known (Ok (name, c ∷ (others ++ after))) ≡ flags_wrong (known name) (others ++ after) = rw at.0 refl in
-    ap (λ us. nothing (named_wrong known (section_at us))) all ∙ ap (λ r. nothing (named_wrong known r)) read ∙ ap nothing step ∙ behind.4
+    ap (λ us. nothing (named_wrong known (section_name_at us))) all ∙ ap (λ r. nothing (named_wrong known r)) read ∙ ap nothing step ∙ behind.4
     ∙ sym (opened_by known name behind.0 behind.1 behind.3) ∙ sym (ap (λ xs. opens_well known (Directs (directed words.Section xs))) os_is)
   where
     comma_joins : (k : Kind) → is_comma k ≡ true → closes k ≡ true
@@ -198,22 +198,22 @@ colon_name : (k : Kind) → is_colon k ≡ true → first_name k ≡ None
 colon_name (Punctuation punct) h = refl
 colon_name _ h = absurd (cc)
 
-colon_reads : (c : Token) (us : List Token) → is_colon c.kind ≡ true → (w : SyntaxError) × (section_at (c ∷ us) ≡ Err w)
+colon_reads : (c : Token) (us : List Token) → is_colon c.kind ≡ true → (w : SyntaxError) × (section_name_at (c ∷ us) ≡ Err w)
 colon_reads c us h = (wrong c (wrong_first A_section c.kind), ap (named_or (c ∷ us)) (none_at c us (colon_name c.kind h)))
 
 label_here : (known : List ℕ → Bool) (t c : Token) (us : List Token) → is_colon c.kind ≡ true → nothing (opening_at known (t ∷ c ∷ us)) ≡ true
 unfolding nothing opening_at
 label_here known t c us h = go (is_section t.kind) (colon_reads c us h).1
   where
-    go : (b : Bool) → section_at (c ∷ us) ≡ Err (colon_reads c us h).0 → nothing (cond b (named_wrong known (section_at (c ∷ us))) None) ≡ true
+    go : (b : Bool) → section_name_at (c ∷ us) ≡ Err (colon_reads c us h).0 → nothing (cond b (named_wrong known (section_name_at (c ∷ us))) None) ≡ true
     go true e = ap (λ r. nothing (named_wrong known r)) e
     go false e = refl
 
-well : (List ℕ → Bool) → Part → Bool
+well : (List ℕ → Bool) → SourcePart → Bool
 well known Ends = true
 well known (Says kind) = opens_well known kind
 
-opens_section : (known : List ℕ → Bool) (t : Token) (ts : List Token) → is_section t.kind ≡ true → opening_at known (t ∷ ts) ≡ named_wrong known (section_at ts)
+opens_section : (known : List ℕ → Bool) (t : Token) (ts : List Token) → is_section t.kind ≡ true → opening_at known (t ∷ ts) ≡ named_wrong known (section_name_at ts)
 unfolding opening_at
 opens_section known t ts is = rw is refl
 
@@ -229,7 +229,7 @@ that_word _ is = absurd (cc)
 
 abbrev Here : (List ℕ → Bool) → DirectiveWord → Token → List Token → List Token → List Operand → Type 0
 Here known word t rest after os =
-    begins t.kind ≡ beginnings.Directive word → AreOperands (places word) rest os
+    begins t.kind ≡ beginnings.Directive word → AreOperands (operand_slots word) rest os
     → nothing (opening_at known (t ∷ (rest ++ after))) ≡ opens_well known (Directs (directed word os))
 
 directive_here : (known : List ℕ → Bool) (word : DirectiveWord) (t : Token) (rest after : List Token) (os : List Operand) → EndsHere after → Here known word t rest after os
@@ -241,7 +241,7 @@ directive_here known word t rest after os ends = go (is_section_word word) refl
     go false is = λ begun are.
         no_section known t (rest ++ after) (begins_none t.kind (beginnings.Directive word) begun (λ e. other_word word is e)) ∙ sym (others_open known word os is)
 
-part_here : (known : List ℕ → Bool) (p : Part) (text after : List Token) → IsPart p text → StopsPart p after → nothing (opening_at known (text ++ after)) ≡ well known p
+part_here : (known : List ℕ → Bool) (p : SourcePart) (text after : List Token) → IsPart p text → StopsPart p after → nothing (opening_at known (text ++ after)) ≡ well known p
 unfolding well
 part_here known Ends text after (t, is, ends) stops = rw is (no_section known t after (end_no_section t.kind ends))
 part_here known (Says (Label name)) text after (t, c, is, named, colon) stops = rw is (label_here known t c after colon)
@@ -264,13 +264,13 @@ nothing_wrong ss ts opens = go (opening_at (is_opened ss) ts) refl
 opens_of : (ss : List Statement) (ts : List Token) → nothing (opening_at (is_opened ss) ts) ≡ true → OpensWell ss ts
 opens_of ss ts h = none_opens ss ts (nothing_none (opening_at (is_opened ss) ts) h)
 
-push_well : (ss : List Statement) (p : Part) (text : List Token) (more : List Statement) → well (is_opened ss) p ≡ true → OpenWell (ss ++ told p text) more → OpenWell ss (told p text ++ more)
+push_well : (ss : List Statement) (p : SourcePart) (text : List Token) (more : List Statement) → well (is_opened ss) p ≡ true → OpenWell (ss ++ told p text) more → OpenWell ss (told p text ++ more)
 unfolding well
 push_well ss Ends text more h rest = subst (λ (xs : List Statement). OpenWell xs more) (append-nil ss) rest
 push_well ss (Says kind) [] more h rest = subst (λ (xs : List Statement). OpenWell xs more) (append-nil ss) rest
 push_well ss (Says kind) (t ∷ ts) more h rest = (h, rest)
 
-pop_well : (ss : List Statement) (p : Part) (text after : List Token) (more : List Statement) → IsPart p text → OpenWell ss (told p text ++ more)
+pop_well : (ss : List Statement) (p : SourcePart) (text after : List Token) (more : List Statement) → IsPart p text → OpenWell ss (told p text ++ more)
     → (well (is_opened ss) p ≡ true) × OpenWell (ss ++ told p text) more
 unfolding well
 pop_well ss Ends text after more is h = (refl, subst (λ (xs : List Statement). OpenWell xs more) (sym (append-nil ss)) h)
@@ -283,18 +283,18 @@ pop_well ss (Says kind) [] after more is h = absurd (no_text kind is)
     no_text (Directs d) (t, rest, word, os, is, colon, begun, are, more) = cc
 pop_well ss (Says kind) (t ∷ ts) after more is (h, rest) = (h, rest)
 
-pub said_well : (ss : List Statement) (ps : List (Piece Part Token)) (rest : List Token) → Each IsPart StopsPart ps rest → AllOpenWell ss ps rest → OpenWell ss (said ps)
+pub said_well : (ss : List Statement) (ps : List (Piece SourcePart Token)) (rest : List Token) → Each IsPart StopsPart ps rest → AllOpenWell ss ps rest → OpenWell ss (statements_of_parts ps)
 said_well ss [] rest each all = tt
 said_well ss (p ∷ ps) rest (is, stops, each) (first, all) =
-    push_well ss p.kind p.text (said ps)
+    push_well ss p.kind p.text (statements_of_parts ps)
     (sym (part_here (is_opened ss) p.kind p.text (texts ps ++ rest) is stops)
     ∙ nothing_wrong ss (p.text ++ (texts ps ++ rest)) (subst (OpensWell ss) (append_assoc p.text (texts ps) rest) first))
     (said_well (ss ++ told p.kind p.text) ps rest each all)
 
-pub all_open_well : (ss : List Statement) (ps : List (Piece Part Token)) (rest : List Token) → Each IsPart StopsPart ps rest → OpenWell ss (said ps) → AllOpenWell ss ps rest
+pub all_open_well : (ss : List Statement) (ps : List (Piece SourcePart Token)) (rest : List Token) → Each IsPart StopsPart ps rest → OpenWell ss (statements_of_parts ps) → AllOpenWell ss ps rest
 all_open_well ss [] rest each h = tt
 all_open_well ss (p ∷ ps) rest (is, stops, each) h =
-    let k = pop_well ss p.kind p.text (texts ps ++ rest) (said ps) is h in (
+    let k = pop_well ss p.kind p.text (texts ps ++ rest) (statements_of_parts ps) is h in (
       subst (OpensWell ss) (sym (append_assoc p.text (texts ps) rest))
           (opens_of ss (p.text ++ (texts ps ++ rest)) (part_here (is_opened ss) p.kind p.text (texts ps ++ rest) is stops ∙ k.0)),
       all_open_well (ss ++ told p.kind p.text) ps rest each k.1,

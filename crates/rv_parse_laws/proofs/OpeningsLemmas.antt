@@ -12,11 +12,11 @@ use Rattle.rv_text_laws.specs.SyntaxError.{SyntaxError, wrong, Read}
 use Rattle.rv_statement.specs.declared.directive.DirectiveWord.TheVariants as words
 use Rattle.rv_statement.specs.Statement.{Operand, Word, Quoted, Directs, Statement}
 use Rattle.rv_parse_laws.specs.Words.{beginning, mnemonic_named, directive_named, instruction_words, atomic_operations, atomic_forms, directive_words}
-use Rattle.rv_parse_laws.specs.Syntax.{begins, is_comma, is_at, is_end, is_section_name, A_section, Some_flags, At_sign, A_comma, single, places, directed, colon_next, AreOperands, Part, Says, IsPart}
+use Rattle.rv_parse_laws.specs.Syntax.{begins, is_comma, is_at_sign, is_end, is_section_name, A_section, Some_flags, At_sign, A_comma, single, operand_slots, directed, colon_next, AreOperands, SourcePart, Says, IsPart}
 use Rattle.rv_parse_laws.specs.Opening.{is_opened}
-use Rattle.rv_parse_laws.specs.WrongOpening.{flags_fault, type_fault, is_text, is_section, IsNamed, WrongFlags, WrongType, IsWrongOpening}
-use Rattle.rv_parse_laws.specs.Parsing.{part_at, section_at, single_at, front_fault, behind_read, type_wrong, flags_wrong, named_wrong, opening_at, unless, checked_at}
-use Rattle.rv_parse_laws.specs.Reading.{AreParts, told, said}
+use Rattle.rv_parse_laws.specs.WrongOpening.{flags_fault, type_fault, is_text, is_section, OpensNamed, WrongFlags, WrongType, IsWrongOpening}
+use Rattle.rv_parse_laws.specs.Parsing.{part_at, section_name_at, single_at, front_fault, behind_read, type_wrong, flags_wrong, named_wrong, opening_at, unless, checked_at}
+use Rattle.rv_parse_laws.specs.Reading.{AreParts, told, statements_of_parts}
 use Rattle.rv_parse_laws.specs.Refusals.{OpensWell, AllOpenWell, CanGoOn}
 use Rattle.rv_parse_laws.proofs.SinglesLemmas.{some_token, single_found}
 use Rattle.rv_parse_laws.proofs.SectionsLemmas.{section_is, section_found}
@@ -40,18 +40,18 @@ comma_single t us h = rw h refl
 flags_comma : (t : Token) (us : List Token) → is_comma t.kind ≡ true → single_at (A_comma Some_flags) (t ∷ us) ≡ Ok ([], us)
 flags_comma t us h = rw h refl
 
-at_single : (t : Token) (us : List Token) → is_at t.kind ≡ true → single_at At_sign (t ∷ us) ≡ Ok ([], us)
+at_single : (t : Token) (us : List Token) → is_at_sign t.kind ≡ true → single_at At_sign (t ∷ us) ≡ Ok ([], us)
 at_single t us h = rw h refl
 
 flags_single : (t : Token) (us : List Token) (bytes : List ℕ) → t.kind ≡ Text bytes → single_at Some_flags (t ∷ us) ≡ Ok (Quoted bytes ∷ [], us)
 flags_single t us bytes h = rw h refl
 
 -- what is wrong behind a name is wrong with its flags or its type
-named_is : (known : List ℕ → Bool) (front us : List Token) (name : List ℕ) → IsNamed front name → opening_at known (front ++ us) ≡ flags_wrong (known name) us
+named_is : (known : List ℕ → Bool) (front us : List Token) (name : List ℕ) → OpensNamed front name → opening_at known (front ++ us) ≡ flags_wrong (known name) us
 unfolding opening_at
 named_is known front us name (word, text, comma, whole, is, joined, good, comma_is) =
-    let read : section_at ((text ++ comma ∷ []) ++ us) ≡ Ok (name, comma ∷ us) =
-    ap section_at (append_assoc text (comma ∷ []) us) ∙ section_is text (comma ∷ us) name (joined, good) (comma, us, refl, rw comma_is refl) in
+    let read : section_name_at ((text ++ comma ∷ []) ++ us) ≡ Ok (name, comma ∷ us) =
+    ap section_name_at (append_assoc text (comma ∷ []) us) ∙ section_is text (comma ∷ us) name (joined, good) (comma, us, refl, rw comma_is refl) in
     ap (λ ts. opening_at known (ts ++ us)) whole
     ∙ rw is (ap (named_wrong known) read ∙ ap (behind_read (λ vs. flags_wrong (known name) vs)) (comma_single comma us comma_is))
 
@@ -102,10 +102,10 @@ comma_there t os e = go (is_comma t.kind) refl e
     go true is e = is
     go false is e = absurd (cc)
 
-sign_there : (t : Token) (os : List Operand) → single At_sign t.kind ≡ Some os → is_at t.kind ≡ true
-sign_there t os e = go (is_at t.kind) refl e
+sign_there : (t : Token) (os : List Operand) → single At_sign t.kind ≡ Some os → is_at_sign t.kind ≡ true
+sign_there t os e = go (is_at_sign t.kind) refl e
   where
-    go : (b : Bool) → is_at t.kind ≡ b → cond {A = Option (List Operand)} b (Some []) None ≡ Some os → is_at t.kind ≡ true
+    go : (b : Bool) → is_at_sign t.kind ≡ b → cond {A = Option (List Operand)} b (Some []) None ≡ Some os → is_at_sign t.kind ≡ true
     go true is e = is
     go false is e = absurd (cc)
 
@@ -114,7 +114,7 @@ text_there (Text bytes) os e = refl
 text_there _ os e = absurd (cc)
 
 -- a wrong type behind a name and good flags
-type_there : (known : List ℕ → Bool) (front : List Token) (name : List ℕ) (ts : List Token) (w : SyntaxError) → IsNamed front name → front_fault (flags_fault (known name)) ts ≡ None
+type_there : (known : List ℕ → Bool) (front : List Token) (name : List ℕ) (ts : List Token) (w : SyntaxError) → OpensNamed front name → front_fault (flags_fault (known name)) ts ≡ None
     → type_wrong (known name) ts ≡ Some w → OpeningThere known (front ++ ts) w
 type_there known front name ts w named none e =
     let f = read_there _ (single_at Some_flags ts) w e in
@@ -160,7 +160,7 @@ type_there known front name ts w named none e =
             absurd (cc)
 
 -- wrong flags or a wrong type behind a name
-flags_there : (known : List ℕ → Bool) (front : List Token) (name : List ℕ) (ts : List Token) (w : SyntaxError) → IsNamed front name
+flags_there : (known : List ℕ → Bool) (front : List Token) (name : List ℕ) (ts : List Token) (w : SyntaxError) → OpensNamed front name
     → flags_wrong (known name) ts ≡ Some w → OpeningThere known (front ++ ts) w
 flags_there known front name ts w named e = go (front_fault (flags_fault (known name)) ts) refl e
   where
@@ -184,7 +184,7 @@ unfolding opening_at
 opening_there known [] w e = absurd (cc)
 opening_there known (t ∷ ts) w e = go (is_section t.kind) refl e
   where
-    behind : (r : Read (List ℕ)) → section_at ts ≡ r → is_section t.kind ≡ true → named_wrong known r ≡ Some w → OpeningThere known (t ∷ ts) w
+    behind : (r : Read (List ℕ)) → section_name_at ts ≡ r → is_section t.kind ≡ true → named_wrong known r ≡ Some w → OpeningThere known (t ∷ ts) w
     behind (Err v) read is e = absurd (cc)
     behind (Ok (name, rest)) read is e =
         let f = section_found ts name rest read in
@@ -196,8 +196,8 @@ opening_there known (t ∷ ts) w e = go (is_section t.kind) refl e
         subst (λ us. OpeningThere known us w) (sym whole)
         (flags_there known front name c.1 w (t, f.text, comma.0, refl, is, f.is.0, f.is.1, comma_there comma.0 c.0 comma.2) c.3)
 
-    go : (b : Bool) → is_section t.kind ≡ b → cond b (named_wrong known (section_at ts)) None ≡ Some w → OpeningThere known (t ∷ ts) w
-    go true is e = behind (section_at ts) refl is e
+    go : (b : Bool) → is_section t.kind ≡ b → cond b (named_wrong known (section_name_at ts)) None ≡ Some w → OpeningThere known (t ∷ ts) w
+    go true is e = behind (section_name_at ts) refl is e
     go false is e = absurd (cc)
 
 -- no wrong opening, and none at an end
@@ -220,7 +220,7 @@ front_opens ss front ts more whole well before at rest code is wrong =
     well before at (rest ++ more) code (whole ∙ ap (λ us. us ++ more) is ∙ append_assoc before (at ∷ rest) more) wrong
 
 -- what is checked is read, and opens well
-pub checked_ok : (ss : List Statement) (ts : List Token) (x : Part × List Token) → checked_at (is_opened ss) ts ≡ Ok x → (part_at ts ≡ Ok x) × OpensWell ss ts
+pub checked_ok : (ss : List Statement) (ts : List Token) (x : SourcePart × List Token) → checked_at (is_opened ss) ts ≡ Ok x → (part_at ts ≡ Ok x) × OpensWell ss ts
 checked_ok ss ts x e = go (opening_at (is_opened ss) ts) refl e
   where
     go : (o : Option SyntaxError) → opening_at (is_opened ss) ts ≡ o → unless o (part_at ts) ≡ Ok x → (part_at ts ≡ Ok x) × OpensWell ss ts
@@ -257,14 +257,14 @@ a_type = some_token (NameToken (codes "note"))
 comma_operand : (t : Token) → is_comma t.kind ≡ true → single (A_comma A_section) t.kind ≡ Some []
 comma_operand t h = rw h refl
 
-sign_operand : (t : Token) → is_at t.kind ≡ true → single At_sign t.kind ≡ Some []
+sign_operand : (t : Token) → is_at_sign t.kind ≡ true → single At_sign t.kind ≡ Some []
 sign_operand t h = rw h refl
 
 flags_operand : (t : Token) (bytes : List ℕ) → t.kind ≡ Text bytes → single Some_flags t.kind ≡ Some (Quoted bytes ∷ [])
 flags_operand t bytes h = rw h refl
 
 flags_operands : (name : List ℕ) (text : List Token) (comma : Token) → IsJoined text name → is_section_name name ≡ true → is_comma comma.kind ≡ true
-    → AreOperands (places words.Section) (text ++ comma ∷ a_string ∷ []) (Word name ∷ Quoted [] ∷ [])
+    → AreOperands (operand_slots words.Section) (text ++ comma ∷ a_string ∷ []) (Word name ∷ Quoted [] ∷ [])
 flags_operands name text comma joined good is = (
   text,
   comma ∷ a_string ∷ [],
@@ -286,8 +286,8 @@ flags_operands name text comma joined good is = (
 )
 
 type_operands : (name bytes : List ℕ) (text : List Token) (comma flags next sign : Token) → IsJoined text name → is_section_name name ≡ true → is_comma comma.kind ≡ true
-    → flags.kind ≡ Text bytes → is_comma next.kind ≡ true → is_at sign.kind ≡ true
-    → AreOperands (places words.Section) (text ++ comma ∷ flags ∷ next ∷ sign ∷ a_type ∷ []) (Word name ∷ Quoted bytes ∷ Word (codes "note") ∷ [])
+    → flags.kind ≡ Text bytes → is_comma next.kind ≡ true → is_at_sign sign.kind ≡ true
+    → AreOperands (operand_slots words.Section) (text ++ comma ∷ flags ∷ next ∷ sign ∷ a_type ∷ []) (Word name ∷ Quoted bytes ∷ Word (codes "note") ∷ [])
 type_operands name bytes text comma flags next sign joined good is quoted then at = (
   text,
   comma ∷ flags ∷ next ∷ sign ∷ a_type ∷ [],
@@ -336,14 +336,14 @@ type_operands name bytes text comma flags next sign joined good is quoted then a
 )
 
 -- a `.section` with these operands
-section_part : (word : Token) (text us : List Token) (os : List Operand) (name : List ℕ) → is_section word.kind ≡ true → IsJoined text name → AreOperands (places words.Section) (text ++ us) os
+section_part : (word : Token) (text us : List Token) (os : List Operand) (name : List ℕ) → is_section word.kind ≡ true → IsJoined text name → AreOperands (operand_slots words.Section) (text ++ us) os
     → IsPart (Says (Directs (directed words.Section os))) (word ∷ (text ++ us))
 section_part word text us os name is joined are = (word, text ++ us, words.Section, os, refl, joined_no_colon text us name joined, section_word word.kind is, are, refl)
 
 pub opening_goes : (ss : List Statement) (before : List Token) (at : Token) (code : ℕ) (more : List Token) → IsWrongOpening ss before at code → CanGoOn (before ++ at ∷ more) before
 opening_goes ss before at code more (inl x) = go x.name x.named
   where
-    go : (name : List ℕ) → IsNamed before name → CanGoOn (before ++ at ∷ more) before
+    go : (name : List ℕ) → OpensNamed before name → CanGoOn (before ++ at ∷ more) before
     go name (word, text, comma, whole, is, joined, good, comma_is) = rw whole (
       Says (Directs (directed words.Section (Word name ∷ Quoted [] ∷ []))),
       a_string ∷ [],
@@ -353,7 +353,7 @@ opening_goes ss before at code more (inl x) = go x.name x.named
     )
 opening_goes ss before at code more (inr x) = go x.name x.named
   where
-    go : (name : List ℕ) → IsNamed x.front name → CanGoOn (before ++ at ∷ more) before
+    go : (name : List ℕ) → OpensNamed x.front name → CanGoOn (before ++ at ∷ more) before
     go name (word, text, comma, whole, is, joined, good, comma_is) =
         let bytes = text_some x.flags.kind x.text in
         let os : List Operand = Word name ∷ Quoted bytes.0 ∷ Word (codes "note") ∷ [] in
@@ -381,41 +381,41 @@ opening_goes ss before at code more (inr x) = go x.name x.named
 pub opening_behind : (ss : List Statement) (before : List Token) (at : Token) (code : ℕ) → IsWrongOpening ss before at code → 0 < length before
 opening_behind ss before at code (inl x) = go x.named
   where
-    go : IsNamed before x.name → 0 < length before
+    go : OpensNamed before x.name → 0 < length before
     go (word, text, comma, whole, is, joined, good, comma_is) = rw whole (omega arith)
 opening_behind ss before at code (inr x) = go x.named
   where
-    go : IsNamed x.front x.name → 0 < length before
+    go : OpensNamed x.front x.name → 0 < length before
     go (word, text, comma, whole, is, joined, good, comma_is) =
         rw (x.whole, whole) (omega arith)
 
 -- what is said by parts, and by none more
-pub said_none : (ps qs : List (Piece Part Token)) → qs ≡ ps ++ [] → said qs ≡ said ps
-said_none ps qs is = ap said (is ∙ append-nil ps)
+pub said_none : (ps qs : List (Piece SourcePart Token)) → qs ≡ ps ++ [] → statements_of_parts qs ≡ statements_of_parts ps
+said_none ps qs is = ap statements_of_parts (is ∙ append-nil ps)
 
 -- a part more opens well
-pub texts_push : (ps : List (Piece Part Token)) (x : Piece Part Token) (rest : List Token) → texts (ps ++ x ∷ []) ++ rest ≡ texts ps ++ (x.text ++ rest)
+pub texts_push : (ps : List (Piece SourcePart Token)) (x : Piece SourcePart Token) (rest : List Token) → texts (ps ++ x ∷ []) ++ rest ≡ texts ps ++ (x.text ++ rest)
 texts_push [] x rest = append_assoc x.text [] rest
 texts_push (p ∷ ps) x rest =
     append_assoc p.text (texts (ps ++ x ∷ [])) rest ∙ ap (λ us. p.text ++ us) (texts_push ps x rest) ∙ sym (append_assoc p.text (texts ps) (x.text ++ rest))
 
-pub open_push : (ss : List Statement) (ps : List (Piece Part Token)) (m : Piece Part Token) (rest : List Token) → AllOpenWell ss ps (m.text ++ rest) → OpensWell (ss ++ said ps) (m.text ++ rest)
+pub open_push : (ss : List Statement) (ps : List (Piece SourcePart Token)) (m : Piece SourcePart Token) (rest : List Token) → AllOpenWell ss ps (m.text ++ rest) → OpensWell (ss ++ statements_of_parts ps) (m.text ++ rest)
     → AllOpenWell ss (ps ++ m ∷ []) rest
 open_push ss [] m rest all well =
     (subst (λ xs. OpensWell xs ((m.text ++ []) ++ rest)) (append-nil ss) (subst (OpensWell (ss ++ [])) (sym (append_assoc m.text [] rest)) well), tt)
 open_push ss (p ∷ ps) m rest (first, all) well = (
   subst (OpensWell ss) (sym (texts_push (p ∷ ps) m rest)) first,
-  open_push (ss ++ told p.kind p.text) ps m rest all (subst (λ xs. OpensWell xs (m.text ++ rest)) (sym (append_assoc ss (told p.kind p.text) (said ps))) well),
+  open_push (ss ++ told p.kind p.text) ps m rest all (subst (λ xs. OpensWell xs (m.text ++ rest)) (sym (append_assoc ss (told p.kind p.text) (statements_of_parts ps))) well),
 )
 
 -- where parts go on, no opening is wrong
-open_behind : (ss : List Statement) (ps : List (Piece Part Token)) (m : Piece Part Token) (more : List (Piece Part Token)) (rest : List Token) → AllOpenWell ss (ps ++ m ∷ more) rest
-    → OpensWell (ss ++ said ps) (texts (m ∷ more) ++ rest)
+open_behind : (ss : List Statement) (ps : List (Piece SourcePart Token)) (m : Piece SourcePart Token) (more : List (Piece SourcePart Token)) (rest : List Token) → AllOpenWell ss (ps ++ m ∷ more) rest
+    → OpensWell (ss ++ statements_of_parts ps) (texts (m ∷ more) ++ rest)
 open_behind ss [] m more rest (first, all) = subst (λ xs. OpensWell xs (texts (m ∷ more) ++ rest)) (sym (append-nil ss)) first
 open_behind ss (p ∷ ps) m more rest (first, all) =
-    subst (λ xs. OpensWell xs (texts (m ∷ more) ++ rest)) (append_assoc ss (told p.kind p.text) (said ps)) (open_behind (ss ++ told p.kind p.text) ps m more rest all)
+    subst (λ xs. OpensWell xs (texts (m ∷ more) ++ rest)) (append_assoc ss (told p.kind p.text) (statements_of_parts ps)) (open_behind (ss ++ told p.kind p.text) ps m more rest all)
 
-pub opens_on : (ps qs : List (Piece Part Token)) (m : Piece Part Token) (more : List (Piece Part Token)) (rest other : List Token) → qs ≡ ps ++ m ∷ more → AreParts rest (m ∷ more) other
-    → AllOpenWell [] qs other → OpensWell (said ps) rest
+pub opens_on : (ps qs : List (Piece SourcePart Token)) (m : Piece SourcePart Token) (more : List (Piece SourcePart Token)) (rest other : List Token) → qs ≡ ps ++ m ∷ more → AreParts rest (m ∷ more) other
+    → AllOpenWell [] qs other → OpensWell (statements_of_parts ps) rest
 opens_on ps qs m more rest other is cut all =
-    subst (OpensWell (said ps)) (sym cut.whole) (open_behind [] ps m more other (subst (λ xs. AllOpenWell [] xs other) is all))
+    subst (OpensWell (statements_of_parts ps)) (sym cut.whole) (open_behind [] ps m more other (subst (λ xs. AllOpenWell [] xs other) is all))

@@ -2,12 +2,12 @@
 -- are wrong at the first token with which nothing can go on.
 
 use Rattle.std.proofs.Common.{◌≡◌, ℕ, ◌<◌, true, false, List, [], ◌∷◌, ◌++◌, append_assoc, length, length-append, Ok, Err, refl, sym, ◌∙◌, ap, subst, arith, inl, inr}
-use Rattle.rv_text_laws.specs.Lexing.{Token, ended}
+use Rattle.rv_text_laws.specs.Lexing.{Token, is_ended}
 use Rattle.rv_text_laws.specs.SyntaxError.{SyntaxError, Read}
 use Rattle.rv_text_laws.proofs.ExpressionWrongLemmas.{ended_more}
 use Rattle.rv_statement.specs.Statement.{Operand, Word}
-use Rattle.rv_parse_laws.specs.Syntax.{is_colon, Slot, A_value, An_address_by, A_callee, A_section, IsValueIn, IsOperand, IsTaken, EndsHere}
-use Rattle.rv_parse_laws.specs.Parsing.{seen_as, value_in, section_at, operand_at, taking}
+use Rattle.rv_parse_laws.specs.Syntax.{is_colon, Slot, A_value, An_address_by, A_callee, A_section, IsValueIn, IsOperand, TakesSlot, EndsHere}
+use Rattle.rv_parse_laws.specs.Parsing.{seen_as, value_operand_at, section_name_at, operand_at, taking}
 use Rattle.rv_parse_laws.proofs.StepsLemmas.{bind_ok, seen_ok, bind_err, seen_err}
 use Rattle.rv_parse_laws.proofs.FailingLemmas.{Failing, behind, alike, first_of}
 use Rattle.rv_parse_laws.proofs.SinglesLemmas.{a_symbol, single_is, single_found, single_passed, single_wrong, one_is, one_some, one_goes}
@@ -40,7 +40,7 @@ pub record Found (s : Slot) (ts : List Token) (os : List Operand) (rest : List T
 
 pub operand_found : (s : Slot) (ts : List Token) (os : List Operand) (rest : List Token) → operand_at s ts ≡ Ok (os, rest) → Found s ts os rest
 operand_found (A_value role) ts os rest e =
-    let s = seen_ok (λ o. o ∷ []) (value_in role ts) os rest e in
+    let s = seen_ok (λ o. o ∷ []) (value_operand_at role ts) os rest e in
     let f = value_found role ts s.0 rest s.1 in
     record {
       text = f.text;
@@ -55,7 +55,7 @@ operand_found A_callee ts os rest e =
     let f = callee_found ts os rest e in
     record { text = f.text; whole = f.whole; is = f.is; steady = f.steady }
 operand_found A_section ts os rest e =
-    let s = seen_ok (λ name. Word name ∷ []) (section_at ts) os rest e in
+    let s = seen_ok (λ name. Word name ∷ []) (section_name_at ts) os rest e in
     let f = section_found ts s.0 rest s.1 in
     record {
       text = f.text;
@@ -86,19 +86,19 @@ operand_shorter s ts os rest e =
     omega (arith, same, operand_some s f.text os f.is, length-append f.text rest)
 
 -- the last token stands in no place
-pub operand_ended : (s : Slot) (ts : List Token) (os : List Operand) (rest : List Token) → ended ts ≡ true → operand_at s ts ≡ Ok (os, rest) → ended rest ≡ true
+pub operand_ended : (s : Slot) (ts : List Token) (os : List Operand) (rest : List Token) → is_ended ts ≡ true → operand_at s ts ≡ Ok (os, rest) → is_ended rest ≡ true
 operand_ended (A_value role) ts os rest end e =
-    let s = seen_ok (λ o. o ∷ []) (value_in role ts) os rest e in
+    let s = seen_ok (λ o. o ∷ []) (value_operand_at role ts) os rest e in
     let f = value_found role ts s.0 rest s.1 in
     f.ended_rest end
 operand_ended (An_address_by set) ts os rest end e = address_ended set ts os rest end e
 operand_ended A_callee ts os rest end e = let f = callee_found ts os rest e in f.ended_rest end
 operand_ended A_section ts os rest end e =
-    let s = seen_ok (λ name. Word name ∷ []) (section_at ts) os rest e in
+    let s = seen_ok (λ name. Word name ∷ []) (section_name_at ts) os rest e in
     let f = section_found ts s.0 rest s.1 in
-    joined_ended f.text s.0 rest f.is (ap ended (sym f.whole) ∙ end)
+    joined_ended f.text s.0 rest f.is (ap is_ended (sym f.whole) ∙ end)
   where
-    joined_ended : (text : List Token) (name : List ℕ) (rest : List Token) → IsSection text name → ended (text ++ rest) ≡ true → ended rest ≡ true
+    joined_ended : (text : List Token) (name : List ℕ) (rest : List Token) → IsSection text name → is_ended (text ++ rest) ≡ true → is_ended rest ≡ true
     joined_ended [] name rest (none, good) end = absurd none
     joined_ended (t ∷ text) name rest ((first, later, is, w, behind), good) end = behind_ended t.stop text later rest behind (ended_more t (text ++ rest) (name_no_last t.kind first is) end)
 operand_ended s ts os rest end e = (single_passed s ts os rest end e).3
@@ -114,17 +114,17 @@ operand_live s = one_goes s refl
 pub operand_goes : (s : Slot) → (text : List Token) × (os : List Operand) × IsOperand s text os
 operand_goes s = let o = operand_live s in (o.0 ∷ o.1, o.2, o.3)
 
-pub operand_wrong : (s : Slot) (ts : List Token) (w : SyntaxError) → ended ts ≡ true → operand_at s ts ≡ Err w → Failing (List Operand) (IsOperand s) (operand_at s) ts w
+pub operand_wrong : (s : Slot) (ts : List Token) (w : SyntaxError) → is_ended ts ≡ true → operand_at s ts ≡ Err w → Failing (List Operand) (IsOperand s) (operand_at s) ts w
 operand_wrong (A_value role) ts w end e =
-    alike (List Operand) Operand (IsOperand (A_value role)) (IsValueIn role) (operand_at (A_value role)) (value_in role) ts w
+    alike (List Operand) Operand (IsOperand (A_value role)) (IsValueIn role) (operand_at (A_value role)) (value_operand_at role) ts w
     (λ us x v. (x ∷ [], (x, v, refl))) (λ us first h. ap (seen_as (λ o. o ∷ [])) h)
-    (value_wrong role ts w end (seen_err (λ o. o ∷ []) (value_in role ts) w e)).0
+    (value_wrong role ts w end (seen_err (λ o. o ∷ []) (value_operand_at role ts) w e)).0
 operand_wrong (An_address_by set) ts w end e = (address_wrong set ts w end e).0
 operand_wrong A_callee ts w end e = callee_wrong ts w end e
 operand_wrong A_section ts w end e =
-    alike (List Operand) (List ℕ) (IsOperand A_section) IsSection (operand_at A_section) section_at ts w
+    alike (List Operand) (List ℕ) (IsOperand A_section) IsSection (operand_at A_section) section_name_at ts w
     (λ us x v. (Word x ∷ [], (x, v.0, v.1, refl))) (λ us first h. ap (seen_as (λ name. Word name ∷ [])) h)
-    (section_wrong ts w end (seen_err (λ name. Word name ∷ []) (section_at ts) w e))
+    (section_wrong ts w end (seen_err (λ name. Word name ∷ []) (section_name_at ts) w e))
 operand_wrong s ts w end e = single_wrong s ts w refl end e
 
 -- what stands in a place, and then the rest
@@ -138,7 +138,7 @@ FoundTo N ts os rest = (text : List Token) × (ts ≡ text ++ rest) × N text os
 
 pub taken_found : (s : Slot) (R : List Token → Read (List Operand)) (N : List Token → List Operand → Type 0) (ts : List Token) (os : List Operand) (rest : List Token)
     → ((now : List Operand) (us : List Token) → operand_at s ts ≡ Ok (now, us) → (ps : List Operand) → R us ≡ Ok (ps, rest) → FoundTo N us ps rest)
-    → taking s R ts ≡ Ok (os, rest) → FoundTo (IsTaken s N) ts os rest
+    → taking s R ts ≡ Ok (os, rest) → FoundTo (TakesSlot s N) ts os rest
 taken_found s R N ts os rest ih e =
     let d = bind_ok (operand_at s ts) (λ o. seen_as (λ os. o.0 ++ os) (R o.1)) (os, rest) e in
     let o = operand_found s ts d.0.0 d.0.1 d.1 in
@@ -158,20 +158,20 @@ rest_err : (s : Slot) (R : List Token → Read (List Operand)) (us : List Token)
 rest_err s R us os rest w e f = rw (e, f) refl
 
 pub taken_wrong : (s : Slot) (R : List Token → Read (List Operand)) (N : List Token → List Operand → Type 0) (ts : List Token) (w : SyntaxError)
-    → (text : List Token) × (os : List Operand) × N text os → ended ts ≡ true → taking s R ts ≡ Err w
-    → ((os : List Operand) (rest : List Token) → operand_at s ts ≡ Ok (os, rest) → ended rest ≡ true → R rest ≡ Err w → Failing (List Operand) N R rest w)
-    → Failing (List Operand) (IsTaken s N) (taking s R) ts w
+    → (text : List Token) × (os : List Operand) × N text os → is_ended ts ≡ true → taking s R ts ≡ Err w
+    → ((os : List Operand) (rest : List Token) → operand_at s ts ≡ Ok (os, rest) → is_ended rest ≡ true → R rest ≡ Err w → Failing (List Operand) N R rest w)
+    → Failing (List Operand) (TakesSlot s N) (taking s R) ts w
 taken_wrong s R N ts w (text, later, n) end e ih = elim (bind_err (operand_at s ts) (λ o. seen_as (λ os. o.0 ++ os) (R o.1)) w e) [
   | inl f ↦ first (operand_wrong s ts w end f)
   | inr good ↦ (let o = operand_found s ts good.0.0 good.0.1 good.1 in
-      subst (λ us. Failing (List Operand) (IsTaken s N) (taking s R) us w) (sym o.whole)
-      (behind (List Operand) (List Operand) (IsTaken s N) N (taking s R) R o.text good.0.1 w
+      subst (λ us. Failing (List Operand) (TakesSlot s N) (taking s R) us w) (sym o.whole)
+      (behind (List Operand) (List Operand) (TakesSlot s N) N (taking s R) R o.text good.0.1 w
       (λ us os n. (good.0.0 ++ os, (o.text, us, good.0.0, os, refl, o.is, n, refl)))
       (λ us start f. rest_err s R (o.text ++ us) good.0.0 us w (o.steady us start) f)
       (ih good.0.0 good.0.1 good.1 (operand_ended s ts good.0.0 good.0.1 end good.1) (seen_err (λ os. good.0.0 ++ os) (R good.0.1) w good.2))))
 ]
   where
-    first : Failing (List Operand) (IsOperand s) (operand_at s) ts w → Failing (List Operand) (IsTaken s N) (taking s R) ts w
+    first : Failing (List Operand) (IsOperand s) (operand_at s) ts w → Failing (List Operand) (TakesSlot s N) (taking s R) ts w
     first x = record {
       before = x.before;
       at = x.at;

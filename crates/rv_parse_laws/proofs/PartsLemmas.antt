@@ -5,16 +5,16 @@ use Rattle.rv_text_laws.specs.declared.punct.Punct.TheVariants.{Colon}
 use Rattle.rv_text_laws.specs.Bytes.{is_decimal}
 use Rattle.std.specs.List.{list_all}
 use Rattle.rv_text_laws.specs.Grammar.{Kind, Punctuation, Name as NameToken, Number, Bad_word}
-use Rattle.rv_text_laws.specs.Lexing.{Token, is_last, ended}
+use Rattle.rv_text_laws.specs.Lexing.{Token, is_last, is_ended}
 use Rattle.rv_text_laws.specs.SyntaxError.{SyntaxError, wrong, Read}
 use Rattle.rv_text_laws.proofs.ExpressionWrongLemmas.{ended_more}
 use Rattle.rv_statement.specs.Statement.{Operand, StatementKind, Label, Numbered, Instruction, Directs}
 use Rattle.rv_isa.specs.RegisterNames.{abi_names}
-use Rattle.rv_parse_laws.specs.Words.{names_of, register}
-use Rattle.rv_parse_laws.specs.Syntax.{is_symbol, label_of, begins, is_colon, is_end, Slots, slots, places, directed, AreOperands, colon_next, IsLabel, IsStatement, Part, Ends, Says, IsPart, EndsHere, StopsPart}
+use Rattle.rv_parse_laws.specs.Words.{register_names, register}
+use Rattle.rv_parse_laws.specs.Syntax.{is_symbol, label_of, begins, is_colon, is_end, Slots, slots, operand_slots, directed, AreOperands, colon_next, IsLabel, IsStatement, SourcePart, Ends, Says, IsPart, EndsHere, StopsPart}
 use Rattle.rv_parse_laws.specs.Faults.{wrong_start, wrong_label}
 use Rattle.rv_parse_laws.specs.Parsing.{seen_as, taken, operands_at, begun_at, after_first, statement_at, part_at}
-use Rattle.rv_parse_laws.specs.Refusals.{is_label, begins_label}
+use Rattle.rv_parse_laws.specs.Refusals.{is_label_part, begins_label}
 use Rattle.rv_parse_laws.proofs.StepsLemmas.{seen_ok, taken_ok, pair_parts, seen_err, taken_err}
 use Rattle.rv_parse_laws.proofs.FailingLemmas.{Failing, Shown, at_once, shown_behind, first_of, never, wrongs}
 use Rattle.rv_parse_laws.proofs.SinglesLemmas.{some_token, a_symbol, a_newline}
@@ -41,7 +41,7 @@ label_no_last _ s h = absurd (cc)
 
 -- a label says one
 abbrev pub IsLabelled : StatementKind → Type 0
-IsLabelled s = is_label (Says s) ≡ true
+IsLabelled s = is_label_part (Says s) ≡ true
 
 labelled_if : (b : Bool) (t s : StatementKind) → IsLabelled t → cond b (Some t) None ≡ Some s → IsLabelled s
 labelled_if true t s l h = let same : t ≡ s = cc in subst IsLabelled same l
@@ -97,7 +97,7 @@ label_is : (text rest : List Token) (s : StatementKind) → IsLabel text s → p
 unfolding part_at statement_at
 label_is text rest s (t, c, w, is, colon) = rw w (rw (label_no_end t.kind s is, colon, is) refl)
 
-pub part_is : (p : Part) (text rest : List Token) → IsPart p text → StopsPart p rest → part_at (text ++ rest) ≡ Ok (p, rest)
+pub part_is : (p : SourcePart) (text rest : List Token) → IsPart p text → StopsPart p rest → part_at (text ++ rest) ≡ Ok (p, rest)
 unfolding part_at begun_at
 part_is Ends text rest (t, w, is) stops = rw w (rw is refl)
 part_is (Says (Label name)) text rest label stops = label_is text rest (Label name) label
@@ -107,10 +107,10 @@ part_is (Says (Instruction m os)) text rest (t, more, w, colon, is, are) ends =
     (ap (seen_as (Instruction m)) (operands_is (slots m) more os (slots_sound m) are rest ends)))
 part_is (Says (Directs d)) text rest (t, more, word, os, w, colon, is, are, v) ends =
     rw (w, v) (begun_is (beginnings.Directive word) t (more ++ rest) (Directs (directed word os)) rest is (λ h. cc) (colon_behind more rest colon ends)
-    (ap (seen_as (λ os. Directs (directed word os))) (operands_is (places word) more os (places_sound word) are rest ends)))
+    (ap (seen_as (λ os. Directs (directed word os))) (operands_is (operand_slots word) more os (places_sound word) are rest ends)))
 
 -- a part, up to the rest
-abbrev pub FoundPart : List Token → Part → List Token → Type 0
+abbrev pub FoundPart : List Token → SourcePart → List Token → Type 0
 FoundPart ts p rest = (text : List Token) × (ts ≡ text ++ rest) × IsPart p text × StopsPart p rest
 
 begun_found : (b : Beginning) (t : Token) (ts : List Token) (s : StatementKind) (rest : List Token) → begins t.kind ≡ b → colon_next ts ≡ false → begun_at b t ts ≡ Ok (s, rest)
@@ -122,8 +122,8 @@ begun_found (beginnings.Instruction m) t ts s rest is colon e =
     subst (λ s. FoundPart (t ∷ ts) (Says s) rest) (sym v.2)
     (t ∷ f.0, ap (λ us. t ∷ us) f.1, (t, f.0, refl, colon_of_part f.0 rest (ap colon_next (sym f.1) ∙ colon), is, f.2), f.3)
 begun_found (beginnings.Directive word) t ts s rest is colon e =
-    let v = seen_ok (λ os. Directs (directed word os)) (operands_at (places word) ts) s rest e in
-    let f = operands_found (places word) ts v.0 rest v.1 in
+    let v = seen_ok (λ os. Directs (directed word os)) (operands_at (operand_slots word) ts) s rest e in
+    let f = operands_found (operand_slots word) ts v.0 rest v.1 in
     subst (λ s. FoundPart (t ∷ ts) (Says s) rest) (sym v.2)
     (t ∷ f.0, ap (λ us. t ∷ us) f.1, (t, f.0, word, v.0, refl, colon_of_part f.0 rest (ap colon_next (sym f.1) ∙ colon), is, f.2, refl), f.3)
 begun_found beginnings.Nothing t ts s rest is colon e = absurd (cc)
@@ -149,12 +149,12 @@ statement_found t ts s rest e = go (colon_next ts) refl e
     go true colon e = labelled ts refl colon e
     go false colon e = begun_found (begins t.kind) t ts s rest refl colon e
 
-pub part_found : (ts : List Token) (p : Part) (rest : List Token) → part_at ts ≡ Ok (p, rest) → FoundPart ts p rest
+pub part_found : (ts : List Token) (p : SourcePart) (rest : List Token) → part_at ts ≡ Ok (p, rest) → FoundPart ts p rest
 unfolding part_at
 part_found [] p rest e = absurd (cc)
 part_found (t ∷ ts) p rest e = go (is_end t.kind) refl e
   where
-    go : (b : Bool) → is_end t.kind ≡ b → cond {A = Read Part} b (Ok (Ends, ts)) (seen_as Says (statement_at t ts)) ≡ Ok (p, rest) → FoundPart (t ∷ ts) p rest
+    go : (b : Bool) → is_end t.kind ≡ b → cond {A = Read SourcePart} b (Ok (Ends, ts)) (seen_as Says (statement_at t ts)) ≡ Ok (p, rest) → FoundPart (t ∷ ts) p rest
     go true ends e =
         let q = pair_parts _ _ _ _ _ refl e in
         subst (λ p. FoundPart (t ∷ ts) p rest) q.0 (t ∷ [], ap (λ us. t ∷ us) q.1, (t, refl, ends), tt)
@@ -163,8 +163,8 @@ part_found (t ∷ ts) p rest e = go (is_end t.kind) refl e
         subst (λ p. FoundPart (t ∷ ts) p rest) (sym v.2) (statement_found t ts v.0 rest v.1)
 
 -- a part that a colon behind the rest's first token makes a label, and that is none without it
-abbrev pub PartOf : List Token → List Token → Part → Type 0
-PartOf rest us p = (is_label p ≡ begins_label rest) × IsPart p us
+abbrev pub PartOf : List Token → List Token → SourcePart → Type 0
+PartOf rest us p = (is_label_part p ≡ begins_label rest) × IsPart p us
 
 -- where no part stands: a colon behind the first token makes it a label, and without one it is none
 pub record WrongAt (ts : List Token) (w : SyntaxError) : Type 0 where
@@ -174,7 +174,7 @@ pub record WrongAt (ts : List Token) (w : SyntaxError) : Type 0 where
   pub whole : ts ≡ before ++ at ∷ more
   pub is_wrong : Shown before at w
   pub fails : (text : List Token) → begins_label (before ++ at ∷ text) ≡ begins_label ts → part_at (before ++ at ∷ text) ≡ Err w
-  pub goes : (text : List Token) × (p : Part) × PartOf ts (before ++ text) p
+  pub goes : (text : List Token) × (p : SourcePart) × PartOf ts (before ++ text) p
 
 abbrev a_colon : Token
 a_colon = some_token (Punctuation Colon)
@@ -206,7 +206,7 @@ begun_behind t ts w b ss view no_end is colon on to x =
       goes = (g.0, Says (view g.1), to (x.before ++ g.0) g.1 g.3 g.2);
     }
 
-begun_wrong : (b : Beginning) (t : Token) (ts : List Token) (w : SyntaxError) → ended (t ∷ ts) ≡ true → begins t.kind ≡ b → is_end t.kind ≡ false → colon_next ts ≡ false → begun_at b t ts ≡ Err w
+begun_wrong : (b : Beginning) (t : Token) (ts : List Token) (w : SyntaxError) → is_ended (t ∷ ts) ≡ true → begins t.kind ≡ b → is_end t.kind ≡ false → colon_next ts ≡ false → begun_at b t ts ≡ Err w
     → WrongAt (t ∷ ts) w
 unfolding begun_at
 begun_wrong (beginnings.Instruction m) t ts w end is no_end colon e =
@@ -214,10 +214,10 @@ begun_wrong (beginnings.Instruction m) t ts w end is no_end colon e =
     (λ us os plain are. (sym colon, (t, us, refl, plain, is, are)))
     (operands_wrong (slots m) ts w (ended_more t ts (begins_no_last t.kind (beginnings.Instruction m) is (λ h. cc)) end) (seen_err (Instruction m) (operands_at (slots m) ts) w e))
 begun_wrong (beginnings.Directive word) t ts w end is no_end colon e =
-    begun_behind t ts w (beginnings.Directive word) (places word) (λ os. Directs (directed word os)) no_end is colon (λ us h. ap (seen_as (λ os. Directs (directed word os))) h)
+    begun_behind t ts w (beginnings.Directive word) (operand_slots word) (λ os. Directs (directed word os)) no_end is colon (λ us h. ap (seen_as (λ os. Directs (directed word os))) h)
     (λ us os plain are. (sym colon, (t, us, word, os, refl, plain, is, are, refl)))
-    (operands_wrong (places word) ts w (ended_more t ts (begins_no_last t.kind (beginnings.Directive word) is (λ h. cc)) end)
-    (seen_err (λ os. Directs (directed word os)) (operands_at (places word) ts) w e))
+    (operands_wrong (operand_slots word) ts w (ended_more t ts (begins_no_last t.kind (beginnings.Directive word) is (λ h. cc)) end)
+    (seen_err (λ os. Directs (directed word os)) (operands_at (operand_slots word) ts) w e))
 begun_wrong beginnings.Nothing t ts w end is no_end colon e =
     let v : wrong t (wrong_start t.kind) ≡ w = wrongs _ w e in
     record {
@@ -235,10 +235,10 @@ unfolding part_at statement_at
 label_err t us w no_end none is colon = rw (no_end, colon) (rw (none, is) refl)
 
 some_label : label_of a_symbol.kind ≡ Some (Label (codes "f"))
-unfolding is_symbol register names_of abi_names
+unfolding is_symbol register register_names abi_names
 some_label = refl
 
-pub part_wrong : (ts : List Token) (w : SyntaxError) → ended ts ≡ true → part_at ts ≡ Err w → WrongAt ts w
+pub part_wrong : (ts : List Token) (w : SyntaxError) → is_ended ts ≡ true → part_at ts ≡ Err w → WrongAt ts w
 unfolding part_at statement_at
 part_wrong [] w end e = absurd (cc)
 part_wrong (t ∷ ts) w end e = go (is_end t.kind) refl e
@@ -258,7 +258,7 @@ part_wrong (t ∷ ts) w end e = go (is_end t.kind) refl e
         }
     labelled false colon no_end e = begun_wrong (begins t.kind) t ts w end refl no_end colon e
 
-    go : (b : Bool) → is_end t.kind ≡ b → cond {A = Read Part} b (Ok (Ends, ts)) (seen_as Says (statement_at t ts)) ≡ Err w → WrongAt (t ∷ ts) w
+    go : (b : Bool) → is_end t.kind ≡ b → cond {A = Read SourcePart} b (Ok (Ends, ts)) (seen_as Says (statement_at t ts)) ≡ Err w → WrongAt (t ∷ ts) w
     go true ends e = absurd (never (Ends, ts) w e)
     go false ends e = labelled (colon_next ts) refl ends (seen_err Says (statement_at t ts) w e)
 
@@ -266,21 +266,21 @@ part_wrong (t ∷ ts) w end e = go (is_end t.kind) refl e
 label_colon : (text : List Token) (s : StatementKind) → IsLabel text s → begins_label text ≡ true
 label_colon text s (t, c, w, is, colon) = rw w colon
 
-part_label : (p : Part) (text : List Token) → IsPart p text → is_label p ≡ begins_label text
+part_label : (p : SourcePart) (text : List Token) → IsPart p text → is_label_part p ≡ begins_label text
 part_label Ends text (t, w, is) = rw w refl
 part_label (Says (Label name)) text label = sym (label_colon text (Label name) label)
 part_label (Says (Numbered number)) text label = sym (label_colon text (Numbered number) label)
 part_label (Says (Instruction m os)) text (t, more, w, colon, is, are) = rw w (sym colon)
 part_label (Says (Directs d)) text (t, more, word, os, w, colon, is, are, v) = rw w (sym colon)
 
-pub part_nonempty : (p : Part) (text : List Token) → IsPart p text → (t : Token) × (us : List Token) × (text ≡ t ∷ us)
+pub part_nonempty : (p : SourcePart) (text : List Token) → IsPart p text → (t : Token) × (us : List Token) × (text ≡ t ∷ us)
 part_nonempty Ends text (t, w, is) = (t, [], w)
 part_nonempty (Says (Label name)) text (t, c, w, is, colon) = (t, c ∷ [], w)
 part_nonempty (Says (Numbered number)) text (t, c, w, is, colon) = (t, c ∷ [], w)
 part_nonempty (Says (Instruction m os)) text (t, more, w, colon, is, are) = (t, more, w)
 part_nonempty (Says (Directs d)) text (t, more, word, os, w, colon, is, are, v) = (t, more, w)
 
-newline_stops : (p : Part) → StopsPart p (a_newline ∷ [])
+newline_stops : (p : SourcePart) → StopsPart p (a_newline ∷ [])
 newline_stops Ends = tt
 newline_stops (Says (Label name)) = tt
 newline_stops (Says (Numbered number)) = tt
@@ -292,7 +292,7 @@ label_behind t [] = refl
 label_behind t (u ∷ us) = refl
 
 -- with the wrong token no part goes on
-pub stops_there : (ts : List Token) (w : SyntaxError) (x : WrongAt ts w) (p : Part) (text : List Token) → PartOf ts (x.before ++ x.at ∷ text) p → ⊥
+pub stops_there : (ts : List Token) (w : SyntaxError) (x : WrongAt ts w) (p : SourcePart) (text : List Token) → PartOf ts (x.before ++ x.at ∷ text) p → ⊥
 stops_there ts w x p text (label, is) =
     let all : List Token = x.before ++ x.at ∷ text in
     let n = part_nonempty p (x.before ++ x.at ∷ text) is in

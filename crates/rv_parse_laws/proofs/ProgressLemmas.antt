@@ -5,15 +5,15 @@ use Rattle.rv_text_laws.specs.Cut.{Piece, Each}
 use Rattle.rv_text_laws.specs.Lexing.{Token, is_last}
 use Rattle.rv_text_laws.specs.Grammar.{Kind, Bad_byte, Bad_token, End}
 use Rattle.rv_statement.specs.Statement.{StatementKind, Statement}
-use Rattle.rv_parse_laws.specs.Syntax.{Part, Ends, Says, IsPart, StopsPart, is_end, is_source_end}
+use Rattle.rv_parse_laws.specs.Syntax.{SourcePart, Ends, Says, IsPart, StopsPart, is_end, is_source_end}
 use Rattle.rv_parse_laws.specs.Opening.{is_opened}
 use Rattle.rv_parse_laws.specs.Parsing.{checked_at}
-use Rattle.rv_parse_laws.specs.Reading.{said, told}
+use Rattle.rv_parse_laws.specs.Reading.{statements_of_parts, told}
 use Rattle.rv_parse_laws.specs.Refusals.{SaysUpTo, OpensWell}
 use Rattle.rv_parse_laws.proofs.PartsLemmas.{part_found, part_nonempty}
 use Rattle.rv_parse_laws.proofs.OpeningsLemmas.{texts_push, open_push, end_opens, checked_ok}
 
-each_push : (ps : List (Piece Part Token)) (x : Piece Part Token) (rest : List Token) → Each IsPart StopsPart ps (x.text ++ rest) → IsPart x.kind x.text → StopsPart x.kind rest
+each_push : (ps : List (Piece SourcePart Token)) (x : Piece SourcePart Token) (rest : List Token) → Each IsPart StopsPart ps (x.text ++ rest) → IsPart x.kind x.text → StopsPart x.kind rest
     → Each IsPart StopsPart (ps ++ x ∷ []) rest
 each_push [] x rest each is stops = (is, stops, tt)
 each_push (p ∷ ps) x rest (a, b, each) is stops = (a, subst (StopsPart p.kind) (sym (texts_push ps x rest)) b, each_push ps x rest each is stops)
@@ -22,14 +22,14 @@ no_more_said : (ss : List Statement) → ss ++ [] ≡ ss
 no_more_said [] = refl
 no_more_said (s ∷ ss) = ap (λ us. s ∷ us) (no_more_said ss)
 
-said_push : (ps : List (Piece Part Token)) (x : Piece Part Token) → said (ps ++ x ∷ []) ≡ said ps ++ told x.kind x.text
+said_push : (ps : List (Piece SourcePart Token)) (x : Piece SourcePart Token) → statements_of_parts (ps ++ x ∷ []) ≡ statements_of_parts ps ++ told x.kind x.text
 said_push [] x = no_more_said (told x.kind x.text)
-said_push (p ∷ ps) x = ap (λ us. told p.kind p.text ++ us) (said_push ps x) ∙ sym (append_assoc (told p.kind p.text) (said ps) (told x.kind x.text))
+said_push (p ∷ ps) x = ap (λ us. told p.kind p.text ++ us) (said_push ps x) ∙ sym (append_assoc (told p.kind p.text) (statements_of_parts ps) (told x.kind x.text))
 
-pub push : (ts text rest : List Token) (p : Part) (ss : List Statement) → SaysUpTo ts (text ++ rest) ss → OpensWell ss (text ++ rest) → IsPart p text → StopsPart p rest
+pub push : (ts text rest : List Token) (p : SourcePart) (ss : List Statement) → SaysUpTo ts (text ++ rest) ss → OpensWell ss (text ++ rest) → IsPart p text → StopsPart p rest
     → SaysUpTo ts rest (ss ++ told p text)
 push ts text rest p ss (ps, cuts, opens, is_said) well is stops =
-    let x : Piece Part Token = record { kind = p; text = text } in (
+    let x : Piece SourcePart Token = record { kind = p; text = text } in (
       ps ++ x ∷ [],
       record { whole = cuts.whole ∙ sym (texts_push ps x rest); each = each_push ps x rest cuts.each is stops },
       open_push [] ps x rest opens (subst (λ xs. OpensWell xs (text ++ rest)) is_said well),

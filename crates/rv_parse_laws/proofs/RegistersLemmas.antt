@@ -6,7 +6,7 @@ use Rattle.std.proofs.lemmas.Bool.{cases_Bool, and_parts, eqb-true, or_left, or_
 use Rattle.std.proofs.lemmas.Option.{same_Some, slice_get_within}
 use Rattle.std.proofs.lemmas.Slice.Eq.{bytes_eq-Decides}
 use Rattle.rv_isa.specs.RegisterNames.{abi_names, decimal, IsNameOf}
-use Rattle.rv_parse_laws.specs.Words.{is_among, names_of, register_below, register}
+use Rattle.rv_parse_laws.specs.Words.{is_among, register_names, register_below, register}
 
 -- whether an option is this number
 abbrev is_it : Option ℕ → ℕ → Bool
@@ -24,10 +24,10 @@ all_found (x ∷ xs) n = is_it (register x) n && all_found xs n
 
 abbrev all_below : ℕ → Bool
 all_below zero = true
-all_below (suc n) = all_found (names_of n) n && all_below n
+all_below (suc n) = all_found (register_names n) n && all_below n
 
 every_name : all_below 32 ≡ true
-unfolding register names_of abi_names
+unfolding register register_names abi_names
 every_name = refl
 
 among_cases : (x : List ℕ) (xs : List (List ℕ)) (name : List ℕ) → is_among (x ∷ xs) name ≡ true → (x ≡ name) ⊎ (is_among xs name ≡ true)
@@ -46,26 +46,26 @@ found_among (x ∷ xs) n name all h =
     let a = and_parts (is_it (register x) n) (all_found xs n) all in
     elim (among_cases x xs name h) [ inl e ↦ ap register (sym e) ∙ is_it_true (register x) n a.0 | inr m ↦ found_among xs n name a.1 m ]
 
-each_below : (n r : ℕ) → r < n → all_below n ≡ true → all_found (names_of r) r ≡ true
+each_below : (n r : ℕ) → r < n → all_below n ≡ true → all_found (register_names r) r ≡ true
 each_below zero r lt h = absurd (omega (arith, lt))
 each_below (suc n) r lt h =
-    let a = and_parts (all_found (names_of n) n) (all_below n) h in
+    let a = and_parts (all_found (register_names n) n) (all_below n) h in
     elim (cases_Bool (r == n)) [
       | inl y ↦ (let e : r ≡ n = eqb-true r n y in rw e a.0)
       | inr differ ↦ (let le : r < n = grind (arith, lt, differ) in each_below n r le a.1)
     ]
 
-below_has : (n : ℕ) (name : List ℕ) (r : ℕ) → register_below n name ≡ Some r → (r < n) × (is_among (names_of r) name ≡ true)
+below_has : (n : ℕ) (name : List ℕ) (r : ℕ) → register_below n name ≡ Some r → (r < n) × (is_among (register_names r) name ≡ true)
 below_has zero name r h = absurd (cc)
-below_has (suc n) name r h = go (is_among (names_of n) name) refl h (below_has n name r)
+below_has (suc n) name r h = go (is_among (register_names n) name) refl h (below_has n name r)
   where
-    go : (b : Bool) → is_among (names_of n) name ≡ b → cond b (Some n) (register_below n name) ≡ Some r
-        → (register_below n name ≡ Some r → (r < n) × (is_among (names_of r) name ≡ true)) → (r < suc n) × (is_among (names_of r) name ≡ true)
-    go true e h ih = let same : n ≡ r = same_Some n r h in (omega (arith, same), subst (λ k. is_among (names_of k) name ≡ true) same e)
+    go : (b : Bool) → is_among (register_names n) name ≡ b → cond b (Some n) (register_below n name) ≡ Some r
+        → (register_below n name ≡ Some r → (r < n) × (is_among (register_names r) name ≡ true)) → (r < suc n) × (is_among (register_names r) name ≡ true)
+    go true e h ih = let same : n ≡ r = same_Some n r h in (omega (arith, same), subst (λ k. is_among (register_names k) name ≡ true) same e)
     go false e h ih = let b = ih h in let lt : r < n = b.0 in (omega (arith, lt), b.1)
 
-among_is_name : (r : ℕ) (name : List ℕ) → r < 32 → is_among (names_of r) name ≡ true → IsNameOf name r
-unfolding names_of
+among_is_name : (r : ℕ) (name : List ℕ) → r < 32 → is_among (register_names r) name ≡ true → IsNameOf name r
+unfolding register_names
 among_is_name r name lt h = elim (among_cases (codes "x" ++ decimal r) _ name h) [ inl e ↦ inl (lt, sym e) | inr more ↦ go (slice_get abi_names r) refl more ]
   where
     last : (b : Bool) → (r == 8) ≡ b → is_among (cond b (codes "fp" ∷ []) []) name ≡ true → IsNameOf name r
@@ -76,8 +76,8 @@ among_is_name r name lt h = elim (among_cases (codes "x" ++ decimal r) _ name h)
     go None e m = last (r == 8) refl m
     go (Some abi) e m = elim (among_cases abi _ name m) [ inl x ↦ inr (inl (e ∙ ap (λ (n : List ℕ). Some n) x)) | inr none ↦ last (r == 8) refl none ]
 
-name_among : (r : ℕ) (name : List ℕ) → IsNameOf name r → (r < 32) × (is_among (names_of r) name ≡ true)
-unfolding names_of abi_names
+name_among : (r : ℕ) (name : List ℕ) → IsNameOf name r → (r < 32) × (is_among (register_names r) name ≡ true)
+unfolding register_names abi_names
 name_among r name (inl (lt, e)) = (lt, among_first _ _ name (sym e))
 name_among r name (inr (inl s)) =
     let lt : r < 32 = slice_get_within abi_names r name s in (
@@ -91,7 +91,7 @@ pub register_is : (name : List ℕ) (r : ℕ) → register name ≡ Some r ↔ I
 unfolding register
 register_is name r = (
   (λ h. let b = below_has 32 name r h in among_is_name r name b.0 b.1),
-  (λ h. let n = name_among r name h in found_among (names_of r) r name (each_below 32 r n.0 every_name) n.1),
+  (λ h. let n = name_among r name h in found_among (register_names r) r name (each_below 32 r n.0 every_name) n.1),
 )
 
 -- what finds the register of a name, and finds nothing without one, gives this function's value

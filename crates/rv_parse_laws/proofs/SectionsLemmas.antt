@@ -7,15 +7,15 @@ use Rattle.std.proofs.lemmas.List.{append-nil}
 use Rattle.std.proofs.lemmas.Slice.Eq.{bytes_eq-Decides}
 use Rattle.rv_text_laws.specs.declared.punct.Punct.TheVariants.{Comma, Semicolon, Open, Minus}
 use Rattle.rv_text_laws.specs.Grammar.{Kind, Newline, Punctuation, Name, End}
-use Rattle.rv_text_laws.specs.Lexing.{Token, is_last, ended}
+use Rattle.rv_text_laws.specs.Lexing.{Token, is_last, is_ended}
 use Rattle.rv_text_laws.specs.Codes.{unsupported_here, limit}
 use Rattle.rv_text_laws.specs.SyntaxError.{SyntaxError, wrong, Read, longest_name}
-use Rattle.rv_text_laws.specs.Joined.{bytes_of, AreAfter, IsJoined, joins, joined_after, first_name, joined_at}
+use Rattle.rv_text_laws.specs.Joined.{joined_bytes, AreAfter, IsJoined, joins, joined_after, first_name, joined_at}
 use Rattle.rv_text_laws.proofs.ExpressionWrongLemmas.{ended_more}
 use Rattle.rv_text_laws.proofs.JoinsLemmas.{joins_no_last}
 use Rattle.rv_parse_laws.specs.Syntax.{is_section_name, A_section}
 use Rattle.rv_parse_laws.specs.Faults.{wrong_first}
-use Rattle.rv_parse_laws.specs.Parsing.{too_long, named_or, section_at}
+use Rattle.rv_parse_laws.specs.Parsing.{too_long, named_or, section_name_at}
 use Rattle.rv_parse_laws.proofs.FailingLemmas.{Failing, at_once, first_of, first_is, never, wrongs}
 use Rattle.rv_parse_laws.proofs.ValuesLemmas.{closes, Closes}
 
@@ -28,22 +28,22 @@ tested : (a b : Bool) (bytes : List ℕ) → cond (a) (Some bytes) None ≡ Some
 tested true b bytes h = refl
 tested false b bytes h = absurd (cc)
 
-pub joins_parts : (place : ℕ) (t : Token) (bytes : List ℕ) → joins place t ≡ Some bytes → (t.start ≡ place) × (bytes_of t.kind ≡ Some bytes)
+pub joins_parts : (place : ℕ) (t : Token) (bytes : List ℕ) → joins place t ≡ Some bytes → (t.start ≡ place) × (joined_bytes t.kind ≡ Some bytes)
 joins_parts place t bytes h = go (t.start == place) refl h
   where
-    go : (b : Bool) → (t.start == place) ≡ b → cond b (bytes_of t.kind) None ≡ Some bytes → (t.start ≡ place) × (bytes_of t.kind ≡ Some bytes)
+    go : (b : Bool) → (t.start == place) ≡ b → cond b (joined_bytes t.kind) None ≡ Some bytes → (t.start ≡ place) × (joined_bytes t.kind ≡ Some bytes)
     go true e h = (grind (arith, nat_tests), h)
     go false e h = absurd (cc)
 
-pub to_joins : (place : ℕ) (t : Token) (bytes : List ℕ) → t.start ≡ place → bytes_of t.kind ≡ Some bytes → joins place t ≡ Some bytes
+pub to_joins : (place : ℕ) (t : Token) (bytes : List ℕ) → t.start ≡ place → joined_bytes t.kind ≡ Some bytes → joins place t ≡ Some bytes
 to_joins place t bytes here is = go (t.start == place) refl
   where
-    go : (b : Bool) → (t.start == place) ≡ b → cond b (bytes_of t.kind) None ≡ Some bytes
+    go : (b : Bool) → (t.start == place) ≡ b → cond b (joined_bytes t.kind) None ≡ Some bytes
     go true e = is
     go false e = absurd (grind (arith, nat_tests))
 
 -- what closes a name is none of its parts
-closing_none : (k : Kind) → closes k ≡ true → bytes_of k ≡ None
+closing_none : (k : Kind) → closes k ≡ true → joined_bytes k ≡ None
 closing_none (Punctuation Comma) h = refl
 closing_none (Punctuation Open) h = refl
 closing_none (Punctuation Semicolon) h = refl
@@ -52,10 +52,10 @@ closing_none End h = refl
 closing_none (Punctuation _) h = absurd (cc)
 closing_none _ h = absurd (cc)
 
-no_joins : (place : ℕ) (t : Token) → bytes_of t.kind ≡ None → joins place t ≡ None
+no_joins : (place : ℕ) (t : Token) → joined_bytes t.kind ≡ None → joins place t ≡ None
 no_joins place t none = go (t.start == place)
   where
-    go : (b : Bool) → cond b (bytes_of t.kind) None ≡ None
+    go : (b : Bool) → cond b (joined_bytes t.kind) None ≡ None
     go true = none
     go false = refl
 
@@ -172,11 +172,11 @@ abbrev outcome : Token → List Token → List ℕ → List Token → Read (List
 outcome t ts name rest = cond (is_section_name name) (Ok (name, rest)) (cond (nat_lt longest_name (length name)) (Err (too_long 0 (t ∷ ts))) (Err (wrong t unsupported_here)))
 
 pub section_by : (t : Token) (ts : List Token) (first later : List ℕ) (rest : List Token) → t.kind ≡ Name first → joined_after t.stop ts ≡ (later, rest)
-    → section_at (t ∷ ts) ≡ outcome t ts (first ++ later) rest
+    → section_name_at (t ∷ ts) ≡ outcome t ts (first ++ later) rest
 section_by t ts first later rest is behind =
     ap (named_or (t ∷ ts)) (name_at t ts first is) ∙ ap (λ (x : List ℕ × List Token). outcome t ts (first ++ x.0) x.1) behind
 
-pub section_is : (text rest : List Token) (name : List ℕ) → IsSection text name → Closes rest → section_at (text ++ rest) ≡ Ok (name, rest)
+pub section_is : (text rest : List Token) (name : List ℕ) → IsSection text name → Closes rest → section_name_at (text ++ rest) ≡ Ok (name, rest)
 section_is [] rest name (none, good) closes = absurd none
 section_is (t ∷ text) rest name ((first, later, is, w, behind), good) closes =
     section_by t (text ++ rest) first later rest is (joined_is t.stop text rest later behind closes)
@@ -186,9 +186,9 @@ pub record SectionFound (ts : List Token) (name : List ℕ) (rest : List Token) 
   pub text : List Token
   pub whole : ts ≡ text ++ rest
   pub is : IsSection text name
-  pub steady : (us : List Token) → first_of us ≡ first_of rest → section_at (text ++ us) ≡ Ok (name, us)
+  pub steady : (us : List Token) → first_of us ≡ first_of rest → section_name_at (text ++ us) ≡ Ok (name, us)
 
-pub section_found : (ts : List Token) (name : List ℕ) (rest : List Token) → section_at ts ≡ Ok (name, rest) → SectionFound ts name rest
+pub section_found : (ts : List Token) (name : List ℕ) (rest : List Token) → section_name_at ts ≡ Ok (name, rest) → SectionFound ts name rest
 unfolding joined_at
 section_found [] name rest e = absurd (cc)
 section_found (t ∷ ts) name rest e = go (first_name t.kind) refl
@@ -201,7 +201,7 @@ section_found (t ∷ ts) name rest e = go (first_name t.kind) refl
         go false h = cc
     named first is true good =
         let f = joined_found t.stop ts in
-        let read : section_at (t ∷ ts) ≡ Ok (first ++ (joined_after t.stop ts).0, (joined_after t.stop ts).1) = section_by t ts first (joined_after t.stop ts).0 (joined_after t.stop ts).1 is refl ∙ rw good refl in
+        let read : section_name_at (t ∷ ts) ≡ Ok (first ++ (joined_after t.stop ts).0, (joined_after t.stop ts).1) = section_by t ts first (joined_after t.stop ts).0 (joined_after t.stop ts).1 is refl ∙ rw good refl in
         let p = parts _ _ _ _ (sym read ∙ e) in
         record {
           text = t ∷ f.text;
@@ -232,11 +232,11 @@ pub record LongAt (n place : ℕ) (ts : List Token) : Type 0 where
   pub past : longest_name < n + length longer
   pub says : (text : List Token) → (too_long n (front ++ at ∷ text) ≡ wrong at limit) × (longest_name < n + length (joined_after place (front ++ at ∷ text)).0)
 
-pub too_long_step : (n : ℕ) (t : Token) (ts : List Token) (bytes : List ℕ) → bytes_of t.kind ≡ Some bytes
+pub too_long_step : (n : ℕ) (t : Token) (ts : List Token) (bytes : List ℕ) → joined_bytes t.kind ≡ Some bytes
     → too_long n (t ∷ ts) ≡ cond (nat_lt longest_name (n + length bytes)) (wrong t limit) (too_long (n + length bytes) ts)
 too_long_step n t ts bytes is = rw is refl
 
-pub too_long_within : (n : ℕ) (t : Token) (ts : List Token) (bytes : List ℕ) (w : SyntaxError) → bytes_of t.kind ≡ Some bytes → nat_lt longest_name (n + length bytes) ≡ false
+pub too_long_within : (n : ℕ) (t : Token) (ts : List Token) (bytes : List ℕ) (w : SyntaxError) → joined_bytes t.kind ≡ Some bytes → nat_lt longest_name (n + length bytes) ≡ false
     → too_long (n + length bytes) ts ≡ w → too_long n (t ∷ ts) ≡ w
 too_long_within n t ts bytes w is within h = too_long_step n t ts bytes is ∙ rw within h
 
@@ -298,12 +298,12 @@ over_test n over = grind (arith, nat_tests, over)
 
 -- a name that is too long
 pub long_err : (t : Token) (ts : List Token) (first later : List ℕ) (rest : List Token) (w : SyntaxError) → t.kind ≡ Name first → joined_after t.stop ts ≡ (later, rest)
-    → longest_name < length (first ++ later) → too_long 0 (t ∷ ts) ≡ w → section_at (t ∷ ts) ≡ Err w
+    → longest_name < length (first ++ later) → too_long 0 (t ∷ ts) ≡ w → section_name_at (t ∷ ts) ≡ Err w
 long_err t ts first later rest w is behind over same =
     section_by t ts first later rest is behind ∙ rw (over_bad (first ++ later) over, over_test (length (first ++ later)) over) (ap (λ (x : SyntaxError). Err x) same)
 
 -- the last token is no part of a name
-pub behind_ended : (place : ℕ) (text : List Token) (bytes : List ℕ) (rest : List Token) → AreAfter place text bytes → ended (text ++ rest) ≡ true → ended rest ≡ true
+pub behind_ended : (place : ℕ) (text : List Token) (bytes : List ℕ) (rest : List Token) → AreAfter place text bytes → is_ended (text ++ rest) ≡ true → is_ended rest ≡ true
 behind_ended place [] bytes rest is end = end
 behind_ended place (t ∷ text) bytes rest (here, first, later, is, w, more) end =
     behind_ended t.stop text later rest more (ended_more t (text ++ rest) (joins_no_last t.kind first is) end)
@@ -322,7 +322,7 @@ pub name_no_last : (k : Kind) (first : List ℕ) → k ≡ Name first → is_las
 name_no_last k first is = rw is refl
 
 -- where a section's name is wrong
-pub section_wrong : (ts : List Token) (w : SyntaxError) → ended ts ≡ true → section_at ts ≡ Err w → Failing (List ℕ) IsSection section_at ts w
+pub section_wrong : (ts : List Token) (w : SyntaxError) → is_ended ts ≡ true → section_name_at ts ≡ Err w → Failing (List ℕ) IsSection section_name_at ts w
 section_wrong [] w end e = absurd (cc)
 section_wrong (t ∷ ts) w end e = go (first_name t.kind) refl
   where
@@ -332,7 +332,7 @@ section_wrong (t ∷ ts) w end e = go (first_name t.kind) refl
     rest : List Token
     rest = (joined_after t.stop ts).1
 
-    first_long : (first : List ℕ) → t.kind ≡ Name first → nat_lt longest_name (0 + length first) ≡ true → too_long 0 (t ∷ ts) ≡ w → Failing (List ℕ) IsSection section_at (t ∷ ts) w
+    first_long : (first : List ℕ) → t.kind ≡ Name first → nat_lt longest_name (0 + length first) ≡ true → too_long 0 (t ∷ ts) ≡ w → Failing (List ℕ) IsSection section_name_at (t ∷ ts) w
     first_long first is over same = record {
       before = [];
       at = t;
@@ -348,15 +348,15 @@ section_wrong (t ∷ ts) w end e = go (first_name t.kind) refl
         lt = grind (arith, nat_tests, over)
 
         one : (text : List Token) → too_long 0 (t ∷ text) ≡ wrong t limit
-        one text = too_long_step 0 t text first (ap bytes_of is) ∙ rw over refl
+        one text = too_long_step 0 t text first (ap joined_bytes is) ∙ rw over refl
 
     later_long : (first : List ℕ) → t.kind ≡ Name first → nat_lt longest_name (0 + length first) ≡ false → longest_name < length (first ++ (joined_after t.stop ts).0) → too_long 0 (t ∷ ts) ≡ w
-        → Failing (List ℕ) IsSection section_at (t ∷ ts) w
+        → Failing (List ℕ) IsSection section_name_at (t ∷ ts) w
     later_long first is within over same =
         let le : 0 + length first ≤ longest_name = grind (arith, nat_tests, within) in
         let f = long_at (0 + length first) t.stop ts le (omega (arith, over, length-append first (joined_after t.stop ts).0)) in
         let one : (text : List Token) → too_long 0 (t ∷ (f.front ++ f.at ∷ text)) ≡ wrong f.at limit =
-        λ text. too_long_within 0 t (f.front ++ f.at ∷ text) first (wrong f.at limit) (ap bytes_of is) within (f.says text).0 in
+        λ text. too_long_within 0 t (f.front ++ f.at ∷ text) first (wrong f.at limit) (ap joined_bytes is) within (f.says text).0 in
         let is_wrong : w ≡ wrong f.at limit = sym same ∙ ap (λ us. too_long 0 (t ∷ us)) f.whole ∙ one f.more in
         record {
           before = t ∷ f.front;
@@ -370,10 +370,10 @@ section_wrong (t ∷ ts) w end e = go (first_name t.kind) refl
         }
 
     rows : (first : List ℕ) → t.kind ≡ Name first → is_section_name (first ++ (joined_after t.stop ts).0) ≡ false → nat_lt longest_name (length (first ++ (joined_after t.stop ts).0)) ≡ false
-        → (us : List Token) → (joined_after t.stop ts).1 ≡ us → wrong t unsupported_here ≡ w → Failing (List ℕ) IsSection section_at (t ∷ ts) w
+        → (us : List Token) → (joined_after t.stop ts).1 ≡ us → wrong t unsupported_here ≡ w → Failing (List ℕ) IsSection section_name_at (t ∷ ts) w
     rows first is bad within [] none same =
         let f = joined_found t.stop ts in
-        let last : ended (f.text ++ []) ≡ true = ap (λ us. ended (f.text ++ us)) (sym none) ∙ ap ended (sym f.whole) ∙ ended_more t ts (name_no_last t.kind first is) end in
+        let last : is_ended (f.text ++ []) ≡ true = ap (λ us. is_ended (f.text ++ us)) (sym none) ∙ ap is_ended (sym f.whole) ∙ ended_more t ts (name_no_last t.kind first is) end in
         absurd (cc (behind_ended t.stop f.text (joined_after t.stop ts).0 [] f.is last))
     rows first is bad within (at ∷ more) next same =
         let f = joined_found t.stop ts in
@@ -388,22 +388,22 @@ section_wrong (t ∷ ts) w end e = go (first_name t.kind) refl
         }
 
     over : (first : List ℕ) → t.kind ≡ Name first → is_section_name (first ++ (joined_after t.stop ts).0) ≡ false → (b : Bool) → nat_lt longest_name (length (first ++ (joined_after t.stop ts).0)) ≡ b
-        → cond {A = Read (List ℕ)} b (Err (too_long 0 (t ∷ ts))) (Err (wrong t unsupported_here)) ≡ Err w → Failing (List ℕ) IsSection section_at (t ∷ ts) w
+        → cond {A = Read (List ℕ)} b (Err (too_long 0 (t ∷ ts))) (Err (wrong t unsupported_here)) ≡ Err w → Failing (List ℕ) IsSection section_name_at (t ∷ ts) w
     over first is bad true long h = first_or (nat_lt longest_name (0 + length first)) refl
       where
-        first_or : (b : Bool) → nat_lt longest_name (0 + length first) ≡ b → Failing (List ℕ) IsSection section_at (t ∷ ts) w
+        first_or : (b : Bool) → nat_lt longest_name (0 + length first) ≡ b → Failing (List ℕ) IsSection section_name_at (t ∷ ts) w
         first_or true more = first_long first is more (wrongs _ w h)
         first_or false less = later_long first is less (grind (arith, nat_tests, long)) (wrongs _ w h)
     over first is bad false within h = rows first is bad within (joined_after t.stop ts).1 refl (wrongs _ w h)
 
-    named : (first : List ℕ) → t.kind ≡ Name first → (b : Bool) → is_section_name (first ++ (joined_after t.stop ts).0) ≡ b → Failing (List ℕ) IsSection section_at (t ∷ ts) w
+    named : (first : List ℕ) → t.kind ≡ Name first → (b : Bool) → is_section_name (first ++ (joined_after t.stop ts).0) ≡ b → Failing (List ℕ) IsSection section_name_at (t ∷ ts) w
     named first is true good =
         absurd (never (first ++ (joined_after t.stop ts).0, (joined_after t.stop ts).1) w (sym (section_by t ts first (joined_after t.stop ts).0 (joined_after t.stop ts).1 is refl ∙ rw good refl) ∙ e))
     named first is false bad =
         over first is bad (nat_lt longest_name (length (first ++ (joined_after t.stop ts).0))) refl
         (sym (section_by t ts first (joined_after t.stop ts).0 (joined_after t.stop ts).1 is refl ∙ rw bad refl) ∙ e)
 
-    none : first_name t.kind ≡ None → Failing (List ℕ) IsSection section_at (t ∷ ts) w
+    none : first_name t.kind ≡ None → Failing (List ℕ) IsSection section_name_at (t ∷ ts) w
     none h =
         let same : wrong t (wrong_first A_section t.kind) ≡ w = wrongs _ w (sym (ap (named_or (t ∷ ts)) (none_at t ts h)) ∙ e) in
         record {
@@ -416,6 +416,6 @@ section_wrong (t ∷ ts) w end e = go (first_name t.kind) refl
           goes = some_section;
         }
 
-    go : (o : Option (List ℕ)) → first_name t.kind ≡ o → Failing (List ℕ) IsSection section_at (t ∷ ts) w
+    go : (o : Option (List ℕ)) → first_name t.kind ≡ o → Failing (List ℕ) IsSection section_name_at (t ∷ ts) w
     go None h = none h
     go (Some first) h = named first (first_name_is t.kind first h) (is_section_name (first ++ (joined_after t.stop ts).0)) refl

@@ -3,16 +3,16 @@
 use Rattle.std.proofs.Common.{◌≡◌, ℕ, ◌<◌, Bool, true, false, cond, List, [], ◌∷◌, ◌++◌, length, Option, Some, None, option_map, Ok, Err, refl, sym, ◌∙◌, ap, codes, arith}
 use Rattle.rv_text_laws.specs.declared.punct.Punct.TheVariants.{Comma, Colon, Semicolon, Open, Close, At}
 use Rattle.rv_text_laws.specs.Grammar.{Kind, Newline, Punctuation, Name as NameToken, Number, Text, Bad_byte, Bad_token, End}
-use Rattle.rv_text_laws.specs.Lexing.{Token, is_last, ended}
+use Rattle.rv_text_laws.specs.Lexing.{Token, is_last, is_ended}
 use Rattle.rv_text_laws.specs.SyntaxError.{SyntaxError, wrong}
 use Rattle.rv_text_laws.proofs.ExpressionWrongLemmas.{ended_more}
 use Rattle.rv_isa.specs.RegisterNames.{abi_names}
 use Rattle.rv_compress.specs.declared.parcel.RegisterSet.{RegisterSet}
 use Rattle.rv_compress.specs.declared.parcel.RegisterSet.TheVariants.{Any, Nonzero, Short, Stack, Upper}
-use Rattle.rv_compress.specs.Mnemonics.{is_in}
+use Rattle.rv_compress.specs.Mnemonics.{is_of_set}
 use Rattle.rv_statement.specs.Statement.{Operand, Register, Accesses, Word, Quoted}
-use Rattle.rv_parse_laws.specs.Words.{names_of, register, choices}
-use Rattle.rv_parse_laws.specs.Syntax.{is_symbol, register_of, kept_in, symbol_of, is_colon, is_end, access_sets, accesses, Slot, A_register_of, A_value, An_address_by, A_callee, A_zero, Some_accesses, A_symbol, A_string, A_section, Some_flags, At_sign, A_type, An_option, A_plt, A_comma, An_opening, A_closing, single}
+use Rattle.rv_parse_laws.specs.Words.{register_names, register, choices}
+use Rattle.rv_parse_laws.specs.Syntax.{is_symbol, register_of, kept_in, token_symbol, is_colon, is_end, access_sets, accesses, Slot, A_register_of, A_value, An_address_by, A_callee, A_zero, Some_accesses, A_symbol, A_string, A_section, Some_flags, At_sign, A_type, An_option, A_plt, A_comma, An_opening, A_closing, single}
 use Rattle.rv_parse_laws.specs.Faults.{wrong_first}
 use Rattle.rv_parse_laws.specs.Parsing.{single_at}
 use Rattle.rv_parse_laws.proofs.StepsLemmas.{taken_ok, taken_err}
@@ -34,7 +34,7 @@ if_kept false r n h = absurd (cc)
 pub kept_is : (set : RegisterSet) (o : Option ℕ) (n : ℕ) → kept_in set o ≡ Some n → o ≡ Some n
 kept_is Any o n h = h
 kept_is set None n h = h
-kept_is set (Some r) n h = ap (λ m. Some m) (if_kept (is_in set r) r n h)
+kept_is set (Some r) n h = ap (λ m. Some m) (if_kept (is_of_set set r) r n h)
 
 no_register : (set : RegisterSet) → option_map (λ r. Register r ∷ []) (kept_in set None) ≡ None
 no_register set = rw (kept_none set) refl
@@ -99,7 +99,7 @@ abbrev pub a_register : RegisterSet → Token
 a_register set = some_token (NameToken (a_name set))
 
 pub a_register_is : (set : RegisterSet) → kept_in set (register_of (a_register set).kind) ≡ Some (a_number set)
-unfolding register names_of abi_names
+unfolding register register_names abi_names
 a_register_is Any = refl
 a_register_is Nonzero = refl
 a_register_is Short = refl
@@ -112,8 +112,8 @@ a_literal = some_token (Number [] 0)
 abbrev pub a_symbol : Token
 a_symbol = some_token (NameToken (codes "f"))
 
-pub a_symbol_is : symbol_of a_symbol.kind ≡ Some (codes "f")
-unfolding is_symbol register names_of abi_names
+pub a_symbol_is : token_symbol a_symbol.kind ≡ Some (codes "f")
+unfolding is_symbol register register_names abi_names
 a_symbol_is = refl
 
 -- one token and its operands
@@ -177,7 +177,7 @@ single_found s (t ∷ ts) os rest e =
 pub single_err : (s : Slot) (t : Token) (text : List Token) (w : SyntaxError) → single s t.kind ≡ None → w ≡ wrong t (wrong_first s t.kind) → single_at s (t ∷ text) ≡ Err w
 single_err s t text w none is = rw (none, is) refl
 
-pub single_wrong : (s : Slot) (ts : List Token) (w : SyntaxError) → is_single s ≡ true → ended ts ≡ true → single_at s ts ≡ Err w → Failing (List Operand) (IsSingle s) (single_at s) ts w
+pub single_wrong : (s : Slot) (ts : List Token) (w : SyntaxError) → is_single s ≡ true → is_ended ts ≡ true → single_at s ts ≡ Err w → Failing (List Operand) (IsSingle s) (single_at s) ts w
 single_wrong s [] w one end e = absurd (cc)
 single_wrong s (t ∷ ts) w one end e =
     let k = taken_err t ts (single s t.kind) (wrong_first s t.kind) w e in
@@ -185,17 +185,17 @@ single_wrong s (t ∷ ts) w one end e =
     at_first (List Operand) (IsSingle s) (single_at s) t ts w (wrong_first s t.kind) k.1 (λ text. single_err s t text w k.0 k.1) (g.0 ∷ [], g.1, (g.0, refl, g.2))
 
 -- where one token is wrong
-pub single_fault : (s : Slot) (ts : List Token) (w : SyntaxError) → ended ts ≡ true → single_at s ts ≡ Err w
+pub single_fault : (s : Slot) (ts : List Token) (w : SyntaxError) → is_ended ts ≡ true → single_at s ts ≡ Err w
     → (t : Token) × (us : List Token) × (ts ≡ t ∷ us) × (single s t.kind ≡ None) × (w ≡ wrong t (wrong_first s t.kind))
 single_fault s [] w end e = absurd (cc)
 single_fault s (t ∷ ts) w end e = let k = taken_err t ts (single s t.kind) (wrong_first s t.kind) w e in (t, ts, refl, k.0, k.1)
 
 -- the tokens behind one that stands in a place
-pub single_passed : (s : Slot) (ts : List Token) (os : List Operand) (rest : List Token) → ended ts ≡ true → single_at s ts ≡ Ok (os, rest)
-    → (t : Token) × (ts ≡ t ∷ rest) × (single s t.kind ≡ Some os) × (ended rest ≡ true)
+pub single_passed : (s : Slot) (ts : List Token) (os : List Operand) (rest : List Token) → is_ended ts ≡ true → single_at s ts ≡ Ok (os, rest)
+    → (t : Token) × (ts ≡ t ∷ rest) × (single s t.kind ≡ Some os) × (is_ended rest ≡ true)
 single_passed s ts os rest end e =
     let f = single_found s ts os rest e in
-    (f.0, f.1, f.2, ended_more f.0 rest (single_no_last s f.0.kind os f.2) (ap ended (sym f.1) ∙ end))
+    (f.0, f.1, f.2, ended_more f.0 rest (single_no_last s f.0.kind os f.2) (ap is_ended (sym f.1) ∙ end))
 
 pub one_is : (s : Slot) (text : List Token) (os : List Operand) → IsSingle s text os → (rest : List Token) → single_at s (text ++ rest) ≡ Ok (os, rest)
 one_is s text os (t, w, is) rest = rw w (single_is s t os rest is)

@@ -5,7 +5,7 @@ use Rattle.std.proofs.lemmas.Bool.{and_right}
 use Rattle.rv_text_laws.specs.declared.punct.Punct.TheVariants.{Comma, Semicolon, Open, Plus, Percent}
 use Rattle.rv_text_laws.specs.declared.operator.BinaryOperator.TheVariants.{Add}
 use Rattle.rv_text_laws.specs.Grammar.{Kind, Punctuation}
-use Rattle.rv_text_laws.specs.Lexing.{Token, ended}
+use Rattle.rv_text_laws.specs.Lexing.{Token, is_ended}
 use Rattle.rv_text_laws.specs.SyntaxError.{SyntaxError, wrong, Read}
 use Rattle.rv_text_laws.specs.Expression.{Tree, Leaf, Unary, Paren, Binary, Symbol, A_primary, begins, follows, No_operand, Nothing_more, SpellsTree, Node, postfix, IsAt, nesting, deepest, EndsBefore, tree_of, bare}
 use Rattle.rv_text_laws.specs.ExpressionAt.{Wants, Fails, step, read_from, expression_at, EndsAt}
@@ -15,11 +15,11 @@ use Rattle.rv_text_laws.proofs.ExpressionWrongLemmas.{can_go_on, ends_there, end
 use Rattle.rv_text_laws.proofs.ExpressionFaultsLemmas.{stuck, fails_there, wrong_at}
 use Rattle.rv_text_laws.proofs.TreesLemmas.{postfix_tree}
 use Rattle.rv_statement.specs.Statement.{Expression}
-use Rattle.rv_parse_laws.specs.Syntax.{is_register, is_comma, is_opening, is_end, is_percent, is_number, IsValue}
+use Rattle.rv_parse_laws.specs.Syntax.{is_register, is_comma, is_opening, is_end, is_percent, is_of_numbers, IsValue}
 use Rattle.rv_text_laws.specs.Codes.{unsupported_here}
 use Rattle.rv_parse_laws.specs.Parsing.{seen_as, value_at, allowed}
 use Rattle.rv_isa.specs.RegisterNames.{abi_names}
-use Rattle.rv_parse_laws.specs.Words.{names_of, register}
+use Rattle.rv_parse_laws.specs.Words.{register_names, register}
 use Rattle.rv_parse_laws.proofs.StepsLemmas.{seen_ok, seen_err}
 use Rattle.rv_parse_laws.proofs.FailingLemmas.{first_of, first_is, never, wrongs}
 use Rattle.rv_parse_laws.proofs.SinglesLemmas.{some_token, a_symbol}
@@ -134,7 +134,7 @@ value_ended ts e rest read =
         ∙ ap (λ (x : Tree). Ok (x, at ∷ k.0)) (sym same) ∙ ap (λ xs. Ok (e, xs)) (sym k.1)
 
 pub symbol_begins : begins is_register a_symbol.kind ≡ A_primary (Symbol (codes "f"))
-unfolding register names_of abi_names
+unfolding register register_names abi_names
 symbol_begins = refl
 
 abbrev pub a_name : Expression
@@ -147,7 +147,7 @@ abbrev a_plus : Token
 a_plus = some_token (Punctuation Plus)
 
 -- a value goes on with a sum that has a name
-pub sum_goes : (text : List Token) (e : Expression) → IsValue text e → (us : List Token) × (x : Expression) × IsValue (text ++ us) x × (is_number x ≡ false)
+pub sum_goes : (text : List Token) (e : Expression) → IsValue text e → (us : List Token) × (x : Expression) × IsValue (text ++ us) x × (is_of_numbers x ≡ false)
 sum_goes text e (tree, spelled, ordered, within, is) = (
   a_plus ∷ a_symbol ∷ [],
   Binary Add (bare tree) a_name,
@@ -158,7 +158,7 @@ sum_goes text e (tree, spelled, ordered, within, is) = (
     grind (arith, within),
     refl,
   ),
-  and_right (is_number (bare tree)) false refl,
+  and_right (is_of_numbers (bare tree)) false refl,
 )
 
 -- a token that no expression begins with is no opening parenthesis
@@ -183,10 +183,10 @@ pub record Unread (ts : List Token) (w : SyntaxError) : Type 0 where
   pub whole : ts ≡ before ++ at ∷ more
   pub is_wrong : w ≡ wrong at code
   pub fails : (text : List Token) → value_at (before ++ at ∷ text) ≡ Err w
-  pub goes : (us : List Token) × (x : Expression) × IsValue (before ++ us) x × (is_number x ≡ false)
+  pub goes : (us : List Token) × (x : Expression) × IsValue (before ++ us) x × (is_of_numbers x ≡ false)
   pub closed : before ≡ [] → is_opening at.kind ≡ false
 
-pub value_unread : (ts : List Token) (w : SyntaxError) → ended ts ≡ true → value_at ts ≡ Err w → Unread ts w
+pub value_unread : (ts : List Token) (w : SyntaxError) → is_ended ts ≡ true → value_at ts ≡ Err w → Unread ts w
 value_unread ts w end e =
     let f = wrong_at is_register ts w end (seen_err tree_of (expression_at is_register ts) w e) in
     let s = stuck is_register f.0 f.1 f.3 f.5 in
@@ -204,7 +204,7 @@ value_unread ts w end e =
     }
   where
     goes : (front more : List Token) (tree : Tree) → SpellsTree is_register tree (front ++ more) → IsAt 0 tree → nesting tree ≤ deepest
-        → (us : List Token) × (x : Expression) × IsValue (front ++ us) x × (is_number x ≡ false)
+        → (us : List Token) × (x : Expression) × IsValue (front ++ us) x × (is_of_numbers x ≡ false)
     goes front more tree spelled ordered within =
         let g = sum_goes (front ++ more) (bare tree) (tree, spelled, ordered, within, refl) in
         (more ++ g.0, g.1, subst (λ us. IsValue us g.1) (append_assoc front more g.0) g.2, g.3)

@@ -4,8 +4,8 @@ use Rattle.std.proofs.Common.{◌≡◌, ℕ, true, false, List, [], ◌∷◌, 
 use Rattle.rv_isa.specs.RegisterNames.{abi_names}
 use Rattle.rv_text_laws.specs.Bytes.{class, digit}
 use Rattle.rv_text_laws.specs.Cut.{cut}
-use Rattle.rv_text_laws.specs.Front.{tokens_from, lexeme_at, reference_in, number_in, escape_at, atom_at}
-use Rattle.rv_text_laws.specs.SyntaxError.{Read, offset_of}
+use Rattle.rv_text_laws.specs.Front.{tokens_from, lexeme_at, reference_in, word_number, escape_at, atom_at}
+use Rattle.rv_text_laws.specs.SyntaxError.{Read, fault_offset}
 use Rattle.rv_text_laws.specs.Joined.{joined_at}
 use Rattle.rv_text_laws.specs.Expression.{Leaf, Literal, Symbol, Here, Reference, Unary, Binary, tree_of}
 use Rattle.rv_text_laws.specs.ExpressionAt.{expression_at}
@@ -27,17 +27,17 @@ use Rattle.rv_isa.specs.declared.operation.LoadOperation.TheVariants.{Lw}
 use Rattle.rv_isa.specs.declared.operation.StoreOperation.TheVariants.{Sd}
 use Rattle.rv_statement.specs.declared.directive.Binding.TheVariants.{Local, Global, Weak}
 use Rattle.rv_statement.specs.Statement.{Register, Value, Applied, Target, Enters, Opens, Binds, Sets, Aligns_to_power, Aligns_to_bytes, Values, Strings, Zeros, Chooses as Choosing, Ignored, StatementKind, Label, Numbered, Instruction, Directs, Statement}
-use Rattle.rv_parse_laws.specs.Words.{function_words, left_out_words, instruction_words, atomic_operations, atomic_forms, form_with, mnemonic_named, directive_words, directive_named, beginning, choices, left_out_options, section_types, names_of, register}
-use Rattle.rv_parse_laws.specs.Syntax.{is_symbol, access_sets, is_section_name, Part, Says}
+use Rattle.rv_parse_laws.specs.Words.{function_words, left_out_words, instruction_words, atomic_operations, atomic_forms, form_with, mnemonic_named, directive_words, directive_named, beginning, choices, left_out_options, section_types, register_names, register}
+use Rattle.rv_parse_laws.specs.Syntax.{is_symbol, access_sets, is_section_name, SourcePart, Says}
 use Rattle.rv_parse_laws.specs.Opening.{is_opened}
 use Rattle.rv_parse_laws.specs.Parsing.{items_at, operands_at, begun_at, statement_at, part_at, opening_at, checked_at}
 
-what : Read Part → Option Part
+what : Read SourcePart → Option SourcePart
 what (Ok read) = Some read.0
 what (Err wrong) = None
 
 -- the fault's code and place
-code : Read Part → ℕ × ℕ
+code : Read SourcePart → ℕ × ℕ
 code (Ok read) = (0, 0)
 code (Err wrong) = (wrong.code, wrong.offset)
 
@@ -249,17 +249,17 @@ bad_functions =
 behind_x : List Statement
 behind_x = record { line = 1; kind = Directs (Opens (codes "x") None None) } ∷ []
 
-read_line : List ℕ → Read Part
+read_line : List ℕ → Read SourcePart
 read_line line = checked_at (is_opened behind_x) (tokens_from 0 1 line)
 
 each_reads : map (λ line. what (read_line line.0)) good_lines ≡ map (λ line. Some (Says line.1)) good_lines
-unfolding what code behind_x read_line opening_at part_at statement_at begun_at operands_at items_at tokens_from lexeme_at reference_in number_in escape_at atom_at cut class digit expression_at tree_of joined_at offset_of is_symbol access_sets is_section_name function_words left_out_words instruction_words atomic_operations atomic_forms mnemonic_named directive_words directive_named beginning choices left_out_options section_types names_of register abi_names
+unfolding what code behind_x read_line opening_at part_at statement_at begun_at operands_at items_at tokens_from lexeme_at reference_in word_number escape_at atom_at cut class digit expression_at tree_of joined_at fault_offset is_symbol access_sets is_section_name function_words left_out_words instruction_words atomic_operations atomic_forms mnemonic_named directive_words directive_named beginning choices left_out_options section_types register_names register abi_names
 each_reads = refl
 
 each_fails : map (λ line. code (read_line line.0)) bad_lines ≡ map (λ line. (line.1, line.2)) bad_lines
-unfolding what code behind_x read_line opening_at part_at statement_at begun_at operands_at items_at tokens_from lexeme_at reference_in number_in escape_at atom_at cut class digit expression_at tree_of joined_at offset_of is_symbol access_sets is_section_name function_words left_out_words instruction_words atomic_operations atomic_forms mnemonic_named directive_words directive_named beginning choices left_out_options section_types names_of register abi_names
+unfolding what code behind_x read_line opening_at part_at statement_at begun_at operands_at items_at tokens_from lexeme_at reference_in word_number escape_at atom_at cut class digit expression_at tree_of joined_at fault_offset is_symbol access_sets is_section_name function_words left_out_words instruction_words atomic_operations atomic_forms mnemonic_named directive_words directive_named beginning choices left_out_options section_types register_names register abi_names
 each_fails = refl
 
 functions_fail : map (λ line. code (read_line line.0)) bad_functions ≡ map (λ line. (line.1, line.2)) bad_functions
-unfolding what code behind_x read_line opening_at part_at statement_at begun_at operands_at items_at tokens_from lexeme_at reference_in number_in escape_at atom_at cut class digit expression_at tree_of joined_at offset_of is_symbol access_sets is_section_name function_words left_out_words instruction_words atomic_operations atomic_forms mnemonic_named directive_words directive_named beginning choices left_out_options section_types names_of register abi_names
+unfolding what code behind_x read_line opening_at part_at statement_at begun_at operands_at items_at tokens_from lexeme_at reference_in word_number escape_at atom_at cut class digit expression_at tree_of joined_at fault_offset is_symbol access_sets is_section_name function_words left_out_words instruction_words atomic_operations atomic_forms mnemonic_named directive_words directive_named beginning choices left_out_options section_types register_names register abi_names
 functions_fail = refl

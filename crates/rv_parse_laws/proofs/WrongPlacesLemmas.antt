@@ -9,7 +9,7 @@ use Rattle.rv_parse_laws.specs.declared.role.Role.{Role}
 use Rattle.rv_parse_laws.specs.declared.role.Role.TheVariants as roles
 use Rattle.rv_parse_laws.specs.declared.beginning.Beginning.{Beginning}
 use Rattle.rv_parse_laws.specs.declared.beginning.Beginning.TheVariants as beginnings
-use Rattle.rv_parse_laws.specs.Syntax.{A_value, A_target, An_address_by, An_address, A_callee, A_section, Slot, Slots, Stops, Takes, Chooses, Locates, Lists, Anything, slots, places, begins}
+use Rattle.rv_parse_laws.specs.Syntax.{A_value, A_target, An_address_by, An_address, A_callee, A_section, Slot, Slots, Stops, Takes, Chooses, Locates, Lists, Anything, slots, operand_slots, begins}
 use Rattle.rv_parse_laws.specs.Wrong.{IsWrongInside, IsWrongArgument, IsWrongCall, IsWrongApplied, IsWrongValue, IsWrongBase, IsWrongAddress, IsWrongCallee, IsWrongSection, IsWrongOperand, IsWrongTaken, IsNoEnd, IsWrongNext, IsWrongItem, IsWrongIn, IsWrongAfter, IsWrongStatement}
 
 -- the token is one of these
@@ -103,7 +103,7 @@ operands Anything ts t code (front, more, w, all, ends, other, is) = (front, mor
 
 behind : (b : Beginning) (u : Token) (ts : List Token) (t : Token) (code : ℕ) → IsWrongAfter b u ts t code → Occurs t (u ∷ ts)
 behind (beginnings.Instruction m) u ts t code x = occurs_behind t (u ∷ ts) (u ∷ []) ts refl (operands (slots m) ts t code x)
-behind (beginnings.Directive word) u ts t code x = occurs_behind t (u ∷ ts) (u ∷ []) ts refl (operands (places word) ts t code x)
+behind (beginnings.Directive word) u ts t code x = occurs_behind t (u ∷ ts) (u ∷ []) ts refl (operands (operand_slots word) ts t code x)
 behind beginnings.Nothing u ts t code (same, is) = first t (u ∷ ts) ts (ap (λ v. v ∷ ts) (sym same))
 
 pub statement_occurs : (ts : List Token) (t : Token) (code : ℕ) → IsWrongStatement ts t code → Occurs t ts

@@ -5,17 +5,17 @@ use Rattle.std.specs.Str.{bytes_eq}
 use Rattle.std.proofs.lemmas.Bool.Decides.{nat_tests}
 use Rattle.std.proofs.lemmas.Slice.Eq.{bytes_eq-Decides}
 use Rattle.rv_text_laws.specs.Grammar.{Name}
-use Rattle.rv_text_laws.specs.Lexing.{Token, ended}
+use Rattle.rv_text_laws.specs.Lexing.{Token, is_ended}
 use Rattle.rv_text_laws.specs.Codes.{unsupported_here, limit}
 use Rattle.rv_text_laws.specs.SyntaxError.{SyntaxError, wrong, Read, longest_name}
-use Rattle.rv_text_laws.specs.Joined.{bytes_of, AreAfter, IsJoined, joined_after, first_name, joined_at}
+use Rattle.rv_text_laws.specs.Joined.{joined_bytes, AreAfter, IsJoined, joined_after, first_name, joined_at}
 use Rattle.rv_text_laws.proofs.JoinsLemmas.{joined_is as joined_name_is, joined_found as joined_name_found}
 use Rattle.rv_parse_laws.specs.Syntax.{is_section_name, A_section}
 use Rattle.rv_statement.specs.Statement.{Word}
 use Rattle.rv_parse_laws.specs.Content.{left_out, content_fault}
 use Rattle.rv_parse_laws.specs.Faults.{wrong_first}
 use Rattle.rv_parse_laws.specs.Wrong.{IsLongName, IsWrongSection, Passes}
-use Rattle.rv_parse_laws.specs.Parsing.{too_long, wrong_front, named_or, section_at}
+use Rattle.rv_parse_laws.specs.Parsing.{too_long, wrong_front, named_or, section_name_at}
 use Rattle.rv_parse_laws.proofs.FailingLemmas.{never, wrongs}
 use Rattle.rv_parse_laws.proofs.SectionsLemmas.{to_joins, none_at, name_at, section_by, first_name_is, too_long_step, too_long_within, length_behind, long_at, long_err, over_test}
 use Rattle.rv_parse_laws.proofs.WrongsLemmas.{SaidBy, left_out_is}
@@ -46,14 +46,14 @@ long_after n place (u ∷ us) t more bytes longer (here, first, rest, b, w, afte
       omega (arith, h.1, length_behind place u (us ++ t ∷ more) first (to_joins place u first here b)),
     )
 
-long_is : (ts : List Token) (t : Token) → IsLongName ts t → section_at ts ≡ Err (wrong t limit)
+long_is : (ts : List Token) (t : Token) → IsLongName ts t → section_name_at ts ≡ Err (wrong t limit)
 long_is ts t ([], more, name, longer, w, start, fits, (first, rest, is, v, none), past) =
     let sizes : length longer ≡ length (first ++ rest) = ap (λ (x : List ℕ). length x) v in
     let zero : length rest ≡ 0 = ap (λ (x : List ℕ). length x) none in
     let lt : longest_name < 0 + length first = omega (arith, past, sizes, zero, length-append first rest) in
     let over : longest_name < length (first ++ (joined_after t.stop more).0) = omega (arith, lt, length-append first (joined_after t.stop more).0) in
-    ap section_at w ∙ long_err t more first (joined_after t.stop more).0 (joined_after t.stop more).1 (wrong t limit) is refl over
-    (too_long_step 0 t more first (ap bytes_of is) ∙ rw (over_test (0 + length first) lt) refl)
+    ap section_name_at w ∙ long_err t more first (joined_after t.stop more).0 (joined_after t.stop more).1 (wrong t limit) is refl over
+    (too_long_step 0 t more first (ap joined_bytes is) ∙ rw (over_test (0 + length first) lt) refl)
 long_is ts t (u ∷ us, more, name, longer, w, inl none, fits, joined, past) = absurd (cc none)
 long_is ts t (u ∷ us, more, name, longer, w, inr (first, rest, is, v, after), fits, (first', rest', is', v', after'), past) =
     let kinds : Name first ≡ Name first' = sym is ∙ is' in
@@ -65,8 +65,8 @@ long_is ts t (u ∷ us, more, name, longer, w, inr (first, rest, is, v, after), 
     let h = long_after (0 + length first) u.stop us t more rest rest' after (omega (arith, fits, sizes, length-append first rest)) after'
     (omega (arith, past, sizes', one, length-append first' rest')) in
     let over : longest_name < length (first ++ (joined_after u.stop (us ++ t ∷ more)).0) = omega (arith, h.1, length-append first (joined_after u.stop (us ++ t ∷ more)).0) in
-    ap section_at w ∙ long_err u (us ++ t ∷ more) first (joined_after u.stop (us ++ t ∷ more)).0 (joined_after u.stop (us ++ t ∷ more)).1 (wrong t limit) is refl over
-    (too_long_within 0 u (us ++ t ∷ more) first (wrong t limit) (ap bytes_of is) (within_test (0 + length first) within) h.0)
+    ap section_name_at w ∙ long_err u (us ++ t ∷ more) first (joined_after u.stop (us ++ t ∷ more)).0 (joined_after u.stop (us ++ t ∷ more)).1 (wrong t limit) is refl over
+    (too_long_within 0 u (us ++ t ∷ more) first (wrong t limit) (ap joined_bytes is) (within_test (0 + length first) within) h.0)
 
 -- the name of the rows is refused
 rows_content : (name : List ℕ) (code : ℕ) → content_fault true A_section (Word name) ≡ Some code
@@ -88,15 +88,15 @@ content_rows name bad fits = go (bytes_eq name (codes ".rv.rows")) bad
     go true h = refl
     go false h = absurd (let no : (true && true) ≡ false = sym (ap (λ c. c && true) fit) ∙ h in cc)
 
-pub section_wrongs : (ts : List Token) (t : Token) (code : ℕ) → IsWrongSection ts t code → section_at ts ≡ Err (wrong t code)
-section_wrongs ts t code (inl (us, w, none, is)) = ap section_at w ∙ ap (named_or (t ∷ us)) (none_at t us none) ∙ ap (λ n. Err (wrong t n)) (sym is)
+pub section_wrongs : (ts : List Token) (t : Token) (code : ℕ) → IsWrongSection ts t code → section_name_at ts ≡ Err (wrong t code)
+section_wrongs ts t code (inl (us, w, none, is)) = ap section_name_at w ∙ ap (named_or (t ∷ us)) (none_at t us none) ∙ ap (λ n. Err (wrong t n)) (sym is)
 section_wrongs ts t code (inr (inl (long, is))) = long_is ts t long ∙ ap (λ n. Err (wrong t n)) (sym is)
 section_wrongs ts t code (inr (inr (us, name, rest, w, reads, bad))) =
     let r = rows_content name code bad in
     ap (named_or ts) (joined_name_is ts name rest reads) ∙ ap (λ xs. named_or xs (Some (name, rest))) w ∙ rw (r.0, r.1, r.2) refl
 
 pub section_passed : (one rest : List Token) (name : List ℕ) → IsJoined one name → is_section_name name ≡ true
-    → ((t : Token) (us : List Token) (longer : List ℕ) → rest ≡ t ∷ us → IsJoined (one ++ t ∷ []) longer → ⊥) → section_at (one ++ rest) ≡ Ok (name, rest)
+    → ((t : Token) (us : List Token) (longer : List ℕ) → rest ≡ t ∷ us → IsJoined (one ++ t ∷ []) longer → ⊥) → section_name_at (one ++ rest) ≡ Ok (name, rest)
 section_passed one rest name joined good longest =
     ap (named_or (one ++ rest)) (joined_name_is (one ++ rest) name rest (record { tokens = one; whole = refl; joined = joined; longest = longest })) ∙ by_cases (one ++ rest)
   where
@@ -104,7 +104,7 @@ section_passed one rest name joined good longest =
     by_cases [] = rw good refl
     by_cases (t ∷ ts) = rw good refl
 
-pub section_said : (ts : List Token) (w : SyntaxError) → section_at ts ≡ Err w → ended ts ≡ true → SaidBy IsWrongSection ts w
+pub section_said : (ts : List Token) (w : SyntaxError) → section_name_at ts ≡ Err w → is_ended ts ≡ true → SaidBy IsWrongSection ts w
 section_said [] w e end = absurd (cc)
 section_said (t ∷ ts) w e end = go (first_name t.kind) refl
   where
@@ -118,7 +118,7 @@ section_said (t ∷ ts) w e end = go (first_name t.kind) refl
         → SaidBy IsWrongSection (t ∷ ts) w
     long first is over true past same =
         let lt : longest_name < length (first ++ []) = grind (arith, nat_tests, past, length-append first []) in
-        (t, limit, inr (inl (([], ts, [], first ++ [], refl, inl refl, omega arith, (first, [], is, refl, refl), lt), refl)), sym same ∙ too_long_step 0 t ts first (ap bytes_of is) ∙ rw past refl)
+        (t, limit, inr (inl (([], ts, [], first ++ [], refl, inl refl, omega arith, (first, [], is, refl, refl), lt), refl)), sym same ∙ too_long_step 0 t ts first (ap joined_bytes is) ∙ rw past refl)
     long first is over false past same =
         let le : 0 + length first ≤ longest_name = grind (arith, nat_tests, past) in
         let f = long_at (0 + length first) t.stop ts le (omega (arith, over, length-append first (joined_after t.stop ts).0)) in
@@ -131,10 +131,10 @@ section_said (t ∷ ts) w e end = go (first_name t.kind) refl
           limit,
           inr (inl (is_long, refl)),
           sym same ∙ ap (λ us. too_long 0 (t ∷ us)) f.whole
-              ∙ too_long_within 0 t (f.front ++ f.at ∷ f.more) first (wrong f.at limit) (ap bytes_of is) past (f.says f.more).0,
+              ∙ too_long_within 0 t (f.front ++ f.at ∷ f.more) first (wrong f.at limit) (ap joined_bytes is) past (f.says f.more).0,
         )
 
-    read : (first : List ℕ) → t.kind ≡ Name first → section_at (t ∷ ts) ≡ cond (is_section_name (first ++ (joined_after t.stop ts).0)) (Ok (first ++ (joined_after t.stop ts).0, (joined_after t.stop ts).1))
+    read : (first : List ℕ) → t.kind ≡ Name first → section_name_at (t ∷ ts) ≡ cond (is_section_name (first ++ (joined_after t.stop ts).0)) (Ok (first ++ (joined_after t.stop ts).0, (joined_after t.stop ts).1))
         (cond (nat_lt longest_name (length (first ++ (joined_after t.stop ts).0))) (Err (too_long 0 (t ∷ ts))) (Err (wrong t unsupported_here)))
     read first is = section_by t ts first (joined_after t.stop ts).0 (joined_after t.stop ts).1 is refl
 
@@ -168,7 +168,7 @@ section_said (t ∷ ts) w e end = go (first_name t.kind) refl
     go (Some first) is = named first (first_name_is t.kind first is) (is_section_name (first ++ (joined_after t.stop ts).0)) refl
 
 -- a name that is read ends there
-pub section_ends : (ts : List Token) (name : List ℕ) (rest : List Token) → section_at ts ≡ Ok (name, rest) → (one : List Token) × (ts ≡ one ++ rest) × Passes A_section one rest
+pub section_ends : (ts : List Token) (name : List ℕ) (rest : List Token) → section_name_at ts ≡ Ok (name, rest) → (one : List Token) × (ts ≡ one ++ rest) × Passes A_section one rest
 section_ends ts name rest e = go (joined_at ts) refl e
   where
     found : (read : List ℕ × List Token) → joined_at ts ≡ Some read → (b : Bool) → is_section_name read.0 ≡ b

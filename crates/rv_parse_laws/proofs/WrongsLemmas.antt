@@ -2,7 +2,7 @@
 
 use Rattle.std.proofs.Common.{◌≡◌, ℕ, Bool, true, false, cond, ◌&&◌, List, [], ◌∷◌, ◌++◌, Option, Some, None, Ok, Err, refl, sym, ◌∙◌, ap, subst, ◌⊎◌, inl, inr, arith}
 use Rattle.std.proofs.lemmas.Bool.{and_parts, and_right}
-use Rattle.rv_text_laws.specs.Lexing.{Token, ended}
+use Rattle.rv_text_laws.specs.Lexing.{Token, is_ended}
 use Rattle.rv_text_laws.specs.SyntaxError.{SyntaxError, wrong}
 use Rattle.rv_text_laws.specs.Expression.{tree_of, EndsBefore}
 use Rattle.rv_text_laws.specs.ExpressionAt.{expression_at}
@@ -16,11 +16,11 @@ use Rattle.rv_statement.specs.declared.pseudo.Function.{Function}
 use Rattle.rv_statement.specs.declared.pseudo.Function.TheVariants.{Hi, Lo, PcrelHi, PcrelLo}
 use Rattle.rv_parse_laws.specs.declared.role.Role.{Role}
 use Rattle.rv_parse_laws.specs.declared.role.Role.TheVariants as roles
-use Rattle.rv_parse_laws.specs.Syntax.{is_register, register_of, kept_in, is_percent, is_opening, targets, valued, is_number, is_refused, function_in, label_named, is_refused_by, IsArgument, IsValueIn, Slot, A_register_of, A_register, A_value, An_address_by, A_closing, An_opening}
+use Rattle.rv_parse_laws.specs.Syntax.{is_register, register_of, kept_in, is_percent, is_opening, targets, valued, is_of_numbers, is_refused, function_in, label_named, is_refused_by, IsArgument, IsValueIn, Slot, A_register_of, A_register, A_value, An_address_by, A_closing, An_opening}
 use Rattle.rv_parse_laws.specs.Content.{left_out, content_fault}
 use Rattle.rv_parse_laws.specs.Faults.{may_call, is_name, wrong_or, wrong_symbol, wrong_function, wrong_first}
-use Rattle.rv_parse_laws.specs.Wrong.{IsWrongFirst, IsWrongInside, IsRefused, IsRefusedCall, IsWrongArgument, EndsArgument, IsWrongCall, IsWrongApplied, IsWrongPlain, IsWrongValue, EndsValue, IsWrongBase, IsWrongAddress}
-use Rattle.rv_parse_laws.specs.Parsing.{◌>>=◌, seen_as, value_at, allowed, single_at, label_at, argument_at, enclosed_at, called_at, named_at, applied_at, value_in, base_at, base_next, offset_at, operand_at}
+use Rattle.rv_parse_laws.specs.Wrong.{IsWrongFirst, IsWrongInside, IsRefusedExpression, IsRefusedCall, IsWrongArgument, EndsArgument, IsWrongCall, IsWrongApplied, IsWrongPlain, IsWrongValue, EndsValue, IsWrongBase, IsWrongAddress}
+use Rattle.rv_parse_laws.specs.Parsing.{◌>>=◌, seen_as, value_at, allowed, single_at, label_at, argument_at, enclosed_at, called_at, named_at, applied_at, value_operand_at, base_at, base_next, offset_at, operand_at}
 use Rattle.rv_parse_laws.proofs.StepsLemmas.{bind_ok, seen_ok, bind_err, seen_err, taken_err}
 use Rattle.rv_parse_laws.proofs.FailingLemmas.{heads, tails, wrongs}
 use Rattle.rv_parse_laws.proofs.LastTokensLemmas.{function_no_last, percent_no_last}
@@ -36,13 +36,13 @@ SaidBy W ts w = (t : Token) × (code : ℕ) × W ts t code × (w ≡ wrong t cod
 pub first_is : (s : Slot) (ts : List Token) (t : Token) (code : ℕ) → IsWrongFirst s ts t code → single_at s ts ≡ Err (wrong t code)
 first_is s ts t code (us, w, none, is) = ap (single_at s) w ∙ single_err s t us (wrong t code) none (ap (wrong t) is)
 
-pub first_said : (s : Slot) (ts : List Token) (w : SyntaxError) → ended ts ≡ true → single_at s ts ≡ Err w → SaidBy (IsWrongFirst s) ts w
+pub first_said : (s : Slot) (ts : List Token) (w : SyntaxError) → is_ended ts ≡ true → single_at s ts ≡ Err w → SaidBy (IsWrongFirst s) ts w
 first_said s ts w end e = let k = single_fault s ts w end e in (k.0, wrong_first s k.0.kind, (k.1, k.2, k.3, refl), k.4)
 
 inside_is : (ts : List Token) (t : Token) (code : ℕ) → IsWrongInside ts t code → value_at ts ≡ Err (wrong t code)
 inside_is ts t code (front, more, w, f) = ap value_at w ∙ ap (seen_as tree_of) (fails_there is_register front t code more f)
 
-inside_said : (ts : List Token) (w : SyntaxError) → ended ts ≡ true → value_at ts ≡ Err w → SaidBy IsWrongInside ts w
+inside_said : (ts : List Token) (w : SyntaxError) → is_ended ts ≡ true → value_at ts ≡ Err w → SaidBy IsWrongInside ts w
 inside_said ts w end e =
     let f = wrong_at is_register ts w end (seen_err tree_of (expression_at is_register ts) w e) in
     (f.1, f.3, (f.0, f.2, f.4, f.5), f.6)
@@ -61,20 +61,20 @@ left_out_is false code h = absurd (cc)
 refused_content : (role : Role) (e : Expression) (code : ℕ) → content_fault true (A_value role) (valued role e) ≡ Some code → (is_refused role e ≡ true) × (code ≡ unsupported_here)
 refused_content role e code h = go (targets role) h
   where
-    go : (b : Bool) → content_fault true (A_value role) (cond b (Target e) (Value e)) ≡ Some code → ((b && is_number e) ≡ true) × (code ≡ unsupported_here)
-    go true h = left_out_is (is_number e) code h
+    go : (b : Bool) → content_fault true (A_value role) (cond b (Target e) (Value e)) ≡ Some code → ((b && is_of_numbers e) ≡ true) × (code ≡ unsupported_here)
+    go true h = left_out_is (is_of_numbers e) code h
     go false h = absurd (cc)
 
 content_refused : (role : Role) (e : Expression) → is_refused role e ≡ true → content_fault true (A_value role) (valued role e) ≡ Some unsupported_here
 content_refused role e h = go (targets role) h
   where
-    go : (b : Bool) → (b && is_number e) ≡ true → content_fault true (A_value role) (cond b (Target e) (Value e)) ≡ Some unsupported_here
+    go : (b : Bool) → (b && is_of_numbers e) ≡ true → content_fault true (A_value role) (cond b (Target e) (Value e)) ≡ Some unsupported_here
     go true h = rw h refl
     go false h = absurd (cc)
 
 -- an expression that is wrong, or refused at the token p
 abbrev Tested : Role → Token → List Token → Token → ℕ → Type 0
-Tested role p ts t code = IsWrongInside ts t code ⊎ ((t ≡ p) × IsRefused role ts code)
+Tested role p ts t code = IsWrongInside ts t code ⊎ ((t ≡ p) × IsRefusedExpression role ts code)
 
 tested_is : (role : Role) (p : Token) (ts : List Token) (t : Token) (code : ℕ) → Tested role p ts t code → allowed (λ e. is_refused role e) p (value_at ts) ≡ Err (wrong t code)
 tested_is role p ts t code (inl x) = ap (allowed (λ e. is_refused role e) p) (inside_is ts t code x)
@@ -85,7 +85,7 @@ tested_is role p ts t code (inr (same, (one, rest, e, w, v, ends, bad))) =
     refused_at : (e : Expression) → is_refused role e ≡ true → code ≡ unsupported_here → allowed (λ x. is_refused role x) p (Ok (e, rest)) ≡ Err (wrong t code)
     refused_at e bad is = rw (bad, is, same) refl
 
-tested_said : (role : Role) (p : Token) (ts : List Token) (w : SyntaxError) → ended ts ≡ true → allowed (λ e. is_refused role e) p (value_at ts) ≡ Err w → SaidBy (Tested role p) ts w
+tested_said : (role : Role) (p : Token) (ts : List Token) (w : SyntaxError) → is_ended ts ≡ true → allowed (λ e. is_refused role e) p (value_at ts) ≡ Err w → SaidBy (Tested role p) ts w
 tested_said role p ts w end e = elim (allowed_err (λ x. is_refused role x) p (value_at ts) w e) [
   | inl f ↦ (let k = inside_said ts w end f in (k.0, k.1, inl k.2, k.3))
   | inr g ↦ (let x = value_ended ts g.0 g.1 g.2 in
@@ -99,13 +99,13 @@ argument_is Hi ts t code x = inside_is ts t code x
 argument_is Lo ts t code x = inside_is ts t code x
 argument_is PcrelHi ts t code x = inside_is ts t code x
 
-label_said : (ts : List Token) (w : SyntaxError) → ended ts ≡ true → label_at ts ≡ Err w → SaidBy (IsWrongArgument PcrelLo) ts w
+label_said : (ts : List Token) (w : SyntaxError) → is_ended ts ≡ true → label_at ts ≡ Err w → SaidBy (IsWrongArgument PcrelLo) ts w
 label_said [] w end e = absurd (cc)
 label_said (t ∷ ts) w end e =
     let k = taken_err t ts (label_named t.kind) (wrong_symbol t.kind) w e in
     (t, wrong_symbol t.kind, (ts, refl, k.0, refl), k.1)
 
-argument_said : (f : Function) (ts : List Token) (w : SyntaxError) → ended ts ≡ true → argument_at f ts ≡ Err w → SaidBy (IsWrongArgument f) ts w
+argument_said : (f : Function) (ts : List Token) (w : SyntaxError) → is_ended ts ≡ true → argument_at f ts ≡ Err w → SaidBy (IsWrongArgument f) ts w
 argument_said PcrelLo ts w end e = label_said ts w end e
 argument_said Hi ts w end e = inside_said ts w end e
 argument_said Lo ts w end e = inside_said ts w end e
@@ -131,14 +131,14 @@ call_is f ts t code (inr (q, us, w, opens, inr (one, rest, e, v, is, ends, x))) 
     ap (enclosed_at f) w
     ∙ unclosed_err f q us rest e (wrong t code) opens (ap (argument_at f) v ∙ argument_passed f one rest e is ends) (first_is A_closing rest t code x)
 
-call_said : (f : Function) (ts : List Token) (w : SyntaxError) → ended ts ≡ true → enclosed_at f ts ≡ Err w → SaidBy (IsWrongCall f) ts w
+call_said : (f : Function) (ts : List Token) (w : SyntaxError) → is_ended ts ≡ true → enclosed_at f ts ≡ Err w → SaidBy (IsWrongCall f) ts w
 call_said f ts w end e = elim (bind_err (single_at (An_opening A_register) ts) (λ q. argument_at f q.1 >>= λ a. seen_as (λ none. a.0) (single_at A_closing a.1)) w e) [
   | inl h ↦ (let k = first_said (An_opening A_register) ts w end h in (k.0, k.1, inl k.2, k.3))
   | inr a ↦ (let q = single_passed (An_opening A_register) ts a.0.0 a.0.1 end a.1 in
       opened q.0 a.0.1 q.1 (opening_single q.0.kind a.0.0 q.2).0 q.3 a.2)
 ]
   where
-    opened : (q : Token) (us : List Token) → ts ≡ q ∷ us → is_opening q.kind ≡ true → ended us ≡ true → (argument_at f us >>= λ a. seen_as (λ none. a.0) (single_at A_closing a.1)) ≡ Err w
+    opened : (q : Token) (us : List Token) → ts ≡ q ∷ us → is_opening q.kind ≡ true → is_ended us ≡ true → (argument_at f us >>= λ a. seen_as (λ none. a.0) (single_at A_closing a.1)) ≡ Err w
         → SaidBy (IsWrongCall f) ts w
     opened q us whole opens last e = elim (bind_err (argument_at f us) (λ a. seen_as (λ none. a.0) (single_at A_closing a.1)) w e) [
       | inl h ↦ (let k = argument_said f us w last h in (k.0, k.1, inr (q, us, whole, opens, inl k.2), k.3))
@@ -195,7 +195,7 @@ empty : (front : List Token) (t : Token) (more : List Token) → [] ≡ front ++
 empty [] t more e = cc
 empty (u ∷ front) t more e = cc
 
-pub value_is : (role : Role) (ts : List Token) (t : Token) (code : ℕ) → IsWrongValue role ts t code → value_in role ts ≡ Err (wrong t code)
+pub value_is : (role : Role) (ts : List Token) (t : Token) (code : ℕ) → IsWrongValue role ts t code → value_operand_at role ts ≡ Err (wrong t code)
 value_is role [] t code (inl (next, x)) = absurd (cc)
 value_is role [] t code (inr (plain, inl (front, more, w, f))) = absurd (empty front t more w)
 value_is role [] t code (inr (plain, inr (us, w, r))) = absurd (cc)
@@ -203,7 +203,7 @@ value_is role (u ∷ us) t code (inl (next, (p, vs, w, x))) =
     rw next (ap (λ (y : Token). applied_at role y us) (heads w) ∙ applied_wrong role p us t code (subst (λ xs. IsWrongApplied role p xs t code) (sym (tails w)) x))
 value_is role (u ∷ us) t code (inr (plain, x)) = rw plain (plain_wrong role u us t code x)
 
-applied_said : (role : Role) (p : Token) (ts : List Token) (w : SyntaxError) → ended ts ≡ true → applied_at role p ts ≡ Err w → SaidBy (IsWrongApplied role p) ts w
+applied_said : (role : Role) (p : Token) (ts : List Token) (w : SyntaxError) → is_ended ts ≡ true → applied_at role p ts ≡ Err w → SaidBy (IsWrongApplied role p) ts w
 applied_said role p [] w end e = absurd (cc)
 applied_said role p (n ∷ ts) w end e = go (function_in role n.kind) refl e
   where
@@ -218,7 +218,7 @@ applied_said role p (n ∷ ts) w end e = go (function_in role n.kind) refl e
     ]
     go None none e = unnamed none (is_name n.kind) refl (wrongs _ w e)
 
-pub value_said : (role : Role) (ts : List Token) (w : SyntaxError) → ended ts ≡ true → value_in role ts ≡ Err w → SaidBy (IsWrongValue role) ts w
+pub value_said : (role : Role) (ts : List Token) (w : SyntaxError) → is_ended ts ≡ true → value_operand_at role ts ≡ Err w → SaidBy (IsWrongValue role) ts w
 value_said role [] w end e = absurd (cc)
 value_said role (t ∷ ts) w end e = go (may_call role && is_percent t.kind) refl e
   where
@@ -249,7 +249,7 @@ ends_valued role e rest h = go (targets role)
     go true = h
     go false = h
 
-pub value_passed : (role : Role) (one rest : List Token) (o : Operand) → IsValueIn role one o → EndsValue o rest → value_in role (one ++ rest) ≡ Ok (o, rest)
+pub value_passed : (role : Role) (one rest : List Token) (o : Operand) → IsValueIn role one o → EndsValue o rest → value_operand_at role (one ++ rest) ≡ Ok (o, rest)
 value_passed role one rest o (inr applied) ends = applied_is role one rest o applied
 value_passed role [] rest o (inl (e, v, good, is)) ends = absurd (omega (arith, value_some [] e v))
 value_passed role (t ∷ ts) rest o (inl (e, v, good, is)) ends =
@@ -258,7 +258,7 @@ value_passed role (t ∷ ts) rest o (inl (e, v, good, is)) ends =
     rw (is, and_right (may_call role) (is_percent t.kind) (no_percent t (ts ++ rest) e rest read))
     (ap (seen_as (valued role)) (ap (allowed (λ x. is_refused role x) t) read ∙ is_allowed (λ x. is_refused role x) t e rest good))
 
-pub value_ends : (role : Role) (ts : List Token) (o : Operand) (rest : List Token) → value_in role ts ≡ Ok (o, rest) → EndsValue o rest
+pub value_ends : (role : Role) (ts : List Token) (o : Operand) (rest : List Token) → value_operand_at role ts ≡ Ok (o, rest) → EndsValue o rest
 value_ends role [] o rest e = absurd (cc)
 value_ends role (t ∷ ts) o rest e = go (may_call role && is_percent t.kind) refl e
   where
@@ -300,14 +300,14 @@ base_wrongs set ts t code (inr (o, us, w, opens, inl x)) = ap (base_at set) w �
 base_wrongs set ts t code (inr (o, us, w, opens, inr (r, vs, number, v, named, x))) =
     ap (base_at set) (w ∙ ap (λ xs. o ∷ xs) v) ∙ base_third set o r vs number (wrong t code) opens named (first_is A_closing vs t code x)
 
-base_said : (set : RegisterSet) (ts : List Token) (w : SyntaxError) → ended ts ≡ true → base_at set ts ≡ Err w → SaidBy (IsWrongBase set) ts w
+base_said : (set : RegisterSet) (ts : List Token) (w : SyntaxError) → is_ended ts ≡ true → base_at set ts ≡ Err w → SaidBy (IsWrongBase set) ts w
 base_said set ts w end e = elim (bind_err (single_at (An_opening A_register) ts) (λ o. single_at (A_register_of set) o.1 >>= λ r. seen_as (λ none. r.0) (single_at A_closing r.1)) w e) [
   | inl f ↦ (let k = first_said (An_opening A_register) ts w end f in (k.0, k.1, inl k.2, k.3))
   | inr a ↦ (let o = single_passed (An_opening A_register) ts a.0.0 a.0.1 end a.1 in
       second o.0 a.0.1 o.1 (opening_is A_register o.0.kind a.0.0 o.2).0 o.3 a.2)
 ]
   where
-    second : (o : Token) (us : List Token) → ts ≡ o ∷ us → is_opening o.kind ≡ true → ended us ≡ true → (single_at (A_register_of set) us >>= λ r. seen_as (λ none. r.0) (single_at A_closing r.1)) ≡ Err w
+    second : (o : Token) (us : List Token) → ts ≡ o ∷ us → is_opening o.kind ≡ true → is_ended us ≡ true → (single_at (A_register_of set) us >>= λ r. seen_as (λ none. r.0) (single_at A_closing r.1)) ≡ Err w
         → SaidBy (IsWrongBase set) ts w
     second o us whole opens end e = elim (bind_err (single_at (A_register_of set) us) (λ r. seen_as (λ none. r.0) (single_at A_closing r.1)) w e) [
       | inl f ↦ (let k = first_said (A_register_of set) us w end f in (k.0, k.1, inr (o, us, whole, opens, inl k.2), k.3))
@@ -318,24 +318,24 @@ base_said set ts w end e = elim (bind_err (single_at (An_opening A_register) ts)
     ]
 
 -- an address
-offset_first : (set : RegisterSet) (ts : List Token) (w : SyntaxError) → value_in roles.Operand ts ≡ Err w → offset_at set ts ≡ Err w
+offset_first : (set : RegisterSet) (ts : List Token) (w : SyntaxError) → value_operand_at roles.Operand ts ≡ Err w → offset_at set ts ≡ Err w
 offset_first set ts w h = rw h refl
 
-offset_base : (set : RegisterSet) (ts rest : List Token) (o : Operand) (w : SyntaxError) → value_in roles.Operand ts ≡ Ok (o, rest) → base_at set rest ≡ Err w → offset_at set ts ≡ Err w
+offset_base : (set : RegisterSet) (ts rest : List Token) (o : Operand) (w : SyntaxError) → value_operand_at roles.Operand ts ≡ Ok (o, rest) → base_at set rest ≡ Err w → offset_at set ts ≡ Err w
 offset_base set ts rest o w h g = rw (h, g) refl
 
 pub address_wrongs : (set : RegisterSet) (ts : List Token) (t : Token) (code : ℕ) → IsWrongAddress set ts t code → operand_at (An_address_by set) ts ≡ Err (wrong t code)
 address_wrongs set ts t code (inl (next, x)) = rw next (base_wrongs set ts t code x)
 address_wrongs set ts t code (inr (next, inl x)) = rw next (offset_first set ts (wrong t code) (value_is roles.Operand ts t code x))
 address_wrongs set ts t code (inr (next, inr (one, rest, o, w, is, ends, x))) =
-    rw next (offset_base set ts rest o (wrong t code) (ap (value_in roles.Operand) w ∙ value_passed roles.Operand one rest o is ends) (base_wrongs set rest t code x))
+    rw next (offset_base set ts rest o (wrong t code) (ap (value_operand_at roles.Operand) w ∙ value_passed roles.Operand one rest o is ends) (base_wrongs set rest t code x))
 
-pub address_said : (set : RegisterSet) (ts : List Token) (w : SyntaxError) → ended ts ≡ true → operand_at (An_address_by set) ts ≡ Err w → SaidBy (IsWrongAddress set) ts w
+pub address_said : (set : RegisterSet) (ts : List Token) (w : SyntaxError) → is_ended ts ≡ true → operand_at (An_address_by set) ts ≡ Err w → SaidBy (IsWrongAddress set) ts w
 address_said set ts w end e = go (base_next ts) refl e
   where
     go : (b : Bool) → base_next ts ≡ b → cond b (base_at set ts) (offset_at set ts) ≡ Err w → SaidBy (IsWrongAddress set) ts w
     go true next e = let k = base_said set ts w end e in (k.0, k.1, inl (next, k.2), k.3)
-    go false next e = elim (bind_err (value_in roles.Operand ts) (λ v. seen_as (λ os. v.0 ∷ os) (base_at set v.1)) w e) [
+    go false next e = elim (bind_err (value_operand_at roles.Operand ts) (λ v. seen_as (λ os. v.0 ∷ os) (base_at set v.1)) w e) [
       | inl f ↦ (let k = value_said roles.Operand ts w end f in (k.0, k.1, inr (next, inl k.2), k.3))
       | inr a ↦ (let x = value_found roles.Operand ts a.0.0 a.0.1 a.1 in
           let k = base_said set a.0.1 w (x.ended_rest end) (seen_err (λ os. a.0.0 ∷ os) (base_at set a.0.1) w a.2) in

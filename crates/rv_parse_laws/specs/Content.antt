@@ -8,7 +8,7 @@ use Rattle.rv_text_laws.specs.Codes.{unsupported_here, limit}
 use Rattle.rv_text_laws.specs.SyntaxError.{longest_name}
 use Rattle.rv_statement.specs.Statement.{Operand, Applied, Target, Word, Quoted}
 use Rattle.rv_parse_laws.specs.Words.{is_among, section_types}
-use Rattle.rv_parse_laws.specs.Syntax.{Slot, A_value, A_section, Some_flags, A_type, is_flag, is_number, is_refused_by}
+use Rattle.rv_parse_laws.specs.Syntax.{Slot, A_value, A_section, Some_flags, A_type, is_flag, is_of_numbers, is_refused_by}
 use Rattle.rv_parse_laws.specs.Faults.{wrong_letters}
 
 -- left out by what it says
@@ -19,7 +19,7 @@ left_out false = None
 -- the code of what an operand says in its slot, where its section's name is known, or new: a number
 -- as a target, the name of the rows, flags and a type that are looked at for a new name alone
 abbrev pub content_fault : Bool → Slot → Operand → Option ℕ
-content_fault known (A_value role) (Target e) = left_out (is_number e)
+content_fault known (A_value role) (Target e) = left_out (is_of_numbers e)
 content_fault known (A_value role) (Applied f e) = left_out (is_refused_by f e)
 content_fault known A_section (Word name) = left_out (bytes_eq name (codes ".rv.rows"))
 content_fault false Some_flags (Quoted letters) =

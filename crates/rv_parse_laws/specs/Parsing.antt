@@ -7,11 +7,11 @@ use Rattle.rv_text_laws.specs.Grammar.{Kind}
 use Rattle.rv_text_laws.specs.Lexing.{Token}
 use Rattle.rv_text_laws.specs.Codes.{unsupported_here, limit}
 use Rattle.rv_text_laws.specs.SyntaxError.{SyntaxError, wrong, Read, nowhere, longest_name}
-use Rattle.rv_text_laws.specs.Joined.{bytes_of, joined_at}
+use Rattle.rv_text_laws.specs.Joined.{joined_bytes, joined_at}
 use Rattle.rv_text_laws.specs.Expression.{tree_of}
 use Rattle.rv_text_laws.specs.ExpressionAt.{expression_at}
 use Rattle.rv_statement.specs.Statement.{Expression, Operand, Value, Applied, Target, Word, StatementKind, Instruction, Directs}
-use Rattle.rv_parse_laws.specs.Syntax.{is_register, label_of, begins, is_comma, is_percent, is_end, is_any, is_section_name, valued, is_refused, function_in, label_named, is_refused_by, Slot, A_register_of, A_register, A_value, A_target, An_address_by, An_address, A_callee, A_section, Some_flags, At_sign, A_plt, A_comma, A_closing, An_opening, single, front_begins, Slots, Stops, Takes, Chooses, Locates, Lists, Anything, slots, places, directed, colon_next, Part, Ends, Says}
+use Rattle.rv_parse_laws.specs.Syntax.{is_register, label_of, begins, is_comma, is_percent, is_end, is_any, is_section_name, valued, is_refused, function_in, label_named, is_refused_by, Slot, A_register_of, A_register, A_value, A_target, An_address_by, An_address, A_callee, A_section, Some_flags, At_sign, A_plt, A_comma, A_closing, An_opening, single, front_begins, Slots, Stops, Takes, Chooses, Locates, Lists, Anything, slots, operand_slots, directed, colon_next, SourcePart, Ends, Says}
 pub use Rattle.rv_parse_laws.specs.Syntax.{base_next, plt_next}
 use Rattle.rv_parse_laws.specs.Faults.{may_call, wrong_function, wrong_symbol, wrong_first, wrong_after, wrong_any, wrong_start, wrong_label}
 use Rattle.rv_parse_laws.specs.WrongOpening.{flags_fault, type_fault, is_section}
@@ -82,9 +82,9 @@ applied_at role p [] = Err nowhere
 applied_at role p (n ∷ ts) = named_at p n ts (function_in role n.kind)
 
 -- an expression, or a function of one, where it stands so
-abbrev pub value_in : Role → List Token → Read Operand
-value_in role [] = Err nowhere
-value_in role (t ∷ ts) =
+abbrev pub value_operand_at : Role → List Token → Read Operand
+value_operand_at role [] = Err nowhere
+value_operand_at role (t ∷ ts) =
     if may_call role && is_percent t.kind then applied_at role t ts
     else seen_as (valued role) (allowed (λ e. is_refused role e) t (value_at (t ∷ ts)))
 
@@ -96,12 +96,13 @@ base_at set ts =
 
 -- an expression, and then a register of a set in parentheses
 abbrev pub offset_at : RegisterSet → List Token → Read (List Operand)
-offset_at set ts = value_in roles.Operand ts >>= λ v. seen_as (λ os. v.0 ∷ os) (base_at set v.1)
+offset_at set ts =
+    value_operand_at roles.Operand ts >>= λ v. seen_as (λ os. v.0 ∷ os) (base_at set v.1)
 
 -- a target comes next: an expression that no `(` stands behind
-abbrev pub is_target : Read Expression → Bool
-is_target (Ok read) = not (front_begins (An_opening A_register) read.1)
-is_target (Err w) = false
+abbrev pub is_target_next : Read Expression → Bool
+is_target_next (Ok read) = not (front_begins (An_opening A_register) read.1)
+is_target_next (Err w) = false
 
 -- what is read as a value is a target where it is no function and has no `(` behind it
 abbrev pub target_behind : Operand → List Token → Bool
@@ -109,7 +110,7 @@ target_behind (Value e) rest = not (front_begins (An_opening A_register) rest)
 target_behind _ rest = false
 
 abbrev pub target_next : List Token → Bool
-target_next ts = is_target (value_at ts)
+target_next ts = is_target_next (value_at ts)
 
 -- a symbol, `@` and `plt`
 abbrev pub plt_at : List Token → Read (List Operand)
@@ -119,7 +120,7 @@ plt_at ts =
 
 -- how many bytes a token gives to a section's name
 abbrev pub width : Kind → ℕ
-width k = length (unwrap_or (bytes_of k) [])
+width k = length (unwrap_or (joined_bytes k) [])
 
 -- the first token with which such a name is too long, where so many bytes of it stand before
 abbrev pub too_long : ℕ → List Token → SyntaxError
@@ -143,16 +144,16 @@ named_or ts (Some read) =
     else Err (wrong_front ts unsupported_here))
 
 -- the name of a section
-abbrev pub section_at : List Token → Read (List ℕ)
-section_at ts = named_or ts (joined_at ts)
+abbrev pub section_name_at : List Token → Read (List ℕ)
+section_name_at ts = named_or ts (joined_at ts)
 
 -- what stands in a place
 abbrev pub operand_at : Slot → List Token → Read (List Operand)
-operand_at (A_value role) ts = seen_as (λ o. o ∷ []) (value_in role ts)
+operand_at (A_value role) ts = seen_as (λ o. o ∷ []) (value_operand_at role ts)
 operand_at (An_address_by set) ts = if base_next ts then base_at set ts else offset_at set ts
 operand_at A_callee ts =
-    if plt_next ts then plt_at ts else seen_as (λ o. o ∷ []) (value_in roles.Target ts)
-operand_at A_section ts = seen_as (λ name. Word name ∷ []) (section_at ts)
+    if plt_next ts then plt_at ts else seen_as (λ o. o ∷ []) (value_operand_at roles.Target ts)
+operand_at A_section ts = seen_as (λ name. Word name ∷ []) (section_name_at ts)
 operand_at s ts = single_at s ts
 
 -- the tokens, where a statement ends before them
@@ -206,7 +207,7 @@ operands_at Anything ts = any_at ts
 unfoldable pub begun_at : Beginning → Token → List Token → Read StatementKind
 begun_at (beginnings.Instruction m) t ts = seen_as (Instruction m) (operands_at (slots m) ts)
 begun_at (beginnings.Directive word) t ts =
-    seen_as (λ os. Directs (directed word os)) (operands_at (places word) ts)
+    seen_as (λ os. Directs (directed word os)) (operands_at (operand_slots word) ts)
 begun_at beginnings.Nothing t ts = Err (wrong t (wrong_start t.kind))
 
 abbrev pub after_first : List Token → List Token
@@ -219,7 +220,7 @@ statement_at t ts =
     if colon_next ts then taken t (after_first ts) (label_of t.kind) (wrong_label t.kind)
     else begun_at (begins t.kind) t ts
 
-unfoldable pub part_at : List Token → Read Part
+unfoldable pub part_at : List Token → Read SourcePart
 part_at [] = Err nowhere
 part_at (t ∷ ts) = if is_end t.kind then Ok (Ends, ts) else seen_as Says (statement_at t ts)
 
@@ -256,7 +257,8 @@ named_wrong known (Err w) = None
 -- what is wrong with an opening of a section at the front, where these names are known
 unfoldable pub opening_at : (List ℕ → Bool) → List Token → Option SyntaxError
 opening_at known [] = None
-opening_at known (t ∷ ts) = if is_section t.kind then named_wrong known (section_at ts) else None
+opening_at known (t ∷ ts) =
+    if is_section t.kind then named_wrong known (section_name_at ts) else None
 
 -- a part at the front, or what is wrong with it: an opening's flags or type, or the first token
 -- with which nothing goes on
@@ -264,5 +266,5 @@ abbrev pub unless : {X : Type 0} → Option SyntaxError → Read X → Read X
 unless (Some w) r = Err w
 unless None r = r
 
-abbrev pub checked_at : (List ℕ → Bool) → List Token → Read Part
+abbrev pub checked_at : (List ℕ → Bool) → List Token → Read SourcePart
 checked_at known ts = unless (opening_at known ts) (part_at ts)

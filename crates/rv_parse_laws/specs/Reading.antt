@@ -7,7 +7,7 @@ use Rattle.rv_text_laws.specs.Cut.{Piece, Cuts}
 use Rattle.rv_text_laws.specs.Lexing.{Token, Lexes}
 use Rattle.rv_statement.specs.Limits.{most_statements}
 use Rattle.rv_statement.specs.Statement.{Statement}
-use Rattle.rv_parse_laws.specs.Syntax.{Part, Ends, Says, IsPart, StopsPart}
+use Rattle.rv_parse_laws.specs.Syntax.{SourcePart, Ends, Says, IsPart, StopsPart}
 use Rattle.rv_parse_laws.specs.Opening.{OpenWell}
 
 -- the longest source and the longest line without its line feed, in bytes
@@ -31,19 +31,19 @@ pub record IsPastLine (bytes : List ℕ) (place : ℕ) : Type 0 where
   pub place_is : place ≡ length front + longest_line
 
 -- the statement that a part is, with the line of its first token
-abbrev pub told : Part → List Token → List Statement
+abbrev pub told : SourcePart → List Token → List Statement
 told Ends ts = []
 told (Says statement) [] = []
 told (Says statement) (t ∷ ts) = record { line = t.line; kind = statement } ∷ []
 
 -- the statements of parts, in order
-abbrev pub said : List (Piece Part Token) → List Statement
-said [] = []
-said (p ∷ ps) = told p.kind p.text ++ said ps
+abbrev pub statements_of_parts : List (Piece SourcePart Token) → List Statement
+statements_of_parts [] = []
+statements_of_parts (p ∷ ps) = told p.kind p.text ++ statements_of_parts ps
 
 -- the tokens begin with these parts, and then the rest
-abbrev pub AreParts : List Token → List (Piece Part Token) → List Token → Type 0
-AreParts ts ps rest = Cuts Part Token IsPart StopsPart ts ps rest
+abbrev pub AreParts : List Token → List (Piece SourcePart Token) → List Token → Type 0
+AreParts ts ps rest = Cuts SourcePart Token IsPart StopsPart ts ps rest
 
 -- the bytes read as these statements: they are cut into tokens, the tokens into parts, all within
 -- the limits, and sections are opened well
@@ -51,5 +51,5 @@ abbrev pub Reads : List ℕ → List Statement → Type 0
 Reads bytes ss =
     (length bytes ≤ longest_source) × ((place : ℕ) → IsPastLine bytes place → ⊥)
     × (length ss ≤ most_statements)
-    × (ts : List Token) × (ps : List (Piece Part Token)) × Lexes bytes ts × AreParts ts ps []
-    × (ss ≡ said ps) × OpenWell [] ss
+    × (ts : List Token) × (ps : List (Piece SourcePart Token)) × Lexes bytes ts × AreParts ts ps []
+    × (ss ≡ statements_of_parts ps) × OpenWell [] ss

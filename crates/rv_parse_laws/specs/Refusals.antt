@@ -4,12 +4,12 @@ use Rattle.std.specs.Prelude.{◌≡◌, ℕ, ◌+◌, ◌<◌, ◌≤◌, Bool,
 use Rattle.rv_text_laws.specs.Cut.{Piece, texts, NothingReads}
 use Rattle.rv_text_laws.specs.Lexing.{Token, Lexes, newlines}
 use Rattle.rv_text_laws.specs.Codes.{limit}
-use Rattle.rv_text_laws.specs.SyntaxError.{offset_of}
+use Rattle.rv_text_laws.specs.SyntaxError.{fault_offset}
 use Rattle.rv_statement.specs.Statement.{Label, Numbered, Statement}
-use Rattle.rv_parse_laws.specs.Syntax.{Part, Says, IsPart, StopsPart, is_end, colon_next}
+use Rattle.rv_parse_laws.specs.Syntax.{SourcePart, Says, IsPart, StopsPart, is_end, colon_next}
 use Rattle.rv_parse_laws.specs.WrongOpening.{IsWrongOpening}
 use Rattle.rv_parse_laws.specs.Wrong.{IsWrongStatement}
-use Rattle.rv_parse_laws.specs.Reading.{longest_source, IsPastLine, told, said, AreParts}
+use Rattle.rv_parse_laws.specs.Reading.{longest_source, IsPastLine, told, statements_of_parts, AreParts}
 use Rattle.rv_statement.specs.Limits.{most_statements}
 
 -- at the front of the tokens, after these statements, no opening of a section is wrong
@@ -19,7 +19,7 @@ OpensWell ss ts =
     IsWrongOpening ss before at code → ⊥
 
 -- nor is one at the front of any of these parts, after these statements and before the rest
-abbrev pub AllOpenWell : List Statement → List (Piece Part Token) → List Token → Type 0
+abbrev pub AllOpenWell : List Statement → List (Piece SourcePart Token) → List Token → Type 0
 AllOpenWell ss [] rest = Unit {0}
 AllOpenWell ss (p ∷ ps) rest =
     OpensWell ss (texts (p ∷ ps) ++ rest) × AllOpenWell (ss ++ told p.kind p.text) ps rest
@@ -27,14 +27,15 @@ AllOpenWell ss (p ∷ ps) rest =
 -- the tokens say these statements, with good openings, up to the rest
 abbrev pub SaysUpTo : List Token → List Token → List Statement → Type 0
 SaysUpTo ts rest ss =
-    (ps : List (Piece Part Token)) × AreParts ts ps rest × AllOpenWell [] ps rest × (ss ≡ said ps)
+    (ps : List (Piece SourcePart Token)) × AreParts ts ps rest × AllOpenWell [] ps rest
+    × (ss ≡ statements_of_parts ps)
 
 -- a part with these first tokens can still stand at the front of the rest: a colon after the rest's
 -- first token makes it a label, and without it there is none
-abbrev pub is_label : Part → Bool
-is_label (Says (Label name)) = true
-is_label (Says (Numbered number)) = true
-is_label _ = false
+abbrev pub is_label_part : SourcePart → Bool
+is_label_part (Says (Label name)) = true
+is_label_part (Says (Numbered number)) = true
+is_label_part _ = false
 
 abbrev pub begins_label : List Token → Bool
 begins_label [] = false
@@ -42,7 +43,8 @@ begins_label (t ∷ ts) = colon_next ts
 
 abbrev pub CanGoOn : List Token → List Token → Type 0
 CanGoOn rest before =
-    (p : Part) × (more : List Token) × (is_label p ≡ begins_label rest) × IsPart p (before ++ more)
+    (p : SourcePart) × (more : List Token) × (is_label_part p ≡ begins_label rest)
+    × IsPart p (before ++ more)
 
 -- a token with which nothing can go on, after good parts and no wrong opening; the fault stands at
 -- that token, or at the first token of an operand that it ends, which is spelled right and is
@@ -50,7 +52,7 @@ CanGoOn rest before =
 pub record WrongToken (bytes : List ℕ) (place code : ℕ) : Type 0 where
   pub tokens : List Token
   pub lexes : Lexes bytes tokens
-  pub parts : List (Piece Part Token)
+  pub parts : List (Piece SourcePart Token)
   pub rest : List Token
   pub cut : AreParts tokens parts rest
   pub opens : AllOpenWell [] parts rest
@@ -61,37 +63,37 @@ pub record WrongToken (bytes : List ℕ) (place code : ℕ) : Type 0 where
   pub whole : rest ≡ before ++ at ∷ more
   pub goes : CanGoOn rest before
   pub stops : CanGoOn rest (before ++ at ∷ []) → ⊥
-  pub opens_well : OpensWell (said parts) (before ++ at ∷ [])
+  pub opens_well : OpensWell (statements_of_parts parts) (before ++ at ∷ [])
   pub front : List Token
   pub shown : Token
   pub back : List Token
   pub shown_is : before ++ at ∷ [] ≡ front ++ shown ∷ back
   pub fault_is : IsWrongStatement rest shown code
-  pub place_is : place ≡ offset_of shown code
+  pub place_is : place ≡ fault_offset shown code
 
 -- a token with which the opening of a section is wrong, after good parts
 pub record WrongOpening (bytes : List ℕ) (place code : ℕ) : Type 0 where
   pub tokens : List Token
   pub lexes : Lexes bytes tokens
-  pub parts : List (Piece Part Token)
+  pub parts : List (Piece SourcePart Token)
   pub before : List Token
   pub at : Token
   pub more : List Token
   pub cut : AreParts tokens parts (before ++ at ∷ more)
   pub opens : AllOpenWell [] parts (before ++ at ∷ more)
-  pub wrong : IsWrongOpening (said parts) before at code
-  pub place_is : place ≡ offset_of at code
+  pub wrong : IsWrongOpening (statements_of_parts parts) before at code
+  pub place_is : place ≡ fault_offset at code
 
 -- the first token of a statement past the most
 pub record PastStatements (bytes : List ℕ) (place : ℕ) : Type 0 where
   pub tokens : List Token
   pub lexes : Lexes bytes tokens
-  pub parts : List (Piece Part Token)
+  pub parts : List (Piece SourcePart Token)
   pub at : Token
   pub more : List Token
   pub cut : AreParts tokens parts (at ∷ more)
   pub opens : AllOpenWell [] parts (at ∷ more)
-  pub most : length (said parts) ≡ most_statements
+  pub most : length (statements_of_parts parts) ≡ most_statements
   pub begins_one : is_end at.kind ≡ false
   pub place_is : place ≡ at.start
 

@@ -1,14 +1,14 @@
 -- The syntax of statements, over the kinds of tokens (RISC-V Assembly Programmer's Manual; GNU as,
 -- "Statements" and "Pseudo Ops").
 --
--- A statement is a word and the slots that it awaits (`places`), and what stands in a slot is said
+-- A statement is a word and the slots that it awaits (`operand_slots`), and what stands in a slot is said
 -- once: a new statement is a row, and which token is wrong in it follows from its slots.
 
 use Rattle.std.specs.Prelude.{◌≡◌, ℕ, zero, suc, Bool, true, false, ◌&&◌, ◌||◌, ◌==◌, not, nat_le, ◌≤◌, List, [], ◌∷◌, ◌++◌, length, Option, Some, None, option_map, is_some, codes, ◌⊎◌, if◌then◌else◌}
 use Rattle.std.specs.List.{list_all}
 use Rattle.std.specs.Str.{bytes_eq}
 use Rattle.rv_text_laws.specs.declared.punct.Punct.TheVariants.{Comma, Colon, Semicolon, Open, Close, Percent, At, DoubleSlash}
-use Rattle.rv_text_laws.specs.Bytes.{value, is_decimal}
+use Rattle.rv_text_laws.specs.Bytes.{digits_value, is_decimal}
 use Rattle.rv_text_laws.specs.Grammar.{Kind, Newline, Punctuation, Name as NameToken, Number, Reference as ReferenceToken, Bad_word, Text, Character, Bad_byte, Bad_token, End}
 use Rattle.rv_text_laws.specs.Lexing.{Token}
 use Rattle.rv_text_laws.specs.SyntaxError.{longest_name, is_long}
@@ -20,7 +20,7 @@ use Rattle.rv_compress.specs.declared.parcel.RegisterSet.{RegisterSet}
 use Rattle.rv_compress.specs.declared.parcel.RegisterSet.TheVariants.{Any}
 use Rattle.rv_compress.specs.declared.parcel.OperandShape.{OperandShape}
 use Rattle.rv_compress.specs.declared.parcel.OperandShape.TheVariants as shapes
-use Rattle.rv_compress.specs.Mnemonics.{is_in, register_sets, shape_of}
+use Rattle.rv_compress.specs.Mnemonics.{is_of_set, register_sets, shape_of}
 use Rattle.rv_isa.specs.declared.operation.RegisterOperation.{RegisterOperation}
 use Rattle.rv_isa.specs.declared.operation.RegisterOperation.TheVariants.{Add, Sll, Slt, Sltu, Xor, Srl, Sra, Or, And, Addw, Sllw, Srlw, Sraw}
 use Rattle.rv_isa.specs.declared.operation.ImmediateOperation.TheVariants.{Addi, Slti, Sltiu, Xori, Ori, Andi, Addiw}
@@ -34,7 +34,7 @@ use Rattle.rv_statement.specs.declared.directive.DirectiveWord.{DirectiveWord}
 use Rattle.rv_statement.specs.declared.directive.DirectiveWord.TheVariants as words
 use Rattle.rv_statement.specs.declared.directive.Choice.{Choice}
 use Rattle.rv_statement.specs.Statement.{Expression, Operand, Register, Value, Applied, Target, Accesses, Word, Quoted, Directive, Enters, Opens, Binds, Sets, Aligns_to_power, Aligns_to_bytes, Values, Strings, Zeros, Chooses as Choosing, Ignored, StatementKind, Label, Numbered, Instruction, Directs}
-use Rattle.rv_statement.specs.View.{bytes_of}
+use Rattle.rv_statement.specs.View.{width_bytes}
 use Rattle.rv_parse_laws.specs.Words.{register, function_words, named_in, choices, beginning}
 use Rattle.rv_parse_laws.specs.declared.role.Role.{Role}
 use Rattle.rv_parse_laws.specs.declared.role.Role.TheVariants as roles
@@ -60,16 +60,16 @@ register_of _ = None
 abbrev pub kept_in : RegisterSet → Option ℕ → Option ℕ
 kept_in Any o = o
 kept_in set None = None
-kept_in set (Some r) = if is_in set r then Some r else None
+kept_in set (Some r) = if is_of_set set r then Some r else None
 
 -- the symbol that a token names
-abbrev pub symbol_of : Kind → Option (List ℕ)
-symbol_of (NameToken name) = if is_symbol name then Some name else None
-symbol_of _ = None
+abbrev pub token_symbol : Kind → Option (List ℕ)
+token_symbol (NameToken name) = if is_symbol name then Some name else None
+token_symbol _ = None
 
 -- a numeric label, by its decimal digits
 abbrev pub numbered : List ℕ → Option StatementKind
-numbered word = if list_all is_decimal word then Some (Numbered (value 10 word)) else None
+numbered word = if list_all is_decimal word then Some (Numbered (digits_value 10 word)) else None
 
 -- the label that a token is before a colon
 abbrev pub label_of : Kind → Option StatementKind
@@ -95,9 +95,9 @@ abbrev pub is_percent : Kind → Bool
 is_percent (Punctuation Percent) = true
 is_percent _ = false
 
-abbrev pub is_at : Kind → Bool
-is_at (Punctuation At) = true
-is_at _ = false
+abbrev pub is_at_sign : Kind → Bool
+is_at_sign (Punctuation At) = true
+is_at_sign _ = false
 
 abbrev pub is_plt : Kind → Bool
 is_plt (NameToken name) = bytes_eq name (codes "plt")
@@ -354,19 +354,19 @@ section_slots =
     (and_maybe Some_flags (Takes At_sign (and_maybe A_type (last (A_value roles.Directive)))))
 
 -- the places of each directive's operands (GNU as, "Pseudo Ops")
-abbrev pub places : DirectiveWord → Slots
-places (words.Enters section) = Stops A_register
-places words.Section = section_slots
-places (words.Binds binding) = Lists A_symbol
-places words.Set = and_then A_symbol (last (A_value roles.Directive))
-places words.AlignToPower = last (A_value roles.Alignment)
-places words.AlignToBytes = last (A_value roles.Alignment)
-places (words.Value width) = Lists (A_value roles.Directive)
-places words.Ascii = Lists A_string
-places words.Asciz = Lists A_string
-places words.Zero = last (A_value roles.Directive)
-places words.Option = last An_option
-places words.Ignored = Anything
+abbrev pub operand_slots : DirectiveWord → Slots
+operand_slots (words.Enters section) = Stops A_register
+operand_slots words.Section = section_slots
+operand_slots (words.Binds binding) = Lists A_symbol
+operand_slots words.Set = and_then A_symbol (last (A_value roles.Directive))
+operand_slots words.AlignToPower = last (A_value roles.Alignment)
+operand_slots words.AlignToBytes = last (A_value roles.Alignment)
+operand_slots (words.Value width) = Lists (A_value roles.Directive)
+operand_slots words.Ascii = Lists A_string
+operand_slots words.Asciz = Lists A_string
+operand_slots words.Zero = last (A_value roles.Directive)
+operand_slots words.Option = last An_option
+operand_slots words.Ignored = Anything
 
 -- the operands that one token is, in a place for it
 abbrev pub single : Slot → Kind → Option (List Operand)
@@ -374,10 +374,10 @@ single (A_register_of set) k =
     option_map (λ r. Register r ∷ []) (kept_in set (register_of k))
 single A_zero k = if is_zero k then Some [] else None
 single Some_accesses k = option_map (λ set. Accesses set ∷ []) (accesses_of k)
-single A_symbol k = option_map (λ name. Word name ∷ []) (symbol_of k)
+single A_symbol k = option_map (λ name. Word name ∷ []) (token_symbol k)
 single A_string (Text bytes) = Some (Quoted bytes ∷ [])
 single Some_flags (Text letters) = Some (Quoted letters ∷ [])
-single At_sign k = if is_at k then Some [] else None
+single At_sign k = if is_at_sign k then Some [] else None
 single A_type (NameToken name) = Some (Word name ∷ [])
 single An_option (NameToken name) =
     if is_some (named_in choices name) then Some (Word name ∷ []) else None
@@ -401,16 +401,16 @@ abbrev pub valued : Role → Expression → Operand
 valued role e = if targets role then Target e else Value e
 
 -- an expression of numbers alone: it has no name, no numeric reference and no `.`
-abbrev pub is_number : Expression → Bool
-is_number (Leaf (Literal number)) = true
-is_number (Leaf _) = false
-is_number (Unary o x) = is_number x
-is_number (Paren x) = is_number x
-is_number (Binary o x y) = is_number x && is_number y
+abbrev pub is_of_numbers : Expression → Bool
+is_of_numbers (Leaf (Literal number)) = true
+is_of_numbers (Leaf _) = false
+is_of_numbers (Unary o x) = is_of_numbers x
+is_of_numbers (Paren x) = is_of_numbers x
+is_of_numbers (Binary o x y) = is_of_numbers x && is_of_numbers y
 
 -- an expression that is spelled right, and is refused where it stands: a number as a target
 abbrev pub is_refused : Role → Expression → Bool
-is_refused role e = targets role && is_number e
+is_refused role e = targets role && is_of_numbers e
 
 -- the tokens are an expression
 abbrev pub IsValue : List Token → Expression → Type 0
@@ -449,7 +449,7 @@ IsArgument f ts e = IsValue ts e
 
 -- a function of a value that is spelled right, and is refused: `%pcrel_hi` of a number
 abbrev pub is_refused_by : Function → Expression → Bool
-is_refused_by PcrelHi e = is_number e
+is_refused_by PcrelHi e = is_of_numbers e
 is_refused_by _ e = false
 
 -- the tokens are a function of a value that may stand so
@@ -482,8 +482,8 @@ IsOffset set ts os =
 -- the tokens are a symbol and `@plt`
 abbrev pub IsLinked : List Token → List Operand → Type 0
 IsLinked ts os =
-    (f a p : Token) × (name : List ℕ) × (ts ≡ f ∷ a ∷ p ∷ []) × (symbol_of f.kind ≡ Some name)
-    × (is_at a.kind ≡ true)
+    (f a p : Token) × (name : List ℕ) × (ts ≡ f ∷ a ∷ p ∷ []) × (token_symbol f.kind ≡ Some name)
+    × (is_at_sign a.kind ≡ true)
     × (is_plt p.kind ≡ true) × (os ≡ Target (Leaf (Symbol name)) ∷ [])
 
 -- the tokens are an expression that may stand so, or a function of one, as an operand
@@ -512,12 +512,12 @@ base_next (t ∷ ts) = is_opening t.kind && front_begins A_register ts
 -- a symbol and `@` come next
 abbrev pub plt_next : List Token → Bool
 plt_next [] = false
-plt_next (t ∷ ts) = is_some (symbol_of t.kind) && front_begins At_sign ts
+plt_next (t ∷ ts) = is_some (token_symbol t.kind) && front_begins At_sign ts
 
 -- what stands in a place, and then what N says
-abbrev pub IsTaken : Slot → (List Token → List Operand → Type 0) → List Token → List Operand →
+abbrev pub TakesSlot : Slot → (List Token → List Operand → Type 0) → List Token → List Operand →
     Type 0
-IsTaken s N ts os =
+TakesSlot s N ts os =
     (one rest : List Token) × (now later : List Operand) × (ts ≡ one ++ rest) × IsOperand s one now
     × N rest later × (os ≡ now ++ later)
 
@@ -530,17 +530,17 @@ IsFurther N ts os =
 abbrev pub AreItems : ℕ → Slot → List Token → List Operand → Type 0
 AreItems zero s ts os = ⊥
 AreItems (suc zero) s ts os = IsOperand s ts os
-AreItems (suc (suc n)) s ts os = IsTaken s (IsFurther (λ us ps. AreItems (suc n) s us ps)) ts os
+AreItems (suc (suc n)) s ts os = TakesSlot s (IsFurther (λ us ps. AreItems (suc n) s us ps)) ts os
 
 -- the tokens stand in these places, with these operands
 abbrev pub AreOperands : Slots → List Token → List Operand → Type 0
 AreOperands (Stops behind) ts os = (ts ≡ []) × (os ≡ [])
-AreOperands (Takes s rest) ts os = IsTaken s (λ us ps. AreOperands rest us ps) ts os
+AreOperands (Takes s rest) ts os = TakesSlot s (λ us ps. AreOperands rest us ps) ts os
 AreOperands (Chooses s rest others) ts os =
-    IsTaken s (λ us ps. AreOperands rest us ps) ts os
+    TakesSlot s (λ us ps. AreOperands rest us ps) ts os
     ⊎ ((front_begins s ts ≡ false) × AreOperands others ts os)
 AreOperands (Locates rest) ts os =
-    IsOperand An_address ts os ⊎ IsTaken A_target (λ us ps. AreOperands rest us ps) ts os
+    IsOperand An_address ts os ⊎ TakesSlot A_target (λ us ps. AreOperands rest us ps) ts os
 AreOperands (Lists s) ts os = (n : ℕ) × AreItems n s ts os
 AreOperands Anything ts os = (list_all (λ (t : Token). is_any t.kind) ts ≡ true) × (os ≡ [])
 
@@ -561,9 +561,9 @@ values_in (Value e ∷ os) = e ∷ values_in os
 values_in (_ ∷ os) = values_in os
 
 -- what `.option` says with a word
-abbrev pub chosen : Option Choice → Directive
-chosen (Some choice) = Choosing choice
-chosen None = Ignored
+abbrev pub option_directive : Option Choice → Directive
+option_directive (Some choice) = Choosing choice
+option_directive None = Ignored
 
 -- what a directive's word says with its operands; other operands than these it never has
 abbrev pub directed : DirectiveWord → List Operand → Directive
@@ -577,11 +577,11 @@ directed (words.Binds binding) os = Binds binding (names_in os)
 directed words.Set (Word name ∷ Value e ∷ []) = Sets name e
 directed words.AlignToPower (Value e ∷ []) = Aligns_to_power e
 directed words.AlignToBytes (Value e ∷ []) = Aligns_to_bytes e
-directed (words.Value width) os = Values (bytes_of width) (values_in os)
+directed (words.Value width) os = Values (width_bytes width) (values_in os)
 directed words.Ascii os = Strings false (strings_in os)
 directed words.Asciz os = Strings true (strings_in os)
 directed words.Zero (Value e ∷ []) = Zeros e
-directed words.Option (Word name ∷ []) = chosen (named_in choices name)
+directed words.Option (Word name ∷ []) = option_directive (named_in choices name)
 directed _ os = Ignored
 
 -- a colon comes next
@@ -605,16 +605,16 @@ IsStatement ts (Instruction mnemonic operands) =
 IsStatement ts (Directs directive) =
     (t : Token) × (rest : List Token) × (word : DirectiveWord) × (operands : List Operand)
     × (ts ≡ t ∷ rest) × (colon_next rest ≡ false)
-    × (begins t.kind ≡ beginnings.Directive word) × AreOperands (places word) rest operands
+    × (begins t.kind ≡ beginnings.Directive word) × AreOperands (operand_slots word) rest operands
     × (directive ≡ directed word operands)
 
 -- a part of a source: a statement, or the end of one or of nothing
-pub data Part : Type 0 where
-  Ends : Part
-  Says : (statement : StatementKind) → Part
+pub data SourcePart : Type 0 where
+  Ends : SourcePart
+  Says : (statement : StatementKind) → SourcePart
 
 -- the tokens that a part consists of
-abbrev pub IsPart : Part → List Token → Type 0
+abbrev pub IsPart : SourcePart → List Token → Type 0
 IsPart Ends ts = (t : Token) × (ts ≡ t ∷ []) × (is_end t.kind ≡ true)
 IsPart (Says statement) ts = IsStatement ts statement
 
@@ -623,7 +623,7 @@ abbrev pub EndsHere : List Token → Type 0
 EndsHere ts = (t : Token) × (rest : List Token) × (ts ≡ t ∷ rest) × (is_end t.kind ≡ true)
 
 -- a statement goes on up to its end; a label may be followed by anything
-abbrev pub StopsPart : Part → List Token → Type 0
+abbrev pub StopsPart : SourcePart → List Token → Type 0
 StopsPart (Says (Instruction mnemonic operands)) rest = EndsHere rest
 StopsPart (Says (Directs directive)) rest = EndsHere rest
 StopsPart _ rest = Unit {0}

@@ -336,15 +336,16 @@ unfoldable pub section_types : List (List ℕ)
 section_types = codes "progbits" ∷ codes "nobits" ∷ codes "note" ∷ []
 
 -- the names of a register: by number, by the ABI, and `fp` for x8
-unfoldable pub names_of : ℕ → List (List ℕ)
-names_of r =
+unfoldable pub register_names : ℕ → List (List ℕ)
+register_names r =
     (codes "x" ++ decimal r) ∷
     (option_to_list (slice_get abi_names r) ++ (if r == 8 then codes "fp" ∷ [] else []))
 
 -- the register below this number that has the name
 abbrev pub register_below : ℕ → List ℕ → Option ℕ
 register_below zero name = None
-register_below (suc n) name = if is_among (names_of n) name then Some n else register_below n name
+register_below (suc n) name =
+    if is_among (register_names n) name then Some n else register_below n name
 
 -- the register of a name
 unfoldable pub register : List ℕ → Option ℕ

@@ -19,7 +19,7 @@ use Rattle.rv_parse_laws.specs.declared.role.Role.{Role}
 use Rattle.rv_parse_laws.specs.declared.role.Role.TheVariants as roles
 use Rattle.rv_parse_laws.specs.declared.beginning.Beginning.{Beginning}
 use Rattle.rv_parse_laws.specs.declared.beginning.Beginning.TheVariants as beginnings
-use Rattle.rv_parse_laws.specs.Syntax.{is_register, register_of, kept_in, label_of, begins, is_comma, is_percent, is_end, is_opening, is_closing, is_any, is_section_name, valued, function_in, label_named, IsValue, IsArgument, IsValueIn, IsLinked, IsOperand, Slot, A_register_of, A_register, A_value, A_target, An_address_by, An_address, A_callee, A_section, A_plt, A_closing, An_opening, single, front_begins, base_next, plt_next, Slots, Stops, Takes, Chooses, Locates, Lists, Anything, slots, places, colon_next}
+use Rattle.rv_parse_laws.specs.Syntax.{is_register, register_of, kept_in, label_of, begins, is_comma, is_percent, is_end, is_opening, is_closing, is_any, is_section_name, valued, function_in, label_named, IsValue, IsArgument, IsValueIn, IsLinked, IsOperand, Slot, A_register_of, A_register, A_value, A_target, An_address_by, An_address, A_callee, A_section, A_plt, A_closing, An_opening, single, front_begins, base_next, plt_next, Slots, Stops, Takes, Chooses, Locates, Lists, Anything, slots, operand_slots, colon_next}
 use Rattle.rv_parse_laws.specs.Content.{content_fault}
 use Rattle.rv_parse_laws.specs.Faults.{may_call, is_name, wrong_or, wrong_symbol, wrong_first, wrong_after, wrong_any, wrong_start, wrong_label}
 
@@ -34,8 +34,8 @@ IsWrongInside ts t code =
     (front more : List Token) × (ts ≡ front ++ t ∷ more) × FailsAt is_register front t code
 
 -- a whole expression stands at the front, and is refused for what it says
-abbrev pub IsRefused : Role → List Token → ℕ → Type 0
-IsRefused role ts code =
+abbrev pub IsRefusedExpression : Role → List Token → ℕ → Type 0
+IsRefusedExpression role ts code =
     (one rest : List Token) × (e : Expression) × (ts ≡ one ++ rest)
     × IsValue one e × EndsBefore rest
     × (content_fault true (A_value role) (valued role e) ≡ Some code)
@@ -90,7 +90,7 @@ IsWrongApplied role p ts t code =
 -- an expression in its place
 abbrev pub IsWrongPlain : Role → List Token → Token → ℕ → Type 0
 IsWrongPlain role ts t code =
-    IsWrongInside ts t code ⊎ ((us : List Token) × (ts ≡ t ∷ us) × IsRefused role ts code)
+    IsWrongInside ts t code ⊎ ((us : List Token) × (ts ≡ t ∷ us) × IsRefusedExpression role ts code)
 
 -- a function, or an expression
 abbrev pub IsWrongValue : Role → List Token → Token → ℕ → Type 0
@@ -227,7 +227,7 @@ IsWrongIn Anything ts t code = IsWrongAny ts t code
 abbrev pub IsWrongAfter : Beginning → Token → List Token → Token → ℕ → Type 0
 IsWrongAfter (beginnings.Instruction mnemonic) first ts t code =
     IsWrongIn (slots mnemonic) ts t code
-IsWrongAfter (beginnings.Directive word) first ts t code = IsWrongIn (places word) ts t code
+IsWrongAfter (beginnings.Directive word) first ts t code = IsWrongIn (operand_slots word) ts t code
 IsWrongAfter beginnings.Nothing first ts t code = (t ≡ first) × (code ≡ wrong_start first.kind)
 
 -- a statement: a label, where a colon stands after the first token; else a word and its operands

@@ -7,7 +7,7 @@ use Rattle.rv_text_laws.specs.Grammar.{Kind, Name as NameToken, Text}
 use Rattle.rv_text_laws.specs.Lexing.{Token}
 use Rattle.rv_text_laws.specs.Joined.{IsJoined}
 use Rattle.rv_statement.specs.Statement.{Word, Quoted, Statement}
-use Rattle.rv_parse_laws.specs.Syntax.{is_comma, is_at, is_section_name, Some_flags, A_type}
+use Rattle.rv_parse_laws.specs.Syntax.{is_comma, is_at_sign, is_section_name, Some_flags, A_type}
 use Rattle.rv_parse_laws.specs.Content.{content_fault}
 use Rattle.rv_parse_laws.specs.Opening.{is_opened}
 
@@ -32,8 +32,8 @@ is_section (NameToken word) = bytes_eq word (codes ".section")
 is_section _ = false
 
 -- the tokens are `.section`, this name and a comma
-abbrev pub IsNamed : List Token → List ℕ → Type 0
-IsNamed ts name =
+abbrev pub OpensNamed : List Token → List ℕ → Type 0
+OpensNamed ts name =
     (word : Token) × (text : List Token) × (comma : Token) × (ts ≡ word ∷ (text ++ comma ∷ []))
     × (is_section word.kind ≡ true)
     × IsJoined text name × (is_section_name name ≡ true) × (is_comma comma.kind ≡ true)
@@ -42,7 +42,7 @@ IsNamed ts name =
 pub record WrongFlags (known : List ℕ → Bool) (before : List Token) (at : Token)
     (code : ℕ) : Type 0 where
   pub name : List ℕ
-  pub named : IsNamed before name
+  pub named : OpensNamed before name
   pub wrong : flags_fault (known name) at.kind ≡ Some code
 
 -- behind such tokens, flags that are not wrong, a comma and `@`, a word is wrong as a type
@@ -54,11 +54,11 @@ pub record WrongType (known : List ℕ → Bool) (before : List Token) (at : Tok
   pub comma : Token
   pub sign : Token
   pub whole : before ≡ front ++ flags ∷ comma ∷ sign ∷ []
-  pub named : IsNamed front name
+  pub named : OpensNamed front name
   pub text : is_text flags.kind ≡ true
   pub good : flags_fault (known name) flags.kind ≡ None
   pub comma_is : is_comma comma.kind ≡ true
-  pub sign_is : is_at sign.kind ≡ true
+  pub sign_is : is_at_sign sign.kind ≡ true
   pub wrong : type_fault (known name) at.kind ≡ Some code
 
 -- behind the statements ss the tokens `before` begin an opening with whose name the token `at` is

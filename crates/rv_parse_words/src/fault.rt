@@ -1,7 +1,7 @@
 //! What is wrong where: the codes of the faults of phase one.
 
 ghost use Rattle.std.specs.Prelude.{◌≡◌};
-ghost use Rattle.rv_lexer.specs.Fault.{number_of};
+ghost use Rattle.rv_lexer.specs.Fault.{source_fault_number};
 ghost use Rattle.rv_lexer.specs.Token.{kind_of};
 ghost use Rattle.rv_text_laws.specs.Codes.{bad_operands};
 ghost use Rattle.rv_parse_laws.specs.Faults.{may_call, wrong_or, wrong_name, wrong_section_name, wrong_after_value, wrong_after, wrong_symbol, wrong_letters, wrong_option, wrong_any, wrong_word, wrong_start, wrong_label};
@@ -51,7 +51,8 @@ impl Slot {
 
 /// The code of a token that is wrong wherever it stands; for every other the code of its slot.
 fn or_slot(kind: TokenKind<'_>, code: SourceCode) -> SourceCode
-    ensures { number_of result ≡ wrong_or (kind_of kind.entry) (number_of code) }
+    ensures { source_fault_number result
+        ≡ wrong_or (kind_of kind.entry) (source_fault_number code) }
 {
     match kind {
         TokenKind::BadByte => SourceCode::BadByte,
@@ -63,7 +64,7 @@ fn or_slot(kind: TokenKind<'_>, code: SourceCode) -> SourceCode
 
 /// A name that is no symbol's, where a symbol may stand.
 fn at_name(name: &[u8]) -> SourceCode
-    ensures { number_of result ≡ wrong_name name.now }
+    ensures { source_fault_number result ≡ wrong_name name.now }
 {
     if LONGEST_NAME < name.len() {
         SourceCode::Limit
@@ -74,7 +75,7 @@ fn at_name(name: &[u8]) -> SourceCode
 
 /// Where the name of a section begins; a string would be a quoted name.
 pub fn at_section_name(kind: TokenKind<'_>) -> SourceCode
-    ensures { number_of result ≡ wrong_section_name (kind_of kind.entry) }
+    ensures { source_fault_number result ≡ wrong_section_name (kind_of kind.entry) }
 {
     match kind {
         TokenKind::Text(_) => SourceCode::UnsupportedHere,
@@ -101,7 +102,7 @@ pub fn targets(role: Role) -> bool
 
 /// After a whole expression: an alignment has one operand alone.
 fn after_value(role: Role, kind: TokenKind<'_>) -> SourceCode
-    ensures { number_of result ≡ wrong_after_value role (kind_of kind.entry) }
+    ensures { source_fault_number result ≡ wrong_after_value role (kind_of kind.entry) }
 {
     match role {
         Role::Alignment if is_comma(kind) => SourceCode::UnsupportedHere,
@@ -111,7 +112,7 @@ fn after_value(role: Role, kind: TokenKind<'_>) -> SourceCode
 
 /// After what stands in a slot.
 pub fn after(slot: Slot, kind: TokenKind<'_>) -> SourceCode
-    ensures { number_of result ≡ wrong_after (slot_of slot) (kind_of kind.entry) }
+    ensures { source_fault_number result ≡ wrong_after (slot_of slot) (kind_of kind.entry) }
 {
     match slot {
         Slot::Value(role) => after_value(role, kind),
@@ -121,14 +122,14 @@ pub fn after(slot: Slot, kind: TokenKind<'_>) -> SourceCode
 
 /// Where one token alone is good: a register, a string, or a sign.
 pub fn at_other(kind: TokenKind<'_>) -> SourceCode
-    ensures { number_of result ≡ wrong_or (kind_of kind.entry) bad_operands }
+    ensures { source_fault_number result ≡ wrong_or (kind_of kind.entry) bad_operands }
 {
     or_slot(kind, SourceCode::BadOperands)
 }
 
 /// Where a directive wants a symbol.
 pub fn at_symbol(kind: TokenKind<'_>) -> SourceCode
-    ensures { number_of result ≡ wrong_symbol (kind_of kind.entry) }
+    ensures { source_fault_number result ≡ wrong_symbol (kind_of kind.entry) }
 {
     match kind {
         TokenKind::Name(name) => at_name(name),
@@ -139,7 +140,7 @@ pub fn at_symbol(kind: TokenKind<'_>) -> SourceCode
 
 /// Letters that are no flags of a section; an unknown one counts before those that are left out.
 pub fn at_flags(letters: &[u8]) -> SourceCode
-    ensures { number_of result ≡ wrong_letters letters.now }
+    ensures { source_fault_number result ≡ wrong_letters letters.now }
 {
     if are_known_flags(letters) {
         SourceCode::UnsupportedHere
@@ -150,7 +151,7 @@ pub fn at_flags(letters: &[u8]) -> SourceCode
 
 /// The word after `.option`.
 pub fn at_option(kind: TokenKind<'_>) -> SourceCode
-    ensures { number_of result ≡ wrong_option (kind_of kind.entry) }
+    ensures { source_fault_number result ≡ wrong_option (kind_of kind.entry) }
 {
     match kind {
         TokenKind::Name(name) if is_left_out_option(name) => SourceCode::UnsupportedHere,
@@ -160,7 +161,7 @@ pub fn at_option(kind: TokenKind<'_>) -> SourceCode
 
 /// Where operands are not looked at.
 pub fn at_any(kind: TokenKind<'_>) -> SourceCode
-    ensures { number_of result ≡ wrong_any (kind_of kind.entry) }
+    ensures { source_fault_number result ≡ wrong_any (kind_of kind.entry) }
 {
     match kind {
         TokenKind::Name(name) => at_name(name),
@@ -170,7 +171,7 @@ pub fn at_any(kind: TokenKind<'_>) -> SourceCode
 
 /// A word that begins a statement, and is neither a mnemonic nor a directive: call frame information where it is too long.
 fn at_word(word: &[u8]) -> SourceCode
-    ensures { number_of result ≡ wrong_word word.now }
+    ensures { source_fault_number result ≡ wrong_word word.now }
 {
     if is_left_out(word) {
         SourceCode::UnsupportedHere
@@ -185,7 +186,7 @@ fn at_word(word: &[u8]) -> SourceCode
 
 /// A token that begins a statement, and no label.
 pub fn at_start(kind: TokenKind<'_>) -> SourceCode
-    ensures { number_of result ≡ wrong_start (kind_of kind.entry) }
+    ensures { source_fault_number result ≡ wrong_start (kind_of kind.entry) }
 {
     match kind {
         TokenKind::Name(name) => at_word(name),
@@ -196,7 +197,7 @@ pub fn at_start(kind: TokenKind<'_>) -> SourceCode
 
 /// A token before a colon, at a statement's start.
 pub fn at_label(kind: TokenKind<'_>) -> SourceCode
-    ensures { number_of result ≡ wrong_label (kind_of kind.entry) }
+    ensures { source_fault_number result ≡ wrong_label (kind_of kind.entry) }
 {
     match kind {
         TokenKind::Name(name) => at_name(name),

@@ -9,7 +9,7 @@ ghost use Rattle.rv_text_laws.specs.Bytes.{is_decimal};
 ghost use Rattle.rv_text_laws.specs.Lexing.{is_last};
 ghost use Rattle.rv_lexer.specs.Token.{kind_of};
 ghost use Rattle.rv_statement.specs.View.{now_of, statement_kind};
-ghost use Rattle.rv_parse_laws.specs.Syntax.{is_symbol, is_section_name, register_of, kept_in, symbol_of, label_of, begins, is_comma, is_colon, is_percent, is_at, is_plt, is_end, is_source_end, is_opening, is_closing, is_zero, is_any, accesses_of, single, A_string, A_type, may_stand, function_in, label_named};
+ghost use Rattle.rv_parse_laws.specs.Syntax.{is_symbol, is_section_name, register_of, kept_in, token_symbol, label_of, begins, is_comma, is_colon, is_percent, is_at_sign, is_plt, is_end, is_source_end, is_opening, is_closing, is_zero, is_any, accesses_of, single, A_string, A_type, may_stand, function_in, label_named};
 ghost use Rattle.rv_parse_laws.specs.Faults.{is_name};
 ghost use Rattle.rv_text.specs.Expr.{tree_of_expr};
 ghost use Rattle.rv_parse_laws.specs.WrongOpening.{is_section};
@@ -61,7 +61,7 @@ pub fn register_in(set: RegisterSet, kind: TokenKind<'_>) -> Option<Reg>
 
 /// The symbol that the token names.
 pub fn symbol_of(kind: TokenKind<'_>) -> Option<&[u8]>
-    ensures { option_map now_of result ≡ symbol_of (kind_of kind.entry) }
+    ensures { option_map now_of result ≡ token_symbol (kind_of kind.entry) }
 {
     match kind {
         TokenKind::Name(name) if is_symbol(name) => Some(name),
@@ -162,7 +162,7 @@ pub fn width(kind: TokenKind<'_>) -> usize
 
 /// `@`
 pub fn is_at(kind: TokenKind<'_>) -> bool
-    ensures { result ≡ is_at (kind_of kind.entry) }
+    ensures { result ≡ is_at_sign (kind_of kind.entry) }
 {
     matches!(kind, TokenKind::Punct(Punct::At))
 }

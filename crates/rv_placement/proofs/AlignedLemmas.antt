@@ -9,7 +9,7 @@ use Rattle.std.proofs.lemmas.Nat.{div-add-mod', pow-add, pow_below}
 use Rattle.rv_layout_laws.specs.Alignment.{aligned}
 use Rattle.rv_object.specs.Object.{Relocation, Section}
 use Rattle.rv_object.specs.Padding.{no_operations}
-use Rattle.rv_object.specs.Valid.{is_alignment}
+use Rattle.rv_object.specs.Valid.{is_section_alignment}
 use Rattle.rv_object_laws.specs.Moves.{full_padding, alignment_of, alignments_of, moves, plan}
 use Rattle.rv_object_laws.specs.Inputs.{goes_to_text, raised, begins_at}
 
@@ -39,7 +39,7 @@ asked_power r =
     one_of IsPower (full_padding r) (2 ∷ 4 ∷ 8 ∷ 16 ∷ 32 ∷ 64 ∷ 128 ∷ 256 ∷ 512 ∷ 1024 ∷ 2048 ∷ 4096 ∷ []) (12, refl)
     ((1, refl), ((2, refl), ((3, refl), ((4, refl), ((5, refl), ((6, refl), ((7, refl), ((8, refl), ((9, refl), ((10, refl), ((11, refl), ((12, refl), tt))))))))))))
 
-own_power : (a : ℕ) → is_alignment a ≡ true → IsPower a
+own_power : (a : ℕ) → is_section_alignment a ≡ true → IsPower a
 own_power a e =
     any_power IsPower a (0 ∷ 1 ∷ 2 ∷ 3 ∷ 4 ∷ 5 ∷ 6 ∷ 7 ∷ 8 ∷ 9 ∷ 10 ∷ 11 ∷ 12 ∷ [])
     ((0, refl), ((1, refl), ((2, refl), ((3, refl), ((4, refl), ((5, refl), ((6, refl), ((7, refl), ((8, refl), ((9, refl), ((10, refl), ((11, refl), ((12, refl), tt)))))))))))))
@@ -110,7 +110,7 @@ plan_still n gone (r ∷ rs) (one, h) =
     ∙ ap (λ ms. record { place = r.place; full = full_padding r; text = no_operations (aligned (alignment_of r) (0 + (r.place - gone)) - (0 + (r.place - gone))) } ∷ ms)
     (plan_still n (gone + (full_padding r - (aligned (alignment_of r) (0 + (r.place - gone)) - (0 + (r.place - gone))))) rs h)
 
-pub moves_still : (start stop : ℕ) (s : Section) → is_alignment s.alignment ≡ true → start ≡ aligned (begins_at s) stop → moves start s ≡ moves 0 s
+pub moves_still : (start stop : ℕ) (s : Section) → is_section_alignment s.alignment ≡ true → start ≡ aligned (begins_at s) stop → moves start s ≡ moves 0 s
 moves_still start stop s e is =
     let own = (either (if goes_to_text s then 2 else 1) s.alignment (one_power (goes_to_text s)) (own_power s.alignment e)).0 in
     let whole : start % begins_at s ≡ 0 = ap (λ n. n % begins_at s) is ∙ mul-mod_left ((stop + (begins_at s - 1)) / begins_at s) (begins_at s) in

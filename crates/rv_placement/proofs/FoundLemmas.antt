@@ -10,7 +10,7 @@ use Rattle.rv_object_laws.specs.Names.{offset_address}
 use Rattle.rv_relax.specs.Plan.{moves_of}
 use Rattle.rv_placement.specs.declared.placement.PlacedSection.{PlacedSection}
 use Rattle.rv_placement.specs.declared.placement.Placement.{Placement}
-use Rattle.rv_placement.specs.Placement.{starts_of, start_in, placed_in, placed_at, section_in, section_at, IsPlacement}
+use Rattle.rv_placement.specs.Placement.{starts_of, start_in, placed_in, placed_at, section_in, object_section, IsPlacement}
 
 pub some_at : {A : Type 0} (xs : List A) (i : ℕ) → i < length xs → (x : A) × (slice_get xs i ≡ Some x)
 some_at [] i h = absurd (omega arith)
@@ -28,17 +28,17 @@ each_at (f ∷ fs) (o ∷ os) e zero index s at =
     some_at f.items index (omega (arith, slice_get_within o.sections index s at))
 each_at (f ∷ fs) (o ∷ os) e (suc file) index s at = each_at fs os (let same : map (λ f. length f.items) fs ≡ map (λ o. length o.sections) os = cc in same) file index s at
 
-pub is_placed : (os : List Object) (start : ℕ) (p : Placement) → IsPlacement os start p → (file index : ℕ) (s : Section) → section_at os file index ≡ Some s → (q : PlacedSection) × (placed_at p file index ≡ Some q)
+pub is_placed : (os : List Object) (start : ℕ) (p : Placement) → IsPlacement os start p → (file index : ℕ) (s : Section) → object_section os file index ≡ Some s → (q : PlacedSection) × (placed_at p file index ≡ Some q)
 is_placed os start p is file index s at = each_at p.files.items os is.each file index s at
 
-pub not_placed : (os : List Object) (start : ℕ) (p : Placement) → IsPlacement os start p → (file index : ℕ) (s : Section) → section_at os file index ≡ Some s → placed_at p file index ≡ None → ⊥
+pub not_placed : (os : List Object) (start : ℕ) (p : Placement) → IsPlacement os start p → (file index : ℕ) (s : Section) → object_section os file index ≡ Some s → placed_at p file index ≡ None → ⊥
 not_placed os start p is file index s at none =
     let (q, there) = is_placed os start p is file index s at in
     let both : Some q ≡ None = sym there ∙ none in cc
 
 -- ---- addresses
 
-pub in_object : (os : List Object) (file index : ℕ) (o : Object) → slice_get os file ≡ Some o → section_at os file index ≡ slice_get o.sections index
+pub in_object : (os : List Object) (file index : ℕ) (o : Object) → slice_get os file ≡ Some o → object_section os file index ≡ slice_get o.sections index
 in_object os file index o at = ap (λ x. section_in x index) at
 
 pub start_is : (p : Placement) (file index : ℕ) (q : PlacedSection) → Some q ≡ placed_at p file index → starts_of p (file + 1) index ≡ q.start
@@ -46,7 +46,7 @@ start_is p file index q at =
     let same : file + 1 - 1 ≡ file = omega arith in
     ap (λ n. start_in (placed_at p n index)) same ∙ ap start_in (sym at)
 
-pub address_none : (os : List Object) (file index : ℕ) (o : Object) (start offset : ℕ) → slice_get os file ≡ Some o → None ≡ section_at os file index → None ≡ offset_address start offset (slice_get o.sections index)
+pub address_none : (os : List Object) (file index : ℕ) (o : Object) (start offset : ℕ) → slice_get os file ≡ Some o → None ≡ object_section os file index → None ≡ offset_address start offset (slice_get o.sections index)
 address_none os file index o start offset at none = ap (offset_address start offset) (none ∙ in_object os file index o at)
 
 by_loaded : (b : Bool) (x : Option ℕ) → b ≡ false → None ≡ (if b then x else None)
@@ -57,13 +57,13 @@ if_loaded : (b : Bool) (x : Option ℕ) → b ≡ true → x ≡ (if b then x el
 if_loaded true x e = refl
 if_loaded false x e = absurd (cc)
 
-pub address_unloaded : (os : List Object) (file index : ℕ) (o : Object) (start offset : ℕ) (s : Section) → slice_get os file ≡ Some o → Some s ≡ section_at os file index → s.loaded ≡ false
+pub address_unloaded : (os : List Object) (file index : ℕ) (o : Object) (start offset : ℕ) (s : Section) → slice_get os file ≡ Some o → Some s ≡ object_section os file index → s.loaded ≡ false
     → None ≡ offset_address start offset (slice_get o.sections index)
 address_unloaded os file index o start offset s at is not =
     by_loaded s.loaded (Some ((start + new_offset (moves start s) offset) % 2 ^ 64)) not ∙ ap (offset_address start offset) (is ∙ in_object os file index o at)
 
 pub address_is : (os : List Object) (first : ℕ) (p : Placement) → IsPlacement os first p → (file index : ℕ) (o : Object) (offset n : ℕ) (s : Section) (q : PlacedSection)
-    → slice_get os file ≡ Some o → Some s ≡ section_at os file index → Some q ≡ placed_at p file index → s.loaded ≡ true → n ≡ new_offset (moves_of q.plan) offset
+    → slice_get os file ≡ Some o → Some s ≡ object_section os file index → Some q ≡ placed_at p file index → s.loaded ≡ true → n ≡ new_offset (moves_of q.plan) offset
     → Some ((q.start + n) % 2 ^ 64) ≡ offset_address (starts_of p (file + 1) index) offset (slice_get o.sections index)
 address_is os first p is file index o offset n s q at stands there yes' new =
     let planned = is.planned file index s q (sym stands) (sym there) in

@@ -7,9 +7,9 @@ use Rattle.rv_layout_laws.specs.Alignment.{aligned}
 use Rattle.rv_map.specs.declared.map.Region.{Region}
 use Rattle.rv_object.specs.Object.{Section, Object, size_of}
 use Rattle.rv_object_laws.specs.Moves.{moves, new_offset}
-use Rattle.rv_object_laws.specs.Inputs.{Starts, InputSection, is_nobits, goes_to_text, goes_to_bss, inputs, inputs_from, inputs_of, Stand, greatest}
+use Rattle.rv_object_laws.specs.Inputs.{Starts, InputSection, has_no_bytes, goes_to_text, goes_to_bss, inputs, inputs_from, inputs_of, Stand, greatest}
 use Rattle.rv_placement.specs.declared.destination.Destination.TheVariants.{Rodata, Data, Bss}
-use Rattle.rv_placement.specs.Placement.{section_at, HasLayout}
+use Rattle.rv_placement.specs.Placement.{object_section, HasLayout}
 use Rattle.rv_placement.specs.Walk.{goes, start_behind, end_behind, next, ended, ended_files}
 use Rattle.rv_placement.proofs.PlacedLemmas.{holds, rodata_text, data_text, bss_text}
 
@@ -42,7 +42,7 @@ module _ (starts : Starts) (to : Section → Bool) where
           (start, subst (λ n. Stand starts n (inputs_from to file o (suc index) ss ++ rest)) (ap (λ n. n + new_offset (moves n s) (size_of s.contents)) (sym start)) m)
       go false e m = m
 
-  stand_of : (file stop : ℕ) (os : List Object) → ((j k : ℕ) (s : Section) → section_at os j k ≡ Some s → to s ≡ true → starts (file + j) k ≡ place_of to stop os j k) → Stand starts stop (inputs_of to file os)
+  stand_of : (file stop : ℕ) (os : List Object) → ((j k : ℕ) (s : Section) → object_section os j k ≡ Some s → to s ≡ true → starts (file + j) k ≡ place_of to stop os j k) → Stand starts stop (inputs_of to file os)
   stand_of file stop [] at = tt
   stand_of file stop (o ∷ os) at =
       stand_in file o 0 stop o.sections (inputs_of to (suc file) os)
@@ -97,10 +97,10 @@ module _ (os : List Object) (first : ℕ) where
       chosen (goes_to_text s) (goes Rodata s) (goes Data s) (place_of goes_to_text first os j k) (place_of (goes Rodata) rodata.start os j k) (place_of (goes Data) variables.start os j k) (place_of (goes Bss) bss.start os j k)
 
   abbrev starts : Starts
-  starts file k = by_section (file - 1) k (section_at os (file - 1) k)
+  starts file k = by_section (file - 1) k (object_section os (file - 1) k)
 
-  found : (j k : ℕ) (s : Section) → section_at os j k ≡ Some s → starts (1 + j) k ≡ by_section j k (Some s)
-  found j k s at = ap (λ n. by_section n k (section_at os n k)) (let e : 1 + j - 1 ≡ j = omega arith in e) ∙ ap (by_section j k) at
+  found : (j k : ℕ) (s : Section) → object_section os j k ≡ Some s → starts (1 + j) k ≡ by_section j k (Some s)
+  found j k s at = ap (λ n. by_section n k (object_section os n k)) (let e : 1 + j - 1 ≡ j = omega arith in e) ∙ ap (by_section j k) at
 
   by_text : (a b c : Bool) (w x y z : ℕ) → a ≡ true → chosen a b c w x y z ≡ w
   by_text a b c w x y z e = ap (λ a. chosen a b c w x y z) e
@@ -124,13 +124,13 @@ module _ (os : List Object) (first : ℕ) where
     holds starts goes_to_text text first os refl (stand_of starts goes_to_text 1 first os (λ j k s at e. found j k s at ∙ by_text (goes_to_text s) (goes Rodata s) (goes Data s) _ _ _ _ e)) refl,
     holds starts (goes Rodata) rodata rodata.start os refl
         (stand_of starts (goes Rodata) 1 rodata.start os
-        (λ j k s at e. found j k s at ∙ by_rodata (goes_to_text s) (goes Rodata s) (goes Data s) _ _ _ _ (rodata_text s.loaded s.executable (is_nobits s.contents) s.writable e) e)) refl,
+        (λ j k s at e. found j k s at ∙ by_rodata (goes_to_text s) (goes Rodata s) (goes Data s) _ _ _ _ (rodata_text s.loaded s.executable (has_no_bytes s.contents) s.writable e) e)) refl,
     holds starts (goes Data) variables variables.start os refl
         (stand_of starts (goes Data) 1 variables.start os
-        (λ j k s at e. found j k s at ∙ by_data (goes_to_text s) (goes Rodata s) (goes Data s) _ _ _ _ (data_text s.loaded s.executable (is_nobits s.contents) s.writable e)
-        (data_rodata s.loaded s.executable (is_nobits s.contents) s.writable e) e)) refl,
+        (λ j k s at e. found j k s at ∙ by_data (goes_to_text s) (goes Rodata s) (goes Data s) _ _ _ _ (data_text s.loaded s.executable (has_no_bytes s.contents) s.writable e)
+        (data_rodata s.loaded s.executable (has_no_bytes s.contents) s.writable e) e)) refl,
     holds starts (goes Bss) bss bss.start os refl
         (stand_of starts (goes Bss) 1 bss.start os
-        (λ j k s at e. found j k s at ∙ by_bss (goes_to_text s) (goes Rodata s) (goes Data s) _ _ _ _ (bss_text s.loaded s.executable (is_nobits s.contents) s.writable e)
-        (bss_rodata s.loaded s.executable (is_nobits s.contents) s.writable e) (bss_data s.loaded s.executable (is_nobits s.contents) s.writable e))) refl,
+        (λ j k s at e. found j k s at ∙ by_bss (goes_to_text s) (goes Rodata s) (goes Data s) _ _ _ _ (bss_text s.loaded s.executable (has_no_bytes s.contents) s.writable e)
+        (bss_rodata s.loaded s.executable (has_no_bytes s.contents) s.writable e) (bss_data s.loaded s.executable (has_no_bytes s.contents) s.writable e))) refl,
   )

@@ -17,7 +17,7 @@ use Rattle.rv_relax.proofs.RisingLemmas.{plan_rises}
 use Rattle.rv_placement.specs.declared.placement.PlacedSection.{PlacedSection}
 use Rattle.rv_placement.specs.declared.placement.Placement.{Placement}
 use Rattle.rv_placement.specs.Moved.{moved_row, moved_rows}
-use Rattle.rv_placement.specs.Placement.{starts_of, placed_at, section_at, IsPlacement}
+use Rattle.rv_placement.specs.Placement.{starts_of, placed_at, object_section, IsPlacement}
 use Rattle.rv_placement.proofs.WalksLemmas.{left}
 use Rattle.rv_placement.proofs.FoundLemmas.{in_object, not_placed, start_is}
 
@@ -44,7 +44,7 @@ module _ (os : List Object) (start : ℕ) (p : Placement) (is : IsPlacement os s
   stands : (s : Section) × (slice_get (short_object_of o).sections r.section ≡ Some s) × (moved.offset + moved.bytes ≤ size_of s.contents)
   stands = row_stands moved (slice_get (short_object_of o).sections r.section) (all_moved (λ r. is_row_in r (slice_get (short_object_of o).sections r.section)) (moved_row o) rows i r lie inside here)
 
-  there : section_at os file r.section ≡ Some stands.0
+  there : object_section os file r.section ≡ Some stands.0
   there = in_object os file r.section (short_object_of o) at ∙ stands.1
 
   -- each row has its section's place

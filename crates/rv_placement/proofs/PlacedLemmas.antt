@@ -10,7 +10,7 @@ use Rattle.rv_layout_laws.specs.Alignment.{aligned}
 use Rattle.rv_isa_laws.specs.Platform.{stack_start, memory_limit}
 use Rattle.rv_map.specs.declared.map.Region.{Region}
 use Rattle.rv_object.specs.Object.{Section, Object}
-use Rattle.rv_object_laws.specs.Inputs.{Starts, is_nobits, goes_to_text, goes_to_rodata, goes_to_data, goes_to_bss, inputs, inputs_of, Stand, Holds, sections_end, greatest}
+use Rattle.rv_object_laws.specs.Inputs.{Starts, has_no_bytes, goes_to_text, goes_to_rodata, goes_to_data, goes_to_bss, inputs, inputs_of, Stand, Holds, sections_end, greatest}
 use Rattle.rv_placement.specs.declared.destination.Destination.TheVariants.{Rodata, Data, Bss}
 use Rattle.rv_placement.specs.declared.placement.PlacedSection.{PlacedSection}
 use Rattle.rv_placement.specs.declared.placement.Placement.{Placement}
@@ -148,32 +148,32 @@ module _ (os : List Object) (start : ℕ) (p : Placement) (fs : List (List Place
   kept_rodata =
       let u = ups in
       let few : p.rodata.end ≤ 0x3ff0_0000 = omega arith in
-      files_kept (goes Rodata) p.rodata.start 0x3ff0_0000 fs os (λ s. rodata_text s.loaded s.executable (is_nobits s.contents) s.writable) (omega arith) (subst (λ n. n ≤ 0x3ff0_0000) behind.rodata_end few) kept
+      files_kept (goes Rodata) p.rodata.start 0x3ff0_0000 fs os (λ s. rodata_text s.loaded s.executable (has_no_bytes s.contents) s.writable) (omega arith) (subst (λ n. n ≤ 0x3ff0_0000) behind.rodata_end few) kept
 
   kept_data : AllZip AreKept os after_data
   kept_data =
       let u = ups in
       let few : p.data.end ≤ 0x3ff0_0000 = omega arith in
-      files_kept (goes Data) p.data.start 0x3ff0_0000 after_rodata os (λ s. data_text s.loaded s.executable (is_nobits s.contents) s.writable) (omega arith) (subst (λ n. n ≤ 0x3ff0_0000) behind.data_end few) kept_rodata
+      files_kept (goes Data) p.data.start 0x3ff0_0000 after_rodata os (λ s. data_text s.loaded s.executable (has_no_bytes s.contents) s.writable) (omega arith) (subst (λ n. n ≤ 0x3ff0_0000) behind.data_end few) kept_rodata
 
   kept_bss : AllZip AreKept os after_bss
   kept_bss =
-      files_kept (goes Bss) p.bss.start 0x3ff0_0000 after_data os (λ s. bss_text s.loaded s.executable (is_nobits s.contents) s.writable) (omega arith) (subst (λ n. n ≤ 0x3ff0_0000) behind.bss_end low) kept_data
+      files_kept (goes Bss) p.bss.start 0x3ff0_0000 after_data os (λ s. bss_text s.loaded s.executable (has_no_bytes s.contents) s.writable) (omega arith) (subst (λ n. n ≤ 0x3ff0_0000) behind.bss_end low) kept_data
 
   chosen_text : ChosenFiles goes_to_text start after_bss os
   chosen_text =
-      files_still goes_to_text (goes Bss) start p.bss.start after_data os (λ s. text_bss s.loaded s.executable (is_nobits s.contents) s.writable)
-      (files_still goes_to_text (goes Data) start p.data.start after_rodata os (λ s. text_data s.loaded s.executable (is_nobits s.contents) s.writable)
-      (files_still goes_to_text (goes Rodata) start p.rodata.start fs os (λ s. text_rodata s.loaded s.executable (is_nobits s.contents) s.writable) (files_text start fs os text)))
+      files_still goes_to_text (goes Bss) start p.bss.start after_data os (λ s. text_bss s.loaded s.executable (has_no_bytes s.contents) s.writable)
+      (files_still goes_to_text (goes Data) start p.data.start after_rodata os (λ s. text_data s.loaded s.executable (has_no_bytes s.contents) s.writable)
+      (files_still goes_to_text (goes Rodata) start p.rodata.start fs os (λ s. text_rodata s.loaded s.executable (has_no_bytes s.contents) s.writable) (files_text start fs os text)))
 
   chosen_rodata : ChosenFiles (goes Rodata) p.rodata.start after_bss os
   chosen_rodata =
-      files_still (goes Rodata) (goes Bss) p.rodata.start p.bss.start after_data os (λ s. rodata_bss s.loaded s.executable (is_nobits s.contents) s.writable)
-      (files_still (goes Rodata) (goes Data) p.rodata.start p.data.start after_rodata os (λ s. rodata_data s.loaded s.executable (is_nobits s.contents) s.writable) (files_started (goes Rodata) p.rodata.start fs os kept))
+      files_still (goes Rodata) (goes Bss) p.rodata.start p.bss.start after_data os (λ s. rodata_bss s.loaded s.executable (has_no_bytes s.contents) s.writable)
+      (files_still (goes Rodata) (goes Data) p.rodata.start p.data.start after_rodata os (λ s. rodata_data s.loaded s.executable (has_no_bytes s.contents) s.writable) (files_started (goes Rodata) p.rodata.start fs os kept))
 
   chosen_data : ChosenFiles (goes Data) p.data.start after_bss os
   chosen_data =
-      files_still (goes Data) (goes Bss) p.data.start p.bss.start after_data os (λ s. data_bss s.loaded s.executable (is_nobits s.contents) s.writable)
+      files_still (goes Data) (goes Bss) p.data.start p.bss.start after_data os (λ s. data_bss s.loaded s.executable (has_no_bytes s.contents) s.writable)
       (files_started (goes Data) p.data.start after_rodata os kept_rodata)
 
   chosen_bss : ChosenFiles (goes Bss) p.bss.start after_bss os

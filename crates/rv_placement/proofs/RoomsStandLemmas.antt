@@ -4,7 +4,7 @@ use Rattle.std.proofs.Common.{suc, ◌≡◌, ◌+◌, ℕ, Bool, true, false, L
 use Rattle.std.specs.Prelude.{if◌then◌else◌, ◌&&◌}
 use Rattle.std.specs.List.{AllByRecursion, list_all}
 use Rattle.rv_object.specs.Object.{Section, Object}
-use Rattle.rv_object.specs.Valid.{is_alignment}
+use Rattle.rv_object.specs.Valid.{is_section_alignment}
 use Rattle.rv_object_laws.specs.Moves.{moves, has_room}
 use Rattle.rv_object_laws.specs.Inputs.{Starts, InputSection, goes_to_text, inputs, inputs_from, inputs_of, size, Stand}
 use Rattle.rv_shorten.specs.declared.section.ShortSection.{ShortSection}
@@ -21,7 +21,7 @@ use Rattle.rv_placement.proofs.StandingLemmas.{moves_other}
 -- ---- wherever they stand
 
 abbrev AreAligned : List Section → Type 0
-AreAligned ss = AllByRecursion (λ s. is_alignment s.alignment ≡ true) ss
+AreAligned ss = AllByRecursion (λ s. is_section_alignment s.alignment ≡ true) ss
 
 other_roomy : (s : Section) → goes_to_text s ≡ false → is_roomy s ≡ true
 other_roomy s e = ap (list_all has_room) (moves_other s 0 e)

@@ -41,19 +41,19 @@ abbrev pub section_in : Option Object → ℕ → Option Section
 section_in None index = None
 section_in (Some o) index = slice_get o.sections index
 
-abbrev pub section_at : List Object → ℕ → ℕ → Option Section
-section_at os file index = section_in (slice_get os file) index
+abbrev pub object_section : List Object → ℕ → ℕ → Option Section
+object_section os file index = section_in (slice_get os file) index
 
 pub record IsPlacement (os : List Object) (text_start : ℕ) (p : Placement) : Type 0 where
   -- a place for each section of each object
   pub each : map (λ f. length f.items) p.files.items ≡ map (λ o. length o.sections) os
   -- with what is kept where it starts
   pub planned : (file index : ℕ) (s : Section) (q : PlacedSection)
-      → section_at os file index ≡ Some s → placed_at p file index ≡ Some q
+      → object_section os file index ≡ Some s → placed_at p file index ≡ Some q
       → moves_of q.plan ≡ moves q.start s
   -- each of its bytes has an offset, and each that is kept an address
   pub low : (file index : ℕ) (s : Section) (q : PlacedSection)
-      → section_at os file index ≡ Some s → placed_at p file index ≡ Some q
+      → object_section os file index ≡ Some s → placed_at p file index ≡ Some q
       → (size_of s.contents < 2 ^ 64)
       × (q.start + new_offset (moves q.start s) (size_of s.contents) < 2 ^ 64)
   -- text from the text's start, rodata and data at the next pages, bss after data

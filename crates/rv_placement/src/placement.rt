@@ -64,7 +64,7 @@ pub(crate) fn section_at<'s, 'o, 'a>(
     index: u32,
 ) -> Option<&'s ShortSection<'o, 'a>>
     ensures { option_map (λ s. short_section_of s.now) result
-        ≡ laws.section_at (map short_object_of objects.now) file index }
+        ≡ laws.object_section (map short_object_of objects.now) file index }
 {
     let object = objects.get(file)?;
     object.sections.get(index as usize)

@@ -3,7 +3,7 @@
 use Rattle.std.proofs.Common.{◌≡◌, ℕ, ◌+◌, ◌-◌, ◌%◌, ◌^◌, ◌<◌, ◌≤◌, Bool, true, false, cond, ◌||◌, nat_lt, nat_le, max, List, [], ◌∷◌, refl, sym, subst, arith, Some}
 use Rattle.std.specs.Prelude.{unwrap_or, ◌==◌}
 use Rattle.std.proofs.lemmas.Bool.{leb-true, leb-false, eqb-true}
-use Rattle.rv_object.specs.Valid.{is_alignment}
+use Rattle.rv_object.specs.Valid.{is_section_alignment}
 use Rattle.rv_object_laws.specs.Moves.{alignments_of, alignment_of, full_padding}
 use Rattle.rv_object_laws.specs.Inputs.{InputSection, raised, begins_at, goes_to_text}
 use Rattle.std.specs.List.{find, list_any, AllByRecursion}
@@ -87,7 +87,7 @@ any_power P n (k ∷ ks) each h = by (n == 2 ^ k) (λ e. eqb-true n (2 ^ k) e) (
     by true same more h = subst P (sym (same refl)) each.0
     by false same more h = more h
 
-pub section_fits : (far : ℕ) → far % 4096 ≡ 0 → (i : InputSection) → is_alignment i.section.alignment ≡ true → IsStep far (begins_at i.section)
+pub section_fits : (far : ℕ) → far % 4096 ≡ 0 → (i : InputSection) → is_section_alignment i.section.alignment ≡ true → IsStep far (begins_at i.section)
 section_fits far page i power =
     step_raised far page (alignments_of i.section) (max (cond (goes_to_text i.section) 2 1) i.section.alignment)
     (step_max far (cond (goes_to_text i.section) 2 1) i.section.alignment (code (goes_to_text i.section)) (any_power (IsStep far) i.section.alignment (0 ∷ 1 ∷ 2 ∷ 3 ∷ 4 ∷ 5 ∷ 6 ∷ 7 ∷ 8 ∷ 9 ∷ 10 ∷ 11 ∷ 12 ∷ []) (step_literal far page) power))

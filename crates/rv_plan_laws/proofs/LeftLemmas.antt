@@ -3,7 +3,7 @@
 use Rattle.std.proofs.Common.{◌≡◌, ℕ, suc, ◌+◌, ◌%◌, Bool, true, false, cond, List, [], ◌∷◌, ◌++◌, map, refl, sym, ap, subst, ◌∙◌}
 use Rattle.std.specs.List.{AllByRecursion}
 use Rattle.rv_object.specs.Object.{Section, Object, size_of}
-use Rattle.rv_object.specs.Valid.{is_alignment}
+use Rattle.rv_object.specs.Valid.{is_section_alignment}
 use Rattle.rv_object_laws.specs.Moves.{moves, new_offset}
 use Rattle.rv_layout_laws.specs.Alignment.{aligned}
 use Rattle.rv_object_laws.specs.Inputs.{InputSection, Starts, Stand, goes_to_text, inputs_from, inputs_of, inputs, start_of, begins_at, size}
@@ -63,7 +63,7 @@ inputs_left os kept = left_of os kept 1 os
 -- ---- where they stand
 
 pub stand_left : (os : List Object) (kept : List ℕ) (starts : Starts) (far stop at : ℕ) (is : List InputSection) (ks : List ℕ) → far % 4096 ≡ 0 → AllHere os kept at is ks
-    → AllByRecursion (λ i. is_alignment i.section.alignment ≡ true) is
+    → AllByRecursion (λ i. is_section_alignment i.section.alignment ≡ true) is
     → Stand starts stop (map (left_input os kept) is) → StandLeft os kept starts far stop is
 stand_left os kept starts far stop at [] ks page here powers stand = tt
 stand_left os kept starts far stop at (i ∷ is) [] page here powers stand = absurd here

@@ -5,7 +5,7 @@ use Rattle.std.specs.Prelude.{◌==◌}
 use Rattle.std.specs.List.{AllByRecursion}
 use Rattle.std.proofs.lemmas.Bool.{leb-true, leb-false, eqb-true, and_parts}
 use Rattle.rv_object.specs.Object.{Object, Relocation, Section, size_of}
-use Rattle.rv_object.specs.Valid.{is_alignment, is_even}
+use Rattle.rv_object.specs.Valid.{is_section_alignment, is_even}
 use Rattle.rv_object.specs.View.{object_of}
 use Rattle.rv_object_laws.specs.Moves.{alignment_of, alignments_of, full_padding}
 use Rattle.rv_object_laws.specs.Inputs.{InputSection, Starts, Stand, goes_to_text, inputs_from, inputs_of, inputs, begins_at, raised}
@@ -56,9 +56,9 @@ powers : AllByRecursion (λ k. IsTwice (max 2 (2 ^ k))) (0 ∷ 1 ∷ 2 ∷ 3 ∷
 powers = ((1, refl), ((1, refl), ((2, refl), ((4, refl), ((8, refl), ((16, refl), ((32, refl), ((64, refl), ((128, refl), ((256, refl), ((512, refl), ((1024, refl), ((2048, refl), tt)))))))))))))
 
 abbrev IsKnown : InputSection → Type 0
-IsKnown i = IsCode i × (is_alignment i.section.alignment ≡ true)
+IsKnown i = IsCode i × (is_section_alignment i.section.alignment ≡ true)
 
-known : (i : InputSection) → goes_to_text i.section ≡ true → is_alignment i.section.alignment ≡ true → is_even i.section.executable i.section.contents ≡ true → IsKnown i
+known : (i : InputSection) → goes_to_text i.section ≡ true → is_section_alignment i.section.alignment ≡ true → is_even i.section.executable i.section.contents ≡ true → IsKnown i
 known i text power even = (record { even_size = size; begins = both.0; some = both.1; each = λ r. twice_each r }, power)
   where
     low : ℕ
@@ -96,7 +96,7 @@ firsts : (is : List InputSection) → AllByRecursion IsKnown is → AllByRecursi
 firsts [] h = tt
 firsts (i ∷ is) h = (h.0.0, firsts is h.1)
 
-seconds : (is : List InputSection) → AllByRecursion IsKnown is → AllByRecursion (λ i. is_alignment i.section.alignment ≡ true) is
+seconds : (is : List InputSection) → AllByRecursion IsKnown is → AllByRecursion (λ i. is_section_alignment i.section.alignment ≡ true) is
 seconds [] h = tt
 seconds (i ∷ is) h = (h.0.1, seconds is h.1)
 

@@ -4,7 +4,7 @@ use Rattle.std.proofs.Common.{◌≡◌, ℕ, List, [], ◌∷◌, Option, Some,
 use Rattle.std.specs.Prelude.{min, option_map}
 use Rattle.rv_text_laws.specs.Codes.{unsupported_here, lowest}
 use Rattle.rv_lexer.specs.declared.fault.SourceCode.{SourceCode}
-use Rattle.rv_lexer.specs.Fault.{number_of, IsLowest}
+use Rattle.rv_lexer.specs.Fault.{source_fault_number, IsLowest}
 use Rattle.rv_pseudo_laws.specs.InstructionFaults.{else_unplaced}
 
 abbrev pub with_code : ℕ → Option ℕ → Option ℕ
@@ -24,7 +24,7 @@ never_none c (Some d) e = absurd (cc)
 -- where none was found there is none
 pub none_lowest : (found : Option SourceCode) (cs : List ℕ) → IsLowest found cs → found ≡ None → cs ≡ []
 none_lowest found [] low none = refl
-none_lowest found (c ∷ cs) low none = absurd (never_none c (lowest cs) (sym low ∙ ap (option_map number_of) none))
+none_lowest found (c ∷ cs) low none = absurd (never_none c (lowest cs) (sym low ∙ ap (option_map source_fault_number) none))
 
 -- ---- of what may have no row
 

@@ -8,7 +8,7 @@ use Rattle.rv_compress.specs.declared.parcel.ParcelOperation.TheVariants.{Addi4s
 use Rattle.rv_compress.specs.declared.parcel.OperandShape.{OperandShape}
 use Rattle.rv_compress.specs.declared.parcel.OperandShape.TheVariants as shapes
 use Rattle.rv_compress.specs.declared.parcel.RegisterSet.TheVariants.{Short}
-use Rattle.rv_compress.specs.Mnemonics.{is_in, own_registers, shape_of, takes_number, form_with, form_of}
+use Rattle.rv_compress.specs.Mnemonics.{is_of_set, own_registers, shape_of, takes_number, form_with, form_of}
 use Rattle.rv_compress.specs.Parcel.{IsLine, expansion}
 use Rattle.rv_isa.specs.declared.operation.BranchOperation.TheVariants.{Beq, Bne}
 use Rattle.rv_statement.specs.declared.mnemonic.Mnemonic.{Mnemonic}
@@ -18,7 +18,7 @@ use Rattle.rv_statement.specs.declared.statement.Operation.TheVariants as operat
 use Rattle.rv_statement.specs.declared.statement.Plain.TheVariants as plains
 use Rattle.rv_statement.specs.Statement.{Operand, Register, Value, Applied, Target, Expression}
 use Rattle.rv_statement.specs.View.{parcel_registers, parcel_operands, shaped, plain_of}
-use Rattle.rv_pseudo_laws.specs.Code.{Part, Closed, Constants, jump, number_of, named_form, short_branch, code}
+use Rattle.rv_pseudo_laws.specs.Code.{Part, Closed, Constants, jump, constant_number, named_form, short_branch, code}
 use Rattle.rv_pseudo_laws.specs.InstructionFaults.{Worth, number_faults, target_faults, operand_faults}
 use Rattle.rv_pseudo_laws.proofs.ParcelsLemmas.{form_written, named_code}
 use Rattle.rv_pseudo.specs.declared.template.Template.{Template}
@@ -44,7 +44,7 @@ closed_form named = option_map (λ form. Closed (expansion form) ∷ []) named
 -- with a number, or with a part of one
 pub number_row : (operation : ParcelOperation) (a b : ℕ) (function : Option Function) (e : Expression) (v : Constants) (rvc : Bool) (bytes : ℕ)
     → code v rvc bytes (Parcel operation) (parcel_operands (shape_of operation) operation a b (number_operand function e))
-    ≡ closed_form (form_told operation a b (number_of v (number_operand function e)))
+    ≡ closed_form (form_told operation a b (constant_number v (number_operand function e)))
 number_row Addi4spn a b None e v rvc bytes = refl
 number_row Addi4spn a b (Some f) e v rvc bytes = refl
 number_row operation a b None e v rvc bytes = refl
@@ -77,7 +77,7 @@ bare_form operation a b v = refl
 
 -- the form that an operation with an operand names
 pub parcel_named : (operation : ParcelOperation) (a b : ℕ) (function : Option Function) (e : Expression) (v : Constants)
-    → named_of v (statement_with (operations.Parcel operation a b) function e) ≡ form_told operation a b (number_of v (number_operand function e))
+    → named_of v (statement_with (operations.Parcel operation a b) function e) ≡ form_told operation a b (constant_number v (number_operand function e))
 parcel_named Addi4spn a b None e v = refl
 parcel_named Addi4spn a b (Some f) e v = refl
 parcel_named operation a b None e v = refl
@@ -146,8 +146,8 @@ short_none false parts e = refl
 
 target_none : (operation : ParcelOperation) (a b : ℕ) → takes_operand operation a b ≡ false → is_some (target_parts operation a) ≡ false
 target_none J a b e = absurd (cc)
-target_none Beqz a b e = short_none (is_in Short a) _ e
-target_none Bnez a b e = short_none (is_in Short a) _ e
+target_none Beqz a b e = short_none (is_of_set Short a) _ e
+target_none Bnez a b e = short_none (is_of_set Short a) _ e
 target_none _ a b e = refl
 
 -- ---- forms
@@ -221,7 +221,7 @@ value_none operation a b e v away = by_target (is_target (shape_of operation)) r
 
 -- of a part of a value that is no number
 pub part_none : (operation : ParcelOperation) (a b : ℕ) (f : Function) (e : Expression) (v : Constants)
-    → form_told operation a b (number_of v (Applied f e)) ≡ None
+    → form_told operation a b (constant_number v (Applied f e)) ≡ None
     → is_some (code v false 4 (Parcel operation) (parcel_operands (shape_of operation) operation a b (Applied f e))) ≡ false
 part_none operation a b f e v none =
     ap is_some (number_row operation a b (Some f) e v false 4) ∙ ap (λ form. is_some (closed_form form)) none

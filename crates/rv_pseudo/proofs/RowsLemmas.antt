@@ -24,7 +24,7 @@ use Rattle.rv_statement.specs.declared.statement.Operation.TheVariants as operat
 use Rattle.rv_statement.specs.Statement.{Expression, Target}
 use Rattle.rv_statement.specs.View.{with_operand}
 use Rattle.rv_parse_laws.specs.Syntax.{with_constant}
-use Rattle.rv_pseudo_laws.specs.Code.{Part, Closed, i_type, s_type, u_type, shift_by, jalr, by_number, signed_12, upper_20, number_of, by_constant}
+use Rattle.rv_pseudo_laws.specs.Code.{Part, Closed, i_type, s_type, u_type, shift_by, jalr, by_number, signed_12, upper_20, constant_number, by_constant}
 use Rattle.rv_pseudo_laws.specs.Li.{li}
 use Rattle.rv_pseudo_laws.specs.Valid.{form_takes}
 use Rattle.rv_pseudo.specs.declared.template.Template.{Template}
@@ -108,7 +108,7 @@ upper_some operation (Some PcrelLo) None make e upper low away f = absurd (let p
 
 number_some : (operation : Operation) (function : Option Function) (value : Option ℤ) (e : Expression)
     → is_upper operation ≡ false → is_low operation ≡ false → takes_target operation ≡ false → is_taken operation function value ≡ true
-    → is_some (number_of (λ t. value) (number_operand function e)) ≡ true
+    → is_some (constant_number (λ t. value) (number_operand function e)) ≡ true
 number_some operation None (Some v) e upper low away f = refl
 number_some operation None None e upper low away f = absurd (let target = sym away ∙ f in cc)
 number_some operation (Some Hi) (Some v) e upper low away f = absurd (let high = and_left (is_upper operation) _ f in cc)
@@ -142,7 +142,7 @@ constant_some operation form rd rs1 function value e same f =
     cc)
 
 -- the number of an operand, where that is one
-number_is : (function : Option Function) (value : Option ℤ) (e : Expression) (k : ℤ) → number_of (λ t. value) (number_operand function e) ≡ Some k
+number_is : (function : Option Function) (value : Option ℤ) (e : Expression) (k : ℤ) → constant_number (λ t. value) (number_operand function e) ≡ Some k
     → k ≡ number function value
 number_is None (Some v) e k is = ap (λ o. unwrap_or o v) (sym is)
 number_is None None e k is = absurd (cc)
@@ -195,7 +195,7 @@ row_some (operations.Li rd) function value rvc bytes e f away placed =
     mapped_some (λ k. map Closed (li rd k)) _ (number_some (operations.Li rd) function value e refl refl refl f)
 row_some (operations.Parcel operation a b) function value rvc bytes e f away placed =
     ap is_some (number_row operation a b function e (λ t. value) rvc bytes)
-    ∙ told_some operation a b (number_of (λ t. value) (number_operand function e)) (parcel_beside operation a b function away placed)
+    ∙ told_some operation a b (constant_number (λ t. value) (number_operand function e)) (parcel_beside operation a b function away placed)
     (number_some (operations.Parcel operation a b) function value e refl refl away f)
     (λ k is. subst (λ (z : ℤ). takes_number operation z ≡ true) (sym (number_is function value e k is)) (number_takes (operations.Parcel operation a b) function value f away))
 row_some _ function value rvc bytes e f away placed = absurd (cc)
@@ -294,7 +294,7 @@ jr_numbered rs number reloc (Some f) value rvc bytes e parts (low, upper, consta
 
 pub li_numbered : (rd : ℕ) (number : ℤ) (reloc : Option Kind) → AreNumbered (operations.Li rd) number reloc (map plain (li rd number))
 li_numbered rd number reloc function value rvc bytes e parts (low, upper, constant) row =
-    li_put rd (number_of (λ t. value) (number_operand function e)) number reloc parts (λ k h. constant k e h) row
+    li_put rd (constant_number (λ t. value) (number_operand function e)) number reloc parts (λ k h. constant k e h) row
 
 -- a parcel, where its number makes a form
 parcel_put : (found : Option Compressed) (reloc : Option Kind) (parts : List Part) (made : List Template)
@@ -313,7 +313,7 @@ pub parcel_numbered : (operation : ParcelOperation) (a b : ℕ) (number : ℤ) (
     → ((form : Compressed) → form_beside operation a b number ≡ Some form → made ≡ plain (expansion form) ∷ [])
     → AreNumbered (operations.Parcel operation a b) number reloc made
 parcel_numbered operation a b number reloc made is function value rvc bytes e parts (low, upper, constant) row =
-    told_put operation a b (number_of (λ t. value) (number_operand function e)) number reloc parts made is (λ k h. (constant k e h).0)
+    told_put operation a b (constant_number (λ t. value) (number_operand function e)) number reloc parts made is (λ k h. (constant k e h).0)
     (sym (number_row operation a b function e (λ t. value) rvc bytes) ∙ row)
 
 -- what is made of the form that was found, and of none

@@ -5,7 +5,7 @@ use Rattle.std.specs.Prelude.{◌==◌, is_some, if◌then◌else◌}
 use Rattle.arrayvec.specs.ArrayVec.{ArrayVec}
 use Rattle.rv_text_laws.specs.Codes.{unsupported_here, lowest}
 use Rattle.rv_lexer.specs.declared.fault.SourceCode.{SourceCode}
-use Rattle.rv_lexer.specs.Fault.{number_of, IsLowest}
+use Rattle.rv_lexer.specs.Fault.{source_fault_number, IsLowest}
 use Rattle.rv_compress.specs.declared.parcel.ParcelOperation.{ParcelOperation}
 use Rattle.rv_compress.specs.Mnemonics.{shape_of}
 use Rattle.rv_statement.specs.declared.mnemonic.Mnemonic.{Mnemonic}
@@ -19,7 +19,7 @@ use Rattle.rv_statement.specs.declared.statement.Plain.TheVariants as plains
 use Rattle.rv_statement.specs.Statement.{StatementKind, Instruction, Expression, Operand, Applied}
 use Rattle.rv_statement.specs.View.{parcel_registers, parcel_operands, shaped, plain_of, with_operand}
 use Rattle.rv_parse_laws.specs.Syntax.{with_constant}
-use Rattle.rv_pseudo_laws.specs.Code.{Part, Constants, number_of as number_in, by_constant, far}
+use Rattle.rv_pseudo_laws.specs.Code.{Part, Constants, constant_number as number_in, by_constant, far}
 use Rattle.rv_pseudo_laws.specs.InstructionFaults.{Worth, target_faults, operand_faults, else_unplaced, has_row, faults}
 use Rattle.rv_pseudo_laws.proofs.ParcelsLemmas.{parcel_code}
 use Rattle.rv_pseudo.specs.declared.template.Form.{Form}
@@ -210,7 +210,7 @@ pub bare_found : (p : Plain) (rvc : Bool) (found : ArrayVec Template) → ((byte
     → AnswersBare rvc (plain_of p) (Ok found)
 bare_found p rvc found are v w bytes = (plain_sound p v w rvc bytes found.items (are bytes v), are bytes v)
 
-pub bare_unplaced : (p : Plain) (rvc : Bool) (code : SourceCode) → number_of code ≡ unsupported_here → ((v : Constants) → has_rows v (plain_of p) ≡ false)
+pub bare_unplaced : (p : Plain) (rvc : Bool) (code : SourceCode) → source_fault_number code ≡ unsupported_here → ((v : Constants) → has_rows v (plain_of p) ≡ false)
     → AnswersBare rvc (plain_of p) (Err code)
 bare_unplaced p rvc code is away v w bytes = ap lowest (plain_faults p v w) ∙ unplaced (has_rows v (plain_of p)) [] (away v) refl ∙ ap Some (sym is)
 
@@ -229,9 +229,9 @@ pub answer_fault : (operation : Operation) (function : Option Function) (form : 
     → Answers (faults_by form (statement_with operation function e)) (form_templates form (statement_with operation function e)) (Err code)
 answer_fault operation function form fault code is low e =
     ap lowest (with_faults operation function e (constants_of form) (worths_of form))
-    ∙ lowest_same (has_rows (constants_of form) (statement_with operation function e)) (faults_of operation function (worth_of form.worth)) (number_of code) (sym low ∙ ap (option_map number_of) is)
+    ∙ lowest_same (has_rows (constants_of form) (statement_with operation function e)) (faults_of operation function (worth_of form.worth)) (source_fault_number code) (sym low ∙ ap (option_map source_fault_number) is)
 
-pub answer_unplaced : (operation : Operation) (function : Option Function) (form : Form) (code : SourceCode) → number_of code ≡ unsupported_here
+pub answer_unplaced : (operation : Operation) (function : Option Function) (form : Form) (code : SourceCode) → source_fault_number code ≡ unsupported_here
     → faults_of operation function (worth_of form.worth) ≡ [] → is_placed operation function ≡ false → (e : Expression)
     → Answers (faults_by form (statement_with operation function e)) (form_templates form (statement_with operation function e)) (Err code)
 answer_unplaced operation function form code is own away e =

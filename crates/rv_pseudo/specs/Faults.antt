@@ -8,7 +8,7 @@ use Rattle.rv_compress.specs.declared.parcel.OperandShape.{OperandShape}
 use Rattle.rv_compress.specs.declared.parcel.OperandShape.TheVariants as shapes
 use Rattle.rv_compress.specs.Mnemonics.{register_sets, are_in, own_registers, shape_of}
 use Rattle.rv_text_laws.specs.Codes.{scratch_register, faulty_if}
-use Rattle.rv_lexer.specs.Fault.{number_of}
+use Rattle.rv_lexer.specs.Fault.{source_fault_number}
 use Rattle.rv_statement.specs.declared.mnemonic.Mnemonic.{Mnemonic}
 use Rattle.rv_statement.specs.declared.mnemonic.Mnemonic.TheVariants as mnemonics
 use Rattle.rv_statement.specs.declared.pseudo.Function.{Function}
@@ -25,7 +25,7 @@ use Rattle.rv_pseudo.specs.declared.template.Worth.TheVariants as told
 abbrev pub worth_of : Told → Worth
 worth_of (told.Number k) = Number k
 worth_of (told.Address labelled) = Address labelled
-worth_of (told.Wrong code) = Wrong (number_of code)
+worth_of (told.Wrong code) = Wrong (source_fault_number code)
 
 -- its constant, if it is one
 abbrev pub constant_in : Worth → Option ℤ

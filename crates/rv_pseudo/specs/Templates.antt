@@ -12,7 +12,7 @@ use Rattle.rv_text_laws.specs.Codes.{lowest}
 use Rattle.rv_lexer.specs.declared.fault.SourceCode.{SourceCode}
 use Rattle.rv_lexer.specs.declared.fault.SourceFault.{SourceFault}
 use Rattle.rv_lexer.specs.declared.fault.SourceFault.TheVariants.{At, OutOfMemory}
-use Rattle.rv_lexer.specs.Fault.{number_of as code_number}
+use Rattle.rv_lexer.specs.Fault.{source_fault_number as code_number}
 use Rattle.rv_statement.specs.declared.mnemonic.Mnemonic.{Mnemonic}
 use Rattle.rv_statement.specs.declared.mnemonic.Mnemonic.TheVariants.{Call, Tail, Jump}
 use Rattle.rv_statement.specs.declared.pseudo.Function.{Function}
@@ -23,7 +23,7 @@ use Rattle.rv_statement.specs.declared.statement.Operation.TheVariants as operat
 use Rattle.rv_statement.specs.Statement.{StatementKind, Instruction, Operand, Value, Applied, Expression}
 use Rattle.rv_statement.specs.View.{with_operand, operand_in}
 use Rattle.rv_isa_laws.specs.Arithmetic.{wrapped}
-use Rattle.rv_pseudo_laws.specs.Code.{Part, Closed, Open, Joined, Constants, code, alone, signed_12, upper_20, number_of, by_constant, by_form, named_form}
+use Rattle.rv_pseudo_laws.specs.Code.{Part, Closed, Open, Joined, Constants, code, alone, signed_12, upper_20, constant_number, by_constant, by_form, named_form}
 use Rattle.rv_pseudo_laws.specs.InstructionFaults.{Worth, faults}
 use Rattle.rv_pseudo.specs.declared.template.Form.{Form}
 use Rattle.rv_pseudo.specs.declared.template.Template.{Template}
@@ -137,7 +137,8 @@ Puts function value store number reloc =
     ArePut reloc (make number) (signed_12 (λ t. value) store make (number_operand function e)))
     × ((make : ℕ → Inst) (e : Expression) →
     ArePut reloc (make (wrapped number)) (upper_20 (λ t. value) make (number_operand function e)))
-    × ((k : ℤ) (e : Expression) → number_of (λ t. value) (number_operand function e) ≡ Some k →
+    × ((k : ℤ) (e : Expression) →
+    constant_number (λ t. value) (number_operand function e) ≡ Some k →
     (k ≡ number) × (reloc ≡ None))
 
 -- the same of a part of an address that is open, under a relocation of this kind

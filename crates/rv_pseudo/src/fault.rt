@@ -6,7 +6,7 @@
 ghost use Rattle.std.specs.Prelude.{◌≡◌, ◌==◌, ℕ, not, List, ◌++◌};
 ghost use Rattle.rv_text_laws.specs.Codes as codes;
 ghost use Rattle.rv_text_laws.specs.Codes.{scratch_register};
-ghost use Rattle.rv_lexer.specs.Fault.{number_of, IsLowest};
+ghost use Rattle.rv_lexer.specs.Fault.{source_fault_number, IsLowest};
 ghost use Rattle.rv_parse_laws.specs.Syntax as syntax;
 ghost use Rattle.rv_pseudo_laws.specs.InstructionFaults as table;
 ghost use Rattle.rv_pseudo_laws.specs.Valid as range;
@@ -236,7 +236,7 @@ fn beside_scratch(is_bad: bool, fault: Option<SourceCode>) -> Option<SourceCode>
 
 /// The code, where it is a fault.
 fn faulty_if(test: bool, code: SourceCode) -> Option<SourceCode>
-    ensures { IsLowest result (codes.faulty_if test (number_of code)) }
+    ensures { IsLowest result (codes.faulty_if test (source_fault_number code)) }
 {
     if test { Some(code) } else { None }
 }

@@ -54,7 +54,7 @@ fn form_beside(operation: ParcelOperation, a: Reg, b: Reg, number: i64) -> Optio
 /// The number of an operand, by its function and what its expression is worth.
 fn number_told(function: Option<Function>, worth: Worth) -> Option<i64>
     ensures { (e : Expression) → result
-        ≡ row.number_of (λ t. faults.constant_in (faults.worth_of worth))
+        ≡ row.constant_number (λ t. faults.constant_in (faults.worth_of worth))
         (is.number_operand function e) }
 {
     let Some(value) = constant(worth) else {

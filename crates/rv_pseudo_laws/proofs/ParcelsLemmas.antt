@@ -13,13 +13,13 @@ use Rattle.rv_compress.specs.declared.parcel.OperandShape.{OperandShape}
 use Rattle.rv_compress.specs.declared.parcel.OperandShape.TheVariants as shapes
 use Rattle.rv_compress.specs.declared.parcel.RegisterSet.{RegisterSet}
 use Rattle.rv_compress.specs.declared.parcel.RegisterSet.TheVariants.{Any, Nonzero, Short, Stack, Upper}
-use Rattle.rv_compress.specs.Mnemonics.{is_in, register_sets, are_in, shape_of, is_between, is_multiple, is_zero, takes_number, form_with, form_of}
+use Rattle.rv_compress.specs.Mnemonics.{is_of_set, register_sets, are_in, shape_of, is_between, is_multiple, is_zero, takes_number, form_with, form_of}
 use Rattle.rv_compress.specs.Parcel.{IsShort, IsNonzero, IsMultiple, IsSixBits, IsStackStep, IsUpper, IsLine, IsNoHint, parcel, expansion}
 use Rattle.rv_compress.proofs.ReaderLemmas.{stands-valid}
 use Rattle.rv_statement.specs.declared.mnemonic.Mnemonic.{Mnemonic}
 use Rattle.rv_statement.specs.declared.mnemonic.Mnemonic.TheVariants.{Parcel}
 use Rattle.rv_statement.specs.Statement.{Operand, Register, Target}
-use Rattle.rv_pseudo_laws.specs.Code.{Closed, Constants, number_of, by_form, parcel_form, named_form, code}
+use Rattle.rv_pseudo_laws.specs.Code.{Closed, Constants, constant_number, by_form, parcel_form, named_form, code}
 
 -- ---- registers of a set
 
@@ -34,7 +34,7 @@ abbrev AreIn : List RegisterSet → List ℕ → Type 0
 AreIn (set ∷ sets) (r ∷ rs) = IsIn set r × AreIn sets rs
 AreIn _ _ = ⊤
 
-one_in : (set : RegisterSet) (r : ℕ) → is_in set r ≡ true → IsIn set r
+one_in : (set : RegisterSet) (r : ℕ) → is_of_set set r ≡ true → IsIn set r
 one_in Any r e = grind (arith, nat_tests)
 one_in Nonzero r e = grind (arith, nat_tests)
 one_in Short r e = grind (arith, nat_tests)
@@ -53,7 +53,7 @@ each_in : (sets : List RegisterSet) (rs : List ℕ) → are_in sets rs ≡ true 
 each_in [] rs e = tt
 each_in (set ∷ sets) [] e = tt
 each_in (set ∷ sets) (r ∷ rs) e =
-    (one_in set r (first_of (is_in set r) (are_in sets rs) e), each_in sets rs (second_of (is_in set r) (are_in sets rs) e))
+    (one_in set r (first_of (is_of_set set r) (are_in sets rs) e), each_in sets rs (second_of (is_of_set set r) (are_in sets rs) e))
 
 -- ---- numbers of a field
 
@@ -181,12 +181,12 @@ parcel_rows v operation shapes.Registers [] = of_written operation [] (pos 0)
 parcel_rows v operation shapes.Registers (Register a ∷ []) = of_written operation (a ∷ []) (pos 0)
 parcel_rows v operation shapes.Registers (Register a ∷ Register b ∷ []) = of_written operation (a ∷ b ∷ []) (pos 0)
 parcel_rows v operation shapes.Number (Register a ∷ Register b ∷ o ∷ []) =
-    by_written (form_of operation (a ∷ b ∷ [])) (number_of v o) (of_written operation (a ∷ b ∷ []))
+    by_written (form_of operation (a ∷ b ∷ [])) (constant_number v o) (of_written operation (a ∷ b ∷ []))
 parcel_rows v operation shapes.Number (Register a ∷ o ∷ []) =
-    by_written (form_of operation (a ∷ [])) (number_of v o) (of_written operation (a ∷ []))
+    by_written (form_of operation (a ∷ [])) (constant_number v o) (of_written operation (a ∷ []))
 parcel_rows v operation shapes.Address (Register a ∷ Register b ∷ []) = of_written operation (a ∷ b ∷ []) (pos 0)
 parcel_rows v operation shapes.Address (Register a ∷ o ∷ Register b ∷ []) =
-    by_written (form_of operation (a ∷ b ∷ [])) (number_of v o) (of_written operation (a ∷ b ∷ []))
+    by_written (form_of operation (a ∷ b ∷ [])) (constant_number v o) (of_written operation (a ∷ b ∷ []))
 parcel_rows v operation shape operands = tt
 
 -- the form that a mnemonic is with operands

@@ -30,7 +30,7 @@ use Rattle.rv_isa_laws.specs.Halves.{hi, lo}
 use Rattle.rv_compress.specs.declared.form.Compressed.{Compressed}
 use Rattle.rv_compress.specs.declared.parcel.ParcelOperation.TheVariants as parcels
 use Rattle.rv_compress.specs.declared.parcel.RegisterSet.TheVariants.{Short}
-use Rattle.rv_compress.specs.Mnemonics.{is_in}
+use Rattle.rv_compress.specs.Mnemonics.{is_of_set}
 use Rattle.rv_compress.specs.Parcel.{expansion}
 use Rattle.rv_statement.specs.declared.mnemonic.Mnemonic.{Mnemonic}
 use Rattle.rv_statement.specs.declared.mnemonic.Mnemonic.TheVariants.{Registers, Immediate, Shift, Upper, Load, Store, Branch, Jal, Jalr, LoadReserved, Atomic, Fence, FenceTso, Ecall, Ebreak, Nop, Unary, Compare, ZeroBranch, SwappedBranch, J, Jr, Ret, La, Li, Call, Tail, Jump, Parcel}
@@ -46,7 +46,7 @@ use Rattle.rv_statement.specs.declared.pseudo.Function.TheVariants.{Hi, Lo, Pcre
 use Rattle.rv_statement.specs.Statement.{Operand, Register, Value, Applied, Target, Accesses}
 use Rattle.rv_parse_laws.specs.Syntax.{with_constant}
 use Rattle.rv_pseudo_laws.specs.Li.{addi, li}
-use Rattle.rv_pseudo_laws.specs.Code.{Part, Closed, Open, Joined, Constants, r_type, i_type, s_type, b_type, u_type, shift_by, reserve, atomic, jalr, jal, auipc, unary, compare, inverted, branch, jump, near, far, through, zero_branch, swapped_branch, by_number, by_part, signed_12, upper_20, number_of, by_amount, by_constant, named_form, short_branch, code}
+use Rattle.rv_pseudo_laws.specs.Code.{Part, Closed, Open, Joined, Constants, r_type, i_type, s_type, b_type, u_type, shift_by, reserve, atomic, jalr, jal, auipc, unary, compare, inverted, branch, jump, near, far, through, zero_branch, swapped_branch, by_number, by_part, signed_12, upper_20, constant_number, by_amount, by_constant, named_form, short_branch, code}
 use Rattle.rv_pseudo_laws.specs.Valid.{form_takes, takes, takes_constant, is_amount, IsOperandOf, AreOperandsOf, fills, fills_branch, IsOpen, IsValidPart}
 use Rattle.rv_pseudo_laws.proofs.ModuloLemmas.{signed_12 as twelve}
 use Rattle.rv_pseudo_laws.proofs.SequencesLemmas.{li_valid}
@@ -276,7 +276,7 @@ sequence_valid : (rd : ℕ) (o : Option ℤ) → rd < 32 → takes_constant Li o
 sequence_valid rd None d e = tt
 sequence_valid rd (Some k) d e = closed_valid (li rd k) (li_valid rd k d e)
 
-li_parts : (v : Constants) (rd : ℕ) (o : Operand) → rd < 32 → IsOperandOf v Li o → AreParts (option_map (λ k. map Closed (li rd k)) (number_of v o))
+li_parts : (v : Constants) (rd : ℕ) (o : Operand) → rd < 32 → IsOperandOf v Li o → AreParts (option_map (λ k. map Closed (li rd k)) (constant_number v o))
 li_parts v rd (Value e) d fits = sequence_valid rd (v e) d fits
 li_parts v rd (Applied Lo e) d fits = sequence_valid rd (option_map lo (v e)) d fits
 li_parts v rd _ d fits = tt
@@ -299,7 +299,7 @@ short_by true operation rs s = branch_valid 2 operation rs 0 s (omega arith)
 short_by false operation rs s = tt
 
 short_valid : (operation : BranchOperation) (rs : ℕ) → rs < 32 → AreParts (short_branch operation rs)
-short_valid operation rs s = short_by (is_in Short rs) operation rs s
+short_valid operation rs s = short_by (is_of_set Short rs) operation rs s
 
 -- ---- all rows
 

@@ -28,7 +28,7 @@ use Rattle.rv_compress.specs.declared.parcel.ParcelOperation.TheVariants as parc
 use Rattle.rv_compress.specs.declared.parcel.OperandShape.{OperandShape}
 use Rattle.rv_compress.specs.declared.parcel.OperandShape.TheVariants as shapes
 use Rattle.rv_compress.specs.declared.parcel.RegisterSet.TheVariants.{Short}
-use Rattle.rv_compress.specs.Mnemonics.{is_in, shape_of, form_of}
+use Rattle.rv_compress.specs.Mnemonics.{is_of_set, shape_of, form_of}
 use Rattle.rv_compress.specs.Parcel.{expansion}
 use Rattle.rv_statement.specs.declared.mnemonic.Mnemonic.{Mnemonic}
 use Rattle.rv_statement.specs.declared.mnemonic.Mnemonic.TheVariants.{Registers, Immediate, Shift, Upper, Load, Store, Branch, Jal, Jalr, LoadReserved, Atomic, Fence, FenceTso, Ecall, Ebreak, Nop, Unary, Compare, ZeroBranch, SwappedBranch, J, Jr, Ret, La, Li, Call, Tail, Jump, Parcel}
@@ -209,13 +209,13 @@ upper_20 v make (Applied PcrelHi e) = opened kind.PcrelHi20 (make 0)
 upper_20 v make o = None
 
 -- a number, or the low part of one, that is a constant
-abbrev pub number_of : Constants → Operand → Option ℤ
-number_of v (Value e) = v e
-number_of v (Applied Lo e) = option_map lo (v e)
-number_of v o = None
+abbrev pub constant_number : Constants → Operand → Option ℤ
+constant_number v (Value e) = v e
+constant_number v (Applied Lo e) = option_map lo (v e)
+constant_number v o = None
 
 abbrev pub by_amount : Constants → (ℕ → Inst) → Operand → Option (List Part)
-by_amount v make o = by_number (λ k. make (wrapped k)) (number_of v o)
+by_amount v make o = by_number (λ k. make (wrapped k)) (constant_number v o)
 
 -- the form with a constant of an operation on registers
 abbrev pub by_constant : Constants → Option Mnemonic → ℕ → ℕ → Operand → Option (List Part)
@@ -239,13 +239,13 @@ parcel_form v operation shapes.Registers (Register a ∷ []) = form_of operation
 parcel_form v operation shapes.Registers (Register a ∷ Register b ∷ []) =
     form_of operation (a ∷ b ∷ []) (pos 0)
 parcel_form v operation shapes.Number (Register a ∷ Register b ∷ o ∷ []) =
-    by_form (form_of operation (a ∷ b ∷ [])) (number_of v o)
+    by_form (form_of operation (a ∷ b ∷ [])) (constant_number v o)
 parcel_form v operation shapes.Number (Register a ∷ o ∷ []) =
-    by_form (form_of operation (a ∷ [])) (number_of v o)
+    by_form (form_of operation (a ∷ [])) (constant_number v o)
 parcel_form v operation shapes.Address (Register a ∷ Register b ∷ []) =
     form_of operation (a ∷ b ∷ []) (pos 0)
 parcel_form v operation shapes.Address (Register a ∷ o ∷ Register b ∷ []) =
-    by_form (form_of operation (a ∷ b ∷ [])) (number_of v o)
+    by_form (form_of operation (a ∷ b ∷ [])) (constant_number v o)
 parcel_form v operation shape operands = None
 
 -- the form of a parcel that a statement names: that one it has, and no shorter or longer one
@@ -255,7 +255,7 @@ named_form v mnemonic operands = None
 
 -- a branch on one of x8 to x15
 abbrev pub short_branch : BranchOperation → ℕ → Option (List Part)
-short_branch operation rs = if is_in Short rs then Some (branch 2 operation rs 0) else None
+short_branch operation rs = if is_of_set Short rs then Some (branch 2 operation rs 0) else None
 
 -- ---- all rows
 
@@ -321,7 +321,7 @@ code v rvc bytes (Compare operation) (Register rd ∷ Register a ∷ Register b 
 code v rvc bytes La (Register rd ∷ Target e ∷ []) =
     Some (near rd kind.PcrelLo12I (addi rd rd (pos 0)))
 code v rvc bytes Li (Register rd ∷ o ∷ []) =
-    option_map (λ k. map Closed (li rd k)) (number_of v o)
+    option_map (λ k. map Closed (li rd k)) (constant_number v o)
 code v rvc bytes Call (Register rd ∷ Target e ∷ []) = through rd (far bytes rd rd)
 code v rvc bytes Call (Target e ∷ []) = Some (far bytes 1 1)
 code v rvc bytes Tail (Target e ∷ []) = Some (far bytes 0 6)

@@ -25,12 +25,12 @@ after (l ∷ ls) h = goes_on (effect l.instruction l.bytes h) (after ls)
 abbrev pub instructions_of : List Sized → List Inst
 instructions_of ls = map (λ l. l.instruction) ls
 
-abbrev pub bytes_of : List Sized → ℕ
-bytes_of ls = sum_by (λ l. l.bytes) ls
+abbrev pub sum_of_bytes : List Sized → ℕ
+sum_of_bytes ls = sum_by (λ l. l.bytes) ls
 
 -- these instructions, each of whatever bytes, set register rd to a number modulo 2 ^ 64, and change
 -- nothing else of any hart but its pc, which is after them (and memory not at all); x0 stays 0
 abbrev pub Sets : ℕ → ℕ → List Inst → Type 0
 Sets rd value instructions =
     (ls : List Sized) (h : Hart) → instructions_of ls ≡ instructions → rd < length h.registers
-    → after ls h ≡ Some (with_result (bytes_of ls) h rd value)
+    → after ls h ≡ Some (with_result (sum_of_bytes ls) h rd value)

@@ -11,21 +11,21 @@ use Rattle.rv_compress.specs.declared.parcel.ParcelOperation.{ParcelOperation}
 use Rattle.rv_compress.specs.declared.parcel.ParcelOperation.TheVariants as parcels
 use Rattle.rv_compress.specs.declared.parcel.RegisterSet.{RegisterSet}
 use Rattle.rv_compress.specs.declared.parcel.RegisterSet.TheVariants.{Any, Nonzero, Short, Stack, Upper}
-use Rattle.rv_compress.specs.Mnemonics.{is_in, are_in, register_sets, is_multiple, is_between, is_zero, takes_number, form_with, form_of}
+use Rattle.rv_compress.specs.Mnemonics.{is_of_set, are_in, register_sets, is_multiple, is_between, is_zero, takes_number, form_with, form_of}
 use Rattle.rv_compress.specs.Parcel.{IsMultiple, IsSixBits, IsStackStep, IsUpper, IsLine, IsNoHint}
 use Rattle.rv_pseudo_laws.specs.Code.{Constants, by_form}
 use Rattle.rv_source_laws.specs.Lines.{form_in}
-use Rattle.rv_raw_laws.specs.Statements.{IsSmall, number, parcel_statement}
+use Rattle.rv_raw_laws.specs.Statements.{IsSmall, constant_expression, parcel_statement}
 use Rattle.rv_raw_laws.specs.Meaning.{KnowsNumbers, named_in_parcel}
 use Rattle.rv_raw_laws.proofs.OperandsLemmas.{any_register}
 use Rattle.rv_raw_laws.proofs.ParcelsLemmas.{short_in, nonzero_in, upper_in, six_small, step_small}
 
 -- ---- registers of a form are of its sets
 
-one_in : (set : RegisterSet) (a : ℕ) → is_in set a ≡ true → are_in (set ∷ []) (a ∷ []) ≡ true
+one_in : (set : RegisterSet) (a : ℕ) → is_of_set set a ≡ true → are_in (set ∷ []) (a ∷ []) ≡ true
 one_in set a h = rw h refl
 
-two_in : (set base : RegisterSet) (a b : ℕ) → is_in set a ≡ true → is_in base b ≡ true → are_in (set ∷ base ∷ []) (a ∷ b ∷ []) ≡ true
+two_in : (set base : RegisterSet) (a b : ℕ) → is_of_set set a ≡ true → is_of_set base b ≡ true → are_in (set ∷ base ∷ []) (a ∷ b ∷ []) ≡ true
 two_in set base a b h k = rw (h, k) refl
 
 -- ---- a form's number is one that its mnemonic takes
@@ -78,12 +78,12 @@ upper_small u (inr (low, lt)) = omega (arith, lt)
 
 module _ (v : Constants) (known : KnowsNumbers v) where
   by_known : (op : ParcelOperation) (rs : List ℕ) (k : ℤ) (c : Compressed) → IsSmall k → are_in (register_sets op) rs ≡ true → takes_number op k ≡ true → option_map (λ make. make k) (form_with op rs) ≡ Some c
-      → by_form (form_of op rs) (v (number k)) ≡ Some c
+      → by_form (form_of op rs) (v (constant_expression k)) ≡ Some c
   by_known op rs k c small held taken same = rw (known k small) (of_form op rs k c held taken same)
 
   -- where the form has its number without a sign
   by_unsigned : (op : ParcelOperation) (rs : List ℕ) (u : ℕ) (make : ℕ → Compressed) → IsSmall (pos u) → are_in (register_sets op) rs ≡ true → takes_number op (pos u) ≡ true
-      → option_map (λ make. make (pos u)) (form_with op rs) ≡ Some (make (wrapped (pos u))) → by_form (form_of op rs) (v (number (pos u))) ≡ Some (make u)
+      → option_map (λ make. make (pos u)) (form_with op rs) ≡ Some (make (wrapped (pos u))) → by_form (form_of op rs) (v (constant_expression (pos u))) ≡ Some (make u)
   by_unsigned op rs u make small held taken same = by_known op rs (pos u) (make u) small held taken (same ∙ ap (λ n. Some (make n)) (low u small))
 
   pub named : (c : Compressed) → IsLine c → IsNoHint c → form_in v (parcel_statement c) ≡ named_in_parcel c

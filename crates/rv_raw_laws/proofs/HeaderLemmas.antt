@@ -12,7 +12,7 @@ use Rattle.rv_statement.specs.declared.directive.DirectiveWord.TheVariants as wo
 use Rattle.rv_statement.specs.declared.directive.Binding.TheVariants.{Global}
 use Rattle.rv_statement.specs.declared.directive.Choice.TheVariants.{Norvc, Norelax}
 use Rattle.rv_statement.specs.Statement.{Word, Label, Directs, Chooses as Choosing, Binds}
-use Rattle.rv_parse_laws.specs.Words.{register, names_of, choices, beginning, mnemonic_named, directive_named, instruction_words, atomic_operations, atomic_forms, directive_words}
+use Rattle.rv_parse_laws.specs.Words.{register, register_names, choices, beginning, mnemonic_named, directive_named, instruction_words, atomic_operations, atomic_forms, directive_words}
 use Rattle.rv_parse_laws.specs.Syntax.{is_symbol}
 use Rattle.rv_raw_laws.proofs.LexemesLemmas.{lexeme, word, blank, name_spells, name_stops}
 use Rattle.rv_raw_laws.proofs.WordsLemmas.{IsLineOf}
@@ -60,7 +60,7 @@ norelax_line = record {
 }
 
 pub global_line : IsLineOf (codes ".globl _start") (Directs (Binds Global (codes "_start" ∷ [])))
-unfolding beginning mnemonic_named directive_named instruction_words atomic_operations atomic_forms directive_words is_symbol register names_of abi_names
+unfolding beginning mnemonic_named directive_named instruction_words atomic_operations atomic_forms directive_words is_symbol register register_names abi_names
 global_line = record {
   name = codes ".globl";
   more = blank ∷ word (codes "_start") ∷ [];
@@ -77,7 +77,7 @@ global_line = record {
 }
 
 pub label_line : IsLineOf (codes "_start:") (Label (codes "_start"))
-unfolding is_symbol register names_of abi_names
+unfolding is_symbol register register_names abi_names
 label_line = record {
   name = codes "_start";
   more = lexeme (Punctuation puncts.Colon) (58 ∷ []) ∷ [];

@@ -12,11 +12,11 @@ use Rattle.rv_text_laws.specs.Cut.{Piece, texts, Each, NothingReads}
 use Rattle.rv_text_laws.specs.Grammar.{Kind, Space, Line_comment, Block_comment, Newline, Punctuation, Name, Number, Reference, Bad_word, Text, Character, Bad_byte, Bad_token, End, IsWord, Spells, Stops}
 use Rattle.rv_text_laws.specs.Lexing.{Token, placed, newlines, tokens_of, last}
 use Rattle.rv_statement.specs.Statement.{StatementKind, Label, Numbered, Instruction, Directs, Statement}
-use Rattle.rv_parse_laws.specs.Syntax.{Part, Ends, Says, StopsPart, is_end}
+use Rattle.rv_parse_laws.specs.Syntax.{SourcePart, Ends, Says, StopsPart, is_end}
 use Rattle.rv_parse_laws.specs.Opening.{OpenWell}
-use Rattle.rv_parse_laws.specs.Reading.{longest_source, longest_line, IsPastLine, said, AreParts, Reads}
+use Rattle.rv_parse_laws.specs.Reading.{longest_source, longest_line, IsPastLine, statements_of_parts, AreParts, Reads}
 use Rattle.rv_disasm.specs.Raw.{lines_text}
-use Rattle.rv_raw_laws.specs.Statements.{numbered}
+use Rattle.rv_raw_laws.specs.Statements.{on_lines}
 use Rattle.rv_raw_laws.proofs.LexemesLemmas.{Lexeme, word, line_feed, texts-append, each-append, tokens-append, newlines-append, no_newlines, line_stops}
 use Rattle.rv_raw_laws.proofs.WordsLemmas.{IsLineOf}
 
@@ -90,13 +90,13 @@ lines_long (t ∷ ts) (k ∷ ks) all =
     let ih = lines_long ts ks all.1 in
     omega (arith, long, ih, length-append (t ++ 10 ∷ []) (lines_text ts), length-append t (10 ∷ []))
 
-numbered_length : (n : ℕ) (ks : List StatementKind) → length (numbered n ks) ≡ length ks
+numbered_length : (n : ℕ) (ks : List StatementKind) → length (on_lines n ks) ≡ length ks
 numbered_length n [] = refl
 numbered_length n (k ∷ ks) = ap suc (numbered_length (n + 1) ks)
 
 -- ---- sections
 
-opened : (before : List Statement) (n : ℕ) (ts : List (List ℕ)) (ks : List StatementKind) → AreLines ts ks → OpenWell before (numbered n ks)
+opened : (before : List Statement) (n : ℕ) (ts : List (List ℕ)) (ks : List StatementKind) → AreLines ts ks → OpenWell before (on_lines n ks)
 opened before n [] [] all = tt
 opened before n [] (k ∷ ks) all = absurd all
 opened before n (t ∷ ts) [] all = absurd all
@@ -134,9 +134,9 @@ nothing_reads k (x ∷ text) after whole spells stops = absurd (cc)
 -- ---- lexemes, and parts
 
 pub record Cut (before : List ℕ) (lexemes : List Lexeme) (e : Token) (ks : List StatementKind) : Type 0 where
-  pub parts : List (Piece Part Token)
+  pub parts : List (Piece SourcePart Token)
   pub cuts : AreParts (tokens_of before lexemes ++ e ∷ []) parts []
-  pub says : said parts ≡ numbered (1 + newlines before) ks
+  pub says : statements_of_parts parts ≡ on_lines (1 + newlines before) ks
 
 pub record AreRead (ts : List (List ℕ)) (ks : List StatementKind) : Type 0 where
   pub lexemes : List Lexeme
@@ -173,7 +173,7 @@ one_more t k ts ks l r =
               whole = ap (λ x. x ++ e ∷ []) (tokens-append before front (line_feed ∷ r.lexemes)) ∙ append_assoc says (feed ∷ left) (e ∷ []) ∙ ap (λ x. says ++ feed ∷ x) c.cuts.whole ∙ sym (append_assoc says (feed ∷ texts c.parts) []);
               each = (l.says before, stops_line k feed (texts c.parts ++ []) refl, ((feed, refl, refl), tt, c.cuts.each));
             };
-            says = ap (λ x. record { line = 1 + newlines before; kind = k } ∷ x) (c.says ∙ ap (λ n. numbered n ks) (omega (arith, lines)));
+            says = ap (λ x. record { line = 1 + newlines before; kind = k } ∷ x) (c.says ∙ ap (λ n. on_lines n ks) (omega (arith, lines)));
           };
     }
 
@@ -190,7 +190,7 @@ are_read (t ∷ ts) (k ∷ ks) all = one_more t k ts ks all.0 (are_read ts ks al
 
 -- ---- the reading
 
-pub lines_read : (ts : List (List ℕ)) (ks : List StatementKind) → AreLines ts ks → length (lines_text ts) ≤ longest_source → Reads (lines_text ts) (numbered 1 ks)
+pub lines_read : (ts : List (List ℕ)) (ks : List StatementKind) → AreLines ts ks → length (lines_text ts) ≤ longest_source → Reads (lines_text ts) (on_lines 1 ks)
 lines_read ts ks all short =
     let r = are_read ts ks all in
     let e : Token = last (texts r.lexemes) [] in

@@ -21,7 +21,7 @@ use Rattle.rv_compress.specs.Parcel.{IsLine, IsNoHint, expansion}
 use Rattle.rv_reloc.specs.Operands.{with_value}
 use Rattle.rv_pseudo_laws.specs.Code.{Part, Closed, Open, Constants, jal}
 use Rattle.rv_pseudo_laws.specs.Filled.{FieldValue, filled_part}
-use Rattle.rv_source_laws.specs.Lines.{parts_of, form_in}
+use Rattle.rv_source_laws.specs.Lines.{parts_by_size, form_in}
 use Rattle.rv_disasm.specs.Instruction.{is_tso, is_between}
 use Rattle.rv_disasm.specs.declared.code.Code.{Code}
 use Rattle.rv_disasm.specs.declared.code.Code.TheVariants.{Word, Parcel}
@@ -56,7 +56,7 @@ between_is fm before after rs1 rd a d e = rw (a, d, e) refl
 set_bits : (s : ℕ) → s < 16 → access_bits (access_set s) ≡ s
 set_bits s lt = grind (arith, nat_tests, lt)
 
-fence_parts : (v : Constants) (x : FenceOperands) → x.pred < 16 → x.succ < 16 → is_tso x || is_between x ≡ true → parts_of v false 4 (fence_statement x) ≡ Some (Closed (inst.Fence x) ∷ [])
+fence_parts : (v : Constants) (x : FenceOperands) → x.pred < 16 → x.succ < 16 → is_tso x || is_between x ≡ true → parts_by_size v false 4 (fence_statement x) ≡ Some (Closed (inst.Fence x) ∷ [])
 fence_parts v x p s sourced = elim (cases_Bool (is_tso x)) [
   | inl tso ↦ rw tso (
       let e : (x.fm ≡ 8) × (x.pred ≡ 3) × (x.succ ≡ 3) × (x.rs1 ≡ 0) × (x.rd ≡ 0) = grind (arith, nat_tests, tso) in
@@ -70,7 +70,7 @@ fence_parts v x p s sourced = elim (cases_Bool (is_tso x)) [
 ]
 
 module _ (v : Constants) (known : KnowsNumbers v) where
-  word_parts : (f : Format) → IsValidFormat f → has_source f ≡ true → parts_of v false 4 (word_statement f) ≡ Some (word_part f ∷ [])
+  word_parts : (f : Format) → IsValidFormat f → has_source f ≡ true → parts_by_size v false 4 (word_statement f) ≡ Some (word_part f ∷ [])
   word_parts (Registers op x) valid sourced = refl
   word_parts (Immediate op x) (b, c, d) sourced = rw (known x.immediate (small_12 x.immediate d)) refl
   word_parts (Shift op x) (b, c, d) sourced =
@@ -98,7 +98,7 @@ module _ (v : Constants) (known : KnowsNumbers v) where
   by_name : (c : Compressed) → form_in v (parcel_statement c) ≡ Some c → option_map (λ form. Closed (expansion form) ∷ []) (form_in v (parcel_statement c)) ≡ Some (Closed (expansion c) ∷ [])
   by_name c is = ap (option_map (λ form. Closed (expansion form) ∷ [])) is
 
-  parcel_parts : (c : Compressed) → IsLine c → IsNoHint c → parts_of v false 2 (parcel_statement c) ≡ Some (parcel_part c ∷ [])
+  parcel_parts : (c : Compressed) → IsLine c → IsNoHint c → parts_by_size v false 2 (parcel_statement c) ≡ Some (parcel_part c ∷ [])
   parcel_parts (forms.J i) a h = refl
   parcel_parts (forms.Beqz rs1 i) (a, b) h = rw (short_in rs1 a) refl
   parcel_parts (forms.Bnez rs1 i) (a, b) h = rw (short_in rs1 a) refl
@@ -106,7 +106,7 @@ module _ (v : Constants) (known : KnowsNumbers v) where
 
   -- ---- both
 
-  pub parts_are : (code : Code) → IsSourced code → parts_of v false (code_width code) (code_statement code) ≡ Some (part_of code ∷ [])
+  pub parts_are : (code : Code) → IsSourced code → parts_by_size v false (code_width code) (code_statement code) ≡ Some (part_of code ∷ [])
   parts_are (Word i) sourced = word_parts (format_of i) sourced.0 sourced.1
   parts_are (Parcel c) sourced = parcel_parts c sourced.0 sourced.1
 

@@ -18,8 +18,8 @@ use Rattle.rv_isa.specs.Mnemonics.{ordering}
 use Rattle.rv_statement.specs.declared.mnemonic.Mnemonic.{Mnemonic}
 use Rattle.rv_statement.specs.declared.mnemonic.Mnemonic.TheVariants as words
 use Rattle.rv_parse_laws.specs.declared.beginning.Beginning.TheVariants as beginnings
-use Rattle.rv_parse_laws.specs.Words.{beginning, names_of, register, mnemonic_named, directive_named, instruction_words, atomic_operations, atomic_forms, directive_words, form_with}
-use Rattle.rv_disasm.specs.Instruction.{register as abi, load_reserved_name}
+use Rattle.rv_parse_laws.specs.Words.{beginning, register_names, register, mnemonic_named, directive_named, instruction_words, atomic_operations, atomic_forms, directive_words, form_with}
+use Rattle.rv_disasm.specs.Instruction.{abi_register as abi, load_reserved_name}
 use Rattle.rv_raw_laws.proofs.LexemesLemmas.{is_name}
 
 -- ---- registers
@@ -41,7 +41,7 @@ all_below zero = true
 all_below (suc n) = good n && all_below n
 
 every_name : all_below 32 ≡ true
-unfolding all_below good is_it register names_of abi_names
+unfolding all_below good is_it register register_names abi_names
 every_name = refl
 
 each_below : (n r : ℕ) → r < n → all_below n ≡ true → good r ≡ true

@@ -15,15 +15,15 @@ use Rattle.rv_isa.specs.declared.operation.AccessSet.{AccessSet}
 use Rattle.rv_isa.specs.RegisterNames.{abi_names}
 use Rattle.rv_compress.specs.declared.parcel.RegisterSet.{RegisterSet}
 use Rattle.rv_compress.specs.declared.parcel.RegisterSet.TheVariants.{Any, Nonzero, Short, Stack, Upper}
-use Rattle.rv_compress.specs.Mnemonics.{is_in}
+use Rattle.rv_compress.specs.Mnemonics.{is_of_set}
 use Rattle.std.proofs.lemmas.Bool.Decides.{nat_tests}
-use Rattle.rv_parse_laws.specs.Words.{register, names_of, named_in}
+use Rattle.rv_parse_laws.specs.Words.{register, register_names, named_in}
 use Rattle.rv_statement.specs.Statement.{Operand, Register, Value, Target, Accesses, Expression}
 use Rattle.rv_parse_laws.specs.declared.role.Role.{Role}
 use Rattle.rv_parse_laws.specs.declared.role.Role.TheVariants as roles
 use Rattle.rv_parse_laws.specs.Syntax.{Slot, A_register, A_register_of, A_value, An_address, An_address_by, kept_in, A_comma, A_target, Some_accesses, access_sets, Slots, Stops as Ends_here, Takes, Chooses, Locates, atomic_address, jump_target, IsValue, IsValueIn, IsOperand, IsBase, IsOffset, AreOperands, targets, is_refused, front_begins, colon_next, is_register}
-use Rattle.rv_disasm.specs.Instruction.{register as abi, in_parentheses, based, distant, accesses}
-use Rattle.rv_raw_laws.specs.Statements.{IsSmall, number, distance, access_set}
+use Rattle.rv_disasm.specs.Instruction.{abi_register as abi, in_parentheses, based, distant, accesses}
+use Rattle.rv_raw_laws.specs.Statements.{IsSmall, constant_expression, from_dot, access_set}
 use Rattle.rv_raw_laws.proofs.LexemesLemmas.{Lexeme, lexeme, word, comma, opening, closing, plus, minus, Breaks, Stand, texts-append, each-append, tokens-append, in_line-append, is_name, name_spells, name_stops, name_in_line, name_some, number_stops, comma_stops, opening_stops, closing_stops, plus_stops, minus_stops}
 use Rattle.rv_raw_laws.proofs.NumbersLemmas.{IsNumeral, decimal_numeral}
 use Rattle.rv_raw_laws.proofs.NamesLemmas.{register_named}
@@ -145,22 +145,22 @@ chosen_further s b rest instead others t u ts now later a m =
 -- ---- registers
 
 -- a register of a set is one of the machine
-pub machine_register : (set : RegisterSet) (r : ℕ) → is_in set r ≡ true → r < 32
+pub machine_register : (set : RegisterSet) (r : ℕ) → is_of_set set r ≡ true → r < 32
 machine_register Any r h = grind (arith, nat_tests, h)
 machine_register Nonzero r h = grind (arith, nat_tests, h)
 machine_register Short r h = grind (arith, nat_tests, h)
 machine_register Stack r h = grind (arith, nat_tests, h)
 machine_register Upper r h = grind (arith, nat_tests, h)
 
-pub any_register : (r : ℕ) → r < 32 → is_in Any r ≡ true
+pub any_register : (r : ℕ) → r < 32 → is_of_set Any r ≡ true
 any_register r lt = grind (arith, nat_tests, lt)
 
-kept : (set : RegisterSet) (r : ℕ) → is_in set r ≡ true → kept_in set (Some r) ≡ Some r
+kept : (set : RegisterSet) (r : ℕ) → is_of_set set r ≡ true → kept_in set (Some r) ≡ Some r
 kept Any r h = refl
 kept _ r h = rw h refl
 
 -- its name in a place for the set
-register_kept : (set : RegisterSet) (r : ℕ) → is_in set r ≡ true → kept_in set (register (abi r)) ≡ Some r
+register_kept : (set : RegisterSet) (r : ℕ) → is_of_set set r ≡ true → kept_in set (register (abi r)) ≡ Some r
 register_kept set r h = let known = register_named r (machine_register set r h) in rw known.named (kept set r h)
 
 name_shown : (r : ℕ) → r < 32 → Shown (word (abi r) ∷ []) (abi r) 20
@@ -175,7 +175,7 @@ name_shown r lt =
       short = h.short;
     }
 
-pub of_register : (set : RegisterSet) (r : ℕ) → is_in set r ≡ true → IsArgument (A_register_of set) (abi r) (Register r ∷ [])
+pub of_register : (set : RegisterSet) (r : ℕ) → is_of_set set r ≡ true → IsArgument (A_register_of set) (abi r) (Register r ∷ [])
 of_register set r is = record {
   lexemes = word (abi r) ∷ [];
   shown = wider (word (abi r) ∷ []) (abi r) 20 89 (omega arith) (name_shown r (machine_register set r is));
@@ -200,7 +200,7 @@ base_shown r lt =
       short = omega (arith, short, length-append (abi r) (41 ∷ []));
     }
 
-base_is : (set : RegisterSet) (r : ℕ) → is_in set r ≡ true → (before : List ℕ) → IsBase set (tokens_of before (base_lexemes r)) (Register r ∷ [])
+base_is : (set : RegisterSet) (r : ℕ) → is_of_set set r ≡ true → (before : List ℕ) → IsBase set (tokens_of before (base_lexemes r)) (Register r ∷ [])
 unfolding base_lexemes
 base_is set r is before =
     let after : List ℕ = before ++ 40 ∷ [] in
@@ -260,18 +260,18 @@ signed_shown (negsuc n) small =
       short = omega (arith, short);
     }
 
-pub signed_is : (z : ℤ) (before : List ℕ) → IsValue (tokens_of before (signed_lexemes z)) (number z)
+pub signed_is : (z : ℤ) (before : List ℕ) → IsValue (tokens_of before (signed_lexemes z)) (constant_expression z)
 unfolding signed_lexemes number_lexeme
 signed_is (pos n) before = literal_is (decimal n) n before
 signed_is (negsuc n) before =
     let us = tokens_of (before ++ 45 ∷ []) (number_lexeme (decimal (suc n)) (suc n) ∷ []) in
     (Unary Negate (Leaf (Literal (suc n))), (placed before minus, us, refl, refl, (placed (before ++ 45 ∷ []) (number_lexeme (decimal (suc n)) (suc n)), refl, refl)), tt, omega arith, refl)
 
-pub of_signed : (role : Role) → targets role ≡ false → (z : ℤ) → IsSmall z → IsArgument (A_value role) (signed_decimal z) (Value (number z) ∷ [])
+pub of_signed : (role : Role) → targets role ≡ false → (z : ℤ) → IsSmall z → IsArgument (A_value role) (signed_decimal z) (Value (constant_expression z) ∷ [])
 of_signed role value z small = record {
   lexemes = signed_lexemes z;
   shown = wider (signed_lexemes z) (signed_decimal z) 67 89 (omega arith) (signed_shown z small);
-  means = λ before. (Value (number z), valued_as role value (tokens_of before (signed_lexemes z)) (number z) (signed_is z before), refl);
+  means = λ before. (Value (constant_expression z), valued_as role value (tokens_of before (signed_lexemes z)) (constant_expression z) (signed_is z before), refl);
 }
 
 -- `.+4` and `.-4`: `.`, an operator and a number
@@ -279,7 +279,7 @@ dot : Lexeme
 dot = word (46 ∷ [])
 
 dot_begins : begins is_register (Name (46 ∷ [])) ≡ A_primary Here
-unfolding register names_of abi_names
+unfolding register register_names abi_names
 dot_begins = refl
 
 distant_lexemes : ℤ → List Lexeme
@@ -311,7 +311,7 @@ distant_shown (negsuc n) small =
       short = omega (arith, short);
     }
 
-distant_is : (z : ℤ) (before : List ℕ) → IsValue (tokens_of before (distant_lexemes z)) (distance z)
+distant_is : (z : ℤ) (before : List ℕ) → IsValue (tokens_of before (distant_lexemes z)) (from_dot z)
 unfolding distant_lexemes dot number_lexeme
 distant_is (pos n) before =
     let at : List ℕ = (before ++ 46 ∷ []) ++ 43 ∷ [] in (
@@ -346,15 +346,15 @@ distant_is (negsuc n) before =
       refl,
     )
 
-distance_refused : (z : ℤ) → is_refused roles.Target (distance z) ≡ false
+distance_refused : (z : ℤ) → is_refused roles.Target (from_dot z) ≡ false
 distance_refused (pos n) = refl
 distance_refused (negsuc n) = refl
 
-pub of_target : (z : ℤ) → IsSmall z → IsArgument A_target (distant z) (Target (distance z) ∷ [])
+pub of_target : (z : ℤ) → IsSmall z → IsArgument A_target (distant z) (Target (from_dot z) ∷ [])
 of_target z small = record {
   lexemes = distant_lexemes z;
   shown = wider (distant_lexemes z) (distant z) 68 89 (omega arith) (distant_shown z small);
-  means = λ before. (Target (distance z), inl (distance z, distant_is z before, distance_refused z, refl), refl);
+  means = λ before. (Target (from_dot z), inl (from_dot z, distant_is z before, distance_refused z, refl), refl);
 }
 
 -- 8(sp)
@@ -369,22 +369,22 @@ address_shown : (z : ℤ) (r : ℕ) → IsSmall z → r < 32 → Shown (address_
 unfolding address_lexemes
 address_shown z r small lt = shown_after (signed_lexemes z) (base_lexemes r) (signed_decimal z) (in_parentheses r) 67 22 (signed_shown z small) (base_shown r lt) (parted_base r)
 
-address_is : (set : RegisterSet) (z : ℤ) (r : ℕ) → is_in set r ≡ true → (before : List ℕ) → IsOffset set (tokens_of before (address_lexemes z r)) (Value (number z) ∷ Register r ∷ [])
+address_is : (set : RegisterSet) (z : ℤ) (r : ℕ) → is_of_set set r ≡ true → (before : List ℕ) → IsOffset set (tokens_of before (address_lexemes z r)) (Value (constant_expression z) ∷ Register r ∷ [])
 unfolding address_lexemes
 address_is set z r is before =
     let one = tokens_of before (signed_lexemes z) in
     let after = before ++ texts (signed_lexemes z) in (
       one,
       tokens_of after (base_lexemes r),
-      Value (number z),
+      Value (constant_expression z),
       Register r ∷ [],
       tokens-append before (signed_lexemes z) (base_lexemes r),
-      valued_as roles.Operand refl one (number z) (signed_is z before),
+      valued_as roles.Operand refl one (constant_expression z) (signed_is z before),
       base_is set r is after,
       refl,
     )
 
-pub of_address : (set : RegisterSet) (z : ℤ) (r : ℕ) → IsSmall z → is_in set r ≡ true → IsArgument (An_address_by set) (based z r) (Value (number z) ∷ Register r ∷ [])
+pub of_address : (set : RegisterSet) (z : ℤ) (r : ℕ) → IsSmall z → is_of_set set r ≡ true → IsArgument (An_address_by set) (based z r) (Value (constant_expression z) ∷ Register r ∷ [])
 of_address set z r small is = record {
   lexemes = address_lexemes z r;
   shown = address_shown z r small (machine_register set r is);
@@ -398,9 +398,9 @@ unfolding address_lexemes signed_lexemes number_lexeme
 no_register (pos n) r before = refl
 no_register (negsuc n) r before = refl
 
-pub of_jump : (z : ℤ) (r : ℕ) → IsSmall z → r < 32 → AreArguments jump_target (based z r ∷ []) (Value (number z) ∷ Register r ∷ [])
+pub of_jump : (z : ℤ) (r : ℕ) → IsSmall z → r < 32 → AreArguments jump_target (based z r ∷ []) (Value (constant_expression z) ∷ Register r ∷ [])
 of_jump z r small lt =
-    let os : List Operand = Value (number z) ∷ Register r ∷ [] in
+    let os : List Operand = Value (constant_expression z) ∷ Register r ∷ [] in
     alone jump_target (address_lexemes z r) (based z r) os (address_shown z r small lt)
     (λ before. inr (no_register z r before, (tokens_of before (address_lexemes z r), [], os, [], sym (append-nil (tokens_of before (address_lexemes z r))), inr (address_is Any z r (any_register r lt) before), (refl, refl), refl)))
 

@@ -9,14 +9,14 @@ use Rattle.rv_compress.specs.declared.parcel.ParcelOperation.{ParcelOperation}
 use Rattle.rv_compress.specs.declared.parcel.ParcelOperation.TheVariants as parcels
 use Rattle.rv_compress.specs.declared.parcel.RegisterSet.{RegisterSet}
 use Rattle.rv_compress.specs.declared.parcel.RegisterSet.TheVariants.{Any, Nonzero, Short, Stack, Upper}
-use Rattle.rv_compress.specs.Mnemonics.{is_in, parcel_name}
+use Rattle.rv_compress.specs.Mnemonics.{is_of_set, parcel_name}
 use Rattle.rv_compress.specs.Parcel.{IsShort, IsSixBits, IsBranch, IsJump, IsStackStep, IsUpper, IsLine, IsNoHint}
 use Rattle.rv_statement.specs.declared.mnemonic.Mnemonic.TheVariants as words
 use Rattle.rv_statement.specs.Statement.{Operand, Register, Instruction}
 use Rattle.rv_parse_laws.specs.declared.role.Role.TheVariants as roles
 use Rattle.rv_parse_laws.specs.Words.{beginning, mnemonic_named, directive_named, instruction_words, atomic_operations, atomic_forms, directive_words}
 use Rattle.rv_parse_laws.specs.Syntax.{A_register_of, An_address_by, A_value, A_target, Slots, last, and_then, slots}
-use Rattle.rv_disasm.specs.Instruction.{register as abi, based, distant, operands}
+use Rattle.rv_disasm.specs.Instruction.{abi_register as abi, based, distant, operands}
 use Rattle.rv_disasm.specs.Numbers.{prefixed}
 use Rattle.rv_disasm.specs.Parcels.{parcel_text}
 use Rattle.rv_raw_laws.specs.Statements.{IsSmall, with_number, with_address, with_source, with_target, parcel_statement}
@@ -31,13 +31,13 @@ begins_parcel op = grind arith
 
 -- ---- what a form's operands keep
 
-pub short_in : (r : ℕ) → IsShort r → is_in Short r ≡ true
+pub short_in : (r : ℕ) → IsShort r → is_of_set Short r ≡ true
 short_in r h = let low = h.0 in let high = h.1 in grind (arith, nat_tests, low, high)
 
-pub nonzero_in : (r : ℕ) → 0 < r → r < 32 → is_in Nonzero r ≡ true
+pub nonzero_in : (r : ℕ) → 0 < r → r < 32 → is_of_set Nonzero r ≡ true
 nonzero_in r some lt = grind (arith, nat_tests, some, lt)
 
-pub upper_in : (r : ℕ) → 0 < r → r < 32 → r ≢ 2 → is_in Upper r ≡ true
+pub upper_in : (r : ℕ) → 0 < r → r < 32 → r ≢ 2 → is_of_set Upper r ≡ true
 upper_in r some lt other = grind (arith, nat_tests, some, lt, other)
 
 pub six_small : (z : ℤ) → IsSixBits z → IsSmall z
@@ -59,27 +59,27 @@ upper_small u (inr (low, lt)) = omega (arith, lt)
 -- ---- operands of each shape
 
 -- a register and more
-one : (set : RegisterSet) (r : ℕ) → is_in set r ≡ true → (rest : Slots) (u : List ℕ) (ts : List (List ℕ)) (later : List Operand) → AreArguments rest (u ∷ ts) later
+one : (set : RegisterSet) (r : ℕ) → is_of_set set r ≡ true → (rest : Slots) (u : List ℕ) (ts : List (List ℕ)) (later : List Operand) → AreArguments rest (u ∷ ts) later
     → AreArguments (and_then (A_register_of set) rest) (abi r ∷ u ∷ ts) (Register r ∷ later)
 one set r is rest u ts later m = taken (A_register_of set) (A_register_of set) rest (abi r) u ts (Register r ∷ []) later (of_register set r is) m
 
 -- rd, number
-numbered : (set : RegisterSet) (r : ℕ) (z : ℤ) → is_in set r ≡ true → IsSmall z
+numbered : (set : RegisterSet) (r : ℕ) (z : ℤ) → is_of_set set r ≡ true → IsSmall z
     → AreArguments (and_then (A_register_of set) (last (A_value roles.Operand))) (abi r ∷ signed_decimal z ∷ []) (with_number r z)
 numbered set r z is small = one set r is _ _ _ _ (ending _ _ _ _ (of_signed roles.Operand refl z small))
 
 -- r, number(base)
-addressed : (set base : RegisterSet) (r b u : ℕ) → is_in set r ≡ true → is_in base b ≡ true → u < 1024
+addressed : (set base : RegisterSet) (r b u : ℕ) → is_of_set set r ≡ true → is_of_set base b ≡ true → u < 1024
     → AreArguments (and_then (A_register_of set) (last (An_address_by base))) (abi r ∷ based (pos u) b ∷ []) (with_address r b u)
 addressed set base r b u is base_is lt = one set r is _ _ _ _ (ending _ _ _ _ (of_address base (pos u) b (omega (arith, lt)) base_is))
 
 -- rd, rs2
-sourced : (set : RegisterSet) (r s : ℕ) → is_in set r ≡ true → is_in set s ≡ true
+sourced : (set : RegisterSet) (r s : ℕ) → is_of_set set r ≡ true → is_of_set set s ≡ true
     → AreArguments (and_then (A_register_of set) (last (A_register_of set))) (abi r ∷ abi s ∷ []) (with_source r s)
 sourced set r s is source_is = one set r is _ _ _ _ (ending _ _ _ _ (of_register set s source_is))
 
 -- rs1, target
-targeted : (set : RegisterSet) (r : ℕ) (z : ℤ) → is_in set r ≡ true → IsSmall z
+targeted : (set : RegisterSet) (r : ℕ) (z : ℤ) → is_of_set set r ≡ true → IsSmall z
     → AreArguments (and_then (A_register_of set) (last A_target)) (abi r ∷ distant z ∷ []) (with_target r z)
 targeted set r z is small = one set r is _ _ _ _ (ending _ _ _ _ (of_target z small))
 

@@ -9,9 +9,9 @@ use Rattle.rv_text_laws.specs.Expression.{Primary, Here}
 use Rattle.rv_text_laws.specs.Values.{Meaning, InSection, Open, Constant, Symbolic, add, value_of}
 use Rattle.rv_isa_laws.specs.Arithmetic.{wrapped, signed}
 use Rattle.rv_source_laws.specs.Lines.{constant_of, distance as distance_to}
-use Rattle.rv_raw_laws.specs.Statements.{IsSmall, number, distance}
+use Rattle.rv_raw_laws.specs.Statements.{IsSmall, constant_expression, from_dot}
 
-number_value : (m : Primary → Meaning) (z : ℤ) → IsSmall z → value_of m (number z) ≡ Constant (wrapped z)
+number_value : (m : Primary → Meaning) (z : ℤ) → IsSmall z → value_of m (constant_expression z) ≡ Constant (wrapped z)
 number_value m (pos n) small = ap Constant (omega (arith, small))
 number_value m (negsuc n) small = ap Constant (omega (arith, small))
 
@@ -19,11 +19,11 @@ signed_wrapped : (z : ℤ) → IsSmall z → signed 64 (wrapped z) ≡ z
 signed_wrapped (pos n) small = grind (arith, nat_tests, ints, small)
 signed_wrapped (negsuc n) small = grind (arith, nat_tests, ints, small)
 
-pub number_constant : (m : Primary → Meaning) (z : ℤ) → IsSmall z → constant_of (value_of m (number z)) ≡ Some z
+pub number_constant : (m : Primary → Meaning) (z : ℤ) → IsSmall z → constant_of (value_of m (constant_expression z)) ≡ Some z
 number_constant m z small = ap constant_of (number_value m z small) ∙ ap (λ (k : ℤ). Some k) (signed_wrapped z small)
 
 -- `.` and a distance
-pub distance_value : (m : Primary → Meaning) (section offset : ℕ) (z : ℤ) → IsSmall z → (m Here ≡ InSection section offset) ⊎ (m Here ≡ Open) → value_of m (distance z) ≡ Symbolic Here (m Here) (wrapped z)
+pub distance_value : (m : Primary → Meaning) (section offset : ℕ) (z : ℤ) → IsSmall z → (m Here ≡ InSection section offset) ⊎ (m Here ≡ Open) → value_of m (from_dot z) ≡ Symbolic Here (m Here) (wrapped z)
 distance_value m section offset (pos n) small (inl e) = rw e (ap (Symbolic Here (InSection section offset)) (omega (arith, small)))
 distance_value m section offset (pos n) small (inr e) = rw e (ap (Symbolic Here Open) (omega (arith, small)))
 distance_value m section offset (negsuc n) small (inl e) = rw e (ap (Symbolic Here (InSection section offset)) (omega (arith, small)))

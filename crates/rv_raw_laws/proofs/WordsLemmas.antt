@@ -27,7 +27,7 @@ use Rattle.rv_isa.specs.declared.operation.UpperOperation.TheVariants.{Lui, Auip
 use Rattle.rv_parse_laws.specs.declared.role.Role.TheVariants as roles
 use Rattle.rv_parse_laws.specs.Syntax.{A_register, A_value, Some_accesses, Slots, Stops as Ends_here, Takes, A_comma, slots, source, with_constant, last, upper_role, targets, IsStatement, AreOperands, colon_next}
 use Rattle.rv_parse_laws.specs.Opening.{opens_well}
-use Rattle.rv_disasm.specs.Instruction.{register as abi, operands, accesses, fence_text, is_tso, is_between}
+use Rattle.rv_disasm.specs.Instruction.{abi_register as abi, operands, accesses, fence_text, is_tso, is_between}
 use Rattle.rv_disasm.specs.Numbers.{prefixed}
 use Rattle.rv_disasm.specs.Instruction.{distant, text_with}
 use Rattle.rv_disasm.specs.Raw.{has_source}

@@ -20,11 +20,11 @@ use Rattle.rv_pseudo_laws.specs.Code.{Part, Closed, Open, Constants, b_type, jal
 use Rattle.rv_pseudo_laws.specs.Filled.{FieldValue}
 use Rattle.rv_disasm.specs.declared.code.Code.{Code}
 use Rattle.rv_disasm.specs.declared.code.Code.TheVariants.{Word, Parcel}
-use Rattle.rv_raw_laws.specs.Statements.{number, IsSmall}
+use Rattle.rv_raw_laws.specs.Statements.{constant_expression, IsSmall}
 
 -- by these constants numbers stand for themselves
 abbrev pub KnowsNumbers : Constants → Type 0
-KnowsNumbers v = (z : ℤ) → IsSmall z → v (number z) ≡ Some z
+KnowsNumbers v = (z : ℤ) → IsSmall z → v (constant_expression z) ≡ Some z
 
 -- how many bytes of code there are, and the instruction
 abbrev pub code_width : Code → ℕ

@@ -25,9 +25,9 @@ use Rattle.rv_disasm.specs.declared.code.Code.TheVariants.{Word, Parcel}
 
 -- ---- numbers and targets as expressions
 
-abbrev pub number : ℤ → Expression
-number (pos n) = Leaf (Literal n)
-number (negsuc n) = Unary Negate (Leaf (Literal (suc n)))
+abbrev pub constant_expression : ℤ → Expression
+constant_expression (pos n) = Leaf (Literal n)
+constant_expression (negsuc n) = Unary Negate (Leaf (Literal (suc n)))
 
 -- numbers among which those of all instructions and parcels are
 abbrev pub IsSmall : ℤ → Type 0
@@ -35,9 +35,9 @@ IsSmall (pos n) = n < 2 ^ 21
 IsSmall (negsuc n) = n < 2 ^ 21
 
 -- .+4 and .-4
-abbrev pub distance : ℤ → Expression
-distance (pos n) = Binary Add (Leaf Here) (Leaf (Literal n))
-distance (negsuc n) = Binary Subtract (Leaf Here) (Leaf (Literal (suc n)))
+abbrev pub from_dot : ℤ → Expression
+from_dot (pos n) = Binary Add (Leaf Here) (Leaf (Literal n))
+from_dot (negsuc n) = Binary Subtract (Leaf Here) (Leaf (Literal (suc n)))
 
 -- the accesses of a fence: i is 8, o is 4, r is 2, w is 1
 abbrev pub access_set : ℕ → AccessSet
@@ -56,25 +56,26 @@ word_statement (Registers operation x) =
     Instruction (words.Registers operation) (Register x.rd ∷ Register x.rs1 ∷ Register x.rs2 ∷ [])
 word_statement (Immediate operation x) =
     Instruction (words.Immediate operation)
-    (Register x.rd ∷ Register x.rs1 ∷ Value (number x.immediate) ∷ [])
+    (Register x.rd ∷ Register x.rs1 ∷ Value (constant_expression x.immediate) ∷ [])
 word_statement (Shift operation x) =
     Instruction (words.Shift operation)
-    (Register x.rd ∷ Register x.rs1 ∷ Value (number (pos x.amount)) ∷ [])
+    (Register x.rd ∷ Register x.rs1 ∷ Value (constant_expression (pos x.amount)) ∷ [])
 word_statement (Upper operation x) =
     Instruction (words.Upper operation)
-    (Register x.rd ∷ Value (number (pos x.immediate)) ∷ [])
+    (Register x.rd ∷ Value (constant_expression (pos x.immediate)) ∷ [])
 word_statement (Load operation x) =
     Instruction (words.Load operation)
-    (Register x.rd ∷ Value (number x.immediate) ∷ Register x.rs1 ∷ [])
+    (Register x.rd ∷ Value (constant_expression x.immediate) ∷ Register x.rs1 ∷ [])
 word_statement (Store operation x) =
     Instruction (words.Store operation)
-    (Register x.rs2 ∷ Value (number x.immediate) ∷ Register x.rs1 ∷ [])
+    (Register x.rs2 ∷ Value (constant_expression x.immediate) ∷ Register x.rs1 ∷ [])
 word_statement (Branch operation x) =
     Instruction (words.Branch operation)
-    (Register x.rs1 ∷ Register x.rs2 ∷ Target (distance x.offset) ∷ [])
-word_statement (Jal x) = Instruction words.Jal (Register x.rd ∷ Target (distance x.offset) ∷ [])
+    (Register x.rs1 ∷ Register x.rs2 ∷ Target (from_dot x.offset) ∷ [])
+word_statement (Jal x) = Instruction words.Jal (Register x.rd ∷ Target (from_dot x.offset) ∷ [])
 word_statement (Jalr x) =
-    Instruction words.Jalr (Register x.rd ∷ Value (number x.immediate) ∷ Register x.rs1 ∷ [])
+    Instruction words.Jalr (Register x.rd ∷ Value (constant_expression x.immediate) ∷
+    Register x.rs1 ∷ [])
 word_statement (LoadReserved double x) =
     Instruction (words.LoadReserved (form_with double x.acquire x.release))
     (Register x.rd ∷ Register x.rs1 ∷ [])
@@ -89,11 +90,11 @@ word_statement Ebreak = Instruction words.Ebreak []
 
 -- rd, number
 abbrev pub with_number : ℕ → ℤ → List Operand
-with_number rd k = Register rd ∷ Value (number k) ∷ []
+with_number rd k = Register rd ∷ Value (constant_expression k) ∷ []
 
 -- rd, number(base)
 abbrev pub with_address : ℕ → ℕ → ℕ → List Operand
-with_address r base u = Register r ∷ Value (number (pos u)) ∷ Register base ∷ []
+with_address r base u = Register r ∷ Value (constant_expression (pos u)) ∷ Register base ∷ []
 
 -- rd, rs2
 abbrev pub with_source : ℕ → ℕ → List Operand
@@ -101,7 +102,7 @@ with_source rd rs2 = Register rd ∷ Register rs2 ∷ []
 
 -- rs1, target
 abbrev pub with_target : ℕ → ℤ → List Operand
-with_target rs1 k = Register rs1 ∷ Target (distance k) ∷ []
+with_target rs1 k = Register rs1 ∷ Target (from_dot k) ∷ []
 
 -- x2 is written too
 abbrev pub operands_of : Compressed → List Operand
@@ -125,7 +126,7 @@ operands_of (forms.Or rd rs2) = with_source rd rs2
 operands_of (forms.And rd rs2) = with_source rd rs2
 operands_of (forms.Subw rd rs2) = with_source rd rs2
 operands_of (forms.Addw rd rs2) = with_source rd rs2
-operands_of (forms.J i) = Target (distance i) ∷ []
+operands_of (forms.J i) = Target (from_dot i) ∷ []
 operands_of (forms.Beqz rs1 i) = with_target rs1 i
 operands_of (forms.Bnez rs1 i) = with_target rs1 i
 operands_of (forms.Slli rd u) = with_number rd (pos u)
@@ -156,7 +157,7 @@ raw_statements before after =
     ∷ (map code_statement before ++ Label (codes "_start") ∷ map code_statement after)
 
 -- statements on lines of their own, from this line on
-abbrev pub numbered : ℕ → List StatementKind → List Statement
-numbered line [] = []
-numbered line (kind ∷ kinds) =
-    record { line = line; kind = kind } ∷ numbered (line + 1) kinds
+abbrev pub on_lines : ℕ → List StatementKind → List Statement
+on_lines line [] = []
+on_lines line (kind ∷ kinds) =
+    record { line = line; kind = kind } ∷ on_lines (line + 1) kinds

@@ -12,10 +12,10 @@ ghost use Rattle.rv_text_laws.specs.Values.{Meaning, InSection, Open, Symbolic, 
 ghost use Rattle.rv_parse_laws.specs.Reading.{Reads, longest_source};
 ghost use Rattle.rv_pseudo_laws.specs.Code.{Constants};
 ghost use Rattle.rv_pseudo_laws.specs.Filled.{FieldValue, filled_part};
-ghost use Rattle.rv_source_laws.specs.Lines.{constant_of, distance as distance_to, form_in, parts_of};
+ghost use Rattle.rv_source_laws.specs.Lines.{constant_of, distance as distance_to, form_in, parts_by_size};
 ghost use Rattle.rv_disasm.specs.declared.code.Code.{Code};
 ghost use Rattle.rv_disasm.specs.Raw.{IsSourced, lines_text, raw_lines};
-ghost use Rattle.rv_raw_laws.specs.Statements.{IsSmall, code_statement, distance, number, numbered, raw_statements};
+ghost use Rattle.rv_raw_laws.specs.Statements.{IsSmall, code_statement, from_dot, constant_expression, on_lines, raw_statements};
 ghost use Rattle.rv_raw_laws.specs.Meaning.{KnowsNumbers, Leads, LeadsFromItself, code_width, instruction_at, named_by, part_of};
 
 /// The lines of a raw listing read as the statements of its instructions, in order, one a line; unless they are too long for
@@ -23,16 +23,16 @@ ghost use Rattle.rv_raw_laws.specs.Meaning.{KnowsNumbers, Leads, LeadsFromItself
 pub fn listing_reads()
     ensures { (before after : List Code) → AllByRecursion IsSourced (before ++ after) →
         length (lines_text (raw_lines before after)) ≤ longest_source →
-        Reads (lines_text (raw_lines before after)) (numbered 1 (raw_statements before after)) }
+        Reads (lines_text (raw_lines before after)) (on_lines 1 (raw_statements before after)) }
 {}
 
 /// A number is its own value, and `.` with a distance leads that far, from any address.
 pub fn numbers_are_kept()
     ensures constants { (m : Primary → Meaning) (z : ℤ) → IsSmall z →
-        constant_of (value_of m (number z)) ≡ Some z }
+        constant_of (value_of m (constant_expression z)) ≡ Some z }
     ensures targets { (m : Primary → Meaning) (section offset : ℕ) (z : ℤ) → IsSmall z →
         (m Here ≡ InSection section offset) ⊎ (m Here ≡ Open) →
-        value_of m (distance z) ≡ Symbolic Here (m Here) (wrapped z) }
+        value_of m (from_dot z) ≡ Symbolic Here (m Here) (wrapped z) }
     ensures addends { (z : ℤ) → IsSmall z → int_wrap w64 (pos (wrapped z)) ≡ z }
     ensures distances { (address : ℕ) (z : ℤ) → IsSmall z → address < 2 ^ 64 →
         distance_to address (add address (wrapped z)) ≡ z }
@@ -42,7 +42,7 @@ pub fn numbers_are_kept()
 /// parcel's names its form, unless it leads somewhere.
 pub fn statements_are_instructions()
     ensures parts { (v : Constants) → KnowsNumbers v → (code : Code) → IsSourced code →
-        parts_of v false (code_width code) (code_statement code) ≡ Some (part_of code ∷ []) }
+        parts_by_size v false (code_width code) (code_statement code) ≡ Some (part_of code ∷ []) }
     ensures filled { (value : FieldValue) (address : ℕ) (code : Code) →
         Leads value address (format_of (instruction_at code)) →
         filled_part value address (part_of code) ≡ instruction_at code ∷ [] }

@@ -30,13 +30,13 @@ use Rattle.rv_pseudo_laws.specs.Li.{is_signed}
 use Rattle.rv_pseudo_laws.specs.Code.{Part, Closed, Open, Joined, Constants, b_type, jal, by_form}
 use Rattle.rv_pseudo_laws.specs.InstructionFaults.{Worth, Number, Address, number_faults, faults, else_unplaced, own_faults, range_faults}
 use Rattle.rv_pseudo_laws.specs.Valid.{is_amount, is_upper_20, takes}
-use Rattle.rv_source_laws.specs.Lines.{operand_of, parts_of, form_in}
+use Rattle.rv_source_laws.specs.Lines.{operand_of, parts_by_size, form_in}
 use Rattle.rv_disasm.specs.declared.code.Code.{Code}
 use Rattle.rv_disasm.specs.declared.code.Code.TheVariants.{Word, Parcel}
 use Rattle.rv_disasm.specs.Instruction.{is_tso}
 use Rattle.rv_disasm.specs.Raw.{has_source, IsSourced}
 use Rattle.rv_raw_laws.specs.Meaning.{KnowsNumbers, word_part, parcel_part, named_in_parcel}
-use Rattle.rv_raw_laws.specs.Statements.{IsSmall, number, distance, access_set, operands_of, word_statement, parcel_statement, code_statement}
+use Rattle.rv_raw_laws.specs.Statements.{IsSmall, constant_expression, from_dot, access_set, operands_of, word_statement, parcel_statement, code_statement}
 use Rattle.rv_raw_laws.proofs.FormsLemmas.{named}
 use Rattle.rv_raw_laws.proofs.MeaningLemmas.{parts_are, forms_are}
 use Rattle.rv_raw_laws.proofs.NumbersLemmas.{bounded}
@@ -101,7 +101,7 @@ jump_taken z h = record { range = (h.0, even_below 1023 z h.1 h.2); even = λ e 
 -- a part that stays open leads by its operand to `.` and a distance that its field takes
 pub record IsLed (o : Option Operand) (k : Kind) : Type 0 where
   pub away : ℤ
-  pub operand : o ≡ Some (Target (distance away))
+  pub operand : o ≡ Some (Target (from_dot away))
   pub small : IsSmall away
   pub takes : Takes k away
   pub leads_there : leads k ≡ true
@@ -126,12 +126,12 @@ is_led f = false
 abbrev fence_by : FenceOperands → Bool → StatementKind
 fence_by x b = if b then Instruction words.FenceTso [] else Instruction words.Fence (Accesses (access_set x.pred) ∷ Accesses (access_set x.succ) ∷ [])
 
-same_word : (c : Constants) (f : Format) → is_led f ≡ false → (bytes : ℕ) → parts_of c false bytes (word_statement f) ≡ parts_of c false 4 (word_statement f)
+same_word : (c : Constants) (f : Format) → is_led f ≡ false → (bytes : ℕ) → parts_by_size c false bytes (word_statement f) ≡ parts_by_size c false 4 (word_statement f)
 same_word c (Branch op x) e bytes = absurd (cc)
 same_word c (Jal x) e bytes = absurd (cc)
 same_word c (Fence x) e bytes = by (is_tso x)
   where
-    by : (b : Bool) → parts_of c false bytes (fence_by x b) ≡ parts_of c false 4 (fence_by x b)
+    by : (b : Bool) → parts_by_size c false bytes (fence_by x b) ≡ parts_by_size c false 4 (fence_by x b)
     by true = refl
     by false = refl
 same_word c _ e bytes = refl
@@ -141,7 +141,7 @@ closed_part (Branch op x) e = absurd (cc)
 closed_part (Jal x) e = absurd (cc)
 closed_part _ e = refl
 
-same_parcel : (c : Constants) (f : Compressed) (bytes : ℕ) → parts_of c false bytes (parcel_statement f) ≡ parts_of c false 2 (parcel_statement f)
+same_parcel : (c : Constants) (f : Compressed) (bytes : ℕ) → parts_by_size c false bytes (parcel_statement f) ≡ parts_by_size c false 2 (parcel_statement f)
 same_parcel c (forms.J i) bytes = refl
 same_parcel c (forms.Beqz rs1 i) bytes = refl
 same_parcel c (forms.Bnez rs1 i) bytes = refl
@@ -162,7 +162,7 @@ closed_form _ e = (refl, refl)
 
 -- a word that leads nowhere is one closed part
 abbrev pub ClosesUnled : Constants → Format → Type 0
-ClosesUnled c f = is_led f ≡ false → (bytes : ℕ) → (i : Inst) × (parts_of c false bytes (word_statement f) ≡ Some (Closed i ∷ []))
+ClosesUnled c f = is_led f ≡ false → (bytes : ℕ) → (i : Inst) × (parts_by_size c false bytes (word_statement f) ≡ Some (Closed i ∷ []))
 
 alone_is : (o : Option (List Part)) (p q : Part) → o ≡ Some (p ∷ []) → p ≡ q → o ≡ Some (q ∷ [])
 alone_is o p q e same = e ∙ ap (λ r. Some (r ∷ [])) same
@@ -174,7 +174,7 @@ module _ (c : Constants) (known : KnowsNumbers c) where
     alone_is _ (word_part (format_of i)) (Closed (instruction_of (format_of i))) (same_word c (format_of i) n bytes ∙ parts_are c known (Word i) s) (closed_part (format_of i) n),
   )
 
-  pub closed_parcel : (f : Compressed) → IsSourced (Parcel f) → is_aimed f ≡ false → (bytes : ℕ) → parts_of c false bytes (parcel_statement f) ≡ Some (Closed (expansion f) ∷ [])
+  pub closed_parcel : (f : Compressed) → IsSourced (Parcel f) → is_aimed f ≡ false → (bytes : ℕ) → parts_by_size c false bytes (parcel_statement f) ≡ Some (Closed (expansion f) ∷ [])
   closed_parcel f s n bytes = alone_is _ (parcel_part f) (Closed (expansion f)) (same_parcel c f bytes ∙ parts_are c known (Parcel f) s) (closed_form f n).0
 
   pub named_parcel : (f : Compressed) → IsSourced (Parcel f) → is_aimed f ≡ false → form_in c (parcel_statement f) ≡ Some f
@@ -184,7 +184,7 @@ module _ (c : Constants) (known : KnowsNumbers c) where
   pub record IsOpenParcel (f : Compressed) (bytes : ℕ) : Type 0 where
     pub kind : Kind
     pub instruction : Inst
-    pub parts : parts_of c false bytes (parcel_statement f) ≡ Some (Open kind instruction ∷ [])
+    pub parts : parts_by_size c false bytes (parcel_statement f) ≡ Some (Open kind instruction ∷ [])
     pub width : width_of kind ≡ 2
     pub led_there : IsLed (operand_of (parcel_statement f)) kind
 
@@ -271,15 +271,15 @@ taken_by operation rs k f e = by (are_in (register_sets operation) rs) (takes_nu
     by true false t e = absurd (cc)
     by false b t e = absurd (cc)
 
-module _ (c : Constants) (w : Expression → Worth) (known : KnowsNumbers c) (told : (z : ℤ) → IsSmall z → w (number z) ≡ Number z)
-    (led : (z : ℤ) → IsSmall z → (b : Bool) × (w (distance z) ≡ Address b)) where
+module _ (c : Constants) (w : Expression → Worth) (known : KnowsNumbers c) (told : (z : ℤ) → IsSmall z → w (constant_expression z) ≡ Number z)
+    (led : (z : ℤ) → IsSmall z → (b : Bool) × (w (from_dot z) ≡ Address b)) where
   -- ---- faults of words
 
   in_range : (m : Mnemonic) (k : ℤ) → takes m k ≡ true → range_faults m k ≡ []
   in_range m k e = ap (λ b. faulty_if (not b) immediate_range) e
 
   -- the fault of the one operand that is an expression
-  by_number : (m : Mnemonic) (z : ℤ) → IsSmall z → takes m z ≡ true → number_faults m (w (number z)) ≡ []
+  by_number : (m : Mnemonic) (z : ℤ) → IsSmall z → takes m z ≡ true → number_faults m (w (constant_expression z)) ≡ []
   by_number m z small e = ap (number_faults m) (told z small) ∙ in_range m z e
 
   pub word_faults : (f : Format) → IsValidFormat f → has_source f ≡ true → faults c w (word_statement f) ≡ []
@@ -309,7 +309,7 @@ module _ (c : Constants) (w : Expression → Worth) (known : KnowsNumbers c) (to
   -- ---- faults of parcels
 
   -- the number of a form, with the registers of its mnemonic
-  taken : (f : Compressed) (rs : List ℕ) → IsLine f → by_form (form_of (operation_of f) rs) (c (number (number_in f))) ≡ Some f → number_faults (words.Parcel (operation_of f)) (w (number (number_in f))) ≡ []
+  taken : (f : Compressed) (rs : List ℕ) → IsLine f → by_form (form_of (operation_of f) rs) (c (constant_expression (number_in f))) ≡ Some f → number_faults (words.Parcel (operation_of f)) (w (constant_expression (number_in f))) ≡ []
   taken f rs l e =
       let small = number_small f l in
       let form : form_of (operation_of f) rs (number_in f) ≡ Some f = sym (ap (by_form (form_of (operation_of f) rs)) (known (number_in f) small)) ∙ e in

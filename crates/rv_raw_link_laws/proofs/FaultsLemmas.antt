@@ -12,12 +12,12 @@ use Rattle.rv_pseudo_laws.specs.Code.{Constants}
 use Rattle.rv_pseudo_laws.specs.InstructionFaults.{Worth, faults as faults_of}
 use Rattle.rv_unit_laws.specs.Bindings.{Bindings, bindings_of}
 use Rattle.rv_unit_laws.specs.Tables.{Tables, Labelled, at_start, after, tables, meaning}
-use Rattle.rv_unit_laws.specs.Faults.{StatementFault, at_line, faults, first_fault_from, first_fault, past_most}
+use Rattle.rv_unit_laws.specs.Faults.{StatementFault, at_line, faults, first_fault_from, first_unit_fault, past_most}
 use Rattle.rv_source_laws.specs.Located.{Located, located_from, located}
 use Rattle.rv_source_laws.specs.Program.{place_of}
 use Rattle.rv_disasm.specs.declared.code.Code.{Code}
 use Rattle.rv_disasm.specs.Raw.{lines_text, raw_lines}
-use Rattle.rv_raw_laws.specs.Statements.{code_statement, raw_statements, numbered}
+use Rattle.rv_raw_laws.specs.Statements.{code_statement, raw_statements, on_lines}
 use Rattle.rv_raw_laws.proofs.LinesLemmas.{lines_read}
 use Rattle.rv_raw_laws.proofs.ListingLemmas.{listing_is}
 use Rattle.rv_assemble_laws.specs.Coded.{constants}
@@ -42,11 +42,11 @@ faultless : (line : ℕ) (cs : List ℕ) (rest : Option StatementFault) → cs �
 faultless line cs rest e = ap (λ l. at_line line (lowest l) rest) e
 
 codes_faultless : (all : Tables) (labels : List Labelled) (b : Bindings) (n line : ℕ) (cs : List Code) (rest : List StatementKind)
-    → ((m at : ℕ) → first_fault_from all (table labels quiet b) m (numbered at rest) ≡ None) → first_fault_from all (table labels quiet b) n (numbered line (map code_statement cs ++ rest)) ≡ None
+    → ((m at : ℕ) → first_fault_from all (table labels quiet b) m (on_lines at rest) ≡ None) → first_fault_from all (table labels quiet b) n (on_lines line (map code_statement cs ++ rest)) ≡ None
 codes_faultless all labels b n line [] rest more = more n line
 codes_faultless all labels b n line (c ∷ cs) rest more =
     faultless line (faults all (table labels quiet b) n (code_statement c)) _ (ap (faults all (table labels quiet b) n) (code_instruction c).is)
-    ∙ ap (λ u. first_fault_from all u (suc n) (numbered (line + 1) (map code_statement cs ++ rest))) (after_code (table labels quiet b) n c)
+    ∙ ap (λ u. first_fault_from all u (suc n) (on_lines (line + 1) (map code_statement cs ++ rest))) (after_code (table labels quiet b) n c)
     ∙ codes_faultless all labels b (suc n) (line + 1) cs rest more
 
 no_first : (all : Tables) (before after : List Code) → first_fault_from all (at_start (listed before after)) 1 (listed before after) ≡ None
@@ -55,12 +55,12 @@ no_first all before after = codes_faultless all [] b 4 4 before (Label start_nam
     b : Bindings
     b = bindings_of (listed before after)
 
-    behind : (m at : ℕ) → first_fault_from all (table [] quiet b) m (numbered at (Label start_name ∷ map code_statement after)) ≡ None
+    behind : (m at : ℕ) → first_fault_from all (table [] quiet b) m (on_lines at (Label start_name ∷ map code_statement after)) ≡ None
     behind m at =
-        ap (λ ks. first_fault_from all (table (entry_label m ∷ []) quiet b) (suc m) (numbered (at + 1) ks)) (sym (append-nil (map code_statement after)))
+        ap (λ ks. first_fault_from all (table (entry_label m ∷ []) quiet b) (suc m) (on_lines (at + 1) ks)) (sym (append-nil (map code_statement after)))
         ∙ codes_faultless all (entry_label m ∷ []) b (suc m) (at + 1) after [] (λ q line. refl)
 
-no_first_fault : (before after : List Code) → IsShortListing before after → first_fault (listed before after) ≡ None
+no_first_fault : (before after : List Code) → IsShortListing before after → first_unit_fault (listed before after) ≡ None
 no_first_fault before after h =
     ap (λ l. past_most l (first_fault_from (tables (listed before after)) (at_start (listed before after)) 1 (listed before after)))
     (drop_all most_statements (listed before after) (few before after h))

@@ -19,19 +19,19 @@ use Rattle.rv_statement.specs.Statement.{StatementKind}
 use Rattle.rv_pseudo_laws.specs.Code.{Part as CodePart, Closed, Open as Open_part, Joined, b_type, jal}
 use Rattle.rv_unit_laws.specs.Bindings.{Bindings}
 use Rattle.rv_unit_laws.specs.Tables.{Tables, Labelled, meaning, longest_section}
-use Rattle.rv_source_laws.specs.Lines.{operand_of, parts_of as code_of_kind}
+use Rattle.rv_source_laws.specs.Lines.{operand_of, parts_by_size as code_of_kind}
 use Rattle.rv_source_laws.specs.Program.{place_of}
 use Rattle.rv_source_laws.proofs.HomesLemmas.{all_join}
 use Rattle.rv_disasm.specs.declared.code.Code.{Code}
 use Rattle.rv_disasm.specs.declared.code.Code.TheVariants.{Word, Parcel}
 use Rattle.rv_disasm.specs.Raw.{IsSourced}
-use Rattle.rv_raw_laws.specs.Statements.{IsSmall, distance, word_statement, parcel_statement, code_statement}
+use Rattle.rv_raw_laws.specs.Statements.{IsSmall, from_dot, word_statement, parcel_statement, code_statement}
 use Rattle.rv_object.specs.declared.symbol.Definition.TheVariants as definitions
 use Rattle.rv_object.specs.Bindings.{is_weak}
 use Rattle.rv_object.specs.Object.{Relocation, Symbol, Object}
 use Rattle.rv_assemble_laws.specs.CodeFields.{symbol_field, low_field, field_of, part_fields}
 use Rattle.rv_assemble_laws.specs.Coded.{constants}
-use Rattle.rv_assemble_laws.specs.LaidStatements.{LaidStatement, Part, expression_value, part_of, coded_templates, templates, parts_of, part_bytes, parts, Tile, end_of}
+use Rattle.rv_assemble_laws.specs.LaidStatements.{LaidStatement, LaidPart, expression_value, laid_part, coded_templates, templates, parts_of, part_bytes, parts, Tile, end_of}
 use Rattle.rv_assemble_laws.specs.Symbols.{laid_at, after_statement, references_in, StandsFor}
 use Rattle.rv_assemble_laws.specs.Templates.{Template, Coded, Open, open_at, template_fields}
 use Rattle.rv_assemble_laws.specs.IsObjectOf.{Numbering, relocation_at, relocations_from, IsNumbered, ArePartsNumbered}
@@ -91,7 +91,7 @@ all_split : {X : Type 0} (P : X → Type 0) (xs ys : List X) → AllByRecursion 
 all_split P [] ys h = (tt, h)
 all_split P (x ∷ xs) ys (one, h) = let (a, b) = all_split P xs ys h in ((one, a), b)
 
-relocations_join : (number : Numbering) (o : ℕ) (xs ys : List Part) → relocations_from number o (xs ++ ys) ≡ relocations_from number o xs ++ relocations_from number (o + length (flat_map part_bytes xs)) ys
+relocations_join : (number : Numbering) (o : ℕ) (xs ys : List LaidPart) → relocations_from number o (xs ++ ys) ≡ relocations_from number o xs ++ relocations_from number (o + length (flat_map part_bytes xs)) ys
 relocations_join number o [] ys = ap (λ n. relocations_from number n ys) (let e : o ≡ o + 0 = omega arith in e)
 relocations_join number o (x ∷ xs) ys =
     let own = map (relocation_at number o) (template_fields x.ordinal x.template) in
@@ -114,7 +114,7 @@ module _ (labels : List Labelled) (b : Bindings) (all : List LaidStatement) (num
   abbrev t : Tables
   t = table labels quiet b
 
-  abbrev AreNumbered : List Part → Type 0
+  abbrev AreNumbered : List LaidPart → Type 0
   AreNumbered ps = ArePartsNumbered (table labels quiet b) all number symbols ps
 
   abbrev AreLeading : List Relocation → Type 0
@@ -159,22 +159,22 @@ module _ (labels : List Labelled) (b : Bindings) (all : List LaidStatement) (num
         → part_fields t (expression_value t z.located) z.located (Open_part k i) ≡ open_at k z.located.ordinal (Some Here) (wrapped l.away) ∷ []
     field_is k i l =
         ap (λ o. field_of t (value_of m) z.located.ordinal o k) l.operand
-        ∙ ap (λ b. if b then low_field k z.located.ordinal 0 else symbol_field k z.located.ordinal (value_of m (distance l.away))) (never_low k l.leads_there)
+        ∙ ap (λ b. if b then low_field k z.located.ordinal 0 else symbol_field k z.located.ordinal (value_of m (from_dot l.away))) (never_low k l.leads_there)
         ∙ ap (symbol_field k z.located.ordinal) (distance_value m 0 0 l.away l.small (inr here) ∙ ap (λ at. Symbolic Here at (wrapped l.away)) here)
 
     one_field : (k : Kind) (i : Inst) (l : IsLed (operand_of z.located.kind) k) (fs : List Open) → part_fields t (expression_value t z.located) z.located (Open_part k i) ≡ fs → (bytes : List ℕ)
-        → AreNumbered (part_of z.located.ordinal (Coded bytes fs) ∷ []) → AreLeading (relocations_from number z.offset (part_of z.located.ordinal (Coded bytes fs) ∷ []))
+        → AreNumbered (laid_part z.located.ordinal (Coded bytes fs) ∷ []) → AreLeading (relocations_from number z.offset (laid_part z.located.ordinal (Coded bytes fs) ∷ []))
     one_field k i l fs e bytes h =
         let is : fs ≡ open_at k z.located.ordinal (Some Here) (wrapped l.away) ∷ [] = sym e ∙ field_is k i l in
-        subst (λ gs. AreNumbered (part_of z.located.ordinal (Coded bytes gs) ∷ []) → AreLeading (relocations_from number z.offset (part_of z.located.ordinal (Coded bytes gs) ∷ []))) (sym is)
+        subst (λ gs. AreNumbered (laid_part z.located.ordinal (Coded bytes gs) ∷ []) → AreLeading (relocations_from number z.offset (laid_part z.located.ordinal (Coded bytes gs) ∷ []))) (sym is)
         (λ ((stands, none), more). (
           subst (λ a. IsLeading symbols (record { place = z.offset; kind = k; symbol = Some (number z.located.ordinal Here); addend = a })) (sym (addend_is l.away l.small))
               (own_symbol z k l.away at plain.section low l.leads_there l.takes l.small (slice_get symbols (number z.located.ordinal Here)) refl stands),
           tt,
         )) h
 
-    one_part : (p : CodePart) → IsCalm (operand_of z.located.kind) p → (coded : List (List ℕ)) → AreNumbered (map (part_of z.located.ordinal) (coded_templates (part_fields t (expression_value t z.located) z.located) (p ∷ []) coded))
-        → AreLeading (relocations_from number z.offset (map (part_of z.located.ordinal) (coded_templates (part_fields t (expression_value t z.located) z.located) (p ∷ []) coded)))
+    one_part : (p : CodePart) → IsCalm (operand_of z.located.kind) p → (coded : List (List ℕ)) → AreNumbered (map (laid_part z.located.ordinal) (coded_templates (part_fields t (expression_value t z.located) z.located) (p ∷ []) coded))
+        → AreLeading (relocations_from number z.offset (map (laid_part z.located.ordinal) (coded_templates (part_fields t (expression_value t z.located) z.located) (p ∷ []) coded)))
     one_part p calm [] h = tt
     one_part (Closed i) calm (bytes ∷ coded) h = tt
     one_part (Open_part k i) calm (bytes ∷ coded) h = one_field k i calm (part_fields t (expression_value t z.located) z.located (Open_part k i)) refl bytes h
@@ -186,7 +186,7 @@ module _ (labels : List Labelled) (b : Bindings) (all : List LaidStatement) (num
     head_none kind (inr (inr (binding, (names, e)))) = ap (templates t z) e
 
     abbrev Goal : List Template → Type 0
-    Goal ts = AreNumbered (map (part_of z.located.ordinal) ts) → AreLeading (relocations_from number z.offset (map (part_of z.located.ordinal) ts))
+    Goal ts = AreNumbered (map (laid_part z.located.ordinal) ts) → AreLeading (relocations_from number z.offset (map (laid_part z.located.ordinal) ts))
 
     of_code : (c : IsOfCode z.located) → z.bytes ≡ kind_size (code_statement c.code) → Goal (templates t z z.located.kind)
     of_code c size =

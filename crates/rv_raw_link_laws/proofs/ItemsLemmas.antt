@@ -34,7 +34,7 @@ use Rattle.rv_disasm.specs.declared.code.Code.{Code}
 use Rattle.rv_disasm.specs.declared.code.Code.TheVariants.{Word, Parcel}
 use Rattle.rv_disasm.specs.Instruction.{is_tso}
 use Rattle.rv_disasm.specs.Raw.{IsSourced}
-use Rattle.rv_raw_laws.specs.Statements.{IsSmall, distance, access_set, word_statement, parcel_statement, code_statement}
+use Rattle.rv_raw_laws.specs.Statements.{IsSmall, from_dot, access_set, word_statement, parcel_statement, code_statement}
 use Rattle.rv_assemble_laws.specs.Coded.{constants}
 use Rattle.rv_raw_laws.specs.Meaning.{LeadsFromItself}
 use Rattle.rv_raw_laws.proofs.ValuesLemmas.{distance_value, addend_is}
@@ -120,23 +120,23 @@ module _ (labels : List Labelled) (b : Bindings) (all : List Located) where
         ap (λ (f : Option Located). elim f [ None ↦ None | Some q ↦ if q.section == s.section then Some near else None ]) e
         ∙ ap (λ b. if b then Some near else None) (eq-eqb l.section s.section (other.section ∙ sym plain.section))
 
-    near_is : (z : ℤ) → IsSmall z → near_value t all s (value_of m (distance z)) ≡ Some (own z)
+    near_is : (z : ℤ) → IsSmall z → near_value t all s (value_of m (from_dot z)) ≡ Some (own z)
     near_is z small = ap (near_value t all s) (distance_value m 0 0 z small (inr here)) ∙ near_here (wrapped z) ∙ ap (λ a. Some (own a)) (addend_is z small)
 
     branch_is : (op : BranchOperation) (x : BType) (bytes : ℕ) → s.options.rvc ≡ false → IsSmall x.offset
         → item_by_kind t all s bytes (word_statement (Branch op x)) ≡ branch_item s FullBranch (Some (own x.offset))
     branch_is op x bytes rvc small =
-        ap (λ r. item_by t all s bytes (Register x.rs1 ∷ Register x.rs2 ∷ Target (distance x.offset) ∷ []) (near_forms r (words.Branch op) (Register x.rs1 ∷ Register x.rs2 ∷ Target (distance x.offset) ∷ []))) rvc
+        ap (λ r. item_by t all s bytes (Register x.rs1 ∷ Register x.rs2 ∷ Target (from_dot x.offset) ∷ []) (near_forms r (words.Branch op) (Register x.rs1 ∷ Register x.rs2 ∷ Target (from_dot x.offset) ∷ []))) rvc
         ∙ ap (branch_item s FullBranch) (near_is x.offset small)
 
     jal_is : (x : JType) (bytes : ℕ) → s.options.rvc ≡ false → (zero_rd : Bool) → (x.rd == 0) ≡ zero_rd
         → item_by_kind t all s bytes (word_statement (Jal x)) ≡ settled s (if zero_rd then 4 else bytes)
     jal_is x bytes rvc zero_rd e =
-        ap (λ r. item_by t all s bytes (Register x.rd ∷ Target (distance x.offset) ∷ []) (if x.rd == 0 then Some (jump_forms r) else None)) rvc
-        ∙ ap (λ z. item_by t all s bytes (Register x.rd ∷ Target (distance x.offset) ∷ []) (if z then Some (jump_forms false) else None)) e
+        ap (λ r. item_by t all s bytes (Register x.rd ∷ Target (from_dot x.offset) ∷ []) (if x.rd == 0 then Some (jump_forms r) else None)) rvc
+        ∙ ap (λ z. item_by t all s bytes (Register x.rd ∷ Target (from_dot x.offset) ∷ []) (if z then Some (jump_forms false) else None)) e
         ∙ by zero_rd
       where
-        by : (z : Bool) → item_by t all s bytes (Register x.rd ∷ Target (distance x.offset) ∷ []) (if z then Some (jump_forms false) else None) ≡ settled s (if z then 4 else bytes)
+        by : (z : Bool) → item_by t all s bytes (Register x.rd ∷ Target (from_dot x.offset) ∷ []) (if z then Some (jump_forms false) else None) ≡ settled s (if z then 4 else bytes)
         by true = refl
         by false = refl
 

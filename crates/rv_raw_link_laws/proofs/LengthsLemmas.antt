@@ -18,12 +18,12 @@ use Rattle.rv_statement.specs.Statement.{StatementKind, Instruction, Operand, Ac
 use Rattle.rv_text_laws.specs.Values.{Value}
 use Rattle.rv_pseudo_laws.specs.Code.{Part, Closed, Open, Joined, Constants}
 use Rattle.rv_pseudo_laws.specs.Filled.{are_closed}
-use Rattle.rv_source_laws.specs.Lines.{parts_of, form_in}
+use Rattle.rv_source_laws.specs.Lines.{parts_by_size, form_in}
 use Rattle.rv_source_laws.specs.Sizes.{near_forms}
 use Rattle.rv_disasm.specs.declared.code.Code.{Code}
 use Rattle.rv_disasm.specs.declared.code.Code.TheVariants.{Word, Parcel}
 use Rattle.rv_disasm.specs.Instruction.{is_tso}
-use Rattle.rv_disasm.specs.Raw.{bytes_of}
+use Rattle.rv_disasm.specs.Raw.{raw_bytes}
 use Rattle.rv_raw_laws.specs.Statements.{access_set, word_statement, code_statement}
 use Rattle.rv_assemble_laws.specs.Coded.{constants, IsCodedPart, AreCodedParts, joined, IsCode}
 use Rattle.rv_assemble_laws.specs.LaidStatements.{LaidStatement, HasSize}
@@ -57,7 +57,7 @@ word_kind c (Fence x) = by (is_tso x)
     by false = record { size = refl; unnamed = refl }
 word_kind c _ = record { size = refl; unnamed = refl }
 
-pub code_size : (c : Code) → kind_size (code_statement c) ≡ length (bytes_of c)
+pub code_size : (c : Code) → kind_size (code_statement c) ≡ length (raw_bytes c)
 code_size (Word i) = (word_kind (λ e. None) (format_of i)).size
 code_size (Parcel f) = refl
 
@@ -71,20 +71,20 @@ pub weight_join : (ks qs : List StatementKind) → weight (ks ++ qs) ≡ weight 
 weight_join [] qs = omega arith
 weight_join (k ∷ ks) qs = let e = weight_join ks qs in omega (arith, e)
 
-codes_weight : (cs : List Code) → weight (map code_statement cs) ≡ length (flat_map bytes_of cs)
+codes_weight : (cs : List Code) → weight (map code_statement cs) ≡ length (flat_map raw_bytes cs)
 codes_weight [] = refl
 codes_weight (c ∷ cs) =
     let e = codes_weight cs in
     let f = code_size c in
-    let g = length-append (bytes_of c) (flat_map bytes_of cs) in
+    let g = length-append (raw_bytes c) (flat_map raw_bytes cs) in
     omega (arith, e, f, g)
 
-pub both_weight : (before after : List Code) → weight (map code_statement before) + weight (map code_statement after) ≡ length (flat_map bytes_of (before ++ after))
+pub both_weight : (before after : List Code) → weight (map code_statement before) + weight (map code_statement after) ≡ length (flat_map raw_bytes (before ++ after))
 both_weight before after =
     let e = codes_weight before in
     let f = codes_weight after in
-    let g = length-append (flat_map bytes_of before) (flat_map bytes_of after) in
-    let whole : length (flat_map bytes_of (before ++ after)) ≡ length (flat_map bytes_of before ++ flat_map bytes_of after) = ap length (flat_map-append bytes_of before after) in
+    let g = length-append (flat_map raw_bytes before) (flat_map raw_bytes after) in
+    let whole : length (flat_map raw_bytes (before ++ after)) ≡ length (flat_map raw_bytes before ++ flat_map raw_bytes after) = ap length (flat_map-append raw_bytes before after) in
     omega (arith, e, f, g, whole)
 
 -- ---- coded parts
@@ -115,7 +115,7 @@ parts_short named r (p ∷ ps) (bytes ∷ coded) (one, h) (e, es) =
 -- the code of a statement
 pub record IsCodeOf (c : Constants) (kind : StatementKind) (rvc : Bool) (bytes : ℕ) (coded : List (List ℕ)) : Type 0 where
   pub ps : List Part
-  pub parts : parts_of c rvc bytes kind ≡ Some ps
+  pub parts : parts_by_size c rvc bytes kind ≡ Some ps
   pub coded_as : AreCodedParts (form_in c kind) (rvc && are_closed ps) ps coded
   pub size : bytes ≡ length (joined coded)
 
@@ -130,7 +130,7 @@ of_laid_statement v s multiple kind i h =
 some_same : (ps qs : List Part) → Some ps ≡ Some qs → ps ≡ qs
 some_same ps qs e = cc
 
-pub parts_are : (c : Constants) (kind : StatementKind) (rvc : Bool) (bytes : ℕ) (coded : List (List ℕ)) (ps : List Part) (h : IsCodeOf c kind rvc bytes coded) → parts_of c rvc bytes kind ≡ Some ps → h.ps ≡ ps
+pub parts_are : (c : Constants) (kind : StatementKind) (rvc : Bool) (bytes : ℕ) (coded : List (List ℕ)) (ps : List Part) (h : IsCodeOf c kind rvc bytes coded) → parts_by_size c rvc bytes kind ≡ Some ps → h.ps ≡ ps
 parts_are c kind rvc bytes coded ps h e = some_same h.ps ps (sym h.parts ∙ e)
 
 -- one part alone
@@ -150,24 +150,24 @@ open_long named r (bytes ∷ []) k i w ((valid, inl (four, e)), h) = let f : len
 open_long named r (bytes ∷ []) k i w ((valid, inr (two, (q, short, e))), h) = let f : length (bytes ++ []) ≡ 2 = ap (λ l. length (l ++ [])) e in omega (arith, two, f)
 open_long named r (bytes ∷ b ∷ coded) k i w (one, h) = absurd h
 
-pub closed_size : (c : Constants) (kind : StatementKind) (bytes : ℕ) (coded : List (List ℕ)) (i : Inst) → form_in c kind ≡ None → parts_of c false bytes kind ≡ Some (Closed i ∷ []) → IsCodeOf c kind false bytes coded → bytes ≡ 4
+pub closed_size : (c : Constants) (kind : StatementKind) (bytes : ℕ) (coded : List (List ℕ)) (i : Inst) → form_in c kind ≡ None → parts_by_size c false bytes kind ≡ Some (Closed i ∷ []) → IsCodeOf c kind false bytes coded → bytes ≡ 4
 closed_size c kind bytes coded i unnamed e h =
     let same = parts_are c kind false bytes coded (Closed i ∷ []) h e in
     h.size ∙ closed_long coded i (subst (λ n. AreCodedParts n false (Closed i ∷ []) coded) unnamed (subst (λ ps. AreCodedParts (form_in c kind) false ps coded) same h.coded_as))
 
-pub named_size : (c : Constants) (kind : StatementKind) (bytes : ℕ) (coded : List (List ℕ)) (f : Compressed) (i : Inst) → form_in c kind ≡ Some f → parts_of c false bytes kind ≡ Some (Closed i ∷ []) → IsCodeOf c kind false bytes coded → bytes ≡ 2
+pub named_size : (c : Constants) (kind : StatementKind) (bytes : ℕ) (coded : List (List ℕ)) (f : Compressed) (i : Inst) → form_in c kind ≡ Some f → parts_by_size c false bytes kind ≡ Some (Closed i ∷ []) → IsCodeOf c kind false bytes coded → bytes ≡ 2
 named_size c kind bytes coded f i named e h =
     let same = parts_are c kind false bytes coded (Closed i ∷ []) h e in
     h.size ∙ named_long coded f i (subst (λ n. AreCodedParts n false (Closed i ∷ []) coded) named (subst (λ ps. AreCodedParts (form_in c kind) false ps coded) same h.coded_as))
 
-pub open_size : (c : Constants) (kind : StatementKind) (bytes : ℕ) (coded : List (List ℕ)) (k : Kind) (i : Inst) → (width_of k ≡ 2) ⊎ (width_of k ≡ 4) → parts_of c false bytes kind ≡ Some (Open k i ∷ []) → IsCodeOf c kind false bytes coded
+pub open_size : (c : Constants) (kind : StatementKind) (bytes : ℕ) (coded : List (List ℕ)) (k : Kind) (i : Inst) → (width_of k ≡ 2) ⊎ (width_of k ≡ 4) → parts_by_size c false bytes kind ≡ Some (Open k i ∷ []) → IsCodeOf c kind false bytes coded
     → bytes ≡ width_of k
 open_size c kind bytes coded k i w e h =
     let same = parts_are c kind false bytes coded (Open k i ∷ []) h e in
     h.size ∙ open_long (form_in c kind) false coded k i w (subst (λ ps. AreCodedParts (form_in c kind) false ps coded) same h.coded_as)
 
 -- a few parts, none of two words
-pub short_size : (c : Constants) (kind : StatementKind) (bytes : ℕ) (coded : List (List ℕ)) (most : ℕ) → ((ps : List Part) → parts_of c false bytes kind ≡ Some ps → AllByRecursion IsSingle ps × (length ps ≤ most)) → IsCodeOf c kind false bytes coded
+pub short_size : (c : Constants) (kind : StatementKind) (bytes : ℕ) (coded : List (List ℕ)) (most : ℕ) → ((ps : List Part) → parts_by_size c false bytes kind ≡ Some ps → AllByRecursion IsSingle ps × (length ps ≤ most)) → IsCodeOf c kind false bytes coded
     → bytes ≤ 4 * most
 short_size c kind bytes coded most few h =
     let (single, le) = few h.ps h.parts in

@@ -15,11 +15,11 @@ use Rattle.rv_source_laws.specs.Program.{place_of}
 use Rattle.rv_source_laws.specs.Sizes.{item_by_kind, items_of, AreLeast}
 use Rattle.rv_source_laws.proofs.HomesLemmas.{all_map}
 use Rattle.rv_disasm.specs.declared.code.Code.{Code}
-use Rattle.rv_disasm.specs.Raw.{bytes_of}
-use Rattle.rv_raw_laws.specs.Statements.{code_statement, raw_statements, numbered}
+use Rattle.rv_disasm.specs.Raw.{raw_bytes}
+use Rattle.rv_raw_laws.specs.Statements.{code_statement, raw_statements, on_lines}
 use Rattle.rv_object.specs.Object.{Section, Symbol, Object}
 use Rattle.rv_assemble_laws.specs.Coded.{constants}
-use Rattle.rv_assemble_laws.specs.LaidStatements.{LaidStatement, expression_value, part_of, templates, parts_of, part_bytes, laid_in, Tile, end_of, HasSize}
+use Rattle.rv_assemble_laws.specs.LaidStatements.{LaidStatement, expression_value, laid_part, templates, parts_of, part_bytes, laid_in, Tile, end_of, HasSize}
 use Rattle.rv_assemble_laws.specs.Symbols.{laid_at, symbols_of}
 use Rattle.rv_assemble_laws.specs.IsObjectOf.{Numbering, IsSectionOf, AreSectionsOf, IsObjectOf}
 use Rattle.rv_raw_link_laws.specs.Listed.{listed, IsShortListing}
@@ -113,9 +113,9 @@ module _ (labels : List Labelled) (b : Bindings) where
 
   -- those of one statement
   head_bytes : (z : LaidStatement) (kind : StatementKind) → IsHead kind → z.located.kind ≡ kind → z.bytes ≡ length (flat_map part_bytes (parts_of (table labels quiet b) z)) → z.bytes ≡ kind_size kind
-  head_bytes z kind (inl e) same bytes = bytes ∙ ap (λ k. length (flat_map part_bytes (map (part_of z.located.ordinal) (templates (table labels quiet b) z k)))) (same ∙ e) ∙ ap kind_size (sym e)
-  head_bytes z kind (inr (inl (choice, e))) same bytes = bytes ∙ ap (λ k. length (flat_map part_bytes (map (part_of z.located.ordinal) (templates (table labels quiet b) z k)))) (same ∙ e) ∙ ap kind_size (sym e)
-  head_bytes z kind (inr (inr (binding, (names, e)))) same bytes = bytes ∙ ap (λ k. length (flat_map part_bytes (map (part_of z.located.ordinal) (templates (table labels quiet b) z k)))) (same ∙ e) ∙ ap kind_size (sym e)
+  head_bytes z kind (inl e) same bytes = bytes ∙ ap (λ k. length (flat_map part_bytes (map (laid_part z.located.ordinal) (templates (table labels quiet b) z k)))) (same ∙ e) ∙ ap kind_size (sym e)
+  head_bytes z kind (inr (inl (choice, e))) same bytes = bytes ∙ ap (λ k. length (flat_map part_bytes (map (laid_part z.located.ordinal) (templates (table labels quiet b) z k)))) (same ∙ e) ∙ ap kind_size (sym e)
+  head_bytes z kind (inr (inr (binding, (names, e)))) same bytes = bytes ∙ ap (λ k. length (flat_map part_bytes (map (laid_part z.located.ordinal) (templates (table labels quiet b) z k)))) (same ∙ e) ∙ ap kind_size (sym e)
 
   -- the code of one
   pub code_of : (z : LaidStatement) (multiple : ℕ) (c : IsOfCode z.located) → (z.located.placed ≡ true → HasSize (expression_value (table labels quiet b) z.located) z multiple z.located.kind)
@@ -201,7 +201,7 @@ module _ (before after : List Code) (h : IsShortListing before after) (o : Objec
       mapped [] = refl
       mapped (z ∷ zs) = ap (λ l. z.located.kind ∷ l) (mapped zs)
 
-      said_kinds : (n line : ℕ) (u : Tables) (ks : List StatementKind) → map (λ (l : Located). l.kind) (located_from 1 n u (numbered line ks)) ≡ ks
+      said_kinds : (n line : ℕ) (u : Tables) (ks : List StatementKind) → map (λ (l : Located). l.kind) (located_from 1 n u (on_lines line ks)) ≡ ks
       said_kinds n line u [] = refl
       said_kinds n line u (k ∷ ks) = ap (λ l. k ∷ l) (said_kinds (suc n) (line + 1) (after_one u n k) ks)
 
@@ -227,7 +227,7 @@ pub end_is : (zs : List LaidStatement) (offset : ℕ) → AllByRecursion (λ (z 
 end_is [] offset h = omega arith
 end_is (z ∷ zs) offset (one, h) = let e = end_is zs (offset + z.bytes) h in omega (arith, one, e)
 
-pub raw_weight : (before after : List Code) → weight (raw_statements before after) ≡ length (flat_map bytes_of (before ++ after))
+pub raw_weight : (before after : List Code) → weight (raw_statements before after) ≡ length (flat_map raw_bytes (before ++ after))
 raw_weight before after =
     let behind = map code_statement before ++ Label start_name ∷ map code_statement after in
     let head : weight (raw_statements before after) ≡ 0 + (0 + (0 + weight behind)) = refl in

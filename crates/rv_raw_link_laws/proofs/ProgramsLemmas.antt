@@ -5,7 +5,7 @@ use Rattle.std.specs.Prelude.{flat_map}
 use Rattle.rv_unit_laws.specs.Bindings.{Bindings, bindings_of}
 use Rattle.rv_unit_laws.specs.Tables.{Labelled, longest_section}
 use Rattle.rv_disasm.specs.declared.code.Code.{Code}
-use Rattle.rv_disasm.specs.Raw.{bytes_of}
+use Rattle.rv_disasm.specs.Raw.{raw_bytes}
 use Rattle.rv_raw_laws.specs.Statements.{raw_statements}
 use Rattle.rv_object.specs.Object.{Object, size_of}
 use Rattle.rv_assemble_laws.specs.LaidStatements.{part_bytes, parts, end_of}
@@ -46,7 +46,7 @@ module _ (before after : List Code) (h : IsShortListing before after) (o : Objec
       let c : size_of it.section.contents ≡ length (flat_map part_bytes (parts t it.laid)) = ap size_of it.is.contents in
       omega (arith, e, c)
 
-  all_bytes : end_of 0 it.laid ≡ length (flat_map bytes_of (before ++ after))
+  all_bytes : end_of 0 it.laid ≡ length (flat_map raw_bytes (before ++ after))
   all_bytes = end_is it.laid 0 it.sized ∙ (let e = ap weight it.kinds in let f = raw_weight before after in omega (arith, e, f))
 
   simple : IsSimple o start

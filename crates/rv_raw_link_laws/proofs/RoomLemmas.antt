@@ -7,7 +7,7 @@ use Rattle.rv_isa_laws.specs.Platform.{stack_start, memory_limit}
 use Rattle.rv_layout_laws.specs.Alignment.{aligned}
 use Rattle.rv_map.specs.declared.map.Region.{Region}
 use Rattle.rv_object.specs.Object.{Section, Object, size_of}
-use Rattle.rv_object_laws.specs.Inputs.{Starts, InputSection, is_nobits, goes_to_text, goes_to_rodata, goes_to_data, goes_to_bss, inputs, start_of, Holds, greatest}
+use Rattle.rv_object_laws.specs.Inputs.{Starts, InputSection, has_no_bytes, goes_to_text, goes_to_rodata, goes_to_data, goes_to_bss, inputs, start_of, Holds, greatest}
 use Rattle.rv_object_laws.specs.Moves.{moves, has_room}
 use Rattle.rv_placement.specs.Placement.{memory_of, IsTooLarge}
 use Rattle.rv_link.specs.Refusals.{LacksRoom}
@@ -25,17 +25,17 @@ module _ (o : Object) (start : ℕ) (h : IsSimple o start) where
 
   no_rodata : goes_to_rodata h.section ≡ false
   no_rodata =
-      ap (λ b. b && not h.section.executable && not (is_nobits h.section.contents) && not h.section.writable) h.loaded
-      ∙ ap (λ b. true && not b && not (is_nobits h.section.contents) && not h.section.writable) h.executable
+      ap (λ b. b && not h.section.executable && not (has_no_bytes h.section.contents) && not h.section.writable) h.loaded
+      ∙ ap (λ b. true && not b && not (has_no_bytes h.section.contents) && not h.section.writable) h.executable
 
   no_data : goes_to_data h.section ≡ false
   no_data =
-      ap (λ b. b && not h.section.executable && not (is_nobits h.section.contents) && h.section.writable) h.loaded
-      ∙ ap (λ b. true && not b && not (is_nobits h.section.contents) && h.section.writable) h.executable
+      ap (λ b. b && not h.section.executable && not (has_no_bytes h.section.contents) && h.section.writable) h.loaded
+      ∙ ap (λ b. true && not b && not (has_no_bytes h.section.contents) && h.section.writable) h.executable
 
   no_bss : goes_to_bss h.section ≡ false
   no_bss =
-      ap (λ b. b && not h.section.executable && is_nobits h.section.contents) h.loaded ∙ ap (λ b. true && not b && is_nobits h.section.contents) h.executable
+      ap (λ b. b && not h.section.executable && has_no_bytes h.section.contents) h.loaded ∙ ap (λ b. true && not b && has_no_bytes h.section.contents) h.executable
 
   abbrev bytes : ℕ
   bytes = size_of h.section.contents

@@ -25,7 +25,7 @@ use Rattle.rv_disasm.specs.declared.code.Code.{Code}
 use Rattle.rv_disasm.specs.declared.code.Code.TheVariants.{Word, Parcel}
 use Rattle.rv_disasm.specs.Instruction.{is_tso}
 use Rattle.rv_disasm.specs.Raw.{IsSourced}
-use Rattle.rv_raw_laws.specs.Statements.{access_set, word_statement, code_statement, numbered}
+use Rattle.rv_raw_laws.specs.Statements.{access_set, word_statement, code_statement, on_lines}
 use Rattle.rv_raw_link_laws.specs.Listed.{listed}
 
 -- ---- instructions
@@ -78,11 +78,11 @@ after_code t n c = ap (after t n) (code_instruction c).is
 
 -- the tables behind some code, wherever that is
 after_codes : (t : Tables) (n line : ℕ) (cs : List Code) (rest : List StatementKind)
-    → (m at : ℕ) × (after_all t n (numbered line (map code_statement cs ++ rest)) ≡ after_all t m (numbered at rest))
+    → (m at : ℕ) × (after_all t n (on_lines line (map code_statement cs ++ rest)) ≡ after_all t m (on_lines at rest))
 after_codes t n line [] rest = (n, line, refl)
 after_codes t n line (c ∷ cs) rest =
     let (m, at, e) = after_codes t (suc n) (line + 1) cs rest in
-    (m, at, ap (λ u. after_all u (suc n) (numbered (line + 1) (map code_statement cs ++ rest))) (after_code t n c) ∙ e)
+    (m, at, ap (λ u. after_all u (suc n) (on_lines (line + 1) (map code_statement cs ++ rest))) (after_code t n c) ∙ e)
 
 codes_last : (cs : List Code) → map code_statement cs ++ [] ≡ map code_statement cs
 codes_last cs = append-nil (map code_statement cs)
@@ -92,22 +92,22 @@ table_is before after =
     let b = bindings_of (listed before after) in
     let (n, at, e) = after_codes (table [] quiet b) 4 4 before (Label start_name ∷ map code_statement after) in
     let (m, line, f) = after_codes (table (entry_label n ∷ []) quiet b) (suc n) (at + 1) after [] in
-    (n, e ∙ ap (λ ks. after_all (table (entry_label n ∷ []) quiet b) (suc n) (numbered (at + 1) ks)) (sym (codes_last after)) ∙ f)
+    (n, e ∙ ap (λ ks. after_all (table (entry_label n ∷ []) quiet b) (suc n) (on_lines (at + 1) ks)) (sym (codes_last after)) ∙ f)
 
 -- ---- the binding of the entry
 
-bound_codes : (line : ℕ) (cs : List Code) (rest : List StatementKind) (b : Bindings) → (at : ℕ) × (bindings_after (numbered line (map code_statement cs ++ rest)) b ≡ bindings_after (numbered at rest) b)
+bound_codes : (line : ℕ) (cs : List Code) (rest : List StatementKind) (b : Bindings) → (at : ℕ) × (bindings_after (on_lines line (map code_statement cs ++ rest)) b ≡ bindings_after (on_lines at rest) b)
 bound_codes line [] rest b = (line, refl)
 bound_codes line (c ∷ cs) rest b =
     let (at, e) = bound_codes (line + 1) cs rest b in
-    (at, ap (λ k. bindings_after (numbered (line + 1) (map code_statement cs ++ rest)) (bound_by k b)) (code_instruction c).is ∙ e)
+    (at, ap (λ k. bindings_after (on_lines (line + 1) (map code_statement cs ++ rest)) (bound_by k b)) (code_instruction c).is ∙ e)
 
 pub entry_is_global : (before after : List Code) → bindings_of (listed before after) start_name ≡ Global
 entry_is_global before after =
     let b = bound Global (start_name ∷ []) all_local in
     let (n, e) = bound_codes 4 before (Label start_name ∷ map code_statement after) b in
     let (m, f) = bound_codes (n + 1) after [] b in
-    ap (λ (g : Bindings). g start_name) (e ∙ ap (λ ks. bindings_after (numbered (n + 1) ks) b) (sym (codes_last after)) ∙ f)
+    ap (λ (g : Bindings). g start_name) (e ∙ ap (λ ks. bindings_after (on_lines (n + 1) ks) b) (sym (codes_last after)) ∙ f)
 
 -- ---- statements
 
@@ -142,12 +142,12 @@ module _ (labels : List Labelled) (b : Bindings) where
       subst (λ k. IsPlain (located_now 1 n t (record { line = line; kind = k }))) (sym i.is)
       (record { section = refl; offset = refl; home = refl; says = inl (record { code = c; sourced = said; kind = sym i.is; rvc = refl; placed = refl }) })
 
-  codes_plain : (n line : ℕ) (cs : List Code) (rest : List StatementKind) → AllByRecursion IsSourced cs → ((m at : ℕ) → ArePlain (located_from 1 m t (numbered at rest)))
-      → ArePlain (located_from 1 n t (numbered line (map code_statement cs ++ rest)))
+  codes_plain : (n line : ℕ) (cs : List Code) (rest : List StatementKind) → AllByRecursion IsSourced cs → ((m at : ℕ) → ArePlain (located_from 1 m t (on_lines at rest)))
+      → ArePlain (located_from 1 n t (on_lines line (map code_statement cs ++ rest)))
   codes_plain n line [] rest said more = more n line
   codes_plain n line (c ∷ cs) rest (one, said) more = (
     code_plain n line c one,
-    subst (λ u. ArePlain (located_from 1 (suc n) u (numbered (line + 1) (map code_statement cs ++ rest)))) (sym (after_code t n c)) (codes_plain (suc n) (line + 1) cs rest said more),
+    subst (λ u. ArePlain (located_from 1 (suc n) u (on_lines (line + 1) (map code_statement cs ++ rest)))) (sym (after_code t n c)) (codes_plain (suc n) (line + 1) cs rest said more),
   )
 
 split_said : (before after : List Code) → AllByRecursion IsSourced (before ++ after) → AllByRecursion IsSourced before × AllByRecursion IsSourced after
@@ -172,10 +172,10 @@ all_plain before after said = (
     parts : AllByRecursion IsSourced before × AllByRecursion IsSourced after
     parts = split_said before after said
 
-    behind : (m at : ℕ) → ArePlain (located_from 1 m (table [] quiet b) (numbered at (Label start_name ∷ map code_statement after)))
+    behind : (m at : ℕ) → ArePlain (located_from 1 m (table [] quiet b) (on_lines at (Label start_name ∷ map code_statement after)))
     behind m at = (
       record { section = refl; offset = refl; home = refl; says = inr (inl refl) },
-      subst (λ ks. ArePlain (located_from 1 (suc m) (table (entry_label m ∷ []) quiet b) (numbered (at + 1) ks))) (codes_last after)
+      subst (λ ks. ArePlain (located_from 1 (suc m) (table (entry_label m ∷ []) quiet b) (on_lines (at + 1) ks))) (codes_last after)
           (codes_plain (entry_label m ∷ []) b (suc m) (at + 1) after [] parts.1 (λ q line. tt)),
     )
 

@@ -18,7 +18,7 @@ use Rattle.rv_pseudo_laws.specs.Code.{Part, Closed, Open, Constants, b_type, jal
 use Rattle.rv_unit_laws.specs.Bindings.{Bindings, bindings_of}
 use Rattle.rv_unit_laws.specs.Tables.{Tables, Labelled, at_start, after, meaning, longest_section}
 use Rattle.rv_unit_laws.specs.Faults.{StatementFault, at_line}
-use Rattle.rv_source_laws.specs.Lines.{parts_of}
+use Rattle.rv_source_laws.specs.Lines.{parts_by_size}
 use Rattle.rv_source_laws.specs.Located.{Located, located_from, located}
 use Rattle.rv_source_laws.specs.Program.{place_of}
 use Rattle.rv_disasm.specs.declared.code.Code.{Code}
@@ -64,26 +64,26 @@ module _ (m : Primary → Meaning) where
   abbrev c : Constants
   c = constants (value_of m)
 
-  word_few : (f : Format) → ClosesUnled (constants (value_of m)) f → (bytes : ℕ) → AreFewIn (parts_of (constants (value_of m)) false bytes (word_statement f))
+  word_few : (f : Format) → ClosesUnled (constants (value_of m)) f → (bytes : ℕ) → AreFewIn (parts_by_size (constants (value_of m)) false bytes (word_statement f))
   word_few (Branch operation x) closed bytes = few_branch bytes operation x.rs1 x.rs2
   word_few (Jal x) closed bytes = ((tt, tt), omega arith)
-  word_few f closed bytes = let (i, e) = closed refl bytes in one_few (parts_of (constants (value_of m)) false bytes (word_statement f)) (Closed i) tt e
+  word_few f closed bytes = let (i, e) = closed refl bytes in one_few (parts_by_size (constants (value_of m)) false bytes (word_statement f)) (Closed i) tt e
 
-  code_few : (code : Code) → IsSourced code → (bytes : ℕ) → AreFewIn (parts_of (constants (value_of m)) false bytes (code_statement code))
+  code_few : (code : Code) → IsSourced code → (bytes : ℕ) → AreFewIn (parts_by_size (constants (value_of m)) false bytes (code_statement code))
   code_few (Word i) s bytes = word_few (format_of i) (closed_word (constants (value_of m)) (known m) i s) bytes
   code_few (Parcel f) s bytes = by (is_aimed f) refl
     where
-      by : (b : Bool) → is_aimed f ≡ b → AreFewIn (parts_of (constants (value_of m)) false bytes (parcel_statement f))
+      by : (b : Bool) → is_aimed f ≡ b → AreFewIn (parts_by_size (constants (value_of m)) false bytes (parcel_statement f))
       by true e =
           let p = open_parcel (constants (value_of m)) (known m) f s e bytes in
-          one_few (parts_of (constants (value_of m)) false bytes (parcel_statement f)) (Open p.kind p.instruction) tt p.parts
-      by false e = one_few (parts_of (constants (value_of m)) false bytes (parcel_statement f)) (Closed _) tt (closed_parcel (constants (value_of m)) (known m) f s e bytes)
+          one_few (parts_by_size (constants (value_of m)) false bytes (parcel_statement f)) (Open p.kind p.instruction) tt p.parts
+      by false e = one_few (parts_by_size (constants (value_of m)) false bytes (parcel_statement f)) (Closed _) tt (closed_parcel (constants (value_of m)) (known m) f s e bytes)
 
   -- so the code of one has eight bytes at most
   pub code_short : (code : Code) → IsSourced code → (bytes : ℕ) (coded : List (List ℕ)) → IsCodeOf (constants (value_of m)) (code_statement code) false bytes coded → bytes ≤ 8
   code_short code said bytes coded h =
       short_size (constants (value_of m)) (code_statement code) bytes coded 2
-      (λ ps e. of_some (parts_of (constants (value_of m)) false bytes (code_statement code)) ps (code_few code said bytes) e) h
+      (λ ps e. of_some (parts_by_size (constants (value_of m)) false bytes (code_statement code)) ps (code_few code said bytes) e) h
 
 -- ---- all statements
 

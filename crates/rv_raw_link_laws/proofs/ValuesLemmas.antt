@@ -9,7 +9,7 @@ use Rattle.rv_text_laws.specs.Expression.{Primary, Here}
 use Rattle.rv_text_laws.specs.Values.{Meaning, Open, Value, Constant, Symbolic, Difference, Faulty, value_of}
 use Rattle.rv_pseudo_laws.specs.InstructionFaults.{Number, Address}
 use Rattle.rv_source_laws.specs.Lines.{constant_of}
-use Rattle.rv_raw_laws.specs.Statements.{IsSmall, number, distance}
+use Rattle.rv_raw_laws.specs.Statements.{IsSmall, constant_expression, from_dot}
 use Rattle.rv_raw_laws.specs.Meaning.{KnowsNumbers}
 use Rattle.rv_raw_laws.proofs.ValuesLemmas.{number_constant, distance_value}
 use Rattle.rv_assemble_laws.specs.Coded.{constants}
@@ -24,11 +24,11 @@ worth_is l (Symbolic symbol at plus) k e = absurd (cc)
 worth_is l (Difference symbol minus plus) k e = absurd (cc)
 worth_is l (Faulty code) k e = absurd (cc)
 
-pub told : (m : Primary → Meaning) (l : Primary → Bool) (z : ℤ) → IsSmall z → worths (value_of m) l (number z) ≡ Number z
-told m l z small = worth_is l (value_of m (number z)) z (number_constant m z small)
+pub told : (m : Primary → Meaning) (l : Primary → Bool) (z : ℤ) → IsSmall z → worths (value_of m) l (constant_expression z) ≡ Number z
+told m l z small = worth_is l (value_of m (constant_expression z)) z (number_constant m z small)
 
 -- where code stands at no known place
-pub led : (m : Primary → Meaning) → m Here ≡ Open → (l : Primary → Bool) (z : ℤ) → IsSmall z → (b : Bool) × (worths (value_of m) l (distance z) ≡ Address b)
+pub led : (m : Primary → Meaning) → m Here ≡ Open → (l : Primary → Bool) (z : ℤ) → IsSmall z → (b : Bool) × (worths (value_of m) l (from_dot z) ≡ Address b)
 led m here l z small = (l Here, ap (worth l) (distance_value m 0 0 z small (inr here)) ∙ ap (λ at. worth l (Symbolic Here at (wrapped z))) here)
 
 -- ---- numbers with a sign

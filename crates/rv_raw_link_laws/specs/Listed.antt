@@ -8,8 +8,8 @@ use Rattle.rv_statement.specs.Statement.{Statement}
 use Rattle.rv_parse_laws.specs.Reading.{longest_source}
 use Rattle.rv_unit_laws.specs.Faults.{StatementFault}
 use Rattle.rv_disasm.specs.declared.code.Code.{Code}
-use Rattle.rv_disasm.specs.Raw.{IsSourced, bytes_of, lines_text, raw_lines}
-use Rattle.rv_raw_laws.specs.Statements.{numbered, raw_statements}
+use Rattle.rv_disasm.specs.Raw.{IsSourced, raw_bytes, lines_text, raw_lines}
+use Rattle.rv_raw_laws.specs.Statements.{on_lines, raw_statements}
 use Rattle.rv_object.specs.Object.{Object}
 use Rattle.rv_assemble_laws.specs.Refusals.{statements_fault, IsTooLong}
 use Rattle.rv_assemble_laws.specs.IsObjectOf.{IsObjectOf}
@@ -19,7 +19,7 @@ use Rattle.rv_link.specs.Refusals.{IsTextStart, HasNoProgram}
 
 -- the statements of a raw listing
 abbrev pub listed : (before after : List Code) → List Statement
-listed before after = numbered 1 (raw_statements before after)
+listed before after = on_lines 1 (raw_statements before after)
 
 -- a source can say each of its instructions, and it is no longer than a source may be
 pub record IsShortListing (before after : List Code) : Type 0 where
@@ -28,7 +28,7 @@ pub record IsShortListing (before after : List Code) : Type 0 where
 
 -- from a start on its instructions end below the stack
 abbrev pub FitsAt : ℕ → (before after : List Code) → Type 0
-FitsAt start before after = start + length (flat_map bytes_of (before ++ after)) ≤ stack_start
+FitsAt start before after = start + length (flat_map raw_bytes (before ++ after)) ≤ stack_start
 
 -- such a listing has an object: no statement is faulty, and no section of code is too long
 abbrev pub HaveNoFault : Type 0

@@ -52,7 +52,7 @@ use Rattle.rv_sources_link_laws.proofs.statements.SettledLemmas.{IsInstructed, I
 use Rattle.rv_sources_link_laws.proofs.calls.UncutLemmas.{IsUncut, uncut, sections_same}
 use Rattle.rv_shorten.specs.Cutting.{In}
 use Rattle.rv_unique_link_laws.proofs.FoundLemmas.{EachOf, all_of}
-use Rattle.rv_reach_laws.specs.Reach.{is_short_branch, is_named, is_in_row, is_of_parcel, is_chosen_branch, ForEachLeft, ShortBranchesReach}
+use Rattle.rv_reach_laws.specs.Reach.{is_short_branch, is_parcel_statement, is_in_row, is_of_parcel, is_chosen_branch, ForEachLeft, ShortBranchesReach}
 use Rattle.rv_reach_laws.proofs.MovingLemmas.{IsPaddedText, rises}
 use Rattle.rv_reach_laws.proofs.SpansLemmas.{left_input, lefts, IsPlain, address}
 use Rattle.rv_reach_laws.proofs.TargetsLemmas.{defined_at}
@@ -237,9 +237,9 @@ module _ (ss : List Statement) (o : Object) (is : IsObjectOf ss o) (index : ℕ)
           let everywhere = in_all index z is.laid parcel.inside in
           let placed = named_placed z.located inside.instructed parcel.named in
           let home_loaded = ap (λ (q : SourceSection). q.loaded) inside.home ∙ loaded in
-          ap (list_any (λ q. is_in_row index r.place q && is_named sources file q.ordinal)) is.rows
-          ∙ row_found (λ q. is_in_row index r.place q && is_named sources file q.ordinal) z is.laid everywhere (and_from z.located.placed z.located.home.loaded placed home_loaded)
-          (and_from (is_in_row index r.place (row_of z)) (is_named sources file z.located.ordinal)
+          ap (list_any (λ q. is_in_row index r.place q && is_parcel_statement sources file q.ordinal)) is.rows
+          ∙ row_found (λ q. is_in_row index r.place q && is_parcel_statement sources file q.ordinal) z is.laid everywhere (and_from z.located.placed z.located.home.loaded placed home_loaded)
+          (and_from (is_in_row index r.place (row_of z)) (is_parcel_statement sources file z.located.ordinal)
           (ap (λ n. is_in_row index n (row_of z)) parcel.place_is ∙ in_row z index inside.stands parcel.some)
           (named_at sources file ss z.located there (subst (In z.located) is.located (in_located z is.laid everywhere)) parcel.named))
 
@@ -269,13 +269,13 @@ all_near sources us h = all_of goes_to_text (HasNear sources) 1 us (each_near so
 
 -- a section that is left keeps the rows of its statements
 rows_left : (sources : List (List Statement)) (drops : List SectionId) (i : InputSection) (place : ℕ) (rows : List Row) → is_dropped drops i.file i.index ≡ false
-    → list_any (λ q. is_in_row i.index place q && is_named sources i.file q.ordinal) rows ≡ true
-    → list_any (λ q. is_in_row i.index place q && is_named sources i.file q.ordinal) (filter (λ q. not (is_dropped drops i.file q.section)) rows) ≡ true
+    → list_any (λ q. is_in_row i.index place q && is_parcel_statement sources i.file q.ordinal) rows ≡ true
+    → list_any (λ q. is_in_row i.index place q && is_parcel_statement sources i.file q.ordinal) (filter (λ q. not (is_dropped drops i.file q.section)) rows) ≡ true
 rows_left sources drops i place [] left h = h
 rows_left sources drops i place (q ∷ qs) left h = by (is_dropped drops i.file q.section) refl (q.section == i.index) refl (rows_left sources drops i place qs left) h
   where
     P : Row → Bool
-    P q = is_in_row i.index place q && is_named sources i.file q.ordinal
+    P q = is_in_row i.index place q && is_parcel_statement sources i.file q.ordinal
 
     kept : List Row
     kept = filter (λ q. not (is_dropped drops i.file q.section)) qs
@@ -292,7 +292,7 @@ rows_left sources drops i place (q ∷ qs) left h = by (is_dropped drops i.file 
     by true d false e further h = further (elim (or_cases (P q) (list_any P qs) h) [
       | inl one ↦
           let no : false ≡ true = sym e ∙ (and_parts (q.section == i.index) (nat_le q.offset place)
-          (and_parts ((q.section == i.index) && nat_le q.offset place) (nat_lt place (q.offset + q.bytes)) (and_parts (is_in_row i.index place q) (is_named sources i.file q.ordinal) one).0).0).0 in absurd (cc)
+          (and_parts ((q.section == i.index) && nat_le q.offset place) (nat_lt place (q.offset + q.bytes)) (and_parts (is_in_row i.index place q) (is_parcel_statement sources i.file q.ordinal) one).0).0).0 in absurd (cc)
       | inr more ↦ more
     ])
 

@@ -13,7 +13,7 @@ use Rattle.rv_compress.specs.declared.form.Compressed.{Compressed}
 use Rattle.rv_compress.specs.declared.parcel.ParcelOperation.{ParcelOperation}
 use Rattle.rv_compress.specs.declared.parcel.ParcelOperation.TheVariants as parcels
 use Rattle.rv_compress.specs.declared.parcel.RegisterSet.TheVariants.{Short}
-use Rattle.rv_compress.specs.Mnemonics.{is_in}
+use Rattle.rv_compress.specs.Mnemonics.{is_of_set}
 use Rattle.rv_compress.specs.Parcel.{expansion}
 use Rattle.rv_statement.specs.declared.mnemonic.Mnemonic.{Mnemonic}
 use Rattle.rv_statement.specs.declared.mnemonic.Mnemonic.TheVariants.{Registers, Branch, Jal, ZeroBranch, SwappedBranch, J, Call, Tail, Jump, Parcel}
@@ -26,7 +26,7 @@ use Rattle.rv_layout_laws.specs.declared.item.Forms.{Forms}
 use Rattle.rv_layout_laws.specs.declared.item.Forms.TheVariants.{Settled, CompressedBranch, Branch as FullBranch, CompressedJump}
 use Rattle.rv_source_laws.specs.Sizes.{branch_forms, jump_forms, is_short_branch as is_short_pair, is_short_register, near_forms, target_in}
 use Rattle.rv_reach_laws.specs.Reach.{is_short_branch}
-use Rattle.rv_source_laws.specs.Sized.{is_call}
+use Rattle.rv_source_laws.specs.Sized.{is_call_mnemonic}
 use Rattle.rv_sources_link_laws.proofs.statements.QuietLemmas.{is_branching, IsCalm, InCode, quiet}
 
 -- ---- statements that are none
@@ -144,7 +144,7 @@ parcelled : (rvc : Bool) (bytes : ℕ) (operation : ParcelOperation) (os : List 
 parcelled rvc bytes operation os k i = inr (inr (record { operation = operation; named = refl; kind = k; instruction = i; is = refl }))
 
 short_sorted : (rvc : Bool) (bytes : ℕ) (operation : ParcelOperation) (os : List Operand) (b : BranchOperation) (rs : ℕ) → SortedIn rvc bytes (Parcel operation) os (short_branch b rs)
-short_sorted rvc bytes operation os b rs = go (is_in Short rs)
+short_sorted rvc bytes operation os b rs = go (is_of_set Short rs)
   where
     go : (t : Bool) → SortedIn rvc bytes (Parcel operation) os (if t then Some (branch 2 b rs 0) else None)
     go true = parcelled rvc bytes operation os kind.RvcBranch (of_branch b (b_type rs 0 (pos 0)))
@@ -154,7 +154,7 @@ form_sorted : (rvc : Bool) (bytes : ℕ) (m : Mnemonic) (os : List Operand) (for
 form_sorted rvc bytes m os None = tt
 form_sorted rvc bytes m os (Some f) = inl (tt, tt)
 
-sorted_jump : (v : Constants) (rvc : Bool) (bytes : ℕ) (m : Mnemonic) (os : List Operand) → is_branching m ≡ true → (is_call m ≡ true → bytes ≡ 8) → SortedIn rvc bytes m os (code v rvc bytes m os)
+sorted_jump : (v : Constants) (rvc : Bool) (bytes : ℕ) (m : Mnemonic) (os : List Operand) → is_branching m ≡ true → (is_call_mnemonic m ≡ true → bytes ≡ 8) → SortedIn rvc bytes m os (code v rvc bytes m os)
 sorted_jump v rvc bytes (Branch operation) (Register rs1 ∷ Register rs2 ∷ Target x ∷ []) e c =
     a_branch rvc bytes (Branch operation) (Register rs1 ∷ Register rs2 ∷ Target x ∷ []) x refl refl (branch_forms (rvc && is_short_pair operation rs1 rs2)) refl (branch_form (rvc && is_short_pair operation rs1 rs2)) operation rs1 rs2
 sorted_jump v rvc bytes (ZeroBranch Beqz) (Register rs ∷ Target x ∷ []) e c =
@@ -195,7 +195,7 @@ sorted_jump v rvc bytes (Registers operation) os e c = absurd (cc)
 sorted_jump v rvc bytes m os e c = absurd (cc)
 
 -- the code of a statement in a source, whose calls are whole
-pub sorted : (v : Constants) (rvc : Bool) (bytes : ℕ) (m : Mnemonic) (os : List Operand) (ps : List Part) → (is_call m ≡ true → bytes ≡ 8) → code v rvc bytes m os ≡ Some ps → Sorted rvc bytes m os ps
+pub sorted : (v : Constants) (rvc : Bool) (bytes : ℕ) (m : Mnemonic) (os : List Operand) (ps : List Part) → (is_call_mnemonic m ≡ true → bytes ≡ 8) → code v rvc bytes m os ≡ Some ps → Sorted rvc bytes m os ps
 sorted v rvc bytes m os ps whole is = by (is_branching m) refl
   where
     by : (b : Bool) → is_branching m ≡ b → Sorted rvc bytes m os ps

@@ -19,13 +19,13 @@ use Rattle.rv_unit_laws.specs.Tables.{Tables, Definition, definition}
 use Rattle.rv_source_laws.specs.Located.{Located}
 use Rattle.rv_source_laws.specs.Lines.{operand_of}
 use Rattle.rv_source_laws.specs.Compressed.{names_parcel}
-use Rattle.rv_source_laws.specs.Shortened.{calls}
+use Rattle.rv_source_laws.specs.Shortened.{is_call_statement}
 use Rattle.rv_object.specs.Object.{Relocation, Symbol}
 use Rattle.rv_assemble_laws.specs.CodeFields.{symbol_field, low_field, low_field_at, label_field, field_of, relax_fields, part_fields}
 use Rattle.rv_compress.specs.declared.form.Compressed.{Compressed}
 use Rattle.rv_assemble_laws.specs.Coded.{constants, AreCodedParts, joined, IsCode}
 use Rattle.rv_assemble_laws.specs.Templates.{Template, Fixed, Datum, Coded, Open, open_at, value_fields, template_fields, absolute_kind, add_kind, subtract_kind, padding_templates, contribution_templates}
-use Rattle.rv_assemble_laws.specs.LaidStatements.{LaidStatement, Part, expression_value, part_of, part_bytes, coded_templates, templates, parts_of, parts, Tile}
+use Rattle.rv_assemble_laws.specs.LaidStatements.{LaidStatement, LaidPart, expression_value, laid_part, part_bytes, coded_templates, templates, parts_of, parts, Tile}
 use Rattle.rv_assemble_laws.specs.Symbols.{use_of, references_in}
 use Rattle.rv_assemble_laws.specs.IsObjectOf.{Numbering, relocation_at, relocations_from, IsNumbered, ArePartsNumbered}
 use Rattle.rv_sources_link_laws.proofs.moves.WalkLemmas.{relocations_join}
@@ -181,13 +181,13 @@ module _ (t : Tables) (all : List LaidStatement) (number : Numbering) (symbols :
   calm_fields o [] h = tt
   calm_fields o (f ∷ fs) (h, hs) = ((λ e. never (is_short_branch f.kind) h e), calm_fields o fs hs)
 
-  calm_parts : (o ordinal : ℕ) (ts : List Template) → AllByRecursion IsCalm ts → Goal (relocations_from number o (map (part_of ordinal) ts))
+  calm_parts : (o ordinal : ℕ) (ts : List Template) → AllByRecursion IsCalm ts → Goal (relocations_from number o (map (laid_part ordinal) ts))
   calm_parts o ordinal [] h = tt
   calm_parts o ordinal (q ∷ ts) (h, hs) =
-      join (λ r. is_short_branch r.kind ≡ true → Sort r) (map (relocation_at number o) (template_fields ordinal q)) (relocations_from number (o + length (part_bytes (part_of ordinal q))) (map (part_of ordinal) ts))
-      (calm_fields o (template_fields ordinal q) (template_calm ordinal q h)) (calm_parts (o + length (part_bytes (part_of ordinal q))) ordinal ts hs)
+      join (λ r. is_short_branch r.kind ≡ true → Sort r) (map (relocation_at number o) (template_fields ordinal q)) (relocations_from number (o + length (part_bytes (laid_part ordinal q))) (map (laid_part ordinal) ts))
+      (calm_fields o (template_fields ordinal q) (template_calm ordinal q h)) (calm_parts (o + length (part_bytes (laid_part ordinal q))) ordinal ts hs)
 
-  abbrev AreNumbered : List Part → Type 0
+  abbrev AreNumbered : List LaidPart → Type 0
   AreNumbered ps = ArePartsNumbered t all number symbols ps
 
   module _ (z : LaidStatement) (inside : In z zs) (m : Mnemonic) (os : List Operand) (is_kind : z.located.kind ≡ Instruction m os) where
@@ -237,8 +237,8 @@ module _ (t : Tables) (all : List LaidStatement) (number : Numbering) (symbols :
 
     -- a part alone
     one_part : (p : CodePart) (k : Kind) (i : Inst) → p ≡ Open_part k i → IsBranching z.located.options.rvc z.bytes m os k → (coded : List (List ℕ))
-        → AreNumbered (map (part_of z.located.ordinal) (coded_templates (part_fields t v z.located) (p ∷ []) coded))
-        → Goal (relocations_from number z.offset (map (part_of z.located.ordinal) (coded_templates (part_fields t v z.located) (p ∷ []) coded)))
+        → AreNumbered (map (laid_part z.located.ordinal) (coded_templates (part_fields t v z.located) (p ∷ []) coded))
+        → Goal (relocations_from number z.offset (map (laid_part z.located.ordinal) (coded_templates (part_fields t v z.located) (p ∷ []) coded)))
     one_part p k i e branching [] h = tt
     one_part p k i e branching (bytes ∷ coded) (h, hs) =
         join (λ r. is_short_branch r.kind ≡ true → Sort r) (map (relocation_at number z.offset) (part_fields t v z.located p)) []
@@ -249,23 +249,23 @@ module _ (t : Tables) (all : List LaidStatement) (number : Numbering) (symbols :
     all_named named some [] = tt
     all_named named some (f ∷ fs) = ((λ short. inr (record { z = z; inside = inside; named = named; place_is = refl; some = some })), all_named named some fs)
 
-    parcel_parts : (ps : List CodePart) (h : IsParcelled m ps) → 0 < z.bytes → (coded : List (List ℕ)) → Goal (relocations_from number z.offset (map (part_of z.located.ordinal) (coded_templates (part_fields t v z.located) ps coded)))
-    parcel_parts ps h some coded = subst (λ qs. Goal (relocations_from number z.offset (map (part_of z.located.ordinal) (coded_templates (part_fields t v z.located) qs coded)))) (sym h.is) (one coded)
+    parcel_parts : (ps : List CodePart) (h : IsParcelled m ps) → 0 < z.bytes → (coded : List (List ℕ)) → Goal (relocations_from number z.offset (map (laid_part z.located.ordinal) (coded_templates (part_fields t v z.located) ps coded)))
+    parcel_parts ps h some coded = subst (λ qs. Goal (relocations_from number z.offset (map (laid_part z.located.ordinal) (coded_templates (part_fields t v z.located) qs coded)))) (sym h.is) (one coded)
       where
-        one : (coded : List (List ℕ)) → Goal (relocations_from number z.offset (map (part_of z.located.ordinal) (coded_templates (part_fields t v z.located) (Open_part h.kind h.instruction ∷ []) coded)))
+        one : (coded : List (List ℕ)) → Goal (relocations_from number z.offset (map (laid_part z.located.ordinal) (coded_templates (part_fields t v z.located) (Open_part h.kind h.instruction ∷ []) coded)))
         one [] = tt
         one (bytes ∷ coded) =
             join (λ r. is_short_branch r.kind ≡ true → Sort r) (map (relocation_at number z.offset) (part_fields t v z.located (Open_part h.kind h.instruction))) []
             (all_named (ap names_parcel (is_kind ∙ ap (λ n. Instruction n os) h.named)) some (part_fields t v z.located (Open_part h.kind h.instruction))) tt
 
     by_sort : (ps : List CodePart) → Sorted z.located.options.rvc z.bytes m os ps → (IsParcelled m ps → 0 < z.bytes) → (coded : List (List ℕ))
-        → AreNumbered (map (part_of z.located.ordinal) (coded_templates (part_fields t v z.located) ps coded))
-        → Goal (relocations_from number z.offset (map (part_of z.located.ordinal) (coded_templates (part_fields t v z.located) ps coded)))
+        → AreNumbered (map (laid_part z.located.ordinal) (coded_templates (part_fields t v z.located) ps coded))
+        → Goal (relocations_from number z.offset (map (laid_part z.located.ordinal) (coded_templates (part_fields t v z.located) ps coded)))
     by_sort ps (inl calm) some coded h = calm_parts z.offset z.located.ordinal (coded_templates (part_fields t v z.located) ps coded) (code_calm t v z.located ps coded calm)
     by_sort ps (inr (inr parcel)) some coded h = parcel_parts ps parcel (some parcel) coded
     by_sort ps (inr (inl alone)) some coded h =
-        subst (λ qs. AreNumbered (map (part_of z.located.ordinal) (coded_templates (part_fields t v z.located) qs coded))
-        → Goal (relocations_from number z.offset (map (part_of z.located.ordinal) (coded_templates (part_fields t v z.located) qs coded)))) (sym alone.is)
+        subst (λ qs. AreNumbered (map (laid_part z.located.ordinal) (coded_templates (part_fields t v z.located) qs coded))
+        → Goal (relocations_from number z.offset (map (laid_part z.located.ordinal) (coded_templates (part_fields t v z.located) qs coded)))) (sym alone.is)
         (one_part (Open_part alone.kind alone.instruction) alone.kind alone.instruction refl alone.branching coded) h
 
   -- ---- a statement
@@ -289,8 +289,8 @@ module _ (t : Tables) (all : List LaidStatement) (number : Numbering) (symbols :
       let some : 0 < length (joined z.coded) = part_some named compressed h.kind h.instruction z.coded (subst (λ ps. AreCodedParts named compressed ps z.coded) h.is c.coded_as) in
       let size = c.size in omega (arith, some, size)
 
-  own : (z : LaidStatement) → In z zs → IsFine z → (kind : StatementKind) → z.located.kind ≡ kind → AreNumbered (map (part_of z.located.ordinal) (templates t z kind))
-      → Goal (relocations_from number z.offset (map (part_of z.located.ordinal) (templates t z kind)))
+  own : (z : LaidStatement) → In z zs → IsFine z → (kind : StatementKind) → z.located.kind ≡ kind → AreNumbered (map (laid_part z.located.ordinal) (templates t z kind))
+      → Goal (relocations_from number z.offset (map (laid_part z.located.ordinal) (templates t z kind)))
   own z inside fine (Label name) e h = tt
   own z inside fine (Numbered digits) e h = tt
   own z inside fine (Directs d) e h =
@@ -298,9 +298,9 @@ module _ (t : Tables) (all : List LaidStatement) (number : Numbering) (symbols :
       (directive_calm z.located.home.executable z.located.ordinal (expression_value t z.located) (contribution d) z.bytes)
   own z inside fine (Instruction m os) e h =
       let c = fine.sized m os e in
-      subst (λ o. AreNumbered (map (part_of z.located.ordinal) (coded_templates (part_fields t (expression_value t z.located) z.located) (unwrap_or o []) z.coded))
-      → Goal (relocations_from number z.offset (map (part_of z.located.ordinal) (coded_templates (part_fields t (expression_value t z.located) z.located) (unwrap_or o []) z.coded)))) (sym c.parts)
-      (by_sort z inside m os e c.ps (sorted (constants (expression_value t z.located)) z.located.options.rvc z.bytes m os c.ps (λ call. fine.uncut (ap calls e ∙ call)) c.parts) (parcel_some z m os c) z.coded) h
+      subst (λ o. AreNumbered (map (laid_part z.located.ordinal) (coded_templates (part_fields t (expression_value t z.located) z.located) (unwrap_or o []) z.coded))
+      → Goal (relocations_from number z.offset (map (laid_part z.located.ordinal) (coded_templates (part_fields t (expression_value t z.located) z.located) (unwrap_or o []) z.coded)))) (sym c.parts)
+      (by_sort z inside m os e c.ps (sorted (constants (expression_value t z.located)) z.located.options.rvc z.bytes m os c.ps (λ call. fine.uncut (ap is_call_statement e ∙ call)) c.parts) (parcel_some z m os c) z.coded) h
 
   pub branches : (q : ℕ) (ys : List LaidStatement) → ((z : LaidStatement) → In z ys → In z zs) → Tile t q ys → AllByRecursion IsFine ys → AreNumbered (parts t ys) → Goal (relocations_from number q (parts t ys))
   branches q [] inside tile fine h = tt

@@ -12,7 +12,7 @@ use Rattle.rv_source_laws.specs.Compressed.{names_parcel}
 use Rattle.rv_assemble_laws.specs.LaidStatements.{LaidStatement, laid_in}
 use Rattle.rv_assemble_laws.specs.IsObjectOf.{row_of, rows_at}
 use Rattle.rv_shorten.specs.Cutting.{In}
-use Rattle.rv_reach_laws.specs.Reach.{is_named, is_in_row}
+use Rattle.rv_reach_laws.specs.Reach.{is_parcel_statement, is_in_row}
 
 -- ---- the statement of an ordinal
 
@@ -35,7 +35,7 @@ said_from file k t (s ∷ ss) l (inr i) =
 
 -- of a file of sources it is what its source says
 pub named_at : (sources : List (List Statement)) (file : ℕ) (ss : List Statement) (l : Located) → slice_get sources (file - 1) ≡ Some ss → In l (located_from 1 1 (at_start ss) ss) → names_parcel l.kind ≡ true
-    → is_named sources file l.ordinal ≡ true
+    → is_parcel_statement sources file l.ordinal ≡ true
 named_at sources file ss l there i named =
     let r = said_from 1 1 (at_start ss) ss l i in
     let counted = r.counted in

@@ -12,13 +12,13 @@ use Rattle.rv_layout_laws.specs.declared.site.SiteKind.TheVariants.{Call, Paddin
 use Rattle.rv_layout_laws.specs.Calls.{site_at, bytes_of, InOrder, is_call as is_call_site}
 use Rattle.rv_layout_laws.proofs.ShorteningLemmas.{before_all}
 use Rattle.rv_object.specs.Object.{Section, Object, size_of}
-use Rattle.rv_object.specs.Valid.{is_even, is_alignment, are_paddings, fit_inside}
+use Rattle.rv_object.specs.Valid.{is_even, is_section_alignment, are_paddings, fit_inside}
 use Rattle.rv_object_laws.specs.Inputs.{InputSection, goes_to_text, inputs_from, inputs_of, inputs}
 use Rattle.rv_object_laws.specs.Moves.{moves, new_offset}
 use Rattle.rv_object_laws.specs.Whole.{IsWholeSection, IsWhole}
 use Rattle.rv_placement.specs.declared.placement.PlacedSection.{PlacedSection}
 use Rattle.rv_placement.specs.declared.placement.Placement.{Placement}
-use Rattle.rv_placement.specs.Placement.{placed_in, start_in, starts_of, section_in, section_at, IsPlacement}
+use Rattle.rv_placement.specs.Placement.{placed_in, start_in, starts_of, section_in, object_section, IsPlacement}
 use Rattle.rv_shorten.specs.Cutting.{In}
 use Rattle.rv_shorten.proofs.ChangesLemmas as changed
 use Rattle.rv_shorten.proofs.LineLemmas.{Later}
@@ -36,7 +36,7 @@ pub sounds : (os : List Object) → AllByRecursion IsWhole os → AllByRecursion
 sounds [] h = tt
 sounds (o ∷ os) (own, h) = (
   record {
-    alignments = parts_all (λ s. IsTrue (is_alignment s.alignment)) (λ s x. x.aligned) o.sections own.sections;
+    alignments = parts_all (λ s. IsTrue (is_section_alignment s.alignment)) (λ s x. x.aligned) o.sections own.sections;
     inside = parts_all (λ s. IsTrue (fit_inside s.contents s.relocations)) (λ s x. x.inside) o.sections own.sections;
     paddings = parts_all (λ s. IsTrue (are_paddings s.executable s.contents s.relocations)) (λ s x. x.paddings) o.sections own.sections;
     rows = own.lie;
@@ -178,7 +178,7 @@ abbrev pub IsLow : Placement → InputSection → Type 0
 IsLow p i = IsLowAt (starts_of p i.file i.index) i.section
 
 module _ (left : List Object) (start : ℕ) (p : Placement) (placed : IsPlacement left start p) where
-  low_at : (file index : ℕ) (s : Section) → section_at left file index ≡ Some s → IsLowAt (starts_of p (suc file) index) s
+  low_at : (file index : ℕ) (s : Section) → object_section left file index ≡ Some s → IsLowAt (starts_of p (suc file) index) s
   low_at file index s there =
       let found = place_of p.files.items left placed.each file index s there in
       let low = placed.low file index s found.0 there found.1 in

@@ -38,8 +38,8 @@ is_short_branch _ = false
 
 -- the statement of a file that has an ordinal names a parcel: that is its one form, within reach or
 -- not
-abbrev pub is_named : List (List Statement) → (file ordinal : ℕ) → Bool
-is_named sources file ordinal =
+abbrev pub is_parcel_statement : List (List Statement) → (file ordinal : ℕ) → Bool
+is_parcel_statement sources file ordinal =
     elim (option_and_then (λ ss. slice_get ss (ordinal - 1)) (slice_get sources (file - 1))) [
       | None ↦ false
       | Some s ↦ names_parcel s.kind
@@ -53,7 +53,8 @@ is_in_row section place r =
 -- a relocation is one of a statement that names a parcel
 abbrev pub is_of_parcel : List (List Statement) → InputSection → Relocation → Bool
 is_of_parcel sources i q =
-    list_any (λ r. is_in_row i.index q.place r && is_named sources i.file r.ordinal) i.object.rows
+    list_any (λ r. is_in_row i.index q.place r
+    && is_parcel_statement sources i.file r.ordinal) i.object.rows
 
 -- a field has a form that was chosen because it reaches
 abbrev pub is_chosen_branch : List (List Statement) → InputSection → Relocation → Bool

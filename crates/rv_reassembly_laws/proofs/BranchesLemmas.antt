@@ -23,14 +23,14 @@ use Rattle.rv_statement.specs.Statement.{StatementKind, Instruction, Operand, Re
 use Rattle.rv_unit_laws.specs.Bindings.{Bindings}
 use Rattle.rv_unit_laws.specs.Options.{first_options}
 use Rattle.rv_unit_laws.specs.Sections.{text_section}
-use Rattle.rv_unit_laws.specs.Tables.{Labelled, meaning, value}
+use Rattle.rv_unit_laws.specs.Tables.{Labelled, meaning, value_by_tables}
 use Rattle.rv_disasm.specs.Instruction.{is_tso}
 use Rattle.rv_disasm.specs.declared.code.Code.TheVariants.{Word, Parcel}
 use Rattle.rv_source_laws.specs.Located.{Located}
 use Rattle.rv_source_laws.specs.Program.{Program, form}
 use Rattle.rv_source_laws.specs.Sizes.{near_value, branch_item, item_by, item_by_kind, items_of}
 use Rattle.rv_source_laws.specs.Sized.{HaveSizes, statement_size}
-use Rattle.rv_raw_laws.specs.Statements.{distance, access_set, word_statement}
+use Rattle.rv_raw_laws.specs.Statements.{from_dot, access_set, word_statement}
 use Rattle.rv_raw_laws.specs.Statements.{IsSmall}
 use Rattle.rv_raw_laws.proofs.ValuesLemmas.{distance_value, addend_is}
 use Rattle.rv_raw_laws.specs.Meaning.{LeadsFromItself}
@@ -57,7 +57,7 @@ module _ (bs : Bindings) (ls : List Labelled) (all : List Located) where
 
   -- what `.` and a distance are at an ordinal
   abbrev value_in : ℤ → ℕ → Value
-  value_in z n = value (raw_tables bs ls) true n (record { section = 0; offset = 0 }) (distance z)
+  value_in z n = value_by_tables (raw_tables bs ls) true n (record { section = 0; offset = 0 }) (from_dot z)
 
   -- a target leads back to the statement itself
   near_is : (n line : ℕ) (k : StatementKind) (z : ℤ) → IsSmall z → Stands (place text_section n line k)
@@ -89,7 +89,7 @@ module _ (bs : Bindings) (ls : List Labelled) (all : List Located) where
       subst (λ o. LeadsFromItself j (branch_item (place text_section (suc j) line (word_statement (Branch op x))) FullBranch o)) (sym near)
       (omega arith, immediate x.offset valid.2)
   word_fine (Jal x) valid j line bytes stands =
-      jump_fine (x.rd == 0) j (place text_section (suc j) line (word_statement (Jal x))) bytes (Register x.rd ∷ Target (distance x.offset) ∷ [])
+      jump_fine (x.rd == 0) j (place text_section (suc j) line (word_statement (Jal x))) bytes (Register x.rd ∷ Target (from_dot x.offset) ∷ [])
   word_fine (Fence x) valid j line bytes stands = fence_fine (is_tso x) j (suc j) line bytes x.pred x.succ
   word_fine _ valid j line bytes stands = tt
 
@@ -126,7 +126,7 @@ module _ (bs : Bindings) (ls : List Labelled) (all : List Located) where
       sym has ∙ least ∙ ap (λ o. smallest (branch_item (place text_section n line (word_statement (Branch op x))) FullBranch o).forms) near
   word_full (Jal x) valid n line bytes r stands v has least =
       λ none. sym has ∙ least
-      ∙ ap (λ b. smallest (item_by (raw_tables bs ls) all (place text_section n line (word_statement (Jal x))) bytes (Register x.rd ∷ Target (distance x.offset) ∷ []) (if b then Some (Settled 4) else None)).forms) (eq-eqb x.rd 0 none)
+      ∙ ap (λ b. smallest (item_by (raw_tables bs ls) all (place text_section n line (word_statement (Jal x))) bytes (Register x.rd ∷ Target (from_dot x.offset) ∷ []) (if b then Some (Settled 4) else None)).forms) (eq-eqb x.rd 0 none)
   word_full _ valid n line bytes r stands v has least = tt
 
   step_full : (step : Step) → IsSpoken step → (n line bytes : ℕ) (r : Row) → Stands (place text_section n line (kind_of step))

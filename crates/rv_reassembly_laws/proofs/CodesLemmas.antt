@@ -24,13 +24,13 @@ use Rattle.rv_parse_laws.specs.Words.{form_with}
 use Rattle.rv_pseudo_laws.specs.Code.{Part, Open, Constants, b_type, jal, jump}
 use Rattle.rv_pseudo_laws.specs.Filled.{filled_part}
 use Rattle.rv_source_laws.specs.Program.{Mapped, Program, number as number_in}
-use Rattle.rv_source_laws.specs.Lines.{constants, parts_of, parts, form_in, operand_of, operand_value, field_value, distance as distance_to}
+use Rattle.rv_source_laws.specs.Lines.{constants, parts_by_size, parts, form_in, operand_of, operand_value, field_value, distance as distance_to}
 use Rattle.rv_disasm.specs.Instruction.{is_tso}
 use Rattle.rv_disasm.specs.declared.code.Code.{Code}
 use Rattle.rv_disasm.specs.declared.code.Code.TheVariants.{Word, Parcel}
-use Rattle.rv_disasm.specs.Raw.{IsSourced, bytes_of}
+use Rattle.rv_disasm.specs.Raw.{IsSourced, raw_bytes}
 use Rattle.rv_chain_laws.specs.Contents.{IsWritten}
-use Rattle.rv_raw_laws.specs.Statements.{IsSmall, access_set, code_statement, distance, number, operands_of, parcel_statement, word_statement}
+use Rattle.rv_raw_laws.specs.Statements.{IsSmall, access_set, code_statement, from_dot, constant_expression, operands_of, parcel_statement, word_statement}
 use Rattle.rv_raw_laws.specs.Meaning.{Leads, code_width, instruction_at, named_by, named_in_parcel, parcel_part, part_of, word_part}
 use Rattle.rv_raw_laws.proofs.MeaningLemmas.{filled_is, forms_are, parts_are}
 use Rattle.rv_raw_laws.proofs.NumbersLemmas.{bounded}
@@ -40,8 +40,8 @@ use Rattle.rv_reassembly_laws.proofs.AloneLemmas.{part_size, IsSingle, Alone, al
 
 -- what the expressions of a statement are worth where it stands
 pub record Told (p : Program) (s : Mapped) : Type 0 where
-  pub constant : (z : ℤ) → IsSmall z → constants p s.located (number z) ≡ Some z
-  pub target : (z : ℤ) → IsSmall z → number_in p s (distance z) ≡ add (add s.row.address 0) (wrapped z)
+  pub constant : (z : ℤ) → IsSmall z → constants p s.located (constant_expression z) ≡ Some z
+  pub target : (z : ℤ) → IsSmall z → number_in p s (from_dot z) ≡ add (add s.row.address 0) (wrapped z)
 
 -- ---- how far it leads
 
@@ -56,7 +56,7 @@ either true a = refl
 either false a = refl
 
 -- the field of a statement with a target takes how far it leads
-aims : (p : Program) (s : Mapped) → Told p s → (z : ℤ) → IsSmall z → operand_of s.located.kind ≡ Some (Target (distance z))
+aims : (p : Program) (s : Mapped) → Told p s → (z : ℤ) → IsSmall z → operand_of s.located.kind ≡ Some (Target (from_dot z))
     → (k : Kind) → field_value p s k s.row.address ≡ z
 aims p s told z small is k =
     ap (operand_value p s (operand_of s.located.kind)) (either (is_low_part k) s.row.address)
@@ -98,14 +98,14 @@ jump_wide n rd full = go (rd == 0) (λ e. full (eqb-true rd 0 e))
 
 module _ (v : Constants) (n : ℕ) where
   abbrev Widens : StatementKind → ℕ → Type 0
-  Widens k width = parts_of v false n k ≡ parts_of v false width k
+  Widens k width = parts_by_size v false n k ≡ parts_by_size v false width k
 
   fence_wide : (b : Bool) (before after : ℕ) → Widens (if b then Instruction words.FenceTso [] else Instruction words.Fence (Accesses (access_set before) ∷ Accesses (access_set after) ∷ [])) 4
   fence_wide true before after = refl
   fence_wide false before after = refl
 
   word_wide : (f : Format) → IsFull f n → Widens (word_statement f) 4
-  word_wide (Branch op x) full = ap (λ k. parts_of v false k (word_statement (Branch op x))) full
+  word_wide (Branch op x) full = ap (λ k. parts_by_size v false k (word_statement (Branch op x))) full
   word_wide (Jal x) full = ap (λ (ps : List Part). Some ps) (jump_wide n x.rd full)
   word_wide (Fence x) full = fence_wide (is_tso x) x.pred x.succ
   word_wide _ full = refl
@@ -188,22 +188,22 @@ module _ (p : Program) (s : Mapped) (bytes : List ℕ) (w : IsWritten p s bytes)
       let it = code_kind code in
       let n = s.row.bytes in
       let found : parts p s ≡ Some (part_of code ∷ []) =
-      ap (parts_of v s.located.options.rvc n) is ∙ ap (λ b. parts_of v b n (code_statement code)) rvc ∙ wide v n code full ∙ parts_are v told.constant code said in
+      ap (parts_by_size v s.located.options.rvc n) is ∙ ap (λ b. parts_by_size v b n (code_statement code)) rvc ∙ wide v n code full ∙ parts_are v told.constant code said in
       alone_written p s bytes it.0 it.1.0 (named_by code) (part_of code) w (is ∙ it.1.1) rvc (ap (form_in v) is ∙ forms_are v told.constant code said) found (single code)
 
   abbrev IsFilled : Code → Type 0
   IsFilled code = filled_part (field_value p s) s.row.address (part_of code) ≡ instruction_at code ∷ []
 
-  by_form : (c : Compressed) → Alone (named_in_parcel c) p s (parcel_part c) bytes → IsFilled (Parcel c) → bytes ≡ bytes_of (Parcel c)
+  by_form : (c : Compressed) → Alone (named_in_parcel c) p s (parcel_part c) bytes → IsFilled (Parcel c) → bytes ≡ raw_bytes (Parcel c)
   by_form (forms.J i) it filled = short_bytes (forms.J i) p s (parcel_part (forms.J i)) bytes (expansion (forms.J i)) it refl filled (once (forms.J i) (λ f e. of_jump f i e))
   by_form (forms.Beqz rs i) it filled = short_bytes (forms.Beqz rs i) p s (parcel_part (forms.Beqz rs i)) bytes (expansion (forms.Beqz rs i)) it refl filled (once (forms.Beqz rs i) (λ f e. of_equal f rs i e))
   by_form (forms.Bnez rs i) it filled = short_bytes (forms.Bnez rs i) p s (parcel_part (forms.Bnez rs i)) bytes (expansion (forms.Bnez rs i)) it refl filled (once (forms.Bnez rs i) (λ f e. of_unequal f rs i e))
   by_form c it filled = named_bytes c p s (parcel_part c) bytes it
 
-  by_code : (code : Code) → Alone (named_by code) p s (part_of code) bytes → IsFilled code → bytes ≡ bytes_of code
+  by_code : (code : Code) → Alone (named_by code) p s (part_of code) bytes → IsFilled code → bytes ≡ raw_bytes code
   by_code (Word i) it filled = word_bytes p s (part_of (Word i)) bytes i it (word_size (format_of i)) filled
   by_code (Parcel c) it filled = by_form c it filled
 
-  pub code_written : (code : Code) → IsSourced code → s.located.kind ≡ code_statement code → IsFullCode code s.row.bytes → bytes ≡ bytes_of code
+  pub code_written : (code : Code) → IsSourced code → s.located.kind ≡ code_statement code → IsFullCode code s.row.bytes → bytes ≡ raw_bytes code
   code_written code said is full =
       by_code code (alone code said is full) (filled_is (field_value p s) s.row.address code (leads code said p s told is))

@@ -10,10 +10,10 @@ use Rattle.rv_parse_laws.specs.Reading.{Reads, longest_source}
 use Rattle.rv_image.specs.Image.{Image}
 use Rattle.rv_image.specs.Linked.{Linked}
 use Rattle.rv_disasm.specs.declared.code.Code.{Code}
-use Rattle.rv_disasm.specs.Raw.{IsRawListing, IsSourced, bytes_of, lines_text, raw_lines}
+use Rattle.rv_disasm.specs.Raw.{IsRawListing, IsSourced, raw_bytes, lines_text, raw_lines}
 use Rattle.rv_chain_laws.specs.Contents.{IsLinked}
 use Rattle.rv_chain_laws.specs.Headline.{AllRead}
-use Rattle.rv_raw_laws.specs.Statements.{code_statement, numbered, raw_statements}
+use Rattle.rv_raw_laws.specs.Statements.{code_statement, on_lines, raw_statements}
 use Rattle.rv_reassembly_laws.specs.Reassembles.{RawListingsReassemble}
 use Rattle.rv_reassembly_laws.proofs.PlacesLemmas.{source_of}
 use Rattle.rv_reassembly_laws.proofs.StepsLemmas.{Step, A_code, The_entry, kind_of, bytes_at, IsSpoken, kinds_of}
@@ -26,9 +26,9 @@ kinds_are : (cs : List Code) → map code_statement cs ≡ kinds_of (steps_of cs
 kinds_are [] = refl
 kinds_are (c ∷ cs) = ap (λ ks. code_statement c ∷ ks) (kinds_are cs)
 
-bytes_are : (cs : List Code) → flat_map bytes_at (steps_of cs) ≡ flat_map bytes_of cs
+bytes_are : (cs : List Code) → flat_map bytes_at (steps_of cs) ≡ flat_map raw_bytes cs
 bytes_are [] = refl
-bytes_are (c ∷ cs) = ap (λ b. bytes_of c ++ b) (bytes_are cs)
+bytes_are (c ∷ cs) = ap (λ b. raw_bytes c ++ b) (bytes_are cs)
 
 instructions : (cs : List Code) → AllByRecursion IsInstruction (steps_of cs)
 instructions [] = tt
@@ -43,7 +43,7 @@ spoken [] after h = (tt, spoken_all after h)
 spoken (c ∷ cs) after (one, more) = (one, spoken cs after more)
 
 -- the statements of the listing are the source of its steps
-source_is : (before after : List Code) → numbered 1 (raw_statements before after) ≡ source_of (kinds_of (steps_of before ++ The_entry ∷ steps_of after))
+source_is : (before after : List Code) → on_lines 1 (raw_statements before after) ≡ source_of (kinds_of (steps_of before ++ The_entry ∷ steps_of after))
 source_is before after =
     ap source_of
     (
@@ -52,16 +52,16 @@ source_is before after =
     ∙ sym (map-append kind_of (steps_of before) (The_entry ∷ steps_of after))
     )
 
-whole_bytes : (before after : List Code) → flat_map bytes_at (steps_of before ++ The_entry ∷ steps_of after) ≡ flat_map bytes_of (before ++ after)
+whole_bytes : (before after : List Code) → flat_map bytes_at (steps_of before ++ The_entry ∷ steps_of after) ≡ flat_map raw_bytes (before ++ after)
 whole_bytes before after =
     flat_map-append bytes_at (steps_of before) (The_entry ∷ steps_of after)
-    ∙ ap (λ b. b ++ flat_map bytes_at (steps_of after)) (bytes_are before) ∙ ap (λ b. flat_map bytes_of before ++ b) (bytes_are after)
-    ∙ sym (flat_map-append bytes_of before after)
+    ∙ ap (λ b. b ++ flat_map bytes_at (steps_of after)) (bytes_are before) ∙ ap (λ b. flat_map raw_bytes before ++ b) (bytes_are after)
+    ∙ sym (flat_map-append raw_bytes before after)
 
 -- what the lines read as, and that it is the only reading
 pub record Readings : Type 0 where
   pub reads : (before after : List Code) → AllByRecursion IsSourced (before ++ after) → length (lines_text (raw_lines before after)) ≤ longest_source
-      → Reads (lines_text (raw_lines before after)) (numbered 1 (raw_statements before after))
+      → Reads (lines_text (raw_lines before after)) (on_lines 1 (raw_statements before after))
   pub once : (bytes : List ℕ) (ss others : List Statement) → Reads bytes ss → Reads bytes others → ss ≡ others
 
 module _ (readings : Readings) (image : Image) (text : List ℕ) (start : ℕ) (relax gc : Bool) (l : Linked) (listing : IsRawListing image text) (at : start ≡ listing.segment.address) where
@@ -78,7 +78,7 @@ module _ (readings : Readings) (image : Image) (text : List ℕ) (start : ℕ) (
       let there : IsLinked (source_of (kinds_of (before ++ The_entry ∷ after)) ∷ []) start relax gc l = subst (λ x. IsLinked (x ∷ []) start relax gc l) is h in (
         text_is before after (instructions listing.before) (instructions listing.after) all start relax gc l low there ∙ whole_bytes listing.before listing.after ∙ sym listing.bytes,
         entry_is before after (instructions listing.before) (instructions listing.after) all start relax gc l low there
-            ∙ ap (λ b. start + length b) (bytes_are listing.before) ∙ ap (λ a. a + length (flat_map bytes_of listing.before)) at ∙ sym listing.entry,
+            ∙ ap (λ b. start + length b) (bytes_are listing.before) ∙ ap (λ a. a + length (flat_map raw_bytes listing.before)) at ∙ sym listing.entry,
       )
 
   of_text : (ss : List Statement) → Reads text ss → ss ≡ source_of (kinds_of (before ++ The_entry ∷ after))

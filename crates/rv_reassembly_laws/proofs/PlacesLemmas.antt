@@ -17,9 +17,9 @@ use Rattle.rv_unit_laws.specs.Options.{Options, first_options}
 use Rattle.rv_unit_laws.specs.Sections.{Section, text_section, section_at}
 use Rattle.rv_unit_laws.specs.Tables.{Tables, Labelled, empty_extent, at_start, opened_of, here, is_defined, after, after_all, tables}
 use Rattle.rv_source_laws.specs.Located.{Located, located_now, located_from, without_address, left_of, left, has_row}
-use Rattle.rv_source_laws.specs.Program.{MaybeMapped, Mapped, first_of, statements_of, mapped_of}
+use Rattle.rv_source_laws.specs.Program.{MaybeMapped, Mapped, first_of, mapped_statements, mapped_of}
 use Rattle.rv_source_laws.specs.Fits.{identity_of_row, identity_of}
-use Rattle.rv_raw_laws.specs.Statements.{numbered}
+use Rattle.rv_raw_laws.specs.Statements.{on_lines}
 
 -- ---- statements
 
@@ -38,7 +38,7 @@ global_start = Directs (Binds Global (codes "_start" ∷ []))
 
 -- a source of the three directives and others
 abbrev pub source_of : List StatementKind → List Statement
-source_of kinds = numbered 1 (no_rvc ∷ no_relax ∷ global_start ∷ kinds)
+source_of kinds = on_lines 1 (no_rvc ∷ no_relax ∷ global_start ∷ kinds)
 
 -- ---- tables
 
@@ -74,12 +74,12 @@ after_is bs ls n k (inr (name, e)) =
     let it = labelled_is (is_defined (raw_tables bs ls) n name) bs ls (labels_with bs ls n name) in
     (it.0, ap (after (raw_tables bs ls) n) e ∙ it.1)
 
-tables_from : (bs : Bindings) (ls : List Labelled) (n line : ℕ) (ks : List StatementKind) → AllByRecursion IsPlaced ks → Turns bs (after_all (raw_tables bs ls) n (numbered line ks))
+tables_from : (bs : Bindings) (ls : List Labelled) (n line : ℕ) (ks : List StatementKind) → AllByRecursion IsPlaced ks → Turns bs (after_all (raw_tables bs ls) n (on_lines line ks))
 tables_from bs ls n line [] placed = (ls, refl)
 tables_from bs ls n line (k ∷ ks) (one, more) =
     let now = after_is bs ls n k one in
     let rest = tables_from bs now.0 (suc n) (line + 1) ks more in
-    (rest.0, ap (λ t. after_all t (suc n) (numbered (line + 1) ks)) now.1 ∙ rest.1)
+    (rest.0, ap (λ t. after_all t (suc n) (on_lines (line + 1) ks)) now.1 ∙ rest.1)
 
 -- those of the source
 pub tables_are : (ks : List StatementKind) → AllByRecursion IsPlaced ks → Turns (bindings_of (source_of ks)) (tables (source_of ks))
@@ -138,12 +138,12 @@ now_is bs ls n line k (inr (name, e)) =
     (ap (λ home. place home n line (Label name)) (label_home (is_defined (raw_tables bs ls) n name) bs ls (labels_with bs ls n name)))
 
 from_is : (bs : Bindings) (ls : List Labelled) (n line : ℕ) (ks : List StatementKind) → AllByRecursion IsPlaced ks
-    → located_from 1 n (raw_tables bs ls) (numbered line ks) ≡ places text_section n line ks
+    → located_from 1 n (raw_tables bs ls) (on_lines line ks) ≡ places text_section n line ks
 from_is bs ls n line [] placed = refl
 from_is bs ls n line (k ∷ ks) (one, more) =
     let next = after_is bs ls n k one in
-    ap (λ x. x ∷ located_from 1 (suc n) (after (raw_tables bs ls) n k) (numbered (line + 1) ks)) (now_is bs ls n line k one)
-    ∙ ap (λ t. place text_section n line k ∷ located_from 1 (suc n) t (numbered (line + 1) ks)) next.1
+    ap (λ x. x ∷ located_from 1 (suc n) (after (raw_tables bs ls) n k) (on_lines (line + 1) ks)) (now_is bs ls n line k one)
+    ∙ ap (λ t. place text_section n line k ∷ located_from 1 (suc n) t (on_lines (line + 1) ks)) next.1
     ∙ ap (λ xs. place text_section n line k ∷ xs) (from_is bs next.0 (suc n) (line + 1) ks more)
 
 pub located_are : (ks : List StatementKind) → AllByRecursion IsPlaced ks → located_from 1 1 (at_start (source_of ks)) (source_of ks) ≡ whole text_section ks
@@ -177,12 +177,12 @@ pub whole_home : (home : Section) (ks : List StatementKind) → AllByRecursion (
 whole_home home ks = (refl, (refl, (refl, places_home home 4 4 ks)))
 
 -- what all say, each says in its seat
-pub all_statements : (P : Located → Type 0) (ss : List Located) (rows : List Row) → AllByRecursion P ss → AllByRecursion (λ (e : MaybeMapped). P e.located) (statements_of ss rows)
+pub all_statements : (P : Located → Type 0) (ss : List Located) (rows : List Row) → AllByRecursion P ss → AllByRecursion (λ (e : MaybeMapped). P e.located) (mapped_statements ss rows)
 all_statements P [] rows h = tt
 all_statements P (s ∷ ss) rows (q, qs) = go (has_row s) (all_statements P ss (drop 1 rows) qs) (all_statements P ss rows qs)
   where
-    go : (b : Bool) → AllByRecursion (λ (e : MaybeMapped). P e.located) (statements_of ss (drop 1 rows)) → AllByRecursion (λ (e : MaybeMapped). P e.located) (statements_of ss rows)
-        → AllByRecursion (λ (e : MaybeMapped). P e.located) (if b then record { located = s; row = first_of rows } ∷ statements_of ss (drop 1 rows) else record { located = s; row = None } ∷ statements_of ss rows)
+    go : (b : Bool) → AllByRecursion (λ (e : MaybeMapped). P e.located) (mapped_statements ss (drop 1 rows)) → AllByRecursion (λ (e : MaybeMapped). P e.located) (mapped_statements ss rows)
+        → AllByRecursion (λ (e : MaybeMapped). P e.located) (if b then record { located = s; row = first_of rows } ∷ mapped_statements ss (drop 1 rows) else record { located = s; row = None } ∷ mapped_statements ss rows)
     go true with_row without = (q, with_row)
     go false with_row without = (q, without)
 
@@ -212,13 +212,13 @@ heads es =
 shorter : (x y : ℕ) → suc x ≡ suc y → x ≡ y
 shorter x y e = omega (arith, e)
 
-statements_from : (n line : ℕ) (ks : List StatementKind) (rows : List Row) → length rows ≡ length ks → statements_of (places text_section n line ks) rows ≡ seats n line ks rows
+statements_from : (n line : ℕ) (ks : List StatementKind) (rows : List Row) → length rows ≡ length ks → mapped_statements (places text_section n line ks) rows ≡ seats n line ks rows
 statements_from n line [] rows e = refl
 statements_from n line (k ∷ ks) [] e = absurd (omega (arith, e))
 statements_from n line (k ∷ ks) (r ∷ rs) e =
     ap (λ xs. record { located = place text_section n line k; row = Some r } ∷ xs) (statements_from (suc n) (line + 1) ks rs (shorter (length rs) (length ks) e))
 
-pub statements_are : (ks : List StatementKind) (rows : List Row) → length rows ≡ length ks → statements_of (whole text_section ks) rows ≡ heads (seats 4 4 ks rows)
+pub statements_are : (ks : List StatementKind) (rows : List Row) → length rows ≡ length ks → mapped_statements (whole text_section ks) rows ≡ heads (seats 4 4 ks rows)
 statements_are ks rows e = ap heads (statements_from 4 4 ks rows e)
 
 pub mapped_are : (n line : ℕ) (ks : List StatementKind) (rows : List Row) → mapped_of (seats n line ks rows) ≡ sites n line ks rows

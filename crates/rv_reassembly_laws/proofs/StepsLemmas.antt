@@ -16,9 +16,9 @@ use Rattle.rv_unit_laws.specs.Tables.{opened_of, stands, meaning, tables}
 use Rattle.rv_source_laws.specs.Program.{MaybeMapped, Program, program, address_of, address_at, address, tables_in, resolved, form as form_in_file, place_of}
 use Rattle.rv_source_laws.specs.Lines.{Line, form_at}
 use Rattle.rv_disasm.specs.declared.code.Code.{Code}
-use Rattle.rv_disasm.specs.Raw.{IsSourced, bytes_of}
+use Rattle.rv_disasm.specs.Raw.{IsSourced, raw_bytes}
 use Rattle.rv_chain_laws.specs.Contents.{HasSizes, AreEncoded, IsWritten}
-use Rattle.rv_raw_laws.specs.Statements.{code_statement, distance}
+use Rattle.rv_raw_laws.specs.Statements.{code_statement, from_dot}
 use Rattle.rv_raw_laws.proofs.ValuesLemmas.{number_constant, distance_value}
 use Rattle.rv_reassembly_laws.proofs.CodesLemmas.{Told, IsFullCode, code_kind, code_written}
 use Rattle.rv_reassembly_laws.proofs.PlacesLemmas.{IsPlaced, source_of, Turns, site, has_ordinal, IsFound}
@@ -32,7 +32,7 @@ kind_of (A_code code) = code_statement code
 kind_of The_entry = Label (codes "_start")
 
 abbrev pub bytes_at : Step → List ℕ
-bytes_at (A_code code) = bytes_of code
+bytes_at (A_code code) = raw_bytes code
 bytes_at The_entry = []
 
 -- a source can say it
@@ -63,7 +63,7 @@ module _ (ks : List StatementKind) (m : Map) (turns : Turns (bindings_of (source
     target = λ z small.
         let s = site n line k r in
         let here : meaning (tables_in p 1) true n (place_of s.located) Here ≡ Open = ap (λ t. stands (opened_of t) (place_of s.located)) turns.1 in
-        let says : form_in_file p s.located (distance z) ≡ Symbolic Here Open (wrapped z) =
+        let says : form_in_file p s.located (from_dot z) ≡ Symbolic Here Open (wrapped z) =
         distance_value (λ q. meaning (tables_in p 1) true n (place_of s.located) q) 0 0 z small (inr here) ∙ ap (λ a. Symbolic Here a (wrapped z)) here in
         let there : address p s.located Here ≡ Some (add r.address 0) = ap (option_map (λ a. add a 0)) at in
         ap (λ v. unwrap_or (resolved (λ q. address p s.located q) v) 0) says

@@ -15,7 +15,7 @@ use Rattle.rv_unit_laws.specs.Sections.{Section, goes_to_text, text_section}
 use Rattle.rv_unit_laws.specs.Tables.{Tables, opened_of, tables}
 use Rattle.rv_image.specs.Linked.{Linked}
 use Rattle.rv_source_laws.specs.Located.{without_address, left, has_row}
-use Rattle.rv_source_laws.specs.Program.{MaybeMapped, Mapped, Program, Export, program, statements_of, mapped_of, address_of, candidates, chosen}
+use Rattle.rv_source_laws.specs.Program.{MaybeMapped, Mapped, Program, Export, program, mapped_statements, mapped_of, address_of, candidates, chosen}
 use Rattle.rv_source_laws.specs.Lines.{form_at}
 use Rattle.rv_source_laws.specs.Fits.{identity_of_row, identity_of, InputSection, mapped_in, input_section, input_sections, input_sections_of_file, Follow, Stand}
 use Rattle.rv_source_laws.specs.Resolves.{is_label, run_start}
@@ -154,7 +154,7 @@ module _ (before after : List Step) (earlier : AllByRecursion IsInstruction befo
         let start_at = begun (chosen p (codes "_start")) l.map.entry h.resolves.entry in
         let x = start_at.0 in
         let homes : AllByRecursion (λ (e : MaybeMapped). IsHome (home_of l.map.drops) e.located) p.statements =
-        subst (λ ss. AllByRecursion (λ (e : MaybeMapped). IsHome (home_of l.map.drops) e.located) (statements_of ss rows)) (sym (left_is l.map.drops ks (all_placed steps)))
+        subst (λ ss. AllByRecursion (λ (e : MaybeMapped). IsHome (home_of l.map.drops) e.located) (mapped_statements ss rows)) (sym (left_is l.map.drops ks (all_placed steps)))
         (all_statements (IsHome (home_of l.map.drops)) (whole (home_of l.map.drops) ks) rows (whole_home (home_of l.map.drops) ks)) in
         let home = all_found (λ (y : Export). IsHome (home_of l.map.drops) y.statement.located) (λ (y : Export). bytes_eq y.name (codes "_start")) (candidates p) x start_at.1.0
         (all_candidates (λ (e : MaybeMapped). IsHome (home_of l.map.drops) e.located) p homes) in
@@ -167,7 +167,7 @@ module _ (before after : List Step) (earlier : AllByRecursion IsInstruction befo
     count = count_rows ks rows (subst (λ ss. map identity_of_row rows ≡ map identity_of (filter has_row ss)) left_whole h.fits.rows)
 
     statements : p.statements ≡ heads (seats 4 4 ks rows)
-    statements = ap (λ ss. statements_of ss rows) left_whole ∙ statements_are ks rows count
+    statements = ap (λ ss. mapped_statements ss rows) left_whole ∙ statements_are ks rows count
 
     mapped : p.mapped ≡ sites 4 4 ks rows
     mapped = ap mapped_of statements ∙ mapped_are 4 4 ks rows

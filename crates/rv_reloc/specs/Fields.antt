@@ -16,42 +16,42 @@ modulo bits z = unsigned_abs (int_rem_euclid z (pos (2 ^ bits)))
 
 -- `count` bits of an immediate from its bit `low` on, which stand in the instruction from bit
 -- `place` on
-pub data Piece : Type 0 where
-  bits : (low count place : ℕ) → Piece
+pub data ImmediateBits : Type 0 where
+  bits : (low count place : ℕ) → ImmediateBits
 
 -- the immediates of the formats, by their pieces from the lowest bit of the instruction on
-abbrev pub i_type : List Piece
+abbrev pub i_type : List ImmediateBits
 i_type = bits 0 12 20 ∷ []
 
-abbrev pub s_type : List Piece
+abbrev pub s_type : List ImmediateBits
 s_type = bits 0 5 7 ∷ bits 5 7 25 ∷ []
 
-abbrev pub b_type : List Piece
+abbrev pub b_type : List ImmediateBits
 b_type = bits 11 1 7 ∷ bits 1 4 8 ∷ bits 5 6 25 ∷ bits 12 1 31 ∷ []
 
 -- of the upper 20 bits
-abbrev pub u_type : List Piece
+abbrev pub u_type : List ImmediateBits
 u_type = bits 0 20 12 ∷ []
 
-abbrev pub j_type : List Piece
+abbrev pub j_type : List ImmediateBits
 j_type = bits 12 8 12 ∷ bits 11 1 20 ∷ bits 1 10 21 ∷ bits 20 1 31 ∷ []
 
 -- c.beqz and c.bnez
-abbrev pub cb_type : List Piece
+abbrev pub cb_type : List ImmediateBits
 cb_type = bits 5 1 2 ∷ bits 1 2 3 ∷ bits 6 2 5 ∷ bits 3 2 10 ∷ bits 8 1 12 ∷ []
 
 -- c.j
-abbrev pub cj_type : List Piece
+abbrev pub cj_type : List ImmediateBits
 cj_type =
     bits 5 1 2 ∷ bits 1 3 3 ∷ bits 7 1 6 ∷ bits 6 1 7 ∷ bits 10 1 8 ∷ bits 8 2 9 ∷ bits 4 1 11 ∷
     bits 11 1 12 ∷ []
 
 -- the low six bits of a byte
-abbrev pub low_six : List Piece
+abbrev pub low_six : List ImmediateBits
 low_six = bits 0 6 0 ∷ []
 
 -- from bit `at` on: a number's bits at the pieces, and the field's own bits between them and above
-abbrev pub with_pieces : (at : ℕ) → List Piece → (number field : ℕ) → ℕ
+abbrev pub with_pieces : (at : ℕ) → List ImmediateBits → (number field : ℕ) → ℕ
 with_pieces at [] number field = field / 2 ^ at * 2 ^ at
 with_pieces at (bits low count place ∷ pieces) number field =
     field / 2 ^ at % 2 ^ (place - at) * 2 ^ at
@@ -59,27 +59,27 @@ with_pieces at (bits low count place ∷ pieces) number field =
     + with_pieces (place + count) pieces number field
 
 -- the field with its immediate set to a number
-abbrev pub with_immediate : List Piece → (number field : ℕ) → ℕ
+abbrev pub with_immediate : List ImmediateBits → (number field : ℕ) → ℕ
 with_immediate pieces number field = with_pieces 0 pieces number field
 
 -- the immediate that stands at these pieces
-abbrev pub immediate_at : List Piece → (field : ℕ) → ℕ
+abbrev pub immediate_at : List ImmediateBits → (field : ℕ) → ℕ
 immediate_at [] field = 0
 immediate_at (bits low count place ∷ pieces) field =
     field / 2 ^ place % 2 ^ count * 2 ^ low + immediate_at pieces field
 
 -- the field's other bits: zeros stand at the pieces
-abbrev pub rest_of : List Piece → (field : ℕ) → ℕ
+abbrev pub rest_of : List ImmediateBits → (field : ℕ) → ℕ
 rest_of pieces field = with_immediate pieces 0 field
 
 -- of two fields: the second has this immediate, and every other bit of the first
-pub record IsSetTo (pieces : List Piece) (number old new : ℕ) : Type 0 where
+pub record IsSetTo (pieces : List ImmediateBits) (number old new : ℕ) : Type 0 where
   pub immediate : immediate_at pieces new ≡ number
   pub rest : rest_of pieces new ≡ rest_of pieces old
 
 -- the law of a format whose immediate has `count` bits, of which the lowest are zeros up to a
 -- multiple of `unit`
-abbrev pub IsHeld : List Piece → (count unit : ℕ) → Type 0
+abbrev pub IsHeld : List ImmediateBits → (count unit : ℕ) → Type 0
 IsHeld pieces count unit =
     (number field : ℕ) → number < 2 ^ count → number % unit ≡ 0
     → IsSetTo pieces number field (with_immediate pieces number field)
@@ -130,8 +130,8 @@ written kind.Set32 v field = modulo 32 v
 written kind.Pcrel32 v field = modulo 32 v
 
 -- the widths of fields
-abbrev pub IsWidth : ℕ → Type 0
-IsWidth n = (n ≡ 0) ⊎ (n ≡ 1) ⊎ (n ≡ 2) ⊎ (n ≡ 4) ⊎ (n ≡ 8)
+abbrev pub IsFieldWidth : ℕ → Type 0
+IsFieldWidth n = (n ≡ 0) ⊎ (n ≡ 1) ⊎ (n ≡ 2) ⊎ (n ≡ 4) ⊎ (n ≡ 8)
 
 -- the bytes of the field after a value is written to them
 abbrev pub patched : Kind → (value : ℤ) (bytes : List ℕ) → List ℕ

@@ -3,11 +3,11 @@
 ghost use Rattle.std.specs.Prelude.{◌≡◌, ◌<◌, ◌*◌, ◌^◌, pos, ◌+ℤ◌, ◌-ℤ◌, length};
 ghost use Rattle.rv_isa_laws.specs.Bytes.{little_endian, number_in};
 ghost use Rattle.rv_isa_laws.specs.Halves.{hi, lo};
-ghost use Rattle.rv_reloc.specs.Fields.{modulo, IsWidth};
+ghost use Rattle.rv_reloc.specs.Fields.{modulo, IsFieldWidth};
 
 /// The number of a field's bytes, the lowest first.
 pub(crate) fn number(field: &[u8]) -> u64
-    requires { IsWidth (length field.now) }
+    requires { IsFieldWidth (length field.now) }
     ensures value { result ≡ number_in field.now }
     ensures below { result < 2 ^ (8 * length field.now) }
 {
@@ -23,7 +23,7 @@ pub(crate) fn number(field: &[u8]) -> u64
 
 /// Writes a number to the field, the lowest byte first, modulo the field's width.
 pub(crate) fn put(field: &mut [u8], number: u64)
-    requires { IsWidth (length field.old) }
+    requires { IsFieldWidth (length field.old) }
     ensures { field.new ≡ little_endian (length field.old) number }
 {
     let bytes = number.to_le_bytes();

@@ -9,7 +9,7 @@ use Rattle.rv_object_laws.specs.Names.{global_names}
 use Rattle.rv_object_laws.specs.Without.{without, without_from}
 use Rattle.rv_resolve.specs.declared.names.Names.{Names}
 use Rattle.rv_resolve.specs.Chosen.{seen, seen_of, definers_from, definers_of, names_in}
-use Rattle.rv_resolve.specs.Names.{Answers, outside, IsNames}
+use Rattle.rv_resolve.specs.Names.{AnswersFirst, outside, IsNames}
 use Rattle.rv_resolve.proofs.ChosenLemmas.{global_names_are}
 
 pub same_names : (os left : List Object) → seen_of left ≡ seen_of os → global_names left ≡ global_names os
@@ -17,7 +17,7 @@ same_names os left same = sym (global_names_are left) ∙ ap (λ q. names_in (de
 
 pub still_names : (os left : List Object) (names : Names) → seen_of left ≡ seen_of os → IsNames os names → IsNames left names
 still_names os left names same h = record {
-  answers = subst (λ q. Answers (definers_of q) names.definitions) (sym same) h.answers;
+  answers = subst (λ q. AnswersFirst (definers_of q) names.definitions) (sym same) h.answers;
   distinct = subst AreDistinct (sym (same_names os left same)) h.distinct;
   meanings = h.meanings ∙ ap (λ q. map (map (outside (definers_of q))) q) (sym same);
 }

@@ -10,7 +10,7 @@ use Rattle.rv_object.specs.Bindings.{is_global, is_weak}
 use Rattle.rv_object_laws.specs.Names.{Export, is_export, exports_in, exports_from, exports_where, names_of, candidates, chosen, global_names}
 use Rattle.rv_resolve.specs.declared.definitions.Exported.{Exported}
 use Rattle.rv_resolve.specs.Chosen.{seen, seen_of, Definer, definers_in, definers_from, definitions, names_in, first_named, definer}
-use Rattle.rv_resolve.specs.Names.{kept_of, IsAt}
+use Rattle.rv_resolve.specs.Names.{exported_of, IsAt}
 use Rattle.rv_resolve.proofs.HeldLemmas.{IsHeld, candidates_held, all_found, found_passes}
 use Rattle.rv_resolve.proofs.TableLemmas.{same_bytes, still_some, still_none}
 
@@ -77,16 +77,16 @@ chosen_named os name e is = same_bytes e.symbol.name name (found_passes (λ (f :
 
 -- what is kept of it
 abbrev pub kept : Export → Exported
-kept e = kept_of (definer_of e)
+kept e = exported_of (definer_of e)
 
-pub kept_is : (os : List Object) (name : List ℕ) → option_map kept_of (definer os name) ≡ option_map kept (chosen os name)
-kept_is os name = ap (option_map kept_of) (definer_is os name) ∙ by (chosen os name)
+pub kept_is : (os : List Object) (name : List ℕ) → option_map exported_of (definer os name) ≡ option_map kept (chosen os name)
+kept_is os name = ap (option_map exported_of) (definer_is os name) ∙ by (chosen os name)
   where
-    by : (f : Option Export) → option_map kept_of (option_map definer_of f) ≡ option_map kept f
+    by : (f : Option Export) → option_map exported_of (option_map definer_of f) ≡ option_map kept f
     by None = refl
     by (Some e) = refl
 
-pub chosen_at : (os : List Object) (name : List ℕ) (x : Exported) → option_map kept_of (definer os name) ≡ Some x → (e : Export) × (chosen os name ≡ Some e) × IsAt os x e
+pub chosen_at : (os : List Object) (name : List ℕ) (x : Exported) → option_map exported_of (definer os name) ≡ Some x → (e : Export) × (chosen os name ≡ Some e) × IsAt os x e
 chosen_at os name x is = by (chosen os name) refl (sym (kept_is os name) ∙ is)
   where
     by : (f : Option Export) → chosen os name ≡ f → option_map kept f ≡ Some x → (e : Export) × (f ≡ Some e) × IsAt os x e
@@ -99,8 +99,8 @@ chosen_at os name x is = by (chosen os name) refl (sym (kept_is os name) ∙ is)
           subst (λ y. IsAt os y e) same (record { file = held.counted; object = held.object; symbol = held.symbol }),
         )
 
-pub chosen_none : (os : List Object) (name : List ℕ) → option_map kept_of (definer os name) ≡ None → chosen os name ≡ None
+pub chosen_none : (os : List Object) (name : List ℕ) → option_map exported_of (definer os name) ≡ None → chosen os name ≡ None
 chosen_none os name is = still_none kept (chosen os name) (sym (kept_is os name) ∙ is)
 
-pub kept_some : (os : List Object) (name : List ℕ) → is_some (option_map kept_of (definer os name)) ≡ is_some (chosen os name)
+pub kept_some : (os : List Object) (name : List ℕ) → is_some (option_map exported_of (definer os name)) ≡ is_some (chosen os name)
 kept_some os name = ap is_some (kept_is os name) ∙ still_some kept (chosen os name)

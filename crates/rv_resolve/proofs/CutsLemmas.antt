@@ -13,8 +13,8 @@ use Rattle.rv_object_laws.specs.Moves.{Move}
 use Rattle.rv_object_laws.specs.Names.{is_defined}
 use Rattle.rv_shorten.specs.declared.object.ShortObject.{ShortObject}
 use Rattle.rv_shorten.specs.Cutting.{cut_definition, cut_relocation, cut_symbol}
-use Rattle.rv_shorten.specs.View.{moves_of, short_object_of}
-use Rattle.rv_resolve.specs.Moved.{moved_in, symbols_of}
+use Rattle.rv_shorten.specs.View.{moves_by_section, short_object_of}
+use Rattle.rv_resolve.specs.Moved.{moved_in, short_symbols}
 use Rattle.rv_resolve.specs.Undefined.{first_some, has_address}
 
 -- ---- the symbols that it has
@@ -23,8 +23,8 @@ map_twice : {X Y Z : Type 0} (f : Y → Z) (g : X → Y) (xs : List X) → map (
 map_twice f g [] = refl
 map_twice f g (x ∷ xs) = ap (λ l. f (g x) ∷ l) (map_twice f g xs)
 
-pub symbols_are : (o : ShortObject) → symbols_of o ≡ (short_object_of o).symbols
-symbols_are o = map_twice (cut_symbol (moves_of o)) symbol_of o.whole.now.symbols.items
+pub symbols_are : (o : ShortObject) → short_symbols o ≡ (short_object_of o).symbols
+symbols_are o = map_twice (cut_symbol (moves_by_section o)) symbol_of o.whole.now.symbols.items
 
 pub many_symbols : (o : ShortObject) → length (short_object_of o).symbols ≡ length o.whole.now.symbols.items
 many_symbols o = ap length (sym (symbols_are o)) ∙ length-map o.whole.now.symbols.items (moved_in o)

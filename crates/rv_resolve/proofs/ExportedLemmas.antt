@@ -10,7 +10,7 @@ use Rattle.rv_object.specs.Object.{Symbol, Object}
 use Rattle.rv_object.specs.Bindings.{is_global, is_shared}
 use Rattle.rv_object_laws.specs.Names.{Export, is_defined, is_export, chosen, is_this, is_chosen, global_names}
 use Rattle.rv_resolve.specs.Chosen.{definer}
-use Rattle.rv_resolve.specs.Names.{kept_of, is_kept}
+use Rattle.rv_resolve.specs.Names.{exported_of, is_kept}
 use Rattle.rv_resolve.specs.Shown.{export_at, is_chosen_at}
 use Rattle.rv_resolve.proofs.ChosenLemmas.{kept, kept_is, chosen_held}
 use Rattle.rv_resolve.proofs.HeldLemmas.{IsHeld, held_one}
@@ -35,14 +35,14 @@ module _ (os : List Object) (file : ℕ) (o : Object) (index : ℕ) (s : Symbol)
   it = export_at file o index s
 
   -- as the table names it
-  kept_this : is_kept file index (option_map kept_of (definer os s.name)) ≡ is_chosen os it
+  kept_this : is_kept file index (option_map exported_of (definer os s.name)) ≡ is_chosen os it
   kept_this = ap (is_kept file index) (kept_is os s.name) ∙ by (chosen os s.name) refl
     where
       by : (f : Option Export) → chosen os s.name ≡ f → is_kept file index (option_map kept f) ≡ is_this it f
       by None is = refl
       by (Some e) is = same_place file index it e refl refl (chosen_held os s.name e is).counted
 
-  pub weak_chosen : s.binding ≡ bindings.Weak → (is_defined s.definition && is_kept file index (option_map kept_of (definer os s.name))) ≡ is_chosen_at os file o index s
+  pub weak_chosen : s.binding ≡ bindings.Weak → (is_defined s.definition && is_kept file index (option_map exported_of (definer os s.name))) ≡ is_chosen_at os file o index s
   weak_chosen weak =
       ap (λ b. is_defined s.definition && b) kept_this
       ∙ sym (ap (λ b. (is_shared b && is_defined s.definition) && is_chosen os it) weak)

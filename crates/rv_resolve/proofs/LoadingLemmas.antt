@@ -14,7 +14,7 @@ use Rattle.rv_resolve.specs.declared.definitions.Definitions.{Definitions}
 use Rattle.rv_resolve.specs.declared.fault.ResolveFault.{ResolveFault}
 use Rattle.rv_resolve.specs.Chosen.{Seen, seen, seen_of, Definer, definers_at, definers_in, definers_from, names_in}
 use Rattle.rv_resolve.specs.Exports.{first_again, first_duplicate}
-use Rattle.rv_resolve.specs.Names.{IsTable, IsDuplicate, IsRefused}
+use Rattle.rv_resolve.specs.Names.{IsDefinitionTable, IsDuplicate, IsRefused}
 use Rattle.rv_resolve.proofs.ChosenLemmas.{global_names_are}
 use Rattle.rv_resolve.proofs.DistinctLemmas.{all_apart}
 use Rattle.rv_resolve.proofs.StepsLemmas.{left}
@@ -63,7 +63,7 @@ module _ (P : List Definer → Type 0) (all here own behind : List Definer) (spl
 abbrev pub global_definers : List Object → List Definer
 global_definers os = definers_from is_global 0 (seen_of os)
 
-pub table_distinct : (os : List Object) (t : Definitions) → IsTable (global_definers os) t → AreDistinct (global_names os)
+pub table_distinct : (os : List Object) (t : Definitions) → IsDefinitionTable (global_definers os) t → AreDistinct (global_names os)
 table_distinct os t table =
     all_apart [] (global_names os)
     (ap (first_again []) (sym (global_names_are os)) ∙ ap (λ l. first_again [] (names_in l)) (sym (append-nil (global_definers os))) ∙ table.fresh [])

@@ -8,7 +8,7 @@ use Rattle.rv_object.specs.Object.{Symbol, Object}
 use Rattle.rv_object_laws.specs.Names.{is_sure}
 use Rattle.rv_resolve.specs.declared.definitions.Exported.{Exported}
 use Rattle.rv_resolve.specs.Chosen.{Definer, Seen, seen, seen_of, first_named}
-use Rattle.rv_resolve.specs.Names.{kept_of, outside, AreRows}
+use Rattle.rv_resolve.specs.Names.{exported_of, outside, AreRows}
 
 -- an element of a list is that of a longer one
 at_front : {X : Type 0} (xs ys : List X) (k : ℕ) (x : X) → slice_get xs k ≡ Some x → slice_get (xs ++ ys) k ≡ Some x
@@ -18,7 +18,7 @@ at_front (z ∷ xs) ys (suc k) x h = at_front xs ys k x h
 
 pub known_is : (ds : List Definer) (os : List Object) (rows : List (Vec (Option Exported))) (file index : ℕ) (row : Vec (Option Exported)) (found : Option Exported) (o : Object) (s : Symbol)
     → AreRows ds os rows → slice_get rows file ≡ Some row → slice_get row.items index ≡ Some found → slice_get os file ≡ Some o → slice_get o.symbols index ≡ Some s
-    → is_sure s ≡ false → found ≡ option_map kept_of (first_named ds s.name)
+    → is_sure s ≡ false → found ≡ option_map exported_of (first_named ds s.name)
 known_is ds os rows file index row found o s h has at here there free =
     let one : Seen → Option Exported = outside ds in
     let all : Object → List Seen = λ p. map seen p.symbols in
@@ -33,7 +33,7 @@ known_is ds os rows file index row found o s h has at here there free =
     slice_get-map one (all o) index ∙ ap (option_map one) (slice_get-map seen o.symbols index ∙ ap (option_map seen) there) in
     let ends : ◌≡◌ {A = Option (Option Exported)} (Some found) (Some (one (seen s))) = sym at ∙ ap (λ l. slice_get l index) same ∙ seen_at in
     let is : found ≡ one (seen s) = cc in
-    is ∙ ap (λ b. if b then None else option_map kept_of (first_named ds s.name)) free
+    is ∙ ap (λ b. if b then None else option_map exported_of (first_named ds s.name)) free
 
-pub outside_free : (ds : List Definer) (s : Seen) (x : Option Exported) → s.sure ≡ false → x ≡ option_map kept_of (first_named ds s.name) → x ≡ outside ds s
-outside_free ds s x free is = is ∙ sym (ap (λ b. if b then None else option_map kept_of (first_named ds s.name)) free)
+pub outside_free : (ds : List Definer) (s : Seen) (x : Option Exported) → s.sure ≡ false → x ≡ option_map exported_of (first_named ds s.name) → x ≡ outside ds s
+outside_free ds s x free is = is ∙ sym (ap (λ b. if b then None else option_map exported_of (first_named ds s.name)) free)

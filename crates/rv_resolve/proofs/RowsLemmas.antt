@@ -9,7 +9,7 @@ use Rattle.rv_object_laws.specs.Names.{is_sure}
 use Rattle.rv_resolve.specs.declared.definitions.Exported.{Exported}
 use Rattle.rv_resolve.specs.declared.meanings.Meanings.{Meanings}
 use Rattle.rv_resolve.specs.Chosen.{Seen, seen, seen_of, definitions, definer}
-use Rattle.rv_resolve.specs.Names.{kept_of, outside, meant_at, AreMeanings}
+use Rattle.rv_resolve.specs.Names.{exported_of, outside, meant_at, AreMeanings}
 
 -- what is there so far, with what is left, is the whole
 pub one_pushed : {Y : Type 0} (items next here behind all : List Y) (y : Y) → next ≡ items ++ y ∷ [] → here ≡ y ∷ behind → items ++ here ≡ all → next ++ behind ≡ all
@@ -24,7 +24,7 @@ row_at (Some row) index ms m e at =
     ap (λ l. option_and_then (λ x. x) (slice_get l index)) same ∙ ap (option_and_then (λ x. x)) at
 
 pub answered : (os : List Object) (m : Meanings) (file index : ℕ) (o : Object) (s : Symbol) → AreMeanings os m → slice_get os file ≡ Some o → slice_get o.symbols index ≡ Some s
-    → is_sure s ≡ false → meant_at m file index ≡ option_map kept_of (definer os s.name)
+    → is_sure s ≡ false → meant_at m file index ≡ option_map exported_of (definer os s.name)
 answered os m file index o s h here there free =
     let one : Seen → Option Exported = outside (definitions os) in
     let all : Object → List Seen = λ p. map seen p.symbols in
@@ -34,4 +34,4 @@ answered os m file index o s h here there free =
     ∙ slice_get-map (map one) (seen_of os) file
     ∙ ap (option_map (map one)) (slice_get-map all os file ∙ ap (option_map all) here))
     (slice_get-map one (all o) index ∙ ap (option_map one) (slice_get-map seen o.symbols index ∙ ap (option_map seen) there))
-    ∙ ap (λ b. if b then None else option_map kept_of (definer os s.name)) free
+    ∙ ap (λ b. if b then None else option_map exported_of (definer os s.name)) free

@@ -14,7 +14,7 @@ use Rattle.rv_resolve.specs.declared.definitions.Definitions.{Definitions}
 use Rattle.rv_resolve.specs.declared.definitions.Exported.{Exported}
 use Rattle.rv_resolve.specs.Chosen.{Seen, Definer, definers_at, names_in, first_named}
 use Rattle.rv_resolve.specs.Exports.{first_again}
-use Rattle.rv_resolve.specs.Names.{kept_of, IsTable}
+use Rattle.rv_resolve.specs.Names.{exported_of, IsDefinitionTable}
 
 pub same_bytes : (x y : List ℕ) → bytes_eq x y ≡ true → x ≡ y
 same_bytes x y e = (bytes_eq-Decides x y).0 e
@@ -75,7 +75,7 @@ module _ (test : Binding → Bool) (file index : ℕ) (s : Seen) (ds : List Defi
     alone : own ≡ it ∷ []
     alone = ap (λ b. if b then it ∷ [] else []) exported
 
-    module _ (t : Definitions) (table : IsTable ds t) (rest : List Definer) where
+    module _ (t : Definitions) (table : IsDefinitionTable ds t) (rest : List Definer) where
       looks : first_again [] (names_in ((ds ++ own) ++ rest)) ≡ (if is_some (first_named ds s.name) then Some s.name else first_again (names_in ds ++ s.name ∷ []) (names_in rest))
       looks =
           ap (λ l. first_again [] (names_in l)) (append_assoc ds own rest) ∙ table.fresh (own ++ rest)
@@ -94,17 +94,17 @@ module _ (test : Binding → Bool) (file index : ℕ) (s : Seen) (ds : List Defi
           ∙ ap (λ l. first_again (names_in (ds ++ l)) (names_in rest)) (sym alone)
 
     -- and the table answers it as well
-    pub answers_more : (name : List ℕ) (new old : Option Exported) → new ≡ cond (bytes_eq s.name name) (Some (kept_of it)) old → first_named ds s.name ≡ None
-        → old ≡ option_map kept_of (first_named ds name) → new ≡ option_map kept_of (first_named (ds ++ own) name)
+    pub answers_more : (name : List ℕ) (new old : Option Exported) → new ≡ cond (bytes_eq s.name name) (Some (exported_of it)) old → first_named ds s.name ≡ None
+        → old ≡ option_map exported_of (first_named ds name) → new ≡ option_map exported_of (first_named (ds ++ own) name)
     answers_more name new old now free before =
         now ∙ by (bytes_eq s.name name) refl
-        ∙ ap (option_map kept_of) (sym (find-append (λ (d : Definer). bytes_eq d.name name) ds (it ∷ [])))
-        ∙ ap (λ l. option_map kept_of (first_named (ds ++ l) name)) (sym alone)
+        ∙ ap (option_map exported_of) (sym (find-append (λ (d : Definer). bytes_eq d.name name) ds (it ∷ [])))
+        ∙ ap (λ l. option_map exported_of (first_named (ds ++ l) name)) (sym alone)
       where
-        by : (b : Bool) → bytes_eq s.name name ≡ b → cond b (Some (kept_of it)) old ≡ option_map kept_of (option_or (first_named ds name) (cond b (Some it) None))
-        by true e = ap (λ f. option_map kept_of (option_or f (Some it))) (sym (ap (first_named ds) (sym (same_bytes s.name name e)) ∙ free))
+        by : (b : Bool) → bytes_eq s.name name ≡ b → cond b (Some (exported_of it)) old ≡ option_map exported_of (option_or (first_named ds name) (cond b (Some it) None))
+        by true e = ap (λ f. option_map exported_of (option_or f (Some it))) (sym (ap (first_named ds) (sym (same_bytes s.name name e)) ∙ free))
         by false e = before ∙ go (first_named ds name)
           where
-            go : (f : Option Definer) → option_map kept_of f ≡ option_map kept_of (option_or f None)
+            go : (f : Option Definer) → option_map exported_of f ≡ option_map exported_of (option_or f None)
             go None = refl
             go (Some x) = refl

@@ -8,15 +8,15 @@ use Rattle.rv_object.specs.Object.{Symbol}
 use Rattle.rv_object.specs.Parts.{symbol_of}
 use Rattle.rv_shorten.specs.declared.object.ShortObject.{ShortObject}
 use Rattle.rv_shorten.specs.Cutting.{cut_symbol}
-use Rattle.rv_shorten.specs.View.{moves_of}
+use Rattle.rv_shorten.specs.View.{moves_by_section}
 
 -- one of its symbols, as it has moved
 abbrev pub moved_in : ShortObject → DeclaredSymbol → Symbol
-moved_in o s = cut_symbol (moves_of o) (symbol_of s)
+moved_in o s = cut_symbol (moves_by_section o) (symbol_of s)
 
 -- all of them
-abbrev pub symbols_of : ShortObject → List Symbol
-symbols_of o = map (moved_in o) o.whole.now.symbols.items
+abbrev pub short_symbols : ShortObject → List Symbol
+short_symbols o = map (moved_in o) o.whole.now.symbols.items
 
 -- a symbol, with its definition as it has moved
 abbrev pub with_definition : Bor DeclaredSymbol × Definition → Symbol

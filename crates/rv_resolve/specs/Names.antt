@@ -21,8 +21,8 @@ use Rattle.rv_resolve.specs.Chosen.{Definer, Seen, seen_of, definitions, names_i
 use Rattle.rv_resolve.specs.Exports.{first_again}
 
 -- what is kept of a symbol that defines a name for all files
-abbrev pub kept_of : Definer → Exported
-kept_of d = record { file = d.file; symbol = d.symbol }
+abbrev pub exported_of : Definer → Exported
+exported_of d = record { file = d.file; symbol = d.symbol }
 
 -- the symbol at an index of a file
 abbrev pub is_kept : (file index : ℕ) → Option Exported → Bool
@@ -30,15 +30,15 @@ is_kept file index None = false
 is_kept file index (Some x) = (x.file == file) && (x.symbol == index)
 
 -- a name is answered with the first of these that has it
-abbrev pub Answers : List Definer → Definitions → Type 0
-Answers ds definitions =
+abbrev pub AnswersFirst : List Definer → Definitions → Type 0
+AnswersFirst ds definitions =
     (name : List ℕ) →
     get_by (λ (k : Bor (List ℕ)). slice_cmp nat_cmp name k.now) definitions.by_name
-    ≡ option_map kept_of (first_named ds name)
+    ≡ option_map exported_of (first_named ds name)
 
 -- and none of them has a name that stands before
-pub record IsTable (ds : List Definer) (definitions : Definitions) : Type 0 where
-  pub answers : Answers ds definitions
+pub record IsDefinitionTable (ds : List Definer) (definitions : Definitions) : Type 0 where
+  pub answers : AnswersFirst ds definitions
   pub fresh : (rest : List Definer)
       → first_again [] (names_in (ds ++ rest)) ≡ first_again (names_in ds) (names_in rest)
 
@@ -56,7 +56,7 @@ IsRefused fault ds =
 
 -- what a symbol means that its own object does not surely define: the first of its name
 abbrev pub outside : List Definer → Seen → Option Exported
-outside ds s = if s.sure then None else option_map kept_of (first_named ds s.name)
+outside ds s = if s.sure then None else option_map exported_of (first_named ds s.name)
 
 -- a definition is the symbol at an index of a file
 pub record IsAt (os : List Object) (x : Exported) (e : Export) : Type 0 where
@@ -97,7 +97,7 @@ AreRows ds os rows =
 
 -- the names of objects, of which none has two global definitions
 pub record IsNames (os : List Object) (names : Names) : Type 0 where
-  pub answers : Answers (definitions os) names.definitions
+  pub answers : AnswersFirst (definitions os) names.definitions
   pub distinct : AreDistinct (global_names os)
   pub meanings : AreMeanings os names.meanings
 
@@ -105,5 +105,5 @@ pub record IsNames (os : List Object) (names : Names) : Type 0 where
 abbrev pub place_of : ℕ × ℕ × ℕ → Place
 place_of p = record { file = p.0 + 1; section = p.1; offset = p.2 }
 
-abbrev pub bytes_of : Bor (List ℕ) → List ℕ
-bytes_of name = name.now
+abbrev pub name_bytes : Bor (List ℕ) → List ℕ
+name_bytes name = name.now

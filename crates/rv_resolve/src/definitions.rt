@@ -8,7 +8,7 @@ ghost use Rattle.rv_object.specs.Bindings.{is_global, is_weak};
 ghost use Rattle.rv_object_laws.specs.Names.{global_names};
 ghost use Rattle.rv_resolve.specs.Chosen.{Definer, seen, seen_of, definers_at, definers_in, definers_from, definitions};
 ghost use Rattle.rv_resolve.specs.Exports.{first_duplicate};
-ghost use Rattle.rv_resolve.specs.Names.{Answers, IsTable, IsRefused, IsDuplicate};
+ghost use Rattle.rv_resolve.specs.Names.{AnswersFirst, IsDefinitionTable, IsRefused, IsDuplicate};
 
 use crate::fault::ResolveFault;
 use crate::symbol::{is_global_definition, is_weak_definition};
@@ -38,7 +38,7 @@ impl<'o> Definitions<'o> {
         alloc: Global,
         objects: &[Object<'o>],
     ) -> Result<Definitions<'o>, ResolveFault<'o>>
-        ensures answers { IfOk result (Answers (definitions (map object_of objects.now))) }
+        ensures answers { IfOk result (AnswersFirst (definitions (map object_of objects.now))) }
         ensures distinct { IfOk result
             (λ _. AreDistinct (global_names (map object_of objects.now))) }
         ensures refuses { IfErr result
@@ -52,7 +52,7 @@ impl<'o> Definitions<'o> {
     /// The global ones.
     fn global(alloc: Global, objects: &[Object<'o>]) -> Result<Definitions<'o>, ResolveFault<'o>>
         ensures answers { IfOk result
-            (Answers (definers_from is_global 0 (seen_of (map object_of objects.now)))) }
+            (AnswersFirst (definers_from is_global 0 (seen_of (map object_of objects.now)))) }
         ensures distinct { IfOk result
             (λ _. AreDistinct (global_names (map object_of objects.now))) }
         ensures refuses { IfErr result
@@ -69,10 +69,11 @@ impl<'o> Definitions<'o> {
 
     /// Adds the global definitions among the symbols of a file.
     fn put_all(&mut self, file: usize, symbols: &[Symbol<'o>]) -> Result<(), ResolveFault<'o>>
-        ensures added { OnOk result ((ds : List Definer) → IsTable ds self.old
-            → IsTable (ds ++ definers_in is_global file 0 (map seen (map symbol_of symbols.now)))
+        ensures added { OnOk result ((ds : List Definer) → IsDefinitionTable ds self.old
+            → IsDefinitionTable (ds
+            ++ definers_in is_global file 0 (map seen (map symbol_of symbols.now)))
             self.new) }
-        ensures refuses { IfErr result (λ fault. (ds : List Definer) → IsTable ds self.old
+        ensures refuses { IfErr result (λ fault. (ds : List Definer) → IsDefinitionTable ds self.old
             → IsRefused fault
             (ds ++ definers_in is_global file 0 (map seen (map symbol_of symbols.now)))) }
     {
@@ -89,10 +90,11 @@ impl<'o> Definitions<'o> {
         index: usize,
         symbol: &Symbol<'o>,
     ) -> Result<(), ResolveFault<'o>>
-        ensures added { OnOk result ((ds : List Definer) → IsTable ds self.old
-            → IsTable (ds ++ definers_at is_global file index (seen (symbol_of symbol.now)))
+        ensures added { OnOk result ((ds : List Definer) → IsDefinitionTable ds self.old
+            → IsDefinitionTable (ds
+            ++ definers_at is_global file index (seen (symbol_of symbol.now)))
             self.new) }
-        ensures refuses { IfErr result (λ fault. (ds : List Definer) → IsTable ds self.old
+        ensures refuses { IfErr result (λ fault. (ds : List Definer) → IsDefinitionTable ds self.old
             → IsRefused fault
             (ds ++ definers_at is_global file index (seen (symbol_of symbol.now)))) }
     {
@@ -111,8 +113,8 @@ impl<'o> Definitions<'o> {
 
     /// Adds the weak definitions of objects whose names are new.
     fn put_weak(&mut self, objects: &[Object<'o>]) -> Result<(), AllocError>
-        ensures { OnOk result ((ds : List Definer) → Answers ds self.old
-            → Answers (ds ++ definers_from is_weak 0 (seen_of (map object_of objects.now)))
+        ensures { OnOk result ((ds : List Definer) → AnswersFirst ds self.old
+            → AnswersFirst (ds ++ definers_from is_weak 0 (seen_of (map object_of objects.now)))
             self.new) }
     {
         for file in 0..objects.len() {
@@ -123,8 +125,8 @@ impl<'o> Definitions<'o> {
 
     /// Adds those among the symbols of a file.
     fn put_weak_of(&mut self, file: usize, symbols: &[Symbol<'o>]) -> Result<(), AllocError>
-        ensures { OnOk result ((ds : List Definer) → Answers ds self.old
-            → Answers (ds ++ definers_in is_weak file 0 (map seen (map symbol_of symbols.now)))
+        ensures { OnOk result ((ds : List Definer) → AnswersFirst ds self.old
+            → AnswersFirst (ds ++ definers_in is_weak file 0 (map seen (map symbol_of symbols.now)))
             self.new) }
     {
         for index in 0..symbols.len() {
@@ -140,8 +142,8 @@ impl<'o> Definitions<'o> {
         index: usize,
         symbol: &Symbol<'o>,
     ) -> Result<(), AllocError>
-        ensures { OnOk result ((ds : List Definer) → Answers ds self.old
-            → Answers (ds ++ definers_at is_weak file index (seen (symbol_of symbol.now)))
+        ensures { OnOk result ((ds : List Definer) → AnswersFirst ds self.old
+            → AnswersFirst (ds ++ definers_at is_weak file index (seen (symbol_of symbol.now)))
             self.new) }
     {
         if !is_weak_definition(symbol) {

@@ -13,7 +13,7 @@ ghost use Rattle.rv_object.specs.Bindings as bindings;
 ghost use Rattle.rv_object_laws.specs.Names as laws;
 ghost use Rattle.rv_placement.specs.Placement.{IsPlacement};
 ghost use Rattle.rv_resolve.specs.Chosen.{definer};
-ghost use Rattle.rv_resolve.specs.Names.{IsNames, kept_of, is_kept};
+ghost use Rattle.rv_resolve.specs.Names.{IsNames, exported_of, is_kept};
 ghost use Rattle.rv_resolve.specs.Shown.{shown_globals, regions_of, shown_in, is_chosen_at, listed};
 ghost use Rattle.rv_shorten.specs.Cutting.{cut_symbol};
 ghost use Rattle.rv_shorten.specs.View.{short_object_of};
@@ -212,7 +212,7 @@ impl<'o> Names<'o> {
     /// Whether a name means the symbol at an index of a file, both from 0.
     fn is_named(&self, file: usize, index: usize, name: &[u8]) -> bool
         ensures { (os : List SaidObject) → IsNames os self.now
-            → result ≡ is_kept file index (option_map kept_of (definer os name.now)) }
+            → result ≡ is_kept file index (option_map exported_of (definer os name.now)) }
     {
         match self.definitions.by_name.get(name).copied() {
             Some(exported) => exported.file == file && exported.symbol == index,

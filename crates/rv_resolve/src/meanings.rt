@@ -10,7 +10,7 @@ ghost use Rattle.std.specs.Prelude.{◌≡◌, ◌<◌, true, List, map, option_
 ghost use Rattle.rv_object.specs.Parts.{symbol_of};
 ghost use Rattle.rv_object.specs.View.{object_of};
 ghost use Rattle.rv_resolve.specs.Chosen.{Definer, seen, definitions as chosen_from, first_named};
-ghost use Rattle.rv_resolve.specs.Names.{Answers, kept_of, outside, meant_at, AreMeanings, AreRows};
+ghost use Rattle.rv_resolve.specs.Names.{AnswersFirst, exported_of, outside, meant_at, AreMeanings, AreRows};
 
 use crate::definitions::{Definitions, Exported};
 use crate::symbol::is_sure;
@@ -45,7 +45,7 @@ impl Meanings {
         objects: &[Object<'_>],
         definitions: &Definitions<'_>,
     ) -> Result<Meanings, AllocError>
-        ensures { Answers (chosen_from (map object_of objects.now)) definitions.now
+        ensures { AnswersFirst (chosen_from (map object_of objects.now)) definitions.now
             → IfOk result (AreMeanings (map object_of objects.now)) }
     {
         let mut files = Vec::new(alloc);
@@ -86,7 +86,7 @@ fn file_meanings(
     file: usize,
     symbols: &[Symbol<'_>],
 ) -> Result<Vec<Option<Exported>>, AllocError>
-    ensures { IfOk result (λ row. (ds : List Definer) → Answers ds definitions.now
+    ensures { IfOk result (λ row. (ds : List Definer) → AnswersFirst ds definitions.now
         → AreRows ds (map object_of objects.now) rows.now
         → row.items ≡ map (outside ds) (map seen (map symbol_of symbols.now))) }
 {
@@ -113,7 +113,7 @@ fn meaning(
     place: (usize, usize),
     symbol: &Symbol<'_>,
 ) -> Option<Exported>
-    ensures { (ds : List Definer) → Answers ds definitions.now
+    ensures { (ds : List Definer) → AnswersFirst ds definitions.now
         → AreRows ds (map object_of objects.now) rows.now
         → result ≡ outside ds (seen (symbol_of symbol.now)) }
 {
@@ -138,7 +138,7 @@ fn known(
     name: &[u8],
 ) -> Option<Option<Exported>>
     ensures { (ds : List Definer) → AreRows ds (map object_of objects.now) rows.now
-        → IfSome result (λ x. x ≡ option_map kept_of (first_named ds name.now)) }
+        → IfSome result (λ x. x ≡ option_map exported_of (first_named ds name.now)) }
 {
     let row = rows.get(place.0)?;
     let found = row.get(place.1)?;

@@ -12,7 +12,7 @@ ghost use Rattle.rv_object.specs.Parts.{relocation_of, symbol_of};
 ghost use Rattle.rv_object_laws.specs.Inputs.{Starts};
 ghost use Rattle.rv_object_laws.specs.Moves.{Move};
 ghost use Rattle.rv_object_laws.specs.Names.{chosen, globals_of, is_sure as means_own, outer_address, shown_linker_symbols};
-ghost use Rattle.rv_resolve.specs.Names.{IsNames, bytes_of};
+ghost use Rattle.rv_resolve.specs.Names.{IsNames, name_bytes};
 ghost use Rattle.rv_resolve.specs.Resolved.{AreResolved};
 ghost use Rattle.rv_resolve.specs.Undefined as laws;
 ghost use Rattle.rv_shorten.specs.Cutting.{cut_symbol};
@@ -27,7 +27,8 @@ impl Names<'_> {
     /// The first reference without a meaning, by object, section and relocation: the name of its symbol.
     pub fn undefined<'n>(&self, objects: &[ShortObject<'_, 'n>]) -> Option<&'n [u8]>
         ensures first { IsNames (map short_object_of objects.now) self.now
-            → option_map bytes_of result ≡ laws.first_undefined (map short_object_of objects.now) }
+            → option_map name_bytes result
+            ≡ laws.first_undefined (map short_object_of objects.now) }
         ensures resolved { IfNone result (IsNames (map short_object_of objects.now) self.now
             → (starts : Starts) (m : Map) → m.globals
             ≡ globals_of starts (map short_object_of objects.now)
@@ -53,7 +54,7 @@ impl Names<'_> {
     ) -> Option<&'n [u8]>
         ensures { IsNames (map short_object_of objects.now) self.now
             → slice_get (map short_object_of objects.now) file ≡ Some (short_object_of object.now)
-            → option_map bytes_of result
+            → option_map name_bytes result
             ≡ laws.first_some
             (laws.undefined_in (map short_object_of objects.now) (short_object_of object.now))
             (short_object_of object.now).sections }
@@ -81,7 +82,7 @@ impl Names<'_> {
     ) -> Option<&'n [u8]>
         ensures { IsNames (map short_object_of objects.now) self.now
             → slice_get (map short_object_of objects.now) file ≡ Some (short_object_of object.now)
-            → option_map bytes_of result
+            → option_map name_bytes result
             ≡ laws.first_some
             (λ r. laws.undefined_name (map short_object_of objects.now)
             (short_object_of object.now) r.symbol)
@@ -106,7 +107,7 @@ impl Names<'_> {
     ) -> Option<&'n [u8]>
         ensures { IsNames (map short_object_of objects.now) self.now
             → slice_get (map short_object_of objects.now) file ≡ Some (short_object_of object.now)
-            → option_map bytes_of result
+            → option_map name_bytes result
             ≡ laws.undefined_name (map short_object_of objects.now) (short_object_of object.now)
             (relocation.now).symbol }
     {

@@ -6,7 +6,7 @@ use Rattle.std.proofs.lemmas.Bool.{ltb-true, leb-true, eqb-true, le-leb, eq-eqb,
 use Rattle.rv_isa_laws.specs.Bytes.{little_endian}
 use Rattle.rv_object_laws.specs.Moves.{dropped}
 use Rattle.rv_object_laws.specs.Shortened.{empty_jump, empty_jal, short_call}
-use Rattle.rv_shorten.specs.Cut.{Cut, left_of, move_of, is_next, are_in_order}
+use Rattle.rv_shorten.specs.Cut.{Cut, cut_left, move_of, is_next, are_in_order}
 use Rattle.rv_shorten.specs.Cutting.{is_cut, are_cuts}
 use Rattle.rv_shorten.specs.Pieces.{is_next_piece, are_pieces, pieces_dropped}
 
@@ -14,7 +14,7 @@ use Rattle.rv_shorten.specs.Pieces.{is_next_piece, are_pieces, pieces_dropped}
 abbrev pub zeros : Cut
 zeros = record { place = 0; gone = 0; full = 0; left = 0; detail = 0 }
 
-pub length_left : (c : Cut) → length (short_call c.left c.detail) ≡ left_of c
+pub length_left : (c : Cut) → length (short_call c.left c.detail) ≡ cut_left c
 length_left c = by (c.left == 2)
   where
     by : (b : Bool) → length (cond b (little_endian 2 empty_jump) (little_endian 4 (empty_jal c.detail))) ≡ cond b 2 4
@@ -28,23 +28,23 @@ pub record IsNext (stop past : ℕ) (c : Cut) : Type 0 where
   pub even : c.place % 2 ≡ 0
   pub before : c.gone ≡ past
   pub whole : c.full ≡ 8
-  pub part : c.left ≡ left_of c
+  pub part : c.left ≡ cut_left c
 
 pub next : (stop past : ℕ) (c : Cut) → is_next stop past c ≡ true → IsNext stop past c
 next stop past c h =
-    let one = and_parts (nat_le stop c.place) (nat_lt (c.place + 8) (2 ^ 64) && ((c.place % 2 == 0) && ((c.gone == past) && (nat_lt c.detail 32 && ((c.full == 8) && (c.left == left_of c)))))) h in
-    let two = and_parts (nat_lt (c.place + 8) (2 ^ 64)) ((c.place % 2 == 0) && ((c.gone == past) && (nat_lt c.detail 32 && ((c.full == 8) && (c.left == left_of c))))) one.1 in
-    let even = and_parts (c.place % 2 == 0) ((c.gone == past) && (nat_lt c.detail 32 && ((c.full == 8) && (c.left == left_of c)))) two.1 in
-    let three = and_parts (c.gone == past) (nat_lt c.detail 32 && ((c.full == 8) && (c.left == left_of c))) even.1 in
-    let four = and_parts (nat_lt c.detail 32) ((c.full == 8) && (c.left == left_of c)) three.1 in
-    let five = and_parts (c.full == 8) (c.left == left_of c) four.1 in
+    let one = and_parts (nat_le stop c.place) (nat_lt (c.place + 8) (2 ^ 64) && ((c.place % 2 == 0) && ((c.gone == past) && (nat_lt c.detail 32 && ((c.full == 8) && (c.left == cut_left c)))))) h in
+    let two = and_parts (nat_lt (c.place + 8) (2 ^ 64)) ((c.place % 2 == 0) && ((c.gone == past) && (nat_lt c.detail 32 && ((c.full == 8) && (c.left == cut_left c))))) one.1 in
+    let even = and_parts (c.place % 2 == 0) ((c.gone == past) && (nat_lt c.detail 32 && ((c.full == 8) && (c.left == cut_left c)))) two.1 in
+    let three = and_parts (c.gone == past) (nat_lt c.detail 32 && ((c.full == 8) && (c.left == cut_left c))) even.1 in
+    let four = and_parts (nat_lt c.detail 32) ((c.full == 8) && (c.left == cut_left c)) three.1 in
+    let five = and_parts (c.full == 8) (c.left == cut_left c) four.1 in
     record {
       from = leb-true stop c.place one.0;
       ends = ltb-true (c.place + 8) (2 ^ 64) two.0;
       even = eqb-true (c.place % 2) 0 even.0;
       before = eqb-true c.gone past three.0;
       whole = eqb-true c.full 8 five.0;
-      part = eqb-true c.left (left_of c) five.1;
+      part = eqb-true c.left (cut_left c) five.1;
     }
 
 pub first : (stop past : ℕ) (c : Cut) (cs : List Cut) → are_in_order stop past (c ∷ cs) ≡ true → IsNext stop past c

@@ -9,7 +9,7 @@ use Rattle.std.proofs.lemmas.List.{append_assoc, append-nil, take-append-drop, t
 use Rattle.rv_isa_laws.specs.Bytes.{little_endian}
 use Rattle.rv_object_laws.specs.Moves.{kept}
 use Rattle.rv_object_laws.specs.Shortened.{short_call}
-use Rattle.rv_shorten.specs.Cut.{Cut, left_of, move_of}
+use Rattle.rv_shorten.specs.Cut.{Cut, cut_left, move_of}
 use Rattle.rv_shorten.specs.Cutting.{are_cuts}
 use Rattle.rv_shorten.specs.Bytes.{room_before}
 use Rattle.rv_shorten.proofs.ShiftsLemmas.{first_cut, length_kept_from}
@@ -98,7 +98,7 @@ run_taken word bytes at of_call of_section cs rest h low few one =
 
 -- a call that stands there begins
 pub call_begun : (word new bytes left at : ℕ) (c : Cut) (cs later : List Cut) (rest behind : List ℕ) → cs ≡ c ∷ later → are_cuts at (at + length rest) (map move_of cs) ≡ true
-    → bytes ≤ 0 → c.place ≤ at → left ≡ left_of c → little_endian (left_of c) new ≡ short_call c.left c.detail → behind ≡ drop 8 rest
+    → bytes ≤ 0 → c.place ≤ at → left ≡ cut_left c → little_endian (cut_left c) new ≡ short_call c.left c.detail → behind ≡ drop 8 rest
     → little_endian left new ++ kept (at + 8) (map move_of later) behind ≡ little_endian bytes word ++ kept at (map move_of cs) rest
 call_begun word new bytes left at c cs later rest behind parts h none here long is from =
     let one = first_cut at (at + length rest) (move_of c) (map move_of later) (sym (ap (λ l. are_cuts at (at + length rest) (map move_of l)) parts) ∙ h) in

@@ -12,7 +12,7 @@ use Rattle.rv_object.specs.Valid.{fit_inside}
 use Rattle.rv_object_laws.specs.Moves.{Move, kept}
 use Rattle.rv_object_laws.specs.CallSites.{link_register}
 use Rattle.rv_object_laws.specs.Shortened.{empty_jump, empty_jal, short_call, shortened_contents}
-use Rattle.rv_shorten.specs.Cut.{Cut, left_of, move_of, is_next, are_in_order}
+use Rattle.rv_shorten.specs.Cut.{Cut, cut_left, move_of, is_next, are_in_order}
 use Rattle.rv_shorten.specs.Cutting.{are_cuts, AreCuts, cut_section, cut_sections, cut_object}
 use Rattle.rv_shorten.specs.Walk.{moves_of, cut_of, is_cut_site, cuts_of, gone_of, passed, passed_all, section_moves, object_moves, walked}
 use Rattle.rv_shorten.proofs.ShiftsLemmas.{first_cut, other_cuts}
@@ -88,11 +88,11 @@ next_behind size first gone bytes s k ss ks cs fits b = by (is_cut_site s k) b.a
         let from = one.from in
         let end : c.place + 8 < 2 ^ 64 = omega (arith, one.ends) in
         let here : is_next b.stop gone c ≡ true =
-        and_from (nat_le b.stop c.place) (nat_lt (c.place + 8) (2 ^ 64) && ((c.place % 2 == 0) && ((c.gone == gone) && (nat_lt c.detail 32 && ((c.full == 8) && (c.left == left_of c)))))) (le-leb b.stop c.place from)
-        (and_from (nat_lt (c.place + 8) (2 ^ 64)) ((c.place % 2 == 0) && ((c.gone == gone) && (nat_lt c.detail 32 && ((c.full == 8) && (c.left == left_of c))))) (lt-ltb (c.place + 8) (2 ^ 64) end)
-        (and_from (c.place % 2 == 0) ((c.gone == gone) && (nat_lt c.detail 32 && ((c.full == 8) && (c.left == left_of c)))) (eq-eqb (c.place % 2) 0 one.even)
-        (and_from (c.gone == gone) (nat_lt c.detail 32 && ((c.full == 8) && (c.left == left_of c))) (eq-eqb gone gone refl)
-        (and_from (nat_lt c.detail 32) (c.left == left_of c) (lt-ltb c.detail 32 (few_links bytes (s.offset - first))) (eq-eqb c.left (left_of c) (part_left k)))))) in
+        and_from (nat_le b.stop c.place) (nat_lt (c.place + 8) (2 ^ 64) && ((c.place % 2 == 0) && ((c.gone == gone) && (nat_lt c.detail 32 && ((c.full == 8) && (c.left == cut_left c)))))) (le-leb b.stop c.place from)
+        (and_from (nat_lt (c.place + 8) (2 ^ 64)) ((c.place % 2 == 0) && ((c.gone == gone) && (nat_lt c.detail 32 && ((c.full == 8) && (c.left == cut_left c))))) (lt-ltb (c.place + 8) (2 ^ 64) end)
+        (and_from (c.place % 2 == 0) ((c.gone == gone) && (nat_lt c.detail 32 && ((c.full == 8) && (c.left == cut_left c)))) (eq-eqb (c.place % 2) 0 one.even)
+        (and_from (c.gone == gone) (nat_lt c.detail 32 && ((c.full == 8) && (c.left == cut_left c))) (eq-eqb gone gone refl)
+        (and_from (nat_lt c.detail 32) (c.left == cut_left c) (lt-ltb c.detail 32 (few_links bytes (s.offset - first))) (eq-eqb c.left (cut_left c) (part_left k)))))) in
         record {
           stop = c.place + 8;
           ahead = other_cuts b.stop size (move_at first bytes s k) rest h;

@@ -9,8 +9,8 @@ use Rattle.rv_object_laws.specs.Shortened.{short_call}
 abbrev pub Cut : Type 0
 Cut = Piece ℕ
 
-abbrev pub left_of : Cut → ℕ
-left_of c = if c.left == 2 then 2 else 4
+abbrev pub cut_left : Cut → ℕ
+cut_left c = if c.left == 2 then 2 else 4
 
 -- what is kept of a call
 abbrev pub move_of : Cut → Move
@@ -23,7 +23,7 @@ is_next stop gone c =
     nat_le stop c.place
     && (nat_lt (c.place + 8) (2 ^ 64)
     && ((c.place % 2 == 0)
-    && ((c.gone == gone) && (nat_lt c.detail 32 && ((c.full == 8) && (c.left == left_of c))))))
+    && ((c.gone == gone) && (nat_lt c.detail 32 && ((c.full == 8) && (c.left == cut_left c))))))
 
 abbrev pub are_in_order : (stop gone : ℕ) → List Cut → Bool
 are_in_order stop gone [] = true

@@ -9,13 +9,13 @@ use Rattle.rv_shorten.specs.Cutting.{cut_symbol, cut_row_of}
 use Rattle.rv_shorten.specs.Sections.{moves_in_all, short_section_of}
 
 -- the moves of its sections
-abbrev pub moves_of : ShortObject → List (List Move)
-moves_of o = moves_in_all o.sections.items
+abbrev pub moves_by_section : ShortObject → List (List Move)
+moves_by_section o = moves_in_all o.sections.items
 
 abbrev pub short_object_of : ShortObject → Object
 short_object_of o = record {
   sections = map short_section_of o.sections.items;
-  symbols = map (cut_symbol (moves_of o)) (map symbol_of o.whole.now.symbols.items);
-  rows = map (cut_row_of (moves_of o)) o.whole.now.rows.items;
+  symbols = map (cut_symbol (moves_by_section o)) (map symbol_of o.whole.now.symbols.items);
+  rows = map (cut_row_of (moves_by_section o)) o.whole.now.rows.items;
   rvc = o.whole.now.rvc;
 }

@@ -7,7 +7,7 @@ ghost use Rattle.std.specs.Prelude.{◌≡◌, ◌+◌, ◌^◌, ◌≤◌, ◌<
 ghost use Rattle.rv_isa_laws.specs.Bytes.{little_endian};
 ghost use Rattle.rv_object_laws.specs.Moves.{kept};
 ghost use Rattle.rv_object_laws.specs.Shortened.{short_call};
-ghost use Rattle.rv_shorten.specs.Cut.{left_of, move_of};
+ghost use Rattle.rv_shorten.specs.Cut.{cut_left, move_of};
 ghost use Rattle.rv_shorten.specs.Cutting.{are_cuts};
 
 use crate::cut::Cut;
@@ -52,14 +52,14 @@ pub struct LeftBytes<'s> {
 
 /// The bytes that are left of a call.
 fn left_of(cut: &Cut) -> u64
-    ensures { result ≡ left_of cut.now }
+    ensures { result ≡ cut_left cut.now }
 {
     if cut.left == 2 { 2 } else { 4 }
 }
 
 /// What is left of a call, as a number: `c.j` or `jal` with an empty field.
 fn word_of(cut: &Cut) -> u64
-    ensures { little_endian (left_of cut.now) result ≡ short_call (cut.now).left (cut.now).detail }
+    ensures { little_endian (cut_left cut.now) result ≡ short_call (cut.now).left (cut.now).detail }
 {
     if cut.left == 2 {
         return u64::from(write(Compressed::J { offset: 0 }));

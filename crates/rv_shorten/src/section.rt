@@ -55,7 +55,7 @@ impl<'o, 'a> ShortSection<'o, 'a> {
 
     /// Whether the file has no bytes of it.
     pub fn is_nobits(&self) -> bool
-        ensures { result ≡ inputs.is_nobits (short_section_of self.now).contents }
+        ensures { result ≡ inputs.has_no_bytes (short_section_of self.now).contents }
     {
         match &self.whole.contents {
             Contents::Progbits(_) | Contents::Note(_) => false,

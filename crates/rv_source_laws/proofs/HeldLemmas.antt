@@ -7,9 +7,9 @@ use Rattle.std.proofs.lemmas.Bool.{or_parts, not-false}
 use Rattle.rv_statement.specs.Statement.{StatementKind, Label, Numbered, Instruction, Directs, Statement, Directive, Enters, Opens, Sets, Chooses}
 use Rattle.rv_unit_laws.specs.Contributions.{Contribution, Bytes, Zero_bytes, contribution}
 use Rattle.rv_unit_laws.specs.Sections.{Section, is_nobits, section_at, current_section}
-use Rattle.rv_unit_laws.specs.Tables.{Tables, at_start, here, value, counted, contents_size, after, tables, stood, opened_of}
+use Rattle.rv_unit_laws.specs.Tables.{Tables, at_start, here, value_by_tables, counted, contents_size, after, tables, stood, opened_of}
 use Rattle.rv_text_laws.specs.Codes.{faulty_if, lowest}
-use Rattle.rv_unit_laws.specs.Faults.{StatementFault, at_line, size_faults, contents_faults, past_section, contribution_faults, directive_faults, faults, first_fault_from, first_fault}
+use Rattle.rv_unit_laws.specs.Faults.{StatementFault, at_line, size_faults, contents_faults, past_section, contribution_faults, directive_faults, faults, first_fault_from, first_unit_fault}
 use Rattle.rv_source_laws.specs.Located.{Located, located_from}
 use Rattle.rv_unit_laws.proofs.OpenedLemmas.{after_opened}
 use Rattle.rv_unit_laws.proofs.FewLemmas.{no_fault_from}
@@ -77,9 +77,9 @@ module _ (all t : Tables) (k : ℕ) where
 
   contribution_held : (c : Contribution) → contribution_faults all t k c ≡ [] → ContributionHeld home c
   contribution_held (Bytes contents) e =
-      stored (contents_faults (λ e. value all true k (here t) e) contents) (past_section home.executable (here t).offset (contents_size contents)) e
+      stored (contents_faults (λ e. value_by_tables all true k (here t) e) contents) (past_section home.executable (here t).offset (contents_size contents)) e
   contribution_held (Zero_bytes count) e =
-      zeroed (size_faults (value all false k (here t) count)) (elim (counted (value all false k (here t) count)) [ None ↦ [] | Some n ↦ past_section home.executable (here t).offset n ]) e
+      zeroed (size_faults (value_by_tables all false k (here t) count)) (elim (counted (value_by_tables all false k (here t) count)) [ None ↦ [] | Some n ↦ past_section home.executable (here t).offset n ]) e
   contribution_held _ e = tt
 
   directive_held : (d : Directive) → Good d → DirectiveHeld home d
@@ -119,5 +119,5 @@ held_from all file k t (s ∷ ss) e =
     (held_at all t k s.kind (held all t k s.kind (no_lowest (faults all t k s.kind) parts.0)), held_from all file (suc k) (after t k s.kind) ss parts.1)
 
 -- those of a source
-pub all_held : (ss : List Statement) → first_fault ss ≡ None → AllByRecursion Held (located_from 1 1 (at_start ss) ss)
+pub all_held : (ss : List Statement) → first_unit_fault ss ≡ None → AllByRecursion Held (located_from 1 1 (at_start ss) ss)
 all_held ss e = held_from (tables ss) 1 1 (at_start ss) ss (no_fault_from ss e)

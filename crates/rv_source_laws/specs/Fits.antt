@@ -12,7 +12,7 @@ use Rattle.rv_pseudo_laws.specs.Filled.{are_closed, code_bytes, AreTaken}
 use Rattle.rv_unit_laws.specs.Contributions.{Contribution, Nothing, Bytes, Zero_bytes, Alignment, contribution}
 use Rattle.rv_unit_laws.specs.Sections.{Section, goes_to_text, goes_to_rodata, goes_to_data, goes_to_bss}
 use Rattle.rv_unit_laws.specs.Tables.{Tables, tables, alignment_of, padding, opened_of, alignment_at}
-use Rattle.rv_unit_laws.specs.Faults.{first_fault}
+use Rattle.rv_unit_laws.specs.Faults.{first_unit_fault}
 use Rattle.rv_map.specs.Map.{Map}
 use Rattle.rv_map.specs.declared.map.Row.{Row}
 use Rattle.rv_map.specs.declared.map.Region.{Region}
@@ -199,7 +199,7 @@ HasRows sources m =
 -- the map fits the sources, from a text start on
 pub record Fits (sources : List (List Statement)) (m : Map) (text_start : ℕ) : Type 0 where
   -- no label and no directive is faulty, and each statement stands in a section that can hold it
-  pub good : AllByRecursion (λ ss. first_fault ss ≡ None) sources
+  pub good : AllByRecursion (λ ss. first_unit_fault ss ≡ None) sources
   pub rows : HasRows sources m
   pub sizes : AllByRecursion (SizeFits (program sources m)) (program sources m).mapped
   pub text : Holds m.text text_start (input_sections goes_to_text sources m)

@@ -49,15 +49,15 @@ directive_parts (Aligns_to_bytes alignment) bytes = Some (padding_parts bytes)
 directive_parts _ bytes = None
 
 -- the code of a statement whose row has so many bytes
-abbrev pub parts_of : Constants → Bool → ℕ → StatementKind → Option (List Part)
-parts_of v rvc bytes (Label name) = Some []
-parts_of v rvc bytes (Numbered number) = Some []
-parts_of v rvc bytes (Instruction mnemonic operands) = code v rvc bytes mnemonic operands
-parts_of v rvc bytes (Directs directive) = directive_parts directive bytes
+abbrev pub parts_by_size : Constants → Bool → ℕ → StatementKind → Option (List Part)
+parts_by_size v rvc bytes (Label name) = Some []
+parts_by_size v rvc bytes (Numbered number) = Some []
+parts_by_size v rvc bytes (Instruction mnemonic operands) = code v rvc bytes mnemonic operands
+parts_by_size v rvc bytes (Directs directive) = directive_parts directive bytes
 
 abbrev pub parts : Program → Mapped → Option (List Part)
 parts p s =
-    parts_of (constants p s.located) s.located.options.rvc s.row.bytes s.located.kind
+    parts_by_size (constants p s.located) s.located.options.rvc s.row.bytes s.located.kind
 
 -- the form of a parcel that it names
 abbrev pub form_in : Constants → StatementKind → Option Compressed
@@ -105,15 +105,15 @@ takes_upper (Instruction (Store operation) (Register rs2 ∷ Target e ∷ Regist
 takes_upper _ = false
 
 -- the section of a file's statement of this ordinal
-abbrev pub section_of : Program → ℕ → ℕ → Option ℕ
-section_of p file ordinal =
+abbrev pub statement_section : Program → ℕ → ℕ → Option ℕ
+statement_section p file ordinal =
     option_map (λ e. e.located.section)
     (find (λ e. (e.located.file == file) && (e.located.ordinal == ordinal)) p.statements)
 
 -- the section of the label that a value names
 abbrev pub label_section : Program → Located → Value → Option ℕ
 label_section p s (Symbolic q at plus) =
-    option_and_then (λ d. section_of p s.file d.ordinal)
+    option_and_then (λ d. statement_section p s.file d.ordinal)
     (definition (tables_in p s.file) s.ordinal q)
 label_section p s _ = None
 

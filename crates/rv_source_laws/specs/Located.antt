@@ -8,7 +8,7 @@ use Rattle.rv_statement.specs.Statement.{StatementKind, Label, Numbered, Instruc
 use Rattle.rv_unit_laws.specs.Contributions.{Contribution, Nothing, contribution}
 use Rattle.rv_unit_laws.specs.Options.{Options}
 use Rattle.rv_unit_laws.specs.Sections.{Section, section_at}
-use Rattle.rv_unit_laws.specs.Tables.{Tables, at_start, after, here, stood, value, assigned, gives_location, opened_of}
+use Rattle.rv_unit_laws.specs.Tables.{Tables, at_start, after, here, stood, value_by_tables, assigned, gives_location, opened_of}
 
 abbrev pub contributes : Contribution → Bool
 contributes Nothing = false
@@ -18,7 +18,7 @@ contributes _ = true
 -- section
 abbrev pub is_placed_directive : Tables → ℕ → Directive → Bool
 is_placed_directive t ordinal (Sets name e) =
-    gives_location (assigned name ordinal (value t false ordinal (here t) e))
+    gives_location (assigned name ordinal (value_by_tables t false ordinal (here t) e))
 is_placed_directive t ordinal d = contributes (contribution d)
 
 -- whether a statement has a row where its section is loaded: `t` are the tables before it

@@ -109,10 +109,10 @@ goes_by bytes h rt target =
 -- ---- statements
 
 -- a number taken as signed, or the low part of one
-abbrev pub number_in : (Expression → ℕ) → Operand → ℕ
-number_in v (Applied Lo e) = wrapped (lo (signed 64 (v e)))
-number_in v (Value e) = wrapped (signed 64 (v e))
-number_in v operand = 0
+abbrev pub signed_operand : (Expression → ℕ) → Operand → ℕ
+signed_operand v (Applied Lo e) = wrapped (lo (signed 64 (v e)))
+signed_operand v (Value e) = wrapped (signed 64 (v e))
+signed_operand v operand = 0
 
 -- what a pseudo-instruction does in so many bytes, where v gives numbers and addresses; none for
 -- the others, which do what their one instruction does
@@ -126,7 +126,7 @@ pseudo_effect v (Unary operation) (Register rd ∷ Register rs ∷ []) bytes h =
 pseudo_effect v (Compare operation) (Register rd ∷ Register a ∷ Register b ∷ []) bytes h =
     Some (sets bytes h rd (compare_result operation (register h a) (register h b)))
 pseudo_effect v La (Register rd ∷ Target e ∷ []) bytes h = Some (sets bytes h rd (v e))
-pseudo_effect v Li (Register rd ∷ o ∷ []) bytes h = Some (sets bytes h rd (number_in v o))
+pseudo_effect v Li (Register rd ∷ o ∷ []) bytes h = Some (sets bytes h rd (signed_operand v o))
 pseudo_effect v Call (Register rd ∷ Target e ∷ []) bytes h = Some (jumps bytes h rd (v e))
 pseudo_effect v Call (Target e ∷ []) bytes h = Some (jumps bytes h 1 (v e))
 pseudo_effect v Tail (Target e ∷ []) bytes h = Some (goes_by bytes h 6 (v e))

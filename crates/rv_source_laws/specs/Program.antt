@@ -13,7 +13,7 @@ use Rattle.rv_statement.specs.declared.pseudo.Function.TheVariants.{PcrelLo}
 use Rattle.rv_statement.specs.declared.directive.Binding.{Binding}
 use Rattle.rv_unit_laws.specs.Bindings.{is_shared, is_global, is_weak}
 use Rattle.rv_unit_laws.specs.Contributions.{Numbers, Contribution, Bytes, Zero_bytes, Alignment, contribution}
-use Rattle.rv_unit_laws.specs.Tables.{Tables, SectionOffset, Definition, tables, at_start, definition, sure_definition, value as value_in_file}
+use Rattle.rv_unit_laws.specs.Tables.{Tables, SectionOffset, Definition, tables, at_start, definition, sure_definition, value_by_tables as value_in_file}
 use Rattle.rv_map.specs.Map.{Map}
 use Rattle.rv_map.specs.declared.map.Row.{Row}
 use Rattle.rv_source_laws.specs.Located.{Located, left, has_row}
@@ -34,12 +34,12 @@ first_of [] = None
 first_of (row ∷ rows) = Some row
 
 -- the rows go to the statements that have one; both lists are by file and ordinal
-abbrev pub statements_of : List Located → List Row → List MaybeMapped
-statements_of [] rows = []
-statements_of (s ∷ ss) rows =
+abbrev pub mapped_statements : List Located → List Row → List MaybeMapped
+mapped_statements [] rows = []
+mapped_statements (s ∷ ss) rows =
     if has_row s
-    then record { located = s; row = first_of rows } ∷ statements_of ss (drop 1 rows)
-    else record { located = s; row = None } ∷ statements_of ss rows
+    then record { located = s; row = first_of rows } ∷ mapped_statements ss (drop 1 rows)
+    else record { located = s; row = None } ∷ mapped_statements ss rows
 
 abbrev pub seated : Located → Option Row → List Mapped
 seated located None = []
@@ -62,7 +62,7 @@ program_at ts statements m =
 
 abbrev pub program : List (List Statement) → Map → Program
 program sources m =
-    program_at (map tables sources) (statements_of (left m.drops sources) m.rows) m
+    program_at (map tables sources) (mapped_statements (left m.drops sources) m.rows) m
 
 -- the tables of a file, which are numbered from 1
 abbrev pub tables_in : Program → ℕ → Tables

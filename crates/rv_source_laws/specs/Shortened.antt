@@ -21,7 +21,7 @@ use Rattle.rv_source_laws.specs.Compressed.{is_compressed_code}
 use Rattle.rv_source_laws.specs.Program.{Mapped, Program, Export, program, tables_in, chosen, form}
 use Rattle.rv_source_laws.specs.Sizes.{target_in}
 use Rattle.rv_source_laws.specs.Fits.{InputSection, input_sections}
-use Rattle.rv_source_laws.specs.Sized.{is_call, statement_size}
+use Rattle.rv_source_laws.specs.Sized.{is_call_mnemonic, statement_size}
 
 -- ---- the text in one line
 
@@ -152,7 +152,7 @@ call_sites p text x compressed _ = []
 -- what may change of a statement: a call where relaxation is on, or an alignment
 abbrev pub sites_by : Program → List Placed → Placed → StatementKind → List Site
 sites_by p text x (Instruction mnemonic operands) =
-    if is_call mnemonic && x.site.located.options.relax
+    if is_call_mnemonic mnemonic && x.site.located.options.relax
     then call_sites p text x (is_compressible p x.site.located mnemonic operands)
     (option_map (form p x.site.located) (target_in operands))
     else []
@@ -179,15 +179,15 @@ sites_of sources m =
 
 -- ---- the bytes of calls
 
-abbrev pub calls : StatementKind → Bool
-calls (Instruction mnemonic operands) = is_call mnemonic
-calls _ = false
+abbrev pub is_call_statement : StatementKind → Bool
+is_call_statement (Instruction mnemonic operands) = is_call_mnemonic mnemonic
+is_call_statement _ = false
 
 -- the row of each call has the bytes that are kept of it
 abbrev pub HaveBytes : (ℕ → ℕ) → List Placed → Type 0
 HaveBytes size text =
     AllByRecursion
-    (λ x. IsTrue (calls x.site.located.kind) → x.site.row.bytes ≡ size x.offset) text
+    (λ x. IsTrue (is_call_statement x.site.located.kind) → x.site.row.bytes ≡ size x.offset) text
 
 -- the calls of sources have 8 bytes where relaxation is off; where it is on, those of the greatest
 -- family in which no call has a shorter form that reaches

@@ -17,16 +17,16 @@ use Rattle.rv_source_laws.specs.Sizes.{code_padding, AreLeast}
 
 -- ---- the size of a statement
 
-abbrev pub is_call : Mnemonic → Bool
-is_call Call = true
-is_call Tail = true
-is_call Jump = true
-is_call _ = false
+abbrev pub is_call_mnemonic : Mnemonic → Bool
+is_call_mnemonic Call = true
+is_call_mnemonic Tail = true
+is_call_mnemonic Jump = true
+is_call_mnemonic _ = false
 
 -- a call counts as 8 bytes, and an alignment in code as all the padding that it may need, whatever
 -- is left of them in the map; all else has the bytes of its row
 abbrev pub instruction_size : Mnemonic → ℕ → ℕ
-instruction_size mnemonic bytes = if is_call mnemonic then 8 else bytes
+instruction_size mnemonic bytes = if is_call_mnemonic mnemonic then 8 else bytes
 
 abbrev pub directive_size : Bool → (Expression → Value) → Directive → Contribution → ℕ → ℕ
 directive_size executable v d (Alignment counts number) bytes =

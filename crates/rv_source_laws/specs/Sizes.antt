@@ -15,7 +15,7 @@ use Rattle.rv_layout_laws.specs.declared.item.Forms.{Forms}
 use Rattle.rv_layout_laws.specs.declared.item.Forms.TheVariants.{Settled, CompressedBranch, Branch as FullBranch, CompressedJump}
 use Rattle.rv_layout_laws.specs.declared.item.Item.{Item}
 use Rattle.rv_layout_laws.specs.Branches.{IsLeastGood}
-use Rattle.rv_unit_laws.specs.Tables.{Tables, Definition, sure_definition, value}
+use Rattle.rv_unit_laws.specs.Tables.{Tables, Definition, sure_definition, value_by_tables}
 use Rattle.rv_source_laws.specs.Located.{Located}
 use Rattle.rv_source_laws.specs.Program.{place_of}
 
@@ -96,7 +96,7 @@ near_value t all s _ = None
 abbrev pub near_target : Tables → List Located → Located → List Operand → Option Near
 near_target t all s os = elim (target_in os) [
   | None ↦ None
-  | Some e ↦ near_value t all s (value t true s.ordinal (place_of s) e)
+  | Some e ↦ near_value t all s (value_by_tables t true s.ordinal (place_of s) e)
 ]
 
 -- ---- the least sizes

@@ -11,7 +11,7 @@ use Rattle.rv_unit_laws.specs.declared.section_type.SectionType.{SectionType}
 use Rattle.rv_unit_laws.specs.declared.section_type.SectionType.TheVariants as types
 use Rattle.rv_unit_laws.specs.Sections.{Section as SourceSection, is_nobits_type, is_nobits, goes_to_text, goes_to_rodata, goes_to_data, goes_to_bss}
 use Rattle.rv_unit_laws.specs.Tables.{Tables, tables, at_start, opened_of}
-use Rattle.rv_unit_laws.specs.Faults.{first_fault}
+use Rattle.rv_unit_laws.specs.Faults.{first_unit_fault}
 use Rattle.rv_map.specs.declared.map.Row.{Row as MapRow}
 use Rattle.rv_map.specs.declared.map.SectionId.{SectionId}
 use Rattle.rv_map.specs.Limits.{IsRow}
@@ -55,7 +55,7 @@ use Rattle.rv_sources_link_laws.proofs.moves.ShrunkLemmas.{parts, IsSectionOf, A
 
 -- ---- sections go where the source's go
 
-nobits_same : (b : SectionType) (count : ℕ) (bytes : List ℕ) → objects.is_nobits (contents_of b count bytes) ≡ is_nobits_type b
+nobits_same : (b : SectionType) (count : ℕ) (bytes : List ℕ) → objects.has_no_bytes (contents_of b count bytes) ≡ is_nobits_type b
 nobits_same types.Progbits count bytes = refl
 nobits_same types.Note count bytes = refl
 nobits_same types.Nobits count bytes = refl
@@ -72,8 +72,8 @@ initial_none types.Nobits count bytes e none = ap zeros none
 
 module _ (t : Tables) (laid : List LaidStatement) (number : Numbering) (o : Object) (index : ℕ) (s : SourceSection) (x : Section)
     (is : IsSectionOf t laid number o.symbols index s (laid_in index laid) x) where
-  nobits : objects.is_nobits x.contents ≡ is_nobits s
-  nobits = ap objects.is_nobits is.contents ∙ nobits_same s.section_type _ _
+  nobits : objects.has_no_bytes x.contents ≡ is_nobits s
+  nobits = ap objects.has_no_bytes is.contents ∙ nobits_same s.section_type _ _
 
   text_same : objects.goes_to_text x ≡ goes_to_text s
   text_same = ap (λ b. b && x.executable) is.loaded ∙ ap (λ b. s.loaded && b) is.executable
@@ -82,16 +82,16 @@ module _ (t : Tables) (laid : List LaidStatement) (number : Numbering) (o : Obje
   front_same = ap (λ b. b && not x.executable) is.loaded ∙ ap (λ b. s.loaded && not b) is.executable
 
   bss_same : objects.goes_to_bss x ≡ goes_to_bss s
-  bss_same = ap (λ b. b && objects.is_nobits x.contents) front_same ∙ ap (λ b. (s.loaded && not s.executable) && b) nobits
+  bss_same = ap (λ b. b && objects.has_no_bytes x.contents) front_same ∙ ap (λ b. (s.loaded && not s.executable) && b) nobits
 
   data_same : objects.goes_to_data x ≡ goes_to_data s
   data_same =
-      ap (λ b. (b && not (objects.is_nobits x.contents)) && x.writable) front_same ∙ ap (λ b. ((s.loaded && not s.executable) && not b) && x.writable) nobits
+      ap (λ b. (b && not (objects.has_no_bytes x.contents)) && x.writable) front_same ∙ ap (λ b. ((s.loaded && not s.executable) && not b) && x.writable) nobits
       ∙ ap (λ b. ((s.loaded && not s.executable) && not (is_nobits s)) && b) is.writable
 
   rodata_same : objects.goes_to_rodata x ≡ goes_to_rodata s
   rodata_same =
-      ap (λ b. (b && not (objects.is_nobits x.contents)) && not x.writable) front_same ∙ ap (λ b. ((s.loaded && not s.executable) && not b) && not x.writable) nobits
+      ap (λ b. (b && not (objects.has_no_bytes x.contents)) && not x.writable) front_same ∙ ap (λ b. ((s.loaded && not s.executable) && not b) && not x.writable) nobits
       ∙ ap (λ b. ((s.loaded && not s.executable) && not (is_nobits s)) && not b) is.writable
 
   -- bytes in the file
@@ -156,7 +156,7 @@ marks starts drops file (ss ∷ sources) (o ∷ os) (is, h) (own, masks) =
     mark_own starts file is.laid (all_rows starts (suc file) sources os h) (map (left_of drops) (located_of (suc file) sources)) (marks starts drops (suc file) sources os h masks)
     ∙ ap (λ l. map source.identity_of (filter has_row l)) (sym (left_file drops file ss sources is.dropped own is.laid is.located))
 
-good_all : (sources : List (List Statement)) (os : List Object) → AreObjectsOf sources os → AllByRecursion (λ ss. first_fault ss ≡ None) sources
+good_all : (sources : List (List Statement)) (os : List Object) → AreObjectsOf sources os → AllByRecursion (λ ss. first_unit_fault ss ≡ None) sources
 good_all [] [] h = tt
 good_all [] (o ∷ os) h = absurd h
 good_all (ss ∷ sources) [] h = absurd h

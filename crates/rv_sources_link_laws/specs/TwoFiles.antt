@@ -25,8 +25,8 @@ use Rattle.rv_object.specs.declared.symbol.Definition.TheVariants.{Undefined, Ab
 use Rattle.rv_object.specs.Object.{Progbits, Note, Relocation, Section, Symbol, Object}
 use Rattle.rv_assemble_laws.specs.LaidStatements.{LaidStatement}
 
-abbrev said : ℕ → StatementKind → Statement
-said line kind = record { line = line; kind = kind }
+abbrev on_line : ℕ → StatementKind → Statement
+on_line line kind = record { line = line; kind = kind }
 
 abbrev name : List ℕ → Expression
 name n = Leaf (Named n)
@@ -43,16 +43,16 @@ name n = Leaf (Named n)
 --     .dword .
 abbrev pub first_source : List Statement
 first_source =
-    said 1 (Directs (Chooses Norvc))
-    ∷ said 2 (Directs (Binds bindings.Global (codes "_start" ∷ [])))
-    ∷ said 3 (Label (codes "_start"))
-    ∷ said 3 (Instruction Ecall [])
-    ∷ said 4 (Directs (Enters Data))
-    ∷ said 5 (Label (codes "v"))
-    ∷ said 5 (Directs (Values 4 (name (codes "f") ∷ [])))
-    ∷ said 6 (Directs (Values 8 (Binary Add (name (codes "v")) (Leaf (Literal 4)) ∷ [])))
-    ∷ said 7 (Directs (Values 4 (Binary Subtract (name (codes "f")) (name (codes "g")) ∷ [])))
-    ∷ said 8 (Directs (Values 8 (Leaf Here ∷ [])))
+    on_line 1 (Directs (Chooses Norvc))
+    ∷ on_line 2 (Directs (Binds bindings.Global (codes "_start" ∷ [])))
+    ∷ on_line 3 (Label (codes "_start"))
+    ∷ on_line 3 (Instruction Ecall [])
+    ∷ on_line 4 (Directs (Enters Data))
+    ∷ on_line 5 (Label (codes "v"))
+    ∷ on_line 5 (Directs (Values 4 (name (codes "f") ∷ [])))
+    ∷ on_line 6 (Directs (Values 8 (Binary Add (name (codes "v")) (Leaf (Literal 4)) ∷ [])))
+    ∷ on_line 7 (Directs (Values 4 (Binary Subtract (name (codes "f")) (name (codes "g")) ∷ [])))
+    ∷ on_line 8 (Directs (Values 8 (Leaf Here ∷ [])))
     ∷ []
 
 --     .globl f, g, c
@@ -69,21 +69,21 @@ first_source =
 --     .balign 8
 abbrev pub second_source : List Statement
 second_source =
-    said 1 (Directs (Binds bindings.Global (codes "f" ∷ codes "g" ∷ codes "c" ∷ [])))
-    ∷ said 2 (Directs (Enters Data))
-    ∷ said 3 (Label (codes "v"))
-    ∷ said 3 (Directs (Values 1 (Leaf (Literal 7) ∷ [])))
-    ∷ said 4 (Label (codes "f"))
-    ∷ said 4 (Directs (Values 1 (Leaf (Literal 8) ∷ [])))
-    ∷ said 5 (Label (codes "g"))
-    ∷ said 5 (Directs (Values 4 (name (codes "v") ∷ [])))
-    ∷ said 6 (Directs (Sets (codes "c") (Leaf (Literal 5))))
-    ∷ said 7 (Directs (Opens (codes ".note.tool") (Some []) (Some (codes "note"))))
-    ∷ said 8 (Directs (Values 1 (Leaf (Literal 9) ∷ [])))
-    ∷ said 9 (Directs (Enters Text))
-    ∷ said 10 (Directs (Chooses Norvc))
-    ∷ said 11 (Instruction Ecall [])
-    ∷ said 12 (Directs (Aligns_to_bytes (Leaf (Literal 8))))
+    on_line 1 (Directs (Binds bindings.Global (codes "f" ∷ codes "g" ∷ codes "c" ∷ [])))
+    ∷ on_line 2 (Directs (Enters Data))
+    ∷ on_line 3 (Label (codes "v"))
+    ∷ on_line 3 (Directs (Values 1 (Leaf (Literal 7) ∷ [])))
+    ∷ on_line 4 (Label (codes "f"))
+    ∷ on_line 4 (Directs (Values 1 (Leaf (Literal 8) ∷ [])))
+    ∷ on_line 5 (Label (codes "g"))
+    ∷ on_line 5 (Directs (Values 4 (name (codes "v") ∷ [])))
+    ∷ on_line 6 (Directs (Sets (codes "c") (Leaf (Literal 5))))
+    ∷ on_line 7 (Directs (Opens (codes ".note.tool") (Some []) (Some (codes "note"))))
+    ∷ on_line 8 (Directs (Values 1 (Leaf (Literal 9) ∷ [])))
+    ∷ on_line 9 (Directs (Enters Text))
+    ∷ on_line 10 (Directs (Chooses Norvc))
+    ∷ on_line 11 (Instruction Ecall [])
+    ∷ on_line 12 (Directs (Aligns_to_bytes (Leaf (Literal 8))))
     ∷ []
 
 -- ---- the objects
@@ -242,8 +242,8 @@ pub record Size : Type 0 where
   pub instructions : ℕ
   pub coded : List (List ℕ)
 
-abbrev pub size : ℕ → ℕ → ℕ → Size
-size offset bytes instructions =
+abbrev pub size_of_code : ℕ → ℕ → ℕ → Size
+size_of_code offset bytes instructions =
     record { offset = offset; bytes = bytes; instructions = instructions; coded = [] }
 
 -- of one instruction, a word at the start of its section
@@ -266,16 +266,19 @@ laid_from (l ∷ ls) (z ∷ zs) =
 abbrev pub first_laid : List LaidStatement
 first_laid =
     laid_from (located_from 1 1 (at_start first_source) first_source)
-    (size 0 0 0 ∷ size 0 0 0 ∷ size 0 0 0 ∷ one_word (0x73 ∷ 0 ∷ 0 ∷ 0 ∷ []) ∷ size 0 0 0 ∷
-    size 0 0 0 ∷ size 0 4 0 ∷ size 4 8 0 ∷ size 12 4 0
-    ∷ size 16 8 0 ∷ [])
+    (size_of_code 0 0 0 ∷ size_of_code 0 0 0 ∷ size_of_code 0 0 0 ∷
+    one_word (0x73 ∷ 0 ∷ 0 ∷ 0 ∷ []) ∷ size_of_code 0 0 0 ∷
+    size_of_code 0 0 0 ∷ size_of_code 0 4 0 ∷ size_of_code 4 8 0 ∷ size_of_code 12 4 0
+    ∷ size_of_code 16 8 0 ∷ [])
 
 abbrev pub second_laid : List LaidStatement
 second_laid =
     laid_from (located_from 1 1 (at_start second_source) second_source)
-    (size 0 0 0 ∷ size 0 0 0 ∷ size 0 0 0 ∷ size 0 1 0 ∷ size 1 0 0 ∷ size 1 1 0 ∷ size 2 0 0 ∷
-    size 2 4 0 ∷ size 6 0 0 ∷ size 0 0 0 ∷ size 0 1 0 ∷ size 0 0 0 ∷ size 0 0 0 ∷
-    one_word (0x73 ∷ 0 ∷ 0 ∷ 0 ∷ []) ∷ size 4 6 2 ∷ [])
+    (size_of_code 0 0 0 ∷ size_of_code 0 0 0 ∷ size_of_code 0 0 0 ∷ size_of_code 0 1 0 ∷
+    size_of_code 1 0 0 ∷ size_of_code 1 1 0 ∷ size_of_code 2 0 0 ∷
+    size_of_code 2 4 0 ∷ size_of_code 6 0 0 ∷ size_of_code 0 0 0 ∷ size_of_code 0 1 0 ∷
+    size_of_code 0 0 0 ∷ size_of_code 0 0 0 ∷
+    one_word (0x73 ∷ 0 ∷ 0 ∷ 0 ∷ []) ∷ size_of_code 4 6 2 ∷ [])
 
 abbrev pub first_number : ℕ → Primary → ℕ
 first_number ordinal (Named n) =

@@ -2,7 +2,7 @@
 
 use Rattle.std.specs.Prelude.{◌≡◌, ℕ, ◌+◌, ◌≤◌, Bool, nat_le, List, map, length, get_or}
 use Rattle.std.specs.List.{slice_range}
-use Rattle.rv_text_laws.specs.Bytes.{value}
+use Rattle.rv_text_laws.specs.Bytes.{digits_value}
 use Rattle.rv_statement.specs.Statement as specs
 use Rattle.rv_statement.specs.View.{plain_of, statement_of}
 use Rattle.rv_statement.specs.declared.statement.Plain.{Plain}
@@ -35,40 +35,41 @@ plain_in shorts.Ret = plains.Ret
 plain_in (shorts.Parcel operation a b) = plains.Parcel operation a b
 
 -- what words say that keep nothing whole
-abbrev pub kind_in : List ℕ → Words → specs.StatementKind
-kind_in source (words.Plain short) = plain_of (plain_in short)
-kind_in source (words.Numbered count start) = specs.Numbered (value 10 (part source count start))
-kind_in source (words.Whole index) = specs.Directs specs.Ignored
+abbrev pub packed_kind : List ℕ → Words → specs.StatementKind
+packed_kind source (words.Plain short) = plain_of (plain_in short)
+packed_kind source (words.Numbered count start) =
+    specs.Numbered (digits_value 10 (part source count start))
+packed_kind source (words.Whole index) = specs.Directs specs.Ignored
 
 -- the statement of words with their line, among those that are kept whole
 abbrev pub statement_in : List ℕ → List Statement → ℕ → Words → specs.Statement
 statement_in source whole line (words.Whole index) =
     get_or (map statement_of whole) index
     (record { line = line; kind = specs.Directs specs.Ignored })
-statement_in source whole line says = record { line = line; kind = kind_in source says }
+statement_in source whole line says = record { line = line; kind = packed_kind source says }
 
 abbrev pub recorded : List ℕ → List Statement → Record → specs.Statement
 recorded source whole r = statement_in source whole r.line r.words
 
 -- how many bytes the source has at least, by the part that words name
-abbrev pub end_of : Words → ℕ
-end_of (words.Numbered count start) = start + count
-end_of _ = 0
+abbrev pub part_end : Words → ℕ
+part_end (words.Numbered count start) = start + count
+part_end _ = 0
 
 -- how many statements are kept whole at least, by the index that words name
-abbrev pub kept_of : Words → ℕ
-kept_of (words.Whole index) = index + 1
-kept_of _ = 0
+abbrev pub least_whole : Words → ℕ
+least_whole (words.Whole index) = index + 1
+least_whole _ = 0
 
 -- the part and the index of a record lie within
-abbrev pub is_inside : ℕ → Record → Bool
-is_inside size r = nat_le (end_of r.words) size
+abbrev pub has_its_part : ℕ → Record → Bool
+has_its_part size r = nat_le (part_end r.words) size
 
-abbrev pub is_kept : ℕ → Record → Bool
-is_kept count r = nat_le (kept_of r.words) count
+abbrev pub has_its_whole : ℕ → Record → Bool
+has_its_whole count r = nat_le (least_whole r.words) count
 
 -- words say this of the source, and keep nothing whole
 pub record IsPacked (source : List ℕ) (says : Words) (kind : specs.StatementKind) : Type 0 where
-  pub inside : end_of says ≤ length source
-  pub alone : kept_of says ≡ 0
-  pub same : kind_in source says ≡ kind
+  pub inside : part_end says ≤ length source
+  pub alone : least_whole says ≡ 0
+  pub same : packed_kind source says ≡ kind

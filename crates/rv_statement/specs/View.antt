@@ -2,7 +2,7 @@
 
 use Rattle.std.specs.Prelude.{ℕ, true, false, List, [], ◌∷◌, ◌++◌, map, option_map, box_value}
 use Rattle.std.specs.Borrow.{Bor}
-use Rattle.rv_text_laws.specs.Bytes.{value}
+use Rattle.rv_text_laws.specs.Bytes.{digits_value}
 use Rattle.rv_text_laws.specs.Expression.{Tree}
 use Rattle.rv_text.specs.Expr.{tree_of_expr}
 use Rattle.rv_lexer.specs.Token.{string_bytes}
@@ -33,11 +33,11 @@ now_of b = b.now
 abbrev pub quoted : Bor (List ℕ) → List ℕ
 quoted b = string_bytes b.now
 
-abbrev pub bytes_of : Width → ℕ
-bytes_of widths.Byte = 1
-bytes_of widths.Half = 2
-bytes_of widths.Word = 4
-bytes_of widths.Double = 8
+abbrev pub width_bytes : Width → ℕ
+width_bytes widths.Byte = 1
+width_bytes widths.Half = 2
+width_bytes widths.Word = 4
+width_bytes widths.Double = 8
 
 -- the registers that a parcel has, as operands
 abbrev pub parcel_registers : ParcelOperation → ℕ → ℕ → List specs.Operand
@@ -169,7 +169,7 @@ setting_of s = specs.Sets s.name.now (tree_of_expr s.expression)
 
 abbrev pub statement_kind : StatementKind → specs.StatementKind
 statement_kind (kinds.Label name) = specs.Label name.now
-statement_kind (kinds.Numbered digits) = specs.Numbered (value 10 digits.now)
+statement_kind (kinds.Numbered digits) = specs.Numbered (digits_value 10 digits.now)
 statement_kind (kinds.Plain p) = plain_of p
 statement_kind (kinds.With operation e) = with_expression operation (tree_of_expr e)
 statement_kind (kinds.WithFunction operation function e) =
@@ -184,9 +184,9 @@ statement_kind (kinds.AlignsToPower exponent) =
 statement_kind (kinds.AlignsToBytes bytes) =
     specs.Directs (specs.Aligns_to_bytes (tree_of_expr bytes))
 statement_kind (kinds.Value width one) =
-    specs.Directs (specs.Values (bytes_of width) (tree_of_expr one ∷ []))
+    specs.Directs (specs.Values (width_bytes width) (tree_of_expr one ∷ []))
 statement_kind (kinds.Values width values) =
-    specs.Directs (specs.Values (bytes_of width) (map tree_of_expr values.items))
+    specs.Directs (specs.Values (width_bytes width) (map tree_of_expr values.items))
 statement_kind (kinds.Ascii strings) =
     specs.Directs (specs.Strings false (map quoted strings.items))
 statement_kind (kinds.Asciz strings) = specs.Directs (specs.Strings true (map quoted strings.items))

@@ -4,10 +4,10 @@
 //! that is made again takes a few bytes.
 
 ghost use Rattle.std.specs.Prelude.{◌≡◌, ◌≤◌, ◌+◌, length, IfSome};
-ghost use Rattle.rv_text_laws.specs.Bytes.{value};
+ghost use Rattle.rv_text_laws.specs.Bytes.{digits_value};
 ghost use Rattle.rv_statement.specs.Statement.{Numbered};
 ghost use Rattle.rv_statement.specs.View.{statement_kind};
-ghost use Rattle.rv_statement.specs.Records.{part, plain_in, end_of, kind_in, IsPacked};
+ghost use Rattle.rv_statement.specs.Records.{part, plain_in, part_end, packed_kind, IsPacked};
 
 use crate::pseudo::{CompareOperation, UnaryOperation};
 use crate::statement::{Plain, StatementKind};
@@ -104,7 +104,8 @@ fn plain(short: Short) -> Plain
 /// A numeric label whose digits begin at `from` in the source.
 #[inline(never)]
 fn numbered(source: &[u8], from: usize, digits: &[u8]) -> Option<Words>
-    ensures { IfSome result (λ words. IsPacked source.now words (Numbered (value 10 digits.now))) }
+    ensures { IfSome result
+        (λ words. IsPacked source.now words (Numbered (digits_value 10 digits.now))) }
 {
     let count = u8::try_from(digits.len()).ok()?;
     let start = u32::try_from(from).ok()?;
@@ -138,8 +139,8 @@ fn part(source: &[u8], count: u8, start: u32) -> &[u8]
 
 /// What a statement says that is not kept whole.
 pub(crate) fn made(source: &[u8], words: Words) -> StatementKind<'_>
-    requires { end_of words ≤ length source.now }
-    ensures { statement_kind result ≡ kind_in source.now words }
+    requires { part_end words ≤ length source.now }
+    ensures { statement_kind result ≡ packed_kind source.now words }
 {
     match words {
         Words::Plain(short) => StatementKind::Plain(plain(short)),

@@ -6,7 +6,7 @@ ghost use Rattle.std.specs.Prelude.{◌≡◌, ◌<◌, ◌≤◌, ◌^◌, ◌=
 ghost use Rattle.std.specs.List.{slice_get, list_all};
 ghost use Rattle.rv_statement.specs.View.{statement_of};
 ghost use Rattle.rv_statement.specs.declared.record.Record.{Record as RecordOf};
-ghost use Rattle.rv_statement.specs.Records.{end_of, kept_of, statement_in, is_inside, is_kept};
+ghost use Rattle.rv_statement.specs.Records.{part_end, least_whole, statement_in, has_its_part, has_its_whole};
 
 use crate::record::{Record, Words, made, packed};
 use crate::statement::{Statement, StatementKind};
@@ -20,9 +20,9 @@ pub struct Statements<'a> {
     /// Those that a record can't hold.
     pub(crate) whole: Vec<Statement<'a>>,
     /// Each part that a record names lies in the source.
-    ghost inside: { IsTrue (list_all (is_inside (length source.now)) records.items) },
+    ghost inside: { IsTrue (list_all (has_its_part (length source.now)) records.items) },
     /// Each index that a record names is one of those kept whole.
-    ghost kept: { IsTrue (list_all (is_kept (length whole.items)) records.items) },
+    ghost kept: { IsTrue (list_all (has_its_whole (length whole.items)) records.items) },
     /// None is kept whole without a record.
     ghost fewer: { length whole.items ≤ length records.items },
 }
@@ -58,8 +58,8 @@ impl<'a> Statements<'a> {
 
     /// Adds a record.
     fn push_record(&mut self, words: Words, line: u32) -> Result<(), AllocError>
-        requires inside { end_of words ≤ length self.old.source.now }
-        requires kept { kept_of words ≤ length self.old.whole.items }
+        requires inside { part_end words ≤ length self.old.source.now }
+        requires kept { least_whole words ≤ length self.old.whole.items }
         ensures { OnOk result (statements_of self.new ≡ statements_of self.old
             ++ statement_in self.old.source.now self.old.whole.items line words ∷ []) }
     {
@@ -122,7 +122,7 @@ impl<'a> Statements<'a> {
     fn make<'r>(&self, index: usize, room: &'r mut Statement<'a>) -> &'r Statement<'a>
         requires within { index < length (statements_of self.now) }
         requires little { (found : RecordOf) →
-            slice_get self.now.records.items index ≡ Some found → kept_of found.words ≡ 0 }
+            slice_get self.now.records.items index ≡ Some found → least_whole found.words ≡ 0 }
         ensures { slice_get (statements_of self.now) index ≡ Some (statement_of result.now) }
     {
         let record = self.records[index];

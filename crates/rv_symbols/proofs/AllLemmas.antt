@@ -4,12 +4,12 @@ use Rattle.std.proofs.Common.{◌≡◌, ℕ, ◌<◌, ◌^◌, Bool, true, fals
 use Rattle.std.specs.Prelude.{reverse, slice_get, is_some, nat_lt, ◌&&◌, ◌==◌}
 use Rattle.std.specs.List.{AllByRecursion}
 use Rattle.std.specs.Str.{bytes_eq}
-use Rattle.rv_text_laws.specs.Bytes.{value as digits_value}
+use Rattle.rv_text_laws.specs.Bytes.{digits_value as digits_value}
 use Rattle.rv_text_laws.specs.Expression.{Primary, Literal, Symbol as Named, Here, Reference}
 use Rattle.rv_statement.specs.Statement.{Statement}
 use Rattle.rv_unit_laws.specs.Tables as laws
 use Rattle.rv_unit_laws.specs.Tables.{Tables, NumericLabel, at_start, tables, definition_at, numeric_label_before, numeric_label_after}
-use Rattle.rv_unit_laws.specs.Faults.{first_fault}
+use Rattle.rv_unit_laws.specs.Faults.{first_unit_fault}
 use Rattle.rv_unit_laws.proofs.FoundLemmas.{and_both}
 use Rattle.rv_map.specs.Name.{is_name}
 use Rattle.rv_source_laws.specs.Located.{located_from}
@@ -18,7 +18,7 @@ use Rattle.rv_assemble_laws.specs.Symbols.{SymbolUse, references, is_unnamed, sy
 use Rattle.rv_assemble_laws.specs.IsObjectOf.{IsNumbered}
 use Rattle.rv_assemble_laws.specs.ShownNames.{is_shown_use, AreShown, HasNames}
 use Rattle.rv_symbols.specs.SymbolUse.{is_meant_use, AreMeant}
-use Rattle.rv_symbols.specs.Numbers.{number_in}
+use Rattle.rv_symbols.specs.Numbers.{numbering_in}
 use Rattle.rv_symbols.proofs.DefiningLemmas.{by_index, laid_of, own_name}
 use Rattle.rv_symbols.proofs.NamingLemmas.{all_got}
 use Rattle.rv_symbols.proofs.DefinedNamesLemmas.{names_some}
@@ -28,7 +28,7 @@ use Rattle.rv_symbols.proofs.StandingLemmas.{StandsAt, AreNumeric, uses_stand, f
 use Rattle.rv_symbols.proofs.MeantLemmas.{numeric_labels, means}
 
 module _ (ss : List Statement) (laid : List LaidStatement) (located : map (λ s. s.located) laid ≡ located_from 1 1 (at_start ss) ss) (meant : AreMeant (tables ss) (references (tables ss) laid))
-    (free : first_fault ss ≡ None) (names : HasNames ss) (shown : AreShown (references (tables ss) laid)) (low : (i : ℕ) (s : LaidStatement) → slice_get laid i ≡ Some s → s.offset < 2 ^ 64) where
+    (free : first_unit_fault ss ≡ None) (names : HasNames ss) (shown : AreShown (references (tables ss) laid)) (low : (i : ℕ) (s : LaidStatement) → slice_get laid i ≡ Some s → s.offset < 2 ^ 64) where
   abbrev t : Tables
   t = tables ss
 
@@ -36,7 +36,7 @@ module _ (ss : List Statement) (laid : List LaidStatement) (located : map (λ s.
   rs = references t laid
 
   abbrev Stands : ℕ → Primary → Type 0
-  Stands o q = StandsFor t laid o q (slice_get (symbols_of t laid) (number_in t laid o q))
+  Stands o q = StandsFor t laid o q (slice_get (symbols_of t laid) (numbering_in t laid o q))
 
   numeric : AreNumeric laid t.numeric_labels
   numeric = numeric_labels ss laid located
@@ -92,8 +92,8 @@ module _ (ss : List Statement) (laid : List LaidStatement) (located : map (λ s.
   by_symbol j o (Reference digits true) e m at = later j o digits e m
   by_symbol j o (Reference digits false) e m at = earlier j o digits e m
 
-  pub numbered : AllByRecursion (IsNumbered t laid (number_in t laid) (symbols_of t laid)) rs
+  pub numbered : AllByRecursion (IsNumbered t laid (numbering_in t laid) (symbols_of t laid)) rs
   numbered =
-      by_index (IsNumbered t laid (number_in t laid) (symbols_of t laid)) rs
+      by_index (IsNumbered t laid (numbering_in t laid) (symbols_of t laid)) rs
       (λ j r e. by_symbol j r.ordinal r.symbol e (all_got (is_meant_use t) rs j r e meant)
       (all_index (λ (z : SymbolUse). StandsAt laid z.ordinal) rs j r e (uses_stand t laid (means ss laid located) 0 1 (at_start ss) ss laid refl located)))

@@ -11,7 +11,7 @@ use Rattle.rv_text_laws.specs.Values.{Meaning, Known, InSection as InData, Open 
 use Rattle.rv_statement.specs.Statement.{StatementKind, Label, Numbered, Instruction, Directs, Statement, Expression, Enters, Opens, Binds, Sets, Aligns_to_power, Aligns_to_bytes, Values, Strings, Zeros, Chooses, Ignored}
 use Rattle.rv_unit_laws.specs.Tables as laws
 use Rattle.rv_unit_laws.specs.Tables.{Tables, Labelled, Assignment, at_start, tables, definition_at, label_of, assigned_ever, assigned_before, is_location}
-use Rattle.rv_unit_laws.specs.Faults.{first_fault}
+use Rattle.rv_unit_laws.specs.Faults.{first_unit_fault}
 use Rattle.rv_unit_laws.proofs.FewLemmas.{no_fault_from}
 use Rattle.rv_unit_laws.proofs.FoundLemmas.{same_bytes, bytes_same, and_both}
 use Rattle.rv_unit_laws.proofs.BeforeLemmas.{before_start}
@@ -21,7 +21,7 @@ use Rattle.rv_object.specs.declared.symbol.Definition.{Definition as Defined}
 use Rattle.rv_object.specs.declared.symbol.Definition.TheVariants.{Absolute, InSection, Skipped}
 use Rattle.rv_assemble_laws.specs.LaidStatements.{LaidStatement}
 use Rattle.rv_assemble_laws.specs.Symbols.{laid_at, after_statement, after_found, assigned_definition, statement_definition, local_symbol, is_absolute, symbols_of, StandsFor}
-use Rattle.rv_symbols.specs.Numbers.{number_in}
+use Rattle.rv_symbols.specs.Numbers.{numbering_in}
 use Rattle.rv_symbols.proofs.StandsLemmas.{statement_by, ordinal_by}
 use Rattle.rv_symbols.proofs.NumberedLemmas.{all_index}
 use Rattle.rv_symbols.proofs.OwnedLemmas.{own_stands, own_named, own_all}
@@ -100,12 +100,12 @@ module _ (ss : List Statement) (laid : List LaidStatement) (located : map (λ s.
       let own : s.located.ordinal ≡ 1 + i = ordinal_by 1 (at_start ss) ss laid located i s at in
       statement_by 1 (at_start ss) ss laid located o i (omega (arith, own, is)) ∙ at
 
-  module _ (free : first_fault ss ≡ None) (low : (i : ℕ) (s : LaidStatement) → slice_get laid i ≡ Some s → s.offset < 2 ^ 64) (name : List ℕ) (shown : bytes_eq [] name ≡ false) (o : ℕ) where
+  module _ (free : first_unit_fault ss ≡ None) (low : (i : ℕ) (s : LaidStatement) → slice_get laid i ≡ Some s → s.offset < 2 ^ 64) (name : List ℕ) (shown : bytes_eq [] name ≡ false) (o : ℕ) where
     abbrev t : Tables
     t = tables ss
 
     abbrev Stands : Type 0
-    Stands = StandsFor t laid o (Named name) (slice_get (symbols_of t laid) (number_in t laid o (Named name)))
+    Stands = StandsFor t laid o (Named name) (slice_get (symbols_of t laid) (numbering_in t laid o (Named name)))
 
     abbrev Own : laws.Definition → Defined → Type 0
     Own d x = (s : LaidStatement) × (laid_at laid d.ordinal ≡ Some s) × (s.located.placed ≡ true) × (x ≡ after_statement s d.plus)

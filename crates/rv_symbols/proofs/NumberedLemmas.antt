@@ -19,7 +19,7 @@ use Rattle.rv_object.specs.Object.{Symbol}
 use Rattle.rv_assemble_laws.specs.LaidStatements.{LaidStatement}
 use Rattle.rv_object.specs.Bindings.{is_weak}
 use Rattle.rv_assemble_laws.specs.Symbols.{SymbolUse, references, outer_binding, shared_symbol, local_symbols, exports, missing_name, distinct_from, symbols_of, IsDefinedBy, StandsFor}
-use Rattle.rv_symbols.specs.Numbers.{last_from, last_index, own_symbols, missing_names, number_by, number_in}
+use Rattle.rv_symbols.specs.Numbers.{last_from, last_index, own_symbols, missing_names, number_by, numbering_in}
 
 -- ---- look-ups in lists
 
@@ -148,7 +148,7 @@ module _ (t : Tables) (laid : List LaidStatement) where
   whole = sym (append_assoc (local_symbols t laid [] laid) (exports t laid) undefined)
 
   pub undefined_stands : (i o : ℕ) (name : List ℕ) → slice_get rs i ≡ Some (record { ordinal = o; symbol = Named name }) → laws.definition t o (Named name) ≡ None
-      → StandsFor t laid o (Named name) (slice_get (symbols_of t laid) (number_in t laid o (Named name)))
+      → StandsFor t laid o (Named name) (slice_get (symbols_of t laid) (numbering_in t laid o (Named name)))
   undefined_stands i o name at none =
       let names = missing_names t rs in
       let own = own_symbols t laid in

@@ -11,7 +11,7 @@ use Rattle.rv_text_laws.specs.Expression.{Literal, Symbol, Here, Reference}
 use Rattle.rv_text_laws.specs.Values.{Known, InSection, Open, Refused, Value, Constant, Symbolic, Difference, Faulty, add}
 use Rattle.rv_statement.specs.Statement.{StatementKind, Label, Numbered, Instruction, Directs, Statement, Expression, Directive, Enters, Opens, Binds, Sets, Aligns_to_power, Aligns_to_bytes, Values, Strings, Zeros, Chooses, Ignored}
 use Rattle.rv_unit_laws.specs.Sections.{entered_by}
-use Rattle.rv_unit_laws.specs.Tables.{Tables, Labelled, Assignment, here, value, label_of, assigned_ever, is_location, gives_location, is_defined, has_location, may_set, assigned, assigned_by, with_assignment, with_label, with_section, after_directive, after, after_all}
+use Rattle.rv_unit_laws.specs.Tables.{Tables, Labelled, Assignment, here, value_by_tables, label_of, assigned_ever, is_location, gives_location, is_defined, has_location, may_set, assigned, assigned_by, with_assignment, with_label, with_section, after_directive, after, after_all}
 use Rattle.rv_unit_laws.proofs.AloneLemmas.{Same, section_same, directive_same, own_label, other_label, undefined, unplaced}
 use Rattle.rv_text_laws.specs.Codes.{lowest}
 use Rattle.rv_unit_laws.specs.Faults.{faults, first_fault_from}
@@ -34,7 +34,7 @@ set_labels t (Some s) = go (may_set t s.ordinal s.name s.meaning)
 
 directive_labels : (t : Tables) (k : ℕ) (d : Directive) → (after_directive t k d).labels ≡ t.labels
 directive_labels t k d =
-    (directive_same t k d).0 ∙ set_labels (with_section t (entered_by d)) (assigned_by (value t false k (here t)) k d) ∙ (section_same t (entered_by d)).0
+    (directive_same t k d).0 ∙ set_labels (with_section t (entered_by d)) (assigned_by (value_by_tables t false k (here t)) k d) ∙ (section_same t (entered_by d)).0
 
 module _ (name : List ℕ) (all : List LaidStatement) where
   -- a statement that stands at an ordinal
@@ -185,13 +185,13 @@ module _ (name : List ℕ) (all : List LaidStatement) where
   -- ---- any statement
 
   directive_after : (t : Tables) (k : ℕ) (d : Directive) → IsBefore t k → (is_placed t k (Directs d) ≡ true → Stands k (Directs d)) → OneName t → OneName (after_directive t k d)
-  directive_after t k d before at h = moved (with_assignment (with_section t (entered_by d)) (assigned_by (value t false k (here t)) k d)) (after_directive t k d) (directive_same t k d) (go d at)
+  directive_after t k d before at h = moved (with_assignment (with_section t (entered_by d)) (assigned_by (value_by_tables t false k (here t)) k d)) (after_directive t k d) (directive_same t k d) (go d at)
     where
       opened : (d : Directive) → OneName (with_section t (entered_by d))
       opened d = moved t (with_section t (entered_by d)) (section_same t (entered_by d)) h
 
-      go : (d : Directive) → (is_placed t k (Directs d) ≡ true → Stands k (Directs d)) → OneName (with_assignment (with_section t (entered_by d)) (assigned_by (value t false k (here t)) k d))
-      go (Sets n e) at = set_after t k n before h e (value t false k (here t) e) at
+      go : (d : Directive) → (is_placed t k (Directs d) ≡ true → Stands k (Directs d)) → OneName (with_assignment (with_section t (entered_by d)) (assigned_by (value_by_tables t false k (here t)) k d))
+      go (Sets n e) at = set_after t k n before h e (value_by_tables t false k (here t) e) at
       go (Enters section) at = opened (Enters section)
       go (Opens section flags kind) at = opened (Opens section flags kind)
       go (Binds binding names) at = h

@@ -18,7 +18,7 @@ use Rattle.rv_source_laws.specs.Lines.{operand_of}
 use Rattle.rv_assemble_laws.specs.CodeFields.{symbol_field, low_field, low_field_at, label_field, field_of, relax_fields, part_fields}
 use Rattle.rv_assemble_laws.specs.Coded.{constants}
 use Rattle.rv_assemble_laws.specs.Templates.{Template, Open, value_fields, padding_templates, contents_templates, contribution_templates}
-use Rattle.rv_assemble_laws.specs.LaidStatements.{LaidStatement, part_of, parts_of, expression_value, coded_templates, templates}
+use Rattle.rv_assemble_laws.specs.LaidStatements.{LaidStatement, laid_part, parts_of, expression_value, coded_templates, templates}
 use Rattle.rv_assemble_laws.specs.Symbols.{SymbolUse, use_of, references_in, references_of, references}
 use Rattle.rv_symbols.specs.Found.{is_here, Rises}
 
@@ -92,7 +92,7 @@ of_part t v s (Joined k i j) =
 -- ---- templates
 
 abbrev Parts : Tables → ℕ → List Template → Type 0
-Parts t n ts = AreOf t n (flat_map references_in (map (part_of n) ts))
+Parts t n ts = AreOf t n (flat_map references_in (map (laid_part n) ts))
 
 of_data : (t : Tables) (n width : ℕ) (v : Value) → AreOf t n (uses (value_fields n width v))
 of_data t n width (Constant number) = tt

@@ -21,7 +21,7 @@ use Rattle.rv_object.specs.Object.{Symbol}
 use Rattle.rv_assemble_laws.specs.LaidStatements.{LaidStatement}
 use Rattle.rv_object.specs.Bindings.{is_weak}
 use Rattle.rv_assemble_laws.specs.Symbols.{references, statement_definition, local_symbol, outer_binding, shared_symbol, is_absolute, unnamed_symbols, named_symbols, local_symbols, exports_of, exports, symbols_of, IsOwn, IsDefinedBy, StandsFor}
-use Rattle.rv_symbols.specs.Numbers.{last_index, is_named, own_symbols, missing_names, number_by, number_in}
+use Rattle.rv_symbols.specs.Numbers.{last_index, is_named, own_symbols, missing_names, number_by, numbering_in}
 use Rattle.rv_symbols.proofs.NumberedLemmas.{any_front, any_behind, all_index, got_last, got_front, shared_weak, whole}
 
 pub join : {X : Type 0} (P : X → Type 0) (xs ys : List X) → AllByRecursion P xs → AllByRecursion P ys → AllByRecursion P (xs ++ ys)
@@ -60,13 +60,13 @@ module _ (t : Tables) (laid : List LaidStatement) (name : List ℕ) where
   -- ---- a use, by its own symbols
 
   pub own_stands : (o : ℕ) (d : laws.Definition) → laws.definition t o (Named name) ≡ Some d → list_any (is_named name) own ≡ true
-      → AllByRecursion (λ x. is_named name x ≡ true → (is_weak x.binding ≡ source.is_weak (t.bindings name)) × IsOwn laid d x) own → StandsFor t laid o (Named name) (slice_get (symbols_of t laid) (number_in t laid o (Named name)))
+      → AllByRecursion (λ x. is_named name x ≡ true → (is_weak x.binding ≡ source.is_weak (t.bindings name)) × IsOwn laid d x) own → StandsFor t laid o (Named name) (slice_get (symbols_of t laid) (numbering_in t laid o (Named name)))
   own_stands o d f some all =
       let found = got_last (is_named name) own some in
       let x : Symbol = found.0 in
       let k = unwrap_or (last_index (is_named name) own) 0 in
-      let n : number_in t laid o (Named name) ≡ k = ap (number_by own (missing_names t (references t laid)) laid (Named name)) f in
-      let got : slice_get (symbols_of t laid) (number_in t laid o (Named name)) ≡ Some x =
+      let n : numbering_in t laid o (Named name) ≡ k = ap (number_by own (missing_names t (references t laid)) laid (Named name)) f in
+      let got : slice_get (symbols_of t laid) (numbering_in t laid o (Named name)) ≡ Some x =
       ap (slice_get (symbols_of t laid)) n ∙ ap (λ l. slice_get l k) (whole t laid) ∙ got_front own _ k x found.1 in
       let told : (is_weak x.binding ≡ source.is_weak (t.bindings name)) × IsOwn laid d x =
       all_index (λ x. is_named name x ≡ true → (is_weak x.binding ≡ source.is_weak (t.bindings name)) × IsOwn laid d x) own k x found.1 all found.2 in

@@ -13,10 +13,10 @@ use Rattle.rv_statement.specs.declared.directive.Choice.{Choice}
 use Rattle.rv_statement.specs.Statement.{StatementKind, Label, Numbered, Instruction, Directs, Statement, Expression, Directive, Enters, Opens, Binds, Sets, Aligns_to_power, Aligns_to_bytes, Values, Strings, Zeros, Chooses, Ignored}
 use Rattle.rv_unit_laws.specs.Sections.{Section, entered_by}
 use Rattle.rv_unit_laws.specs.Contributions.{Contribution, Nothing, contribution}
-use Rattle.rv_unit_laws.specs.Tables.{Tables, Definition, NumericLabel, Assignment, definition, here, value, is_defined, may_set, assigned_by, chosen, with_assignment, with_section, with_chosen, with_contribution, after_directive, after, after_all}
+use Rattle.rv_unit_laws.specs.Tables.{Tables, Definition, NumericLabel, Assignment, definition, here, value_by_tables, is_defined, may_set, assigned_by, choice_in, with_assignment, with_section, with_chosen, with_contribution, after_directive, after, after_all}
 use Rattle.rv_unit_laws.proofs.EnteringLemmas.{entering}
 use Rattle.rv_source_laws.specs.Located.{Located, is_placed, located_now, located_from}
-use Rattle.rv_assemble_laws.specs.LaidStatements.{LaidStatement, part_of, parts_of, templates}
+use Rattle.rv_assemble_laws.specs.LaidStatements.{LaidStatement, laid_part, parts_of, templates}
 use Rattle.rv_assemble_laws.specs.Symbols.{SymbolUse, references_in, references_of, references}
 use Rattle.rv_symbols.proofs.OrderedLemmas.{Names, AreOf, of_laid_statement}
 
@@ -31,7 +31,7 @@ all_same P (x ∷ xs) h = (h, all_same P xs h)
 
 -- a statement whose values name symbols has a place
 placed_by : (t u : Tables) (k n : ℕ) (s : LaidStatement) (kind : StatementKind) (placed : Bool) → placed ≡ is_placed u k kind
-    → AllByRecursion (λ (r : SymbolUse). placed ≡ true) (flat_map references_in (map (part_of n) (templates t s kind)))
+    → AllByRecursion (λ (r : SymbolUse). placed ≡ true) (flat_map references_in (map (laid_part n) (templates t s kind)))
 placed_by t u k n s (Label name) placed e = tt
 placed_by t u k n s (Numbered number) placed e = tt
 placed_by t u k n s (Instruction mnemonic operands) placed e = all_same (placed ≡ true) _ e
@@ -106,11 +106,11 @@ contribution_same t v _ = refl
 
 directive_same : (t : Tables) (k : ℕ) (d : Directive) → (after_directive t k d).numeric_labels ≡ t.numeric_labels
 directive_same t k d =
-    let v : Expression → Value = value t false k (here t) in
+    let v : Expression → Value = value_by_tables t false k (here t) in
     let opened = with_section t (entered_by d) in
     let named = with_assignment opened (assigned_by v k d) in
-    contribution_same (with_chosen named (chosen d)) v (contribution d)
-    ∙ chosen_same named (chosen d) ∙ set_same opened (assigned_by v k d) ∙ section_same t (entered_by d)
+    contribution_same (with_chosen named (choice_in d)) v (contribution d)
+    ∙ chosen_same named (choice_in d) ∙ set_same opened (assigned_by v k d) ∙ section_same t (entered_by d)
 
 abbrev pub AreNumeric : List LaidStatement → List NumericLabel → Type 0
 AreNumeric all ms = AllByRecursion (λ (m : NumericLabel). StandsAt all m.ordinal) ms

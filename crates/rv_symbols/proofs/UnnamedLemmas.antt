@@ -16,8 +16,8 @@ use Rattle.rv_object.specs.declared.symbol.Definition.TheVariants.{Undefined, Ab
 use Rattle.rv_object.specs.Object.{Symbol}
 use Rattle.rv_assemble_laws.specs.LaidStatements.{LaidStatement}
 use Rattle.rv_object.specs.Bindings.{is_weak}
-use Rattle.rv_assemble_laws.specs.Symbols.{SymbolUse, references, laid_at, local_symbol, is_unnamed, is_at, is_meant, unnamed_symbols, named_symbols, local_symbols, exports, symbols_of, IsNamed, IsDefinedBy, StandsFor}
-use Rattle.rv_symbols.specs.Numbers.{last_index, stands_in, is_at_place, own_symbols, missing_names, own_number, place_number, number_by, number_in}
+use Rattle.rv_assemble_laws.specs.Symbols.{SymbolUse, references, laid_at, local_symbol, is_unnamed, is_defined_at, is_meant, unnamed_symbols, named_symbols, local_symbols, exports, symbols_of, IsNamed, IsDefinedBy, StandsFor}
+use Rattle.rv_symbols.specs.Numbers.{last_index, stands_in, is_at_place, own_symbols, missing_names, own_number, place_number, number_by, numbering_in}
 use Rattle.rv_symbols.proofs.DefinedNamesLemmas.{AreSome}
 use Rattle.rv_symbols.proofs.NumberedLemmas.{any_front, any_behind, all_index, got_last, got_front, whole}
 use Rattle.rv_symbols.proofs.OwnedLemmas.{each_own}
@@ -99,10 +99,10 @@ module _ (t : Tables) (laid : List LaidStatement) where
   is_meant_by [] (suc j) r s d e u f o = absurd (cc)
   is_meant_by (q ∷ qs) zero r s d e u f o =
       let same : q ≡ r = cc in
-      or_left (is_unnamed q.symbol && is_at s.located.ordinal (laws.definition t q.ordinal q.symbol)) _
-      (ap (λ (y : SymbolUse). is_unnamed y.symbol && is_at s.located.ordinal (laws.definition t y.ordinal y.symbol)) same
-      ∙ and_from (is_unnamed r.symbol) (is_at s.located.ordinal (laws.definition t r.ordinal r.symbol)) u (ap (is_at s.located.ordinal) f ∙ eq-eqb d.ordinal s.located.ordinal o))
-  is_meant_by (q ∷ qs) (suc j) r s d e u f o = or_right (is_unnamed q.symbol && is_at s.located.ordinal (laws.definition t q.ordinal q.symbol)) _ (is_meant_by qs j r s d e u f o)
+      or_left (is_unnamed q.symbol && is_defined_at s.located.ordinal (laws.definition t q.ordinal q.symbol)) _
+      (ap (λ (y : SymbolUse). is_unnamed y.symbol && is_defined_at s.located.ordinal (laws.definition t y.ordinal y.symbol)) same
+      ∙ and_from (is_unnamed r.symbol) (is_defined_at s.located.ordinal (laws.definition t r.ordinal r.symbol)) u (ap (is_defined_at s.located.ordinal) f ∙ eq-eqb d.ordinal s.located.ordinal o))
+  is_meant_by (q ∷ qs) (suc j) r s d e u f o = or_right (is_unnamed q.symbol && is_defined_at s.located.ordinal (laws.definition t q.ordinal q.symbol)) _ (is_meant_by qs j r s d e u f o)
 
   place_parts : (section offset : ℕ) (x : Symbol) → is_at_place section offset x ≡ true → (x.name ≡ []) × (x.definition ≡ InSection section offset)
   place_parts section offset x e =
@@ -144,16 +144,16 @@ module _ (t : Tables) (laid : List LaidStatement) where
   -- a use without a name, whose statement stands at an index
   pub unnamed_stands : AllByRecursion (λ s. AreSome t s.located) laid → (j : ℕ) (r : SymbolUse) (d : laws.Definition) (i : ℕ) (s : LaidStatement) → slice_get (references t laid) j ≡ Some r → is_unnamed r.symbol ≡ true → laws.definition t r.ordinal r.symbol ≡ Some d
       → slice_get laid i ≡ Some s → laid_at laid d.ordinal ≡ Some s → d.ordinal ≡ s.located.ordinal → s.located.placed ≡ true → d.plus ≡ 0 → s.offset < 2 ^ 64
-      → StandsFor t laid r.ordinal r.symbol (slice_get (symbols_of t laid) (number_in t laid r.ordinal r.symbol))
+      → StandsFor t laid r.ordinal r.symbol (slice_get (symbols_of t laid) (numbering_in t laid r.ordinal r.symbol))
   unnamed_stands names j r d i s at u f here laid_statement o placed plus low =
       let own = own_symbols t laid in
       let test = is_at_place s.located.section s.offset in
       let found = got_last test own (own_has i s here (is_meant_by (references t laid) j r s d at u f o)) in
       let x : Symbol = found.0 in
       let parts = place_parts s.located.section s.offset x found.2 in
-      let n : number_in t laid r.ordinal r.symbol ≡ unwrap_or (last_index test own) 0 =
+      let n : numbering_in t laid r.ordinal r.symbol ≡ unwrap_or (last_index test own) 0 =
       ap (number_by own (missing_names t (references t laid)) laid r.symbol) f ∙ own_is r.symbol d u ∙ ap (place_number own) laid_statement in
-      let got : slice_get (symbols_of t laid) (number_in t laid r.ordinal r.symbol) ≡ Some x =
+      let got : slice_get (symbols_of t laid) (numbering_in t laid r.ordinal r.symbol) ≡ Some x =
       ap (slice_get (symbols_of t laid)) n ∙ ap (λ l. slice_get l (unwrap_or (last_index test own) 0)) (whole t laid) ∙ got_front own _ (unwrap_or (last_index test own) 0) x found.1 in
       let end : s.offset ≡ add s.offset d.plus = omega arith in
       subst (λ y. StandsFor t laid r.ordinal r.symbol y) (sym got) (

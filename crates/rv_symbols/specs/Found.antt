@@ -9,7 +9,7 @@ use Rattle.rv_unit_laws.specs.Tables as laws
 use Rattle.rv_object.specs.declared.symbol.Definition.{Definition as Defined}
 use Rattle.rv_object.specs.declared.symbol.Definition.TheVariants.{Absolute}
 use Rattle.rv_assemble_laws.specs.LaidStatements.{LaidStatement}
-use Rattle.rv_assemble_laws.specs.Symbols.{SymbolUse, is_unnamed, is_at, is_meant}
+use Rattle.rv_assemble_laws.specs.Symbols.{SymbolUse, is_unnamed, is_defined_at, is_meant}
 
 -- a number of the source's own
 abbrev pub is_number : Defined → Bool
@@ -42,7 +42,7 @@ Rises low high (r ∷ rs) = IsNext low high r × Rises (next_ordinal low r) high
 
 -- a use without a name means the statement of an ordinal
 abbrev pub means : ℕ → Primary → Option laws.Definition → Bool
-means ordinal q found = is_unnamed q && is_at ordinal found
+means ordinal q found = is_unnamed q && is_defined_at ordinal found
 
 abbrev pub any_means : Tables → ℕ → List SymbolUse → Bool
 any_means t ordinal rs = list_any (λ r. means ordinal r.symbol (definition_in t r)) rs

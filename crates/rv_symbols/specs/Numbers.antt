@@ -60,7 +60,7 @@ own_symbols t laid = local_symbols t laid [] laid ++ exports t laid
 abbrev pub missing_names : Tables → List SymbolUse → List (List ℕ)
 missing_names t rs = distinct_from [] (flat_map (λ r. missing_name t r.ordinal r.symbol) rs)
 
-abbrev pub number_in : Tables → List LaidStatement → Numbering
-number_in t laid ordinal q =
+abbrev pub numbering_in : Tables → List LaidStatement → Numbering
+numbering_in t laid ordinal q =
     number_by (own_symbols t laid) (missing_names t (references t laid)) laid q
     (definition t ordinal q)

@@ -11,9 +11,9 @@ use Rattle.rv_symbols.specs.Settings.{AreFirsts}
 use Rattle.rv_symbols.specs.declared.source.Source.{Source}
 
 -- a name, or none
-abbrev pub name_in : Option (Bor (List ℕ)) → List (List ℕ)
-name_in None = []
-name_in (Some name) = name.now ∷ []
+abbrev pub optional_name : Option (Bor (List ℕ)) → List (List ℕ)
+optional_name None = []
+optional_name (Some name) = name.now ∷ []
 
 -- the tables of a source
 abbrev pub tables_of : Source → Tables

@@ -32,7 +32,7 @@ pub(crate) struct Source<'u, 'a> {
 }
 
 impl<'u, 'a> Source<'u, 'a> {
-    ghost use Rattle.rv_symbols.specs.Source.{name_in, tables_of, place_in, IsSource};
+    ghost use Rattle.rv_symbols.specs.Source.{optional_name, tables_of, place_in, IsSource};
 
     /// A source whose statements stand at the offsets of these items.
     pub(crate) fn of(
@@ -78,7 +78,7 @@ impl<'u, 'a> Source<'u, 'a> {
     pub(crate) fn defined<'s>(&self, index: usize, statement: &Statement<'s>) -> Option<&'s [u8]>
         requires { index + 1 < 2 ^ 64 }
         ensures name { (laid : List LaidStatement) → IsSource self.now laid
-            → name_in result
+            → optional_name result
             ≡ defined_name (tables_of self.now) (index + 1) (statement_of statement.now).kind }
         ensures shown { are_shown (said_names (statement_of statement.now).kind) ≡ true
             → IfSome result (λ n. is_name n.now ≡ true) }
@@ -95,7 +95,7 @@ impl<'u, 'a> Source<'u, 'a> {
         requires { index + 1 < 2 ^ 64 }
         ensures same { IfSome result (λ n. n.now ≡ name.now) }
         ensures name { (laid : List LaidStatement) → IsSource self.now laid
-            → name_in result
+            → optional_name result
             ≡ (if sets_first (tables_of self.now).assignments (index + 1) name.now
             then name.now ∷ [] else []) }
     {

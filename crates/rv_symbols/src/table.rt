@@ -2,7 +2,7 @@
 
 ghost use Rattle.std.specs.Prelude.{◌≡◌, ◌+◌, ◌*◌, ◌^◌, ◌<◌, None, List, length, IfOk};
 ghost use Rattle.rv_unit_laws.specs.Tables.{tables};
-ghost use Rattle.rv_unit_laws.specs.Faults.{first_fault};
+ghost use Rattle.rv_unit_laws.specs.Faults.{first_unit_fault};
 ghost use Rattle.rv_unit.specs.Unit.{said, IsFilled};
 ghost use Rattle.rv_unit.specs.Items.{offsets_of};
 ghost use Rattle.rv_assemble_laws.specs.LaidStatements.{LaidStatement};
@@ -38,7 +38,7 @@ pub fn symbols<'a>(
     uses: &[SymbolUse<'a>],
 ) -> Result<SymbolTable<'a>, AllocError>
     requires filled { IsFilled unit.now }
-    requires good { first_fault (said unit.now) ≡ None }
+    requires good { first_unit_fault (said unit.now) ≡ None }
     requires names { HasNames (said unit.now) }
     requires shown { AreShown (uses_of uses.now) }
     requires meant { AreMeant (tables (said unit.now)) (uses_of uses.now) }

@@ -39,8 +39,9 @@ with_word words (Some word) = words ++ (codes " " ++ word)
 abbrev pub source_text : List ℕ → SourceFault → Option (List ℕ)
 source_text name (At code line) =
     Some
-    (name ++ (codes ":" ++ (decimal line ++ (codes ": E" ++ (decimal (sources.number_of code)
-    ++ (codes " " ++ sources.name_of code))))))
+    (name ++ (codes ":" ++ (decimal line
+    ++ (codes ": E" ++ (decimal (sources.source_fault_number code)
+    ++ (codes " " ++ sources.source_fault_name code))))))
 source_text name OutOfMemory = None
 
 -- the kind of relocation or the type of section that a file's fault is about
@@ -54,8 +55,9 @@ abbrev pub file_text : List ℕ → FileFault → Option (List ℕ)
 file_text name fault =
     option_map
     (λ number. name ++ (codes ": F" ++ (decimal number
-    ++ (codes " " ++ with_word (files.name_of fault) (option_map decimal (kind_in fault))))))
-    (files.number_of fault)
+    ++ (codes " "
+    ++ with_word (files.file_fault_name fault) (option_map decimal (kind_in fault))))))
+    (files.file_fault_number fault)
 
 -- the name that a fault of the link is about
 abbrev pub name_in : LinkFault → Option (List ℕ)
@@ -79,8 +81,9 @@ abbrev pub link_text : LinkFault → Option (List ℕ)
 link_text fault =
     option_map
     (λ number. codes "L" ++ (decimal number
-    ++ (codes " " ++ with_word (links.name_of fault) (option_map shown_name (name_in fault)))))
-    (links.number_of fault)
+    ++ (codes " "
+    ++ with_word (links.link_fault_name fault) (option_map shown_name (name_in fault)))))
+    (links.link_fault_number fault)
 
 -- the line of a fault; want of memory has none
 abbrev pub fault_text : List (Bor (List ℕ)) → Fault → Option (List ℕ)
@@ -103,4 +106,5 @@ Tells _ _ = ⊥
 
 -- `Limit`, `FetchOutside 8`: an address is hexadecimal, in lower case
 abbrev pub end_text : End → List ℕ
-end_text e = with_word (ends.name_of e) (option_map (λ a. digits 16 false a) (ends.address_of e))
+end_text e =
+    with_word (ends.end_name e) (option_map (λ a. digits 16 false a) (ends.address_in_end e))

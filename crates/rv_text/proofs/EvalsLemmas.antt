@@ -8,7 +8,7 @@ use Rattle.rv_text_laws.specs.declared.operator.UnaryOperator.{UnaryOperator}
 use Rattle.rv_text_laws.specs.declared.operator.BinaryOperator.{BinaryOperator}
 use Rattle.rv_text_laws.specs.declared.operator.UnaryOperator.TheVariants.{Negate}
 use Rattle.rv_text_laws.specs.Expression.{Primary, Literal, tree_of, Node, Primary_node, Unary_node, Binary_node}
-use Rattle.rv_text_laws.specs.Values.{Meaning, Value, Constant, alone, both, meant, primary_value, value_of, after_node, node_fits, count_after, nodes_fit}
+use Rattle.rv_text_laws.specs.Values.{Meaning, Value, Constant, unary_value, both, meant, primary_value, value_of, after_node, node_fits, count_after, nodes_fit}
 use Rattle.rv_text_laws.proofs.TreesLemmas.{lone_tree}
 use Rattle.rv_text.specs.declared.evaluation.Part.{Part}
 use Rattle.rv_text.specs.declared.node.Symbol.{Symbol}
@@ -18,12 +18,12 @@ use Rattle.rv_text.specs.Nodes.{symbol_of, node_of}
 use Rattle.rv_text.specs.declared.evaluation.Value as code_value
 use Rattle.rv_text.specs.declared.expr.Expr.{Expr}
 use Rattle.rv_lexer.specs.declared.fault.SourceFault.{SourceFault}
-use Rattle.rv_text.specs.Expr.{alone as alone_nodes, expr_of, tree_of_expr}
-use Rattle.rv_text.specs.Eval.{part_of, tops, IsOutcome}
+use Rattle.rv_text.specs.Expr.{lone_primary as alone_nodes, expr_of, tree_of_expr}
+use Rattle.rv_text.specs.Eval.{part_value, tops, IsOutcome}
 
-pub tops_push : (items : List Part) (p : Part) → tops (items ++ p ∷ []) ≡ part_of p ∷ tops items
+pub tops_push : (items : List Part) (p : Part) → tops (items ++ p ∷ []) ≡ part_value p ∷ tops items
 unfolding tops
-tops_push items p = ap reverse (map-append part_of items (p ∷ [])) ∙ reverse-append (map part_of items) (part_of p ∷ [])
+tops_push items p = ap reverse (map-append part_value items (p ∷ [])) ∙ reverse-append (map part_value items) (part_value p ∷ [])
 
 pub tops_none : tops [] ≡ []
 unfolding tops
@@ -43,9 +43,9 @@ pub some_left : (count : ℕ) → nodes_fit [] count ≡ true → 0 < count
 some_left count e = ltb-true 0 count e
 
 -- the last of a stack
-pub last_value : (items front : List Part) (p : Part) (v : Value) (others : List Value) → items ≡ front ++ p ∷ [] → tops items ≡ v ∷ others → part_of p ≡ v
+pub last_value : (items front : List Part) (p : Part) (v : Value) (others : List Value) → items ≡ front ++ p ∷ [] → tops items ≡ v ∷ others → part_value p ≡ v
 last_value items front p v others split is =
-    let same : part_of p ∷ tops front ≡ v ∷ others = sym (tops_push front p) ∙ ap tops (sym split) ∙ is in
+    let same : part_value p ∷ tops front ≡ v ∷ others = sym (tops_push front p) ∙ ap tops (sym split) ∙ is in
     cc
 
 pub some_more : {X : Type 0} (o : Option X) (P Q : X → Type 0) → ((x : X) → P x → Q x) → IfSome o P → IfSome o Q
@@ -53,19 +53,19 @@ some_more None P Q f h = tt
 some_more (Some x) P Q f h = f x h
 
 -- what each node does to the stack
-pub push_step : (m : Primary → Meaning) (old new : List Part) (w : Part) (p : Primary) → new ≡ old ++ w ∷ [] → part_of w ≡ primary_value m p → tops new ≡ after_node m (Primary_node p) (tops old)
+pub push_step : (m : Primary → Meaning) (old new : List Part) (w : Part) (p : Primary) → new ≡ old ++ w ∷ [] → part_value w ≡ primary_value m p → tops new ≡ after_node m (Primary_node p) (tops old)
 push_step m old new w p e is = ap tops e ∙ tops_push old w ∙ ap (λ (v : Value). v ∷ tops old) is
 
-pub unary_step : (m : Primary → Meaning) (old mid new : List Part) (v w : Part) (o : UnaryOperator) → old ≡ mid ++ v ∷ [] → new ≡ mid ++ w ∷ [] → part_of w ≡ alone o (part_of v)
+pub unary_step : (m : Primary → Meaning) (old mid new : List Part) (v w : Part) (o : UnaryOperator) → old ≡ mid ++ v ∷ [] → new ≡ mid ++ w ∷ [] → part_value w ≡ unary_value o (part_value v)
     → tops new ≡ after_node m (Unary_node o) (tops old)
 unary_step m old mid new v w o e f is =
     ap tops f ∙ tops_push mid w ∙ ap (λ (x : Value). x ∷ tops mid) is ∙ ap (after_node m (Unary_node o)) (sym (ap tops e ∙ tops_push mid v))
 
 pub binary_step : (m : Primary → Meaning) (old mid low new : List Part) (v w u : Part) (o : BinaryOperator) → old ≡ mid ++ w ∷ [] → mid ≡ low ++ v ∷ [] → new ≡ low ++ u ∷ []
-    → part_of u ≡ both o (part_of v) (part_of w) → tops new ≡ after_node m (Binary_node o) (tops old)
+    → part_value u ≡ both o (part_value v) (part_value w) → tops new ≡ after_node m (Binary_node o) (tops old)
 binary_step m old mid low new v w u o e f g is =
     ap tops g ∙ tops_push low u ∙ ap (λ (x : Value). x ∷ tops low) is
-    ∙ ap (after_node m (Binary_node o)) (sym (ap tops e ∙ tops_push mid w ∙ ap (λ (l : List Value). part_of w ∷ l) (ap tops f ∙ tops_push low v)))
+    ∙ ap (after_node m (Binary_node o)) (sym (ap tops e ∙ tops_push mid w ∙ ap (λ (l : List Value). part_value w ∷ l) (ap tops f ∙ tops_push low v)))
 
 -- a symbol's value is by what it means
 pub symbol_value : (m : Primary → Meaning) (s : Symbol) → primary_value m (symbol_of s) ≡ meant (symbol_of s) (m (symbol_of s))
@@ -109,7 +109,7 @@ pub last_fits : (xs ys : List code.Node) (i count : ℕ) → ys ≡ xs → lengt
 last_fits xs ys i count e le f = some_left count (ap (λ (l : List Node). nodes_fit l count) (sym (no_node xs ys i e le)) ∙ f)
 
 -- the negative of a number, and two primaries under their operator
-pub negative_value : (m : Primary → Meaning) (n : ℕ) → value_of m (tree_of (Primary_node (Literal n) ∷ Unary_node Negate ∷ [])) ≡ alone Negate (Constant n)
+pub negative_value : (m : Primary → Meaning) (n : ℕ) → value_of m (tree_of (Primary_node (Literal n) ∷ Unary_node Negate ∷ [])) ≡ unary_value Negate (Constant n)
 unfolding tree_of
 negative_value m n = refl
 

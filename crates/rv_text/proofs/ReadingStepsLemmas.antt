@@ -12,7 +12,7 @@ use Rattle.rv_text_laws.proofs.ExpressionFoundLemmas.{expression_found}
 use Rattle.rv_text_laws.proofs.ExpressionValuesLemmas.{postfix_fits}
 use Rattle.rv_lexer.specs.declared.cursor.Cursor.{Cursor}
 use Rattle.rv_lexer.specs.declared.syntax_error.SyntaxError.{SyntaxError}
-use Rattle.rv_lexer.specs.Fault.{number_of}
+use Rattle.rv_lexer.specs.Fault.{source_fault_number}
 use Rattle.rv_lexer.specs.Token.{token_of, kind_of}
 use Rattle.rv_lexer.specs.Left.{tokens_left}
 use Rattle.rv_lexer.specs.Cursor.{left, syntax_error_of}
@@ -33,7 +33,7 @@ unfolding left
 failed r so_far c s code so e = so ∙ fails r s code (token_of c.next) (cond (lexing.is_last (kind_of c.next.kind)) [] (tokens_left c.lexer)) e
 
 -- an error's code is the one that it was made with
-pub at_next : (w : SyntaxError) (t : lexing.Token) (code : ℕ) → syntax_error_of w ≡ wrong t code → syntax_error_of w ≡ wrong t (number_of w.code)
+pub at_next : (w : SyntaxError) (t : lexing.Token) (code : ℕ) → syntax_error_of w ≡ wrong t code → syntax_error_of w ≡ wrong t (source_fault_number w.code)
 at_next w t code e = e ∙ ap (wrong t) (sym (ap (λ (v : syntax.SyntaxError). v.code) e))
 
 -- what is read has room for its values

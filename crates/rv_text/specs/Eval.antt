@@ -13,7 +13,7 @@ use Rattle.rv_text.specs.declared.evaluation.Part.{Part}
 use Rattle.rv_text.specs.declared.evaluation.Part.TheVariants as parts
 use Rattle.rv_text.specs.declared.evaluation.Value.{Value}
 use Rattle.rv_text.specs.declared.evaluation.Value.TheVariants as results
-use Rattle.rv_lexer.specs.Fault.{number_of}
+use Rattle.rv_lexer.specs.Fault.{source_fault_number}
 use Rattle.rv_text.specs.Nodes.{symbol_of}
 
 abbrev pub meaning_of : Meaning → values.Meaning
@@ -23,16 +23,16 @@ meaning_of meanings.Open = values.Open
 meaning_of meanings.NotConstant = values.Refused not_constant
 meaning_of meanings.UndefinedLocal = values.Refused undefined_local
 
-abbrev pub part_of : Part → values.Value
-part_of (parts.Constant number) = values.Constant number
-part_of (parts.Symbolic symbol at plus) = values.Symbolic (symbol_of symbol) (meaning_of at) plus
-part_of (parts.Difference symbol minus plus) =
+abbrev pub part_value : Part → values.Value
+part_value (parts.Constant number) = values.Constant number
+part_value (parts.Symbolic symbol at plus) = values.Symbolic (symbol_of symbol) (meaning_of at) plus
+part_value (parts.Difference symbol minus plus) =
     values.Difference (symbol_of symbol) (symbol_of minus) plus
-part_of (parts.Faulty code) = values.Faulty (number_of code)
+part_value (parts.Faulty code) = values.Faulty (source_fault_number code)
 
 -- the values on a stack, the last one first
 unfoldable pub tops : List Part → List values.Value
-tops items = reverse (map part_of items)
+tops items = reverse (map part_value items)
 
 -- the function gives these meanings
 abbrev pub Means : (Symbol → Meaning → Type 0) → (expression.Primary → values.Meaning) → Type 0
@@ -51,5 +51,6 @@ value_told (results.Difference symbol minus plus) v =
 -- an expression's value, or the fault at the line
 abbrev pub IsOutcome : Result Value SourceFault → ℕ → values.Value → Type 0
 IsOutcome (Ok value) line v = value_told value v
-IsOutcome (Err (faults.At code at)) line v = (v ≡ values.Faulty (number_of code)) × (at ≡ line)
+IsOutcome (Err (faults.At code at)) line v =
+    (v ≡ values.Faulty (source_fault_number code)) × (at ≡ line)
 IsOutcome (Err faults.OutOfMemory) line v = ⊥

@@ -27,7 +27,7 @@ use Rattle.rv_text.specs.declared.reading.Follow.TheVariants as follows
 use Rattle.rv_lexer.specs.declared.cursor.Cursor.{Cursor}
 use Rattle.rv_lexer.specs.declared.syntax_error.ReadError.{ReadError}
 use Rattle.rv_lexer.specs.declared.syntax_error.ReadError.TheVariants as errors
-use Rattle.rv_lexer.specs.Fault.{number_of}
+use Rattle.rv_lexer.specs.Fault.{source_fault_number}
 use Rattle.rv_lexer.specs.Token.{token_of}
 use Rattle.rv_lexer.specs.Cursor.{left, syntax_error_of, Answers}
 use Rattle.rv_text.specs.Nodes.{symbol_of, nodes_of, some_nodes}
@@ -37,7 +37,7 @@ begin_of (begins.Number number) = expression.A_primary (expression.Literal numbe
 begin_of (begins.Symbol symbol) = expression.A_primary (symbol_of symbol)
 begin_of (begins.Prefix operator) = expression.A_prefix operator
 begin_of begins.Opening = expression.An_opening
-begin_of (begins.NoOperand code) = expression.No_operand (number_of code)
+begin_of (begins.NoOperand code) = expression.No_operand (source_fault_number code)
 
 abbrev pub follow_of : Follow → expression.Follow
 follow_of (follows.Operator operator) = expression.An_operator operator
@@ -58,7 +58,7 @@ stage_of frames (stages.Has e) = reading.Has (stack_of frames) (nodes_of e)
 abbrev pub Steps : List Frame → Result Step Stop → reading.Step → Type 0
 Steps frames (Ok (steps.Goes stage)) step = step ≡ reading.Goes (stage_of frames stage)
 Steps frames (Ok (steps.Ends e)) step = step ≡ reading.Ends (nodes_of e)
-Steps frames (Err (stops.Fault code)) step = step ≡ reading.Fails (number_of code)
+Steps frames (Err (stops.Fault code)) step = step ≡ reading.Fails (source_fault_number code)
 Steps frames (Err stops.OutOfMemory) step = Unit {0}
 
 -- what a token is after an operand, where no expression goes on with it and no parenthesis is open
@@ -96,8 +96,8 @@ Reached is_register stage ts =
     × (reading.expression_at is_register all ≡ reading.read_from is_register stage ts)
 
 -- a primary alone
-abbrev pub alone : expression.Primary → List expression.Node
-alone p = expression.Primary_node p ∷ []
+abbrev pub lone_primary : expression.Primary → List expression.Node
+lone_primary p = expression.Primary_node p ∷ []
 
 -- a symbol, a number, and the operator on both
 abbrev pub pair_nodes : Pair → List expression.Node
@@ -115,11 +115,11 @@ two_nodes pair =
 
 -- the nodes of an expression
 abbrev pub expr_of : Expr → List expression.Node
-expr_of (exprs.Number number) = alone (expression.Literal number)
-expr_of (exprs.Name name) = alone (expression.Symbol name.now)
-expr_of exprs.Here = alone expression.Here
-expr_of (exprs.Backward digits) = alone (expression.Reference digits.now false)
-expr_of (exprs.Forward digits) = alone (expression.Reference digits.now true)
+expr_of (exprs.Number number) = lone_primary (expression.Literal number)
+expr_of (exprs.Name name) = lone_primary (expression.Symbol name.now)
+expr_of exprs.Here = lone_primary expression.Here
+expr_of (exprs.Backward digits) = lone_primary (expression.Reference digits.now false)
+expr_of (exprs.Forward digits) = lone_primary (expression.Reference digits.now true)
 expr_of (exprs.Negative number) =
     expression.Primary_node (expression.Literal number) ∷ expression.Unary_node Negate ∷ []
 expr_of (exprs.NamePair operator number name) =
@@ -138,7 +138,8 @@ ReadOn is_register stage old new result =
 
 -- the cursor stands before the token that is wrong, unless memory ran out
 abbrev pub IsAtNext : ReadError → Cursor → Type 0
-IsAtNext (errors.At w) c = syntax_error_of w ≡ syntax.wrong (token_of c.next) (number_of w.code)
+IsAtNext (errors.At w) c =
+    syntax_error_of w ≡ syntax.wrong (token_of c.next) (source_fault_number w.code)
 IsAtNext errors.OutOfMemory c = Unit {0}
 
 -- the expression, without parentheses
@@ -148,7 +149,8 @@ tree_of_expr e = expression.tree_of (expr_of e)
 -- the fault of a reading: the code and the line of its wrong token
 abbrev pub NamesFault : {Y : Type 0} → SourceFault → Result Y syntax.SyntaxError → Type 0
 NamesFault (faults.At code line) read =
-    (w : syntax.SyntaxError) × (read ≡ Err w) × (w.code ≡ number_of code) × (w.line ≡ line)
+    (w : syntax.SyntaxError) × (read ≡ Err w) × (w.code ≡ source_fault_number code)
+    × (w.line ≡ line)
 NamesFault faults.OutOfMemory read = Unit {0}
 
 -- a fault stands only where the tokens begin with no expression

@@ -9,10 +9,10 @@ ghost use Rattle.std.specs.Prelude.{◌≡◌, ◌<◌, ◌≤◌, ◌+◌, ◌+
 ghost use Rattle.rv_text_laws.specs.Expression.{Primary, tree_of};
 ghost use Rattle.rv_text_laws.specs.Values as values;
 ghost use Rattle.rv_text_laws.specs.declared.operator.BinaryOperator.TheVariants.{Divide, Remainder};
-ghost use Rattle.rv_lexer.specs.Fault.{number_of};
+ghost use Rattle.rv_lexer.specs.Fault.{source_fault_number};
 ghost use Rattle.rv_text.specs.Nodes.{symbol_of, node_of, nodes_of};
 ghost use Rattle.rv_text.specs.Expr.{tree_of_expr};
-ghost use Rattle.rv_text.specs.Eval.{meaning_of, part_of, tops, Means, IsOutcome};
+ghost use Rattle.rv_text.specs.Eval.{meaning_of, part_value, tops, Means, IsOutcome};
 
 use crate::expr::Expr;
 use crate::node::{Node, Nodes, Symbol};
@@ -70,7 +70,8 @@ impl Default for Part<'_> {
 
 /// The fault with the lower number.
 fn lower(first: SourceCode, second: SourceCode) -> SourceCode
-    ensures { number_of result ≡ min (number_of first) (number_of second) }
+    ensures { source_fault_number result
+        ≡ min (source_fault_number first) (source_fault_number second) }
 {
     if first.number() <= second.number() {
         first
@@ -81,7 +82,7 @@ fn lower(first: SourceCode, second: SourceCode) -> SourceCode
 
 /// The quotient of two signed numbers, truncated.
 fn divide<'a>(a: u64, b: u64) -> Part<'a>
-    ensures { part_of result ≡ values.arithmetic Divide a b }
+    ensures { part_value result ≡ values.arithmetic Divide a b }
 {
     if b == 0 {
         Part::Faulty(SourceCode::DivisionByZero)
@@ -96,7 +97,7 @@ fn divide<'a>(a: u64, b: u64) -> Part<'a>
 
 /// What the quotient leaves.
 fn remainder<'a>(a: u64, b: u64) -> Part<'a>
-    ensures { part_of result ≡ values.arithmetic Remainder a b }
+    ensures { part_value result ≡ values.arithmetic Remainder a b }
 {
     if b == 0 {
         Part::Faulty(SourceCode::DivisionByZero)
@@ -111,7 +112,7 @@ fn remainder<'a>(a: u64, b: u64) -> Part<'a>
 
 /// An operator on two constants.
 fn arithmetic<'a>(operator: BinaryOperator, a: u64, b: u64) -> Part<'a>
-    ensures { part_of result ≡ values.arithmetic operator a b }
+    ensures { part_value result ≡ values.arithmetic operator a b }
 {
     match operator {
         BinaryOperator::Multiply => Part::Constant(a.wrapping_mul(b)),
@@ -132,7 +133,7 @@ fn arithmetic<'a>(operator: BinaryOperator, a: u64, b: u64) -> Part<'a>
 
 /// The fault of an operator by its right operand, where the left one is no constant.
 fn operand_fault(operator: BinaryOperator, b: u64) -> SourceCode
-    ensures { number_of result ≡ values.operand_fault operator b }
+    ensures { source_fault_number result ≡ values.operand_fault operator b }
 {
     match operator {
         BinaryOperator::Divide | BinaryOperator::Remainder if b == 0 => SourceCode::DivisionByZero,
@@ -145,7 +146,8 @@ fn operand_fault(operator: BinaryOperator, b: u64) -> SourceCode
 
 /// An operator on operands of which one is no constant; of several faults the lowest counts.
 fn refused<'a>(operator: BinaryOperator, left: Part<'a>, right: Part<'a>) -> Part<'a>
-    ensures { part_of result ≡ values.refused operator (part_of left.entry) (part_of right.entry) }
+    ensures { part_value result
+        ≡ values.refused operator (part_value left.entry) (part_value right.entry) }
 {
     match (left, right) {
         (Part::Faulty(code), Part::Faulty(other)) => Part::Faulty(lower(code, other)),
@@ -162,7 +164,7 @@ fn refused<'a>(operator: BinaryOperator, left: Part<'a>, right: Part<'a>) -> Par
 
 /// The difference of two symbols: in one section a constant.
 fn apart<'a>(left: (Symbol<'a>, Meaning), right: (Symbol<'a>, Meaning), plus: u64) -> Part<'a>
-    ensures { part_of result
+    ensures { part_value result
         ≡ values.apart (meaning_of left.entry.1) (meaning_of right.entry.1)
         (symbol_of left.entry.0) (symbol_of right.entry.0) plus }
 {
@@ -175,7 +177,7 @@ fn apart<'a>(left: (Symbol<'a>, Meaning), right: (Symbol<'a>, Meaning), plus: u6
 
 /// The sum of two parts.
 fn sum<'a>(left: Part<'a>, right: Part<'a>) -> Part<'a>
-    ensures { part_of result ≡ values.sum (part_of left.entry) (part_of right.entry) }
+    ensures { part_value result ≡ values.sum (part_value left.entry) (part_value right.entry) }
 {
     match (left, right) {
         (Part::Constant(a), Part::Constant(b)) => Part::Constant(a.wrapping_add(b)),
@@ -193,7 +195,8 @@ fn sum<'a>(left: Part<'a>, right: Part<'a>) -> Part<'a>
 
 /// The difference of two parts.
 fn difference<'a>(left: Part<'a>, right: Part<'a>) -> Part<'a>
-    ensures { part_of result ≡ values.difference (part_of left.entry) (part_of right.entry) }
+    ensures { part_value result
+        ≡ values.difference (part_value left.entry) (part_value right.entry) }
 {
     match (left, right) {
         (Part::Constant(a), Part::Constant(b)) => Part::Constant(a.wrapping_sub(b)),
@@ -212,8 +215,8 @@ fn difference<'a>(left: Part<'a>, right: Part<'a>) -> Part<'a>
 
 /// An operator that takes constants alone.
 fn constants<'a>(operator: BinaryOperator, left: Part<'a>, right: Part<'a>) -> Part<'a>
-    ensures { part_of result
-        ≡ values.constants operator (part_of left.entry) (part_of right.entry) }
+    ensures { part_value result
+        ≡ values.constants_alone operator (part_value left.entry) (part_value right.entry) }
 {
     match (left, right) {
         (Part::Constant(a), Part::Constant(b)) => arithmetic(operator, a, b),
@@ -223,7 +226,8 @@ fn constants<'a>(operator: BinaryOperator, left: Part<'a>, right: Part<'a>) -> P
 
 /// An operator on two parts.
 fn both<'a>(operator: BinaryOperator, left: Part<'a>, right: Part<'a>) -> Part<'a>
-    ensures { part_of result ≡ values.both operator (part_of left.entry) (part_of right.entry) }
+    ensures { part_value result
+        ≡ values.both operator (part_value left.entry) (part_value right.entry) }
 {
     match operator {
         BinaryOperator::Add => sum(left, right),
@@ -234,7 +238,7 @@ fn both<'a>(operator: BinaryOperator, left: Part<'a>, right: Part<'a>) -> Part<'
 
 /// An operator on one part.
 fn alone<'a>(operator: UnaryOperator, part: Part<'a>) -> Part<'a>
-    ensures { part_of result ≡ values.alone operator (part_of part.entry) }
+    ensures { part_value result ≡ values.unary_value operator (part_value part.entry) }
 {
     match (operator, part) {
         (UnaryOperator::Keep, _) => part,
@@ -247,7 +251,7 @@ fn alone<'a>(operator: UnaryOperator, part: Part<'a>) -> Part<'a>
 
 /// A symbol with this meaning.
 fn meant<'a>(symbol: Symbol<'a>, meaning: Meaning) -> Part<'a>
-    ensures { part_of result ≡ values.meant (symbol_of symbol.entry) (meaning_of meaning) }
+    ensures { part_value result ≡ values.meant (symbol_of symbol.entry) (meaning_of meaning) }
 {
     match meaning {
         Meaning::Constant(number) => Part::Constant(number),
@@ -259,7 +263,7 @@ fn meant<'a>(symbol: Symbol<'a>, meaning: Meaning) -> Part<'a>
 
 /// The part as a value, or as a fault of this line.
 fn outcome<'a>(part: Part<'a>, line: u32) -> Result<Value<'a>, SourceFault>
-    ensures { IsOutcome result line (part_of part.entry) }
+    ensures { IsOutcome result line (part_value part.entry) }
 {
     match part {
         Part::Constant(number) => Ok(Value::Constant(number)),
@@ -312,7 +316,7 @@ fn step<'a, F: Fn(Symbol<'a>) -> Meaning>(
 fn lone<'a, F: Fn(Symbol<'a>) -> Meaning>(symbol: Symbol<'a>, names: &F) -> Part<'a>
     requires { F.IsAlwaysCallable names.now }
     ensures { (m : Primary → values.Meaning) → Means (F.post names.now) m →
-        part_of result ≡ values.primary_value m (symbol_of symbol.entry) }
+        part_value result ≡ values.primary_value m (symbol_of symbol.entry) }
 {
     meant(symbol, names(symbol))
 }
@@ -322,7 +326,7 @@ fn evaluate<'a, F: Fn(Symbol<'a>) -> Meaning>(nodes: &Nodes<'a>, names: &F) -> P
     requires callable { F.IsAlwaysCallable names.now }
     requires fits { values.nodes_fit (nodes_of nodes.now) 0 ≡ true }
     ensures { (m : Primary → values.Meaning) → Means (F.post names.now) m →
-        part_of result ≡ values.value_of m (tree_of (nodes_of nodes.now)) }
+        part_value result ≡ values.value_of m (tree_of (nodes_of nodes.now)) }
 {
     let mut stack: ArrayVec<Part<'a>, MOST_VALUES> = ArrayVec::new();
     step(&mut stack, nodes.first, names);
@@ -382,7 +386,7 @@ fn value_of_few<'a, F: Fn(Symbol<'a>) -> Meaning>(nodes: &Nodes<'a>, names: &F) 
     requires fits { values.nodes_fit (nodes_of nodes.now) 0 ≡ true }
     ensures { IfSome result
         (λ part. (m : Primary → values.Meaning) → Means (F.post names.now) m →
-        part_of part ≡ values.value_of m (tree_of (nodes_of nodes.now))) }
+        part_value part ≡ values.value_of m (tree_of (nodes_of nodes.now))) }
 {
     let mut stack: ArrayVec<Part<'a>, FEW_VALUES> = ArrayVec::new();
     step_few(&mut stack, nodes.first, names)?;
@@ -396,7 +400,7 @@ fn value_of_few<'a, F: Fn(Symbol<'a>) -> Meaning>(nodes: &Nodes<'a>, names: &F) 
 fn pair_value<'a, F: Fn(Symbol<'a>) -> Meaning>(pair: &Pair<'a>, names: &F) -> Part<'a>
     requires { F.IsAlwaysCallable names.now }
     ensures { (m : Primary → values.Meaning) → Means (F.post names.now) m →
-        part_of result
+        part_value result
         ≡ values.both pair.now.operator (values.primary_value m (symbol_of pair.now.symbol))
         (values.Constant pair.now.number) }
 {
@@ -411,7 +415,7 @@ fn pair_value<'a, F: Fn(Symbol<'a>) -> Meaning>(pair: &Pair<'a>, names: &F) -> P
 fn symbols_value<'a, F: Fn(Symbol<'a>) -> Meaning>(pair: &SymbolPair<'a>, names: &F) -> Part<'a>
     requires { F.IsAlwaysCallable names.now }
     ensures { (m : Primary → values.Meaning) → Means (F.post names.now) m →
-        part_of result
+        part_value result
         ≡ values.both pair.now.operator (values.primary_value m (symbol_of pair.now.left))
         (values.primary_value m (symbol_of pair.now.right)) }
 {
@@ -427,7 +431,7 @@ fn compound_value<'a, F: Fn(Symbol<'a>) -> Meaning>(nodes: &Nodes<'a>, names: &F
     requires callable { F.IsAlwaysCallable names.now }
     requires fits { values.nodes_fit (nodes_of nodes.now) 0 ≡ true }
     ensures { (m : Primary → values.Meaning) → Means (F.post names.now) m →
-        part_of result ≡ values.value_of m (tree_of (nodes_of nodes.now)) }
+        part_value result ≡ values.value_of m (tree_of (nodes_of nodes.now)) }
 {
     match value_of_few(nodes, names) {
         Some(part) => part,

@@ -11,7 +11,7 @@ ghost use Rattle.rv_text_laws.specs.ExpressionAt as reading;
 ghost use Rattle.rv_text_laws.specs.ExpressionFault.{unclosed};
 ghost use Rattle.rv_text_laws.specs.Lexing.{Token};
 ghost use Rattle.rv_text_laws.specs.declared.operator.Frame.TheVariants.{Infix};
-ghost use Rattle.rv_lexer.specs.Fault.{number_of};
+ghost use Rattle.rv_lexer.specs.Fault.{source_fault_number};
 ghost use Rattle.rv_lexer.specs.Token.{kind_of};
 ghost use Rattle.rv_lexer.specs.Left.{tokens_left};
 ghost use Rattle.rv_lexer.specs.Cursor.{left, Answers};
@@ -183,7 +183,7 @@ pub(crate) fn follows(kind: TokenKind<'_>) -> Follow
 
 /// The code of a token that stands where an open parenthesis wants its other.
 fn unclosed(kind: TokenKind<'_>) -> SourceCode
-    ensures { number_of result ≡ unclosed (kind_of kind.entry) }
+    ensures { source_fault_number result ≡ unclosed (kind_of kind.entry) }
 {
     match kind {
         TokenKind::BadByte => SourceCode::BadByte,
@@ -331,7 +331,7 @@ fn close<'a>(frames: &mut Vec<Frame>, nodes: Nodes<'a>) -> Result<Step<'a>, Stop
 #[tactic(auto, using(crate::proofs::ExprsLemmas::end_none, crate::proofs::ExprsLemmas::end_open))]
 fn end<'a>(frames: &[Frame], nodes: Nodes<'a>, code: SourceCode) -> Result<Step<'a>, Stop>
     ensures { Steps frames.now result
-        (reading.end (number_of code) (stack_of frames.now) (nodes_of nodes.entry)) }
+        (reading.end (source_fault_number code) (stack_of frames.now) (nodes_of nodes.entry)) }
 {
     if frames.is_empty() {
         Ok(Step::Ends(nodes))

@@ -7,7 +7,7 @@ use Rattle.rv_text_laws.specs.declared.operator.BinaryOperator.TheVariants.{Mult
 use Rattle.rv_text_laws.specs.declared.operator.Frame.{Frame}
 use Rattle.rv_text_laws.specs.declared.operator.Frame.TheVariants.{Parenthesis, Prefix, Infix}
 use Rattle.rv_text_laws.specs.Grammar.{Kind, Punctuation, Number, End}
-use Rattle.rv_text_laws.specs.Lexing.{Token, ended}
+use Rattle.rv_text_laws.specs.Lexing.{Token, is_ended}
 use Rattle.rv_text_laws.specs.SyntaxError.{SyntaxError, wrong}
 use Rattle.rv_text_laws.specs.Codes.{nesting_too_deep}
 use Rattle.rv_text_laws.specs.Expression.{Literal, Tree, level_of, Begin, A_primary, A_prefix, An_opening, No_operand, begins, Follow, An_operator, A_closing, A_comparison, Nothing_more, follows, SpellsTree, IsAt, nesting, deepest, Node, Primary_node, postfix}
@@ -201,7 +201,7 @@ module _ (r : List ℕ → Bool) where
   pub fails_there : (front : List Token) (at : Token) (code : ℕ) (more : List Token) → FailsAt r front at code → expression_at r (front ++ at ∷ more) ≡ Err (wrong at code)
   fails_there front at code more f = stuck_there r front at code more (stuck front at code f)
 
-  pub wrong_at : (ts : List Token) (w : SyntaxError) → ended ts ≡ true → expression_at r ts ≡ Err w
+  pub wrong_at : (ts : List Token) (w : SyntaxError) → is_ended ts ≡ true → expression_at r ts ≡ Err w
       → (front : List Token) × (at : Token) × (more : List Token) × (code : ℕ) × (ts ≡ front ++ at ∷ more) × FailsAt r front at code × (w ≡ wrong at code)
   wrong_at ts w end e =
       let f = stuck_found r ts w end e in (f.0, f.1, f.2, f.3, f.4, said f.0 f.1 f.3 f.5, f.6)

@@ -6,7 +6,7 @@ use Rattle.rv_text_laws.specs.declared.punct.Punct.TheVariants.{Close}
 use Rattle.rv_text_laws.specs.declared.operator.Frame.{Frame}
 use Rattle.rv_text_laws.specs.declared.operator.Frame.TheVariants.{Parenthesis, Prefix, Infix}
 use Rattle.rv_text_laws.specs.Grammar.{Kind, Punctuation, Number, End}
-use Rattle.rv_text_laws.specs.Lexing.{Token, is_last, ended}
+use Rattle.rv_text_laws.specs.Lexing.{Token, is_last, is_ended}
 use Rattle.rv_text_laws.specs.SyntaxError.{SyntaxError, wrong, Read}
 use Rattle.rv_text_laws.specs.Expression.{Literal, Tree, level_of, follows, A_closing, Nothing_more, SpellsTree, IsAt, nesting, deepest, Node, Primary_node, Unary_node, Binary_node, postfix, EndsBefore, ReadsTree}
 use Rattle.rv_text_laws.specs.ExpressionAt.{Stage, Wants, Has, settle, Step, Goes, Ends, Fails, step, step_has, close, end, read_from, expression_at, after_tokens, EndsAt}
@@ -14,12 +14,12 @@ use Rattle.rv_text_laws.specs.ExpressionFault.{unclosed}
 use Rattle.rv_text_laws.proofs.ExpressionsLemmas.{le_true, goes, ends, fails, expression_is, taken_no_last}
 use Rattle.rv_text_laws.proofs.ExpressionFoundLemmas.{expression_found}
 
-pub ended_more : (t : Token) (ts : List Token) → is_last t.kind ≡ false → ended (t ∷ ts) ≡ true → ended ts ≡ true
+pub ended_more : (t : Token) (ts : List Token) → is_last t.kind ≡ false → is_ended (t ∷ ts) ≡ true → is_ended ts ≡ true
 ended_more t [] no_last h = absurd (cc)
 ended_more t (u ∷ ts) no_last h = h
 
 -- the last of a list is the last of its end
-pub ended_behind : (front : List Token) (t : Token) (more : List Token) → ended (front ++ t ∷ more) ≡ ended (t ∷ more)
+pub ended_behind : (front : List Token) (t : Token) (more : List Token) → is_ended (front ++ t ∷ more) ≡ is_ended (t ∷ more)
 ended_behind [] t more = refl
 ended_behind (x ∷ []) t more = refl
 ended_behind (x ∷ y ∷ ys) t more = ended_behind (y ∷ ys) t more
@@ -177,11 +177,11 @@ module _ (r : List ℕ → Bool) where
     pub fails : step r stage at.kind ≡ Fails code
     pub is : w ≡ wrong at code
 
-  wrong_from : (ts : List Token) (s : Stage) (w : SyntaxError) → ended ts ≡ true → read_from r s ts ≡ Err w → WrongFrom s ts w
+  wrong_from : (ts : List Token) (s : Stage) (w : SyntaxError) → is_ended ts ≡ true → read_from r s ts ≡ Err w → WrongFrom s ts w
   wrong_from [] s w end e = absurd (cc)
   wrong_from (t ∷ ts) s w end e = go (step r s t.kind) refl (λ (u : Stage). wrong_from ts u w)
     where
-      go : (p : Step) → step r s t.kind ≡ p → ((u : Stage) → ended ts ≡ true → read_from r u ts ≡ Err w → WrongFrom u ts w) → WrongFrom s (t ∷ ts) w
+      go : (p : Step) → step r s t.kind ≡ p → ((u : Stage) → is_ended ts ≡ true → read_from r u ts ≡ Err w → WrongFrom u ts w) → WrongFrom s (t ∷ ts) w
       go (Goes u) is further =
           let f = further u (ended_more t ts (taken_no_last r s u t.kind is) end) (sym (goes r s u t ts is) ∙ e) in
           record {
@@ -210,7 +210,7 @@ module _ (r : List ℕ → Bool) where
           }
 
   -- a reading is wrong at a token
-  pub stuck_found : (ts : List Token) (w : SyntaxError) → ended ts ≡ true → expression_at r ts ≡ Err w
+  pub stuck_found : (ts : List Token) (w : SyntaxError) → is_ended ts ≡ true → expression_at r ts ≡ Err w
       → (front : List Token) × (at : Token) × (more : List Token) × (code : ℕ) × (ts ≡ front ++ at ∷ more) × StuckAt r front at code × (w ≡ wrong at code)
   unfolding expression_at
   stuck_found ts w end e =

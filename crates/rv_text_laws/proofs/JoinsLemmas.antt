@@ -11,11 +11,11 @@ use Rattle.rv_text_laws.specs.declared.punct.Punct.TheVariants.{Minus}
 use Rattle.rv_text_laws.specs.Grammar.{Kind, Spells, Name, Number, Reference, Bad_word, Punctuation, Bad_byte, Bad_token, End}
 use Rattle.rv_text_laws.specs.Lexing.{Token, is_last}
 use Rattle.rv_text_laws.specs.Front.{tokens_from}
-use Rattle.rv_text_laws.specs.Joined.{bytes_of, AreAfter, IsJoined, ReadsJoined, joins, joined_after, first_name, joined_at}
+use Rattle.rv_text_laws.specs.Joined.{joined_bytes, AreAfter, IsJoined, ReadsJoined, joins, joined_after, first_name, joined_at}
 use Rattle.rv_text_laws.proofs.TokenTextsLemmas.{first_stands}
 
 -- a token that goes on with a name is not the last, and its bytes are its text
-pub joins_no_last : (k : Kind) (bytes : List ℕ) → bytes_of k ≡ Some bytes → is_last k ≡ false
+pub joins_no_last : (k : Kind) (bytes : List ℕ) → joined_bytes k ≡ Some bytes → is_last k ≡ false
 joins_no_last Bad_byte bytes e = absurd (cc)
 joins_no_last Bad_token bytes e = absurd (cc)
 joins_no_last End bytes e = absurd (cc)
@@ -24,7 +24,7 @@ joins_no_last _ bytes e = refl
 same_some : (x y : List ℕ) → Some x ≡ Some y → x ≡ y
 same_some x y e = cc
 
-text_is : (k : Kind) (bytes text : List ℕ) → bytes_of k ≡ Some bytes → Spells k text → text ≡ bytes
+text_is : (k : Kind) (bytes text : List ℕ) → joined_bytes k ≡ Some bytes → Spells k text → text ≡ bytes
 text_is (Name name) bytes text e s = s.0 ∙ same_some name bytes e
 text_is (Number word number) bytes text e s = s.0 ∙ same_some word bytes e
 text_is (Reference digits forward) bytes text e s = s.1.0 ∙ same_some _ bytes e
@@ -36,15 +36,15 @@ same_place : (a b : ℕ) → a ≡ b → (a == b) ≡ true
 same_place a b e = grind (arith, nat_tests)
 
 -- a token stands at the offset and goes on with a name, where it joins
-pub joined_parts : (offset : ℕ) (t : Token) (bytes : List ℕ) → joins offset t ≡ Some bytes → (t.start ≡ offset) × (bytes_of t.kind ≡ Some bytes)
+pub joined_parts : (offset : ℕ) (t : Token) (bytes : List ℕ) → joins offset t ≡ Some bytes → (t.start ≡ offset) × (joined_bytes t.kind ≡ Some bytes)
 joined_parts offset t bytes e = go (t.start == offset) refl e
   where
-    go : (b : Bool) → (t.start == offset) ≡ b → cond b (bytes_of t.kind) None ≡ Some bytes → (t.start ≡ offset) × (bytes_of t.kind ≡ Some bytes)
+    go : (b : Bool) → (t.start == offset) ≡ b → cond b (joined_bytes t.kind) None ≡ Some bytes → (t.start ≡ offset) × (joined_bytes t.kind ≡ Some bytes)
     go true is e = (eqb-true t.start offset is, e)
     go false is e = absurd (cc)
 
-pub parts_join : (offset : ℕ) (t : Token) (bytes : List ℕ) → t.start ≡ offset → bytes_of t.kind ≡ Some bytes → joins offset t ≡ Some bytes
-parts_join offset t bytes at e = ap (λ (b : Bool). cond b (bytes_of t.kind) None) (same_place t.start offset at) ∙ e
+pub parts_join : (offset : ℕ) (t : Token) (bytes : List ℕ) → t.start ≡ offset → joined_bytes t.kind ≡ Some bytes → joins offset t ≡ Some bytes
+parts_join offset t bytes at e = ap (λ (b : Bool). cond b (joined_bytes t.kind) None) (same_place t.start offset at) ∙ e
 
 -- one token
 behind_more : (offset : ℕ) (t : Token) (ts : List Token) (bytes : List ℕ) → joins offset t ≡ Some bytes

@@ -13,7 +13,7 @@ use Rattle.rv_text_laws.specs.Cut.{Piece, texts, Each, Cuts, Finds, cut}
 use Rattle.rv_text_laws.specs.Bytes.{class, spelling, is_word, in_line, digit, between}
 use Rattle.rv_text_laws.specs.Strings.{Atom, Plain, Named, Octal, Hexadecimal, byte_of, SpellsAtom, StopsAtom, is_plain, is_character, is_escape}
 use Rattle.rv_text_laws.specs.Grammar.{Kind, Space, Line_comment, Block_comment, Newline, Punctuation, Name, Number, Reference, Bad_word, Text, Character, Bad_byte, Bad_token, End, IsWord, Spells, Stops, goes_on}
-use Rattle.rv_text_laws.specs.Front.{begins, number_in, reference_in, number_kind, digits_kind, close_at, atom_at, escape_at, closed_string, closed_escape, character_at, after_slash, after_less, after_greater, with_equal, lexeme_at, lexeme_by}
+use Rattle.rv_text_laws.specs.Front.{has_first, word_number, reference_in, number_kind, digits_kind, close_at, atom_at, escape_at, closed_string, closed_escape, character_at, after_slash, after_less, after_greater, with_equal, lexeme_at, lexeme_by}
 use Rattle.rv_text_laws.proofs.CutLemmas.{Stands, Answers, found_by, front, cuts, unique}
 use Rattle.rv_text_laws.proofs.RunsLemmas.{pick, Breaks, run_is, run_all, run_breaks, run_within}
 use Rattle.rv_text_laws.proofs.AtomsLemmas.{atoms, atom_is}
@@ -262,13 +262,13 @@ name_answers b bs n c is =
     }
 
 -- a word that begins with a digit
-number_spells : (word : List ℕ) (o : Option ℕ) → number_in word ≡ o → reference_in word ≡ None → IsWord Digit word → Spells (number_kind word o) word
+number_spells : (word : List ℕ) (o : Option ℕ) → word_number word ≡ o → reference_in word ≡ None → IsWord Digit word → Spells (number_kind word o) word
 number_spells word None e none is =
     (refl, is, (λ n number. none-some n (sym e ∙ number_is word n number)), (λ digits forward refers. none-some (digits, forward) (sym none ∙ reference_is word digits forward refers)))
 number_spells word (Some n) e none is = (refl, is, number_found word n e)
 
 digits_spells : (word : List ℕ) (o : Option (List ℕ × Bool)) → reference_in word ≡ o → IsWord Digit word → Spells (digits_kind word o) word
-digits_spells word None e is = number_spells word (number_in word) refl e is
+digits_spells word None e is = number_spells word (word_number word) refl e is
 digits_spells word (Some (digits, forward)) e is = (is, reference_found word digits forward e)
 
 number_goes_on : (word : List ℕ) (o : Option ℕ) (x : ℕ) → goes_on (number_kind word o) x ≡ is_word x
@@ -276,7 +276,7 @@ number_goes_on word None x = refl
 number_goes_on word (Some n) x = refl
 
 digits_goes_on : (word : List ℕ) (o : Option (List ℕ × Bool)) (x : ℕ) → goes_on (digits_kind word o) x ≡ is_word x
-digits_goes_on word None x = number_goes_on word (number_in word) x
+digits_goes_on word None x = number_goes_on word (word_number word) x
 digits_goes_on word (Some r) x = refl
 
 digits_answers : (b : ℕ) (bs : List ℕ) (n : ℕ) → class b ≡ Digit → prefix_len is_word bs ≡ n → LexemeAnswers (b ∷ bs) (Some (digits_kind (b ∷ take n bs) (reference_in (b ∷ take n bs)), suc n))
@@ -347,7 +347,7 @@ string_answers bs = go (cut atom_at bs) (cuts atoms bs).0
   where
     go : (c : List (Piece Atom ℕ) × List ℕ) → Cuts Atom ℕ SpellsAtom StopsAtom bs c.0 c.1 → LexemeAnswers (34 ∷ bs) (closed_string c)
     go (ps, rest) c =
-        pick (LexemeAnswers (34 ∷ bs)) (begins 34 rest) (Some (Text (map (λ a. byte_of a.kind) ps), suc (suc (length (texts ps))))) None
+        pick (LexemeAnswers (34 ∷ bs)) (has_first 34 rest) (Some (Text (map (λ a. byte_of a.kind) ps), suc (suc (length (texts ps))))) None
         (λ t.
         let r = begins_is 34 rest t in
         let whole : bs ≡ (texts ps ++ 34 ∷ []) ++ r.0 = c.whole ∙ ap (λ xs. texts ps ++ xs) r.1 ∙ sym (closing (texts ps) r.0 34) in
@@ -372,7 +372,7 @@ closed_answers : (bs : List ℕ) (o : Option (Atom × ℕ)) → escape_at bs ≡
 closed_answers bs None e = tt
 closed_answers bs (Some (a, n)) e =
     let f = front atoms (92 ∷ bs) a n (atom_escape bs ∙ e) in
-    pick (LexemeAnswers (39 ∷ 92 ∷ bs)) (begins 39 (drop n (92 ∷ bs))) (Some (Character (byte_of a), suc (suc n))) None
+    pick (LexemeAnswers (39 ∷ 92 ∷ bs)) (has_first 39 (drop n (92 ∷ bs))) (Some (Character (byte_of a), suc (suc n))) None
     (λ t.
     let r = begins_is 39 (drop n (92 ∷ bs)) t in
     let one : List ℕ = take n (92 ∷ bs) in
@@ -383,10 +383,10 @@ closed_answers bs (Some (a, n)) e =
     (never (Character (byte_of a)) (λ x. refl) r.0))
     (λ _. tt)
 
-plain_answers : (b : ℕ) (bs : List ℕ) → LexemeAnswers (39 ∷ b ∷ bs) (cond {A = Option (Kind × ℕ)} (is_character b && begins 39 bs) (Some (Character b, 3)) None)
-plain_answers b bs = pick (LexemeAnswers (39 ∷ b ∷ bs)) (is_character b && begins 39 bs) (Some (Character b, 3)) None
+plain_answers : (b : ℕ) (bs : List ℕ) → LexemeAnswers (39 ∷ b ∷ bs) (cond {A = Option (Kind × ℕ)} (is_character b && has_first 39 bs) (Some (Character b, 3)) None)
+plain_answers b bs = pick (LexemeAnswers (39 ∷ b ∷ bs)) (is_character b && has_first 39 bs) (Some (Character b, 3)) None
     (λ t.
-    let h = and_parts (is_character b) (begins 39 bs) t in
+    let h = and_parts (is_character b) (has_first 39 bs) t in
     let r = begins_is 39 bs h.1 in
     stands (39 ∷ b ∷ bs) (Character b) 3 (39 ∷ b ∷ 39 ∷ []) r.0 (ap (λ xs. 39 ∷ b ∷ xs) r.1) refl (inl (refl, h.0)) (never (Character b) (λ x. refl) r.0))
     (λ _. tt)

@@ -6,9 +6,9 @@ use Rattle.std.proofs.lemmas.Bool.Decides.{nat_tests}
 use Rattle.std.proofs.Math.Seq.{take-append_seam, drop-append_seam, drop-length}
 use Rattle.std.proofs.lemmas.List.{take-append-drop, append-nil}
 use Rattle.std.specs.List.{list_all, prefix_len}
-use Rattle.rv_text_laws.specs.Bytes.{is_digit, digit, value}
+use Rattle.rv_text_laws.specs.Bytes.{is_digit, digit, digits_value}
 use Rattle.rv_text_laws.specs.Grammar.{ShowsBase, Decimal, Octal_digits, Hexadecimal_digits, Binary_digits, IsNumber, direction, IsReference}
-use Rattle.rv_text_laws.specs.Front.{number_by, after_zero, number_in, with_direction, reference_in}
+use Rattle.rv_text_laws.specs.Front.{number_by, after_zero, word_number, with_direction, reference_in}
 use Rattle.rv_text_laws.proofs.RunsLemmas.{pick, Breaks, run_is, run_all}
 
 not_same : (p : ℕ → Bool) (c n : ℕ) → p c ≡ true → p n ≡ false → (c == n) ≡ false
@@ -19,8 +19,8 @@ not_same p c n yes_c no_n = go (c == n) refl
     go false e = refl
 
 -- the base that a good number shows is the one that is taken
-shown : (word : List ℕ) (base : ℕ) (digits : List ℕ) → ShowsBase word base digits → list_all (is_digit base) digits ≡ true → number_in word ≡ number_by base digits
-unfolding number_in digit
+shown : (word : List ℕ) (base : ℕ) (digits : List ℕ) → ShowsBase word base digits → list_all (is_digit base) digits ≡ true → word_number word ≡ number_by base digits
+unfolding word_number digit
 shown _ _ _ (Decimal d ds other) all = rw other refl
 shown _ _ _ (Octal_digits []) all = refl
 shown _ _ _ (Octal_digits (c ∷ [])) all = refl
@@ -30,13 +30,13 @@ shown _ _ _ (Octal_digits (c ∷ d ∷ ds)) all =
 shown _ _ _ (Hexadecimal_digits d ds) all = refl
 shown _ _ _ (Binary_digits d ds) all = refl
 
-pub number_is : (word : List ℕ) (n : ℕ) → IsNumber word n → number_in word ≡ Some n
+pub number_is : (word : List ℕ) (n : ℕ) → IsNumber word n → word_number word ≡ Some n
 number_is word n is =
-    let fits : value is.base is.digits < 2 ^ 64 = rw (sym is.is_value) is.fits in
-    let test : nat_lt (value is.base is.digits) (2 ^ 64) ≡ true = grind (arith, nat_tests) in
+    let fits : digits_value is.base is.digits < 2 ^ 64 = rw (sym is.is_value) is.fits in
+    let test : nat_lt (digits_value is.base is.digits) (2 ^ 64) ≡ true = grind (arith, nat_tests) in
     shown word is.base is.digits is.shows is.all_digits
-    ∙ subst (λ t. cond t (Some (value is.base is.digits)) None ≡ Some n)
-    (sym (and_from (list_all (is_digit is.base) is.digits) (nat_lt (value is.base is.digits) (2 ^ 64)) is.all_digits test))
+    ∙ subst (λ t. cond t (Some (digits_value is.base is.digits)) None ≡ Some n)
+    (sym (and_from (list_all (is_digit is.base) is.digits) (nat_lt (digits_value is.base is.digits) (2 ^ 64)) is.all_digits test))
     (ap (λ m. Some m) (sym is.is_value))
 
 -- what an answer says of the word
@@ -46,14 +46,14 @@ NumberAnswers word (Some n) = IsNumber word n
 
 by_base : (word : List ℕ) (base : ℕ) (digits : List ℕ) → ShowsBase word base digits → NumberAnswers word (number_by base digits)
 by_base word base digits shows =
-    pick (NumberAnswers word) (list_all (is_digit base) digits && nat_lt (value base digits) (2 ^ 64)) (Some (value base digits)) None
+    pick (NumberAnswers word) (list_all (is_digit base) digits && nat_lt (digits_value base digits) (2 ^ 64)) (Some (digits_value base digits)) None
     (λ t.
-    let h = and_parts (list_all (is_digit base) digits) (nat_lt (value base digits) (2 ^ 64)) t in
-    record { base = base; digits = digits; shows = shows; all_digits = h.0; is_value = refl; fits = ltb-true (value base digits) (2 ^ 64) h.1 })
+    let h = and_parts (list_all (is_digit base) digits) (nat_lt (digits_value base digits) (2 ^ 64)) t in
+    record { base = base; digits = digits; shows = shows; all_digits = h.0; is_value = refl; fits = ltb-true (digits_value base digits) (2 ^ 64) h.1 })
     (λ _. tt)
 
-number_answers : (word : List ℕ) → NumberAnswers word (number_in word)
-unfolding number_in
+number_answers : (word : List ℕ) → NumberAnswers word (word_number word)
+unfolding word_number
 number_answers [] = tt
 number_answers (d ∷ ds) =
     pick (NumberAnswers (d ∷ ds)) (d == 48) _ _
@@ -70,7 +70,7 @@ number_answers (d ∷ ds) =
         (λ t. subst (λ x. NumberAnswers (48 ∷ x ∷ d ∷ ds) (number_by 2 (d ∷ ds))) (sym (eqb-true c 98 t)) (by_base _ _ _ (Binary_digits d ds)))
         (λ _. by_base _ _ _ (Octal_digits (c ∷ d ∷ ds))))
 
-pub number_found : (word : List ℕ) (n : ℕ) → number_in word ≡ Some n → IsNumber word n
+pub number_found : (word : List ℕ) (n : ℕ) → word_number word ≡ Some n → IsNumber word n
 number_found word n e = subst (NumberAnswers word) e (number_answers word)
 
 -- a reference
@@ -139,10 +139,10 @@ number_no_reference word n is = no_reference word is.base is.digits is.shows is.
 
 -- where a word writes nothing
 
-pub no_number : (word : List ℕ) → ((n : ℕ) → IsNumber word n → ⊥) → number_in word ≡ None
-no_number word none = go (number_in word) refl
+pub no_number : (word : List ℕ) → ((n : ℕ) → IsNumber word n → ⊥) → word_number word ≡ None
+no_number word none = go (word_number word) refl
   where
-    go : (o : Option ℕ) → number_in word ≡ o → o ≡ None
+    go : (o : Option ℕ) → word_number word ≡ o → o ≡ None
     go None e = refl
     go (Some n) e = absurd (none n (number_found word n e))
 

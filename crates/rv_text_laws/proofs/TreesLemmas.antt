@@ -4,7 +4,7 @@ use Rattle.std.proofs.Common.{◌≡◌, ◌<◌, true, List, [], ◌∷◌, ◌
 use Rattle.std.proofs.lemmas.List.{append-nil}
 use Rattle.std.proofs.lemmas.Bool.{and_parts, ltb-true}
 use Rattle.rv_text_laws.specs.Expression.{Primary, Tree, Leaf, Unary, Paren, Binary, Node, Primary_node, Unary_node, Binary_node, postfix, built_by, built, last_built, tree_of, bare}
-use Rattle.rv_text_laws.specs.Values.{Meaning, Value, value_of, alone, both, after_node, after_nodes, node_fits, count_after, nodes_fit}
+use Rattle.rv_text_laws.specs.Values.{Meaning, Value, value_of, unary_value, both, after_node, after_nodes, node_fits, count_after, nodes_fit}
 
 -- the nodes of a tree build it without its parentheses
 built_after : (t : Tree) (ns : List Node) (xs : List Tree) → built (postfix t ++ ns) xs ≡ built ns (bare t ∷ xs)
@@ -31,7 +31,7 @@ lone_tree p = refl
 -- parentheses have no value of their own
 pub bare_value : (m : Primary → Meaning) (t : Tree) → value_of m (bare t) ≡ value_of m t
 bare_value m (Leaf p) = refl
-bare_value m (Unary o x) = ap (alone o) (bare_value m x)
+bare_value m (Unary o x) = ap (unary_value o) (bare_value m x)
 bare_value m (Paren x) = bare_value m x
 bare_value m (Binary o x y) = ap (λ (v : Value). both o v (value_of m (bare y))) (bare_value m x) ∙ ap (both o (value_of m x)) (bare_value m y)
 

@@ -98,6 +98,6 @@ abbrev pub is_digit : ℕ → ℕ → Bool
 is_digit base b = nat_lt (digit b) base
 
 -- the number that digits spell in a base
-abbrev pub value : ℕ → List ℕ → ℕ
-value base [] = 0
-value base (d ∷ ds) = digit d * base ^ length ds + value base ds
+abbrev pub digits_value : ℕ → List ℕ → ℕ
+digits_value base [] = 0
+digits_value base (d ∷ ds) = digit d * base ^ length ds + digits_value base ds

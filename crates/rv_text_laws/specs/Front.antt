@@ -9,21 +9,21 @@ use Rattle.rv_text_laws.specs.declared.punct.Punct.TheVariants.{Slash, ShiftLeft
 use Rattle.rv_text_laws.specs.declared.class.Class.{Class}
 use Rattle.rv_text_laws.specs.declared.class.Class.TheVariants.{Letter, Digit, Blank, LineEnd, Single, HashByte, SlashByte, QuoteByte, ApostropheByte, LessByte, GreaterByte, EqualByte, BangByte, Odd, Foreign}
 use Rattle.rv_text_laws.specs.Cut.{Piece, texts, cut}
-use Rattle.rv_text_laws.specs.Bytes.{class, is_word, in_line, is_digit, value}
+use Rattle.rv_text_laws.specs.Bytes.{class, is_word, in_line, is_digit, digits_value}
 use Rattle.rv_text_laws.specs.Strings.{Atom, Plain, Named, Octal, Hexadecimal, byte_of, named, is_plain, is_character}
 use Rattle.rv_text_laws.specs.Grammar.{Kind, Space, Line_comment, Block_comment, Newline, Punctuation, Name, Number, Reference, Bad_word, Text, Character}
 use Rattle.rv_text_laws.specs.Lexing.{Token, last_kind, is_gap, newlines}
 
 -- whether the list begins with this number
-abbrev pub begins : ℕ → List ℕ → Bool
-begins c [] = false
-begins c (b ∷ bs) = b == c
+abbrev pub has_first : ℕ → List ℕ → Bool
+has_first c [] = false
+has_first c (b ∷ bs) = b == c
 
 -- the number that digits spell, where they are digits of the base and it fits 64 bits
 abbrev pub number_by : ℕ → List ℕ → Option ℕ
 number_by base ds =
-    if list_all (is_digit base) ds && nat_lt (value base ds) (2 ^ 64)
-    then Some (value base ds) else None
+    if list_all (is_digit base) ds && nat_lt (digits_value base ds) (2 ^ 64)
+    then Some (digits_value base ds) else None
 
 abbrev pub after_zero : List ℕ → Option ℕ
 after_zero [] = number_by 8 []
@@ -33,9 +33,9 @@ after_zero (c ∷ d ∷ ds) =
     then number_by 2 (d ∷ ds) else number_by 8 (c ∷ d ∷ ds)
 
 -- the number that a word writes
-unfoldable pub number_in : List ℕ → Option ℕ
-number_in [] = None
-number_in (d ∷ ds) = if d == 48 then after_zero ds else number_by 10 (d ∷ ds)
+unfoldable pub word_number : List ℕ → Option ℕ
+word_number [] = None
+word_number (d ∷ ds) = if d == 48 then after_zero ds else number_by 10 (d ∷ ds)
 
 abbrev pub with_direction : List ℕ → List ℕ → Option (List ℕ × Bool)
 with_direction ds [] = None
@@ -53,14 +53,14 @@ number_kind word None = Bad_word word
 number_kind word (Some n) = Number word n
 
 abbrev pub digits_kind : List ℕ → Option (List ℕ × Bool) → Kind
-digits_kind word None = number_kind word (number_in word)
+digits_kind word None = number_kind word (word_number word)
 digits_kind word (Some r) = Reference r.0 r.1
 
 -- where the first `*/` begins
 abbrev pub close_at : List ℕ → Option ℕ
 close_at [] = None
 close_at (b ∷ bs) =
-    if (b == 42) && begins 47 bs then Some 0 else option_map (λ n. suc n) (close_at bs)
+    if (b == 42) && has_first 47 bs then Some 0 else option_map (λ n. suc n) (close_at bs)
 
 -- the escape after a `\`, and its length with the `\`
 unfoldable pub escape_at : List ℕ → Option (Atom × ℕ)
@@ -81,20 +81,20 @@ atom_at (b ∷ bs) = if b == 92 then escape_at bs else if is_plain b then Some (
 -- a string, after its `"`
 abbrev pub closed_string : List (Piece Atom ℕ) × List ℕ → Option (Kind × ℕ)
 closed_string c =
-    if begins 34 c.1
+    if has_first 34 c.1
     then Some (Text (map (λ a. byte_of a.kind) c.0), suc (suc (length (texts c.0)))) else None
 
 abbrev pub closed_escape : List ℕ → Option (Atom × ℕ) → Option (Kind × ℕ)
 closed_escape bs None = None
 closed_escape bs (Some f) =
-    if begins 39 (drop f.1 bs) then Some (Character (byte_of f.0), suc (suc f.1)) else None
+    if has_first 39 (drop f.1 bs) then Some (Character (byte_of f.0), suc (suc f.1)) else None
 
 -- a character, after its `'`
 abbrev pub character_at : List ℕ → Option (Kind × ℕ)
 character_at [] = None
 character_at (b ∷ bs) =
     if b == 92 then closed_escape (b ∷ bs) (escape_at bs) else
-    if is_character b && begins 39 bs then Some (Character b, 3) else None
+    if is_character b && has_first 39 bs then Some (Character b, 3) else None
 
 abbrev pub after_slash : List ℕ → Option (Kind × ℕ)
 after_slash [] = Some (Punctuation Slash, 1)
@@ -119,7 +119,7 @@ after_greater (c ∷ cs) =
 
 -- this punctuation, where a `=` follows
 abbrev pub with_equal : Punct → List ℕ → Option (Kind × ℕ)
-with_equal punct bs = if begins 61 bs then Some (Punctuation punct, 2) else None
+with_equal punct bs = if has_first 61 bs then Some (Punctuation punct, 2) else None
 
 abbrev pub name_at : ℕ → List ℕ → ℕ → Option (Kind × ℕ)
 name_at b bs n = Some (Name (b ∷ take n bs), suc n)

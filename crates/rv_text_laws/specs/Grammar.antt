@@ -8,7 +8,7 @@ use Rattle.rv_text_laws.specs.declared.punct.Punct.TheVariants.{Slash, Less, Gre
 use Rattle.rv_text_laws.specs.declared.class.Class.{Class}
 use Rattle.rv_text_laws.specs.declared.class.Class.TheVariants.{Letter, Digit, Blank}
 use Rattle.rv_text_laws.specs.Cut.{Piece, texts, Each}
-use Rattle.rv_text_laws.specs.Bytes.{class, spelling, is_word, in_line, is_digit, value}
+use Rattle.rv_text_laws.specs.Bytes.{class, spelling, is_word, in_line, is_digit, digits_value}
 use Rattle.rv_text_laws.specs.Strings.{Atom, byte_of, SpellsAtom, StopsAtom, is_character, is_escape}
 
 pub data Kind : Type 0 where
@@ -56,7 +56,7 @@ pub record IsNumber (word : List ℕ) (number : ℕ) : Type 0 where
   pub digits : List ℕ
   pub shows : ShowsBase word base digits
   pub all_digits : list_all (is_digit base) digits ≡ true
-  pub is_value : number ≡ value base digits
+  pub is_value : number ≡ digits_value base digits
   pub fits : number < 2 ^ 64
 
 -- the last byte of a numeric reference: `f` for a label after it, `b` for one before it

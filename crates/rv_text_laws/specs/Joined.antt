@@ -7,19 +7,19 @@ use Rattle.rv_text_laws.specs.Grammar.{Kind, Name, Number, Reference, Bad_word, 
 use Rattle.rv_text_laws.specs.Lexing.{Token}
 
 -- the bytes of a token that such a name may have after its first
-abbrev pub bytes_of : Kind → Option (List ℕ)
-bytes_of (Name name) = Some name
-bytes_of (Number word number) = Some word
-bytes_of (Reference digits forward) = Some (digits ++ direction forward ∷ [])
-bytes_of (Bad_word word) = Some word
-bytes_of (Punctuation Minus) = Some (codes "-")
-bytes_of _ = None
+abbrev pub joined_bytes : Kind → Option (List ℕ)
+joined_bytes (Name name) = Some name
+joined_bytes (Number word number) = Some word
+joined_bytes (Reference digits forward) = Some (digits ++ direction forward ∷ [])
+joined_bytes (Bad_word word) = Some word
+joined_bytes (Punctuation Minus) = Some (codes "-")
+joined_bytes _ = None
 
 -- the tokens stand one right after the other from this offset on, and these are their bytes
 abbrev pub AreAfter : ℕ → List Token → List ℕ → Type 0
 AreAfter offset [] bytes = bytes ≡ []
 AreAfter offset (t ∷ ts) bytes =
-    (t.start ≡ offset) × (first rest : List ℕ) × (bytes_of t.kind ≡ Some first)
+    (t.start ≡ offset) × (first rest : List ℕ) × (joined_bytes t.kind ≡ Some first)
     × (bytes ≡ first ++ rest) × AreAfter t.stop ts rest
 
 -- the tokens are this name
@@ -38,7 +38,7 @@ pub record ReadsJoined (ts : List Token) (name : List ℕ) (rest : List Token) :
 
 -- the bytes of a token that goes on with a name up to this offset
 abbrev pub joins : ℕ → Token → Option (List ℕ)
-joins offset t = if t.start == offset then bytes_of t.kind else None
+joins offset t = if t.start == offset then joined_bytes t.kind else None
 
 -- what goes on with a name up to this offset, and the tokens after it
 abbrev pub joined_after : ℕ → List Token → List ℕ × List Token

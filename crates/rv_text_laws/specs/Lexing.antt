@@ -62,10 +62,10 @@ is_last End = true
 is_last _ = false
 
 -- a last token ends the list
-abbrev pub ended : List Token → Bool
-ended [] = false
-ended (t ∷ []) = is_last t.kind
-ended (t ∷ u ∷ ts) = ended (u ∷ ts)
+abbrev pub is_ended : List Token → Bool
+is_ended [] = false
+is_ended (t ∷ []) = is_last t.kind
+is_ended (t ∷ u ∷ ts) = is_ended (u ∷ ts)
 
 -- the last token, after these bytes: it has all the rest
 abbrev pub last : List ℕ → List ℕ → Token

@@ -2,7 +2,7 @@
 
 use Rattle.std.specs.Prelude.{◌≡◌, ℕ, ◌%◌, ◌<◌, ◌≤◌, Bool, true, false, ◌&&◌, ◌||◌, ◌==◌, not, nat_lt, if◌then◌else◌, List, [], ◌∷◌, length, Option, Some, None}
 use Rattle.std.specs.List.{list_all}
-use Rattle.rv_text_laws.specs.Bytes.{between, is_digit, value}
+use Rattle.rv_text_laws.specs.Bytes.{between, is_digit, digits_value}
 
 -- what one byte of a string is written as: as it stands, by a letter after `\`, by up to three
 -- octal digits after `\` (counted modulo 256), or by one or two hexadecimal digits after `\x`
@@ -16,8 +16,8 @@ pub data Atom : Type 0 where
 abbrev pub byte_of : Atom → ℕ
 byte_of (Plain byte) = byte
 byte_of (Named byte) = byte
-byte_of (Octal digits) = value 8 digits % 256
-byte_of (Hexadecimal digits) = value 16 digits
+byte_of (Octal digits) = digits_value 8 digits % 256
+byte_of (Hexadecimal digits) = digits_value 16 digits
 
 -- the byte that a letter after `\` stands for: `\b \f \n \r \t \\ \" \'`
 abbrev pub named : ℕ → Option ℕ

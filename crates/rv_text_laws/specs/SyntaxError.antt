@@ -15,8 +15,8 @@ is_long (Name name) = nat_lt longest_name (length name)
 is_long _ = false
 
 -- the offset of a token's fault: of its first byte, but a name's limit at the first byte past it
-unfoldable pub offset_of : Token → ℕ → ℕ
-offset_of t code = if (code == limit) && is_long t.kind then t.start + longest_name else t.start
+unfoldable pub fault_offset : Token → ℕ → ℕ
+fault_offset t code = if (code == limit) && is_long t.kind then t.start + longest_name else t.start
 
 -- a token that is wrong where it stands: the offset of the fault in bytes, its line and its code
 pub record SyntaxError : Type 0 where
@@ -25,7 +25,7 @@ pub record SyntaxError : Type 0 where
   pub code : ℕ
 
 abbrev pub wrong : Token → ℕ → SyntaxError
-wrong t code = record { offset = offset_of t code; line = t.line; code = code }
+wrong t code = record { offset = fault_offset t code; line = t.line; code = code }
 
 -- what is read at the front, and the tokens after it
 abbrev pub Read : Type 0 → Type 0

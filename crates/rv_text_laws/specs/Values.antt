@@ -95,21 +95,21 @@ difference (Symbolic p s k) (Symbolic q t j) = apart s t p q (subtract k j)
 difference v w = refused Subtract v w
 
 -- the other operators take constants alone
-abbrev pub constants : BinaryOperator → Value → Value → Value
-constants o (Constant a) (Constant b) = arithmetic o a b
-constants o v w = refused o v w
+abbrev pub constants_alone : BinaryOperator → Value → Value → Value
+constants_alone o (Constant a) (Constant b) = arithmetic o a b
+constants_alone o v w = refused o v w
 
 abbrev pub both : BinaryOperator → Value → Value → Value
 both Add v w = sum v w
 both Subtract v w = difference v w
-both o v w = constants o v w
+both o v w = constants_alone o v w
 
-abbrev pub alone : UnaryOperator → Value → Value
-alone Keep v = v
-alone Negate (Constant a) = Constant (subtract 0 a)
-alone Complement (Constant a) = Constant (2 ^ 64 - 1 - a)
-alone o (Faulty c) = Faulty c
-alone o v = Faulty not_constant
+abbrev pub unary_value : UnaryOperator → Value → Value
+unary_value Keep v = v
+unary_value Negate (Constant a) = Constant (subtract 0 a)
+unary_value Complement (Constant a) = Constant (2 ^ 64 - 1 - a)
+unary_value o (Faulty c) = Faulty c
+unary_value o v = Faulty not_constant
 
 abbrev pub meant : Primary → Meaning → Value
 meant p (Known n) = Constant n
@@ -123,7 +123,7 @@ primary_value m p = meant p (m p)
 -- the value of an expression by what its names mean; every part counts
 abbrev pub value_of : (Primary → Meaning) → Tree → Value
 value_of m (Leaf p) = primary_value m p
-value_of m (Unary o x) = alone o (value_of m x)
+value_of m (Unary o x) = unary_value o (value_of m x)
 value_of m (Paren x) = value_of m x
 value_of m (Binary o x y) = both o (value_of m x) (value_of m y)
 
@@ -131,7 +131,7 @@ value_of m (Binary o x y) = both o (value_of m x) (value_of m y)
 abbrev pub after_node : (Primary → Meaning) → Node → List Value → List Value
 after_node m (Primary_node p) vs = primary_value m p ∷ vs
 after_node m (Unary_node o) [] = []
-after_node m (Unary_node o) (v ∷ vs) = alone o v ∷ vs
+after_node m (Unary_node o) (v ∷ vs) = unary_value o v ∷ vs
 after_node m (Binary_node o) [] = []
 after_node m (Binary_node o) (w ∷ []) = []
 after_node m (Binary_node o) (w ∷ v ∷ vs) = both o v w ∷ vs

@@ -2,7 +2,7 @@
 
 ghost use Rattle.std.specs.Prelude.{◌≡◌, ℕ, ◌≤◌, Bool, true, List, [], ◌∷◌, ◌++◌, Some};
 ghost use Rattle.rv_text_laws.specs.Grammar.{Kind, Spells, Stops};
-ghost use Rattle.rv_text_laws.specs.Lexing.{Token, Lexes, ended};
+ghost use Rattle.rv_text_laws.specs.Lexing.{Token, Lexes, is_ended};
 ghost use Rattle.rv_text_laws.specs.Spans.{Spans};
 ghost use Rattle.rv_text_laws.specs.SyntaxError.{SyntaxError, wrong};
 ghost use Rattle.rv_text_laws.specs.Front.{tokens_from};
@@ -92,7 +92,7 @@ pub fn wrong_token()
         (more : List Token) → FailsAt is_register front at code
         → expression_at is_register (front ++ at ∷ more) ≡ Err (wrong at code) }
     ensures found { (is_register : List ℕ → Bool) (ts : List Token) (w : SyntaxError) →
-        ended ts ≡ true → expression_at is_register ts ≡ Err w
+        is_ended ts ≡ true → expression_at is_register ts ≡ Err w
         → (front : List Token) × (at : Token) × (more : List Token) × (code : ℕ)
         × (ts ≡ front ++ at ∷ more) × FailsAt is_register front at code × (w ≡ wrong at code) }
     ensures stops { (is_register : List ℕ → Bool) (front : List Token) (at : Token) (code : ℕ)

@@ -8,7 +8,7 @@ use Rattle.rv_isa_laws.specs.Bytes.{zeros}
 use Rattle.rv_map.specs.declared.map.Region.{Region}
 use Rattle.rv_object.specs.Object.{Section, Object, size_of}
 use Rattle.rv_object_laws.specs.Moves.{moves, new_offset}
-use Rattle.rv_object_laws.specs.Inputs.{Starts, InputSection, is_nobits, goes_to_text, goes_to_rodata, goes_to_data, goes_to_bss, inputs_from, inputs_of, inputs, start_of, size, Stand, sections_end, Holds, gaps_of, greatest, contents}
+use Rattle.rv_object_laws.specs.Inputs.{Starts, InputSection, has_no_bytes, goes_to_text, goes_to_rodata, goes_to_data, goes_to_bss, inputs_from, inputs_of, inputs, start_of, size, Stand, sections_end, Holds, gaps_of, greatest, contents}
 use Rattle.rv_unique_link_laws.proofs.FoundLemmas.{all_left, all_right, found_in}
 use Rattle.rv_unique_link_laws.proofs.ExportsLemmas.{OfFiles}
 
@@ -89,7 +89,7 @@ module _ (s t : Starts) where
       right goes h = all_right (StartsSame s t) (inputs_from goes file o 0 o.sections) (inputs_of goes (suc file) os) h
 
       own : IsAgreed s t file o
-      own index x at loaded = by (some_region x.loaded x.executable (is_nobits x.contents) x.writable loaded)
+      own index x at loaded = by (some_region x.loaded x.executable (has_no_bytes x.contents) x.writable loaded)
         where
           by : (goes_to_text x ≡ true) ⊎ ((goes_to_rodata x ≡ true) ⊎ ((goes_to_data x ≡ true) ⊎ (goes_to_bss x ≡ true))) → s file index ≡ t file index
           by (inl e) = found_in goes_to_text (StartsSame s t) file o index x at e (left goes_to_text a)

@@ -9,7 +9,7 @@ use Rattle.rv_reloc.specs.Ranges.{IsInRange, IsOdd, Takes, Refuses}
 use Rattle.rv_object.specs.Object.{Relocation}
 use Rattle.rv_link.specs.declared.fault.LinkFault.{LinkFault}
 use Rattle.rv_link.specs.declared.fault.LinkFault.TheVariants.{Overflow, OddTarget, DanglingPcrel, AlignmentShort, Undefined, Duplicate, EntryMissing, ImageTooLarge, BadTextStart, TooManyFiles, OutOfMemory}
-use Rattle.rv_link.specs.Fault.{number_of}
+use Rattle.rv_link.specs.Fault.{link_fault_number}
 use Rattle.rv_link.specs.Untaken.{IsFirst}
 use Rattle.rv_unique_link_laws.specs.Same.{name_in, IsSameFault}
 
@@ -60,7 +60,7 @@ Why n v r =
 
 pub record IsToldBy (f : LinkFault) (v : Option ℤ) (r : Relocation) : Type 0 where
   pub number : ℕ
-  pub numbered : number_of f ≡ Some number
+  pub numbered : link_fault_number f ≡ Some number
   pub nameless : name_in f ≡ []
   pub why : Why number v r
 

@@ -7,7 +7,7 @@ use Rattle.std.proofs.lemmas.Bool.{and_from}
 use Rattle.rv_layout_laws.specs.declared.site.Site.{Site}
 use Rattle.rv_layout_laws.specs.Calls.{IsText}
 use Rattle.rv_object.specs.Object.{Section, Object}
-use Rattle.rv_object.specs.Valid.{is_alignment, fit_inside, are_paddings}
+use Rattle.rv_object.specs.Valid.{is_section_alignment, fit_inside, are_paddings}
 use Rattle.rv_object_laws.specs.Moves.{Move}
 use Rattle.rv_object_laws.specs.Inputs.{goes_to_text}
 use Rattle.rv_object_laws.specs.Names.{no_object, object_at}
@@ -39,7 +39,7 @@ abbrev HasPaddings : Section → Type 0
 HasPaddings s = IsTrue (are_paddings s.executable s.contents s.relocations)
 
 abbrev IsAligned : Section → Type 0
-IsAligned s = IsTrue (is_alignment s.alignment)
+IsAligned s = IsTrue (is_section_alignment s.alignment)
 
 all_cut : (P Q : Section → Type 0) → ((s : Section) (ms : List Move) → AreCuts s ms → P s → Q (cut_section ms s)) → (ss : List Section) (mss : List (List Move)) → AllCut ss mss → AllByRecursion P ss
     → AllByRecursion Q (cut_sections mss ss)

@@ -6,7 +6,7 @@ use Rattle.std.specs.List.{AllByRecursion}
 use Rattle.std.proofs.Math.Nat.{div-mul-le_self}
 use Rattle.rv_layout_laws.specs.Alignment.{aligned}
 use Rattle.rv_object.specs.Object.{Relocation, Section, Object}
-use Rattle.rv_object.specs.Valid.{is_alignment}
+use Rattle.rv_object.specs.Valid.{is_section_alignment}
 use Rattle.rv_object_laws.specs.Moves.{full_padding, alignment_of, alignments_of}
 use Rattle.rv_object_laws.specs.Inputs.{InputSection, goes_to_text, inputs, raised, begins_at}
 use Rattle.rv_relax.proofs.AlignedLemmas.{alignments}
@@ -30,13 +30,13 @@ raised_even : (rs : List Relocation) (a : ℕ) → IsEven a → IsEven (raised r
 raised_even [] a h = h
 raised_even (r ∷ rs) a h = max_even (alignment_of r) (raised rs a) (alignment_even r) (raised_even rs a h)
 
-own_even : (n : ℕ) → is_alignment n ≡ true → IsEven (max 2 n)
+own_even : (n : ℕ) → is_section_alignment n ≡ true → IsEven (max 2 n)
 own_even n e =
     any_power (λ m. IsEven (max 2 m)) n (0 ∷ 1 ∷ 2 ∷ 3 ∷ 4 ∷ 5 ∷ 6 ∷ 7 ∷ 8 ∷ 9 ∷ 10 ∷ 11 ∷ 12 ∷ [])
     (refl, (refl, (refl, (refl, (refl, (refl, (refl, (refl, (refl, (refl, (refl, (refl, (refl, tt)))))))))))))
     e
 
-begins_even_at : (s : Section) → is_alignment s.alignment ≡ true → goes_to_text s ≡ true → IsEven (begins_at s)
+begins_even_at : (s : Section) → is_section_alignment s.alignment ≡ true → goes_to_text s ≡ true → IsEven (begins_at s)
 begins_even_at s e text =
     raised_even (alignments_of s) (max (if goes_to_text s then 2 else 1) s.alignment) (subst (λ b. IsEven (max (if b then 2 else 1) s.alignment)) (sym text) (own_even s.alignment e))
 
@@ -60,7 +60,7 @@ BeginsSo i = IsEven (begins_at i.section)
 begins_from : (file : ℕ) (os : List Object) → AllByRecursion IsSound os → EachOf goes_to_text BeginsSo file os
 begins_from file [] h = tt
 begins_from file (o ∷ os) (sound, h) = (
-  λ index s at text. begins_even_at s (all_at (λ x. IsTrue (is_alignment x.alignment)) o.sections index s sound.alignments at) text,
+  λ index s at text. begins_even_at s (all_at (λ x. IsTrue (is_section_alignment x.alignment)) o.sections index s sound.alignments at) text,
   begins_from (suc file) os h,
 )
 

@@ -8,7 +8,7 @@ use Rattle.rv_map.specs.Map.{Map}
 use Rattle.rv_map.specs.declared.map.Region.{Region}
 use Rattle.rv_image.specs.Linked.{Linked}
 use Rattle.rv_object.specs.Object.{Section, Object}
-use Rattle.rv_object_laws.specs.Inputs.{Starts, is_nobits, goes_to_text, goes_to_rodata, goes_to_data, inputs, contents}
+use Rattle.rv_object_laws.specs.Inputs.{Starts, has_no_bytes, goes_to_text, goes_to_rodata, goes_to_data, inputs, contents}
 use Rattle.rv_object_laws.specs.Names.{Outer, outer_address, globals_of, shown_linker_symbols}
 use Rattle.rv_object_laws.specs.Values.{target, value, IsRelocated, linked_bytes}
 use Rattle.rv_object_laws.specs.IsLinkOf.{is_loaded, outer_of, IsLinkOf}
@@ -77,10 +77,10 @@ text_loads : (x : Section) → goes_to_text x ≡ true → x.loaded ≡ true
 text_loads x e = (and_parts x.loaded x.executable e).0
 
 rodata_loads : (x : Section) → goes_to_rodata x ≡ true → x.loaded ≡ true
-rodata_loads x e = loads x.loaded (not x.executable) (not (is_nobits x.contents)) (not x.writable) e
+rodata_loads x e = loads x.loaded (not x.executable) (not (has_no_bytes x.contents)) (not x.writable) e
 
 data_loads : (x : Section) → goes_to_data x ≡ true → x.loaded ≡ true
-data_loads x e = loads x.loaded (not x.executable) (not (is_nobits x.contents)) x.writable e
+data_loads x e = loads x.loaded (not x.executable) (not (has_no_bytes x.contents)) x.writable e
 
 module _ (os : List Object) (start : ℕ) (l m : Linked) (placed : HavePlacedRows os) (h : IsLinkOf os start l) (k : IsLinkOf os start m) (drops : l.map.drops ≡ m.map.drops) where
   one : AreOne os h.starts k.starts l.map.text m.map.text l.map.rodata m.map.rodata l.map.data m.map.data l.map.bss m.map.bss

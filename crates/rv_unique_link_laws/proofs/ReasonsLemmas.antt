@@ -15,7 +15,7 @@ use Rattle.rv_resolve.specs.Exports.{first_duplicate}
 use Rattle.rv_resolve.specs.Undefined.{first_undefined}
 use Rattle.rv_link.specs.declared.fault.LinkFault.{LinkFault}
 use Rattle.rv_link.specs.declared.fault.LinkFault.TheVariants.{Overflow, OddTarget, DanglingPcrel, AlignmentShort, Undefined, Duplicate, EntryMissing, ImageTooLarge, BadTextStart, TooManyFiles, OutOfMemory}
-use Rattle.rv_link.specs.Fault.{number_of}
+use Rattle.rv_link.specs.Fault.{link_fault_number}
 use Rattle.rv_link.specs.Untaken.{IsFirstUntaken}
 use Rattle.rv_link.specs.Refusals.{IsTextStart, AreWithin, LacksRoom, LacksEntry, ComesToEntry, ComesToPlaces, IsUnapplied, IsUnlinked}
 use Rattle.rv_unique_link_laws.specs.Asked.{BeginsEven}
@@ -42,7 +42,7 @@ at_stage Fails Passes Here Later apart here later f g (inr h) (inr k) = later f 
 
 -- a fault of this number that tells this name
 abbrev Tells : ℕ → Option (List ℕ) → LinkFault → Type 0
-Tells number name f = (number_of f ≡ Some number) × (name ≡ Some (name_in f))
+Tells number name f = (link_fault_number f ≡ Some number) × (name ≡ Some (name_in f))
 
 tells_once : (number : ℕ) (name : Option (List ℕ)) → AreOnce (Tells number name)
 tells_once number name f g (a, e) (b, k) =

@@ -9,7 +9,7 @@ use Rattle.rv_collect_laws.specs.Graph.{is_dropped}
 use Rattle.rv_collect_laws.proofs.MarksLemmas.{same_drops}
 use Rattle.rv_object.specs.declared.row.Row.{Row}
 use Rattle.rv_object.specs.Object.{Contents, Progbits, Note, Nobits, Section, Object}
-use Rattle.rv_object.specs.Valid.{is_alignment, fit_inside, are_paddings, is_row_in, are_rows}
+use Rattle.rv_object.specs.Valid.{is_section_alignment, fit_inside, are_paddings, is_row_in, are_rows}
 use Rattle.rv_object_laws.specs.Collects.{graph_of}
 use Rattle.rv_object_laws.specs.IsProgramOf.{Leaves}
 use Rattle.rv_object_laws.specs.Shortened.{Relaxes}
@@ -80,7 +80,7 @@ nothing_inside (Progbits bytes) = refl
 nothing_inside (Note bytes) = refl
 nothing_inside (Nobits size) = refl
 
-aligned_left : (b : Bool) (s : Section) → IsTrue (is_alignment s.alignment) → IsTrue (is_alignment (without_section b s).alignment)
+aligned_left : (b : Bool) (s : Section) → IsTrue (is_section_alignment s.alignment) → IsTrue (is_section_alignment (without_section b s).alignment)
 aligned_left true s h = h
 aligned_left false s h = h
 
@@ -107,7 +107,7 @@ pub without_sound : (drops : List SectionId) (os : List Object) → AllByRecursi
 without_sound drops os h =
     all_from IsSound
     (λ dropped o one. record {
-      alignments = all_sections (λ s. IsTrue (is_alignment s.alignment)) aligned_left dropped 0 o.sections one.alignments;
+      alignments = all_sections (λ s. IsTrue (is_section_alignment s.alignment)) aligned_left dropped 0 o.sections one.alignments;
       inside = all_sections (λ s. IsTrue (fit_inside s.contents s.relocations)) inside_left dropped 0 o.sections one.inside;
       paddings = all_sections (λ s. IsTrue (are_paddings s.executable s.contents s.relocations)) paddings_left dropped 0 o.sections one.paddings;
       rows = rows_left dropped o o.rows one.rows;

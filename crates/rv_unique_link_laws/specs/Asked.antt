@@ -4,7 +4,7 @@ use Rattle.std.specs.Prelude.{◌≡◌, ℕ, ◌%◌, Bool, true, IsTrue, List,
 use Rattle.std.specs.List.{AllByRecursion, slice_get}
 use Rattle.rv_map.specs.declared.map.SectionId.{SectionId}
 use Rattle.rv_object.specs.Object.{Object}
-use Rattle.rv_object.specs.Valid.{is_alignment, fit_inside, are_paddings, are_rows}
+use Rattle.rv_object.specs.Valid.{is_section_alignment, fit_inside, are_paddings, are_rows}
 use Rattle.rv_object_laws.specs.Inputs.{Starts, goes_to_text, inputs, Stand}
 use Rattle.rv_object_laws.specs.Names.{entry_of}
 use Rattle.rv_object_laws.specs.IsProgramOf.{Leaves}
@@ -37,7 +37,7 @@ LeavesEven os start relax gc =
 
 -- what each object of the code keeps
 pub record IsSound (o : Object) : Type 0 where
-  pub alignments : AllByRecursion (λ s. IsTrue (is_alignment s.alignment)) o.sections
+  pub alignments : AllByRecursion (λ s. IsTrue (is_section_alignment s.alignment)) o.sections
   pub inside : AllByRecursion (λ s. IsTrue (fit_inside s.contents s.relocations)) o.sections
   pub paddings : AllByRecursion
       (λ s. IsTrue (are_paddings s.executable s.contents s.relocations)) o.sections

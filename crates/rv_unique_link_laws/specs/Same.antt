@@ -7,7 +7,7 @@ use Rattle.rv_object.specs.Object.{Object}
 use Rattle.rv_object_laws.specs.IsProgramOf.{IsProgramOf}
 use Rattle.rv_link.specs.declared.fault.LinkFault.{LinkFault}
 use Rattle.rv_link.specs.declared.fault.LinkFault.TheVariants.{Undefined, Duplicate, OutOfMemory}
-use Rattle.rv_link.specs.Fault.{number_of}
+use Rattle.rv_link.specs.Fault.{link_fault_number}
 use Rattle.rv_link.specs.Refusals.{HasNoProgram}
 use Rattle.rv_unique_link_laws.specs.Asked.{HavePlacedRows, LeavesEven, IsSound}
 
@@ -32,7 +32,7 @@ name_in _ = []
 
 -- two faults are the same: they have one number and tell one name
 abbrev pub IsSameFault : LinkFault → LinkFault → Type 0
-IsSameFault f g = (number_of f ≡ number_of g) × (name_in f ≡ name_in g)
+IsSameFault f g = (link_fault_number f ≡ link_fault_number g) × (name_in f ≡ name_in g)
 
 -- but for want of memory, objects are refused for one reason
 abbrev pub RefusedForOne : Type 0

@@ -16,7 +16,7 @@ use Rattle.rv_elf.specs.Fields.{symbol_size, rela_size}
 use Rattle.rv_elf.specs.Numbers.{sht_symtab, sht_strtab, sht_rela}
 use Rattle.rv_object.specs.declared.row.Row.{Row}
 use Rattle.rv_object.specs.Object.{Section, Symbol, Object}
-use Rattle.rv_object_file_laws.specs.Written.{unseen, strings_of, table_of, Piece, section_piece, table_piece, relocations_bytes, rela_pieces, row_pieces, symbol_names, symbols_bytes, locals, symtab_index, last_index, first_pieces, section_names, HasFile}
+use Rattle.rv_object_file_laws.specs.Written.{unseen, strings_of, table_of, UnplacedSection, section_piece, table_piece, relocations_bytes, rela_pieces, row_pieces, symbol_names, symbols_bytes, locals, symtab_index, last_index, first_pieces, section_names, HasFile}
 use Rattle.rv_assemble_laws.specs.ShownNames.{said_names}
 use Rattle.rv_assemble_laws.specs.LaidStatements.{LaidStatement}
 use Rattle.rv_assemble_laws.specs.IsObjectOf.{Numbering, AreSectionsOf, IsObjectOf}
@@ -123,15 +123,15 @@ sections_light ss o h =
 
 -- ---- the sections of the file
 
-abbrev piece_weight : List Piece → ℕ
+abbrev piece_weight : List UnplacedSection → ℕ
 piece_weight [] = 0
 piece_weight (p ∷ ps) = 1 + (length p.name + piece_weight ps)
 
-pieces_append : (xs ys : List Piece) → piece_weight (xs ++ ys) ≡ piece_weight xs + piece_weight ys
+pieces_append : (xs ys : List UnplacedSection) → piece_weight (xs ++ ys) ≡ piece_weight xs + piece_weight ys
 pieces_append [] ys = let n = piece_weight ys in let e : n ≡ 0 + n = omega arith in e
 pieces_append (x ∷ xs) ys = let rest = pieces_append xs ys in omega (arith, rest)
 
-pieces_names : (ps : List Piece) → weight (map (λ p. p.name) ps) ≡ piece_weight ps
+pieces_names : (ps : List UnplacedSection) → weight (map (λ p. p.name) ps) ≡ piece_weight ps
 pieces_names [] = refl
 pieces_names (p ∷ ps) = ap (λ w. 1 + (length p.name + w)) (pieces_names ps)
 
@@ -140,7 +140,7 @@ kept_pieces [] = refl
 kept_pieces (x ∷ xs) = ap (λ w. 1 + (length x.name + w)) (kept_pieces xs)
 
 -- what they weigh, and how many there are
-abbrev Bounded : List Piece → (count heft : ℕ) → Type 0
+abbrev Bounded : List UnplacedSection → (count heft : ℕ) → Type 0
 Bounded ps count heft = (length ps ≤ count) × (piece_weight ps ≤ heft)
 
 relas_light : (symtab index : ℕ) (xs : List Section) → Bounded (rela_pieces symtab index xs) (length xs) (5 * length xs + weight (names_in xs))
@@ -166,7 +166,7 @@ tables_light : (o : Object) → Bounded
     ∷ table_piece (codes ".strtab") sht_strtab (table_of (symbol_names o)) 0 0 1 0 ∷ []) 2 16
 tables_light o = (omega arith, omega arith)
 
-joined : (xs ys : List Piece) (a b m n : ℕ) → Bounded xs a m → Bounded ys b n → Bounded (xs ++ ys) (a + b) (m + n)
+joined : (xs ys : List UnplacedSection) (a b m n : ℕ) → Bounded xs a m → Bounded ys b n → Bounded (xs ++ ys) (a + b) (m + n)
 joined xs ys a b m n (h, k) (p, q) =
     let c = length-append xs ys in
     let d = pieces_append xs ys in

@@ -7,7 +7,7 @@ use Rattle.std.specs.Str.{bytes_eq}
 use Rattle.std.proofs.lemmas.Bool.{eqb-true, lt-ltb, ltb-true, ltb-false, and_parts}
 use Rattle.rv_statement.specs.Statement.{StatementKind, Label, Directs, Statement, Sets}
 use Rattle.rv_unit_laws.specs.Tables.{Tables, Labelled, Assignment, at_start, tables, label_of, assigned_ever, assigned_before}
-use Rattle.rv_unit_laws.specs.Faults.{first_fault}
+use Rattle.rv_unit_laws.specs.Faults.{first_unit_fault}
 use Rattle.rv_unit_laws.proofs.FewLemmas.{no_fault_from}
 use Rattle.rv_unit_laws.proofs.FoundLemmas.{same_bytes, bytes_same}
 use Rattle.rv_unit_laws.proofs.BeforeLemmas.{before_start}
@@ -98,7 +98,7 @@ how_defined t name o (Directs (Sets n x)) h = go (sets_first t.assignments o n) 
     go false f h = absurd (omega (arith, h))
 how_defined t name o kind h = absurd (omega (arith, h))
 
-module _ (ss : List Statement) (laid : List LaidStatement) (located : map (λ s. s.located) laid ≡ located_from 1 1 (at_start ss) ss) (free : first_fault ss ≡ None) (name : List ℕ) where
+module _ (ss : List Statement) (laid : List LaidStatement) (located : map (λ s. s.located) laid ≡ located_from 1 1 (at_start ss) ss) (free : first_unit_fault ss ≡ None) (name : List ℕ) where
   abbrev t : Tables
   t = tables ss
 

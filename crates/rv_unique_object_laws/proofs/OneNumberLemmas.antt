@@ -11,13 +11,13 @@ use Rattle.rv_text_laws.specs.Values.{add}
 use Rattle.rv_statement.specs.Statement.{Statement}
 use Rattle.rv_unit_laws.specs.Tables as laws
 use Rattle.rv_unit_laws.specs.Tables.{Tables, at_start, tables, definition}
-use Rattle.rv_unit_laws.specs.Faults.{first_fault}
+use Rattle.rv_unit_laws.specs.Faults.{first_unit_fault}
 use Rattle.rv_unit_laws.proofs.FoundLemmas.{bytes_same}
 use Rattle.rv_source_laws.specs.Located.{located_from}
 use Rattle.rv_object.specs.declared.symbol.Definition.TheVariants.{Undefined, InSection}
 use Rattle.rv_object.specs.Object.{Symbol}
 use Rattle.rv_assemble_laws.specs.Templates.{Open, template_fields}
-use Rattle.rv_assemble_laws.specs.LaidStatements.{LaidStatement, Part, part_bytes}
+use Rattle.rv_assemble_laws.specs.LaidStatements.{LaidStatement, LaidPart, part_bytes}
 use Rattle.rv_assemble_laws.specs.Symbols.{SymbolUse, use_of, after_statement, after_found, symbols_of, IsNamed, IsOwn, IsOuter, IsDefinedBy, StandsFor}
 use Rattle.rv_assemble_laws.specs.ShownNames.{HasNames}
 use Rattle.rv_assemble_laws.specs.IsObjectOf.{Numbering, relocation_at, relocations_from, IsNumbered, ArePartsNumbered}
@@ -58,7 +58,7 @@ outer_is (Literal n) x h = absurd h
 outer_is Here x h = absurd h
 outer_is (Reference digits forward) x h = absurd h
 
-module _ (ss : List Statement) (names : HasNames ss) (free : first_fault ss ≡ None)
+module _ (ss : List Statement) (names : HasNames ss) (free : first_unit_fault ss ≡ None)
     (xs ys : List LaidStatement) (located : map (λ s. s.located) xs ≡ located_from 1 1 (at_start ss) ss) (same : Recoded (tables ss) xs ys) where
   abbrev t : Tables
   t = tables ss
@@ -124,7 +124,7 @@ module _ (ss : List Statement) (names : HasNames ss) (free : first_fault ss ≡ 
         ap (λ s. (record { place = place; kind = f.kind; symbol = s; addend = f.addend }) ∷ map (relocation_at n place) fs) (field_one place f f.symbol a.0 b.0)
         ∙ ap (λ l. relocation_at m place f ∷ l) (fields_one place fs a.1 b.1)
 
-    pub relocations_one : (offset : ℕ) (ps : List Part) → ArePartsNumbered t xs n all ps → ArePartsNumbered t ys m all ps
+    pub relocations_one : (offset : ℕ) (ps : List LaidPart) → ArePartsNumbered t xs n all ps → ArePartsNumbered t ys m all ps
         → relocations_from n offset ps ≡ relocations_from m offset ps
     relocations_one offset [] h k = refl
     relocations_one offset (p ∷ ps) (h, hs) (k, ks) =

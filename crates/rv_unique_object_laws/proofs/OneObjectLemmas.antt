@@ -6,7 +6,7 @@ use Rattle.std.specs.List.{AllByRecursion}
 use Rattle.rv_statement.specs.Statement.{Statement}
 use Rattle.rv_unit_laws.specs.Sections.{Section as SourceSection}
 use Rattle.rv_unit_laws.specs.Tables.{Tables, at_start, tables, opened_of}
-use Rattle.rv_unit_laws.specs.Faults.{first_fault}
+use Rattle.rv_unit_laws.specs.Faults.{first_unit_fault}
 use Rattle.rv_source_laws.specs.Located.{Located, located_from}
 use Rattle.rv_object.specs.Object.{Contents, Relocation, Section, Object}
 use Rattle.rv_assemble_laws.specs.LaidStatements.{LaidStatement, part_bytes, parts, laid_in, end_of}
@@ -58,7 +58,7 @@ module _ (ss : List Statement) (names : HasNames ss) (o p : Object) (h : IsObjec
   abbrev sections : List SourceSection
   sections = (opened_of t).sections
 
-  free : first_fault ss ≡ None
+  free : first_unit_fault ss ≡ None
   free = no_first_fault ss h.good
 
   same : Pairs SameLocated xs ys

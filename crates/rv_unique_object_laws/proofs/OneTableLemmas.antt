@@ -10,7 +10,7 @@ use Rattle.rv_unit_laws.specs.Tables.{Tables, Assignment, assigned_ever}
 use Rattle.rv_source_laws.specs.Exports.{defined_name, names_where}
 use Rattle.rv_object.specs.declared.symbol.Definition.{Definition as Defined}
 use Rattle.rv_object.specs.declared.symbol.Definition.TheVariants.{Undefined, Absolute, InSection, Skipped}
-use Rattle.rv_assemble_laws.specs.LaidStatements.{LaidStatement, Part}
+use Rattle.rv_assemble_laws.specs.LaidStatements.{LaidStatement, LaidPart}
 use Rattle.rv_assemble_laws.specs.Symbols.{SymbolUse, laid_at, after_found, assigned_definition, statement_definition, local_symbol, shared_symbol, references_in, references_of, references, is_meant, are_together, unnamed_symbols, is_absolute, named_symbols, local_symbols, exports_of, exports, missing_name, distinct_from, symbols_of}
 use Rattle.rv_unique_object_laws.proofs.RecodedLemmas.{recode, IsAlike, Recoded, Ended, More}
 
@@ -53,7 +53,7 @@ module _ (t : Tables) where
   references_same _ _ Ended = refl
   references_same _ _ (More s i c xs ys one rest) =
       append_same (references_of t (recode s i c)) (references_of t s) (references t ys) (references t xs)
-      (ap (λ (ps : List Part). if s.located.home.loaded then flat_map references_in ps else []) one.parts) (references_same xs ys rest)
+      (ap (λ (ps : List LaidPart). if s.located.home.loaded then flat_map references_in ps else []) one.parts) (references_same xs ys rest)
 
   -- ---- symbols
 

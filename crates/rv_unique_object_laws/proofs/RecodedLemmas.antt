@@ -11,7 +11,7 @@ use Rattle.rv_source_laws.specs.Located.{Located}
 use Rattle.rv_source_laws.specs.Compressed.{is_compressed_code}
 use Rattle.rv_assemble_laws.specs.CodeFields.{part_fields}
 use Rattle.rv_assemble_laws.specs.Coded.{constants}
-use Rattle.rv_assemble_laws.specs.LaidStatements.{LaidStatement, expression_value, coded_templates, templates, parts_of, parts, part_of, laid_in, Tile, end_of, HasSize}
+use Rattle.rv_assemble_laws.specs.LaidStatements.{LaidStatement, expression_value, coded_templates, templates, parts_of, parts, laid_part, laid_in, Tile, end_of, HasSize}
 use Rattle.rv_assemble_laws.specs.IsObjectOf.{row_of, rows_at}
 use Rattle.rv_unique_object_laws.proofs.OneCodeLemmas.{IsOneCode, code_one}
 use Rattle.rv_unique_object_laws.proofs.OneSizeLemmas.{directive_one}
@@ -74,11 +74,11 @@ module _ (t : Tables) where
   alike_by s i c a b true e h k =
       let same = same_code s i c a b s.located.kind (h.size e) (k.size e) in
       record {
-        parts = ap (map (part_of s.located.ordinal)) same.0;
+        parts = ap (map (laid_part s.located.ordinal)) same.0;
         rows = ap (λ n. rows_at (recode s n c)) same.1;
       }
   alike_by s i c a b false e h k = record {
-    parts = ap (map (part_of s.located.ordinal)) (k.bare e ∙ sym (h.bare e));
+    parts = ap (map (laid_part s.located.ordinal)) (k.bare e ∙ sym (h.bare e));
     rows = unplaced_row s.located.placed s.located.home.loaded (row_of (recode s i c)) (row_of s) e;
   }
 

@@ -13,7 +13,7 @@ use Rattle.rv_source_laws.proofs.HeldLemmas.{IsHeld, Held, all_held}
 use Rattle.rv_source_laws.proofs.HomesLemmas.{all_map, homes_from}
 use Rattle.rv_object.specs.Object.{Section, Symbol, Object}
 use Rattle.rv_assemble_laws.specs.Coded.{IsCode}
-use Rattle.rv_assemble_laws.specs.LaidStatements.{LaidStatement, expression_value, templates, part_of, parts_of, part_bytes, laid_in, Tile, IsPaddedIn, DirectiveSize, HasSize}
+use Rattle.rv_assemble_laws.specs.LaidStatements.{LaidStatement, expression_value, templates, laid_part, parts_of, part_bytes, laid_in, Tile, IsPaddedIn, DirectiveSize, HasSize}
 use Rattle.rv_assemble_laws.specs.Refusals.{HasCodeSize, HasSizeAt, AreCodeSizes}
 use Rattle.rv_assemble_laws.specs.IsObjectOf.{Numbering, IsSectionOf, AreSectionsOf, IsObjectOf}
 use Rattle.rv_assemble_laws.proofs.FaultlessLemmas.{no_first_fault}
@@ -101,7 +101,7 @@ both_facts (x ∷ xs) (h, hs) (k, ks) = ((h, k), both_facts xs hs ks)
 
 module _ (t : Tables) where
   pub bare_size : (a : ℕ) (s : LaidStatement) → IsSaid t a s → s.located.placed ≡ false → s.bytes ≡ 0
-  bare_size a s h e = h.bytes ∙ ap (λ ts. length (flat_map part_bytes (map (part_of s.located.ordinal) ts))) (h.bare e)
+  bare_size a s h e = h.bytes ∙ ap (λ ts. length (flat_map part_bytes (map (laid_part s.located.ordinal) ts))) (h.bare e)
 
   -- a directive has no bytes in code but those of an alignment
   directive_code : (v : Expression → Value) (s : LaidStatement) (a : ℕ) (d : Directive) → IsHeld s.located.home (Directs d) → DirectiveSize v s a d

@@ -7,7 +7,7 @@ use Rattle.rv_text_laws.specs.Expression.{Literal, Symbol, Here, Reference}
 use Rattle.rv_text_laws.specs.Values.{Meaning, Known, InSection, Open, Refused, Value, Constant, Symbolic, Difference, Faulty, add}
 use Rattle.rv_statement.specs.Statement.{StatementKind, Label, Numbered, Instruction, Directs, Statement, Expression, Directive, Sets}
 use Rattle.rv_unit_laws.specs.Sections.{Section, entered_by}
-use Rattle.rv_unit_laws.specs.Tables.{Tables, Labelled, Assignment, here, value, opened_of, stands, label_of, assigned_before, assigned_ever, assigned_first, assigned_later, labelled, own_named, assigned, assigned_by, is_defined, has_location, may_set, with_assignment, with_label, with_section, after_directive, after, after_all, at_start, tables, Definition, definition_at, assigned_definition, labelled_definition, first_definition}
+use Rattle.rv_unit_laws.specs.Tables.{Tables, Labelled, Assignment, here, value_by_tables, opened_of, stands, label_of, assigned_before, assigned_ever, assigned_first, assigned_later, labelled, own_named, assigned, assigned_by, is_defined, has_location, may_set, with_assignment, with_label, with_section, after_directive, after, after_all, at_start, tables, Definition, definition_at, assigned_definition, labelled_definition, first_definition}
 use Rattle.rv_unit_laws.proofs.AloneLemmas.{section_same, directive_same, other_label, undefined, unplaced}
 use Rattle.rv_unit_laws.proofs.BeforeLemmas.{IsBefore, before_sections, before_after, before_start, label_below, below}
 use Rattle.rv_unit_laws.proofs.EnteringLemmas.{with_new, entering}
@@ -87,7 +87,7 @@ entered_before t (Some section) o h =
 
 apart_directive : (t : Tables) (o : ℕ) (d : Directive) → IsBefore t o → IsApart t → IsApart (after_directive t o d)
 apart_directive t o d before h =
-    let v : Expression → Value = value t false o (here t) in
+    let v : Expression → Value = value_by_tables t false o (here t) in
     let entered = with_section t (entered_by d) in
     let named = with_assignment entered (assigned_by v o d) in
     let opens = section_same t (entered_by d) in

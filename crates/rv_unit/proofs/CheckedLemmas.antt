@@ -2,7 +2,7 @@
 
 use Rattle.std.proofs.Common.{◌≡◌, ℕ, suc, ◌+◌, List, ◌∷◌, drop, sym, ap, ◌∙◌, arith, Option, Some, None, option_map}
 use Rattle.rv_lexer.specs.declared.fault.SourceCode.{SourceCode}
-use Rattle.rv_lexer.specs.Fault.{number_of, IsLowest}
+use Rattle.rv_lexer.specs.Fault.{source_fault_number, IsLowest}
 use Rattle.rv_statement.specs.Statement.{Statement as SpecStatement}
 use Rattle.rv_unit_laws.specs.Tables.{after, tables}
 use Rattle.rv_text_laws.specs.Codes.{lowest}
@@ -27,5 +27,5 @@ check_found ss i code x next found =
 
 -- the lowest code of a statement, by what was found
 pub check_lowest : (ss : List SpecStatement) (i : ℕ) (x : SpecStatement) (found same : Option SourceCode) → IsLowest found (faults (tables ss) (passed ss i) (i + 1) x.kind) → found ≡ same
-    → lowest (faults (tables ss) (passed ss i) (i + 1) x.kind) ≡ option_map number_of same
-check_lowest ss i x found same low at = sym low ∙ ap (option_map number_of) at
+    → lowest (faults (tables ss) (passed ss i) (i + 1) x.kind) ≡ option_map source_fault_number same
+check_lowest ss i x found same low at = sym low ∙ ap (option_map source_fault_number) at

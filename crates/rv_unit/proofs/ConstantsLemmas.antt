@@ -1,11 +1,11 @@
 -- An expression whose constant is wanted has it by the statements before it alone, and by all of the source.
 
 use Rattle.std.proofs.Common.{◌≡◌, ℕ, ◌+◌, ◌<◌, ◌≤◌, true, false, List, length, drop, refl, sym, Option, Some, None}
-use Rattle.rv_text_laws.specs.Bytes.{value as digits_value}
+use Rattle.rv_text_laws.specs.Bytes.{digits_value as digits_value}
 use Rattle.rv_text_laws.specs.Expression.{Literal, Symbol, Here, Reference}
 use Rattle.rv_text_laws.specs.Values.{Constant}
 use Rattle.rv_statement.specs.Statement.{Statement, Expression}
-use Rattle.rv_unit_laws.specs.Tables.{Tables, SectionOffset, NumericLabel, at_start, tables, after_all, numeric_label_after, forward_in, meaning, value, opened_of}
+use Rattle.rv_unit_laws.specs.Tables.{Tables, SectionOffset, NumericLabel, at_start, tables, after_all, numeric_label_after, forward_in, meaning, value_by_tables, opened_of}
 use Rattle.rv_unit_laws.proofs.BeforeLemmas.{before_all, before_start}
 use Rattle.rv_unit_laws.proofs.SettledLemmas.{Agree, is_settled, constant_same, constant_later}
 use Rattle.rv_unit.specs.Unit.{passed}
@@ -26,11 +26,11 @@ module _ (ss : List Statement) (i : ℕ) (p : SectionOffset) (within : i ≤ len
   past_agrees (Reference digits false) e = sym (past_back ss i p digits within)
 
   -- by the statements before it
-  pub constant_past : (e : Expression) (n : ℕ) → value (tables ss) false (i + 1) p e ≡ Constant n → value (passed ss i) false (i + 1) p e ≡ Constant n
+  pub constant_past : (e : Expression) (n : ℕ) → value_by_tables (tables ss) false (i + 1) p e ≡ Constant n → value_by_tables (passed ss i) false (i + 1) p e ≡ Constant n
   constant_past e n is = constant_same (λ q. meaning (tables ss) false (i + 1) p q) (λ q. meaning (passed ss i) false (i + 1) p q) past_agrees e n is
 
 -- by all of the source
-pub constant_whole : (ss : List Statement) (at : ℕ) (p : SectionOffset) (e : Expression) (n : ℕ) → value (tables ss) false at p e ≡ Constant n → value (tables ss) true at p e ≡ Constant n
+pub constant_whole : (ss : List Statement) (at : ℕ) (p : SectionOffset) (e : Expression) (n : ℕ) → value_by_tables (tables ss) false at p e ≡ Constant n → value_by_tables (tables ss) true at p e ≡ Constant n
 constant_whole ss at p e n is = constant_later (tables ss) (1 + length ss) at (before_all (at_start ss) 1 ss (before_start ss 1)) p e n is
 
 -- the tables of a source by those of its first statements

@@ -6,9 +6,9 @@ use Rattle.rv_text_laws.specs.declared.operator.UnaryOperator.TheVariants.{Negat
 use Rattle.rv_text_laws.specs.declared.operator.BinaryOperator.{BinaryOperator}
 use Rattle.rv_text_laws.specs.declared.operator.BinaryOperator.TheVariants.{Multiply, Divide, Remainder, ShiftLeft, ShiftRight, Or, And, ExclusiveOr, Add, Subtract}
 use Rattle.rv_text_laws.specs.Expression.{Primary, Literal, Symbol, Here, Reference, Tree, Leaf, Unary, Paren, Binary}
-use Rattle.rv_text_laws.specs.Values.{Meaning, Known, InSection, Open, Refused, Value, Constant, Symbolic, Difference, Faulty, add, subtract, arithmetic, apart, sum, difference, constants, both, alone, value_of}
+use Rattle.rv_text_laws.specs.Values.{Meaning, Known, InSection, Open, Refused, Value, Constant, Symbolic, Difference, Faulty, add, subtract, arithmetic, apart, sum, difference, constants_alone, both, unary_value, value_of}
 use Rattle.rv_unit_laws.specs.Faults.{value_faults}
-use Rattle.rv_unit_laws.specs.Tables.{Tables, SectionOffset, named, value}
+use Rattle.rv_unit_laws.specs.Tables.{Tables, SectionOffset, named, value_by_tables}
 use Rattle.rv_unit.specs.Faults.{open_meaning, is_difference}
 use Rattle.rv_unit.proofs.PlacesLemmas.{named_place, symbolic_place}
 
@@ -108,8 +108,8 @@ difference_shows (Faulty c) (Symbolic r bt j) w1 w2 e f = tt
 difference_shows (Faulty c) (Difference r s j) w1 w2 e f = tt
 difference_shows (Faulty c) (Faulty d) w1 w2 e f = tt
 
-constants_shows : (o : BinaryOperator) (v1 v2 w1 w2 : Value) → Shows v1 w1 → Shows v2 w2 → Shows (constants o v1 v2) (constants o w1 w2)
-constants_shows o (Constant a) (Constant b) w1 w2 e f = plain_shows (arithmetic o a b) (constants o w1 w2) (arithmetic_plain o a b) (ap (λ (w : Value). constants o w w2) e ∙ ap (constants o (Constant a)) f)
+constants_shows : (o : BinaryOperator) (v1 v2 w1 w2 : Value) → Shows v1 w1 → Shows v2 w2 → Shows (constants_alone o v1 v2) (constants_alone o w1 w2)
+constants_shows o (Constant a) (Constant b) w1 w2 e f = plain_shows (arithmetic o a b) (constants_alone o w1 w2) (arithmetic_plain o a b) (ap (λ (w : Value). constants_alone o w w2) e ∙ ap (constants_alone o (Constant a)) f)
 constants_shows o (Constant a) (Symbolic r bt j) w1 w2 e f = tt
 constants_shows o (Constant a) (Difference r s j) w1 w2 e f = tt
 constants_shows o (Constant a) (Faulty d) w1 w2 e f = tt
@@ -138,28 +138,28 @@ both_shows Or v1 v2 w1 w2 e f = constants_shows Or v1 v2 w1 w2 e f
 both_shows And v1 v2 w1 w2 e f = constants_shows And v1 v2 w1 w2 e f
 both_shows ExclusiveOr v1 v2 w1 w2 e f = constants_shows ExclusiveOr v1 v2 w1 w2 e f
 
-alone_shows : (o : UnaryOperator) (v w : Value) → Shows v w → Shows (alone o v) (alone o w)
+alone_shows : (o : UnaryOperator) (v w : Value) → Shows v w → Shows (unary_value o v) (unary_value o w)
 alone_shows Keep v w e = e
-alone_shows Negate (Constant a) w e = ap (alone Negate) e
+alone_shows Negate (Constant a) w e = ap (unary_value Negate) e
 alone_shows Negate (Symbolic p at k) w e = tt
 alone_shows Negate (Difference p q k) w e = tt
 alone_shows Negate (Faulty code) w e = tt
-alone_shows Complement (Constant a) w e = ap (alone Complement) e
+alone_shows Complement (Constant a) w e = ap (unary_value Complement) e
 alone_shows Complement (Symbolic p at k) w e = tt
 alone_shows Complement (Difference p q k) w e = tt
 alone_shows Complement (Faulty code) w e = tt
 
-value_shows : (t : Tables) (o : ℕ) (p : SectionOffset) → t.assignments ≡ [] → (e : Tree) → Shows (value_of open_meaning e) (value t true o p e)
+value_shows : (t : Tables) (o : ℕ) (p : SectionOffset) → t.assignments ≡ [] → (e : Tree) → Shows (value_of open_meaning e) (value_by_tables t true o p e)
 value_shows t o p none (Leaf (Literal number)) = refl
 value_shows t o p none (Leaf (Symbol name)) =
     let found = symbolic_place (Symbol name) (named t true o name) (named_place t o name none) in
     (refl, found.0, found.1)
 value_shows t o p none (Leaf Here) = tt
 value_shows t o p none (Leaf (Reference digits forward)) = tt
-value_shows t o p none (Unary op x) = alone_shows op (value_of open_meaning x) (value t true o p x) (value_shows t o p none x)
+value_shows t o p none (Unary op x) = alone_shows op (value_of open_meaning x) (value_by_tables t true o p x) (value_shows t o p none x)
 value_shows t o p none (Paren x) = value_shows t o p none x
 value_shows t o p none (Binary op x y) =
-    both_shows op (value_of open_meaning x) (value_of open_meaning y) (value t true o p x) (value t true o p y) (value_shows t o p none x) (value_shows t o p none y)
+    both_shows op (value_of open_meaning x) (value_of open_meaning y) (value_by_tables t true o p x) (value_by_tables t true o p y) (value_shows t o p none x) (value_shows t o p none y)
 
 shown_faults : (width : ℕ) (v w : Value) → is_difference v ≡ true → Shows v w → value_faults width w ≡ []
 shown_faults width (Difference p q k) w h (inl e) = ap (value_faults width) e
@@ -168,5 +168,5 @@ shown_faults width (Constant a) w h e = absurd (cc)
 shown_faults width (Symbolic p at k) w h e = absurd (cc)
 shown_faults width (Faulty code) w h e = absurd (cc)
 
-pub distance_faults : (t : Tables) (o : ℕ) (p : SectionOffset) (width : ℕ) (e : Tree) → t.assignments ≡ [] → is_difference (value_of open_meaning e) ≡ true → value_faults width (value t true o p e) ≡ []
-distance_faults t o p width e none h = shown_faults width (value_of open_meaning e) (value t true o p e) h (value_shows t o p none e)
+pub distance_faults : (t : Tables) (o : ℕ) (p : SectionOffset) (width : ℕ) (e : Tree) → t.assignments ≡ [] → is_difference (value_of open_meaning e) ≡ true → value_faults width (value_by_tables t true o p e) ≡ []
+distance_faults t o p width e none h = shown_faults width (value_of open_meaning e) (value_by_tables t true o p e) h (value_shows t o p none e)

@@ -4,12 +4,12 @@ use Rattle.std.proofs.lemmas.Bool.{eqb-true}
 use Rattle.std.proofs.Common.{◌≡◌, ◌==◌, ℕ, Bool, true, false, cond, List, [], ◌∷◌, length, refl, sym, ◌∙◌, ap, arith, Option, None, Some}
 use Rattle.rv_text_laws.specs.Expression.{Node, Primary, Symbol, tree_of}
 use Rattle.rv_text_laws.specs.Values.{Meaning, Known, InSection, Open, Refused, Symbolic, meant}
-use Rattle.rv_text.specs.Expr.{alone}
+use Rattle.rv_text.specs.Expr.{lone_primary}
 use Rattle.rv_text.proofs.EvalsLemmas.{lone_value}
 use Rattle.rv_statement.specs.declared.directive.Binding.{Binding}
 use Rattle.rv_unit_laws.specs.Bindings.{is_weak}
 use Rattle.rv_unit_laws.specs.Sections.{Opened, section_at}
-use Rattle.rv_unit_laws.specs.Tables.{Tables, SectionOffset, Labelled, Assignment, labelled, label_of, assigned_first, assigned_before, assigned_later, assigned_ever, own_named, weakened, named, opened_of, meaning, value}
+use Rattle.rv_unit_laws.specs.Tables.{Tables, SectionOffset, Labelled, Assignment, labelled, label_of, assigned_first, assigned_before, assigned_later, assigned_ever, own_named, weakened, named, opened_of, meaning, value_by_tables}
 
 -- a meaning that is no number and no fault
 abbrev is_place : Meaning → Bool
@@ -45,11 +45,11 @@ symbolic_place q (Known number) e = absurd (cc)
 symbolic_place q (Refused code) e = absurd (cc)
 
 -- the value of a name is the name
-pub name_value : (t : Tables) (o : ℕ) (p : SectionOffset) (name : List ℕ) (ns : List Node) → t.assignments ≡ [] → ns ≡ alone (Symbol name)
-    → (at : Meaning) × (value t true o p (tree_of ns) ≡ Symbolic (Symbol name) at 0)
+pub name_value : (t : Tables) (o : ℕ) (p : SectionOffset) (name : List ℕ) (ns : List Node) → t.assignments ≡ [] → ns ≡ lone_primary (Symbol name)
+    → (at : Meaning) × (value_by_tables t true o p (tree_of ns) ≡ Symbolic (Symbol name) at 0)
 name_value t o p name ns none is =
     let found = symbolic_place (Symbol name) (named t true o name) (named_place t o name none) in
-    (found.0, ap (λ (l : List Node). value t true o p (tree_of l)) is ∙ lone_value (λ q. meaning t true o p q) (Symbol name) ∙ found.1)
+    (found.0, ap (λ (l : List Node). value_by_tables t true o p (tree_of l)) is ∙ lone_value (λ q. meaning t true o p q) (Symbol name) ∙ found.1)
 
 pub no_items : {X : Type 0} (xs : List X) (b : Bool) → b ≡ (length xs == 0) → b ≡ true → xs ≡ []
 no_items [] b is e = refl

@@ -4,8 +4,8 @@ use Rattle.std.specs.Prelude.{◌≡◌, ◌⊎◌, ℕ, ◌+◌, ◌<◌, ◌�
 use Rattle.rv_lexer.specs.declared.fault.SourceFault.{SourceFault}
 use Rattle.rv_lexer.specs.declared.fault.SourceFault.TheVariants as refusals
 use Rattle.rv_lexer.specs.declared.fault.SourceCode.{SourceCode}
-use Rattle.rv_lexer.specs.Fault.{number_of}
-use Rattle.rv_unit_laws.specs.Faults.{StatementFault, first_fault}
+use Rattle.rv_lexer.specs.Fault.{source_fault_number}
+use Rattle.rv_unit_laws.specs.Faults.{StatementFault, first_unit_fault}
 use Rattle.rv_statement.specs.Statement.{Statement, StatementKind}
 use Rattle.rv_statement.specs.Statements.{statements_of}
 use Rattle.rv_unit_laws.specs.Tables as laws
@@ -57,10 +57,10 @@ pub record IsScope (s : Scope) (index : ℕ) : Type 0 where
 
 -- a fault by its code and its line
 abbrev pub fault_of : SourceCode × ℕ → StatementFault
-fault_of f = record { code = number_of f.0; line = f.1 }
+fault_of f = record { code = source_fault_number f.0; line = f.1 }
 
 -- the first fault that a refusal names, unless memory ran out
 abbrev pub NamesFirst : SourceFault → List Statement → Type 0
 NamesFirst (refusals.At code line) ss =
-    first_fault ss ≡ Some (record { code = number_of code; line = line })
+    first_unit_fault ss ≡ Some (record { code = source_fault_number code; line = line })
 NamesFirst refusals.OutOfMemory ss = Unit {0}

@@ -8,7 +8,7 @@ ghost use Rattle.rv_text.specs.Expr.{tree_of_expr};
 ghost use Rattle.rv_statement.specs.Limits.{most_statements};
 ghost use Rattle.rv_statement.specs.Statement.{Operand as SpecOperand, Instruction, Label, Directs, Zeros, Aligns_to_power, Aligns_to_bytes, Values, Strings};
 ghost use Rattle.rv_statement.specs.declared.mnemonic.Mnemonic.{Mnemonic as SpecMnemonic};
-ghost use Rattle.rv_statement.specs.View.{bytes_of, quoted, setting_of, statement_kind};
+ghost use Rattle.rv_statement.specs.View.{width_bytes, quoted, setting_of, statement_kind};
 ghost use Rattle.rv_unit_laws.specs.Faults as faults;
 ghost use Rattle.rv_unit_laws.specs.Tables as laws;
 ghost use Rattle.rv_unit_laws.proofs.AskedLemmas.{depth_after as depth_then};
@@ -150,7 +150,8 @@ impl<'a> Unit<'a> {
     fn is_distance(&self, value: &Expr<'a>) -> bool
         ensures { (width o : ℕ) (p : laws.SectionOffset) → IsFilled self.now → result ≡ true
             → faults.value_faults width
-            (laws.value (laws.tables (said self.now)) true o p (tree_of_expr value.now)) ≡ [] }
+            (laws.value_by_tables (laws.tables (said self.now)) true o p (tree_of_expr value.now))
+            ≡ [] }
     {
         if !self.sets_none() {
             return false;
@@ -162,7 +163,8 @@ impl<'a> Unit<'a> {
     fn is_faultless(&self, value: &Expr<'a>) -> bool
         ensures { (width o : ℕ) (p : laws.SectionOffset) → IsFilled self.now → result ≡ true
             → faults.value_faults width
-            (laws.value (laws.tables (said self.now)) true o p (tree_of_expr value.now)) ≡ [] }
+            (laws.value_by_tables (laws.tables (said self.now)) true o p (tree_of_expr value.now))
+            ≡ [] }
     {
         match value {
             Expr::Number(_) => true,
@@ -180,8 +182,8 @@ impl<'a> Unit<'a> {
         value: &Expr<'a>,
     ) -> Option<SourceCode>
         ensures { (o : ℕ) → IsFilled self.now → ordinal ≡ o
-            → IsLowest result (faults.value_faults (bytes_of width)
-            (laws.value (laws.tables (said self.now)) true o (offset_of place)
+            → IsLowest result (faults.value_faults (width_bytes width)
+            (laws.value_by_tables (laws.tables (said self.now)) true o (offset_of place)
             (tree_of_expr value.now))) }
     {
         if self.is_faultless(value) {
@@ -201,8 +203,8 @@ impl<'a> Unit<'a> {
     ) -> Option<SourceCode>
         ensures { (o : ℕ) → IsFilled self.now → ordinal ≡ o
             → IsLowest result (flat_map
-            (λ e. faults.value_faults (bytes_of width)
-            (laws.value (laws.tables (said self.now)) true o (offset_of place) e))
+            (λ e. faults.value_faults (width_bytes width)
+            (laws.value_by_tables (laws.tables (said self.now)) true o (offset_of place) e))
             (map tree_of_expr values.now)) }
     {
         let mut found = None;
@@ -222,10 +224,10 @@ impl<'a> Unit<'a> {
     ) -> Option<SourceCode>
         ensures { (index : ℕ) →
             IsStatementOf self.now index ordinal place
-            (Directs (Values (bytes_of width) (map tree_of_expr values.now)))
+            (Directs (Values (width_bytes width) (map tree_of_expr values.now)))
             → IsLowest result
             (directive_faults_at self.now index
-            (Values (bytes_of width) (map tree_of_expr values.now))) }
+            (Values (width_bytes width) (map tree_of_expr values.now))) }
     {
         let each = self.fault_of_each(ordinal, place, width, values);
         let bytes = values_size(width, values.len());
@@ -334,7 +336,7 @@ impl<'a> Unit<'a> {
     /// The first fault of the statements, with its line: a label's, a directive's, or that of an instruction outside code.
     pub(crate) fn first_fault(&self) -> Option<(SourceCode, u32)>
         requires { IsFilled self.now }
-        ensures { option_map fault_of result ≡ faults.first_fault (said self.now) }
+        ensures { option_map fault_of result ≡ faults.first_unit_fault (said self.now) }
     {
         let statements = self.statements();
         let places = self.places();

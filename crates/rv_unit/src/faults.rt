@@ -7,7 +7,7 @@
 ghost use Rattle.std.specs.Prelude.{◌≡◌, ◌<◌, ◌+◌, ℕ, List, ◌++◌, Option, Some, None, not, ◌&&◌, ◌||◌, ◌==◌};
 ghost use Rattle.rv_text_laws.specs.Codes as codes;
 ghost use Rattle.rv_text_laws.specs.Codes.{duplicate_label, wrong_section};
-ghost use Rattle.rv_lexer.specs.Fault.{number_of, IsLowest};
+ghost use Rattle.rv_lexer.specs.Fault.{source_fault_number, IsLowest};
 ghost use Rattle.rv_unit_laws.specs.Sections.{is_nobits};
 ghost use Rattle.rv_unit_laws.specs.Faults as laws;
 ghost use Rattle.rv_unit_laws.specs.Tables as tables;
@@ -39,7 +39,7 @@ pub(crate) fn lower(one: Option<SourceCode>, other: Option<SourceCode>) -> Optio
 
 /// The code, where it is a fault.
 pub(crate) fn faulty_if(test: bool, code: SourceCode) -> Option<SourceCode>
-    ensures { IsLowest result (codes.faulty_if test (number_of code)) }
+    ensures { IsLowest result (codes.faulty_if test (source_fault_number code)) }
 {
     if test { Some(code) } else { None }
 }

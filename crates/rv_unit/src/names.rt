@@ -8,11 +8,11 @@
 //! A weak name has no place in any of them, as another file's may stand for it.
 
 ghost use Rattle.std.specs.Prelude.{◌≡◌, ℕ, ◌+◌, ◌≤◌, ◌<◌, ◌||◌, true, false, [], is_some, length, IfSome};
-ghost use Rattle.rv_text_laws.specs.Bytes.{value as digits_value};
+ghost use Rattle.rv_text_laws.specs.Bytes.{digits_value as digits_value};
 ghost use Rattle.rv_text_laws.specs.Expression.{Symbol as SymbolOf};
 ghost use Rattle.rv_text_laws.specs.Values.{Open};
 ghost use Rattle.rv_text.specs.Nodes.{symbol_of};
-ghost use Rattle.rv_text.specs.Expr.{alone, expr_of, tree_of_expr};
+ghost use Rattle.rv_text.specs.Expr.{lone_primary, expr_of, tree_of_expr};
 ghost use Rattle.rv_text.specs.Eval.{meaning_of, IsOutcome};
 ghost use Rattle.rv_unit_laws.specs.Tables as laws;
 ghost use Rattle.rv_unit_laws.proofs.BeforeLemmas.{IsBefore};
@@ -50,7 +50,7 @@ impl<'a> Unit<'a> {
     /// The name that an expression is, where none is set: it is then no number, and has no fault.
     fn placed_name<'e>(&self, expression: &Expr<'e>) -> Option<&'e [u8]>
         ensures name { IfSome result
-            (λ name. expr_of expression.now ≡ alone (SymbolOf name.now)) }
+            (λ name. expr_of expression.now ≡ lone_primary (SymbolOf name.now)) }
         ensures none { IfSome result (λ _. (self.now).tables.assignments.items ≡ []) }
     {
         if !self.sets_none() {
@@ -73,7 +73,7 @@ impl<'a> Unit<'a> {
     ) -> Result<Value<'e>, SourceFault>
         ensures { (o : ℕ) → IsFilled self.now → ordinal ≡ o →
             IsOutcome result line
-            (laws.value (laws.tables (said self.now)) true o (offset_of place)
+            (laws.value_by_tables (laws.tables (said self.now)) true o (offset_of place)
             (tree_of_expr expression.now)) }
     {
         if let Some(name) = self.placed_name(expression) {
@@ -199,7 +199,7 @@ impl<'a> Unit<'a> {
     ) -> Result<Value<'a>, SourceFault>
         ensures { (o : ℕ) → IsFilled self.now → ordinal ≡ o →
             IsOutcome result 0
-            (laws.value (laws.tables (said self.now)) false o (offset_of place)
+            (laws.value_by_tables (laws.tables (said self.now)) false o (offset_of place)
             (tree_of_expr expression.now)) }
     {
         eval(
@@ -316,7 +316,7 @@ impl<'a> Unit<'a> {
             ordinal ≡ index + 1 →
             place.section < length (laws.opened_of (passed (said self.now) index)).sections
             → IsOutcome result 0
-            (laws.value (passed (said self.now) index) false (index + 1) (offset_of place)
+            (laws.value_by_tables (passed (said self.now) index) false (index + 1) (offset_of place)
             (tree_of_expr expression.now)) }
     {
         eval(

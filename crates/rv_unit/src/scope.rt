@@ -188,7 +188,7 @@ impl<'u, 'a> Scope<'u, 'a> {
     ) -> Result<Value<'e>, SourceFault>
         ensures { (index : ℕ) → IsFilled (self.now).unit.now → IsScope self.now index →
             IsOutcome result line
-            (laws.value (laws.tables (said (self.now).unit.now)) true (index + 1)
+            (laws.value_by_tables (laws.tables (said (self.now).unit.now)) true (index + 1)
             (offset_of place) (tree_of_expr expression.now)) }
     {
         match expression {
@@ -205,7 +205,7 @@ impl<'u, 'a> Scope<'u, 'a> {
             → result
             ≡ laws.gives_location
             (laws.assigned (assignment.now).name.now (index + 1)
-            (laws.value (passed (said (self.now).unit.now) index) false (index + 1)
+            (laws.value_by_tables (passed (said (self.now).unit.now) index) false (index + 1)
             (laws.here (passed (said (self.now).unit.now) index))
             (tree_of_expr (assignment.now).expression))) }
     {

@@ -4,7 +4,7 @@ ghost use Rattle.std.specs.Prelude.{◌≡◌, ◌<◌, ◌≤◌, Some, None, l
 ghost use Rattle.rv_text_laws.specs.Codes.{limit};
 ghost use Rattle.rv_statement.specs.Limits.{most_statements};
 ghost use Rattle.rv_statement.specs.Statements.{statements_of};
-ghost use Rattle.rv_unit_laws.specs.Faults.{first_fault};
+ghost use Rattle.rv_unit_laws.specs.Faults.{first_unit_fault};
 ghost use Rattle.rv_unit_laws.specs.Tables.{tables, assigned_ever};
 ghost use Rattle.rv_unit_tables.specs.Options.{options_of};
 ghost use Rattle.rv_unit_tables.specs.Tables.{tables_of, assignment_of};
@@ -28,7 +28,7 @@ pub struct Unit<'a> {
 /// The line of the first statement that is too many.
 fn line_past_most(statements: &Statements<'_>) -> Option<u32>
     ensures past { IfSome result
-        (λ line. first_fault (statements_of statements.now)
+        (λ line. first_unit_fault (statements_of statements.now)
         ≡ Some (record { code = limit; line = line })) }
     ensures few { IfNone result (length (statements_of statements.now) ≤ most_statements) }
 {
@@ -47,7 +47,7 @@ impl<'a> Unit<'a> {
     pub fn build(alloc: Global, statements: Statements<'a>) -> Result<Unit<'a>, SourceFault>
         ensures filled { IfOk result (λ u. IsFilled u) }
         ensures same { IfOk result (λ u. u.statements ≡ statements.entry) }
-        ensures good { IfOk result (λ u. first_fault (said u) ≡ None) }
+        ensures good { IfOk result (λ u. first_unit_fault (said u) ≡ None) }
         ensures refuses { IfErr result
             (λ e. NamesFirst e (statements_of statements.entry)) }
     {

@@ -12,7 +12,7 @@ use Rattle.rv_statement.specs.declared.directive.Choice.{Choice}
 use Rattle.rv_statement.specs.Statement.{Expression, Directive}
 use Rattle.rv_unit_laws.specs.Sections.{Section, entered_by}
 use Rattle.rv_unit_laws.specs.Contributions.{Contribution, Nothing, contribution}
-use Rattle.rv_unit_laws.specs.Tables.{Tables, Labelled, here, value, label_of, assigned_ever, is_defined, has_location, assigned_by, chosen, with_assignment, with_section, with_chosen, with_contribution, after_directive, gives_location}
+use Rattle.rv_unit_laws.specs.Tables.{Tables, Labelled, here, value_by_tables, label_of, assigned_ever, is_defined, has_location, assigned_by, choice_in, with_assignment, with_section, with_chosen, with_contribution, after_directive, gives_location}
 use Rattle.rv_unit_laws.proofs.EnteringLemmas.{entering}
 use Rattle.rv_unit_laws.proofs.FoundLemmas.{same_bytes}
 use Rattle.rv_unit_laws.proofs.BeforeLemmas.{IsBefore, has_place_now, defined_now}
@@ -38,11 +38,11 @@ contribution_same t v Nothing = (refl, refl)
 contribution_same t v _ = (refl, refl)
 
 -- but for a name that it sets
-pub directive_same : (t : Tables) (k : ℕ) (d : Directive) → Same (with_assignment (with_section t (entered_by d)) (assigned_by (value t false k (here t)) k d)) (after_directive t k d)
+pub directive_same : (t : Tables) (k : ℕ) (d : Directive) → Same (with_assignment (with_section t (entered_by d)) (assigned_by (value_by_tables t false k (here t)) k d)) (after_directive t k d)
 directive_same t k d =
-    let v : Expression → Value = value t false k (here t) in
+    let v : Expression → Value = value_by_tables t false k (here t) in
     let named = with_assignment (with_section t (entered_by d)) (assigned_by v k d) in
-    let both = joined named (with_chosen named (chosen d)) (with_contribution (with_chosen named (chosen d)) v (contribution d)) (chosen_same named (chosen d)) (contribution_same (with_chosen named (chosen d)) v (contribution d)) in
+    let both = joined named (with_chosen named (choice_in d)) (with_contribution (with_chosen named (choice_in d)) v (contribution d)) (chosen_same named (choice_in d)) (contribution_same (with_chosen named (choice_in d)) v (contribution d)) in
     (both.0, both.1)
 
 -- ---- a name that a statement defines

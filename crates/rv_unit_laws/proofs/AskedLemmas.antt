@@ -10,7 +10,7 @@ use Rattle.rv_statement.specs.declared.directive.Choice.TheVariants.{Rvc, Norvc,
 use Rattle.rv_unit_laws.specs.Sections.{Section, Opened, place_of_name, most_sections, text_section, entered_by, section_at, current_section}
 use Rattle.rv_unit_laws.specs.Options.{Options}
 use Rattle.rv_unit_laws.specs.Contributions.{Contribution, Nothing, contribution}
-use Rattle.rv_unit_laws.specs.Tables.{Tables, SectionOffset, Assignment, here, stood, places_from, options_from, value, assigned_by, chosen, label_of, assigned_before, is_defined, has_location, may_set, with_assignment, with_section, with_contribution, with_choice, with_chosen, after_directive, after, after_all, opened_of, gives_location}
+use Rattle.rv_unit_laws.specs.Tables.{Tables, SectionOffset, Assignment, here, stood, places_from, options_from, value_by_tables, assigned_by, choice_in, label_of, assigned_before, is_defined, has_location, may_set, with_assignment, with_section, with_contribution, with_choice, with_chosen, after_directive, after, after_all, opened_of, gives_location}
 use Rattle.rv_unit_laws.proofs.BeforeLemmas.{IsBefore, label_before, set_now, has_place_now}
 use Rattle.rv_unit_laws.proofs.EnteringLemmas.{place_more, or_last, sections_more, sections_count, entering, entered_new}
 use Rattle.rv_unit_laws.proofs.FoundLemmas.{bytes_same}
@@ -140,7 +140,7 @@ depth_by depth (Some choice) = depth_chosen depth choice
 
 -- and after a statement
 abbrev pub depth_after : ℕ → StatementKind → ℕ
-depth_after depth (Directs directive) = depth_by depth (chosen directive)
+depth_after depth (Directs directive) = depth_by depth (choice_in directive)
 depth_after depth _ = depth
 
 if_kept : (b : Bool) (t u : Tables) (kept : List Options) → t.kept ≡ kept → u.kept ≡ kept → (if b then t else u).kept ≡ kept
@@ -176,14 +176,14 @@ contribution_kept : (t : Tables) (v : Expression → Value) (c : Contribution) �
 contribution_kept t v Nothing = refl
 contribution_kept t v _ = refl
 
-directive_depth : (t : Tables) (o : ℕ) (d : Directive) → length (after_directive t o d).kept ≡ depth_by (length t.kept) (chosen d)
+directive_depth : (t : Tables) (o : ℕ) (d : Directive) → length (after_directive t o d).kept ≡ depth_by (length t.kept) (choice_in d)
 directive_depth t o d =
-    let v : Expression → Value = value t false o (here t) in
+    let v : Expression → Value = value_by_tables t false o (here t) in
     let entered = with_section t (entered_by d) in
     let named = with_assignment entered (assigned_by v o d) in
-    ap (λ l. length l) (contribution_kept (with_chosen named (chosen d)) v (contribution d))
-    ∙ chosen_depth named (chosen d)
-    ∙ ap (λ l. depth_by (length l) (chosen d)) (set_kept entered (assigned_by v o d) ∙ section_kept t (entered_by d))
+    ap (λ l. length l) (contribution_kept (with_chosen named (choice_in d)) v (contribution d))
+    ∙ chosen_depth named (choice_in d)
+    ∙ ap (λ l. depth_by (length l) (choice_in d)) (set_kept entered (assigned_by v o d) ∙ section_kept t (entered_by d))
 
 pub after_depth : (t : Tables) (o : ℕ) (s : StatementKind) → length (after t o s).kept ≡ depth_after (length t.kept) s
 after_depth t o (Label name) = ap (λ l. length l) (if_kept (is_defined t o name) t _ t.kept refl refl)

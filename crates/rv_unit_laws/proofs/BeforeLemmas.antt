@@ -12,7 +12,7 @@ use Rattle.rv_statement.specs.Statement.{StatementKind, Label, Numbered, Instruc
 use Rattle.rv_statement.specs.declared.directive.Choice.{Choice}
 use Rattle.rv_unit_laws.specs.Sections.{Section, entered_by}
 use Rattle.rv_unit_laws.specs.Contributions.{Contribution, Nothing, Bytes, Zero_bytes, Alignment, contribution}
-use Rattle.rv_unit_laws.specs.Tables.{Tables, Labelled, NumericLabel, Assignment, at_start, here, after, after_directive, after_all, value, assigned, assigned_by, chosen, with_label, with_numeric_label, with_assignment, with_section, with_contribution, with_choice, with_chosen, label_of, assigned_before, assigned_ever, has_location, is_defined, may_set, is_location, gives_location}
+use Rattle.rv_unit_laws.specs.Tables.{Tables, Labelled, NumericLabel, Assignment, at_start, here, after, after_directive, after_all, value_by_tables, assigned, assigned_by, choice_in, with_label, with_numeric_label, with_assignment, with_section, with_contribution, with_choice, with_chosen, label_of, assigned_before, assigned_ever, has_location, is_defined, may_set, is_location, gives_location}
 use Rattle.rv_unit_laws.proofs.EnteringLemmas.{with_new, entering}
 use Rattle.rv_unit_laws.proofs.FoundLemmas.{find_all, find_all_swapped, any_all, find_none, all_weaker, same_bytes}
 pub use Rattle.rv_unit_laws.specs.Tables.{gives_location as placed_latest}
@@ -287,11 +287,11 @@ before_contribution t v (Alignment form number) o h = before_sections t (with_co
 
 before_directive : (t : Tables) (o : ℕ) (d : Directive) → IsBefore t o → IsBefore (after_directive t o d) (suc o)
 before_directive t o d h =
-    let v : Expression → Value = value t false o (here t) in
+    let v : Expression → Value = value_by_tables t false o (here t) in
     let entered = with_section t (entered_by d) in
     let named = with_assignment entered (assigned_by v o d) in
-    before_contribution (with_chosen named (chosen d)) v (contribution d) (suc o)
-    (before_chosen named (chosen d) (suc o) (before_named entered o v d (before_section t (entered_by d) o h)))
+    before_contribution (with_chosen named (choice_in d)) v (contribution d) (suc o)
+    (before_chosen named (choice_in d) (suc o) (before_named entered o v d (before_section t (entered_by d) o h)))
 
 -- the tables after a statement are before the next
 pub before_after : (t : Tables) (o : ℕ) (s : StatementKind) → IsBefore t o → IsBefore (after t o s) (suc o)

@@ -8,7 +8,7 @@ use Rattle.rv_statement.specs.declared.directive.Choice.{Choice}
 use Rattle.rv_unit_laws.specs.Bindings.{Bindings}
 use Rattle.rv_unit_laws.specs.Sections.{Section, entered_by}
 use Rattle.rv_unit_laws.specs.Contributions.{Contribution, Nothing, contribution}
-use Rattle.rv_unit_laws.specs.Tables.{Tables, Assignment, here, value, assigned_by, chosen, may_set, is_defined, with_assignment, with_section, with_chosen, with_contribution, after_directive, after, after_all}
+use Rattle.rv_unit_laws.specs.Tables.{Tables, Assignment, here, value_by_tables, assigned_by, choice_in, may_set, is_defined, with_assignment, with_section, with_chosen, with_contribution, after_directive, after, after_all}
 use Rattle.rv_unit_laws.proofs.EnteringLemmas.{entering}
 
 if_bound : (b : Bool) (t u : Tables) (bindings : Bindings) → t.bindings ≡ bindings → u.bindings ≡ bindings → (if b then t else u).bindings ≡ bindings
@@ -33,10 +33,10 @@ contribution_bound t v _ = refl
 
 directive_bound : (t : Tables) (o : ℕ) (d : Directive) → (after_directive t o d).bindings ≡ t.bindings
 directive_bound t o d =
-    let v : Expression → Value = value t false o (here t) in
+    let v : Expression → Value = value_by_tables t false o (here t) in
     let entered = with_section t (entered_by d) in
     let named = with_assignment entered (assigned_by v o d) in
-    contribution_bound (with_chosen named (chosen d)) v (contribution d) ∙ chosen_bound named (chosen d)
+    contribution_bound (with_chosen named (choice_in d)) v (contribution d) ∙ chosen_bound named (choice_in d)
     ∙ set_bound entered (assigned_by v o d) ∙ section_bound t (entered_by d)
 
 bound_after : (t : Tables) (o : ℕ) (s : StatementKind) → (after t o s).bindings ≡ t.bindings

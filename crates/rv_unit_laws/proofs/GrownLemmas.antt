@@ -12,7 +12,7 @@ use Rattle.rv_statement.specs.Statement.{StatementKind, Label, Numbered, Instruc
 use Rattle.rv_statement.specs.declared.directive.Choice.{Choice}
 use Rattle.rv_unit_laws.specs.Sections.{Section, text_section, current_section, entered_by}
 use Rattle.rv_unit_laws.specs.Contributions.{AlignmentForm, As_power, As_bytes, Contribution, Nothing, Bytes, Zero_bytes, Alignment, contribution}
-use Rattle.rv_unit_laws.specs.Tables.{Tables, Assignment, at_start, here, value, is_power, is_power_below, greatest_alignment, alignment_of, power_alignment, byte_alignment, alignment_as, contribution_alignment, or_none, data_bytes, contributed, counted_in, changed_at, is_defined, may_set, with_assignment, with_section, with_data, with_contribution, with_choice, with_chosen, with_numeric_label, assigned_by, chosen, after, after_directive, after_all, opened_of, ends_of, alignments_of, Extent, least_alignment, empty_extent, extended}
+use Rattle.rv_unit_laws.specs.Tables.{Tables, Assignment, at_start, here, value_by_tables, is_power, is_power_below, greatest_alignment, alignment_of, power_alignment, byte_alignment, alignment_as, contribution_alignment, or_none, data_bytes, contributed, counted_in, changed_at, is_defined, may_set, with_assignment, with_section, with_data, with_contribution, with_choice, with_chosen, with_numeric_label, assigned_by, choice_in, after, after_directive, after_all, opened_of, ends_of, alignments_of, Extent, least_alignment, empty_extent, extended}
 use Rattle.rv_unit_laws.proofs.EnteringLemmas.{with_new, sections_count, entering}
 
 -- ---- powers of two
@@ -263,13 +263,13 @@ grows_chosen t (Some choice) = grows_choice t choice
 
 grows_directive : (t : Tables) (o : ℕ) (d : Directive) → Grows t (after_directive t o d)
 grows_directive t o d =
-    let v : Expression → Value = value t false o (here t) in
+    let v : Expression → Value = value_by_tables t false o (here t) in
     let entered = with_section t (entered_by d) in
     let named = with_assignment entered (assigned_by v o d) in
-    let chose = with_chosen named (chosen d) in
+    let chose = with_chosen named (choice_in d) in
     let contributed = with_contribution chose v (contribution d) in
     grows_then t chose contributed
-    (grows_then t named chose (grows_then t entered named (grows_section t (entered_by d)) (grows_set entered (assigned_by v o d))) (grows_chosen named (chosen d)))
+    (grows_then t named chose (grows_then t entered named (grows_section t (entered_by d)) (grows_set entered (assigned_by v o d))) (grows_chosen named (choice_in d)))
     (grows_contribution chose v (contribution d))
 
 pub grows_after : (t : Tables) (o : ℕ) (says : StatementKind) → Grows t (after t o says)
@@ -296,23 +296,23 @@ grown_all all o ss = (grows_all (at_start all) o ss).powers (start_powers all)
 
 abbrev IsPut : Tables → ℕ → Directive → Type 0
 IsPut t o d =
-    let v = value t false o (here t) in
+    let v = value_by_tables t false o (here t) in
     after_directive t o d ≡ with_data t (data_bytes v (here t).offset d) (alignment_of v d)
 
 put_end : (t : Tables) (o : ℕ) (d : Directive) → IsPut t o d → t.current < length (ends_of t)
     → slice_index_or (ends_of (after_directive t o d)) t.current 0
-    ≡ (here t).offset + counted_in (current_section (opened_of t)) (data_bytes (value t false o (here t)) (here t).offset d)
+    ≡ (here t).offset + counted_in (current_section (opened_of t)) (data_bytes (value_by_tables t false o (here t)) (here t).offset d)
 put_end t o d is inside =
     ap (λ (u : Tables). slice_index_or (ends_of u) t.current 0) is
-    ∙ ap (λ l. slice_index_or l t.current 0) (data_ends t (data_bytes (value t false o (here t)) (here t).offset d) (alignment_of (value t false o (here t)) d))
-    ∙ changed_here t.current (λ n. n + counted_in (current_section (opened_of t)) (data_bytes (value t false o (here t)) (here t).offset d)) (ends_of t) 0 inside
+    ∙ ap (λ l. slice_index_or l t.current 0) (data_ends t (data_bytes (value_by_tables t false o (here t)) (here t).offset d) (alignment_of (value_by_tables t false o (here t)) d))
+    ∙ changed_here t.current (λ n. n + counted_in (current_section (opened_of t)) (data_bytes (value_by_tables t false o (here t)) (here t).offset d)) (ends_of t) 0 inside
 
 put_alignment : (t : Tables) (o : ℕ) (d : Directive) → IsPut t o d → t.current < length (alignments_of t)
-    → slice_index_or (alignments_of (after_directive t o d)) t.current 1 ≡ max (slice_index_or (alignments_of t) t.current 1) (max 1 (or_none (alignment_of (value t false o (here t)) d)))
+    → slice_index_or (alignments_of (after_directive t o d)) t.current 1 ≡ max (slice_index_or (alignments_of t) t.current 1) (max 1 (or_none (alignment_of (value_by_tables t false o (here t)) d)))
 put_alignment t o d is inside =
     ap (λ (u : Tables). slice_index_or (alignments_of u) t.current 1) is
-    ∙ ap (λ l. slice_index_or l t.current 1) (data_alignments t (data_bytes (value t false o (here t)) (here t).offset d) (alignment_of (value t false o (here t)) d))
-    ∙ changed_here t.current (λ n. max n (max 1 (or_none (alignment_of (value t false o (here t)) d)))) (alignments_of t) 1 inside
+    ∙ ap (λ l. slice_index_or l t.current 1) (data_alignments t (data_bytes (value_by_tables t false o (here t)) (here t).offset d) (alignment_of (value_by_tables t false o (here t)) d))
+    ∙ changed_here t.current (λ n. max n (max 1 (or_none (alignment_of (value_by_tables t false o (here t)) d)))) (alignments_of t) 1 inside
 
 -- the directives that contribute something
 abbrev contributes : Contribution → Bool
@@ -332,17 +332,17 @@ is_put t o _ h = absurd (cc)
 
 -- the end of a section of data after a directive that contributes to it
 pub end_behind : (t : Tables) (o : ℕ) (d : Directive) → puts d ≡ true → t.current < length (opened_of t).sections → (current_section (opened_of t)).executable ≡ false
-    → slice_index_or (ends_of (after t o (Directs d))) t.current 0 ≡ (here t).offset + data_bytes (value t false o (here t)) (here t).offset d
+    → slice_index_or (ends_of (after t o (Directs d))) t.current 0 ≡ (here t).offset + data_bytes (value_by_tables t false o (here t)) (here t).offset d
 end_behind t o d h inside stored =
-    let bytes = data_bytes (value t false o (here t)) (here t).offset d in
+    let bytes = data_bytes (value_by_tables t false o (here t)) (here t).offset d in
     put_end t o d (is_put t o d h) (subst (λ n. t.current < n) (sym (ends_count t)) inside)
     ∙ ap (λ b. (here t).offset + (if b then 0 else bytes)) stored
 
 -- in the end the alignment of its section is a multiple of the directive's own
 pub begins_multiple : (t : Tables) (o k : ℕ) (d : Directive) (ss : List Statement) → puts d ≡ true → ArePowers (alignments_of t) → t.current < length (opened_of t).sections
-    → BeginsAt (alignment_of (value t false o (here t)) d) (slice_index_or (alignments_of (after_all (after t o (Directs d)) k ss)) t.current 1)
+    → BeginsAt (alignment_of (value_by_tables t false o (here t)) d) (slice_index_or (alignments_of (after_all (after t o (Directs d)) k ss)) t.current 1)
 begins_multiple t o k d ss h powers inside =
-    let alignment = alignment_of (value t false o (here t)) d in
+    let alignment = alignment_of (value_by_tables t false o (here t)) d in
     let before = slice_index_or (alignments_of t) t.current 1 in
     let last = slice_index_or (alignments_of (after_all (after t o (Directs d)) k ss)) t.current 1 in
     let now = grows_after t o (Directs d) in
@@ -350,4 +350,4 @@ begins_multiple t o k d ss h powers inside =
     let asks = put_alignment t o d (is_put t o d h) (subst (λ n. t.current < n) (sym (alignments_count t)) inside) in
     let grown : slice_index_or (alignments_of (after_directive t o d)) t.current 1 ≤ last = later.alignments t.current in
     let below : least alignment ≤ max before (least alignment) = le-max_right before (least alignment) in
-    begins_at alignment last (directive_aligned (value t false o (here t)) d) (later.powers (now.powers powers) t.current) (omega (arith, asks, grown, below))
+    begins_at alignment last (directive_aligned (value_by_tables t false o (here t)) d) (later.powers (now.powers powers) t.current) (omega (arith, asks, grown, below))

@@ -10,7 +10,7 @@ use Rattle.rv_statement.specs.Statement.{StatementKind, Label, Numbered, Instruc
 use Rattle.rv_statement.specs.declared.directive.Choice.{Choice}
 use Rattle.rv_unit_laws.specs.Sections.{Section, entered_by}
 use Rattle.rv_unit_laws.specs.Contributions.{Contribution, Nothing, Bytes, Zero_bytes, Alignment, contribution}
-use Rattle.rv_unit_laws.specs.Tables.{Tables, Labelled, NumericLabel, Assignment, here, after, after_directive, after_all, value, assigned, assigned_by, chosen, with_label, with_numeric_label, with_assignment, with_section, with_contribution, with_choice, with_chosen, is_defined, may_set}
+use Rattle.rv_unit_laws.specs.Tables.{Tables, Labelled, NumericLabel, Assignment, here, after, after_directive, after_all, value_by_tables, assigned, assigned_by, choice_in, with_label, with_numeric_label, with_assignment, with_section, with_contribution, with_choice, with_chosen, is_defined, may_set}
 use Rattle.rv_unit_laws.proofs.EnteringLemmas.{with_new, entering}
 use Rattle.rv_unit_laws.proofs.FoundLemmas.{find_same}
 
@@ -141,13 +141,13 @@ keeps_contribution t v (Alignment form number) o = keeps_same t (with_contributi
 
 keeps_directive : (t : Tables) (o : ℕ) (d : Directive) → Keeps t (after_directive t o d) o
 keeps_directive t o d =
-    let v : Expression → Value = value t false o (here t) in
+    let v : Expression → Value = value_by_tables t false o (here t) in
     let entered = with_section t (entered_by d) in
     let named = with_assignment entered (assigned_by v o d) in
-    let chose = with_chosen named (chosen d) in
+    let chose = with_chosen named (choice_in d) in
     let contributed = with_contribution chose v (contribution d) in
     keeps_then t chose contributed o
-    (keeps_then t named chose o (keeps_then t entered named o (keeps_section t (entered_by d) o) (keeps_named entered o v d)) (keeps_chosen named (chosen d) o))
+    (keeps_then t named chose o (keeps_then t entered named o (keeps_section t (entered_by d) o) (keeps_named entered o v d)) (keeps_chosen named (choice_in d) o))
     (keeps_contribution chose v (contribution d) o)
 
 keeps_after : (t : Tables) (o : ℕ) (s : StatementKind) → Keeps t (after t o s) o

@@ -7,7 +7,7 @@ use Rattle.rv_text_laws.specs.declared.operator.UnaryOperator.TheVariants.{Negat
 use Rattle.rv_text_laws.specs.declared.operator.BinaryOperator.{BinaryOperator}
 use Rattle.rv_text_laws.specs.declared.operator.BinaryOperator.TheVariants.{Multiply, Divide, Remainder, ShiftLeft, ShiftRight, Or, And, ExclusiveOr, Add, Subtract}
 use Rattle.rv_text_laws.specs.Expression.{Primary, Literal, Symbol, Here, Reference, Tree, Leaf, Unary, Paren, Binary}
-use Rattle.rv_text_laws.specs.Values.{Meaning, Known, InSection, Open, Refused, Value, Constant, Symbolic, Difference, Faulty, arithmetic, refused, apart, sum, difference, constants, both, alone, meant, primary_value, value_of}
+use Rattle.rv_text_laws.specs.Values.{Meaning, Known, InSection, Open, Refused, Value, Constant, Symbolic, Difference, Faulty, arithmetic, refused, apart, sum, difference, constants_alone, both, unary_value, meant, primary_value, value_of}
 
 abbrev pub HasMeaning : (Primary → Meaning) → Value → Type 0
 HasMeaning m (Symbolic p at k) = at ≡ m p
@@ -87,7 +87,7 @@ module _ (m : Primary → Meaning) where
   difference_meant (Difference p q k) (Faulty c) hv hw = tt
   difference_meant (Faulty c) w hv hw = refused_meant Subtract (Faulty c) w
 
-  constants_meant : (o : BinaryOperator) (v w : Value) → HasMeaning m (constants o v w)
+  constants_meant : (o : BinaryOperator) (v w : Value) → HasMeaning m (constants_alone o v w)
   constants_meant o (Constant a) (Constant b) = arithmetic_meant o a b
   constants_meant o (Constant a) (Symbolic p at k) = tt
   constants_meant o (Constant a) (Difference p q k) = tt
@@ -108,7 +108,7 @@ module _ (m : Primary → Meaning) where
   both_meant And v w hv hw = constants_meant And v w
   both_meant ExclusiveOr v w hv hw = constants_meant ExclusiveOr v w
 
-  alone_meant : (o : UnaryOperator) (v : Value) → HasMeaning m v → HasMeaning m (alone o v)
+  alone_meant : (o : UnaryOperator) (v : Value) → HasMeaning m v → HasMeaning m (unary_value o v)
   alone_meant Keep v hv = hv
   alone_meant Negate (Constant a) hv = tt
   alone_meant Negate (Symbolic p at k) hv = tt

@@ -10,7 +10,7 @@ use Rattle.rv_statement.specs.declared.directive.Choice.{Choice}
 use Rattle.rv_text_laws.specs.Values.{Open, InSection, Value}
 use Rattle.rv_unit_laws.specs.Sections.{Section, Opened, text_section, entered_by, section_at}
 use Rattle.rv_unit_laws.specs.Contributions.{Contribution, Nothing, Bytes, Zero_bytes, Alignment, contribution}
-use Rattle.rv_unit_laws.specs.Tables.{Tables, Extent, SectionOffset, Labelled, NumericLabel, Assignment, at_start, here, stands, value, assigned_by, chosen, is_defined, may_set, with_label, with_assignment, with_section, with_contribution, with_choice, with_chosen, after_directive, after, after_all, opened_of, extended, changed_at, contributed, alignment_as, with_data}
+use Rattle.rv_unit_laws.specs.Tables.{Tables, Extent, SectionOffset, Labelled, NumericLabel, Assignment, at_start, here, stands, value_by_tables, assigned_by, choice_in, is_defined, may_set, with_label, with_assignment, with_section, with_contribution, with_choice, with_chosen, after_directive, after, after_all, opened_of, extended, changed_at, contributed, alignment_as, with_data}
 use Rattle.rv_unit_laws.proofs.EnteringLemmas.{place_inside, sections_more, sections_count, entering}
 use Rattle.rv_unit_laws.proofs.FoundLemmas.{all_weaker}
 
@@ -99,11 +99,11 @@ contribution_opened t v (Alignment form number) = data_opened t (contributed v (
 
 directive_opened : (t : Tables) (k : ℕ) (d : Directive) → opened_of (after_directive t k d) ≡ opened_of (with_section t (entered_by d))
 directive_opened t k d =
-    let v : Expression → Value = value t false k (here t) in
+    let v : Expression → Value = value_by_tables t false k (here t) in
     let entered = with_section t (entered_by d) in
     let named = with_assignment entered (assigned_by v k d) in
-    contribution_opened (with_chosen named (chosen d)) v (contribution d)
-    ∙ chosen_opened named (chosen d) ∙ set_opened entered (assigned_by v k d)
+    contribution_opened (with_chosen named (choice_in d)) v (contribution d)
+    ∙ chosen_opened named (choice_in d) ∙ set_opened entered (assigned_by v k d)
 
 -- the open sections after a statement
 pub after_opened : (t : Tables) (k : ℕ) (says : StatementKind) → opened_of (after t k says) ≡ opened_of (with_section t (entered_in says))
@@ -193,11 +193,11 @@ in_contribution t v _ n h = record { labels = h.labels; numeric_labels = h.numer
 
 in_directive : (t : Tables) (o : ℕ) (d : Directive) (n : ℕ) → AreIn t n → AreIn (after_directive t o d) n
 in_directive t o d n h =
-    let v : Expression → Value = value t false o (here t) in
+    let v : Expression → Value = value_by_tables t false o (here t) in
     let entered = with_section t (entered_by d) in
     let named = with_assignment entered (assigned_by v o d) in
-    let parts = in_contribution (with_chosen named (chosen d)) v (contribution d) n
-    (in_chosen named (chosen d) n (in_set entered (assigned_by v o d) n (in_section t (entered_by d) n h))) in
+    let parts = in_contribution (with_chosen named (choice_in d)) v (contribution d) n
+    (in_chosen named (choice_in d) n (in_set entered (assigned_by v o d) n (in_section t (entered_by d) n h))) in
     record { labels = parts.labels; numeric_labels = parts.numeric_labels }
 
 in_after : (t : Tables) (o : ℕ) (says : StatementKind) (n : ℕ) → t.current < n → AreIn t n → AreIn (after t o says) n

@@ -2,16 +2,16 @@
 
 use Rattle.std.proofs.Common.{◌≡◌, ℕ, Bool, true, false, nat_lt, refl, sym, ap, ◌∙◌, Option, Some, None}
 use Rattle.std.specs.Prelude.{List, if◌then◌else◌}
-use Rattle.rv_text_laws.specs.Bytes.{value as digits_value}
+use Rattle.rv_text_laws.specs.Bytes.{digits_value as digits_value}
 use Rattle.rv_text_laws.specs.declared.operator.UnaryOperator.{UnaryOperator}
 use Rattle.rv_text_laws.specs.declared.operator.UnaryOperator.TheVariants.{Negate, Complement, Keep}
 use Rattle.rv_text_laws.specs.declared.operator.BinaryOperator.{BinaryOperator}
 use Rattle.rv_text_laws.specs.declared.operator.BinaryOperator.TheVariants.{Multiply, Divide, Remainder, ShiftLeft, ShiftRight, Or, And, ExclusiveOr, Add, Subtract}
 use Rattle.rv_text_laws.specs.Expression.{Primary, Literal, Symbol, Here, Reference, Tree, Leaf, Unary, Paren, Binary}
-use Rattle.rv_text_laws.specs.Values.{Meaning, Known, InSection, Open, Refused, Value, Constant, Symbolic, Difference, Faulty, refused, apart, sum, difference, constants, both, alone, meant, primary_value, value_of}
+use Rattle.rv_text_laws.specs.Values.{Meaning, Known, InSection, Open, Refused, Value, Constant, Symbolic, Difference, Faulty, refused, apart, sum, difference, constants_alone, both, unary_value, meant, primary_value, value_of}
 use Rattle.rv_statement.specs.Statement.{Expression}
 use Rattle.rv_statement.specs.declared.directive.Binding.{Binding}
-use Rattle.rv_unit_laws.specs.Tables.{Tables, SectionOffset, Labelled, NumericLabel, Assignment, label_of, assigned_before, assigned_ever, assigned_later, assigned_first, labelled, weakened, own_named, numeric_label_after, forward_in, meaning, value, opened_of}
+use Rattle.rv_unit_laws.specs.Tables.{Tables, SectionOffset, Labelled, NumericLabel, Assignment, label_of, assigned_before, assigned_ever, assigned_later, assigned_first, labelled, weakened, own_named, numeric_label_after, forward_in, meaning, value_by_tables, opened_of}
 use Rattle.rv_unit_laws.proofs.BeforeLemmas.{IsBefore, label_below, below}
 
 -- ---- values
@@ -93,7 +93,7 @@ difference_fixed (Difference p q k) (Difference r s j) e = absurd (cc)
 difference_fixed (Difference p q k) (Faulty c) e = absurd (cc)
 difference_fixed (Faulty c) w e = not_refused Subtract (Faulty c) w e
 
-constants_fixed : (o : BinaryOperator) (v w : Value) → is_fixed (constants o v w) ≡ true → AreFixed v w
+constants_fixed : (o : BinaryOperator) (v w : Value) → is_fixed (constants_alone o v w) ≡ true → AreFixed v w
 constants_fixed o (Constant a) (Constant b) e = (refl, refl)
 constants_fixed o (Constant a) (Symbolic p at k) e = absurd (cc)
 constants_fixed o (Constant a) (Difference p q k) e = absurd (cc)
@@ -114,7 +114,7 @@ both_fixed Or v w e = constants_fixed Or v w e
 both_fixed And v w e = constants_fixed And v w e
 both_fixed ExclusiveOr v w e = constants_fixed ExclusiveOr v w e
 
-alone_fixed : (o : UnaryOperator) (v : Value) → is_fixed (alone o v) ≡ true → is_fixed v ≡ true
+alone_fixed : (o : UnaryOperator) (v : Value) → is_fixed (unary_value o v) ≡ true → is_fixed v ≡ true
 alone_fixed Keep v e = e
 alone_fixed Negate (Constant a) e = refl
 alone_fixed Negate (Symbolic p at k) e = absurd (cc)
@@ -144,7 +144,7 @@ module _ (m now : Primary → Meaning) (agree : Agree m now) where
 
   pub value_same : (e : Tree) → is_fixed (value_of m e) ≡ true → value_of now e ≡ value_of m e
   value_same (Leaf p) f = primary_same p f
-  value_same (Unary o x) f = ap (alone o) (value_same x (alone_fixed o (value_of m x) f))
+  value_same (Unary o x) f = ap (unary_value o) (value_same x (alone_fixed o (value_of m x) f))
   value_same (Paren x) f = value_same x f
   value_same (Binary o x y) f =
       let parts = both_fixed o (value_of m x) (value_of m y) f in
@@ -196,5 +196,5 @@ module _ (t : Tables) (o at : ℕ) (before : IsBefore t o) where
   later_agrees p (Reference digits false) e = refl
 
   -- so a constant there is the same constant here
-  pub constant_later : (p : SectionOffset) (e : Expression) (n : ℕ) → value t false at p e ≡ Constant n → value t true at p e ≡ Constant n
+  pub constant_later : (p : SectionOffset) (e : Expression) (n : ℕ) → value_by_tables t false at p e ≡ Constant n → value_by_tables t true at p e ≡ Constant n
   constant_later p e n is = constant_same (λ q. meaning t false at p q) (λ q. meaning t true at p q) (later_agrees p) e n is

@@ -8,7 +8,7 @@ use Rattle.rv_statement.specs.Statement.{StatementKind, Label, Numbered, Instruc
 use Rattle.rv_statement.specs.declared.directive.Choice.{Choice}
 use Rattle.rv_unit_laws.specs.Sections.{Section, entered_by, current_section}
 use Rattle.rv_unit_laws.specs.Contributions.{Contribution, Nothing, Bytes, Zero_bytes, Alignment, contribution}
-use Rattle.rv_unit_laws.specs.Tables.{Tables, Extent, Assignment, at_start, here, value, longest_section, within, padding, counted, or_none, contents_size, alignment_as, contributed, contribution_alignment, counted_in, changed_at, is_defined, may_set, with_assignment, with_section, with_data, with_contribution, with_choice, with_chosen, with_numeric_label, assigned_by, chosen, after, after_directive, after_all, tables, opened_of, ends_of}
+use Rattle.rv_unit_laws.specs.Tables.{Tables, Extent, Assignment, at_start, here, value_by_tables, longest_section, within, padding, counted, or_none, contents_size, alignment_as, contributed, contribution_alignment, counted_in, changed_at, is_defined, may_set, with_assignment, with_section, with_data, with_contribution, with_choice, with_chosen, with_numeric_label, assigned_by, choice_in, after, after_directive, after_all, tables, opened_of, ends_of}
 use Rattle.rv_unit_laws.proofs.EnteringLemmas.{entering, with_new}
 use Rattle.rv_unit_laws.proofs.GrownLemmas.{data_ends, end_new}
 
@@ -83,11 +83,11 @@ short_chosen t (Some choice) h = short_same t (with_choice t choice) refl h
 
 short_directive : (t : Tables) (o : ℕ) (d : Directive) → AreShort t → AreShort (after_directive t o d)
 short_directive t o d h =
-    let v : Expression → Value = value t false o (here t) in
+    let v : Expression → Value = value_by_tables t false o (here t) in
     let entered = with_section t (entered_by d) in
     let named = with_assignment entered (assigned_by v o d) in
-    let chose = with_chosen named (chosen d) in
-    short_contribution chose v (contribution d) (short_chosen named (chosen d) (short_set entered (assigned_by v o d) (short_section t (entered_by d) h)))
+    let chose = with_chosen named (choice_in d) in
+    short_contribution chose v (contribution d) (short_chosen named (choice_in d) (short_set entered (assigned_by v o d) (short_section t (entered_by d) h)))
 
 pub short_after : (t : Tables) (o : ℕ) (says : StatementKind) → AreShort t → AreShort (after t o says)
 short_after t o (Label name) h =

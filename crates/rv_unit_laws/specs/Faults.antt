@@ -11,7 +11,7 @@ use Rattle.rv_statement.specs.declared.directive.Choice.TheVariants.{Pop}
 use Rattle.rv_text_laws.specs.Expression.{Here}
 use Rattle.rv_unit_laws.specs.Sections.{Section, is_nobits, current_section, place_of_name, most_sections, entered_by}
 use Rattle.rv_unit_laws.specs.Contributions.{Contents, Numbers, Texts, AlignmentForm, As_power, As_bytes, Contribution, Nothing, Bytes, Zero_bytes, Alignment, contribution}
-use Rattle.rv_unit_laws.specs.Tables.{Tables, at_start, after, tables, here, value, has_location, is_defined, is_power, greatest_alignment, longest_section, alignment_as, contents_size, counted, padding, opened_of}
+use Rattle.rv_unit_laws.specs.Tables.{Tables, at_start, after, tables, here, value_by_tables, has_location, is_defined, is_power, greatest_alignment, longest_section, alignment_as, contents_size, counted, padding, opened_of}
 
 -- a value where a constant is wanted
 abbrev pub constant_faults : Value → List ℕ
@@ -103,14 +103,14 @@ abbrev pub contribution_faults : Tables → Tables → ℕ → Contribution → 
 contribution_faults all t ordinal Nothing = []
 contribution_faults all t ordinal (Bytes contents) =
     let section = current_section (opened_of t) in
-    contents_faults (λ e. value all true ordinal (here t) e) contents
+    contents_faults (λ e. value_by_tables all true ordinal (here t) e) contents
     ++ (faulty_if (section.executable || is_nobits section) wrong_section
     ++ past_section section.executable (here t).offset (contents_size contents))
 contribution_faults all t ordinal (Zero_bytes count) =
     zero_faults (current_section (opened_of t)) (here t).offset
-    (value all false ordinal (here t) count)
+    (value_by_tables all false ordinal (here t) count)
 contribution_faults all t ordinal (Alignment form number) =
-    let v = value all false ordinal (here t) number in
+    let v = value_by_tables all false ordinal (here t) number in
     number_faults form v
     ++ alignment_faults (current_section (opened_of t)) (here t).offset (alignment_as form v)
 
@@ -121,7 +121,8 @@ directive_faults all t ordinal (Enters standard) =
 directive_faults all t ordinal (Opens name flags kind) =
     section_faults (opened_of t).sections (entered_by (Opens name flags kind))
 directive_faults all t ordinal (Sets name e) =
-    set_faults t ordinal (current_section (opened_of t)) name (value all false ordinal (here t) e)
+    set_faults t ordinal (current_section (opened_of t)) name
+    (value_by_tables all false ordinal (here t) e)
 directive_faults all t ordinal (Chooses choice) = choice_faults (length t.kept) choice
 directive_faults all t ordinal d = contribution_faults all t ordinal (contribution d)
 
@@ -158,6 +159,6 @@ past_most (s ∷ ss) others = Some (record { code = limit; line = s.line })
 
 -- the first fault of a source's labels and directives; before them all, that it has too many
 -- statements
-abbrev pub first_fault : List Statement → Option StatementFault
-first_fault ss =
+abbrev pub first_unit_fault : List Statement → Option StatementFault
+first_unit_fault ss =
     past_most (drop most_statements ss) (first_fault_from (tables ss) (at_start ss) 1 ss)

@@ -74,8 +74,8 @@ type_given (Some word) zeroed = type_named word
 
 -- a section with the flags a (97), x (120) and w (119) and the type that are given, or that its
 -- name's front says
-abbrev pub section_of : List ℕ → Option (List ℕ) → Option (List ℕ) → Section
-section_of name flags kind = record {
+abbrev pub section_with : List ℕ → Option (List ℕ) → Option (List ℕ) → Section
+section_with name flags kind = record {
   name = name;
   loaded = has_flag 97 flags
       (is_code name || is_variable name || is_zeroed name || is_constant name);
@@ -111,8 +111,8 @@ place_of_name (s ∷ ss) name =
 
 -- the section that a directive enters
 abbrev pub entered_by : Directive → Option Section
-entered_by (Enters standard) = Some (section_of (standard_name standard) None None)
-entered_by (Opens name flags kind) = Some (section_of name flags kind)
+entered_by (Enters standard) = Some (section_with (standard_name standard) None None)
+entered_by (Opens name flags kind) = Some (section_with name flags kind)
 entered_by _ = None
 
 abbrev pub section_at : Opened → ℕ → Section

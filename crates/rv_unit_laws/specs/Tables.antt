@@ -10,7 +10,7 @@ use Rattle.std.specs.Prelude.{ℕ, zero, suc, ◌+◌, ◌-◌, ◌*◌, ◌^◌
 use Rattle.std.specs.List.{find, list_any}
 use Rattle.std.specs.Str.{bytes_eq}
 use Rattle.rv_layout_laws.specs.Alignment.{aligned}
-use Rattle.rv_text_laws.specs.Bytes.{value as digits_value}
+use Rattle.rv_text_laws.specs.Bytes.{digits_value as digits_value}
 use Rattle.rv_text_laws.specs.Expression.{Primary, Literal, Symbol, Here, Reference}
 use Rattle.rv_text_laws.specs.Codes.{undefined_local, not_constant}
 use Rattle.rv_text_laws.specs.Values.{Meaning, Known, InSection, Open, Refused, Value, Constant, Symbolic, add, value_of}
@@ -208,8 +208,8 @@ meaning t all ordinal p Here = stands (opened_of t) p
 meaning t all ordinal p (Reference digits forward) =
     referred t all ordinal (digits_value 10 digits) forward
 
-abbrev pub value : Tables → Bool → ℕ → SectionOffset → Expression → Value
-value t all ordinal p e = value_of (λ q. meaning t all ordinal p q) e
+abbrev pub value_by_tables : Tables → Bool → ℕ → SectionOffset → Expression → Value
+value_by_tables t all ordinal p e = value_of (λ q. meaning t all ordinal p q) e
 
 -- ---- where symbols are defined
 
@@ -454,9 +454,9 @@ with_choice t choice = record t {
 }
 
 -- the option that a directive chooses
-abbrev pub chosen : Directive → Option Choice
-chosen (Chooses choice) = Some choice
-chosen _ = None
+abbrev pub choice_in : Directive → Option Choice
+choice_in (Chooses choice) = Some choice
+choice_in _ = None
 
 abbrev pub with_chosen : Tables → Option Choice → Tables
 with_chosen t None = t
@@ -471,9 +471,9 @@ assigned_by v ordinal _ = None
 -- section
 abbrev pub after_directive : Tables → ℕ → Directive → Tables
 after_directive t ordinal d =
-    let v = value t false ordinal (here t) in
+    let v = value_by_tables t false ordinal (here t) in
     let named = with_assignment (with_section t (entered_by d)) (assigned_by v ordinal d) in
-    with_contribution (with_chosen named (chosen d)) v (contribution d)
+    with_contribution (with_chosen named (choice_in d)) v (contribution d)
 
 -- the tables after a statement of this ordinal; a faulty one defines nothing
 abbrev pub after : Tables → ℕ → StatementKind → Tables

@@ -5,7 +5,7 @@
 //! sections of a source (`Sections`), what a directive contributes to its section (`Contributions`), what `.option` sets
 //! (`Options`), which names other files can mean (`Bindings`), the tables that the statements fill one after the other, what a name means in each of them and in which
 //! options each stands (`Tables`: `after`, `tables`, `meaning`, `definition`, `all_options`), and the faults (`Faults`:
-//! `first_fault`).
+//! `first_unit_fault`).
 //!
 //! It knows no text, no instruction, no address and no other source.
 //!

@@ -5,14 +5,14 @@ use Rattle.std.specs.Prelude.{if◌then◌else◌}
 use Rattle.std.proofs.lemmas.Bool.{eqb-true, eqb-false}
 use Rattle.std.proofs.lemmas.List.{length-append, take_more}
 use Rattle.std.proofs.Math.Nat.{pow-succ'}
-use Rattle.rv_text_laws.specs.Bytes.{value, digit}
+use Rattle.rv_text_laws.specs.Bytes.{digits_value, digit}
 use Rattle.rv_unit_tables.specs.Mixed.{HasNoZeroInFront, mix, mix_digit, mix_within}
 
-pub value-last : (ds : List ℕ) (d : ℕ) → value 10 (ds ++ d ∷ []) ≡ 10 * value 10 ds + digit d
+pub value-last : (ds : List ℕ) (d : ℕ) → digits_value 10 (ds ++ d ∷ []) ≡ 10 * digits_value 10 ds + digit d
 value-last [] d = omega arith
 value-last (e ∷ es) d =
     let more : length (es ++ d ∷ []) ≡ suc (length es) = omega (arith, length-append es (d ∷ [])) in
-    ap (λ n. digit e * 10 ^ n + value 10 (es ++ d ∷ [])) more ∙ ap (λ p. digit e * p + value 10 (es ++ d ∷ [])) (pow-succ' 10 (length es)) ∙ ap (λ v. digit e * (10 * 10 ^ length es) + v) (value-last es d) ∙ shift (digit e) (10 ^ length es) (value 10 es) (digit d)
+    ap (λ n. digit e * 10 ^ n + digits_value 10 (es ++ d ∷ [])) more ∙ ap (λ p. digit e * p + digits_value 10 (es ++ d ∷ [])) (pow-succ' 10 (length es)) ∙ ap (λ v. digit e * (10 * 10 ^ length es) + v) (value-last es d) ∙ shift (digit e) (10 ^ length es) (digits_value 10 es) (digit d)
   where
     shift : (a p v c : ℕ) → a * (10 * p) + (10 * v + c) ≡ 10 * (a * p + v) + c
     shift a p v c = grind arith
@@ -21,12 +21,12 @@ take_whole : (xs : List ℕ) → take (length xs) xs ≡ xs
 take_whole [] = refl
 take_whole (x ∷ xs) = ap (λ r. x ∷ r) (take_whole xs)
 
-pub value-cut : (ds : List ℕ) → 0 < length ds → value 10 ds ≡ 10 * value 10 (take (length ds - 1) ds) + digit (get_or ds (length ds - 1) 0)
+pub value-cut : (ds : List ℕ) → 0 < length ds → digits_value 10 ds ≡ 10 * digits_value 10 (take (length ds - 1) ds) + digit (get_or ds (length ds - 1) 0)
 value-cut ds some =
     let n : ℕ = length ds - 1 in
     let inside : n < length ds = omega arith in
     let count : n + 1 ≡ length ds = omega arith in
-    ap (value 10) (sym (take_whole ds) ∙ ap (λ m. take m ds) (sym count) ∙ take_more ds n 0 inside) ∙ value-last (take n ds) (get_or ds n 0)
+    ap (digits_value 10) (sym (take_whole ds) ∙ ap (λ m. take m ds) (sym count) ∙ take_more ds n 0 inside) ∙ value-last (take n ds) (get_or ds n 0)
 
 -- two sums are equal where their last digits and what is before them are
 pub last_differs : (a b p q : ℕ) → (p % 10 ≡ q % 10 → ⊥) → (10 * a + p == 10 * b + q) ≡ false
@@ -115,7 +115,7 @@ mix_more v front last carry h n is some so_far =
     ∙ ap (λ k. mix (front + (carry + last) / 10) (mix_digit h k)) (let e : (v + carry) % 10 ≡ (carry + last) % 10 = omega (arith, is) in e)
 
 -- a number whose first digit is no zero is none
-pub some_value : (ds : List ℕ) → HasNoZeroInFront ds → 0 < length ds → 0 < value 10 ds
+pub some_value : (ds : List ℕ) → HasNoZeroInFront ds → 0 < length ds → 0 < digits_value 10 ds
 some_value [] some long = absurd (omega arith)
 some_value (d ∷ ds) some long =
     let p : 0 < 10 ^ length ds = power (length ds) in
@@ -132,19 +132,19 @@ some_value (d ∷ ds) some long =
 
 -- a zero in front changes nothing
 pub behind_zero : (ds : List ℕ) (d : ℕ) → 1 ≤ length ds → d ≡ digit (get_or ds 0 0) → d ≡ 0
-    → (value 10 (take (length ds - 1) (drop 1 ds)) ≡ value 10 ds) × (length (take (length ds - 1) (drop 1 ds)) < length ds)
+    → (digits_value 10 (take (length ds - 1) (drop 1 ds)) ≡ digits_value 10 ds) × (length (take (length ds - 1) (drop 1 ds)) < length ds)
 behind_zero [] d long at is = absurd (omega (arith, long))
 behind_zero (x ∷ ds) d long at is =
     let less : length (x ∷ ds) - 1 ≡ length ds = omega arith in
     let rest : take (length (x ∷ ds) - 1) ds ≡ ds = ap (λ n. take n ds) less ∙ take_whole ds in
-    let zero_digit : digit x * 10 ^ length ds + value 10 ds ≡ 0 * 10 ^ length ds + value 10 ds = ap (λ k. k * 10 ^ length ds + value 10 ds) (sym at ∙ is) in
-    let none : 0 * 10 ^ length ds + value 10 ds ≡ value 10 ds = grind arith in
-    (ap (value 10) rest ∙ sym (zero_digit ∙ none), subst (λ n. n < length (x ∷ ds)) (sym (ap length rest)) (omega arith))
+    let zero_digit : digit x * 10 ^ length ds + digits_value 10 ds ≡ 0 * 10 ^ length ds + digits_value 10 ds = ap (λ k. k * 10 ^ length ds + digits_value 10 ds) (sym at ∙ is) in
+    let none : 0 * 10 ^ length ds + digits_value 10 ds ≡ digits_value 10 ds = grind arith in
+    (ap (digits_value 10) rest ∙ sym (zero_digit ∙ none), subst (λ n. n < length (x ∷ ds)) (sym (ap length rest)) (omega arith))
 
 pub first_some : (ds : List ℕ) (d : ℕ) → d ≡ digit (get_or ds 0 0) → 0 < d → HasNoZeroInFront ds
 first_some [] d at some = tt
 first_some (x ∷ ds) d at some = subst (λ n. 0 < n) at some
 
-pub empty_value : (ds : List ℕ) → length ds ≡ 0 → value 10 ds ≡ 0
+pub empty_value : (ds : List ℕ) → length ds ≡ 0 → digits_value 10 ds ≡ 0
 empty_value [] e = refl
 empty_value (d ∷ ds) e = absurd (omega (arith, e))

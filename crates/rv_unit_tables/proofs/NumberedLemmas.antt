@@ -11,7 +11,7 @@ use Rattle.std.proofs.lemmas.Bool.{eqb-true, eq-eqb, ltb-true, le-ltb, and_parts
 use Rattle.std.proofs.lemmas.List.{length-map, map-append, reverse-append, reverse-reverse}
 use Rattle.std.proofs.lemmas.Option.{slice_get-map}
 use Rattle.indexmap.specs.IndexMap.{insert_entry}
-use Rattle.rv_text_laws.specs.Bytes.{value}
+use Rattle.rv_text_laws.specs.Bytes.{digits_value}
 use Rattle.rv_unit_laws.specs.Tables as laws
 use Rattle.rv_unit_laws.proofs.BeforeLemmas.{falls}
 use Rattle.rv_unit_tables.specs.declared.number.Number.{Number}
@@ -137,22 +137,22 @@ put_latest x ms others h =
 -- ---- one more of a number
 
 abbrev pub same : Number → Number → Bool
-same a b = value 10 a.digits.now == value 10 b.digits.now
+same a b = digits_value 10 a.digits.now == digits_value 10 b.digits.now
 
 pub added : (es : List (Number × List NumericLabel)) (k : Number) (x : NumericLabel) (none some : List NumericLabel)
     → some ≡ unwrap_or (lookup (same k) es) [] ++ x ∷ []
     → list_all (λ (m : laws.NumericLabel). nat_lt m.ordinal x.ordinal) (numeric_labels_in es) ≡ true
-    → numeric_labels_in (insert_entry same (insert_entry same es k none) k some) ≡ numeric_label_at (value 10 k.digits.now) x ∷ numeric_labels_in es
+    → numeric_labels_in (insert_entry same (insert_entry same es k none) k some) ≡ numeric_label_at (digits_value 10 k.digits.now) x ∷ numeric_labels_in es
 added [] k x none some is h =
-    ap (λ b. numeric_labels_in (if b then (k, some) ∷ [] else (k, none) ∷ (k, some) ∷ [])) (eq-eqb (value 10 k.digits.now) (value 10 k.digits.now) refl)
-    ∙ ap (λ l. put_all_in_order (map (numeric_label_at (value 10 k.digits.now)) l) []) is
+    ap (λ b. numeric_labels_in (if b then (k, some) ∷ [] else (k, none) ∷ (k, some) ∷ [])) (eq-eqb (digits_value 10 k.digits.now) (digits_value 10 k.digits.now) refl)
+    ∙ ap (λ l. put_all_in_order (map (numeric_label_at (digits_value 10 k.digits.now)) l) []) is
 added (e ∷ es) k x none some is h = by (same k e.0) refl (λ more. added es k x none some more both.1)
   where
     number : ℕ
-    number = value 10 k.digits.now
+    number = digits_value 10 k.digits.now
 
     own : ℕ
-    own = value 10 e.0.digits.now
+    own = digits_value 10 e.0.digits.now
 
     others : List laws.NumericLabel
     others = numeric_labels_in es
@@ -233,7 +233,7 @@ few_of test [] = omega arith
 few_of test (e ∷ es) = by (test e.0) (few_of test es)
   where
     all : length (put_all_in_order (numeric_labels_of e) (numeric_labels_in es)) ≡ length e.1 + length (numeric_labels_in es)
-    all = count_put_all (numeric_labels_of e) (numeric_labels_in es) ∙ ap (λ n. n + length (numeric_labels_in es)) (length-map e.1 (numeric_label_at (value 10 e.0.digits.now)))
+    all = count_put_all (numeric_labels_of e) (numeric_labels_in es) ∙ ap (λ n. n + length (numeric_labels_in es)) (length-map e.1 (numeric_label_at (digits_value 10 e.0.digits.now)))
 
     by : (b : Bool) → length (unwrap_or (lookup test es) []) ≤ length (numeric_labels_in es)
         → length (unwrap_or (cond b (Some e.1) (lookup test es)) []) ≤ length (put_all_in_order (numeric_labels_of e) (numeric_labels_in es))

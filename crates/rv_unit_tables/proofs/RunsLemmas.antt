@@ -12,7 +12,7 @@ use Rattle.rv_unit_laws.proofs.FoundLemmas.{find_same}
 use Rattle.rv_unit_tables.specs.declared.section_offset.SectionOffset.{SectionOffset}
 use Rattle.rv_unit_tables.specs.declared.tables.NumericLabel.{NumericLabel}
 use Rattle.rv_unit_tables.specs.declared.numeric_labels.Run.{Run}
-use Rattle.rv_unit_tables.specs.NumericLabels.{are_runs, place_at, label_at, labels_from}
+use Rattle.rv_unit_tables.specs.NumericLabels.{are_runs, place_by_runs, label_by_runs, labels_from}
 use Rattle.rv_unit_tables.proofs.OrderedLemmas.{rises_of, rising}
 
 -- ---- the runs
@@ -55,11 +55,11 @@ runs_longer (r ∷ rs) count some runs =
 -- ---- places
 
 -- a run that has begun
-place_in : (r : Run) (rs : List Run) (index : ℕ) → r.first ≤ index → place_at (r ∷ rs) index ≡ r.place
+place_in : (r : Run) (rs : List Run) (index : ℕ) → r.first ≤ index → place_by_runs (r ∷ rs) index ≡ r.place
 place_in r rs index begun = ap (λ b. option_map_or (λ (q : Run). q.place) (cond b (Some r) (find (λ (q : Run). nat_le q.first index) rs)) (record { section = 0; offset = 0 })) (le-leb r.first index begun)
 
 -- the last label is of the last run
-pub place_last : (rs : List Run) (p : SectionOffset) (count index : ℕ) → option_map (λ (r : Run). r.place) (slice_get rs 0) ≡ Some p → are_runs rs count ≡ true → count ≤ index + 1 → place_at rs index ≡ p
+pub place_last : (rs : List Run) (p : SectionOffset) (count index : ℕ) → option_map (λ (r : Run). r.place) (slice_get rs 0) ≡ Some p → are_runs rs count ≡ true → count ≤ index + 1 → place_by_runs rs index ≡ p
 place_last [] p count index is runs within = absurd (cc)
 place_last (r ∷ rs) p count index is runs within =
     let first : r.first < count = ltb-true r.first count (and_parts (nat_lt r.first count) (are_runs rs r.first) runs).0 in
@@ -96,33 +96,33 @@ pub count_labels : (rs : List Run) (index : ℕ) (os : List ℕ) → length (lab
 count_labels rs index [] = refl
 count_labels rs index (o ∷ os) = ap suc (count_labels rs (suc index) os)
 
-labels_at : (rs : List Run) (from : ℕ) (os : List ℕ) (i : ℕ) → slice_get (labels_from rs from os) i ≡ option_map (label_at rs (from + i)) (slice_get os i)
+labels_at : (rs : List Run) (from : ℕ) (os : List ℕ) (i : ℕ) → slice_get (labels_from rs from os) i ≡ option_map (label_by_runs rs (from + i)) (slice_get os i)
 labels_at rs from [] i = refl
-labels_at rs from (o ∷ os) zero = ap (λ n. Some (label_at rs n o)) (let e : from ≡ from + 0 = omega arith in e)
-labels_at rs from (o ∷ os) (suc i) = labels_at rs (suc from) os i ∙ ap (λ n. option_map (label_at rs n) (slice_get os i)) (let e : suc from + i ≡ from + suc i = omega arith in e)
+labels_at rs from (o ∷ os) zero = ap (λ n. Some (label_by_runs rs n o)) (let e : from ≡ from + 0 = omega arith in e)
+labels_at rs from (o ∷ os) (suc i) = labels_at rs (suc from) os i ∙ ap (λ n. option_map (label_by_runs rs n) (slice_get os i)) (let e : suc from + i ≡ from + suc i = omega arith in e)
 
 pub label_missing : (rs : List Run) (os : List ℕ) (labels : List NumericLabel) (i : ℕ) → labels_from rs 0 os ≡ labels → slice_get os i ≡ None → None ≡ slice_get labels i
-label_missing rs os labels i are is = sym (ap (λ l. slice_get l i) (sym are) ∙ labels_at rs 0 os i ∙ ap (option_map (label_at rs (0 + i))) is)
+label_missing rs os labels i are is = sym (ap (λ l. slice_get l i) (sym are) ∙ labels_at rs 0 os i ∙ ap (option_map (label_by_runs rs (0 + i))) is)
 
-pub label_found : (rs : List Run) (os : List ℕ) (labels : List NumericLabel) (i o : ℕ) (p : SectionOffset) → labels_from rs 0 os ≡ labels → slice_get os i ≡ Some o → place_at rs i ≡ p → Some (record { ordinal = o; place = p }) ≡ slice_get labels i
+pub label_found : (rs : List Run) (os : List ℕ) (labels : List NumericLabel) (i o : ℕ) (p : SectionOffset) → labels_from rs 0 os ≡ labels → slice_get os i ≡ Some o → place_by_runs rs i ≡ p → Some (record { ordinal = o; place = p }) ≡ slice_get labels i
 label_found rs os labels i o p are is stands =
-    sym (ap (λ l. slice_get l i) (sym are) ∙ labels_at rs 0 os i ∙ ap (option_map (label_at rs (0 + i))) is
-    ∙ ap (λ (q : SectionOffset). Some (record { ordinal = o; place = q })) (ap (place_at rs) (let e : 0 + i ≡ i = omega arith in e) ∙ stands))
+    sym (ap (λ l. slice_get l i) (sym are) ∙ labels_at rs 0 os i ∙ ap (option_map (label_by_runs rs (0 + i))) is
+    ∙ ap (λ (q : SectionOffset). Some (record { ordinal = o; place = q })) (ap (place_by_runs rs) (let e : 0 + i ≡ i = omega arith in e) ∙ stands))
 
 -- one label more, where all others stand as they did
-labels_more : (new old : List Run) (from : ℕ) (os : List ℕ) (m : NumericLabel) → ((i : ℕ) → i < from + length os → place_at new i ≡ place_at old i) → place_at new (from + length os) ≡ m.place
+labels_more : (new old : List Run) (from : ℕ) (os : List ℕ) (m : NumericLabel) → ((i : ℕ) → i < from + length os → place_by_runs new i ≡ place_by_runs old i) → place_by_runs new (from + length os) ≡ m.place
     → labels_from new from (os ++ m.ordinal ∷ []) ≡ labels_from old from os ++ m ∷ []
 labels_more new old from [] m others last =
-    ap (λ (p : SectionOffset). record { ordinal = m.ordinal; place = p } ∷ []) (ap (place_at new) (let e : from ≡ from + 0 = omega arith in e) ∙ last)
+    ap (λ (p : SectionOffset). record { ordinal = m.ordinal; place = p } ∷ []) (ap (place_by_runs new) (let e : from ≡ from + 0 = omega arith in e) ∙ last)
 labels_more new old from (o ∷ os) m others last =
     ap (λ (p : SectionOffset). record { ordinal = o; place = p } ∷ labels_from new (suc from) (os ++ m.ordinal ∷ [])) (others from (omega arith))
-    ∙ ap (λ l. label_at old from o ∷ l)
-    (labels_more new old (suc from) os m (λ i inside. others i (omega arith)) (ap (place_at new) (let e : suc from + length os ≡ from + length (o ∷ os) = omega arith in e) ∙ last))
+    ∙ ap (λ l. label_by_runs old from o ∷ l)
+    (labels_more new old (suc from) os m (λ i inside. others i (omega arith)) (ap (place_by_runs new) (let e : suc from + length os ≡ from + length (o ∷ os) = omega arith in e) ∙ last))
 
-pub labels_added : (new old : List Run) (os : List ℕ) (m : NumericLabel) → ((i : ℕ) → i < length os → place_at new i ≡ place_at old i) → place_at new (length os) ≡ m.place
+pub labels_added : (new old : List Run) (os : List ℕ) (m : NumericLabel) → ((i : ℕ) → i < length os → place_by_runs new i ≡ place_by_runs old i) → place_by_runs new (length os) ≡ m.place
     → labels_from new 0 (os ++ m.ordinal ∷ []) ≡ labels_from old 0 os ++ m ∷ []
 labels_added new old os m others last =
-    labels_more new old 0 os m (λ i inside. others i (omega (arith, inside))) (ap (place_at new) (let e : 0 + length os ≡ length os = omega arith in e) ∙ last)
+    labels_more new old 0 os m (λ i inside. others i (omega (arith, inside))) (ap (place_by_runs new) (let e : 0 + length os ≡ length os = omega arith in e) ∙ last)
 
 -- their ordinals
 ordinal_at : (rs : List Run) (from : ℕ) (os : List ℕ) (i : ℕ) (d : NumericLabel) → (slice_index_or (labels_from rs from os) i d).ordinal ≡ slice_index_or os i d.ordinal

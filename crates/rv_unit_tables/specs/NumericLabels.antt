@@ -16,18 +16,18 @@ are_runs (r ∷ rs) count = nat_lt r.first count && are_runs rs r.first
 
 -- where the label of an index stands, by runs with the latest first:
 -- at the place of the last that does not begin after it
-abbrev pub place_at : List Run → ℕ → SectionOffset
-place_at runs index =
+abbrev pub place_by_runs : List Run → ℕ → SectionOffset
+place_by_runs runs index =
     option_map_or (λ (r : Run). r.place) (find (λ (r : Run). nat_le r.first index) runs)
     (record { section = 0; offset = 0 })
 
-abbrev pub label_at : List Run → ℕ → ℕ → NumericLabel
-label_at runs index ordinal = record { ordinal = ordinal; place = place_at runs index }
+abbrev pub label_by_runs : List Run → ℕ → ℕ → NumericLabel
+label_by_runs runs index ordinal = record { ordinal = ordinal; place = place_by_runs runs index }
 
 -- the labels of these ordinals, the first of which has this index
 abbrev pub labels_from : List Run → ℕ → List ℕ → List NumericLabel
 labels_from runs index [] = []
-labels_from runs index (o ∷ os) = label_at runs index o ∷ labels_from runs (suc index) os
+labels_from runs index (o ∷ os) = label_by_runs runs index o ∷ labels_from runs (suc index) os
 
 abbrev pub labels_in : Inside → List NumericLabel
 labels_in labels = labels_from (reverse labels.runs.items) 0 labels.ordinals.items

@@ -6,7 +6,7 @@ use Rattle.std.specs.declared.vec.Vec.{Vec}
 use Rattle.std.specs.Borrow.{Bor}
 use Rattle.std.specs.Str.{bytes_eq}
 use Rattle.indexmap.specs.IndexMap.{IndexMap, get_by}
-use Rattle.rv_text_laws.specs.Bytes.{value}
+use Rattle.rv_text_laws.specs.Bytes.{digits_value}
 use Rattle.rv_text.specs.Eval.{meaning_of}
 use Rattle.rv_unit_laws.specs.Bindings.{is_weak}
 use Rattle.rv_unit_laws.specs.Sections as sections
@@ -33,7 +33,7 @@ numeric_label_at number m =
 
 -- the numeric labels of a number
 abbrev pub numeric_labels_of : Number × List NumericLabel → List laws.NumericLabel
-numeric_labels_of e = map (numeric_label_at (value 10 e.0.digits.now)) e.1
+numeric_labels_of e = map (numeric_label_at (digits_value 10 e.0.digits.now)) e.1
 
 -- a numeric label among others, the latest first: before those that are earlier
 abbrev pub put_in_order : laws.NumericLabel → List laws.NumericLabel → List laws.NumericLabel
@@ -79,7 +79,7 @@ tables_of b = record {
 abbrev pub numbered_at : {S : Type 0} → IndexMap Number (List NumericLabel) S → ℕ →
     List NumericLabel
 numbered_at numbered number =
-    unwrap_or (get_by (λ (k : Number). number == value 10 k.digits.now) numbered) []
+    unwrap_or (get_by (λ (k : Number). number == digits_value 10 k.digits.now) numbered) []
 
 -- the assignments of a name
 abbrev pub assignments_at : {Z S : Type 0} → IndexMap (Bor (List ℕ)) (Vec Assignment Z) S →
@@ -98,5 +98,7 @@ pub record IsIndexed (b : Tables) : Type 0 where
       ≡ filter (λ (g : Assignment). bytes_eq g.name.now name) b.assignments.items
   pub weak : (name : List ℕ) → b.has_weak ≡ false → is_weak (binding_in b.bindings name) ≡ false
   pub numbered : (digits : List ℕ) →
-      reverse (map (numeric_label_at (value 10 digits)) (numbered_at b.numbered (value 10 digits)))
-      ≡ filter (λ (m : laws.NumericLabel). m.number == value 10 digits) (tables_of b).numeric_labels
+      reverse (map (numeric_label_at (digits_value 10 digits))
+      (numbered_at b.numbered (digits_value 10 digits)))
+      ≡ filter (λ (m : laws.NumericLabel). m.number == digits_value 10 digits)
+      (tables_of b).numeric_labels

@@ -1,7 +1,7 @@
 //! Counts, alignments and sizes, by the values of their expressions.
 
 ghost use Rattle.std.specs.Prelude.{◌≡◌, ◌≤◌, ◌+◌, ◌*◌, ◌-◌, ◌^◌, min, length, map};
-ghost use Rattle.rv_statement.specs.View.{bytes_of, quoted};
+ghost use Rattle.rv_statement.specs.View.{width_bytes, quoted};
 ghost use Rattle.rv_text.specs.Eval.{IsOutcome};
 ghost use Rattle.rv_text_laws.specs.Values as values;
 ghost use Rattle.rv_unit_laws.specs.Tables as laws;
@@ -102,7 +102,7 @@ pub(crate) fn end_within(offset: u32, bytes: u64) -> u32
 
 /// The bytes of a value of data.
 pub fn width_in_bytes(width: Width) -> u64
-    ensures { result ≡ bytes_of width }
+    ensures { result ≡ width_bytes width }
 {
     match width {
         Width::Byte => 1,
@@ -114,7 +114,7 @@ pub fn width_in_bytes(width: Width) -> u64
 
 /// The bytes of values of data, or as many as a number shows.
 pub fn values_size(width: Width, count: usize) -> u64
-    ensures { result ≡ min (bytes_of width * count) (2 ^ 64 - 1) }
+    ensures { result ≡ min (width_bytes width * count) (2 ^ 64 - 1) }
 {
     width_in_bytes(width).saturating_mul(count as u64)
 }

@@ -140,7 +140,8 @@ impl<'a> Tables<'a> {
             tables_of self.new
             ≡ laws.with_assignment (tables_of self.old)
             (laws.assigned (assignment.now).name.now ordinal
-            (laws.value (tables_of self.old) false ordinal (laws.here (tables_of self.old))
+            (laws.value_by_tables (tables_of self.old) false ordinal
+            (laws.here (tables_of self.old))
             (tree_of_expr (assignment.now).expression)))) }
         ensures indexed { OnOk result (IsIndexed self.old → IsIndexed self.new) }
     {

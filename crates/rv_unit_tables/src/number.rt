@@ -8,7 +8,7 @@ ghost use Rattle.std.specs.Cmp.Rules.{comparing};
 ghost use Rattle.std.specs.Hash as fed;
 ghost use Rattle.std.proofs.Common.{ap, rules};
 ghost use Rattle.std.proofs.lemmas.Bool.{eqb-true};
-ghost use Rattle.rv_text_laws.specs.Bytes.{value, digit};
+ghost use Rattle.rv_text_laws.specs.Bytes.{digits_value, digit};
 ghost use Rattle.rv_unit_tables.specs.Mixed.{HasNoZeroInFront, basis, mix, mix_digit};
 
 use indexmap::Equivalent;
@@ -42,7 +42,7 @@ fn digit(byte: u8) -> u8
 /// The digits after a zero in front.
 fn behind_zero(digits: &[u8]) -> Option<&[u8]>
     ensures found { IfSome result
-        (λ rest. (value 10 rest.now ≡ value 10 digits.now)
+        (λ rest. (digits_value 10 rest.now ≡ digits_value 10 digits.now)
         × (length rest.now < length digits.now)) }
     ensures missing { result ≡ None → HasNoZeroInFront digits.now }
 {
@@ -54,7 +54,7 @@ fn behind_zero(digits: &[u8]) -> Option<&[u8]>
 
 /// The digits without the zeros in front.
 fn trimmed(digits: &[u8]) -> &[u8]
-    ensures value { value 10 result.now ≡ value 10 digits.now }
+    ensures value { digits_value 10 result.now ≡ digits_value 10 digits.now }
     ensures some { HasNoZeroInFront result.now }
 {
     let mut left = digits;
@@ -67,7 +67,7 @@ fn trimmed(digits: &[u8]) -> &[u8]
 /// The digits without the last, and its value; without any 0.
 fn cut_last(digits: &[u8]) -> (&[u8], u8)
     ensures some { HasNoZeroInFront digits.now → HasNoZeroInFront result.0.now }
-    ensures value { value 10 digits.now ≡ 10 * value 10 result.0.now + result.1 }
+    ensures value { digits_value 10 digits.now ≡ 10 * digits_value 10 result.0.now + result.1 }
     ensures below { result.1 ≤ 16 }
     ensures shorter { length result.0.now ≡ length digits.now - 1 }
 {
@@ -79,7 +79,7 @@ fn cut_last(digits: &[u8]) -> (&[u8], u8)
 
 /// Whether digits spell the same number.
 pub(crate) fn same_number(first: &[u8], second: &[u8]) -> bool
-    ensures { result ≡ (value 10 first.now == value 10 second.now) }
+    ensures { result ≡ (digits_value 10 first.now == digits_value 10 second.now) }
 {
     let mut left = first;
     let mut right = second;
@@ -110,7 +110,7 @@ fn with_digit(number: u64, digit: u8) -> u64
 
 /// The decimal digits of the number that digits spell, from the last on, mixed into one number.
 fn mixed(digits: &[u8]) -> u64
-    ensures { result ≡ mix (value 10 digits.now) basis }
+    ensures { result ≡ mix (digits_value 10 digits.now) basis }
 {
     let mut rest = trimmed(digits);
     let mut carry = 0;

@@ -2,7 +2,7 @@
 
 ghost use Rattle.std.specs.Prelude.{◌≡◌, ◌==◌, ◌++◌, ◌<◌, ◌^◌, ℕ, true, List, [], ◌∷◌, nat_lt, length, unwrap_or, if◌then◌else◌, OnOk};
 ghost use Rattle.std.specs.List.{list_all};
-ghost use Rattle.rv_text_laws.specs.Bytes.{value};
+ghost use Rattle.rv_text_laws.specs.Bytes.{digits_value};
 ghost use Rattle.rv_unit_laws.specs.Tables as laws;
 ghost use Rattle.rv_unit_tables.specs.Tables.{numeric_label_at, numbered_at, numeric_labels_in};
 
@@ -30,17 +30,17 @@ pub(crate) fn add_numbered<'a>(
     label: NumericLabel,
 ) -> Result<(), AllocError>
     ensures each { OnOk result
-        (length (numbered_at numbered.old (value 10 (number.entry).digits.now)) < 2 ^ 32 →
-        (digits : List ℕ) → numbered_at numbered.new (value 10 digits)
-        ≡ (if value 10 (number.entry).digits.now == value 10 digits
-        then numbered_at numbered.old (value 10 digits) ++ label ∷ []
-        else numbered_at numbered.old (value 10 digits))) }
+        (length (numbered_at numbered.old (digits_value 10 (number.entry).digits.now)) < 2 ^ 32 →
+        (digits : List ℕ) → numbered_at numbered.new (digits_value 10 digits)
+        ≡ (if digits_value 10 (number.entry).digits.now == digits_value 10 digits
+        then numbered_at numbered.old (digits_value 10 digits) ++ label ∷ []
+        else numbered_at numbered.old (digits_value 10 digits))) }
     ensures all { OnOk result
-        (length (numbered_at numbered.old (value 10 (number.entry).digits.now)) < 2 ^ 32 →
+        (length (numbered_at numbered.old (digits_value 10 (number.entry).digits.now)) < 2 ^ 32 →
         list_all (λ (m : laws.NumericLabel). nat_lt m.ordinal label.ordinal)
         (numeric_labels_in numbered.old.entries) ≡ true →
         numeric_labels_in numbered.new.entries
-        ≡ numeric_label_at (value 10 (number.entry).digits.now) label
+        ≡ numeric_label_at (digits_value 10 (number.entry).digits.now) label
         ∷ numeric_labels_in numbered.old.entries) }
 {
     let mut labels = or_none(alloc, numbered.insert(number, NumericLabels::new(alloc))?);

@@ -9,7 +9,7 @@ ghost use Rattle.std.specs.List.{find};
 ghost use Rattle.std.specs.List.Sorted.{IsNonDecreasingBy, IsPartitionPoint};
 ghost use Rattle.rv_unit_tables.specs.declared.tables.NumericLabel.{NumericLabel as NumericLabelOf};
 ghost use Rattle.rv_unit_tables.specs.declared.numeric_labels.Run.{Run as RunOf};
-ghost use Rattle.rv_unit_tables.specs.NumericLabels.{are_runs, place_at};
+ghost use Rattle.rv_unit_tables.specs.NumericLabels.{are_runs, place_by_runs};
 
 use crate::section_offset::SectionOffset;
 use crate::tables::NumericLabel;
@@ -104,9 +104,10 @@ fn add_place(runs: &mut Vec<Run>, index: usize, place: SectionOffset) -> Result<
     ensures runs { OnOk result (IsTrue (are_runs (reverse runs.old.items) index) →
         IsTrue (are_runs (reverse runs.new.items) (index + 1))) }
     ensures place { OnOk result (IsTrue (are_runs (reverse runs.old.items) index) →
-        index < 2 ^ 32 → place_at (reverse runs.new.items) index ≡ place) }
+        index < 2 ^ 32 → place_by_runs (reverse runs.new.items) index ≡ place) }
     ensures others { OnOk result ((other : ℕ) → other < index →
-        place_at (reverse runs.new.items) other ≡ place_at (reverse runs.old.items) other) }
+        place_by_runs (reverse runs.new.items) other
+        ≡ place_by_runs (reverse runs.old.items) other) }
     ensures err { OnErr result (runs.new.items ≡ runs.old.items) }
 {
     if ends_at(runs.as_slice(), place) {

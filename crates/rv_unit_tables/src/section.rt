@@ -172,7 +172,7 @@ impl<'a> Section<'a> {
     /// A section with the flags and the type that are given, or that its name's front says.
     pub fn of(name: &'a [u8], flags: Option<&[u8]>, kind: Option<&[u8]>) -> Self
         ensures { section_of result
-            ≡ laws.section_of name.now (option_map quoted flags.entry)
+            ≡ laws.section_with name.now (option_map quoted flags.entry)
             (option_map now_of kind.entry) }
     {
         let code = is_code(name);
@@ -190,7 +190,7 @@ impl<'a> Section<'a> {
 
     /// The section of a directive of its own.
     pub fn standard(standard: Standard) -> Self
-        ensures { section_of result ≡ laws.section_of (standard_name standard) None None }
+        ensures { section_of result ≡ laws.section_with (standard_name standard) None None }
     {
         Section::of(standard.name(), None, None)
     }

@@ -7,7 +7,7 @@
 
 ghost use Rattle.std.specs.Prelude.{◌≡◌, ℕ, ◌-◌, ◌^◌, min, ◌<◌, ◌||◌, ◌==◌, [], false, true, not, is_some, Some, None, option_map, map, IfOk, OnOk};
 ghost use Rattle.std.specs.List.{find};
-ghost use Rattle.rv_text_laws.specs.Bytes.{value as digits_value};
+ghost use Rattle.rv_text_laws.specs.Bytes.{digits_value as digits_value};
 ghost use Rattle.rv_text_laws.specs.Values.{Open};
 ghost use Rattle.rv_text.specs.Nodes.{symbol_of};
 ghost use Rattle.rv_text.specs.Expr.{tree_of_expr};
@@ -352,7 +352,7 @@ impl<'a> Tables<'a> {
     pub(crate) fn value(&self, expression: &Expr<'a>) -> Result<Value<'a>, SourceFault>
         ensures { IsIndexed self.now → (o : ℕ) → IsBefore (tables_of self.now) o →
             IsOutcome result 0
-            (laws.value (tables_of self.now) false o (laws.here (tables_of self.now))
+            (laws.value_by_tables (tables_of self.now) false o (laws.here (tables_of self.now))
             (tree_of_expr expression.now)) }
     {
         eval(expression, 0, &|symbol| self.meaning(symbol))

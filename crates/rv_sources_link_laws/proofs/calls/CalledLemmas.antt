@@ -23,7 +23,7 @@ use Rattle.rv_object_laws.specs.Shortened.{empty_jump, short_call}
 use Rattle.rv_assemble_laws.specs.Coded.{IsCodedPart}
 use Rattle.rv_source_laws.specs.Lines.{other_operand}
 use Rattle.rv_source_laws.specs.Sizes.{target_in}
-use Rattle.rv_source_laws.specs.Sized.{is_call}
+use Rattle.rv_source_laws.specs.Sized.{is_call_mnemonic}
 use Rattle.rv_source_laws.specs.Shortened.{link_register}
 use Rattle.rv_sources_link_laws.proofs.statements.QuietLemmas.{IsCalm, InCode, either_kind, form_quiet, short_quiet, quiet, zero_branches, swapped_branches}
 
@@ -55,7 +55,7 @@ branch_quiet bytes operation rs1 rs2 = branch_by (bytes == 2) (bytes == 8) opera
 jump_quiet : (bytes rd : ℕ) → AreUncalled (jump bytes rd)
 jump_quiet bytes rd = (either_kind IsUncalled ((rd == 0) && (bytes == 2)) kind.RvcJump kind.Jal (λ i. refl) (λ i. refl) (jal rd), tt)
 
-uncalled_code : (v : Constants) (rvc : Bool) (bytes : ℕ) (mnemonic : Mnemonic) (os : List Operand) → is_call mnemonic ≡ false → InCode IsUncalled (code v rvc bytes mnemonic os)
+uncalled_code : (v : Constants) (rvc : Bool) (bytes : ℕ) (mnemonic : Mnemonic) (os : List Operand) → is_call_mnemonic mnemonic ≡ false → InCode IsUncalled (code v rvc bytes mnemonic os)
 uncalled_code v rvc bytes (Branch operation) (Register rs1 ∷ Register rs2 ∷ Target x ∷ []) e = branch_quiet bytes operation rs1 rs2
 uncalled_code v rvc bytes (Branch operation) os e = tt
 uncalled_code v rvc bytes (ZeroBranch operation) (Register rs ∷ Target x ∷ []) e = zero_branches AreUncalled bytes (branch_quiet bytes) operation rs
@@ -77,7 +77,7 @@ uncalled_code v rvc bytes Jump os e = absurd (cc)
 uncalled_code v rvc bytes mnemonic os e = quiet IsUncalled calm v rvc bytes mnemonic os refl
 
 pub uncalled : (v : Constants) (rvc : Bool) (bytes : ℕ) (mnemonic : Mnemonic) (os : List Operand) (ps : List Part)
-    → is_call mnemonic ≡ false → code v rvc bytes mnemonic os ≡ Some ps → AllByRecursion IsUncalled ps
+    → is_call_mnemonic mnemonic ≡ false → code v rvc bytes mnemonic os ≡ Some ps → AllByRecursion IsUncalled ps
 uncalled v rvc bytes mnemonic os ps e f = subst (InCode IsUncalled) f (uncalled_code v rvc bytes mnemonic os e)
 
 -- ---- calls
@@ -95,7 +95,7 @@ through_as true ps qs e = absurd (cc)
 through_as false ps qs e = refl
 
 pub called : (v : Constants) (rvc : Bool) (b : ℕ) (mnemonic : Mnemonic) (os : List Operand) (ps : List Part)
-    → is_call mnemonic ≡ true → code v rvc b mnemonic os ≡ Some ps → IsCalled v rvc mnemonic os
+    → is_call_mnemonic mnemonic ≡ true → code v rvc b mnemonic os ≡ Some ps → IsCalled v rvc mnemonic os
 called v rvc b Call (Register rd ∷ Target x ∷ []) ps e f =
     let some = through_as (rd == 0) (far b rd rd) ps f in
     record { by = rd; to = x; operand = refl; target = refl; codes = λ n. ap (λ t. if t then None else Some (far n rd rd)) some }

@@ -22,7 +22,7 @@ use Rattle.rv_layout_laws.specs.declared.site.SiteKind.TheVariants as spots
 use Rattle.rv_source_laws.specs.Located.{Located}
 use Rattle.rv_source_laws.specs.Program.{Program, tables_in, form as program_form}
 use Rattle.rv_source_laws.specs.Sizes.{target_in}
-use Rattle.rv_source_laws.specs.Sized.{is_call}
+use Rattle.rv_source_laws.specs.Sized.{is_call_mnemonic}
 use Rattle.rv_source_laws.specs.Shortened.{link_register, Placed, aim_of, aim_offset, sites_by, alignment_sites, call_sites, shortenable, has_compressed, is_compressible}
 use Rattle.rv_object.specs.Object.{Relocation, Section, Symbol, Object, stored}
 use Rattle.rv_object.specs.Padding.{no_operations}
@@ -34,7 +34,7 @@ use Rattle.rv_object_laws.specs.Moves.{full_padding, alignment_of}
 use Rattle.rv_object_laws.specs.Names.{Place, symbol_place}
 use Rattle.rv_assemble_laws.specs.CodeFields.{relax_fields}
 use Rattle.rv_assemble_laws.specs.Templates.{Template, Coded, Open, template_fields, align_field, padding_templates}
-use Rattle.rv_assemble_laws.specs.LaidStatements.{LaidStatement, expression_value, part_of, part_bytes, IsPaddedIn}
+use Rattle.rv_assemble_laws.specs.LaidStatements.{LaidStatement, expression_value, laid_part, part_bytes, IsPaddedIn}
 use Rattle.rv_assemble_laws.specs.Symbols.{StandsFor}
 use Rattle.rv_assemble_laws.specs.IsObjectOf.{Numbering, relocation_at, relocations_from}
 use Rattle.rv_sources_link_laws.proofs.sections.AssembledLemmas.{assembled_templates, parts_of}
@@ -153,11 +153,11 @@ module _ (p : Program) (starts : Starts) (os : List Object) (text : List Placed)
             permitted_not r c =
                 ap (λ b. b && has_relax r.place x.relocations && are_call_words (stored x.contents) r.place && is_text_place os (target_place os i r) && not (is_entered o j r.place) && (count_by (meets r.place) x.relocations == 1)) c
 
-    quiet_parts : (q ordinal : ℕ) (ts : List Template) → AllByRecursion IsCalm ts → AllByRecursion IsPlain ts → AllByRecursion (λ r. may r ≡ false) (relocations_from number q (map (part_of ordinal) ts))
+    quiet_parts : (q ordinal : ℕ) (ts : List Template) → AllByRecursion IsCalm ts → AllByRecursion IsPlain ts → AllByRecursion (λ r. may r ≡ false) (relocations_from number q (map (laid_part ordinal) ts))
     quiet_parts q ordinal [] h k = tt
     quiet_parts q ordinal (w ∷ ts) (h, hs) (k, ks) =
-        join (λ r. may r ≡ false) (map (relocation_at number q) (template_fields ordinal w)) (relocations_from number (q + length (part_bytes (part_of ordinal w))) (map (part_of ordinal) ts))
-        (may_not q (template_fields ordinal w) (template_calm ordinal w h) (template_plain ordinal w k)) (quiet_parts (q + length (part_bytes (part_of ordinal w))) ordinal ts hs ks)
+        join (λ r. may r ≡ false) (map (relocation_at number q) (template_fields ordinal w)) (relocations_from number (q + length (part_bytes (laid_part ordinal w))) (map (laid_part ordinal) ts))
+        (may_not q (template_fields ordinal w) (template_calm ordinal w h) (template_plain ordinal w k)) (quiet_parts (q + length (part_bytes (laid_part ordinal w))) ordinal ts hs ks)
 
     pub stay : AllByRecursion IsCalm (assembled_templates t z z.located.kind) → AllByRecursion IsPlain (assembled_templates t z z.located.kind)
         → ((first : ℕ) → [] ≡ sites_by p text (placed_at first z) z.located.kind) → IsOne z
@@ -202,7 +202,7 @@ module _ (p : Program) (starts : Starts) (os : List Object) (text : List Placed)
     with_padding : (a : ℕ) → IsPower a → source_alignment (expression_value t z.located) d ≡ Some a → z.bytes ≡ a - 2 → IsOne z
     with_padding a power al bytes = record {
       change = Some (align_at z.offset z.bytes);
-      is = ap (λ l. filter may (relocations_from number z.offset (map (part_of z.located.ordinal) l))) (pads ∙ padding_was z.located.ordinal z.bytes some)
+      is = ap (λ l. filter may (relocations_from number z.offset (map (laid_part z.located.ordinal) l))) (pads ∙ padding_was z.located.ordinal z.bytes some)
           ∙ ap (λ b. if b || is_permitted os i (align_at z.offset z.bytes) then align_at z.offset z.bytes ∷ [] else []) (lt-ltb 0 z.bytes some);
       fits = λ r e. (let same : align_at z.offset z.bytes ≡ r = cc in (ap (λ (q : Relocation). q.place) (sym same), subst (λ q. held q ≤ z.bytes) same (omega arith)));
       made = λ first.
@@ -238,7 +238,7 @@ module _ (p : Program) (starts : Starts) (os : List Object) (text : List Placed)
 
   -- ---- a call
 
-  module _ (z : LaidStatement) (m : Mnemonic) (ops : List Operand) (is_kind : z.located.kind ≡ Instruction m ops) (call : is_call m ≡ true) (h : IsLongCall t z m ops)
+  module _ (z : LaidStatement) (m : Mnemonic) (ops : List Operand) (is_kind : z.located.kind ≡ Instruction m ops) (call : is_call_mnemonic m ≡ true) (h : IsLongCall t z m ops)
       (relaxed : has_relax z.offset x.relocations ≡ z.located.options.relax) (words : are_call_words (stored x.contents) z.offset ≡ true) (linked : linked_by (stored x.contents) z.offset ≡ link_register m ops)
       (entered : is_entered o j z.offset ≡ false) (counted : count_by (meets z.offset) x.relocations ≡ 1)
       (stands : StandsFor t all z.located.ordinal h.symbol (slice_get o.symbols (number z.located.ordinal h.symbol))) where
@@ -255,8 +255,8 @@ module _ (p : Program) (starts : Starts) (os : List Object) (text : List Placed)
     relax = z.located.options.relax
 
     rels_are : rels z ≡ r ∷ (marks ++ [])
-    rels_are = ap (λ k. relocations_from number z.offset (map (part_of z.located.ordinal) (assembled_templates t z k))) is_kind
-        ∙ ap (λ l. relocations_from number z.offset (map (part_of z.located.ordinal) l)) (long.was t z multiple m ops is_kind call h)
+    rels_are = ap (λ k. relocations_from number z.offset (map (laid_part z.located.ordinal) (assembled_templates t z k))) is_kind
+        ∙ ap (λ l. relocations_from number z.offset (map (laid_part z.located.ordinal) l)) (long.was t z multiple m ops is_kind call h)
 
     marks_not : (b : Bool) → AllByRecursion (λ r. may r ≡ false) (map (relocation_at number z.offset) (relax_fields b z.located.ordinal) ++ [])
     marks_not true = (refl, tt)

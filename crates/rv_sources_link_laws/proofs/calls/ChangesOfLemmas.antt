@@ -16,8 +16,8 @@ use Rattle.rv_unit_laws.specs.Tables.{Tables, alignment_of as source_alignment}
 use Rattle.rv_source_laws.specs.Located.{Located, has_row}
 use Rattle.rv_source_laws.specs.Program.{Program, tables_in, form as program_form}
 use Rattle.rv_source_laws.specs.Sizes.{target_in}
-use Rattle.rv_source_laws.specs.Sized.{is_call}
-use Rattle.rv_source_laws.specs.Shortened.{calls, link_register, Placed, aim_of, sites_by, sites_at, call_sites, is_compressible, has_compressed}
+use Rattle.rv_source_laws.specs.Sized.{is_call_mnemonic}
+use Rattle.rv_source_laws.specs.Shortened.{is_call_statement, link_register, Placed, aim_of, sites_by, sites_at, call_sites, is_compressible, has_compressed}
 use Rattle.rv_source_laws.proofs.HeldLemmas.{IsHeld}
 use Rattle.rv_object.specs.Object.{Relocation, Section, Symbol, Object, stored}
 use Rattle.rv_object.specs.Valid.{held}
@@ -26,7 +26,7 @@ use Rattle.rv_object_laws.specs.Inputs.{Starts, InputSection}
 use Rattle.rv_object_laws.specs.Names.{symbol_place}
 use Rattle.rv_assemble_laws.specs.CodeFields.{relax_fields}
 use Rattle.rv_assemble_laws.specs.Coded.{constants}
-use Rattle.rv_assemble_laws.specs.LaidStatements.{LaidStatement, expression_value, part_of, part_bytes, coded_templates, HasSize}
+use Rattle.rv_assemble_laws.specs.LaidStatements.{LaidStatement, expression_value, laid_part, part_bytes, coded_templates, HasSize}
 use Rattle.rv_assemble_laws.specs.Templates.{Coded}
 use Rattle.rv_assemble_laws.specs.Symbols.{StandsFor, references_in}
 use Rattle.rv_assemble_laws.specs.IsObjectOf.{Numbering, IsNumbered, relocation_at, relocations_from, ArePartsNumbered}
@@ -89,7 +89,7 @@ module _ (p : Program) (starts : Starts) (os : List Object) (text : List Placed)
       pub counted : count_by (meets z.offset) x.relocations ≡ 1
       pub stands : StandsFor t all z.located.ordinal h.symbol (slice_get o.symbols (number z.located.ordinal h.symbol))
 
-    module _ (seated : (m : Mnemonic) (ops : List Operand) → z.located.kind ≡ Instruction m ops → is_call m ≡ true → (h : IsLongCall t z m ops) → IsSeated m ops h) where
+    module _ (seated : (m : Mnemonic) (ops : List Operand) → z.located.kind ≡ Instruction m ops → is_call_mnemonic m ≡ true → (h : IsLongCall t z m ops) → IsSeated m ops h) where
       abbrev stay : AllByRecursion IsCalm (assembled_templates t z z.located.kind) → AllByRecursion IsPlain (assembled_templates t z z.located.kind)
           → ((first : ℕ) → [] ≡ sites_by p text (change.placed_at p starts os text f t same_tables o j x s code number all multiple flag meant final stays first z) z.located.kind) → One z
       stay = change.stay p starts os text f t same_tables o j x s code number all multiple flag meant final stays z
@@ -108,11 +108,11 @@ module _ (p : Program) (starts : Starts) (os : List Object) (text : List Placed)
       one_placed : (kind : StatementKind) → z.located.kind ≡ kind → IsHeld s kind → HasSize (expression_value t z.located) z multiple kind → One z
       one_placed (Label name) e held size' = bare (Label name) e refl (λ first. refl)
       one_placed (Numbered digits) e held size' = bare (Numbered digits) e refl (λ first. refl)
-      one_placed (Instruction m ops) e held size' = go (is_call m) refl
+      one_placed (Instruction m ops) e held size' = go (is_call_mnemonic m) refl
         where
-          go : (b : Bool) → is_call m ≡ b → One z
+          go : (b : Bool) → is_call_mnemonic m ≡ b → One z
           go true call =
-              let h = long_call t z multiple m ops e call size' (uncut (ap calls e ∙ call)) sound in
+              let h = long_call t z multiple m ops e call size' (uncut (ap is_call_statement e ∙ call)) sound in
               let k = seated m ops e call h in
               change.called_one p starts os text f t same_tables o j x s code number all multiple flag meant final stays z m ops e call h k.relaxed k.words k.linked k.entered k.counted k.stands
           go false call =
@@ -125,7 +125,7 @@ module _ (p : Program) (starts : Starts) (os : List Object) (text : List Placed)
               (λ first. quiet_call (change.placed_at p starts os text f t same_tables o j x s code number all multiple flag meant final stays first z) m ops call
               ∙ ap (sites_by p text (change.placed_at p starts os text f t same_tables o j x s code number all multiple flag meant final stays first z)) (sym e))
             where
-              quiet_call : (y : Placed) (m : Mnemonic) (ops : List Operand) → is_call m ≡ false → [] ≡ sites_by p text y (Instruction m ops)
+              quiet_call : (y : Placed) (m : Mnemonic) (ops : List Operand) → is_call_mnemonic m ≡ false → [] ≡ sites_by p text y (Instruction m ops)
               quiet_call y m ops g = ap (λ b. if b && y.site.located.options.relax then call_sites p text y (is_compressible p y.site.located m ops) (option_map (program_form p y.site.located) (target_in ops)) else []) (sym g)
       one_placed (Directs (Values width es)) e held size' = no_data held.0
       one_placed (Directs (Strings ended strings)) e held size' = no_data held.0
@@ -157,7 +157,7 @@ module _ (p : Program) (starts : Starts) (os : List Object) (text : List Placed)
           go true e = inl (ap (λ b. b && z.located.home.loaded) e ∙ loaded, one_placed z.located.kind refl inside.held (size e))
           go false e = inr (
             ap (λ b. b && z.located.home.loaded) e,
-            ap (λ l. filter may (relocations_from number z.offset (map (part_of z.located.ordinal) l))) (bare_before z.located.kind (λ q y. inside.bare e q y) t z),
+            ap (λ l. filter may (relocations_from number z.offset (map (laid_part z.located.ordinal) l))) (bare_before z.located.kind (λ q y. inside.bare e q y) t z),
           )
 
   -- ---- all of them
@@ -223,7 +223,7 @@ module _ (p : Program) (starts : Starts) (os : List Object) (text : List Placed)
       (sites_are : zs ≡ pre ++ z ∷ ys) (low : AllByRecursion (λ (y : LaidStatement). y.offset ≤ q) pre) (rels_are : x.relocations ≡ R ++ rels q (z ∷ ys)) (before : AllByRecursion (IsBefore q) R)
       (stored_are : stored x.contents ≡ front ++ flat_map part_bytes (parts t (z ∷ ys))) (off : z.offset ≡ q) (bytes : z.bytes ≡ length (flat_map part_bytes (parts_of t z)))
       (tile : Tile t (q + z.bytes) ys) (numbered : ArePartsNumbered t all number o.symbols (parts t (z ∷ ys)))
-      (m : Mnemonic) (ops : List Operand) (e : z.located.kind ≡ Instruction m ops) (call : is_call m ≡ true) (h : IsLongCall t z m ops) where
+      (m : Mnemonic) (ops : List Operand) (e : z.located.kind ≡ Instruction m ops) (call : is_call_mnemonic m ≡ true) (h : IsLongCall t z m ops) where
     abbrev marks : List Relocation
     marks = map (relocation_at number q) (long.mark t z multiple m ops e call h)
 
@@ -233,8 +233,8 @@ module _ (p : Program) (starts : Starts) (os : List Object) (text : List Placed)
     abbrev later : List Relocation
     later = rels (q + z.bytes) ys
 
-    own_parts : parts_of t z ≡ part_of z.located.ordinal (Coded (h.first ++ h.second) (long.field t z multiple m ops e call h kinds.CallPlt ∷ long.mark t z multiple m ops e call h)) ∷ []
-    own_parts = ap (λ k. map (part_of z.located.ordinal) (assembled_templates t z k)) e ∙ ap (map (part_of z.located.ordinal)) (long.was t z multiple m ops e call h)
+    own_parts : parts_of t z ≡ laid_part z.located.ordinal (Coded (h.first ++ h.second) (long.field t z multiple m ops e call h kinds.CallPlt ∷ long.mark t z multiple m ops e call h)) ∷ []
+    own_parts = ap (λ k. map (laid_part z.located.ordinal) (assembled_templates t z k)) e ∙ ap (map (laid_part z.located.ordinal)) (long.was t z multiple m ops e call h)
 
     all_are : x.relocations ≡ R ++ ((r ∷ (marks ++ [])) ++ later)
     all_are =

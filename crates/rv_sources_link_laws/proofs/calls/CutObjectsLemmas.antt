@@ -14,9 +14,9 @@ use Rattle.rv_object.specs.Object.{Section, Object}
 use Rattle.rv_object_laws.specs.CallSites.{in_order}
 use Rattle.rv_object_laws.specs.Inputs.{goes_to_text}
 use Rattle.rv_object_laws.specs.Shortened.{Sizes, is_shortened, cut, cuts, cuts_at, cuts_in, shortened_text, shortened_section, shortened_sections, shortened_definition, shortened_symbol, shortened_row, shortened_object}
-use Rattle.rv_source_laws.specs.Shortened.{calls}
+use Rattle.rv_source_laws.specs.Shortened.{is_call_statement}
 use Rattle.rv_source_laws.proofs.HomesLemmas.{all_filter}
-use Rattle.rv_assemble_laws.specs.LaidStatements.{LaidStatement, Part, expression_value, laid_in, HasSize}
+use Rattle.rv_assemble_laws.specs.LaidStatements.{LaidStatement, LaidPart, expression_value, laid_in, HasSize}
 use Rattle.rv_assemble_laws.specs.Symbols.{references_in, exports}
 use Rattle.rv_assemble_laws.specs.IsObjectOf.{IsNumbered, ArePartsNumbered, row_of, rows_at}
 use Rattle.rv_sources_link_laws.proofs.sections.MaskedLemmas.{source_sections}
@@ -35,7 +35,7 @@ use Rattle.rv_sources_link_laws.proofs.fields.WholesLemmas.{IsSound, sound}
 
 -- each call in a section of text has a form of its size
 abbrev pub Fitting : (ℕ → Sizes) → LaidStatement → Type 0
-Fitting sizes z = source_text z.located.home ≡ true → calls z.located.kind ≡ true → IsForm (link_of z.located.kind) (sizes z.located.section z.offset)
+Fitting sizes z = source_text z.located.home ≡ true → is_call_statement z.located.kind ≡ true → IsForm (link_of z.located.kind) (sizes z.located.section z.offset)
 
 module _ (sizes : ℕ → Sizes) (o : Object) where
   -- a statement with the cuts of its section made
@@ -90,12 +90,12 @@ module _ (ss : List Statement) (o : Object) (is : IsAssembled ss o) (uncut : All
 
   -- ---- symbols
 
-  uses_same : (p : Part) → AllByRecursion (IsNumbered t is.laid is.number o.symbols) (references_in p) → AllByRecursion (IsNumbered t laid' is.number o'.symbols) (references_in p)
+  uses_same : (p : LaidPart) → AllByRecursion (IsNumbered t is.laid is.number o.symbols) (references_in p) → AllByRecursion (IsNumbered t laid' is.number o'.symbols) (references_in p)
   uses_same p h =
       moved.uses_same t is.laid is.places (filed.bounds ss o is) (cuts_in sizes o) still (mv sizes o) (λ z. refl) (λ z. refl) (shortened_definition sizes o) refl (λ n. refl) (λ n. refl) (λ j n. refl)
       is.number o.symbols p h
 
-  numbered_same : (ps : List Part) → ArePartsNumbered t is.laid is.number o.symbols ps → ArePartsNumbered t laid' is.number o'.symbols ps
+  numbered_same : (ps : List LaidPart) → ArePartsNumbered t is.laid is.number o.symbols ps → ArePartsNumbered t laid' is.number o'.symbols ps
   numbered_same [] h = tt
   numbered_same (p ∷ ps) (h, hs) = (uses_same p h, numbered_same ps hs)
 
@@ -222,7 +222,7 @@ module _ (ss : List Statement) (o : Object) (is : IsAssembled ss o) (uncut : All
 
   -- a call in text has the bytes of its size, and all else its own
   abbrev pub IsResized : LaidStatement → Type 0
-  IsResized z = (source_text z.located.home ≡ true → calls z.located.kind ≡ true → (mv sizes o z).bytes ≡ sizes z.located.section z.offset) × (calls z.located.kind ≡ false → (mv sizes o z).bytes ≡ z.bytes)
+  IsResized z = (source_text z.located.home ≡ true → is_call_statement z.located.kind ≡ true → (mv sizes o z).bytes ≡ sizes z.located.section z.offset) × (is_call_statement z.located.kind ≡ false → (mv sizes o z).bytes ≡ z.bytes)
 
   -- where it stands in a section
   moved_in : (j : ℕ) (x : Section) (z : LaidStatement) → slice_get o.sections j ≡ Some x → z.located.section ≡ j → mv sizes o z ≡ cut_statement (source_text z.located.home) (sizes j) (cuts (sizes j) x) z

@@ -23,7 +23,7 @@ use Rattle.rv_object_laws.specs.Inputs.{goes_to_text}
 use Rattle.rv_object_laws.specs.Moves.{Move, dropped, new_offset, kept, lost}
 use Rattle.rv_object_laws.specs.Shortened.{Sizes, short_call, is_shortened, cut, cuts, shortened_relocation, shortened_contents, shortened_text}
 use Rattle.rv_source_laws.specs.Shortened.{link_register}
-use Rattle.rv_assemble_laws.specs.LaidStatements.{LaidStatement, Part, part_bytes, end_of}
+use Rattle.rv_assemble_laws.specs.LaidStatements.{LaidStatement, LaidPart, part_bytes, end_of}
 use Rattle.rv_assemble_laws.specs.Symbols.{references_in}
 use Rattle.rv_assemble_laws.specs.Templates.{Open, IsTemplate}
 use Rattle.rv_assemble_laws.specs.IsObjectOf.{Numbering, IsNumbered, ArePartsNumbered, contents_of, relocation_at, relocations_from}
@@ -230,7 +230,7 @@ module _ (t : Tables) (laid : List LaidStatement) (number : Numbering) (symbols 
 module _ (t : Tables) (laid laid' : List LaidStatement) (number : Numbering) (symbols symbols' : List Symbol) (j : ℕ) (s : SourceSection) (x : Section) (sizes : Sizes)
     (zs : List LaidStatement) (h : IsSectionOf t laid number symbols j s zs x) (text : source_text s ≡ true)
     (sorted : AllByRecursion (λ z. walk.Sorted t number sizes x.alignment z) zs)
-    (stands : (p : Part) → AllByRecursion (IsNumbered t laid number symbols) (references_in p) → AllByRecursion (IsNumbered t laid' number symbols') (references_in p)) where
+    (stands : (p : LaidPart) → AllByRecursion (IsNumbered t laid number symbols) (references_in p) → AllByRecursion (IsNumbered t laid' number symbols') (references_in p)) where
   abbrev ms : List Move
   ms = cuts sizes x
 
@@ -286,7 +286,7 @@ module _ (t : Tables) (laid laid' : List LaidStatement) (number : Numbering) (sy
   contents_left types.Note e = ap Note bytes_left
   contents_left types.Nobits e = let (a, b, c) = nothing_left (ap is_nobits_type e) in ap Nobits (a ∙ sym b)
 
-  stand_all : (ps : List Part) → ArePartsNumbered t laid number symbols ps → AllByRecursion (λ p. AllByRecursion (IsNumbered t laid' number symbols') (references_in p)) ps
+  stand_all : (ps : List LaidPart) → ArePartsNumbered t laid number symbols ps → AllByRecursion (λ p. AllByRecursion (IsNumbered t laid' number symbols') (references_in p)) ps
   stand_all [] k = tt
   stand_all (p ∷ ps) (k, ks) = (stands p k, stand_all ps ks)
 

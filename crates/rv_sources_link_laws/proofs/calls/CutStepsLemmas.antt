@@ -13,10 +13,10 @@ use Rattle.rv_object.specs.Object.{Relocation}
 use Rattle.rv_object.specs.Padding.{operations_in}
 use Rattle.rv_object_laws.specs.Moves.{Move, dropped, new_offset, kept, lost, lost_in}
 use Rattle.rv_object_laws.specs.Shortened.{Sizes, short_call, is_shortened, shortened_kind, shortened_relocation}
-use Rattle.rv_source_laws.specs.Shortened.{calls, link_register}
+use Rattle.rv_source_laws.specs.Shortened.{is_call_statement, link_register}
 use Rattle.rv_assemble_laws.specs.CodeFields.{relax_fields}
 use Rattle.rv_assemble_laws.specs.Templates.{Open, Coded, template_fields}
-use Rattle.rv_assemble_laws.specs.LaidStatements.{LaidStatement, Part, expression_value, part_of, part_bytes, end_of, HasSize}
+use Rattle.rv_assemble_laws.specs.LaidStatements.{LaidStatement, LaidPart, expression_value, laid_part, part_bytes, end_of, HasSize}
 use Rattle.rv_assemble_laws.specs.IsObjectOf.{Numbering, relocation_at, relocations_from}
 use Rattle.rv_assemble_laws.proofs.FilledLemmas.{bytes_append}
 use Rattle.rv_sources_link_laws.proofs.sections.AssembledLemmas.{assembled_templates, parts_of, parts, Tile}
@@ -74,7 +74,7 @@ module _ (t : Tables) (number : Numbering) (sizes : Sizes) (multiple : ℕ) wher
   cuts_still o z zs h = ap (λ b. if b then cut_move sizes o z ∷ cuts_from sizes (o + z.bytes) zs else cuts_from sizes (o + z.bytes) zs) h.calm
 
   cut_true : (z : LaidStatement) → Cut z → is_cut sizes z ≡ true
-  cut_true z h = ap (λ k. calls k && nat_lt (sizes z.offset) 8) h.is_kind ∙ ap (λ b. b && nat_lt (sizes z.offset) 8) h.call ∙ h.less
+  cut_true z h = ap (λ k. is_call_statement k && nat_lt (sizes z.offset) 8) h.is_kind ∙ ap (λ b. b && nat_lt (sizes z.offset) 8) h.call ∙ h.less
 
   pub cuts_cut : (o : ℕ) (z : LaidStatement) (zs : List LaidStatement) → Cut z → cuts_from sizes o (z ∷ zs) ≡ cut_move sizes o z ∷ cuts_from sizes (o + z.bytes) zs
   cuts_cut o z zs h = ap (λ b. if b then cut_move sizes o z ∷ cuts_from sizes (o + z.bytes) zs else cuts_from sizes (o + z.bytes) zs) (cut_true z h)
@@ -276,7 +276,7 @@ module _ (t : Tables) (number : Numbering) (sizes : Sizes) (multiple : ℕ) wher
     -- ---- what is left of a section
 
     own_still : (o gone : ℕ) (z : LaidStatement) → StillStep o gone z → parts_of t (S z) ≡ parts_of t z
-    own_still o gone z s = ap (parts_of t) s.is ∙ ap (map (part_of z.located.ordinal)) (s.still.same (o - gone))
+    own_still o gone z s = ap (parts_of t) s.is ∙ ap (map (laid_part z.located.ordinal)) (s.still.same (o - gone))
 
     -- the part of a cut call
     abbrev short_field : (z : LaidStatement) → Cut z → Open
@@ -285,17 +285,17 @@ module _ (t : Tables) (number : Numbering) (sizes : Sizes) (multiple : ℕ) wher
     abbrev mark : LaidStatement → List Open
     mark z = relax_fields z.located.options.relax z.located.ordinal
 
-    abbrev short_part : (z : LaidStatement) → Cut z → Part
-    short_part z h = part_of z.located.ordinal (Coded (short_call (sizes z.offset) (link_register h.m h.os)) (short_field z h ∷ mark z))
+    abbrev short_part : (z : LaidStatement) → Cut z → LaidPart
+    short_part z h = laid_part z.located.ordinal (Coded (short_call (sizes z.offset) (link_register h.m h.os)) (short_field z h ∷ mark z))
 
     own_cut : (o gone : ℕ) (z : LaidStatement) (s : CutStep o gone z) → parts_of t (S z) ≡ short_part z s.cut ∷ []
     own_cut o gone z s =
         let h = s.cut in
-        ap (parts_of t) s.is ∙ ap (λ k. map (part_of z.located.ordinal) (assembled_templates t (cut_at (o - gone) z h) k)) h.is_kind
-        ∙ ap (map (part_of z.located.ordinal)) (long.is t z multiple h.m h.os h.is_kind h.call h.long (sizes z.offset) h.short (o - gone))
+        ap (parts_of t) s.is ∙ ap (λ k. map (laid_part z.located.ordinal) (assembled_templates t (cut_at (o - gone) z h) k)) h.is_kind
+        ∙ ap (map (laid_part z.located.ordinal)) (long.is t z multiple h.m h.os h.is_kind h.call h.long (sizes z.offset) h.short (o - gone))
 
-    pub long_part : (z : LaidStatement) (h : Cut z) → parts_of t z ≡ part_of z.located.ordinal (Coded (h.long.first ++ h.long.second) (long.field t z multiple h.m h.os h.is_kind h.call h.long kinds.CallPlt ∷ mark z)) ∷ []
-    long_part z h = ap (λ k. map (part_of z.located.ordinal) (assembled_templates t z k)) h.is_kind ∙ ap (map (part_of z.located.ordinal)) (long.was t z multiple h.m h.os h.is_kind h.call h.long)
+    pub long_part : (z : LaidStatement) (h : Cut z) → parts_of t z ≡ laid_part z.located.ordinal (Coded (h.long.first ++ h.long.second) (long.field t z multiple h.m h.os h.is_kind h.call h.long kinds.CallPlt ∷ mark z)) ∷ []
+    long_part z h = ap (λ k. map (laid_part z.located.ordinal) (assembled_templates t z k)) h.is_kind ∙ ap (map (laid_part z.located.ordinal)) (long.was t z multiple h.m h.os h.is_kind h.call h.long)
 
     part_long : (z : LaidStatement) (h : Cut z) → length (flat_map part_bytes (short_part z h ∷ [])) ≡ sizes z.offset
     part_long z h =
@@ -387,7 +387,7 @@ module _ (t : Tables) (number : Numbering) (sizes : Sizes) (multiple : ℕ) wher
         ap (λ k. made (N a) k ∷ map (shortened_relocation sizes ms) (map (relocation_at number a) fs)) (calm_kind (relocation_at number a f) h)
         ∙ ap (λ n. made n f.kind ∷ map (shortened_relocation sizes ms) (map (relocation_at number a) fs)) e ∙ ap (λ l. relocation_at number c f ∷ l) (fields_still a c fs e hs)
 
-    parts_still : (a c : ℕ) (ps : List Part) → ((d : ℕ) → d ≤ length (flat_map part_bytes ps) → N (a + d) ≡ c + d) → AreCalm sizes (relocations_from number a ps)
+    parts_still : (a c : ℕ) (ps : List LaidPart) → ((d : ℕ) → d ≤ length (flat_map part_bytes ps) → N (a + d) ≡ c + d) → AreCalm sizes (relocations_from number a ps)
         → map (shortened_relocation sizes ms) (relocations_from number a ps) ≡ relocations_from number c ps
     parts_still a c [] shift h = refl
     parts_still a c (p ∷ ps) shift h =
@@ -484,7 +484,7 @@ module _ (t : Tables) (number : Numbering) (sizes : Sizes) (multiple : ℕ) wher
         )
 
     -- what holds of each part by the symbols of its fields
-    pub parts_kept : (P : Part → Type 0) → ((ordinal : ℕ) (bytes bytes' : List ℕ) (k : Kind) (f : Open) (fs : List Open) → P (part_of ordinal (Coded bytes (f ∷ fs))) → P (part_of ordinal (Coded bytes' (record f { kind = k } ∷ fs))))
+    pub parts_kept : (P : LaidPart → Type 0) → ((ordinal : ℕ) (bytes bytes' : List ℕ) (k : Kind) (f : Open) (fs : List Open) → P (laid_part ordinal (Coded bytes (f ∷ fs))) → P (laid_part ordinal (Coded bytes' (record f { kind = k } ∷ fs))))
         → (o gone : ℕ) (zs : List LaidStatement) → Steps o gone zs → AllByRecursion P (parts t zs) → AllByRecursion P (parts t (map S zs))
     parts_kept P alike o gone [] st h = tt
     parts_kept P alike o gone (z ∷ zs) (off, bytes, low, inl (s, st)) h =
@@ -500,7 +500,7 @@ module _ (t : Tables) (number : Numbering) (sizes : Sizes) (multiple : ℕ) wher
 
     -- the bytes of each statement
     abbrev pub IsResized : LaidStatement → Type 0
-    IsResized z = (calls z.located.kind ≡ true → (S z).bytes ≡ sizes z.offset) × (calls z.located.kind ≡ false → (S z).bytes ≡ z.bytes)
+    IsResized z = (is_call_statement z.located.kind ≡ true → (S z).bytes ≡ sizes z.offset) × (is_call_statement z.located.kind ≡ false → (S z).bytes ≡ z.bytes)
 
     pub resized : (o gone : ℕ) (zs : List LaidStatement) → Steps o gone zs → AllByRecursion IsResized zs
     resized o gone [] st = tt
@@ -508,7 +508,7 @@ module _ (t : Tables) (number : Numbering) (sizes : Sizes) (multiple : ℕ) wher
         let same : (S z).bytes ≡ z.bytes = ap (λ (y : LaidStatement). y.bytes) s.is in
         (((λ call. same ∙ s.still.whole call), (λ call. same)), resized (o + z.bytes) gone zs st)
     resized o gone (z ∷ zs) (off, bytes, low, inr (s, st)) =
-        let is_call : calls z.located.kind ≡ true = ap calls s.cut.is_kind ∙ s.cut.call in (
+        let is_call : is_call_statement z.located.kind ≡ true = ap is_call_statement s.cut.is_kind ∙ s.cut.call in (
           ((λ call. ap (λ (y : LaidStatement). y.bytes) s.is), (λ call. let f : true ≡ false = sym is_call ∙ call in absurd (cc))),
           resized (o + z.bytes) (gone + (8 - sizes z.offset)) zs st,
         )

@@ -12,15 +12,15 @@ use Rattle.rv_statement.specs.Statement.{StatementKind, Label, Numbered, Instruc
 use Rattle.rv_pseudo_laws.specs.Code.{Part as CodePart, Closed, Open as Open_part, Joined, code}
 use Rattle.rv_unit_laws.specs.Sections.{Section as SourceSection}
 use Rattle.rv_unit_laws.specs.Tables.{Tables, alignment_of}
-use Rattle.rv_source_laws.specs.Sized.{is_call}
-use Rattle.rv_source_laws.specs.Shortened.{calls, link_register}
+use Rattle.rv_source_laws.specs.Sized.{is_call_mnemonic}
+use Rattle.rv_source_laws.specs.Shortened.{is_call_statement, link_register}
 use Rattle.rv_object.specs.Object.{Relocation}
 use Rattle.rv_object_laws.specs.CallSites as objects
 use Rattle.rv_object_laws.specs.Shortened.{Sizes, is_shortened}
 use Rattle.rv_assemble_laws.specs.CodeFields.{relax_fields}
 use Rattle.rv_assemble_laws.specs.Coded.{constants}
 use Rattle.rv_assemble_laws.specs.Templates.{Template, Fixed, Datum, Coded, Open, value_fields, template_fields, absolute_kind, add_kind, subtract_kind, padding_templates}
-use Rattle.rv_assemble_laws.specs.LaidStatements.{LaidStatement, expression_value, part_of, part_bytes, coded_templates, HasSize, IsPadded, IsPaddedIn}
+use Rattle.rv_assemble_laws.specs.LaidStatements.{LaidStatement, expression_value, laid_part, part_bytes, coded_templates, HasSize, IsPadded, IsPaddedIn}
 use Rattle.rv_assemble_laws.specs.IsObjectOf.{Numbering, relocation_at, relocations_from}
 use Rattle.rv_sources_link_laws.proofs.sections.AssembledLemmas.{assembled_templates}
 use Rattle.rv_sources_link_laws.proofs.calls.CalledLemmas.{IsForm, IsUncalled, uncalled}
@@ -42,17 +42,17 @@ link_of _ = 0
 
 -- whether the statement is a call that is cut
 abbrev pub is_cut : Sizes → LaidStatement → Bool
-is_cut sizes z = calls z.located.kind && nat_lt (sizes z.offset) 8
+is_cut sizes z = is_call_statement z.located.kind && nat_lt (sizes z.offset) 8
 
 abbrev pub AreCalm : Sizes → List Relocation → Type 0
 AreCalm sizes rs = AllByRecursion (λ r. is_shortened sizes r ≡ false) rs
 
 -- one that stays as it is
 pub record IsStill (t : Tables) (number : Numbering) (sizes : Sizes) (multiple : ℕ) (z : LaidStatement) (kind : StatementKind) : Type 0 where
-  pub calm : (calls kind && nat_lt (sizes z.offset) 8) ≡ false
-  pub whole : calls kind ≡ true → z.bytes ≡ sizes z.offset
+  pub calm : (is_call_statement kind && nat_lt (sizes z.offset) 8) ≡ false
+  pub whole : is_call_statement kind ≡ true → z.bytes ≡ sizes z.offset
   pub same : (n : ℕ) → assembled_templates t (at n z) kind ≡ assembled_templates t z kind
-  pub none : AreCalm sizes (relocations_from number z.offset (map (part_of z.located.ordinal) (assembled_templates t z kind)))
+  pub none : AreCalm sizes (relocations_from number z.offset (map (laid_part z.located.ordinal) (assembled_templates t z kind)))
   pub sized : (n : ℕ) → z.located.placed ≡ true → HasSize (expression_value t z.located) (at n z) multiple kind
 
 -- a call that is cut
@@ -60,7 +60,7 @@ pub record IsCutCall (t : Tables) (sizes : Sizes) (z : LaidStatement) : Type 0 w
   pub m : Mnemonic
   pub os : List Operand
   pub is_kind : z.located.kind ≡ Instruction m os
-  pub call : is_call m ≡ true
+  pub call : is_call_mnemonic m ≡ true
   pub long : IsLongCall t z m os
   pub short : (sizes z.offset ≡ 4) ⊎ ((sizes z.offset ≡ 2) × (link_register m os ≡ 0))
   pub less : nat_lt (sizes z.offset) 8 ≡ true
@@ -135,23 +135,23 @@ module _ (number : Numbering) (sizes : Sizes) where
   calm_fields o [] h = tt
   calm_fields o (f ∷ fs) (h, hs) = (ap (λ b. b && nat_lt (sizes o) 8) h, calm_fields o fs hs)
 
-  calm_parts : (o ordinal : ℕ) (ts : List Template) → AllByRecursion IsCalm ts → AreCalm sizes (relocations_from number o (map (part_of ordinal) ts))
+  calm_parts : (o ordinal : ℕ) (ts : List Template) → AllByRecursion IsCalm ts → AreCalm sizes (relocations_from number o (map (laid_part ordinal) ts))
   calm_parts o ordinal [] h = tt
   calm_parts o ordinal (q ∷ ts) (h, hs) =
-      calm_join (map (relocation_at number o) (template_fields ordinal q)) (relocations_from number (o + length (part_bytes (part_of ordinal q))) (map (part_of ordinal) ts))
-      (calm_fields o (template_fields ordinal q) (template_calm ordinal q h)) (calm_parts (o + length (part_bytes (part_of ordinal q))) ordinal ts hs)
+      calm_join (map (relocation_at number o) (template_fields ordinal q)) (relocations_from number (o + length (part_bytes (laid_part ordinal q))) (map (laid_part ordinal) ts))
+      (calm_fields o (template_fields ordinal q) (template_calm ordinal q h)) (calm_parts (o + length (part_bytes (laid_part ordinal q))) ordinal ts hs)
 
 -- ---- which sort a statement is
 
 module _ (t : Tables) (number : Numbering) (sizes : Sizes) (multiple : ℕ) (section : SourceSection) (code : section.executable ≡ true) (z : LaidStatement) (home : z.located.home ≡ section) (uncut : IsUncut z)
-    (sound : IsSound t z.located) (fits : calls z.located.kind ≡ true → IsForm (link_of z.located.kind) (sizes z.offset)) where
+    (sound : IsSound t z.located) (fits : is_call_statement z.located.kind ≡ true → IsForm (link_of z.located.kind) (sizes z.offset)) where
   abbrev v : Expression → Value
   v = expression_value t z.located
 
   abbrev Still : StatementKind → Type 0
   Still kind = IsStill t number sizes multiple z kind
 
-  none_of : (ts : List Template) → AllByRecursion IsCalm ts → AreCalm sizes (relocations_from number z.offset (map (part_of z.located.ordinal) ts))
+  none_of : (ts : List Template) → AllByRecursion IsCalm ts → AreCalm sizes (relocations_from number z.offset (map (laid_part z.located.ordinal) ts))
   none_of ts h = calm_parts number sizes z.offset z.located.ordinal ts h
 
   in_code : z.located.home.executable ≡ true
@@ -165,12 +165,12 @@ module _ (t : Tables) (number : Numbering) (sizes : Sizes) (multiple : ℕ) (sec
       go false e h = absurd (cc)
 
   -- a call
-  by_size : (m : Mnemonic) (os : List Operand) → z.located.kind ≡ Instruction m os → is_call m ≡ true → HasSize v z multiple (Instruction m os)
+  by_size : (m : Mnemonic) (os : List Operand) → z.located.kind ≡ Instruction m os → is_call_mnemonic m ≡ true → HasSize v z multiple (Instruction m os)
       → Still (Instruction m os) ⊎ IsCutCall t sizes z
   by_size m os e call size = go (nat_lt (sizes z.offset) 8) refl
     where
       h : IsLongCall t z m os
-      h = long_call t z multiple m os e call size (uncut (ap calls e ∙ call)) sound
+      h = long_call t z multiple m os e call size (uncut (ap is_call_statement e ∙ call)) sound
 
       form_short : IsForm (link_of z.located.kind) (sizes z.offset) → nat_lt (sizes z.offset) 8 ≡ true → (sizes z.offset ≡ 4) ⊎ ((sizes z.offset ≡ 2) × (link_register m os ≡ 0))
       form_short (inl eight) less = let f : false ≡ true = ap (λ n. nat_lt n 8) (sym eight) ∙ less in absurd (cc)
@@ -183,12 +183,12 @@ module _ (t : Tables) (number : Numbering) (sizes : Sizes) (multiple : ℕ) (sec
       form_long (inr (inr (two, none))) less = let f : true ≡ false = ap (λ n. nat_lt n 8) (sym two) ∙ less in absurd (cc)
 
       go : (b : Bool) → nat_lt (sizes z.offset) 8 ≡ b → Still (Instruction m os) ⊎ IsCutCall t sizes z
-      go true less = inr (record { m = m; os = os; is_kind = e; call = call; long = h; short = form_short (fits (ap calls e ∙ call)) less; less = less })
+      go true less = inr (record { m = m; os = os; is_kind = e; call = call; long = h; short = form_short (fits (ap is_call_statement e ∙ call)) less; less = less })
       go false less = inl (record {
         calm = ap (λ b. b && nat_lt (sizes z.offset) 8) call ∙ less;
-        whole = λ c. h.bytes ∙ sym (form_long (fits (ap calls e ∙ call)) less);
+        whole = λ c. h.bytes ∙ sym (form_long (fits (ap is_call_statement e ∙ call)) less);
         same = λ n. refl;
-        none = subst (λ ts. AreCalm sizes (relocations_from number z.offset (map (part_of z.located.ordinal) ts))) (sym (long.was t z multiple m os e call h))
+        none = subst (λ ts. AreCalm sizes (relocations_from number z.offset (map (laid_part z.located.ordinal) ts))) (sym (long.was t z multiple m os e call h))
             (calm_join number sizes (map (relocation_at number z.offset) (long.field t z multiple m os e call h kinds.CallPlt ∷ long.mark t z multiple m os e call h)) []
             (less, marks_calm z.located.options.relax) tt);
         sized = λ n placed. size;
@@ -201,9 +201,9 @@ module _ (t : Tables) (number : Numbering) (sizes : Sizes) (multiple : ℕ) (sec
   sort_placed : (kind : StatementKind) → z.located.kind ≡ kind → HasSize v z multiple kind → Still kind ⊎ IsCutCall t sizes z
   sort_placed (Label name) e size = inl (record { calm = refl; whole = λ c. absurd (cc); same = λ n. refl; none = tt; sized = λ n placed. size })
   sort_placed (Numbered number) e size = inl (record { calm = refl; whole = λ c. absurd (cc); same = λ n. refl; none = tt; sized = λ n placed. size })
-  sort_placed (Instruction m os) e size = go (is_call m) refl
+  sort_placed (Instruction m os) e size = go (is_call_mnemonic m) refl
     where
-      go : (b : Bool) → is_call m ≡ b → Still (Instruction m os) ⊎ IsCutCall t sizes z
+      go : (b : Bool) → is_call_mnemonic m ≡ b → Still (Instruction m os) ⊎ IsCutCall t sizes z
       go true call = by_size m os e call size
       go false call = inl (record {
         calm = ap (λ b. b && nat_lt (sizes z.offset) 8) call;
@@ -239,7 +239,7 @@ module _ (t : Tables) (number : Numbering) (sizes : Sizes) (multiple : ℕ) (sec
   sort_placed (Directs Ignored) e size = inl (record { calm = refl; whole = λ c. absurd (cc); same = λ n. refl; none = tt; sized = λ n placed. size })
 
   -- one without a place is no call
-  no_call : (kind : StatementKind) → ((m : Mnemonic) (os : List Operand) → kind ≡ Instruction m os → z.located.placed ≡ true) → z.located.placed ≡ false → calls kind ≡ false
+  no_call : (kind : StatementKind) → ((m : Mnemonic) (os : List Operand) → kind ≡ Instruction m os → z.located.placed ≡ true) → z.located.placed ≡ false → is_call_statement kind ≡ false
   no_call (Instruction m os) h e = let f : true ≡ false = sym (h m os refl) ∙ e in absurd (cc)
   no_call (Label name) h e = refl
   no_call (Numbered number) h e = refl
@@ -257,6 +257,6 @@ module _ (t : Tables) (number : Numbering) (sizes : Sizes) (multiple : ℕ) (sec
             calm = ap (λ b. b && nat_lt (sizes z.offset) 8) (no_call z.located.kind is.instructed e);
             whole = λ c. let f : true ≡ false = sym c ∙ no_call z.located.kind is.instructed e in absurd (cc);
             same = λ n. bare n ∙ sym here;
-            none = subst (λ ts. AreCalm sizes (relocations_from number z.offset (map (part_of z.located.ordinal) ts))) (sym here) tt;
+            none = subst (λ ts. AreCalm sizes (relocations_from number z.offset (map (laid_part z.located.ordinal) ts))) (sym here) tt;
             sized = λ n placed. let f : true ≡ false = sym placed ∙ e in absurd (cc);
           })

@@ -15,7 +15,7 @@ use Rattle.rv_object_laws.specs.Inputs.{Starts, inputs_from, inputs_of, goes_to_
 use Rattle.rv_object_laws.specs.Moves.{Move}
 use Rattle.rv_object_laws.specs.Shortened.{Sizes}
 use Rattle.rv_source_laws.specs.Sized.{statement_size}
-use Rattle.rv_source_laws.specs.Shortened.{calls}
+use Rattle.rv_source_laws.specs.Shortened.{is_call_statement}
 use Rattle.rv_assemble_laws.specs.LaidStatements.{LaidStatement, expression_value}
 use Rattle.rv_sources_link_laws.proofs.sections.KeptLemmas.{IsKept, AreKept, AreMasked}
 use Rattle.rv_sources_link_laws.proofs.sections.MaskedLemmas.{source_sections}
@@ -33,7 +33,7 @@ use Rattle.rv_sources_link_laws.proofs.calls.UncutLemmas.{IsUncut, all_uncut}
 
 -- a call in text has the bytes of its size, and all else its own
 abbrev pub IsResized : (ℕ → Sizes) → LaidStatement → LaidStatement → Type 0
-IsResized sizes z y = (source_text z.located.home ≡ true → calls z.located.kind ≡ true → y.bytes ≡ sizes z.located.section z.offset) × (calls z.located.kind ≡ false → y.bytes ≡ z.bytes)
+IsResized sizes z y = (source_text z.located.home ≡ true → is_call_statement z.located.kind ≡ true → y.bytes ≡ sizes z.located.section z.offset) × (is_call_statement z.located.kind ≡ false → y.bytes ≡ z.bytes)
 
 -- of an object
 pub record IsCut (sizes : ℕ → Sizes) (ss : List Statement) (o : Object) (is : IsKept ss o) (u : Object) (js : IsAssembled ss u) : Type 0 where
@@ -57,7 +57,7 @@ pub record IsFinal (t : Tables) (sizes : ℕ → Sizes) (z y : LaidStatement) : 
   -- its size before anything is taken out, by its bytes in the program
   pub placed : z.located.placed ≡ true → z.bytes ≡ statement_size z.located.home.executable (expression_value t z.located) z.located.kind y.bytes
   pub unplaced : z.located.placed ≡ false → z.bytes ≡ 0
-  pub call : source_text z.located.home ≡ true → calls z.located.kind ≡ true → y.bytes ≡ sizes z.located.section z.offset
+  pub call : source_text z.located.home ≡ true → is_call_statement z.located.kind ≡ true → y.bytes ≡ sizes z.located.section z.offset
 
 pub record IsFinalFile (sizes : ℕ → Sizes) (ss : List Statement) (o : Object) (is : IsKept ss o) (ys : List LaidStatement) : Type 0 where
   pub final : LaidStatement → LaidStatement
@@ -74,29 +74,29 @@ AreFinal sizes file (ss ∷ sources) (o ∷ os) (is, h) (w ∷ ws) (ks, k) = IsF
 
 -- ---- sizes
 
-size_call : (x : Bool) (v : Expression → Value) (kind : StatementKind) (bytes : ℕ) → calls kind ≡ true → statement_size x v kind bytes ≡ 8
+size_call : (x : Bool) (v : Expression → Value) (kind : StatementKind) (bytes : ℕ) → is_call_statement kind ≡ true → statement_size x v kind bytes ≡ 8
 size_call x v (Instruction m os) bytes e = ap (λ b. if b then 8 else bytes) e
 size_call x v (Label name) bytes e = absurd (cc)
 size_call x v (Numbered number) bytes e = absurd (cc)
 size_call x v (Directs d) bytes e = absurd (cc)
 
-size_other : (x : Bool) (v : Expression → Value) (kind : StatementKind) (bytes : ℕ) → calls kind ≡ false → statement_size x v kind bytes ≡ size_before x v kind bytes
+size_other : (x : Bool) (v : Expression → Value) (kind : StatementKind) (bytes : ℕ) → is_call_statement kind ≡ false → statement_size x v kind bytes ≡ size_before x v kind bytes
 size_other x v (Instruction m os) bytes e = ap (λ b. if b then 8 else bytes) e
 size_other x v (Label name) bytes e = refl
 size_other x v (Numbered number) bytes e = refl
 size_other x v (Directs d) bytes e = refl
 
-before_call : (x : Bool) (v : Expression → Value) (kind : StatementKind) (bytes : ℕ) → calls kind ≡ true → size_before x v kind bytes ≡ bytes
+before_call : (x : Bool) (v : Expression → Value) (kind : StatementKind) (bytes : ℕ) → is_call_statement kind ≡ true → size_before x v kind bytes ≡ bytes
 before_call x v (Instruction m os) bytes e = refl
 before_call x v (Label name) bytes e = absurd (cc)
 before_call x v (Numbered number) bytes e = absurd (cc)
 before_call x v (Directs d) bytes e = absurd (cc)
 
 -- a call has a place
-call_placed : (l : Located) → ((m : Mnemonic) (os : List Operand) → l.kind ≡ Instruction m os → l.placed ≡ true) → calls l.kind ≡ true → l.placed ≡ true
+call_placed : (l : Located) → ((m : Mnemonic) (os : List Operand) → l.kind ≡ Instruction m os → l.placed ≡ true) → is_call_statement l.kind ≡ true → l.placed ≡ true
 call_placed l h c = go l.kind refl c
   where
-    go : (kind : StatementKind) → l.kind ≡ kind → calls kind ≡ true → l.placed ≡ true
+    go : (kind : StatementKind) → l.kind ≡ kind → is_call_statement kind ≡ true → l.placed ≡ true
     go (Instruction m os) e c = h m os e
     go (Label name) e c = absurd (cc)
     go (Numbered number) e c = absurd (cc)
@@ -118,16 +118,16 @@ module _ (t : Tables) (sizes : ℕ → Sizes) (sections : List SourceSection) (z
 
   pub final_laid : IsFinal t sizes z (laid_with ms y)
   final_laid = record {
-    placed = λ e. placed_by (calls z.located.kind) refl e;
-    unplaced = λ e. unplaced_by (calls z.located.kind) refl e;
+    placed = λ e. placed_by (is_call_statement z.located.kind) refl e;
+    unplaced = λ e. unplaced_by (is_call_statement z.located.kind) refl e;
     call = λ text c. sym (counted_here (call_placed z.located k.instructed c) ∙ before_call x v z.located.kind (bytes_with ms y) c) ∙ resized.0 text c;
   }
     where
-      placed_by : (b : Bool) → calls z.located.kind ≡ b → z.located.placed ≡ true → z.bytes ≡ statement_size x v z.located.kind (bytes_with ms y)
+      placed_by : (b : Bool) → is_call_statement z.located.kind ≡ b → z.located.placed ≡ true → z.bytes ≡ statement_size x v z.located.kind (bytes_with ms y)
       placed_by true c e = eight c ∙ sym (size_call x v z.located.kind (bytes_with ms y) c)
       placed_by false c e = sym (resized.1 c) ∙ counted_here e ∙ sym (size_other x v z.located.kind (bytes_with ms y) c)
 
-      unplaced_by : (b : Bool) → calls z.located.kind ≡ b → z.located.placed ≡ false → z.bytes ≡ 0
+      unplaced_by : (b : Bool) → is_call_statement z.located.kind ≡ b → z.located.placed ≡ false → z.bytes ≡ 0
       unplaced_by true c e = let f : true ≡ false = sym (call_placed z.located k.instructed c) ∙ e in absurd (cc)
       unplaced_by false c e = sym (resized.1 c) ∙ uncounted e
 

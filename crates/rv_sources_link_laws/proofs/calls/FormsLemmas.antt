@@ -13,8 +13,8 @@ use Rattle.rv_layout_laws.specs.declared.site.Site.{Site as Spot}
 use Rattle.rv_layout_laws.specs.declared.site.SiteKind.{SiteKind}
 use Rattle.rv_layout_laws.specs.declared.site.SiteKind.TheVariants as spots
 use Rattle.rv_layout_laws.specs.Calls.{Offers, site_at as spot_at, is_call as is_call_spot}
-use Rattle.rv_source_laws.specs.Sized.{is_call}
-use Rattle.rv_source_laws.specs.Shortened.{calls, link_register}
+use Rattle.rv_source_laws.specs.Sized.{is_call_mnemonic}
+use Rattle.rv_source_laws.specs.Shortened.{is_call_statement, link_register}
 use Rattle.rv_source_laws.proofs.HomesLemmas.{all_filter}
 use Rattle.rv_object.specs.Object.{Relocation, Section, Object, stored, size_of}
 use Rattle.rv_object.specs.Valid.{held}
@@ -24,7 +24,7 @@ use Rattle.rv_object_laws.specs.Inputs.{InputSection, goes_to_text, inputs_from,
 use Rattle.rv_object_laws.specs.Moves.{full_padding, has_padding, alignment_of}
 use Rattle.rv_object_laws.specs.Names.{object_at}
 use Rattle.rv_object_laws.specs.Shortened.{sizes_by}
-use Rattle.rv_assemble_laws.specs.LaidStatements.{LaidStatement, expression_value, part_of, part_bytes, laid_in, end_of, HasSize}
+use Rattle.rv_assemble_laws.specs.LaidStatements.{LaidStatement, expression_value, laid_part, part_bytes, laid_in, end_of, HasSize}
 use Rattle.rv_assemble_laws.specs.IsObjectOf.{Numbering, relocations_from}
 use Rattle.rv_assemble_laws.proofs.FilledLemmas.{bytes_append}
 use Rattle.rv_sources_link_laws.proofs.sections.KeptLemmas.{IsKept, AreKept}
@@ -230,7 +230,7 @@ module _ (t : Tables) (number : Numbering) (j : ℕ) (s : SourceSection) (code :
 
   -- each call links what its words say, and lies before the end
   abbrev IsLinking : List ℕ → ℕ → LaidStatement → Type 0
-  IsLinking bytes end z = calls z.located.kind ≡ true → (linked_by bytes z.offset ≡ link_of z.located.kind) × (z.offset < end)
+  IsLinking bytes end z = is_call_statement z.located.kind ≡ true → (linked_by bytes z.offset ≡ link_of z.located.kind) × (z.offset < end)
 
   linking : (bytes front : List ℕ) (q : ℕ) (zs : List LaidStatement) → q ≡ length front → bytes ≡ front ++ flat_map part_bytes (parts t zs) → Tile t q zs → AllByRecursion (IsLaidIn j s) zs → AllByRecursion IsUncut zs
       → AllByRecursion (λ z. IsSound t z.located) zs → AllByRecursion (λ z. z.located.placed ≡ true → HasSize (expression_value t z.located) z multiple z.located.kind) zs → AllByRecursion (IsLinking bytes (end_of q zs)) zs
@@ -246,13 +246,13 @@ module _ (t : Tables) (number : Numbering) (j : ℕ) (s : SourceSection) (code :
     where
       by : (kind : StatementKind) → z.located.kind ≡ kind → IsLinking bytes (end_of (q + z.bytes) zs) z
       by (Instruction m ops) e c =
-          let call : is_call m ≡ true = sym (ap calls e) ∙ c in
+          let call : is_call_mnemonic m ≡ true = sym (ap is_call_statement e) ∙ c in
           let size_here = subst (HasSize (expression_value t z.located) z multiple) e (h (i.instructed m ops e)) in
           let w : IsLongCall t z m ops = long_call t z multiple m ops e call size_here (u c) k in
           let rest = flat_map part_bytes (parts t zs) in
           let own_is : flat_map part_bytes (parts_of t z) ≡ w.first ++ w.second =
-          ap (λ k. flat_map part_bytes (map (part_of z.located.ordinal) (assembled_templates t z k))) e
-          ∙ ap (λ l. flat_map part_bytes (map (part_of z.located.ordinal) l)) (long.was t z multiple m ops e call w) ∙ append-nil (w.first ++ w.second) in
+          ap (λ k. flat_map part_bytes (map (laid_part z.located.ordinal) (assembled_templates t z k))) e
+          ∙ ap (λ l. flat_map part_bytes (map (laid_part z.located.ordinal) l)) (long.was t z multiple m ops e call w) ∙ append-nil (w.first ++ w.second) in
           let bytes_as : bytes ≡ front ++ ((w.first ++ w.second) ++ rest) =
           whole ∙ ap (λ l. front ++ l) (bytes_append (parts_of t z) (parts t zs)) ∙ ap (λ l. front ++ (l ++ rest)) own_is in
           let eight = w.bytes in
@@ -262,9 +262,9 @@ module _ (t : Tables) (number : Numbering) (j : ℕ) (s : SourceSection) (code :
                 ∙ links (front ++ ((w.first ++ w.second) ++ rest)) (length front) (link_register m ops) w.goes.by (has_words t z m ops w front rest) w.link_low w.by_low ∙ ap link_of (sym e),
             (let g : z.offset < end = omega (arith, off, eight, high) in g),
           )
-      by (Label name) e c = let f : false ≡ true = sym (ap calls e) ∙ c in absurd (cc)
-      by (Numbered digits) e c = let f : false ≡ true = sym (ap calls e) ∙ c in absurd (cc)
-      by (Directs d) e c = let f : false ≡ true = sym (ap calls e) ∙ c in absurd (cc)
+      by (Label name) e c = let f : false ≡ true = sym (ap is_call_statement e) ∙ c in absurd (cc)
+      by (Numbered digits) e c = let f : false ≡ true = sym (ap is_call_statement e) ∙ c in absurd (cc)
+      by (Directs d) e c = let f : false ≡ true = sym (ap is_call_statement e) ∙ c in absurd (cc)
 
 -- ---- all of them
 
@@ -342,7 +342,7 @@ module _ (os : List Object) where
             aside_all (y ∷ ys) (i, is') e = ((λ text c. let f : true ≡ false = sym text ∙ ap source_text i.home ∙ e in absurd (cc)), aside_all ys is' e)
 
             text_all : (x : Section) → slice_get o.sections j ≡ Some x → goes_to_text x ≡ true → (ys : List LaidStatement) → AllByRecursion (IsLaidIn j s) ys
-                → AllByRecursion (λ z. calls z.located.kind ≡ true → (linked_by (stored x.contents) z.offset ≡ link_of z.located.kind) × (z.offset < size_of x.contents)) ys → AllByRecursion (Fitting (sizes_by os kept file)) ys
+                → AllByRecursion (λ z. is_call_statement z.located.kind ≡ true → (linked_by (stored x.contents) z.offset ≡ link_of z.located.kind) × (z.offset < size_of x.contents)) ys → AllByRecursion (Fitting (sizes_by os kept file)) ys
             text_all x there text [] i k = tt
             text_all x there text (y ∷ ys) (i, is') (k, ks) = (
               (λ t c.
@@ -365,4 +365,4 @@ module _ (os : List Object) where
                 (stored_is t is.laid is.number o.symbols j s x (laid_in j is.laid) k e) k.tile inside
                 (all_filter IsUncut (λ z. z.located.section == j) is.laid (all_uncut ss o is)) (all_filter (λ z. IsSound t z.located) (λ z. z.located.section == j) is.laid (sound ss is.laid is.dropped is.good is.located)) k.sizes in
                 text_all x there text (laid_in j is.laid) inside
-                (subst (λ n. AllByRecursion (λ z. calls z.located.kind ≡ true → (linked_by (stored x.contents) z.offset ≡ link_of z.located.kind) × (z.offset < n)) (laid_in j is.laid)) (sym (size_is t is.laid is.number o j s (laid_in j is.laid) x k)) linked)
+                (subst (λ n. AllByRecursion (λ z. is_call_statement z.located.kind ≡ true → (linked_by (stored x.contents) z.offset ≡ link_of z.located.kind) × (z.offset < n)) (laid_in j is.laid)) (sym (size_is t is.laid is.number o j s (laid_in j is.laid) x k)) linked)

@@ -18,8 +18,8 @@ use Rattle.rv_pseudo_laws.specs.Filled.{are_closed}
 use Rattle.rv_compress.specs.Encoded.{IsEncodedIn}
 use Rattle.rv_unit_laws.specs.Tables.{Tables}
 use Rattle.rv_source_laws.specs.Lines.{operand_of}
-use Rattle.rv_source_laws.specs.Sized.{is_call}
-use Rattle.rv_source_laws.specs.Shortened.{calls, link_register}
+use Rattle.rv_source_laws.specs.Sized.{is_call_mnemonic}
+use Rattle.rv_source_laws.specs.Shortened.{is_call_statement, link_register}
 use Rattle.rv_source_laws.proofs.HeldLemmas.{none_left}
 use Rattle.rv_object_laws.specs.Shortened.{short_call}
 use Rattle.rv_assemble_laws.specs.CodeFields.{symbol_field, low_field, field_of, relax_fields}
@@ -58,7 +58,7 @@ in_four i bytes (inr (e, rest)) = absurd (omega (arith, e))
 some_same : (ps qs : List CodePart) → Some ps ≡ Some qs → ps ≡ qs
 some_same ps qs e = cc
 
-module _ (t : Tables) (z : LaidStatement) (multiple : ℕ) (m : Mnemonic) (os : List Operand) (is_kind : z.located.kind ≡ Instruction m os) (call : is_call m ≡ true) where
+module _ (t : Tables) (z : LaidStatement) (multiple : ℕ) (m : Mnemonic) (os : List Operand) (is_kind : z.located.kind ≡ Instruction m os) (call : is_call_mnemonic m ≡ true) where
   abbrev v : Expression → Value
   v = expression_value t z.located
 
@@ -145,8 +145,8 @@ module _ (t : Tables) (z : LaidStatement) (multiple : ℕ) (m : Mnemonic) (os : 
       codes_short : code (constants v) rvc size m os ≡ Some (short_part size link ∷ [])
       codes_short = h.goes.codes size ∙ ap Some (short_one size link h.goes.by short)
 
-      is_marked_call : (is_jump short_kind && calls z.located.kind) ≡ true
-      is_marked_call = ap (λ b. b && calls z.located.kind) (jump_plain ((link == 0) && (size == 2))).1 ∙ ap calls is_kind ∙ call
+      is_marked_call : (is_jump short_kind && is_call_statement z.located.kind) ≡ true
+      is_marked_call = ap (λ b. b && is_call_statement z.located.kind) (jump_plain ((link == 0) && (size == 2))).1 ∙ ap is_call_statement is_kind ∙ call
 
       pub is : (n : ℕ) → assembled_templates t (cut_to n) (Instruction m os) ≡ Coded (short_call size link) (field short_kind ∷ mark) ∷ []
       is n =

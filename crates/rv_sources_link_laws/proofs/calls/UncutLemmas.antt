@@ -15,12 +15,12 @@ use Rattle.rv_source_laws.specs.Located.{Located, located_from, masked}
 use Rattle.rv_source_laws.specs.Sizes.{item_by_kind, items_of}
 use Rattle.rv_object.specs.Object.{Section, Symbol, Object}
 use Rattle.rv_pseudo_laws.specs.Code.{Part as CodePart, Closed, Open as Open_part, Joined, code, far}
-use Rattle.rv_source_laws.specs.Sized.{is_call}
-use Rattle.rv_source_laws.specs.Shortened.{calls, link_register}
+use Rattle.rv_source_laws.specs.Sized.{is_call_mnemonic}
+use Rattle.rv_source_laws.specs.Shortened.{is_call_statement, link_register}
 use Rattle.rv_assemble_laws.specs.CodeFields.{part_fields as plain_fields}
 use Rattle.rv_assemble_laws.specs.Coded.{constants}
 use Rattle.rv_assemble_laws.specs.Templates.{Open, Coded, IsTemplate}
-use Rattle.rv_assemble_laws.specs.LaidStatements.{LaidStatement, expression_value, part_of, part_bytes, coded_templates, laid_in, end_of, templates as plain_templates, parts_of as plain_parts_of, parts as plain_parts, Tile as PlainTile}
+use Rattle.rv_assemble_laws.specs.LaidStatements.{LaidStatement, expression_value, laid_part, part_bytes, coded_templates, laid_in, end_of, templates as plain_templates, parts_of as plain_parts_of, parts as plain_parts, Tile as PlainTile}
 use Rattle.rv_assemble_laws.specs.IsObjectOf.{Numbering, relocations_from, contents_of, ArePartsNumbered, IsSectionOf as IsPlainSectionOf, AreSectionsOf as ArePlainSectionsOf, IsObjectOf}
 use Rattle.rv_sources_link_laws.proofs.sections.KeptLemmas.{IsKept, AreKept}
 use Rattle.rv_sources_link_laws.proofs.sections.MaskedLemmas.{source_sections, none_masked}
@@ -31,9 +31,9 @@ use Rattle.rv_sources_link_laws.proofs.sections.AssembledLemmas.{assembled_templ
 -- ---- calls have 8 bytes
 
 abbrev pub IsUncut : LaidStatement → Type 0
-IsUncut z = calls z.located.kind ≡ true → z.bytes ≡ 8
+IsUncut z = is_call_statement z.located.kind ≡ true → z.bytes ≡ 8
 
-settled_eight : (t : Tables) (all : List Located) (s : Located) (bytes : ℕ) (kind : StatementKind) → calls kind ≡ true → (item_by_kind t all s bytes kind).forms ≡ Settled 8
+settled_eight : (t : Tables) (all : List Located) (s : Located) (bytes : ℕ) (kind : StatementKind) → is_call_statement kind ≡ true → (item_by_kind t all s bytes kind).forms ≡ Settled 8
 settled_eight t all s bytes (Instruction Call os) e = refl
 settled_eight t all s bytes (Instruction Tail os) e = refl
 settled_eight t all s bytes (Instruction Jump os) e = refl
@@ -51,7 +51,7 @@ uncut_from t all dropped (l ∷ ls) (z ∷ zs) e h =
     let same : z.located ≡ masked dropped l = cc in
     let kind : l.kind ≡ z.located.kind = sym (ap (λ (q : Located). q.kind) same) in
     let rest : map (λ (z : LaidStatement). z.located) zs ≡ map (masked dropped) ls = cc in (
-      (λ call. subst (λ f. Offers f z.bytes) (settled_eight t all l z.bytes l.kind (ap calls kind ∙ call)) (h 0)),
+      (λ call. subst (λ f. Offers f z.bytes) (settled_eight t all l z.bytes l.kind (ap is_call_statement kind ∙ call)) (h 0)),
       uncut_from t all dropped ls zs rest (λ i. h (suc i)),
     )
 
@@ -67,7 +67,7 @@ all_uncut ss o is =
 -- ---- so no field of theirs is marked
 
 -- no part of another statement is
-unmarked : (t : Tables) (s : Located) → calls s.kind ≡ false → (ps : List CodePart) (coded : List (List ℕ))
+unmarked : (t : Tables) (s : Located) → is_call_statement s.kind ≡ false → (ps : List CodePart) (coded : List (List ℕ))
     → coded_templates (part_fields t (expression_value t s) s) ps coded ≡ coded_templates (plain_fields t (expression_value t s) s) ps coded
 unmarked t s e [] coded = refl
 unmarked t s e (p ∷ ps) [] = refl
@@ -75,7 +75,7 @@ unmarked t s e (p ∷ ps) (bytes ∷ coded) =
     ap (λ (fs : List Open). Coded bytes fs ∷ coded_templates (part_fields t (expression_value t s) s) ps coded) (own p)
     ∙ ap (λ l. Coded bytes (plain_fields t (expression_value t s) s p) ∷ l) (unmarked t s e ps coded)
   where
-    never : (b : Bool) → (b && calls s.kind) ≡ false
+    never : (b : Bool) → (b && is_call_statement s.kind) ≡ false
     never true = e
     never false = refl
 
@@ -97,14 +97,14 @@ module _ (t : Tables) (z : LaidStatement) (eight : IsUncut z) where
   by_code : (m : Mnemonic) (os : List Operand) → z.located.kind ≡ Instruction m os → (ps : Option (List CodePart)) → code (constants v) z.located.options.rvc z.bytes m os ≡ ps
       → coded_templates (part_fields t v z.located) (unwrap_or ps []) z.coded ≡ coded_templates (plain_fields t v z.located) (unwrap_or ps []) z.coded
   by_code m os e None f = refl
-  by_code m os e (Some ps) f = go (is_call m) refl
+  by_code m os e (Some ps) f = go (is_call_mnemonic m) refl
     where
-      go : (b : Bool) → is_call m ≡ b → coded_templates (part_fields t v z.located) ps z.coded ≡ coded_templates (plain_fields t v z.located) ps z.coded
-      go false g = unmarked t z.located (ap calls e ∙ g) ps z.coded
+      go : (b : Bool) → is_call_mnemonic m ≡ b → coded_templates (part_fields t v z.located) ps z.coded ≡ coded_templates (plain_fields t v z.located) ps z.coded
+      go false g = unmarked t z.located (ap is_call_statement e ∙ g) ps z.coded
       go true g =
           let c = called (constants v) z.located.options.rvc z.bytes m os ps g f in
           let both : Some ps ≡ Some (far 8 (link_register m os) c.by) =
-          sym f ∙ ap (λ n. code (constants v) z.located.options.rvc n m os) (eight (ap calls e ∙ g)) ∙ c.codes 8 in
+          sym f ∙ ap (λ n. code (constants v) z.located.options.rvc n m os) (eight (ap is_call_statement e ∙ g)) ∙ c.codes 8 in
           let is : ps ≡ far 8 (link_register m os) c.by = cc in
           ap (λ l. coded_templates (part_fields t v z.located) l z.coded) is ∙ whole t z.located (link_register m os) c.by z.coded
           ∙ ap (λ l. coded_templates (plain_fields t v z.located) l z.coded) (sym is)
@@ -116,7 +116,7 @@ module _ (t : Tables) (z : LaidStatement) (eight : IsUncut z) where
   by_kind (Directs d) e = refl
 
   parts_same : parts_of t z ≡ plain_parts_of t z
-  parts_same = ap (map (part_of z.located.ordinal)) (by_kind z.located.kind refl)
+  parts_same = ap (map (laid_part z.located.ordinal)) (by_kind z.located.kind refl)
 
 -- ---- sections
 

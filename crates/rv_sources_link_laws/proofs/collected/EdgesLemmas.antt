@@ -21,7 +21,7 @@ use Rattle.rv_source_laws.specs.Collected.{means, value_refers, operand_refers, 
 use Rattle.rv_assemble_laws.specs.Coded.{constants, AreCodedParts}
 use Rattle.rv_assemble_laws.specs.CodeFields.{part_fields}
 use Rattle.rv_assemble_laws.specs.Templates.{Open as Field, Template, Datum, template_fields, value_fields, padding_templates, contribution_templates}
-use Rattle.rv_assemble_laws.specs.LaidStatements.{LaidStatement, Part, expression_value, part_of, coded_templates, templates, HasSize}
+use Rattle.rv_assemble_laws.specs.LaidStatements.{LaidStatement, LaidPart, expression_value, laid_part, coded_templates, templates, HasSize}
 use Rattle.rv_sources_link_laws.proofs.collected.NamedLemmas.{names, fields, Row, rows_same}
 use Rattle.rv_sources_link_laws.proofs.statements.StatementsLemmas.{renumbered}
 
@@ -30,13 +30,13 @@ module _ (p : Program) (T : SectionId) (f : ℕ) where
   abbrev pub test : Field → Bool
   test x = names p T f x.ordinal x.symbol
 
-  abbrev pub in_part : Part → Bool
+  abbrev pub in_part : LaidPart → Bool
   in_part q = list_any test (template_fields q.ordinal q.template)
 
   abbrev pub in_templates : ℕ → List Template → Bool
   in_templates n ts = list_any (λ x. list_any test (template_fields n x)) ts
 
-  pub parts_are : (n : ℕ) (ts : List Template) → list_any in_part (map (part_of n) ts) ≡ in_templates n ts
+  pub parts_are : (n : ℕ) (ts : List Template) → list_any in_part (map (laid_part n) ts) ≡ in_templates n ts
   parts_are n [] = refl
   parts_are n (x ∷ xs) = ap (λ b. list_any test (template_fields n x) || b) (parts_are n xs)
 

@@ -19,7 +19,7 @@ use Rattle.rv_compress.specs.declared.parcel.ParcelOperation.TheVariants as parc
 use Rattle.rv_compress.specs.declared.parcel.OperandShape.{OperandShape}
 use Rattle.rv_compress.specs.declared.parcel.OperandShape.TheVariants as shapes
 use Rattle.rv_compress.specs.declared.parcel.RegisterSet.TheVariants.{Short}
-use Rattle.rv_compress.specs.Mnemonics.{is_in as is_one_of, shape_of, form_of}
+use Rattle.rv_compress.specs.Mnemonics.{is_of_set as is_one_of, shape_of, form_of}
 use Rattle.rv_map.specs.declared.map.SectionId.{SectionId}
 use Rattle.rv_text_laws.specs.Expression.{Primary, Here}
 use Rattle.rv_text_laws.specs.Values.{Value as AnyValue, Constant, Symbolic, Difference, Faulty}
@@ -33,7 +33,7 @@ use Rattle.rv_statement.specs.declared.pseudo.Function.TheVariants.{Hi, Lo, Pcre
 use Rattle.rv_statement.specs.Statement.{Operand, Register, Value, Applied, Target, Accesses, Expression}
 use Rattle.rv_parse_laws.specs.Syntax.{with_constant}
 use Rattle.rv_pseudo_laws.specs.Li.{addi, li}
-use Rattle.rv_pseudo_laws.specs.Code.{Part, Closed, Open, Joined, i_type, s_type, b_type, u_type, shift_by, jalr, jal, auipc, unary, inverted, branch, jump, near, far, through, zero_branch, swapped_branch, by_number, by_part, signed_12, upper_20, number_of, by_amount, by_constant, by_form, parcel_form, short_branch, code}
+use Rattle.rv_pseudo_laws.specs.Code.{Part, Closed, Open, Joined, i_type, s_type, b_type, u_type, shift_by, jalr, jal, auipc, unary, inverted, branch, jump, near, far, through, zero_branch, swapped_branch, by_number, by_part, signed_12, upper_20, constant_number, by_amount, by_constant, by_form, parcel_form, short_branch, code}
 use Rattle.rv_unit_laws.specs.Tables.{Tables, Definition, definition, sure_definition}
 use Rattle.rv_source_laws.specs.Lines.{constant_of, other_operand}
 use Rattle.rv_source_laws.specs.Located.{Located}
@@ -235,7 +235,7 @@ module _ (p : Program) (T : SectionId) (s : Located) (relax : Bool) (no_self : n
   closed_none o [] = refl
   closed_none o (x ∷ xs) = closed_none o xs
 
-  li_same : (rd : ℕ) (o : Operand) → Same (Some o) (option_map (λ k. map Closed (li rd k)) (number_of (constants v) o))
+  li_same : (rd : ℕ) (o : Operand) → Same (Some o) (option_map (λ k. map Closed (li rd k)) (constant_number (constants v) o))
   li_same rd (Value e) = go (constant_of (v e)) refl
     where
       go : (c : Option ℤ) → constant_of (v e) ≡ c → Same (Some (Value e)) (option_map (λ k. map Closed (li rd k)) c)
@@ -252,7 +252,7 @@ module _ (p : Program) (T : SectionId) (s : Located) (relax : Bool) (no_self : n
   form_none o None none = tt
   form_none o (Some form) none = sym none
 
-  form_same : (make : ℤ → Option Compressed) (o : Operand) → Same (Some o) (formed (by_form make (number_of (constants v) o)))
+  form_same : (make : ℤ → Option Compressed) (o : Operand) → Same (Some o) (formed (by_form make (constant_number (constants v) o)))
   form_same make (Value e) = go (constant_of (v e)) refl
     where
       go : (c : Option ℤ) → constant_of (v e) ≡ c → Same (Some (Value e)) (formed (by_form make c))
@@ -294,12 +294,12 @@ module _ (p : Program) (T : SectionId) (s : Located) (relax : Bool) (no_self : n
   parcel_row operation shapes.Registers (Register a ∷ []) = bare_row (Register a ∷ []) (form_of operation (a ∷ []) (pos 0)) refl
   parcel_row operation shapes.Registers (Register a ∷ Register b ∷ []) = bare_row (Register a ∷ Register b ∷ []) (form_of operation (a ∷ b ∷ []) (pos 0)) refl
   parcel_row operation shapes.Number (Register a ∷ Register b ∷ Register o ∷ []) = tt
-  parcel_row operation shapes.Number (Register a ∷ Register b ∷ o ∷ []) = row (Register a ∷ Register b ∷ o ∷ []) o refl refl (formed (by_form (form_of operation (a ∷ b ∷ [])) (number_of (constants v) o))) (form_same (form_of operation (a ∷ b ∷ [])) o)
+  parcel_row operation shapes.Number (Register a ∷ Register b ∷ o ∷ []) = row (Register a ∷ Register b ∷ o ∷ []) o refl refl (formed (by_form (form_of operation (a ∷ b ∷ [])) (constant_number (constants v) o))) (form_same (form_of operation (a ∷ b ∷ [])) o)
   parcel_row operation shapes.Number (Register a ∷ Register o ∷ []) = tt
-  parcel_row operation shapes.Number (Register a ∷ o ∷ []) = row (Register a ∷ o ∷ []) o refl refl (formed (by_form (form_of operation (a ∷ [])) (number_of (constants v) o))) (form_same (form_of operation (a ∷ [])) o)
+  parcel_row operation shapes.Number (Register a ∷ o ∷ []) = row (Register a ∷ o ∷ []) o refl refl (formed (by_form (form_of operation (a ∷ [])) (constant_number (constants v) o))) (form_same (form_of operation (a ∷ [])) o)
   parcel_row operation shapes.Address (Register a ∷ Register b ∷ []) = bare_row (Register a ∷ Register b ∷ []) (form_of operation (a ∷ b ∷ []) (pos 0)) refl
   parcel_row operation shapes.Address (Register a ∷ Register o ∷ Register b ∷ []) = tt
-  parcel_row operation shapes.Address (Register a ∷ o ∷ Register b ∷ []) = row (Register a ∷ o ∷ Register b ∷ []) o refl refl (formed (by_form (form_of operation (a ∷ b ∷ [])) (number_of (constants v) o))) (form_same (form_of operation (a ∷ b ∷ [])) o)
+  parcel_row operation shapes.Address (Register a ∷ o ∷ Register b ∷ []) = row (Register a ∷ o ∷ Register b ∷ []) o refl refl (formed (by_form (form_of operation (a ∷ b ∷ [])) (constant_number (constants v) o))) (form_same (form_of operation (a ∷ b ∷ [])) o)
   parcel_row operation shape os = tt
 
   short_row : (operation : BranchOperation) (rs : ℕ) (e : Expression) → Row (Register rs ∷ Target e ∷ []) (short_branch operation rs)

@@ -19,7 +19,7 @@ use Rattle.rv_object_laws.specs.Inputs.{InputSection}
 use Rattle.rv_object_laws.specs.Names.{symbol_place}
 use Rattle.rv_object_laws.specs.Collects.{lies_in, leads_to}
 use Rattle.rv_assemble_laws.specs.Templates.{Open as Field, template_fields}
-use Rattle.rv_assemble_laws.specs.LaidStatements.{LaidStatement, Part, expression_value, part_bytes, templates, parts_of, parts, laid_in, HasSize}
+use Rattle.rv_assemble_laws.specs.LaidStatements.{LaidStatement, LaidPart, expression_value, part_bytes, templates, parts_of, parts, laid_in, HasSize}
 use Rattle.rv_assemble_laws.specs.Symbols.{SymbolUse, use_of, StandsFor}
 use Rattle.rv_assemble_laws.specs.IsObjectOf.{relocation_at, relocations_from, IsNumbered, ArePartsNumbered, IsSectionOf, IsObjectOf}
 use Rattle.rv_sources_link_laws.proofs.collected.HereLemmas.{laid_home, IsHere}
@@ -70,7 +70,7 @@ module _ (p : Program) (os : List Object) (T : SectionId) (f : ℕ) (ss : List S
         ap (λ b. b || list_any (leads_to os T i) (map (relocation_at is.number place) xs)) (one_leads place x both.0)
         ∙ ap (λ b. U x.ordinal x.symbol || b) (fields_lead place xs both.1)
 
-    parts_lead : (offset : ℕ) (ps : List Part) → ArePartsNumbered t is.laid is.number o.symbols ps
+    parts_lead : (offset : ℕ) (ps : List LaidPart) → ArePartsNumbered t is.laid is.number o.symbols ps
         → list_any (leads_to os T i) (relocations_from is.number offset ps) ≡ list_any (in_part p T f) ps
     parts_lead offset [] h = refl
     parts_lead offset (q ∷ ps) (h, hs) =

@@ -17,7 +17,7 @@ use Rattle.rv_object_laws.specs.Moves.{alignments_of, moves, new_offset}
 use Rattle.rv_object_laws.specs.Inputs.{Starts, InputSection}
 use Rattle.rv_object_laws.specs.Values.{target, value, IsRelocated}
 use Rattle.rv_assemble_laws.specs.Templates.{Open, template_fields}
-use Rattle.rv_assemble_laws.specs.LaidStatements.{LaidStatement, Part, expression_value, part_bytes, laid_in}
+use Rattle.rv_assemble_laws.specs.LaidStatements.{LaidStatement, LaidPart, expression_value, part_bytes, laid_in}
 use Rattle.rv_assemble_laws.specs.Symbols.{use_of, references_in, laid_at}
 use Rattle.rv_assemble_laws.specs.IsObjectOf.{Numbering, relocation_at, relocations_from, IsNumbered}
 use Rattle.rv_sources_link_laws.proofs.fields.PatchesLemmas.{is_data, IsKnownIn}
@@ -49,7 +49,7 @@ module _ (p : Program) (os : List Object) (starts : Starts) (file : ℕ) (laid :
     abbrev pub own : List LaidStatement
     own = laid_in index laid
 
-    abbrev pub ps : List Part
+    abbrev pub ps : List LaidPart
     ps = parts t own
 
     abbrev pub worth : Relocation → ℤ
@@ -84,7 +84,7 @@ module _ (p : Program) (os : List Object) (starts : Starts) (file : ℕ) (laid :
     abbrev pub K : ℕ → Option Primary → Type 0
     K ordinal q = IsKnownIn new same worth number s worths a ordinal q
 
-    abbrev pub Known : Part → Type 0
+    abbrev pub Known : LaidPart → Type 0
     Known q = AllByRecursion (λ (f : Open). K f.ordinal f.symbol) (template_fields q.ordinal q.template)
 
     abbrev pub Q : Relocation → Type 0
@@ -107,7 +107,7 @@ module _ (p : Program) (os : List Object) (starts : Starts) (file : ℕ) (laid :
         let both = split (IsNumbered t laid number o.symbols) (use_of f.ordinal f.symbol) (flat_map (λ (f : Open). use_of f.ordinal f.symbol) fs) h in
         (known_field f.ordinal f.symbol both.0 r.resolved, known_fields offset fs both.1 rs)
 
-    known_parts : (offset : ℕ) (qs : List Part) → AllByRecursion (λ q. AllByRecursion (IsNumbered t laid number o.symbols) (references_in q)) qs
+    known_parts : (offset : ℕ) (qs : List LaidPart) → AllByRecursion (λ q. AllByRecursion (IsNumbered t laid number o.symbols) (references_in q)) qs
         → AtOffsets (AreAt Q number) offset qs → AllByRecursion Known qs
     known_parts offset [] h r = tt
     known_parts offset (q ∷ qs) (h, hs) (r, rs) = (known_fields offset (template_fields q.ordinal q.template) h r, known_parts (offset + length (part_bytes q)) qs hs rs)

@@ -25,7 +25,7 @@ use Rattle.rv_map.specs.Limits.{IsGlobal}
 use Rattle.rv_source_laws.specs.Located.{has_row}
 use Rattle.rv_source_laws.specs.Program.{Mapped, Program, tables_in, address_at, home_address, own_address, own_value as own_value_in_map, in_operand, have_values, has_value, has_values, address as address_in, number as number_of, value as value_in_map}
 use Rattle.rv_source_laws.specs.Fits.{IsPaired}
-use Rattle.rv_source_laws.specs.Lines.{other_operand, operand_of, operand_number, operand_value, field_value, distance, pair_of, pair_distance, label_section, upper_at, section_of}
+use Rattle.rv_source_laws.specs.Lines.{other_operand, operand_of, operand_number, operand_value, field_value, distance, pair_of, pair_distance, label_section, upper_at, statement_section}
 use Rattle.rv_object.specs.Object.{Section, Object}
 use Rattle.rv_object_laws.specs.Moves.{alignments_of}
 use Rattle.rv_object_laws.specs.Inputs.{Starts}
@@ -36,7 +36,7 @@ use Rattle.rv_sources_link_laws.proofs.statements.MarkedLemmas.{marks, is_marked
 use Rattle.rv_assemble_laws.specs.Coded.{constants, AreCodedParts, IsCode}
 use Rattle.rv_assemble_laws.specs.InstructionFaults.{is_label}
 use Rattle.rv_assemble_laws.specs.Templates.{Open, open_at}
-use Rattle.rv_assemble_laws.specs.LaidStatements.{LaidStatement, expression_value, part_of, coded_templates, laid_in}
+use Rattle.rv_assemble_laws.specs.LaidStatements.{LaidStatement, expression_value, laid_part, coded_templates, laid_in}
 use Rattle.rv_assemble_laws.specs.Symbols.{use_of, references_in, laid_at}
 use Rattle.rv_assemble_laws.specs.IsObjectOf.{Numbering, relocation_at, IsNumbered}
 use Rattle.rv_sources_link_laws.proofs.statements.StatementsLemmas.{row_in, row_address}
@@ -184,9 +184,9 @@ module _ (p : Program) (os : List Object) (starts : Starts) (file : ℕ) (laid :
       Fills q = (n a : ℕ) → a ≡ start + n → Related n (fields q) → Knows (fields q) → Uses (fields q) → IsFilledPart w fields taken n a q
 
       all_filled : (ps : List CodePart) (coded : List (List ℕ)) (n a : ℕ) → a ≡ start + n → AllByRecursion Fills ps
-          → AtOffsets (AreAt (Q p os starts file laid number o sections low are settled all_worths whole plain address index section x is at none loaded relocated) number) n (map (part_of ordinal) (coded_templates fields ps coded))
-          → AllByRecursion (Known p os starts file laid number o sections low are settled all_worths whole plain address index section x is at none loaded relocated) (map (part_of ordinal) (coded_templates fields ps coded))
-          → AllByRecursion (λ q. AllByRecursion (IsNumbered T laid number o.symbols) (references_in q)) (map (part_of ordinal) (coded_templates fields ps coded))
+          → AtOffsets (AreAt (Q p os starts file laid number o sections low are settled all_worths whole plain address index section x is at none loaded relocated) number) n (map (laid_part ordinal) (coded_templates fields ps coded))
+          → AllByRecursion (Known p os starts file laid number o sections low are settled all_worths whole plain address index section x is at none loaded relocated) (map (laid_part ordinal) (coded_templates fields ps coded))
+          → AllByRecursion (λ q. AllByRecursion (IsNumbered T laid number o.symbols) (references_in q)) (map (laid_part ordinal) (coded_templates fields ps coded))
           → AreFilledParts w fields taken n a ps coded
       all_filled [] coded n a at_n f r k u = tt
       all_filled (q ∷ ps) [] n a at_n f r k u = tt
@@ -296,10 +296,10 @@ module _ (p : Program) (os : List Object) (starts : Starts) (file : ℕ) (laid :
       first : (q : CodePart) (rest : List CodePart) → c.ps ≡ q ∷ rest → IsFirst q
       first q rest ps_are =
           go z.coded (subst (λ ps. AreCodedParts (named_form (constants (expression_value (tables_in p file) z.located)) mnemonic os') (z.located.options.rvc && are_closed c.ps) ps z.coded) ps_are c.coded_as)
-          (ap (λ ps. map (part_of ordinal) (coded_templates fields ps z.coded)) ps_are)
+          (ap (λ ps. map (laid_part ordinal) (coded_templates fields ps z.coded)) ps_are)
         where
           go : (coded : List (List ℕ)) → AreCodedParts (named_form (constants (expression_value (tables_in p file) z.located)) mnemonic os') (z.located.options.rvc && are_closed c.ps) (q ∷ rest) coded
-              → map (part_of ordinal) (coded_templates fields c.ps z.coded) ≡ map (part_of ordinal) (coded_templates fields (q ∷ rest) coded) → IsFirst q
+              → map (laid_part ordinal) (coded_templates fields c.ps z.coded) ≡ map (laid_part ordinal) (coded_templates fields (q ∷ rest) coded) → IsFirst q
           go [] a are_same = absurd a
           go (bytes ∷ coded) a are_same = record {
             related_first = (subst (λ l. AtOffsets (AreAt (Q p os starts file laid number o sections low are settled all_worths whole plain address index section x is at none loaded relocated) number) z.offset l) (parts_are p os starts file laid number o sections low are settled all_worths whole plain address index section x is at none loaded relocated z h mnemonic os' e c ∙ are_same) h.related).0;
@@ -377,7 +377,7 @@ module _ (p : Program) (os : List Object) (starts : Starts) (file : ℕ) (laid :
 
         -- one of its parts has the field
         far_known : (ps : List CodePart) (coded : List (List ℕ)) → AreCodedParts (named_form (constants (expression_value (tables_in p file) z.located)) mnemonic os') (z.located.options.rvc && are_closed c.ps) ps coded → AllByRecursion IsFar ps → are_closed ps ≡ false
-            → AllByRecursion (Known p os starts file laid number o sections low are settled all_worths whole plain address index section x is at none loaded relocated) (map (part_of ordinal) (coded_templates fields ps coded)) → is_some (value_in_map p s ex) ≡ true
+            → AllByRecursion (Known p os starts file laid number o sections low are settled all_worths whole plain address index section x is at none loaded relocated) (map (laid_part ordinal) (coded_templates fields ps coded)) → is_some (value_in_map p s ex) ≡ true
         far_known [] coded a h' open_one k = absurd (cc)
         far_known (q' ∷ ps) [] a h' open_one k = absurd a
         far_known (Closed i ∷ ps) (bytes ∷ coded) (a, as') (h', hs) open_one (k, ks) = far_known ps coded as' hs open_one ks
@@ -452,7 +452,7 @@ module _ (p : Program) (os : List Object) (starts : Starts) (file : ℕ) (laid :
         pair_as n w' =
             ap (λ a. upper_at p file (unwrap_or a 0) (label_section p s.located (V ex))) (own_as n w')
             ∙ ap (λ v. upper_at p file (add w'.place plus) (label_section p s.located v)) symbolic
-            ∙ ap (λ l. upper_at p file (add w'.place plus) (option_and_then (λ (d : Definition). section_of p file d.ordinal) l)) defined
+            ∙ ap (λ l. upper_at p file (add w'.place plus) (option_and_then (λ (d : Definition). statement_section p file d.ordinal) l)) defined
             ∙ w'.pair
 
         label_fills : Fills (Open_part k i)

@@ -14,7 +14,7 @@ use Rattle.rv_map.specs.Limits.{IsGlobal}
 use Rattle.rv_source_laws.specs.Located.{has_row}
 use Rattle.rv_source_laws.specs.Program.{Mapped, Program, tables_in, address_at, home_address}
 use Rattle.rv_source_laws.specs.Fits.{mapped_in}
-use Rattle.rv_source_laws.specs.Lines.{target as target_in, distance, takes_upper, is_upper_at, upper_at, section_of}
+use Rattle.rv_source_laws.specs.Lines.{target as target_in, distance, takes_upper, is_upper_at, upper_at, statement_section}
 use Rattle.rv_object.specs.declared.symbol.Definition.{Definition as Defined}
 use Rattle.rv_object.specs.Object.{Relocation, Section, Symbol, Object}
 use Rattle.rv_object_laws.specs.Moves.{alignments_of, moves}
@@ -136,7 +136,7 @@ module _ (p : Program) (os : List Object) (starts : Starts) (file : ℕ) (laid :
     pub upper : Mapped
     pub place : ℕ
     pub stood : home_address p.statements file d ≡ Some place
-    pub pair : upper_at p file (add place plus) (section_of p file d.ordinal) ≡ Some upper
+    pub pair : upper_at p file (add place plus) (statement_section p file d.ordinal) ≡ Some upper
     pub value_is : unwrap_or v (pos 0) ≡ distance upper.row.address (target_in p upper)
 
   pub label_pair : (d : Definition) (plus : ℕ) (v : Option ℤ) → d.plus ≡ 0 → plus % 2 ^ 64 ≡ 0 → IsLowValue d.ordinal v → is_some v ≡ true → IsLabelPair d plus v
@@ -158,7 +158,7 @@ module _ (p : Program) (os : List Object) (starts : Starts) (file : ℕ) (laid :
       below : has_row s.located ≡ true → starts file j + s.offset < 2 ^ 64
       below = all_found (IsLow starts file) (λ y. y.located.ordinal == d.ordinal) laid whole.low s low_is.found_at
 
-      stands : section_of p file d.ordinal ≡ Some j
+      stands : statement_section p file d.ordinal ≡ Some j
       stands = whole.stands d.ordinal ∙ ap (laid_section starts) low_is.found_at
 
       by_section : (x : Section) × (slice_get o.sections j ≡ Some x) × IsSectionOf T laid number o.symbols j s.located.home (laid_in j laid) x → IsLabelPair d plus v
@@ -210,7 +210,7 @@ module _ (p : Program) (os : List Object) (starts : Starts) (file : ℕ) (laid :
               whole_value : v ≡ option_map worth_of Rest
               whole_value = valued ∙ high_is j s.located.home x is at none loaded relocated offset
 
-              sought : upper_at p file (add (add (starts file j + s.offset) d.plus) plus) (section_of p file d.ordinal) ≡ Sought
+              sought : upper_at p file (add (add (starts file j + s.offset) d.plus) plus) (statement_section p file d.ordinal) ≡ Sought
               sought =
                   ap (upper_at p file (add (add (starts file j + s.offset) d.plus) plus)) stands
                   ∙ ap (λ a. find (is_upper_at p file j a) p.mapped) target_place

@@ -15,7 +15,7 @@ use Rattle.rv_text_laws.specs.Values.{Meaning, Constant, Symbolic, Difference, F
 use Rattle.rv_object.specs.Object.{Relocation}
 use Rattle.rv_source_laws.specs.Program.{resolved}
 use Rattle.rv_assemble_laws.specs.Templates.{Template, Fixed, Datum, Coded, Open, opened, template_fields, IsTemplate, IsWide, IsWidth}
-use Rattle.rv_assemble_laws.specs.LaidStatements.{Part, part_of, part_bytes}
+use Rattle.rv_assemble_laws.specs.LaidStatements.{LaidPart, laid_part, part_bytes}
 use Rattle.rv_assemble_laws.specs.IsObjectOf.{Numbering, relocation_at, relocations_from}
 use Rattle.rv_object_laws.specs.Values.{patched_at, applied}
 use Rattle.rv_sources_link_laws.proofs.fields.NumbersLemmas.{worth, address_32, address_64, difference_8, difference_16, difference_32, difference_64}
@@ -68,11 +68,11 @@ written_template a v (Fixed bytes) = bytes
 written_template a v (Datum width value) = little_endian width (unwrap_or (resolved a value) 0)
 written_template a v (Coded bytes fields) = filled_fields v fields bytes
 
-abbrev pub written : (ℕ → Primary → Option ℕ) → (ℕ → Open → ℤ) → ℕ → Part → List ℕ
+abbrev pub written : (ℕ → Primary → Option ℕ) → (ℕ → Open → ℤ) → ℕ → LaidPart → List ℕ
 written a v offset p = written_template (a p.ordinal) (v offset) p.template
 
 -- what parts write that follow one another from an offset on
-abbrev pub written_from : (ℕ → Part → List ℕ) → ℕ → List Part → List ℕ
+abbrev pub written_from : (ℕ → LaidPart → List ℕ) → ℕ → List LaidPart → List ℕ
 written_from w offset [] = []
 written_from w offset (p ∷ ps) =
     w offset p ++ written_from w (offset + length (part_bytes p)) ps
@@ -106,7 +106,7 @@ little_long (suc width) n = ap suc (little_long width (n / 256))
 -- ---- the parts of a section
 
 module _ (new : ℕ → ℕ) (same : (n : ℕ) → new n ≡ n) (value : Relocation → ℤ) (number : Numbering) where
-  abbrev fields : ℕ → Part → List Relocation
+  abbrev fields : ℕ → LaidPart → List Relocation
   fields offset p = map (relocation_at number offset) (template_fields p.ordinal p.template)
 
   applied_append : (xs ys : List Relocation) (bytes : List ℕ) → applied new value (xs ++ ys) bytes ≡ applied new value ys (applied new value xs bytes)
@@ -114,12 +114,12 @@ module _ (new : ℕ → ℕ) (same : (n : ℕ) → new n ≡ n) (value : Relocat
   applied_append (x ∷ xs) ys bytes = applied_append xs ys (patched_at (new x.place) x.kind (value x) bytes)
 
   -- the relocations of a part make its bytes what it writes, whatever stands around it
-  abbrev pub Makes : (ℕ → Part → List ℕ) → Part → Type 0
+  abbrev pub Makes : (ℕ → LaidPart → List ℕ) → LaidPart → Type 0
   Makes w p =
       ((offset : ℕ) → length (w offset p) ≡ length (part_bytes p))
       × ((front rest : List ℕ) → applied new value (fields (length front) p) (front ++ (part_bytes p ++ rest)) ≡ front ++ (w (length front) p ++ rest))
 
-  pub all_made : (w : ℕ → Part → List ℕ) (front : List ℕ) (offset : ℕ) (ps : List Part) → length front ≡ offset → AllByRecursion (Makes w) ps
+  pub all_made : (w : ℕ → LaidPart → List ℕ) (front : List ℕ) (offset : ℕ) (ps : List LaidPart) → length front ≡ offset → AllByRecursion (Makes w) ps
       → applied new value (relocations_from number offset ps) (front ++ flat_map part_bytes ps) ≡ front ++ written_from w offset ps
   all_made w front offset [] at h = refl
   all_made w front offset (p ∷ ps) at ((long, makes), hs) =
@@ -201,26 +201,26 @@ module _ (new : ℕ → ℕ) (same : (n : ℕ) → new n ≡ n) (value : Relocat
     abbrev pub worth_in : ℕ → Open → ℤ
     worth_in offset f = value (relocation_at number offset f)
 
-    symbolic_makes : (width ordinal : ℕ) (q : Primary) (at : Meaning) (k : ℕ) → IsWide width → IsKnown ordinal q → Makes (written a worth_in) (part_of ordinal (Datum width (Symbolic q at k)))
+    symbolic_makes : (width ordinal : ℕ) (q : Primary) (at : Meaning) (k : ℕ) → IsWide width → IsKnown ordinal q → Makes (written a worth_in) (laid_part ordinal (Datum width (Symbolic q at k)))
     symbolic_makes width ordinal q at k (inl e) known =
-        subst (λ w. Makes (written a worth_in) (part_of ordinal (Datum w (Symbolic q at k)))) (sym e)
+        subst (λ w. Makes (written a worth_in) (laid_part ordinal (Datum w (Symbolic q at k)))) (sym e)
         ((λ n. little_long 4 (unwrap_or (option_map (λ x. add x k) (a ordinal q)) 0)), symbolic_by 4 Abs32 refl refl address_32 ordinal q k known)
     symbolic_makes width ordinal q at k (inr e) known =
-        subst (λ w. Makes (written a worth_in) (part_of ordinal (Datum w (Symbolic q at k)))) (sym e)
+        subst (λ w. Makes (written a worth_in) (laid_part ordinal (Datum w (Symbolic q at k)))) (sym e)
         ((λ n. little_long 8 (unwrap_or (option_map (λ x. add x k) (a ordinal q)) 0)), symbolic_by 8 Abs64 refl refl address_64 ordinal q k known)
 
-    difference_makes : (width ordinal : ℕ) (q r : Primary) (k : ℕ) → IsWidth width → IsKnown ordinal q → IsKnown ordinal r → Makes (written a worth_in) (part_of ordinal (Datum width (Difference q r k)))
+    difference_makes : (width ordinal : ℕ) (q r : Primary) (k : ℕ) → IsWidth width → IsKnown ordinal q → IsKnown ordinal r → Makes (written a worth_in) (laid_part ordinal (Datum width (Difference q r k)))
     difference_makes width ordinal q r k (inl e) x y =
-        subst (λ w. Makes (written a worth_in) (part_of ordinal (Datum w (Difference q r k)))) (sym e)
+        subst (λ w. Makes (written a worth_in) (laid_part ordinal (Datum w (Difference q r k)))) (sym e)
         ((λ n. refl), difference_by 1 Add8 Sub8 refl refl refl refl (λ x k. (patched Add8 (worth x k) (zeros 1), refl, refl)) difference_8 ordinal q r k x y)
     difference_makes width ordinal q r k (inr (inl e)) x y =
-        subst (λ w. Makes (written a worth_in) (part_of ordinal (Datum w (Difference q r k)))) (sym e)
+        subst (λ w. Makes (written a worth_in) (laid_part ordinal (Datum w (Difference q r k)))) (sym e)
         ((λ n. refl), difference_by 2 Add16 Sub16 refl refl refl refl (λ x k. (patched Add16 (worth x k) (zeros 2), refl, refl)) difference_16 ordinal q r k x y)
     difference_makes width ordinal q r k (inr (inr (inl e))) x y =
-        subst (λ w. Makes (written a worth_in) (part_of ordinal (Datum w (Difference q r k)))) (sym e)
+        subst (λ w. Makes (written a worth_in) (laid_part ordinal (Datum w (Difference q r k)))) (sym e)
         ((λ n. refl), difference_by 4 Add32 Sub32 refl refl refl refl (λ x k. (patched Add32 (worth x k) (zeros 4), refl, refl)) difference_32 ordinal q r k x y)
     difference_makes width ordinal q r k (inr (inr (inr e))) x y =
-        subst (λ w. Makes (written a worth_in) (part_of ordinal (Datum w (Difference q r k)))) (sym e)
+        subst (λ w. Makes (written a worth_in) (laid_part ordinal (Datum w (Difference q r k)))) (sym e)
         ((λ n. refl), difference_by 8 Add64 Sub64 refl refl refl refl (λ x k. (patched Add64 (worth x k) (zeros 8), refl, refl)) difference_64 ordinal q r k x y)
 
     -- ---- the parts of code
@@ -269,7 +269,7 @@ module _ (new : ℕ → ℕ) (same : (n : ℕ) → new n ≡ n) (value : Relocat
         ∙ code_makes fs after front rest (subst (λ n. AllByRecursion (λ (f : Open). width_of f.kind ≤ n) fs) (sym long) hs)
 
     -- each part makes what it writes
-    template_makes : (ordinal : ℕ) (t : Template) → IsTemplate t → HasRoom t → Fields (template_fields ordinal t) → Makes (written a worth_in) (part_of ordinal t)
+    template_makes : (ordinal : ℕ) (t : Template) → IsTemplate t → HasRoom t → Fields (template_fields ordinal t) → Makes (written a worth_in) (laid_part ordinal t)
     template_makes ordinal (Fixed bytes) h room known = ((λ n. refl), λ front rest. refl)
     template_makes ordinal (Datum width (Constant n)) h room known = ((λ n. refl), λ front rest. refl)
     template_makes ordinal (Datum width (Symbolic q at k)) h room (known, tt) = symbolic_makes width ordinal q at k h known
@@ -278,7 +278,7 @@ module _ (new : ℕ → ℕ) (same : (n : ℕ) → new n ≡ n) (value : Relocat
     template_makes ordinal (Coded bytes fs) h room known =
         ((λ n. filled_long (worth_in n) fs bytes room), λ front rest. code_makes fs bytes front rest room)
 
-    pub makes : (ps : List Part) → AllByRecursion (λ p. IsTemplate p.template) ps → AllByRecursion (λ p. HasRoom p.template) ps
+    pub makes : (ps : List LaidPart) → AllByRecursion (λ p. IsTemplate p.template) ps → AllByRecursion (λ p. HasRoom p.template) ps
         → AllByRecursion (λ p. Fields (template_fields p.ordinal p.template)) ps → AllByRecursion (Makes (written a worth_in)) ps
     makes [] h room k = tt
     makes (p ∷ ps) (h, hs) (r, rs) (k, ks) = (template_makes p.ordinal p.template h r k, makes ps hs rs ks)

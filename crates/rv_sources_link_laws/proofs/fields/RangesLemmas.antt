@@ -18,7 +18,7 @@ use Rattle.rv_object.specs.Padding.{no_operations}
 use Rattle.rv_compress.specs.declared.form.Compressed.{Compressed}
 use Rattle.rv_assemble_laws.specs.Coded.{IsCodedPart, AreCodedParts}
 use Rattle.rv_assemble_laws.specs.Templates.{Template, Fixed, Datum, Coded, Open, template_fields, padding_templates}
-use Rattle.rv_assemble_laws.specs.LaidStatements.{LaidStatement, expression_value, part_of, part_bytes, coded_templates, HasSize}
+use Rattle.rv_assemble_laws.specs.LaidStatements.{LaidStatement, expression_value, laid_part, part_bytes, coded_templates, HasSize}
 use Rattle.rv_assemble_laws.specs.IsObjectOf.{Numbering, relocation_at, relocations_from}
 use Rattle.rv_sources_link_laws.proofs.sections.AssembledLemmas.{assembled_templates, parts_of}
 use Rattle.rv_sources_link_laws.proofs.statements.CodingLemmas.{encoded_long, encoded_two_or_four, joined_long}
@@ -63,22 +63,22 @@ module _ (number : Numbering) where
       let end : r.place + wide ≤ o + n = c in
       ((a, omega (arith, b, low), omega (arith, end, low)), wider o n m rs low hs)
 
-  own_range : (o ordinal : ℕ) (q : Template) → IsSolid q → AllByRecursion (InRange o (length (part_bytes (part_of ordinal q)))) (map (relocation_at number o) (template_fields ordinal q))
+  own_range : (o ordinal : ℕ) (q : Template) → IsSolid q → AllByRecursion (InRange o (length (part_bytes (laid_part ordinal q)))) (map (relocation_at number o) (template_fields ordinal q))
   own_range o ordinal (Fixed bytes) h = tt
   own_range o ordinal (Datum width v) h = absurd h
   own_range o ordinal (Coded bytes fields) h = solid_fields o (length bytes) bytes fields (omega arith) h
 
   pub ranges : (o ordinal : ℕ) (ts : List Template) → AllByRecursion IsSolid ts
-      → AllByRecursion (InRange o (length (flat_map part_bytes (map (part_of ordinal) ts)))) (relocations_from number o (map (part_of ordinal) ts))
+      → AllByRecursion (InRange o (length (flat_map part_bytes (map (laid_part ordinal) ts)))) (relocations_from number o (map (laid_part ordinal) ts))
   ranges o ordinal [] h = tt
   ranges o ordinal (q ∷ ts) (h, hs) =
-      let own = length (part_bytes (part_of ordinal q)) in
-      let rest = length (flat_map part_bytes (map (part_of ordinal) ts)) in
-      let both : length (part_bytes (part_of ordinal q) ++ flat_map part_bytes (map (part_of ordinal) ts)) ≡ own + rest = length-append (part_bytes (part_of ordinal q)) (flat_map part_bytes (map (part_of ordinal) ts)) in
-      subst (λ n. AllByRecursion (InRange o n) (relocations_from number o (map (part_of ordinal) (q ∷ ts)))) (sym both)
-      (join (InRange o (own + rest)) (map (relocation_at number o) (template_fields ordinal q)) (relocations_from number (o + own) (map (part_of ordinal) ts))
+      let own = length (part_bytes (laid_part ordinal q)) in
+      let rest = length (flat_map part_bytes (map (laid_part ordinal) ts)) in
+      let both : length (part_bytes (laid_part ordinal q) ++ flat_map part_bytes (map (laid_part ordinal) ts)) ≡ own + rest = length-append (part_bytes (laid_part ordinal q)) (flat_map part_bytes (map (laid_part ordinal) ts)) in
+      subst (λ n. AllByRecursion (InRange o n) (relocations_from number o (map (laid_part ordinal) (q ∷ ts)))) (sym both)
+      (join (InRange o (own + rest)) (map (relocation_at number o) (template_fields ordinal q)) (relocations_from number (o + own) (map (laid_part ordinal) ts))
       (wider o own (own + rest) (map (relocation_at number o) (template_fields ordinal q)) (omega arith) (own_range o ordinal q h))
-      (further o rest own (relocations_from number (o + own) (map (part_of ordinal) ts)) (ranges (o + own) ordinal ts hs)))
+      (further o rest own (relocations_from number (o + own) (map (laid_part ordinal) ts)) (ranges (o + own) ordinal ts hs)))
 
 -- ---- code
 

@@ -34,7 +34,7 @@ use Rattle.rv_assemble_laws.specs.Coded.{constants, AreCodedParts, IsCode, part_
 use Rattle.rv_pseudo_laws.specs.InstructionFaults.{operand_faults, scratch_faults, own_faults, else_unplaced, has_row as has_operands_row}
 use Rattle.rv_assemble_laws.specs.InstructionFaults.{instruction_faults, worths, is_label}
 use Rattle.rv_assemble_laws.specs.Templates.{Template, Fixed, Datum, Coded, Open, open_at, value_fields, template_fields}
-use Rattle.rv_assemble_laws.specs.LaidStatements.{LaidStatement, Part, expression_value, part_of, part_bytes, coded_templates, laid_in}
+use Rattle.rv_assemble_laws.specs.LaidStatements.{LaidStatement, LaidPart, expression_value, laid_part, part_bytes, coded_templates, laid_in}
 use Rattle.rv_assemble_laws.specs.Symbols.{laid_at}
 use Rattle.rv_assemble_laws.specs.IsObjectOf.{Numbering, relocation_at, relocations_from}
 use Rattle.rv_sources_link_laws.proofs.statements.StatementsLemmas.{mapped_at, mapped_from, row_address}
@@ -75,7 +75,7 @@ find_front test (z ∷ xs) ys r e = go (test z) e (find_front test xs ys r)
     go true f ih = f
     go false f ih = ih f
 
-pub relocations_join : (number : Numbering) (offset : ℕ) (xs ys : List Part)
+pub relocations_join : (number : Numbering) (offset : ℕ) (xs ys : List LaidPart)
     → relocations_from number offset (xs ++ ys) ≡ relocations_from number offset xs ++ relocations_from number (offset + length (flat_map part_bytes xs)) ys
 relocations_join number offset [] ys = ap (λ n. relocations_from number n ys) (let e : offset ≡ offset + 0 = omega arith in e)
 relocations_join number offset (q ∷ xs) ys =
@@ -128,22 +128,22 @@ module _ (number : Numbering) (offset : ℕ) where
   fields_none n (f ∷ fs) (h, hs) =
       ap (λ b. if b && (n == offset) then Some (relocation_at number n f) else find (IsUpperAt offset) (map (relocation_at number n) fs)) h ∙ fields_none n fs hs
 
-  pub none_found : (ordinal n : ℕ) (ts : List Template) → AllByRecursion IsLowTemplate ts → find (IsUpperAt offset) (relocations_from number n (map (part_of ordinal) ts)) ≡ None
+  pub none_found : (ordinal n : ℕ) (ts : List Template) → AllByRecursion IsLowTemplate ts → find (IsUpperAt offset) (relocations_from number n (map (laid_part ordinal) ts)) ≡ None
   none_found ordinal n [] h = refl
   none_found ordinal n (q ∷ ts) (h, hs) =
-      find_join (IsUpperAt offset) (map (relocation_at number n) (template_fields ordinal q)) (relocations_from number (n + length (part_bytes (part_of ordinal q))) (map (part_of ordinal) ts))
+      find_join (IsUpperAt offset) (map (relocation_at number n) (template_fields ordinal q)) (relocations_from number (n + length (part_bytes (laid_part ordinal q))) (map (laid_part ordinal) ts))
       (fields_none n (template_fields ordinal q) (template_low ordinal q h))
-      ∙ none_found ordinal (n + length (part_bytes (part_of ordinal q))) ts hs
+      ∙ none_found ordinal (n + length (part_bytes (laid_part ordinal q))) ts hs
 
   -- the one field of a first part that is an upper part
   pub one_found : (ordinal n : ℕ) (bytes : List ℕ) (f : Open) (ts : List Template) → is_high f.kind ≡ true → AllByRecursion IsLowTemplate ts
-      → find (IsUpperAt offset) (relocations_from number n (map (part_of ordinal) (Coded bytes (f ∷ []) ∷ ts))) ≡ (if n == offset then Some (relocation_at number n f) else None)
+      → find (IsUpperAt offset) (relocations_from number n (map (laid_part ordinal) (Coded bytes (f ∷ []) ∷ ts))) ≡ (if n == offset then Some (relocation_at number n f) else None)
   one_found ordinal n bytes f ts high h =
       ap (λ b. if b && (n == offset) then Some (relocation_at number n f) else rest) high
       ∙ ap (λ l. if n == offset then Some (relocation_at number n f) else l) (none_found ordinal (n + length bytes) ts h)
     where
       rest : Option Relocation
-      rest = find (IsUpperAt offset) (relocations_from number (n + length bytes) (map (part_of ordinal) ts))
+      rest = find (IsUpperAt offset) (relocations_from number (n + length bytes) (map (laid_part ordinal) ts))
 
 -- ---- parts that are no upper parts
 
@@ -230,14 +230,14 @@ module _ (p : Program) (os : List Object) (starts : Starts) (file : ℕ) (laid :
               part_kinds (λ k. is_high k ≡ false) T (v z) z.located (Joined k i j) (λ k' i' f. absurd (cc)) (λ k' i' j' f. subst IsLowPart f e) refl
 
       no_parts : shrunk_templates T z z.located.kind ≡ [] → takes_upper z.located.kind ≡ false → NoUpper z
-      no_parts e f = record { none_at = λ offset. ap (λ l. find (IsUpperAt offset) (relocations_from number z.offset (map (part_of z.located.ordinal) l))) e; lacks = f }
+      no_parts e f = record { none_at = λ offset. ap (λ l. find (IsUpperAt offset) (relocations_from number z.offset (map (laid_part z.located.ordinal) l))) e; lacks = f }
 
       module _ (mnemonic : Mnemonic) (os' : List Operand) (e : z.located.kind ≡ Instruction mnemonic os')
           (c : IsCode (v z) z.located.options.rvc mnemonic os' z.bytes z.coded z.instructions) where
-        pub parts_are : parts_of T z ≡ map (part_of z.located.ordinal) (coded_templates (fields z) c.ps z.coded)
+        pub parts_are : parts_of T z ≡ map (laid_part z.located.ordinal) (coded_templates (fields z) c.ps z.coded)
         parts_are =
-            ap (λ k. map (part_of z.located.ordinal) (shrunk_templates T z k)) e
-            ∙ ap (λ l. map (part_of z.located.ordinal) (coded_templates (fields z) (unwrap_or l []) z.coded)) c.parts
+            ap (λ k. map (laid_part z.located.ordinal) (shrunk_templates T z k)) e
+            ∙ ap (λ l. map (laid_part z.located.ordinal) (coded_templates (fields z) (unwrap_or l []) z.coded)) c.parts
 
         pub have_is : takes_upper z.located.kind ≡ list_any is_upper_part c.ps
         have_is = ap takes_upper e ∙ sym (begins_upper (constants (v z)) z.located.options.rvc z.bytes mnemonic os' c.ps c.parts)
@@ -273,10 +273,10 @@ module _ (p : Program) (os : List Object) (starts : Starts) (file : ℕ) (laid :
               by_bytes : (bytes : List ℕ) (coded : List (List ℕ)) → z.coded ≡ bytes ∷ coded → HasUpper z
               by_bytes bytes coded f =
                   let ts = coded_templates (fields z) rest coded in
-                  let whole_parts : parts_of T z ≡ map (part_of z.located.ordinal) (Coded bytes (own_field ∷ []) ∷ ts) =
-                  parts_are ∙ ap (λ l. map (part_of z.located.ordinal) (coded_templates (fields z) l z.coded)) ps_are
-                  ∙ ap (λ l. map (part_of z.located.ordinal) (coded_templates (fields z) (Open_part kind.PcrelHi20 i ∷ rest) l)) f
-                  ∙ ap (λ l. map (part_of z.located.ordinal) (Coded bytes l ∷ ts)) (field_as ∙ ap (symbol_field kind.PcrelHi20 z.located.ordinal) symbolic) in
+                  let whole_parts : parts_of T z ≡ map (laid_part z.located.ordinal) (Coded bytes (own_field ∷ []) ∷ ts) =
+                  parts_are ∙ ap (λ l. map (laid_part z.located.ordinal) (coded_templates (fields z) l z.coded)) ps_are
+                  ∙ ap (λ l. map (laid_part z.located.ordinal) (coded_templates (fields z) (Open_part kind.PcrelHi20 i ∷ rest) l)) f
+                  ∙ ap (λ l. map (laid_part z.located.ordinal) (Coded bytes l ∷ ts)) (field_as ∙ ap (symbol_field kind.PcrelHi20 z.located.ordinal) symbolic) in
                   let known = (subst (λ l. AllByRecursion (Known p os starts file laid number o sections low are settled all_worths whole plain address index section x is at none loaded relocated) l) whole_parts h.knows).0.0 in
                   let start_as : starts file index + z.offset ≡ starts file z.located.section + z.offset = ap (λ j. starts file j + z.offset) (sym h.inside.stands) in
                   let number_is : target_in p (m z) ≡ add known.at plus =
@@ -346,7 +346,7 @@ module _ (p : Program) (os : List Object) (starts : Starts) (file : ℕ) (laid :
       by_kind (Numbered digits) e = inl (no_parts (ap (shrunk_templates T z) e) (ap takes_upper e))
       by_kind (Directs d) e = inl (record {
         none_at = λ offset.
-            ap (λ k. find (IsUpperAt offset) (relocations_from number z.offset (map (part_of z.located.ordinal) (shrunk_templates T z k)))) e
+            ap (λ k. find (IsUpperAt offset) (relocations_from number z.offset (map (laid_part z.located.ordinal) (shrunk_templates T z k)))) e
             ∙ none_found number offset z.located.ordinal z.offset (contribution_templates z.located.home.executable (v z) (contribution d) z.bytes)
             (directed IsLowTemplate (λ bytes. tt) (λ width value. tt) z.located.home.executable (v z) (contribution d) z.bytes);
         lacks = ap takes_upper e;

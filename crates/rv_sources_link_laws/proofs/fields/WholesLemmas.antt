@@ -7,10 +7,10 @@ use Rattle.rv_text_laws.specs.Expression.{Primary}
 use Rattle.rv_statement.specs.Statement.{Statement}
 use Rattle.rv_unit_laws.specs.Tables.{Tables, Definition, definition, tables, at_start}
 use Rattle.rv_text_laws.specs.Codes.{lowest}
-use Rattle.rv_unit_laws.specs.Faults.{StatementFault, first_fault}
+use Rattle.rv_unit_laws.specs.Faults.{StatementFault, first_unit_fault}
 use Rattle.rv_source_laws.specs.Located.{Located, masked, located_from}
 use Rattle.rv_source_laws.specs.Program.{Program, tables_in}
-use Rattle.rv_source_laws.specs.Lines.{section_of}
+use Rattle.rv_source_laws.specs.Lines.{statement_section}
 use Rattle.rv_source_laws.specs.Fits.{mapped_in}
 use Rattle.rv_source_laws.proofs.HeldLemmas.{no_lowest, no_fault}
 use Rattle.rv_object.specs.Object.{Progbits, Section, Object}
@@ -129,7 +129,7 @@ sound ss laid dropped good is =
     (subst (λ l. AllByRecursion (IsSound (tables ss)) l) (sym is)
     (all_masked (IsSound (tables ss)) (IsSound (tables ss)) dropped (λ l h. h) (located_from 1 1 (at_start ss) ss)
     (front_of (IsSound (tables ss)) (located_from 1 1 (at_start ss) ss) []
-    (sound_from (tables ss) (located_from 1 1 (at_start ss) ss ++ []) (no_second (first_fault ss) (code_fault ss) good)))))
+    (sound_from (tables ss) (located_from 1 1 (at_start ss) ss ++ []) (no_second (first_unit_fault ss) (code_fault ss) good)))))
 
 -- a label stands where its statement stands
 abbrev pub StandsAlone : Tables → Type 0
@@ -148,7 +148,7 @@ pub record IsWhole (p : Program) (os : List Object) (starts : Starts) (file : �
   pub labels : StandsAlone (tables_in p file)
   pub given : AreGiven p os
   pub worth : AreWorths p os starts file o number worths
-  pub stands : (n : ℕ) → section_of p file n ≡ laid_section starts (laid_at laid n)
+  pub stands : (n : ℕ) → statement_section p file n ≡ laid_section starts (laid_at laid n)
   pub itself : AllByRecursion (λ z. laid_at laid z.located.ordinal ≡ Some z) laid
   -- all fields of loaded sections are filled
   pub relocated : (j : ℕ) (x : Section) → slice_get o.sections j ≡ Some x → x.loaded ≡ true

@@ -4,7 +4,7 @@ use Rattle.std.proofs.Common.{◌≡◌, ℕ, ◌-◌, ◌≤◌, Bool, true, fa
 use Rattle.std.proofs.lemmas.List.{map-append}
 use Rattle.std.specs.Prelude.{◌&&◌, ◌==◌, if◌then◌else◌, filter, flat_map, bytes_eq, nat_lt}
 use Rattle.std.specs.List.{AllByRecursion, slice_get}
-use Rattle.rv_text_laws.specs.Bytes.{value as digits_value}
+use Rattle.rv_text_laws.specs.Bytes.{digits_value as digits_value}
 use Rattle.rv_text_laws.specs.Expression.{Primary, Symbol as Named, Literal, Here, Reference}
 use Rattle.rv_text_laws.specs.Values.{Meaning, Known, InSection as InData, Open as OpenAddress, Refused, add}
 use Rattle.rv_statement.specs.Statement.{StatementKind, Label, Numbered, Instruction, Directs, Enters, Sets}
@@ -17,7 +17,7 @@ use Rattle.rv_object.specs.Object.{Symbol}
 use Rattle.rv_object_laws.specs.Moves.{Move, dropped, new_offset}
 use Rattle.rv_object.specs.Bindings.{is_shared}
 use Rattle.rv_object_laws.specs.Names.{is_defined}
-use Rattle.rv_assemble_laws.specs.LaidStatements.{LaidStatement, Part}
+use Rattle.rv_assemble_laws.specs.LaidStatements.{LaidStatement, LaidPart}
 use Rattle.rv_assemble_laws.specs.Symbols.{SymbolUse, references_in, laid_at, after_found, assigned_definition, statement_definition, shared_symbol, exports_of, IsNamed, IsOwn, IsOuter, IsDefinedBy, StandsFor}
 use Rattle.rv_assemble_laws.specs.IsObjectOf.{Numbering, IsNumbered, IsInData, StandsInData}
 use Rattle.rv_sources_link_laws.proofs.names.ExportedLemmas.{is_exported}
@@ -197,7 +197,7 @@ module _ (t : Tables) (laid : List LaidStatement) (places : AllByRecursion (Stan
   stands_same ordinal q None h = h
   stands_same ordinal q (Some x) (named, weak, h) = (named_same q x named, weak, defined_same q (definition t ordinal q) x (adds t laid places ordinal q) h)
 
-  pub uses_same : (number : Numbering) (symbols : List Symbol) (p : Part)
+  pub uses_same : (number : Numbering) (symbols : List Symbol) (p : LaidPart)
       → AllByRecursion (IsNumbered t laid number symbols) (references_in p) → AllByRecursion (IsNumbered t laid' number (map moved_symbol symbols)) (references_in p)
   uses_same number symbols p h = all_map (IsNumbered t laid number symbols) (IsNumbered t laid' number (map moved_symbol symbols)) (references_in p) use_same h
     where

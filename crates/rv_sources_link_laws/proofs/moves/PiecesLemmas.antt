@@ -12,7 +12,7 @@ use Rattle.rv_source_laws.specs.Program.{Mapped, Program, tables_in, form as pro
 use Rattle.rv_source_laws.specs.Fits as source
 use Rattle.rv_source_laws.specs.Sized.{statement_size}
 use Rattle.rv_source_laws.specs.Shortened as line
-use Rattle.rv_source_laws.specs.Shortened.{calls, Placed, full_size, full_length, placed_from, text_from, HaveBytes}
+use Rattle.rv_source_laws.specs.Shortened.{is_call_statement, Placed, full_size, full_length, placed_from, text_from, HaveBytes}
 use Rattle.rv_object.specs.Object.{size_of}
 use Rattle.rv_object_laws.specs.CallSites.{start_padding, base_in}
 use Rattle.rv_object_laws.specs.Inputs.{Starts, InputSection, begins_at}
@@ -143,9 +143,9 @@ module _ (p : Program) (starts : Starts) (at : ℕ → List LaidStatement) (size
       bytes_are size first as_size [] inside h = tt
       bytes_are size first as_size (z ∷ zs) (i, is) (h, hs) = go (has_row z.located) (bytes_are size first as_size zs is hs)
         where
-          own_bytes : IsTrue (calls (final z).located.kind) → (final z).bytes ≡ size (first + z.offset)
+          own_bytes : IsTrue (is_call_statement (final z).located.kind) → (final z).bytes ≡ size (first + z.offset)
           own_bytes e =
-              h.call (ap source_text i.home ∙ text) (ap (λ (l : Located). calls l.kind) (sym (stays z)) ∙ e) ∙ ap (λ n. its n z.offset) i.stands ∙ as_size z.offset
+              h.call (ap source_text i.home ∙ text) (ap (λ (l : Located). is_call_statement l.kind) (sym (stays z)) ∙ e) ∙ ap (λ n. its n z.offset) i.stands ∙ as_size z.offset
 
           go : (b : Bool) → HaveBytes size (line_of first zs) → HaveBytes size (if b then placed_at first z ∷ line_of first zs else line_of first zs)
           go true ih = (own_bytes, ih)
@@ -223,6 +223,6 @@ module _ (p : Program) (starts : Starts) (at : ℕ → List LaidStatement) (size
       let here : (n : ℕ) → sizes i.file i.index n ≡ size (first + n) = λ n.
       q n ∙ ap (λ b. size (off + (start_padding i.section + (if b then 0 else size_of i.section.contents + base_in is i.file i.index)) + n)) (both_same i.file i.index)
       ∙ ap size (let x = start_padding i.section in let e : off + (x + 0) + n ≡ off + x + n = omega arith in e) in
-      join (λ x. IsTrue (calls x.site.located.kind) → x.site.row.bytes ≡ size x.offset) (line_at first i b h) (lines (first + size_of i.section.contents) is bs hs)
+      join (λ x. IsTrue (is_call_statement x.site.located.kind) → x.site.row.bytes ≡ size x.offset) (line_at first i b h) (lines (first + size_of i.section.contents) is bs hs)
       (bytes_are i.file h.t h.tables h.final h.stays i.index h.s h.text (sizes i.file) size first here (own i) h.inside h.finals)
       (have_bytes size (first + size_of i.section.contents) is bs hs as' (later_line size off i is is a qs))

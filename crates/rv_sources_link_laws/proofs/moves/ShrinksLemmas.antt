@@ -20,7 +20,7 @@ use Rattle.rv_object_laws.specs.Moves.{by_place, has_padding, new_offset, plan, 
 use Rattle.rv_object_laws.specs.Inputs.{Starts, InputSection, goes_to_text, begins_at, inputs_from, inputs_of, start_of, size, Stand}
 use Rattle.rv_object_laws.specs.Names.{is_in_text, can_begin}
 use Rattle.rv_object_laws.specs.IsLinkOf.{moves_at}
-use Rattle.rv_assemble_laws.specs.LaidStatements.{LaidStatement, Part, laid_in}
+use Rattle.rv_assemble_laws.specs.LaidStatements.{LaidStatement, LaidPart, laid_in}
 use Rattle.rv_assemble_laws.specs.Symbols.{references_in, laid_at, after_found, assigned_definition, statement_definition, shared_symbol, exports_of}
 use Rattle.rv_assemble_laws.specs.IsObjectOf.{IsNumbered, row_of, rows_at, IsInData, StandsInData}
 use Rattle.rv_sources_link_laws.proofs.sections.MaskedLemmas.{source_sections}
@@ -100,7 +100,7 @@ module _ (ss : List Statement) (o : Object) (is : IsAssembled ss o) (f : ℕ →
   still : AllByRecursion (λ z. z.located.home.executable ≡ false → moves_in f o z.located.section ≡ []) is.laid
   still = all_map (IsSettled sections) (λ z. z.located.home.executable ≡ false → moves_in f o z.located.section ≡ []) is.laid (λ z k aside. still_in z.located.section z.located.home k.home aside) all_settled
 
-  uses_same : (p : Part) → AllByRecursion (IsNumbered t is.laid is.number o.symbols) (references_in p) → AllByRecursion (IsNumbered t laid' is.number o'.symbols) (references_in p)
+  uses_same : (p : LaidPart) → AllByRecursion (IsNumbered t is.laid is.number o.symbols) (references_in p) → AllByRecursion (IsNumbered t laid' is.number o'.symbols) (references_in p)
   uses_same p h =
       moved.uses_same t is.laid is.places (filed.bounds ss o is) (moves_in f o) still mv (λ z. refl) (λ z. refl) (shrunk_definition f o) refl (λ n. refl) (λ n. refl) (λ j n. refl)
       is.number o.symbols p h

@@ -25,7 +25,7 @@ use Rattle.rv_collect_laws.specs.Graph.{is_dropped}
 use Rattle.rv_sources_link_laws.proofs.sections.MaskedLemmas.{source_sections}
 use Rattle.rv_sources_link_laws.proofs.statements.MarkedLemmas.{part_fields}
 use Rattle.rv_sources_link_laws.proofs.statements.OrderedLemmas.{Follow, AreInOrder}
-pub use Rattle.rv_assemble_laws.specs.LaidStatements.{LaidStatement, Part, expression_value, part_of, part_bytes, coded_templates, laid_in, end_of, IsMultiple}
+pub use Rattle.rv_assemble_laws.specs.LaidStatements.{LaidStatement, LaidPart, expression_value, laid_part, part_bytes, coded_templates, laid_in, end_of, IsMultiple}
 pub use Rattle.rv_assemble_laws.specs.IsObjectOf.{Numbering, row_of, rows_at, relocation_at, relocations_from, contents_of, IsNumbered, ArePartsNumbered, IsInData, StandsInData}
 
 -- ---- templates
@@ -49,10 +49,10 @@ shrunk_templates t s (Instruction mnemonic operands) =
     coded_templates (part_fields t v s.located) (unwrap_or (code (constants v) s.located.options.rvc s.bytes mnemonic operands) []) s.coded
 shrunk_templates t s (Directs directive) = contribution_templates s.located.home.executable (expression_value t s.located) (contribution directive) s.bytes
 
-abbrev pub parts_of : Tables → LaidStatement → List Part
-parts_of t s = map (part_of s.located.ordinal) (shrunk_templates t s s.located.kind)
+abbrev pub parts_of : Tables → LaidStatement → List LaidPart
+parts_of t s = map (laid_part s.located.ordinal) (shrunk_templates t s s.located.kind)
 
-abbrev pub parts : Tables → List LaidStatement → List Part
+abbrev pub parts : Tables → List LaidStatement → List LaidPart
 parts t laid = flat_map (parts_of t) laid
 
 abbrev pub Tile : Tables → ℕ → List LaidStatement → Type 0

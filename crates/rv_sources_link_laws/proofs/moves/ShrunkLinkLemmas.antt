@@ -18,7 +18,7 @@ use Rattle.rv_object.specs.declared.symbol.Binding.{Binding}
 use Rattle.rv_object.specs.declared.symbol.Binding.TheVariants as bindings
 use Rattle.rv_object.specs.Object.{Contents, Progbits, Note, Nobits, Section, Symbol, Object, size_of}
 use Rattle.rv_object_laws.specs.Moves.{Move, alignments_of, plan, moves, new_offset, kept, has_room, lost}
-use Rattle.rv_object_laws.specs.Inputs.{Starts, InputSection, is_nobits, goes_to_text, goes_to_rodata, goes_to_data, goes_to_bss, inputs_from, inputs_of, inputs, raised, begins_at, start_of, size, Stand, sections_end, Holds, gaps_of, greatest, contents}
+use Rattle.rv_object_laws.specs.Inputs.{Starts, InputSection, has_no_bytes, goes_to_text, goes_to_rodata, goes_to_data, goes_to_bss, inputs_from, inputs_of, inputs, raised, begins_at, start_of, size, Stand, sections_end, Holds, gaps_of, greatest, contents}
 use Rattle.rv_object.specs.Bindings.{is_shared, is_global, is_weak}
 use Rattle.rv_object_laws.specs.Names.{Export, Outer, is_defined, is_export, exports_in, exports_from, exports_where, names_of, candidates, chosen, is_this, is_chosen, chosen_exports, export_address, globals_of, global_names, shown_linker_symbols, can_begin, begins_run, run_start, entry_of, object_at}
 use Rattle.rv_object_laws.specs.Values.{initial_bytes, linked_bytes, IsRelocated}
@@ -328,7 +328,7 @@ module _ (starts : Starts) where
 
 -- ---- where they go
 
-nobits_same : (ms : List Move) (c : Contents) → is_nobits (shrunk_contents ms c) ≡ is_nobits c
+nobits_same : (ms : List Move) (c : Contents) → has_no_bytes (shrunk_contents ms c) ≡ has_no_bytes c
 nobits_same ms (Progbits bytes) = refl
 nobits_same ms (Note bytes) = refl
 nobits_same ms (Nobits n) = refl

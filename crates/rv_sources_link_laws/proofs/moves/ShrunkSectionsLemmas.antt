@@ -17,7 +17,7 @@ use Rattle.rv_object_laws.specs.Moves.{Move, alignments_of, by_place, dropped, n
 use Rattle.rv_object_laws.specs.Inputs.{goes_to_text, raised, begins_at}
 use Rattle.rv_object_laws.specs.Values.{initial_bytes}
 use Rattle.rv_assemble_laws.specs.Templates.{Template, Fixed, Coded, Open, IsTemplate, padding_templates}
-use Rattle.rv_assemble_laws.specs.LaidStatements.{LaidStatement, Part, expression_value, part_of, part_bytes, laid_in, end_of, HasSize}
+use Rattle.rv_assemble_laws.specs.LaidStatements.{LaidStatement, LaidPart, expression_value, laid_part, part_bytes, laid_in, end_of, HasSize}
 use Rattle.rv_assemble_laws.specs.Symbols.{references_in}
 use Rattle.rv_assemble_laws.specs.IsObjectOf.{Numbering, IsNumbered, ArePartsNumbered, contents_of, relocations_from}
 use Rattle.rv_assemble_laws.proofs.FilledLemmas.{bytes_append}
@@ -83,15 +83,15 @@ alike t z (Directs (Sets name e)) = inl refl
 alike t z (Directs (Chooses choice)) = inl refl
 alike t z (Directs Ignored) = inl refl
 
-bytes_alike : (o : ℕ) (after before : List Template) → Alike after before → flat_map part_bytes (map (part_of o) after) ≡ flat_map part_bytes (map (part_of o) before)
-bytes_alike o after before (inl e) = ap (λ l. flat_map part_bytes (map (part_of o) l)) e
+bytes_alike : (o : ℕ) (after before : List Template) → Alike after before → flat_map part_bytes (map (laid_part o) after) ≡ flat_map part_bytes (map (laid_part o) before)
+bytes_alike o after before (inl e) = ap (λ l. flat_map part_bytes (map (laid_part o) l)) e
 bytes_alike o after before (inr (bytes, (fs, e, f))) =
-    ap (λ l. flat_map part_bytes (map (part_of o) l)) e ∙ sym (ap (λ l. flat_map part_bytes (map (part_of o) l)) f)
+    ap (λ l. flat_map part_bytes (map (laid_part o) l)) e ∙ sym (ap (λ l. flat_map part_bytes (map (laid_part o) l)) f)
 
-parts_alike : (P : Part → Type 0) → ((ordinal : ℕ) (bytes : List ℕ) → P (part_of ordinal (Fixed bytes))) → (o : ℕ) (after before : List Template) → Alike after before
-    → AllByRecursion P (map (part_of o) before) → AllByRecursion P (map (part_of o) after)
-parts_alike P fixed o after before (inl e) h = subst (λ l. AllByRecursion P (map (part_of o) l)) (sym e) h
-parts_alike P fixed o after before (inr (bytes, (fs, e, f))) h = subst (λ l. AllByRecursion P (map (part_of o) l)) (sym e) (fixed o bytes, tt)
+parts_alike : (P : LaidPart → Type 0) → ((ordinal : ℕ) (bytes : List ℕ) → P (laid_part ordinal (Fixed bytes))) → (o : ℕ) (after before : List Template) → Alike after before
+    → AllByRecursion P (map (laid_part o) before) → AllByRecursion P (map (laid_part o) after)
+parts_alike P fixed o after before (inl e) h = subst (λ l. AllByRecursion P (map (laid_part o) l)) (sym e) h
+parts_alike P fixed o after before (inr (bytes, (fs, e, f))) h = subst (λ l. AllByRecursion P (map (laid_part o) l)) (sym e) (fixed o bytes, tt)
 
 module _ (t : Tables) where
   own_bytes : (z : LaidStatement) → flat_map part_bytes (shrunk.parts_of t z) ≡ flat_map part_bytes (parts_of t z)
@@ -107,7 +107,7 @@ module _ (t : Tables) where
   tile_stays o [] tile = tt
   tile_stays o (z ∷ zs) (off, bytes, tile) = (off, bytes ∙ ap length (sym (own_bytes z)), tile_stays (o + z.bytes) zs tile)
 
-  parts_stay : (P : Part → Type 0) → ((ordinal : ℕ) (bytes : List ℕ) → P (part_of ordinal (Fixed bytes))) → (zs : List LaidStatement) → AllByRecursion P (parts t zs) → AllByRecursion P (shrunk.parts t zs)
+  parts_stay : (P : LaidPart → Type 0) → ((ordinal : ℕ) (bytes : List ℕ) → P (laid_part ordinal (Fixed bytes))) → (zs : List LaidStatement) → AllByRecursion P (parts t zs) → AllByRecursion P (shrunk.parts t zs)
   parts_stay P fixed [] h = tt
   parts_stay P fixed (z ∷ zs) h =
       let both = split P (parts_of t z) (parts t zs) h in
@@ -136,7 +136,7 @@ module _ (t : Tables) (laid laid' : List LaidStatement) (number : Numbering) (sy
     (h : IsSectionOf t laid number symbols j s (laid_in j laid) x) (inside : AllByRecursion (IsLaidIn j s) (laid_in j laid))
     (begun : goes_to_text x ≡ true → (stop : ℕ) × (start ≡ aligned (begins_at x) stop))
     (same : laid_in j laid' ≡ map (laid_with (moves start x)) (laid_in j laid))
-    (stands : (p : Part) → AllByRecursion (IsNumbered t laid number symbols) (references_in p) → AllByRecursion (IsNumbered t laid' number symbols') (references_in p)) where
+    (stands : (p : LaidPart) → AllByRecursion (IsNumbered t laid number symbols) (references_in p) → AllByRecursion (IsNumbered t laid' number symbols') (references_in p)) where
   abbrev zs : List LaidStatement
   zs = laid_in j laid
 
@@ -272,7 +272,7 @@ module _ (t : Tables) (laid laid' : List LaidStatement) (number : Numbering) (sy
       plain = none_left start x;
     }
       where
-        stand_all : (ps : List Part) → ArePartsNumbered t laid number symbols ps → ArePartsNumbered t laid' number symbols' ps
+        stand_all : (ps : List LaidPart) → ArePartsNumbered t laid number symbols ps → ArePartsNumbered t laid' number symbols' ps
         stand_all [] k = tt
         stand_all (p ∷ ps) (k, ks) = (stands p k, stand_all ps ks)
 

@@ -13,7 +13,7 @@ use Rattle.rv_object.specs.Padding.{no_operations}
 use Rattle.rv_object_laws.specs.Moves.{Move, new_offset, kept, has_padding, alignment_of, plan}
 use Rattle.rv_object_laws.specs.Inputs.{raised}
 use Rattle.rv_assemble_laws.specs.Templates.{Fixed, Open, template_fields}
-use Rattle.rv_assemble_laws.specs.LaidStatements.{LaidStatement, Part, expression_value, part_of, part_bytes, end_of}
+use Rattle.rv_assemble_laws.specs.LaidStatements.{LaidStatement, LaidPart, expression_value, laid_part, part_bytes, end_of}
 use Rattle.rv_sources_link_laws.proofs.sections.AssembledLemmas.{parts_of, parts, assembled_templates}
 use Rattle.rv_assemble_laws.specs.IsObjectOf.{Numbering, relocation_at, relocations_from}
 use Rattle.rv_assemble_laws.proofs.FilledLemmas.{bytes_append}
@@ -27,11 +27,11 @@ use Rattle.rv_sources_link_laws.proofs.moves.WalkLemmas.{Ahead, plan_ahead, alig
 
 -- ---- the bytes of paddings
 
-padding_long : (o b : ℕ) → b % 2 ≡ 0 → b ≡ length (flat_map part_bytes (map (part_of o) (shrunk.padding_templates true b)))
+padding_long : (o b : ℕ) → b % 2 ≡ 0 → b ≡ length (flat_map part_bytes (map (laid_part o) (shrunk.padding_templates true b)))
 padding_long o zero even = refl
 padding_long o (suc n) even = sym (ap length (append-nil (no_operations (suc n))) ∙ nops_long (suc n) even)
 
-padding_said : (o b : ℕ) → flat_map part_bytes (map (part_of o) (shrunk.padding_templates true b)) ≡ no_operations b
+padding_said : (o b : ℕ) → flat_map part_bytes (map (laid_part o) (shrunk.padding_templates true b)) ≡ no_operations b
 padding_said o zero = refl
 padding_said o (suc n) = append-nil (no_operations (suc n))
 
@@ -80,7 +80,7 @@ module _ (number : Numbering) (ms : List Move) where
       go false h ih = ap (λ n. relocation_at number n f ∷ shrunk_relocations ms (map (relocation_at number a) fs)) e ∙ ap (λ l. relocation_at number c f ∷ l) (ih h)
 
   -- the parts of a statement whose bytes stay
-  parts_moved : (a c : ℕ) (ps : List Part) → ((d : ℕ) → d ≤ length (flat_map part_bytes ps) → new_offset ms (a + d) ≡ c + d) → filter has_padding (relocations_from number a ps) ≡ []
+  parts_moved : (a c : ℕ) (ps : List LaidPart) → ((d : ℕ) → d ≤ length (flat_map part_bytes ps) → new_offset ms (a + d) ≡ c + d) → filter has_padding (relocations_from number a ps) ≡ []
       → shrunk_relocations ms (relocations_from number a ps) ≡ relocations_from number c ps
   parts_moved a c [] shift none = refl
   parts_moved a c (p ∷ ps) shift none =
@@ -113,10 +113,10 @@ module _ (t : Tables) (number : Numbering) (section : SourceSection) (multiple :
   PadStep o gone z = walk.PadStep t number section multiple start ms begins o gone z
 
   own_plain : (o gone : ℕ) (z : LaidStatement) → PlainStep o gone z → shrunk.parts_of t (S z) ≡ parts_of t z
-  own_plain o gone z s = ap (shrunk.parts_of t) s.plain_is ∙ ap (map (part_of z.located.ordinal)) (s.plain_kind.same (o - gone))
+  own_plain o gone z s = ap (shrunk.parts_of t) s.plain_is ∙ ap (map (laid_part z.located.ordinal)) (s.plain_kind.same (o - gone))
 
-  own_pad : (o gone : ℕ) (z : LaidStatement) (s : PadStep o gone z) → shrunk.parts_of t (S z) ≡ map (part_of z.located.ordinal) (shrunk.padding_templates true s.least)
-  own_pad o gone z s = ap (shrunk.parts_of t) s.pad_is ∙ ap (map (part_of z.located.ordinal)) (s.pad_kind.is (o - gone) s.least)
+  own_pad : (o gone : ℕ) (z : LaidStatement) (s : PadStep o gone z) → shrunk.parts_of t (S z) ≡ map (laid_part z.located.ordinal) (shrunk.padding_templates true s.least)
+  own_pad o gone z s = ap (shrunk.parts_of t) s.pad_is ∙ ap (map (laid_part z.located.ordinal)) (s.pad_kind.is (o - gone) s.least)
 
   next_plain : (o gone b : ℕ) → gone ≤ o → o + b - gone ≡ (o - gone) + b
   next_plain o gone b low = omega (arith, low)
@@ -228,8 +228,8 @@ module _ (t : Tables) (number : Numbering) (section : SourceSection) (multiple :
           test : (m : ℕ) → 0 < m → nat_lt 0 m ≡ true
           test m h = walk.some_true m h
 
-      unmarked : (ordinal n b : ℕ) (later : List Part) → b % 2 ≡ 0
-          → relocations_from number (n + b) later ≡ relocations_from number n (map (part_of ordinal) (shrunk.padding_templates true b) ++ later)
+      unmarked : (ordinal n b : ℕ) (later : List LaidPart) → b % 2 ≡ 0
+          → relocations_from number (n + b) later ≡ relocations_from number n (map (laid_part ordinal) (shrunk.padding_templates true b) ++ later)
       unmarked ordinal n zero later even = ap (λ m. relocations_from number m later) (let e : n + 0 ≡ n = omega arith in e)
       unmarked ordinal n (suc b) later even = ap (λ m. relocations_from number (n + m) later) (sym (nops_long (suc b) even))
 
@@ -249,7 +249,7 @@ module _ (t : Tables) (number : Numbering) (section : SourceSection) (multiple :
   )
 
   -- what holds of each part and of bytes alone
-  pub parts_kept : (P : Part → Type 0) → ((ordinal : ℕ) (bytes : List ℕ) → P (part_of ordinal (Fixed bytes))) → (o gone : ℕ) (zs : List LaidStatement) → Steps o gone zs
+  pub parts_kept : (P : LaidPart → Type 0) → ((ordinal : ℕ) (bytes : List ℕ) → P (laid_part ordinal (Fixed bytes))) → (o gone : ℕ) (zs : List LaidStatement) → Steps o gone zs
       → AllByRecursion P (parts t zs) → AllByRecursion P (shrunk.parts t (map S zs))
   parts_kept P fixed o gone [] st h = tt
   parts_kept P fixed o gone (z ∷ zs) (off, bytes, low, evens, inl (s, st)) h =
@@ -260,7 +260,7 @@ module _ (t : Tables) (number : Numbering) (section : SourceSection) (multiple :
       join P (shrunk.parts_of t (S z)) (shrunk.parts t (map S zs)) (subst (λ l. AllByRecursion P l) (sym (own_pad o gone z s)) (of_padding s.least))
       (parts_kept P fixed (o + z.bytes) (gone + (z.bytes - s.least)) zs st both.1)
     where
-      of_padding : (b : ℕ) → AllByRecursion P (map (part_of z.located.ordinal) (shrunk.padding_templates true b))
+      of_padding : (b : ℕ) → AllByRecursion P (map (laid_part z.located.ordinal) (shrunk.padding_templates true b))
       of_padding zero = tt
       of_padding (suc n) = (fixed z.located.ordinal (no_operations (suc n)), tt)
 

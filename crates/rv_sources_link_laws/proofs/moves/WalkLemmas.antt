@@ -17,7 +17,7 @@ use Rattle.rv_object.specs.Padding.{no_operations, operations_in}
 use Rattle.rv_object.specs.Valid.{is_align}
 use Rattle.rv_object_laws.specs.Moves.{Move, dropped, new_offset, kept, full_padding, has_padding, alignment_of, inserted, by_place, plan, lost, lost_in}
 use Rattle.rv_assemble_laws.specs.Templates.{Template, Fixed, Datum, Coded, Open, value_fields, template_fields, absolute_kind, add_kind, subtract_kind, align_field}
-use Rattle.rv_assemble_laws.specs.LaidStatements.{LaidStatement, Part, part_of, part_bytes}
+use Rattle.rv_assemble_laws.specs.LaidStatements.{LaidStatement, LaidPart, laid_part, part_bytes}
 use Rattle.rv_sources_link_laws.proofs.sections.AssembledLemmas.{parts_of, parts, assembled_templates}
 pub use Rattle.rv_sources_link_laws.proofs.sections.AssembledLemmas.{Tile}
 use Rattle.rv_assemble_laws.specs.IsObjectOf.{Numbering, relocation_at, relocations_from}
@@ -172,7 +172,7 @@ fewer m n h = omega (arith, h)
 -- ---- relocations
 
 module _ (t : Tables) (number : Numbering) where
-  pub relocations_join : (o : ℕ) (xs ys : List Part)
+  pub relocations_join : (o : ℕ) (xs ys : List LaidPart)
       → relocations_from number o (xs ++ ys) ≡ relocations_from number o xs ++ relocations_from number (o + length (flat_map part_bytes xs)) ys
   relocations_join o [] ys = ap (λ n. relocations_from number n ys) (let e : o ≡ o + 0 = omega arith in e)
   relocations_join o (x ∷ xs) ys =
@@ -193,14 +193,14 @@ module _ (t : Tables) (number : Numbering) where
       ap (λ b. if b && nat_lt 0 (full_padding (relocation_at number o f)) then relocation_at number o f ∷ filter has_padding (map (relocation_at number o) fs) else filter has_padding (map (relocation_at number o) fs)) h
       ∙ fields_none o fs hs
 
-  pub parts_none : (o : ℕ) (ps : List Part) → AllByRecursion (λ p. IsPlain p.template) ps → filter has_padding (relocations_from number o ps) ≡ []
+  pub parts_none : (o : ℕ) (ps : List LaidPart) → AllByRecursion (λ p. IsPlain p.template) ps → filter has_padding (relocations_from number o ps) ≡ []
   parts_none o [] h = refl
   parts_none o (p ∷ ps) (h, hs) =
       filter_join (map (relocation_at number o) (template_fields p.ordinal p.template)) (relocations_from number (o + length (part_bytes p)) ps)
       ∙ ap (λ l. l ++ filter has_padding (relocations_from number (o + length (part_bytes p)) ps)) (fields_none o (template_fields p.ordinal p.template) (template_plain p.ordinal p.template h))
       ∙ parts_none (o + length (part_bytes p)) ps hs
 
-  pub of_ordinal : (ordinal : ℕ) (ts : List Template) → AllByRecursion IsPlain ts → AllByRecursion (λ p. IsPlain p.template) (map (part_of ordinal) ts)
+  pub of_ordinal : (ordinal : ℕ) (ts : List Template) → AllByRecursion IsPlain ts → AllByRecursion (λ p. IsPlain p.template) (map (laid_part ordinal) ts)
   of_ordinal ordinal [] h = tt
   of_ordinal ordinal (q ∷ ts) (h, hs) = (h, of_ordinal ordinal ts hs)
 
@@ -219,7 +219,7 @@ module _ (t : Tables) (number : Numbering) where
   fields_from o [] = tt
   fields_from o (f ∷ fs) = (omega arith, fields_from o fs)
 
-  pub parts_from : (o : ℕ) (ps : List Part) → From o (relocations_from number o ps)
+  pub parts_from : (o : ℕ) (ps : List LaidPart) → From o (relocations_from number o ps)
   parts_from o [] = tt
   parts_from o (p ∷ ps) =
       from_join o (map (relocation_at number o) (template_fields p.ordinal p.template)) (relocations_from number (o + length (part_bytes p)) ps)
@@ -270,8 +270,8 @@ module _ (t : Tables) (number : Numbering) where
         omega (arith, full, some)
 
     -- what an alignment has in the object
-    pub pad_parts : (z : LaidStatement) → Pad z → parts_of t z ≡ part_of z.located.ordinal (Coded (no_operations z.bytes) (align_field z.located.ordinal z.bytes ∷ [])) ∷ []
-    pad_parts z h = ap (map (part_of z.located.ordinal)) h.was
+    pub pad_parts : (z : LaidStatement) → Pad z → parts_of t z ≡ laid_part z.located.ordinal (Coded (no_operations z.bytes) (align_field z.located.ordinal z.bytes ∷ [])) ∷ []
+    pad_parts z h = ap (map (laid_part z.located.ordinal)) h.was
 
     pub pads_pad : (o : ℕ) (z : LaidStatement) (zs : List LaidStatement) → z.bytes ≡ length (flat_map part_bytes (parts_of t z)) → Pad z → pads o (z ∷ zs) ≡ align_at o z.bytes ∷ pads (o + z.bytes) zs
     pads_pad o z zs bytes h =

@@ -4,12 +4,12 @@ use Rattle.std.proofs.Common.{◌≡◌, ℕ, suc, Bool, true, false, List, [], 
 use Rattle.std.specs.Prelude.{⊤, ◌&&◌, nat_lt, is_some, if◌then◌else◌}
 use Rattle.std.specs.Str.{bytes_eq}
 use Rattle.std.proofs.lemmas.Bool.{not-true}
-use Rattle.rv_text_laws.specs.Bytes.{value as digits_value}
+use Rattle.rv_text_laws.specs.Bytes.{digits_value as digits_value}
 use Rattle.rv_text_laws.specs.Expression.{Primary, Literal, Symbol, Here, Reference}
 use Rattle.rv_text_laws.specs.Values.{Known, InSection, Open, Refused, Value, Constant, Symbolic, Difference, Faulty, add}
 use Rattle.rv_statement.specs.Statement.{StatementKind, Label, Numbered, Instruction, Directs, Statement, Directive, Enters, Opens, Binds, Sets, Aligns_to_power, Aligns_to_bytes, Values, Strings, Zeros, Chooses, Ignored}
 use Rattle.rv_unit_laws.specs.Sections.{entered_by}
-use Rattle.rv_unit_laws.specs.Tables.{Tables, Labelled, NumericLabel, Assignment, Definition, here, value, label_of, assigned_before, assigned_ever, is_defined, has_location, may_set, assigned, assigned_by, with_assignment, with_label, with_section, after_directive, after, after_all, at_start, tables, definition, assigned_definition, first_definition, labelled_definition, numeric_definition, numeric_label_after, numeric_label_before}
+use Rattle.rv_unit_laws.specs.Tables.{Tables, Labelled, NumericLabel, Assignment, Definition, here, value_by_tables, label_of, assigned_before, assigned_ever, is_defined, has_location, may_set, assigned, assigned_by, with_assignment, with_label, with_section, after_directive, after, after_all, at_start, tables, definition, assigned_definition, first_definition, labelled_definition, numeric_definition, numeric_label_after, numeric_label_before}
 use Rattle.rv_unit_laws.proofs.AloneLemmas.{Same, section_same, directive_same, other_label, undefined, unplaced}
 use Rattle.rv_unit_laws.proofs.BeforeLemmas.{IsBefore, before_after, before_start}
 use Rattle.rv_assemble_laws.specs.InstructionFaults.{is_label}
@@ -111,13 +111,13 @@ module _ (name : List ℕ) where
   -- ---- any statement
 
   directive_after : (t : Tables) (k : ℕ) (d : Directive) → IsBefore t k → OneName t → OneName (after_directive t k d)
-  directive_after t k d before h = moved (with_assignment (with_section t (entered_by d)) (assigned_by (value t false k (here t)) k d)) (after_directive t k d) (directive_same t k d) (go d)
+  directive_after t k d before h = moved (with_assignment (with_section t (entered_by d)) (assigned_by (value_by_tables t false k (here t)) k d)) (after_directive t k d) (directive_same t k d) (go d)
     where
       opened : (d : Directive) → OneName (with_section t (entered_by d))
       opened d = moved t (with_section t (entered_by d)) (section_same t (entered_by d)) h
 
-      go : (d : Directive) → OneName (with_assignment (with_section t (entered_by d)) (assigned_by (value t false k (here t)) k d))
-      go (Sets n e) = set_after t k n before h (value t false k (here t) e)
+      go : (d : Directive) → OneName (with_assignment (with_section t (entered_by d)) (assigned_by (value_by_tables t false k (here t)) k d))
+      go (Sets n e) = set_after t k n before h (value_by_tables t false k (here t) e)
       go (Enters section) = opened (Enters section)
       go (Opens section flags kind) = opened (Opens section flags kind)
       go (Binds binding names) = h

@@ -16,7 +16,7 @@ use Rattle.rv_assemble_laws.specs.Coded.{constants}
 use Rattle.rv_assemble_laws.specs.Refusals.{statements_fault}
 use Rattle.rv_assemble_laws.specs.Symbols.{exports}
 use Rattle.rv_assemble_laws.specs.Templates.{Template, IsTemplate, contribution_templates}
-use Rattle.rv_assemble_laws.specs.LaidStatements.{LaidStatement, Part, expression_value, part_of, part_bytes, coded_templates, end_of, HasSize}
+use Rattle.rv_assemble_laws.specs.LaidStatements.{LaidStatement, LaidPart, expression_value, laid_part, part_bytes, coded_templates, end_of, HasSize}
 use Rattle.rv_assemble_laws.specs.IsObjectOf.{Numbering, rows_at, relocations_from, contents_of, ArePartsNumbered, StandsInData}
 use Rattle.rv_sources_link_laws.proofs.sections.MaskedLemmas.{source_sections}
 use Rattle.rv_sources_link_laws.proofs.statements.MarkedLemmas.{part_fields}
@@ -32,10 +32,10 @@ assembled_templates t s (Instruction mnemonic operands) =
     coded_templates (part_fields t v s.located) (unwrap_or (code (constants v) s.located.options.rvc s.bytes mnemonic operands) []) s.coded
 assembled_templates t s (Directs directive) = contribution_templates s.located.home.executable s.located.ordinal (expression_value t s.located) (contribution directive) s.bytes
 
-abbrev pub parts_of : Tables → LaidStatement → List Part
-parts_of t s = map (part_of s.located.ordinal) (assembled_templates t s s.located.kind)
+abbrev pub parts_of : Tables → LaidStatement → List LaidPart
+parts_of t s = map (laid_part s.located.ordinal) (assembled_templates t s s.located.kind)
 
-abbrev pub parts : Tables → List LaidStatement → List Part
+abbrev pub parts : Tables → List LaidStatement → List LaidPart
 parts t laid = flat_map (parts_of t) laid
 
 abbrev pub Tile : Tables → ℕ → List LaidStatement → Type 0

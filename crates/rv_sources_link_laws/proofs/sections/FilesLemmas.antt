@@ -9,8 +9,8 @@ use Rattle.rv_unit_laws.specs.Tables.{Tables, tables, at_start, after}
 use Rattle.rv_map.specs.Map.{Map}
 use Rattle.rv_map.specs.declared.map.Row.{Row as MapRow}
 use Rattle.rv_source_laws.specs.Located.{has_row, left, masked, located_now, located_from}
-use Rattle.rv_source_laws.specs.Program.{Program, program, tables_in, address_at, mapped_of, statements_of}
-use Rattle.rv_source_laws.specs.Lines.{section_of}
+use Rattle.rv_source_laws.specs.Program.{Program, program, tables_in, address_at, mapped_of, mapped_statements}
+use Rattle.rv_source_laws.specs.Lines.{statement_section}
 use Rattle.rv_source_laws.specs.Fits.{mapped_in}
 use Rattle.rv_object.specs.Object.{Section, Symbol, Object}
 use Rattle.rv_object_laws.specs.Moves.{alignments_of, plan}
@@ -109,7 +109,7 @@ pub record IsFile (p : Program) (starts : Starts) (file : ℕ) (ss : List Statem
   pub tables : tables_in p file ≡ tables ss
   pub mapped : (j : ℕ) → mapped_in p.mapped file j ≡ mapped_from starts file (laid_in j laid)
   pub address : (n : ℕ) → address_at p.statements file n ≡ option_and_then (row_address starts file) (laid_at laid n)
-  pub stands : (n : ℕ) → section_of p file n ≡ laid_section starts (laid_at laid n)
+  pub stands : (n : ℕ) → statement_section p file n ≡ laid_section starts (laid_at laid n)
 
 abbrev pub AreFiles : Program → Starts → ℕ → (sources : List (List Statement)) (os : List Object) → AreObjectsOf sources os → Type 0
 AreFiles p starts file [] [] h = ⊤
@@ -141,7 +141,7 @@ module _ (sources : List (List Statement)) (os : List Object) (m : Map) (starts 
   rows_ours = rows ∙ rows_all starts 1 sources os h
 
   pub statements_ours : p.statements ≡ all_statements starts 1 sources os h
-  statements_ours = ap (statements_of (left m.drops sources)) rows_ours ∙ statements_all starts m.drops 1 sources os h masks
+  statements_ours = ap (mapped_statements (left m.drops sources)) rows_ours ∙ statements_all starts m.drops 1 sources os h masks
 
   pub files : AreFiles p starts 1 sources os h
   files = files_from p starts 1 sources os h (λ i. record {

@@ -26,7 +26,7 @@ use Rattle.rv_object_laws.specs.Without.{without_section, without_sections, with
 use Rattle.rv_assemble_laws.specs.CodeFields.{part_fields}
 use Rattle.rv_assemble_laws.specs.Coded.{constants}
 use Rattle.rv_assemble_laws.specs.Templates.{Open, Coded, IsTemplate, contribution_templates}
-use Rattle.rv_assemble_laws.specs.LaidStatements.{LaidStatement, Part, expression_value, part_of, part_bytes, coded_templates, templates, parts_of, parts, laid_in, Tile, end_of, IsPaddedIn, HasSize}
+use Rattle.rv_assemble_laws.specs.LaidStatements.{LaidStatement, LaidPart, expression_value, laid_part, part_bytes, coded_templates, templates, parts_of, parts, laid_in, Tile, end_of, IsPaddedIn, HasSize}
 use Rattle.rv_assemble_laws.specs.Symbols.{SymbolUse, references_in, laid_at, after_found, assigned_definition, statement_definition, shared_symbol, exports_of, StandsFor, IsDefinedBy}
 use Rattle.rv_assemble_laws.specs.IsObjectOf.{Numbering, row_of, rows_at, relocations_from, contents_of, IsNumbered, ArePartsNumbered, IsSectionOf, AreSectionsOf, IsInData, StandsInData, IsObjectOf}
 use Rattle.rv_sources_link_laws.specs.Joins.{AreObjectsOf}
@@ -148,7 +148,7 @@ module _ (dropped : ℕ → Bool) where
     uses_numbered [] h = tt
     uses_numbered (u ∷ us) (h, hs) = (stands_still t S u.ordinal u.symbol (slice_get symbols (number u.ordinal u.symbol)) h, uses_numbered us hs)
 
-    parts_numbered : (ps : List Part) → ArePartsNumbered t S number symbols ps → ArePartsNumbered t (mask_all S) number symbols ps
+    parts_numbered : (ps : List LaidPart) → ArePartsNumbered t S number symbols ps → ArePartsNumbered t (mask_all S) number symbols ps
     parts_numbered [] h = tt
     parts_numbered (p ∷ ps) (h, hs) = (uses_numbered (references_in p) h, parts_numbered ps hs)
 
@@ -176,7 +176,7 @@ module _ (dropped : ℕ → Bool) where
         ap (λ b. contribution_templates b z.located.ordinal (expression_value t z.located) (contribution d) z.bytes) (executable_stays (dropped z.located.section) z.located.home)
 
     parts_same : (z : LaidStatement) → parts_of t (mask z) ≡ parts_of t z
-    parts_same z = ap (map (part_of z.located.ordinal)) (templates_same z z.located.kind)
+    parts_same z = ap (map (laid_part z.located.ordinal)) (templates_same z z.located.kind)
 
     all_parts : (zs : List LaidStatement) → parts t (mask_all zs) ≡ parts t zs
     all_parts [] = refl

@@ -22,7 +22,7 @@ use Rattle.rv_object_laws.specs.Inputs.{Starts, InputSection}
 use Rattle.rv_object_laws.specs.Values.{initial_bytes, applied, linked_bytes, IsRelocated}
 use Rattle.rv_sources_link_laws.proofs.statements.MarkedLemmas.{part_fields}
 use Rattle.rv_assemble_laws.specs.Templates.{Template, Open, IsTemplate, template_fields}
-use Rattle.rv_assemble_laws.specs.LaidStatements.{LaidStatement, Part, expression_value, part_of, part_bytes, laid_in, IsMultiple}
+use Rattle.rv_assemble_laws.specs.LaidStatements.{LaidStatement, LaidPart, expression_value, laid_part, part_bytes, laid_in, IsMultiple}
 use Rattle.rv_assemble_laws.specs.Symbols.{laid_at}
 use Rattle.rv_assemble_laws.specs.IsObjectOf.{Numbering, relocations_from}
 use Rattle.rv_sources_link_laws.proofs.fields.PatchesLemmas.{written, written_from, HasRoom, all_made, makes}
@@ -63,13 +63,13 @@ module _ (p : Program) (os : List Object) (starts : Starts) (file : ℕ) (laid :
     abbrev own : List LaidStatement
     own = laid_in index laid
 
-    abbrev ps : List Part
+    abbrev ps : List LaidPart
     ps = parts t own
 
     abbrev Fact : LaidStatement → Type 0
     Fact z = Facts p os starts file laid number o sections low are settled (all_worths file) whole plain address index section x is at none loaded relocated z
 
-    abbrev KnownPart : Part → Type 0
+    abbrev KnownPart : LaidPart → Type 0
     KnownPart q = Known p os starts file laid number o sections low are settled (all_worths file) whole plain address index section x is at none loaded relocated q
 
     -- each field of code lies in its part
@@ -77,7 +77,7 @@ module _ (p : Program) (os : List Object) (starts : Starts) (file : ℕ) (laid :
         → AllByRecursion (λ q. HasRoom q.template) (parts_of t z)
     roomy_of z here sized = of_ordinal z.located.ordinal (shrunk_templates t z z.located.kind) (roomy t z x.alignment here.bare sized)
       where
-        of_ordinal : (ordinal : ℕ) (ts : List Template) → AllByRecursion HasRoom ts → AllByRecursion (λ q. HasRoom q.template) (map (part_of ordinal) ts)
+        of_ordinal : (ordinal : ℕ) (ts : List Template) → AllByRecursion HasRoom ts → AllByRecursion (λ q. HasRoom q.template) (map (laid_part ordinal) ts)
         of_ordinal ordinal [] h = tt
         of_ordinal ordinal (q ∷ ts) (h, hs) = (h, of_ordinal ordinal ts hs)
 
@@ -117,7 +117,7 @@ module _ (p : Program) (os : List Object) (starts : Starts) (file : ℕ) (laid :
     has_fields [] h = tt
     has_fields (f ∷ fs) (h, hs) = (has_field f.ordinal f.symbol h, has_fields fs hs)
 
-    has_parts : (qs : List Part) → AllByRecursion KnownPart qs → AllByRecursion (λ q. AllByRecursion (HasAddress (meant_in p file)) (template_fields q.ordinal q.template)) qs
+    has_parts : (qs : List LaidPart) → AllByRecursion KnownPart qs → AllByRecursion (λ q. AllByRecursion (HasAddress (meant_in p file)) (template_fields q.ordinal q.template)) qs
     has_parts [] h = tt
     has_parts (q ∷ qs) (h, hs) = (has_fields (template_fields q.ordinal q.template) h, has_parts qs hs)
 
@@ -177,9 +177,9 @@ module _ (p : Program) (os : List Object) (starts : Starts) (file : ℕ) (laid :
             let ordinal = z.located.ordinal in
             ap (has_values_by p (mapped_at starts file z)) k
             ∙ all_valued (meant_in p file) ordinal width v es
-            (subst (λ kind. AllByRecursion (λ q. IsTemplate q.template) (map (part_of ordinal) (shrunk_templates t z kind))) k template)
-            (has_parts (map (part_of ordinal) (shrunk_templates t z (Directs (Values width es))))
-            (subst (λ kind. AllByRecursion KnownPart (map (part_of ordinal) (shrunk_templates t z kind))) k h.knows))
+            (subst (λ kind. AllByRecursion (λ q. IsTemplate q.template) (map (laid_part ordinal) (shrunk_templates t z kind))) k template)
+            (has_parts (map (laid_part ordinal) (shrunk_templates t z (Directs (Values width es))))
+            (subst (λ kind. AllByRecursion KnownPart (map (laid_part ordinal) (shrunk_templates t z kind))) k h.knows))
 
     all_fit : ((m : ℕ) → 0 < m → x.alignment % m ≡ 0 → starts file index % m ≡ 0) → (zs : List LaidStatement)
         → AllByRecursion Fact zs → AllByRecursion (IsOwn p os starts file laid number o sections low are settled (all_worths file) whole plain address index section x is at none loaded relocated 0 own) zs

@@ -23,7 +23,7 @@ use Rattle.rv_object_laws.specs.Inputs.{Starts}
 use Rattle.rv_sources_link_laws.proofs.statements.MarkedLemmas.{part_fields}
 use Rattle.rv_assemble_laws.specs.Templates.{Datum, Open, IsTemplate, HasField, template_fields, value_fields}
 use Rattle.rv_assemble_laws.specs.Coded.{constants}
-use Rattle.rv_assemble_laws.specs.LaidStatements.{LaidStatement, Part, expression_value, part_of, part_bytes, coded_templates, IsMultiple}
+use Rattle.rv_assemble_laws.specs.LaidStatements.{LaidStatement, LaidPart, expression_value, laid_part, part_bytes, coded_templates, IsMultiple}
 use Rattle.rv_assemble_laws.specs.IsObjectOf.{Numbering, relocation_at, relocations_from}
 use Rattle.rv_sources_link_laws.proofs.fields.PatchesLemmas.{written, written_from, filled_fields}
 use Rattle.rv_sources_link_laws.proofs.statements.CodingLemmas.{coded_bytes}
@@ -50,15 +50,15 @@ each P f (x ∷ xs) h = let parts = split P (f x) (flat_map f xs) h in (parts.0,
 -- ---- relocations of parts
 
 -- what holds of parts that follow one another, each at its offset
-abbrev pub AtOffsets : (ℕ → Part → Type 0) → ℕ → List Part → Type 0
+abbrev pub AtOffsets : (ℕ → LaidPart → Type 0) → ℕ → List LaidPart → Type 0
 AtOffsets R offset [] = ⊤
 AtOffsets R offset (p ∷ ps) = R offset p × AtOffsets R (offset + length (part_bytes p)) ps
 
-pub at_each : (R : ℕ → Part → Type 0) (P : Part → Type 0) → ((n : ℕ) (p : Part) → R n p → P p) → (offset : ℕ) (ps : List Part) → AtOffsets R offset ps → AllByRecursion P ps
+pub at_each : (R : ℕ → LaidPart → Type 0) (P : LaidPart → Type 0) → ((n : ℕ) (p : LaidPart) → R n p → P p) → (offset : ℕ) (ps : List LaidPart) → AtOffsets R offset ps → AllByRecursion P ps
 at_each R P step offset [] h = tt
 at_each R P step offset (p ∷ ps) (h, hs) = (step offset p h, at_each R P step (offset + length (part_bytes p)) ps hs)
 
-split_at : (R : ℕ → Part → Type 0) (offset : ℕ) (xs ys : List Part) → AtOffsets R offset (xs ++ ys)
+split_at : (R : ℕ → LaidPart → Type 0) (offset : ℕ) (xs ys : List LaidPart) → AtOffsets R offset (xs ++ ys)
     → AtOffsets R offset xs × AtOffsets R (offset + length (flat_map part_bytes xs)) ys
 split_at R offset [] ys h = (tt, subst (λ n. AtOffsets R n ys) (let e : offset ≡ offset + 0 = omega arith in e) h)
 split_at R offset (x ∷ xs) ys (h, hs) =
@@ -70,7 +70,7 @@ split_at R offset (x ∷ xs) ys (h, hs) =
     )
 
 -- those of statements that follow one another, by statement
-pub at_laid : (R : ℕ → Part → Type 0) (t : Tables) (offset : ℕ) (zs : List LaidStatement) → Tile t offset zs → AtOffsets R offset (parts t zs)
+pub at_laid : (R : ℕ → LaidPart → Type 0) (t : Tables) (offset : ℕ) (zs : List LaidStatement) → Tile t offset zs → AtOffsets R offset (parts t zs)
     → AllByRecursion (λ z. AtOffsets R z.offset (parts_of t z)) zs
 at_laid R t offset [] tile h = tt
 at_laid R t offset (z ∷ zs) (at, size, tile) h =
@@ -81,14 +81,14 @@ at_laid R t offset (z ∷ zs) (at, size, tile) h =
 
 module _ (Q : Relocation → Type 0) (number : Numbering) where
   -- the relocations of a part at an offset
-  abbrev pub AreAt : ℕ → Part → Type 0
+  abbrev pub AreAt : ℕ → LaidPart → Type 0
   AreAt offset p = AllByRecursion (λ (f : Open). Q (relocation_at number offset f)) (template_fields p.ordinal p.template)
 
   of_fields : (offset : ℕ) (fs : List Open) → AllByRecursion Q (map (relocation_at number offset) fs) → AllByRecursion (λ (f : Open). Q (relocation_at number offset f)) fs
   of_fields offset [] h = tt
   of_fields offset (f ∷ fs) (h, hs) = (h, of_fields offset fs hs)
 
-  pub of_parts : (offset : ℕ) (ps : List Part) → AllByRecursion Q (relocations_from number offset ps) → AtOffsets AreAt offset ps
+  pub of_parts : (offset : ℕ) (ps : List LaidPart) → AllByRecursion Q (relocations_from number offset ps) → AtOffsets AreAt offset ps
   of_parts offset [] h = tt
   of_parts offset (p ∷ ps) h =
       let both = split Q (map (relocation_at number offset) (template_fields p.ordinal p.template)) (relocations_from number (offset + length (part_bytes p)) ps) h in
@@ -144,8 +144,8 @@ module _ (a : ℕ → Primary → Option ℕ) where
   valued ordinal width (Faulty code) h k = absurd h
 
   pub all_valued : (ordinal width : ℕ) (v : Expression → Value) (es : List Expression)
-      → AllByRecursion (λ p. IsTemplate p.template) (map (part_of ordinal) (map (λ e. Datum width (v e)) es))
-      → AllByRecursion (λ p. AllByRecursion HasAddress (template_fields p.ordinal p.template)) (map (part_of ordinal) (map (λ e. Datum width (v e)) es))
+      → AllByRecursion (λ p. IsTemplate p.template) (map (laid_part ordinal) (map (λ e. Datum width (v e)) es))
+      → AllByRecursion (λ p. AllByRecursion HasAddress (template_fields p.ordinal p.template)) (map (laid_part ordinal) (map (λ e. Datum width (v e)) es))
       → list_all (λ e. is_some (resolved (a ordinal) (v e))) es ≡ true
   all_valued ordinal width v [] h k = refl
   all_valued ordinal width v (e ∷ es) (h, hs) (k, ks) =
@@ -198,15 +198,15 @@ module _ (p : Program) (file : ℕ) where
 
   module _ (worth : ℕ → ℕ → Open → ℤ) where
     abbrev says : LaidStatement → StatementKind → List ℕ
-    says z kind = written_from (written meant_in (worth z.located.section)) z.offset (map (part_of z.located.ordinal) (shrunk_templates (tables_in p file) z kind))
+    says z kind = written_from (written meant_in (worth z.located.section)) z.offset (map (laid_part z.located.ordinal) (shrunk_templates (tables_in p file) z kind))
 
     -- in data a statement's parts are what it spells
     values_spelled : (w : ℕ → Open → ℤ) (offset ordinal width : ℕ) (v : Expression → Value) (es : List Expression)
-        → flat_map (λ e. little_endian width (unwrap_or (resolved (meant_in ordinal) (v e)) 0)) es ≡ written_from (written meant_in w) offset (map (part_of ordinal) (map (λ e. Datum width (v e)) es))
+        → flat_map (λ e. little_endian width (unwrap_or (resolved (meant_in ordinal) (v e)) 0)) es ≡ written_from (written meant_in w) offset (map (laid_part ordinal) (map (λ e. Datum width (v e)) es))
     values_spelled w offset ordinal width v [] = refl
     values_spelled w offset ordinal width v (e ∷ es) =
         ap (λ l. little_endian width (unwrap_or (resolved (meant_in ordinal) (v e)) 0) ++ l)
-        (values_spelled w (offset + length (part_bytes (part_of ordinal (Datum width (v e))))) ordinal width v es)
+        (values_spelled w (offset + length (part_bytes (laid_part ordinal (Datum width (v e))))) ordinal width v es)
 
     pub spelled_by : (starts : Starts) (s : LaidStatement) (multiple : ℕ) (kind : StatementKind) → IsHeld s.located.home kind → s.located.home.executable ≡ false
         → HasShrunkSize (expression_value (tables_in p file) s.located) s multiple kind
@@ -220,9 +220,9 @@ module _ (p : Program) (file : ℕ) where
     spelled_by starts s multiple (Directs (Zeros count)) held aside (x, y) =
         ap (λ v. zeros (unwrap_or (resolved (meant_in s.located.ordinal) v) 0)) y ∙ sym (append-nil (zeros s.bytes))
     spelled_by starts s multiple (Directs (Aligns_to_power e)) held aside size =
-        sym (append-nil (zeros s.bytes)) ∙ ap (λ b. written_from (written meant_in (worth s.located.section)) s.offset (map (part_of s.located.ordinal) (padding_templates b s.bytes))) (sym aside)
+        sym (append-nil (zeros s.bytes)) ∙ ap (λ b. written_from (written meant_in (worth s.located.section)) s.offset (map (laid_part s.located.ordinal) (padding_templates b s.bytes))) (sym aside)
     spelled_by starts s multiple (Directs (Aligns_to_bytes e)) held aside size =
-        sym (append-nil (zeros s.bytes)) ∙ ap (λ b. written_from (written meant_in (worth s.located.section)) s.offset (map (part_of s.located.ordinal) (padding_templates b s.bytes))) (sym aside)
+        sym (append-nil (zeros s.bytes)) ∙ ap (λ b. written_from (written meant_in (worth s.located.section)) s.offset (map (laid_part s.located.ordinal) (padding_templates b s.bytes))) (sym aside)
     spelled_by starts s multiple (Directs (Enters section)) held aside size = refl
     spelled_by starts s multiple (Directs (Opens name flags kind)) held aside size = refl
     spelled_by starts s multiple (Directs (Binds binding names)) held aside size = refl
@@ -232,13 +232,13 @@ module _ (p : Program) (file : ℕ) where
 
     -- the parts of code
     coded_parts : (w : ℕ → Open → ℤ) (fields : CodePart → List Open) (offset ordinal : ℕ) (ps : List CodePart) (coded : List (List ℕ))
-        → coded_bytes w fields offset ps coded ≡ written_from (written meant_in w) offset (map (part_of ordinal) (coded_templates fields ps coded))
+        → coded_bytes w fields offset ps coded ≡ written_from (written meant_in w) offset (map (laid_part ordinal) (coded_templates fields ps coded))
     coded_parts w fields offset ordinal [] coded = refl
     coded_parts w fields offset ordinal (q ∷ ps) [] = refl
     coded_parts w fields offset ordinal (q ∷ ps) (bytes ∷ coded) =
         ap (λ l. filled_fields (w offset) (fields q) bytes ++ l) (coded_parts w fields (offset + length bytes) ordinal ps coded)
 
-    padding_coded : (w : ℕ → Open → ℤ) (offset ordinal bytes : ℕ) → no_operations bytes ≡ written_from (written meant_in w) offset (map (part_of ordinal) (padding_templates true bytes))
+    padding_coded : (w : ℕ → Open → ℤ) (offset ordinal bytes : ℕ) → no_operations bytes ≡ written_from (written meant_in w) offset (map (laid_part ordinal) (padding_templates true bytes))
     padding_coded w offset ordinal zero = refl
     padding_coded w offset ordinal (suc n) = sym (append-nil (no_operations (suc n)))
 
@@ -256,9 +256,9 @@ module _ (p : Program) (file : ℕ) where
     coded_by s multiple (Directs (Strings ended strings)) held code size = let e : true ≡ false = sym code ∙ held.0 in absurd (cc)
     coded_by s multiple (Directs (Zeros count)) held code size = let e : true ≡ false = sym code ∙ held in absurd (cc)
     coded_by s multiple (Directs (Aligns_to_power e)) held code size =
-        padding_coded (worth s.located.section) s.offset s.located.ordinal s.bytes ∙ ap (λ b. written_from (written meant_in (worth s.located.section)) s.offset (map (part_of s.located.ordinal) (padding_templates b s.bytes))) (sym code)
+        padding_coded (worth s.located.section) s.offset s.located.ordinal s.bytes ∙ ap (λ b. written_from (written meant_in (worth s.located.section)) s.offset (map (laid_part s.located.ordinal) (padding_templates b s.bytes))) (sym code)
     coded_by s multiple (Directs (Aligns_to_bytes e)) held code size =
-        padding_coded (worth s.located.section) s.offset s.located.ordinal s.bytes ∙ ap (λ b. written_from (written meant_in (worth s.located.section)) s.offset (map (part_of s.located.ordinal) (padding_templates b s.bytes))) (sym code)
+        padding_coded (worth s.located.section) s.offset s.located.ordinal s.bytes ∙ ap (λ b. written_from (written meant_in (worth s.located.section)) s.offset (map (laid_part s.located.ordinal) (padding_templates b s.bytes))) (sym code)
     coded_by s multiple (Directs (Enters section)) held code size = refl
     coded_by s multiple (Directs (Opens name flags kind)) held code size = refl
     coded_by s multiple (Directs (Binds binding names)) held code size = refl

@@ -15,14 +15,14 @@ use Rattle.rv_isa_laws.specs.Halves.{hi, lo}
 use Rattle.rv_compress.specs.declared.form.Compressed.{Compressed}
 use Rattle.rv_compress.specs.declared.parcel.ParcelOperation.TheVariants as parcels
 use Rattle.rv_compress.specs.declared.parcel.RegisterSet.TheVariants.{Short}
-use Rattle.rv_compress.specs.Mnemonics.{is_in}
+use Rattle.rv_compress.specs.Mnemonics.{is_of_set}
 use Rattle.rv_statement.specs.declared.mnemonic.Mnemonic.{Mnemonic}
 use Rattle.rv_statement.specs.declared.mnemonic.Mnemonic.TheVariants.{Registers, Immediate, Shift, Upper, Load, Store, Branch, Jal, Jalr, LoadReserved, Atomic, Fence, FenceTso, Ecall, Ebreak, Nop, Unary, Compare, ZeroBranch, SwappedBranch, J, Jr, Ret, La, Li, Call, Tail, Jump, Parcel}
 use Rattle.rv_statement.specs.declared.pseudo.Function.TheVariants.{Hi, Lo, PcrelHi, PcrelLo}
 use Rattle.rv_statement.specs.Statement.{Instruction, Operand, Register, Value, Applied, Target, Accesses}
 use Rattle.rv_parse_laws.specs.Syntax.{with_constant}
 use Rattle.rv_pseudo_laws.specs.Li.{li}
-use Rattle.rv_pseudo_laws.specs.Code.{Part, Closed, Open, Joined, Constants, i_type, s_type, b_type, u_type, shift_by, jalr, jal, auipc, unary, inverted, branch, jump, near, far, by_number, by_part, signed_12, upper_20, number_of, by_constant, named_form, code}
+use Rattle.rv_pseudo_laws.specs.Code.{Part, Closed, Open, Joined, Constants, i_type, s_type, b_type, u_type, shift_by, jalr, jal, auipc, unary, inverted, branch, jump, near, far, by_number, by_part, signed_12, upper_20, constant_number, by_constant, named_form, code}
 use Rattle.rv_source_laws.specs.Lines.{takes_upper}
 use Rattle.rv_sources_link_laws.proofs.statements.QuietLemmas.{formed, zero_branches, swapped_branches}
 
@@ -61,7 +61,7 @@ none_signed v store make o = tt
 
 none_constant : (v : Constants) (m : Option Mnemonic) (rd rs1 : ℕ) (o : Operand) → Have false (by_constant v m rd rs1 o)
 none_constant v (Some (Immediate operation)) rd rs1 o = none_signed v false (λ k. of_immediate operation (i_type rd rs1 k)) o
-none_constant v (Some (Shift operation)) rd rs1 o = none_number (λ k. of_shift operation (shift_by rd rs1 (wrapped k))) (number_of v o)
+none_constant v (Some (Shift operation)) rd rs1 o = none_number (λ k. of_shift operation (shift_by rd rs1 (wrapped k))) (constant_number v o)
 none_constant v m rd rs1 o = tt
 
 -- `%pcrel_hi` alone has one
@@ -119,7 +119,7 @@ rows : (v : Constants) (rvc : Bool) (bytes : ℕ) (mnemonic : Mnemonic) (os : Li
 rows v rvc bytes (Registers operation) (Register rd ∷ Register rs1 ∷ Register rs2 ∷ []) = refl
 rows v rvc bytes (Registers operation) (Register rd ∷ Register rs1 ∷ o ∷ []) = none_constant v (with_constant operation) rd rs1 o
 rows v rvc bytes (Immediate operation) (Register rd ∷ Register rs1 ∷ o ∷ []) = none_signed v false (λ k. of_immediate operation (i_type rd rs1 k)) o
-rows v rvc bytes (Shift operation) (Register rd ∷ Register rs1 ∷ o ∷ []) = none_number (λ k. of_shift operation (shift_by rd rs1 (wrapped k))) (number_of v o)
+rows v rvc bytes (Shift operation) (Register rd ∷ Register rs1 ∷ o ∷ []) = none_number (λ k. of_shift operation (shift_by rd rs1 (wrapped k))) (constant_number v o)
 rows v rvc bytes (Upper operation) (Register rd ∷ o ∷ []) = one_upper v operation rd o
 rows v rvc bytes (Load operation) (Register rd ∷ Register rs1 ∷ []) = refl
 rows v rvc bytes (Load operation) (Register rd ∷ Target e ∷ []) = unless (rd == 0) true (Some (near rd kind.PcrelLo12I (of_load operation (i_type rd rd (pos 0))))) refl
@@ -154,14 +154,14 @@ rows v rvc bytes Nop [] = refl
 rows v rvc bytes (Unary operation) (Register rd ∷ Register rs ∷ []) = none_closed (unary rvc operation rd rs)
 rows v rvc bytes (Compare operation) (Register rd ∷ Register a ∷ Register b ∷ []) = refl
 rows v rvc bytes La (Register rd ∷ Target e ∷ []) = refl
-rows v rvc bytes Li (Register rd ∷ o ∷ []) = none_sequence rd (number_of v o)
+rows v rvc bytes Li (Register rd ∷ o ∷ []) = none_sequence rd (constant_number v o)
 rows v rvc bytes Call (Register rd ∷ Target e ∷ []) = unless (rd == 0) false (Some (far bytes rd rd)) (none_far bytes rd rd)
 rows v rvc bytes Call (Target e ∷ []) = none_far bytes 1 1
 rows v rvc bytes Tail (Target e ∷ []) = none_far bytes 0 6
 rows v rvc bytes Jump (Target e ∷ Register rt ∷ []) = unless (rt == 0) false (Some (far bytes 0 rt)) (none_far bytes 0 rt)
 rows v rvc bytes (Parcel parcels.J) (Target e ∷ []) = none_jump 2 0
-rows v rvc bytes (Parcel parcels.Beqz) (Register rs ∷ Target e ∷ []) = when (is_in Short rs) false (branch 2 Beq rs 0) (none_branch 2 Beq rs 0)
-rows v rvc bytes (Parcel parcels.Bnez) (Register rs ∷ Target e ∷ []) = when (is_in Short rs) false (branch 2 Bne rs 0) (none_branch 2 Bne rs 0)
+rows v rvc bytes (Parcel parcels.Beqz) (Register rs ∷ Target e ∷ []) = when (is_of_set Short rs) false (branch 2 Beq rs 0) (none_branch 2 Beq rs 0)
+rows v rvc bytes (Parcel parcels.Bnez) (Register rs ∷ Target e ∷ []) = when (is_of_set Short rs) false (branch 2 Bne rs 0) (none_branch 2 Bne rs 0)
 rows v rvc bytes (Parcel operation) os = none_formed (named_form v (Parcel operation) os)
 rows v rvc bytes mnemonic os = tt
 

@@ -26,7 +26,7 @@ use Rattle.rv_chain_laws.specs.Contents.{AreSized, AreEncoded}
 use Rattle.rv_object_laws.specs.Values.{patched_at}
 use Rattle.rv_assemble_laws.specs.Coded.{IsCodedPart, AreCodedParts, joined, part_instructions, instructions_in}
 use Rattle.rv_assemble_laws.specs.Templates.{Open as OpenField}
-use Rattle.rv_filling_laws.specs.Parts.{is_call}
+use Rattle.rv_filling_laws.specs.Parts.{fills_call_pair}
 use Rattle.rv_filling_laws.proofs.OneLemmas.{open_filled, call_filled, call_width}
 use Rattle.rv_sources_link_laws.proofs.fields.PatchesLemmas.{little_long, patched_here, filled_fields}
 
@@ -111,7 +111,7 @@ closed_long (Some x) c i bytes h w = absurd (cc w.0)
 closed_long None true i bytes h w = absurd (cc w.1)
 closed_long None false i bytes h w = h
 
-call_long : (k : Kind) (i j : Inst) (bytes : List ℕ) → IsCodedPart None false (Joined k i j) bytes → is_call k (format_of i) (format_of j) ≡ true → length bytes ≡ width_of k
+call_long : (k : Kind) (i j : Inst) (bytes : List ℕ) → IsCodedPart None false (Joined k i j) bytes → fills_call_pair k (format_of i) (format_of j) ≡ true → length bytes ≡ width_of k
 call_long k i j bytes (fits, also, (first, (second, x, y, is))) call =
     joined_long i j bytes first second x y is ∙ sym (call_width k (format_of i) (format_of j) call)
 
@@ -134,7 +134,7 @@ module _ (v : ℕ → OpenField → ℤ) (fields : Part → List OpenField) (val
   abbrev pub IsFilledPart : (offset a : ℕ) → Part → Type 0
   IsFilledPart offset a (Closed i) = fields (Closed i) ≡ []
   IsFilledPart offset a (Open k i) = IsFilledBy k offset a (fields (Open k i))
-  IsFilledPart offset a (Joined k i j) = (is_call k (format_of i) (format_of j) ≡ true) × IsFilledBy k offset a (fields (Joined k i j))
+  IsFilledPart offset a (Joined k i j) = (fills_call_pair k (format_of i) (format_of j) ≡ true) × IsFilledBy k offset a (fields (Joined k i j))
 
   abbrev pub AreFilledParts : (offset a : ℕ) → List Part → List (List ℕ) → Type 0
   AreFilledParts offset a [] coded = ⊤

@@ -14,7 +14,7 @@ use Rattle.rv_source_laws.specs.Sized.{directive_size}
 use Rattle.rv_object_laws.specs.Moves.{Move, new_offset}
 use Rattle.rv_assemble_laws.specs.Templates.{Coded, align_field, padding_templates}
 use Rattle.rv_object.specs.Padding.{no_operations}
-use Rattle.rv_assemble_laws.specs.LaidStatements.{LaidStatement, expression_value, part_of, part_bytes, HasSize, IsPaddedIn}
+use Rattle.rv_assemble_laws.specs.LaidStatements.{LaidStatement, expression_value, laid_part, part_bytes, HasSize, IsPaddedIn}
 use Rattle.rv_sources_link_laws.proofs.sections.AssembledLemmas.{parts_of, assembled_templates, Tile}
 use Rattle.rv_assemble_laws.specs.IsObjectOf.{Numbering}
 use Rattle.rv_sources_link_laws.proofs.statements.SettledLemmas.{IsBare, IsLaidIn}
@@ -96,7 +96,7 @@ bare_before t z (Directs _) h = refl
 
 none_there : (t : Tables) (z : LaidStatement) → IsBare z.located → z.bytes ≡ length (flat_map part_bytes (parts_of t z)) → z.located.placed ≡ false → z.bytes ≡ 0
 none_there t z bare bytes e =
-    bytes ∙ ap (λ l. length (flat_map part_bytes (map (part_of z.located.ordinal) l))) (bare_before t z z.located.kind (bare e t))
+    bytes ∙ ap (λ l. length (flat_map part_bytes (map (laid_part z.located.ordinal) l))) (bare_before t z z.located.kind (bare e t))
 
 -- ---- the statements of a section
 

@@ -11,7 +11,7 @@ use Rattle.rv_unit_laws.specs.Sections.{Section as SourceSection, goes_to_text}
 use Rattle.rv_unit_laws.specs.Tables.{Tables, tables, alignment_of}
 use Rattle.rv_source_laws.proofs.HeldLemmas.{IsHeld}
 use Rattle.rv_object.specs.Object.{Object}
-use Rattle.rv_assemble_laws.specs.LaidStatements.{LaidStatement, expression_value, part_of, part_bytes, laid_in}
+use Rattle.rv_assemble_laws.specs.LaidStatements.{LaidStatement, expression_value, laid_part, part_bytes, laid_in}
 use Rattle.rv_sources_link_laws.proofs.sections.MaskedLemmas.{source_sections}
 use Rattle.rv_sources_link_laws.proofs.statements.SettledLemmas.{IsSettled, settled_left, of_sections, IsLaidIn, laid_are_in}
 use Rattle.rv_sources_link_laws.proofs.statements.OrderedLemmas.{its_section}
@@ -65,7 +65,7 @@ module _ (t : Tables) (index : ℕ) (section : SourceSection) (multiple : ℕ) w
       go : (b : Bool) → s.located.placed ≡ b → s.bytes % 2 ≡ 0
       go true e = even_by s section multiple (expression_value t s.located) s.located.kind is.held code is.home (size e)
       go false e =
-          none_even s.bytes (bytes ∙ ap (λ l. length (flat_map part_bytes (map (part_of s.located.ordinal) l))) (is.bare e t s))
+          none_even s.bytes (bytes ∙ ap (λ l. length (flat_map part_bytes (map (laid_part s.located.ordinal) l))) (is.bare e t s))
 
   in_code : (offset : ℕ) (laid : List LaidStatement) → section.executable ≡ true → offset % 2 ≡ 0 → AllByRecursion (IsLaidIn index section) laid → Tile t offset laid → AllByRecursion Sized laid
       → AllByRecursion IsEven laid

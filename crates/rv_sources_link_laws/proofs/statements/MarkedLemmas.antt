@@ -12,7 +12,7 @@ use Rattle.rv_pseudo_laws.specs.Code.{Part as CodePart, Closed, Open as Open_par
 use Rattle.rv_unit_laws.specs.Tables.{Tables}
 use Rattle.rv_source_laws.specs.Located.{Located}
 use Rattle.rv_source_laws.specs.Lines.{operand_of}
-use Rattle.rv_source_laws.specs.Shortened.{calls}
+use Rattle.rv_source_laws.specs.Shortened.{is_call_statement}
 use Rattle.rv_assemble_laws.specs.CodeFields.{field_of, relax_fields}
 use Rattle.rv_assemble_laws.specs.Templates.{Open}
 
@@ -28,7 +28,7 @@ abbrev pub marked : Bool → Located → List Open → List Open
 marked b s fields = if b then fields ++ relax_fields s.options.relax s.ordinal else fields
 
 abbrev pub is_marked : Kind → Located → Bool
-is_marked k s = is_jump k && calls s.kind
+is_marked k s = is_jump k && is_call_statement s.kind
 
 abbrev pub part_fields : Tables → (Expression → Value) → Located → CodePart → List Open
 part_fields t v s (Closed i) = []
@@ -55,7 +55,7 @@ low_unmarked kind.None e = absurd (cc)
 low_unmarked _ e = absurd (cc)
 
 pub low_marked : (k : Kind) (s : Located) (fs : List Open) → is_low_part k ≡ true → marked (is_marked k s) s fs ≡ fs
-low_marked k s fs e = ap (λ b. marked (b && calls s.kind) s fs) (low_unmarked k e)
+low_marked k s fs e = ap (λ b. marked (b && is_call_statement s.kind) s fs) (low_unmarked k e)
 
 -- ---- what holds of all
 

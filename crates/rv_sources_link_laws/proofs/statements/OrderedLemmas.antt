@@ -7,17 +7,17 @@ use Rattle.std.specs.List.{slice_get}
 use Rattle.rv_unit_laws.specs.Sections.{Section as SourceSection}
 use Rattle.rv_unit_laws.specs.Tables.{Tables}
 use Rattle.rv_object.specs.Object.{Section, Symbol}
-use Rattle.rv_assemble_laws.specs.LaidStatements.{LaidStatement, Part, part_bytes, laid_in, end_of}
+use Rattle.rv_assemble_laws.specs.LaidStatements.{LaidStatement, LaidPart, part_bytes, laid_in, end_of}
 use Rattle.rv_assemble_laws.specs.IsObjectOf.{Numbering, IsSectionOf, AreSectionsOf}
 use Rattle.rv_assemble_laws.proofs.FilledLemmas.{bytes_append}
 
 -- ---- statements
 
-abbrev pub Follow : (LaidStatement → List Part) → ℕ → List LaidStatement → Type 0
+abbrev pub Follow : (LaidStatement → List LaidPart) → ℕ → List LaidStatement → Type 0
 Follow parts_of offset [] = ⊤
 Follow parts_of offset (s ∷ ss) = (s.offset ≡ offset) × (s.bytes ≡ length (flat_map part_bytes (parts_of s))) × Follow parts_of (offset + s.bytes) ss
 
-pub filled : (parts_of : LaidStatement → List Part) (offset : ℕ) (laid : List LaidStatement) → Follow parts_of offset laid → end_of offset laid ≡ offset + length (flat_map part_bytes (flat_map parts_of laid))
+pub filled : (parts_of : LaidStatement → List LaidPart) (offset : ℕ) (laid : List LaidStatement) → Follow parts_of offset laid → end_of offset laid ≡ offset + length (flat_map part_bytes (flat_map parts_of laid))
 filled parts_of offset [] h = omega arith
 filled parts_of offset (s ∷ ss) (at, bytes, h) =
     let own = flat_map part_bytes (parts_of s) in

@@ -14,7 +14,7 @@ use Rattle.rv_source_laws.specs.Fits.{needs_no_padding}
 use Rattle.rv_source_laws.proofs.HeldLemmas.{IsHeld}
 use Rattle.rv_object.specs.Padding.{no_operations, operations_in}
 use Rattle.rv_assemble_laws.specs.Templates.{Fixed, Coded, align_field, padding_templates}
-use Rattle.rv_assemble_laws.specs.LaidStatements.{LaidStatement, expression_value, part_of, part_bytes, IsMultiple, IsPaddedIn, HasSize}
+use Rattle.rv_assemble_laws.specs.LaidStatements.{LaidStatement, expression_value, laid_part, part_bytes, IsMultiple, IsPaddedIn, HasSize}
 use Rattle.rv_sources_link_laws.proofs.sections.AssembledLemmas.{assembled_templates, parts_of}
 use Rattle.rv_sources_link_laws.proofs.moves.ShrunkLemmas as shrunk
 use Rattle.rv_sources_link_laws.proofs.statements.SettledLemmas.{IsBare, IsLaidIn}
@@ -272,7 +272,7 @@ module _ (t : Tables) (section : SourceSection) (multiple : ℕ) (z : LaidStatem
         same = λ n. bare e t (at n z) ∙ sym before;
         none = subst (λ l. AllByRecursion IsPlain l) (sym before) tt;
         sized = λ n same placed. let f : true ≡ false = sym placed ∙ e in absurd (cc);
-        even = λ code. ap (λ n. n % 2) (bytes ∙ ap (λ l. length (flat_map part_bytes (map (part_of z.located.ordinal) l))) before);
+        even = λ code. ap (λ n. n % 2) (bytes ∙ ap (λ l. length (flat_map part_bytes (map (laid_part z.located.ordinal) l))) before);
       }
 
   pub sort_of : (index : ℕ) → IsLaidIn index section z → z.bytes ≡ length (flat_map part_bytes (parts_of t z)) → (z.located.placed ≡ true → HasSize v z multiple z.located.kind)

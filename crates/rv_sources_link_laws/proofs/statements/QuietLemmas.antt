@@ -15,7 +15,7 @@ use Rattle.rv_isa_laws.specs.Halves.{hi, lo}
 use Rattle.rv_statement.specs.declared.mnemonic.Mnemonic.{Mnemonic}
 use Rattle.rv_statement.specs.declared.mnemonic.Mnemonic.TheVariants.{Registers, Immediate, Shift, Upper, Load, Store, Branch, Jal, Jalr, LoadReserved, Atomic, Fence, FenceTso, Ecall, Ebreak, Nop, Unary, Compare, ZeroBranch, SwappedBranch, J, Jr, Ret, La, Li, Call, Tail, Jump, Parcel}
 use Rattle.rv_compress.specs.declared.parcel.RegisterSet.TheVariants.{Short}
-use Rattle.rv_compress.specs.Mnemonics.{is_in}
+use Rattle.rv_compress.specs.Mnemonics.{is_of_set}
 use Rattle.rv_compress.specs.declared.form.Compressed.{Compressed}
 use Rattle.rv_compress.specs.Parcel.{expansion}
 use Rattle.rv_statement.specs.declared.pseudo.ZeroBranchOperation.{ZeroBranchOperation}
@@ -26,7 +26,7 @@ use Rattle.rv_statement.specs.declared.pseudo.Function.TheVariants.{Hi, Lo, Pcre
 use Rattle.rv_statement.specs.Statement.{Operand, Register, Value, Applied, Target, Accesses}
 use Rattle.rv_parse_laws.specs.Syntax.{with_constant}
 use Rattle.rv_pseudo_laws.specs.Li.{addi, li}
-use Rattle.rv_pseudo_laws.specs.Code.{Part, Closed, Open, Constants, i_type, s_type, u_type, shift_by, jalr, auipc, unary, branch, near, zero_branch, swapped_branch, by_number, by_part, signed_12, upper_20, number_of, by_amount, by_constant, short_branch, code}
+use Rattle.rv_pseudo_laws.specs.Code.{Part, Closed, Open, Constants, i_type, s_type, u_type, shift_by, jalr, auipc, unary, branch, near, zero_branch, swapped_branch, by_number, by_part, signed_12, upper_20, constant_number, by_amount, by_constant, short_branch, code}
 
 -- ---- branches
 
@@ -103,7 +103,7 @@ module _ (P : Part → Type 0) (calm : IsCalm P) where
   signed_quiet v store make _ = tt
 
   amount_quiet : (v : Constants) (make : ℕ → Inst) (o : Operand) → InCode P (by_amount v make o)
-  amount_quiet v make o = number_quiet (λ k. make (wrapped k)) (number_of v o)
+  amount_quiet v make o = number_quiet (λ k. make (wrapped k)) (constant_number v o)
 
   constant_quiet : (v : Constants) (form : Option Mnemonic) (rd rs1 : ℕ) (o : Operand) → InCode P (by_constant v form rd rs1 o)
   constant_quiet v (Some (Immediate i)) rd rs1 o = signed_quiet v false (λ k. of_immediate i (i_type rd rs1 k)) o
@@ -129,7 +129,7 @@ module _ (P : Part → Type 0) (calm : IsCalm P) where
 
   -- of parcels
   pub short_quiet : (operation : BranchOperation) (rs : ℕ) → AllByRecursion P (branch 2 operation rs 0) → InCode P (short_branch operation rs)
-  short_quiet operation rs h = go (is_in Short rs)
+  short_quiet operation rs h = go (is_of_set Short rs)
     where
       go : (t : Bool) → InCode P (if t then Some (branch 2 operation rs 0) else None)
       go true = h
@@ -172,7 +172,7 @@ module _ (P : Part → Type 0) (calm : IsCalm P) where
   quiet v rvc bytes (Unary operation) (Register rd ∷ Register rs ∷ []) e = closed_quiet (unary rvc operation rd rs)
   quiet v rvc bytes (Compare operation) (Register rd ∷ Register a ∷ Register b ∷ []) e = (calm.closed _, tt)
   quiet v rvc bytes La (Register rd ∷ Target x ∷ []) e = near_quiet rd kind.PcrelLo12I (addi rd rd (pos 0)) (calm.pcrel_low_i (addi rd rd (pos 0)))
-  quiet v rvc bytes Li (Register rd ∷ o ∷ []) e = sequence_quiet rd (number_of v o)
+  quiet v rvc bytes Li (Register rd ∷ o ∷ []) e = sequence_quiet rd (constant_number v o)
   quiet v rvc bytes (Branch operation) os e = absurd (cc)
   quiet v rvc bytes (ZeroBranch operation) os e = absurd (cc)
   quiet v rvc bytes (SwappedBranch operation) os e = absurd (cc)

@@ -20,17 +20,17 @@ use Rattle.rv_compress.specs.declared.form.Compressed.{Compressed}
 use Rattle.rv_compress.specs.declared.parcel.OperandShape.{OperandShape}
 use Rattle.rv_compress.specs.declared.parcel.OperandShape.TheVariants as shapes
 use Rattle.rv_compress.specs.declared.parcel.RegisterSet.TheVariants.{Short}
-use Rattle.rv_compress.specs.Mnemonics.{is_in, shape_of, form_of}
+use Rattle.rv_compress.specs.Mnemonics.{is_of_set, shape_of, form_of}
 use Rattle.rv_compress.specs.Parcel.{expansion}
 use Rattle.rv_statement.specs.declared.pseudo.Function.TheVariants.{Hi, Lo, PcrelHi, PcrelLo}
 use Rattle.rv_statement.specs.Statement.{Operand, Register, Value, Applied, Target, Accesses, Word, Quoted, Expression}
 use Rattle.rv_parse_laws.specs.Syntax.{with_constant}
 use Rattle.rv_pseudo_laws.specs.Li.{li}
-use Rattle.rv_pseudo_laws.specs.Code.{Part, Closed, Open, Joined, Constants, i_type, s_type, b_type, u_type, shift_by, jalr, jal, auipc, unary, inverted, branch, jump, near, far, through, zero_branch, swapped_branch, by_number, by_part, signed_12, upper_20, number_of, by_amount, by_constant, by_form, parcel_form, short_branch, code}
+use Rattle.rv_pseudo_laws.specs.Code.{Part, Closed, Open, Joined, Constants, i_type, s_type, b_type, u_type, shift_by, jalr, jal, auipc, unary, inverted, branch, jump, near, far, through, zero_branch, swapped_branch, by_number, by_part, signed_12, upper_20, constant_number, by_amount, by_constant, by_form, parcel_form, short_branch, code}
 use Rattle.rv_pseudo_laws.specs.Filled.{are_closed}
 use Rattle.rv_source_laws.specs.Program.{in_operand}
 use Rattle.rv_source_laws.specs.Lines.{other_operand}
-use Rattle.rv_filling_laws.specs.Parts.{is_call}
+use Rattle.rv_filling_laws.specs.Parts.{fills_call_pair}
 use Rattle.rv_isa.specs.Operations.{format_of}
 use Rattle.rv_sources_link_laws.proofs.statements.QuietLemmas.{formed, zero_branches, swapped_branches}
 
@@ -48,7 +48,7 @@ is_distance k = false
 abbrev pub IsFar : Part → Type 0
 IsFar (Closed i) = ⊤
 IsFar (Open k i) = is_distance k ≡ true
-IsFar (Joined k i j) = (is_distance k ≡ true) × (is_call k (format_of i) (format_of j) ≡ true)
+IsFar (Joined k i j) = (is_distance k ≡ true) × (fills_call_pair k (format_of i) (format_of j) ≡ true)
 
 abbrev pub IsPair : List Part → Type 0
 IsPair ps = (k : Kind) × ((i : Inst) × ((j : Inst) × (is_low_part k ≡ true) × (ps ≡ Open kind.PcrelHi20 i ∷ Open k j ∷ [])))
@@ -178,7 +178,7 @@ module _ (v : Constants) (C : Operand → List Operand)
       go None is = tt
       go (Some k) is = form_shaped (Applied Lo e) (make (lo k)) (λ form. inl (refl, ap is_some is))
 
-  form_row : (make : ℤ → Option Compressed) (o : Operand) → AreRow v (C o) (formed (by_form make (number_of v o)))
+  form_row : (make : ℤ → Option Compressed) (o : Operand) → AreRow v (C o) (formed (by_form make (constant_number v o)))
   form_row make (Value e) = row_by (Value e) tt (formed (by_form make (v e))) (number_form make e)
   form_row make (Applied Lo e) = row_by (Applied Lo e) tt (formed (by_form make (option_map lo (v e)))) (low_form make e)
   form_row make _ = tt
@@ -213,7 +213,7 @@ module _ (v : Constants) (C : Operand → List Operand)
       go None is = tt
       go (Some n) is = inl (all_closed (li rd (lo n)), ap is_some is)
 
-  sequence_row : (rd : ℕ) (o : Operand) → AreRow v (C o) (option_map (λ k. map Closed (li rd k)) (number_of v o))
+  sequence_row : (rd : ℕ) (o : Operand) → AreRow v (C o) (option_map (λ k. map Closed (li rd k)) (constant_number v o))
   sequence_row rd (Value e) = row_by (Value e) tt (option_map (λ k. map Closed (li rd k)) (v e)) (value_sequence rd e)
   sequence_row rd (Applied Lo e) = row_by (Applied Lo e) tt (option_map (λ k. map Closed (li rd k)) (option_map lo (v e))) (low_sequence rd e)
   sequence_row rd _ = tt
@@ -323,7 +323,7 @@ parcel_row v operation shapes.Address (Register a ∷ o ∷ Register b ∷ []) =
 parcel_row v operation shape os = tt
 
 short_row : (v : Constants) (operation : BranchOperation) (rs : ℕ) (e : Expression) → AreRow v (Register rs ∷ Target e ∷ []) (short_branch operation rs)
-short_row v operation rs e = go (is_in Short rs)
+short_row v operation rs e = go (is_of_set Short rs)
   where
     go : (t : Bool) → AreRow v (Register rs ∷ Target e ∷ []) (if t then Some (branch 2 operation rs 0) else None)
     go true = aimed v (Register rs ∷ Target e ∷ []) e refl refl (branch 2 operation rs 0) (inl (branch_far 2 operation rs 0))

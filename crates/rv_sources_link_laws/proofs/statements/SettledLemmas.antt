@@ -18,7 +18,7 @@ use Rattle.rv_source_laws.proofs.HomesLemmas.{IsHomeIn, homes_from}
 use Rattle.rv_source_laws.proofs.LeftLemmas.{is_held_left}
 use Rattle.rv_map.specs.declared.map.Row.{Row as MapRow}
 use Rattle.rv_assemble_laws.specs.Refusals.{statements_fault}
-use Rattle.rv_assemble_laws.specs.LaidStatements.{LaidStatement, Part, part_bytes, laid_in, end_of}
+use Rattle.rv_assemble_laws.specs.LaidStatements.{LaidStatement, LaidPart, part_bytes, laid_in, end_of}
 use Rattle.rv_assemble_laws.proofs.FaultlessLemmas.{no_first_fault}
 use Rattle.rv_object_laws.specs.Inputs.{Starts}
 use Rattle.rv_sources_link_laws.proofs.fields.PatchesLemmas.{written_from}
@@ -175,7 +175,7 @@ no_row s section t home loaded bare none = go s.located.placed refl (ap (λ x. s
         let g : true ≡ false = sym loaded ∙ ap (λ x. x && section.loaded) (sym e) ∙ f in absurd (cc)
     go false e f = ap (map (λ x. record { ordinal = s.located.ordinal; template = x })) (bare e t s)
 
-pub written_join : (w : ℕ → Part → List ℕ) (offset : ℕ) (xs ys : List Part)
+pub written_join : (w : ℕ → LaidPart → List ℕ) (offset : ℕ) (xs ys : List LaidPart)
     → written_from w offset (xs ++ ys) ≡ written_from w offset xs ++ written_from w (offset + length (flat_map part_bytes xs)) ys
 written_join w offset [] ys = ap (λ n. written_from w n ys) (let e : offset ≡ offset + 0 = omega arith in e)
 written_join w offset (x ∷ xs) ys =
@@ -221,13 +221,13 @@ module _ (starts : Starts) (file : ℕ) (t : Tables) (index : ℕ) (section : Se
           (let f : offset + size (rows ss) ≡ offset + s.bytes + size (rows ss) = omega (arith, none) in f) ∙ ih
 
   -- the bytes of the statements that have rows are those of all statements' parts
-  pub bytes_are : (bytes : Mapped → List ℕ) (w : ℕ → Part → List ℕ) (offset : ℕ) (laid : List LaidStatement) → AllByRecursion (IsLaidIn index section) laid → Tile t offset laid
+  pub bytes_are : (bytes : Mapped → List ℕ) (w : ℕ → LaidPart → List ℕ) (offset : ℕ) (laid : List LaidStatement) → AllByRecursion (IsLaidIn index section) laid → Tile t offset laid
       → AllByRecursion (λ s. has_row s.located ≡ true → bytes (mapped_at starts file s) ≡ written_from w s.offset (parts_of t s)) laid
       → flat_map bytes (mapped_from starts file laid) ≡ written_from w offset (parts t laid)
   bytes_are bytes w offset [] h tile e = refl
   bytes_are bytes w offset (s ∷ ss) (h, hs) (at, size, tile) (e, es) = go (has_row s.located) refl (bytes_are bytes w (offset + s.bytes) ss hs tile es)
     where
-      own : List Part
+      own : List LaidPart
       own = parts_of t s
 
       rest : List ℕ

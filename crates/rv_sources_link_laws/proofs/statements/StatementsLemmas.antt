@@ -11,7 +11,7 @@ use Rattle.rv_map.specs.declared.map.SectionId.{SectionId}
 use Rattle.rv_collect_laws.specs.Graph.{is_dropped}
 use Rattle.rv_unit_laws.specs.Tables.{Tables, at_start, after}
 use Rattle.rv_source_laws.specs.Located.{Located, located_now, located_from, located_of, masked, left_of, has_row}
-use Rattle.rv_source_laws.specs.Program.{MaybeMapped, Mapped, first_of, statements_of, mapped_of, address_of, address_at}
+use Rattle.rv_source_laws.specs.Program.{MaybeMapped, Mapped, first_of, mapped_statements, mapped_of, address_of, address_at}
 use Rattle.rv_source_laws.specs.Fits.{mapped_in}
 use Rattle.rv_object.specs.Object.{Object}
 use Rattle.rv_object_laws.specs.Inputs.{Starts}
@@ -82,8 +82,8 @@ module _ (starts : Starts) where
 
   -- rows go to the statements of a file and leave the others
   pub statements_are : (file : ℕ) (laid : List LaidStatement) (more : List Located) (rows : List MapRow)
-      → statements_of (map (renumbered file) (map (λ s. s.located) laid) ++ more) (rows_from file laid ++ rows)
-      ≡ map (statement_at file) laid ++ statements_of more rows
+      → mapped_statements (map (renumbered file) (map (λ s. s.located) laid) ++ more) (rows_from file laid ++ rows)
+      ≡ map (statement_at file) laid ++ mapped_statements more rows
   statements_are file [] more rows = refl
   statements_are file (s ∷ ss) more rows = go (has_row s.located) (statements_are file ss more rows)
     where
@@ -94,12 +94,12 @@ module _ (starts : Starts) where
       others = map (renumbered file) (map (λ s. s.located) ss) ++ more
 
       rest : List MaybeMapped
-      rest = map (statement_at file) ss ++ statements_of more rows
+      rest = map (statement_at file) ss ++ mapped_statements more rows
 
-      go : (b : Bool) → statements_of others (rows_from file ss ++ rows) ≡ rest
+      go : (b : Bool) → mapped_statements others (rows_from file ss ++ rows) ≡ rest
           → (if b then record { located = l; row = first_of ((if b then row_in file s ∷ rows_from file ss else rows_from file ss) ++ rows) }
-          ∷ statements_of others (drop 1 ((if b then row_in file s ∷ rows_from file ss else rows_from file ss) ++ rows))
-          else record { located = l; row = None } ∷ statements_of others ((if b then row_in file s ∷ rows_from file ss else rows_from file ss) ++ rows))
+          ∷ mapped_statements others (drop 1 ((if b then row_in file s ∷ rows_from file ss else rows_from file ss) ++ rows))
+          else record { located = l; row = None } ∷ mapped_statements others ((if b then row_in file s ∷ rows_from file ss else rows_from file ss) ++ rows))
           ≡ record { located = l; row = (if b then Some (row_in file s) else None) } ∷ rest
       go true ih = ap (λ (e : List MaybeMapped). record { located = l; row = Some (row_in file s) } ∷ e) ih
       go false ih = ap (λ (e : List MaybeMapped). record { located = l; row = None } ∷ e) ih
@@ -129,12 +129,12 @@ module _ (starts : Starts) where
   all_rows file (ss ∷ sources) (o ∷ os) (is, h) = rows_from file is.laid ++ all_rows (suc file) sources os h
 
   pub statements_all : (drops : List SectionId) (file : ℕ) (sources : List (List Statement)) (os : List Object) (h : AreObjectsOf sources os) → AreMasked drops file sources os h
-      → statements_of (map (left_of drops) (located_of file sources)) (all_rows file sources os h) ≡ all_statements file sources os h
+      → mapped_statements (map (left_of drops) (located_of file sources)) (all_rows file sources os h) ≡ all_statements file sources os h
   statements_all drops file [] [] h masks = refl
   statements_all drops file [] (o ∷ os) h masks = absurd h
   statements_all drops file (ss ∷ sources) [] h masks = absurd h
   statements_all drops file (ss ∷ sources) (o ∷ os) (is, h) (own, masks) =
-      ap (λ l. statements_of l (rows_from file is.laid ++ all_rows (suc file) sources os h)) (left_file drops file ss sources is.dropped own is.laid is.located)
+      ap (λ l. mapped_statements l (rows_from file is.laid ++ all_rows (suc file) sources os h)) (left_file drops file ss sources is.dropped own is.laid is.located)
       ∙ statements_are file is.laid (map (left_of drops) (located_of (suc file) sources)) (all_rows (suc file) sources os h)
       ∙ ap (λ l. map (statement_at file) is.laid ++ l) (statements_all drops (suc file) sources os h masks)
 

@@ -1,5 +1,5 @@
 use Rattle.std.proofs.Common.{◌++◌, Some, None, refl, sym, ap, ◌∙◌}
-use Rattle.rv_disasm.specs.Lines.{shown, taken}
+use Rattle.rv_disasm.specs.Lines.{shown, length_read}
 use Rattle.rv_disasm.proofs.FrontsLemmas.{front_is, front_count}
 use Rattle.rv_disasm.proofs.line.put_front.Goals as goal
 
@@ -10,7 +10,7 @@ returns-in_ok-put_instruction-in-Some-clause-text c reader =
     (sym (front_is reader c.args.bytes.now (Some (c.in-Some.inst, c.in-Some.count)) c.in-Some.ensures.exact))
 
 pub returns-in_ok-put_instruction-in-Some-clause-count : goal.returns-in_ok-put_instruction-in-Some-clause-count
-returns-in_ok-put_instruction-in-Some-clause-count c reader = ap taken (sym (front_is reader c.args.bytes.now (Some (c.in-Some.inst, c.in-Some.count)) c.in-Some.ensures.exact))
+returns-in_ok-put_instruction-in-Some-clause-count c reader = ap length_read (sym (front_is reader c.args.bytes.now (Some (c.in-Some.inst, c.in-Some.count)) c.in-Some.ensures.exact))
 
 pub returns-in_ok-put_instruction-in-Some-clause-some : goal.returns-in_ok-put_instruction-in-Some-clause-some
 returns-in_ok-put_instruction-in-Some-clause-some c = front_count c.args.bytes.now c.in-Some.inst c.in-Some.count ((c.in-Some.ensures.exact c.in-Some.inst c.in-Some.count).0 refl)
@@ -21,4 +21,4 @@ returns-in_ok-extend_from_slice-in-None-clause-text c reader =
     ∙ ap (λ found. c.args.text.now.items ++ shown c.args.address found) (sym (front_is reader c.args.bytes.now None c.in-None.ensures.exact))
 
 pub returns-in_ok-extend_from_slice-in-None-clause-count : goal.returns-in_ok-extend_from_slice-in-None-clause-count
-returns-in_ok-extend_from_slice-in-None-clause-count c reader = ap taken (sym (front_is reader c.args.bytes.now None c.in-None.ensures.exact))
+returns-in_ok-extend_from_slice-in-None-clause-count c reader = ap length_read (sym (front_is reader c.args.bytes.now None c.in-None.ensures.exact))

@@ -7,7 +7,7 @@ use Rattle.rv_statement.specs.View.{statement_of}
 use Rattle.rv_unit_tables.specs.declared.section_offset.SectionOffset.{SectionOffset}
 use Rattle.rv_unit.specs.Unit.{said, IsFilled}
 use Rattle.rv_unit_tables.specs.Sections.{extent_section, offset_of}
-use Rattle.rv_unit_laws.specs.Tables.{at_start, tables, value as value_of}
+use Rattle.rv_unit_laws.specs.Tables.{at_start, tables, value_by_tables as value_of}
 use Rattle.rv_source_laws.specs.Located.{located_from}
 use Rattle.rv_instruction.specs.Code.{MayHave}
 use Rattle.rv_unit_laws.specs.Options.{Options}

@@ -4,7 +4,7 @@ use Rattle.rv_text_laws.specs.Expression.{Literal}
 use Rattle.rv_text_laws.specs.Values.{Constant}
 use Rattle.rv_text.specs.Expr.{tree_of_expr}
 use Rattle.rv_text.proofs.EvalsLemmas.{lone_value}
-use Rattle.rv_statement.specs.View.{bytes_of}
+use Rattle.rv_statement.specs.View.{width_bytes}
 use Rattle.rv_unit_laws.specs.Tables as laws
 use Rattle.rv_unit_tables.specs.Sections.{offset_of}
 use Rattle.rv_unit.specs.Unit.{said}
@@ -22,8 +22,8 @@ returns-in-Number-clause-bytes c =
     on_ok_weaker c.put_number.result
     (λ told index f s.
     let is : value_in spot index (tree_of_expr c.args.expression.now) ≡ Constant c.in-Number.number =
-    ap (λ e. laws.value t true (index + 1) p (tree_of_expr e)) c.in-Number.is ∙ lone_value (λ q. laws.meaning t true (index + 1) p q) (Literal c.in-Number.number) in
-    told ∙ ap (λ v. c.args.bytes.now.items ++ value_bytes (bytes_of c.args.width) v) (sym is))
+    ap (λ e. laws.value_by_tables t true (index + 1) p (tree_of_expr e)) c.in-Number.is ∙ lone_value (λ q. laws.meaning t true (index + 1) p q) (Literal c.in-Number.number) in
+    told ∙ ap (λ v. c.args.bytes.now.items ++ value_bytes (width_bytes c.args.width) v) (sym is))
     c.put_number.ensures
 
 pub returns-in-Number-clause-fields : goal.returns-in-Number-clause-fields
@@ -34,6 +34,6 @@ returns-in-Number-clause-fields c =
     on_ok_weaker c.put_number.result
     (λ told index f s.
     let is : value_in spot index (tree_of_expr c.args.expression.now) ≡ Constant c.in-Number.number =
-    ap (λ e. laws.value t true (index + 1) p (tree_of_expr e)) c.in-Number.is ∙ lone_value (λ q. laws.meaning t true (index + 1) p q) (Literal c.in-Number.number) in
-    number_fields spot c.args.place (bytes_of c.args.width) c.in-Number.number (value_in spot index (tree_of_expr c.args.expression.now)) is (map field_of c.args.fields.now.items) spot.loaded)
+    ap (λ e. laws.value_by_tables t true (index + 1) p (tree_of_expr e)) c.in-Number.is ∙ lone_value (λ q. laws.meaning t true (index + 1) p q) (Literal c.in-Number.number) in
+    number_fields spot c.args.place (width_bytes c.args.width) c.in-Number.number (value_in spot index (tree_of_expr c.args.expression.now)) is (map field_of c.args.fields.now.items) spot.loaded)
     c.put_number.ensures

@@ -3,7 +3,7 @@ use Rattle.std.proofs.lemmas.List.{length-map}
 use Rattle.rv_text_laws.specs.Values.{Value}
 use Rattle.rv_text.specs.Expr.{tree_of_expr}
 use Rattle.rv_statement.specs.Statement.{Expression}
-use Rattle.rv_statement.specs.View.{bytes_of}
+use Rattle.rv_statement.specs.View.{width_bytes}
 use Rattle.rv_assemble_laws.specs.Templates.{value_bytes}
 use Rattle.rv_instruction.specs.Scoped.{values_at}
 use Rattle.rv_draft.proofs.JoinedLemmas.{left_map, flat_more, flat_done}
@@ -15,7 +15,7 @@ loop-value-preserved c =
     let i = c.loop-value.value-index in
     let xs = c.args.values.now in
     let spot = c.args.spot.now in
-    let width = bytes_of c.args.width in
+    let width = width_bytes c.args.width in
     let inside : i < length xs = search rules in
     let here = left_map tree_of_expr xs i c.value-item.result inside c.value-item.is in
     let x = tree_of_expr c.value-item.result in
@@ -36,11 +36,11 @@ returns-clause-bytes c = λ index f s.
     let n = c.loop-value.value-index in
     let xs = c.args.values.now in
     let spot = c.args.spot.now in
-    flat_done (λ e. value_bytes (bytes_of c.args.width) (values_at spot.scope.now index spot.place e)) (map tree_of_expr xs) n c.loop-value.bytes.items _ (subst (λ k. k ≤ n) (sym (length-map xs tree_of_expr)) (search rules)) (c.loop-value.invariant.bytes index f s)
+    flat_done (λ e. value_bytes (width_bytes c.args.width) (values_at spot.scope.now index spot.place e)) (map tree_of_expr xs) n c.loop-value.bytes.items _ (subst (λ k. k ≤ n) (sym (length-map xs tree_of_expr)) (search rules)) (c.loop-value.invariant.bytes index f s)
 
 pub returns-clause-fields : goal.returns-clause-fields
 returns-clause-fields c = λ index f s.
     let n = c.loop-value.value-index in
     let xs = c.args.values.now in
     let spot = c.args.spot.now in
-    fields_done spot.place.section spot.ordinal (bytes_of c.args.width) (λ e. values_at spot.scope.now index spot.place e) spot.loaded c.loop-value.place n (map tree_of_expr xs) _ _ (subst (λ k. k ≤ n) (sym (length-map xs tree_of_expr)) (search rules)) (c.loop-value.invariant.fields index f s)
+    fields_done spot.place.section spot.ordinal (width_bytes c.args.width) (λ e. values_at spot.scope.now index spot.place e) spot.loaded c.loop-value.place n (map tree_of_expr xs) _ _ (subst (λ k. k ≤ n) (sym (length-map xs tree_of_expr)) (search rules)) (c.loop-value.invariant.fields index f s)

@@ -6,7 +6,7 @@ use Rattle.rv_statement.specs.View.{statement_of}
 use Rattle.rv_unit_tables.specs.declared.section_offset.SectionOffset.{SectionOffset}
 use Rattle.rv_unit.specs.Unit.{said, passed, IsFilled}
 use Rattle.rv_unit_tables.specs.Sections.{offset_of}
-use Rattle.rv_unit_laws.specs.Tables.{stood, tables, value as value_of}
+use Rattle.rv_unit_laws.specs.Tables.{stood, tables, value_by_tables as value_of}
 use Rattle.rv_source_laws.specs.Located.{is_placed}
 use Rattle.rv_draft.specs.Items.{IsItem, grown}
 use Rattle.rv_draft.specs.declared.item.CodeSize.{CodeSize}

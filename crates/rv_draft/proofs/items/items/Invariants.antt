@@ -1,6 +1,6 @@
 use Rattle.std.proofs.Common.{◌≡◌, ◌≤◌, ◌^◌, ℕ, [], ◌∷◌, length, drop, reverse, None}
 use Rattle.std.specs.Prelude.{slice_index}
-use Rattle.rv_unit_laws.specs.Faults.{first_fault}
+use Rattle.rv_unit_laws.specs.Faults.{first_unit_fault}
 use Rattle.rv_unit_laws.specs.Tables.{tables}
 use Rattle.rv_source_laws.specs.Located.{located}
 use Rattle.rv_assemble_laws.specs.Refusals.{size_fault_from}
@@ -21,7 +21,7 @@ invariant-loop-index l = record {
   left : reverse l.sizes.items ≡ drop l.index l.fn.sizes.items;
   sections : length l.ends.items ≡ length l.unit.tables.extents.items;
   count : length l.items.items ≡ l.index;
-  room : first_fault (said l.unit) ≡ None → size_fault_from (λ j. 0) (located (said l.unit ∷ [])) (bytes_of_sizes l.fn.sizes.items) ≡ None
+  room : first_unit_fault (said l.unit) ≡ None → size_fault_from (λ j. 0) (located (said l.unit ∷ [])) (bytes_of_sizes l.fn.sizes.items) ≡ None
       → HasRoomLeft (said l.unit) l.fn.sizes.items l.index (λ j. slice_index l.ends.items j);
   low : (j : ℕ) → slice_index l.ends.items j ≤ 2 ^ 28;
 }

@@ -14,7 +14,7 @@ returns-clause-absent c = λ index f s stands none. c.in_ok-bytes.ensures.absent
 
 pub returns-clause-sized : goal.returns-clause-sized
 returns-clause-sized c = λ index f s stands placed.
-    let v : Expression → Value = λ e. laws.value (laws.tables (said c.args.scope.now.unit.now)) true (index + 1) (offset_of c.args.place) e in
+    let v : Expression → Value = λ e. laws.value_by_tables (laws.tables (said c.args.scope.now.unit.now)) true (index + 1) (offset_of c.args.place) e in
     sized_as v c.args.extent.now.section.executable
     (record {
       section = c.args.place.section;

@@ -13,8 +13,8 @@ returns-clause-size c =
     let p = offset_of c.args.place in
     let extent = c.args.extent in
     IfOk-weaker c.size.result
-    (λ n. (index : ℕ) → IsFilled u → IsScope c.args.scope.now index → IsSize (λ e. laws.value (laws.tables (said u)) true (index + 1) p e) extent.section.executable extent.alignment c.args.offset c.args.code (statement_kind c.args.statement.now.kind) n)
-    (λ n. (index : ℕ) → IsFilled u → IsScope c.args.scope.now index → c.args.placed ≡ true → IsSize (λ e. laws.value (laws.tables (said u)) true (index + 1) p e) extent.section.executable extent.alignment c.args.offset c.args.code (statement_kind c.args.statement.now.kind) n)
+    (λ n. (index : ℕ) → IsFilled u → IsScope c.args.scope.now index → IsSize (λ e. laws.value_by_tables (laws.tables (said u)) true (index + 1) p e) extent.section.executable extent.alignment c.args.offset c.args.code (statement_kind c.args.statement.now.kind) n)
+    (λ n. (index : ℕ) → IsFilled u → IsScope c.args.scope.now index → c.args.placed ≡ true → IsSize (λ e. laws.value_by_tables (laws.tables (said u)) true (index + 1) p e) extent.section.executable extent.alignment c.args.offset c.args.code (statement_kind c.args.statement.now.kind) n)
     (λ n h index f s placed. h index f s)
     c.size.ensures.size
 
@@ -25,7 +25,7 @@ returns-clause-refuses c =
     let extent = c.args.extent in
     let placed : c.args.placed ≡ true = search rules in
     IfErr-weaker c.size.result
-    (λ y. (index : ℕ) → IsFilled u → IsScope c.args.scope.now index → CanSize (λ e. laws.value (laws.tables (said u)) true (index + 1) p e) extent.section.executable extent.alignment c.args.offset (statement_kind c.args.statement.now.kind) → ⊥)
-    (λ y. (index : ℕ) → IsFilled u → IsScope c.args.scope.now index → (c.args.placed ≡ true → CanSize (λ e. laws.value (laws.tables (said u)) true (index + 1) p e) extent.section.executable extent.alignment c.args.offset (statement_kind c.args.statement.now.kind)) → ⊥)
+    (λ y. (index : ℕ) → IsFilled u → IsScope c.args.scope.now index → CanSize (λ e. laws.value_by_tables (laws.tables (said u)) true (index + 1) p e) extent.section.executable extent.alignment c.args.offset (statement_kind c.args.statement.now.kind) → ⊥)
+    (λ y. (index : ℕ) → IsFilled u → IsScope c.args.scope.now index → (c.args.placed ≡ true → CanSize (λ e. laws.value_by_tables (laws.tables (said u)) true (index + 1) p e) extent.section.executable extent.alignment c.args.offset (statement_kind c.args.statement.now.kind)) → ⊥)
     (λ y h index f s has. h index f s (has placed))
     c.size.ensures.refuses

@@ -1,7 +1,7 @@
 use Rattle.std.proofs.Common.{rules, ◌≡◌, ◌*◌, ◌∙◌, false, true, sym, ap, length, map, vec_len}
 use Rattle.std.proofs.lemmas.List.{length-map}
 use Rattle.rv_text.specs.Expr.{tree_of_expr}
-use Rattle.rv_statement.specs.View.{bytes_of, quoted, statement_kind}
+use Rattle.rv_statement.specs.View.{width_bytes, quoted, statement_kind}
 use Rattle.rv_unit_laws.specs.Tables.{padding, string_bytes, within}
 use Rattle.rv_unit_tables.proofs.LookupsLemmas.{within_cut}
 use Rattle.rv_instruction.specs.Scoped.{values_at}
@@ -17,7 +17,7 @@ returns-in-Value-clause-is c = λ index filled stands.
 pub returns-in-Values-clause-is : goal.returns-in-Values-clause-is
 returns-in-Values-clause-is c = λ index filled stands.
     let offset = c.args.place.offset in
-    let width = bytes_of c.in-Values.width in
+    let width = width_bytes c.in-Values.width in
     let long : vec_len c.in-Values.values ≡ length c.in-Values.values.items = search rules in
     let count : c.len.result ≡ length (map tree_of_expr c.in-Values.values.items) = c.len.ensures ∙ long ∙ sym (length-map c.in-Values.values.items tree_of_expr) in
     c.within-in-Values.ensures.is ∙ within_cut offset c.values_size-in-Values.result _ c.values_size-in-Values.ensures ∙ ap (λ n. within offset (width * n)) count

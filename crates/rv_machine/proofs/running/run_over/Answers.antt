@@ -3,7 +3,7 @@ use Rattle.rv_isa_laws.specs.Memory.{Mem}
 use Rattle.rv_isa_laws.specs.Hart as laws
 use Rattle.rv_isa_laws.specs.Run.{run}
 use Rattle.rv_machine.specs.End.{law_end}
-use Rattle.rv_machine.specs.StreamSteps.{Input, input_of}
+use Rattle.rv_machine.specs.StreamSteps.{Input, input_left}
 use Rattle.rv_machine.proofs.KnownLemmas.{has_read_none, has_read_more, appends_kept, appends_more, keeps_self, follows_ends}
 use Rattle.rv_machine.proofs.RunLemmas.{run-on}
 use Rattle.rv_machine.proofs.StreamLemmas.{steps_as, went_on, came_to, stopped}
@@ -28,9 +28,9 @@ loop-left-init g c =
 pub returns-in-Ok-Some-clause-runs : goal.returns-in-Ok-Some-clause-runs
 returns-in-Ok-Some-clause-runs g c =
     let is : c.loop-left.left ≡ suc (c.loop-left.left - 1) = omega (arith, c.loop-left-test.true) in
-    let first : Input = input_of false (g.R.GuestIn.ends c.args.reader.now) (g.R.GuestIn.left c.args.reader.now) in
-    let before : Input = input_of c.loop-left.intake.ended (g.R.GuestIn.ends c.loop-left.reader) (g.R.GuestIn.left c.loop-left.reader) in
-    let after : Input = input_of c.step.new.intake.ended (g.R.GuestIn.ends c.step.new.reader) (g.R.GuestIn.left c.step.new.reader) in
+    let first : Input = input_left false (g.R.GuestIn.ends c.args.reader.now) (g.R.GuestIn.left c.args.reader.now) in
+    let before : Input = input_left c.loop-left.intake.ended (g.R.GuestIn.ends c.loop-left.reader) (g.R.GuestIn.left c.loop-left.reader) in
+    let after : Input = input_left c.step.new.intake.ended (g.R.GuestIn.ends c.step.new.reader) (g.R.GuestIn.left c.step.new.reader) in
     let far = c.loop-left.invariant.so_far in
     let more = c.in-Ok-Some.ensures.steps in
     let read = has_read_more first before after far.0 more.0 far.2 more.2 in (
@@ -47,9 +47,9 @@ returns-in-Ok-Some-clause-runs g c =
 pub returns-in-Err-clause-runs : goal.returns-in-Err-clause-runs
 returns-in-Err-clause-runs g c =
     let is : c.loop-left.left ≡ suc (c.loop-left.left - 1) = omega (arith, c.loop-left-test.true) in
-    let first : Input = input_of false (g.R.GuestIn.ends c.args.reader.now) (g.R.GuestIn.left c.args.reader.now) in
-    let before : Input = input_of c.loop-left.intake.ended (g.R.GuestIn.ends c.loop-left.reader) (g.R.GuestIn.left c.loop-left.reader) in
-    let after : Input = input_of c.step.new.intake.ended (g.R.GuestIn.ends c.step.new.reader) (g.R.GuestIn.left c.step.new.reader) in
+    let first : Input = input_left false (g.R.GuestIn.ends c.args.reader.now) (g.R.GuestIn.left c.args.reader.now) in
+    let before : Input = input_left c.loop-left.intake.ended (g.R.GuestIn.ends c.loop-left.reader) (g.R.GuestIn.left c.loop-left.reader) in
+    let after : Input = input_left c.step.new.intake.ended (g.R.GuestIn.ends c.step.new.reader) (g.R.GuestIn.left c.step.new.reader) in
     let far = c.loop-left.invariant.so_far in
     let more = c.in-Err.ensures.steps in
     let read = has_read_more first before after far.0 more.0 far.2 more.2 in (
@@ -65,9 +65,9 @@ returns-in-Err-clause-runs g c =
 pub loop-left-preserved : goal.loop-left-preserved
 loop-left-preserved g c =
     let is : c.loop-left.left ≡ suc (c.loop-left.left - 1) = omega (arith, c.loop-left-test.true) in
-    let first : Input = input_of false (g.R.GuestIn.ends c.args.reader.now) (g.R.GuestIn.left c.args.reader.now) in
-    let before : Input = input_of c.loop-left.intake.ended (g.R.GuestIn.ends c.loop-left.reader) (g.R.GuestIn.left c.loop-left.reader) in
-    let after : Input = input_of c.step.new.intake.ended (g.R.GuestIn.ends c.step.new.reader) (g.R.GuestIn.left c.step.new.reader) in
+    let first : Input = input_left false (g.R.GuestIn.ends c.args.reader.now) (g.R.GuestIn.left c.args.reader.now) in
+    let before : Input = input_left c.loop-left.intake.ended (g.R.GuestIn.ends c.loop-left.reader) (g.R.GuestIn.left c.loop-left.reader) in
+    let after : Input = input_left c.step.new.intake.ended (g.R.GuestIn.ends c.step.new.reader) (g.R.GuestIn.left c.step.new.reader) in
     let far = c.loop-left.invariant.so_far in
     let more = c.in-Ok-None.ensures.steps in
     record {

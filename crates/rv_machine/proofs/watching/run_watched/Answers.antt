@@ -5,7 +5,7 @@ use Rattle.rv_isa_laws.specs.Run.{run}
 use Rattle.rv_machine.specs.End.{law_end}
 use Rattle.rv_machine.specs.Hart.{hart_of}
 use Rattle.rv_machine.specs.LastState.{last_state}
-use Rattle.rv_machine.specs.StreamSteps.{Input, input_of}
+use Rattle.rv_machine.specs.StreamSteps.{Input, input_left}
 use Rattle.rv_machine.proofs.KnownLemmas.{has_read_none, has_read_more, appends_kept, appends_more, keeps_self}
 use Rattle.rv_machine.proofs.RunLemmas.{run-on, last-on}
 use Rattle.rv_machine.proofs.StreamLemmas.{steps_as, went_on, came_to, rests_at}
@@ -20,9 +20,9 @@ pub returns-in-Ok-Some : goal.returns-in-Ok-Some
 returns-in-Ok-Some g c =
     let is : c.loop-left.left ≡ suc (c.loop-left.left - 1) = omega (arith, c.loop-left-test.true) in
     let start : List ℕ → laws.Hart = λ input. hart_of c.args.machine.now.hart input [] in
-    let first : Input = input_of c.args.machine.now.intake.ended (g.R.GuestIn.ends c.args.reader.now) (g.R.GuestIn.left c.args.reader.now) in
-    let before : Input = input_of c.loop-left.machine.intake.ended (g.R.GuestIn.ends c.loop-left.reader) (g.R.GuestIn.left c.loop-left.reader) in
-    let after : Input = input_of c.step.new.intake.ended (g.R.GuestIn.ends c.step.new.reader) (g.R.GuestIn.left c.step.new.reader) in
+    let first : Input = input_left c.args.machine.now.intake.ended (g.R.GuestIn.ends c.args.reader.now) (g.R.GuestIn.left c.args.reader.now) in
+    let before : Input = input_left c.loop-left.machine.intake.ended (g.R.GuestIn.ends c.loop-left.reader) (g.R.GuestIn.left c.loop-left.reader) in
+    let after : Input = input_left c.step.new.intake.ended (g.R.GuestIn.ends c.step.new.reader) (g.R.GuestIn.left c.step.new.reader) in
     let far = c.loop-left.invariant.so_far in
     let more = c.in-Ok-Some.ensures.steps in
     record {
@@ -45,9 +45,9 @@ pub loop-left-preserved : goal.loop-left-preserved
 loop-left-preserved g c =
     let is : c.loop-left.left ≡ suc (c.loop-left.left - 1) = omega (arith, c.loop-left-test.true) in
     let start : List ℕ → laws.Hart = λ input. hart_of c.args.machine.now.hart input [] in
-    let first : Input = input_of c.args.machine.now.intake.ended (g.R.GuestIn.ends c.args.reader.now) (g.R.GuestIn.left c.args.reader.now) in
-    let before : Input = input_of c.loop-left.machine.intake.ended (g.R.GuestIn.ends c.loop-left.reader) (g.R.GuestIn.left c.loop-left.reader) in
-    let after : Input = input_of c.step.new.intake.ended (g.R.GuestIn.ends c.step.new.reader) (g.R.GuestIn.left c.step.new.reader) in
+    let first : Input = input_left c.args.machine.now.intake.ended (g.R.GuestIn.ends c.args.reader.now) (g.R.GuestIn.left c.args.reader.now) in
+    let before : Input = input_left c.loop-left.machine.intake.ended (g.R.GuestIn.ends c.loop-left.reader) (g.R.GuestIn.left c.loop-left.reader) in
+    let after : Input = input_left c.step.new.intake.ended (g.R.GuestIn.ends c.step.new.reader) (g.R.GuestIn.left c.step.new.reader) in
     let far = c.loop-left.invariant.so_far in
     let more = c.in-Ok-None.ensures.steps in
     record {

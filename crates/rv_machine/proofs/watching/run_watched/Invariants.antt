@@ -6,7 +6,7 @@ use Rattle.rv_isa_laws.specs.Reader.{Reader}
 use Rattle.rv_isa_laws.specs.Run.{run}
 use Rattle.rv_machine.specs.Hart.{hart_of}
 use Rattle.rv_machine.specs.LastState.{last_state}
-use Rattle.rv_machine.specs.StreamSteps.{input_of, HasRead}
+use Rattle.rv_machine.specs.StreamSteps.{input_left, HasRead}
 use Rattle.rv_machine.proofs.StreamLemmas.{Continues}
 use Rattle.rv_machine.proofs.watching.run_watched.Given as goal
 
@@ -14,7 +14,7 @@ use Rattle.rv_machine.proofs.watching.run_watched.Given as goal
 abbrev pub invariant-loop-left : goal.invariant-loop-left
 invariant-loop-left g l = record {
   so_far : (read written : List ℕ)
-      × HasRead (input_of l.fn.machine.intake.ended (g.R.GuestIn.ends l.fn.reader) (g.R.GuestIn.left l.fn.reader)) (input_of l.machine.intake.ended (g.R.GuestIn.ends l.reader) (g.R.GuestIn.left l.reader)) read
+      × HasRead (input_left l.fn.machine.intake.ended (g.R.GuestIn.ends l.fn.reader) (g.R.GuestIn.left l.fn.reader)) (input_left l.machine.intake.ended (g.R.GuestIn.ends l.reader) (g.R.GuestIn.left l.reader)) read
       × Appends (g.W.GuestOut.written l.fn.writer) (g.W.GuestOut.written l.writer) written
       × ((r : Reader Spells StandsFor) → Continues (run r) l.limit l.left (λ input. hart_of l.fn.machine.hart input []) (g.M.Memory.mem l.fn.machine.memory) l.machine.hart (g.M.Memory.mem l.machine.memory) (l.machine.intake.ended ≡ false) read written
       × Continues (last_state r) l.limit l.left (λ input. hart_of l.fn.machine.hart input []) (g.M.Memory.mem l.fn.machine.memory) l.machine.hart (g.M.Memory.mem l.machine.memory) (l.machine.intake.ended ≡ false) read written);

@@ -2,12 +2,12 @@ use Rattle.std.proofs.Common.{◌/◌, length, List}
 use Rattle.rv_elf.specs.Sections.{relas_in}
 use Rattle.rv_object.specs.Object.{Relocation}
 use Rattle.rv_object_checks.specs.Held.{fields_of}
-use Rattle.rv_object_checks.specs.Stretches.{Holds}
+use Rattle.rv_object_checks.specs.Stretches.{HoldsCode}
 use Rattle.rv_object_checks.proofs.RelocationStepsLemmas.{Going, left_of}
 use Rattle.rv_object_checks.proofs.relocations.check_relocations.Given as goal
 
 abbrev pub invariant-loop-index : goal.invariant-loop-index
 invariant-loop-index l =
     (before : List Relocation)
-    → Holds l.header l.fn.places.paddings.by_end.entries (fields_of l.fn.places) before
+    → HoldsCode l.header l.fn.places.paddings.by_end.entries (fields_of l.fn.places) before
     → Going l.header l.symbols before (relas_in l.records) l.places.paddings.by_end.entries (fields_of l.places) (left_of (length l.records / 24) l.index l.records)

@@ -1,7 +1,7 @@
 use Rattle.std.proofs.Common.{◌≡◌, ℕ, ◌<◌, ◌==◌, ◌++◌, List, None, Some, true, false, map, sym, subst, ap, ◌∙◌, arith, eq-eqb}
 use Rattle.std.proofs.lemmas.Result.{on_ok_weaker}
 use Rattle.rv_elf.specs.declared.section_header.SectionHeader.{SectionHeader}
-use Rattle.rv_elf.specs.Sections.{contents_of, relas_in, section_count, section_header_of}
+use Rattle.rv_elf.specs.Sections.{file_contents, relas_in, section_count, section_header_of}
 use Rattle.rv_object.specs.Parts.{relocation_of}
 use Rattle.rv_object_checks.specs.Found.{place_at, section_at}
 use Rattle.rv_object_file_laws.specs.FirstFault.{is_linked, first_fault}
@@ -61,7 +61,7 @@ returns-in-Some c =
     (subst (λ h. is_loaded (section_header_of file h.sh_info) ≡ true) at loaded)
     (subst (λ h. place_at file h.sh_info ≡ Some c.in-Some.place) at (sym c.in-Some.ensures.place))
     c.index_mut.ensures.value
-    (told ∙ ap (λ bytes. map relocation_of old.items ++ relocations_in (relas_in bytes)) (c.contents.ensures ∙ ap (contents_of file) at))
+    (told ∙ ap (λ bytes. map relocation_of old.items ++ relocations_in (relas_in bytes)) (c.contents.ensures ∙ ap (file_contents file) at))
     was)
     c.append.ensures
 

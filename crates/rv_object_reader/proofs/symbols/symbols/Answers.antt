@@ -1,7 +1,7 @@
 use Rattle.std.proofs.Common.{◌≡◌, ◌<◌, None, drop, subst, ap, sym, ◌∙◌, arith}
 use Rattle.std.specs.List.{AllByRecursion}
 use Rattle.rv_elf.specs.FirstFault.{first_true}
-use Rattle.rv_elf.specs.Sections.{section_of, contents_of, section_count, symbols_in}
+use Rattle.rv_elf.specs.Sections.{indexed_contents, file_contents, section_count, symbols_in}
 use Rattle.rv_object_checks.specs.Found.{section_at}
 use Rattle.rv_object_file_laws.specs.FirstFault.{symbol_tests}
 use Rattle.rv_object_file_laws.specs.ObjectOf.{names_of}
@@ -30,7 +30,7 @@ symbols_in-requires-clause-good c =
     let checked = c.args.checked.now in
     let file = checked.view.file.now in
     let header = c.section_header-header.ensures in
-    let named = ap (names_of file) c.in-Some.ensures.found ∙ ap (λ h. section_of file h.sh_link) (sym header) ∙ sym c.section-names.ensures ∙ sym c.in_ok-strings.ensures in
-    let all = ap (symbols_of file) c.in-Some.ensures.found ∙ ap (λ h. symbols_in (contents_of file h)) (sym header) ∙ ap symbols_in (sym c.contents.ensures) in
+    let named = ap (names_of file) c.in-Some.ensures.found ∙ ap (λ h. indexed_contents file h.sh_link) (sym header) ∙ sym c.section-names.ensures ∙ sym c.in_ok-strings.ensures in
+    let all = ap (symbols_of file) c.in-Some.ensures.found ∙ ap (λ h. symbols_in (file_contents file h)) (sym header) ∙ ap symbols_in (sym c.contents.ensures) in
     subst (λ names. AllByRecursion (λ s. first_true (symbol_tests file names s) ≡ None) (drop 1 (symbols_in c.contents.result.now))) named
     (subst (λ rs. AllByRecursion (IsGoodSymbol file) (drop 1 rs)) all (good_symbols file checked.good))

@@ -1,10 +1,10 @@
 use Rattle.std.proofs.Common.{◌≡◌, ◌<◌, ◌+◌, ◌++◌, ◌∙◌, [], ◌∷◌, ℕ, List, length, map, drop, get_or, refl, sym, ap, subst, append-nil, rules, codes}
 use Rattle.std.proofs.lemmas.List.{drop_all}
-use Rattle.rv_object_file_laws.specs.Written.{Piece, unseen, strings_of}
+use Rattle.rv_object_file_laws.specs.Written.{UnplacedSection, unseen, strings_of}
 use Rattle.rv_object_writer.specs.declared.piece.Body.TheVariants.{Bytes}
 use Rattle.rv_object_writer.specs.declared.piece.Piece.{Piece as DeclaredPiece}
 use Rattle.rv_object_writer.specs.Pieces.{piece_of}
-use Rattle.rv_object_writer.specs.Strings.{IsTable, with_string}
+use Rattle.rv_object_writer.specs.Strings.{IsStringTable, with_string}
 use Rattle.rv_object_writer.proofs.NamingLemmas.{name_more}
 use Rattle.rv_object_writer.proofs.StepsLemmas.{left}
 use Rattle.rv_object_writer.proofs.names.section_names.Goals as goal
@@ -30,11 +30,11 @@ loop-piece-preserved c =
     let ss = c.loop-piece.invariant.0 in
     let key = codes ".shstrtab" in
     let inside : i < length xs = search rules in
-    let rest : List (List ℕ) = map (λ (p : Piece). p.name) (map piece_of (drop (i + 1) xs)) ++ key ∷ [] in (
+    let rest : List (List ℕ) = map (λ (p : UnplacedSection). p.name) (map piece_of (drop (i + 1) xs)) ++ key ∷ [] in (
       with_string ss x.name.now,
       c.in_ok-put.ensures ss c.loop-piece.invariant.1,
       (name_more ss x.name.now rest
-          ∙ ap (λ l. ss ++ unseen ss (map (λ (p : Piece). p.name) (map piece_of l) ++ key ∷ [])) (sym (left xs i x no_piece inside refl))
+          ∙ ap (λ l. ss ++ unseen ss (map (λ (p : UnplacedSection). p.name) (map piece_of l) ++ key ∷ [])) (sym (left xs i x no_piece inside refl))
           ∙ c.loop-piece.invariant.2),
     )
 
@@ -44,8 +44,8 @@ returns c =
     let xs = c.args.pieces.now in
     let ss = c.loop-piece.invariant.0 in
     let key = codes ".shstrtab" in
-    let all : with_string ss key ≡ strings_of (map (λ (p : Piece). p.name) (map piece_of xs) ++ key ∷ []) =
+    let all : with_string ss key ≡ strings_of (map (λ (p : UnplacedSection). p.name) (map piece_of xs) ++ key ∷ []) =
     sym (append-nil (with_string ss key)) ∙ name_more ss key []
-    ∙ ap (λ l. ss ++ unseen ss (map (λ (p : Piece). p.name) (map piece_of l) ++ key ∷ [])) (sym (drop_all i xs c.loop-piece-test.false))
+    ∙ ap (λ l. ss ++ unseen ss (map (λ (p : UnplacedSection). p.name) (map piece_of l) ++ key ∷ [])) (sym (drop_all i xs c.loop-piece-test.false))
     ∙ c.loop-piece.invariant.2 in
-    subst (λ (l : List (List ℕ)). IsTable l c.put-2.new.self) all (c.in_ok-put-2.ensures ss c.loop-piece.invariant.1)
+    subst (λ (l : List (List ℕ)). IsStringTable l c.put-2.new.self) all (c.in_ok-put-2.ensures ss c.loop-piece.invariant.1)

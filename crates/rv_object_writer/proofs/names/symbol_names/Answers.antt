@@ -3,7 +3,7 @@ use Rattle.std.proofs.lemmas.List.{drop_all}
 use Rattle.rv_object.specs.Object.{Symbol}
 use Rattle.rv_object.specs.Parts.{symbol_of}
 use Rattle.rv_object_file_laws.specs.Written.{unseen, strings_of}
-use Rattle.rv_object_writer.specs.Strings.{IsTable, with_string}
+use Rattle.rv_object_writer.specs.Strings.{IsStringTable, with_string}
 use Rattle.rv_object_writer.proofs.NamingLemmas.{name_more}
 use Rattle.rv_object_writer.proofs.StepsLemmas.{left}
 use Rattle.rv_object_writer.proofs.names.symbol_names.Goals as goal
@@ -35,4 +35,4 @@ returns c =
     let all : ss ≡ strings_of (map (λ (s : Symbol). s.name) (map symbol_of xs)) =
     sym (append-nil ss) ∙ ap (λ l. ss ++ unseen ss (map (λ (s : Symbol). s.name) (map symbol_of l))) (sym (drop_all i xs c.loop-symbol-test.false))
     ∙ c.loop-symbol.invariant.2 in
-    subst (λ (l : List (List ℕ)). IsTable l c.loop-symbol.names) all c.loop-symbol.invariant.1
+    subst (λ (l : List (List ℕ)). IsStringTable l c.loop-symbol.names) all c.loop-symbol.invariant.1

@@ -4,7 +4,7 @@ use Rattle.std.proofs.lemmas.List.Elements.{All-more}
 use Rattle.rv_object.specs.Object.{Section as PlainSection, size_of}
 use Rattle.rv_object.specs.declared.section.Section.{Section}
 use Rattle.rv_object.specs.Sections.{section_of}
-use Rattle.rv_object_file_laws.specs.Written.{section_piece, Piece as PlainPiece}
+use Rattle.rv_object_file_laws.specs.Written.{section_piece, UnplacedSection as PlainPiece}
 use Rattle.rv_object_writer.specs.Pieces.{piece_of}
 use Rattle.rv_object_writer.proofs.KnownLemmas.{all_passed}
 use Rattle.rv_object_writer.proofs.StepsLemmas.{step}

@@ -1,13 +1,13 @@
 use Rattle.std.proofs.Common.{◌≡◌, ◌++◌, ◌∙◌, ◌%◌, ◌^◌, ap}
 use Rattle.rv_elf.specs.Records.{section_header_bytes}
-use Rattle.rv_object_file_laws.specs.Written.{Piece, strings_of, name_offset, header_of}
+use Rattle.rv_object_file_laws.specs.Written.{UnplacedSection, strings_of, name_offset, header_of}
 use Rattle.rv_object_writer.specs.Pieces.{piece_of}
 use Rattle.rv_object_writer.proofs.CutLemmas.{section_cut}
 use Rattle.rv_object_writer.proofs.writing.put_section_header.Goals as goal
 
 pub returns : goal.returns
 returns c = λ ns at table here.
-    let p : Piece = piece_of c.args.piece.now in
+    let p : UnplacedSection = piece_of c.args.piece.now in
     let name : c.offset-name.result ≡ name_offset ns p.name = c.offset-name.ensures (strings_of ns) table in
     c.in_ok-section_header.ensures.ok ∙ ap (λ l. c.args.out.now ++ l) (
     (λ i. section_header_bytes (record {

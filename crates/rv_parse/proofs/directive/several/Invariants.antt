@@ -1,7 +1,7 @@
 use Rattle.std.proofs.Common.{◌≡◌, ◌∷◌, [], map, length}
 use Rattle.rv_lexer.specs.Cursor.{left}
 use Rattle.rv_parse_laws.specs.Syntax.{A_value}
-use Rattle.rv_parse.specs.View.{value_of}
+use Rattle.rv_parse.specs.View.{operand_of_value}
 use Rattle.rv_parse.specs.Slots.{further_items, prepended}
 use Rattle.rv_parse.proofs.directive.several.Given as goal
 use Rattle.rv_parse_laws.specs.declared.role.Role.TheVariants as roles
@@ -9,7 +9,7 @@ use Rattle.rv_parse_laws.specs.declared.role.Role.TheVariants as roles
 -- the values so far, and then those that are left, are all
 abbrev pub invariant-loop-alloc : goal.invariant-loop-alloc
 invariant-loop-alloc l =
-    prepended (value_of l.fn.first ∷ []) (further_items (A_value roles.Directive) (left l.fn.cursor)) ≡ prepended (map value_of l.values.items) (further_items (A_value roles.Directive) (left l.cursor))
+    prepended (operand_of_value l.fn.first ∷ []) (further_items (A_value roles.Directive) (left l.fn.cursor)) ≡ prepended (map operand_of_value l.values.items) (further_items (A_value roles.Directive) (left l.cursor))
 
 -- each turn takes a comma and one more
 abbrev pub decreases-loop-alloc : goal.decreases-loop-alloc

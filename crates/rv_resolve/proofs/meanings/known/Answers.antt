@@ -3,7 +3,7 @@ use Rattle.std.proofs.lemmas.Option.{slice_get-map, slice_get_read}
 use Rattle.rv_object.specs.Parts.{symbol_of}
 use Rattle.rv_object.specs.View.{object_of}
 use Rattle.rv_resolve.specs.Chosen.{first_named}
-use Rattle.rv_resolve.specs.Names.{kept_of}
+use Rattle.rv_resolve.specs.Names.{exported_of}
 use Rattle.rv_resolve.proofs.RememberedLemmas.{known_is}
 use Rattle.rv_resolve.proofs.meanings.known.Goals as goal
 
@@ -33,4 +33,4 @@ returns c = λ ds has.
     ∙ ap (option_map symbol_of) (ap (λ l. slice_get l index) (sym c.deref-2.ensures.value) ∙ slice_get_read symbols (length symbols) index s refl q.3.0 q.1) in
     known_is ds (map object_of os) rows file index row found (object_of o) (symbol_of s) has row_at found_at object_at symbol_at
     (sym c.is_sure.ensures.whole ∙ c.if-is_sure.false)
-    ∙ ap (λ n. option_map kept_of (first_named ds n)) (c.is_same.ensures c.if-not-is_same.false)
+    ∙ ap (λ n. option_map exported_of (first_named ds n)) (c.is_same.ensures c.if-not-is_same.false)

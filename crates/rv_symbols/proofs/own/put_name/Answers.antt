@@ -7,7 +7,7 @@ use Rattle.rv_object.specs.declared.symbol.Binding.{Binding}
 use Rattle.rv_object.specs.Object.{Symbol}
 use Rattle.rv_object.specs.Parts.{symbol_of}
 use Rattle.rv_assemble_laws.specs.Symbols.{local_symbol, shared_symbol, statement_definition, named_symbols, exports_of}
-use Rattle.rv_symbols.specs.Source.{name_in, tables_of}
+use Rattle.rv_symbols.specs.Source.{optional_name, tables_of}
 use Rattle.rv_symbols.specs.Found.{is_number}
 use Rattle.rv_symbols.proofs.StandsLemmas.{ordinal_is}
 use Rattle.rv_symbols.proofs.NamingLemmas.{local_none, local_shared, local_number, local_one, shared_none, shared_local, shared_one, named_at, name_is_string}
@@ -20,7 +20,7 @@ returns-in_default-clause-symbols c = λ laid s h at kind.
     let old = map symbol_of c.args.symbols.now.items in
     sym (append-nil old) ∙ ap (λ l. old ++ l)
     (local_none (λ n. is_shared (t.bindings n)) (statement_definition t laid s s.located.kind) (defined_name t s.located.ordinal s.located.kind)
-    (ap name_in (sym c.in_default.is) ∙ named_at t _ c.args.index s (statement_of c.args.statement.now).kind (ordinal_is x laid h c.args.index s at) kind (c.defined.ensures.name laid h)))
+    (ap optional_name (sym c.in_default.is) ∙ named_at t _ c.args.index s (statement_of c.args.statement.now).kind (ordinal_is x laid h c.args.index s at) kind (c.defined.ensures.name laid h)))
 
 pub returns-in_default-clause-exported : goal.returns-in_default-clause-exported
 returns-in_default-clause-exported c = λ laid s h at kind.
@@ -29,7 +29,7 @@ returns-in_default-clause-exported c = λ laid s h at kind.
     let old = map symbol_of c.args.exported.now.items in
     sym (append-nil old) ∙ ap (λ l. old ++ l)
     (shared_none t (λ n. is_shared (t.bindings n)) (statement_definition t laid s s.located.kind) (defined_name t s.located.ordinal s.located.kind)
-    (ap name_in (sym c.in_default.is) ∙ named_at t _ c.args.index s (statement_of c.args.statement.now).kind (ordinal_is x laid h c.args.index s at) kind (c.defined.ensures.name laid h)))
+    (ap optional_name (sym c.in_default.is) ∙ named_at t _ c.args.index s (statement_of c.args.statement.now).kind (ordinal_is x laid h c.args.index s at) kind (c.defined.ensures.name laid h)))
 
 pub returns-then-is_shared-clause-symbols : goal.returns-then-is_shared-clause-symbols
 returns-then-is_shared-clause-symbols c = λ laid s h at kind.
@@ -38,7 +38,7 @@ returns-then-is_shared-clause-symbols c = λ laid s h at kind.
     let old = map symbol_of c.args.symbols.now.items in
     sym (append-nil old) ∙ ap (λ l. old ++ l)
     (local_shared (λ n. is_shared (t.bindings n)) (statement_definition t laid s s.located.kind) (defined_name t s.located.ordinal s.located.kind) c.in-Some.name.now
-    (ap name_in (sym c.in-Some.is) ∙ named_at t _ c.args.index s (statement_of c.args.statement.now).kind (ordinal_is x laid h c.args.index s at) kind (c.defined.ensures.name laid h))
+    (ap optional_name (sym c.in-Some.is) ∙ named_at t _ c.args.index s (statement_of c.args.statement.now).kind (ordinal_is x laid h c.args.index s at) kind (c.defined.ensures.name laid h))
     (sym (c.is_shared.ensures laid h) ∙ c.if-is_shared.true))
 
 pub returns-then-is_shared-clause-exported : goal.returns-then-is_shared-clause-exported
@@ -54,7 +54,7 @@ returns-then-is_shared-clause-exported c = λ laid s h at kind.
     ∙ ap (λ l. old ++ l)
     (subst (λ e. shared_symbol t n e ∷ [] ≡ exports_of t laid s) (sym d)
     (shared_one t (λ n. is_shared (t.bindings n)) (statement_definition t laid s s.located.kind) (defined_name t s.located.ordinal s.located.kind) n
-    (ap name_in (sym c.in-Some.is) ∙ named_at t _ c.args.index s (statement_of c.args.statement.now).kind (ordinal_is x laid h c.args.index s at) kind (c.defined.ensures.name laid h))
+    (ap optional_name (sym c.in-Some.is) ∙ named_at t _ c.args.index s (statement_of c.args.statement.now).kind (ordinal_is x laid h c.args.index s at) kind (c.defined.ensures.name laid h))
     (sym (c.is_shared.ensures laid h) ∙ c.if-is_shared.true)))
 
 pub returns-then-is_number-clause-symbols : goal.returns-then-is_number-clause-symbols
@@ -65,7 +65,7 @@ returns-then-is_number-clause-symbols c = λ laid s h at kind.
     let old = map symbol_of c.args.symbols.now.items in
     sym (append-nil old) ∙ ap (λ l. old ++ l)
     (local_number (λ n. is_shared (t.bindings n)) (statement_definition t laid s s.located.kind) (defined_name t s.located.ordinal s.located.kind) c.in-Some.name.now
-    (ap name_in (sym c.in-Some.is) ∙ named_at t _ c.args.index s (statement_of c.args.statement.now).kind (ordinal_is x laid h c.args.index s at) kind (c.defined.ensures.name laid h))
+    (ap optional_name (sym c.in-Some.is) ∙ named_at t _ c.args.index s (statement_of c.args.statement.now).kind (ordinal_is x laid h c.args.index s at) kind (c.defined.ensures.name laid h))
     (sym (c.is_shared.ensures laid h) ∙ c.if-is_shared.false)
     (ap is_number (sym d) ∙ sym c.is_number.ensures ∙ c.if-is_number.true))
 
@@ -76,7 +76,7 @@ returns-then-is_number-clause-exported c = λ laid s h at kind.
     let old = map symbol_of c.args.exported.now.items in
     sym (append-nil old) ∙ ap (λ l. old ++ l)
     (shared_local t (λ n. is_shared (t.bindings n)) (statement_definition t laid s s.located.kind) (defined_name t s.located.ordinal s.located.kind) c.in-Some.name.now
-    (ap name_in (sym c.in-Some.is) ∙ named_at t _ c.args.index s (statement_of c.args.statement.now).kind (ordinal_is x laid h c.args.index s at) kind (c.defined.ensures.name laid h))
+    (ap optional_name (sym c.in-Some.is) ∙ named_at t _ c.args.index s (statement_of c.args.statement.now).kind (ordinal_is x laid h c.args.index s at) kind (c.defined.ensures.name laid h))
     (sym (c.is_shared.ensures laid h) ∙ c.if-is_shared.false))
 
 pub returns-clause-symbols : goal.returns-clause-symbols
@@ -90,7 +90,7 @@ returns-clause-symbols c = λ laid s h at kind.
     ∙ ap (λ l. old ++ l)
     (subst (λ e. local_symbol n e ∷ [] ≡ named_symbols t laid s) (sym d)
     (local_one (λ n. is_shared (t.bindings n)) (statement_definition t laid s s.located.kind) (defined_name t s.located.ordinal s.located.kind) n
-    (ap name_in (sym c.in-Some.is) ∙ named_at t _ c.args.index s (statement_of c.args.statement.now).kind (ordinal_is x laid h c.args.index s at) kind (c.defined.ensures.name laid h))
+    (ap optional_name (sym c.in-Some.is) ∙ named_at t _ c.args.index s (statement_of c.args.statement.now).kind (ordinal_is x laid h c.args.index s at) kind (c.defined.ensures.name laid h))
     (sym (c.is_shared.ensures laid h) ∙ c.if-is_shared.false)
     (ap is_number (sym d) ∙ sym c.is_number.ensures ∙ c.if-is_number.false)))
 
@@ -101,7 +101,7 @@ returns-clause-exported c = λ laid s h at kind.
     let old = map symbol_of c.args.exported.now.items in
     sym (append-nil old) ∙ ap (λ l. old ++ l)
     (shared_local t (λ n. is_shared (t.bindings n)) (statement_definition t laid s s.located.kind) (defined_name t s.located.ordinal s.located.kind) c.in-Some.name.now
-    (ap name_in (sym c.in-Some.is) ∙ named_at t _ c.args.index s (statement_of c.args.statement.now).kind (ordinal_is x laid h c.args.index s at) kind (c.defined.ensures.name laid h))
+    (ap optional_name (sym c.in-Some.is) ∙ named_at t _ c.args.index s (statement_of c.args.statement.now).kind (ordinal_is x laid h c.args.index s at) kind (c.defined.ensures.name laid h))
     (sym (c.is_shared.ensures laid h) ∙ c.if-is_shared.false))
 
 pub invariant_of-local : goal.invariant_of-local

@@ -18,7 +18,7 @@ use Rattle.rv_assemble_laws.specs.IsObjectOf.{IsNumbered}
 use Rattle.rv_assemble_laws.specs.ShownNames.{AreShown}
 use Rattle.rv_symbols.specs.SymbolUse.{uses_of, AreMeant}
 use Rattle.rv_symbols.specs.Source.{tables_of, IsSource}
-use Rattle.rv_symbols.specs.Numbers.{own_symbols, missing_names, number_by, number_in}
+use Rattle.rv_symbols.specs.Numbers.{own_symbols, missing_names, number_by, numbering_in}
 use Rattle.rv_symbols.specs.Found.{definition_in, Rises, AreMarks}
 
 pub numbers-requires-clause-few : goal.numbers-requires-clause-few
@@ -65,12 +65,12 @@ returns c = λ laid w.
           ∙ ap (λ l. l ++ undefined t (map now_of c.as_slice-6.result.now)) own
           ∙ ap (λ l. own_symbols t laid ++ undefined t l) (ap (map now_of) c.as_slice-6.ensures.keys ∙ names ∙ ap (missing_names t) (sym w.named))
           ∙ append_assoc (local_symbols t laid [] laid) (exports t laid) (undefined t (missing_names t (references t laid)));
-      number = number_in t laid;
+      number = numbering_in t laid;
       numbers =
           sym (c.in_ok-numbers.ensures laid t h (ap (map (option_map definition_of)) c.as_slice-5.ensures.value ∙ defs)
           ∙ ap (λ l. map (λ (r : SymbolUse). number_by l (map now_of c.in_ok-missing.missing.keys) laid r.symbol (definition_in t r)) rs) (ap (map symbol_of) c.as_slice-4.ensures.value ∙ own)
           ∙ ap (λ l. map (λ (r : SymbolUse). number_by (own_symbols t laid) l laid r.symbol (definition_in t r)) rs) (names ∙ ap (missing_names t) (sym w.named)));
       numbered =
-          subst (λ l. AllByRecursion (IsNumbered t laid (number_in t laid) (symbols_of t laid)) l) w.named
+          subst (λ l. AllByRecursion (IsNumbered t laid (numbering_in t laid) (symbols_of t laid)) l) w.named
           (numbered ss laid w.located (subst (AreMeant t) (sym w.named) c.requires.meant) c.requires.good c.requires.names (subst AreShown (sym w.named) c.requires.shown) (c.in_ok-symbols.ensures.low laid h));
     }

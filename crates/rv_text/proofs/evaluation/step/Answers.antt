@@ -5,7 +5,7 @@ use Rattle.rv_text_laws.specs.Values.{after_node}
 use Rattle.rv_text.specs.declared.node.Node.{Node}
 use Rattle.rv_text.specs.declared.evaluation.Part.TheVariants as parts
 use Rattle.rv_text.specs.Nodes.{symbol_of, node_of}
-use Rattle.rv_text.specs.Eval.{part_of, meaning_of, tops}
+use Rattle.rv_text.specs.Eval.{part_value, meaning_of, tops}
 use Rattle.rv_text.proofs.EvalsLemmas.{push_step, unary_step, binary_step, symbol_part}
 use Rattle.rv_text.proofs.evaluation.step.Goals as goal
 
@@ -17,7 +17,7 @@ returns-in-Number-clause-values g c = λ m means.
 pub returns-in-Symbol-clause-values : goal.returns-in-Symbol-clause-values
 returns-in-Symbol-clause-values g c = λ m means.
     push_step m c.args.stack.now.items c.push-in-Symbol.new.self.items c.meant.result (symbol_of c.in-Symbol.symbol) c.push-in-Symbol.ensures.items
-    (symbol_part m c.in-Symbol.symbol (part_of c.meant.result) (meaning_of c.names.result) c.meant.ensures (means c.in-Symbol.symbol c.names.result c.names.ensures))
+    (symbol_part m c.in-Symbol.symbol (part_value c.meant.result) (meaning_of c.names.result) c.meant.ensures (means c.in-Symbol.symbol c.names.result c.names.ensures))
     ∙ ap (λ (n : Node). after_node m (node_of n) (tops c.args.stack.now.items)) (sym c.in-Symbol.is)
 
 pub returns-in-Unary-clause-values : goal.returns-in-Unary-clause-values

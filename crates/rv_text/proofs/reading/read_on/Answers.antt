@@ -4,7 +4,7 @@ use Rattle.rv_text_laws.specs.SyntaxError.{SyntaxError}
 use Rattle.rv_text_laws.specs.Expression.{Node}
 use Rattle.rv_text.specs.Nodes.{nodes_of}
 use Rattle.rv_lexer.specs.Cursor.{left}
-use Rattle.rv_lexer.specs.Fault.{number_of}
+use Rattle.rv_lexer.specs.Fault.{source_fault_number}
 use Rattle.rv_text.specs.Expr.{stage_of}
 use Rattle.rv_text.proofs.ReadingStepsLemmas.{ended, failed, read_fits, at_next}
 use Rattle.rv_text.proofs.reading.read_on.Goals as goal
@@ -21,7 +21,7 @@ returns-in-Ok-Ends-clause-reads g c =
 
 pub returns-in-Err-Fault-clause-reads : goal.returns-in-Err-Fault-clause-reads
 returns-in-Err-Fault-clause-reads g c =
-    failed _ _ c.tokens.cursor (stage_of c.tokens.frames.items c.tokens.stage) (number_of c.in-Err-Fault.code) c.tokens.invariant (rw c.in-Err-Fault.field-0-is at c.in-Err-Fault.ensures)
+    failed _ _ c.tokens.cursor (stage_of c.tokens.frames.items c.tokens.stage) (source_fault_number c.in-Err-Fault.code) c.tokens.invariant (rw c.in-Err-Fault.field-0-is at c.in-Err-Fault.ensures)
     ∙ ap (λ (w : SyntaxError). Err w) (sym (rw c.in-Err-Fault.field-0-is at c.wrong.ensures))
 
 pub returns-in-Err-Fault-clause-next : goal.returns-in-Err-Fault-clause-next

@@ -1,7 +1,7 @@
 use Rattle.std.proofs.Common.{◌∙◌, map, sym}
 use Rattle.rv_object.specs.View.{object_of}
 use Rattle.rv_collect.specs.declared.walk.Walk.{Walk}
-use Rattle.rv_collect.specs.Marks.{rows_of}
+use Rattle.rv_collect.specs.Marks.{mark_rows}
 use Rattle.rv_collect.proofs.LoadedLemmas.{has_loaded, is_has, is_not}
 use Rattle.rv_collect.proofs.WalkLemmas.{more_walk, more_grows, more_is, has_mark}
 use Rattle.rv_collect.proofs.walk.Walk.mark.Goals as goal
@@ -13,7 +13,7 @@ pub put-requires : goal.put-requires
 put-requires c =
     let os = map object_of c.args.objects.now in
     let has = is_has os c.args.file c.args.index c.is_loaded.result c.is_loaded.ensures c.if-not-is_loaded.false in
-    has_mark os (rows_of c.args.self.now.marks) c.args.file c.args.index c.requires.walk.like (has_loaded os c.args.file c.args.index has)
+    has_mark os (mark_rows c.args.self.now.marks) c.args.file c.args.index c.requires.walk.like (has_loaded os c.args.file c.args.index has)
 
 pub returns-clause-walk : goal.returns-clause-walk
 returns-clause-walk c =

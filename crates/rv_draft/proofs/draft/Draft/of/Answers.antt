@@ -11,7 +11,7 @@ use Rattle.rv_instruction.specs.declared.encoded.Coded.{Coded}
 use Rattle.rv_draft.specs.declared.draft.Draft.{Draft}
 use Rattle.rv_draft.specs.DataParts.{AreMade, HaveCode, IsData}
 use Rattle.rv_draft.specs.Lengths.{code_lengths}
-use Rattle.rv_draft.specs.Draft.{IsRefused}
+use Rattle.rv_draft.specs.Draft.{IsRefusedSource}
 use Rattle.rv_draft.proofs.CodeLengthsLemmas.{least_lengths, lengths_of_sizes}
 use Rattle.rv_draft.proofs.DraftedLemmas.{is_draft}
 use Rattle.rv_draft.proofs.MadeLemmas.{made_all}
@@ -48,7 +48,7 @@ returns-in_err-items-clause-refuses c =
     let short = sizes_short (tables ss) (located (ss ∷ [])) _ code.sections.items code.sizes.items whole in
     let memory = c.in_err-items.ensures.refuses c.requires.good short in
     let found = err_from_is_err_and c.from_residual-in_err-items.result c.from_residual-in_err-items.ensures.1 in
-    rw (found.1, found.2) (subst (λ e. IsRefused ss e) (sym memory) tt)
+    rw (found.1, found.2) (subst (λ e. IsRefusedSource ss e) (sym memory) tt)
 
 pub data-requires-clause-made : goal.data-requires-clause-made
 data-requires-clause-made c =

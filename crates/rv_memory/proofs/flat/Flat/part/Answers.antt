@@ -1,6 +1,6 @@
 use Rattle.std.proofs.Common.{◌≡◌, ◌<◌, ◌+◌, ◌-◌, ◌%◌, ◌^◌, ℕ, zero, suc, true, List, [], ◌∷◌, get_or, take, map, arith}
 use Rattle.rv_image.specs.Segment.{segment_of}
-use Rattle.rv_image.specs.Memory.{has_flag}
+use Rattle.rv_image.specs.Memory.{gives_right}
 use Rattle.rv_memory.specs.Rights.{right_of}
 use Rattle.rv_memory.proofs.FlatLemmas.{element, may-within, bytes-within}
 use Rattle.rv_memory.proofs.flat.Flat.part.Goals as goal
@@ -9,7 +9,7 @@ pub returns-clause-right : goal.returns-clause-right
 returns-clause-right c =
     let s = c.index-segment.result.now in
     let at = element c.args.self.now.segments.items c.args.i s (omega arith) c.index-segment.ensures in
-    let right : has_flag s.flags (right_of c.args.right) ≡ true = cc in
+    let right : gives_right s.flags (right_of c.args.right) ≡ true = cc in
     may-within _ c.args.i (segment_of s) c.args.address c.args.bytes (right_of c.args.right) c.args.self.now.apart at s.ends
     (omega (arith, s.ends, c.if-at-length.false)) (omega (arith, s.ends, c.if-at-length.false, c.if-length-at.false)) right
 

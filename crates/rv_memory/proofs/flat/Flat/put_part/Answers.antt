@@ -1,7 +1,7 @@
 use Rattle.std.proofs.Common.{◌≡◌, ◌+◌, ◌-◌, ◌%◌, ◌^◌, true, length, map, arith}
 use Rattle.rv_isa_laws.specs.Memory.{Write}
 use Rattle.rv_image.specs.Segment.{segment_of}
-use Rattle.rv_image.specs.Memory.{has_flag}
+use Rattle.rv_image.specs.Memory.{gives_right}
 use Rattle.rv_memory.proofs.FlatLemmas.{element, element-or, may-within, with-part-is}
 use Rattle.rv_memory.proofs.flat.Flat.put_part.Goals as goal
 
@@ -10,7 +10,7 @@ returns-clause-put c =
     let s = c.index-segment.result.now in
     let at = element c.args.self.now.segments.items c.args.i s (omega arith) c.index-segment.ensures in
     let e = element-or c.args.self.now.segments.items c.args.i s (omega arith) c.index-segment.ensures in
-    let right : has_flag s.flags Write ≡ true = cc in
+    let right : gives_right s.flags Write ≡ true = cc in
     let k = (c.args.address + (2 ^ 64 - s.address)) % 2 ^ 64 in
     let may = may-within (map segment_of c.args.self.now.segments.items) c.args.i (segment_of s) c.args.address (length c.args.bytes.now) Write c.args.self.now.apart at s.ends
     (omega (arith, s.ends, c.if-at-length.false)) (omega (arith, s.ends, c.if-at-length.false, c.if-length-at.false)) right in

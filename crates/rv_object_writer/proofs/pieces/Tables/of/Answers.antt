@@ -10,7 +10,7 @@ use Rattle.rv_object.specs.declared.section.Section.{Section as DeclaredSection}
 use Rattle.rv_object.specs.declared.symbol.Symbol.{Symbol as DeclaredSymbol}
 use Rattle.rv_object_file_laws.specs.Known.{IsRelocation, IsSymbol}
 use Rattle.rv_object_file_laws.specs.Written.{rela_pieces, symbol_names, strings_of, symbol_record, symbols_bytes, last_index}
-use Rattle.rv_object_writer.specs.Strings.{IsTable}
+use Rattle.rv_object_writer.specs.Strings.{IsStringTable}
 use Rattle.rv_object_writer.proofs.pieces.Tables.of.Goals as goal
 
 pub returns-clause-tables : goal.returns-clause-tables
@@ -18,8 +18,8 @@ returns-clause-tables c =
     let o : Object = object_of c.args.object.now in
     let symtab = c.symtab_index-symtab.result in
     let names = c.in_ok-names.names in
-    let table : IsTable (strings_of (symbol_names o)) names =
-    subst (λ (l : List DeclaredSymbol). IsTable (strings_of (map (λ (s : Symbol). s.name) (map symbol_of l))) names) c.as_slice-3.ensures.value c.in_ok-names.ensures in
+    let table : IsStringTable (strings_of (symbol_names o)) names =
+    subst (λ (l : List DeclaredSymbol). IsStringTable (strings_of (map (λ (s : Symbol). s.name) (map symbol_of l))) names) c.as_slice-3.ensures.value c.in_ok-names.ensures in
     let last : symtab + 2 ≡ last_index o = ap (λ n. n + 2) c.symtab_index-symtab.ensures.at in
     record {
       index = c.symtab_index-symtab.ensures.at;

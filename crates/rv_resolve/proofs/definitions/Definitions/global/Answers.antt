@@ -10,7 +10,7 @@ use Rattle.rv_object.specs.declared.object.Object.{Object as DeclaredObject}
 use Rattle.rv_object.specs.View.{object_of}
 use Rattle.rv_object.specs.Bindings.{is_global}
 use Rattle.rv_resolve.specs.Chosen.{Definer, seen_of, definers_in, definers_from}
-use Rattle.rv_resolve.specs.Names.{IsTable, IsRefused}
+use Rattle.rv_resolve.specs.Names.{IsDefinitionTable, IsRefused}
 use Rattle.rv_resolve.proofs.LoadingLemmas.{seen_symbols, files_left, HasBut, all_had, one_more, one_refused, global_definers, table_distinct, first_refused}
 use Rattle.rv_resolve.proofs.definitions.Definitions.global.Goals as goal
 
@@ -32,10 +32,10 @@ loop-file-preserved c =
     let inside : i < length xs = search rules in
     let own = definers_in is_global i 0 (seen_symbols x.symbols.items) in
     let symbols = c.as_slice.ensures.value ∙ ap (λ (y : DeclaredObject). y.symbols.items) (sym c.index-objects-file.is) in
-    let put : (ds : List Definer) → IsTable ds c.loop-file.definitions → IsTable (ds ++ own) c.put_all.new.self =
-    subst (λ l. (ds : List Definer) → IsTable ds c.loop-file.definitions → IsTable (ds ++ definers_in is_global i 0 (seen_symbols l)) c.put_all.new.self) symbols c.in_ok-put_all.ensures.added in
-    one_more (λ l. IsTable l c.loop-file.definitions) (global_definers (map object_of xs)) _ own (definers_from is_global (i + 1) (seen_of (map object_of (drop (i + 1) xs)))) (files_left is_global xs i x inside c.index-objects-file.is)
-    c.loop-file.invariant (λ l. IsTable l c.put_all.new.self) put
+    let put : (ds : List Definer) → IsDefinitionTable ds c.loop-file.definitions → IsDefinitionTable (ds ++ own) c.put_all.new.self =
+    subst (λ l. (ds : List Definer) → IsDefinitionTable ds c.loop-file.definitions → IsDefinitionTable (ds ++ definers_in is_global i 0 (seen_symbols l)) c.put_all.new.self) symbols c.in_ok-put_all.ensures.added in
+    one_more (λ l. IsDefinitionTable l c.loop-file.definitions) (global_definers (map object_of xs)) _ own (definers_from is_global (i + 1) (seen_of (map object_of (drop (i + 1) xs)))) (files_left is_global xs i x inside c.index-objects-file.is)
+    c.loop-file.invariant (λ l. IsDefinitionTable l c.put_all.new.self) put
 
 pub returns-in_err-put_all-clause-refuses : goal.returns-in_err-put_all-clause-refuses
 returns-in_err-put_all-clause-refuses c =
@@ -47,10 +47,10 @@ returns-in_err-put_all-clause-refuses c =
     let fault = c.in_err-put_all.field-0.0 in
     let own = definers_in is_global i 0 (seen_symbols x.symbols.items) in
     let symbols = c.as_slice.ensures.value ∙ ap (λ (y : DeclaredObject). y.symbols.items) (sym c.index-objects-file.is) in
-    let put : (ds : List Definer) → IsTable ds c.loop-file.definitions → IsRefused fault (ds ++ own) =
-    subst (λ l. (ds : List Definer) → IsTable ds c.loop-file.definitions → IsRefused fault (ds ++ definers_in is_global i 0 (seen_symbols l))) symbols c.in_err-put_all.ensures.refuses in
+    let put : (ds : List Definer) → IsDefinitionTable ds c.loop-file.definitions → IsRefused fault (ds ++ own) =
+    subst (λ l. (ds : List Definer) → IsDefinitionTable ds c.loop-file.definitions → IsRefused fault (ds ++ definers_in is_global i 0 (seen_symbols l))) symbols c.in_err-put_all.ensures.refuses in
     rw (found.1, found.2) (first_refused (map object_of xs) fault
-    (one_refused (λ l. IsTable l c.loop-file.definitions) (global_definers (map object_of xs)) _ own (definers_from is_global (i + 1) (seen_of (map object_of (drop (i + 1) xs)))) (files_left is_global xs i x inside c.index-objects-file.is)
+    (one_refused (λ l. IsDefinitionTable l c.loop-file.definitions) (global_definers (map object_of xs)) _ own (definers_from is_global (i + 1) (seen_of (map object_of (drop (i + 1) xs)))) (files_left is_global xs i x inside c.index-objects-file.is)
     c.loop-file.invariant fault put))
 
 pub returns-clause-answers : goal.returns-clause-answers
@@ -59,7 +59,7 @@ returns-clause-answers c =
     let xs = c.args.objects.now in
     let all = global_definers (map object_of xs) in
     let past : length xs ≤ n = search rules in
-    (all_had (λ l. IsTable l c.loop-file.definitions) all (subst (HasBut (λ l. IsTable l c.loop-file.definitions) all) (at_drop_all (λ l. definers_from is_global n (seen_of (map object_of l))) xs n past) c.loop-file.invariant)).answers
+    (all_had (λ l. IsDefinitionTable l c.loop-file.definitions) all (subst (HasBut (λ l. IsDefinitionTable l c.loop-file.definitions) all) (at_drop_all (λ l. definers_from is_global n (seen_of (map object_of l))) xs n past) c.loop-file.invariant)).answers
 
 pub returns-clause-distinct : goal.returns-clause-distinct
 returns-clause-distinct c =
@@ -68,4 +68,4 @@ returns-clause-distinct c =
     let all = global_definers (map object_of xs) in
     let past : length xs ≤ n = search rules in
     table_distinct (map object_of xs) c.loop-file.definitions
-    (all_had (λ l. IsTable l c.loop-file.definitions) all (subst (HasBut (λ l. IsTable l c.loop-file.definitions) all) (at_drop_all (λ l. definers_from is_global n (seen_of (map object_of l))) xs n past) c.loop-file.invariant))
+    (all_had (λ l. IsDefinitionTable l c.loop-file.definitions) all (subst (HasBut (λ l. IsDefinitionTable l c.loop-file.definitions) all) (at_drop_all (λ l. definers_from is_global n (seen_of (map object_of l))) xs n past) c.loop-file.invariant))

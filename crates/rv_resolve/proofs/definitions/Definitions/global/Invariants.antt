@@ -3,10 +3,10 @@ use Rattle.std.proofs.Common.{map, drop}
 use Rattle.rv_object.specs.View.{object_of}
 use Rattle.rv_object.specs.Bindings.{is_global}
 use Rattle.rv_resolve.specs.Chosen.{seen_of, definers_from}
-use Rattle.rv_resolve.specs.Names.{IsTable}
+use Rattle.rv_resolve.specs.Names.{IsDefinitionTable}
 use Rattle.rv_resolve.proofs.LoadingLemmas.{HasBut, global_definers}
 use Rattle.rv_resolve.proofs.definitions.Definitions.global.Given as goal
 
 abbrev pub invariant-loop-file : goal.invariant-loop-file
 invariant-loop-file l =
-    HasBut (λ done. IsTable done l.definitions) (global_definers (map object_of l.objects)) (definers_from is_global l.file (seen_of (map object_of (drop l.file l.objects))))
+    HasBut (λ done. IsDefinitionTable done l.definitions) (global_definers (map object_of l.objects)) (definers_from is_global l.file (seen_of (map object_of (drop l.file l.objects))))

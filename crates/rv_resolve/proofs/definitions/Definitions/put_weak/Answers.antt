@@ -4,7 +4,7 @@ use Rattle.rv_object.specs.declared.object.Object.{Object as DeclaredObject}
 use Rattle.rv_object.specs.View.{object_of}
 use Rattle.rv_object.specs.Bindings.{is_weak}
 use Rattle.rv_resolve.specs.Chosen.{Definer, seen_of, definers_in, definers_from}
-use Rattle.rv_resolve.specs.Names.{Answers}
+use Rattle.rv_resolve.specs.Names.{AnswersFirst}
 use Rattle.rv_resolve.proofs.LoadingLemmas.{seen_symbols, files_left, HasBut, all_had, one_more}
 use Rattle.rv_resolve.proofs.definitions.Definitions.put_weak.Goals as goal
 
@@ -19,10 +19,10 @@ loop-file-preserved c = λ ds h.
     let inside : i < length xs = search rules in
     let own = definers_in is_weak i 0 (seen_symbols x.symbols.items) in
     let symbols = c.as_slice.ensures.value ∙ ap (λ (y : DeclaredObject). y.symbols.items) (sym c.index-objects-file.is) in
-    let put : (es : List Definer) → Answers es c.loop-file.self → Answers (es ++ own) c.put_weak_of.new.self =
-    subst (λ l. (es : List Definer) → Answers es c.loop-file.self → Answers (es ++ definers_in is_weak i 0 (seen_symbols l)) c.put_weak_of.new.self) symbols c.in_ok-put_weak_of.ensures in
-    one_more (λ l. Answers l c.loop-file.self) (ds ++ definers_from is_weak 0 (seen_of (map object_of xs))) _ own (definers_from is_weak (i + 1) (seen_of (map object_of (drop (i + 1) xs))))
-    (files_left is_weak xs i x inside c.index-objects-file.is) (c.loop-file.invariant ds h) (λ l. Answers l c.put_weak_of.new.self) put
+    let put : (es : List Definer) → AnswersFirst es c.loop-file.self → AnswersFirst (es ++ own) c.put_weak_of.new.self =
+    subst (λ l. (es : List Definer) → AnswersFirst es c.loop-file.self → AnswersFirst (es ++ definers_in is_weak i 0 (seen_symbols l)) c.put_weak_of.new.self) symbols c.in_ok-put_weak_of.ensures in
+    one_more (λ l. AnswersFirst l c.loop-file.self) (ds ++ definers_from is_weak 0 (seen_of (map object_of xs))) _ own (definers_from is_weak (i + 1) (seen_of (map object_of (drop (i + 1) xs))))
+    (files_left is_weak xs i x inside c.index-objects-file.is) (c.loop-file.invariant ds h) (λ l. AnswersFirst l c.put_weak_of.new.self) put
 
 pub returns : goal.returns
 returns c = λ ds h.
@@ -30,5 +30,5 @@ returns c = λ ds h.
     let xs = c.args.objects.now in
     let all = ds ++ definers_from is_weak 0 (seen_of (map object_of xs)) in
     let past : length xs ≤ n = search rules in
-    all_had (λ l. Answers l c.loop-file.self) all
-    (subst (HasBut (λ l. Answers l c.loop-file.self) all) (at_drop_all (λ l. definers_from is_weak n (seen_of (map object_of l))) xs n past) (c.loop-file.invariant ds h))
+    all_had (λ l. AnswersFirst l c.loop-file.self) all
+    (subst (HasBut (λ l. AnswersFirst l c.loop-file.self) all) (at_drop_all (λ l. definers_from is_weak n (seen_of (map object_of l))) xs n past) (c.loop-file.invariant ds h))

@@ -3,11 +3,11 @@ use Rattle.std.proofs.Common.{◌++◌, List, map, drop}
 use Rattle.rv_object.specs.View.{object_of}
 use Rattle.rv_object.specs.Bindings.{is_weak}
 use Rattle.rv_resolve.specs.Chosen.{Definer, seen_of, definers_from}
-use Rattle.rv_resolve.specs.Names.{Answers}
+use Rattle.rv_resolve.specs.Names.{AnswersFirst}
 use Rattle.rv_resolve.proofs.LoadingLemmas.{HasBut}
 use Rattle.rv_resolve.proofs.definitions.Definitions.put_weak.Given as goal
 
 abbrev pub invariant-loop-file : goal.invariant-loop-file
 invariant-loop-file l =
-    (ds : List Definer) → Answers ds l.fn.self
-    → HasBut (λ done. Answers done l.self) (ds ++ definers_from is_weak 0 (seen_of (map object_of l.objects))) (definers_from is_weak l.file (seen_of (map object_of (drop l.file l.objects))))
+    (ds : List Definer) → AnswersFirst ds l.fn.self
+    → HasBut (λ done. AnswersFirst done l.self) (ds ++ definers_from is_weak 0 (seen_of (map object_of l.objects))) (definers_from is_weak l.file (seen_of (map object_of (drop l.file l.objects))))

@@ -4,11 +4,11 @@ use Rattle.std.specs.Global.{Vec}
 use Rattle.rv_object.specs.View.{object_of}
 use Rattle.rv_resolve.specs.declared.definitions.Exported.{Exported}
 use Rattle.rv_resolve.specs.Chosen.{seen_of, definitions}
-use Rattle.rv_resolve.specs.Names.{Answers, outside}
+use Rattle.rv_resolve.specs.Names.{AnswersFirst, outside}
 use Rattle.rv_resolve.proofs.meanings.Meanings.of.Given as goal
 
 abbrev pub invariant-loop-file : goal.invariant-loop-file
 invariant-loop-file l =
-    Answers (definitions (map object_of l.objects)) l.definitions
+    AnswersFirst (definitions (map object_of l.objects)) l.definitions
     → map (λ (row : Vec (Option Exported)). row.items) l.files.items ++ map (map (outside (definitions (map object_of l.objects)))) (seen_of (map object_of (drop l.file l.objects)))
     ≡ map (map (outside (definitions (map object_of l.objects)))) (seen_of (map object_of l.objects))

@@ -4,7 +4,7 @@ use Rattle.rv_object.specs.Parts.{symbol_of}
 use Rattle.rv_object_laws.specs.Names.{is_defined}
 use Rattle.rv_shorten.specs.Cutting.{cut_symbol}
 use Rattle.rv_resolve.specs.Chosen.{definer}
-use Rattle.rv_resolve.specs.Names.{kept_of, is_kept}
+use Rattle.rv_resolve.specs.Names.{exported_of, is_kept}
 use Rattle.rv_resolve.proofs.CutsLemmas.{defined_cut}
 use Rattle.rv_resolve.proofs.ExportedLemmas.{global_chosen_at, weak_chosen}
 use Rattle.rv_resolve.proofs.names.Names.is_chosen.Goals as goal
@@ -18,5 +18,5 @@ pub returns-then-is_defined-clause-chosen : goal.returns-then-is_defined-clause-
 returns-then-is_defined-clause-chosen c = λ os o cuts h at there.
     let s = cut_symbol cuts (symbol_of c.args.symbol.now) in
     let defined : is_defined s.definition ≡ true = defined_cut cuts c.args.symbol.now.definition ∙ sym c.is_defined-in-Weak.ensures ∙ c.if-is_defined.true in
-    c.is_named.ensures os h ∙ ap (λ b. b && is_kept c.args.file c.args.index (option_map kept_of (definer os s.name))) (sym defined)
+    c.is_named.ensures os h ∙ ap (λ b. b && is_kept c.args.file c.args.index (option_map exported_of (definer os s.name))) (sym defined)
     ∙ weak_chosen os c.args.file o c.args.index s c.in-Weak.is

@@ -1,7 +1,7 @@
 use Rattle.std.proofs.Common.{◌≡◌, Some, None, map, option_map, ap, sym, ◌∙◌}
 use Rattle.rv_shorten.specs.View.{short_object_of}
 use Rattle.rv_resolve.specs.Chosen.{definer}
-use Rattle.rv_resolve.specs.Names.{kept_of, meant_of}
+use Rattle.rv_resolve.specs.Names.{exported_of, meant_of}
 use Rattle.rv_resolve.proofs.ChosenLemmas.{chosen_at, chosen_none}
 use Rattle.rv_resolve.proofs.RowsLemmas.{answered}
 use Rattle.rv_resolve.proofs.names.Names.meant_outside.Goals as goal
@@ -9,7 +9,7 @@ use Rattle.rv_resolve.proofs.names.Names.meant_outside.Goals as goal
 pub returns-in_err-exported : goal.returns-in_err-exported
 returns-in_err-exported c = λ o s h here there free.
     let os = map short_object_of c.args.objects.now in
-    let none : option_map kept_of (definer os s.name) ≡ None =
+    let none : option_map exported_of (definer os s.name) ≡ None =
     sym (answered os c.args.self.now.meanings c.args.file c.args.index o s h.meanings here there free) ∙ sym c.in_err-exported.ensures in
     c.from_residual.ensures ∙ sym (ap (option_map meant_of) (chosen_none os s.name none))
 
@@ -17,7 +17,7 @@ pub returns : goal.returns
 returns c = λ o s h here there free.
     let os = map short_object_of c.args.objects.now in
     let x = c.in_ok-exported.exported in
-    let found : option_map kept_of (definer os s.name) ≡ Some x =
+    let found : option_map exported_of (definer os s.name) ≡ Some x =
     sym (answered os c.args.self.now.meanings c.args.file c.args.index o s h.meanings here there free) ∙ sym c.in_ok-exported.ensures in
     let at = chosen_at os s.name x found in
     c.defined.ensures at.0 at.2 ∙ sym (ap (option_map meant_of) at.1)

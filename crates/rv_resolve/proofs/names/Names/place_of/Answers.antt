@@ -3,7 +3,7 @@ use Rattle.std.specs.Prelude.{option_and_then, if◌then◌else◌}
 use Rattle.rv_object.specs.View.{object_of}
 use Rattle.rv_object_laws.specs.Names.{Export, is_sure, is_sure_by, place_in, shared_place}
 use Rattle.rv_resolve.specs.Chosen.{definer}
-use Rattle.rv_resolve.specs.Names.{kept_of}
+use Rattle.rv_resolve.specs.Names.{exported_of}
 use Rattle.rv_resolve.proofs.ChosenLemmas.{chosen_at, chosen_none}
 use Rattle.rv_resolve.proofs.RowsLemmas.{answered}
 use Rattle.rv_resolve.proofs.names.Names.place_of.Goals as goal
@@ -19,7 +19,7 @@ returns-in-Some c = λ o s h here there binding same.
     let os = map object_of c.args.objects.now in
     let x = c.in-Some.exported in
     let unsure : is_sure s ≡ false = ap (λ b. is_sure_by b s.definition) binding ∙ ap (is_sure_by c.args.binding) same ∙ sym c.is_sure.ensures.whole ∙ c.if-is_sure.false in
-    let found : option_map kept_of (definer os s.name) ≡ Some x =
+    let found : option_map exported_of (definer os s.name) ≡ Some x =
     sym (answered os c.args.self.now.meanings c.args.file c.args.index o s h.meanings here there unsure) ∙ sym c.at.ensures ∙ c.in-Some.is in
     let at = chosen_at os s.name x found in
     c.place_at.ensures at.0 at.2
@@ -31,7 +31,7 @@ pub returns-in-None : goal.returns-in-None
 returns-in-None c = λ o s h here there binding same.
     let os = map object_of c.args.objects.now in
     let unsure : is_sure s ≡ false = ap (λ b. is_sure_by b s.definition) binding ∙ ap (is_sure_by c.args.binding) same ∙ sym c.is_sure.ensures.whole ∙ c.if-is_sure.false in
-    let none : option_map kept_of (definer os s.name) ≡ None =
+    let none : option_map exported_of (definer os s.name) ≡ None =
     sym (answered os c.args.self.now.meanings c.args.file c.args.index o s h.meanings here there unsure) ∙ sym c.at.ensures ∙ c.in-None.is in
     sym
     (ap (λ b. if b then place_in (c.args.file + 1) s.definition else shared_place os s.name) unsure

@@ -3,7 +3,7 @@ use Rattle.std.specs.List.{slice_get}
 use Rattle.rv_object.specs.Object.{Object}
 use Rattle.rv_object_laws.specs.Names.{defined_address}
 use Rattle.rv_placement.specs.Placement.{starts_of}
-use Rattle.rv_shorten.specs.View.{moves_of, short_object_of}
+use Rattle.rv_shorten.specs.View.{moves_by_section, short_object_of}
 use Rattle.rv_resolve.specs.Moved.{moved_in}
 use Rattle.rv_resolve.specs.Shown.{is_chosen_at, listed}
 use Rattle.rv_resolve.proofs.AddingLemmas.{none_shown, one_shown}
@@ -21,7 +21,7 @@ returns-then-not-is_chosen-clause-shown c = λ start o s h stands at there.
     symbol_is x c.deref.result.now c.args.index c.deref.ensures.value c.in_ok-symbol.symbol.now s found.3.0 found.1 (ap (λ (p : Object). slice_get p.symbols c.args.index) same ∙ there) in
     let moved : slice_get o.symbols c.args.index ≡ Some (moved_in x c.in_ok-symbol.symbol.now) = there ∙ ap Some (sym one) in
     let other : is_chosen_at os c.args.file o c.args.index s ≡ false =
-    ap (is_chosen_at os c.args.file o c.args.index) (sym one) ∙ sym (c.is_chosen.ensures.chosen os o (moves_of x) h at moved) ∙ c.if-not-is_chosen.true in
+    ap (is_chosen_at os c.args.file o c.args.index) (sym one) ∙ sym (c.is_chosen.ensures.chosen os o (moves_by_section x) h at moved) ∙ c.if-not-is_chosen.true in
     sym (none_shown os c.args.placement.now c.args.file o c.args.index s other)
 
 pub returns-in_err-address-clause-shown : goal.returns-in_err-address-clause-shown
@@ -36,7 +36,7 @@ returns-in_err-address-clause-shown c = λ start o s h stands at there.
     let one : own ≡ s =
     symbol_is x c.deref.result.now c.args.index c.deref.ensures.value c.in_ok-symbol.symbol.now s found.3.0 found.1 (ap (λ (p : Object). slice_get p.symbols c.args.index) same ∙ there) in
     let moved : slice_get o.symbols c.args.index ≡ Some own = there ∙ ap Some (sym one) in
-    let it : is_chosen_at os c.args.file o c.args.index own ≡ true = sym (c.is_chosen.ensures.chosen os o (moves_of x) h at moved) ∙ c.if-not-is_chosen.false in
+    let it : is_chosen_at os c.args.file o c.args.index own ≡ true = sym (c.is_chosen.ensures.chosen os o (moves_by_section x) h at moved) ∙ c.if-not-is_chosen.false in
     let address : None ≡ defined_address (starts_of p (c.args.file + 1)) o own.definition =
     c.in_err-address.ensures start o stands at ∙ ap (defined_address (starts_of p (c.args.file + 1)) o) c.definition-definition.ensures in
     ap listed c.from_residual-in_err-address.ensures ∙ one_shown os p c.args.file o c.args.index own s None it address one
@@ -53,7 +53,7 @@ returns-clause-shown c = λ start o s h stands at there.
     let one : own ≡ s =
     symbol_is x c.deref.result.now c.args.index c.deref.ensures.value c.in_ok-symbol.symbol.now s found.3.0 found.1 (ap (λ (p : Object). slice_get p.symbols c.args.index) same ∙ there) in
     let moved : slice_get o.symbols c.args.index ≡ Some own = there ∙ ap Some (sym one) in
-    let it : is_chosen_at os c.args.file o c.args.index own ≡ true = sym (c.is_chosen.ensures.chosen os o (moves_of x) h at moved) ∙ c.if-not-is_chosen.false in
+    let it : is_chosen_at os c.args.file o c.args.index own ≡ true = sym (c.is_chosen.ensures.chosen os o (moves_by_section x) h at moved) ∙ c.if-not-is_chosen.false in
     let address : Some c.in_ok-address.address ≡ defined_address (starts_of p (c.args.file + 1)) o own.definition =
     c.in_ok-address.ensures start o stands at ∙ ap (defined_address (starts_of p (c.args.file + 1)) o) c.definition-definition.ensures in
     one_shown os p c.args.file o c.args.index own s (Some c.in_ok-address.address) it address one

@@ -3,7 +3,7 @@ use Rattle.std.proofs.lemmas.List.{at_drop_all}
 use Rattle.rv_object.specs.Object.{Object}
 use Rattle.rv_object_laws.specs.Names.{outer_address}
 use Rattle.rv_shorten.specs.View.{short_object_of}
-use Rattle.rv_resolve.specs.Names.{bytes_of}
+use Rattle.rv_resolve.specs.Names.{name_bytes}
 use Rattle.rv_resolve.specs.Undefined.{first_some, undefined_in, first_undefined}
 use Rattle.rv_resolve.specs.Resolved.{AreResolved}
 use Rattle.rv_resolve.proofs.FirstSomeLemmas.{none_here, one_here}
@@ -19,7 +19,7 @@ loop-file-preserved c = λ h.
     let is = c.index-objects-file.is in
     let inside : i < length xs = search rules in
     none_here (λ (o : Object). first_some (undefined_in (map short_object_of xs) o) o.sections) short_object_of xs i x inside is
-    (sym (c.undefined_in.ensures h (there short_object_of xs i x inside is)) ∙ ap (option_map bytes_of) c.in-None.is)
+    (sym (c.undefined_in.ensures h (there short_object_of xs i x inside is)) ∙ ap (option_map name_bytes) c.in-None.is)
     ∙ c.loop-file.invariant h
 
 pub returns-in-Some-clause-first : goal.returns-in-Some-clause-first
@@ -30,7 +30,7 @@ returns-in-Some-clause-first c = λ h.
     let is = c.index-objects-file.is in
     let inside : i < length xs = search rules in
     one_here (λ (o : Object). first_some (undefined_in (map short_object_of xs) o) o.sections) short_object_of xs i x _ inside is
-    (sym (c.undefined_in.ensures h (there short_object_of xs i x inside is)) ∙ ap (option_map bytes_of) c.in-Some.is)
+    (sym (c.undefined_in.ensures h (there short_object_of xs i x inside is)) ∙ ap (option_map name_bytes) c.in-Some.is)
     ∙ c.loop-file.invariant h
 
 pub returns-clause-resolved : goal.returns-clause-resolved

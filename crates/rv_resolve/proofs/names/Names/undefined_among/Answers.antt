@@ -5,7 +5,7 @@ use Rattle.rv_object.specs.declared.relocation.Relocation.{Relocation as Declare
 use Rattle.rv_object.specs.Object.{Relocation}
 use Rattle.rv_object.specs.Parts.{relocation_of}
 use Rattle.rv_shorten.specs.View.{short_object_of}
-use Rattle.rv_resolve.specs.Names.{bytes_of}
+use Rattle.rv_resolve.specs.Names.{name_bytes}
 use Rattle.rv_resolve.specs.Undefined.{undefined_name}
 use Rattle.rv_resolve.proofs.FirstSomeLemmas.{none_here, one_here}
 use Rattle.rv_resolve.proofs.names.Names.undefined_among.Goals as goal
@@ -20,7 +20,7 @@ loop-relocation-preserved c = λ h at.
     let inside : i < length xs = search rules in
     none_here (λ (r : Relocation). undefined_name (map short_object_of c.args.objects.now) (short_object_of c.args.object.now) r.symbol) relocation_of xs i (get_or xs i no_relocation) inside
     (get_or_default xs i no_relocation (get_or xs i no_relocation) inside)
-    (sym (c.undefined_name.ensures h at) ∙ ap (option_map bytes_of) c.in-None.is)
+    (sym (c.undefined_name.ensures h at) ∙ ap (option_map name_bytes) c.in-None.is)
     ∙ c.loop-relocation.invariant h at
 
 pub returns-in-Some : goal.returns-in-Some
@@ -30,5 +30,5 @@ returns-in-Some c = λ h at.
     let inside : i < length xs = search rules in
     one_here (λ (r : Relocation). undefined_name (map short_object_of c.args.objects.now) (short_object_of c.args.object.now) r.symbol) relocation_of xs i (get_or xs i no_relocation) _ inside
     (get_or_default xs i no_relocation (get_or xs i no_relocation) inside)
-    (sym (c.undefined_name.ensures h at) ∙ ap (option_map bytes_of) c.in-Some.is)
+    (sym (c.undefined_name.ensures h at) ∙ ap (option_map name_bytes) c.in-Some.is)
     ∙ c.loop-relocation.invariant h at

@@ -4,7 +4,7 @@ use Rattle.rv_object.specs.Object.{Relocation}
 use Rattle.rv_object.specs.Parts.{relocation_of}
 use Rattle.rv_shorten.specs.Sections.{moves_in, short_section_of}
 use Rattle.rv_shorten.specs.View.{short_object_of}
-use Rattle.rv_resolve.specs.Names.{bytes_of}
+use Rattle.rv_resolve.specs.Names.{name_bytes}
 use Rattle.rv_resolve.specs.Undefined.{first_some, undefined_in, undefined_name}
 use Rattle.rv_resolve.proofs.CutsLemmas.{same_symbols}
 use Rattle.rv_resolve.proofs.FirstSomeLemmas.{none_here, one_here}
@@ -24,7 +24,7 @@ loop-section-preserved c = λ h at.
     let none : undefined_in os o (short_section_of x) ≡ None =
     ap (λ b. if b then one (short_section_of x).relocations else None) c.if-not-section.false
     ∙ same_symbols (undefined_name os o) (moves_in x) (map relocation_of x.whole.now.relocations.items)
-    ∙ sym found ∙ sym (c.undefined_among.ensures h at) ∙ ap (option_map bytes_of) c.in-None.is in
+    ∙ sym found ∙ sym (c.undefined_among.ensures h at) ∙ ap (option_map name_bytes) c.in-None.is in
     none_here (undefined_in os o) short_section_of xs i x inside (c.section-item.is ∙ ap (λ l. get_or l i x) same) none ∙ c.loop-section.invariant h at
 
 pub returns-in-Some : goal.returns-in-Some
@@ -41,5 +41,5 @@ returns-in-Some c = λ h at.
     let some : undefined_in os o (short_section_of x) ≡ Some c.in-Some.name.now =
     ap (λ b. if b then one (short_section_of x).relocations else None) c.if-not-section.false
     ∙ same_symbols (undefined_name os o) (moves_in x) (map relocation_of x.whole.now.relocations.items)
-    ∙ sym found ∙ sym (c.undefined_among.ensures h at) ∙ ap (option_map bytes_of) c.in-Some.is in
+    ∙ sym found ∙ sym (c.undefined_among.ensures h at) ∙ ap (option_map name_bytes) c.in-Some.is in
     one_here (undefined_in os o) short_section_of xs i x _ inside (c.section-item.is ∙ ap (λ l. get_or l i x) same) some ∙ c.loop-section.invariant h at

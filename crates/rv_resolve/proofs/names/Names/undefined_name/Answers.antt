@@ -1,7 +1,7 @@
 use Rattle.std.proofs.Common.{◌≡◌, true, false, Some, None, map, rules, ap, sym, ◌∙◌}
 use Rattle.std.specs.Prelude.{if◌then◌else◌}
 use Rattle.std.specs.List.{slice_get}
-use Rattle.rv_shorten.specs.View.{moves_of, short_object_of}
+use Rattle.rv_shorten.specs.View.{moves_by_section, short_object_of}
 use Rattle.rv_resolve.specs.Moved.{moved_in}
 use Rattle.rv_resolve.specs.Undefined.{is_resolved, undefined_name, undefined_symbol}
 use Rattle.rv_resolve.proofs.CutsLemmas.{symbol_there, symbol_past}
@@ -17,7 +17,7 @@ returns-then-is_resolved c = λ h at.
     let is : c.args.relocation.now.symbol ≡ Some i = search rules in
     let found = c.in-Some.ensures.lookup in
     let there : slice_get o.symbols i ≡ Some s = symbol_there x c.deref.result.now i c.deref.ensures.value c.in-Some.symbol.now found.3.0 found.1 in
-    let resolved : is_resolved os o s ≡ true = sym (c.is_resolved.ensures o (moves_of x) h at there) ∙ c.if-is_resolved.true in
+    let resolved : is_resolved os o s ≡ true = sym (c.is_resolved.ensures o (moves_by_section x) h at there) ∙ c.if-is_resolved.true in
     sym (ap (undefined_name os o) is ∙ ap (undefined_symbol os o) there ∙ ap (λ b. if b then None else Some s.name) resolved)
 
 pub returns-else-is_resolved : goal.returns-else-is_resolved
@@ -30,7 +30,7 @@ returns-else-is_resolved c = λ h at.
     let is : c.args.relocation.now.symbol ≡ Some i = search rules in
     let found = c.in-Some.ensures.lookup in
     let there : slice_get o.symbols i ≡ Some s = symbol_there x c.deref.result.now i c.deref.ensures.value c.in-Some.symbol.now found.3.0 found.1 in
-    let resolved : is_resolved os o s ≡ false = sym (c.is_resolved.ensures o (moves_of x) h at there) ∙ c.if-is_resolved.false in
+    let resolved : is_resolved os o s ≡ false = sym (c.is_resolved.ensures o (moves_by_section x) h at there) ∙ c.if-is_resolved.false in
     sym (ap (undefined_name os o) is ∙ ap (undefined_symbol os o) there ∙ ap (λ b. if b then None else Some s.name) resolved)
 
 pub returns-in-None : goal.returns-in-None

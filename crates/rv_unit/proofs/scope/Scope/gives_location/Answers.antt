@@ -22,7 +22,7 @@ returns-in-Some c = λ i f s at.
     let here = c.stands-here.ensures ∙ ap (λ (x : laws.Tables). laws.stands (laws.opened_of x) p) f.tables ∙ past_here ss i p s.within inside in
     let gives = c.assigned.ensures.value means e here (c.past_value-value.ensures i f s.within s.ordinal inside) in
     c.is_location.ensures ∙ ap (λ g. laws.gives_location (option_map assignment_of g)) (sym c.in-Some.is)
-    ∙ ap laws.gives_location (gives ∙ ap (λ n. laws.assigned c.args.assignment.now.name.now n (laws.value t false (i + 1) p e)) s.ordinal ∙ ap (λ q. laws.assigned c.args.assignment.now.name.now (i + 1) (laws.value t false (i + 1) q e)) at)
+    ∙ ap laws.gives_location (gives ∙ ap (λ n. laws.assigned c.args.assignment.now.name.now n (laws.value_by_tables t false (i + 1) p e)) s.ordinal ∙ ap (λ q. laws.assigned c.args.assignment.now.name.now (i + 1) (laws.value_by_tables t false (i + 1) q e)) at)
 
 pub returns-in-None : goal.returns-in-None
 returns-in-None c = λ i f s at.
@@ -36,4 +36,4 @@ returns-in-None c = λ i f s at.
     let here = c.stands-here.ensures ∙ ap (λ (x : laws.Tables). laws.stands (laws.opened_of x) p) f.tables ∙ past_here ss i p s.within inside in
     let gives = c.assigned.ensures.value means e here (c.past_value-value.ensures i f s.within s.ordinal inside) in
     ap (λ g. laws.gives_location (option_map assignment_of g)) (sym c.in-None.is)
-    ∙ ap laws.gives_location (gives ∙ ap (λ n. laws.assigned c.args.assignment.now.name.now n (laws.value t false (i + 1) p e)) s.ordinal ∙ ap (λ q. laws.assigned c.args.assignment.now.name.now (i + 1) (laws.value t false (i + 1) q e)) at)
+    ∙ ap laws.gives_location (gives ∙ ap (λ n. laws.assigned c.args.assignment.now.name.now n (laws.value_by_tables t false (i + 1) p e)) s.ordinal ∙ ap (λ q. laws.assigned c.args.assignment.now.name.now (i + 1) (laws.value_by_tables t false (i + 1) q e)) at)

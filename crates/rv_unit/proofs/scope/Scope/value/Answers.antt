@@ -11,10 +11,10 @@ pub returns-in-Number : goal.returns-in-Number
 returns-in-Number c = λ i f s.
     let t = laws.tables (said c.args.self.now.unit.now) in
     let p = offset_of c.args.place in
-    ap (λ e. laws.value t true (i + 1) p (tree_of_expr e)) c.in-Number.is ∙ lone_value (λ q. laws.meaning t true (i + 1) p q) (Literal c.in-Number.number)
+    ap (λ e. laws.value_by_tables t true (i + 1) p (tree_of_expr e)) c.in-Number.is ∙ lone_value (λ q. laws.meaning t true (i + 1) p q) (Literal c.in-Number.number)
 
 pub returns-in-Negative : goal.returns-in-Negative
 returns-in-Negative c = λ i f s.
     let t = laws.tables (said c.args.self.now.unit.now) in
     let p = offset_of c.args.place in
-    ap (λ e. laws.value t true (i + 1) p (tree_of_expr e)) c.in-Negative.is ∙ negative_value (λ q. laws.meaning t true (i + 1) p q) c.in-Negative.number
+    ap (λ e. laws.value_by_tables t true (i + 1) p (tree_of_expr e)) c.in-Negative.is ∙ negative_value (λ q. laws.meaning t true (i + 1) p q) c.in-Negative.number

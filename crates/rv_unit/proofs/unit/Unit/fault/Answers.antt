@@ -6,7 +6,7 @@ use Rattle.rv_statement.specs.declared.statement.Opening.{Opening}
 use Rattle.rv_statement.specs.View.{now_of, quoted, opening_of, statement_kind, operand_in}
 use Rattle.rv_statement.specs.Statement.{Applied, Directs, Enters}
 use Rattle.rv_unit_laws.specs.Faults as faults
-use Rattle.rv_unit_laws.specs.Sections.{section_of}
+use Rattle.rv_unit_laws.specs.Sections.{section_with}
 use Rattle.rv_unit_laws.specs.Tables as laws
 use Rattle.rv_unit_laws.proofs.OpenedLemmas.{after_opened}
 use Rattle.rv_lexer.specs.Fault.{IsLowest}
@@ -104,9 +104,9 @@ returns-in-Opens c = λ i at depth.
     let o = box_value c.in-Opens.opening in
     let is =
     c.of.ensures
-    ∙ ap (λ (x : Opening). section_of x.name.now (option_map quoted c.deref-in-Opens.result.now.flags) (option_map now_of c.deref-in-Opens-2.result.now.kind)) c.deref.ensures
-    ∙ ap (λ (x : Opening). section_of o.name.now (option_map quoted x.flags) (option_map now_of c.deref-in-Opens-2.result.now.kind)) c.deref-in-Opens.ensures
-    ∙ ap (λ (x : Opening). section_of o.name.now (option_map quoted o.flags) (option_map now_of x.kind)) c.deref-in-Opens-2.ensures in
+    ∙ ap (λ (x : Opening). section_with x.name.now (option_map quoted c.deref-in-Opens.result.now.flags) (option_map now_of c.deref-in-Opens-2.result.now.kind)) c.deref.ensures
+    ∙ ap (λ (x : Opening). section_with o.name.now (option_map quoted x.flags) (option_map now_of c.deref-in-Opens-2.result.now.kind)) c.deref-in-Opens.ensures
+    ∙ ap (λ (x : Opening). section_with o.name.now (option_map quoted o.flags) (option_map now_of x.kind)) c.deref-in-Opens-2.ensures in
     let opened = ap (λ (w : laws.Tables). laws.opened_of w) now.more ∙ after_opened t (i + 1) (Directs (opening_of o)) in
     subst (λ k. IsLowest c.fault_of_section-in-Opens.result (faults.faults all t (i + 1) (statement_kind k))) (sym k)
     (subst (λ x. IsLowest c.fault_of_section-in-Opens.result (faults.section_faults (laws.opened_of t).sections (Some x))) is

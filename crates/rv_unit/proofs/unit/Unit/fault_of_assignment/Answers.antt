@@ -24,5 +24,5 @@ returns c = λ i at.
     let defined = c.is_defined_before.ensures at.filled.indexed (1 + length (said u)) whole (whole_apart u at.filled) ∙ at_defined u i c.args.ordinal c.args.place kind name at in
     let placed = c.has_location_before.ensures at.filled.indexed (1 + length (said u)) whole ∙ at_location u i c.args.ordinal c.args.place kind name at in
     let found = c.set_fault.ensures t (i + 1) name defined placed 0 _ (c.early_value-value.ensures (i + 1) at.filled at.ordinal) in
-    subst (λ k. IsLowest c.set_fault.result (faults.set_faults t (i + 1) k name (laws.value all false (i + 1) (laws.here t) e))) (c.section_at.ensures ∙ at_home u i c.args.ordinal c.args.place kind at refl)
-    (subst (λ q. IsLowest c.set_fault.result (faults.set_faults t (i + 1) (section_of c.section_at.result) name (laws.value all false (i + 1) q e))) (at_here u i c.args.ordinal c.args.place kind at refl) found)
+    subst (λ k. IsLowest c.set_fault.result (faults.set_faults t (i + 1) k name (laws.value_by_tables all false (i + 1) (laws.here t) e))) (c.section_at.ensures ∙ at_home u i c.args.ordinal c.args.place kind at refl)
+    (subst (λ q. IsLowest c.set_fault.result (faults.set_faults t (i + 1) (section_of c.section_at.result) name (laws.value_by_tables all false (i + 1) q e))) (at_here u i c.args.ordinal c.args.place kind at refl) found)

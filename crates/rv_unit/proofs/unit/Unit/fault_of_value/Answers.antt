@@ -1,5 +1,5 @@
 use Rattle.std.proofs.Common.{sym, ap, subst, true}
-use Rattle.rv_statement.specs.View.{bytes_of}
+use Rattle.rv_statement.specs.View.{width_bytes}
 use Rattle.rv_text_laws.specs.Codes.{lowest}
 use Rattle.rv_text.specs.Expr.{tree_of_expr}
 use Rattle.rv_unit_laws.specs.Faults as faults
@@ -10,9 +10,9 @@ use Rattle.rv_unit.specs.Unit.{said}
 use Rattle.rv_unit.proofs.unit.Unit.fault_of_value.Goals as goal
 
 pub returns-then-is_faultless : goal.returns-then-is_faultless
-returns-then-is_faultless c = λ o f at. sym (ap lowest (c.is_faultless.ensures (bytes_of c.args.width) o (offset_of c.args.place) f c.if-is_faultless.true))
+returns-then-is_faultless c = λ o f at. sym (ap lowest (c.is_faultless.ensures (width_bytes c.args.width) o (offset_of c.args.place) f c.if-is_faultless.true))
 
 pub returns : goal.returns
 returns c = λ o f at.
-    subst (λ w. IsLowest c.value_fault.result (faults.value_faults w (laws.value (laws.tables (said c.args.self.now)) true o (offset_of c.args.place) (tree_of_expr c.args.value.now)))) c.width_in_bytes.ensures
+    subst (λ w. IsLowest c.value_fault.result (faults.value_faults w (laws.value_by_tables (laws.tables (said c.args.self.now)) true o (offset_of c.args.place) (tree_of_expr c.args.value.now)))) c.width_in_bytes.ensures
     (c.value_fault.ensures 0 _ (c.value-found.ensures o f at))

@@ -3,7 +3,7 @@ use Rattle.std.proofs.lemmas.List.{length-map}
 use Rattle.std.specs.Prelude.{flat_map}
 use Rattle.rv_text.specs.Expr.{tree_of_expr}
 use Rattle.rv_statement.specs.Statement.{StatementKind, Directs, Values}
-use Rattle.rv_statement.specs.View.{bytes_of}
+use Rattle.rv_statement.specs.View.{width_bytes}
 use Rattle.rv_unit_laws.specs.Sections.{current_section}
 use Rattle.rv_unit_laws.specs.Faults as faults
 use Rattle.rv_unit_laws.specs.Tables as laws
@@ -18,10 +18,10 @@ returns c = λ i at.
     let u = c.args.self.now in
     let t = passed (said u) i in
     let r = c.data_fault.result in
-    let w = bytes_of c.args.width in
+    let w = width_bytes c.args.width in
     let xs = c.args.values.now in
     let kind : StatementKind = Directs (Values w (map tree_of_expr xs)) in
-    let each : laws.SectionOffset → List ℕ = λ q. flat_map (λ e. faults.value_faults w (laws.value (laws.tables (said u)) true (i + 1) q e)) (map tree_of_expr xs) in
+    let each : laws.SectionOffset → List ℕ = λ q. flat_map (λ e. faults.value_faults w (laws.value_by_tables (laws.tables (said u)) true (i + 1) q e)) (map tree_of_expr xs) in
     let section = current_section (laws.opened_of t) in
     let offset = (laws.here t).offset in
     let here = at_here u i c.args.ordinal c.args.place kind at refl in

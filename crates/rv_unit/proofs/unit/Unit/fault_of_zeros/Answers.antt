@@ -16,7 +16,7 @@ returns c = λ i at.
     let t = passed (said u) i in
     let e = tree_of_expr c.args.count.now in
     let kind : StatementKind = Directs (Zeros e) in
-    let worth : laws.SectionOffset → Value = λ q. laws.value (laws.tables (said u)) false (i + 1) q e in
+    let worth : laws.SectionOffset → Value = λ q. laws.value_by_tables (laws.tables (said u)) false (i + 1) q e in
     let found = c.zero_fault.ensures 0 _ (c.early_value-value.ensures (i + 1) at.filled at.ordinal) in
     subst (λ k. IsLowest c.zero_fault.result (faults.zero_faults k (laws.here t).offset (worth (laws.here t)))) (c.section_at.ensures ∙ at_home u i c.args.ordinal c.args.place kind at refl)
     (subst (λ (q : laws.SectionOffset). IsLowest c.zero_fault.result (faults.zero_faults (section_of c.section_at.result) q.offset (worth q))) (at_here u i c.args.ordinal c.args.place kind at refl) found)

@@ -1,7 +1,7 @@
 use Rattle.std.proofs.Common.{◌≡◌, ◌+◌, ◌<◌, ◌≤◌, ap, sym, subst, ◌∙◌, length, get_or, arith, Some, None}
 use Rattle.std.specs.Prelude.{slice_get, slice_index_or}
 use Rattle.std.proofs.lemmas.List.{drop_all}
-use Rattle.rv_lexer.specs.Fault.{number_of}
+use Rattle.rv_lexer.specs.Fault.{source_fault_number}
 use Rattle.rv_statement.specs.Statements.{statements_of}
 use Rattle.rv_statement.specs.View.{statement_of}
 use Rattle.rv_unit_laws.specs.Faults as faults
@@ -43,7 +43,7 @@ returns-in-Some c =
     let first : IsStatementOf u i (i + 1) p x.kind = is_at u i x p (record { section = 0; offset = 0 }) c.requires listed (ap (λ l. get_or l i (record { section = 0; offset = 0 })) c.places-places.ensures) in
     let at : IsStatementOf u i c.ordinal_of.result p x.kind = subst (λ o. IsStatementOf u i o p x.kind) (sym c.ordinal_of.ensures) first in
     let found = c.fault.ensures i at c.loop-index.invariant.0 in
-    sym (check_found ss i (number_of c.in-Some.code) x (drop_listed ss i x listed) (check_lowest ss i x c.fault.result (Some c.in-Some.code) found c.in-Some.is))
+    sym (check_found ss i (source_fault_number c.in-Some.code) x (drop_listed ss i x listed) (check_lowest ss i x c.fault.result (Some c.in-Some.code) found c.in-Some.is))
     ∙ c.loop-index.invariant.2 ∙ sym (first_of_few ss u.few)
 
 pub loop-index-preserved : goal.loop-index-preserved

@@ -10,9 +10,9 @@ use Rattle.rv_unit.proofs.unit.Unit.is_faultless.Goals as goal
 pub returns-in-Number : goal.returns-in-Number
 returns-in-Number c = λ width o p f h.
     let t = laws.tables (said c.args.self.now) in
-    ap (value_faults width) (ap (λ e. laws.value t true o p (tree_of_expr e)) c.in-Number.is ∙ lone_value (λ q. laws.meaning t true o p q) (Literal c.in-Number.field-0))
+    ap (value_faults width) (ap (λ e. laws.value_by_tables t true o p (tree_of_expr e)) c.in-Number.is ∙ lone_value (λ q. laws.meaning t true o p q) (Literal c.in-Number.field-0))
 
 pub returns-in-Negative : goal.returns-in-Negative
 returns-in-Negative c = λ width o p f h.
     let t = laws.tables (said c.args.self.now) in
-    ap (value_faults width) (ap (λ e. laws.value t true o p (tree_of_expr e)) c.in-Negative.is ∙ negative_value (λ q. laws.meaning t true o p q) c.in-Negative.field-0)
+    ap (value_faults width) (ap (λ e. laws.value_by_tables t true o p (tree_of_expr e)) c.in-Negative.is ∙ negative_value (λ q. laws.meaning t true o p q) c.in-Negative.field-0)

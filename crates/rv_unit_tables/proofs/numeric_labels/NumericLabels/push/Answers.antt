@@ -1,6 +1,6 @@
 use Rattle.std.proofs.Common.{true, ◌≡◌, ◌∙◌, ◌<◌, ◌^◌, ◌++◌, [], ◌∷◌, length, ap, sym, subst, rules}
 use Rattle.std.specs.Prelude.{reverse}
-use Rattle.rv_unit_tables.specs.NumericLabels.{are_runs, place_at, labels_from}
+use Rattle.rv_unit_tables.specs.NumericLabels.{are_runs, place_by_runs, labels_from}
 use Rattle.rv_unit_tables.proofs.RunsLemmas.{count_labels, labels_added}
 use Rattle.rv_unit_tables.proofs.numeric_labels.NumericLabels.push.Goals as goal
 
@@ -15,6 +15,6 @@ returns-clause-ok c = λ few.
     ap (labels_from new 0) pushed
     ∙ labels_added new old os c.args.label
     (λ i inside. c.in_ok-add_place.ensures.others i (subst (λ n. i < n) (sym index) inside))
-    (subst (λ n. place_at new n ≡ c.args.label.place) index
+    (subst (λ n. place_by_runs new n ≡ c.args.label.place) index
     (c.in_ok-add_place.ensures.place (subst (λ n. are_runs old n ≡ true) (sym index) c.self.invariant) (subst (λ n. n < 2 ^ 32) (count ∙ sym index) few)))
     ∙ ap (λ l. l ++ c.args.label ∷ []) c.self.view_is

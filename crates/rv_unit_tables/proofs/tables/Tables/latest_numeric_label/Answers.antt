@@ -1,7 +1,7 @@
 use Rattle.std.proofs.Common.{◌∙◌, ◌-◌, ◌==◌, ap, [], length, option_map}
 use Rattle.std.specs.Prelude.{slice_get, unwrap_or}
 use Rattle.std.specs.Option.{option_copied}
-use Rattle.rv_text_laws.specs.Bytes.{value}
+use Rattle.rv_text_laws.specs.Bytes.{digits_value}
 use Rattle.rv_unit_laws.specs.Tables as laws
 use Rattle.rv_unit_tables.specs.Tables.{numbered_at, numeric_label_at, numeric_labels_in}
 use Rattle.rv_unit_tables.proofs.NumberedLemmas.{latest_kept, numbered_with}
@@ -9,7 +9,7 @@ use Rattle.rv_unit_tables.proofs.tables.Tables.latest_numeric_label.Goals as goa
 
 pub returns-in-Some : goal.returns-in-Some
 returns-in-Some c = λ i.
-    let n = value 10 c.args.digits.now in
+    let n = digits_value 10 c.args.digits.now in
     let b = c.args.self.now in
     let kept = numbered_with c.get.result _ c.in-Some.numeric_labels.now c.get.ensures.value (ap (λ o. unwrap_or (option_copied o) []) c.in-Some.is) in
     ap (option_map (numeric_label_at n)) (c.last.ensures ∙ ap (λ l. slice_get l (length l - 1)) kept)
@@ -17,7 +17,7 @@ returns-in-Some c = λ i.
 
 pub returns-in-None : goal.returns-in-None
 returns-in-None c = λ i.
-    let n = value 10 c.args.digits.now in
+    let n = digits_value 10 c.args.digits.now in
     let b = c.args.self.now in
     let kept = numbered_with c.get.result _ [] c.get.ensures.value (ap (λ o. unwrap_or (option_copied o) []) c.in-None.is) in
     ap (λ l. option_map (numeric_label_at n) (slice_get l (length l - 1))) kept

@@ -5,7 +5,7 @@ use Rattle.std.specs.Option.{option_map_or}
 use Rattle.std.specs.Map.{lookup}
 use Rattle.std.specs.Str.{bytes_eq}
 use Rattle.indexmap.specs.IndexMap.{insert_entry}
-use Rattle.rv_text_laws.specs.Bytes.{value}
+use Rattle.rv_text_laws.specs.Bytes.{digits_value}
 use Rattle.rv_statement.specs.declared.directive.Binding.TheVariants.{Local}
 use Rattle.rv_unit_laws.specs.Bindings.{is_weak}
 use Rattle.rv_unit_laws.specs.Tables as laws
@@ -27,6 +27,6 @@ returns-clause-indexed c = record {
   assignments = λ name. ap (λ es. option_map_or (λ v. v.items) (lookup (λ (k : Bor (List _)). bytes_eq name k.now) es) []) c.new-4.ensures.empty ∙ sym (ap (filter (λ (g : Assignment). bytes_eq g.name.now name)) c.new-3.ensures.items);
   weak = λ name none. ap (λ es. is_weak (unwrap_or (lookup (λ (k : Bor (List _)). bytes_eq name k.now) es) Local)) c.new-6.ensures.empty;
   numbered = λ digits.
-      ap (λ es. reverse (map (numeric_label_at (value 10 digits)) (unwrap_or (lookup (λ (k : Number). value 10 digits == value 10 k.digits.now) es) []))) c.new-2.ensures.empty
-      ∙ sym (ap (λ es. filter (λ (m : NumericLabel). m.number == value 10 digits) (numeric_labels_in es)) c.new-2.ensures.empty);
+      ap (λ es. reverse (map (numeric_label_at (digits_value 10 digits)) (unwrap_or (lookup (λ (k : Number). digits_value 10 digits == digits_value 10 k.digits.now) es) []))) c.new-2.ensures.empty
+      ∙ sym (ap (λ es. filter (λ (m : NumericLabel). m.number == digits_value 10 digits) (numeric_labels_in es)) c.new-2.ensures.empty);
 }

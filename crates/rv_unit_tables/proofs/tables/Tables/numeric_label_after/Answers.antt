@@ -3,7 +3,7 @@ use Rattle.std.specs.List.{find}
 use Rattle.std.specs.List.Sorted.{IsNonDecreasingBy}
 use Rattle.std.specs.Prelude.{unwrap_or}
 use Rattle.std.specs.Option.{option_copied}
-use Rattle.rv_text_laws.specs.Bytes.{value}
+use Rattle.rv_text_laws.specs.Bytes.{digits_value}
 use Rattle.rv_unit_laws.specs.Tables as laws
 use Rattle.rv_unit_tables.specs.declared.tables.NumericLabel.{NumericLabel}
 use Rattle.rv_unit_tables.specs.Tables.{numbered_at, numeric_label_at, numeric_labels_in}
@@ -12,7 +12,7 @@ use Rattle.rv_unit_tables.proofs.tables.Tables.numeric_label_after.Goals as goal
 
 pub returns-in-Some : goal.returns-in-Some
 returns-in-Some c = λ i o h.
-    let n = value 10 c.args.digits.now in
+    let n = digits_value 10 c.args.digits.now in
     let b = c.args.self.now in
     let q = λ (m : laws.NumericLabel). m.number == n in
     let found = numbered_at b.numbered n in
@@ -26,7 +26,7 @@ returns-in-Some c = λ i o h.
 
 pub returns-in-None : goal.returns-in-None
 returns-in-None c = λ i o h.
-    let n = value 10 c.args.digits.now in
+    let n = digits_value 10 c.args.digits.now in
     let b = c.args.self.now in
     let q = λ (m : laws.NumericLabel). m.number == n in
     let found = numbered_at b.numbered n in
