@@ -6,9 +6,8 @@ ghost use Rattle.std.specs.Prelude.{◌≡◌, ◌++◌, ◌^◌, ◌<◌, true,
 ghost use Rattle.rv_object.specs.Valid.{is_counted, are_counted};
 ghost use Rattle.rv_assemble.specs.Making.{item_row, item_rows, rows_from};
 
-use rv_draft::give_back;
 use rv_object::Row;
-use rv_unit::Item;
+use rv_unit::{Item, give_back};
 use std::alloc::{AllocError, Global};
 
 /// The rows of statements: of each that is shown, with its ordinal, from 1. The items go as their

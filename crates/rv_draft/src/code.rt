@@ -436,7 +436,7 @@ pub(crate) fn code(
         let executable = extent.section.executable;
         let wanted = layout.size(index);
         coder.add(
-            (&*statements).read(index, &mut room),
+            statements.read(index, &mut room),
             &scope,
             place,
             executable,

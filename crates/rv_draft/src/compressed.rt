@@ -58,7 +58,7 @@ pub(crate) fn has_compressed(unit: &Unit<'_>) -> bool
     let extents = unit.sections();
     let mut room = Statements::room();
     for index in 0..statements.len() {
-        let statement = (&*statements).read(index, &mut room);
+        let statement = statements.read(index, &mut room);
         let place = places[index];
         let extent = extent_at(extents, place.section);
         let compressed = unit.options_at(index).rvc();

@@ -539,7 +539,7 @@ pub(crate) fn data<'a>(
             &mut fields,
             unit,
             index,
-            (&*statements).read(index, &mut room),
+            statements.read(index, &mut room),
             &scope,
             items,
         )?;

@@ -19,15 +19,14 @@ ghost use Rattle.rv_instruction.specs.Scoped.{values_at, is_placed_at, AtNext, S
 ghost use Rattle.rv_draft.specs.Sized.{AreSized, bytes_of_sizes};
 ghost use Rattle.rv_draft.specs.Measured.{CanCount, PadsIn, CanPadIn, AlignsIn, CanAlignIn, IsSizeIn, CanSizeIn, HasRoomIn, IsSizedIn};
 
-use crate::blocks::give_back;
 use crate::item::CodeSize;
 use rv_instruction::constant;
 use rv_layout::extent_at;
 use rv_statement::{Statement, StatementKind, Statements, Width};
 use rv_text::{SourceCode, SourceFault, Value};
 use rv_unit::{
-    Extent, Item, LONGEST_SECTION, Scope, Section, SectionOffset, Unit, byte_alignment, padding,
-    power_alignment, strings_size, values_size,
+    Extent, Item, LONGEST_SECTION, Scope, Section, SectionOffset, Unit, byte_alignment, give_back,
+    padding, power_alignment, strings_size, values_size,
 };
 use std::alloc::{AllocError, Global};
 
@@ -366,7 +365,7 @@ pub(crate) fn items(
         let extent = extent_at(extents, place.section);
         let offset = end(ends.as_slice(), place.section);
         let code = take_size(&mut sizes);
-        let statement = (&*statements).read(index, &mut room);
+        let statement = statements.read(index, &mut room);
         let item = next_item(&scope, statement, place, &extent, offset, code)?;
         grow(&mut ends, item);
         items.push(item)?;

@@ -19,7 +19,6 @@
 //! Source: System V gABI, "Sections", "Relocation"; RISC-V ELF psABI, "Relocations"; GNU as, "Pseudo Ops".
 #![tactic(auto)]
 
-mod blocks;
 mod code;
 mod compressed;
 mod data;
@@ -30,6 +29,5 @@ mod item;
 mod items;
 mod lone;
 
-pub use blocks::give_back;
 pub use draft::Draft;
 pub use field::OpenField;

@@ -254,7 +254,7 @@ pub(crate) fn measured(alloc: Global, unit: &Unit<'_>) -> Result<Items, AllocErr
         let extent = extent_at(extents, place.section);
         let compressed = unit.options_at(index).rvc();
         let executable = extent.section.executable;
-        let statement = (&*statements).read(index, &mut room);
+        let statement = statements.read(index, &mut room);
         items.push(seen(statement, &scope, places, place, executable, compressed))?;
         scope.pass();
     }

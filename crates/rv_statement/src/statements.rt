@@ -107,7 +107,11 @@ impl<'a> Statements<'a> {
 
     /// The statement at an index, from 0: lent, or made again in the room.
     #[inline(always)]
-    pub fn read<'r>(&'r self, index: usize, room: &'r mut Statement<'a>) -> &'r Statement<'a>
+    pub fn read<'r, 's: 'r>(
+        &'s self,
+        index: usize,
+        room: &'r mut Statement<'a>,
+    ) -> &'r Statement<'a>
         requires { index < length (statements_of self.now) }
         ensures { slice_get (statements_of self.now) index ≡ Some (statement_of result.now) }
     {

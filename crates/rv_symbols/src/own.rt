@@ -195,7 +195,7 @@ pub(crate) fn own_symbols<'a>(
             &mut seen,
             source,
             i,
-            (&*statements).read(i, &mut room),
+            statements.read(i, &mut room),
             meant[i],
         )?;
     }

@@ -344,7 +344,7 @@ impl<'a> Unit<'a> {
         let mut depth: usize = 0;
         let mut room = Statements::room();
         for index in 0..statements.len() {
-            let statement = (&*statements).read(index, &mut room);
+            let statement = statements.read(index, &mut room);
             let place = places[index];
             match self.fault(ordinal_of(index), place, labels, depth, &statement.kind) {
                 Some(code) => return Some((code, statement.line)),

@@ -4,7 +4,7 @@
 //! and `lower` joins two, as the definitions join two lists of codes. No function needs to know what the others look
 //! at.
 
-ghost use Rattle.std.specs.Prelude.{◌≡◌, ◌<◌, ◌+◌, ℕ, List, ◌++◌, Option, Some, None, not, ◌&&◌, ◌||◌, ◌==◌};
+ghost use Rattle.std.specs.Prelude.{◌≡◌, ◌<◌, ℕ, List, ◌++◌, Option, Some, None, not, ◌&&◌, ◌||◌, ◌==◌};
 ghost use Rattle.rv_text_laws.specs.Codes as codes;
 ghost use Rattle.rv_text_laws.specs.Codes.{duplicate_label, wrong_section};
 ghost use Rattle.rv_lexer.specs.Fault.{source_fault_number, IsLowest};

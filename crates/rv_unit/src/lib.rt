@@ -20,6 +20,7 @@
 //! Source: GNU as, "Sections", "Symbols", "Expressions" and "Pseudo Ops".
 #![tactic(auto)]
 
+mod blocks;
 mod check;
 mod faults;
 mod item;
@@ -27,6 +28,7 @@ mod names;
 mod scope;
 mod unit;
 
+pub use blocks::give_back;
 pub use item::Item;
 pub use rv_unit_tables::{
     Assignment, Binding, Definition, Extent, LONGEST_SECTION, Options, Section, SectionOffset,

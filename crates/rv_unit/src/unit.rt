@@ -36,7 +36,7 @@ fn line_past_most(statements: &Statements<'_>) -> Option<u32>
         return None;
     }
     let mut room = Statements::room();
-    Some((&*statements).read(MOST_STATEMENTS, &mut room).line)
+    Some(statements.read(MOST_STATEMENTS, &mut room).line)
 }
 
 impl<'a> Unit<'a> {

@@ -298,7 +298,7 @@ impl<'a> Tables<'a> {
     {
         let mut room = Statements::room();
         for index in 0..statements.len() {
-            let statement = (&*statements).read(index, &mut room);
+            let statement = statements.read(index, &mut room);
             self.bind_by(&statement.kind)?;
         }
         Ok(())
@@ -332,7 +332,7 @@ impl<'a> Tables<'a> {
         let mut options = Vec::with_capacity(alloc, statements.len())?;
         let mut room = Statements::room();
         for index in 0..statements.len() {
-            let statement = (&*statements).read(index, &mut room);
+            let statement = statements.read(index, &mut room);
             options.push(self.options)?;
             let place = self.stand(index as u32 + 1, &statement.kind)?;
             places.push(place)?;
