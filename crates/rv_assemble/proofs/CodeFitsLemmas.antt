@@ -12,7 +12,7 @@ use Rattle.rv_isa.specs.declared.kind.Kind.TheVariants as kind
 use Rattle.rv_isa.specs.declared.kind.Kind.TheVariants.{Abs32, Abs64, Add8, Add16, Add32, Add64, Sub8, Sub16, Sub32, Sub64}
 use Rattle.rv_isa.specs.Kinds.{width_of, is_low_part}
 use Rattle.rv_isa.specs.Operations.{format_of}
-use Rattle.rv_isa_laws.specs.Bytes.{little_endian, zeros}
+use Rattle.rv_isa_laws.specs.Bytes.{zeros}
 use Rattle.rv_encode.specs.Word.{word, form}
 use Rattle.rv_text_laws.specs.Values.{Value, Constant, Symbolic, Difference, Faulty}
 use Rattle.rv_statement.specs.declared.pseudo.Function.TheVariants.{Hi, Lo, PcrelHi, PcrelLo}
@@ -35,12 +35,9 @@ use Rattle.rv_assemble_laws.specs.LaidStatements.{LaidStatement, LaidPart, laid_
 use Rattle.rv_assemble.proofs.SettledLemmas.{IsIn}
 use Rattle.rv_assemble.proofs.RoomLemmas.{nops_long, IsRoom, HasRoom, directive_room}
 use Rattle.rv_assemble.proofs.FieldListsLemmas.{all_split, all_join}
+pub use Rattle.rv_draft.proofs.FieldsSoFarLemmas.{little_long}
 
 -- ---- bytes of code
-
-pub little_long : (width n : ℕ) → length (little_endian width n) ≡ width
-little_long zero n = refl
-little_long (suc width) n = ap suc (little_long width _)
 
 pub encoded_long : (i : Inst) (n : ℕ) (bytes : List ℕ) → IsEncodedIn i n bytes → (length bytes ≡ n) × (n % 2 ≡ 0)
 encoded_long i n bytes (inl (e, f)) = (ap length f ∙ little_long 4 (word (form i)) ∙ sym e, ap (λ m. m % 2) e)

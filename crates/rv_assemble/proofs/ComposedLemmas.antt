@@ -63,7 +63,7 @@ contents_same types.Progbits stop end bytes full e f = ap (contents_of types.Pro
 contents_same types.Note stop end bytes full e f = ap (contents_of types.Note stop) f
 contents_same types.Nobits stop end bytes full e f = ap (λ n. contents_of types.Nobits n []) e
 
-contents_size : (kind : SectionType) (end : ℕ) (full : List ℕ) → end ≡ length full → size_of (contents_of kind end full) ≡ end
+pub contents_size : (kind : SectionType) (end : ℕ) (full : List ℕ) → end ≡ length full → size_of (contents_of kind end full) ≡ end
 contents_size types.Progbits end full e = sym e
 contents_size types.Note end full e = sym e
 contents_size types.Nobits end full e = refl
@@ -78,7 +78,7 @@ alone_by : (loaded : Bool) (rs : List Relocation) → is_loaded_alone loaded (if
 alone_by true rs = refl
 alone_by false rs = refl
 
-fit_none : (c : Contents) (rs : List Relocation) → rs ≡ [] → fit_inside c rs ≡ true
+pub fit_none : (c : Contents) (rs : List Relocation) → rs ≡ [] → fit_inside c rs ≡ true
 fit_none c rs e = ap (fit_inside c) e
 
 inside_by : (kind : SectionType) (end : ℕ) (full : List ℕ) (rs : List Relocation) → (is_nobits_type kind ≡ true → rs ≡ [])

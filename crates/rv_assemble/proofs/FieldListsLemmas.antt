@@ -17,16 +17,13 @@ use Rattle.rv_assemble_laws.specs.Symbols.{SymbolUse, use_of, references_in, ref
 use Rattle.rv_assemble_laws.specs.IsObjectOf.{Numbering, relocation_at, relocations_from, IsNumbered, ArePartsNumbered}
 use Rattle.rv_assemble_laws.specs.Fields.{Field, field_at, fields_from, fields_at, fields}
 use Rattle.rv_assemble.proofs.SettledLemmas.{IsSettled}
+pub use Rattle.rv_source_laws.proofs.HomesLemmas.{all_join}
 
 -- ---- lists
 
 pub all_split : {X : Type 0} (P : X → Type 0) (xs ys : List X) → AllByRecursion P (xs ++ ys) → AllByRecursion P xs × AllByRecursion P ys
 all_split P [] ys h = (tt, h)
 all_split P (x ∷ xs) ys (h, hs) = let rest = all_split P xs ys hs in ((h, rest.0), rest.1)
-
-pub all_join : {X : Type 0} (P : X → Type 0) (xs ys : List X) → AllByRecursion P xs → AllByRecursion P ys → AllByRecursion P (xs ++ ys)
-all_join P [] ys h k = k
-all_join P (x ∷ xs) ys (p, ps) k = (p, all_join P xs ys ps k)
 
 all_each : {X Y : Type 0} (P : Y → Type 0) (f : X → List Y) (xs : List X) → AllByRecursion P (flat_map f xs) → AllByRecursion (λ x. AllByRecursion P (f x)) xs
 all_each P f [] h = tt

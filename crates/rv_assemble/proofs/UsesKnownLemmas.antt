@@ -2,7 +2,7 @@
 
 use Rattle.std.proofs.Common.{◌≡◌, ℕ, zero, suc, Bool, true, false, ◌&&◌, List, [], ◌∷◌, ◌++◌, refl, sym, ap, ◌∙◌, subst, map, Option, Some, None}
 use Rattle.std.proofs.lemmas.List.Concat.{flat_map-append}
-use Rattle.std.proofs.lemmas.Bool.{and_parts}
+use Rattle.std.proofs.lemmas.Bool.{and_parts, and_from}
 use Rattle.std.proofs.lemmas.List.Folds.{list_all-append}
 use Rattle.std.specs.Prelude.{⊤, if◌then◌else◌, flat_map, is_some, unwrap_or}
 use Rattle.std.specs.List.{AllByRecursion, list_all}
@@ -29,11 +29,6 @@ use Rattle.rv_assemble_laws.specs.ShownNames.{primary_names, tree_names, own_nam
 use Rattle.rv_symbols.specs.SymbolUse.{is_meant_use, AreMeant}
 use Rattle.rv_assemble.proofs.ValueSymbolsLemmas.{Pass, IsPlace, LeavesPass, by_value}
 
-and_join : (a b : Bool) → a ≡ true → b ≡ true → (a && b) ≡ true
-and_join true true e f = refl
-and_join true false e f = absurd (cc)
-and_join false b e f = absurd (cc)
-
 module _ (t : Tables) where
   abbrev is_known : SymbolUse → Bool
   is_known r = is_shown_use r && is_meant_use t r
@@ -53,7 +48,7 @@ module _ (t : Tables) where
 
   leaf_known : (ordinal : ℕ) (place : SectionOffset) (p : Primary) → are_shown (primary_names p) ≡ true → IsPlace (meaning t true ordinal place p) → is_known (used ordinal p) ≡ true
   leaf_known ordinal place (Literal n) shown h = absurd h
-  leaf_known ordinal place (Symbol name) shown h = and_join (are_shown (name ∷ [])) true shown refl
+  leaf_known ordinal place (Symbol name) shown h = and_from (are_shown (name ∷ [])) true shown refl
   leaf_known ordinal place Here shown h = refl
   leaf_known ordinal place (Reference digits true) shown h = forward_known ordinal digits (numeric_label_after t.numeric_labels ordinal (digits_value 10 digits)) h
   leaf_known ordinal place (Reference digits false) shown h = backward_known ordinal digits (numeric_label_before t.numeric_labels ordinal (digits_value 10 digits)) h
@@ -73,12 +68,12 @@ module _ (t : Tables) where
 
   of_value : (ordinal width : ℕ) (v : Value) → Pass (λ p. is_known (used ordinal p)) v → list_all is_known (references_in (laid_part ordinal (Datum width v))) ≡ true
   of_value ordinal width (Constant n) h = refl
-  of_value ordinal width (Symbolic p at k) h = and_join (is_known (used ordinal p)) true h refl
-  of_value ordinal width (Difference p q k) (h, l) = and_join (is_known (used ordinal p)) (is_known (used ordinal q) && true) h (and_join (is_known (used ordinal q)) true l refl)
+  of_value ordinal width (Symbolic p at k) h = and_from (is_known (used ordinal p)) true h refl
+  of_value ordinal width (Difference p q k) (h, l) = and_from (is_known (used ordinal p)) (is_known (used ordinal q) && true) h (and_from (is_known (used ordinal q)) true l refl)
   of_value ordinal width (Faulty code) h = refl
 
   all_append : (xs ys : List SymbolUse) → list_all is_known xs ≡ true → list_all is_known ys ≡ true → list_all is_known (xs ++ ys) ≡ true
-  all_append xs ys h k = list_all-append is_known xs ys ∙ and_join (list_all is_known xs) (list_all is_known ys) h k
+  all_append xs ys h k = list_all-append is_known xs ys ∙ and_from (list_all is_known xs) (list_all is_known ys) h k
 
   of_values : (l : Located) (width : ℕ) (es : List Expression) → are_shown (flat_map tree_names es) ≡ true
       → list_all is_known (flat_map references_in (map (laid_part l.ordinal) (map (λ e. Datum width (expression_value t l e)) es))) ≡ true
@@ -132,7 +127,7 @@ module _ (t : Tables) where
 
   of_symbol : (k : Kind) (ordinal : ℕ) (v : Value) → Known ordinal v → list_all is_known (uses (symbol_field k ordinal v)) ≡ true
   of_symbol k ordinal (Constant n) h = refl
-  of_symbol k ordinal (Symbolic p at plus) h = and_join (is_known (used ordinal p)) true h refl
+  of_symbol k ordinal (Symbolic p at plus) h = and_from (is_known (used ordinal p)) true h refl
   of_symbol k ordinal (Difference p q plus) h = refl
   of_symbol k ordinal (Faulty code) h = refl
 

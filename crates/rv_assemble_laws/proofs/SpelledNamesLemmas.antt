@@ -12,10 +12,9 @@ use Rattle.rv_text_laws.specs.Cut.{Piece, texts, Each}
 use Rattle.rv_text_laws.specs.Grammar.{Kind, Space, Line_comment, Block_comment, Newline, Punctuation, Name, Number, Reference, Bad_word, Text, Character, Bad_byte, Bad_token, End, IsWord, direction, Spells, Stops}
 use Rattle.rv_text_laws.specs.Joined.{joined_bytes, AreAfter, IsJoined}
 use Rattle.rv_text_laws.specs.Lexing.{Token, Lexes, tokens_of, placed, is_gap, bad, last_kind, last}
-use Rattle.rv_text_laws.specs.declared.punct.Punct.{Punct}
 use Rattle.rv_text_laws.specs.declared.punct.Punct.TheVariants as puncts
 use Rattle.rv_text_laws.specs.SyntaxError.{longest_name}
-use Rattle.rv_text_laws.specs.Expression.{Primary, Literal, Symbol, Here, Reference as Of_label, Tree, Leaf, Unary, Paren, Binary, Begin, begins, named_operand, punct_begins, A_primary, SpellsTree, bare}
+use Rattle.rv_text_laws.specs.Expression.{Primary, Literal, Symbol, Here, Reference as Of_label, Tree, Leaf, Unary, Paren, Binary, Begin, begins, named_operand, A_primary, SpellsTree, bare}
 use Rattle.rv_isa.specs.declared.operation.AccessSet.{AccessSet}
 use Rattle.rv_compress.specs.declared.parcel.RegisterSet.{RegisterSet}
 use Rattle.rv_compress.specs.declared.parcel.OperandShape.{OperandShape}
@@ -38,6 +37,7 @@ use Rattle.rv_source_laws.specs.Program.{in_operand}
 use Rattle.rv_text_laws.proofs.RunsLemmas.{pick}
 use Rattle.rv_map.specs.Name.{is_name, is_name_byte}
 use Rattle.rv_assemble_laws.specs.ShownNames.{primary_names, tree_names, said_names, are_shown, HasNames}
+use Rattle.rv_assemble_laws.proofs.WeightsLemmas.{punct_none}
 
 -- ---- both of two tests
 
@@ -207,14 +207,6 @@ Shown names = are_shown names ≡ true
 
 same_primary : (q p : Primary) → A_primary q ≡ A_primary p → Shown (primary_names q) → Shown (primary_names p)
 same_primary q p e h = let is : q ≡ p = cc in subst (λ (x : Primary). Shown (primary_names x)) is h
-
-punct_none : (q : Punct) (p : Primary) → punct_begins q ≡ A_primary p → ⊥
-punct_none puncts.Minus p e = cc
-punct_none puncts.Tilde p e = cc
-punct_none puncts.Plus p e = cc
-punct_none puncts.Open p e = cc
-punct_none puncts.DoubleSlash p e = cc
-punct_none _ p e = cc
 
 name_shown : (r : List ℕ → Bool) (name : List ℕ) (p : Primary) → is_name name ≡ true → named_operand r name ≡ A_primary p → Shown (primary_names p)
 name_shown r name p h e =

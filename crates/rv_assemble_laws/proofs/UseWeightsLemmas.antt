@@ -52,7 +52,7 @@ pub use_append : (xs ys : List SymbolUse) → use_heft (xs ++ ys) ≡ use_heft x
 use_append [] ys = let n = use_heft ys in let e : n ≡ 0 + n = omega arith in e
 use_append (x ∷ xs) ys = let rest = use_append xs ys in omega (arith, rest)
 
-abbrev uses : List Open → List SymbolUse
+abbrev pub uses : List Open → List SymbolUse
 uses fs = flat_map (λ f. use_of f.ordinal f.symbol) fs
 
 uses_append : (xs ys : List Open) → use_heft (uses (xs ++ ys)) ≡ use_heft (uses xs) + use_heft (uses ys)
@@ -375,7 +375,7 @@ references_light t (s ∷ laid) =
 
 -- ---- the statements of a source
 
-cons_parts : {A : Type 0} (x y : A) (xs ys : List A) → x ∷ xs ≡ y ∷ ys → (x ≡ y) × (xs ≡ ys)
+pub cons_parts : {A : Type 0} (x y : A) (xs ys : List A) → x ∷ xs ≡ y ∷ ys → (x ≡ y) × (xs ≡ ys)
 cons_parts x y xs ys e = (cc, cc)
 
 pub laid_said : (k : ℕ) (u : Tables) (ss : List Statement) (laid : List LaidStatement) → map (λ s. s.located) laid ≡ located_from 1 k u ss → (statement_said laid ≡ all_said ss) × (length laid ≡ length ss)

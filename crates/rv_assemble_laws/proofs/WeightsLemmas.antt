@@ -112,7 +112,7 @@ lexed_total bytes ts (ps, rest, cut, is) =
 same_primary : (q p : Primary) (n : ℕ) → A_primary q ≡ A_primary p → weight (primary_names q) ≤ n → weight (primary_names p) ≤ n
 same_primary q p n e h = let is : q ≡ p = cc in subst (λ (x : Primary). weight (primary_names x) ≤ n) is h
 
-punct_none : (q : Punct) (p : Primary) → punct_begins q ≡ A_primary p → ⊥
+pub punct_none : (q : Punct) (p : Primary) → punct_begins q ≡ A_primary p → ⊥
 punct_none puncts.Minus p e = cc
 punct_none puncts.Tilde p e = cc
 punct_none puncts.Plus p e = cc

@@ -13,7 +13,7 @@ use Rattle.rv_unit_laws.specs.Sections.{Section as SourceSection, is_nobits_type
 use Rattle.rv_unit_laws.specs.Tables.{Tables, tables, opened_of}
 use Rattle.rv_source_laws.specs.Located.{has_row}
 use Rattle.rv_object.specs.declared.row.Row.{Row}
-use Rattle.rv_object.specs.Object.{Contents, Relocation, Section, Symbol, Object, size_of}
+use Rattle.rv_object.specs.Object.{Relocation, Section, Symbol, Object, size_of}
 use Rattle.rv_object.specs.Valid.{is_section_alignment, fit_inside, are_paddings, is_row_in, are_rows}
 use Rattle.rv_assemble_laws.specs.LaidStatements.{LaidStatement, part_bytes, parts, laid_in, end_of}
 use Rattle.rv_assemble_laws.specs.IsObjectOf.{Numbering, relocations_from, contents_of, IsSectionOf, AreSectionsOf, row_of, rows_at, IsObjectOf}
@@ -25,16 +25,9 @@ use Rattle.rv_assemble.proofs.EvenCodeLemmas.{parts_even, ends_within}
 use Rattle.rv_assemble.proofs.CodeFitsLemmas.{Holds, all_fit}
 use Rattle.rv_assemble.proofs.FieldsInsideLemmas.{none_in_nobits, parts_within, paddings_lie}
 use Rattle.rv_unique_link_laws.specs.Asked.{IsSound}
+use Rattle.rv_assemble.proofs.ComposedLemmas.{contents_size, fit_none}
 
 -- ---- contents
-
-contents_size : (kind : SectionType) (end : ℕ) (full : List ℕ) → end ≡ length full → size_of (contents_of kind end full) ≡ end
-contents_size types.Progbits end full e = sym e
-contents_size types.Note end full e = sym e
-contents_size types.Nobits end full e = refl
-
-fit_none : (c : Contents) (rs : List Relocation) → rs ≡ [] → fit_inside c rs ≡ true
-fit_none c rs e = ap (fit_inside c) e
 
 inside_by : (kind : SectionType) (end : ℕ) (full : List ℕ) (rs : List Relocation) → (is_nobits_type kind ≡ true → rs ≡ [])
     → list_all (λ r. nat_le (r.place + width_of r.kind) (length full)) rs ≡ true → fit_inside (contents_of kind end full) rs ≡ true

@@ -7,6 +7,7 @@ use Rattle.rv_isa_laws.specs.Memory.{Mem, Right, Read, Write, Execute, may, some
 use Rattle.std.proofs.lemmas.List.{length-take}
 use Rattle.rv_isa_laws.specs.Hart.{Hart, LoadText, LoadOutside, StoreText, StoreOutside, register}
 use Rattle.rv_isa_laws.specs.Effect.{Effect, Goes, Loads, Stores, Reserves, Conditional, Updates, Calls, Breaks, Next, On, Over, apply, environment_call, reads, writes, load_refusal, store_refusal, answer}
+pub use Rattle.rv_chain_laws.proofs.RowsLemmas.{below_mod as wraps}
 
 -- memory m of the machine beside memory s of the source run: both have these rights, they are equal where something can be
 -- read, and what can be executed is as it was at first
@@ -21,9 +22,6 @@ Alike has first (On g m) (On k s) = (g ≡ k) × Beside has first m s
 Alike has first (On g m) (Over f) = ⊥
 Alike has first (Over e) (On k s) = ⊥
 Alike has first (Over e) (Over f) = e ≡ f
-
-pub wraps : (a : ℕ) → a % 2 ^ 64 < 2 ^ 64
-wraps a = omega arith
 
 if_false : {A : Type 0} (test : Bool) (x y z : A) → (test ≡ true → ⊥) → y ≡ z → (if test then x else y) ≡ z
 if_false true x y z no' e = absurd (no' refl)

@@ -55,10 +55,11 @@ use Rattle.rv_chain_laws.proofs.HeldLemmas.{held_of}
 use Rattle.rv_chain_laws.proofs.HomesLemmas.{sections_of, sections_in, IsSeated, IsAtHome, seats, homes, to_blocks, from_blocks}
 use Rattle.rv_chain_laws.proofs.AlignmentsLemmas.{even_files}
 use Rattle.rv_chain_laws.proofs.LaidOutLemmas.{AreRegions, apart, rights-are, text_held, rodata_held, data_held, bss_held, stack_zero}
+use Rattle.rv_chain_laws.proofs.AscendingLemmas.{true_false}
 
 -- ---- the lines of a statement
 
-abbrev instructions_of : List Line → List Inst
+abbrev pub instructions_of : List Line → List Inst
 instructions_of ls = map (λ (l : Line). l.instruction) ls
 
 -- the bytes of a line are its word, or a parcel that stands for its instruction
@@ -123,10 +124,6 @@ module _ (reader : Reader Spells StandsFor) (m : Mem) (stop : ℕ) (room : stop 
       }
 
 -- ---- what the sizes of rows say
-
-true_false : {A : Type 0} (b : Bool) → b ≡ true → b ≡ false → A
-true_false true e f = absurd (cc)
-true_false false e f = absurd (cc)
 
 no_bytes : (b : Bool) (r : Row) → IsRowOf (if b then Some [] else None) r → 0 ≡ r.bytes
 no_bytes true r (valid, n, lo, hi, even) = let e : r.instructions ≡ 0 = n in omega arith

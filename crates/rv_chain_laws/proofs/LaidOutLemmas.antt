@@ -33,7 +33,7 @@ pub record AreRegions (l : Linked) : Type 0 where
 part_size : (part : Part) → length (part.stored ++ zeros part.zeros) ≡ memory_size_of part
 part_size part = length-append part.stored (zeros part.zeros) ∙ ap (λ n. length part.stored + n) (length-replicate {A = ℕ} part.zeros 0)
 
-not_false : (b : Bool) → not b ≡ false → b ≡ true
+pub not_false : (b : Bool) → not b ≡ false → b ≡ true
 not_false true e = refl
 not_false false e = absurd (cc)
 

@@ -36,9 +36,7 @@ use Rattle.rv_chain_laws.proofs.EncodingsLemmas.{lines_shown}
 use Rattle.rv_chain_laws.proofs.EntriesLemmas.{rows_by, shown_by, flat_map_map, entries_of}
 use Rattle.rv_chain_laws.proofs.OneListingLemmas.{one_source_listing}
 use Rattle.rv_chain_laws.proofs.SegmentsLemmas.{bytes_empty, bytes_behind_text, bytes_in_text}
-
-abbrev row_of : Mapped → Row
-row_of s = s.row
+use Rattle.rv_chain_laws.proofs.RegionsLemmas.{row_of}
 
 abbrev rows_before : Row → Row → Bool
 rows_before r q = is_lt (compared r q)

@@ -1,6 +1,6 @@
 -- Sources have one listing at a map.
 
-use Rattle.std.proofs.Common.{◌≡◌, ℕ, ◌+◌, Bool, true, false, List, [], ◌∷◌, ◌++◌, map, flat_map, filter, is_lt, refl, sym, ap, ◌∙◌, subst, arith, Option, Some, None, inl, inr}
+use Rattle.std.proofs.Common.{◌≡◌, ℕ, ◌+◌, Bool, true, false, List, [], ◌∷◌, ◌++◌, flat_map, filter, is_lt, refl, sym, ap, ◌∙◌, subst, arith, Option, Some, None, inl, inr}
 use Rattle.std.proofs.lemmas.List.Sorted.{ranks_by}
 use Rattle.std.specs.Cmp.{IsStrictWeakOrder}
 use Rattle.rv_isa.specs.declared.instruction.Inst.{Inst}
@@ -14,11 +14,9 @@ use Rattle.rv_disasm.specs.Listing.{statement}
 use Rattle.rv_disasm.proofs.OrderedLemmas.{one_order, compared_total}
 use Rattle.rv_chain_laws.specs.Contents.{AreSized, ArePadding, HasSizes}
 use Rattle.rv_chain_laws.specs.SourceListing.{is_listed, by_row, line_text, IsEntry, AreEntries, IsSourceListing}
+use Rattle.rv_chain_laws.proofs.ContentsLemmas.{instructions_of as instructions}
 
 -- ---- a statement has one list of lines
-
-abbrev instructions : List Line → List Inst
-instructions ls = map (λ (l : Line). l.instruction) ls
 
 one_line : (l m : Line) → l.address ≡ m.address → l.bytes ≡ m.bytes → l.instruction ≡ m.instruction → l ≡ m
 one_line l m address bytes instruction = λ i. record { address = address i; bytes = bytes i; instruction = instruction i }

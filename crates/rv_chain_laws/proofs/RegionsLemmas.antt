@@ -20,7 +20,7 @@ use Rattle.rv_source_laws.specs.Start.{is_within, is_in}
 use Rattle.rv_chain_laws.specs.Contents.{contents}
 use Rattle.rv_chain_laws.proofs.WordsLemmas.{HasBytes, bytes_behind}
 
-abbrev row_of : Mapped → Row
+abbrev pub row_of : Mapped → Row
 row_of s = s.row
 
 pub within_parts : (a b x : ℕ) → is_within a b x ≡ true → (a ≤ x) × (x < b)

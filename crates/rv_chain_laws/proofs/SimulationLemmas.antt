@@ -1,10 +1,10 @@
 -- Whenever memory holds a program, the run of the machine over it agrees with the run of the sources.
 
-use Rattle.std.proofs.Common.{◌≡◌, ◌⊎◌, inl, inr, ℕ, zero, suc, ◌+◌, ◌-◌, ◌%◌, ◌^◌, ◌<◌, ◌≤◌, Bool, true, false, List, [], ◌∷◌, length, get_or, set, replicate, Option, Some, None, refl, sym, ap, ◌∙◌, subst, arith, cond}
+use Rattle.std.proofs.Common.{◌≡◌, ◌⊎◌, inl, inr, ℕ, zero, suc, ◌+◌, ◌-◌, ◌%◌, ◌^◌, ◌<◌, ◌≤◌, Bool, true, false, List, [], ◌∷◌, length, get_or, replicate, Option, Some, None, refl, sym, ap, ◌∙◌, subst, arith, cond}
 use Rattle.std.specs.Prelude.{◌&&◌, ◌==◌, nat_lt, nat_le, if◌then◌else◌}
 use Rattle.std.specs.List.{AllByRecursion, find}
 use Rattle.std.proofs.lemmas.Bool.{cases_Bool, and_parts, ltb-true, eqb-true, leb-true, leb-false, le-leb}
-use Rattle.std.proofs.lemmas.List.{length-set, get_or-set_same, get_or-set_other, set_past}
+use Rattle.std.proofs.lemmas.List.{length-set}
 use Rattle.rv_isa.specs.declared.instruction.Inst.{Inst}
 use Rattle.rv_isa_laws.specs.Memory.{Mem, Execute}
 use Rattle.rv_isa_laws.specs.Platform.{stack_end}
@@ -30,6 +30,7 @@ use Rattle.rv_chain_laws.proofs.OnwardLemmas.{OnNext, IsAnswer, IsKept, apply_on
 use Rattle.rv_chain_laws.proofs.FetchLemmas.{Text, no_right, fetched}
 use Rattle.rv_chain_laws.proofs.WalkLemmas.{Steady, short_lines, walk_one, walk_steady, walk_runs, walk_limits}
 use Rattle.rv_chain_laws.proofs.ObligationsLemmas.{does}
+use Rattle.rv_isa_laws.proofs.EffectLawsLemmas.{below_set}
 
 -- a hart as it is on the way of a run: 32 registers in range, and an even address
 pub record IsGood (g : Hart) : Type 0 where
@@ -37,9 +38,6 @@ pub record IsGood (g : Hart) : Type 0 where
   pub even : IsEven g
   pub whole : length g.registers ≡ 32
   pub inside : InRange g
-
-below_set : (xs : List ℕ) (r v : ℕ) → v < 2 ^ 64 → ((k : ℕ) → get_or xs k 0 < 2 ^ 64) → (k : ℕ) → get_or (set xs r v) k 0 < 2 ^ 64
-below_set xs r v fits all k = grind (arith, get_or-set_same, get_or-set_other, set_past, all k)
 
 answered : (g : Hart) (value : ℕ) → InRange g → IsAnswer g value → value < 2 ^ 64
 answered g value all (inl le) = let below : register g 12 < 2 ^ 64 = all 12 in omega arith

@@ -4,7 +4,7 @@ use Rattle.std.proofs.Common.{◌≡◌, ◌<◌, ℕ, zero, suc, ◌+◌, Bool,
 use Rattle.std.specs.Prelude.{if◌then◌else◌}
 use Rattle.std.specs.List.{slice_get}
 use Rattle.std.specs.Option.{option_map}
-use Rattle.std.proofs.lemmas.List.{append_assoc, drop_more}
+use Rattle.std.proofs.lemmas.List.{append_assoc}
 use Rattle.std.proofs.lemmas.Option.{slice_get-map, slice_get-get_or}
 use Rattle.std.proofs.lemmas.Bool.{and_parts, and_from, true≢false}
 use Rattle.rv_map.specs.declared.map.SectionId.{SectionId}
@@ -16,6 +16,7 @@ use Rattle.rv_object.specs.Sections.{section_of}
 use Rattle.rv_object.specs.Valid.{is_counted, are_counted}
 use Rattle.rv_object.specs.View.{object_of}
 use Rattle.rv_object_laws.specs.Without.{without_section, without_sections, without_object, without_from}
+pub use Rattle.rv_resolve.proofs.StepsLemmas.{left}
 
 -- an element more, as a function of what is left gives it
 pub one_more : {X : Type 0} (out new : List X) (x : X) (rest all whole : List X) → new ≡ out ++ x ∷ [] → all ≡ x ∷ rest → out ++ all ≡ whole → new ++ rest ≡ whole
@@ -26,10 +27,6 @@ one_more out new x rest all whole pushed here before =
 pub some_more : {X : Type 0} (out new more rest all whole : List X) → new ≡ out ++ more → all ≡ more ++ rest → out ++ all ≡ whole → new ++ rest ≡ whole
 some_more out new more rest all whole added here before =
     ap (λ l. l ++ rest) added ∙ append_assoc out more rest ∙ sym (ap (λ l. out ++ l) here) ∙ before
-
--- what is left of a list, from an element on
-pub left : {X : Type 0} (xs : List X) (i : ℕ) (x : X) → i < length xs → x ≡ get_or xs i x → drop i xs ≡ x ∷ drop (i + 1) xs
-left xs i x inside is = drop_more xs i x inside ∙ ap (λ y. y ∷ drop (i + 1) xs) (sym is)
 
 pub some_left : {X : Type 0} (xs : List X) (i : ℕ) → i < length xs → (x : X) × (drop i xs ≡ x ∷ drop (i + 1) xs)
 some_left [] i inside = absurd (omega (arith, inside))

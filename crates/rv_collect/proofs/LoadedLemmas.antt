@@ -4,7 +4,7 @@
 use Rattle.std.proofs.Common.{◌≡◌, ℕ, zero, suc, ◌+◌, ◌<◌, Bool, true, false, ◌&&◌, ◌||◌, List, [], ◌∷◌, length, get_or, map, refl, ap, sym, ◌∙◌, arith, Option, Some, None}
 use Rattle.std.specs.Prelude.{◌==◌, option_and_then, if◌then◌else◌}
 use Rattle.std.specs.List.{list_any, slice_get}
-use Rattle.std.proofs.lemmas.Bool.{ne_eqb, true≢false}
+use Rattle.std.proofs.lemmas.Bool.{ne_eqb, true≢false, or_from}
 use Rattle.std.proofs.lemmas.List.{length-map}
 use Rattle.std.proofs.lemmas.List.Folds.{list_any-append}
 use Rattle.std.proofs.lemmas.Option.{slice_get_within}
@@ -54,10 +54,6 @@ both_there true true q e f = refl
 both_there true false q e f = absurd (true≢false (sym f))
 both_there false b q e f = absurd (true≢false (sym e))
 
-neither : (a b : Bool) → a ≡ false → b ≡ false → (a || b) ≡ false
-neither true b e f = absurd (true≢false e)
-neither false b e f = f
-
 or_none : (a b : Bool) → b ≡ false → (a || b) ≡ a
 or_none true b e = refl
 or_none false b e = e
@@ -82,7 +78,7 @@ module _ (test : InputSection → Bool) where
 
       by : (b : Bool) → list_any (here other index) rest ≡ false → list_any (here other index) (if b then it ∷ rest else rest) ≡ false
       by false h = h
-      by true h = neither (here other index it) (list_any (here other index) rest) (file_apart (file == other) (suc k == suc index) (test it) e) h
+      by true h = or_from (here other index it) (list_any (here other index) rest) (file_apart (file == other) (suc k == suc index) (test it) e) h
 
   -- those behind it in its own file
   behind_from : (file : ℕ) (o : Object) (k : ℕ) (ss : List Section) (index : ℕ) → index < k → list_any (here file index) (inputs_from is_loaded file o k ss) ≡ false
@@ -98,7 +94,7 @@ module _ (test : InputSection → Bool) where
       by : (b : Bool) → list_any (here file index) rest ≡ false → list_any (here file index) (if b then it ∷ rest else rest) ≡ false
       by false h = h
       by true h =
-          neither (here file index it) (list_any (here file index) rest)
+          or_from (here file index it) (list_any (here file index) rest)
           (index_apart (file == file) (suc k == suc index) (test it) (ne_eqb (suc k) (suc index) (λ e. omega (arith, e, low)))) h
 
   -- the one of an object
@@ -148,7 +144,7 @@ module _ (test : InputSection → Bool) where
   behind_of first [] file index low = refl
   behind_of first (o ∷ os) file index low =
       list_any-append (here file index) (inputs_from is_loaded first o 0 o.sections) (inputs_of is_loaded (suc first) os)
-      ∙ neither (list_any (here file index) (inputs_from is_loaded first o 0 o.sections)) (list_any (here file index) (inputs_of is_loaded (suc first) os))
+      ∙ or_from (list_any (here file index) (inputs_from is_loaded first o 0 o.sections)) (list_any (here file index) (inputs_of is_loaded (suc first) os))
       (elsewhere_from first file o 0 o.sections index (ne_eqb first file (λ e. omega (arith, e, low)))) (behind_of (suc first) os file index (omega (arith, low)))
 
   abbrev there : ℕ → ℕ → Option Object → Bool

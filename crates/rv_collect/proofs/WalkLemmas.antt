@@ -22,6 +22,7 @@ use Rattle.rv_collect.specs.Marks.{AreLike, mark_rows, mark_at, marked_by, is_ma
 use Rattle.rv_collect.proofs.LoadedLemmas.{IsLoaded}
 use Rattle.rv_collect.proofs.RowsLemmas.{row_in, apart_right, one_less}
 use Rattle.rv_collect.specs.Walk.{done_of, queued, IsWalk, IsReached, Entered, Referred, Grows, IsMarked, IsPlaceMarked, AreFollowed, AreFollowedTo, IsEnded}
+use Rattle.std.proofs.lemmas.Map.Keys.{any_passes_from_place}
 
 -- ---- the queue
 
@@ -232,16 +233,9 @@ lies_one t p h =
 
 -- ---- the relocations so far
 
-any_in : {X : Type 0} (test : X → Bool) (xs : List X) (i : ℕ) (x : X) → slice_get xs i ≡ Some x → test x ≡ true → list_any test xs ≡ true
-any_in test [] i x at h = absurd (cc)
-any_in test (y ∷ ys) zero x at h =
-    let same : y ≡ x = cc in
-    or_left (test y) (list_any test ys) (ap test same ∙ h)
-any_in test (y ∷ ys) (suc i) x at h = or_right (test y) (list_any test ys) (any_in test ys i x at h)
-
 pub leads_one : (os : List Object) (file : ℕ) (o : Object) (t : SectionId) (rs : List Relocation) (i : ℕ) (r : Relocation) → slice_get rs i ≡ Some r → lies_in t (target_in os file o r) ≡ true
     → leads_in os file o t rs ≡ true
-leads_one os file o t rs i r at h = any_in (λ q. lies_in t (target_in os file o q)) rs i r at h
+leads_one os file o t rs i r at h = any_passes_from_place (λ q. lies_in t (target_in os file o q)) rs i r at h
 
 take_at : {X : Type 0} (xs : List X) (n : ℕ) (x : X) → slice_get xs n ≡ Some x → take (n + 1) xs ≡ take n xs ++ x ∷ []
 take_at [] n x at = absurd (cc)

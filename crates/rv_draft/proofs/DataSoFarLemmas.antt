@@ -28,6 +28,7 @@ use Rattle.rv_draft.specs.Sized.{IsSized, AreSized, first_size, other_sizes}
 use Rattle.rv_draft.specs.Spots.{HasBytesOf}
 use Rattle.rv_draft.proofs.EvensLemmas.{none_more}
 use Rattle.rv_layout.proofs.StandingLemmas.{located_at, stated_next, first_same}
+use Rattle.rv_draft.proofs.SoFarSizedLemmas.{drop_none}
 
 -- ---- the bytes of sections never fall
 
@@ -69,10 +70,6 @@ item_ends k (suc i) t before last (y ∷ ys) (z ∷ zs) s rest x more h e g =
     item_ends (suc k) i (after t k y.kind) (grown before z) last ys zs s rest x more h.1 e g
 
 -- ---- the size of the item at an index
-
-drop_none : {A : Type 0} (xs : List A) → drop 0 xs ≡ xs
-drop_none [] = refl
-drop_none (x ∷ xs) = refl
 
 -- with this size of its code
 record SizedAt (all : Tables) (k : ℕ) (t : Tables) (s : Statement) (x : Item) (code : CodeSize) : Type 0 where

@@ -12,7 +12,7 @@ use Rattle.rv_assemble_laws.specs.LaidStatements.{LaidPart, laid_part, part_byte
 use Rattle.rv_assemble_laws.specs.Fields.{Field, field_at, fields_from}
 use Rattle.rv_draft.specs.DataParts.{fields_said}
 
-little_long : (width n : ℕ) → length (little_endian width n) ≡ width
+pub little_long : (width n : ℕ) → length (little_endian width n) ≡ width
 little_long zero n = refl
 little_long (suc width) n = ap suc (little_long width _)
 

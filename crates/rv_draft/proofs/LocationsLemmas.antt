@@ -3,7 +3,7 @@
 use Rattle.std.proofs.Common.{◌≡◌, ℕ, suc, ◌<◌, ◌==◌, Bool, true, false, List, [], ◌∷◌, map, Option, Some, None, refl, ap, ◌∙◌, subst, arith}
 use Rattle.std.specs.Prelude.{if◌then◌else◌}
 use Rattle.std.specs.List.{AllByRecursion, find}
-use Rattle.std.proofs.lemmas.Bool.{eqb-true, eq-eqb}
+use Rattle.std.proofs.lemmas.Bool.{eq-eqb}
 use Rattle.rv_text_laws.specs.Expression.{Literal, Symbol, Here, Reference}
 use Rattle.rv_text_laws.specs.Values.{Known, InSection, Open, Refused, Value, Constant, Symbolic, Difference, Faulty}
 use Rattle.rv_statement.specs.Statement.{StatementKind, Label, Numbered, Instruction, Directs, Statement, Expression, Directive, Sets}
@@ -18,6 +18,7 @@ use Rattle.rv_source_laws.specs.Located.{Located, located_now, located_from}
 use Rattle.rv_assemble_laws.specs.LaidStatements.{LaidStatement}
 use Rattle.rv_assemble_laws.specs.Symbols.{laid_at}
 use Rattle.rv_assemble_laws.specs.IsObjectOf.{IsInData, StandsInData}
+use Rattle.rv_layout.proofs.SeenLemmas.{other as below_no}
 
 -- ---- a statement is found by its ordinal
 
@@ -27,13 +28,6 @@ Found ls ordinal = find (λ (l : Located). l.ordinal == ordinal) ls
 later : (file k : ℕ) (t : Tables) (ss : List Statement) (first : ℕ) → first < k → AllByRecursion (λ (l : Located). first < l.ordinal) (located_from file k t ss)
 later file k t [] first h = tt
 later file k t (s ∷ ss) first h = (h, later file (suc k) (after t k s.kind) ss first (omega (arith, h)))
-
-below_no : (a b : ℕ) → a < b → (a == b) ≡ false
-below_no a b h = go (a == b) refl
-  where
-    go : (c : Bool) → (a == b) ≡ c → (a == b) ≡ false
-    go true e = let same : a ≡ b = eqb-true a b e in absurd (omega (arith, h, same))
-    go false e = e
 
 skip : (first : Located) (ls rest : List Located) → AllByRecursion (λ (l : Located). first.ordinal < l.ordinal) rest → AllByRecursion (λ (l : Located). Found ls l.ordinal ≡ Some l) rest
     → AllByRecursion (λ (l : Located). Found (first ∷ ls) l.ordinal ≡ Some l) rest

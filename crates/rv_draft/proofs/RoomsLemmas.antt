@@ -28,6 +28,7 @@ use Rattle.rv_draft.proofs.SoFarItemsLemmas.{passed_next}
 use Rattle.rv_draft.proofs.SoFarSizedLemmas.{IsSizedAt}
 use Rattle.rv_draft.proofs.SoundLemmas.{sound_at}
 use Rattle.rv_draft.proofs.RoomyLemmas.{IsRoomy, statement_here}
+pub use Rattle.rv_draft.proofs.SoFarSizedLemmas.{drop_none}
 
 -- the bytes of each section before the statement at an index: those of code are no more than what the sizes of
 -- code have counted, and these have room for what is left; those of others are no more than the tables'
@@ -36,10 +37,6 @@ pub record HasRoomLeft (ss : List Statement) (sizes : List CodeSize) (i : ℕ) (
   pub rest : size_fault_from counted (drop i (located_from 1 1 (at_start ss) ss)) (drop i (bytes_of_sizes sizes)) ≡ None
   pub code : (j : ℕ) → (section_at (opened_of (tables ss)) j).executable ≡ true → ends j ≤ counted j
   pub stored : (j : ℕ) → (section_at (opened_of (tables ss)) j).executable ≡ false → ends j ≤ slice_index_or (ends_of (passed ss i)) j 0
-
-pub drop_none : {A : Type 0} (xs : List A) → drop 0 xs ≡ xs
-drop_none [] = refl
-drop_none (x ∷ xs) = refl
 
 drop_inside : {A : Type 0} (xs : List A) (i : ℕ) (y : A) (ys : List A) → drop i xs ≡ y ∷ ys → i < length xs
 drop_inside [] zero y ys e = absurd (cc)

@@ -17,7 +17,7 @@ abbrev pub AreSizedSoFar : Tables → List Statement → List CodeSize → ℕ �
 AreSizedSoFar all ss sizes i so_far =
     (rest : List Item) → AreSized all (i + 1) (passed ss i) (drop i ss) rest (drop i sizes) → AreSized all 1 (at_start ss) ss (so_far ++ rest) sizes
 
-drop_none : {A : Type 0} (xs : List A) → drop 0 xs ≡ xs
+pub drop_none : {A : Type 0} (xs : List A) → drop 0 xs ≡ xs
 drop_none [] = refl
 drop_none (x ∷ xs) = refl
 

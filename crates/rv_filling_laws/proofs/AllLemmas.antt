@@ -25,7 +25,7 @@ use Rattle.rv_filling_laws.proofs.OneLemmas.{open_filled, call_filled, call_widt
 
 -- ---- the bytes are as many
 
-little_long : (width n : ℕ) → length (little_endian width n) ≡ width
+pub little_long : (width n : ℕ) → length (little_endian width n) ≡ width
 little_long zero n = refl
 little_long (suc width) n = ap suc (little_long width (n / 256))
 

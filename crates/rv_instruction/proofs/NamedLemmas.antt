@@ -25,7 +25,7 @@ use Rattle.rv_statement.specs.declared.statement.Plain.{Plain}
 use Rattle.rv_statement.specs.declared.statement.Plain.TheVariants as plains
 use Rattle.rv_statement.specs.Statement.{Expression, Statement, StatementKind, Label, Numbered, Instruction, Directs, Operand, Register, Value, Applied, Target}
 use Rattle.rv_statement.specs.View.{plain_of, parcel_registers, parcel_operands, shaped}
-use Rattle.rv_pseudo_laws.specs.Code.{Part, Closed, Constants, constant_number, by_form, parcel_form, named_form, code}
+use Rattle.rv_pseudo_laws.specs.Code.{Closed, Constants, constant_number, by_form, parcel_form, named_form, code}
 use Rattle.rv_pseudo_laws.specs.Filled.{are_closed}
 use Rattle.rv_pseudo_laws.specs.InstructionFaults.{Worth, Number, number_faults, low_faults, operand_faults, else_unplaced, has_row, faults}
 use Rattle.rv_pseudo_laws.proofs.ParcelsLemmas.{named_code}
@@ -39,6 +39,7 @@ use Rattle.rv_instruction.specs.declared.encoded.Encoded.{Encoded}
 use Rattle.rv_instruction.specs.declared.encoded.Coded.{Coded}
 use Rattle.rv_instruction.specs.Code.{encoded_bytes, encoded_instructions, coded_by, whole, alone_coded, HasCode, Codes}
 use Rattle.rv_instruction.proofs.EncodingLemmas.{counted, shapes_alone}
+pub use Rattle.rv_pseudo.proofs.ParcelRowsLemmas.{closed_form}
 
 -- ---- what names none
 
@@ -69,10 +70,6 @@ pub named_same : (v w : Constants) (mnemonic : Mnemonic) (operands : List Operan
     → named_form v mnemonic operands ≡ named_form w mnemonic operands
 named_same v w (Parcel operation) operands same = parcel_same v w operation (shape_of operation) operands same
 named_same v w mnemonic operands same = refl
-
--- the parts of a form, if one is named
-abbrev pub closed_form : Option Compressed → Option (List Part)
-closed_form named = option_map (λ form. Closed (expansion form) ∷ []) named
 
 -- the code is the same, compressed code or not, and however long it is asked to be
 pub code_same : (v w : Constants) (rvc other : Bool) (bytes size : ℕ) (operation : ParcelOperation) (operands : List Operand) → AllByRecursion (IsSame v w) operands

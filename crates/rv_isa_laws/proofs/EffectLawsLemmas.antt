@@ -22,7 +22,7 @@ count_put : (b : Bool) (xs : List ℕ) (r v : ℕ) → length (if b then xs else
 count_put true xs r v = refl
 count_put false xs r v = length-set xs r v
 
-below_set : (xs : List ℕ) (r v : ℕ) → v < 2 ^ 64 → ((k : ℕ) → get_or xs k 0 < 2 ^ 64) → (k : ℕ) → get_or (set xs r v) k 0 < 2 ^ 64
+pub below_set : (xs : List ℕ) (r v : ℕ) → v < 2 ^ 64 → ((k : ℕ) → get_or xs k 0 < 2 ^ 64) → (k : ℕ) → get_or (set xs r v) k 0 < 2 ^ 64
 below_set xs r v fits all k = grind (arith, get_or-set_same, get_or-set_other, set_past, all k)
 
 below_put : (b : Bool) (xs : List ℕ) (r v : ℕ) → v < 2 ^ 64 → ((k : ℕ) → slice_index xs k < 2 ^ 64) → (k : ℕ) → slice_index (if b then xs else set xs r v) k < 2 ^ 64

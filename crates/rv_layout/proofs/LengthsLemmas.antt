@@ -36,7 +36,7 @@ pub encoded_long : (i : Inst) (n : ℕ) (bytes : List ℕ) → IsEncodedIn i n b
 encoded_long i n bytes (inl (e, f)) = ap length f ∙ little_long 4 (word (form i)) ∙ sym e
 encoded_long i n bytes (inr (e, (q, h, f))) = ap length f ∙ little_long 2 q ∙ sym e
 
-least_one : (rvc : Bool) (i : Inst) (m n : ℕ) → IsLeast rvc i m → IsLeast rvc i n → m ≡ n
+pub least_one : (rvc : Bool) (i : Inst) (m n : ℕ) → IsLeast rvc i m → IsLeast rvc i n → m ≡ n
 least_one true i m n (inl (e, h)) (inl (f, g)) = e ∙ sym f
 least_one true i m n (inl (e, h)) (inr (f, g)) = absurd (g h)
 least_one true i m n (inr (e, h)) (inl (f, g)) = absurd (h g)

@@ -13,7 +13,7 @@ use Rattle.rv_layout_laws.proofs.ReachingLemmas.{Nearer, Ahead, Behind}
 lost : ℕ → ℕ → ℕ → ℕ → ℕ
 lost o n k x = min (n - k) (x - (o + k))
 
-span_within : (o n k a b base : ℕ) → base ≤ o → a ≤ b → (p q e : ℕ) → e ≡ o + n → p ≤ q + (b - max a e)
+pub span_within : (o n k a b base : ℕ) → base ≤ o → a ≤ b → (p q e : ℕ) → e ≡ o + n → p ≤ q + (b - max a e)
     → min (n - k) (b - (o + k)) + p ≤ min (n - k) (a - (o + k)) + q + (b - max a base)
 span_within o n k a b base f le p q e is rest = omega arith
 

@@ -1,9 +1,9 @@
 -- The paddings and fields of a section do not meet, so its fields lie in what is kept of it.
 
 use Rattle.std.proofs.Common.{◌≡◌, ◌⊎◌, inl, inr, ℕ, ◌+◌, ◌-◌, ◌<◌, ◌≤◌, Bool, true, false, List, [], ◌∷◌, length, refl, sym, ap, ◌∙◌, subst, arith, Option, Some, None}
-use Rattle.std.proofs.lemmas.Bool.{and_parts, leb-true, ltb-true, le-leb, or_left, or_right}
+use Rattle.std.proofs.lemmas.Bool.{and_parts, leb-true, le-leb, or_left, or_right}
 use Rattle.std.proofs.lemmas.Bool.Decides.{nat_tests}
-use Rattle.std.specs.Prelude.{◌&&◌, ◌||◌, not, nat_le, nat_lt, max, filter, unwrap_or, if◌then◌else◌}
+use Rattle.std.specs.Prelude.{◌&&◌, ◌||◌, not, nat_le, max, filter, unwrap_or, if◌then◌else◌}
 use Rattle.std.specs.List.{AllByRecursion, list_all}
 use Rattle.rv_layout_laws.specs.Alignment.{aligned}
 use Rattle.rv_isa.specs.declared.kind.Kind.{Kind}
@@ -14,6 +14,7 @@ use Rattle.rv_object.specs.Valid.{is_align, padding_of, is_padding, is_padding_o
 use Rattle.rv_object.specs.Padding.{no_operations}
 use Rattle.rv_object_laws.specs.Moves.{full_padding, has_padding, alignment_of, inserted, by_place, plan, moves, new_offset, has_room}
 use Rattle.rv_link.proofs.FollowingLemmas.{Follow, Clears, field_inside}
+use Rattle.rv_relax.proofs.ApartLemmas.{padded}
 
 -- ---- tests
 
@@ -60,11 +61,6 @@ Apart r q = (r.place + full_padding r ≤ q.place) ⊎ (q.place + full_padding q
 -- a field stands before a padding or after it
 abbrev pub Beside : Relocation → Relocation → Type 0
 Beside r q = (r.place + width_of r.kind ≤ q.place) ⊎ (q.place + full_padding q ≤ r.place)
-
-padded : (r : Relocation) → has_padding r ≡ true → (is_align r.kind ≡ true) × (0 < full_padding r)
-padded r h =
-    let both = and_parts (is_align r.kind) (nat_lt 0 (full_padding r)) h in
-    (both.0, ltb-true 0 (full_padding r) both.1)
 
 -- one with bytes that ends before the later of two begins stands before the other
 before_other : (a b count : ℕ) → 0 < count → a + count ≤ max a b → a + count ≤ b

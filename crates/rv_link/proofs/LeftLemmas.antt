@@ -15,11 +15,11 @@ use Rattle.rv_object.specs.View.{object_of}
 use Rattle.rv_object_laws.specs.CallSites.{sites_of}
 use Rattle.rv_object_laws.specs.Collects.{Collects, graph_of}
 use Rattle.rv_object_laws.specs.IsProgramOf.{Leaves, IsProgramOf}
-use Rattle.rv_object_laws.specs.Without.{without, without_from}
+use Rattle.rv_object_laws.specs.Without.{without}
 use Rattle.rv_object_laws.specs.Shortened.{Sizes, shortened_symbol, shortened_from, shortened, Relaxes}
 use Rattle.rv_object_laws.proofs.TextLineLemmas.{sites_text, whole_text}
 use Rattle.rv_object_laws.proofs.WholeLemmas.{are_whole, whole_left}
-use Rattle.rv_object_laws.proofs.WithoutLemmas.{without_none}
+use Rattle.rv_object_laws.proofs.WithoutLemmas.{without_none, as_many_from as many_left_from}
 use Rattle.rv_resolve.specs.Chosen.{seen, seen_of}
 use Rattle.rv_resolve.specs.Exports.{first_again}
 use Rattle.rv_resolve.proofs.AlikeLemmas.{same_names, seen_left}
@@ -66,10 +66,6 @@ alike true os left h = record {
   many = ap length h.2 ∙ many_from _ 1 os;
   seen = ap seen_of h.2 ∙ seen_from _ 1 os;
 }
-
-many_left_from : (drops : List SectionId) (file : ℕ) (os : List Object) → length (without_from drops file os) ≡ length os
-many_left_from drops file [] = refl
-many_left_from drops file (o ∷ os) = ap suc (many_left_from drops (suc file) os)
 
 pub many_left : (drops : List SectionId) (os : List Object) → length (without drops os) ≡ length os
 many_left drops os = many_left_from drops 1 os

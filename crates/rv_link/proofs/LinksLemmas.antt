@@ -27,6 +27,7 @@ use Rattle.rv_link.specs.Untaken.{AreTaken}
 use Rattle.rv_link.specs.Regions.{AreGrown, HasLinkNames}
 use Rattle.rv_link.specs.Made.{made}
 use Rattle.rv_link.proofs.StandingLemmas.{all_at}
+use Rattle.rv_placement.proofs.FoundLemmas.{some_at}
 
 -- ---- every input section
 
@@ -62,11 +63,6 @@ module _ (os : List Object) (goes : Section → Bool) (P : InputSection → Type
   all_inputs = in_files 0 os (λ k o e. let plain : 0 + k ≡ k = omega arith in ap (λ n. slice_get os n) plain ∙ e)
 
 -- ---- room
-
-some_at : {A : Type 0} (xs : List A) (i : ℕ) → i < length xs → (x : A) × (slice_get xs i ≡ Some x)
-some_at [] i h = absurd (omega arith)
-some_at (x ∷ xs) zero h = (x, refl)
-some_at (x ∷ xs) (suc i) h = some_at xs i (omega arith)
 
 places_at : (fs : List (Vec PlacedSection)) (os : List Object) → map (λ f. length f.items) fs ≡ map (λ o. length o.sections) os
     → (file : ℕ) (o : Object) → slice_get os file ≡ Some o → (f : Vec PlacedSection) × (slice_get fs file ≡ Some f) × (length f.items ≡ length o.sections)

@@ -1,12 +1,12 @@
 -- The rows of placed objects can stand in a map.
 
-use Rattle.std.proofs.Common.{◌≡◌, ◌≤◌, ◌<◌, ◌+◌, ◌^◌, ℕ, suc, Bool, true, false, if◌then◌else◌, Option, Some, None, List, [], ◌∷◌, length, map, nat_le, refl, sym, ap, subst, ◌∙◌, arith}
+use Rattle.std.proofs.Common.{◌≡◌, ◌≤◌, ◌<◌, ◌+◌, ◌^◌, ℕ, suc, Bool, true, false, if◌then◌else◌, Some, List, [], ◌∷◌, length, map, nat_le, refl, sym, ap, subst, ◌∙◌, arith}
 use Rattle.std.specs.List.{AllByRecursion, list_all, slice_get}
-use Rattle.std.proofs.lemmas.Bool.{leb-true, and_parts}
+use Rattle.std.proofs.lemmas.Bool.{and_parts}
 use Rattle.std.proofs.lemmas.Option.{slice_get_within}
 use Rattle.rv_map.specs.Limits.{IsRow}
 use Rattle.rv_object.specs.declared.row.Row.{Row}
-use Rattle.rv_object.specs.Object.{Section, Object, size_of}
+use Rattle.rv_object.specs.Object.{Object, size_of}
 use Rattle.rv_object.specs.Valid.{is_row_in, is_counted, are_counted}
 use Rattle.rv_object.proofs.CountedLemmas.{counted_widths}
 use Rattle.rv_object_laws.specs.IsLinkOf.{inserted_row, by_ordinal, map_row, moves_at, row_in, rows_of, most_files}
@@ -20,6 +20,7 @@ use Rattle.rv_relax.proofs.RisingLemmas.{plan_rises}
 use Rattle.rv_placement.specs.declared.placement.Placement.{Placement}
 use Rattle.rv_placement.specs.Placement.{starts_of, object_section, IsPlacement}
 use Rattle.rv_placement.proofs.FoundLemmas.{in_object, is_placed, start_is}
+use Rattle.rv_placement.proofs.MapRowsLemmas.{row_stands}
 
 -- ---- lists
 
@@ -59,10 +60,6 @@ cut_numbered mss (r ∷ rows) h =
     let both = and_parts (is_counted r) (are_counted rows) h in
     let (line, ordinal, many) = is_numbered r both.0 in
     ((line, ordinal, omega (arith, many)), cut_numbered mss rows both.1)
-
-row_stands : (r : Row) (o : Option Section) → is_row_in r o ≡ true → (s : Section) × (o ≡ Some s) × (r.offset + r.bytes ≤ size_of s.contents)
-row_stands r None h = absurd (cc)
-row_stands r (Some s) h = (s, refl, leb-true (r.offset + r.bytes) (size_of s.contents) (and_parts s.loaded (nat_le (r.offset + r.bytes) (size_of s.contents)) h).1)
 
 module _ (os : List Object) (start : ℕ) (p : Placement) (is : IsPlacement os start p) where
   row_known : (file : ℕ) (o : Object) → slice_get os file ≡ Some o → file < most_files → (r : Row) → is_row_in r (slice_get o.sections r.section) ≡ true → IsNumbered r

@@ -1,6 +1,6 @@
 -- One section, and one file, more of a pass along the line.
 
-use Rattle.std.proofs.Common.{◌≡◌, ◌<◌, ◌≤◌, ◌+◌, ◌*◌, ◌^◌, ℕ, Bool, true, false, List, [], ◌∷◌, ◌++◌, length, drop, get_or, map, refl, sym, ap, ◌∙◌, append_assoc, arith}
+use Rattle.std.proofs.Common.{◌≡◌, ◌<◌, ◌≤◌, ◌+◌, ◌*◌, ◌^◌, ℕ, Bool, true, false, List, [], ◌∷◌, ◌++◌, length, drop, get_or, map, refl, sym, ap, ◌∙◌, arith}
 use Rattle.std.specs.Prelude.{if◌then◌else◌}
 use Rattle.std.proofs.lemmas.List.{drop_all, length-append}
 use Rattle.rv_object.specs.declared.object.Object.{Object as DeclaredObject}
@@ -11,6 +11,7 @@ use Rattle.rv_object.specs.View.{object_of}
 use Rattle.rv_object_laws.specs.Inputs.{goes_to_text}
 use Rattle.rv_link_sites.specs.Line.{end_from, next, ended, ended_files, first_behind, places, places_files, entries}
 use Rattle.rv_link_sites.proofs.LoopsLemmas.{left}
+pub use Rattle.rv_relax.proofs.SpreadLemmas.{grown}
 
 -- ---- ends only grow
 
@@ -30,9 +31,6 @@ grows_files stop [] = omega arith
 grows_files stop (o ∷ os) = let h = grows stop o.sections in let more = grows_files (ended stop o.sections) os in omega (arith, h, more)
 
 -- ---- the steps of loops
-
-pub grown : {A : Type 0} (front add more new all : List A) → new ≡ front ++ add → front ++ (add ++ more) ≡ all → new ++ more ≡ all
-grown front add more new all e h = ap (λ l. l ++ more) e ∙ append_assoc front add more ∙ h
 
 module _ (stop i : ℕ) (sections : List DeclaredSection) (x : DeclaredSection) (inside : i < length sections) (is : x ≡ get_or sections i x) where
   abbrev rest : List Section

@@ -7,7 +7,7 @@ use Rattle.std.specs.Fmt.{digits, digits_onto, digit_glyph}
 use Rattle.std.proofs.lemmas.Fmt.{hex_one_digit}
 use Rattle.rv_map.specs.Text.{hexadecimal}
 
-abbrev spell : ℕ → ℕ → List ℕ → List ℕ
+abbrev pub spell : ℕ → ℕ → List ℕ → List ℕ
 spell k n acc = digits_onto k 16 false n acc
 
 abbrev last : ℕ → ℕ

@@ -7,7 +7,7 @@ use Rattle.rv_elf.specs.FirstFault.{first_true}
 use Rattle.rv_elf.specs.Sections.{records}
 use Rattle.rv_elf.specs.FirstTrue.{first_true_none, first_true_some}
 
-records_cut : {X : Type 0} (f : ℕ → List ℕ → X) (size n i p q : ℕ) (bytes : List ℕ) → i < n → q ≡ p + size →
+pub records_cut : {X : Type 0} (f : ℕ → List ℕ → X) (size n i p q : ℕ) (bytes : List ℕ) → i < n → q ≡ p + size →
     records f size (n - i) p bytes ≡ f p bytes ∷ records f size (n - (i + 1)) q bytes
 records_cut f size n i p q bytes below next =
     let left : n - i ≡ suc (n - (i + 1)) = omega arith in

@@ -129,7 +129,7 @@ get_set [] t x low = absurd (omega arith)
 get_set (y ∷ xs) zero x low = refl
 get_set (y ∷ xs) (suc t) x low = get_set xs t x (omega arith)
 
-get_other : {X : Type 0} (xs : List X) (t u : ℕ) (x : X) → (u ≡ t → ⊥) → slice_get (set xs t x) u ≡ slice_get xs u
+pub get_other : {X : Type 0} (xs : List X) (t u : ℕ) (x : X) → (u ≡ t → ⊥) → slice_get (set xs t x) u ≡ slice_get xs u
 get_other [] t u x other = refl
 get_other (y ∷ xs) zero zero x other = absurd (other refl)
 get_other (y ∷ xs) zero (suc u) x other = refl

@@ -69,7 +69,7 @@ fits (objects.Nobits size) r some h = absurd (let e = eqb-true (width_of r.kind)
 abbrev pub are_clear : Relocation → Relocation → Bool
 are_clear r q = nat_le (r.place + held r) q.place || nat_le (q.place + held q) r.place
 
-either : (a b c : Bool) → (a || b || c) ≡ true → a ≡ false → (b ≡ true) ⊎ (c ≡ true)
+pub either : (a b c : Bool) → (a || b || c) ≡ true → a ≡ false → (b ≡ true) ⊎ (c ≡ true)
 either true b c h e = absurd (cc)
 either false true c h e = inl refl
 either false false true h e = inr refl

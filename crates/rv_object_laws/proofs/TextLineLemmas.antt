@@ -346,7 +346,7 @@ at_index P [] d h none i = none
 at_index P (x ∷ xs) d h none zero = h.0
 at_index P (x ∷ xs) d h none (suc i) = at_index P xs d h.1 none i
 
-abbrev nowhere : Site
+abbrev pub nowhere : Site
 nowhere = record { offset = 0; kind = Padding (record { bytes = 0; alignment = 1 }) }
 
 outside_of : (os : List Object) (k : SiteKind) (s : Site) → LeadsKind os k → ((p : Place) → IsTextPlace os p → Avoids (line_offset os p) s) → LeadsOutside k s

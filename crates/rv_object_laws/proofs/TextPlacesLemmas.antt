@@ -1,6 +1,6 @@
 -- The place of a symbol is one that a symbol of its object names.
 
-use Rattle.std.proofs.Common.{◌≡◌, ℕ, zero, suc, ◌+◌, ◌-◌, ◌<◌, ◌≤◌, ◌⊎◌, inl, inr, Bool, true, false, cond, ◌&&◌, nat_lt, List, [], ◌∷◌, Option, Some, None, slice_index_or, refl, sym, ap, subst, ◌∙◌, arith}
+use Rattle.std.proofs.Common.{◌≡◌, ℕ, suc, ◌+◌, ◌-◌, ◌<◌, ◌≤◌, ◌⊎◌, inl, inr, Bool, true, false, cond, ◌&&◌, nat_lt, List, [], ◌∷◌, Option, Some, None, slice_index_or, refl, sym, ap, subst, ◌∙◌, arith}
 use Rattle.std.specs.Prelude.{◌==◌, if◌then◌else◌, option_and_then, bytes_eq}
 use Rattle.std.specs.List.{AllByRecursion, find, list_any, slice_get}
 use Rattle.std.proofs.lemmas.Bool.{eqb-true, eq-eqb, lt-ltb, and_from, or_left, or_right, or_cases, cases_lt}
@@ -13,6 +13,7 @@ use Rattle.rv_object.specs.Bindings.{is_global, is_weak}
 use Rattle.rv_object_laws.specs.Names.{is_sure, is_export, Export, exports_in, exports_from, exports_where, candidates, chosen, Place, place_in, shared_place, symbol_place, no_object, object_at}
 use Rattle.rv_object_laws.proofs.TextInputsLemmas.{all_append}
 use Rattle.rv_object_laws.specs.CallSites.{is_inside, is_entered, target_place}
+use Rattle.std.proofs.lemmas.Map.Keys.{any_passes_from_place}
 
 -- a definition names a place of a section
 abbrev pub names_at : (index offset : ℕ) → Definition → Bool
@@ -32,13 +33,8 @@ any_first q x xs h = or_left (q x) (list_any q xs) h
 any_later : {A : Type 0} (q : A → Bool) (x : A) (xs : List A) → list_any q xs ≡ true → list_any q (x ∷ xs) ≡ true
 any_later q x xs h = or_right (q x) (list_any q xs) h
 
-any_got : {A : Type 0} (q : A → Bool) (xs : List A) (n : ℕ) (x : A) → slice_get xs n ≡ Some x → q x ≡ true → list_any q xs ≡ true
-any_got q [] n x is h = absurd (cc)
-any_got q (y ∷ ys) zero x is h = any_first q y ys (let same : y ≡ x = cc in ap q same ∙ h)
-any_got q (y ∷ ys) (suc n) x is h = any_later q y ys (any_got q ys n x is h)
-
 -- what holds of each holds of the one that is found
-all_found : {A : Type 0} (P : A → Type 0) (test : A → Bool) (xs : List A) (x : A) → AllByRecursion P xs → find test xs ≡ Some x → P x
+pub all_found : {A : Type 0} (P : A → Type 0) (test : A → Bool) (xs : List A) (x : A) → AllByRecursion P xs → find test xs ≡ Some x → P x
 all_found P test [] x all is = absurd (cc)
 all_found P test (y ∷ ys) x all is = by (test y) is (λ e. all_found P test ys x all.1 e)
   where
@@ -129,7 +125,7 @@ shared_named os name p h = by (chosen os name) refl h
         let some = it.counted in
         record {
           counted = omega (arith, some, same);
-          named = ap (λ x. is_named x p) (ap (object_at os) (sym at.file_is) ∙ it.object) ∙ any_got (λ (x : Symbol). names_at p.section p.offset x.definition) e.object.symbols e.index e.symbol it.symbol at.names;
+          named = ap (λ x. is_named x p) (ap (object_at os) (sym at.file_is) ∙ it.object) ∙ any_passes_from_place (λ (x : Symbol). names_at p.section p.offset x.definition) e.object.symbols e.index e.symbol it.symbol at.names;
         }
 
     by : (c : Option Export) → chosen os name ≡ c → option_and_then (λ e. place_in e.file e.symbol.definition) c ≡ Some p → IsNamed os p
@@ -145,7 +141,7 @@ symbol_named os file o n s p some at got h = by (is_sure s) h
         let same = it.file_is in
         record {
           counted = omega (arith, some, same);
-          named = ap (λ x. is_named x p) (ap (object_at os) (sym it.file_is) ∙ at) ∙ any_got (λ (x : Symbol). names_at p.section p.offset x.definition) o.symbols n s got it.names;
+          named = ap (λ x. is_named x p) (ap (object_at os) (sym it.file_is) ∙ at) ∙ any_passes_from_place (λ (x : Symbol). names_at p.section p.offset x.definition) o.symbols n s got it.names;
         }
     by false is = shared_named os s.name p is
 

@@ -34,11 +34,11 @@ are_whole (d ∷ ds) = (is_whole d, are_whole ds)
 
 -- ---- sections that are left
 
-by_paddings : (executable : Bool) → (true && (not executable || true)) ≡ true
+pub by_paddings : (executable : Bool) → (true && (not executable || true)) ≡ true
 by_paddings true = refl
 by_paddings false = refl
 
-by_fits : (c : Contents) → fit_inside c [] ≡ true
+pub by_fits : (c : Contents) → fit_inside c [] ≡ true
 by_fits (Progbits bytes) = refl
 by_fits (Note bytes) = refl
 by_fits (Nobits size) = refl

@@ -37,7 +37,7 @@ pub as_many_sections : (dropped : ℕ → Bool) (index : ℕ) (ss : List Section
 as_many_sections dropped index [] = refl
 as_many_sections dropped index (s ∷ ss) = ap suc (as_many_sections dropped (suc index) ss)
 
-as_many_from : (drops : List SectionId) (file : ℕ) (os : List Object) → length (without_from drops file os) ≡ length os
+pub as_many_from : (drops : List SectionId) (file : ℕ) (os : List Object) → length (without_from drops file os) ≡ length os
 as_many_from drops file [] = refl
 as_many_from drops file (o ∷ os) = ap suc (as_many_from drops (suc file) os)
 

@@ -22,6 +22,7 @@ use Rattle.rv_object_reader.proofs.KeptLemmas.{kept_place, get_map, get_below, m
 use Rattle.rv_object_reader.proofs.MadeLemmas.{kept_found}
 use Rattle.rv_object_reader.proofs.SymbolCountLemmas.{no_symbols}
 use Rattle.rv_object_reader.proofs.WalkLemmas.{fine, passed_find, sections_are, header_says}
+use Rattle.rv_object_checks.proofs.WalkingLemmas.{get_other}
 
 -- ---- one section further
 
@@ -194,13 +195,6 @@ AreLeft file i lists = (j : ℕ) → i < j → (t : FileSection) → kept_at fil
 pub left_first : (file : List ℕ) (lists : List (Vec DeclaredRelocation)) → lists_in lists ≡ lists_of file → AreLeft file 0 lists
 left_first file lists is j some t k =
     ap (λ ls. slice_get ls (kept_before file j)) is ∙ get_map (list_so_far file (sections file)) (kept file) (kept_before file j) t (kept_place file j t k)
-
-get_other : {X : Type 0} (xs : List X) (t u : ℕ) (x : X) → (u ≡ t → ⊥) → slice_get (set xs t x) u ≡ slice_get xs u
-get_other [] t u x other = refl
-get_other (y ∷ xs) zero zero x other = absurd (other refl)
-get_other (y ∷ xs) zero (suc u) x other = refl
-get_other (y ∷ xs) (suc t) zero x other = refl
-get_other (y ∷ xs) (suc t) (suc u) x other = get_other xs t u x (λ e. other (ap suc e))
 
 pub record PlaceAt (file : List ℕ) (j place : ℕ) : Type 0 where
   pub found : kept_at file j ≡ Some (section_at file j)

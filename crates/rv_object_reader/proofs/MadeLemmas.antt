@@ -1,12 +1,12 @@
 -- Records of a table, made one after the other; and what is found in a file.
 
-use Rattle.std.proofs.Common.{◌≡◌, ℕ, zero, suc, ◌+◌, ◌-◌, ◌<◌, ◌≤◌, ◌==◌, Bool, true, false, ◌&&◌, List, [], ◌∷◌, ◌++◌, map, drop, Option, Some, None, refl, ap, sym, ◌∙◌, subst, arith, cond}
+use Rattle.std.proofs.Common.{◌≡◌, ℕ, zero, suc, ◌+◌, ◌-◌, ◌<◌, ◌≤◌, ◌==◌, Bool, true, false, ◌&&◌, List, [], ◌∷◌, ◌++◌, map, Option, Some, None, refl, ap, sym, ◌∙◌, subst, arith, cond}
 use Rattle.std.specs.List.{find, AllByRecursion}
 use Rattle.std.proofs.lemmas.Bool.{and_parts, eqb-true, true≢false}
 use Rattle.std.proofs.lemmas.List.{append_assoc, map-append}
 use Rattle.rv_elf.specs.declared.symbol.Symbol.{Symbol as SymbolRecord}
 use Rattle.rv_elf.specs.FirstFault.{first_true}
-use Rattle.rv_elf.specs.Sections.{records, section_count}
+use Rattle.rv_elf.specs.Sections.{section_count}
 use Rattle.rv_object.specs.declared.row.Row.{Row}
 use Rattle.rv_object_checks.specs.Found.{section_at, sections_from, place_among_kept, place_at}
 use Rattle.rv_object_file_laws.specs.FirstFault.{has_binding, has_home, symbol_tests, is_row_of, row_tests, first_fault}
@@ -16,23 +16,9 @@ use Rattle.rv_object_reader.proofs.FirstTrueLemmas.{not_false, all_false}
 use Rattle.rv_object_reader.proofs.KeptLemmas.{find_filter}
 use Rattle.rv_object_reader.proofs.ValidSymbolsLemmas.{IsGoodRow, good_rows}
 use Rattle.rv_object_reader.proofs.WalkLemmas.{sections_are}
+pub use Rattle.rv_object_checks.proofs.RecordsLemmas.{records_cut as records_next, records_behind}
 
 -- ---- tables
-
--- one record further
-pub records_next : {X : Type 0} (f : ℕ → List ℕ → X) (size n i p q : ℕ) (bytes : List ℕ) → i < n → q ≡ p + size →
-    records f size (n - i) p bytes ≡ f p bytes ∷ records f size (n - (i + 1)) q bytes
-records_next f size n i p q bytes below next =
-    let left : n - i ≡ suc (n - (i + 1)) = omega arith in
-    ap (λ m. records f size m p bytes) left ∙ ap (λ place. f p bytes ∷ records f size (n - (i + 1)) place bytes) (sym next)
-
--- all records but the first
-pub records_behind : {X : Type 0} (f : ℕ → List ℕ → X) (size n p : ℕ) (bytes : List ℕ) → p ≡ 0 + size →
-    drop 1 (records f size n 0 bytes) ≡ records f size (n - 1 - 0) p bytes
-records_behind f size zero p bytes first = refl
-records_behind f size (suc n) p bytes first =
-    let same : suc n - 1 - 0 ≡ n = omega arith in
-    ap (λ place. records f size n place bytes) (sym first) ∙ ap (λ m. records f size m p bytes) (sym same)
 
 -- what is made so far, and what the records that are left make, is all
 pub record SoFar {X Y : Type 0} (P : X → Type 0) (g : X → Y) (all : List X) (made : List Y) (left : List X) : Type 0 where

@@ -16,6 +16,8 @@ use Rattle.rv_object_writer.specs.declared.piece.Piece.{Piece as DeclaredPiece}
 use Rattle.rv_object_writer.specs.Pieces.{body_bytes, piece_of, rows_bytes}
 use Rattle.rv_object_file_laws.proofs.SymbolsReadLemmas.{length-rows}
 use Rattle.rv_object_file_laws.specs.Written.{UnplacedSection, zeros_at, contents_from, headers_offset, headers_from, header_of, rela_pieces, row_pieces, has_relocations, is_local, locals}
+pub use Rattle.rv_object_file_laws.proofs.HeadingLemmas.{length-file_header as length-header}
+pub use Rattle.rv_object_file_laws.proofs.LaidLemmas.{aligned_up as not_below}
 
 -- the next of those that are left
 pub left : {A : Type 0} (xs : List A) (i : ℕ) (x d : A) → i < length xs → x ≡ get_or xs i d → drop i xs ≡ x ∷ drop (i + 1) xs
@@ -48,13 +50,7 @@ five a b c x y e f g h k =
 
 -- ---- contents and headers
 
-pub length-header : (h : FileHeader) → length (file_header_bytes h) ≡ 64
 unfolding file_header_bytes
-length-header h = refl
-
--- where contents end, the section headers stand; no section's contents begin past that
-pub not_below : (at : ℕ) → at ≤ aligned 8 at
-not_below at = omega arith
 
 pub contents_end : (at : ℕ) (ps : List UnplacedSection) → at + length (contents_from at ps) ≡ headers_offset at ps
 contents_end at [] =

@@ -1,7 +1,7 @@
 -- The first byte past its line's limit, found a window at a time: a line ends among so many bytes, or is too long.
 
 use Rattle.std.proofs.Common.{◌≡◌, ℕ, zero, suc, ◌+◌, ◌-◌, ◌<◌, ◌≤◌, Bool, true, false, cond, ◌==◌, List, [], ◌∷◌, length, take, drop, get_or, Some, None, refl, sym, ◌∙◌, ap, arith, length-drop}
-use Rattle.std.proofs.lemmas.Bool.{eqb-true}
+use Rattle.std.proofs.lemmas.Bool.{eqb-true, false_from_ne_true}
 use Rattle.std.proofs.lemmas.List.{get_or-take, drop-drop, length-take-le}
 use Rattle.rv_parse_laws.specs.Reading.{longest_line}
 use Rattle.rv_parse.specs.Lines.{past_line}
@@ -65,10 +65,6 @@ line_ends source start n end is long lt feed =
     sym (past_end end (drop start source) start 0 inside (omega (arith, is, within)) here
     ∙ ap (λ (xs : List ℕ). past_line (start + suc end) 0 xs) rest ∙ ap (λ m. past_line (start + m) 0 (drop (start + (end + 1)) source)) next)
 
-not_true : (t : Bool) → (t ≡ true → ⊥) → t ≡ false
-not_true true other = absurd (other refl)
-not_true false other = refl
-
 -- no line feed in such a window
 pub line_goes_on : (source : List ℕ) (start n : ℕ) → n ≡ longest_line + 1 → longest_line < length source - start
     → ((k : ℕ) → 0 ≤ k → k < length (take n (drop start source)) → (get_or (take n (drop start source)) k 0 == 10) ≡ true → ⊥)
@@ -79,7 +75,7 @@ line_goes_on source start n is long none =
     too_long longest_line (drop start source) start 0 inside (omega arith) (λ k le. here k (omega (arith, le, is)) (omega (arith, le, is, size)))
   where
     here : (k : ℕ) → k < n → k < length (take n (drop start source)) → (get_or (drop start source) k 0 == 10) ≡ false
-    here k lt inside = ap (λ m. m == 10) (sym (get_or-take n (drop start source) k 0 lt)) ∙ not_true (get_or (take n (drop start source)) k 0 == 10) (none k (omega arith) inside)
+    here k lt inside = ap (λ m. m == 10) (sym (get_or-take n (drop start source) k 0 lt)) ∙ false_from_ne_true (get_or (take n (drop start source)) k 0 == 10) (none k (omega arith) inside)
 
 -- what is left is short
 pub line_within : (source : List ℕ) (start : ℕ) → length source - start ≤ longest_line → past_line start 0 (drop start source) ≡ None

@@ -17,6 +17,7 @@ use Rattle.rv_parse_laws.specs.Faults.{wrong_first}
 use Rattle.rv_parse_laws.specs.Parsing.{single_at}
 use Rattle.rv_parse_laws.proofs.StepsLemmas.{taken_ok, taken_err}
 use Rattle.rv_parse_laws.proofs.FailingLemmas.{Failing, at_first}
+pub use Rattle.rv_text_laws.proofs.ExpressionFaultsLemmas.{of_kind as some_token}
 
 -- the tokens are one, which stands in this place
 abbrev pub IsSingle : Slot → List Token → List Operand → Type 0
@@ -72,10 +73,6 @@ end_none s (Punctuation Semicolon) h = semicolon_in s
 end_none s End h = end_in s
 end_none s (Punctuation _) h = absurd (cc)
 end_none s _ h = absurd (cc)
-
--- tokens that may stand in places
-abbrev pub some_token : Kind → Token
-some_token k = record { kind = k; start = 0; stop = 0; line = 0 }
 
 abbrev pub an_opening : Token
 an_opening = some_token (Punctuation Open)

@@ -1,8 +1,8 @@
 -- Paddings of a section that begins at a multiple of each of its alignments: they are the same wherever it stands.
 
-use Rattle.std.proofs.Common.{◌≡◌, ℕ, ◌+◌, ◌-◌, ◌*◌, ◌/◌, ◌%◌, ◌^◌, ◌<◌, ◌≤◌, Bool, true, false, cond, ◌||◌, nat_le, nat_lt, max, List, [], ◌∷◌, Some, refl, sym, ap, subst, ◌∙◌, arith}
-use Rattle.std.specs.Prelude.{◌==◌, unwrap_or, if◌then◌else◌}
-use Rattle.std.specs.List.{AllByRecursion, find, list_any}
+use Rattle.std.proofs.Common.{◌≡◌, ℕ, ◌+◌, ◌-◌, ◌*◌, ◌/◌, ◌%◌, ◌^◌, ◌<◌, ◌≤◌, Bool, true, false, ◌||◌, nat_le, max, List, [], ◌∷◌, refl, sym, ap, subst, ◌∙◌, arith}
+use Rattle.std.specs.Prelude.{◌==◌, if◌then◌else◌}
+use Rattle.std.specs.List.{AllByRecursion, list_any}
 use Rattle.std.proofs.Math.Nat.{mul_assoc, mul-mod_left}
 use Rattle.std.proofs.lemmas.Bool.{eqb-true, leb-true, leb-false}
 use Rattle.std.proofs.lemmas.Nat.{div-add-mod', pow-add, pow_below}
@@ -12,16 +12,9 @@ use Rattle.rv_object.specs.Padding.{no_operations}
 use Rattle.rv_object.specs.Valid.{is_section_alignment}
 use Rattle.rv_object_laws.specs.Moves.{full_padding, alignment_of, alignments_of, moves, plan}
 use Rattle.rv_object_laws.specs.Inputs.{goes_to_text, raised, begins_at}
+pub use Rattle.rv_relax.proofs.AlignedLemmas.{one_of}
 
 -- ---- powers of two
-
-pub one_of : (P : ℕ → Type 0) (full : ℕ) (xs : List ℕ) → P 4096 → AllByRecursion P xs → P (unwrap_or (find (λ a. nat_lt full a) xs) 4096)
-one_of P full [] most each = most
-one_of P full (a ∷ xs) most each = by (nat_lt full a) (one_of P full xs most each.1)
-  where
-    by : (b : Bool) → P (unwrap_or (find (λ a. nat_lt full a) xs) 4096) → P (unwrap_or (cond b (Some a) (find (λ a. nat_lt full a) xs)) 4096)
-    by true more = each.0
-    by false more = more
 
 pub any_power : (P : ℕ → Type 0) (n : ℕ) (ks : List ℕ) → AllByRecursion (λ k. P (2 ^ k)) ks → list_any (λ k. n == 2 ^ k) ks ≡ true → P n
 any_power P n [] each e = absurd (cc)

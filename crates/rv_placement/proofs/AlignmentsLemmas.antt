@@ -93,7 +93,7 @@ greatest_some to (s ∷ ss) = let h = greatest_some to ss in omega arith
 pub greatest_start : (to : Section → Bool) (ss : List Section) → max 1 (greatest_in to ss) ≡ greatest_in to ss
 greatest_start to ss = let h = greatest_some to ss in omega arith
 
-greatest_some_of : (to : Section → Bool) (os : List Object) → 0 < greatest_of to os
+pub greatest_some_of : (to : Section → Bool) (os : List Object) → 0 < greatest_of to os
 greatest_some_of to [] = omega arith
 greatest_some_of to (o ∷ os) = let h = greatest_some_of to os in omega arith
 

@@ -8,10 +8,7 @@ use Rattle.rv_placement.specs.declared.destination.Destination.TheVariants.{Roda
 use Rattle.rv_placement.specs.declared.placement.PlacedSection.{PlacedSection}
 use Rattle.rv_placement.specs.Walk.{goes, ended, ended_files, started_files, greatest_of, AreBehind}
 use Rattle.rv_placement.proofs.WalksLemmas.{above, grows_files, length-started}
-
-greatest_some : (to : Section → Bool) (os : List Object) → 0 < greatest_of to os
-greatest_some to [] = omega arith
-greatest_some to (o ∷ os) = let h = greatest_some to os in omega arith
+use Rattle.rv_placement.proofs.AlignmentsLemmas.{greatest_some_of as greatest_some}
 
 module _ (os : List Object) (stop : ℕ) (rodata variables bss : Region) (h : AreBehind os stop rodata variables bss) where
   pub bss_up : (variables.end ≤ bss.start) × (bss.start ≤ bss.end)

@@ -26,7 +26,7 @@ all_moved p f [] i x h inside is = absurd (omega arith)
 all_moved p f (y ∷ xs) zero x h inside is = ap (λ z. p (f z)) is ∙ (and_parts (p (f y)) (list_all p (map f xs)) h).0
 all_moved p f (y ∷ xs) (suc i) x h inside is = all_moved p f xs i x (and_parts (p (f y)) (list_all p (map f xs)) h).1 (omega arith) is
 
-row_stands : (r : Row) (o : Option Section) → is_row_in r o ≡ true → (s : Section) × (o ≡ Some s) × (r.offset + r.bytes ≤ size_of s.contents)
+pub row_stands : (r : Row) (o : Option Section) → is_row_in r o ≡ true → (s : Section) × (o ≡ Some s) × (r.offset + r.bytes ≤ size_of s.contents)
 row_stands r None h = absurd (cc)
 row_stands r (Some s) h = (s, refl, leb-true (r.offset + r.bytes) (size_of s.contents) (and_parts s.loaded (nat_le (r.offset + r.bytes) (size_of s.contents)) h).1)
 

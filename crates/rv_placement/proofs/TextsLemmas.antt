@@ -1,6 +1,6 @@
 -- One section, and one file, more of the text's pass.
 
-use Rattle.std.proofs.Common.{◌≡◌, ◌<◌, ◌+◌, ℕ, true, false, Option, Some, None, List, [], ◌∷◌, ◌++◌, length, take, drop, get_or, map, sym, ap, subst, ◌∙◌, append_assoc, append-nil}
+use Rattle.std.proofs.Common.{◌≡◌, ◌<◌, ◌+◌, ℕ, true, false, Option, Some, None, List, [], ◌∷◌, ◌++◌, length, take, drop, get_or, map, sym, ap, subst, ◌∙◌, append-nil}
 use Rattle.std.specs.Prelude.{if◌then◌else◌, IfSome, IfNone}
 use Rattle.std.specs.Global.{Vec}
 use Rattle.std.specs.List.{AllZip}
@@ -17,6 +17,7 @@ use Rattle.rv_shorten.specs.View.{short_object_of}
 use Rattle.rv_placement.specs.declared.placement.PlacedSection.{PlacedSection}
 use Rattle.rv_placement.specs.Walk.{start_behind, end_behind, next, ended, ended_files, start_from, text_starts, text_files, gap_between, gap_behind, gapped, gapped_files, lists_of, IsKept, AreKept, IsPut}
 use Rattle.rv_placement.proofs.WalksLemmas.{left}
+use Rattle.rv_relax.proofs.SpreadLemmas.{grown}
 
 -- what is said of the value that an option has
 pub told : {A : Type 0} (P : A → Type 0) (o : Option A) (x : A) → o ≡ Some x → IfSome o P → P x
@@ -61,9 +62,6 @@ put_text stop start end s old new gaps others text is ends put gap = (
 )
 
 -- ---- the steps of loops
-
-grown : {A : Type 0} (front add more new all : List A) → new ≡ front ++ add → front ++ (add ++ more) ≡ all → new ++ more ≡ all
-grown front add more new all e h = ap (λ l. l ++ more) e ∙ append_assoc front add more ∙ h
 
 starts : List PlacedSection → List ℕ
 starts qs = map (λ q. q.start) qs

@@ -1,24 +1,17 @@
 -- A text that begins at a page stands a multiple of each alignment behind the line of the plan.
 
-use Rattle.std.proofs.Common.{◌≡◌, ℕ, ◌+◌, ◌-◌, ◌%◌, ◌^◌, ◌<◌, ◌≤◌, Bool, true, false, cond, ◌||◌, nat_lt, nat_le, max, List, [], ◌∷◌, refl, sym, subst, arith, Some}
-use Rattle.std.specs.Prelude.{unwrap_or, ◌==◌}
+use Rattle.std.proofs.Common.{◌≡◌, ℕ, ◌+◌, ◌-◌, ◌%◌, ◌^◌, ◌<◌, ◌≤◌, Bool, true, false, cond, ◌||◌, nat_le, max, List, [], ◌∷◌, refl, sym, subst, arith}
+use Rattle.std.specs.Prelude.{◌==◌}
 use Rattle.std.proofs.lemmas.Bool.{leb-true, leb-false, eqb-true}
 use Rattle.rv_object.specs.Valid.{is_section_alignment}
 use Rattle.rv_object_laws.specs.Moves.{alignments_of, alignment_of, full_padding}
 use Rattle.rv_object_laws.specs.Inputs.{InputSection, raised, begins_at, goes_to_text}
-use Rattle.std.specs.List.{find, list_any, AllByRecursion}
+use Rattle.std.specs.List.{list_any, AllByRecursion}
 use Rattle.rv_object.specs.Object.{Relocation}
 use Rattle.rv_layout_laws.specs.Alignment.{aligned}
 use Rattle.rv_relax.proofs.AlignedLemmas.{alignments}
 use Rattle.rv_plan_laws.proofs.PlannedLemmas.{IsMultiple}
-
-pub one_of : (P : ℕ → Type 0) (full : ℕ) (xs : List ℕ) → P 4096 → AllByRecursion P xs → P (unwrap_or (find (λ a. nat_lt full a) xs) 4096)
-one_of P full [] most each = most
-one_of P full (a ∷ xs) most each = by (nat_lt full a) (one_of P full xs most each.1)
-  where
-    by : (b : Bool) → P (unwrap_or (find (λ a. nat_lt full a) xs) 4096) → P (unwrap_or (cond b (Some a) (find (λ a. nat_lt full a) xs)) 4096)
-    by true more = each.0
-    by false more = more
+pub use Rattle.rv_relax.proofs.AlignedLemmas.{one_of}
 
 pub multiples : (far : ℕ) → far % 4096 ≡ 0 → (r : Relocation) → IsMultiple far (alignment_of r)
 multiples far page r n =

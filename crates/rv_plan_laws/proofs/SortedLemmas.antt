@@ -1,10 +1,9 @@
 -- The alignments of a section are in one order before and after its calls are cut.
 
-use Rattle.std.proofs.Common.{◌≡◌, ℕ, ◌+◌, ◌<◌, ◌≤◌, inl, inr, Bool, true, false, cond, ◌&&◌, ◌||◌, nat_le, nat_lt, List, [], ◌∷◌, ◌++◌, map, refl, sym, ap, ◌∙◌, arith}
+use Rattle.std.proofs.Common.{◌≡◌, ℕ, ◌+◌, ◌≤◌, inl, inr, Bool, true, false, cond, ◌||◌, nat_le, nat_lt, List, [], ◌∷◌, ◌++◌, map, refl, sym, ap, ◌∙◌, arith}
 use Rattle.std.specs.Prelude.{filter}
 use Rattle.std.specs.List.{list_all}
 use Rattle.std.proofs.lemmas.Bool.{cases_Bool, leb-true, ltb-true, le-leb, and_parts, or_left}
-use Rattle.std.proofs.lemmas.Bool.Decides.{nat_tests}
 use Rattle.rv_object.specs.Object.{Relocation, Section, size_of, Object}
 use Rattle.rv_object.specs.Valid.{is_align, held, are_all_apart}
 use Rattle.rv_object_laws.specs.Moves.{Move, new_offset, full_padding, has_padding, inserted, by_place, alignments_of}
@@ -19,18 +18,10 @@ use Rattle.rv_shorten.proofs.ChangesLemmas.{IsSound, changes_rise}
 use Rattle.rv_shorten.proofs.ShiftsLemmas.{rising}
 use Rattle.rv_shorten.proofs.PaddingsLemmas.{align_stays, held_stays}
 use Rattle.rv_relax.proofs.ApartLemmas.{are_clear, all_by_place, all_apart}
-use Rattle.rv_relax.proofs.ByPlaceLemmas.{AreTold, all_told}
-
-not_le : (m n : ℕ) → n < m → nat_le m n ≡ false
-not_le m n h = grind (arith, nat_tests)
-
-abbrev told : Relocation → Relocation → Bool
-told r q = are_clear r q && nat_lt 0 (full_padding q)
+use Rattle.rv_relax.proofs.ByPlaceLemmas.{AreTold, all_told, not_up_to as not_le, is_told as told}
+use Rattle.rv_relax.proofs.MovedLemmas.{has_padding_still as padding_stays}
 
 -- ---- what has padding keeps it
-
-padding_stays : (ms : List Move) (r : Relocation) → has_padding (cut_relocation ms r) ≡ has_padding r
-padding_stays ms r = ap (λ b. b && nat_lt 0 (full_padding r)) (align_stays ms r)
 
 pub filter_cut : (ms : List Move) (rs : List Relocation) → filter has_padding (map (cut_relocation ms) rs) ≡ map (cut_relocation ms) (filter has_padding rs)
 filter_cut ms [] = refl

@@ -16,6 +16,7 @@ use Rattle.rv_pseudo_laws.specs.Valid.{form_takes, is_upper_20, takes}
 use Rattle.rv_pseudo_laws.specs.InstructionFaults.{Worth, Number, Address, Wrong, is_signed_12, takes_address, number_faults, target_faults}
 use Rattle.rv_pseudo.specs.Faults.{takes_registers, constant_in, number, mnemonic_of, with_part, known_as, takes_target, is_upper, is_constant_form, is_lower, is_written, is_placed, is_bad_scratch, scratch_of, faults_of}
 use Rattle.rv_pseudo.proofs.ParcelRowsLemmas.{beside_away}
+pub use Rattle.rv_pseudo_laws.proofs.ParcelsLemmas.{first_of as and_left, second_of as and_right}
 
 -- ---- what a field takes
 
@@ -52,14 +53,6 @@ is_taken operation (Some PcrelLo) (Some k) = false
 is_taken operation (Some function) None = takes_part function operation
 
 -- ---- tests
-
-pub and_left : (a b : Bool) → (a && b) ≡ true → a ≡ true
-and_left true b e = refl
-and_left false b e = absurd (cc)
-
-pub and_right : (a b : Bool) → (a && b) ≡ true → b ≡ true
-and_right true b e = e
-and_right false b e = absurd (cc)
 
 no_not : (b : Bool) → not b ≡ true → b ≡ false
 no_not true e = absurd (cc)

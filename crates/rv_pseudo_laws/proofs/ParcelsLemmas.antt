@@ -41,11 +41,11 @@ one_in Short r e = grind (arith, nat_tests)
 one_in Stack r e = grind (arith, nat_tests)
 one_in Upper r e = grind (arith, nat_tests)
 
-first_of : (a b : Bool) → (a && b) ≡ true → a ≡ true
+pub first_of : (a b : Bool) → (a && b) ≡ true → a ≡ true
 first_of true b e = refl
 first_of false b e = absurd (cc)
 
-second_of : (a b : Bool) → (a && b) ≡ true → b ≡ true
+pub second_of : (a b : Bool) → (a && b) ≡ true → b ≡ true
 second_of true b e = e
 second_of false b e = absurd (cc)
 

@@ -6,6 +6,7 @@ use Rattle.std.proofs.Math.Nat.{pow-suc, pow-succ', div-div-eq-div-mul, mul-div_
 use Rattle.std.proofs.Math.Pow.{pow-lt}
 use Rattle.std.proofs.Math.IntN.{pos-*ℤ-pos, negsuc-*ℤ-pos}
 use Rattle.rv_isa_laws.specs.Arithmetic.{floor}
+use Rattle.std.proofs.lemmas.Nat.{div-mul-add}
 
 -- a number is a multiple
 pub record IsMultiple (n m : ℕ) : Type 0 where
@@ -46,9 +47,6 @@ zeros_within k n b some below =
     let within : 2 ^ count_trailing_zeros k n ≤ 2 ^ b = omega arith in
     exponent_within (count_trailing_zeros k n) b within
 
-with_rest : (q m r : ℕ) → r < m → (q * m + r) / m ≡ q
-with_rest q m r below = grind (arith)
-
 -- a multiple of a number is its quotient by that number, times it
 pub floor_times : (h : ℤ) (m : ℕ) → 0 < m → IsMultiple (unsigned_abs h) m → floor h m *ℤ pos m ≡ h
 floor_times (pos n) m some k =
@@ -59,7 +57,7 @@ floor_times (negsuc n) m some k = negative n m k.times some k.is where
   negative n m zero some e = absurd (omega arith)
   negative n m (suc q) some e =
       let below : n ≡ q * m + (m - 1) = grind arith in
-      let quotient : n / m ≡ q = ap (λ x. x / m) below ∙ with_rest q m (m - 1) (omega arith) in
+      let quotient : n / m ≡ q = ap (λ x. x / m) below ∙ div-mul-add q m (m - 1) (omega arith) in
       negsuc-*ℤ-pos (n / m) m ∙ ap (λ x. neg_ℤ (pos (suc x * m))) quotient ∙ ap (λ x. neg_ℤ (pos x)) (sym e)
 
 pub abs_some : (h : ℤ) → h ≢ pos 0 → 0 < unsigned_abs h
@@ -88,7 +86,7 @@ floor_odd (negsuc n) some below =
       parts m n zero some e = absurd (omega arith)
       parts m n (suc q) some e =
           let below : n ≡ q * m + (m - 1) = grind arith in
-          let quotient : n / m ≡ q = ap (λ x. x / m) below ∙ with_rest q m (m - 1) (omega arith) in
+          let quotient : n / m ≡ q = ap (λ x. x / m) below ∙ div-mul-add q m (m - 1) (omega arith) in
           ap suc quotient ∙ sym (ap (λ x. x / m) e ∙ mul-div_left (suc q) some)
 
       negative : (m n : ℕ) → 0 < m → IsMultiple (suc n) m → suc (n / m) ≡ suc n / m

@@ -1,10 +1,9 @@
 -- The lines of a raw listing that are no instructions: its options, its global, and the label of
 -- its entry.
 
-use Rattle.std.proofs.Common.{◌≡◌, ℕ, List, [], ◌∷◌, ◌++◌, refl, arith, codes}
+use Rattle.std.proofs.Common.{ℕ, List, [], ◌∷◌, ◌++◌, refl, arith, codes}
 use Rattle.rv_isa.specs.RegisterNames.{abi_names}
 use Rattle.rv_text_laws.specs.declared.punct.Punct.TheVariants as puncts
-use Rattle.rv_text_laws.specs.declared.class.Class.TheVariants.{Blank}
 use Rattle.rv_text_laws.specs.Bytes.{class}
 use Rattle.rv_text_laws.specs.Grammar.{Punctuation, Stops}
 use Rattle.rv_text_laws.specs.Lexing.{placed}
@@ -15,11 +14,9 @@ use Rattle.rv_statement.specs.Statement.{Word, Label, Directs, Chooses as Choosi
 use Rattle.rv_parse_laws.specs.Words.{register, register_names, choices, beginning, mnemonic_named, directive_named, instruction_words, atomic_operations, atomic_forms, directive_words}
 use Rattle.rv_parse_laws.specs.Syntax.{is_symbol}
 use Rattle.rv_raw_laws.proofs.LexemesLemmas.{lexeme, word, blank, name_spells, name_stops}
-use Rattle.rv_raw_laws.proofs.WordsLemmas.{IsLineOf}
+use Rattle.rv_raw_laws.proofs.WordsLemmas.{IsLineOf, blank_class}
 
-blank_class : class 32 ≡ Blank
 unfolding class
-blank_class = refl
 
 colon_stops : (rest : List ℕ) → Stops (Punctuation puncts.Colon) rest
 colon_stops [] = tt

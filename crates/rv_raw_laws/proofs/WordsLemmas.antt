@@ -49,7 +49,7 @@ pub record IsLineOf (text : List ℕ) (kind : StatementKind) : Type 0 where
   pub long : 3 ≤ length text
   pub short : length text ≤ 1000
 
-blank_class : class 32 ≡ Blank
+pub blank_class : class 32 ≡ Blank
 unfolding class
 blank_class = refl
 
@@ -101,10 +101,10 @@ without_operands name mnemonic b a long =
 pub small_12 : (z : ℤ) → IsSigned12 z → IsSmall z
 small_12 z h = bounded 2047 2047 (omega arith) (omega arith) z h.0 h.1
 
-branch_small : (z : ℤ) → IsBranchOffset z → IsSmall z
+pub branch_small : (z : ℤ) → IsBranchOffset z → IsSmall z
 branch_small z h = bounded 4095 4094 (omega arith) (omega arith) z h.0 h.1
 
-jump_small : (z : ℤ) → IsJumpOffset z → IsSmall z
+pub jump_small : (z : ℤ) → IsJumpOffset z → IsSmall z
 jump_small z h = bounded 1048575 1048574 (omega arith) (omega arith) z h.0 h.1
 
 shift_small : (operation : ShiftOperation) (n : ℕ) → n < shift_limit operation → n < 2 ^ 64

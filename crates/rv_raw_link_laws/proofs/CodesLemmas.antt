@@ -39,9 +39,9 @@ use Rattle.rv_raw_laws.specs.Meaning.{KnowsNumbers, word_part, parcel_part, name
 use Rattle.rv_raw_laws.specs.Statements.{IsSmall, constant_expression, from_dot, access_set, operands_of, word_statement, parcel_statement, code_statement}
 use Rattle.rv_raw_laws.proofs.FormsLemmas.{named}
 use Rattle.rv_raw_laws.proofs.MeaningLemmas.{parts_are, forms_are}
-use Rattle.rv_raw_laws.proofs.NumbersLemmas.{bounded}
 use Rattle.rv_raw_laws.proofs.ParcelsLemmas.{six_small, branch_small, jump_small, step_small}
 use Rattle.rv_raw_laws.proofs.WordsLemmas.{small_12}
+pub use Rattle.rv_raw_laws.proofs.WordsLemmas.{branch_small as offset_small, jump_small as far_small}
 
 -- ---- ranges
 
@@ -62,12 +62,6 @@ shift_small Srai n h = h
 shift_small Slliw n h = omega (arith, h)
 shift_small Srliw n h = omega (arith, h)
 shift_small Sraiw n h = omega (arith, h)
-
-pub offset_small : (z : ℤ) → IsBranchOffset z → IsSmall z
-offset_small z h = bounded 4095 4094 (omega arith) (omega arith) z h.0 h.1
-
-pub far_small : (z : ℤ) → IsJumpOffset z → IsSmall z
-far_small z h = bounded 1048575 1048574 (omega arith) (omega arith) z h.0 h.1
 
 -- the fields that lead somewhere
 abbrev pub leads : Kind → Bool

@@ -101,7 +101,7 @@ relocations_join number o (x ∷ xs) ys =
     ∙ ap (λ n. own ++ (relocations_from number next xs ++ relocations_from number n ys)) (let e : next + length (flat_map part_bytes xs) ≡ o + length (part_bytes x ++ flat_map part_bytes xs) = omega (arith, long) in e)
     ∙ sym (append_assoc own (relocations_from number next xs) (relocations_from number (o + length (flat_map part_bytes (x ∷ xs))) ys))
 
-never_low : (k : Kind) → leads k ≡ true → is_low_part k ≡ false
+pub never_low : (k : Kind) → leads k ≡ true → is_low_part k ≡ false
 never_low k h = grind arith
 
 pub end_above : (offset : ℕ) (zs : List LaidStatement) → offset ≤ end_of offset zs

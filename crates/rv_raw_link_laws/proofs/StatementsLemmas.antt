@@ -1,6 +1,6 @@
 -- The statements of a raw listing where they stand: in one section of code, without compression, with one label, which is global.
 
-use Rattle.std.proofs.Common.{◌≡◌, ℕ, suc, ◌+◌, ◌⊎◌, Bool, true, false, List, [], ◌∷◌, ◌++◌, map, append-nil, refl, sym, ◌∙◌, ap, subst, codes, inl, inr}
+use Rattle.std.proofs.Common.{◌≡◌, ℕ, suc, ◌+◌, ◌⊎◌, Bool, true, false, List, [], ◌∷◌, ◌++◌, map, append-nil, refl, sym, ◌∙◌, ap, subst, inl, inr}
 use Rattle.std.specs.List.{AllByRecursion}
 use Rattle.rv_isa.specs.declared.instruction.Format.{Format}
 use Rattle.rv_isa.specs.declared.instruction.Format.TheVariants.{Fence}
@@ -27,6 +27,7 @@ use Rattle.rv_disasm.specs.Instruction.{is_tso}
 use Rattle.rv_disasm.specs.Raw.{IsSourced}
 use Rattle.rv_raw_laws.specs.Statements.{access_set, word_statement, code_statement, on_lines}
 use Rattle.rv_raw_link_laws.specs.Listed.{listed}
+pub use Rattle.rv_resolve.proofs.EntryLemmas.{start_name}
 
 -- ---- instructions
 
@@ -51,9 +52,6 @@ code_instruction (Word i) = word_instruction (format_of i)
 code_instruction (Parcel f) = it _ _
 
 -- ---- tables
-
-abbrev pub start_name : List ℕ
-start_name = codes "_start"
 
 abbrev pub quiet : Options
 quiet = record { rvc = false; relax = false }

@@ -3,7 +3,6 @@
 use Rattle.std.proofs.Common.{◌≡◌, ℕ, ℤ, ◌+◌, ◌%◌, ◌^◌, ◌<◌, true, false, List, [], ◌∷◌, Some, refl, sym, ◌∙◌, ap, subst, arith, inl, inr}
 use Rattle.std.specs.Prelude.{if◌then◌else◌, unwrap_or, option_and_then}
 use Rattle.std.specs.List.{AllByRecursion}
-use Rattle.rv_isa.specs.Kinds.{is_low_part}
 use Rattle.rv_isa.specs.declared.kind.Kind.{Kind}
 use Rattle.rv_isa.specs.declared.kind.Kind.TheVariants as kinds
 use Rattle.rv_reloc.specs.declared.fault.PatchFault.TheVariants as patches
@@ -22,13 +21,10 @@ use Rattle.rv_link.specs.declared.fault.LinkFault.TheVariants.{Overflow, OddTarg
 use Rattle.rv_link.specs.Filled.{IsTaken}
 use Rattle.rv_link.specs.Untaken.{IsFirst, IsUntaken, IsFirstUntaken}
 use Rattle.rv_raw_link_laws.proofs.CodesLemmas.{leads}
-use Rattle.rv_raw_link_laws.proofs.FieldsLemmas.{IsLeading}
+use Rattle.rv_raw_link_laws.proofs.FieldsLemmas.{IsLeading, never_low}
 use Rattle.rv_raw_link_laws.proofs.LeavesLemmas.{input}
 use Rattle.rv_raw_link_laws.proofs.PlacesLemmas.{IsSimple, stands, stays, address_of, loaded_inputs}
 use Rattle.rv_raw_link_laws.proofs.ValuesLemmas.{back_to_it}
-
-never_low : (k : Kind) → leads k ≡ true → is_low_part k ≡ false
-never_low k h = grind arith
 
 calculated : (k : Kind) → leads k ≡ true → (s : ℕ) (a : ℤ) (p : ℕ) → calculation k s a p ≡ relative s a p
 calculated kinds.Branch h s a p = refl

@@ -15,6 +15,7 @@ use Rattle.rv_relax.proofs.PlannedLemmas.{next_alignment, other_alignments}
 use Rattle.rv_relax.proofs.ApartLemmas.{of_section}
 use Rattle.rv_link.proofs.ApartLemmas.{AreOrdered, ordered}
 use Rattle.rv_unique_link_laws.proofs.EvensLemmas.{section_padded, dropped_even}
+use Rattle.rv_layout_laws.proofs.DroppingLemmas.{span_within}
 
 -- further on no less is dropped
 pub more_dropped : (a b : ℕ) (ms : List Move) → a ≤ b → dropped ms a ≤ dropped ms b
@@ -22,10 +23,6 @@ more_dropped a b [] le = omega arith
 more_dropped a b (m ∷ ms) le = let later = more_dropped a b ms le in omega (arith, le, later)
 
 -- ---- and no more than lies between
-
-span_within : (o n k a b base : ℕ) → base ≤ o → a ≤ b → (p q e : ℕ) → e ≡ o + n → p ≤ q + (b - max a e)
-    → min (n - k) (b - (o + k)) + p ≤ min (n - k) (a - (o + k)) + q + (b - max a base)
-span_within o n k a b base f le p q e is rest = omega arith
 
 slow_from : (base gone stop a b : ℕ) (rs : List Relocation) → are_alignments stop rs ≡ true → a ≤ b → dropped (plan base gone rs) b ≤ dropped (plan base gone rs) a + (b - max a stop)
 slow_from base gone stop a b [] h le = omega arith

@@ -7,9 +7,9 @@ use Rattle.std.proofs.lemmas.Int.{ints}
 use Rattle.std.proofs.lemmas.Bool.{cases_lt}
 use Rattle.rv_isa.specs.declared.kind.Kind.{Kind}
 use Rattle.rv_isa.specs.declared.kind.Kind.TheVariants as kinds
-use Rattle.rv_layout_laws.specs.Offsets.{IsEven, IsImmediate, Reaches}
+use Rattle.rv_layout_laws.specs.Offsets.{IsImmediate, Reaches}
 use Rattle.rv_layout_laws.proofs.ReachingLemmas.{Nearer, Ahead, Behind}
-use Rattle.rv_reloc.specs.Ranges.{IsInRange, IsOdd, Takes}
+use Rattle.rv_reloc.specs.Ranges.{IsInRange, Takes}
 use Rattle.rv_object.specs.Object.{Relocation, Section, Object}
 use Rattle.rv_object_laws.specs.Moves.{Move, moves, new_offset}
 use Rattle.rv_object_laws.specs.Inputs.{InputSection, start_of}
@@ -24,7 +24,7 @@ use Rattle.rv_reach_laws.specs.Reach.{is_short_branch}
 use Rattle.rv_reach_laws.proofs.MovingLemmas as padding
 use Rattle.rv_reach_laws.proofs.MovingLemmas.{IsPaddedText}
 use Rattle.rv_reach_laws.proofs.NearsLemmas.{half_of}
-use Rattle.rv_reach_laws.proofs.ReachedLemmas.{value_is}
+use Rattle.rv_reach_laws.proofs.ReachedLemmas.{value_is, jump_range, not_odd}
 
 -- ---- no farther apart
 
@@ -86,13 +86,6 @@ branch_range (negsuc n) h = let low = h.low in (omega (arith, ints, low), omega 
 short_range : (z : ℤ) → IsImmediate (2 ^ 8) z → IsInRange kinds.RvcBranch z
 short_range (pos n) h = let even : n % 2 ≡ 0 = h.even in let high = h.high in (omega (arith, ints), omega (arith, ints, even, high))
 short_range (negsuc n) h = let low = h.low in (omega (arith, ints, low), omega (arith, ints))
-
-jump_range : (z : ℤ) → IsImmediate (2 ^ 11) z → IsInRange kinds.RvcJump z
-jump_range (pos n) h = let even : n % 2 ≡ 0 = h.even in let high = h.high in (omega (arith, ints), omega (arith, ints, even, high))
-jump_range (negsuc n) h = let low = h.low in (omega (arith, ints, low), omega (arith, ints))
-
-not_odd : (z : ℤ) → IsEven z → IsOdd z → ⊥
-not_odd z even odd = absurd (omega (arith, even, odd))
 
 -- a branch to a place that has an address, and that it reaches from its own
 module _ (us : List Object) (p : Placement) (i : InputSection) (place : ℕ) (symbol : Option ℕ) (addend : ℤ) (to from : ℕ) (low : to < 2 ^ 64)

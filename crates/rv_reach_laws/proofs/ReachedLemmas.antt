@@ -58,11 +58,11 @@ jal_range : (z : ℤ) → IsImmediate (2 ^ 20) z → IsInRange kinds.Jal z
 jal_range (pos n) h = let even : n % 2 ≡ 0 = h.even in let high = h.high in (omega (arith, ints), omega (arith, ints, even, high))
 jal_range (negsuc n) h = let low = h.low in (omega (arith, ints, low), omega (arith, ints))
 
-jump_range : (z : ℤ) → IsImmediate (2 ^ 11) z → IsInRange kinds.RvcJump z
+pub jump_range : (z : ℤ) → IsImmediate (2 ^ 11) z → IsInRange kinds.RvcJump z
 jump_range (pos n) h = let even : n % 2 ≡ 0 = h.even in let high = h.high in (omega (arith, ints), omega (arith, ints, even, high))
 jump_range (negsuc n) h = let low = h.low in (omega (arith, ints, low), omega (arith, ints))
 
-not_odd : (z : ℤ) → IsEven z → IsOdd z → ⊥
+pub not_odd : (z : ℤ) → IsEven z → IsOdd z → ⊥
 not_odd z even odd = absurd (omega (arith, even, odd))
 
 takes_jal : (z : ℤ) → IsImmediate (2 ^ 20) z → Takes kinds.Jal z

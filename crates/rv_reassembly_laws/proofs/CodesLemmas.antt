@@ -11,7 +11,7 @@ use Rattle.rv_isa.specs.declared.instruction.Format.TheVariants.{Registers, Imme
 use Rattle.rv_isa.specs.declared.kind.Kind.{Kind}
 use Rattle.rv_isa.specs.declared.kind.Kind.TheVariants as kind
 use Rattle.rv_isa.specs.Operations.{format_of}
-use Rattle.rv_isa.specs.Ranges.{IsBranchOffset, IsJumpOffset, IsValidFormat}
+use Rattle.rv_isa.specs.Ranges.{IsValidFormat}
 use Rattle.rv_isa_laws.specs.Arithmetic.{wrapped}
 use Rattle.rv_compress.specs.declared.form.Compressed.{Compressed}
 use Rattle.rv_compress.specs.declared.form.Compressed.TheVariants as forms
@@ -33,10 +33,11 @@ use Rattle.rv_chain_laws.specs.Contents.{IsWritten}
 use Rattle.rv_raw_laws.specs.Statements.{IsSmall, access_set, code_statement, from_dot, constant_expression, operands_of, parcel_statement, word_statement}
 use Rattle.rv_raw_laws.specs.Meaning.{Leads, code_width, instruction_at, named_by, named_in_parcel, parcel_part, part_of, word_part}
 use Rattle.rv_raw_laws.proofs.MeaningLemmas.{filled_is, forms_are, parts_are}
-use Rattle.rv_raw_laws.proofs.NumbersLemmas.{bounded}
 use Rattle.rv_raw_laws.proofs.ParcelsLemmas.{branch_small as near_small, jump_small as short_small}
 use Rattle.rv_reassembly_laws.proofs.ValuesLemmas.{distance_is}
 use Rattle.rv_reassembly_laws.proofs.AloneLemmas.{part_size, IsSingle, Alone, alone_written, word_bytes, named_bytes, short_bytes}
+pub use Rattle.rv_raw_laws.proofs.WordsLemmas.{branch_small}
+use Rattle.rv_raw_laws.proofs.WordsLemmas.{jump_small}
 
 -- what the expressions of a statement are worth where it stands
 pub record Told (p : Program) (s : Mapped) : Type 0 where
@@ -44,12 +45,6 @@ pub record Told (p : Program) (s : Mapped) : Type 0 where
   pub target : (z : ℤ) → IsSmall z → number_in p s (from_dot z) ≡ add (add s.row.address 0) (wrapped z)
 
 -- ---- how far it leads
-
-pub branch_small : (z : ℤ) → IsBranchOffset z → IsSmall z
-branch_small z h = bounded 4095 4094 (omega arith) (omega arith) z h.0 h.1
-
-jump_small : (z : ℤ) → IsJumpOffset z → IsSmall z
-jump_small z h = bounded 1048575 1048574 (omega arith) (omega arith) z h.0 h.1
 
 either : (b : Bool) (a : ℕ) → (if b then a else a) ≡ a
 either true a = refl

@@ -33,7 +33,7 @@ some_left a n some is =
 abbrev pub alignments : List ℕ
 alignments = 2 ∷ 4 ∷ 8 ∷ 16 ∷ 32 ∷ 64 ∷ 128 ∷ 256 ∷ 512 ∷ 1024 ∷ 2048 ∷ 4096 ∷ []
 
-one_of : (P : ℕ → Type 0) (full : ℕ) (xs : List ℕ) → P 4096 → AllByRecursion P xs → P (unwrap_or (find (λ a. nat_lt full a) xs) 4096)
+pub one_of : (P : ℕ → Type 0) (full : ℕ) (xs : List ℕ) → P 4096 → AllByRecursion P xs → P (unwrap_or (find (λ a. nat_lt full a) xs) 4096)
 one_of P full [] most each = most
 one_of P full (a ∷ xs) most each = by (nat_lt full a) (one_of P full xs most each.1)
   where

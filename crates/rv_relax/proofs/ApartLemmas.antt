@@ -4,24 +4,13 @@ use Rattle.std.proofs.Common.{◌≡◌, ℕ, ◌+◌, ◌%◌, ◌^◌, ◌<◌
 use Rattle.std.specs.Prelude.{◌==◌, unwrap_or}
 use Rattle.std.specs.List.{list_all, filter}
 use Rattle.std.proofs.lemmas.Bool.{leb-true, ltb-true, le-leb, and_parts, and_from, or_left, or_right}
-use Rattle.rv_isa.specs.Kinds.{width_of}
 use Rattle.rv_object.specs.Object.{Relocation, Contents, size_of}
 use Rattle.rv_object.specs.Valid.{is_align, is_padding, is_padding_of, padding_of, held, are_apart, are_all_apart, are_paddings}
 use Rattle.rv_object_laws.specs.Moves.{full_padding, has_padding, inserted, by_place}
 use Rattle.rv_relax.specs.Paddings.{are_alignments}
 use Rattle.rv_relax.proofs.PlannedLemmas.{IsNextAlignment, next_alignment, other_alignments, next_is}
-
-three : (a b c : Bool) → (a && b && c) ≡ true → (a ≡ true) × (b ≡ true) × (c ≡ true)
-three true true true h = (refl, refl, refl)
-three true true false h = absurd (cc)
-three true false c h = absurd (cc)
-three false b c h = absurd (cc)
-
-either : (a b c : Bool) → (a || b || c) ≡ true → a ≡ false → (b ≡ true) ⊎ (c ≡ true)
-either true b c h e = absurd (cc)
-either false true c h e = inl refl
-either false false true h e = inr refl
-either false false false h e = absurd (cc)
+use Rattle.rv_shorten.proofs.PaddingsLemmas.{three}
+use Rattle.rv_object_laws.proofs.ChangesLemmas.{held_full, either}
 
 -- ---- an alignment alone
 
@@ -47,9 +36,6 @@ padded r h =
     (both.0, ltb-true 0 (full_padding r) both.1)
 
 -- ---- two of them
-
-held_full : (r : Relocation) → is_align r.kind ≡ true → held r ≡ full_padding r
-held_full r align = ap (λ b. cond b (unwrap_or (padding_of r.addend) 0) (width_of r.kind)) align
 
 -- one ends before the other begins
 abbrev pub are_clear : Relocation → Relocation → Bool

@@ -17,7 +17,7 @@ place_of r = r.place
 
 -- ---- two of them
 
-not_up_to : (m n : ℕ) → n < m → nat_le m n ≡ false
+pub not_up_to : (m n : ℕ) → n < m → nat_le m n ≡ false
 not_up_to m n h = grind (arith, nat_tests)
 
 -- of two places with bytes behind them that do not meet, one stands first by its end where it does by its start
@@ -31,7 +31,7 @@ first_alike r f q g h some =
     ]
 
 -- the second has bytes, and they do not meet
-abbrev is_told : Relocation → Relocation → Bool
+abbrev pub is_told : Relocation → Relocation → Bool
 is_told r q = are_clear r q && nat_lt 0 (full_padding q)
 
 alike : (r q : Relocation) → is_told r q ≡ true → nat_le r.place q.place ≡ nat_le (r.place + full_padding r) q.place

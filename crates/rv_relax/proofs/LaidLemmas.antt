@@ -4,14 +4,10 @@ use Rattle.std.proofs.Common.{◌≡◌, ℕ, zero, suc, ◌+◌, ◌≤◌, ◌
 use Rattle.std.specs.List.Sorted.{IsPartitionedBy}
 use Rattle.std.proofs.lemmas.Bool.{leb-true, le-leb, and_parts, and_from}
 use Rattle.rv_layout_laws.specs.declared.site.Site.{Site}
-use Rattle.rv_layout_laws.specs.declared.site.SiteKind.TheVariants.{Padding}
 use Rattle.rv_layout_laws.specs.Calls.{bytes_of, site_at, InOrder}
 use Rattle.rv_shorten.specs.Walk.{site_end}
 use Rattle.rv_relax.specs.Passes.{are_laid}
-
--- what a text has past its end
-abbrev pub no_site : Site
-no_site = record { offset = 0; kind = Padding (record { bytes = 0; alignment = 1 }) }
+pub use Rattle.rv_object_laws.proofs.TextLineLemmas.{nowhere as no_site}
 
 -- ---- what a plan keeps of its sites
 

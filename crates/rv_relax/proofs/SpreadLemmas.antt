@@ -156,7 +156,7 @@ one_pad false k left = refl
 one_low : (p : Piece) (left : List Piece) → filter begins_low (p ∷ left) ≡ filter begins_low (p ∷ []) ++ filter begins_low left
 one_low p left = filter-append begins_low (p ∷ []) left
 
-grown : {A : Type 0} (front add more new all : List A) → new ≡ front ++ add → front ++ (add ++ more) ≡ all → new ++ more ≡ all
+pub grown : {A : Type 0} (front add more new all : List A) → new ≡ front ++ add → front ++ (add ++ more) ≡ all → new ++ more ≡ all
 grown front add more new all e h = ap (λ l. l ++ more) e ∙ append_assoc front add more ∙ h
 
 module _ (starts : List Bool) (sites : List Site) (sized : List ℕ) (i : ℕ) (within : i < length sites) (same_starts : length starts ≡ length sites) (same : length sized ≡ length sites) where

@@ -13,6 +13,7 @@ use Rattle.rv_object.specs.Bindings.{is_global, is_weak, is_shared}
 use Rattle.rv_object_laws.specs.Names.{Export, is_defined, is_export, exports_in, exports_from, exports_where, names_of, candidates}
 use Rattle.rv_object_laws.proofs.TextInputsLemmas.{all_append}
 use Rattle.rv_shorten.specs.Cutting.{In}
+pub use Rattle.rv_object_laws.proofs.TextPlacesLemmas.{all_found}
 
 -- a definition for all files is a symbol of its object
 pub record IsHeld (os : List Object) (e : Export) : Type 0 where
@@ -20,14 +21,6 @@ pub record IsHeld (os : List Object) (e : Export) : Type 0 where
   pub object : slice_get os (e.file - 1) ≡ Some e.object
   pub symbol : slice_get e.object.symbols e.index ≡ Some e.symbol
   pub shared : is_export is_shared e.symbol ≡ true
-
-pub all_found : {A : Type 0} (P : A → Type 0) (test : A → Bool) (xs : List A) (x : A) → AllByRecursion P xs → find test xs ≡ Some x → P x
-all_found P test [] x all is = absurd (cc)
-all_found P test (y ∷ ys) x all is = by (test y) is (λ e. all_found P test ys x all.1 e)
-  where
-    by : (b : Bool) → cond b (Some y) (find test ys) ≡ Some x → (find test ys ≡ Some x → P x) → P x
-    by true e more = subst P (let same : y ≡ x = cc in same) all.0
-    by false e more = more e
 
 pub found_passes : {A : Type 0} (test : A → Bool) (xs : List A) (x : A) → find test xs ≡ Some x → test x ≡ true
 found_passes test [] x is = absurd (cc)

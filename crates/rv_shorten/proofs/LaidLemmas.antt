@@ -20,7 +20,7 @@ use Rattle.rv_shorten.proofs.LineLemmas.{AreSound, AllSound, Stands, Step, next_
 
 -- ---- sections of other regions
 
-none_cut : (s : Section) → AreCuts s []
+pub none_cut : (s : Section) → AreCuts s []
 none_cut s = record { order = refl; calls = λ m j. elim j [ ]; clear = λ r i m j. elim j [ ] }
 
 pub other_step : (os : List Object) (kept : List ℕ) (f x at : ℕ) (s : Section) (is : List InputSection) (ks : List ℕ) → goes_to_text s ≡ false → Stands os kept f x at is ks

@@ -1,6 +1,6 @@
 -- Lists of relocations: what is in them, in which order, and what is counted.
 
-use Rattle.std.proofs.Common.{◌≡◌, ℕ, ◌+◌, ◌<◌, ◌≤◌, inl, inr, Bool, true, false, cond, nat_le, List, [], ◌∷◌, map, refl, sym, ap, subst, ◌∙◌, arith}
+use Rattle.std.proofs.Common.{◌≡◌, ◌+◌, ◌<◌, ◌≤◌, inl, inr, Bool, true, false, cond, nat_le, List, [], ◌∷◌, map, refl, sym, ap, subst, ◌∙◌, arith}
 use Rattle.std.specs.Prelude.{filter, count_by, ⊤}
 use Rattle.std.proofs.lemmas.List.Sums.{sum_by-cons}
 use Rattle.std.proofs.lemmas.Bool.{leb-true, le-leb, true≢false}
@@ -8,6 +8,7 @@ use Rattle.rv_object.specs.Object.{Relocation}
 use Rattle.rv_object.specs.Valid.{held}
 use Rattle.rv_object_laws.specs.CallSites.{inserted_change, in_order}
 use Rattle.rv_shorten.specs.Cutting.{In}
+use Rattle.rv_object_laws.proofs.ChangesLemmas.{one_if as tally}
 
 -- ---- in a filtered list, in a mapped one, in an ordered one
 
@@ -77,9 +78,6 @@ ordered_in x (r ∷ rs) (inl same) = inserted_in r x (in_order rs) (inl same)
 ordered_in x (r ∷ rs) (inr i) = inserted_in r x (in_order rs) (inr (ordered_in x rs i))
 
 -- ---- one alone
-
-abbrev tally : Bool → ℕ
-tally b = cond b 1 0
 
 count_some : {X : Type 0} (p : X → Bool) (x : X) (xs : List X) → In x xs → p x ≡ true → 0 < count_by p xs
 count_some p x [] i is = elim i [ ]

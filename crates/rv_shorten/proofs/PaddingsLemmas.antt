@@ -43,7 +43,7 @@ or_three false false false (inl e) = absurd (cc)
 or_three false false false (inr (inl e)) = absurd (cc)
 or_three false false false (inr (inr e)) = absurd (cc)
 
-three : (a b c : Bool) → (a && b && c) ≡ true → (a ≡ true) × (b ≡ true) × (c ≡ true)
+pub three : (a b c : Bool) → (a && b && c) ≡ true → (a ≡ true) × (b ≡ true) × (c ≡ true)
 three true true true h = (refl, refl, refl)
 three true true false h = absurd (cc)
 three true false c h = absurd (cc)

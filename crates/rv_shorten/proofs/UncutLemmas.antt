@@ -6,15 +6,13 @@ use Rattle.rv_object.specs.declared.symbol.Definition.TheVariants as definitions
 use Rattle.rv_object.specs.declared.row.Row.{Row}
 use Rattle.rv_object.specs.Object.{Section, Symbol, Object}
 use Rattle.rv_object_laws.specs.Moves.{Move, new_offset}
-use Rattle.rv_shorten.specs.Cutting.{AreCuts, AllCut, cut_sections, moves_at, cut_definition, cut_symbol, cut_row, cut_row_of, cut_object}
+use Rattle.rv_shorten.specs.Cutting.{AllCut, cut_sections, moves_at, cut_definition, cut_symbol, cut_row, cut_row_of, cut_object}
 use Rattle.rv_shorten.proofs.ShortLemmas.{nothing_cut}
+pub use Rattle.rv_shorten.proofs.LaidLemmas.{none_cut as no_cuts}
 
 -- no moves in any section
 abbrev pub none_in : {X : Type 0} → List X → List (List Move)
 none_in xs = map (λ x. []) xs
-
-pub no_cuts : (s : Section) → AreCuts s []
-no_cuts s = record { order = refl; calls = λ m j. elim j [ ]; clear = λ r i m j. elim j [ ] }
 
 pub none_cut : {X : Type 0} (section : X → Section) (xs : List X) → AllCut (map section xs) (none_in xs)
 none_cut section [] = tt

@@ -1,6 +1,6 @@
 -- The program of the objects of sources, once relaxation is done, is the linked program of the sources.
 
-use Rattle.std.proofs.Common.{◌≡◌, ℕ, zero, suc, ◌+◌, ◌-◌, Bool, false, List, [], ◌∷◌, map, refl, sym, ap, ◌∙◌, subst, arith}
+use Rattle.std.proofs.Common.{◌≡◌, ℕ, suc, ◌+◌, ◌-◌, Bool, false, List, [], ◌∷◌, map, refl, sym, ap, ◌∙◌, subst, arith}
 use Rattle.std.specs.Prelude.{◌==◌, filter, slice_index_or}
 use Rattle.std.specs.List.{AllByRecursion}
 use Rattle.rv_statement.specs.Statement.{Statement}
@@ -22,7 +22,7 @@ use Rattle.rv_object_laws.specs.Shortened.{Sizes}
 use Rattle.rv_assemble_laws.specs.LaidStatements.{LaidStatement}
 use Rattle.rv_sources_link_laws.proofs.sections.KeptLemmas.{AreKept, AreMasked}
 use Rattle.rv_sources_link_laws.proofs.sections.AssembledLemmas.{AreAssembled}
-use Rattle.rv_sources_link_laws.proofs.sections.FilesLemmas.{AreFiles, files, statements_ours}
+use Rattle.rv_sources_link_laws.proofs.sections.FilesLemmas.{AreFiles, files, statements_ours, tables_by}
 use Rattle.rv_sources_link_laws.proofs.calls.FinalsLemmas.{IsResized, AreCut, AreFinal, all_final, all_masked}
 use Rattle.rv_sources_link_laws.proofs.names.JoinedLemmas.{given, resolves}
 use Rattle.rv_sources_link_laws.proofs.LinkedLemmas.{linked}
@@ -35,11 +35,6 @@ use Rattle.rv_sources_link_laws.proofs.moves.ShrinksLemmas.{Begun, begun_all, ob
 use Rattle.rv_sources_link_laws.proofs.moves.ShrunkLemmas as shrunk
 use Rattle.rv_sources_link_laws.proofs.SizedLemmas.{sized_from}
 use Rattle.rv_sources_link_laws.proofs.calls.UncutLemmas.{IsUncut, all_uncut, assembled_laid, assembled_dropped, all_assembled}
-
-tables_by : (sources : List (List Statement)) (i : ℕ) → slice_index_or (map tables sources) i (at_start []) ≡ tables (slice_index_or sources i [])
-tables_by [] i = refl
-tables_by (ss ∷ sources) zero = refl
-tables_by (ss ∷ sources) (suc i) = tables_by sources i
 
 module _ (sources : List (List Statement)) (os : List Object) (text_start : ℕ) (l : Linked) (h : AreKept sources os) (masks : AreMasked l.map.drops 1 sources os h) (us : List Object) (k : AreAssembled sources us)
     (sizes : ℕ → ℕ → Sizes) (c : AreCut sizes 1 sources os h us k) (link : IsLinkOf us text_start l) where

@@ -1,8 +1,8 @@
 -- Records one by one, and the statements that they say.
 
-use Rattle.std.proofs.Common.{◌≡◌, ℕ, ◌+◌, ◌<◌, ◌≤◌, Bool, true, false, ◌&&◌, List, [], ◌∷◌, ◌++◌, map, length, get_or, slice_get, Some, option_map, IsTrue, refl, sym, ◌∙◌, ap, ap₂, ⊎_elim, leb-true, le-leb, arith}
+use Rattle.std.proofs.Common.{◌≡◌, ℕ, ◌+◌, ◌<◌, ◌≤◌, Bool, true, List, [], ◌∷◌, ◌++◌, map, length, get_or, slice_get, Some, option_map, IsTrue, refl, sym, ◌∙◌, ap, ap₂, ⊎_elim, leb-true, le-leb, arith}
 use Rattle.std.specs.List.{list_all}
-use Rattle.std.proofs.lemmas.Bool.{cases_Bool, both_ways}
+use Rattle.std.proofs.lemmas.Bool.{cases_Bool, both_ways, and_from, and_parts}
 use Rattle.std.proofs.lemmas.List.Folds.{list_all_at, list_all-append}
 use Rattle.std.proofs.lemmas.List.{map-append, length-map, length_push, map_push, get_or_push, get_or_append_left}
 use Rattle.std.proofs.lemmas.Option.{slice_get-map, get_or_from_slice_get, slice_get_within, slice_get_read}
@@ -14,14 +14,6 @@ use Rattle.rv_statement.specs.declared.record.Words.TheVariants as words
 use Rattle.rv_statement.specs.declared.record.Record.{Record}
 use Rattle.rv_statement.specs.Records.{packed_kind, statement_in, recorded, least_whole, has_its_part, has_its_whole, IsPacked}
 
-both : (a b : Bool) → (a && b) ≡ true → (a ≡ true) × (b ≡ true)
-both true b h = (refl, h)
-both false b h = absurd (cc)
-
-join : (a b : Bool) → a ≡ true → b ≡ true → (a && b) ≡ true
-join true b h i = i
-join false b h i = absurd (cc)
-
 -- each passes a test
 pub passes_at : {X : Type 0} (p : X → Bool) (xs : List X) (i : ℕ) (d : X) → IsTrue (list_all p xs) → i < length xs → p (get_or xs i d) ≡ true
 passes_at p xs i d all within = ⊎_elim (λ h. h) (λ h. absurd (both_ways _ (list_all_at p xs i d within h) all)) (cases_Bool (p (get_or xs i d)))
@@ -30,10 +22,10 @@ passes_at p xs i d all within = ⊎_elim (λ h. h) (λ h. absurd (both_ways _ (l
 pub kept_more : (n m : ℕ) (rs : List Record) → m ≡ n + 1 → IsTrue (list_all (has_its_whole n) rs) → IsTrue (list_all (has_its_whole m) rs)
 kept_more n m [] more h = refl
 kept_more n m (r ∷ rs) more h =
-    let p = both _ _ h in
+    let p = and_parts _ _ h in
     let k = least_whole r.words in
     let least : k ≤ n = leb-true k n p.0 in
-    join _ _ (le-leb k m (omega (arith, least, more))) (kept_more n m rs more p.1)
+    and_from _ _ (le-leb k m (omega (arith, least, more))) (kept_more n m rs more p.1)
 
 said_more : (source : List ℕ) (whole : List Statement) (s : Statement) (line : ℕ) (says : Words) → least_whole says ≤ length whole
     → statement_in source (whole ++ s ∷ []) line says ≡ statement_in source whole line says
@@ -46,7 +38,7 @@ statements_more : (source : List ℕ) (whole : List Statement) (s : Statement) (
     → map (recorded source (whole ++ s ∷ [])) rs ≡ map (recorded source whole) rs
 statements_more source whole s [] h = refl
 statements_more source whole s (r ∷ rs) h =
-    let p = both _ _ h in
+    let p = and_parts _ _ h in
     ap₂ (λ (x : specs.Statement) (xs : List specs.Statement). x ∷ xs) (said_more source whole s r.line r.words (leb-true (least_whole r.words) (length whole) p.0)) (statements_more source whole s rs p.1)
 
 pub packed_says : (source : List ℕ) (whole : List Statement) (line : ℕ) (says : Words) → least_whole says ≡ 0 → statement_in source whole line says ≡ record { line = line; kind = packed_kind source says }
@@ -70,10 +62,10 @@ pub kept_with_whole : (whole : List Statement) (s : Statement) (rs : List Record
 kept_with_whole whole s rs line index at all =
     let least : index + 1 ≤ length (whole ++ s ∷ []) = omega (arith, at, length_push whole s) in
     list_all-append (has_its_whole (length (whole ++ s ∷ []))) rs (record { words = words.Whole index; line = line } ∷ [])
-    ∙ join _ _ (kept_more (length whole) (length (whole ++ s ∷ [])) rs (length_push whole s) all) (join _ _ (le-leb (index + 1) (length (whole ++ s ∷ [])) least) refl)
+    ∙ and_from _ _ (kept_more (length whole) (length (whole ++ s ∷ [])) rs (length_push whole s) all) (and_from _ _ (le-leb (index + 1) (length (whole ++ s ∷ [])) least) refl)
 
 pub inside_with_whole : (size : ℕ) (rs : List Record) (line index : ℕ) → IsTrue (list_all (has_its_part size) rs) → IsTrue (list_all (has_its_part size) (rs ++ record { words = words.Whole index; line = line } ∷ []))
-inside_with_whole size rs line index all = list_all-append (has_its_part size) rs (record { words = words.Whole index; line = line } ∷ []) ∙ join _ _ all (join _ _ (le-leb 0 size (omega arith)) refl)
+inside_with_whole size rs line index all = list_all-append (has_its_part size) rs (record { words = words.Whole index; line = line } ∷ []) ∙ and_from _ _ all (and_from _ _ (le-leb 0 size (omega arith)) refl)
 
 -- the statement of a record at an index
 pub recorded_at : (source : List ℕ) (whole : List Statement) (rs : List Record) (i : ℕ) (r : Record) (s : specs.Statement) → slice_get rs i ≡ Some r → recorded source whole r ≡ s

@@ -4,7 +4,7 @@ use Rattle.std.proofs.Common.{◌≡◌, ℕ, zero, suc, ◌+◌, ◌<◌, ◌^�
 use Rattle.std.specs.Prelude.{◌&&◌, ◌||◌, ◌==◌, not, nat_lt, is_some, slice_get, if◌then◌else◌}
 use Rattle.std.specs.List.{AllByRecursion, find, list_any}
 use Rattle.std.specs.Str.{bytes_eq}
-use Rattle.std.proofs.lemmas.Bool.{eq-eqb, ltb-true, or_left}
+use Rattle.std.proofs.lemmas.Bool.{eq-eqb, ltb-true, or_left, and_from}
 use Rattle.rv_map.specs.Globals.{is_one_of}
 use Rattle.rv_text_laws.specs.Expression.{Symbol as Named}
 use Rattle.rv_text_laws.specs.Values.{Meaning, Known, InSection as InData, Open as OpenAddress, Refused, add}
@@ -37,10 +37,6 @@ by_index P (x ∷ xs) h = (h zero x refl, by_index P xs (λ i y e. h (suc i) y e
 not_both : {A : Type 0} (b : Bool) → b ≡ true → b ≡ false → A
 not_both true e f = absurd (cc)
 not_both false e f = absurd (cc)
-
-both_true : (a b : Bool) → a ≡ true → b ≡ true → (a && b) ≡ true
-both_true true b e f = f
-both_true false b e f = absurd (cc)
 
 -- what is found passes its test
 found_passes : {X : Type 0} (test : X → Bool) (xs : List X) (x : X) → find test xs ≡ Some x → test x ≡ true
@@ -215,9 +211,9 @@ module _ (ss : List Statement) (laid : List LaidStatement) (located : map (λ s.
         first : sets_first t.assignments s.located.ordinal name ≡ true
         first =
             ap (λ n. sets_first t.assignments n name) is
-            ∙ both_true (list_any (λ x. (x.ordinal == a.ordinal) && bytes_eq x.name name) t.assignments) _
+            ∙ and_from (list_any (λ x. (x.ordinal == a.ordinal) && bytes_eq x.name name) t.assignments) _
             (found_any (λ (x : Assignment). bytes_eq x.name name) (λ x. (x.ordinal == a.ordinal) && bytes_eq x.name name) t.assignments a f
-            (both_true (a.ordinal == a.ordinal) (bytes_eq a.name name) (eq-eqb a.ordinal a.ordinal refl) (found_passes (λ (x : Assignment). bytes_eq x.name name) t.assignments a f)))
+            (and_from (a.ordinal == a.ordinal) (bytes_eq a.name name) (eq-eqb a.ordinal a.ordinal refl) (found_passes (λ (x : Assignment). bytes_eq x.name name) t.assignments a f)))
             (before (assigned_before t.assignments a.ordinal name) refl)
 
         label : (j : ℕ) (q : LaidStatement) (n : List ℕ) → slice_get laid j ≡ Some q → q.located.kind ≡ Label n → bytes_eq n name ≡ true → Own d (InSection q.located.section q.offset)

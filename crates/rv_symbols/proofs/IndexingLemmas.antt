@@ -5,7 +5,7 @@ use Rattle.std.specs.Prelude.{◌&&◌, ◌==◌, not, nat_lt, option_map, unwra
 use Rattle.std.specs.Borrow.{Bor}
 use Rattle.std.specs.List.{position_or_len}
 use Rattle.std.specs.Str.{bytes_eq}
-use Rattle.std.proofs.lemmas.Bool.{eqb-true, and_right}
+use Rattle.std.proofs.lemmas.Bool.{eqb-true, and_right, and_left}
 use Rattle.std.proofs.lemmas.List.{take_more, map-append, length-map, length-take-le}
 use Rattle.rv_statement.specs.View.{now_of}
 use Rattle.rv_object.specs.declared.symbol.Definition.{Definition as Defined}
@@ -31,9 +31,6 @@ name_more xs x q name next old new is at now before =
     now ∙ ap (λ n. cond (bytes_eq n q) (Some next) old) is ∙ ap (λ n. cond (bytes_eq x.name q) (Some n) old) at ∙ ap (λ o. cond (bytes_eq x.name q) (Some (length xs)) o) before
     ∙ sym (last_more (is_named q) xs x)
 
-not_same : (b c : Bool) → b ≡ false → (b && c) ≡ false
-not_same b c e = ap (λ x. x && c) e
-
 pub no_place : (xs : List Symbol) (x : Symbol) (q : ℕ × ℕ) (old : Option ℕ) → is_at_place q.0 q.1 x ≡ false → old ≡ last_index (is_at_place q.0 q.1) xs → old ≡ last_index (is_at_place q.0 q.1) (xs ++ x ∷ [])
 no_place xs x q old e h = h ∙ sym (last_more (is_at_place q.0 q.1) xs x ∙ ap (λ b. if b then Some (length xs) else last_index (is_at_place q.0 q.1) xs) e)
 
@@ -47,7 +44,7 @@ no_name [] e = refl
 no_name (b ∷ bs) e = absurd (let f : suc (length bs) ≡ 0 = eqb-true (suc (length bs)) 0 e in omega arith)
 
 pub named_nowhere : (x : Symbol) (q : ℕ × ℕ) → (length x.name == 0) ≡ false → is_at_place q.0 q.1 x ≡ false
-named_nowhere x q e = not_same (bytes_eq x.name []) (stands_in q.0 q.1 x.definition) (some_name x.name e)
+named_nowhere x q e = and_left (bytes_eq x.name []) (stands_in q.0 q.1 x.definition) (some_name x.name e)
 
 stands_not : (d : Defined) (s o : ℕ) → ((section offset : ℕ) → d ≡ InSection section offset → ⊥) → stands_in s o d ≡ false
 stands_not Undefined s o f = refl

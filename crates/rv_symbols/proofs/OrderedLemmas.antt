@@ -21,6 +21,7 @@ use Rattle.rv_assemble_laws.specs.Templates.{Template, Open, value_fields, paddi
 use Rattle.rv_assemble_laws.specs.LaidStatements.{LaidStatement, laid_part, parts_of, expression_value, coded_templates, templates}
 use Rattle.rv_assemble_laws.specs.Symbols.{SymbolUse, use_of, references_in, references_of, references}
 use Rattle.rv_symbols.specs.Found.{is_here, Rises}
+use Rattle.rv_assemble_laws.proofs.UseWeightsLemmas.{uses}
 
 -- ---- what a statement's uses are
 
@@ -31,9 +32,6 @@ Names t n r =
 
 abbrev pub AreOf : Tables → ℕ → List SymbolUse → Type 0
 AreOf t n rs = AllByRecursion (Names t n) rs
-
-abbrev uses : List Open → List SymbolUse
-uses fs = flat_map (λ f. use_of f.ordinal f.symbol) fs
 
 uses_join : (fs gs : List Open) → uses (fs ++ gs) ≡ uses fs ++ uses gs
 uses_join [] gs = refl

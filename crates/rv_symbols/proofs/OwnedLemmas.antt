@@ -37,7 +37,7 @@ kept P Q test more (x ∷ xs) (p, ps) = go (test x) refl (kept P Q test more xs 
     go true e rest = (more x e p, rest)
     go false e rest = rest
 
-mapped : {X Y : Type 0} (P : Y → Type 0) (f : X → Y) (xs : List X) → AllByRecursion (λ x. P (f x)) xs → AllByRecursion P (map f xs)
+pub mapped : {X Y : Type 0} (P : Y → Type 0) (f : X → Y) (xs : List X) → AllByRecursion (λ x. P (f x)) xs → AllByRecursion P (map f xs)
 mapped P f [] h = tt
 mapped P f (x ∷ xs) (p, ps) = (p, mapped P f xs ps)
 

@@ -19,9 +19,9 @@ use Rattle.rv_object.specs.declared.symbol.Definition.TheVariants.{InSection, Sk
 use Rattle.rv_assemble_laws.specs.Symbols.{laid_at, after_found}
 use Rattle.rv_symbols.specs.declared.source.Source.{Source}
 use Rattle.rv_symbols.specs.Source.{place_in, IsSource}
-
-pub cons_parts : {A : Type 0} (x y : A) (xs ys : List A) → x ∷ xs ≡ y ∷ ys → (x ≡ y) × (xs ≡ ys)
-cons_parts x y xs ys e = (cc, cc)
+pub use Rattle.rv_assemble_laws.proofs.UseWeightsLemmas.{cons_parts}
+pub use Rattle.rv_unit_tables.proofs.OrderedLemmas.{some_at}
+use Rattle.std.proofs.lemmas.Option.{slice_get_past}
 
 -- the statement of an ordinal is that at its index
 pub statement_by : (k : ℕ) (t : Tables) (ss : List Statement) (laid : List LaidStatement) → map (λ s. s.located) laid ≡ located_from 1 k t ss → (n i : ℕ) → n ≡ k + i
@@ -126,17 +126,6 @@ kind_is x laid h i s e =
     sym (got_map (λ (y : Statement). y.kind) (said x.unit.now) i) ∙ ap (λ l. slice_get l i) (sym (kinds_are 1 (at_start (said x.unit.now)) (said x.unit.now)) ∙ ap (map (λ (l : Located). l.kind)) (sym h.located) ∙ map_twice (λ (s : LaidStatement). s.located) (λ (l : Located). l.kind) laid)
     ∙ got_map (λ (s : LaidStatement). s.located.kind) laid i ∙ ap (option_map (λ (s : LaidStatement). s.located.kind)) e
 
-pub some_at : {X : Type 0} (xs : List X) (k : ℕ) (d : X) → k < length xs → slice_get xs k ≡ Some (slice_index_or xs k d)
-some_at [] k d inside = absurd (omega arith)
-some_at (x ∷ xs) zero d inside = refl
-some_at (x ∷ xs) (suc k) d inside = some_at xs k d (omega arith)
-
-none_at : {X : Type 0} (xs : List X) (k : ℕ) → length xs ≤ k → slice_get xs k ≡ None
-none_at [] zero past = refl
-none_at [] (suc k) past = refl
-none_at (x ∷ xs) zero past = absurd (omega arith)
-none_at (x ∷ xs) (suc k) past = none_at xs k (omega arith)
-
 -- the offsets up to one more are low
 pub low_more : (laid : List LaidStatement) (i : ℕ) → ((j : ℕ) (s : LaidStatement) → j < i → slice_get laid j ≡ Some s → s.offset < 2 ^ 64) → ((s : LaidStatement) → slice_get laid i ≡ Some s → s.offset < 2 ^ 64)
     → (j : ℕ) (s : LaidStatement) → j < i + 1 → slice_get laid j ≡ Some s → s.offset < 2 ^ 64
@@ -151,7 +140,7 @@ low_more laid i before here j s below at = go (nat_lt j i) refl
 
 -- what a look-up gives
 pub got : {X : Type 0} (r : Option (Bor X)) (xs : List X) (k : ℕ) → is_some r ≡ nat_lt k (length xs) → IfSome r (λ x. x.now ≡ slice_index_or xs k x.now) → option_copied r ≡ slice_get xs k
-got None xs k found is = sym (none_at xs k (ltb-false k (length xs) (sym found)))
+got None xs k found is = sym (slice_get_past xs k (ltb-false k (length xs) (sym found)))
 got (Some x) xs k found is = ap Some is ∙ sym (some_at xs k x.now (ltb-true k (length xs) (sym found)))
 
 -- a place after the start of a statement, by the statement's own place

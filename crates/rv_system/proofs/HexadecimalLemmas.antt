@@ -3,12 +3,10 @@
 use Rattle.std.proofs.Common.{◌≡◌, ℕ, zero, suc, ◌/◌, ◌%◌, ◌^◌, ◌≤◌, ◌<◌, false, cond, List, [], ◌∷◌, ◌++◌, refl, eqb, sym, ap, subst, ◌∙◌, append_assoc, append-nil, arith}
 use Rattle.std.proofs.lemmas.Bool.Decides.{nat_tests}
 use Rattle.std.proofs.lemmas.Str.Ascii.{IsAscii-nil, IsAscii-push}
-use Rattle.std.specs.Fmt.{digits, digits_onto}
+use Rattle.std.specs.Fmt.{digits}
 use Rattle.std.specs.Str.{IsAscii}
 use Rattle.io.specs.Digits.{last_digits, hex_digit_ascii, IsDigitCount}
-
-abbrev onto : ℕ → ℕ → List ℕ → List ℕ
-onto k n acc = digits_onto k 16 false n acc
+use Rattle.rv_map.proofs.HexadecimalLemmas.{spell as onto}
 
 onto_last : (k n : ℕ) (acc : List ℕ) → n < 16 → onto (suc k) n acc ≡ hex_digit_ascii (n % 16) ∷ acc
 onto_last k n acc h = let zero_left : n / 16 ≡ 0 = omega arith in rw zero_left refl

@@ -16,7 +16,7 @@ use Rattle.rv_text_laws.specs.ExpressionAt.{Stage, Wants, Has, depth, settle, de
 use Rattle.rv_text_laws.proofs.ExpressionsLemmas.{end_goes, expression_is}
 use Rattle.rv_text_laws.proofs.ExpressionWrongLemmas.{StuckAt, taken_first, can_go_on, end_at, stuck_there, stuck_found, stuck_stops}
 
-abbrev of_kind : Kind → Token
+abbrev pub of_kind : Kind → Token
 of_kind k = record { kind = k; start = 0; stop = 0; line = 0 }
 
 module _ (r : List ℕ → Bool) where

@@ -1,7 +1,7 @@
 -- The finder of lexemes answers exactly what is spelled.
 
 use Rattle.std.proofs.Common.{◌≡◌, ℕ, suc, ◌<◌, ◌≤◌, Bool, true, false, ◌&&◌, ◌||◌, not, cond, ◌==◌, nat_lt, List, [], ◌∷◌, ◌++◌, length, take, drop, refl, sym, ◌∙◌, ap, subst, arith, append_assoc, length-append, Option, Some, None, option_map, inl, inr, map}
-use Rattle.std.proofs.lemmas.Bool.{and_parts, eqb-true}
+use Rattle.std.proofs.lemmas.Bool.{and_parts, eqb-true, or_parts, or_from}
 use Rattle.std.proofs.lemmas.Option.{none-some}
 use Rattle.std.proofs.Math.Seq.{take-append_seam, drop-append_seam}
 use Rattle.std.specs.List.{list_all, prefix_len}
@@ -37,27 +37,23 @@ never k none (b ∷ bs) = none b
 
 -- punctuation
 
-first_false : (x y : Bool) → (x || y) ≡ false → (x ≡ false) × (y ≡ false)
-first_false true y h = cc
-first_false false y h = (refl, h)
-
 less_alone : (rest : List ℕ) → Stops (Punctuation Less) rest → after_less rest ≡ Some (Punctuation Less, 1)
 less_alone [] s = refl
 less_alone (b ∷ bs) s =
-    let h = first_false ((b == 60) || (b == 61)) (b == 62) s in
-    let g = first_false (b == 60) (b == 61) h.0 in
+    let h = or_parts ((b == 60) || (b == 61)) (b == 62) s in
+    let g = or_parts (b == 60) (b == 61) h.0 in
     rw (g.0, g.1, h.1) refl
 
 greater_alone : (rest : List ℕ) → Stops (Punctuation Greater) rest → after_greater rest ≡ Some (Punctuation Greater, 1)
 greater_alone [] s = refl
 greater_alone (b ∷ bs) s =
-    let h = first_false (b == 61) (b == 62) s in
+    let h = or_parts (b == 61) (b == 62) s in
     rw (h.0, h.1) refl
 
 slash_alone : (rest : List ℕ) → Stops (Punctuation Slash) rest → after_slash rest ≡ Some (Punctuation Slash, 1)
 slash_alone [] s = refl
 slash_alone (b ∷ bs) s =
-    let h = first_false (b == 42) (b == 47) s in
+    let h = or_parts (b == 42) (b == 47) s in
     rw (h.0, h.1) refl
 
 punct_is : (punct : Punct) (rest : List ℕ) → Stops (Punctuation punct) rest → lexeme_at (spelling punct ++ rest) ≡ Some (Punctuation punct, length (spelling punct))
@@ -310,16 +306,12 @@ block_answers cs (Some n) c =
 double : (b c : ℕ) (cs : List ℕ) (n : ℕ) (punct : Punct) → (c == n) ≡ true → b ∷ n ∷ [] ≡ spelling punct → ((x : ℕ) → goes_on (Punctuation punct) x ≡ false) → LexemeAnswers (b ∷ c ∷ cs) (Some (Punctuation punct, 2))
 double b c cs n punct e spells none = stands (b ∷ c ∷ cs) (Punctuation punct) 2 (b ∷ c ∷ []) cs refl refl (ap (λ x. b ∷ x ∷ []) (eqb-true c n e) ∙ spells) (never (Punctuation punct) none cs)
 
-all_false : (x y : Bool) → x ≡ false → y ≡ false → (x || y) ≡ false
-all_false true y h g = cc
-all_false false y h g = g
-
 slash_answers : (bs : List ℕ) → LexemeAnswers (47 ∷ bs) (after_slash bs)
 slash_answers [] = stands (47 ∷ []) (Punctuation Slash) 1 (47 ∷ []) [] refl refl refl tt
 slash_answers (c ∷ cs) =
     pick (LexemeAnswers (47 ∷ c ∷ cs)) (c == 47) _ _ (λ e. double 47 c cs 47 DoubleSlash e refl (λ x. refl)) (λ f.
     pick (LexemeAnswers (47 ∷ c ∷ cs)) (c == 42) _ _ (λ e. subst (λ x. LexemeAnswers (47 ∷ x ∷ cs) (option_map (λ n. (Block_comment, suc (suc (suc (suc n))))) (close_at cs))) (sym (eqb-true c 42 e)) (block_answers cs (close_at cs) (close_answers cs))) (λ g.
-    stands (47 ∷ c ∷ cs) (Punctuation Slash) 1 (47 ∷ []) (c ∷ cs) refl refl refl (all_false (c == 42) (c == 47) g f)))
+    stands (47 ∷ c ∷ cs) (Punctuation Slash) 1 (47 ∷ []) (c ∷ cs) refl refl refl (or_from (c == 42) (c == 47) g f)))
 
 less_answers : (bs : List ℕ) → LexemeAnswers (60 ∷ bs) (after_less bs)
 less_answers [] = stands (60 ∷ []) (Punctuation Less) 1 (60 ∷ []) [] refl refl refl tt
@@ -327,14 +319,14 @@ less_answers (c ∷ cs) =
     pick (LexemeAnswers (60 ∷ c ∷ cs)) (c == 60) _ _ (λ e. double 60 c cs 60 ShiftLeft e refl (λ x. refl)) (λ f.
     pick (LexemeAnswers (60 ∷ c ∷ cs)) (c == 61) _ _ (λ e. double 60 c cs 61 LessEqual e refl (λ x. refl)) (λ g.
     pick (LexemeAnswers (60 ∷ c ∷ cs)) (c == 62) _ _ (λ e. double 60 c cs 62 LessGreater e refl (λ x. refl)) (λ h.
-    stands (60 ∷ c ∷ cs) (Punctuation Less) 1 (60 ∷ []) (c ∷ cs) refl refl refl (all_false ((c == 60) || (c == 61)) (c == 62) (all_false (c == 60) (c == 61) f g) h))))
+    stands (60 ∷ c ∷ cs) (Punctuation Less) 1 (60 ∷ []) (c ∷ cs) refl refl refl (or_from ((c == 60) || (c == 61)) (c == 62) (or_from (c == 60) (c == 61) f g) h))))
 
 greater_answers : (bs : List ℕ) → LexemeAnswers (62 ∷ bs) (after_greater bs)
 greater_answers [] = stands (62 ∷ []) (Punctuation Greater) 1 (62 ∷ []) [] refl refl refl tt
 greater_answers (c ∷ cs) =
     pick (LexemeAnswers (62 ∷ c ∷ cs)) (c == 62) _ _ (λ e. double 62 c cs 62 ShiftRight e refl (λ x. refl)) (λ f.
     pick (LexemeAnswers (62 ∷ c ∷ cs)) (c == 61) _ _ (λ e. double 62 c cs 61 GreaterEqual e refl (λ x. refl)) (λ g.
-    stands (62 ∷ c ∷ cs) (Punctuation Greater) 1 (62 ∷ []) (c ∷ cs) refl refl refl (all_false (c == 61) (c == 62) g f)))
+    stands (62 ∷ c ∷ cs) (Punctuation Greater) 1 (62 ∷ []) (c ∷ cs) refl refl refl (or_from (c == 61) (c == 62) g f)))
 
 equal_answers : (b : ℕ) (punct : Punct) (bs : List ℕ) → b ∷ 61 ∷ [] ≡ spelling punct → ((x : ℕ) → goes_on (Punctuation punct) x ≡ false) → LexemeAnswers (b ∷ bs) (with_equal punct bs)
 equal_answers b punct [] spells none = tt

@@ -1,6 +1,6 @@
 -- What collection drops of objects is one list, and what it leaves keeps of them what the laws ask.
 
-use Rattle.std.proofs.Common.{◌≡◌, ℕ, suc, Bool, true, false, not, cond, ◌&&◌, ◌||◌, List, [], ◌∷◌, refl, ap, subst, ◌∙◌, Option, Some, None}
+use Rattle.std.proofs.Common.{◌≡◌, ℕ, suc, Bool, true, false, not, cond, List, [], ◌∷◌, refl, ap, subst, ◌∙◌, Option, Some, None}
 use Rattle.std.specs.Prelude.{IsTrue, filter, option_map}
 use Rattle.std.specs.List.{AllByRecursion, slice_get}
 use Rattle.std.proofs.lemmas.Bool.{and_parts, and_from}
@@ -8,7 +8,7 @@ use Rattle.rv_map.specs.declared.map.SectionId.{SectionId}
 use Rattle.rv_collect_laws.specs.Graph.{is_dropped}
 use Rattle.rv_collect_laws.proofs.MarksLemmas.{same_drops}
 use Rattle.rv_object.specs.declared.row.Row.{Row}
-use Rattle.rv_object.specs.Object.{Contents, Progbits, Note, Nobits, Section, Object}
+use Rattle.rv_object.specs.Object.{Section, Object}
 use Rattle.rv_object.specs.Valid.{is_section_alignment, fit_inside, are_paddings, is_row_in, are_rows}
 use Rattle.rv_object_laws.specs.Collects.{graph_of}
 use Rattle.rv_object_laws.specs.IsProgramOf.{Leaves}
@@ -18,6 +18,7 @@ use Rattle.rv_object_laws.proofs.WithoutLemmas.{section_left}
 use Rattle.rv_resolve.specs.Undefined.{is_loaded_at}
 use Rattle.rv_unique_link_laws.specs.Asked.{HasPlacedRows, HavePlacedRows, IsSound}
 use Rattle.rv_unique_link_laws.proofs.LeftLemmas.{one_left}
+use Rattle.rv_object_laws.proofs.WholeLemmas.{by_paddings as no_paddings, by_fits as nothing_inside}
 
 -- ---- one list
 
@@ -70,15 +71,6 @@ all_sections : (P : Section → Type 0) → ((b : Bool) (s : Section) → P s �
     → AllByRecursion P (without_sections dropped k ss)
 all_sections P f dropped k [] h = tt
 all_sections P f dropped k (s ∷ ss) (one, h) = (f (dropped k) s one, all_sections P f dropped (suc k) ss h)
-
-no_paddings : (executable : Bool) → (true && (not executable || true)) ≡ true
-no_paddings true = refl
-no_paddings false = refl
-
-nothing_inside : (c : Contents) → fit_inside c [] ≡ true
-nothing_inside (Progbits bytes) = refl
-nothing_inside (Note bytes) = refl
-nothing_inside (Nobits size) = refl
 
 aligned_left : (b : Bool) (s : Section) → IsTrue (is_section_alignment s.alignment) → IsTrue (is_section_alignment (without_section b s).alignment)
 aligned_left true s h = h

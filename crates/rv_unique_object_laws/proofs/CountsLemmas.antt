@@ -3,9 +3,7 @@
 use Rattle.std.proofs.Common.{◌≡◌, ℕ, zero, suc, ◌+◌, ◌≤◌, Bool, true, false, List, [], ◌∷◌, ◌++◌, map, refl, sym, ap, ◌∙◌, arith, Some}
 use Rattle.std.specs.Prelude.{filter, slice_get, if◌then◌else◌}
 use Rattle.std.specs.List.{AllByRecursion}
-
-abbrev pub one_if : Bool → ℕ
-one_if b = if b then 1 else 0
+pub use Rattle.rv_isa_laws.specs.Arithmetic.{one_if}
 
 abbrev pub count : {X : Type 0} → (X → Bool) → List X → ℕ
 count test [] = 0

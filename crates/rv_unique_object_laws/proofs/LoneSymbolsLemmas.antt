@@ -20,6 +20,8 @@ use Rattle.rv_object.specs.Object.{Symbol}
 use Rattle.rv_assemble_laws.specs.LaidStatements.{LaidStatement}
 use Rattle.rv_assemble_laws.specs.Symbols.{SymbolUse, laid_at, after_found, assigned_definition, statement_definition, local_symbol, shared_symbol, references, is_meant, unnamed_symbols, is_absolute, named_symbols, local_symbols, exports_of, exports, missing_name, distinct_from, undefined_symbols, symbols_of}
 use Rattle.rv_unique_object_laws.proofs.CountsLemmas.{one_if, count, count_append, one_most, one_is, one_none, count_less, count_none, count_map, count_kept, count_dropped}
+use Rattle.rv_source_laws.proofs.HomesLemmas.{all_filter as kept}
+use Rattle.rv_symbols.proofs.OwnedLemmas.{join, mapped}
 
 -- ---- tests
 
@@ -40,22 +42,6 @@ is_place name section offset x = is_named name x && stands_in section offset x.d
 
 abbrev pub is_outer : List ℕ → Symbol → Bool
 is_outer name x = is_named name x && is_undefined x.definition
-
-join : {X : Type 0} (P : X → Type 0) (xs ys : List X) → AllByRecursion P xs → AllByRecursion P ys → AllByRecursion P (xs ++ ys)
-join P [] ys h k = k
-join P (x ∷ xs) ys (h, hs) k = (h, join P xs ys hs k)
-
-kept : {X : Type 0} (P : X → Type 0) (test : X → Bool) (xs : List X) → AllByRecursion P xs → AllByRecursion P (filter test xs)
-kept P test [] h = tt
-kept P test (x ∷ xs) (p, ps) = go (test x) (kept P test xs ps)
-  where
-    go : (b : Bool) → AllByRecursion P (filter test xs) → AllByRecursion P (if b then x ∷ filter test xs else filter test xs)
-    go true rest = (p, rest)
-    go false rest = rest
-
-mapped : {X Y : Type 0} (P : Y → Type 0) (f : X → Y) (xs : List X) → AllByRecursion (λ x. P (f x)) xs → AllByRecursion P (map f xs)
-mapped P f [] h = tt
-mapped P f (x ∷ xs) (p, ps) = (p, mapped P f xs ps)
 
 -- ---- names that are left undefined are distinct
 

@@ -1,7 +1,7 @@
 -- The code of a statement in so many bytes is one.
 
-use Rattle.std.proofs.Common.{◌≡◌, ℕ, Bool, true, false, List, [], ◌∷◌, ◌++◌, length, refl, sym, ap, ◌∙◌, subst, arith, Option, Some, None, inl, inr}
-use Rattle.std.specs.Prelude.{◌&&◌, unwrap_or}
+use Rattle.std.proofs.Common.{◌≡◌, ℕ, Bool, List, [], ◌∷◌, ◌++◌, length, refl, sym, ap, ◌∙◌, subst, arith, Option, Some, None, inl, inr}
+use Rattle.std.specs.Prelude.{◌&&◌}
 use Rattle.rv_isa.specs.declared.instruction.Inst.{Inst}
 use Rattle.rv_isa.specs.Kinds.{width_of}
 use Rattle.rv_isa_laws.specs.Bytes.{little_endian}
@@ -11,9 +11,10 @@ use Rattle.rv_statement.specs.Statement.{Operand, Expression}
 use Rattle.rv_pseudo_laws.specs.Code.{Part, Closed, Open, Joined, named_form, code}
 use Rattle.rv_pseudo_laws.specs.Filled.{are_closed}
 use Rattle.rv_compress.specs.declared.form.Compressed.{Compressed}
-use Rattle.rv_compress.specs.Encoded.{IsLeast, IsEncodedIn, IsLeastAs, IsEncodedAs}
+use Rattle.rv_compress.specs.Encoded.{IsEncodedIn, IsLeastAs, IsEncodedAs}
 use Rattle.rv_assemble_laws.specs.Coded.{constants, IsCodedPart, AreCodedParts, joined, instructions_in, IsCode}
 use Rattle.rv_unique_object_laws.proofs.ParcelsLemmas.{one_parcel}
+use Rattle.rv_layout.proofs.LengthsLemmas.{least_one, some_parts}
 
 -- ---- the bytes of a part
 
@@ -22,13 +23,6 @@ encoded_one i n a b (inl (e, f)) (inl (g, h)) = f ∙ sym h
 encoded_one i n a b (inl (e, f)) (inr (g, h)) = absurd (omega (arith, e, g))
 encoded_one i n a b (inr (e, f)) (inl (g, h)) = absurd (omega (arith, e, g))
 encoded_one i n a b (inr (e, (p, s, f))) (inr (g, (q, u, h))) = f ∙ ap (little_endian 2) (one_parcel i p q s u) ∙ sym h
-
-least_one : (rvc : Bool) (i : Inst) (m n : ℕ) → IsLeast rvc i m → IsLeast rvc i n → m ≡ n
-least_one true i m n (inl (e, h)) (inl (f, g)) = e ∙ sym f
-least_one true i m n (inl (e, h)) (inr (f, g)) = absurd (g h)
-least_one true i m n (inr (e, h)) (inl (f, g)) = absurd (h g)
-least_one true i m n (inr (e, h)) (inr (f, g)) = e ∙ sym f
-least_one false i m n e f = e ∙ sym f
 
 -- one instruction, in the form of a parcel that is named, if one is
 closed_one : (named : Option Compressed) (rvc : Bool) (i : Inst) (a b : List ℕ) → IsLeastAs named rvc i (length a) → IsEncodedAs named i (length a) a
@@ -57,9 +51,6 @@ pub record IsOneCode (n k : ℕ) (a b : List (List ℕ)) (x y : ℕ) : Type 0 wh
   pub bytes : n ≡ k
   pub coded : a ≡ b
   pub instructions : x ≡ y
-
-some_parts : (ps qs : List Part) → Some ps ≡ Some qs → ps ≡ qs
-some_parts ps qs e = ap (λ o. unwrap_or o []) e
 
 pub code_one : (v : Expression → Value) (rvc : Bool) (m : Mnemonic) (os : List Operand) (n k : ℕ) (a b : List (List ℕ)) (x y : ℕ)
     → code (constants v) rvc n m os ≡ code (constants v) rvc k m os → IsCode v rvc m os n a x → IsCode v rvc m os k b y → IsOneCode n k a b x y

@@ -7,6 +7,7 @@ use Rattle.std.proofs.lemmas.Bool.{eq-eqb, eqb-true}
 use Rattle.rv_unit_laws.specs.Sections.{Section}
 use Rattle.rv_source_laws.specs.Located.{Located}
 use Rattle.rv_assemble_laws.specs.LaidStatements.{LaidStatement, laid_in}
+pub use Rattle.rv_assemble_laws.proofs.UseWeightsLemmas.{cons_parts}
 
 -- ---- pairs
 
@@ -21,9 +22,6 @@ SameLocated x y = x.located ≡ y.located
 
 abbrev pub SameBytes : LaidStatement → LaidStatement → Type 0
 SameBytes x y = (x.located ≡ y.located) × (x.bytes ≡ y.bytes)
-
-pub cons_parts : {A : Type 0} (x y : A) (xs ys : List A) → x ∷ xs ≡ y ∷ ys → (x ≡ y) × (xs ≡ ys)
-cons_parts x y xs ys e = (cc, cc)
 
 pub located_pairs : (xs ys : List LaidStatement) → map (λ s. s.located) xs ≡ map (λ s. s.located) ys → Pairs SameLocated xs ys
 located_pairs [] [] e = tt

@@ -13,13 +13,9 @@ use Rattle.rv_unit_laws.specs.Contributions.{Contribution, Nothing, Bytes, Zero_
 use Rattle.rv_unit_laws.specs.Tables.{Tables, Extent, SectionOffset, Labelled, NumericLabel, Assignment, at_start, here, stands, value_by_tables, assigned_by, choice_in, is_defined, may_set, with_label, with_assignment, with_section, with_contribution, with_choice, with_chosen, after_directive, after, after_all, opened_of, extended, changed_at, contributed, alignment_as, with_data}
 use Rattle.rv_unit_laws.proofs.EnteringLemmas.{place_inside, sections_more, sections_count, entering}
 use Rattle.rv_unit_laws.proofs.FoundLemmas.{all_weaker}
+use Rattle.std.proofs.lemmas.Option.{slice_get-get_or}
 
 -- ---- lists
-
-pub got : {X : Type 0} (xs : List X) (i : ℕ) (d : X) → i < length xs → slice_get xs i ≡ Some (get_or xs i d)
-got [] i d h = absurd (omega arith)
-got (x ∷ xs) zero d h = refl
-got (x ∷ xs) (suc i) d h = got xs i d (omega arith)
 
 pub got_of : {X : Type 0} (xs : List X) (i : ℕ) (d x : X) → slice_get xs i ≡ Some x → get_or xs i d ≡ x
 got_of [] i d x e = absurd (cc)
@@ -50,7 +46,7 @@ section_open t None is_open = (is_open, λ j x h. h)
 section_open t (Some s) is_open =
     let ss : List Section = (opened_of t).sections in
     entering (λ (u : Tables). IsOpen (opened_of u) × Stays (opened_of t) (opened_of u)) t s
-    (λ n at. ((get_or ss n s, got ss n s (place_inside ss s.name n at)), λ j x h. h))
+    (λ n at. ((get_or ss n s, slice_get-get_or ss n s (place_inside ss s.name n at)), λ j x h. h))
     (λ room. (
       (s, ap (λ l. slice_get l (length t.extents)) (sections_more t s) ∙ ap (λ n. slice_get (ss ++ s ∷ []) n) (sym (sections_count t)) ∙ got_last ss s),
       λ j x h. ap (λ l. slice_get l j) (sections_more t s) ∙ got_front ss (s ∷ []) j x h,
@@ -125,7 +121,7 @@ stays_all t k (s ∷ ss) is_open =
 -- what stands in a section that is open means the same with the sections that are opened later
 pub stands_same : (t : Tables) (k : ℕ) (ss : List Statement) (p : SectionOffset) → IsOpen (opened_of t) → p.section < length (opened_of t).sections → stands (opened_of (after_all t k ss)) p ≡ stands (opened_of t) p
 stands_same t k ss p is_open inside =
-    let at = got (opened_of t).sections p.section text_section inside in
+    let at = slice_get-get_or (opened_of t).sections p.section text_section inside in
     let later = stays_all t k ss is_open p.section (section_at (opened_of t) p.section) at in
     ap (λ (s : Section). if s.executable then Open else InSection p.section p.offset) (got_of (opened_of (after_all t k ss)).sections p.section text_section (section_at (opened_of t) p.section) later)
 

@@ -241,19 +241,9 @@ put_back name (e ∷ es) new old found = by (bytes_eq name.now e.0.now) refl fou
         ap (λ c. if c then (e.0, old) ∷ insert_entry same_name es name new else e ∷ insert_entry same_name (insert_entry same_name es name new) name old) is
         ∙ ap (λ l. e ∷ l) (rest later)
 
--- a name with a label, or that is set, is defined
-pub label_defined : (a b : Bool) → a ≡ true → (a || b) ≡ true
-label_defined true b e = refl
-label_defined false b e = absurd (cc)
-
 pub set_defined : (a b : Bool) → b ≡ true → (a || b) ≡ true
 set_defined true b e = refl
 set_defined false b e = e
-
--- a name without a label and an assignment is not
-pub free_defined : (a b : Bool) → a ≡ false → b ≡ false → (a || b) ≡ false
-free_defined true b p q = absurd (cc)
-free_defined false b p q = q
 
 -- what is found is found as well once it is changed
 pub found_mapped : {X Y : Type 0} (f : X → Y) (found : Option X) → is_some found ≡ is_some (option_map f found)

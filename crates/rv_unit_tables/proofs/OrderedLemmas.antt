@@ -12,6 +12,7 @@ use Rattle.std.proofs.lemmas.List.{map-append, reverse-append, reverse-reverse}
 use Rattle.std.proofs.lemmas.List.Elements.{filter-append}
 use Rattle.std.proofs.lemmas.List.Folds.{list_all-append, find-append}
 use Rattle.rv_unit_laws.proofs.BeforeLemmas.{rises, falls}
+use Rattle.std.proofs.lemmas.Option.{slice_get_past}
 
 -- ---- the last: a search from the back finds it
 
@@ -193,11 +194,6 @@ some_at [] k d inside = absurd (omega arith)
 some_at (x ∷ xs) zero d inside = refl
 some_at (x ∷ xs) (suc k) d inside = some_at xs k d (omega arith)
 
-none_at : {X : Type 0} (xs : List X) (k : ℕ) → length xs ≤ k → slice_get xs k ≡ None
-none_at [] k past = refl
-none_at (x ∷ xs) zero past = absurd (omega arith)
-none_at (x ∷ xs) (suc k) past = none_at xs k (omega arith)
-
 -- the one before an index
 abbrev pub got_before : {X : Type 0} → List X → ℕ → Option X
 got_before xs zero = None
@@ -241,7 +237,7 @@ pub none_before : {X : Type 0} (at : X → ℕ) (o : ℕ) (xs : List X) (k : ℕ
 none_before at o xs k within low high is = sym (ap (got_before xs) is) ∙ found_before at o xs k within low high
 
 pub got : {X : Type 0} (r : Option (Bor X)) (xs : List X) (k : ℕ) → is_some r ≡ nat_lt k (length xs) → IfSome r (λ x. x.now ≡ slice_index_or xs k x.now) → option_copied r ≡ slice_get xs k
-got None xs k found is = sym (none_at xs k (ltb-false k (length xs) (sym found)))
+got None xs k found is = sym (slice_get_past xs k (ltb-false k (length xs) (sym found)))
 got (Some x) xs k found is = ap Some is ∙ sym (some_at xs k x.now (ltb-true k (length xs) (sym found)))
 
 -- ---- what a map keeps in vectors

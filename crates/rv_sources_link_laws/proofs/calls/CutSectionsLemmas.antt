@@ -36,6 +36,7 @@ use Rattle.rv_sources_link_laws.proofs.calls.CutStepsLemmas.{cut_statement, cut_
 use Rattle.rv_sources_link_laws.proofs.calls.LongCallsLemmas as long
 use Rattle.rv_sources_link_laws.proofs.calls.LongCallsLemmas.{IsLongCall}
 use Rattle.rv_sources_link_laws.proofs.moves.WalkLemmas.{drop_past, relocations_join, From, parts_from}
+use Rattle.rv_sources_link_laws.proofs.moves.ShrunkSectionsLemmas.{none_long}
 
 -- ---- the words of a call
 
@@ -212,10 +213,6 @@ module _ (t : Tables) (number : Numbering) (sizes : Sizes) (multiple : ℕ) wher
         moved place text = record { place = place; full = 8; text = text }
 
 -- ---- a section
-
-none_long : (xs : List ℕ) → length xs ≡ 0 → xs ≡ []
-none_long [] e = refl
-none_long (x ∷ xs) e = absurd (omega (arith, e))
 
 -- what stands in a section of text
 module _ (t : Tables) (laid : List LaidStatement) (number : Numbering) (symbols : List Symbol) (j : ℕ) (s : SourceSection) (x : Section) (zs : List LaidStatement) (h : IsSectionOf t laid number symbols j s zs x) (text : source_text s ≡ true) where

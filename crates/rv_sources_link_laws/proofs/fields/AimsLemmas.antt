@@ -19,6 +19,7 @@ use Rattle.rv_sources_link_laws.proofs.names.KnownLemmas.{all_found}
 use Rattle.rv_sources_link_laws.proofs.moves.PiecesLemmas.{IsPiece, ArePieces, own, placed_at, line_of, line_at, lines}
 use Rattle.rv_sources_link_laws.proofs.statements.SettledLemmas.{IsLaidIn}
 use Rattle.rv_sources_link_laws.proofs.fields.UppersLemmas.{find_join, find_front}
+pub use Rattle.rv_sources_link_laws.proofs.sections.StoodLemmas.{IsFirst}
 
 map_none : {X Y : Type 0} (f : X → Y) (o : Option X) → option_map f o ≡ None → o ≡ None
 map_none f None e = refl
@@ -28,10 +29,6 @@ map_none f (Some x) e = absurd (cc)
 
 abbrev pub passes : ℕ → LaidStatement → Bool
 passes n z = (z.located.ordinal == n) && has_row z.located
-
--- each is the first of its ordinal
-abbrev pub IsFirst : List LaidStatement → LaidStatement → Type 0
-IsFirst S z = laid_at S z.located.ordinal ≡ Some z
 
 module _ (S : List LaidStatement) (n j : ℕ) where
   one : (z y : LaidStatement) → laid_at S n ≡ Some z → IsFirst S y → y.located.ordinal ≡ n → y ≡ z

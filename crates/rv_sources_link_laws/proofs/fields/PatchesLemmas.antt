@@ -1,6 +1,6 @@
 -- The relocations of a section, part by part: what each makes of its own bytes is all that there is to show.
 
-use Rattle.std.proofs.Common.{◌≡◌, ℕ, zero, suc, ◌+◌, ◌/◌, ◌<◌, ◌≤◌, Bool, true, false, List, [], ◌∷◌, ◌++◌, length, take, drop, refl, sym, ap, ◌∙◌, subst, arith, length-append, map, Some, None, inl, inr}
+use Rattle.std.proofs.Common.{◌≡◌, ℕ, zero, suc, ◌+◌, ◌<◌, ◌≤◌, Bool, true, false, List, [], ◌∷◌, ◌++◌, length, take, drop, refl, sym, ap, ◌∙◌, subst, arith, length-append, map, Some, None, inl, inr}
 use Rattle.std.proofs.lemmas.List.{length-replicate, append_assoc}
 use Rattle.std.specs.Prelude.{⊤, ℤ, pos, ◌+ℤ◌, ◌^◌, flat_map, Option, unwrap_or, option_map, option_and_then}
 use Rattle.std.specs.Int.{w64, int_wrap}
@@ -19,6 +19,7 @@ use Rattle.rv_assemble_laws.specs.LaidStatements.{LaidPart, laid_part, part_byte
 use Rattle.rv_assemble_laws.specs.IsObjectOf.{Numbering, relocation_at, relocations_from}
 use Rattle.rv_object_laws.specs.Values.{patched_at, applied}
 use Rattle.rv_sources_link_laws.proofs.fields.NumbersLemmas.{worth, address_32, address_64, difference_8, difference_16, difference_32, difference_64}
+pub use Rattle.rv_filling_laws.proofs.AllLemmas.{little_long}
 
 -- ---- lists
 
@@ -98,10 +99,6 @@ is_data _ = false
 
 zeros_long : (n : ℕ) → length (zeros n) ≡ n
 zeros_long n = length-replicate {A = ℕ} n 0
-
-pub little_long : (width n : ℕ) → length (little_endian width n) ≡ width
-little_long zero n = refl
-little_long (suc width) n = ap suc (little_long width (n / 256))
 
 -- ---- the parts of a section
 

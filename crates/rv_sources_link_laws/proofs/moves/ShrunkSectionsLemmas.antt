@@ -126,7 +126,7 @@ tidy_none ms c e =
     subst (λ l. (size_of (shrunk_contents l c) ≡ new_offset l (size_of c)) × (initial_bytes (shrunk_contents l c) ≡ kept 0 l (initial_bytes c))) (sym e)
     (ap size_of (contents_stay c) ∙ (let n = size_of c in let f : n ≡ n - 0 = omega arith in f), ap initial_bytes (contents_stay c))
 
-none_long : (xs : List ℕ) → length xs ≡ 0 → xs ≡ []
+pub none_long : (xs : List ℕ) → length xs ≡ 0 → xs ≡ []
 none_long [] e = refl
 none_long (x ∷ xs) e = absurd (omega (arith, e))
 

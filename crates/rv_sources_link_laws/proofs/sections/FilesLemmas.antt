@@ -127,7 +127,7 @@ files_from p starts file (ss ∷ sources) (o ∷ os) (is, h) f = (
   files_from p starts (suc file) sources os h (λ i. subst (λ n. IsFile p starts n (slice_index_or sources i []) (laid_by starts sources os h i)) (let e : file + suc i ≡ suc file + i = omega arith in e) (f (suc i))),
 )
 
-tables_by : (sources : List (List Statement)) (i : ℕ) → slice_index_or (map tables sources) i (at_start []) ≡ tables (slice_index_or sources i [])
+pub tables_by : (sources : List (List Statement)) (i : ℕ) → slice_index_or (map tables sources) i (at_start []) ≡ tables (slice_index_or sources i [])
 tables_by [] i = refl
 tables_by (ss ∷ sources) zero = refl
 tables_by (ss ∷ sources) (suc i) = tables_by sources i

@@ -23,7 +23,7 @@ use Rattle.rv_sources_link_laws.proofs.sections.SectionsLemmas.{join}
 use Rattle.rv_sources_link_laws.proofs.statements.CodeOfLemmas.{IsFound, found_from}
 
 -- a statement is the first of its ordinal
-abbrev IsFirst : List LaidStatement → LaidStatement → Type 0
+abbrev pub IsFirst : List LaidStatement → LaidStatement → Type 0
 IsFirst S z = laid_at S z.located.ordinal ≡ Some z
 
 -- a statement at which a definition stands

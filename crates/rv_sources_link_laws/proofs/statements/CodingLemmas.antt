@@ -1,6 +1,6 @@
 -- The code of a statement, part by part: its lines, and their bytes, once each open field holds what its operand stands for.
 
-use Rattle.std.proofs.Common.{◌≡◌, ℕ, suc, ◌+◌, ◌*◌, ◌%◌, ◌≤◌, Bool, true, false, List, [], ◌∷◌, ◌++◌, length, map, refl, sym, ap, ◌∙◌, subst, arith, ◌⊎◌, Option, Some, None, inl, inr, length-append}
+use Rattle.std.proofs.Common.{◌≡◌, ℕ, suc, ◌+◌, ◌%◌, Bool, true, false, List, [], ◌∷◌, ◌++◌, length, map, refl, sym, ap, ◌∙◌, subst, arith, ◌⊎◌, Option, Some, None, inl, inr, length-append}
 use Rattle.std.proofs.lemmas.List.{append_assoc, append-nil}
 use Rattle.std.proofs.lemmas.List.Sums.{sum_by-cons}
 use Rattle.std.specs.Prelude.{⊤, ℤ}
@@ -29,6 +29,7 @@ use Rattle.rv_assemble_laws.specs.Templates.{Open as OpenField}
 use Rattle.rv_filling_laws.specs.Parts.{fills_call_pair}
 use Rattle.rv_filling_laws.proofs.OneLemmas.{open_filled, call_filled, call_width}
 use Rattle.rv_sources_link_laws.proofs.fields.PatchesLemmas.{little_long, patched_here, filled_fields}
+pub use Rattle.rv_filling_laws.specs.Parts.{AreFew}
 
 -- ---- the bytes of an instruction
 
@@ -54,10 +55,6 @@ encoded_two_or_four i n bytes (inl (e, w)) = inr e
 encoded_two_or_four i n bytes (inr (e, rest)) = inl e
 
 -- ---- how many bytes and instructions
-
--- two bytes an instruction at least, four at most, and an even count of them
-abbrev pub AreFew : ℕ → ℕ → Type 0
-AreFew count bytes = (2 * count ≤ bytes) × (bytes ≤ 4 * count) × (bytes % 2 ≡ 0)
 
 few_more : (count bytes one : ℕ) → (one ≡ 2) ⊎ (one ≡ 4) → AreFew count bytes → AreFew (1 + count) (one + bytes)
 few_more count bytes one (inl e) (a, b, c) = (omega (arith, a, e), omega (arith, b, e), (let f : (one + bytes) % 2 ≡ 0 = omega (arith, c, e) in f))

@@ -1,6 +1,6 @@
 -- A row that suits its statement fits it.
 
-use Rattle.std.proofs.Common.{◌≡◌, ℕ, zero, suc, ◌+◌, ◌-◌, ◌*◌, ◌/◌, ◌%◌, ◌<◌, Bool, true, false, List, [], ◌∷◌, length, refl, sym, ap, ◌∙◌, subst, arith, Option, Some, None, ◌⊎◌, inl, inr, length-append}
+use Rattle.std.proofs.Common.{◌≡◌, ℕ, suc, ◌+◌, ◌-◌, ◌*◌, ◌/◌, ◌%◌, ◌<◌, Bool, true, false, List, [], ◌∷◌, length, refl, sym, ap, ◌∙◌, subst, arith, Option, Some, None, ◌⊎◌, inl, inr, length-append}
 use Rattle.std.proofs.lemmas.Bool.{and_from}
 use Rattle.std.proofs.Common.{add-zero}
 use Rattle.std.proofs.Math.Nat.{mul-add-div_right, add-mul}
@@ -37,6 +37,8 @@ use Rattle.rv_object.specs.Padding.{no_operations}
 use Rattle.rv_sources_link_laws.proofs.statements.QuietLemmas.{formed}
 use Rattle.rv_sources_link_laws.proofs.statements.NopsLemmas.{padding_row, padding_lines, padding_said, padding_lies, padding_sized, padding_encoded}
 use Rattle.rv_sources_link_laws.proofs.statements.SuitsLemmas.{IsMultiple, SuitsPadding, SuitsDirective, Suits, directive_said, code_said}
+use Rattle.rv_chain_laws.proofs.AscendingLemmas.{true_false}
+use Rattle.rv_filling_laws.proofs.AllLemmas.{little_long as little_length}
 
 -- ---- constants
 
@@ -52,10 +54,6 @@ no_row : (r : Row) → r.bytes ≡ 0 → r.instructions ≡ 0 → IsRowOf (Some 
 no_row r b n = (tt, n, omega arith, omega arith, (let e : r.bytes % 2 ≡ 0 = omega arith in e))
 
 -- ---- lengths
-
-little_length : (width n : ℕ) → length (little_endian width n) ≡ width
-little_length zero n = refl
-little_length (suc width) n = ap suc (little_length width (n / 256))
 
 values_length : (v : Expression → ℕ) (width : ℕ) (es : List Expression) → length (flat_map (λ e. little_endian width (v e)) es) ≡ width * length es
 values_length v width [] = omega arith
@@ -85,10 +83,6 @@ padding_moves (Some a) start offset (some, h) =
 
 is_true : (b : Bool) → b ≡ true → IsTrue b
 is_true b e = e
-
-true_false : {A : Type 0} (b : Bool) → b ≡ true → b ≡ false → A
-true_false true e f = absurd (cc)
-true_false false e f = absurd (cc)
 
 -- ---- lines
 

@@ -18,6 +18,7 @@ use Rattle.rv_source_laws.specs.Lines.{Line, Lie, no_operation, padding_parts}
 use Rattle.rv_source_laws.specs.Fits.{IsRowOf}
 use Rattle.rv_chain_laws.specs.Contents.{ArePadding, AreEncoded}
 use Rattle.rv_object.specs.Padding.{four_each, no_operations, operations_in}
+use Rattle.rv_isa_laws.specs.Arithmetic.{one_if as one_of}
 
 -- ---- one of them
 
@@ -51,9 +52,6 @@ padding_lines address bytes = lines_by address (bytes / 4) (nat_le 2 (bytes % 4)
 
 abbrev two_of : Bool → ℕ
 two_of b = if b then 2 else 0
-
-abbrev one_of : Bool → ℕ
-one_of b = if b then 1 else 0
 
 -- the rest of an even count
 rest_of : (bytes : ℕ) → bytes % 2 ≡ 0 → (bytes ≡ 4 * (bytes / 4) + two_of (nat_le 2 (bytes % 4))) × (bytes % 4 / 2 ≡ one_of (nat_le 2 (bytes % 4)))

@@ -27,6 +27,7 @@ use Rattle.rv_assemble_laws.specs.Templates.{Open, open_at}
 use Rattle.rv_assemble_laws.specs.IsObjectOf.{Numbering, relocation_at}
 use Rattle.rv_sources_link_laws.proofs.names.KnownLemmas.{still}
 use Rattle.rv_sources_link_laws.proofs.statements.RowsLemmas.{is_distance}
+use Rattle.rv_chain_laws.proofs.LaidOutLemmas.{not_false as no_not}
 
 -- ---- numbers
 
@@ -129,10 +130,6 @@ low_symbolic l m (Faulty c) open_one e = absurd (cc)
 
 abbrev pub IsLabelled : (Primary → Bool) → Value → Type 0
 IsLabelled l v = (q : Primary) × ((at : Meaning) × ((plus : ℕ) × (v ≡ Symbolic q at plus) × (l q ≡ true)))
-
-no_not : (b : Bool) → not b ≡ false → b ≡ true
-no_not true e = refl
-no_not false e = absurd (cc)
 
 labelled_by : (l : Primary → Bool) (v : Value) → is_labelled (worth l v) ≡ true → IsLabelled l v
 labelled_by l (Constant n) e = absurd (cc)

@@ -1,6 +1,6 @@
 -- What the row of a statement owes to it, in terms of the values of its expressions.
 
-use Rattle.std.specs.Prelude.{List, ◌≡◌, ℕ, ℤ, unwrap_or, ◌+◌, ◌*◌, ◌%◌, ◌<◌, Bool, true, false, ⊤, [], length, Option, Some, None, if◌then◌else◌}
+use Rattle.std.specs.Prelude.{List, ◌≡◌, ℕ, ℤ, unwrap_or, ◌+◌, ◌*◌, ◌%◌, Bool, true, false, [], length, Option, if◌then◌else◌}
 use Rattle.rv_text_laws.specs.Values.{Value, Constant}
 use Rattle.rv_statement.specs.Statement.{StatementKind, Label, Numbered, Instruction, Directs, Expression, Directive, Sets, Aligns_to_power, Aligns_to_bytes, Values, Strings, Zeros}
 use Rattle.rv_unit_laws.specs.Sections.{Section}
@@ -12,10 +12,7 @@ use Rattle.rv_pseudo_laws.specs.Code.{Part, code}
 use Rattle.rv_assemble_laws.specs.Coded.{is_constant, constants, IsCode}
 use Rattle.rv_assemble_laws.specs.Templates.{Open}
 use Rattle.rv_sources_link_laws.proofs.statements.CodingLemmas.{coded_bytes}
-
-abbrev pub IsMultiple : Option ℕ → ℕ → Type 0
-IsMultiple None start = ⊤
-IsMultiple (Some alignment) start = (0 < alignment) × (start % alignment ≡ 0)
+pub use Rattle.rv_assemble_laws.specs.LaidStatements.{IsMultiple}
 
 -- the padding of an alignment up to the multiple, in a section that begins at one: in code instructions, and none up to 2
 abbrev pub SuitsPadding : Bool → Row → ℕ → Option ℕ → Type 0

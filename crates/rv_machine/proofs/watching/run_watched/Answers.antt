@@ -6,14 +6,15 @@ use Rattle.rv_machine.specs.End.{law_end}
 use Rattle.rv_machine.specs.Hart.{hart_of}
 use Rattle.rv_machine.specs.LastState.{last_state}
 use Rattle.rv_machine.specs.StreamSteps.{Input, input_left}
-use Rattle.rv_machine.proofs.KnownLemmas.{has_read_none, has_read_more, appends_kept, appends_more, keeps_self}
+use Rattle.rv_machine.proofs.KnownLemmas.{has_read_none, has_read_more, appends_kept}
 use Rattle.rv_machine.proofs.RunLemmas.{run-on, last-on}
 use Rattle.rv_machine.proofs.StreamLemmas.{steps_as, went_on, came_to, rests_at}
 use Rattle.rv_machine.proofs.watching.run_watched.Goals as goal
+use Rattle.std.proofs.KnownBytes.{Keeps-refl, Appends-trans}
 
 pub loop-left-init : goal.loop-left-init
 loop-left-init g c = record {
-  so_far = ([], [], has_read_none _, appends_kept _ _ (keeps_self _), λ r. (λ rest may. refl, λ rest may. refl));
+  so_far = ([], [], has_read_none _, appends_kept _ _ (Keeps-refl _), λ r. (λ rest may. refl, λ rest may. refl));
 }
 
 pub returns-in-Ok-Some : goal.returns-in-Ok-Some
@@ -30,7 +31,7 @@ returns-in-Ok-Some g c =
         far.0 ++ more.0,
         far.1 ++ more.1,
         has_read_more first before after far.0 more.0 far.2 more.2,
-        appends_more _ _ _ far.1 more.1 far.3 more.3,
+        Appends-trans _ _ _ far.1 more.1 far.3 more.3,
         λ r rest may.
             let over = steps_as _ _ more.0 more.1 _ _ _ _ _ _ c.in-Ok-Some.field-0-is (more.4 r) in (
               came_to r c.args.limit (c.loop-left.left) start (g.M.Memory.mem c.args.machine.now.memory) before after c.loop-left.machine.hart (g.M.Memory.mem c.loop-left.machine.memory) far.0 more.0 far.1 more.1 more.2 (far.4 r).0
@@ -55,7 +56,7 @@ loop-left-preserved g c =
         far.0 ++ more.0,
         far.1 ++ more.1,
         has_read_more first before after far.0 more.0 far.2 more.2,
-        appends_more _ _ _ far.1 more.1 far.3 more.3,
+        Appends-trans _ _ _ far.1 more.1 far.3 more.3,
         λ r. (
           went_on r (run r) (run-on r) c.args.limit (c.loop-left.left) start (g.M.Memory.mem c.args.machine.now.memory) before after c.loop-left.machine.hart (g.M.Memory.mem c.loop-left.machine.memory) far.0 more.0 far.1 more.1 more.2 (far.4 r).0
               (c.loop-left.left - 1) c.step.new.hart (g.M.Memory.mem c.step.new.memory) is (steps_as _ _ more.0 more.1 _ _ _ _ _ _ c.in-Ok-None.field-0-is (more.4 r)),

@@ -8,8 +8,9 @@ use Rattle.indexmap.specs.IndexMap.{insert_entry}
 use Rattle.indexmap.proofs.CallerLemmas.{insert_entry-new}
 use Rattle.rv_unit_laws.specs.Tables.{label_of, assigned_ever}
 use Rattle.rv_unit_tables.specs.Tables.{tables_of, labelled_of, label_at, assignment_of}
-use Rattle.rv_unit_tables.proofs.LookupsLemmas.{with_label_old, with_label_new, label_found, same_name, put_back, label_defined, set_defined, free_defined, found_mapped}
+use Rattle.rv_unit_tables.proofs.LookupsLemmas.{with_label_old, with_label_new, label_found, same_name, put_back, set_defined, found_mapped}
 use Rattle.rv_unit_tables.proofs.tables.Tables.add_label.Goals as goal
+use Rattle.std.proofs.lemmas.Bool.{or_left, or_from}
 
 pub returns-then-is_some-clause-tables : goal.returns-then-is_some-clause-tables
 returns-then-is_some-clause-tables c = λ i h.
@@ -30,7 +31,7 @@ returns-in-Some-clause-tables c = λ i h.
     ∙ put_back c.args.name es (record { ordinal = c.args.ordinal; place = c.here-place.result }) c.in-Some.first found in
     let some : is_some (label_of t.labels true 0 name) ≡ true = ap is_some (sym (label_found name es) ∙ ap (option_map (label_at name)) found) in
     ap (λ l. record t { labels = map labelled_of l }) kept
-    ∙ with_label_old t c.args.ordinal name h (label_defined (is_some (label_of t.labels true 0 name)) (is_some (assigned_ever t.assignments name)) some)
+    ∙ with_label_old t c.args.ordinal name h (or_left (is_some (label_of t.labels true 0 name)) (is_some (assigned_ever t.assignments name)) some)
 
 pub returns-clause-tables : goal.returns-clause-tables
 returns-clause-tables c = λ i h.
@@ -40,7 +41,7 @@ returns-clause-tables c = λ i h.
     let none : lookup (λ (k : Bor (List ℕ)). bytes_eq name k.now) es ≡ None = sym c.in_ok-before.ensures.old ∙ c.in_default.is in
     let unset : is_some c.assignment.result ≡ false = search rules in
     let free : (is_some (label_of t.labels true 0 name) || is_some (assigned_ever t.assignments name)) ≡ false =
-    free_defined (is_some (label_of t.labels true 0 name)) (is_some (assigned_ever t.assignments name))
+    or_from (is_some (label_of t.labels true 0 name)) (is_some (assigned_ever t.assignments name))
     (ap is_some (sym (label_found name es) ∙ ap (option_map (label_at name)) none))
     (ap is_some (sym (c.assignment.ensures i)) ∙ sym (found_mapped assignment_of c.assignment.result) ∙ unset) in
     with_label_new t c.args.ordinal name (map labelled_of c.insert.new.self.entries) h free
