@@ -81,7 +81,7 @@ alone_by false rs = refl
 pub fit_none : (c : Contents) (rs : List Relocation) → rs ≡ [] → fit_inside c rs ≡ true
 fit_none c rs e = ap (fit_inside c) e
 
-inside_by : (kind : SectionType) (end : ℕ) (full : List ℕ) (rs : List Relocation) → (is_nobits_type kind ≡ true → rs ≡ [])
+pub inside_by : (kind : SectionType) (end : ℕ) (full : List ℕ) (rs : List Relocation) → (is_nobits_type kind ≡ true → rs ≡ [])
     → list_all (λ r. nat_le (r.place + width_of r.kind) (length full)) rs ≡ true → fit_inside (contents_of kind end full) rs ≡ true
 inside_by types.Progbits end full rs none fits = fits
 inside_by types.Note end full rs none fits = fits

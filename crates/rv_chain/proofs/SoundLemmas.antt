@@ -7,7 +7,6 @@ use Rattle.std.specs.List.{AllByRecursion, list_all}
 use Rattle.std.specs.Prelude.{◌&&◌, ◌==◌, if◌then◌else◌, IsTrue, flat_map, slice_get}
 use Rattle.rv_isa.specs.Kinds.{width_of}
 use Rattle.rv_statement.specs.Statement.{Statement}
-use Rattle.rv_unit_laws.specs.declared.section_type.SectionType.{SectionType}
 use Rattle.rv_unit_laws.specs.declared.section_type.SectionType.TheVariants as types
 use Rattle.rv_unit_laws.specs.Sections.{Section as SourceSection, is_nobits_type}
 use Rattle.rv_unit_laws.specs.Tables.{Tables, tables, opened_of}
@@ -16,7 +15,7 @@ use Rattle.rv_object.specs.declared.row.Row.{Row}
 use Rattle.rv_object.specs.Object.{Relocation, Section, Symbol, Object, size_of}
 use Rattle.rv_object.specs.Valid.{is_section_alignment, fit_inside, are_paddings, is_row_in, are_rows}
 use Rattle.rv_assemble_laws.specs.LaidStatements.{LaidStatement, part_bytes, parts, laid_in, end_of}
-use Rattle.rv_assemble_laws.specs.IsObjectOf.{Numbering, relocations_from, contents_of, IsSectionOf, AreSectionsOf, row_of, rows_at, IsObjectOf}
+use Rattle.rv_assemble_laws.specs.IsObjectOf.{Numbering, relocations_from, IsSectionOf, AreSectionsOf, row_of, rows_at, IsObjectOf}
 use Rattle.rv_assemble_laws.proofs.FaultlessLemmas.{no_first_fault}
 use Rattle.rv_assemble_laws.proofs.FilledLemmas.{filled}
 use Rattle.rv_assemble.proofs.SettledLemmas.{IsSettled, settled, IsIn, all_in}
@@ -25,15 +24,9 @@ use Rattle.rv_assemble.proofs.EvenCodeLemmas.{parts_even, ends_within}
 use Rattle.rv_assemble.proofs.CodeFitsLemmas.{Holds, all_fit}
 use Rattle.rv_assemble.proofs.FieldsInsideLemmas.{none_in_nobits, parts_within, paddings_lie}
 use Rattle.rv_unique_link_laws.specs.Asked.{IsSound}
-use Rattle.rv_assemble.proofs.ComposedLemmas.{contents_size, fit_none}
+use Rattle.rv_assemble.proofs.ComposedLemmas.{contents_size, inside_by}
 
 -- ---- contents
-
-inside_by : (kind : SectionType) (end : ℕ) (full : List ℕ) (rs : List Relocation) → (is_nobits_type kind ≡ true → rs ≡ [])
-    → list_all (λ r. nat_le (r.place + width_of r.kind) (length full)) rs ≡ true → fit_inside (contents_of kind end full) rs ≡ true
-inside_by types.Progbits end full rs none fits = fits
-inside_by types.Note end full rs none fits = fits
-inside_by types.Nobits end full rs none fits = fit_none (contents_of types.Nobits end full) rs (none refl)
 
 -- ---- sections, one by one
 

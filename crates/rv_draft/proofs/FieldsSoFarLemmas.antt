@@ -1,20 +1,16 @@
 -- One value more of the open fields so far.
 
-use Rattle.std.proofs.Common.{append_assoc, append-nil, ◌≡◌, ℕ, zero, suc, ◌+◌, ◌*◌, ◌≤◌, ◌<◌, Bool, true, false, List, [], ◌∷◌, ◌++◌, length, map, drop, refl, sym, ap, ◌∙◌, arith}
+use Rattle.std.proofs.Common.{append_assoc, append-nil, ◌≡◌, ℕ, ◌+◌, ◌*◌, ◌≤◌, ◌<◌, Bool, true, false, List, [], ◌∷◌, ◌++◌, length, map, drop, refl, sym, ap, ◌∙◌, arith}
 use Rattle.std.proofs.Math.Nat.{mul-le-mul_right}
 use Rattle.std.proofs.lemmas.List.{at_drop_all, length-replicate}
 use Rattle.std.specs.Prelude.{flat_map, if◌then◌else◌}
-use Rattle.rv_isa_laws.specs.Bytes.{little_endian}
 use Rattle.rv_text_laws.specs.Values.{Value, Constant, Symbolic, Difference, Faulty}
 use Rattle.rv_statement.specs.Statement.{Expression}
 use Rattle.rv_assemble_laws.specs.Templates.{Datum, value_bytes, value_fields}
 use Rattle.rv_assemble_laws.specs.LaidStatements.{LaidPart, laid_part, part_bytes}
 use Rattle.rv_assemble_laws.specs.Fields.{Field, field_at, fields_from}
 use Rattle.rv_draft.specs.DataParts.{fields_said}
-
-pub little_long : (width n : ℕ) → length (little_endian width n) ≡ width
-little_long zero n = refl
-little_long (suc width) n = ap suc (little_long width _)
+pub use Rattle.rv_layout.proofs.LengthsLemmas.{little_long}
 
 -- a value has the bytes of its width
 pub value_long : (width : ℕ) (v : Value) → length (value_bytes width v) ≡ width

@@ -28,7 +28,7 @@ use Rattle.rv_layout.proofs.FixedLemmas.{code_fixed}
 
 -- ---- the bytes of a part have one length
 
-little_long : (width n : ℕ) → length (little_endian width n) ≡ width
+pub little_long : (width n : ℕ) → length (little_endian width n) ≡ width
 little_long zero n = refl
 little_long (suc width) n = ap suc (little_long width _)
 

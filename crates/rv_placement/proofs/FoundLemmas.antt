@@ -18,7 +18,7 @@ some_at (x ∷ xs) zero h = (x, refl)
 some_at (x ∷ xs) (suc i) h = some_at xs i (omega arith)
 
 -- each section has its place
-each_at : (fs : List (Vec PlacedSection)) (os : List Object) → map (λ f. length f.items) fs ≡ map (λ o. length o.sections) os
+pub each_at : (fs : List (Vec PlacedSection)) (os : List Object) → map (λ f. length f.items) fs ≡ map (λ o. length o.sections) os
     → (file index : ℕ) (s : Section) → section_in (slice_get os file) index ≡ Some s → (q : PlacedSection) × (placed_in (slice_get fs file) index ≡ Some q)
 each_at [] [] e file index s at = absurd (cc)
 each_at [] (o ∷ os) e file index s at = absurd (cc)

@@ -2,11 +2,8 @@
 
 use Rattle.std.proofs.lemmas.Option.{slice_get-map, slice_get-get_or}
 use Rattle.std.proofs.Common.{◌≡◌, ◌<◌, ◌+◌, Some, option_map, slice_get, ℕ, zero, suc, List, [], ◌∷◌, length, map, drop, get_or, sym, ap, ◌∙◌, arith}
-use Rattle.std.proofs.lemmas.List.{drop_more, get_or-map}
-
--- what is left of a list, from an element on
-pub left : {X : Type 0} (xs : List X) (i : ℕ) (x : X) → i < length xs → x ≡ get_or xs i x → drop i xs ≡ x ∷ drop (i + 1) xs
-left xs i x inside is = drop_more xs i x inside ∙ ap (λ y. y ∷ drop (i + 1) xs) (sym is)
+use Rattle.std.proofs.lemmas.List.{get_or-map}
+pub use Rattle.rv_placement.proofs.WalksLemmas.{left}
 
 pub left_at : {X : Type 0} (xs : List X) (i : ℕ) (x : X) → slice_get xs i ≡ Some x → drop i xs ≡ x ∷ drop (i + 1) xs
 left_at [] i x at = absurd (cc)

@@ -1,8 +1,7 @@
 -- Where the statements of a source stand.
 
 use Rattle.std.proofs.Common.{◌≡◌, ℕ, zero, suc, ◌+◌, ◌^◌, ◌<◌, ◌≤◌, Bool, true, false, List, [], ◌∷◌, length, map, drop, refl, sym, ap, ◌∙◌, subst, arith, Option, Some, None}
-use Rattle.std.specs.Borrow.{Bor}
-use Rattle.std.specs.Prelude.{IfSome, is_some, option_copied, slice_index_or, nat_lt, ◌==◌, slice_get, option_map, if◌then◌else◌}
+use Rattle.std.specs.Prelude.{nat_lt, ◌==◌, slice_get, option_map, if◌then◌else◌}
 use Rattle.std.specs.List.{find}
 use Rattle.std.proofs.lemmas.Bool.{eq-eqb, ltb-true, ltb-false, ne_eqb}
 use Rattle.rv_statement.specs.Statement.{Statement}
@@ -20,8 +19,7 @@ use Rattle.rv_assemble_laws.specs.Symbols.{laid_at, after_found}
 use Rattle.rv_symbols.specs.declared.source.Source.{Source}
 use Rattle.rv_symbols.specs.Source.{place_in, IsSource}
 pub use Rattle.rv_assemble_laws.proofs.UseWeightsLemmas.{cons_parts}
-pub use Rattle.rv_unit_tables.proofs.OrderedLemmas.{some_at}
-use Rattle.std.proofs.lemmas.Option.{slice_get_past}
+pub use Rattle.rv_unit_tables.proofs.OrderedLemmas.{some_at, got}
 
 -- the statement of an ordinal is that at its index
 pub statement_by : (k : ℕ) (t : Tables) (ss : List Statement) (laid : List LaidStatement) → map (λ s. s.located) laid ≡ located_from 1 k t ss → (n i : ℕ) → n ≡ k + i
@@ -137,11 +135,6 @@ low_more laid i before here j s below at = go (nat_lt j i) refl
         let past : i ≤ j = ltb-false j i e in
         let same : i ≡ j = omega (arith, past, below) in
         here s (ap (slice_get laid) same ∙ at)
-
--- what a look-up gives
-pub got : {X : Type 0} (r : Option (Bor X)) (xs : List X) (k : ℕ) → is_some r ≡ nat_lt k (length xs) → IfSome r (λ x. x.now ≡ slice_index_or xs k x.now) → option_copied r ≡ slice_get xs k
-got None xs k found is = sym (slice_get_past xs k (ltb-false k (length xs) (sym found)))
-got (Some x) xs k found is = ap Some is ∙ sym (some_at xs k x.now (ltb-true k (length xs) (sym found)))
 
 -- a place after the start of a statement, by the statement's own place
 pub after_some : (found : Option LaidStatement) (section offset plus : ℕ) → Some (section, offset) ≡ option_map place_in found → InSection section (add offset plus) ≡ after_found found plus

@@ -6,11 +6,10 @@ use Rattle.std.specs.Str.{bytes_eq}
 use Rattle.rv_text_laws.specs.Expression.{Literal, Symbol, Here, Reference}
 use Rattle.rv_text_laws.specs.Values.{Meaning, Known, InSection, Open, Refused, Value, Constant, Symbolic, Difference, Faulty, add}
 use Rattle.rv_statement.specs.Statement.{StatementKind, Label, Numbered, Instruction, Directs, Statement, Expression, Directive, Sets}
-use Rattle.rv_unit_laws.specs.Sections.{Section, entered_by}
+use Rattle.rv_unit_laws.specs.Sections.{entered_by}
 use Rattle.rv_unit_laws.specs.Tables.{Tables, Labelled, Assignment, here, value_by_tables, opened_of, stands, label_of, assigned_before, assigned_ever, assigned_first, assigned_later, labelled, own_named, assigned, assigned_by, is_defined, has_location, may_set, with_assignment, with_label, with_section, after_directive, after, after_all, at_start, tables, Definition, definition_at, assigned_definition, labelled_definition, first_definition}
 use Rattle.rv_unit_laws.proofs.AloneLemmas.{section_same, directive_same, other_label, undefined, unplaced}
-use Rattle.rv_unit_laws.proofs.BeforeLemmas.{IsBefore, before_sections, before_after, before_start, label_below, below}
-use Rattle.rv_unit_laws.proofs.EnteringLemmas.{with_new, entering}
+use Rattle.rv_unit_laws.proofs.BeforeLemmas.{IsBefore, before_after, before_start, label_below, below, before_section as entered_before}
 use Rattle.rv_unit.specs.declared.unit.Unit.{Unit as SourceUnit}
 use Rattle.rv_unit_tables.specs.Tables.{tables_of}
 use Rattle.rv_unit.specs.Unit.{said, IsApart, IsFilled}
@@ -79,11 +78,6 @@ apart_assigned t o name (Faulty code) before h = h
 apart_named : (t : Tables) (o : ℕ) (v : Expression → Value) (d : Directive) → IsBefore t o → IsApart t → IsApart (with_assignment t (assigned_by v o d))
 apart_named t o v (Sets name e) before h = apart_assigned t o name (v e) before h
 apart_named t o v _ before h = h
-
-entered_before : (t : Tables) (section : Option Section) (o : ℕ) → IsBefore t o → IsBefore (with_section t section) o
-entered_before t None o h = h
-entered_before t (Some section) o h =
-    entering (λ (u : Tables). IsBefore u o) t section (λ n at. before_sections t (record t { current = n }) o refl refl refl h) (λ room. before_sections t (with_new t section) o refl refl refl h) h
 
 apart_directive : (t : Tables) (o : ℕ) (d : Directive) → IsBefore t o → IsApart t → IsApart (after_directive t o d)
 apart_directive t o d before h =

@@ -267,7 +267,7 @@ before_named t o v (Sets name e) h = before_assigned t o name (v e) h
 before_named t o v _ h = before_next t o h
 
 -- sections, options and data leave the names
-before_section : (t : Tables) (section : Option Section) (o : ℕ) → IsBefore t o → IsBefore (with_section t section) o
+pub before_section : (t : Tables) (section : Option Section) (o : ℕ) → IsBefore t o → IsBefore (with_section t section) o
 before_section t None o h = h
 before_section t (Some section) o h =
     entering (λ (u : Tables). IsBefore u o) t section (λ n at. before_sections t (record t { current = n }) o refl refl refl h) (λ room. before_sections t (with_new t section) o refl refl refl h) h
