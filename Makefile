@@ -41,6 +41,7 @@ check: rv
 	tests/terminal.py
 	scripts/links.py
 	scripts/want_of_memory.py
+	scripts/definitions.py
 
 refused: rv rv_refused
 	tests/refused.py
