@@ -29,18 +29,18 @@ use Rattle.rv_symbols.specs.HasSymbols.{HasSymbols}
 use Rattle.rv_assemble.specs.KeptNames.{OpenKept}
 use Rattle.rv_assemble.specs.Making.{rows_from, index_of, next_of, indices_of, relocations_in, IsMakeable, sections_by, AreEach}
 use Rattle.rv_assemble.specs.Lists.{list_in}
-use Rattle.rv_assemble.specs.Tabled.{field_use, uses_in, HasTable}
+use Rattle.rv_assemble.specs.Tabled.{open_field_use, uses_in, HasTable}
 use Rattle.rv_assemble.proofs.UsesLemmas.{uses_named, are_laid, fields_inside}
 use Rattle.rv_assemble.proofs.ComposedLemmas as composed
 
 -- each field that has a symbol takes the next number
 numbers_map : (number : Numbering) (fs : List OpenField)
-    → indices_of (map field_of fs) (map (λ r. number r.ordinal r.symbol) (flat_map field_use fs)) ≡ map (λ f. option_map (number f.ordinal) f.symbol) (map field_of fs)
+    → indices_of (map field_of fs) (map (λ r. number r.ordinal r.symbol) (flat_map open_field_use fs)) ≡ map (λ f. option_map (number f.ordinal) f.symbol) (map field_of fs)
 numbers_map number [] = refl
 numbers_map number (f ∷ fs) = go (field_of f).symbol (numbers_map number fs)
   where
-    go : (q : Option Primary) → indices_of (map field_of fs) (map (λ r. number r.ordinal r.symbol) (flat_map field_use fs)) ≡ map (λ f. option_map (number f.ordinal) f.symbol) (map field_of fs)
-        → index_of q (map (λ r. number r.ordinal r.symbol) (field_use f.ordinal q ++ flat_map field_use fs)) ∷ indices_of (map field_of fs) (drop (next_of q 0) (map (λ r. number r.ordinal r.symbol) (field_use f.ordinal q ++ flat_map field_use fs)))
+    go : (q : Option Primary) → indices_of (map field_of fs) (map (λ r. number r.ordinal r.symbol) (flat_map open_field_use fs)) ≡ map (λ f. option_map (number f.ordinal) f.symbol) (map field_of fs)
+        → index_of q (map (λ r. number r.ordinal r.symbol) (field_use f.ordinal q ++ flat_map open_field_use fs)) ∷ indices_of (map field_of fs) (drop (next_of q 0) (map (λ r. number r.ordinal r.symbol) (field_use f.ordinal q ++ flat_map open_field_use fs)))
         ≡ option_map (number f.ordinal) q ∷ map (λ f. option_map (number f.ordinal) f.symbol) (map field_of fs)
     go None e = ap (λ (l : List (Option ℕ)). None ∷ l) e
     go (Some q) e = ap (λ (l : List (Option ℕ)). Some (number f.ordinal q) ∷ l) e

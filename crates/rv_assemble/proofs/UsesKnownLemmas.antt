@@ -8,7 +8,7 @@ use Rattle.std.specs.Prelude.{⊤, if◌then◌else◌, flat_map, is_some, unwra
 use Rattle.std.specs.List.{AllByRecursion, list_all}
 use Rattle.rv_isa.specs.Kinds.{is_low_part}
 use Rattle.rv_isa.specs.declared.kind.Kind.{Kind}
-use Rattle.rv_text_laws.specs.Bytes.{digits_value as digits_value}
+use Rattle.rv_text_laws.specs.Bytes.{digits_value}
 use Rattle.rv_text_laws.specs.Expression.{Primary, Literal, Symbol, Here, Reference, Tree, Leaf, Unary, Paren, Binary}
 use Rattle.rv_text_laws.specs.Values.{Value, Constant, Symbolic, Difference, Faulty}
 use Rattle.rv_statement.specs.declared.pseudo.Function.TheVariants.{Hi, Lo, PcrelHi, PcrelLo}

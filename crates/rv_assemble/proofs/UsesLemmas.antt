@@ -24,7 +24,7 @@ use Rattle.rv_draft.specs.Draft.{item_of, field_of, IsDraft}
 use Rattle.rv_symbols.specs.declared.symbol_use.SymbolUse.{SymbolUse as CodeUse}
 use Rattle.rv_symbols.specs.SymbolUse.{AreMeant, uses_of}
 use Rattle.rv_symbols.specs.HasSymbols.{AreLaid}
-use Rattle.rv_assemble.specs.Tabled.{field_use, uses_in}
+use Rattle.rv_assemble.specs.Tabled.{open_field_use, uses_in}
 use Rattle.rv_assemble.proofs.SettledLemmas.{IsSettled, settled}
 use Rattle.rv_assemble.proofs.FieldListsLemmas.{use_of_field, uses_of_fields, all_join}
 use Rattle.rv_assemble.proofs.UsesKnownLemmas.{are_shown_uses, are_meant_uses}
@@ -33,9 +33,9 @@ offsets_are : (laid : List LaidStatement) → map (λ s. s.offset) laid ≡ offs
 offsets_are [] = refl
 offsets_are (s ∷ ss) = ap (λ l. s.offset ∷ l) (offsets_are ss)
 
-uses_are : (fs : List OpenField) → flat_map field_use fs ≡ flat_map use_of_field (map field_of fs)
+uses_are : (fs : List OpenField) → flat_map open_field_use fs ≡ flat_map use_of_field (map field_of fs)
 uses_are [] = refl
-uses_are (f ∷ fs) = ap (λ l. field_use f ++ l) (uses_are fs)
+uses_are (f ∷ fs) = ap (λ l. open_field_use f ++ l) (uses_are fs)
 
 count_from : (k : ℕ) (t : Tables) (ss : List Statement) → length (located_from 1 k t ss) ≡ length ss
 count_from k t [] = refl
@@ -108,8 +108,8 @@ module _ (ss : List Statement) (d : Draft) (h : IsDraft ss d) where
 
 -- ---- one more
 
-pub uses_more : (made now : List CodeUse) (fs : List OpenField) (i : ℕ) (d : OpenField) → i < length fs → uses_of now ≡ uses_of made ++ field_use (get_or fs i d) → uses_of made ++ flat_map field_use (drop i fs) ≡ flat_map field_use fs
-    → uses_of now ++ flat_map field_use (drop (i + 1) fs) ≡ flat_map field_use fs
+pub uses_more : (made now : List CodeUse) (fs : List OpenField) (i : ℕ) (d : OpenField) → i < length fs → uses_of now ≡ uses_of made ++ open_field_use (get_or fs i d) → uses_of made ++ flat_map open_field_use (drop i fs) ≡ flat_map open_field_use fs
+    → uses_of now ++ flat_map open_field_use (drop (i + 1) fs) ≡ flat_map open_field_use fs
 uses_more made now fs i d inside is h =
-    ap (λ l. l ++ flat_map field_use (drop (i + 1) fs)) is ∙ append_assoc (uses_of made) (field_use (get_or fs i d)) (flat_map field_use (drop (i + 1) fs))
-    ∙ ap (λ l. uses_of made ++ flat_map field_use l) (sym (drop_more fs i d inside)) ∙ h
+    ap (λ l. l ++ flat_map open_field_use (drop (i + 1) fs)) is ∙ append_assoc (uses_of made) (open_field_use (get_or fs i d)) (flat_map open_field_use (drop (i + 1) fs))
+    ∙ ap (λ l. uses_of made ++ flat_map open_field_use l) (sym (drop_more fs i d inside)) ∙ h

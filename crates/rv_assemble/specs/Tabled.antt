@@ -13,11 +13,11 @@ use Rattle.rv_symbols.specs.declared.table.SymbolTable.{SymbolTable}
 use Rattle.rv_symbols.specs.HasSymbols.{AreLaid, HasSymbols}
 
 -- the symbol that a field names, if there is one
-abbrev pub field_use : OpenField → List SymbolUse
-field_use f = field_use f.ordinal (option_map symbol_of f.symbol)
+abbrev pub open_field_use : OpenField → List SymbolUse
+open_field_use f = field_use f.ordinal (option_map symbol_of f.symbol)
 
 abbrev pub uses_in : Draft → List SymbolUse
-uses_in d = flat_map field_use d.fields.items
+uses_in d = flat_map open_field_use d.fields.items
 
 -- the symbols of the object of a draft, with a number for each field
 abbrev pub HasTable : List Statement → Draft → SymbolTable → Type 0

@@ -7,7 +7,7 @@ ghost use Rattle.rv_assemble_laws.specs.ShownNames.{HasNames};
 ghost use Rattle.rv_assemble_laws.specs.Small.{AreSmall};
 ghost use Rattle.rv_draft.specs.Draft.{IsDraft};
 ghost use Rattle.rv_symbols.specs.SymbolUse.{uses_of};
-ghost use Rattle.rv_assemble.specs.Tabled.{field_use, HasTable};
+ghost use Rattle.rv_assemble.specs.Tabled.{open_field_use, HasTable};
 
 use rv_draft::{Draft, OpenField};
 use rv_symbols::{SymbolTable, SymbolUse, symbols};
@@ -33,7 +33,7 @@ pub(crate) fn table<'a>(
 
 /// Adds the symbol that a field names, if there is one.
 fn put_use<'a>(uses: &mut Vec<SymbolUse<'a>>, field: &OpenField<'a>) -> Result<(), AllocError>
-    ensures { OnOk result (uses_of uses.new.items ≡ uses_of uses.old.items ++ field_use field.now) }
+    ensures { OnOk result (uses_of uses.new.items ≡ uses_of uses.old.items ++ open_field_use field.now) }
 {
     let Some(symbol) = field.symbol else {
         return Ok(());
@@ -47,7 +47,7 @@ fn put_use<'a>(uses: &mut Vec<SymbolUse<'a>>, field: &OpenField<'a>) -> Result<(
 
 /// The symbols that fields name, in their order.
 fn uses<'a>(alloc: Global, fields: &[OpenField<'a>]) -> Result<Vec<SymbolUse<'a>>, AllocError>
-    ensures { IfOk result (λ uses. uses_of uses.items ≡ flat_map field_use fields.now) }
+    ensures { IfOk result (λ uses. uses_of uses.items ≡ flat_map open_field_use fields.now) }
 {
     let mut uses = Vec::with_capacity(alloc, fields.len())?;
     for index in 0..fields.len() {

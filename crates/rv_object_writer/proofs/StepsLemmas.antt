@@ -50,8 +50,6 @@ five a b c x y e f g h k =
 
 -- ---- contents and headers
 
-unfolding file_header_bytes
-
 pub contents_end : (at : ℕ) (ps : List UnplacedSection) → at + length (contents_from at ps) ≡ headers_offset at ps
 contents_end at [] =
     let zeros : length (zeros_at at) ≡ aligned 8 at - at = length-replicate {A = ℕ} (aligned 8 at - at) 0 in

@@ -4,7 +4,6 @@
 use Rattle.std.proofs.Common.{ℕ, List, [], ◌∷◌, ◌++◌, refl, arith, codes}
 use Rattle.rv_isa.specs.RegisterNames.{abi_names}
 use Rattle.rv_text_laws.specs.declared.punct.Punct.TheVariants as puncts
-use Rattle.rv_text_laws.specs.Bytes.{class}
 use Rattle.rv_text_laws.specs.Grammar.{Punctuation, Stops}
 use Rattle.rv_text_laws.specs.Lexing.{placed}
 use Rattle.rv_statement.specs.declared.directive.DirectiveWord.TheVariants as words
@@ -15,8 +14,6 @@ use Rattle.rv_parse_laws.specs.Words.{register, register_names, choices, beginni
 use Rattle.rv_parse_laws.specs.Syntax.{is_symbol}
 use Rattle.rv_raw_laws.proofs.LexemesLemmas.{lexeme, word, blank, name_spells, name_stops}
 use Rattle.rv_raw_laws.proofs.WordsLemmas.{IsLineOf, blank_class}
-
-unfolding class
 
 colon_stops : (rest : List ℕ) → Stops (Punctuation puncts.Colon) rest
 colon_stops [] = tt

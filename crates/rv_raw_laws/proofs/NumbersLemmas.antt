@@ -11,7 +11,7 @@ use Rattle.std.specs.Char.{digit_value}
 use Rattle.std.specs.Str.Parse.{AllDigits, digits_value, digits_value_after}
 use Rattle.std.specs.Fmt.{decimal, digits, digits_onto, digit_glyph}
 use Rattle.std.proofs.lemmas.Fmt.{decimal_digit, digits_is_IsNumeral, first_decimal}
-use Rattle.rv_text_laws.specs.Bytes.{digit, is_digit, digits_value, is_word, is_decimal, in_line}
+use Rattle.rv_text_laws.specs.Bytes.{digit, is_digit, digits_value as value, is_word, is_decimal, in_line}
 use Rattle.rv_text_laws.specs.Grammar.{Number, Spells, Decimal, Octal_digits, Hexadecimal_digits}
 use Rattle.rv_map.specs.Text.{hexadecimal}
 use Rattle.rv_disasm.specs.Numbers.{prefixed}
@@ -45,18 +45,18 @@ all_words base (d ∷ ds) high all =
     let one = all.0 in
     and_from (is_word d) (list_all is_word ds) (digit_is_word d (omega (arith, one))) (all_words base ds high all.1)
 
-value_after : (base n : ℕ) (ds : List ℕ) → base ≤ 16 → AllDigits base ds → digits_value_after base n ds ≡ n * base ^ length ds + digits_value base ds
+value_after : (base n : ℕ) (ds : List ℕ) → base ≤ 16 → AllDigits base ds → digits_value_after base n ds ≡ n * base ^ length ds + value base ds
 value_after base n [] high all = let one : base ^ 0 ≡ 1 = pow-zero base in rw (one, mul-one n) (omega arith)
 value_after base n (d ∷ ds) high all =
     let one = all.0 in
     let same : digit d ≡ digit_value d = digit_same d (omega (arith, one)) in
     value_after base (n * base + digit_value d) ds high all.1
-    ∙ step (base ^ length ds) (base ^ suc (length ds)) (digit_value d) (digit d) (digits_value base ds) (pow-suc base (length ds)) same
+    ∙ step (base ^ length ds) (base ^ suc (length ds)) (digit_value d) (digit d) (value base ds) (pow-suc base (length ds)) same
   where
     step : (p q v w r : ℕ) → q ≡ p * base → w ≡ v → (n * base + v) * p + r ≡ n * q + (w * p + r)
     step p q v w r e s = rw (e, s, add-mul (n * base) v p) (grind arith)
 
-pub value_same : (base : ℕ) (ds : List ℕ) → base ≤ 16 → AllDigits base ds → digits_value base ds ≡ digits_value base ds
+pub value_same : (base : ℕ) (ds : List ℕ) → base ≤ 16 → AllDigits base ds → value base ds ≡ digits_value base ds
 value_same base ds high all = omega (arith, value_after base 0 ds high all)
 
 -- ---- lexemes
@@ -89,7 +89,7 @@ decimal_spells (suc m) small =
 prefixed_by : (ds : List ℕ) (n : ℕ) → 0 < length ds → AllDigits 16 ds → digits_value 16 ds ≡ n → n < 2 ^ 64 → Spells (Number (48 ∷ 120 ∷ ds) n) (48 ∷ 120 ∷ ds)
 prefixed_by [] n some all is small = absurd (omega (arith, some))
 prefixed_by (d ∷ ds) n some all is small =
-    let same : digits_value 16 (d ∷ ds) ≡ digits_value 16 (d ∷ ds) = value_same 16 (d ∷ ds) (omega arith) all in (
+    let same : value 16 (d ∷ ds) ≡ digits_value 16 (d ∷ ds) = value_same 16 (d ∷ ds) (omega arith) all in (
       refl,
       (48, 120 ∷ d ∷ ds, refl, decimal_class 48 refl, all_words 16 (d ∷ ds) (omega arith) all),
       record {

@@ -15,5 +15,5 @@ mod RememberedLemmas
 mod ResolvedLemmas
 mod RowsLemmas
 pub mod ShownLemmas
-mod StepsLemmas
+pub mod StepsLemmas
 mod TableLemmas

@@ -4,7 +4,7 @@ use Rattle.std.proofs.Common.{◌≡◌, ℕ, ◌<◌, ◌^◌, Bool, true, fals
 use Rattle.std.specs.Prelude.{reverse, slice_get, is_some, nat_lt, ◌&&◌, ◌==◌}
 use Rattle.std.specs.List.{AllByRecursion}
 use Rattle.std.specs.Str.{bytes_eq}
-use Rattle.rv_text_laws.specs.Bytes.{digits_value as digits_value}
+use Rattle.rv_text_laws.specs.Bytes.{digits_value}
 use Rattle.rv_text_laws.specs.Expression.{Primary, Literal, Symbol as Named, Here, Reference}
 use Rattle.rv_statement.specs.Statement.{Statement}
 use Rattle.rv_unit_laws.specs.Tables as laws

@@ -1,7 +1,7 @@
 -- An expression whose constant is wanted has it by the statements before it alone, and by all of the source.
 
 use Rattle.std.proofs.Common.{◌≡◌, ℕ, ◌+◌, ◌<◌, ◌≤◌, true, false, List, length, drop, refl, sym, Option, Some, None}
-use Rattle.rv_text_laws.specs.Bytes.{digits_value as digits_value}
+use Rattle.rv_text_laws.specs.Bytes.{digits_value}
 use Rattle.rv_text_laws.specs.Expression.{Literal, Symbol, Here, Reference}
 use Rattle.rv_text_laws.specs.Values.{Constant}
 use Rattle.rv_statement.specs.Statement.{Statement, Expression}

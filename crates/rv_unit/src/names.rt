@@ -8,7 +8,7 @@
 //! A weak name has no place in any of them, as another file's may stand for it.
 
 ghost use Rattle.std.specs.Prelude.{◌≡◌, ℕ, ◌+◌, ◌≤◌, ◌<◌, ◌||◌, true, false, [], is_some, length, IfSome};
-ghost use Rattle.rv_text_laws.specs.Bytes.{digits_value as digits_value};
+ghost use Rattle.rv_text_laws.specs.Bytes.{digits_value};
 ghost use Rattle.rv_text_laws.specs.Expression.{Symbol as SymbolOf};
 ghost use Rattle.rv_text_laws.specs.Values.{Open};
 ghost use Rattle.rv_text.specs.Nodes.{symbol_of};

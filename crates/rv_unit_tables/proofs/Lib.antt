@@ -4,6 +4,6 @@ mod DigitsLemmas
 mod GivesLemmas
 pub mod LookupsLemmas
 mod NumberedLemmas
-mod OrderedLemmas
+pub mod OrderedLemmas
 mod RunsLemmas
 pub mod FillingLemmas

@@ -130,7 +130,7 @@ fn mixed(digits: &[u8]) -> u64
 }
 
 impl PartialEq for Number<'_> {
-    ghost eq = { λ a b. value 10 a.digits.now == value 10 b.digits.now };
+    ghost eq = { λ a b. digits_value 10 a.digits.now == digits_value 10 b.digits.now };
 
     ghost laws = { Prim.search (comparing, rules) };
 
@@ -144,10 +144,10 @@ impl Eq for Number<'_> {
 }
 
 impl Hash for Number<'_> {
-    ghost hash_input = { λ n. fed.u64 (mix (value 10 n.digits.now) basis) };
+    ghost hash_input = { λ n. fed.u64 (mix (digits_value 10 n.digits.now) basis) };
 
     ghost respects_eq = { λ a b same. ap (λ n. fed.u64 (mix n basis))
-        (eqb-true (value 10 a.digits.now) (value 10 b.digits.now) same) };
+        (eqb-true (digits_value 10 a.digits.now) (digits_value 10 b.digits.now) same) };
 
     fn hash<H: Hasher>(&self, state: &mut H) {
         state.write_u64(mixed(self.digits));
@@ -155,13 +155,13 @@ impl Hash for Number<'_> {
 }
 
 impl<'k> Equivalent<Number<'k>> for Number<'_> {
-    ghost equivalent = { λ q k. value 10 q.digits.now == value 10 k.digits.now };
+    ghost equivalent = { λ q k. digits_value 10 q.digits.now == digits_value 10 k.digits.now };
 
     ghost respects_hash = { λ q k same. ap (λ n. fed.u64 (mix n basis))
-        (eqb-true (value 10 q.digits.now) (value 10 k.digits.now) same) };
+        (eqb-true (digits_value 10 q.digits.now) (digits_value 10 k.digits.now) same) };
 
-    ghost respects_eq = { λ q x y same. ap (λ n. n == value 10 y.digits.now)
-        (eqb-true (value 10 q.digits.now) (value 10 x.digits.now) same) };
+    ghost respects_eq = { λ q x y same. ap (λ n. n == digits_value 10 y.digits.now)
+        (eqb-true (digits_value 10 q.digits.now) (digits_value 10 x.digits.now) same) };
 
     fn equivalent(&self, key: &Number<'k>) -> bool {
         same_number(self.digits, key.digits)

@@ -7,7 +7,7 @@
 
 ghost use Rattle.std.specs.Prelude.{◌≡◌, ℕ, ◌-◌, ◌^◌, min, ◌<◌, ◌||◌, ◌==◌, [], false, true, not, is_some, Some, None, option_map, map, IfOk, OnOk};
 ghost use Rattle.std.specs.List.{find};
-ghost use Rattle.rv_text_laws.specs.Bytes.{digits_value as digits_value};
+ghost use Rattle.rv_text_laws.specs.Bytes.{digits_value};
 ghost use Rattle.rv_text_laws.specs.Values.{Open};
 ghost use Rattle.rv_text.specs.Nodes.{symbol_of};
 ghost use Rattle.rv_text.specs.Expr.{tree_of_expr};

@@ -4,7 +4,7 @@ use Rattle.std.proofs.Common.{◌≡◌, ℕ, ◌-◌, ◌≤◌, Bool, true, fa
 use Rattle.std.proofs.lemmas.List.{map-append}
 use Rattle.std.specs.Prelude.{◌&&◌, ◌==◌, if◌then◌else◌, filter, flat_map, bytes_eq, nat_lt}
 use Rattle.std.specs.List.{AllByRecursion, slice_get}
-use Rattle.rv_text_laws.specs.Bytes.{digits_value as digits_value}
+use Rattle.rv_text_laws.specs.Bytes.{digits_value}
 use Rattle.rv_text_laws.specs.Expression.{Primary, Symbol as Named, Literal, Here, Reference}
 use Rattle.rv_text_laws.specs.Values.{Meaning, Known, InSection as InData, Open as OpenAddress, Refused, add}
 use Rattle.rv_statement.specs.Statement.{StatementKind, Label, Numbered, Instruction, Directs, Enters, Sets}

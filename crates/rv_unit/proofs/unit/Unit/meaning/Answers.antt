@@ -1,6 +1,6 @@
 use Rattle.std.proofs.Common.{◌∙◌, ◌+◌, ap, sym, length, true, false}
 use Rattle.rv_text.specs.Nodes.{symbol_of}
-use Rattle.rv_text_laws.specs.Bytes.{digits_value as digits_value}
+use Rattle.rv_text_laws.specs.Bytes.{digits_value}
 use Rattle.rv_unit_laws.specs.Tables as laws
 use Rattle.rv_unit_tables.specs.Sections.{offset_of}
 use Rattle.rv_unit_tables.specs.Tables.{tables_of}
