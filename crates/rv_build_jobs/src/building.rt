@@ -66,6 +66,7 @@ fn executable(alloc: Global, name: &str, source: &[u8]) -> Result<Vec<u8>, JobEr
 }
 
 /// Builds sources: writes the executable, and the map where a file is named for it; the exit status.
+#[inline(never)]
 pub fn build_files<S: System>(
     system: &mut S,
     exe: &str,
@@ -113,6 +114,7 @@ fn build_without_map<S: System>(
 }
 
 /// Prints the map of what sources build; the exit status.
+#[inline(never)]
 pub fn print_map<S: System>(
     system: &mut S,
     sources: &[&str],
@@ -124,6 +126,7 @@ pub fn print_map<S: System>(
 }
 
 /// Reads a source, assembles it, and writes its object; the exit status.
+#[inline(never)]
 pub fn assemble<S: System>(
     system: &mut S,
     object: &str,
@@ -152,6 +155,7 @@ fn without_relaxation(alloc: Global, text: &[u8]) -> Result<Vec<u8>, AllocError>
 }
 
 /// Links objects: writes the executable, and the map where a file is named for it; the exit status.
+#[inline(never)]
 pub fn link_files<S: System>(
     system: &mut S,
     exe: &str,

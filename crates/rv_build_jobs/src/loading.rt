@@ -12,6 +12,7 @@ use rv_watched_jobs::Program;
 use std::alloc::Global;
 
 /// Reads a program, and builds it where it is a source.
+#[inline(never)]
 pub fn load_program<S: System>(
     system: &mut S,
     asked: &Asked<'_>,

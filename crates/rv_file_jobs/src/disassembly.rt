@@ -12,6 +12,7 @@ use rv_system::{
 use std::alloc::Global;
 
 /// Prints the listing of an executable by its map; the exit status.
+#[inline(never)]
 pub fn objdump<S: System>(
     system: &mut S,
     map_name: &str,
@@ -33,6 +34,7 @@ pub fn objdump<S: System>(
 }
 
 /// Prints the raw listing of an executable, if it has one; the exit status.
+#[inline(never)]
 pub fn raw<S: System>(system: &mut S, name: &str) -> Result<u8, JobError> {
     let alloc: Global = system.alloc();
     let exe = file_bytes(system, name)?;
@@ -47,6 +49,7 @@ pub fn raw<S: System>(system: &mut S, name: &str) -> Result<u8, JobError> {
 }
 
 /// Prints the instructions of an object or an executable; the exit status.
+#[inline(never)]
 pub fn code<S: System>(system: &mut S, asked: &AskedCode<'_>) -> Result<u8, JobError> {
     let alloc: Global = system.alloc();
     let (map, file) = read_code(system, asked)?;
@@ -87,6 +90,7 @@ fn read_code<S: System>(
 }
 
 /// Prints the bytes of a file; the exit status.
+#[inline(never)]
 pub fn dump<S: System>(system: &mut S, name: &str) -> Result<u8, JobError> {
     let alloc: Global = system.alloc();
     let bytes = file_bytes(system, name)?;

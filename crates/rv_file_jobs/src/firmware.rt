@@ -7,6 +7,7 @@ use rv_system::{JobError, Purpose, System, fault_line, file_bytes, write};
 use std::alloc::{AllocError, Global};
 
 /// Writes an image of an executable; the exit status.
+#[inline(never)]
 pub fn write_image<S: System>(system: &mut S, asked: &AskedImage<'_>) -> Result<u8, JobError> {
     let alloc: Global = system.alloc();
     let file = file_bytes(system, asked.exe)?;

@@ -7,6 +7,7 @@ use rv_system::{JobError, System, fault_line, file_bytes, image_in, map_in, prin
 use std::alloc::{AllocError, Global};
 
 /// Prints the sizes of files, which are read in their order; the exit status.
+#[inline(never)]
 pub fn sizes<S: System>(system: &mut S, files: &[&str]) -> Result<u8, JobError> {
     let alloc: Global = system.alloc();
     let mut table = SizeTable::new(alloc)?;
@@ -23,6 +24,7 @@ pub fn sizes<S: System>(system: &mut S, files: &[&str]) -> Result<u8, JobError> 
 }
 
 /// Prints the names of a file, or those that the map of an executable has; the exit status.
+#[inline(never)]
 pub fn names<S: System>(system: &mut S, map: Option<&str>, name: &str) -> Result<u8, JobError> {
     match map {
         Some(map) => names_by_map(system, map, name),
@@ -58,6 +60,7 @@ fn print_names<S: System>(system: &mut S, mut lines: NameLines<'_>) -> Result<u8
 }
 
 /// Prints the headers and tables of a file; the exit status.
+#[inline(never)]
 pub fn elf<S: System>(system: &mut S, name: &str) -> Result<u8, JobError> {
     let alloc: Global = system.alloc();
     let file = file_bytes(system, name)?;

@@ -1,7 +1,8 @@
 //! What the program does: each job is done by the crate of its group.
 //!
 //! Files and streams are reached through [`System`] alone, so that a test sees each exit status and each line without starting
-//! a process.
+//! a process. Each job is a function of its own in the program (`inline(never)`), so that to run a small guest takes few
+//! pages of it.
 
 use rv_build_jobs::{assemble, build_files, link_files, load_program, print_map, run};
 use rv_command_line::{Shell, completions};

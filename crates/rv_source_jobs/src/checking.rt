@@ -9,6 +9,7 @@ use std::alloc::Global;
 const FAULTY: u8 = 1;
 
 /// Reads sources in their order and prints what is wrong with them, or what they come to; the exit status.
+#[inline(never)]
 pub fn check_files<S: System>(
     system: &mut S,
     names: &[&str],

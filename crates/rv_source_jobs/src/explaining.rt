@@ -5,6 +5,7 @@ use rv_system::{JobError, System, print};
 use std::alloc::Global;
 
 /// Prints the entry of a code, or the list of codes; the exit status.
+#[inline(never)]
 pub fn explain<S: System>(system: &mut S, entry: Option<&str>) -> Result<u8, JobError> {
     let alloc: Global = system.alloc();
     let text = match entry {

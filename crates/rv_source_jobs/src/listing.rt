@@ -11,6 +11,7 @@ use rv_system::{
 use std::alloc::{AllocError, Global};
 
 /// Builds sources and prints their lines, with all bytes of a line or the first rows of them; the exit status.
+#[inline(never)]
 pub fn list<S: System>(
     system: &mut S,
     names: &[&str],

@@ -46,6 +46,7 @@ impl Program {
 }
 
 /// Runs a program, and says why the run ended where the guest did not exit; the exit status.
+#[inline(never)]
 pub fn run_with_report<S: System>(
     system: &mut S,
     asked: &Asked<'_>,
@@ -69,6 +70,7 @@ pub fn run_with_report<S: System>(
 }
 
 /// Runs a program and counts what it executes; the exit status.
+#[inline(never)]
 pub fn stats<S: System>(
     system: &mut S,
     asked: &Asked<'_>,
@@ -110,6 +112,7 @@ fn tracefile(
 }
 
 /// Runs a program and writes a line for each instruction; the exit status.
+#[inline(never)]
 pub fn trace<S: System>(
     system: &mut S,
     asked: &Asked<'_>,
