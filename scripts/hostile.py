@@ -10,7 +10,7 @@ so are the objects and executables that GNU's tools make of them. File N of a se
 guest reads it as its input, and an object is linked alone, twice, or with another. A find is
 
   signal    the program is ended by a signal
-  time      it takes more than 2 seconds of a processor, or 60 of the clock
+  time      it takes more than 2 seconds of a processor, beside one for each 128 MiB that it writes, or 60 of the clock
   no name   it says what is no message of docs/manual, or has another status than the message
   file      a refused call leaves a file
   memory    its memory passes 20 times the bytes of its files and 16 MiB, beside what the objects and the program have
@@ -43,6 +43,7 @@ from run import RV, cases  # noqa: E402
 
 MIB = 1 << 20
 SECONDS, CLOCK, STEPS = 2, 60, 50_000
+WRITTEN = 128 * MIB
 SHOWN, TELLS = 20, 10_000
 LARGEST = 1 << 18
 NUMBERS = [0, 1, 2, 3, 4, 7, 8, 16, 24, 31, 32, 63, 64, 127, 128, 255, 256, 4095, 4096, 4097, 8192, 0x7FFF, 0x8000, 0xFF00,
@@ -60,6 +61,7 @@ FIELDS = {
 }
 SIZES = {"header": 64, "segment": 56, "section": 64, "symbol": 24, "relocation": 24, "row": 32}
 TABLES = {2: "symbol", 4: "relocation"}
+NOBITS = 8
 TOKEN = re.compile(rb'"[^"\n]*"|[\w.$%@]+|<<|>>|[^\s\w]')
 WORDS = b"""( ) - ~ + * / % << >> | & ^ , : ; " ' # /* */ // @ . 1b 1f 2b zero ra sp t0 a0 a1 x8 %lo %hi %pcrel_hi %pcrel_lo @plt
 li la call tail j jal beq addi lui auipc ld sd jr jalr lr.w sc.d amoadd.w fence ecall .text .data .bss .rodata .section .globl
@@ -488,16 +490,29 @@ def read_by(words, at):
 
 def own_bytes(words, at):
     """The bytes of the program that a call made or loaded, of its map, and of the objects that a build makes first, also
-    where `run` is given a source."""
+    where `run` is given a source, whose zeros are loaded as well."""
     made = sum((at / it).stat().st_size for it in outputs(words) if (at / it).exists())
     if words[0] in ("build", "map", "run") and (at / "obj").exists():
         made += words.count("file") * (at / "obj").stat().st_size
+    if words[0] == "run" and (at / "obj").exists():
+        file = (at / "obj").read_bytes()[:LARGEST]
+        made += sum(min(get(file, it + 32, 8), 256 * MIB) for it in header_places(file) if get(file, it + 4, 4) == NOBITS)
     for path in read_by(words, at):
         file = path.read_bytes()[:LARGEST]
         if file.startswith(b"\x7fELF") and len(file) >= 64:
             places = next(it for kind, it, _ in tables(file) if kind == "segment")
             made += sum(min(get(file, it + 40, 8), 256 * MIB) for it in places)
     return made
+
+
+def is_long_text(words, at):
+    """Whether a call takes longer since it writes much: it ends within a second for each `WRITTEN` bytes, and `SECONDS`."""
+    counted = ["/bin/sh", "-c", 'ulimit -S -t 60; "$0" "$@" | wc -c; times', RV, *words]
+    with open(at / "file") as given:
+        ran = subprocess.run(counted, cwd=at, stdin=given, capture_output=True, text=True, errors="replace")
+    wrote, _, of_both = ran.stdout.splitlines()
+    took = sum(60 * int(minutes) + float(seconds) for minutes, seconds in re.findall(r"(\d+)m([\d.]+)s", of_both))
+    return int(wrote) > WRITTEN and took <= SECONDS + int(wrote) / WRITTEN
 
 
 def find_in(words, at):
@@ -508,7 +523,7 @@ def find_in(words, at):
     most = 20 * sum(it.stat().st_size for it in read_by(words, at)) + 16 * MIB
     status, said = called(words, at, most + LEAST)
     if status == -signal.SIGXCPU:
-        return "time", said
+        return (None, "a long text") if is_long_text(words, at) else ("time", said)
     if status < 0 or status > 128 and words[0] != "run":
         return "signal", f"{status} {said}"
     if not is_named(words, status, said):
