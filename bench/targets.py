@@ -9,6 +9,7 @@ missing, the row says so. `make bench` prints this table last.
 
 import os
 import re
+import statistics
 import subprocess
 import sys
 import tempfile
@@ -22,6 +23,7 @@ GUEST_FROM, GUEST_TO = 500_000, 2_500_000
 FILES = 513
 LARGE_BSS = 200 * MIB
 SENTENCES = 4_194_000
+RUNS = 41
 
 
 class Missing(Exception):
@@ -49,6 +51,11 @@ def peak(*command):
     if ran.returncode != 0:
         raise SystemExit(f"{command[0]} {command[1]} ends badly")
     return int(ran.stderr.split()[-1]) * 1024
+
+
+def usual_peak(*command):
+    """The median of what many runs have: where the loader puts a small program and its library changes it by a tenth."""
+    return statistics.median(peak(*command) for _ in range(RUNS))
 
 
 def gnu_build(folder, source):
@@ -214,7 +221,7 @@ ROWS = (
     ("guest, time", guest_time, "C by rv", 3, True),
     ("guest with 200 MiB of .bss", large_guest, "MiB", 220, False),
     ("hello, instructions", lambda it: host_instructions(RV, "run", hello(it)) / 1e6, "millions", 1, False),
-    ("hello, memory", lambda it: peak(RV, "run", hello(it)) / MIB, "MiB", 3, False),
+    ("hello, memory", lambda it: usual_peak(RV, "run", hello(it)) / MIB, "MiB", 3, False),
 )
 
 
