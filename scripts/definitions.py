@@ -1,9 +1,9 @@
 #!/usr/bin/env python3
 """Tests that a word of the definitions leads to one thing, and that what is proved once is not proved again.
 
-Over crates/*/specs: no word is defined in more than two files (two say the same of different types), and no line but
-a `use` or a comment is longer than 100 characters. Over crates/*/proofs as well: no function stands twice in one crate,
-or in a crate and one that its line of crates.txt names, where all its words come from the same files.
+Over crates/*/specs: no word is defined in more than two files, and no line but a `use` or a comment is longer than 100
+characters. Over crates/*/proofs as well: no function stands twice in one crate, or in a crate and one that its line of
+crates.txt names, where all its words come from the same files.
 
 Lists what breaks this. Standard library alone; the last line is 'N passed, M failed', where a file counts once for
 each fault, or once without any.
