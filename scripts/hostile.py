@@ -10,7 +10,7 @@ so are the objects and executables that GNU's tools make of them. File N of a se
 guest reads it as its input, and an object is linked alone, twice, or with another. A find is
 
   signal    the program is ended by a signal
-  time      it takes more than 2 seconds of a processor, beside one for each 128 MiB that it writes, or 60 of the clock
+  time      it takes more than 2 seconds of a processor, or 60 of the clock
   no name   it says what is no message of docs/manual, or has another status than the message
   file      a refused call leaves a file
   memory    its memory passes 20 times the bytes of its files and 16 MiB, beside what the objects and the program have
@@ -43,7 +43,6 @@ from run import RV, cases  # noqa: E402
 
 MIB = 1 << 20
 SECONDS, CLOCK, STEPS = 2, 60, 50_000
-WRITTEN = 128 * MIB
 SHOWN, TELLS = 20, 10_000
 LARGEST = 1 << 18
 NUMBERS = [0, 1, 2, 3, 4, 7, 8, 16, 24, 31, 32, 63, 64, 127, 128, 255, 256, 4095, 4096, 4097, 8192, 0x7FFF, 0x8000, 0xFF00,
@@ -505,16 +504,6 @@ def own_bytes(words, at):
     return made
 
 
-def is_long_text(words, at):
-    """Whether a call takes longer since it writes much: it ends within a second for each `WRITTEN` bytes, and `SECONDS`."""
-    counted = ["/bin/sh", "-c", 'ulimit -S -t 60; "$0" "$@" | wc -c; times', RV, *words]
-    with open(at / "file") as given:
-        ran = subprocess.run(counted, cwd=at, stdin=given, capture_output=True, text=True, errors="replace")
-    wrote, _, of_both = ran.stdout.splitlines()
-    took = sum(60 * int(minutes) + float(seconds) for minutes, seconds in re.findall(r"(\d+)m([\d.]+)s", of_both))
-    return int(wrote) > WRITTEN and took <= SECONDS + int(wrote) / WRITTEN
-
-
 def find_in(words, at):
     """What is wrong with how a call ends, or nothing; and how it ended."""
     made = outputs(words)
@@ -523,7 +512,7 @@ def find_in(words, at):
     most = 20 * sum(it.stat().st_size for it in read_by(words, at)) + 16 * MIB
     status, said = called(words, at, most + LEAST)
     if status == -signal.SIGXCPU:
-        return (None, "a long text") if is_long_text(words, at) else ("time", said)
+        return "time", said
     if status < 0 or status > 128 and words[0] != "run":
         return "signal", f"{status} {said}"
     if not is_named(words, status, said):
