@@ -1,8 +1,8 @@
 -- The syntax of statements, over the kinds of tokens (RISC-V Assembly Programmer's Manual; GNU as,
 -- "Statements" and "Pseudo Ops").
 --
--- A statement is a word and the slots that it awaits (`operand_slots`), and what stands in a slot is said
--- once: a new statement is a row, and which token is wrong in it follows from its slots.
+-- A statement is a word and the slots that it awaits (`operand_slots`), and what stands in a slot is
+-- said once: a new statement is a row, and which token is wrong in it follows from its slots.
 
 use Rattle.std.specs.Prelude.{◌≡◌, ℕ, zero, suc, Bool, true, false, ◌&&◌, ◌||◌, ◌==◌, not, nat_le, ◌≤◌, List, [], ◌∷◌, ◌++◌, length, Option, Some, None, option_map, is_some, codes, ◌⊎◌, if◌then◌else◌}
 use Rattle.std.specs.List.{list_all}
