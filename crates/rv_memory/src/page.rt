@@ -9,15 +9,15 @@ use rv_image::Segment;
 use std::alloc::AllocError;
 
 /// How many bytes a page has.
-pub const PAGE_BYTES: u64 = 4096;
+const PAGE_BYTES: u64 = 4096;
 
 /// A page that has a byte in a segment.
 #[derive(Clone, Copy, Drop)]
-pub struct Page {
+pub(crate) struct Page {
     /// The quotient of its addresses by 4096.
-    pub number: u64,
+    pub(crate) number: u64,
     /// The index of the segment that was first found on it.
-    pub segment: usize,
+    pub(crate) segment: usize,
 }
 
 /// Where the page of a number is in the list, or where it would go.
@@ -29,7 +29,7 @@ fn position(pages: &[Page], number: u64) -> Result<usize, usize>
 }
 
 /// The index of the segment to look at for an address, where it has a page.
-pub fn segment_of_page(pages: &[Page], address: u64) -> Option<usize> {
+pub(crate) fn segment_of_page(pages: &[Page], address: u64) -> Option<usize> {
     match position(pages, address / PAGE_BYTES) {
         Ok(i) => Some(pages[i].segment),
         Err(_) => None,
@@ -48,7 +48,11 @@ fn add_page(pages: &mut Vec<Page>, number: u64, segment: usize) -> Result<(), Al
 }
 
 /// Adds the pages of a segment.
-pub fn add_pages(pages: &mut Vec<Page>, segment: &Segment, index: usize) -> Result<(), AllocError> {
+pub(crate) fn add_pages(
+    pages: &mut Vec<Page>,
+    segment: &Segment,
+    index: usize,
+) -> Result<(), AllocError> {
     let mut at = 0;
     while at < segment.bytes.len() {
         let address = segment.address + at as u64;
