@@ -1,6 +1,6 @@
 -- The last digit of a number in hexadecimal.
 
-use Rattle.std.proofs.Common.{◌≡◌, ℕ, zero, suc, ◌/◌, ◌%◌, ◌^◌, ◌≤◌, ◌<◌, false, cond, List, [], ◌∷◌, ◌++◌, refl, eqb, sym, ap, ◌∙◌, append_assoc, arith, inl, inr}
+use Rattle.std.proofs.Common.{◌≡◌, ℕ, zero, suc, ◌-◌, ◌/◌, ◌%◌, ◌^◌, ◌≤◌, ◌<◌, false, cond, List, [], ◌∷◌, ◌++◌, refl, eqb, sym, ap, ◌∙◌, append_assoc, arith, inl, inr}
 use Rattle.std.proofs.lemmas.Bool.{cases_lt}
 use Rattle.std.proofs.lemmas.Bool.Decides.{nat_tests}
 use Rattle.std.specs.Fmt.{digits, digits_onto, digit_glyph}
@@ -43,3 +43,10 @@ hexadecimal_step n h small =
 
 pub hexadecimal_digit : (n : ℕ) → n < 16 → hexadecimal n ≡ digit_glyph false n ∷ []
 hexadecimal_digit n h = hex_one_digit false n h
+
+-- a number with a digit to come leaves room for it
+pub room_left : (n start : ℕ) → 16 ≤ n → n < 16 ^ suc start → (1 ≤ start) × (n / 16 < 16 ^ suc (start - 1))
+room_left n zero h small = absurd (omega (arith, h, small))
+room_left n (suc start) h small =
+    let less : suc start - 1 ≡ start = omega arith in
+    (omega arith, rw less (omega (arith, small)))

@@ -27,7 +27,7 @@ some_digit n small = elim (cases_lt n 16) [
 ]
 
 -- without zeros in front
-pub padded_one : (n : ℕ) → n < 2 ^ 64 → padded 1 n ≡ hexadecimal n
+padded_one : (n : ℕ) → n < 2 ^ 64 → padded 1 n ≡ hexadecimal n
 padded_one n small =
     let none : 1 - length (hexadecimal n) ≡ 0 = let some = some_digit n small in omega (arith, some) in
     ap (λ k. zeros k ++ hexadecimal n) none
