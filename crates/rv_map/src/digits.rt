@@ -9,6 +9,9 @@ use std::alloc::AllocError;
 /// The most digits that a number has.
 const DIGITS: usize = 16;
 
+/// The digits, in lower case.
+static GLYPHS: [u8; 16] = *b"0123456789abcdef";
+
 /// Adds a number in hexadecimal, in lower case and without zeros in front.
 pub fn put_hexadecimal(text: &mut Vec<u8>, number: u64) -> Result<(), AllocError>
     ensures { OnOk result (text.new.items ≡ text.old.items ++ hexadecimal number) }
@@ -52,9 +55,5 @@ fn digit(number: u64) -> u8
     requires { number < 16 }
     ensures { result ≡ digit_glyph false number }
 {
-    if number < 10 {
-        b'0' + number as u8
-    } else {
-        b'a' + (number - 10) as u8
-    }
+    GLYPHS[number as usize]
 }
