@@ -1,7 +1,7 @@
 -- The lines of code, one by one.
 
-use Rattle.std.proofs.Common.{◌≡◌, ℕ, suc, zero, ◌+◌, ◌-◌, ◌<◌, ◌≤◌, List, [], ◌∷◌, ◌++◌, length, drop, take, get_or, flat_map, append_assoc, refl, sym, ap, ◌∙◌, arith}
-use Rattle.std.proofs.lemmas.List.{append-nil, drop-drop, drop_all, length-drop, take_more, flat_map_more}
+use Rattle.std.proofs.Common.{◌≡◌, ℕ, suc, zero, ◌+◌, ◌-◌, ◌<◌, ◌≤◌, List, [], ◌∷◌, ◌++◌, length, drop, append_assoc, refl, sym, ap, ◌∙◌, arith}
+use Rattle.std.proofs.lemmas.List.{append-nil, drop-drop, drop_all, length-drop}
 use Rattle.rv_isa_laws.specs.Reader.{Reader}
 use Rattle.rv_encode.specs.Word.{Spells}
 use Rattle.rv_compress.specs.Parcel.{StandsFor}
@@ -72,10 +72,3 @@ pub lines_done : (reader : Reader Spells StandsFor) (all text bytes : List ℕ) 
 lines_done reader all text bytes address offset past so_far =
     sym (append-nil text) ∙ ap (λ xs. text ++ xs) (sym (lines_end reader (address + offset)))
     ∙ ap (λ xs. text ++ lines reader 0 (address + offset) xs) (sym (drop_all offset bytes past)) ∙ so_far
-
--- a loop over rows
-pub rows_more : (f : Row → List ℕ) (rows : List Row) (i : ℕ) (d : Row) (text new : List ℕ) → i < length rows →
-    new ≡ text ++ f (get_or rows i d) → text ≡ flat_map f (take i rows) → new ≡ flat_map f (take (i + 1) rows)
-rows_more f rows i d text new within added so_far =
-    added ∙ ap (λ xs. xs ++ f (get_or rows i d)) so_far ∙ flat_map_more f [] (take i rows) (get_or rows i d)
-    ∙ ap (flat_map f) (sym (take_more rows i d within))

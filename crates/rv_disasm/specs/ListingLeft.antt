@@ -1,6 +1,6 @@
 -- What is left of a listing whose text is made row by row.
 
-use Rattle.std.specs.Prelude.{ℕ, List, drop, flat_map, map}
+use Rattle.std.specs.Prelude.{ℕ, ◌-◌, List, length, drop, flat_map, map}
 use Rattle.rv_isa_laws.specs.Reader.{Reader}
 use Rattle.rv_encode.specs.Word.{Spells}
 use Rattle.rv_compress.specs.Parcel.{StandsFor}
@@ -13,3 +13,6 @@ abbrev pub listing_left : Reader Spells StandsFor → ListedRows → List ℕ
 listing_left reader listed =
     flat_map (row_text reader (map segment_of listed.segments.now))
     (drop listed.added listed.rows.items)
+
+abbrev pub rows_left : ListedRows → ℕ
+rows_left listed = length listed.rows.items - listed.added

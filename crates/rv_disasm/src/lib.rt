@@ -7,7 +7,8 @@
 //! Main contracts: `listing` gives a text that `IsListing` of the image and the map, by whatever reader of words and
 //! parcels, and there is one alone (`one_listing`); `raw_listing` gives the text that `IsRawListing` of the image, and
 //! none exactly where it has none, and there is one at most (`one_raw_listing`); `hex_dump` gives `dump_of` the bytes.
-//! `ListedRows` gives the same listing as `listing`, a row at a time: what is there, with what is `listing_left`, stays the listing.
+//! `ListedRows` gives the same listing as `listing`, a row at a time: what is there, with what is `listing_left`, stays the
+//! listing. What thousands of rows over the same bytes show is made once.
 //! One table says how an instruction of each format is shown (`text_with`), another the parcels of a raw listing
 //! (`parcel_text`).
 //! It must not know how a map comes about, what instructions do, or how sources are read.
@@ -26,6 +27,7 @@
 mod code;
 mod dump;
 mod instruction;
+mod kept;
 mod law;
 mod line;
 mod listed;
@@ -39,6 +41,5 @@ pub use code::Code;
 pub use dump::hex_dump;
 pub use instruction::{Targets, put_instruction};
 pub use law::{one_listing, one_raw_listing};
-pub use listed::ListedRows;
+pub use listed::{ListedRows, listing};
 pub use raw::raw_listing;
-pub use rows::listing;

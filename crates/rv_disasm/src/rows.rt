@@ -1,49 +1,27 @@
-//! The listing of an executable.
+//! The text of a row.
 
-ghost use Rattle.std.specs.Prelude.{◌≡◌, ◌+◌, ◌-◌, ◌≤◌, ◌^◌, ◌++◌, OnOk, IfOk, map, flat_map, length, take, drop};
+ghost use Rattle.std.specs.Prelude.{◌≡◌, ◌+◌, ◌-◌, ◌≤◌, ◌^◌, ◌++◌, OnOk, map, length, take, drop};
 ghost use Rattle.rv_encode.specs.Word.{Spells};
 ghost use Rattle.rv_compress.specs.Parcel.{StandsFor};
 ghost use Rattle.rv_isa_laws.specs.Reader.{Reader};
-ghost use Rattle.rv_map.specs.Map.{map_of};
 ghost use Rattle.rv_image.specs.Segment.{segment_of};
-ghost use Rattle.rv_image.specs.Image.{image_of};
 ghost use Rattle.rv_disasm.specs.Listing as shows;
 
-use crate::line::put_lines;
+use crate::kept::KeptLines;
 use crate::numbers::put_decimal;
-use crate::order::in_order;
-use rv_image::{Image, Segment};
-use rv_map::{Map, Row};
+use rv_image::Segment;
+use rv_map::Row;
 use std::alloc::{AllocError, Global};
-
-/// The statements of the map that have code, and the instructions that stand there in the image.
-///
-/// A statement is the line `@ FILE LINE ORDINAL`, an instruction a line with its address; bytes that spell none are
-/// `unknown`, two a line. A statement whose bytes are not all in one executable segment is left out.
-pub fn listing(alloc: Global, image: &Image, map: &Map) -> Result<Vec<u8>, AllocError>
-    ensures { (reader : Reader Spells StandsFor) → IfOk result (λ text.
-        shows.IsListing reader (image_of image.now) (map_of map.now) text.items) }
-{
-    let rows = in_order(alloc, &map.rows)?;
-    let text = entries(alloc, &image.segments, &rows)?;
-    Ok(text)
-}
-
-/// The text of these rows.
-fn entries(alloc: Global, segments: &[Segment], rows: &[Row]) -> Result<Vec<u8>, AllocError>
-    ensures { (reader : Reader Spells StandsFor) → IfOk result (λ text.
-        text.items ≡ flat_map (shows.row_text reader (map segment_of segments.now)) rows.now) }
-{
-    let mut text = Vec::new(alloc);
-    for row in rows {
-        put_row(&mut text, segments, row)?;
-    }
-    Ok(text)
-}
 
 /// Adds the text of a row.
 #[tactic(auto, using(crate::proofs::LinesOnLemmas::entry_none, crate::proofs::LinesOnLemmas::entry_some))]
-pub(crate) fn put_row(text: &mut Vec<u8>, segments: &[Segment], row: &Row) -> Result<(), AllocError>
+pub(crate) fn put_row<'a>(
+    alloc: Global,
+    text: &mut Vec<u8>,
+    kept: &mut KeptLines<'a>,
+    segments: &'a [Segment],
+    row: &Row,
+) -> Result<(), AllocError>
     ensures { (reader : Reader Spells StandsFor) → OnOk result (text.new.items
         ≡ text.old.items ++ shows.row_text reader (map segment_of segments.now) row.now) }
 {
@@ -52,7 +30,7 @@ pub(crate) fn put_row(text: &mut Vec<u8>, segments: &[Segment], row: &Row) -> Re
         return Ok(());
     }
     put_statement(text, row)?;
-    put_lines(text, row.address, bytes)?;
+    text.extend_from_slice(kept.of(alloc, row.address, bytes)?)?;
     Ok(())
 }
 
