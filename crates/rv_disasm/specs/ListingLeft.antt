@@ -14,5 +14,6 @@ listing_left reader listed =
     flat_map (row_text reader (map segment_of listed.segments.now))
     (drop listed.added listed.rows.items)
 
+-- and how many they are
 abbrev pub rows_left : ListedRows → ℕ
 rows_left listed = length listed.rows.items - listed.added

@@ -1,4 +1,4 @@
-//! The listing of an executable, row by row, for those who write each part before the next is made.
+//! The listing of an executable: whole, or row by row, for those who write each part before the next is made.
 
 ghost use Rattle.std.specs.Prelude.{◌≡◌, ◌<◌, ◌++◌, [], false, true, OnOk, IfOk};
 ghost use Rattle.rv_encode.specs.Word.{Spells};
@@ -33,7 +33,6 @@ pub fn listing(alloc: Global, image: &Image, map: &Map) -> Result<Vec<u8>, Alloc
 /// their executable; its longest part is the text of one row.
 #[derive(Drop)]
 pub struct ListedRows<'a> {
-    alloc: Global,
     segments: &'a [Segment],
     /// The rows of the map in the order of the listing.
     rows: Vec<Row>,
@@ -53,7 +52,6 @@ impl<'a> ListedRows<'a> {
     {
         let rows = in_order(alloc, &map.rows)?;
         Ok(ListedRows {
-            alloc,
             segments: &image.segments,
             rows,
             added: 0,
@@ -74,7 +72,7 @@ impl<'a> ListedRows<'a> {
             return Ok(false);
         }
         let row = self.rows[self.added];
-        put_row(self.alloc, text, &mut self.kept, self.segments, &row)?;
+        put_row(text, &mut self.kept, self.segments, &row)?;
         self.added += 1;
         Ok(true)
     }

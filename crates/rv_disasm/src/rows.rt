@@ -11,12 +11,11 @@ use crate::kept::KeptLines;
 use crate::numbers::put_decimal;
 use rv_image::Segment;
 use rv_map::Row;
-use std::alloc::{AllocError, Global};
+use std::alloc::AllocError;
 
 /// Adds the text of a row.
 #[tactic(auto, using(crate::proofs::LinesOnLemmas::entry_none, crate::proofs::LinesOnLemmas::entry_some))]
 pub(crate) fn put_row<'a>(
-    alloc: Global,
     text: &mut Vec<u8>,
     kept: &mut KeptLines<'a>,
     segments: &'a [Segment],
@@ -30,7 +29,7 @@ pub(crate) fn put_row<'a>(
         return Ok(());
     }
     put_statement(text, row)?;
-    text.extend_from_slice(kept.of(alloc, row.address, bytes)?)?;
+    text.extend_from_slice(kept.of(row.address, bytes)?)?;
     Ok(())
 }
 
