@@ -24,7 +24,7 @@ is_word b h = grind (arith, nat_tests)
 is_parcel : (b : ℕ) → (b % 4 == 3) ≡ false → b % 4 ≡ 3 → ⊥
 is_parcel b h e = grind (arith, nat_tests)
 
-le_true : (m n : ℕ) → m ≤ n → nat_le m n ≡ true
+pub le_true : (m n : ℕ) → m ≤ n → nat_le m n ≡ true
 le_true m n h = grind (arith, nat_tests)
 
 true_le : (m n : ℕ) → nat_le m n ≡ true → m ≤ n

@@ -1,5 +1,6 @@
 pub mod CodesLemmas
 pub mod DumpLinesLemmas
+pub mod FourLemmas
 pub mod FrontsLemmas
 pub mod HeldLemmas
 pub mod LinesOnLemmas

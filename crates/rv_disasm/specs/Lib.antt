@@ -1,5 +1,6 @@
 pub mod Dump
 pub mod Instruction
+pub mod KeptLine
 pub mod ListingLeft
 pub mod Lines
 pub mod Listing

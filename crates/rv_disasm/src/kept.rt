@@ -1,58 +1,89 @@
-//! The lines that were made last.
+//! Lines that were made.
 //!
-//! A map that was read may have thousands of rows over the same bytes: what they show is made once.
+//! A map that was read may have thousands of rows over the same bytes, and each a step further: what they show is made
+//! once. Where no rows lie over each other, none are kept.
 
-ghost use Rattle.std.specs.Prelude.{◌≡◌, ◌+◌, ◌≤◌, ◌^◌, length, IfOk};
-ghost use Rattle.rv_encode.specs.Word.{Spells};
-ghost use Rattle.rv_compress.specs.Parcel.{StandsFor};
-ghost use Rattle.rv_isa_laws.specs.Reader.{Reader};
-ghost use Rattle.rv_disasm.specs.Lines.{lines};
+ghost use Rattle.std.specs.Prelude.{◌≡◌, ◌≤◌, IfSome};
+ghost use Rattle.rv_disasm.specs.KeptLine.{IsLineOf};
 
-use crate::line::put_lines;
+use arrayvec::ArrayVec;
 use std::alloc::{AllocError, Global};
-use std::mem::replace;
 
-/// The lines of some bytes of code, for who asks for the same again.
+/// How many lines are kept.
+const KEPT: usize = 0x4000;
+
+/// The most bytes of a line that is kept.
+const LONGEST: usize = 48;
+
+/// The line of an address with these bytes.
 #[derive(Drop)]
-pub(crate) struct KeptLines<'a> {
-    alloc: Global,
+struct KeptLine {
     address: u64,
-    bytes: &'a [u8],
-    text: Vec<u8>,
-    ghost are: { (reader : Reader Spells StandsFor) →
-        text.items ≡ lines reader 0 address bytes.now },
+    /// As many bytes as an instruction may have.
+    bytes: [u8; 4],
+    text: ArrayVec<u8, LONGEST>,
+    /// How many of the bytes it stands for.
+    count: usize,
+    ghost is: { IsLineOf address bytes text.items count },
+    ghost some: { (1 ≤ count) × (count ≤ 4) },
 }
 
-impl<'a> KeptLines<'a> {
-    /// The lines of no bytes: none.
+/// Lines, each in the place that its address tells.
+#[derive(Drop)]
+pub(crate) struct KeptLines {
+    lines: Vec<Option<KeptLine>>,
+}
+
+impl KeptLines {
+    /// No lines, and no room for any.
     pub(crate) fn new(alloc: Global) -> Self {
         KeptLines {
-            alloc,
-            address: 0,
-            bytes: &[],
-            text: Vec::new(alloc),
+            lines: Vec::new(alloc),
         }
     }
 
-    /// The lines of the bytes that stand at this address.
-    pub(crate) fn of(&mut self, address: u64, bytes: &'a [u8]) -> Result<&[u8], AllocError>
-        requires { address + length bytes.now ≤ 2 ^ 64 }
-        ensures { (reader : Reader Spells StandsFor) → IfOk result (λ text.
-            text.now ≡ lines reader 0 address bytes.now) }
+    /// Makes room for lines.
+    pub(crate) fn make_room(&mut self) -> Result<(), AllocError> {
+        while self.lines.len() < KEPT {
+            self.lines.push(None)?;
+        }
+        Ok(())
+    }
+
+    /// The line of an address with these bytes and how many of them it stands for, if it is kept.
+    pub(crate) fn find(&self, address: u64, bytes: [u8; 4]) -> Option<(&[u8], usize)>
+        ensures line { IfSome result (λ found. IsLineOf address bytes found.0.now found.1) }
+        ensures some { IfSome result (λ found. (1 ≤ found.1) × (found.1 ≤ 4)) }
     {
-        if self.address != address || self.bytes != bytes {
-            let alloc = self.alloc;
-            // Where memory runs out, none are kept.
-            let KeptLines { mut text, .. } = replace(self, KeptLines::new(alloc));
-            text.clear();
-            put_lines(&mut text, address, bytes)?;
-            *self = KeptLines {
-                alloc,
+        match self.lines.get(place(address)) {
+            Some(Some(line)) if line.address == address && line.bytes == bytes => {
+                Some((line.text.as_slice(), line.count))
+            }
+            _ => None,
+        }
+    }
+
+    /// Keeps a line, where there is room.
+    pub(crate) fn keep(&mut self, address: u64, bytes: [u8; 4], line: &[u8], count: usize)
+        requires line { IsLineOf address bytes line.now count }
+        requires some { (1 ≤ count) × (count ≤ 4) }
+    {
+        let Some(kept) = self.lines.get_mut(place(address)) else {
+            return;
+        };
+        let mut text = ArrayVec::new();
+        if text.try_extend_from_slice(line).is_ok() {
+            *kept = Some(KeptLine {
                 address,
                 bytes,
                 text,
-            };
+                count,
+            });
         }
-        Ok(&self.text)
     }
+}
+
+/// The index at which the line of an address is kept.
+fn place(address: u64) -> usize {
+    (address / 2) as usize % KEPT
 }

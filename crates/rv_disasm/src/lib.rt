@@ -8,7 +8,7 @@
 //! parcels, and there is one alone (`one_listing`); `raw_listing` gives the text that `IsRawListing` of the image, and
 //! none exactly where it has none, and there is one at most (`one_raw_listing`); `hex_dump` gives `dump_of` the bytes.
 //! `ListedRows` gives the same listing as `listing`, a row at a time: what is there, with what is `listing_left`, stays the
-//! listing. What thousands of rows over the same bytes show is made once.
+//! listing. What rows that lie over each other show is made once.
 //! One table says how an instruction of each format is shown (`text_with`), another the parcels of a raw listing
 //! (`parcel_text`).
 //! It must not know how a map comes about, what instructions do, or how sources are read.

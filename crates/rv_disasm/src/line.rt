@@ -2,29 +2,70 @@
 //!
 //! Source: RISC-V Unprivileged ISA 20191213, section 1.5.
 
-ghost use Rattle.std.specs.Prelude.{◌≡◌, ◌+◌, ◌<◌, ◌≤◌, ◌^◌, ◌++◌, length, OnOk, IfOk};
+ghost use Rattle.std.specs.Prelude.{◌≡◌, ◌+◌, ◌<◌, ◌≤◌, ◌^◌, ◌++◌, length, take, OnOk, IfOk};
 ghost use Rattle.rv_encode.specs.Word.{Spells};
 ghost use Rattle.rv_compress.specs.Parcel.{StandsFor};
 ghost use Rattle.rv_isa_laws.specs.Reader.{Reader};
 ghost use Rattle.rv_disasm.specs.Lines.{front, shown, length_read, line, lines};
 
 use crate::instruction::{Targets, put_instruction};
+use crate::kept::KeptLines;
 use rv_compress::next_inst;
 use rv_map::put_hexadecimal;
 use std::alloc::AllocError;
 
 /// Adds the lines of the bytes that stand at this address.
-pub(crate) fn put_lines(text: &mut Vec<u8>, address: u64, bytes: &[u8]) -> Result<(), AllocError>
+pub(crate) fn put_lines(
+    text: &mut Vec<u8>,
+    kept: &mut KeptLines,
+    address: u64,
+    bytes: &[u8],
+) -> Result<(), AllocError>
     requires { address + length bytes.now ≤ 2 ^ 64 }
     ensures { (reader : Reader Spells StandsFor) → OnOk result
         (text.new.items ≡ text.old.items ++ lines reader 0 address bytes.now) }
 {
     let mut offset = 0;
     while offset < bytes.len() {
-        let count = put_line(text, address + offset as u64, &bytes[offset..])?;
+        let count = put_kept_line(text, kept, address + offset as u64, &bytes[offset..])?;
         offset += count;
     }
     Ok(())
+}
+
+/// Adds the line of the front of the bytes, which may be kept; answers how many of them it stands for.
+fn put_kept_line(
+    text: &mut Vec<u8>,
+    kept: &mut KeptLines,
+    address: u64,
+    bytes: &[u8],
+) -> Result<usize, AllocError>
+    ensures text { (reader : Reader Spells StandsFor) → IfOk result (λ _.
+        text.new.items ≡ text.old.items ++ line address (front reader bytes.now)) }
+    ensures count { (reader : Reader Spells StandsFor) → IfOk result (λ count.
+        count ≡ length_read (front reader bytes.now)) }
+    ensures some { IfOk result (λ count. (1 ≤ count) × (count ≤ 4)) }
+{
+    if bytes.len() < 4 {
+        return put_line(text, address, bytes);
+    }
+    let four = first_four(bytes);
+    if let Some((line, count)) = kept.find(address, four) {
+        text.extend_from_slice(line)?;
+        return Ok(count);
+    }
+    let start = text.len();
+    let count = put_line(text, address, bytes)?;
+    kept.keep(address, four, &text[start..], count);
+    Ok(count)
+}
+
+/// The first four bytes.
+fn first_four(bytes: &[u8]) -> [u8; 4]
+    requires { 4 ≤ length bytes.now }
+    ensures { result ≡ take 4 bytes.now }
+{
+    [bytes[0], bytes[1], bytes[2], bytes[3]]
 }
 
 /// Adds the line of the front of the bytes; answers how many of them it stands for.
@@ -33,6 +74,7 @@ fn put_line(text: &mut Vec<u8>, address: u64, bytes: &[u8]) -> Result<usize, All
         text.new.items ≡ text.old.items ++ line address (front reader bytes.now)) }
     ensures count { (reader : Reader Spells StandsFor) → IfOk result (λ count.
         count ≡ length_read (front reader bytes.now)) }
+    ensures grows { IfOk result (λ _. length text.old.items ≤ length text.new.items) }
     ensures some { IfOk result (λ count. (1 ≤ count) × (count ≤ 4)) }
 {
     put_hexadecimal(text, address)?;
@@ -48,6 +90,7 @@ fn put_front(text: &mut Vec<u8>, address: u64, bytes: &[u8]) -> Result<usize, Al
         text.new.items ≡ text.old.items ++ shown address (front reader bytes.now)) }
     ensures count { (reader : Reader Spells StandsFor) → IfOk result (λ count.
         count ≡ length_read (front reader bytes.now)) }
+    ensures grows { IfOk result (λ _. length text.old.items ≤ length text.new.items) }
     ensures some { IfOk result (λ count. (1 ≤ count) × (count ≤ 4)) }
 {
     match next_inst(bytes) {

@@ -38,8 +38,10 @@ pub struct ListedRows<'a> {
     rows: Vec<Row>,
     /// How many of them have been added.
     added: usize,
-    /// The lines of the one that was added last.
-    kept: KeptLines<'a>,
+    /// The end of those that were added.
+    end: u64,
+    /// Lines of theirs, where rows lie over each other.
+    kept: KeptLines,
 }
 
 impl<'a> ListedRows<'a> {
@@ -55,6 +57,7 @@ impl<'a> ListedRows<'a> {
             segments: &image.segments,
             rows,
             added: 0,
+            end: 0,
             kept: KeptLines::new(alloc),
         })
     }
@@ -72,7 +75,11 @@ impl<'a> ListedRows<'a> {
             return Ok(false);
         }
         let row = self.rows[self.added];
+        if row.address < self.end {
+            self.kept.make_room()?;
+        }
         put_row(text, &mut self.kept, self.segments, &row)?;
+        self.end = self.end.max(row.address.saturating_add(row.bytes));
         self.added += 1;
         Ok(true)
     }

@@ -8,6 +8,7 @@ ghost use Rattle.rv_image.specs.Segment.{segment_of};
 ghost use Rattle.rv_disasm.specs.Listing as shows;
 
 use crate::kept::KeptLines;
+use crate::line::put_lines;
 use crate::numbers::put_decimal;
 use rv_image::Segment;
 use rv_map::Row;
@@ -15,10 +16,10 @@ use std::alloc::AllocError;
 
 /// Adds the text of a row.
 #[tactic(auto, using(crate::proofs::LinesOnLemmas::entry_none, crate::proofs::LinesOnLemmas::entry_some))]
-pub(crate) fn put_row<'a>(
+pub(crate) fn put_row(
     text: &mut Vec<u8>,
-    kept: &mut KeptLines<'a>,
-    segments: &'a [Segment],
+    kept: &mut KeptLines,
+    segments: &[Segment],
     row: &Row,
 ) -> Result<(), AllocError>
     ensures { (reader : Reader Spells StandsFor) → OnOk result (text.new.items
@@ -29,7 +30,7 @@ pub(crate) fn put_row<'a>(
         return Ok(());
     }
     put_statement(text, row)?;
-    text.extend_from_slice(kept.of(row.address, bytes)?)?;
+    put_lines(text, kept, row.address, bytes)?;
     Ok(())
 }
 
