@@ -2,7 +2,8 @@
 //!
 //! Source: RISC-V Unprivileged ISA 20191213, section 1.5.
 
-ghost use Rattle.std.specs.Prelude.{◌≡◌, ◌≢◌, ◌≤◌, ◌%◌, ◌++◌, ◌∷◌, [], OnOk, length, slice_index};
+ghost use Rattle.std.specs.Prelude.{◌≡◌, ◌≢◌, ◌≤◌, ◌%◌, ◌++◌, ◌∷◌, [], OnOk, length, slice_index, take};
+ghost use Rattle.std.specs.Int.{to_le_bytes, w32};
 ghost use Rattle.rv_isa.specs.Operations.{format_of};
 ghost use Rattle.rv_compress.specs.Front.{front_parcel, front_word};
 ghost use Rattle.rv_disasm.specs.Raw.{raw_bytes, code_text, has_source};
@@ -81,9 +82,10 @@ fn parcel(bytes: &[u8]) -> Option<Code>
 }
 
 /// The number of the first four bytes, the least first.
-fn first_word(bytes: &[u8]) -> u32
+pub(crate) fn first_word(bytes: &[u8]) -> u32
     requires { 4 ≤ length bytes.now }
-    ensures { result ≡ front_word bytes.now }
+    ensures number { result ≡ front_word bytes.now }
+    ensures bytes { to_le_bytes w32 result ≡ take 4 bytes.now }
 {
     u32::from_le_bytes([bytes[0], bytes[1], bytes[2], bytes[3]])
 }

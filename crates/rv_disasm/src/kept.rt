@@ -10,7 +10,7 @@ use arrayvec::ArrayVec;
 use std::alloc::{AllocError, Global};
 
 /// How many lines are kept.
-const KEPT: usize = 0x4000;
+const KEPT: usize = 0x1_0000;
 
 /// The most bytes of a line that is kept.
 const LONGEST: usize = 48;
@@ -19,12 +19,12 @@ const LONGEST: usize = 48;
 #[derive(Drop)]
 struct KeptLine {
     address: u64,
-    /// As many bytes as an instruction may have.
-    bytes: [u8; 4],
+    /// The bytes, as many as an instruction may have, as a number.
+    word: u32,
     text: ArrayVec<u8, LONGEST>,
     /// How many of the bytes it stands for.
     count: usize,
-    ghost is: { IsLineOf address bytes text.items count },
+    ghost is: { IsLineOf address word text.items count },
     ghost some: { (1 ≤ count) × (count ≤ 4) },
 }
 
@@ -51,12 +51,12 @@ impl KeptLines {
     }
 
     /// The line of an address with these bytes and how many of them it stands for, if it is kept.
-    pub(crate) fn find(&self, address: u64, bytes: [u8; 4]) -> Option<(&[u8], usize)>
-        ensures line { IfSome result (λ found. IsLineOf address bytes found.0.now found.1) }
+    pub(crate) fn find(&self, address: u64, word: u32) -> Option<(&[u8], usize)>
+        ensures line { IfSome result (λ found. IsLineOf address word found.0.now found.1) }
         ensures some { IfSome result (λ found. (1 ≤ found.1) × (found.1 ≤ 4)) }
     {
         match self.lines.get(place(address)) {
-            Some(Some(line)) if line.address == address && line.bytes == bytes => {
+            Some(Some(line)) if line.address == address && line.word == word => {
                 Some((line.text.as_slice(), line.count))
             }
             _ => None,
@@ -64,8 +64,8 @@ impl KeptLines {
     }
 
     /// Keeps a line, where there is room.
-    pub(crate) fn keep(&mut self, address: u64, bytes: [u8; 4], line: &[u8], count: usize)
-        requires line { IsLineOf address bytes line.now count }
+    pub(crate) fn keep(&mut self, address: u64, word: u32, line: &[u8], count: usize)
+        requires line { IsLineOf address word line.now count }
         requires some { (1 ≤ count) × (count ≤ 4) }
     {
         let Some(kept) = self.lines.get_mut(place(address)) else {
@@ -75,7 +75,7 @@ impl KeptLines {
         if text.try_extend_from_slice(line).is_ok() {
             *kept = Some(KeptLine {
                 address,
-                bytes,
+                word,
                 text,
                 count,
             });

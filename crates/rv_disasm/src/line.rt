@@ -2,12 +2,13 @@
 //!
 //! Source: RISC-V Unprivileged ISA 20191213, section 1.5.
 
-ghost use Rattle.std.specs.Prelude.{◌≡◌, ◌+◌, ◌<◌, ◌≤◌, ◌^◌, ◌++◌, length, take, OnOk, IfOk};
+ghost use Rattle.std.specs.Prelude.{◌≡◌, ◌+◌, ◌<◌, ◌≤◌, ◌^◌, ◌++◌, length, OnOk, IfOk};
 ghost use Rattle.rv_encode.specs.Word.{Spells};
 ghost use Rattle.rv_compress.specs.Parcel.{StandsFor};
 ghost use Rattle.rv_isa_laws.specs.Reader.{Reader};
 ghost use Rattle.rv_disasm.specs.Lines.{front, shown, length_read, line, lines};
 
+use crate::code::first_word;
 use crate::instruction::{Targets, put_instruction};
 use crate::kept::KeptLines;
 use rv_compress::next_inst;
@@ -49,23 +50,15 @@ fn put_kept_line(
     if bytes.len() < 4 {
         return put_line(text, address, bytes);
     }
-    let four = first_four(bytes);
-    if let Some((line, count)) = kept.find(address, four) {
+    let word = first_word(bytes);
+    if let Some((line, count)) = kept.find(address, word) {
         text.extend_from_slice(line)?;
         return Ok(count);
     }
     let start = text.len();
     let count = put_line(text, address, bytes)?;
-    kept.keep(address, four, &text[start..], count);
+    kept.keep(address, word, &text[start..], count);
     Ok(count)
-}
-
-/// The first four bytes.
-fn first_four(bytes: &[u8]) -> [u8; 4]
-    requires { 4 ≤ length bytes.now }
-    ensures { result ≡ take 4 bytes.now }
-{
-    [bytes[0], bytes[1], bytes[2], bytes[3]]
 }
 
 /// Adds the line of the front of the bytes; answers how many of them it stands for.

@@ -6,7 +6,7 @@ use Rattle.rv_disasm.proofs.line.put_kept_line.Goals as goal
 pub keep-requires-clause-line : goal.keep-requires-clause-line
 keep-requires-clause-line c reader =
     let bytes = c.args.bytes.now in
-    let same = ap (front reader) c.first_four-four.ensures ∙ front_four reader bytes (omega (arith, c.if-bytes-lt4.false)) in
+    let same = ap (front reader) c.first_word-word.ensures.bytes ∙ front_four reader bytes (omega (arith, c.if-bytes-lt4.false)) in
     let new = c.deref.ensures.value ∙ c.in_ok-count.ensures.text reader in
     let start : c.len-start.result ≡ length c.args.text.now.items = search rules in
     let text = added_line c.args.text.now.items c.deref.result.now (line c.args.address (front reader bytes)) c.len-start.result new start in
