@@ -7,7 +7,7 @@ use Rattle.rv_encode.specs.Word.{Spells}
 use Rattle.rv_compress.specs.Parcel.{StandsFor}
 use Rattle.rv_disasm.specs.Lines.{front, length_read, line}
 
--- the text is the line of the bytes at an address, four as a word, and stands for this count of them
+-- the text is the line of a word's four bytes at an address, and stands for this count of them
 abbrev pub IsLineOf : ℕ → ℕ → List ℕ → ℕ → Type 0
 IsLineOf address word text count =
     (reader : Reader Spells StandsFor) →
