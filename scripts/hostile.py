@@ -60,7 +60,6 @@ FIELDS = {
 }
 SIZES = {"header": 64, "segment": 56, "section": 64, "symbol": 24, "relocation": 24, "row": 32}
 TABLES = {2: "symbol", 4: "relocation"}
-NOBITS = 8
 TOKEN = re.compile(rb'"[^"\n]*"|[\w.$%@]+|<<|>>|[^\s\w]')
 WORDS = b"""( ) - ~ + * / % << >> | & ^ , : ; " ' # /* */ // @ . 1b 1f 2b zero ra sp t0 a0 a1 x8 %lo %hi %pcrel_hi %pcrel_lo @plt
 li la call tail j jal beq addi lui auipc ld sd jr jalr lr.w sc.d amoadd.w fence ecall .text .data .bss .rodata .section .globl
@@ -489,13 +488,10 @@ def read_by(words, at):
 
 def own_bytes(words, at):
     """The bytes of the program that a call made or loaded, of its map, and of the objects that a build makes first, also
-    where `run` is given a source, whose zeros are loaded as well."""
+    where `run` is given a source."""
     made = sum((at / it).stat().st_size for it in outputs(words) if (at / it).exists())
     if words[0] in ("build", "map", "run") and (at / "obj").exists():
         made += words.count("file") * (at / "obj").stat().st_size
-    if words[0] == "run" and (at / "obj").exists():
-        file = (at / "obj").read_bytes()[:LARGEST]
-        made += sum(min(get(file, it + 32, 8), 256 * MIB) for it in header_places(file) if get(file, it + 4, 4) == NOBITS)
     for path in read_by(words, at):
         file = path.read_bytes()[:LARGEST]
         if file.startswith(b"\x7fELF") and len(file) >= 64:
