@@ -25,7 +25,7 @@ pub range-holds : (s : Segment) (x : ℕ) → s.address ≤ x → x < s.address 
 range-holds s x low high = grind (arith, nat_tests)
 
 -- the rest of segments that lie apart lies apart
-disjoint-rest : (s : Segment) (ss : List Segment) → AreDisjoint (s ∷ ss) → AreDisjoint ss
+pub disjoint-rest : (s : Segment) (ss : List Segment) → AreDisjoint (s ∷ ss) → AreDisjoint ss
 disjoint-rest s ss apart i j x t u at_i at_j t_holds u_holds =
     let e : suc i ≡ suc j = apart (suc i) (suc j) x t u at_i at_j t_holds u_holds in
     omega arith
@@ -55,7 +55,7 @@ held-segment (t ∷ ss) (suc i) x s apart at held =
     let rest = held-segment ss i x s (disjoint-rest t ss apart) at held in
     later (lies_in t x) (Some t) (segment_at ss x) (Some s) (λ h. let e : 0 ≡ suc i = apart 0 (suc i) x t s refl at h held in omega arith) rest
 
-holds-same : (s t : Segment) (x : ℕ) → t.address ≡ s.address → length t.bytes ≡ length s.bytes → lies_in t x ≡ lies_in s x
+pub holds-same : (s t : Segment) (x : ℕ) → t.address ≡ s.address → length t.bytes ≡ length s.bytes → lies_in t x ≡ lies_in s x
 holds-same s t x same long = grind (arith, nat_tests)
 
 -- tests that are never both true have no order

@@ -2,3 +2,6 @@ pub mod MemoryLemmas
 pub mod FlatLemmas
 pub mod NewLemmas
 pub mod StretchLemmas
+mod OrderLemmas
+mod PageLemmas
+mod KnownLemmas

@@ -68,18 +68,6 @@ still before after i start room bytes r alike known x low =
       gives = ap (λ (f : ℕ). gives_right f r) (alike.flags i) ∙ wide.gives;
     }
 
--- what holds for more bytes holds for fewer
-pub narrower : (ss : List Segment) (i start room more bytes : ℕ) (r : Right) → bytes ≤ more →
-    IsStretch ss i start room more r → IsStretch ss i start room bytes r
-narrower ss i start room more bytes r fewer known x low =
-    let wide = known x low in
-    record {
-      within = wide.within;
-      starts = wide.starts;
-      fits = omega (arith, wide.fits);
-      gives = wide.gives;
-    }
-
 -- an access that a stretch holds lies in the segment
 pub record IsNear (s : Segment) (a k bytes : ℕ) (r : Right) : Type 0 where
   pub place : a ≡ s.address + k

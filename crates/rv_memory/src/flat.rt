@@ -47,7 +47,9 @@ ghost use Rattle.rv_image.specs.Segment.{segment_of};
 ghost use Rattle.rv_memory.specs.Rights.{right_of, IsWidth, IsToLoad, MayLoad};
 ghost use Rattle.rv_memory.specs.Flat.{memory_of, AreDisjoint, no_segment, with_part};
 ghost use Rattle.rv_memory.specs.Stretches.{AreAlike, IsStretch};
-ghost use Rattle.rv_image.specs.Memory.{lies_in, gives_right, segment_at, mem_of};
+ghost use Rattle.rv_memory.specs.Pages.{AreOrdered, IsLastBegun};
+ghost use Rattle.rv_image.specs.Memory.{lies_in, gives_right, right_in, segment_at, mem_of};
+ghost use Rattle.std.specs.List.{All};
 ghost use Rattle.rv_image.specs.Image.{image_of};
 
 use crate::memory::{Memory, Right};
@@ -113,6 +115,43 @@ pub(crate) fn with_stack(alloc: Global, image: Image) -> Result<Vec<Segment>, Al
     Ok(segments)
 }
 
+/// Leaves out the segments that have no bytes.
+fn drop_empty(segments: &mut Vec<Segment>)
+    requires { AreDisjoint (map segment_of segments.old.items) }
+    ensures apart { AreDisjoint (map segment_of segments.new.items) }
+    ensures filled { All (λ s. 0 < length s.bytes.items) segments.new.items }
+    ensures memory { memory_of (map segment_of segments.new.items)
+        ≡ memory_of (map segment_of segments.old.items) }
+{
+    segments.retain(|segment| !segment.bytes.is_empty());
+}
+
+/// Puts segments in the order of their addresses.
+fn put_in_order(segments: &mut Vec<Segment>)
+    requires apart { AreDisjoint (map segment_of segments.old.items) }
+    requires filled { All (λ s. 0 < length s.bytes.items) segments.old.items }
+    ensures apart { AreDisjoint (map segment_of segments.new.items) }
+    ensures ordered { AreOrdered (map segment_of segments.new.items) }
+    ensures memory { memory_of (map segment_of segments.new.items)
+        ≡ memory_of (map segment_of segments.old.items) }
+{
+    segments.sort_unstable_by_key(|segment| segment.address);
+}
+
+/// The index of the last segment that begins at the address or below.
+fn last_begun(segments: &[Segment], address: u64) -> Option<usize>
+    requires { AreOrdered (map segment_of segments.now) }
+    ensures { MatchOption result
+        ((k : ℕ) → k < length segments.now →
+        address < (slice_index_or (map segment_of segments.now) k no_segment).address)
+        (λ i. IsLastBegun (map segment_of segments.now) address i) }
+{
+    match segments.binary_search_by_key(&address, |segment| segment.address) {
+        Ok(i) => Some(i),
+        Err(i) => { if i > 0 { Some(i - 1) } else { None } }
+    }
+}
+
 /// Whether the address lies in the segment.
 #[inline(always)]
 pub(crate) fn is_held(segment: &Segment, address: u64) -> bool
@@ -121,16 +160,24 @@ pub(crate) fn is_held(segment: &Segment, address: u64) -> bool
     address.wrapping_sub(segment.address) < segment.bytes.len() as u64
 }
 
+/// Whether segment flags give the right.
+#[inline(always)]
+pub(crate) fn give(flags: u32, right: Right) -> bool
+    ensures { result ≡ gives_right flags (right_of right) }
+{
+    match right {
+        Right::Execute => flags % 2 == 1,
+        Right::Write => flags / 2 % 2 == 1,
+        Right::Read => flags / 4 % 2 == 1,
+    }
+}
+
 /// Whether the segment's bytes have the right.
 #[inline(always)]
 pub(crate) fn is_given(segment: &Segment, right: Right) -> bool
     ensures { result ≡ gives_right segment.now.flags (right_of right) }
 {
-    match right {
-        Right::Execute => segment.flags % 2 == 1,
-        Right::Write => segment.flags / 2 % 2 == 1,
-        Right::Read => segment.flags / 4 % 2 == 1,
-    }
+    give(segment.flags, right)
 }
 
 /// The segment's bytes from one on.
@@ -162,6 +209,21 @@ impl Flat {
     {
         Ok(Flat {
             segments: with_stack(alloc, image)?,
+            code: Cell::new(0),
+            data: Cell::new(0),
+        })
+    }
+
+    /// The same memory, with the segments that have bytes in the order of their addresses.
+    pub(crate) fn in_order(alloc: Global, image: Image) -> Result<Self, AllocError>
+        ensures ordered { IfOk result (λ flat. AreOrdered (pieces flat)) }
+        ensures memory { IfOk result (λ flat. held flat ≡ mem_of (image_of image)) }
+    {
+        let mut segments = with_stack(alloc, image)?;
+        drop_empty(&mut segments);
+        put_in_order(&mut segments);
+        Ok(Flat {
+            segments,
             code: Cell::new(0),
             data: Cell::new(0),
         })
@@ -211,17 +273,24 @@ impl Flat {
         }
     }
 
-    /// Whether an address lies in the segment at the index.
-    pub(crate) fn holds(&self, i: usize, address: u64) -> bool
-        ensures within { result ≡ true → i < length self.now.segments.items }
-        ensures found { result ≡ true → segment_at (pieces self.now) address
-            ≡ slice_get (pieces self.now) i }
+    /// The index of the segment in which an address lies, by a binary search: the segments have bytes and are in the order
+    /// of their addresses.
+    pub(crate) fn position_in_order(&self, address: u64) -> Option<usize>
+        requires { AreOrdered (pieces self.now) }
+        ensures within { IfSome result (λ i. i < length self.now.segments.items) }
+        ensures found { MatchOption result (segment_at (pieces self.now) address ≡ None)
+            (λ i. segment_at (pieces self.now) address ≡ slice_get (pieces self.now) i) }
     {
-        if i >= self.segments.len() {
-            return false;
+        match last_begun(&self.segments, address) {
+            Some(i) => {
+                if is_held(&self.segments[i], address) {
+                    Some(i)
+                } else {
+                    None
+                }
+            }
+            None => None,
         }
-        let segment = &self.segments[i];
-        is_held(segment, address)
     }
 
     /// How many bytes from an address on have the right, as far as its segment goes, whose index is given.
@@ -232,12 +301,25 @@ impl Flat {
         ensures all { may (held self.now) address result (right_of right) ≡ true }
         ensures none { result ≡ 0 → (held self.now).has address (right_of right) ≡ false }
     {
-        let segment = &self.segments[i];
-        if is_given(segment, right) {
-            segment.bytes.len() as u64 - (address - segment.address)
+        if is_given(&self.segments[i], right) {
+            self.room_from(i, address)
         } else {
             0
         }
+    }
+
+    /// How many bytes the segment of an address, whose index is given, has from there on.
+    #[inline(always)]
+    pub(crate) fn room_from(&self, i: usize, address: u64) -> u64
+        requires within { i < length self.now.segments.items }
+        requires found { segment_at (pieces self.now) address ≡ slice_get (pieces self.now) i }
+        ensures some { 0 < result }
+        ensures all { (right : ARight) →
+            right_in (segment_at (pieces self.now) address) right ≡ true →
+            may (held self.now) address result right ≡ true }
+    {
+        let segment = &self.segments[i];
+        segment.bytes.len() as u64 - (address - segment.address)
     }
 
     /// The bytes from an address on, as far as its segment goes, whose index is given.

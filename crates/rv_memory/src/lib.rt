@@ -1,8 +1,8 @@
 //! Guest memory: bytes with rights, as a hart reads and writes them.
 //!
 //! It takes an image and gives a memory, [`Flat`] or [`Paged`], and the trait [`Memory`] by which a hart sees it. A
-//! `Flat` keeps each segment as one piece; a `Paged` has them looked up by pages of 4096 bytes, in the order of their
-//! numbers.
+//! `Flat` keeps each segment as one piece and looks at one after the other; a `Paged` has a list of pages of 4096 bytes by
+//! ascending numbers, each with its rights, and a look-up is a binary search.
 //!
 //! Main contract: the clauses of the trait tie every call to `mem`, the memory as data: `load` answers the little-endian
 //! number that stands there, `store` changes exactly its bytes, and `try_load` and `try_store` do so exactly where

@@ -38,7 +38,7 @@ pub enum Right {
 
 /// Bytes with rights at the addresses 0 to 2^64 - 1. A range of addresses goes on from the last
 /// address to 0 (ISA, 1.4).
-pub trait Memory {
+pub trait Memory: Drop {
     /// The bytes and their rights.
     ghost mem: { Self → Mem };
 

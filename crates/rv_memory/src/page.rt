@@ -1,64 +1,162 @@
-//! Pages of 4096 bytes, and the list that finds their bytes.
+//! Pages of 4096 bytes, in a list by ascending numbers: a look-up is a binary search.
 //!
-//! The bytes of neighbouring pages lie side by side in their segment, whose rights are those of each of its bytes: a page
-//! keeps neither.
+//! The bytes of neighbouring pages lie one after the other in their segment: a page says in which, and which rights they
+//! have.
 
-ghost use Rattle.std.specs.Prelude.{◌≤◌, ◌<◌, length, IfOk, IfErr};
+ghost use Rattle.std.specs.Prelude.{
+  ◌≡◌,
+  ℕ,
+  ◌+◌,
+  ◌*◌,
+  ◌/◌,
+  ◌^◌,
+  ◌<◌,
+  ◌≤◌,
+  nat_le,
+  nat_lt,
+  true,
+  false,
+  ◌||◌,
+  ◌&&◌,
+  length,
+  map,
+  take,
+  slice_index_or,
+  OnOk,
+  IfOk,
+  MatchOption,
+};
+ghost use Rattle.std.specs.List.{list_any};
+ghost use Rattle.rv_image.specs.Segment.{segment_of};
+ghost use Rattle.rv_memory.specs.Flat.{AreDisjoint, no_segment};
+ghost use Rattle.rv_memory.specs.Pages.{
+  AreAscending,
+  AreOrdered,
+  ArePages,
+  IsRight,
+  has_byte_on,
+  is_listed,
+  is_reached,
+  no_page,
+  with_page,
+};
+ghost use Rattle.rv_memory.specs.declared.page.PageRights.TheVariants.{Same};
 
 use rv_image::Segment;
-use std::alloc::AllocError;
+use std::alloc::{AllocError, Global};
 
 /// How many bytes a page has.
 const PAGE_BYTES: u64 = 4096;
 
-/// A page that has a byte in a segment.
+/// The rights of a page's bytes.
 #[derive(Clone, Copy, Drop)]
-pub(crate) struct Page {
+pub enum PageRights {
+    /// All have the same, segment flags, and lie in the segment at the index.
+    Same(u8, usize),
+    /// Each byte has those of its own segment, and none where there is no segment.
+    Mixed,
+}
+
+/// A page.
+#[derive(Clone, Copy, Drop)]
+pub struct Page {
     /// The quotient of its addresses by 4096.
-    pub(crate) number: u64,
-    /// The index of the segment that was first found on it.
-    pub(crate) segment: usize,
+    pub number: u64,
+    pub rights: PageRights,
 }
 
-/// Where the page of a number is in the list, or where it would go.
-fn position(pages: &[Page], number: u64) -> Result<usize, usize>
-    ensures found { IfOk result (λ i. i < length pages.now) }
-    ensures gap { IfErr result (λ i. i ≤ length pages.now) }
+/// The index of the page of an address, where there is one.
+pub(crate) fn page_of(pages: &[Page], address: u64) -> Option<usize>
+    requires { AreAscending pages.now }
+    ensures { MatchOption result
+        (is_listed (address / 4096) pages.now ≡ false)
+        (λ i. (i < length pages.now)
+        × ((slice_index_or pages.now i no_page).number ≡ address / 4096)) }
 {
-    pages.binary_search_by_key(&number, |page| page.number)
-}
-
-/// The index of the segment to look at for an address, where it has a page.
-pub(crate) fn segment_of_page(pages: &[Page], address: u64) -> Option<usize> {
-    match position(pages, address / PAGE_BYTES) {
-        Ok(i) => Some(pages[i].segment),
+    match pages.binary_search_by_key(&(address / PAGE_BYTES), |page| page.number) {
+        Ok(i) => Some(i),
         Err(_) => None,
     }
 }
 
-/// Adds the page of a number, where there is none.
-fn add_page(pages: &mut Vec<Page>, number: u64, segment: usize) -> Result<(), AllocError> {
-    match position(pages, number) {
-        Ok(_) => Ok(()),
-        Err(at) => {
-            pages.insert(at, Page { number, segment })?;
-            Ok(())
-        }
+/// Whether a page has a number or a higher one: the last does, if any.
+fn reaches(pages: &[Page], number: u64) -> bool
+    requires { AreAscending pages.now }
+    ensures { result ≡ is_reached number pages.now }
+{
+    match pages.last().copied() {
+        Some(last) => last.number >= number,
+        None => false,
     }
 }
 
-/// Adds the pages of a segment.
-pub(crate) fn add_pages(
-    pages: &mut Vec<Page>,
-    segment: &Segment,
-    index: usize,
-) -> Result<(), AllocError> {
-    let mut at = 0;
-    while at < segment.bytes.len() {
-        let address = segment.address + at as u64;
-        add_page(pages, address / PAGE_BYTES, index)?;
-        let room = (PAGE_BYTES - address % PAGE_BYTES) as usize;
-        at += room.min(segment.bytes.len() - at);
+/// Adds a page behind those with lower numbers, unless the last one has its number or a higher one.
+fn add_page(pages: &mut Vec<Page>, page: Page) -> Result<(), AllocError>
+    requires { AreAscending pages.old.items }
+    ensures ascending { OnOk result (AreAscending pages.new.items) }
+    ensures added { OnOk result (pages.new.items ≡ with_page page pages.old.items) }
+{
+    if reaches(pages, page.number) {
+        return Ok(());
+    }
+    pages.push(page)?;
+    Ok(())
+}
+
+/// The page of a number, with the rights that the segment at the index gives, if it has all of the page's bytes.
+fn page_in(segments: &[Segment], index: usize, number: u64) -> Page
+    requires index { index < length segments.now }
+    requires number { number < 2 ^ 52 }
+    ensures number { result.number ≡ number }
+    ensures right { IsRight (map segment_of segments.now) result }
+    ensures same { (flags i : ℕ) → result.rights ≡ Same flags i → i ≡ index }
+{
+    let segment = &segments[index];
+    let start = number * PAGE_BYTES;
+    let length = segment.bytes.len() as u64;
+    if segment.address <= start
+        && length >= PAGE_BYTES
+        && start - segment.address <= length - PAGE_BYTES
+    {
+        let flags = (segment.flags % 8) as u8;
+        return Page {
+            number,
+            rights: PageRights::Same(flags, index),
+        };
+    }
+    Page {
+        number,
+        rights: PageRights::Mixed,
+    }
+}
+
+/// Adds the pages of the segment at an index, behind those of the segments before it.
+fn add_pages(pages: &mut Vec<Page>, segments: &[Segment], index: usize) -> Result<(), AllocError>
+    requires index { index < length segments.now }
+    requires apart { AreDisjoint (map segment_of segments.now) }
+    requires ordered { AreOrdered (map segment_of segments.now) }
+    requires before { ArePages (take index (map segment_of segments.now)) pages.old.items }
+    ensures { OnOk result
+        (ArePages (take (index + 1) (map segment_of segments.now)) pages.new.items) }
+{
+    let segment = &segments[index];
+    let first = segment.address / PAGE_BYTES;
+    let last = (segment.address + (segment.bytes.len() as u64 - 1)) / PAGE_BYTES;
+    for number in first..last + 1 {
+        add_page(pages, page_in(segments, index, number))?;
     }
     Ok(())
+}
+
+/// The pages of segments.
+pub(crate) fn pages_of(alloc: Global, segments: &[Segment]) -> Result<Vec<Page>, AllocError>
+    requires apart { AreDisjoint (map segment_of segments.now) }
+    requires ordered { AreOrdered (map segment_of segments.now) }
+    ensures { IfOk result (λ pages. ArePages (map segment_of segments.now) pages.items) }
+{
+    let mut pages = Vec::new(alloc);
+    for i in 0..segments.len() {
+        add_pages(&mut pages, segments, i)?;
+    }
+    Ok(pages)
 }

@@ -1,12 +1,12 @@
 //! A memory that keeps pages of 4096 bytes.
 //!
-//! The pages' bytes lie side by side in segments, each of which has one right for all of its bytes. A list of pages by
-//! number tells in which segment the bytes of an address stand: a look-up is a binary search. Where two segments share a
-//! page, or an address has none, the segments are looked at one by one.
+//! A list has every page of the image and of the stack by ascending numbers, each with its rights: one for the whole page
+//! where all of its bytes agree, else those of its segments. A look-up is a binary search. The bytes of neighbouring pages
+//! lie one after the other in their segment, where the image had them, so none is copied.
 //!
 //! In front of the search stand stretches: of code, of the stack and of data. One compare tells which, and one whether an
-//! access lies in it, wherever pages end. All else is out of line, so that the hot loop takes these into itself. Contracts
-//! do not see what a `Cell` holds, so the index of the latest segment found is tested like any other.
+//! access of its width lies in it, wherever pages end. All else is out of line, so that the hot loop takes these into
+//! itself. Contracts do not see what a `Cell` holds, so the index of the latest segment found is tested like any other.
 
 ghost use Rattle.std.specs.Prelude.{
   ◌≡◌,
@@ -25,6 +25,7 @@ ghost use Rattle.std.specs.Prelude.{
   Some,
   None,
   slice_get,
+  slice_index_or,
 };
 ghost use Rattle.rv_isa_laws.specs.Memory.{
   may,
@@ -34,51 +35,57 @@ ghost use Rattle.rv_isa_laws.specs.Memory.{
   Read as ToRead,
   Write as ToWrite,
   Execute as ToExecute,
+  Right as ARight,
 };
 ghost use Rattle.rv_image.specs.Image.{image_of};
-ghost use Rattle.rv_image.specs.Memory.{mem_of, segment_at};
+ghost use Rattle.rv_image.specs.Memory.{mem_of, segment_at, gives_right, right_in};
 ghost use Rattle.rv_memory.specs.Held.{pieces};
+ghost use Rattle.rv_memory.specs.Quick.{AreKnown, IsEnd};
 ghost use Rattle.rv_memory.specs.Rights.{right_of, IsWidth, IsToLoad};
-ghost use Rattle.rv_memory.specs.Stretches.{IsStretch};
 
-use crate::flat::Flat;
+use crate::flat::{Flat, give};
 use crate::memory::{Memory, Right};
-use crate::page::{Page, add_pages, segment_of_page};
+use crate::page::{Page, PageRights, page_of, pages_of};
 use crate::pieces::{Pieces, have_right, load_number, number, store_number};
-use crate::stretch::{Stretch, stretch_of};
-use rv_image::{Image, STACK_START, Segment};
+use crate::stretch::{Near, near_of};
+use rv_image::{Image, STACK_START};
 use std::alloc::{AllocError, Global};
 
 /// Pages by ascending numbers: all of an image's segments and of the stack.
 #[derive(Drop)]
 pub struct Paged {
-    /// The bytes of the pages, side by side, with their rights.
+    /// The bytes of the pages: segments in the order of their addresses.
     pub(crate) flat: Flat,
     pages: Vec<Page>,
-    /// The stretch of the first segment, where a fetch looks first: linkers put code there.
-    code: Stretch,
+    /// The first segment, where a fetch looks first: linkers put code there.
+    code: Near,
+    /// How many bytes from the start of code on lie before one that may not be executed; 0 where that is not known.
+    code_bytes: u64,
     /// Where an access at the stack's start or above looks.
-    stack: Stretch,
-    /// Where a load below looks: the last segment of the image, where linkers put data; constants in a program without
+    stack: Near,
+    /// Where a load below looks: the segment before the stack, where linkers put data; constants in a program without
     /// data.
-    data: Stretch,
+    data: Near,
     /// Where a store below looks: the same segment.
-    written: Stretch,
-    ghost code_executes: { IsStretch (pieces flat) 0 code.start code.room 4 ToExecute },
-    ghost stack_reads: { IsStretch (pieces flat) stack.segment stack.start stack.room 8 ToRead },
-    ghost stack_writes: { IsStretch (pieces flat) stack.segment stack.start stack.room 8 ToWrite },
-    ghost data_reads: { IsStretch (pieces flat) data.segment data.start data.room 8 ToRead },
-    ghost written_writes: { IsStretch (pieces flat) written.segment written.start written.room 8
-        ToWrite },
+    written: Near,
+    ghost known: { AreKnown (pieces flat) pages.items code stack «data» written code_bytes },
 }
 
-/// The pages of segments.
-fn pages_of(alloc: Global, segments: &[Segment]) -> Result<Vec<Page>, AllocError> {
-    let mut pages = Vec::new(alloc);
-    for (i, segment) in segments.iter().enumerate() {
-        add_pages(&mut pages, segment, i)?;
+/// The segment of an address, and its rights as segment flags.
+#[derive(Clone, Copy, Drop)]
+struct Found {
+    segment: usize,
+    flags: u8,
+}
+
+/// The count of bytes from an address on, where the byte behind them may not be executed; else 0.
+fn bytes_before_end(flat: &Flat, start: u64, bytes: u64) -> u64
+    ensures { IsEnd (pieces flat.now) start result }
+{
+    if flat.may(start.wrapping_add(bytes), 1, Right::Execute) {
+        return 0;
     }
-    Ok(pages)
+    bytes
 }
 
 impl Paged {
@@ -88,36 +95,64 @@ impl Paged {
     pub fn new(alloc: Global, image: Image) -> Result<Self, AllocError>
         ensures { IfOk result (λ paged. held_pages paged ≡ mem_of (image_of image)) }
     {
-        let flat = Flat::new(alloc, image)?;
+        let flat = Flat::in_order(alloc, image)?;
         let pages = pages_of(alloc, &flat.segments)?;
-        let last = flat.segments.len().wrapping_sub(1);
-        let code = stretch_of(&flat, 0, 4, (Right::Execute, Right::Execute));
-        let stack = stretch_of(&flat, last, 8, (Right::Read, Right::Write));
-        let below = last.wrapping_sub(1);
-        let data = stretch_of(&flat, below, 8, (Right::Read, Right::Read));
-        let written = stretch_of(&flat, below, 8, (Right::Write, Right::Write));
+        let top = flat.position_in_order(STACK_START).unwrap_or(0);
+        let below = top.wrapping_sub(1);
+        let code = near_of(&flat, 0, (Right::Execute, Right::Execute));
+        let code_bytes = bytes_before_end(&flat, code.start, code.room_1);
+        let stack = near_of(&flat, top, (Right::Read, Right::Write));
+        let data = near_of(&flat, below, (Right::Read, Right::Read));
+        let written = near_of(&flat, below, (Right::Write, Right::Write));
         Ok(Paged {
             flat,
             pages,
             code,
+            code_bytes,
             stack,
             data,
             written,
         })
     }
 
-    /// The index of the segment in which an address lies: its page tells where to look.
-    fn position(&self, address: u64) -> Option<usize>
-        ensures within { IfSome result (λ i. i < length self.now.flat.segments.items) }
+    /// The segment of an address, and its rights: its page tells both, or that several segments are to be searched.
+    fn find(&self, address: u64) -> Option<Found>
+        ensures within { IfSome result
+            (λ found. found.segment < length self.now.flat.segments.items) }
         ensures found { MatchOption result (segment_at (pages_in self.now) address ≡ None)
-            (λ i. segment_at (pages_in self.now) address ≡ slice_get (pages_in self.now) i) }
+            (λ found. segment_at (pages_in self.now) address
+            ≡ slice_get (pages_in self.now) found.segment) }
+        ensures rights { IfSome result (λ found. (right : ARight) →
+            gives_right found.flags right
+            ≡ right_in (segment_at (pages_in self.now) address) right) }
     {
-        if let Some(i) = segment_of_page(&self.pages, address) {
-            if self.flat.holds(i, address) {
-                return Some(i);
-            }
+        match page_of(&self.pages, address) {
+            Some(i) => match self.pages[i].rights {
+                PageRights::Same(flags, segment) => Some(Found { segment, flags }),
+                PageRights::Mixed => self.find_mixed(address),
+            },
+            None => None,
         }
-        self.flat.position(address)
+    }
+
+    /// The same for a page of several rights.
+    fn find_mixed(&self, address: u64) -> Option<Found>
+        ensures within { IfSome result
+            (λ found. found.segment < length self.now.flat.segments.items) }
+        ensures found { MatchOption result (segment_at (pages_in self.now) address ≡ None)
+            (λ found. segment_at (pages_in self.now) address
+            ≡ slice_get (pages_in self.now) found.segment) }
+        ensures rights { IfSome result (λ found. (right : ARight) →
+            gives_right found.flags right
+            ≡ right_in (segment_at (pages_in self.now) address) right) }
+    {
+        match self.flat.position_in_order(address) {
+            Some(segment) => {
+                let flags = (self.flat.segments[segment].flags % 8) as u8;
+                Some(Found { segment, flags })
+            }
+            None => None,
+        }
     }
 
     /// The number of bytes that may be executed.
@@ -132,15 +167,15 @@ impl Paged {
         ensures bytes { IfSome result
             (λ _. (k : ℕ) → k < bytes → (held_pages self.now).byte ((address + k) % 2 ^ 64) < 256) }
     {
-        if bytes <= 4 {
-            if let Some(number) = self.flat.near(0, self.code, address, bytes, Right::Execute) {
-                return Some(number);
-            }
+        let stretch = self.code.stretch(bytes);
+        if let Some(number) = self.flat.near(0, stretch, address, bytes, Right::Execute) {
+            return Some(number);
         }
         self.fetch_elsewhere(address, bytes)
     }
 
-    /// The same, where the stretch of code does not hold them.
+    /// The same, where the stretch of code does not hold them. Those that begin in it and go on behind code lack the right,
+    /// so that a loop at the end of code needs no search.
     #[cold]
     #[inline(never)]
     fn fetch_elsewhere(&self, address: u64, bytes: u64) -> Option<u64>
@@ -153,6 +188,10 @@ impl Paged {
         ensures bytes { IfSome result
             (λ _. (k : ℕ) → k < bytes → (held_pages self.now).byte ((address + k) % 2 ^ 64) < 256) }
     {
+        let at = address.wrapping_sub(self.code.start);
+        if at < self.code_bytes && self.code_bytes - at < bytes {
+            return None;
+        }
         self.load_elsewhere(address, bytes, Right::Execute)
     }
 
@@ -168,11 +207,14 @@ impl Paged {
             (λ _. (k : ℕ) → k < bytes → (held_pages self.now).byte ((address + k) % 2 ^ 64) < 256) }
     {
         if address < STACK_START {
+            let stretch = self.data.stretch(bytes);
             return self
                 .flat
-                .near(self.data.segment, self.data, address, bytes, Right::Read);
+                .near(stretch.segment, stretch, address, bytes, Right::Read);
         }
-        self.flat.near(self.stack.segment, self.stack, address, bytes, Right::Read)
+        let stretch = self.stack.stretch(bytes);
+        self.flat
+            .near(stretch.segment, stretch, address, bytes, Right::Read)
     }
 
     /// Puts bytes where the stretch on their side of the stack's start holds the address; whether it does.
@@ -185,9 +227,11 @@ impl Paged {
             (held_pages self.new ≡ held_pages self.old) }
     {
         if address < STACK_START {
-            return self.flat.put_near(self.written, address, bytes);
+            let stretch = self.written.stretch(bytes.len() as u64);
+            return self.flat.put_near(stretch, address, bytes);
         }
-        self.flat.put_near(self.stack, address, bytes)
+        let stretch = self.stack.stretch(bytes.len() as u64);
+        self.flat.put_near(stretch, address, bytes)
     }
 
     /// Puts bytes where the segment of the latest search holds them and gives the right to write; whether it does.
@@ -204,8 +248,8 @@ impl Paged {
 
     /// Has the next accesses look at the segment of an address.
     fn remember(&self, address: u64, right: Right) {
-        if let Some(i) = self.position(address) {
-            self.flat.remember(i, right);
+        if let Some(found) = self.find(address) {
+            self.flat.remember(found.segment, right);
         }
     }
 
@@ -296,22 +340,28 @@ impl Pieces for Paged {
     ghost mem = { λ paged. held_pages paged };
 
     fn run(&self, address: u64, _most: u64, right: Right) -> u64 {
-        match self.position(address) {
-            Some(i) => self.flat.run_from(i, address, right),
+        match self.find(address) {
+            Some(found) => {
+                if give(u32::from(found.flags), right) {
+                    self.flat.room_from(found.segment, address)
+                } else {
+                    0
+                }
+            }
             None => 0,
         }
     }
 
     fn rest(&self, address: u64) -> &[u8] {
-        match self.position(address) {
-            Some(i) => self.flat.rest_from(i, address),
+        match self.find(address) {
+            Some(found) => self.flat.rest_from(found.segment, address),
             None => &[],
         }
     }
 
     fn put_within(&mut self, address: u64, bytes: &[u8]) -> bool {
-        match self.position(address) {
-            Some(i) => self.flat.put_from(i, address, bytes),
+        match self.find(address) {
+            Some(found) => self.flat.put_from(found.segment, address, bytes),
             None => false,
         }
     }

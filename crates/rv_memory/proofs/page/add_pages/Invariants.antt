@@ -1,8 +1,9 @@
-use Rattle.std.proofs.Common.{◌-◌, ◌≤◌, length}
+use Rattle.std.proofs.Common.{◌+◌, map, take}
+use Rattle.rv_image.specs.Segment.{segment_of}
+use Rattle.rv_memory.proofs.PageLemmas.{AreMore}
 use Rattle.rv_memory.proofs.page.add_pages.Given as goal
 
-abbrev pub invariant-loop-at : goal.invariant-loop-at
-invariant-loop-at l = record { within : l.at ≤ length l.segment.bytes.items }
-
-abbrev pub decreases-loop-at : goal.decreases-loop-at
-decreases-loop-at l = length l.segment.bytes.items - l.at
+-- the pages before this number are added
+abbrev pub invariant-loop-number : goal.invariant-loop-number
+invariant-loop-number l =
+    AreMore (take (l.index + 1) (map segment_of l.segments)) l.first l.number l.fn.pages.items l.pages.items

@@ -1,14 +1,5 @@
-use Rattle.rv_memory.proofs.StretchLemmas.{still}
+use Rattle.rv_memory.proofs.KnownLemmas.{known-still}
 use Rattle.rv_memory.proofs.paged.Paged.put_latest.Goals as goal
 
 pub invariant_of-self : goal.invariant_of-self
-invariant_of-self c =
-    let old = c.args.self.now in
-    let alike = c.put_part.ensures.alike in
-    record {
-      code_executes = still _ _ _ _ _ _ _ alike old.code_executes;
-      stack_reads = still _ _ _ _ _ _ _ alike old.stack_reads;
-      stack_writes = still _ _ _ _ _ _ _ alike old.stack_writes;
-      data_reads = still _ _ _ _ _ _ _ alike old.data_reads;
-      written_writes = still _ _ _ _ _ _ _ alike old.written_writes;
-    }
+invariant_of-self c = record { known = known-still _ _ _ _ _ _ _ _ c.put_part.ensures.alike c.args.self.now.known }

@@ -1,26 +1,19 @@
-use Rattle.rv_memory.proofs.StretchLemmas.{still}
+use Rattle.std.proofs.Common.{length, refl}
+use Rattle.rv_memory.proofs.KnownLemmas.{known-still, quick-at}
 use Rattle.rv_memory.proofs.paged.Paged.put_near.Goals as goal
 
+pub put_near-requires-clause-known : goal.put_near-requires-clause-known
+put_near-requires-clause-known c =
+    let s = c.stretch-stretch in
+    quick-at _ _ _ _ _ (length c.args.bytes.now) (length c.args.bytes.now) c.args.self.now.written _ c.args.self.now.known.low_writes c.requires s.ensures.segment s.ensures.start refl s.ensures.room
+
+pub put_near-requires-2-clause-known : goal.put_near-requires-2-clause-known
+put_near-requires-2-clause-known c =
+    let s = c.stretch-stretch-2 in
+    quick-at _ _ _ _ _ (length c.args.bytes.now) (length c.args.bytes.now) c.args.self.now.stack _ c.args.self.now.known.stack_writes c.requires s.ensures.segment s.ensures.start refl s.ensures.room
+
 pub invariant_of-self : goal.invariant_of-self
-invariant_of-self c =
-    let old = c.args.self.now in
-    let alike = c.put_near.ensures.alike in
-    record {
-      code_executes = still _ _ _ _ _ _ _ alike old.code_executes;
-      stack_reads = still _ _ _ _ _ _ _ alike old.stack_reads;
-      stack_writes = still _ _ _ _ _ _ _ alike old.stack_writes;
-      data_reads = still _ _ _ _ _ _ _ alike old.data_reads;
-      written_writes = still _ _ _ _ _ _ _ alike old.written_writes;
-    }
+invariant_of-self c = record { known = known-still _ _ _ _ _ _ _ _ c.put_near.ensures.alike c.args.self.now.known }
 
 pub invariant_of-self-2 : goal.invariant_of-self-2
-invariant_of-self-2 c =
-    let old = c.args.self.now in
-    let alike = c.put_near-2.ensures.alike in
-    record {
-      code_executes = still _ _ _ _ _ _ _ alike old.code_executes;
-      stack_reads = still _ _ _ _ _ _ _ alike old.stack_reads;
-      stack_writes = still _ _ _ _ _ _ _ alike old.stack_writes;
-      data_reads = still _ _ _ _ _ _ _ alike old.data_reads;
-      written_writes = still _ _ _ _ _ _ _ alike old.written_writes;
-    }
+invariant_of-self-2 c = record { known = known-still _ _ _ _ _ _ _ _ c.put_near-2.ensures.alike c.args.self.now.known }
