@@ -10,3 +10,4 @@ pub mod Streams
 pub mod StreamSteps
 pub mod Outcome
 pub mod Asked
+pub mod Watching

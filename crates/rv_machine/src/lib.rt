@@ -54,4 +54,4 @@ pub use machine::Machine;
 pub use outcome::{Outcome, run};
 pub use running::{RunFault, run_io};
 pub use streams::{GuestIn, GuestOut, IoFailed};
-pub use watching::{WatchFault, Watched, Watcher, run_watched};
+pub use watching::{ShowFault, WatchFault, Watched, Watcher, run_watched};

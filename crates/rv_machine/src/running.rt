@@ -193,7 +193,7 @@ pub(crate) fn step<R: GuestIn, W: GuestOut, M: Memory>(
 }
 
 /// Runs a memory from an entry, at most `limit` instructions. It takes no memory of its own.
-fn run_over<R: GuestIn, W: GuestOut, M: Memory + Drop>(
+fn run_over<R: GuestIn, W: GuestOut, M: Memory>(
     mut memory: M,
     entry: u64,
     reader: &mut R,

@@ -1,6 +1,6 @@
 //! Accesses of a memory in pages: in a page, over the end of one, and at the ends of rights.
 
-use crate::guest::{Part, READ, WRITE, executable, variables};
+use crate::guest::{EXECUTE, Part, READ, WRITE, executable, variables};
 use rv_image::load;
 use rv_memory::{Memory, Paged, Right};
 use std::alloc::Global;
@@ -114,5 +114,43 @@ fn has_the_last_byte_of_the_stack(rt: HostRuntime) -> Result<(), Fail> {
     assert_eq!(rt; memory.try_load(0x3fff_fffc, 4, Right::Execute), None);
     assert_eq!(rt; memory.try_load(0x3fef_ffff, 1, Right::Read), None);
     assert_eq!(rt; memory.try_load(0x3ff0_0000, 8, Right::Read), Some(0));
+    Ok(())
+}
+
+/// A page with three segments, which the file has in another order, one without bytes among them, and gaps between them;
+/// a whole page of constants goes before it.
+#[test]
+fn finds_each_segment_of_a_page(rt: HostRuntime) -> Result<(), Fail> {
+    let alloc = rt.alloc();
+    let constants = [0x63; 4100];
+    let parts = [
+        variables(0x1_1ffe, b"xy"),
+        Part {
+            address: 0x1_0000,
+            flags: READ,
+            bytes: &constants,
+        },
+        variables(0x1_1800, b""),
+        Part {
+            address: 0x1_1010,
+            flags: READ | EXECUTE,
+            bytes: b"mn",
+        },
+    ];
+    let mut memory = paged(alloc, &parts)?;
+    assert_eq!(rt; memory.try_load(0x1_0000, 1, Right::Read), Some(0x63));
+    assert_eq!(rt; memory.try_load(0x1_1002, 2, Right::Read), Some(0x6363));
+    assert_eq!(rt; memory.try_load(0x1_1002, 4, Right::Read), None);
+    assert_eq!(rt; memory.try_load(0x1_1010, 2, Right::Execute), Some(0x6e6d));
+    assert_eq!(rt; memory.try_load(0x1_1011, 2, Right::Execute), None);
+    assert_eq!(rt; memory.try_load(0x1_1800, 1, Right::Read), None);
+    assert_eq!(rt; memory.try_load(0x1_1fff, 1, Right::Read), Some(0x79));
+    assert_eq!(rt; memory.try_load(0x1_2000, 1, Right::Read), None);
+    assert!(rt; memory.try_store(0x1_1ffe, 2, 0x3231));
+    assert!(rt; !memory.try_store(0x1_0ffe, 2, 0));
+    assert!(rt; !memory.may(0x1_1003, 2, Right::Read));
+    assert!(rt; memory.may(0x1_0000, 4100, Right::Read));
+    assert!(rt; !memory.may(0x1_0000, 4100, Right::Write));
+    assert_eq!(rt; memory.try_load(0x1_1ffe, 2, Right::Read), Some(0x3231));
     Ok(())
 }

@@ -28,7 +28,7 @@ pub(crate) struct Access {
 
 impl Access {
     /// The address of its first byte, modulo 2^64.
-    pub(crate) fn address<M: Memory + Drop>(&self, machine: &Watched<M>) -> u64 {
+    pub(crate) fn address<M: Memory>(&self, machine: &Watched<M>) -> u64 {
         let offset = i64::from(self.offset).cast_unsigned();
         machine.register(self.base).wrapping_add(offset)
     }

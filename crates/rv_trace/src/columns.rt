@@ -40,7 +40,8 @@ pub(crate) fn set_low_digits(text: &mut [u8], start: usize, count: usize, number
     }
 }
 
-/// The digits of a number in hexadecimal.
+/// The digits of a number in hexadecimal, all sixteen. A line of a trace has three such numbers; `rv_map` writes digits one by
+/// one, which takes twice as long for so many.
 #[inline]
 fn digits_of(number: u64) -> [u8; 16] {
     let [a, b, c, d, e, f, g, h] = eight_digits(number >> 32);

@@ -7,7 +7,7 @@ use crate::access::{is_call, is_taken};
 use crate::visited::{VisitedInstruction, VisitedInstructions, bits_at};
 use rv_image::{Image, STACK_BYTES, STACK_START};
 use rv_isa::{AtomicOperation, Format, Reg};
-use rv_machine::{End, WatchFault, Watched, Watcher};
+use rv_machine::{End, ShowFault, Watched, Watcher};
 use rv_memory::Memory;
 use std::alloc::{AllocError, Global};
 
@@ -70,7 +70,7 @@ impl Counts {
 
     /// Counts what the instruction is about to do.
     #[inline]
-    fn note<M: Memory + Drop>(&mut self, index: usize, machine: &Watched<M>) {
+    fn note<M: Memory>(&mut self, index: usize, machine: &Watched<M>) {
         let called = self.called;
         self.called = false;
         let Some(visited) = self.instructions.get_mut(index) else {
@@ -103,9 +103,9 @@ impl Counts {
     }
 }
 
-impl<M: Memory + Drop> Watcher<M> for Counts {
+impl<M: Memory> Watcher<M> for Counts {
     #[inline]
-    fn before(&mut self, machine: &Watched<M>) -> Result<(), WatchFault> {
+    fn before(&mut self, machine: &Watched<M>) -> Result<(), ShowFault> {
         let pc = machine.pc();
         self.current = match bits_at(machine.memory(), pc) {
             Some(bits) => self.instructions.find(pc, bits)?,
@@ -118,7 +118,7 @@ impl<M: Memory + Drop> Watcher<M> for Counts {
     }
 
     #[inline]
-    fn after(&mut self, machine: &Watched<M>) -> Result<(), WatchFault> {
+    fn after(&mut self, machine: &Watched<M>) -> Result<(), ShowFault> {
         let sp = machine.register(Reg::SP);
         if STACK_START <= sp && sp < self.lowest {
             self.lowest = sp;

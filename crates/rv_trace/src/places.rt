@@ -6,7 +6,7 @@
 
 use rv_lexer::SourceFault;
 use rv_map::{Map, Region, Row};
-use rv_parse::parse;
+use rv_parse::parse_compact;
 use rv_statement::{StatementKind, Statements};
 use std::alloc::{AllocError, Global};
 
@@ -137,7 +137,7 @@ impl<'a> Places<'a> {
     /// Adds the labels of the source that was built: not numeric ones, those of GNU's local names (`.L`), and those with
     /// nothing behind them in their part of a section.
     fn add_labels(&mut self, alloc: Global, map: &Map, text: &'a [u8]) -> Result<(), SourceFault> {
-        let statements = parse(alloc, text)?;
+        let statements = parse_compact(alloc, text)?;
         let mut waiting: Vec<&'a [u8]> = Vec::new(alloc);
         let mut ordinal: u64 = 0;
         let mut room = Statements::room();

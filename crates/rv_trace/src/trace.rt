@@ -11,7 +11,7 @@ use crate::pattern::{BEFORE_SOURCE, Patterns};
 use crate::places::Places;
 use crate::visited::{VisitedInstructions, bits_at};
 use rv_image::Image;
-use rv_machine::{WatchFault, Watched, Watcher};
+use rv_machine::{ShowFault, Watched, Watcher};
 use rv_memory::{Memory, Right};
 use std::alloc::{AllocError, Global};
 use std::io::Write;
@@ -64,7 +64,7 @@ impl<'a, L: Write> Trace<'a, L> {
     }
 
     /// Adds the line of an instruction that was not executed to its end, and writes what is kept.
-    pub fn finish(&mut self) -> Result<(), WatchFault> {
+    pub fn finish(&mut self) -> Result<(), ShowFault> {
         if let Some(open) = self.open {
             self.open = None;
             self.put_bare(open.visited)?;
@@ -73,22 +73,18 @@ impl<'a, L: Write> Trace<'a, L> {
     }
 
     /// Writes the lines that are kept.
-    fn write_kept(&mut self) -> Result<(), WatchFault> {
+    fn write_kept(&mut self) -> Result<(), ShowFault> {
         let written = self.lines.write_all(self.kept.as_slice());
         self.kept.clear();
         match written {
             Ok(()) => Ok(()),
-            Err(_) => Err(WatchFault::Unwritten),
+            Err(_) => Err(ShowFault::Unwritten),
         }
     }
 
     /// Notes the instruction whose instruction is executed next, and where that loads or stores.
     #[inline]
-    fn begin<M: Memory + Drop>(
-        &mut self,
-        index: usize,
-        machine: &Watched<M>,
-    ) -> Result<(), WatchFault> {
+    fn begin<M: Memory>(&mut self, index: usize, machine: &Watched<M>) -> Result<(), ShowFault> {
         if index >= self.patterns.len() {
             if let Some(visited) = self.instructions.all().get(index) {
                 self.patterns.add(self.places, visited)?;
@@ -123,11 +119,7 @@ impl<'a, L: Write> Trace<'a, L> {
     }
 
     /// Adds the line of an instruction that was executed.
-    fn put_line<M: Memory + Drop>(
-        &mut self,
-        open: &Open,
-        machine: &Watched<M>,
-    ) -> Result<(), AllocError> {
+    fn put_line<M: Memory>(&mut self, open: &Open, machine: &Watched<M>) -> Result<(), AllocError> {
         let Some(pattern) = self.patterns.get(open.visited) else {
             return Ok(());
         };
@@ -182,11 +174,7 @@ fn put_rest(text: &mut Vec<u8>, start: usize, rest: &[u8]) -> Result<(), AllocEr
 }
 
 /// What stands where an instruction stored, if it may be read.
-fn stored_value<M: Memory + Drop>(
-    access: &Access,
-    address: u64,
-    machine: &Watched<M>,
-) -> Option<u64> {
+fn stored_value<M: Memory>(access: &Access, address: u64, machine: &Watched<M>) -> Option<u64> {
     let memory = machine.memory();
     match access.bytes {
         1 => memory.try_load(address, 1, Right::Read),
@@ -196,9 +184,9 @@ fn stored_value<M: Memory + Drop>(
     }
 }
 
-impl<M: Memory + Drop, L: Write> Watcher<M> for Trace<'_, L> {
+impl<M: Memory, L: Write> Watcher<M> for Trace<'_, L> {
     #[inline]
-    fn before(&mut self, machine: &Watched<M>) -> Result<(), WatchFault> {
+    fn before(&mut self, machine: &Watched<M>) -> Result<(), ShowFault> {
         self.count.advance();
         if self.count.number() < self.first {
             return Ok(());
@@ -214,7 +202,7 @@ impl<M: Memory + Drop, L: Write> Watcher<M> for Trace<'_, L> {
     }
 
     #[inline]
-    fn after(&mut self, machine: &Watched<M>) -> Result<(), WatchFault> {
+    fn after(&mut self, machine: &Watched<M>) -> Result<(), ShowFault> {
         let Some(open) = self.open else {
             return Ok(());
         };

@@ -6,7 +6,7 @@
 use rv_fault::Fault;
 use rv_image::Image;
 use rv_job::{Asked, Coverage, Shown};
-use rv_machine::{End, WatchFault, Watched, Watcher};
+use rv_machine::{End, ShowFault, WatchFault, Watched, Watcher};
 use rv_map::Map;
 use rv_memory::Paged;
 use rv_system::{
@@ -150,13 +150,13 @@ fn trace_by<S: System>(
     );
     let finished = match watched {
         // no line is told in part
-        Err(WatchFault::OutOfMemory) => return Err(JobError::Memory),
+        Err(WatchFault::Watcher(ShowFault::OutOfMemory)) => return Err(JobError::Memory),
         _ => trace.finish(),
     };
     let end = ended(alloc, watched, name)?;
     match finished {
         Ok(()) => {}
-        Err(fault) => return Err(watch_line(alloc, fault, name)?),
+        Err(fault) => return Err(show_line(alloc, fault, name)?),
     }
     // all the lines that were asked for are written
     if matches!(end, End::Limit) && last <= asked.limit {
@@ -207,8 +207,15 @@ fn ended(alloc: Global, watched: Result<End, WatchFault>, name: &str) -> Result<
 fn watch_line(alloc: Global, fault: WatchFault, name: &str) -> Result<JobError, AllocError> {
     match fault {
         WatchFault::Run(fault) => run_line(alloc, &fault),
-        WatchFault::Unwritten => cannot(alloc, "write", name),
-        WatchFault::OutOfMemory => Ok(JobError::Memory),
+        WatchFault::Watcher(fault) => show_line(alloc, fault, name),
+    }
+}
+
+/// The line of what could not be shown; `name` is what could not be written.
+fn show_line(alloc: Global, fault: ShowFault, name: &str) -> Result<JobError, AllocError> {
+    match fault {
+        ShowFault::Unwritten => cannot(alloc, "write", name),
+        ShowFault::OutOfMemory => Ok(JobError::Memory),
     }
 }
 

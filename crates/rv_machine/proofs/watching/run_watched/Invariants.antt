@@ -1,4 +1,4 @@
-use Rattle.std.proofs.Common.{◌≡◌, false, ℕ, List, []}
+use Rattle.std.proofs.Common.{◌≡◌, ◌+◌, false, ℕ, List, []}
 use Rattle.std.specs.Io.KnownBytes.{Appends}
 use Rattle.rv_encode.specs.Word.{Spells}
 use Rattle.rv_compress.specs.Parcel.{StandsFor}
@@ -7,17 +7,21 @@ use Rattle.rv_isa_laws.specs.Run.{run}
 use Rattle.rv_machine.specs.Hart.{hart_of}
 use Rattle.rv_machine.specs.LastState.{last_state}
 use Rattle.rv_machine.specs.StreamSteps.{input_left, HasRead}
-use Rattle.rv_machine.proofs.StreamLemmas.{Continues}
+use Rattle.rv_machine.proofs.StreamLemmas.{Continues, Reaches}
 use Rattle.rv_machine.proofs.watching.run_watched.Given as goal
 
--- what was read and written so far; what is left of the run gives the whole and its last state, whatever may follow
+-- what was read and written so far; what is left of the run gives the whole and its last state, and the steps so far leave what is here, whatever may follow; no stream has failed
 abbrev pub invariant-loop-left : goal.invariant-loop-left
 invariant-loop-left g l = record {
   so_far : (read written : List ℕ)
       × HasRead (input_left l.fn.machine.intake.ended (g.R.GuestIn.ends l.fn.reader) (g.R.GuestIn.left l.fn.reader)) (input_left l.machine.intake.ended (g.R.GuestIn.ends l.reader) (g.R.GuestIn.left l.reader)) read
       × Appends (g.W.GuestOut.written l.fn.writer) (g.W.GuestOut.written l.writer) written
       × ((r : Reader Spells StandsFor) → Continues (run r) l.limit l.left (λ input. hart_of l.fn.machine.hart input []) (g.M.Memory.mem l.fn.machine.memory) l.machine.hart (g.M.Memory.mem l.machine.memory) (l.machine.intake.ended ≡ false) read written
-      × Continues (last_state r) l.limit l.left (λ input. hart_of l.fn.machine.hart input []) (g.M.Memory.mem l.fn.machine.memory) l.machine.hart (g.M.Memory.mem l.machine.memory) (l.machine.intake.ended ≡ false) read written);
+      × Continues (last_state r) l.limit l.left (λ input. hart_of l.fn.machine.hart input []) (g.M.Memory.mem l.fn.machine.memory) l.machine.hart (g.M.Memory.mem l.machine.memory) (l.machine.intake.ended ≡ false) read written)
+      × (steps : ℕ) × (steps + l.left ≡ l.limit)
+      × ((r : Reader Spells StandsFor) → Reaches r steps (λ input. hart_of l.fn.machine.hart input []) (g.M.Memory.mem l.fn.machine.memory) l.machine.hart (g.M.Memory.mem l.machine.memory) (l.machine.intake.ended ≡ false) read written);
+  reader : g.R.GuestIn.in_failed l.reader ≡ g.R.GuestIn.in_failed l.fn.reader;
+  writer : g.W.GuestOut.out_failed l.writer ≡ g.W.GuestOut.out_failed l.fn.writer;
 }
 
 abbrev pub decreases-loop-left : goal.decreases-loop-left
