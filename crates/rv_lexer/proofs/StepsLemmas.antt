@@ -3,7 +3,9 @@
 use Rattle.std.proofs.Common.{◌≡◌, ℕ, ◌+◌, ◌<◌, ◌≤◌, true, false, cond, List, [], ◌∷◌, length, take, drop, refl, sym, ◌∙◌, ap, arith, length-append, Some, None}
 use Rattle.rv_text_laws.specs.Grammar.{Kind, Spells, Space, Line_comment, Block_comment, Newline, Punctuation, Name, Number, Reference, Bad_word, Text, Character, Bad_byte, Bad_token, End}
 use Rattle.rv_text_laws.specs.Lexing.{newlines, is_gap, is_last, last_kind}
-use Rattle.rv_text_laws.specs.Front.{lexeme_at}
+use Rattle.rv_text_laws.specs.Bytes.{class}
+use Rattle.rv_text_laws.specs.Cut.{cut}
+use Rattle.rv_text_laws.specs.Front.{lexeme_at, tokens_from}
 use Rattle.rv_text_laws.proofs.CutLemmas.{front}
 use Rattle.rv_text_laws.proofs.LexemesLemmas.{lexemes}
 use Rattle.rv_text_laws.proofs.TokensLemmas.{tokens_more, tokens_stop}
@@ -12,7 +14,7 @@ use Rattle.rv_lexer.specs.declared.token.TokenKind.{TokenKind}
 use Rattle.rv_lexer.specs.declared.token.TokenKind.TheVariants as code
 use Rattle.rv_lexer.specs.declared.lexer.Lexer.{Lexer}
 use Rattle.rv_lexer.specs.Token.{kind_of}
-use Rattle.rv_lexer.specs.Left.{tokens_left}
+use Rattle.rv_lexer.specs.Left.{tokens_left, before_end, items_left, oversized}
 
 -- no token is a blank or a comment
 pub no_gap : (k : TokenKind) → is_gap (kind_of k) ≡ false
@@ -20,7 +22,7 @@ no_gap code.Newline = refl
 no_gap (code.Punct punct) = refl
 no_gap (code.Name name) = refl
 no_gap (code.Number word number) = refl
-no_gap (code.Reference digits forward) = refl
+no_gap (code.Reference r) = refl
 no_gap (code.BadWord word) = refl
 no_gap (code.Text text) = refl
 no_gap (code.Character byte) = refl
@@ -87,3 +89,15 @@ stop_step lexer kind e same =
     last_one lexer e
     ∙ ap (λ q. record { kind = q; start = lexer.at; stop = lexer.at + length lexer.rest.now; line = lexer.line } ∷ []) (sym same)
     ∙ ap (λ t. record { kind = kind_of kind; start = lexer.at; stop = lexer.at + length lexer.rest.now; line = lexer.line } ∷ cond t [] (tokens_left lexer)) (sym ends)
+
+-- nothing is given where nothing is left
+pub nothing_left : (lexer : Lexer) → lexer.rest.now ≡ [] → items_left lexer ≡ []
+unfolding lexeme_at
+nothing_left lexer e =
+    ap before_end (last_one lexer (ap lexeme_at (sym e)))
+    ∙ ap (λ (r : List ℕ). before_end (record { kind = last_kind r; start = lexer.at; stop = lexer.at + length r; line = lexer.line } ∷ [])) e
+
+-- the byte that stands for a source that is too long
+pub one_bad_token : tokens_from 0 1 (63 ∷ []) ≡ oversized ∷ []
+unfolding tokens_from lexeme_at cut class
+one_bad_token = refl

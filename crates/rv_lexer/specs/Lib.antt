@@ -1,4 +1,5 @@
 pub mod Fault
+pub mod Reference
 pub mod Token
 pub mod Left
 pub mod Lexeme

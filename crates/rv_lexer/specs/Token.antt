@@ -6,6 +6,7 @@ use Rattle.rv_text_laws.specs.Strings.{byte_of}
 use Rattle.rv_text_laws.specs.Front.{atom_at}
 use Rattle.rv_text_laws.specs.Grammar as grammar
 use Rattle.rv_text_laws.specs.Lexing as lexing
+use Rattle.rv_lexer.specs.Reference.{digits_in, is_ahead}
 use Rattle.rv_lexer.specs.declared.token.Token.{Token}
 use Rattle.rv_lexer.specs.declared.token.TokenKind.{TokenKind}
 use Rattle.rv_lexer.specs.declared.token.TokenKind.TheVariants.{Newline, Punct, Name, Number, Reference, BadWord, Text, Character, BadByte, BadToken, End}
@@ -19,7 +20,7 @@ kind_of Newline = grammar.Newline
 kind_of (Punct punct) = grammar.Punctuation punct
 kind_of (Name name) = grammar.Name name.now
 kind_of (Number word number) = grammar.Number word.now number
-kind_of (Reference digits forward) = grammar.Reference digits.now forward
+kind_of (Reference r) = grammar.Reference (digits_in r.word.now) (is_ahead r.word.now)
 kind_of (BadWord word) = grammar.Bad_word word.now
 kind_of (Text text) = grammar.Text (string_bytes text.now)
 kind_of (Character byte) = grammar.Character byte

@@ -50,7 +50,7 @@ impl<'a> Cursor<'a> {
     {
         let before = lexer;
         let mut lexer = lexer;
-        let next = lexer.next();
+        let next = lexer.token();
         Cursor {
             next,
             before,

@@ -1,6 +1,6 @@
 //! The lexer: the tokens of a source, one after the other.
 //!
-//! Sources are below 4 GiB, so that places and lines fit 32 bits; the parser's limit of 16 MiB is below that. No
+//! Places and lines fit 32 bits; a source for which they might not is a bad token, and the parser's limit is lower. No
 //! function here is `inline(always)`: a token's parts are then built apart and put together again, which cost half as
 //! many instructions again.
 
@@ -9,6 +9,7 @@ ghost use Rattle.rv_text_laws.specs.Bytes.{class as class_of};
 ghost use Rattle.rv_text_laws.specs.declared.class.Class.TheVariants.{Letter, Digit};
 ghost use Rattle.rv_text_laws.specs.Grammar.{Spells};
 ghost use Rattle.rv_text_laws.specs.Lexing.{newlines, is_last, last_kind};
+ghost use Rattle.std.specs.Iterator.{YieldsFirstBy, item_count};
 ghost use Rattle.rv_lexer.specs.Lexeme.{lexeme_kind_of};
 ghost use Rattle.rv_lexer.specs.Token.{kind_of, token_of};
 
@@ -31,12 +32,26 @@ pub struct Lexer<'a> {
 }
 
 impl<'a> Lexer<'a> {
-    ghost use Rattle.rv_lexer.specs.Left.{tokens_left};
+    ghost use Rattle.rv_lexer.specs.Left.{tokens_left, items_left, oversized};
     ghost use Rattle.rv_text_laws.specs.Front.{tokens_from};
 
-    /// The lexer of a source of less than 4 GiB.
-    #[tactic(auto, unfolding(crate::specs::Left::tokens_left))]
+    /// The lexer of a source. Where its places do not fit 32 bits, the source is one bad token.
     pub fn new(source: &'a [u8]) -> Self
+        ensures whole { length source.now + 1 < 2 ^ 32 →
+            tokens_left result ≡ tokens_from 0 1 source.now }
+        ensures long { 2 ^ 32 ≤ length source.now + 1 → tokens_left result ≡ oversized ∷ [] }
+    {
+        if source.len() < u32::MAX as usize {
+            Lexer::at_start(source)
+        } else {
+            Lexer::at_start(b"?")
+        }
+    }
+
+    /// The lexer of bytes whose places fit.
+    #[inline(always)]
+    #[tactic(auto, unfolding(crate::specs::Left::tokens_left))]
+    fn at_start(source: &'a [u8]) -> Self
         requires { length source.now + 1 < 2 ^ 32 }
         ensures { tokens_left result ≡ tokens_from 0 1 source.now }
     {
@@ -47,8 +62,20 @@ impl<'a> Lexer<'a> {
         }
     }
 
+    /// Passes over all that is left.
+    fn finish(&mut self)
+        ensures { items_left self.new ≡ [] }
+    {
+        let (_, rest) = self.rest.split_at(self.rest.len());
+        *self = Lexer {
+            rest,
+            at: self.at + self.rest.len() as u32,
+            line: self.line,
+        };
+    }
+
     /// The next token. After the last one (the end, a bad byte or a bad token) it comes again.
-    pub fn next(&mut self) -> Token<'a>
+    pub fn token(&mut self) -> Token<'a>
         ensures first { tokens_left self.old
             ≡ token_of result ∷
             (if is_last (token_of result).kind then [] else tokens_left self.new) }
@@ -229,6 +256,27 @@ impl<'a> Lexer<'a> {
             at: self.at + lexeme.length as u32,
             line: self.line + feeds as u32,
         };
+    }
+}
+
+/// The tokens, each once: a bad byte or a bad token is the last of them, and after the source's end nothing comes.
+impl<'a> Iterator for Lexer<'a> {
+    type Item = Token<'a>;
+
+    ghost use Rattle.rv_lexer.specs.Left.{items_left};
+
+    ghost next_gives = { YieldsFirstBy token_of items_left };
+
+    ghost remaining = { item_count items_left };
+
+    fn next(&mut self) -> Option<Token<'a>> {
+        let token = self.token();
+        match token.kind {
+            TokenKind::End => return None,
+            TokenKind::BadByte | TokenKind::BadToken => self.finish(),
+            _ => (),
+        }
+        Some(token)
     }
 }
 

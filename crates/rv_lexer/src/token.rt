@@ -1,5 +1,6 @@
 //! Tokens: what they are, and where.
 
+use crate::reference::NumericReference;
 use rv_text_laws::Punct;
 
 /// What a token is. Texts are parts of the source.
@@ -13,8 +14,8 @@ pub enum TokenKind<'a> {
     Name(&'a [u8]),
     /// A number as it is written, and its value.
     Number(&'a [u8], u64),
-    /// `1b` or `1f`: the digits, and whether the label comes after.
-    Reference(&'a [u8], bool),
+    /// `1b` or `1f`.
+    Reference(NumericReference<'a>),
     /// Another word that begins with a digit, as `08` or a number of 2^64 or more: good as a numeric label alone.
     BadWord(&'a [u8]),
     /// What a string has between its quotes, escapes as they are written.

@@ -1,12 +1,13 @@
 //! Words: names, numbers and references to numeric labels.
 
-ghost use Rattle.std.specs.Prelude.{◌≡◌, ◌==◌, ◌||◌, ◌<◌, ◌≤◌, false, None, length, option_map};
+ghost use Rattle.std.specs.Prelude.{◌≡◌, ◌<◌};
 ghost use Rattle.std.specs.List.{prefix_len};
 ghost use Rattle.rv_text_laws.specs.Bytes.{is_word, is_digit};
-ghost use Rattle.rv_text_laws.specs.Front.{number_by, after_zero, word_number, with_direction, reference_in, digits_kind};
+ghost use Rattle.rv_text_laws.specs.Front.{number_by, after_zero, word_number, reference_in, digits_kind};
 ghost use Rattle.rv_lexer.specs.Token.{kind_of};
 
 use crate::class::{digit, is_word};
+use crate::reference::NumericReference;
 use crate::token::TokenKind;
 
 /// How many bytes at the front a word goes on with.
@@ -68,61 +69,13 @@ fn number_in(word: &[u8]) -> Option<u64>
     }
 }
 
-/// How many decimal digits are at the front.
-fn decimals(word: &[u8]) -> usize
-    ensures count { result ≡ prefix_len (is_digit 10) word.now }
-    ensures within { result ≤ length word.now }
-{
-    word.iter().take_while(|byte| is_digit(10, **byte)).count()
-}
-
-/// A reference to a numeric label by these digits, where the rest is the letter of its direction.
-fn with_direction<'a>(digits: &'a [u8], rest: &[u8]) -> Option<(&'a [u8], bool)>
-    ensures { option_map (λ r. (r.0.now, r.1)) result ≡ with_direction digits.now rest.now }
-{
-    match rest {
-        [b'f'] => Some((digits, true)),
-        [b'b'] => Some((digits, false)),
-        _ => None,
-    }
-}
-
-/// Whether the byte is the letter of a direction.
-fn is_direction(byte: u8) -> bool
-    ensures { result ≡ (byte == 102) || (byte == 98) }
-{
-    matches!(byte, b'f' | b'b')
-}
-
-/// Whether the last byte is the letter of a direction.
-fn directed(word: &[u8]) -> bool
-    ensures { result ≡ false → reference_in word.now ≡ None }
-{
-    match word {
-        [] => false,
-        [.., last] => is_direction(*last),
-    }
-}
-
-/// The numeric label that a word refers to: its digits, and whether it comes after.
-#[tactic(auto, unfolding(rv_text_laws::specs::Front::reference_in))]
-fn reference_in(word: &[u8]) -> Option<(&[u8], bool)>
-    ensures { option_map (λ r. (r.0.now, r.1)) result ≡ reference_in word.now }
-{
-    if !directed(word) {
-        return None;
-    }
-    let (digits, rest) = word.split_at(decimals(word));
-    with_direction(digits, rest)
-}
-
 /// What a word is that begins with a digit. In line, so that a number is written where its token stands.
 #[inline(always)]
 pub(crate) fn digits_kind(word: &[u8]) -> TokenKind<'_>
     ensures { kind_of result ≡ digits_kind word.now (reference_in word.now) }
 {
-    if let Some((digits, forward)) = reference_in(word) {
-        return TokenKind::Reference(digits, forward);
+    if let Some(reference) = NumericReference::new(word) {
+        return TokenKind::Reference(reference);
     }
     match number_in(word) {
         Some(number) => TokenKind::Number(word, number),

@@ -12,7 +12,6 @@ pub mod ItemsLemmas
 pub mod LocatedLemmas
 pub mod InPlacesLemmas
 pub mod PartsLemmas
-pub mod RegistersLemmas
 pub mod OpeningsLemmas
 pub mod GoodOpeningsLemmas
 pub mod OpenedWellLemmas

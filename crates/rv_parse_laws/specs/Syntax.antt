@@ -35,6 +35,7 @@ use Rattle.rv_statement.specs.declared.directive.DirectiveWord.TheVariants as wo
 use Rattle.rv_statement.specs.declared.directive.Choice.{Choice}
 use Rattle.rv_statement.specs.Statement.{Expression, Operand, Register, Value, Applied, Target, Accesses, Word, Quoted, Directive, Enters, Opens, Binds, Sets, Aligns_to_power, Aligns_to_bytes, Values, Strings, Zeros, Chooses as Choosing, Ignored, StatementKind, Label, Numbered, Instruction, Directs}
 use Rattle.rv_statement.specs.View.{width_bytes}
+pub use Rattle.rv_text.specs.Registers.{is_register}
 use Rattle.rv_parse_laws.specs.Words.{register, function_words, named_in, choices, beginning}
 use Rattle.rv_parse_laws.specs.declared.role.Role.{Role}
 use Rattle.rv_parse_laws.specs.declared.role.Role.TheVariants as roles
@@ -46,10 +47,6 @@ unfoldable pub is_symbol : List ℕ → Bool
 is_symbol name =
     not (is_some (register name)) && not (bytes_eq name (codes "."))
     && nat_le (length name) longest_name
-
--- the name spells a register
-abbrev pub is_register : List ℕ → Bool
-is_register name = is_some (register name)
 
 -- the register that a token names
 abbrev pub register_of : Kind → Option ℕ

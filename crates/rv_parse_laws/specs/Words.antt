@@ -5,7 +5,8 @@ use Rattle.std.specs.Prelude.{ℕ, zero, suc, List, [], ◌∷◌, ◌++◌, Boo
 use Rattle.std.specs.Str.{bytes_eq}
 use Rattle.std.specs.Option.{option_or}
 use Rattle.rv_text_laws.specs.SyntaxError.{longest_name}
-use Rattle.rv_isa.specs.RegisterNames.{abi_names, decimal}
+pub use Rattle.rv_text.specs.Registers.{is_among, register_below}
+unfoldable pub use Rattle.rv_text.specs.Registers.{register_names, register}
 use Rattle.rv_statement.specs.declared.mnemonic.Mnemonic.{Mnemonic}
 use Rattle.rv_statement.specs.declared.mnemonic.Mnemonic.TheVariants.{Registers, Immediate, Shift, Upper, Load, Store, Branch, Jal, Jalr, LoadReserved, Atomic, Fence, FenceTso, Ecall, Ebreak, Nop, Unary, Compare, ZeroBranch, SwappedBranch, J, Jr, Ret, La, Li, Call, Tail, Jump, Parcel}
 use Rattle.rv_compress.specs.declared.parcel.ParcelOperation.TheVariants as parcels
@@ -34,11 +35,6 @@ use Rattle.rv_statement.specs.declared.directive.DirectiveWord.{DirectiveWord}
 use Rattle.rv_statement.specs.declared.directive.DirectiveWord.TheVariants as words
 use Rattle.rv_parse_laws.specs.declared.beginning.Beginning.{Beginning}
 use Rattle.rv_parse_laws.specs.declared.beginning.Beginning.TheVariants as beginnings
-
--- the word is in the list
-abbrev pub is_among : List (List ℕ) → List ℕ → Bool
-is_among [] word = false
-is_among (w ∷ ws) word = bytes_eq w word || is_among ws word
 
 -- what the language leaves out by name: a mnemonic, and directives
 unfoldable pub left_out_words : List (List ℕ)
@@ -334,19 +330,3 @@ left_out_options = codes "arch" ∷ codes "pic" ∷ []
 -- the types of a section
 unfoldable pub section_types : List (List ℕ)
 section_types = codes "progbits" ∷ codes "nobits" ∷ codes "note" ∷ []
-
--- the names of a register: by number, by the ABI, and `fp` for x8
-unfoldable pub register_names : ℕ → List (List ℕ)
-register_names r =
-    (codes "x" ++ decimal r) ∷
-    (option_to_list (slice_get abi_names r) ++ (if r == 8 then codes "fp" ∷ [] else []))
-
--- the register below this number that has the name
-abbrev pub register_below : ℕ → List ℕ → Option ℕ
-register_below zero name = None
-register_below (suc n) name =
-    if is_among (register_names n) name then Some n else register_below n name
-
--- the register of a name
-unfoldable pub register : List ℕ → Option ℕ
-register name = register_below 32 name

@@ -154,7 +154,7 @@ pub fn width(kind: TokenKind<'_>) -> usize
 {
     match kind {
         TokenKind::Name(word) | TokenKind::Number(word, _) | TokenKind::BadWord(word) => word.len(),
-        TokenKind::Reference(digits, _) => digits.len() + 1,
+        TokenKind::Reference(reference) => reference.digits().len() + 1,
         TokenKind::Punct(Punct::Minus) => 1,
         _ => 0,
     }
@@ -223,8 +223,7 @@ pub fn label_named(kind: TokenKind<'_>) -> Option<Expr<'_>>
 {
     match kind {
         TokenKind::Name(name) if is_symbol(name) => Some(Expr::Name(name)),
-        TokenKind::Reference(digits, true) => Some(Expr::Forward(digits)),
-        TokenKind::Reference(digits, false) => Some(Expr::Backward(digits)),
+        TokenKind::Reference(reference) => Some(Expr::Reference(reference)),
         _ => None,
     }
 }

@@ -71,8 +71,7 @@ binary_step m old mid low new v w u o e f g is =
 pub symbol_value : (m : Primary → Meaning) (s : Symbol) → primary_value m (symbol_of s) ≡ meant (symbol_of s) (m (symbol_of s))
 symbol_value m (symbols.Name name) = refl
 symbol_value m symbols.Here = refl
-symbol_value m (symbols.Backward digits) = refl
-symbol_value m (symbols.Forward digits) = refl
+symbol_value m (symbols.Reference r) = refl
 
 pub symbol_part : (m : Primary → Meaning) (s : Symbol) (p : Value) (meaning : Meaning) → p ≡ meant (symbol_of s) meaning → meaning ≡ m (symbol_of s) → p ≡ primary_value m (symbol_of s)
 symbol_part m s p meaning e f = e ∙ ap (meant (symbol_of s)) f ∙ sym (symbol_value m s)

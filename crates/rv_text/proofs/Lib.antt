@@ -1,3 +1,4 @@
+pub mod RegistersLemmas
 pub mod ExprsLemmas
 pub mod ReadingStepsLemmas
 pub mod EvalsLemmas

@@ -1,6 +1,7 @@
 -- What the values of the code stand for.
 
 use Rattle.std.specs.Prelude.{◌≡◌, ℕ, List, map, reverse, Result, Ok, Err}
+use Rattle.std.specs.Borrow.{Bor}
 use Rattle.rv_text_laws.specs.Codes.{not_constant, undefined_local}
 use Rattle.rv_text_laws.specs.Expression as expression
 use Rattle.rv_text_laws.specs.Values as values
@@ -8,7 +9,9 @@ use Rattle.rv_lexer.specs.declared.fault.SourceFault.{SourceFault}
 use Rattle.rv_lexer.specs.declared.fault.SourceFault.TheVariants as faults
 use Rattle.rv_text.specs.declared.node.Symbol.{Symbol}
 use Rattle.rv_text.specs.declared.evaluation.Meaning.{Meaning}
-use Rattle.rv_text.specs.declared.evaluation.Meaning.TheVariants as meanings
+use Rattle.rv_text.specs.declared.evaluation.Meaning.TheVariants as name_meanings
+use Rattle.rv_text.specs.declared.evaluation.SymbolMeaning.{SymbolMeaning}
+use Rattle.rv_text.specs.declared.evaluation.SymbolMeaning.TheVariants as meanings
 use Rattle.rv_text.specs.declared.evaluation.Part.{Part}
 use Rattle.rv_text.specs.declared.evaluation.Part.TheVariants as parts
 use Rattle.rv_text.specs.declared.evaluation.Value.{Value}
@@ -16,7 +19,7 @@ use Rattle.rv_text.specs.declared.evaluation.Value.TheVariants as results
 use Rattle.rv_lexer.specs.Fault.{source_fault_number}
 use Rattle.rv_text.specs.Nodes.{symbol_of}
 
-abbrev pub meaning_of : Meaning → values.Meaning
+abbrev pub meaning_of : SymbolMeaning → values.Meaning
 meaning_of (meanings.Constant number) = values.Known number
 meaning_of (meanings.InSection section offset) = values.InSection section offset
 meaning_of meanings.Open = values.Open
@@ -35,10 +38,22 @@ unfoldable pub tops : List Part → List values.Value
 tops items = reverse (map part_value items)
 
 -- the function gives these meanings
-abbrev pub Means : (Symbol → Meaning → Type 0) → (expression.Primary → values.Meaning) → Type 0
+abbrev pub Means : (Symbol → SymbolMeaning → Type 0) → (expression.Primary → values.Meaning) →
+    Type 0
 Means gives m =
-    (symbol : Symbol) (meaning : Meaning) → gives symbol meaning →
+    (symbol : Symbol) (meaning : SymbolMeaning) → gives symbol meaning →
     meaning_of meaning ≡ m (symbol_of symbol)
+
+abbrev pub name_meaning_of : Meaning → values.Meaning
+name_meaning_of (name_meanings.Constant number) = values.Known number
+name_meaning_of (name_meanings.InSection section offset) = values.InSection section offset
+name_meaning_of name_meanings.Open = values.Open
+
+-- the function gives words these meanings
+abbrev pub MeansWords : (Bor (List ℕ) → Meaning → Type 0) → (List ℕ → values.Meaning) → Type 0
+MeansWords gives m =
+    (word : Bor (List ℕ)) (meaning : Meaning) → gives word meaning →
+    name_meaning_of meaning ≡ m word.now
 
 -- what a symbol means where it is part of a value is not told
 abbrev pub value_told : Value → values.Value → Type 0

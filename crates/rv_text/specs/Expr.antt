@@ -29,6 +29,7 @@ use Rattle.rv_lexer.specs.declared.syntax_error.ReadError.{ReadError}
 use Rattle.rv_lexer.specs.declared.syntax_error.ReadError.TheVariants as errors
 use Rattle.rv_lexer.specs.Fault.{source_fault_number}
 use Rattle.rv_lexer.specs.Token.{token_of}
+use Rattle.rv_lexer.specs.Reference.{digits_in, is_ahead}
 use Rattle.rv_lexer.specs.Cursor.{left, syntax_error_of, Answers}
 use Rattle.rv_text.specs.Nodes.{symbol_of, nodes_of, some_nodes}
 
@@ -118,8 +119,8 @@ abbrev pub expr_of : Expr → List expression.Node
 expr_of (exprs.Number number) = lone_primary (expression.Literal number)
 expr_of (exprs.Name name) = lone_primary (expression.Symbol name.now)
 expr_of exprs.Here = lone_primary expression.Here
-expr_of (exprs.Backward digits) = lone_primary (expression.Reference digits.now false)
-expr_of (exprs.Forward digits) = lone_primary (expression.Reference digits.now true)
+expr_of (exprs.Reference r) =
+    lone_primary (expression.Reference (digits_in r.word.now) (is_ahead r.word.now))
 expr_of (exprs.Negative number) =
     expression.Primary_node (expression.Literal number) ∷ expression.Unary_node Negate ∷ []
 expr_of (exprs.NamePair operator number name) =

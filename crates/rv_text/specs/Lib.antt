@@ -1,3 +1,4 @@
+pub mod Registers
 pub mod Nodes
 pub mod Expr
 pub mod Eval

@@ -1,8 +1,10 @@
 -- What the nodes of the code stand for.
 
-use Rattle.std.specs.Prelude.{Bool, true, false, List, [], ◌∷◌, map, Option, Some, None}
+use Rattle.std.specs.Prelude.{ℕ, Bool, true, false, List, [], ◌∷◌, ◌++◌, codes, map, Option, Some, None}
 use Rattle.std.specs.List.{list_all}
+use Rattle.rv_text_laws.specs.Grammar.{direction}
 use Rattle.rv_text_laws.specs.Expression as expression
+use Rattle.rv_lexer.specs.Reference.{digits_in, is_ahead}
 use Rattle.rv_text.specs.declared.node.Symbol.{Symbol}
 use Rattle.rv_text.specs.declared.node.Symbol.TheVariants as symbols
 use Rattle.rv_text.specs.declared.node.Node.{Node}
@@ -12,8 +14,15 @@ use Rattle.rv_text.specs.declared.node.Nodes.{Nodes}
 abbrev pub symbol_of : Symbol → expression.Primary
 symbol_of (symbols.Name name) = expression.Symbol name.now
 symbol_of symbols.Here = expression.Here
-symbol_of (symbols.Backward digits) = expression.Reference digits.now Bool.false
-symbol_of (symbols.Forward digits) = expression.Reference digits.now Bool.true
+symbol_of (symbols.Reference r) =
+    expression.Reference (digits_in r.word.now) (is_ahead r.word.now)
+
+-- how a name, `.` and a reference are written
+abbrev pub spelling_of : expression.Primary → List ℕ
+spelling_of (expression.Literal number) = []
+spelling_of (expression.Symbol name) = name
+spelling_of expression.Here = codes "."
+spelling_of (expression.Reference digits forward) = digits ++ direction forward ∷ []
 
 abbrev pub node_of : Node → expression.Node
 node_of (nodes.Number number) = expression.Primary_node (expression.Literal number)

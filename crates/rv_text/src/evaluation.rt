@@ -5,14 +5,14 @@
 //! are written before they are used. So one operator on two operands is computed without it, as in the distance of two
 //! labels, and most others with a small one.
 
-ghost use Rattle.std.specs.Prelude.{◌≡◌, ◌<◌, ◌≤◌, ◌+◌, ◌++◌, [], ◌∷◌, true, length, min, IfSome};
+ghost use Rattle.std.specs.Prelude.{◌≡◌, ℕ, List, ◌<◌, ◌≤◌, ◌+◌, ◌++◌, [], ◌∷◌, true, length, min, IfSome};
 ghost use Rattle.rv_text_laws.specs.Expression.{Primary, tree_of};
 ghost use Rattle.rv_text_laws.specs.Values as values;
 ghost use Rattle.rv_text_laws.specs.declared.operator.BinaryOperator.TheVariants.{Divide, Remainder};
 ghost use Rattle.rv_lexer.specs.Fault.{source_fault_number};
-ghost use Rattle.rv_text.specs.Nodes.{symbol_of, node_of, nodes_of};
+ghost use Rattle.rv_text.specs.Nodes.{symbol_of, spelling_of, node_of, nodes_of};
 ghost use Rattle.rv_text.specs.Expr.{tree_of_expr};
-ghost use Rattle.rv_text.specs.Eval.{meaning_of, part_value, tops, Means, IsOutcome};
+ghost use Rattle.rv_text.specs.Eval.{meaning_of, name_meaning_of, part_value, tops, Means, MeansWords, IsOutcome};
 
 use crate::expr::Expr;
 use crate::node::{Node, Nodes, Symbol};
@@ -27,9 +27,20 @@ const MOST_VALUES: usize = 200;
 /// The most values that wait for an operator in most expressions: there is less room to be cleared.
 const FEW_VALUES: usize = 8;
 
-/// What a name, `.` or a reference means where it stands.
+/// What a name, `.` or a numeric reference means.
 #[derive(Clone, Copy, Debug, PartialEq, Eq, Drop)]
 pub enum Meaning {
+    /// A number.
+    Constant(u64),
+    /// In a data section, whose statements keep their distances: the section's index, and the offset in bytes.
+    InSection(u32, u64),
+    /// An address that is not known yet.
+    Open,
+}
+
+/// What a symbol means where it stands, or why it means nothing.
+#[derive(Clone, Copy, Debug, PartialEq, Eq, Drop)]
+pub enum SymbolMeaning {
     /// A number.
     Constant(u64),
     /// In a section whose statements keep their distances: the section's index, and the offset in bytes.
@@ -57,7 +68,7 @@ pub enum Value<'a> {
 #[derive(Clone, Copy, Drop)]
 pub(crate) enum Part<'a> {
     Constant(u64),
-    Symbolic(Symbol<'a>, Meaning, u64),
+    Symbolic(Symbol<'a>, SymbolMeaning, u64),
     Difference(Symbol<'a>, Symbol<'a>, u64),
     Faulty(SourceCode),
 }
@@ -163,13 +174,17 @@ fn refused<'a>(operator: BinaryOperator, left: Part<'a>, right: Part<'a>) -> Par
 }
 
 /// The difference of two symbols: in one section a constant.
-fn apart<'a>(left: (Symbol<'a>, Meaning), right: (Symbol<'a>, Meaning), plus: u64) -> Part<'a>
+fn apart<'a>(
+    left: (Symbol<'a>, SymbolMeaning),
+    right: (Symbol<'a>, SymbolMeaning),
+    plus: u64,
+) -> Part<'a>
     ensures { part_value result
         ≡ values.apart (meaning_of left.entry.1) (meaning_of right.entry.1)
         (symbol_of left.entry.0) (symbol_of right.entry.0) plus }
 {
     match (left, right) {
-        ((_, Meaning::InSection(section, a)), (_, Meaning::InSection(other, b)))
+        ((_, SymbolMeaning::InSection(section, a)), (_, SymbolMeaning::InSection(other, b)))
             if section == other => { Part::Constant(plus.wrapping_add(a.wrapping_sub(b))) }
         ((symbol, _), (minus, _)) => Part::Difference(symbol, minus, plus),
     }
@@ -250,14 +265,14 @@ fn alone<'a>(operator: UnaryOperator, part: Part<'a>) -> Part<'a>
 }
 
 /// A symbol with this meaning.
-fn meant<'a>(symbol: Symbol<'a>, meaning: Meaning) -> Part<'a>
+fn meant<'a>(symbol: Symbol<'a>, meaning: SymbolMeaning) -> Part<'a>
     ensures { part_value result ≡ values.meant (symbol_of symbol.entry) (meaning_of meaning) }
 {
     match meaning {
-        Meaning::Constant(number) => Part::Constant(number),
-        Meaning::NotConstant => Part::Faulty(SourceCode::NotConstant),
-        Meaning::UndefinedLocal => Part::Faulty(SourceCode::UndefinedLocal),
-        Meaning::InSection(..) | Meaning::Open => Part::Symbolic(symbol, meaning, 0),
+        SymbolMeaning::Constant(number) => Part::Constant(number),
+        SymbolMeaning::NotConstant => Part::Faulty(SourceCode::NotConstant),
+        SymbolMeaning::UndefinedLocal => Part::Faulty(SourceCode::UndefinedLocal),
+        SymbolMeaning::InSection(..) | SymbolMeaning::Open => Part::Symbolic(symbol, meaning, 0),
     }
 }
 
@@ -283,7 +298,7 @@ fn pop<'a>(stack: &mut ArrayVec<Part<'a>, MOST_VALUES>) -> Part<'a>
 }
 
 /// The values after a node.
-fn step<'a, F: Fn(Symbol<'a>) -> Meaning>(
+fn step<'a, F: Fn(Symbol<'a>) -> SymbolMeaning>(
     stack: &mut ArrayVec<Part<'a>, MOST_VALUES>,
     node: Node<'a>,
     names: &F,
@@ -313,7 +328,7 @@ fn step<'a, F: Fn(Symbol<'a>) -> Meaning>(
 }
 
 /// The value of a symbol that stands alone.
-fn lone<'a, F: Fn(Symbol<'a>) -> Meaning>(symbol: Symbol<'a>, names: &F) -> Part<'a>
+fn lone<'a, F: Fn(Symbol<'a>) -> SymbolMeaning>(symbol: Symbol<'a>, names: &F) -> Part<'a>
     requires { F.IsAlwaysCallable names.now }
     ensures { (m : Primary → values.Meaning) → Means (F.post names.now) m →
         part_value result ≡ values.primary_value m (symbol_of symbol.entry) }
@@ -322,7 +337,7 @@ fn lone<'a, F: Fn(Symbol<'a>) -> Meaning>(symbol: Symbol<'a>, names: &F) -> Part
 }
 
 /// The value of the nodes.
-fn evaluate<'a, F: Fn(Symbol<'a>) -> Meaning>(nodes: &Nodes<'a>, names: &F) -> Part<'a>
+fn evaluate<'a, F: Fn(Symbol<'a>) -> SymbolMeaning>(nodes: &Nodes<'a>, names: &F) -> Part<'a>
     requires callable { F.IsAlwaysCallable names.now }
     requires fits { values.nodes_fit (nodes_of nodes.now) 0 ≡ true }
     ensures { (m : Primary → values.Meaning) → Means (F.post names.now) m →
@@ -355,7 +370,7 @@ fn pop_few<'a>(stack: &mut ArrayVec<Part<'a>, FEW_VALUES>) -> Option<Part<'a>>
 }
 
 /// The few values after a node, where there is room for them.
-fn step_few<'a, F: Fn(Symbol<'a>) -> Meaning>(
+fn step_few<'a, F: Fn(Symbol<'a>) -> SymbolMeaning>(
     stack: &mut ArrayVec<Part<'a>, FEW_VALUES>,
     node: Node<'a>,
     names: &F,
@@ -381,7 +396,10 @@ fn step_few<'a, F: Fn(Symbol<'a>) -> Meaning>(
 }
 
 /// The value of the nodes, where few values wait for an operator, as in most expressions.
-fn value_of_few<'a, F: Fn(Symbol<'a>) -> Meaning>(nodes: &Nodes<'a>, names: &F) -> Option<Part<'a>>
+fn value_of_few<'a, F: Fn(Symbol<'a>) -> SymbolMeaning>(
+    nodes: &Nodes<'a>,
+    names: &F,
+) -> Option<Part<'a>>
     requires callable { F.IsAlwaysCallable names.now }
     requires fits { values.nodes_fit (nodes_of nodes.now) 0 ≡ true }
     ensures { IfSome result
@@ -397,7 +415,7 @@ fn value_of_few<'a, F: Fn(Symbol<'a>) -> Meaning>(nodes: &Nodes<'a>, names: &F) 
 }
 
 /// The value of a symbol and a number under their operator.
-fn pair_value<'a, F: Fn(Symbol<'a>) -> Meaning>(pair: &Pair<'a>, names: &F) -> Part<'a>
+fn pair_value<'a, F: Fn(Symbol<'a>) -> SymbolMeaning>(pair: &Pair<'a>, names: &F) -> Part<'a>
     requires { F.IsAlwaysCallable names.now }
     ensures { (m : Primary → values.Meaning) → Means (F.post names.now) m →
         part_value result
@@ -412,7 +430,10 @@ fn pair_value<'a, F: Fn(Symbol<'a>) -> Meaning>(pair: &Pair<'a>, names: &F) -> P
 }
 
 /// The value of two symbols under their operator.
-fn symbols_value<'a, F: Fn(Symbol<'a>) -> Meaning>(pair: &SymbolPair<'a>, names: &F) -> Part<'a>
+fn symbols_value<'a, F: Fn(Symbol<'a>) -> SymbolMeaning>(
+    pair: &SymbolPair<'a>,
+    names: &F,
+) -> Part<'a>
     requires { F.IsAlwaysCallable names.now }
     ensures { (m : Primary → values.Meaning) → Means (F.post names.now) m →
         part_value result
@@ -427,7 +448,7 @@ fn symbols_value<'a, F: Fn(Symbol<'a>) -> Meaning>(pair: &SymbolPair<'a>, names:
 }
 
 /// The value of the nodes of an expression with operators.
-fn compound_value<'a, F: Fn(Symbol<'a>) -> Meaning>(nodes: &Nodes<'a>, names: &F) -> Part<'a>
+fn compound_value<'a, F: Fn(Symbol<'a>) -> SymbolMeaning>(nodes: &Nodes<'a>, names: &F) -> Part<'a>
     requires callable { F.IsAlwaysCallable names.now }
     requires fits { values.nodes_fit (nodes_of nodes.now) 0 ≡ true }
     ensures { (m : Primary → values.Meaning) → Means (F.post names.now) m →
@@ -439,8 +460,8 @@ fn compound_value<'a, F: Fn(Symbol<'a>) -> Meaning>(nodes: &Nodes<'a>, names: &F
     }
 }
 
-/// The value of an expression, by what its names mean; a fault has this line, and of several the lowest number counts.
-pub fn eval<'a, F: Fn(Symbol<'a>) -> Meaning>(
+/// The value of an expression, by what its symbols mean; a fault has this line, and of several the lowest number counts.
+pub fn symbolic_value<'a, F: Fn(Symbol<'a>) -> SymbolMeaning>(
     expr: &Expr<'a>,
     line: u32,
     names: &F,
@@ -453,8 +474,7 @@ pub fn eval<'a, F: Fn(Symbol<'a>) -> Meaning>(
         Expr::Number(number) => Ok(Value::Constant(*number)),
         Expr::Name(name) => outcome(lone(Symbol::Name(name), names), line),
         Expr::Here => outcome(lone(Symbol::Here, names), line),
-        Expr::Backward(digits) => outcome(lone(Symbol::Backward(digits), names), line),
-        Expr::Forward(digits) => outcome(lone(Symbol::Forward(digits), names), line),
+        Expr::Reference(reference) => outcome(lone(Symbol::Reference(*reference), names), line),
         Expr::Negative(number) => Ok(Value::Constant(0u64.wrapping_sub(*number))),
         Expr::NamePair(operator, number, name) => {
             let pair = Pair {
@@ -468,4 +488,30 @@ pub fn eval<'a, F: Fn(Symbol<'a>) -> Meaning>(
         Expr::SymbolPair(pair) => outcome(symbols_value(pair, names), line),
         Expr::Compound(compound) => outcome(compound_value(&compound.nodes, names), line),
     }
+}
+
+/// The meaning of a symbol that has one.
+fn settled(meaning: Meaning) -> SymbolMeaning
+    ensures { meaning_of result ≡ name_meaning_of meaning }
+{
+    match meaning {
+        Meaning::Constant(number) => SymbolMeaning::Constant(number),
+        Meaning::InSection(section, offset) => SymbolMeaning::InSection(section, offset),
+        Meaning::Open => SymbolMeaning::Open,
+    }
+}
+
+/// The value of an expression, by what its names, `.` and its numeric references mean, each as it is written: `1b` with
+/// its letter. A fault has this line, and of several the lowest number counts.
+pub fn eval<'a, F: Fn(&[u8]) -> Meaning>(
+    expr: &Expr<'a>,
+    line: u32,
+    names: &F,
+) -> Result<Value<'a>, SourceFault>
+    requires { F.IsAlwaysCallable names.now }
+    ensures { (m : List ℕ → values.Meaning) → MeansWords (F.post names.now) m →
+        IsOutcome result line
+        (values.value_of (λ p. m (spelling_of p)) (tree_of_expr expr.now)) }
+{
+    symbolic_value(expr, line, &|symbol| { settled(names(symbol.spelling())) })
 }

@@ -13,6 +13,7 @@ ghost use Rattle.rv_text.specs.Expr.{expr_of, pair_nodes, two_nodes};
 use crate::compound::Compound;
 use crate::node::{Node, Nodes, Symbol};
 use crate::pair::{Pair, SymbolPair};
+use rv_lexer::NumericReference;
 use rv_text_laws::BinaryOperator;
 use std::alloc::{AllocError, Global};
 
@@ -26,10 +27,8 @@ pub enum Expr<'a> {
     Name(&'a [u8]),
     /// `.`, the address of the statement.
     Here,
-    /// `1b`, by its digits.
-    Backward(&'a [u8]),
-    /// `1f`, by its digits.
-    Forward(&'a [u8]),
+    /// `1b` or `1f`.
+    Reference(NumericReference<'a>),
     /// `-` and a number.
     Negative(u64),
     /// A name, an operator and a number below 2^32.
@@ -52,8 +51,7 @@ impl<'a> Expr<'a> {
         match symbol {
             Symbol::Name(name) => Expr::Name(name),
             Symbol::Here => Expr::Here,
-            Symbol::Backward(digits) => Expr::Backward(digits),
-            Symbol::Forward(digits) => Expr::Forward(digits),
+            Symbol::Reference(reference) => Expr::Reference(reference),
         }
     }
 
@@ -63,7 +61,7 @@ impl<'a> Expr<'a> {
     {
         match self {
             Expr::Number(_) | Expr::Negative(_) => true,
-            Expr::Name(_) | Expr::Here | Expr::Backward(_) | Expr::Forward(_) => false,
+            Expr::Name(_) | Expr::Here | Expr::Reference(_) => false,
             Expr::NamePair(..) | Expr::Pair(_) | Expr::SymbolPair(_) => false,
             Expr::Compound(compound) => compound.nodes.are_numbers(),
         }

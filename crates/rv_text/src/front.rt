@@ -9,13 +9,14 @@ ghost use Rattle.rv_text_laws.specs.declared.operator.UnaryOperator.TheVariants.
 ghost use Rattle.rv_text_laws.specs.declared.operator.Frame.TheVariants.{Prefix, Infix};
 ghost use Rattle.rv_lexer.specs.Cursor.{left};
 ghost use Rattle.rv_lexer.specs.Token.{kind_of};
+ghost use Rattle.rv_text.specs.Registers.{is_register};
 ghost use Rattle.rv_text.specs.Nodes.{symbol_of, node_of, nodes_of};
 ghost use Rattle.rv_text.specs.Expr.{stack_of, ends_operand, after_operand, after_negative, after_pair, after_two, Reached, ReadOn, IsAtNext};
 
 use crate::expr::Expr;
 use crate::node::{Node, Nodes, Symbol};
 use crate::pair::{Pair, SymbolPair};
-use crate::reading::{Begin, Follow, Registers, Stage, begins, follows, read_on};
+use crate::reading::{Begin, Follow, Stage, begins, follows, read_on};
 use rv_lexer::{Cursor, ReadError, TokenKind};
 use rv_text_laws::{BinaryOperator, Frame, UnaryOperator};
 use std::alloc::{AllocError, Global};
@@ -51,13 +52,13 @@ fn ends(kind: TokenKind<'_>) -> bool
 /// The expression that begins with a number.
 #[inline(always)]
 #[tactic(auto, using(crate::proofs::ExprsLemmas::stack_none))]
-pub(crate) fn after_number<'a, R: Registers>(
+pub(crate) fn after_number<'a>(
     alloc: Global,
     cursor: &mut Cursor<'a>,
     number: u64,
 ) -> Result<Expr<'a>, ReadError>
-    requires { Reached R.registers (after_operand (Literal number)) (left cursor.old) }
-    ensures reads { ReadOn R.registers
+    requires { Reached is_register (after_operand (Literal number)) (left cursor.old) }
+    ensures reads { ReadOn is_register
         (after_operand (Literal number)) cursor.old cursor.new result }
     ensures next { IfErr result (λ e. IsAtNext e cursor.new) }
 {
@@ -65,18 +66,18 @@ pub(crate) fn after_number<'a, R: Registers>(
         return Ok(Expr::Number(number));
     }
     let nodes = one(alloc, Node::Number(number));
-    read_on::<R>(alloc, cursor, Vec::new(alloc), Stage::Has(nodes))
+    read_on(alloc, cursor, Vec::new(alloc), Stage::Has(nodes))
 }
 
 /// The expression that begins with `-` and a number.
 #[inline(always)]
-fn after_negative<'a, R: Registers>(
+fn after_negative<'a>(
     alloc: Global,
     cursor: &mut Cursor<'a>,
     number: u64,
 ) -> Result<Expr<'a>, ReadError>
-    requires { Reached R.registers (after_negative number) (left cursor.old) }
-    ensures reads { ReadOn R.registers (after_negative number) cursor.old cursor.new result }
+    requires { Reached is_register (after_negative number) (left cursor.old) }
+    ensures reads { ReadOn is_register (after_negative number) cursor.old cursor.new result }
     ensures next { IfErr result (λ e. IsAtNext e cursor.new) }
 {
     if ends(cursor.next.kind) {
@@ -84,36 +85,33 @@ fn after_negative<'a, R: Registers>(
     }
     let frames = waiting(alloc, Frame::Prefix(UnaryOperator::Negate))?;
     let nodes = one(alloc, Node::Number(number));
-    read_on::<R>(alloc, cursor, frames, Stage::Has(nodes))
+    read_on(alloc, cursor, frames, Stage::Has(nodes))
 }
 
 /// The expression that begins with `-`.
-pub(crate) fn after_minus<'a, R: Registers>(
-    alloc: Global,
-    cursor: &mut Cursor<'a>,
-) -> Result<Expr<'a>, ReadError>
-    requires { Reached R.registers (Wants (Prefix Negate ∷ []) []) (left cursor.old) }
-    ensures reads { ReadOn R.registers
+pub(crate) fn after_minus<'a>(alloc: Global, cursor: &mut Cursor<'a>) -> Result<Expr<'a>, ReadError>
+    requires { Reached is_register (Wants (Prefix Negate ∷ []) []) (left cursor.old) }
+    ensures reads { ReadOn is_register
         (Wants (Prefix Negate ∷ []) []) cursor.old cursor.new result }
     ensures next { IfErr result (λ e. IsAtNext e cursor.new) }
 {
     if let TokenKind::Number(_, number) = cursor.next.kind {
         cursor.advance();
-        return after_negative::<R>(alloc, cursor, number);
+        return after_negative(alloc, cursor, number);
     }
     let frames = waiting(alloc, Frame::Prefix(UnaryOperator::Negate))?;
-    read_on::<R>(alloc, cursor, frames, Stage::Wants(None))
+    read_on(alloc, cursor, frames, Stage::Wants(None))
 }
 
 /// The expression that begins with a symbol, an operator and a number.
 #[inline(always)]
-fn after_pair<'a, R: Registers>(
+fn after_pair<'a>(
     alloc: Global,
     cursor: &mut Cursor<'a>,
     pair: Pair<'a>,
 ) -> Result<Expr<'a>, ReadError>
-    requires { Reached R.registers (after_pair pair) (left cursor.old) }
-    ensures reads { ReadOn R.registers (after_pair pair.entry) cursor.old cursor.new result }
+    requires { Reached is_register (after_pair pair) (left cursor.old) }
+    ensures reads { ReadOn is_register (after_pair pair.entry) cursor.old cursor.new result }
     ensures next { IfErr result (λ e. IsAtNext e cursor.new) }
 {
     if ends(cursor.next.kind) {
@@ -122,17 +120,17 @@ fn after_pair<'a, R: Registers>(
     let frames = waiting(alloc, Frame::Infix(pair.operator))?;
     let mut nodes = one(alloc, Node::Symbol(pair.symbol));
     nodes.push(Node::Number(pair.number))?;
-    read_on::<R>(alloc, cursor, frames, Stage::Has(nodes))
+    read_on(alloc, cursor, frames, Stage::Has(nodes))
 }
 
 /// The expression that begins with a symbol, an operator and another symbol.
-fn after_two<'a, R: Registers>(
+fn after_two<'a>(
     alloc: Global,
     cursor: &mut Cursor<'a>,
     pair: SymbolPair<'a>,
 ) -> Result<Expr<'a>, ReadError>
-    requires { Reached R.registers (after_two pair) (left cursor.old) }
-    ensures reads { ReadOn R.registers (after_two pair.entry) cursor.old cursor.new result }
+    requires { Reached is_register (after_two pair) (left cursor.old) }
+    ensures reads { ReadOn is_register (after_two pair.entry) cursor.old cursor.new result }
     ensures next { IfErr result (λ e. IsAtNext e cursor.new) }
 {
     if ends(cursor.next.kind) {
@@ -141,24 +139,24 @@ fn after_two<'a, R: Registers>(
     let frames = waiting(alloc, Frame::Infix(pair.operator))?;
     let mut nodes = one(alloc, Node::Symbol(pair.left));
     nodes.push(Node::Symbol(pair.right))?;
-    read_on::<R>(alloc, cursor, frames, Stage::Has(nodes))
+    read_on(alloc, cursor, frames, Stage::Has(nodes))
 }
 
 /// The expression that begins with a symbol and an operator.
-fn after_operator<'a, R: Registers>(
+fn after_operator<'a>(
     alloc: Global,
     cursor: &mut Cursor<'a>,
     symbol: Symbol<'a>,
     operator: BinaryOperator,
 ) -> Result<Expr<'a>, ReadError>
-    requires { Reached R.registers
+    requires { Reached is_register
         (Wants (Infix operator ∷ []) (Primary_node (symbol_of symbol) ∷ [])) (left cursor.old) }
-    ensures reads { ReadOn R.registers
+    ensures reads { ReadOn is_register
         (Wants (Infix operator ∷ [])
         (Primary_node (symbol_of symbol.entry) ∷ [])) cursor.old cursor.new result }
     ensures next { IfErr result (λ e. IsAtNext e cursor.new) }
 {
-    match begins::<R>(cursor.next.kind) {
+    match begins(cursor.next.kind) {
         Begin::Number(number) => {
             cursor.advance();
             let pair = Pair {
@@ -166,7 +164,7 @@ fn after_operator<'a, R: Registers>(
                 operator,
                 number,
             };
-            after_pair::<R>(alloc, cursor, pair)
+            after_pair(alloc, cursor, pair)
         }
         Begin::Symbol(other) => {
             cursor.advance();
@@ -175,12 +173,12 @@ fn after_operator<'a, R: Registers>(
                 operator,
                 right: other,
             };
-            after_two::<R>(alloc, cursor, pair)
+            after_two(alloc, cursor, pair)
         }
         _ => {
             let frames = waiting(alloc, Frame::Infix(operator))?;
             let nodes = one(alloc, Node::Symbol(symbol));
-            read_on::<R>(alloc, cursor, frames, Stage::Wants(Some(nodes)))
+            read_on(alloc, cursor, frames, Stage::Wants(Some(nodes)))
         }
     }
 }
@@ -188,13 +186,13 @@ fn after_operator<'a, R: Registers>(
 /// The expression that begins with a symbol.
 #[inline(always)]
 #[tactic(auto, using(crate::proofs::ExprsLemmas::stack_none))]
-pub(crate) fn after_symbol<'a, R: Registers>(
+pub(crate) fn after_symbol<'a>(
     alloc: Global,
     cursor: &mut Cursor<'a>,
     symbol: Symbol<'a>,
 ) -> Result<Expr<'a>, ReadError>
-    requires { Reached R.registers (after_operand (symbol_of symbol)) (left cursor.old) }
-    ensures reads { ReadOn R.registers
+    requires { Reached is_register (after_operand (symbol_of symbol)) (left cursor.old) }
+    ensures reads { ReadOn is_register
         (after_operand (symbol_of symbol.entry)) cursor.old cursor.new result }
     ensures next { IfErr result (λ e. IsAtNext e cursor.new) }
 {
@@ -204,11 +202,11 @@ pub(crate) fn after_symbol<'a, R: Registers>(
     match follows(cursor.next.kind) {
         Follow::Operator(operator) => {
             cursor.advance();
-            after_operator::<R>(alloc, cursor, symbol, operator)
+            after_operator(alloc, cursor, symbol, operator)
         }
         _ => {
             let nodes = one(alloc, Node::Symbol(symbol));
-            read_on::<R>(alloc, cursor, Vec::new(alloc), Stage::Has(nodes))
+            read_on(alloc, cursor, Vec::new(alloc), Stage::Has(nodes))
         }
     }
 }

@@ -4,6 +4,7 @@ ghost use Rattle.std.specs.Prelude.{◌≡◌, [], ◌∷◌, ◌++◌, map, not
 ghost use Rattle.rv_text_laws.specs.ExpressionAt as reading;
 ghost use Rattle.rv_text.specs.Nodes.{node_of, nodes_of, is_number_node, are_numbers};
 
+use rv_lexer::NumericReference;
 use rv_text_laws::{BinaryOperator, Frame, UnaryOperator};
 use std::alloc::AllocError;
 
@@ -14,10 +15,23 @@ pub enum Symbol<'a> {
     Name(&'a [u8]),
     /// `.`, the address of the statement.
     Here,
-    /// `1b`, by its digits.
-    Backward(&'a [u8]),
-    /// `1f`, by its digits.
-    Forward(&'a [u8]),
+    /// `1b` or `1f`.
+    Reference(NumericReference<'a>),
+}
+
+impl<'a> Symbol<'a> {
+    ghost use Rattle.rv_text.specs.Nodes.{symbol_of, spelling_of};
+
+    /// The symbol as it is written: a name, `.`, or the digits and the letter of a reference.
+    pub fn spelling(self) -> &'a [u8]
+        ensures { result.now ≡ spelling_of (symbol_of self.entry) }
+    {
+        match self {
+            Symbol::Name(name) => name,
+            Symbol::Here => b".",
+            Symbol::Reference(reference) => reference.word(),
+        }
+    }
 }
 
 /// A part of an expression in postfix form.

@@ -15,28 +15,20 @@ ghost use Rattle.rv_lexer.specs.Fault.{source_fault_number};
 ghost use Rattle.rv_lexer.specs.Token.{kind_of};
 ghost use Rattle.rv_lexer.specs.Left.{tokens_left};
 ghost use Rattle.rv_lexer.specs.Cursor.{left, Answers};
+ghost use Rattle.rv_text.specs.Registers.{is_register};
 ghost use Rattle.rv_text.specs.Nodes.{node_of, nodes_of, some_nodes};
 ghost use Rattle.rv_text.specs.Expr.{begin_of, follow_of, stack_of, stage_of, Steps, Reached, ReadOn, IsAtNext, expr_of, NamesFault, NoReading};
 
 use crate::expr::Expr;
 use crate::front::{after_minus, after_number, after_symbol};
 use crate::node::{Node, Nodes, Symbol};
+use rv_isa::reg_named;
 use rv_lexer::{Cursor, LONGEST_NAME, Lexer, ReadError, SourceCode, SourceFault, TokenKind};
 use rv_text_laws::{BinaryOperator, Frame, Punct, UnaryOperator};
 use std::alloc::{AllocError, AllocFailed, Global};
 
 /// The most parentheses and operators of one operand in one another.
 const DEEPEST: usize = 64;
-
-/// Which names spell registers.
-pub trait Registers {
-    /// The registers' names.
-    ghost registers: { List ℕ → Bool };
-
-    /// Whether the name spells a register.
-    fn is_register(name: &[u8]) -> bool
-        ensures { result ≡ registers name.now };
-}
 
 /// What is read so far, after what waits for an operand.
 #[derive(Drop)]
@@ -102,11 +94,18 @@ pub(crate) enum Follow {
     Nothing,
 }
 
-/// What a name is where an operand is wanted.
-fn named_operand<R: Registers>(name: &[u8]) -> Begin<'_>
-    ensures { begin_of result ≡ named_operand R.registers name.now }
+/// Whether the name spells a register.
+fn is_register(name: &[u8]) -> bool
+    ensures { result ≡ is_register name.now }
 {
-    if R::is_register(name) {
+    reg_named(name).is_some()
+}
+
+/// What a name is where an operand is wanted.
+fn named_operand(name: &[u8]) -> Begin<'_>
+    ensures { begin_of result ≡ named_operand is_register name.now }
+{
+    if is_register(name) {
         Begin::NoOperand(SourceCode::BadOperands)
     } else if name == b".".as_slice() {
         Begin::Symbol(Symbol::Here)
@@ -133,15 +132,14 @@ fn punct_begins<'a>(punct: Punct) -> Begin<'a>
 
 /// What a token is where an operand is wanted.
 #[inline(always)]
-pub(crate) fn begins<R: Registers>(kind: TokenKind<'_>) -> Begin<'_>
-    ensures { begin_of result ≡ begins R.registers (kind_of kind.entry) }
+pub(crate) fn begins(kind: TokenKind<'_>) -> Begin<'_>
+    ensures { begin_of result ≡ begins is_register (kind_of kind.entry) }
 {
     match kind {
         TokenKind::Number(_, number) => Begin::Number(number),
         TokenKind::Character(byte) => Begin::Number(u64::from(byte)),
-        TokenKind::Name(name) => named_operand::<R>(name),
-        TokenKind::Reference(digits, true) => Begin::Symbol(Symbol::Forward(digits)),
-        TokenKind::Reference(digits, false) => Begin::Symbol(Symbol::Backward(digits)),
+        TokenKind::Name(name) => named_operand(name),
+        TokenKind::Reference(reference) => Begin::Symbol(Symbol::Reference(reference)),
         TokenKind::Punct(punct) => punct_begins(punct),
         TokenKind::Text(_) => Begin::NoOperand(SourceCode::UnsupportedHere),
         TokenKind::BadByte => Begin::NoOperand(SourceCode::BadByte),
@@ -290,7 +288,7 @@ fn operand<'a>(
 }
 
 /// A token where an operand is wanted.
-fn wants<'a, R: Registers>(
+fn wants<'a>(
     alloc: Global,
     frames: &mut Vec<Frame>,
     nodes: Option<Nodes<'a>>,
@@ -298,9 +296,9 @@ fn wants<'a, R: Registers>(
 ) -> Result<Step<'a>, Stop>
     ensures { Steps frames.new.items result
         (reading.step_wants (stack_of frames.old.items) (some_nodes nodes.entry)
-        (begins R.registers (kind_of kind.entry))) }
+        (begins is_register (kind_of kind.entry))) }
 {
-    match begins::<R>(kind) {
+    match begins(kind) {
         Begin::Number(number) => {
             let nodes = operand(alloc, nodes, Node::Number(number))?;
             Ok(Step::Goes(Stage::Has(nodes)))
@@ -379,38 +377,38 @@ fn has<'a>(frames: &mut Vec<Frame>, nodes: Nodes<'a>, kind: TokenKind<'a>) -> Re
 }
 
 /// What the next token makes of a stage.
-fn taken<'a, R: Registers>(
+fn taken<'a>(
     alloc: Global,
     frames: &mut Vec<Frame>,
     stage: Stage<'a>,
     kind: TokenKind<'a>,
 ) -> Result<Step<'a>, Stop>
     ensures { Steps frames.new.items result
-        (reading.step R.registers (stage_of frames.old.items stage.entry) (kind_of kind.entry)) }
+        (reading.step is_register (stage_of frames.old.items stage.entry) (kind_of kind.entry)) }
 {
     match stage {
-        Stage::Wants(nodes) => wants::<R>(alloc, frames, nodes, kind),
+        Stage::Wants(nodes) => wants(alloc, frames, nodes, kind),
         Stage::Has(nodes) => has(frames, nodes, kind),
     }
 }
 
 /// Reads on from a stage: what is read of the expression at the front of a cursor's tokens.
 #[inline(never)]
-pub(crate) fn read_on<'a, R: Registers>(
+pub(crate) fn read_on<'a>(
     alloc: Global,
     cursor: &mut Cursor<'a>,
     frames: Vec<Frame>,
     stage: Stage<'a>,
 ) -> Result<Expr<'a>, ReadError>
-    requires { Reached R.registers (stage_of frames.items stage) (left cursor.old) }
-    ensures reads { ReadOn R.registers
+    requires { Reached is_register (stage_of frames.items stage) (left cursor.old) }
+    ensures reads { ReadOn is_register
         (stage_of frames.items stage.entry) cursor.old cursor.new result }
     ensures next { IfErr result (λ e. IsAtNext e cursor.new) }
 {
     let mut frames = frames;
     let mut stage = stage;
     'tokens: loop {
-        match taken::<R>(alloc, &mut frames, stage, cursor.next.kind) {
+        match taken(alloc, &mut frames, stage, cursor.next.kind) {
             Ok(Step::Goes(next)) => {
                 stage = next;
                 cursor.advance();
@@ -425,52 +423,47 @@ pub(crate) fn read_on<'a, R: Registers>(
 /// The expression at the front of a cursor's tokens. An error names the first token that is wrong, and leaves the cursor
 /// before that token; where memory runs out, the cursor has passed some of the expression's tokens.
 #[tactic(auto, using(crate::proofs::ExprsLemmas::stack_none), unfolding(rv_text_laws::specs::ExpressionAt::expression_at))]
-pub fn expression<'a, R: Registers>(
-    alloc: Global,
-    cursor: &mut Cursor<'a>,
-) -> Result<Expr<'a>, ReadError>
+pub fn expression<'a>(alloc: Global, cursor: &mut Cursor<'a>) -> Result<Expr<'a>, ReadError>
     ensures reads { Answers (λ e. (expr_of e, left cursor.new)) result
-        (reading.expression_at R.registers (left cursor.old)) }
+        (reading.expression_at is_register (left cursor.old)) }
     ensures next { IfErr result (λ e. IsAtNext e cursor.new) }
 {
-    match begins::<R>(cursor.next.kind) {
+    match begins(cursor.next.kind) {
         Begin::Number(number) => {
             cursor.advance();
-            after_number::<R>(alloc, cursor, number)
+            after_number(alloc, cursor, number)
         }
         Begin::Symbol(symbol) => {
             cursor.advance();
-            after_symbol::<R>(alloc, cursor, symbol)
+            after_symbol(alloc, cursor, symbol)
         }
         Begin::Prefix(UnaryOperator::Negate) => {
             cursor.advance();
-            after_minus::<R>(alloc, cursor)
+            after_minus(alloc, cursor)
         }
-        _ => read_on::<R>(alloc, cursor, Vec::new(alloc), Stage::Wants(None)),
+        _ => read_on(alloc, cursor, Vec::new(alloc), Stage::Wants(None)),
     }
 }
 
 /// The expression at the front of a lexer's tokens, which then has the tokens after it. A fault has the line of the
-/// first token that is wrong, and leaves the lexer as it was.
-pub fn parse_expr<'a, R: Registers>(
-    alloc: Global,
-    lexer: &mut Lexer<'a>,
-) -> Result<Expr<'a>, SourceFault>
+/// first token with which no expression goes on, and leaves the lexer as it was: of a parenthesis that is not closed,
+/// the line of the token that stands where its other is wanted.
+pub fn parse_expr<'a>(alloc: Global, lexer: &mut Lexer<'a>) -> Result<Expr<'a>, SourceFault>
     ensures reads { IfOk result
         (λ e. (tree : Tree)
-        × ReadsTree R.registers (tokens_left lexer.old) tree (tokens_left lexer.new)
+        × ReadsTree is_register (tokens_left lexer.old) tree (tokens_left lexer.new)
         × (expr_of e ≡ postfix tree)) }
     ensures only { IfOk result
         (λ e. (tree : Tree) (rest : List Token) →
-        ReadsTree R.registers (tokens_left lexer.old) tree rest → (expr_of e ≡ postfix tree)
+        ReadsTree is_register (tokens_left lexer.old) tree rest → (expr_of e ≡ postfix tree)
         × (tokens_left lexer.new ≡ rest)) }
     ensures refuses { IfErr result
-        (λ e. NamesFault e (reading.expression_at R.registers (tokens_left lexer.old))) }
-    ensures unread { IfErr result (λ e. NoReading e R.registers (tokens_left lexer.old)) }
+        (λ e. NamesFault e (reading.expression_at is_register (tokens_left lexer.old))) }
+    ensures unread { IfErr result (λ e. NoReading e is_register (tokens_left lexer.old)) }
     ensures stays { IfErr result (λ _. tokens_left lexer.new ≡ tokens_left lexer.old) }
 {
     let mut cursor = Cursor::new(*lexer);
-    match expression::<R>(alloc, &mut cursor) {
+    match expression(alloc, &mut cursor) {
         Ok(expr) => {
             *lexer = cursor.lexer();
             Ok(expr)

@@ -1,6 +1,6 @@
 use rv_text::{
-    Cursor, Lexer, Meaning, Punct, Registers, SourceFault, Symbol, TokenKind, Value, append_string,
-    eval, parse_expr,
+    Cursor, Lexer, Meaning, NumericReference, Punct, SourceFault, Symbol, SymbolMeaning, Token,
+    TokenKind, Value, append_string, eval, parse_expr, symbolic_value,
 };
 use std::alloc::Global;
 use std::process::Abort;
@@ -212,39 +212,25 @@ const CHAINS: &str = "
 +7%~0x1f-2, 5
 ";
 
-/// `a0` is the only register.
-struct OneRegister;
-
-impl Registers for OneRegister {
-    ghost use Rattle.std.specs.Prelude.{codes};
-    ghost use Rattle.std.specs.Str.{bytes_eq};
-
-    ghost registers = { λ name. bytes_eq name (codes "a0") };
-
-    fn is_register(name: &[u8]) -> bool {
-        name == b"a0".as_slice()
-    }
-}
-
 /// What the names of the tests mean: `p` and `q` stand in one section, `r` in another.
-fn meaning(symbol: Symbol<'_>) -> Meaning {
-    match symbol {
-        Symbol::Name(b"four") => Meaning::Constant(4),
-        Symbol::Name(b"p") => Meaning::InSection(1, 16),
-        Symbol::Name(b"q") => Meaning::InSection(1, 4),
-        Symbol::Name(b"r") => Meaning::InSection(2, 8),
-        Symbol::Name(b"late") => Meaning::NotConstant,
-        Symbol::Backward(b"9") => Meaning::UndefinedLocal,
-        _ => Meaning::Open,
+fn meaning(symbol: Symbol<'_>) -> SymbolMeaning {
+    match symbol.spelling() {
+        b"four" => SymbolMeaning::Constant(4),
+        b"p" => SymbolMeaning::InSection(1, 16),
+        b"q" => SymbolMeaning::InSection(1, 4),
+        b"r" => SymbolMeaning::InSection(2, 8),
+        b"late" => SymbolMeaning::NotConstant,
+        b"9b" => SymbolMeaning::UndefinedLocal,
+        _ => SymbolMeaning::Open,
     }
 }
 
 /// The expression at the front, where it is a constant.
 fn constant(alloc: Global, lexer: &mut Lexer<'_>) -> Option<u64> {
-    let Ok(expr) = parse_expr::<OneRegister>(alloc, lexer) else {
+    let Ok(expr) = parse_expr(alloc, lexer) else {
         return None;
     };
-    match eval(&expr, 1, &|symbol| meaning(symbol)) {
+    match symbolic_value(&expr, 1, &|symbol| meaning(symbol)) {
         Ok(Value::Constant(number)) => Some(number),
         _ => None,
     }
@@ -252,16 +238,15 @@ fn constant(alloc: Global, lexer: &mut Lexer<'_>) -> Option<u64> {
 
 /// Each row has an expression, a comma and its value.
 fn compare(rt: &impl Abort, alloc: Global, table: &[u8]) {
-    assert!(rt; table.len() < 65536);
     let mut lexer = Lexer::new(table);
     for _ in 0..200 {
-        assert!(rt; lexer.next().kind == TokenKind::Newline);
+        assert!(rt; lexer.token().kind == TokenKind::Newline);
         let mut ahead = lexer;
-        if ahead.next().kind == TokenKind::End {
+        if ahead.token().kind == TokenKind::End {
             return;
         }
         let found = constant(alloc, &mut lexer);
-        assert!(rt; lexer.next().kind == TokenKind::Punct(Punct::Comma));
+        assert!(rt; lexer.token().kind == TokenKind::Punct(Punct::Comma));
         let wanted = constant(alloc, &mut lexer);
         assert!(rt; found.is_some() && found == wanted);
     }
@@ -277,12 +262,9 @@ fn values_of_gnu_as(rt: HostRuntime) {
 
 /// The code and the line of the text's fault; 0 and 0 where it has a value or memory ran out.
 fn fault_of(alloc: Global, text: &[u8]) -> (u8, u32) {
-    if text.len() > 65536 {
-        return (0, 0);
-    }
     let mut lexer = Lexer::new(text);
-    let result = match parse_expr::<OneRegister>(alloc, &mut lexer) {
-        Ok(expr) => match eval(&expr, 5, &|symbol| meaning(symbol)) {
+    let result = match parse_expr(alloc, &mut lexer) {
+        Ok(expr) => match symbolic_value(&expr, 5, &|symbol| meaning(symbol)) {
             Ok(_) => return (0, 0),
             Err(fault) => fault,
         },
@@ -338,7 +320,6 @@ fn the_limits_of_nesting_and_names(rt: HostRuntime) -> Result<(), Fail> {
     for _ in 0..32 {
         text.push(b')')?;
     }
-    assert!(&rt; text.len() < 65536);
     let mut lexer = Lexer::new(text.as_slice());
     assert!(&rt; constant(alloc, &mut lexer) == Some(1));
     text.insert(0, b'~')?;
@@ -383,12 +364,9 @@ fn expressions_without_a_value(rt: HostRuntime) {
 
 /// Whether the text has this value.
 fn has(alloc: Global, text: &[u8], wanted: Value<'_>) -> bool {
-    if text.len() > 65536 {
-        return false;
-    }
     let mut lexer = Lexer::new(text);
-    match parse_expr::<OneRegister>(alloc, &mut lexer) {
-        Ok(expr) => match eval(&expr, 1, &|symbol| meaning(symbol)) {
+    match parse_expr(alloc, &mut lexer) {
+        Ok(expr) => match symbolic_value(&expr, 1, &|symbol| meaning(symbol)) {
             Ok(value) => value == wanted,
             Err(_) => false,
         },
@@ -405,7 +383,6 @@ fn values_with_symbols(rt: HostRuntime) {
     assert!(&rt; has(alloc, b"x - y + 4 * four", Value::Difference(x, y, 16)));
     assert!(&rt; has(alloc, b"x - x", Value::Difference(x, x, 0)));
     assert!(&rt; has(alloc, b". + 4", Value::Symbolic(Symbol::Here, 4)));
-    assert!(&rt; has(alloc, b"1f", Value::Symbolic(Symbol::Forward(b"1"), 0)));
     assert!(&rt; has(alloc, b"(p + 1) - q", Value::Constant(13)));
     assert!(&rt; has(alloc, b"(q - p) / 4", Value::Constant(u64::MAX - 2)));
     assert!(&rt;
@@ -419,6 +396,68 @@ fn values_with_symbols(rt: HostRuntime) {
     assert!(&rt; has(alloc, b"0x8000000000000000 % -1", Value::Constant(0)));
 }
 
+/// What the words of a reader mean, each as it is written: `01b` is another word than `1b`.
+fn word_meaning(word: &[u8]) -> Meaning {
+    match word {
+        b"four" => Meaning::Constant(4),
+        b"p" => Meaning::InSection(1, 16),
+        b"." => Meaning::InSection(1, 20),
+        b"01b" => Meaning::InSection(1, 4),
+        _ => Meaning::Open,
+    }
+}
+
+/// Whether the text has this value by its words.
+fn has_by_words(alloc: Global, text: &[u8], wanted: Value<'_>) -> bool {
+    let mut lexer = Lexer::new(text);
+    let Ok(expr) = parse_expr(alloc, &mut lexer) else {
+        return false;
+    };
+    match eval(&expr, 1, &|word: &[u8]| word_meaning(word)) {
+        Ok(value) => value == wanted,
+        Err(_) => false,
+    }
+}
+
+#[test]
+fn values_by_words(rt: HostRuntime) {
+    let alloc = rt.alloc();
+    assert!(&rt; has_by_words(alloc, b". - 01b + 3 * four", Value::Constant(28)));
+    assert!(&rt; has_by_words(alloc, b"p - .", Value::Constant(u64::MAX - 3)));
+    let Some(later) = NumericReference::new(b"12f") else {
+        assert!(&rt; false);
+        return;
+    };
+    let later = Symbol::Reference(later);
+    assert!(&rt; has_by_words(alloc, b"12f + 1", Value::Symbolic(later, 1)));
+    assert!(&rt; NumericReference::new(b"12").is_none());
+}
+
+/// What a token is, where there is one.
+fn kind<'a>(token: Option<Token<'a>>) -> Option<TokenKind<'a>> {
+    match token {
+        Some(token) => Some(token.kind),
+        None => None,
+    }
+}
+
+#[test]
+fn tokens_one_by_one(rt: HostRuntime) {
+    let mut lexer = Lexer::new(b"a: # none\n ? b");
+    assert!(&rt; kind(lexer.next()) == Some(TokenKind::Name(b"a")));
+    assert!(&rt; kind(lexer.next()) == Some(TokenKind::Punct(Punct::Colon)));
+    assert!(&rt; kind(lexer.next()) == Some(TokenKind::Newline));
+    assert!(&rt; kind(lexer.next()) == Some(TokenKind::BadToken));
+    assert!(&rt; lexer.next().is_none());
+    assert!(&rt; lexer.next().is_none());
+    let mut stop = 0;
+    for token in Lexer::new(b"lw a0, 4(sp)\n") {
+        assert!(&rt; stop <= token.start && token.start < token.stop);
+        stop = token.stop;
+    }
+    assert!(&rt; stop == 13);
+}
+
 #[test]
 fn strings_with_escapes(rt: HostRuntime) -> Result<(), Fail> {
     let mut bytes = Vec::new(rt.alloc());
@@ -430,9 +469,6 @@ fn strings_with_escapes(rt: HostRuntime) -> Result<(), Fail> {
 
 /// The name with minus signs at the front of a text.
 fn joined(text: &[u8]) -> Option<&[u8]> {
-    if text.len() > 65536 {
-        return None;
-    }
     Cursor::new(Lexer::new(text)).joined()
 }
 

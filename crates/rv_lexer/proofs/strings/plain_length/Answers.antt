@@ -1,5 +1,4 @@
 -- What `memchr3` finds is where the plain bytes end.
-use Rattle.std.proofs.Common.{length}
 use Rattle.rv_lexer.proofs.PlainBytesLemmas.{plain_some, plain_none}
 use Rattle.rv_lexer.proofs.strings.plain_length.Goals as goal
 

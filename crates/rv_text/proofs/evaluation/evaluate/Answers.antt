@@ -2,7 +2,7 @@
 use Rattle.std.proofs.Common.{◌∙◌, ◌+◌, refl, sym, ap, map, drop, length, List}
 use Rattle.rv_text_laws.specs.Values as values
 use Rattle.rv_text_laws.specs.Expression as expression
-use Rattle.rv_text.specs.declared.node.Node.TheVariants as nodes
+use Rattle.rv_text.specs.declared.node.Node.{Node}
 use Rattle.rv_text_laws.proofs.TreesLemmas.{nodes_value}
 use Rattle.rv_text.specs.Nodes.{node_of, nodes_of}
 use Rattle.rv_text.specs.Eval.{tops}
@@ -25,7 +25,8 @@ step-requires-in-loop-node g c = λ k. (
   (
     c.requires.callable,
     (
-      next_fits c.args.nodes.now.rest.items c.deref-node-items.result.now c.loop-node.node-index (nodes.Number 0) (length c.loop-node.stack.items)
+      ap (λ (n : Node). values.node_fits (node_of n) (length c.loop-node.stack.items)) c.node-item.is
+          ∙ next_fits c.args.nodes.now.rest.items c.deref-node-items.result.now c.loop-node.node-index c.node-item.result (length c.loop-node.stack.items)
           c.deref-node-items.ensures.value c.loop-node-test.true c.loop-node.invariant.fits,
       c.loop-node.invariant.room,
     ),
@@ -37,13 +38,15 @@ loop-node-preserved g c =
     let xs = c.args.nodes.now.rest.items in
     let ys = c.deref-node-items.result.now in
     let i = c.loop-node.node-index in
+    let d = c.node-item.result in
     record {
       kept = λ m means.
           c.loop-node.invariant.kept m means
-          ∙ ap (λ (l : List expression.Node). values.after_nodes m l (tops c.loop-node.stack.items)) (next_node xs ys i (nodes.Number 0) c.deref-node-items.ensures.value c.loop-node-test.true)
+          ∙ ap (λ (l : List expression.Node). values.after_nodes m l (tops c.loop-node.stack.items)) (next_node xs ys i d c.deref-node-items.ensures.value c.loop-node-test.true)
+          ∙ ap (λ (n : Node). values.after_nodes m (map node_of (drop (i + 1) xs)) (values.after_node m (node_of n) (tops c.loop-node.stack.items))) (sym c.node-item.is)
           ∙ ap (values.after_nodes m (map node_of (drop (i + 1) xs))) (sym (c.step-in-loop-node.ensures.values m means));
-      fits = later_fit xs ys i (nodes.Number 0) (length c.loop-node.stack.items) (length c.step-in-loop-node.new.stack.items)
-          c.deref-node-items.ensures.value c.loop-node-test.true c.step-in-loop-node.ensures.count c.loop-node.invariant.fits;
+      fits = later_fit xs ys i d (length c.loop-node.stack.items) (length c.step-in-loop-node.new.stack.items)
+          c.deref-node-items.ensures.value c.loop-node-test.true (c.step-in-loop-node.ensures.count ∙ ap (λ (n : Node). values.count_after (node_of n) (length c.loop-node.stack.items)) c.node-item.is) c.loop-node.invariant.fits;
       room = c.step-in-loop-node.ensures.room;
     }
 

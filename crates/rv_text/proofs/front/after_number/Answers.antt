@@ -4,4 +4,4 @@ use Rattle.rv_text.proofs.FrontsLemmas.{ended_at}
 use Rattle.rv_text.proofs.front.after_number.Goals as goal
 
 pub returns-then-ends-clause-reads : goal.returns-then-ends-clause-reads
-returns-then-ends-clause-reads g c = ended_at _ c.args.cursor.now _ _ _ (sym c.ends.ensures ∙ c.if-ends.true) refl
+returns-then-ends-clause-reads c = ended_at _ c.args.cursor.now _ _ _ (sym c.ends.ensures ∙ c.if-ends.true) refl

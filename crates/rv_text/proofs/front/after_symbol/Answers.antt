@@ -6,6 +6,6 @@ use Rattle.rv_text.proofs.FrontsLemmas.{ended_at}
 use Rattle.rv_text.proofs.front.after_symbol.Goals as goal
 
 pub returns-then-ends-clause-reads : goal.returns-then-ends-clause-reads
-returns-then-ends-clause-reads g c =
+returns-then-ends-clause-reads c =
     ended_at _ c.args.cursor.now _ _ _ (sym c.ends.ensures ∙ c.if-ends.true) refl
     ∙ ap (λ (ns : List Node). Ok (ns, left c.args.cursor.now)) (sym c.of_symbol.ensures)

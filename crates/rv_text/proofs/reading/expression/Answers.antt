@@ -3,6 +3,7 @@ use Rattle.std.proofs.Common.{[], sym, ◌∙◌, ap}
 use Rattle.rv_text_laws.specs.Expression.{Literal, A_prefix}
 use Rattle.rv_lexer.specs.Token.{kind_of}
 use Rattle.rv_lexer.specs.Cursor.{left}
+use Rattle.rv_text.specs.Registers.{is_register}
 use Rattle.rv_text.specs.Nodes.{symbol_of}
 use Rattle.rv_text.specs.Expr.{begin_of, stack_of}
 use Rattle.rv_text.proofs.ExprsLemmas.{stack_none}
@@ -10,20 +11,20 @@ use Rattle.rv_text.proofs.FrontsLemmas.{started, at_start, primary_step, minus_s
 use Rattle.rv_text.proofs.reading.expression.Goals as goal
 
 pub after_number-requires : goal.after_number-requires
-after_number-requires g c =
-    started g.R.Registers.registers c.args.cursor.now c.advance.new.self _ c.advance.ensures
-    (primary_step g.R.Registers.registers [] [] (kind_of c.args.cursor.now.next.kind) (begin_of c.begins.result) (Literal c.in-Number.number) c.begins.ensures (sym (ap begin_of c.in-Number.is)))
+after_number-requires c =
+    started is_register c.args.cursor.now c.advance.new.self _ c.advance.ensures
+    (primary_step is_register [] [] (kind_of c.args.cursor.now.next.kind) (begin_of c.begins.result) (Literal c.in-Number.number) c.begins.ensures (sym (ap begin_of c.in-Number.is)))
 
 pub after_symbol-requires : goal.after_symbol-requires
-after_symbol-requires g c =
-    started g.R.Registers.registers c.args.cursor.now c.advance-in-Symbol.new.self _ c.advance-in-Symbol.ensures
-    (primary_step g.R.Registers.registers [] [] (kind_of c.args.cursor.now.next.kind) (begin_of c.begins.result) (symbol_of c.in-Symbol.symbol) c.begins.ensures (sym (ap begin_of c.in-Symbol.is)))
+after_symbol-requires c =
+    started is_register c.args.cursor.now c.advance-in-Symbol.new.self _ c.advance-in-Symbol.ensures
+    (primary_step is_register [] [] (kind_of c.args.cursor.now.next.kind) (begin_of c.begins.result) (symbol_of c.in-Symbol.symbol) c.begins.ensures (sym (ap begin_of c.in-Symbol.is)))
 
 pub after_minus-requires : goal.after_minus-requires
-after_minus-requires g c =
-    started g.R.Registers.registers c.args.cursor.now c.advance-in-Prefix-Negate.new.self _ c.advance-in-Prefix-Negate.ensures
-    (minus_step g.R.Registers.registers (kind_of c.args.cursor.now.next.kind) (begin_of c.begins.result) c.begins.ensures
+after_minus-requires c =
+    started is_register c.args.cursor.now c.advance-in-Prefix-Negate.new.self _ c.advance-in-Prefix-Negate.ensures
+    (minus_step is_register (kind_of c.args.cursor.now.next.kind) (begin_of c.begins.result) c.begins.ensures
     (sym (ap begin_of c.in-Prefix-Negate.is ∙ ap (λ o. A_prefix o) c.in-Prefix-Negate.field-0-is)))
 
 pub read_on-requires : goal.read_on-requires
-read_on-requires g c = at_start g.R.Registers.registers (left c.args.cursor.now) c.new.result.items (ap stack_of c.new.ensures.items ∙ stack_none)
+read_on-requires c = at_start is_register (left c.args.cursor.now) c.new.result.items (ap stack_of c.new.ensures.items ∙ stack_none)

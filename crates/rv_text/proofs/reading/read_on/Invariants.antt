@@ -1,12 +1,13 @@
 use Rattle.std.proofs.Common.{◌≡◌, length}
 use Rattle.rv_text_laws.specs.ExpressionAt.{read_from}
 use Rattle.rv_lexer.specs.Cursor.{left}
+use Rattle.rv_text.specs.Registers.{is_register}
 use Rattle.rv_text.specs.Expr.{stage_of}
 use Rattle.rv_text.proofs.reading.read_on.Given as goal
 
 -- what the tokens left make of the stage is what all of them make
 abbrev pub invariant-tokens : goal.invariant-tokens
-invariant-tokens g l = read_from g.R.Registers.registers (stage_of l.fn.frames.items l.fn.stage) (left l.initial.cursor) ≡ read_from g.R.Registers.registers (stage_of l.frames.items l.stage) (left l.cursor)
+invariant-tokens l = read_from is_register (stage_of l.fn.frames.items l.fn.stage) (left l.initial.cursor) ≡ read_from is_register (stage_of l.frames.items l.stage) (left l.cursor)
 
 abbrev pub decreases-tokens : goal.decreases-tokens
-decreases-tokens g l = length (left l.cursor)
+decreases-tokens l = length (left l.cursor)

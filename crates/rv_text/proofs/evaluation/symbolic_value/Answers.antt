@@ -7,7 +7,7 @@ use Rattle.rv_text.specs.declared.pair.SymbolPair.{SymbolPair}
 use Rattle.rv_text.specs.Nodes.{symbol_of}
 use Rattle.rv_text.specs.Expr.{expr_of, tree_of_expr}
 use Rattle.rv_text.proofs.EvalsLemmas.{lone_value, lone_outcome, negative_value, pair_outcome}
-use Rattle.rv_text.proofs.evaluation.eval.Goals as goal
+use Rattle.rv_text.proofs.evaluation.symbolic_value.Goals as goal
 
 pub returns-in-Number : goal.returns-in-Number
 returns-in-Number g c = λ m means. ap (λ e. values.value_of m (tree_of_expr e)) c.in-Number.is ∙ lone_value m (Literal c.in-Number.number)
@@ -18,11 +18,8 @@ returns-in-Name g c = λ m means. lone_outcome m _ c.args.expr.now c.outcome.res
 pub returns-in-Here : goal.returns-in-Here
 returns-in-Here g c = λ m means. lone_outcome m _ c.args.expr.now c.outcome-in-Here.result c.args.line _ (ap expr_of c.in-Here.is) (c.lone-in-Here.ensures m means) c.outcome-in-Here.ensures
 
-pub returns-in-Backward : goal.returns-in-Backward
-returns-in-Backward g c = λ m means. lone_outcome m _ c.args.expr.now c.outcome-in-Backward.result c.args.line _ (ap expr_of c.in-Backward.is) (c.lone-in-Backward.ensures m means) c.outcome-in-Backward.ensures
-
-pub returns-in-Forward : goal.returns-in-Forward
-returns-in-Forward g c = λ m means. lone_outcome m _ c.args.expr.now c.outcome-in-Forward.result c.args.line _ (ap expr_of c.in-Forward.is) (c.lone-in-Forward.ensures m means) c.outcome-in-Forward.ensures
+pub returns-in-Reference : goal.returns-in-Reference
+returns-in-Reference g c = λ m means. lone_outcome m _ c.args.expr.now c.outcome-in-Reference.result c.args.line _ (ap expr_of c.in-Reference.is) (c.lone-in-Reference.ensures m means) c.outcome-in-Reference.ensures
 
 pub returns-in-Negative : goal.returns-in-Negative
 returns-in-Negative g c = λ m means. ap (λ e. values.value_of m (tree_of_expr e)) c.in-Negative.is ∙ negative_value m c.in-Negative.number
