@@ -21,7 +21,7 @@ use Rattle.rv_statement.specs.declared.mnemonic.Mnemonic.TheVariants as mnemonic
 use Rattle.rv_layout_laws.specs.declared.item.Forms.{Forms}
 use Rattle.rv_pseudo_laws.specs.Code.{Part, Constants}
 use Rattle.rv_pseudo_laws.specs.Filled.{are_closed, code_bytes}
-use Rattle.rv_pseudo.specs.declared.template.Form.{Form}
+use Rattle.rv_pseudo.specs.declared.template.Manner.{Manner}
 use Rattle.rv_pseudo.specs.declared.template.Template.{Template}
 use Rattle.rv_pseudo.specs.declared.template.Worth.{Worth}
 use Rattle.rv_pseudo.specs.Faults.{worth_of, constant_in, known_as, takes_target, is_placed, is_written, is_bad_scratch, faults_of}
@@ -119,7 +119,7 @@ pub record IsOfNumber (operation : Operation) (function : Option Function) (numb
   pub written : takes_target operation ≡ true → is_written operation ≡ true
   pub rows : (e : Expression) → option_map all_templates (pseudo.parts_of (λ t. number) rvc bytes (statement_with operation function e)) ≡ Some found.items
 
-abbrev pub form_with : Worth → Bool → ℕ → Form
+abbrev pub form_with : Worth → Bool → ℕ → Manner
 form_with told rvc bytes = record { worth = told; bytes = bytes; rvc = rvc }
 
 abbrev pub AreAnswers : Operation → Option Function → Worth → Bool → ℕ → Result (ArrayVec Template) SourceCode → Type 0

@@ -23,7 +23,7 @@ use crate::named::{named_form, names_parcel};
 use crate::worth::{Outcome, worth};
 use arrayvec::ArrayVec;
 use rv_isa::Inst;
-use rv_pseudo::{Form, Templates, takes_target, with_operand};
+use rv_pseudo::{Manner, Templates, takes_target, with_operand};
 use rv_statement::{Function, Operation, Plain, Statement, StatementKind};
 use rv_text::{Expr, SourceCode, SourceFault, Value};
 use rv_unit::{Scope, SectionOffset};
@@ -62,12 +62,12 @@ fn with_value<'a>(
 {
     operation_in_range(&operation);
     let told = worth(scope, function, value);
-    let form = Form {
+    let manner = Manner {
         worth: told,
         bytes,
         rvc: compressed,
     };
-    match with_operand(operation, function, form) {
+    match with_operand(operation, function, manner) {
         Ok(templates) => Ok(templates),
         Err(code) => Err(SourceFault::At { code, line }),
     }

@@ -14,7 +14,7 @@ ghost use Rattle.rv_instruction.specs.Scoped.{values_at, named_at, AtNext};
 
 use crate::worth::worth;
 use rv_compress::Compressed;
-use rv_pseudo::{Form, Worth, named};
+use rv_pseudo::{Manner, Worth, named};
 use rv_statement::{Operation, Plain, Statement, StatementKind};
 use rv_text::Expr;
 use rv_unit::{Scope, SectionOffset};
@@ -79,10 +79,10 @@ pub(crate) fn named_form<'a>(
     if !names_parcel(&statement.kind) {
         return None;
     }
-    let form = Form {
+    let manner = Manner {
         worth: expression_worth(statement, scope, place),
         bytes: 2,
         rvc: false,
     };
-    named(&statement.kind, form)
+    named(&statement.kind, manner)
 }

@@ -43,8 +43,7 @@ fn is_label<'a>(scope: &Scope<'_, 'a>, symbol: Symbol<'a>) -> bool
     match symbol {
         Symbol::Name(name) => scope.is_label(name),
         Symbol::Here => false,
-        Symbol::Backward(digits) => is_defined(scope, Symbol::Backward(digits)),
-        Symbol::Forward(digits) => is_defined(scope, Symbol::Forward(digits)),
+        Symbol::Reference(reference) => is_defined(scope, Symbol::Reference(reference)),
     }
 }
 

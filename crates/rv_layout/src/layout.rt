@@ -3,7 +3,7 @@
 ghost use Rattle.std.specs.Prelude.{◌≡◌, ◌+◌, ◌*◌, ◌≤◌, ◌<◌, length, slice_index, IfOk};
 ghost use Rattle.rv_layout_laws.specs.Branches.{branches};
 ghost use Rattle.rv_unit_laws.specs.Tables.{at_start, tables};
-ghost use Rattle.rv_unit.specs.Unit.{said, IsFilled};
+ghost use Rattle.rv_unit.specs.Unit.{said};
 ghost use Rattle.rv_source_laws.specs.Located.{located_from};
 ghost use Rattle.rv_source_laws.specs.Sizes.{items_of, AreLeast};
 ghost use Rattle.rv_layout.specs.Measure.{AreSizes};
@@ -28,7 +28,6 @@ impl Layout {
     /// `AllocError` where there is no memory for some 12 bytes a statement, and where some have several forms for 8 more
     /// and 24 for each of those.
     pub fn of(alloc: Global, unit: &Unit<'_>) -> Result<Layout, AllocError>
-        requires { IsFilled unit.now }
         ensures count { IfOk result
             (λ found. length found.sizes.items ≡ length (said unit.now)) }
         ensures least { IfOk result (λ found. AreLeast (tables (said unit.now))

@@ -5,7 +5,7 @@
 
 ghost use Rattle.std.specs.Prelude.{◌≡◌, ◌+◌, ℕ, true, None, IfOk, IfSome};
 ghost use Rattle.rv_statement.specs.View.{plain_of, statement_kind};
-ghost use Rattle.rv_unit.specs.Unit.{said, IsFilled};
+ghost use Rattle.rv_unit.specs.Unit.{said};
 ghost use Rattle.rv_instruction.specs.Code.{near_forms_of};
 ghost use Rattle.rv_instruction.specs.Scoped.{values_at, faults_at, AtNext};
 ghost use Rattle.rv_layout.specs.Code as code;
@@ -240,7 +240,6 @@ fn seen<'a>(
 
 /// What sizes see of a source.
 pub(crate) fn measured(alloc: Global, unit: &Unit<'_>) -> Result<Items, AllocError>
-    requires { IsFilled unit.now }
     ensures { IfOk result (λ items. IsMeasured (said unit.now) items) }
 {
     let mut scope = Scope::new(unit);

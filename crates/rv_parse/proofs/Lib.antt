@@ -11,3 +11,4 @@ pub mod StatementsLemmas
 pub mod RefusalsLemmas
 pub mod LinesLemmas
 pub mod PastLineLemmas
+mod LineFeedsLemmas

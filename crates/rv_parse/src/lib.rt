@@ -1,7 +1,7 @@
 //! Statements of a source: its tokens read as labels, instructions and directives.
 //!
 //! Takes the bytes of one source. Gives its statements in order, each with its line, or the first fault.
-//! Main contract: `parse`: in `reads` the bytes are read as these statements (`Reads`), in `refuses` the fault is the first
+//! Main contract: `parse`, and `parse_compact`, which gives the same statements (`lists_agree`) in less memory: in `reads` the bytes are read as these statements (`Reads`), in `refuses` the fault is the first
 //! one of the bytes, with its line (`Refuses`), unless memory ran out.
 //! Must not know what a statement means, what a symbol's value is, or where a section lies.
 //!
@@ -19,6 +19,7 @@ mod access;
 mod directive;
 mod instruction;
 mod jump;
+mod list;
 mod opening;
 mod operands;
 mod parcel;
@@ -27,5 +28,6 @@ mod source;
 mod statement;
 mod value;
 
+pub use rv_statement::Statement;
 pub use rv_text::{SourceCode, SourceFault};
-pub use source::parse;
+pub use source::{lists_agree, parse, parse_compact};

@@ -3,12 +3,14 @@
 //! Lines that are too long are searched apart from the tokens, 65,536 bytes at a time from the back, so that ordinary
 //! sources are hardly read for it. `memchr` looks for line feeds.
 
-ghost use Rattle.std.specs.Prelude.{◌≡◌, ◌<◌, ◌≤◌, List, [], IfOk, IfErr, IfSome, length, false, ◌+◌};
+ghost use Rattle.std.specs.Prelude.{◌≡◌, ◌<◌, ◌≤◌, ℕ, List, [], IfOk, IfErr, IfSome, length, map, false, ◌+◌};
 ghost use Rattle.rv_lexer.specs.Token.{token_of, kind_of};
 ghost use Rattle.rv_text_laws.specs.Lexing.{newlines};
 ghost use Rattle.rv_parse_laws.specs.Syntax.{is_end, Says};
 ghost use Rattle.rv_text_laws.specs.Codes.{limit};
 ghost use Rattle.rv_statement.specs.Statement.{Statement as SpecStatement};
+ghost use Rattle.rv_statement.specs.declared.statement.Statement.{Statement as SourceStatement};
+ghost use Rattle.rv_statement.specs.declared.statements.Statements.{Statements as CompactList};
 ghost use Rattle.rv_parse_laws.specs.Opening.{is_opened};
 ghost use Rattle.rv_parse_laws.specs.Parsing.{checked_at};
 ghost use Rattle.rv_parse.specs.Opened.{Knows};
@@ -17,14 +19,15 @@ ghost use Rattle.rv_statement.specs.Limits.{most_statements};
 ghost use Rattle.rv_parse_laws.specs.Refusals.{SaysUpTo};
 ghost use Rattle.rv_parse.specs.Lines.{past_line};
 ghost use Rattle.rv_lexer.specs.Left.{tokens_left};
-ghost use Rattle.rv_statement.specs.View.{statement_kind};
+ghost use Rattle.rv_statement.specs.View.{statement_kind, statement_of};
 ghost use Rattle.rv_statement.specs.Statements.{statements_of};
 ghost use Rattle.rv_lexer.specs.Cursor.{left, syntax_error_of, Answers};
 ghost use Rattle.rv_parse.specs.Left.{StopsAt, RefusesTokens, RefusedWith};
 
+use crate::list::StatementList;
 use crate::opening::{Opened, wrong_opening};
 use crate::statement::statement;
-use memchr::memrchr;
+use memchr::{memchr_iter, memrchr};
 use rv_parse_words::kinds;
 use rv_statement::{MOST_STATEMENTS, Statement, StatementKind, Statements};
 use rv_text::{Cursor, Lexer, ReadError, SourceCode, SourceFault, SyntaxError, Token};
@@ -124,19 +127,20 @@ fn next_statement<'a>(
     }
 }
 
-/// The statements that the tokens of a source say, up to its end.
+/// The statements that the tokens of a source say, up to its end, put into an empty list.
 #[tactic(auto, using(rv_parse_laws::proofs::ProgressLemmas::end_no_last))]
-fn statements<'a>(
+fn statements<'a, L: StatementList<'a>>(
     alloc: Global,
-    source: &'a [u8],
     lexer: Lexer<'a>,
-) -> Result<Statements<'a>, ReadError>
-    ensures says { IfOk result (λ v. SaysUpTo (tokens_left lexer.entry) [] (statements_of v)) }
-    ensures within { IfOk result (λ v. length (statements_of v) ≤ most_statements) }
+    list: L,
+) -> Result<L, ReadError>
+    requires { L.said list ≡ [] }
+    ensures says { IfOk result (λ v. SaysUpTo (tokens_left lexer.entry) [] (L.said v)) }
+    ensures within { IfOk result (λ v. length (L.said v) ≤ most_statements) }
     ensures refuses { IfErr result (λ e. RefusesTokens (tokens_left lexer.entry) e) }
 {
     let mut cursor = Cursor::new(lexer);
-    let mut statements = Statements::new(alloc, source);
+    let mut statements = list;
     let mut opened = Opened::new(alloc);
     let mut count = 0;
     while !kinds::is_source_end(cursor.next.kind) {
@@ -146,7 +150,7 @@ fn statements<'a>(
             let from = cursor.next.start as usize;
             let statement = next_statement(alloc, &mut cursor, count, &opened)?;
             opened.add(&statement.kind)?;
-            statements.push(statement, from)?;
+            statements.put(statement, from)?;
             count += 1;
         }
     }
@@ -154,23 +158,22 @@ fn statements<'a>(
 }
 
 /// The line of the byte after a text, from 1.
+#[tactic(auto, using(crate::proofs::LineFeedsLemmas::feeds_counted))]
 fn line_of(text: &[u8]) -> u32
     requires { length text.now ≤ 16777216 }
     ensures { result ≡ 1 + newlines text.now }
 {
-    let mut line = 1;
-    for byte in text {
-        if *byte == b'\n' {
-            line += 1;
-        }
-    }
-    line
+    memchr_iter(b'\n', text).count() as u32 + 1
 }
 
-/// The statements of a source. A fault names its line, from 1: it is the first of the source, in the order of its bytes;
-/// a source over 16 MiB has it at line 0.
-pub fn parse(alloc: Global, source: &[u8]) -> Result<Statements<'_>, SourceFault>
-    ensures reads { IfOk result (λ v. Reads source.now (statements_of v)) }
+/// The statements of a source, put into an empty list, or the first fault.
+fn listed<'a, L: StatementList<'a>>(
+    alloc: Global,
+    source: &'a [u8],
+    list: L,
+) -> Result<L, SourceFault>
+    requires { L.said list ≡ [] }
+    ensures reads { IfOk result (λ v. Reads source.now (L.said v)) }
     ensures refuses { IfErr result (λ e. RefusedWith source.now e) }
 {
     if LONGEST_SOURCE < source.len() {
@@ -180,7 +183,7 @@ pub fn parse(alloc: Global, source: &[u8]) -> Result<Statements<'_>, SourceFault
         });
     }
     let past = past_line(source);
-    match statements(alloc, source, Lexer::new(source)) {
+    match statements(alloc, Lexer::new(source), list) {
         Err(ReadError::OutOfMemory) => Err(SourceFault::OutOfMemory),
         Err(ReadError::At(wrong)) => match past {
             Some(place) if place < wrong.offset => Err(SourceFault::At {
@@ -201,3 +204,27 @@ pub fn parse(alloc: Global, source: &[u8]) -> Result<Statements<'_>, SourceFault
         },
     }
 }
+
+/// The statements of a source. A fault names its line, from 1: it is the first of the source, in the order of its bytes;
+/// a source over 16 MiB has it at line 0. Each takes as many bytes as the largest, which [`parse_compact`] spares.
+pub fn parse(alloc: Global, source: &[u8]) -> Result<Vec<Statement<'_>>, SourceFault>
+    ensures reads { IfOk result (λ v. Reads source.now (map statement_of v.items)) }
+    ensures refuses { IfErr result (λ e. RefusedWith source.now e) }
+{
+    listed(alloc, source, Vec::new(alloc))
+}
+
+/// The statements of a source, as [`parse`] reads them, in a list that keeps most of them in few bytes.
+pub fn parse_compact(alloc: Global, source: &[u8]) -> Result<Statements<'_>, SourceFault>
+    ensures reads { IfOk result (λ v. Reads source.now (statements_of v)) }
+    ensures refuses { IfErr result (λ e. RefusedWith source.now e) }
+{
+    listed(alloc, source, Statements::new(alloc, source))
+}
+
+/// A source has the same statements in either list.
+pub fn lists_agree()
+    ensures { (source : List ℕ) (whole : List SourceStatement) (compact : CompactList) →
+        Reads source (map statement_of whole) → Reads source (statements_of compact) →
+        map statement_of whole ≡ statements_of compact }
+{}

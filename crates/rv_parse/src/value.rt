@@ -14,24 +14,10 @@ ghost use Rattle.rv_parse.specs.Left.{Gives};
 
 use crate::slot;
 use rv_parse_words::fault::{self, Slot};
-use rv_parse_words::words::register_named;
 use rv_parse_words::{Role, kinds};
 use rv_statement::Function;
-use rv_text::{Cursor, Expr, ReadError, Registers, SourceCode, SyntaxError, Token};
+use rv_text::{Cursor, Expr, ReadError, SourceCode, SyntaxError, Token};
 use std::alloc::Global;
-
-/// Which names spell registers, in expressions.
-struct RegisterNames;
-
-impl Registers for RegisterNames {
-    ghost use Rattle.rv_parse_laws.specs.Syntax.{is_register};
-
-    ghost registers = { is_register };
-
-    fn is_register(name: &[u8]) -> bool {
-        register_named(name).is_some()
-    }
-}
 
 /// An expression.
 #[tactic(auto, using(crate::proofs::TargetsLemmas::read_numbers))]
@@ -40,7 +26,7 @@ fn expression<'a>(alloc: Global, cursor: &mut Cursor<'a>) -> Result<Expr<'a>, Re
         (value_at (left cursor.old)) }
     ensures number { IfOk result (λ e. TellsNumbers e) }
 {
-    rv_text::expression::<RegisterNames>(alloc, cursor)
+    rv_text::expression(alloc, cursor)
 }
 
 /// An expression where no function of one may stand; a number alone as a target is refused at its first token.

@@ -1,4 +1,5 @@
-use rv_parse::{SourceFault, parse};
+use rv_parse::{SourceFault, Statement, parse, parse_compact};
+use rv_pseudo::{Form, expansion};
 use rv_statement::{Binding, StatementKind, Statements};
 use std::alloc::Global;
 
@@ -44,6 +45,11 @@ fn letter(kind: &StatementKind<'_>) -> u8 {
     }
 }
 
+/// Whether a statement has this kind and this line.
+fn is(statement: &Statement<'_>, expected: (u8, u32)) -> bool {
+    letter(&statement.kind) == expected.0 && statement.line == expected.1
+}
+
 /// Whether the source is read as these statements.
 fn is_read(alloc: Global) -> bool {
     let Ok(statements) = parse(alloc, SOURCE) else {
@@ -52,10 +58,25 @@ fn is_read(alloc: Global) -> bool {
     if statements.len() != STATEMENTS.len() {
         return false;
     }
+    for (index, expected) in STATEMENTS.iter().enumerate() {
+        if !is(&statements[index], *expected) {
+            return false;
+        }
+    }
+    true
+}
+
+/// The same of the list that spares memory.
+fn is_read_in_few_bytes(alloc: Global) -> bool {
+    let Ok(statements) = parse_compact(alloc, SOURCE) else {
+        return false;
+    };
+    if statements.len() != STATEMENTS.len() {
+        return false;
+    }
     let mut room = Statements::room();
-    for (index, (kind, line)) in STATEMENTS.iter().enumerate() {
-        let statement = statements.read(index, &mut room);
-        if letter(&statement.kind) != *kind || statement.line != *line {
+    for (index, expected) in STATEMENTS.iter().enumerate() {
+        if !is(statements.read(index, &mut room), *expected) {
             return false;
         }
     }
@@ -65,8 +86,40 @@ fn is_read(alloc: Global) -> bool {
 #[test]
 fn reads_and_refuses(rt: HostRuntime) {
     assert!(rt; is_read(rt.alloc()));
+    assert!(rt; is_read_in_few_bytes(rt.alloc()));
     match parse(rt.alloc(), b"nop\nadd a0") {
         Err(SourceFault::At { code, line }) => assert_eq!(rt; (code.number(), line), (7, 2)),
         _ => assert!(rt; false),
     }
+}
+
+/// How many instructions stand for the statement of a text whose expression is this constant, or an address; else the
+/// number of its fault.
+fn expanded(alloc: Global, source: &[u8], value: Option<i64>) -> Result<usize, u8> {
+    let Ok(statements) = parse(alloc, source) else {
+        return Err(0);
+    };
+    let Some(statement) = statements.first() else {
+        return Err(0);
+    };
+    let form = Form {
+        rvc: false,
+        bytes: 4,
+        value,
+    };
+    match expansion(statement, form) {
+        Ok(templates) => Ok(templates.len()),
+        Err(SourceFault::At { code, .. }) => Err(code.number()),
+        Err(SourceFault::OutOfMemory) => Err(0),
+    }
+}
+
+#[test]
+fn expands(rt: HostRuntime) {
+    let alloc = rt.alloc();
+    assert!(rt; expanded(alloc, b"li a0, 5000", Some(5000)) == Ok(2));
+    assert!(rt; expanded(alloc, b"addi a0, a0, 5000", Some(5000)) == Err(14));
+    assert!(rt; expanded(alloc, b"la a0, x", None) == Ok(2));
+    assert!(rt; expanded(alloc, b"sw a0, x, a0", None) == Err(10));
+    assert!(rt; expanded(alloc, b"lw a0, %pcrel_lo(x)(a1)", None) == Ok(1));
 }

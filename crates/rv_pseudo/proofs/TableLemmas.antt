@@ -22,7 +22,7 @@ use Rattle.rv_parse_laws.specs.Syntax.{with_constant}
 use Rattle.rv_pseudo_laws.specs.Code.{Part, Constants, constant_number as number_in, by_constant, far}
 use Rattle.rv_pseudo_laws.specs.InstructionFaults.{Worth, target_faults, operand_faults, else_unplaced, has_row, faults}
 use Rattle.rv_pseudo_laws.proofs.ParcelsLemmas.{parcel_code}
-use Rattle.rv_pseudo.specs.declared.template.Form.{Form}
+use Rattle.rv_pseudo.specs.declared.template.Manner.{Manner}
 use Rattle.rv_pseudo.specs.declared.template.Template.{Template}
 use Rattle.rv_pseudo.specs.Faults.{worth_of, known_as, is_upper, is_constant_form, is_placed, scratch_of, faults_of}
 use Rattle.rv_pseudo.specs.Templates.{all_templates, constants_of, worths_of, parts_of, form_templates, faults_by, statement_with, Answers, AnswersBare, AreTemplates}
@@ -216,7 +216,7 @@ bare_unplaced p rvc code is away v w bytes = ap lowest (plain_faults p v w) ∙ 
 
 -- ---- the code's answers
 
-pub answer_found : (operation : Operation) (function : Option Function) (form : Form) (found : ArrayVec Template) → faults_of operation function (worth_of form.worth) ≡ []
+pub answer_found : (operation : Operation) (function : Option Function) (form : Manner) (found : ArrayVec Template) → faults_of operation function (worth_of form.worth) ≡ []
     → ((e : Expression) → form_templates form (statement_with operation function e) ≡ Some found.items) → (e : Expression)
     → Answers (faults_by form (statement_with operation function e)) (form_templates form (statement_with operation function e)) (Ok found)
 answer_found operation function form found own rows e =
@@ -224,14 +224,14 @@ answer_found operation function form found own rows e =
     let placed = sym (same_row operation function e v form.rvc form.bytes) ∙ some_of (parts_of v form.rvc form.bytes (statement_with operation function e)) found.items (rows e) in
     (with_faults operation function e v (worths_of form) ∙ faultless _ _ placed own, rows e)
 
-pub answer_fault : (operation : Operation) (function : Option Function) (form : Form) (fault : Option SourceCode) (code : SourceCode) → fault ≡ Some code
+pub answer_fault : (operation : Operation) (function : Option Function) (form : Manner) (fault : Option SourceCode) (code : SourceCode) → fault ≡ Some code
     → IsLowest fault (faults_of operation function (worth_of form.worth)) → (e : Expression)
     → Answers (faults_by form (statement_with operation function e)) (form_templates form (statement_with operation function e)) (Err code)
 answer_fault operation function form fault code is low e =
     ap lowest (with_faults operation function e (constants_of form) (worths_of form))
     ∙ lowest_same (has_rows (constants_of form) (statement_with operation function e)) (faults_of operation function (worth_of form.worth)) (source_fault_number code) (sym low ∙ ap (option_map source_fault_number) is)
 
-pub answer_unplaced : (operation : Operation) (function : Option Function) (form : Form) (code : SourceCode) → source_fault_number code ≡ unsupported_here
+pub answer_unplaced : (operation : Operation) (function : Option Function) (form : Manner) (code : SourceCode) → source_fault_number code ≡ unsupported_here
     → faults_of operation function (worth_of form.worth) ≡ [] → is_placed operation function ≡ false → (e : Expression)
     → Answers (faults_by form (statement_with operation function e)) (form_templates form (statement_with operation function e)) (Err code)
 answer_unplaced operation function form code is own away e =

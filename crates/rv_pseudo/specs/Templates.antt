@@ -26,7 +26,9 @@ use Rattle.rv_isa_laws.specs.Arithmetic.{wrapped}
 use Rattle.rv_pseudo_laws.specs.Code.{Part, Closed, Open, Joined, Constants, code, alone, signed_12, upper_20, constant_number, by_constant, by_form, named_form}
 use Rattle.rv_pseudo_laws.specs.InstructionFaults.{Worth, faults}
 use Rattle.rv_pseudo.specs.declared.template.Form.{Form}
+use Rattle.rv_pseudo.specs.declared.template.Manner.{Manner}
 use Rattle.rv_pseudo.specs.declared.template.Template.{Template}
+use Rattle.rv_pseudo.specs.declared.template.Worth.{Worth as Told}
 use Rattle.rv_pseudo.specs.declared.template.Worth.TheVariants as told
 use Rattle.rv_pseudo.specs.Faults.{worth_of, constant_in, is_number}
 
@@ -50,11 +52,19 @@ all_templates parts = flat_map templates_of parts
 -- ---- the row of a statement
 
 -- a statement has one expression: what it is worth, and its constant, if it is one
-abbrev pub worths_of : Form → Expression → Worth
+abbrev pub worths_of : Manner → Expression → Worth
 worths_of form = λ e. worth_of form.worth
 
-abbrev pub constants_of : Form → Constants
+abbrev pub constants_of : Manner → Constants
 constants_of form = λ e. constant_in (worth_of form.worth)
+
+-- an expression without a constant is the address of a symbol, and no fault
+abbrev pub told_by : Option ℤ → Told
+told_by (Some number) = told.Number number
+told_by None = told.Address true
+
+abbrev pub manner_of : Form → Manner
+manner_of form = record { worth = told_by form.value; bytes = form.bytes; rvc = form.rvc }
 
 -- the bytes for which the table is asked: eight for a call, which only the linker shortens
 abbrev pub asked_bytes : Mnemonic → ℕ → ℕ
@@ -75,12 +85,12 @@ abbrev pub named_of : Constants → StatementKind → Option Compressed
 named_of v (Instruction mnemonic operands) = named_form v mnemonic operands
 named_of v kind = None
 
-abbrev pub form_templates : Form → StatementKind → Option (List Template)
+abbrev pub form_templates : Manner → StatementKind → Option (List Template)
 form_templates form kind =
     option_map all_templates (parts_of (constants_of form) form.rvc form.bytes kind)
 
 -- the codes of its faults
-abbrev pub faults_by : Form → StatementKind → List ℕ
+abbrev pub faults_by : Manner → StatementKind → List ℕ
 faults_by form kind = faults (constants_of form) (worths_of form) kind
 
 -- an expression as an operand of an operation, or a function of one
@@ -196,7 +206,7 @@ IsNumberedOne operation number None = says_more_with operation ≡ true
 IsNumberedOne operation number (Some i) =
     (reloc : Option Kind) → AreNumbered operation number reloc (with_reloc reloc i)
 
-abbrev pub form_by : ℤ → Bool → ℕ → Form
+abbrev pub form_by : ℤ → Bool → ℕ → Manner
 form_by number rvc bytes = record { worth = told.Number number; bytes = bytes; rvc = rvc }
 
 -- a statement names no form of a parcel

@@ -1,6 +1,6 @@
 //! The templates of any statement of code.
 //!
-//! `Form.worth` is of the expression before `%hi` or `%lo`, so whoever sizes or writes a statement evaluates its
+//! `Manner.worth` is of the expression before `%hi` or `%lo`, so whoever sizes or writes a statement evaluates its
 //! expression and does nothing else.
 
 ghost use Rattle.std.specs.Prelude.{◌≡◌, Some, [], IfSome, true};
@@ -14,7 +14,7 @@ use crate::bare::without_operand;
 use crate::fault::{is_placed, operand_fault};
 use crate::number::{number, numbered, numbered_one, relocation};
 use crate::target::{takes_target, targeted};
-use crate::template::{Form, Templates, Worth, constant};
+use crate::template::{Form, Manner, Templates, Worth, constant, manner_of};
 use arrayvec::ArrayVec;
 use rv_isa::Inst;
 use rv_lexer::{SourceCode, SourceFault};
@@ -48,17 +48,21 @@ fn known_as(operation: Operation, function: Option<Function>) -> Operation
 }
 
 /// The templates of a statement with an operand that has no fault, and a row.
-fn operation_templates(operation: Operation, function: Option<Function>, form: Form) -> Templates
-    requires sound { faults.faults_of operation function (faults.worth_of form.worth) ≡ [] }
+fn operation_templates(
+    operation: Operation,
+    function: Option<Function>,
+    manner: Manner,
+) -> Templates
+    requires sound { faults.faults_of operation function (faults.worth_of manner.worth) ≡ [] }
     requires placed { faults.is_placed operation function ≡ true }
     ensures { (e : Expression) →
-        is.form_templates form (is.statement_with operation function e) ≡ Some result.items }
+        is.form_templates manner (is.statement_with operation function e) ≡ Some result.items }
 {
     let known = known_as(operation, function);
     if takes_target(&known) {
-        return targeted(form.bytes, known);
+        return targeted(manner.bytes, known);
     }
-    let value = constant(form.worth);
+    let value = constant(manner.worth);
     let number = number(function, value);
     let reloc = relocation(function, value, is_store(&known));
     numbered(known, number, reloc)
@@ -68,15 +72,15 @@ fn operation_templates(operation: Operation, function: Option<Function>, form: F
 fn else_unplaced(
     operation: Operation,
     function: Option<Function>,
-    form: Form,
+    manner: Manner,
 ) -> Result<Templates, SourceCode>
-    requires { faults.faults_of operation function (faults.worth_of form.worth) ≡ [] }
+    requires { faults.faults_of operation function (faults.worth_of manner.worth) ≡ [] }
     ensures { (e : Expression) →
-        Answers (is.faults_by form (is.statement_with operation function e))
-        (is.form_templates form (is.statement_with operation function e)) result }
+        Answers (is.faults_by manner (is.statement_with operation function e))
+        (is.form_templates manner (is.statement_with operation function e)) result }
 {
     if is_placed(&operation, function) {
-        Ok(operation_templates(operation, function, form))
+        Ok(operation_templates(operation, function, manner))
     } else {
         Err(SourceCode::UnsupportedHere)
     }
@@ -86,15 +90,15 @@ fn else_unplaced(
 pub fn with_operand(
     operation: Operation,
     function: Option<Function>,
-    form: Form,
+    manner: Manner,
 ) -> Result<Templates, SourceCode>
     ensures { (e : Expression) →
-        Answers (is.faults_by form (is.statement_with operation function e))
-        (is.form_templates form (is.statement_with operation function e)) result }
+        Answers (is.faults_by manner (is.statement_with operation function e))
+        (is.form_templates manner (is.statement_with operation function e)) result }
 {
-    match operand_fault(&operation, function, form.worth) {
+    match operand_fault(&operation, function, manner.worth) {
         Some(code) => Err(code),
-        None => else_unplaced(operation, function, form),
+        None => else_unplaced(operation, function, manner),
     }
 }
 
@@ -113,17 +117,32 @@ pub fn single(operation: &Operation, number: i64) -> Option<Inst>
 }
 
 /// The templates of what a statement says, or the lowest code of its faults.
-fn expanded(kind: &StatementKind<'_>, form: Form) -> Result<Templates, SourceCode>
-    ensures { Answers (is.faults_by form (statement_kind kind.now))
-        (is.form_templates form (statement_kind kind.now)) result }
+fn expanded(kind: &StatementKind<'_>, manner: Manner) -> Result<Templates, SourceCode>
+    ensures { Answers (is.faults_by manner (statement_kind kind.now))
+        (is.form_templates manner (statement_kind kind.now)) result }
 {
     match kind {
-        StatementKind::Plain(statement) => without_operand(*statement, form.rvc),
-        StatementKind::With(operation, _) => with_operand(*operation, None, form),
+        StatementKind::Plain(statement) => without_operand(*statement, manner.rvc),
+        StatementKind::With(operation, _) => with_operand(*operation, None, manner),
         StatementKind::WithFunction(operation, function, _) => {
-            with_operand(*operation, Some(*function), form)
+            with_operand(*operation, Some(*function), manner)
         }
         _ => Ok(ArrayVec::new()),
+    }
+}
+
+/// The templates of a statement, or at its line the lowest code of its faults.
+fn expanded_at(statement: &Statement<'_>, manner: Manner) -> Result<Templates, SourceFault>
+    ensures { IsExpansion (is.faults_by manner (statement_kind (statement.now).kind))
+        (is.form_templates manner (statement_kind (statement.now).kind)) (statement.now).line
+        result }
+{
+    match expanded(&statement.kind, manner) {
+        Ok(templates) => Ok(templates),
+        Err(code) => Err(SourceFault::At {
+            code,
+            line: statement.line,
+        }),
     }
 }
 
@@ -132,19 +151,15 @@ fn expanded(kind: &StatementKind<'_>, form: Form) -> Result<Templates, SourceCod
 ///
 /// # Errors
 ///
-/// At the statement's line the fault with the lowest number: that of its expression; E10 for a scratch register that is
-/// x0 or the one that is stored; E12 for a low part of a distance to no label; E13 for an address where a constant has to
-/// stand; E14 for a constant out of its range, or in place of a target. Where nothing else is wrong, E9 for a part of a value
-/// in a field that takes none, and for a parcel with registers or an operand that it does not take. Never want of memory.
+/// At the statement's line the fault with the lowest number: E10 for a scratch register that is x0 or the one that is
+/// stored; E13 for an address where a constant has to stand; E14 for a constant out of its range, or in place of a target.
+/// Where nothing else is wrong, E9 for a part of a value in a field that takes none, and for a parcel with registers or an
+/// operand that it does not take. Never want of memory.
 pub fn expansion(statement: &Statement<'_>, form: Form) -> Result<Templates, SourceFault>
-    ensures { IsExpansion (is.faults_by form (statement_kind (statement.now).kind))
-        (is.form_templates form (statement_kind (statement.now).kind)) (statement.now).line result }
+    ensures { IsExpansion
+        (is.faults_by (is.manner_of form) (statement_kind (statement.now).kind))
+        (is.form_templates (is.manner_of form) (statement_kind (statement.now).kind))
+        (statement.now).line result }
 {
-    match expanded(&statement.kind, form) {
-        Ok(templates) => Ok(templates),
-        Err(code) => Err(SourceFault::At {
-            code,
-            line: statement.line,
-        }),
-    }
+    expanded_at(statement, manner_of(form))
 }

@@ -2,7 +2,7 @@
 //! that are still open.
 //!
 //! It takes a statement of `rv_statement` and a [`Form`] of it: whether compressed code is on, the bytes of a branch or a
-//! jump, and what its expression is worth. It gives [`Template`]s, or the lowest code of its faults.
+//! jump, and the constant that its expression is. It gives [`Template`]s, or the lowest code of its faults.
 //!
 //! Main contracts: `expansion` answers the statement's row of the one table, `rv_pseudo_laws/specs/Code`, as templates
 //! (`specs/Templates`), exactly where it has no fault (`rv_pseudo_laws/specs/InstructionFaults`); `without_operand` and `with_operand` answer the same of a
@@ -13,7 +13,7 @@
 //!
 //! ```text
 //! let sequence = li_sequence(a0, 2048);            // lui a0, 1 and addiw a0, a0, -2048
-//! let form = Form { worth: Worth::Address(false), bytes: 4, rvc: true };
+//! let form = Form { rvc: true, bytes: 4, value: None };
 //! let templates = expansion(&statement, form)?;    // of `la a0, x`: auipc under PCREL_HI20, addi under PCREL_LO12_I
 //! ```
 //!
@@ -34,4 +34,4 @@ pub use expanding::{expansion, single, with_operand};
 pub use li::li_sequence;
 pub use parcel::{named, named_bare, named_with};
 pub use target::takes_target;
-pub use template::{Form, Template, Templates, Worth};
+pub use template::{Form, Manner, Template, Templates, Worth};

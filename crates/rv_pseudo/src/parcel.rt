@@ -19,7 +19,7 @@ ghost use Rattle.rv_pseudo.specs.Templates as is;
 
 use crate::number::lower_part;
 use crate::target::{branch, jump};
-use crate::template::{Form, Templates, Worth, constant, one, plain};
+use crate::template::{Manner, Templates, Worth, constant, one, plain};
 use arrayvec::ArrayVec;
 use rv_compress::{Compressed, OperandShape, ParcelOperation, expanded};
 use rv_isa::{BranchOperation, Reg};
@@ -108,15 +108,15 @@ pub fn named_with(
 }
 
 /// The form of a parcel that a statement names.
-pub fn named(kind: &StatementKind<'_>, form: Form) -> Option<Compressed>
-    ensures is { result ≡ is.named_of (is.constants_of form) (statement_kind kind.now) }
+pub fn named(kind: &StatementKind<'_>, manner: Manner) -> Option<Compressed>
+    ensures is { result ≡ is.named_of (is.constants_of manner) (statement_kind kind.now) }
     ensures line { IfSome result IsLine }
 {
     match kind {
         StatementKind::Plain(statement) => named_bare(*statement),
-        StatementKind::With(operation, _) => named_with(*operation, None, form.worth),
+        StatementKind::With(operation, _) => named_with(*operation, None, manner.worth),
         StatementKind::WithFunction(operation, function, _) => {
-            named_with(*operation, Some(*function), form.worth)
+            named_with(*operation, Some(*function), manner.worth)
         }
         _ => None,
     }

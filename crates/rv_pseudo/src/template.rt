@@ -23,12 +23,23 @@ pub enum Worth {
 /// How a statement is written: what its templates depend on beside the statement.
 #[derive(Clone, Copy, Debug, PartialEq, Eq, Drop)]
 pub struct Form {
-    /// What its expression is worth, before a function of it.
-    pub worth: Worth,
+    /// Whether compressed code is on.
+    pub rvc: bool,
     /// The bytes of a conditional branch (2, 4 or 8) or of `jal x0` (2 or 4); not looked at in others. A call has 8: only
     /// the linker shortens it.
     pub bytes: u8,
-    /// Whether compressed code is on.
+    /// The constant that its expression is, before a function of it; none where a symbol leaves it open.
+    pub value: Option<i64>,
+}
+
+/// A form in which an expression may also be faulty, as whoever evaluates it finds out.
+#[derive(Clone, Copy, Debug, PartialEq, Eq, Drop)]
+pub struct Manner {
+    /// What the statement's expression is worth, before a function of it.
+    pub worth: Worth,
+    /// As in a form.
+    pub bytes: u8,
+    /// As in a form.
     pub rvc: bool,
 }
 
@@ -50,6 +61,21 @@ impl Default for Template {
 
 /// The templates of a statement, eight at most.
 pub type Templates = ArrayVec<Template, 8>;
+
+/// The manner of a form: no fault of an expression stands in it.
+pub(crate) fn manner_of(form: Form) -> Manner
+    ensures { result ≡ is.manner_of form }
+{
+    let worth = match form.value {
+        Some(number) => Worth::Number(number),
+        None => Worth::Address(true),
+    };
+    Manner {
+        worth,
+        bytes: form.bytes,
+        rvc: form.rvc,
+    }
+}
 
 /// The constant that an expression is, if it is one.
 pub(crate) fn constant(worth: Worth) -> Option<i64>

@@ -1,10 +1,10 @@
 -- Records one by one, and the statements that they say.
 
-use Rattle.std.proofs.Common.{◌≡◌, ℕ, ◌+◌, ◌<◌, ◌≤◌, Bool, true, List, [], ◌∷◌, ◌++◌, map, length, get_or, slice_get, Some, option_map, IsTrue, refl, sym, ◌∙◌, ap, ap₂, ⊎_elim, leb-true, le-leb, arith}
+use Rattle.std.proofs.Common.{◌≡◌, ℕ, ◌+◌, ◌<◌, ◌≤◌, Bool, true, List, [], ◌∷◌, ◌++◌, map, length, take, get_or, slice_get, Some, option_map, IsTrue, refl, sym, ◌∙◌, ap, ap₂, ⊎_elim, leb-true, le-leb, arith}
 use Rattle.std.specs.List.{list_all}
 use Rattle.std.proofs.lemmas.Bool.{cases_Bool, both_ways, and_from, and_parts}
 use Rattle.std.proofs.lemmas.List.Folds.{list_all_at, list_all-append}
-use Rattle.std.proofs.lemmas.List.{map-append, length-map, length_push, map_push, get_or_push, get_or_append_left}
+use Rattle.std.proofs.lemmas.List.{map-append, length-map, length_push, map_push, get_or_push, get_or_append_left, take_more}
 use Rattle.std.proofs.lemmas.Option.{slice_get-map, get_or_from_slice_get, slice_get_within, slice_get_read}
 use Rattle.rv_statement.specs.Statement as specs
 use Rattle.rv_statement.specs.View.{statement_kind, statement_of}
@@ -100,3 +100,21 @@ kept_same rs i r found here at =
 
 pub packed_statement : (source : List ℕ) (whole : List Statement) (s : Statement) (says : Words) → IsPacked source says (statement_kind s.kind) → statement_in source whole s.line says ≡ statement_of s
 packed_statement source whole s says packed = packed_says source whole s.line says packed.alone ∙ ap (λ (k : specs.StatementKind). record { line = s.line; kind = k }) packed.same
+
+-- ---- statements that are all kept whole
+
+-- one more record of them
+pub whole_more : (whole : List Statement) (rs : List Record) (line index : ℕ) → index < length whole → map (recorded [] whole) rs ≡ take index (map statement_of whole)
+    → map (recorded [] whole) (rs ++ record { words = words.Whole index; line = line } ∷ []) ≡ take (index + 1) (map statement_of whole)
+whole_more whole rs line index within so =
+    map_push (recorded [] whole) rs (record { words = words.Whole index; line = line })
+    ∙ ap (λ (xs : List specs.Statement). xs ++ statement_in [] whole line (words.Whole index) ∷ []) so
+    ∙ sym (take_more (map statement_of whole) index (record { line = line; kind = specs.Directs specs.Ignored }) (omega (arith, within, length-map whole statement_of)))
+
+-- it names one of them
+pub kept_one_more : (count : ℕ) (rs : List Record) (line index : ℕ) → index < count → IsTrue (list_all (has_its_whole count) rs)
+    → IsTrue (list_all (has_its_whole count) (rs ++ record { words = words.Whole index; line = line } ∷ []))
+kept_one_more count rs line index within all =
+    let least : index + 1 ≤ count = omega (arith, within) in
+    list_all-append (has_its_whole count) rs (record { words = words.Whole index; line = line } ∷ [])
+    ∙ and_from _ _ all (and_from _ _ (le-leb (index + 1) count least) refl)

@@ -2,11 +2,11 @@
 //!
 //! A source may have 4 million of them: one of registers alone and a numeric label take 12 bytes, any other 52.
 
-ghost use Rattle.std.specs.Prelude.{◌≡◌, ◌<◌, ◌≤◌, ◌^◌, ◌==◌, ◌++◌, [], ◌∷◌, Some, length, IsTrue, OnOk};
+ghost use Rattle.std.specs.Prelude.{◌≡◌, ◌<◌, ◌≤◌, ◌^◌, ◌==◌, ◌++◌, [], ◌∷◌, Some, length, map, IsTrue, IfOk, OnOk, OnErr};
 ghost use Rattle.std.specs.List.{slice_get, list_all};
 ghost use Rattle.rv_statement.specs.View.{statement_of};
 ghost use Rattle.rv_statement.specs.declared.record.Record.{Record as RecordOf};
-ghost use Rattle.rv_statement.specs.Records.{part_end, least_whole, statement_in, has_its_part, has_its_whole};
+ghost use Rattle.rv_statement.specs.Records.{part_end, least_whole, statement_in, recorded, has_its_part, has_its_whole};
 
 use crate::record::{Record, Words, made, packed};
 use crate::statement::{Statement, StatementKind};
@@ -27,6 +27,26 @@ pub struct Statements<'a> {
     ghost fewer: { length whole.items ≤ length records.items },
 }
 
+/// A record for each statement that is kept whole.
+fn whole_records(alloc: Global, whole: &[Statement<'_>]) -> Result<Vec<Record>, AllocError>
+    requires { length whole.now < 2 ^ 32 }
+    ensures said { IfOk result
+        (λ records. map (recorded [] whole.now) records.items ≡ map statement_of whole.now) }
+    ensures inside { IfOk result (λ records. IsTrue (list_all (has_its_part 0) records.items)) }
+    ensures kept { IfOk result
+        (λ records. IsTrue (list_all (has_its_whole (length whole.now)) records.items)) }
+    ensures each { IfOk result (λ records. length records.items ≡ length whole.now) }
+{
+    let mut records = Vec::with_capacity(alloc, whole.len())?;
+    for index in 0..whole.len() {
+        records.push(Record {
+            words: Words::Whole(index as u32),
+            line: whole[index].line,
+        })?;
+    }
+    Ok(records)
+}
+
 #[tactic(auto, unfolding(crate::specs::Statements::statements_of))]
 impl<'a> Statements<'a> {
     ghost use Rattle.rv_statement.specs.Statements.{statements_of};
@@ -42,12 +62,27 @@ impl<'a> Statements<'a> {
         }
     }
 
-    /// Adds a statement whose bytes begin at `from` in the source. Another `from` costs memory alone.
+    /// Statements that stand in a list of their own already: each is kept whole.
+    pub fn of(alloc: Global, whole: Vec<Statement<'a>>) -> Result<Self, AllocError>
+        requires { length whole.items < 2 ^ 32 }
+        ensures { IfOk result (λ s. statements_of s ≡ map statement_of whole.entry.items) }
+    {
+        let records = whole_records(alloc, whole.as_slice())?;
+        Ok(Statements {
+            source: &[],
+            records,
+            whole,
+        })
+    }
+
+    /// Adds a statement whose bytes begin at `from` in the source. Another `from` costs memory alone. Where memory runs
+    /// out, the statements stay as they were.
     #[inline(always)]
     pub fn push(&mut self, statement: Statement<'a>, from: usize) -> Result<(), AllocError>
         requires { length (statements_of self.old) < 2 ^ 32 }
-        ensures { OnOk result (statements_of self.new
+        ensures added { OnOk result (statements_of self.new
             ≡ statements_of self.old ++ statement_of statement.entry ∷ []) }
+        ensures err { OnErr result (statements_of self.new ≡ statements_of self.old) }
     {
         let line = statement.line;
         match packed(self.source, from, &statement.kind) {
@@ -60,8 +95,9 @@ impl<'a> Statements<'a> {
     fn push_record(&mut self, words: Words, line: u32) -> Result<(), AllocError>
         requires inside { part_end words ≤ length self.old.source.now }
         requires kept { least_whole words ≤ length self.old.whole.items }
-        ensures { OnOk result (statements_of self.new ≡ statements_of self.old
+        ensures added { OnOk result (statements_of self.new ≡ statements_of self.old
             ++ statement_in self.old.source.now self.old.whole.items line words ∷ []) }
+        ensures err { OnErr result (statements_of self.new ≡ statements_of self.old) }
     {
         self.records.push(Record { words, line })?;
         Ok(())
@@ -71,8 +107,9 @@ impl<'a> Statements<'a> {
     #[inline(always)]
     fn push_whole(&mut self, statement: Statement<'a>) -> Result<(), AllocError>
         requires { length (statements_of self.old) < 2 ^ 32 }
-        ensures { OnOk result (statements_of self.new
+        ensures added { OnOk result (statements_of self.new
             ≡ statements_of self.old ++ statement_of statement.entry ∷ []) }
+        ensures err { OnErr result (statements_of self.new ≡ statements_of self.old) }
     {
         // room first, so that no statement is kept without a record
         self.records.reserve(1)?;

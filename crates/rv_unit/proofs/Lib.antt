@@ -10,3 +10,4 @@ mod SizedLemmas
 mod PlacesLemmas
 mod DistancesLemmas
 pub mod ConstantsLemmas
+mod BuiltLemmas

@@ -1,7 +1,6 @@
 -- What names mean and where they stand, in a statement of a unit.
 
 use Rattle.std.proofs.Common.{◌≡◌, ℕ, ◌+◌, ◌<◌, ◌≤◌, ◌==◌, ◌&&◌, false, true, List, length, take, drop, nat_lt, refl, sym, ap, ◌∙◌, subst, Option, Some, None}
-use Rattle.std.specs.Borrow.{Bor}
 use Rattle.std.specs.Str.{bytes_eq}
 use Rattle.std.proofs.lemmas.Bool.{ltb-true}
 use Rattle.rv_text_laws.specs.Bytes.{digits_value}
@@ -10,6 +9,7 @@ use Rattle.rv_text_laws.specs.Values.{Open, Refused}
 use Rattle.rv_statement.specs.Statement.{Statement as SpecStatement}
 use Rattle.rv_text.specs.declared.node.Symbol.{Symbol as Written}
 use Rattle.rv_text.specs.declared.node.Symbol.TheVariants as symbols
+use Rattle.rv_lexer.specs.Reference.{digits_in}
 use Rattle.rv_text.specs.Nodes.{symbol_of}
 use Rattle.rv_unit_laws.specs.Tables as laws
 use Rattle.rv_unit_laws.proofs.BeforeLemmas.{IsBefore, before_all, before_start}
@@ -18,7 +18,7 @@ use Rattle.rv_unit_laws.proofs.OpenedLemmas.{IsStood, stood_all, stood_start, st
 use Rattle.rv_unit.specs.declared.unit.Unit.{Unit as SourceUnit}
 use Rattle.rv_unit_tables.specs.Tables.{tables_of}
 use Rattle.rv_unit.specs.Unit.{said, IsFilled}
-use Rattle.rv_unit.specs.Unit.{passed}
+use Rattle.rv_unit.specs.Unit.{passed, comes_after}
 use Rattle.rv_unit.proofs.PassedLemmas.{passed_before, passed_keeps, passed_rest}
 use Rattle.rv_unit_tables.proofs.LookupsLemmas.{numeric_label_none}
 
@@ -74,16 +74,24 @@ past_back ss i p digits within =
     ∙ numeric_label_passed ss i n within (laws.numeric_label_before (passed ss i).numeric_labels (i + 1) n) refl
 
 -- nothing comes after the last
-pub past_ahead : (ss : List SpecStatement) (i : ℕ) (p : laws.SectionOffset) (digits : List ℕ) → i ≤ length ss → Refused 12 ≡ laws.meaning (passed ss i) false (i + 1) p (Reference digits true)
+past_ahead : (ss : List SpecStatement) (i : ℕ) (p : laws.SectionOffset) (digits : List ℕ) → i ≤ length ss → Refused 12 ≡ laws.meaning (passed ss i) false (i + 1) p (Reference digits true)
 past_ahead ss i p digits within = sym (ap (laws.forward_in (laws.opened_of (passed ss i)) false) (numeric_label_none (passed ss i) (i + 1) (digits_value 10 digits) (passed_before ss i within)))
 
 -- all but what comes after
-pub past_symbol : (ss : List SpecStatement) (i : ℕ) (p : laws.SectionOffset) (x : Written) → i ≤ length ss → p.section < length (laws.opened_of (passed ss i)).sections → ((digits : Bor (List ℕ)) → x ≡ symbols.Forward digits → ⊥)
+pub past_symbol : (ss : List SpecStatement) (i : ℕ) (p : laws.SectionOffset) (x : Written) → i ≤ length ss → p.section < length (laws.opened_of (passed ss i)).sections → comes_after (symbol_of x) ≡ false
     → laws.meaning (laws.tables ss) false (i + 1) p (symbol_of x) ≡ laws.meaning (passed ss i) false (i + 1) p (symbol_of x)
 past_symbol ss i p (symbols.Name name) within inside apart = past_name ss i p name.now within
 past_symbol ss i p symbols.Here within inside apart = past_here ss i p within inside
-past_symbol ss i p (symbols.Backward digits) within inside apart = past_back ss i p digits.now within
-past_symbol ss i p (symbols.Forward digits) within inside apart = absurd (apart digits refl)
+past_symbol ss i p (symbols.Reference r) within inside apart =
+    subst (λ f. laws.meaning (laws.tables ss) false (i + 1) p (Reference (digits_in r.word.now) f) ≡ laws.meaning (passed ss i) false (i + 1) p (Reference (digits_in r.word.now) f))
+    (sym apart) (past_back ss i p (digits_in r.word.now) within)
+
+pub past_beyond : (ss : List SpecStatement) (i : ℕ) (p : laws.SectionOffset) (x : Written) → i ≤ length ss → comes_after (symbol_of x) ≡ true
+    → Refused 12 ≡ laws.meaning (passed ss i) false (i + 1) p (symbol_of x)
+past_beyond ss i p (symbols.Name name) within after = absurd (cc)
+past_beyond ss i p symbols.Here within after = absurd (cc)
+past_beyond ss i p (symbols.Reference r) within after =
+    subst (λ f. Refused 12 ≡ laws.meaning (passed ss i) false (i + 1) p (Reference (digits_in r.word.now) f)) (sym after) (past_ahead ss i p (digits_in r.word.now) within)
 
 -- where the next statement stands is in a section that is open
 pub here_inside : (ss : List SpecStatement) (i : ℕ) (p : laws.SectionOffset) → p ≡ laws.here (passed ss i) → p.section < length (laws.opened_of (passed ss i)).sections

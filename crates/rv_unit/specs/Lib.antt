@@ -1,4 +1,5 @@
 pub mod Faults
+pub mod Filled
 pub mod Unit
 pub mod FaultsAt
 pub mod Items

@@ -1,6 +1,7 @@
 -- What a unit and a scope show.
 
-use Rattle.std.specs.Prelude.{◌≡◌, ◌⊎◌, ℕ, ◌+◌, ◌<◌, ◌≤◌, true, List, Some, None, length, map, take}
+use Rattle.std.specs.Prelude.{◌≡◌, ◌⊎◌, ℕ, ◌+◌, ◌<◌, ◌≤◌, Bool, true, false, List, Some, None, length, take}
+use Rattle.rv_text_laws.specs.Expression.{Primary, Reference}
 use Rattle.rv_lexer.specs.declared.fault.SourceFault.{SourceFault}
 use Rattle.rv_lexer.specs.declared.fault.SourceFault.TheVariants as refusals
 use Rattle.rv_lexer.specs.declared.fault.SourceCode.{SourceCode}
@@ -13,9 +14,8 @@ use Rattle.rv_unit_tables.specs.declared.section_offset.Definition.{Definition}
 use Rattle.rv_unit_tables.specs.declared.section_offset.SectionOffset.{SectionOffset}
 use Rattle.rv_unit.specs.declared.unit.Unit.{Unit as SourceUnit}
 use Rattle.rv_unit.specs.declared.scope.Scope.{Scope}
-use Rattle.rv_unit_tables.specs.Options.{options_of}
 use Rattle.rv_unit_tables.specs.Sections.{offset_of}
-use Rattle.rv_unit_tables.specs.Tables.{tables_of, IsIndexed}
+use Rattle.rv_unit.specs.Filled.{AreFilled}
 
 abbrev pub definition_of : Definition → laws.Definition
 definition_of h = record { ordinal = h.ordinal; plus = h.plus }
@@ -24,12 +24,14 @@ definition_of h = record { ordinal = h.ordinal; plus = h.plus }
 abbrev pub said : SourceUnit → List Statement
 said u = statements_of u.statements
 
--- a unit with the offsets and the options of its statements and their tables
-pub record IsFilled (u : SourceUnit) : Type 0 where
-  pub stand : map offset_of u.places.items ≡ laws.places (said u)
-  pub options : map options_of u.options.items ≡ laws.all_options (said u)
-  pub tables : tables_of u.tables ≡ laws.tables (said u)
-  pub indexed : IsIndexed u.tables
+-- a unit has the offsets and the options of its statements and their tables
+abbrev pub IsFilled : SourceUnit → Type 0
+IsFilled u = AreFilled u.places.items u.options.items u.tables (said u)
+
+-- a reference to a numeric label after it
+abbrev pub comes_after : Primary → Bool
+comes_after (Reference digits forward) = forward
+comes_after _ = false
 
 -- the tables of the first `count` statements
 abbrev pub passed : List Statement → ℕ → laws.Tables

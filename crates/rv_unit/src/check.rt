@@ -335,7 +335,6 @@ impl<'a> Unit<'a> {
 
     /// The first fault of the statements, with its line: a label's, a directive's, or that of an instruction outside code.
     pub(crate) fn first_fault(&self) -> Option<(SourceCode, u32)>
-        requires { IsFilled self.now }
         ensures { option_map fault_of result ≡ faults.first_unit_fault (said self.now) }
     {
         let statements = self.statements();

@@ -19,7 +19,7 @@ ghost use Rattle.rv_unit.specs.Faults.{ForValue, open_meaning, is_difference};
 ghost use Rattle.rv_unit_tables.specs.Sections.{section_of};
 
 use rv_statement::Choice;
-use rv_text::{Expr, Meaning, SourceCode, SourceFault, Symbol, Value, eval};
+use rv_text::{Expr, SourceCode, SourceFault, Symbol, SymbolMeaning, Value, symbolic_value};
 use rv_unit_tables::{GREATEST_ALIGNMENT, LONGEST_SECTION, Section, is_power_below, padding};
 
 /// What an expression is worth, or its fault.
@@ -111,14 +111,13 @@ pub(crate) fn value_fault(width: u64, value: &Outcome<'_>) -> Option<SourceCode>
 }
 
 /// What a symbol means where each name is open.
-fn open_meaning(symbol: Symbol<'_>) -> Meaning
+fn open_meaning(symbol: Symbol<'_>) -> SymbolMeaning
     ensures { meaning_of result ≡ open_meaning (symbol_of symbol.entry) }
 {
     match symbol {
-        Symbol::Name(_) => Meaning::Open,
-        Symbol::Here => Meaning::UndefinedLocal,
-        Symbol::Backward(_) => Meaning::UndefinedLocal,
-        Symbol::Forward(_) => Meaning::UndefinedLocal,
+        Symbol::Name(_) => SymbolMeaning::Open,
+        Symbol::Here => SymbolMeaning::UndefinedLocal,
+        Symbol::Reference(_) => SymbolMeaning::UndefinedLocal,
     }
 }
 
@@ -126,7 +125,7 @@ fn open_meaning(symbol: Symbol<'_>) -> Meaning
 fn open_value<'e>(expression: &Expr<'e>) -> Outcome<'e>
     ensures { IsOutcome result 0 (value_of open_meaning (tree_of_expr expression.now)) }
 {
-    eval(expression, 0, &|symbol| { open_meaning(symbol) })
+    symbolic_value(expression, 0, &|symbol| { open_meaning(symbol) })
 }
 
 /// Whether a value is a difference.
@@ -246,9 +245,8 @@ pub(crate) fn set_fault(
             faulty_if(defined, SourceCode::DuplicateLabel),
             faulty_if(section.executable, SourceCode::WrongSection),
         ),
-        Ok(Value::Symbolic(Symbol::Name(_), _))
-        | Ok(Value::Symbolic(Symbol::Backward(_), _))
-        | Ok(Value::Symbolic(Symbol::Forward(_), _)) => constant_set_fault(placed, value),
+        Ok(Value::Symbolic(Symbol::Name(_), _)) | Ok(Value::Symbolic(Symbol::Reference(_), _)) =>
+            constant_set_fault(placed, value),
         Ok(Value::Constant(_)) | Ok(Value::Difference(..)) => constant_set_fault(placed, value),
         Err(SourceFault::At { .. }) => constant_set_fault(placed, value),
         Err(SourceFault::OutOfMemory) => constant_set_fault(placed, value),

@@ -2,7 +2,8 @@
 //!
 //! `Unit::build` takes the statements of a source and gives them with the tables that `rv_unit_tables` fills, or the first
 //! faulty label, directive or misplaced instruction: clauses `good` and `refuses` of its contract say that it refuses
-//! exactly the sources for which `rv_unit_laws`'s `first_unit_fault` finds one, and names that. `Scope` goes over the
+//! exactly the sources for which `rv_unit_laws`'s `first_unit_fault` finds one, and names that. `Unit::of` is the same of
+//! the list that spares memory; units of one source are alike (`units_agree`). `Scope` goes over the
 //! statements one by one and tells what a name means in each (`meaning`, `value`) and where it is defined (`definition`);
 //! `Unit::options_at` gives the options of `.option` in which each stands. An [`Item`] is where a statement stands in an
 //! object.
@@ -24,12 +25,14 @@ mod blocks;
 mod check;
 mod faults;
 mod item;
+mod laws;
 mod names;
 mod scope;
 mod unit;
 
 pub use blocks::give_back;
 pub use item::Item;
+pub use laws::units_agree;
 pub use rv_unit_tables::{
     Assignment, Binding, Definition, Extent, LONGEST_SECTION, Options, Section, SectionOffset,
     SectionType, byte_alignment, padding, power_alignment, strings_size, values_size,

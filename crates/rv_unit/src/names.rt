@@ -11,6 +11,7 @@ ghost use Rattle.std.specs.Prelude.{◌≡◌, ℕ, ◌+◌, ◌≤◌, ◌<◌,
 ghost use Rattle.rv_text_laws.specs.Bytes.{digits_value};
 ghost use Rattle.rv_text_laws.specs.Expression.{Symbol as SymbolOf};
 ghost use Rattle.rv_text_laws.specs.Values.{Open};
+ghost use Rattle.rv_lexer.specs.Reference.{digits_in, is_ahead};
 ghost use Rattle.rv_text.specs.Nodes.{symbol_of};
 ghost use Rattle.rv_text.specs.Expr.{lone_primary, expr_of, tree_of_expr};
 ghost use Rattle.rv_text.specs.Eval.{meaning_of, IsOutcome};
@@ -18,15 +19,31 @@ ghost use Rattle.rv_unit_laws.specs.Tables as laws;
 ghost use Rattle.rv_unit_laws.proofs.BeforeLemmas.{IsBefore};
 ghost use Rattle.rv_unit_tables.specs.Sections.{offset_of};
 ghost use Rattle.rv_unit_tables.specs.Tables.{tables_of, IsIndexed};
-ghost use Rattle.rv_unit.specs.Unit.{said, passed, IsApart, IsFilled};
+ghost use Rattle.rv_unit.specs.Unit.{said, passed, IsApart, IsFilled, comes_after};
 
 use crate::unit::Unit;
-use rv_text::{Expr, Meaning, SourceFault, Symbol, Value, eval};
+use rv_text::{Expr, NumericReference, SourceFault, Symbol, SymbolMeaning, Value, symbolic_value};
 use rv_unit_tables::SectionOffset;
+
+/// Whether a symbol is a numeric label that comes after.
+fn comes_after(symbol: Symbol<'_>) -> bool
+    ensures { result ≡ comes_after (symbol_of symbol.entry) }
+{
+    match symbol {
+        Symbol::Name(_) => false,
+        Symbol::Here => false,
+        Symbol::Reference(reference) => reference.is_forward(),
+    }
+}
 
 impl<'a> Unit<'a> {
     /// What a symbol means in the statement of an ordinal, which stands at the offset.
-    pub(crate) fn meaning(&self, ordinal: u32, place: SectionOffset, symbol: Symbol<'_>) -> Meaning
+    pub(crate) fn meaning(
+        &self,
+        ordinal: u32,
+        place: SectionOffset,
+        symbol: Symbol<'_>,
+    ) -> SymbolMeaning
         ensures { (o : ℕ) → IsFilled self.now → ordinal ≡ o →
             meaning_of result
             ≡ laws.meaning (laws.tables (said self.now)) true o (offset_of place)
@@ -35,8 +52,7 @@ impl<'a> Unit<'a> {
         match symbol {
             Symbol::Name(name) => self.named(ordinal, name),
             Symbol::Here => self.tables.stands(place),
-            Symbol::Backward(digits) => self.backward(ordinal, digits),
-            Symbol::Forward(digits) => self.forward(ordinal, digits),
+            Symbol::Reference(reference) => self.referred(ordinal, reference),
         }
     }
 
@@ -79,7 +95,7 @@ impl<'a> Unit<'a> {
         if let Some(name) = self.placed_name(expression) {
             return Ok(Value::Symbolic(Symbol::Name(name), 0));
         }
-        eval(
+        symbolic_value(
             expression,
             line,
             &|symbol| { self.meaning(ordinal, place, symbol) },
@@ -87,7 +103,7 @@ impl<'a> Unit<'a> {
     }
 
     /// What a name means.
-    fn named(&self, ordinal: u32, name: &[u8]) -> Meaning
+    fn named(&self, ordinal: u32, name: &[u8]) -> SymbolMeaning
         ensures { IsIndexed (self.now).tables → (o : ℕ) →
             IsBefore (tables_of (self.now).tables) o → IsApart (tables_of (self.now).tables) →
             meaning_of result ≡ laws.named (tables_of (self.now).tables) true ordinal name.now }
@@ -96,7 +112,7 @@ impl<'a> Unit<'a> {
     }
 
     /// What a name means in its own file.
-    fn own_named(&self, ordinal: u32, name: &[u8]) -> Meaning
+    fn own_named(&self, ordinal: u32, name: &[u8]) -> SymbolMeaning
         ensures { IsIndexed (self.now).tables → (o : ℕ) →
             IsBefore (tables_of (self.now).tables) o → IsApart (tables_of (self.now).tables) →
             meaning_of result
@@ -109,7 +125,7 @@ impl<'a> Unit<'a> {
     }
 
     /// What a name without a label means: what it is set to before, else the location that it is set to later.
-    fn assigned(&self, ordinal: u32, name: &[u8]) -> Meaning
+    fn assigned(&self, ordinal: u32, name: &[u8]) -> SymbolMeaning
         ensures { IsIndexed (self.now).tables → (o : ℕ) →
             IsBefore (tables_of (self.now).tables) o →
             meaning_of result
@@ -125,7 +141,7 @@ impl<'a> Unit<'a> {
     }
 
     /// What a name means that is only set later: a location that it has then, or another file's.
-    fn assigned_later(&self, name: &[u8]) -> Meaning
+    fn assigned_later(&self, name: &[u8]) -> SymbolMeaning
         ensures { IsIndexed (self.now).tables →
             meaning_of result
             ≡ laws.assigned_later true
@@ -133,15 +149,31 @@ impl<'a> Unit<'a> {
     {
         match self.tables.assignment(name) {
             Some(assignment) => match assignment.meaning {
-                Meaning::Constant(_) => Meaning::NotConstant,
+                SymbolMeaning::Constant(_) => SymbolMeaning::NotConstant,
                 meaning => meaning,
             },
-            None => Meaning::Open,
+            None => SymbolMeaning::Open,
+        }
+    }
+
+    /// What the numeric label of a reference means.
+    fn referred(&self, ordinal: u32, reference: NumericReference<'_>) -> SymbolMeaning
+        ensures { IsIndexed (self.now).tables → (o : ℕ) →
+            IsBefore (tables_of (self.now).tables) o →
+            meaning_of result
+            ≡ laws.referred (tables_of (self.now).tables) true ordinal
+            (digits_value 10 (digits_in reference.entry.word.now))
+            (is_ahead reference.entry.word.now) }
+    {
+        if reference.is_forward() {
+            self.forward(ordinal, reference.digits())
+        } else {
+            self.backward(ordinal, reference.digits())
         }
     }
 
     /// What the nearest numeric label before means.
-    fn backward(&self, ordinal: u32, digits: &[u8]) -> Meaning
+    fn backward(&self, ordinal: u32, digits: &[u8]) -> SymbolMeaning
         ensures { IsIndexed (self.now).tables → (o : ℕ) →
             IsBefore (tables_of (self.now).tables) o →
             meaning_of result
@@ -151,12 +183,12 @@ impl<'a> Unit<'a> {
     {
         match self.tables.numeric_label_before(ordinal, digits) {
             Some(numeric_label) => self.tables.stands(numeric_label.place),
-            None => Meaning::UndefinedLocal,
+            None => SymbolMeaning::UndefinedLocal,
         }
     }
 
     /// What the nearest numeric label after means.
-    fn forward(&self, ordinal: u32, digits: &[u8]) -> Meaning
+    fn forward(&self, ordinal: u32, digits: &[u8]) -> SymbolMeaning
         ensures { IsIndexed (self.now).tables → (o : ℕ) →
             IsBefore (tables_of (self.now).tables) o →
             meaning_of result
@@ -166,7 +198,7 @@ impl<'a> Unit<'a> {
     {
         match self.tables.numeric_label_after(ordinal, digits) {
             Some(numeric_label) => self.tables.stands(numeric_label.place),
-            None => Meaning::UndefinedLocal,
+            None => SymbolMeaning::UndefinedLocal,
         }
     }
 
@@ -176,7 +208,7 @@ impl<'a> Unit<'a> {
         ordinal: u32,
         place: SectionOffset,
         symbol: Symbol<'_>,
-    ) -> Meaning
+    ) -> SymbolMeaning
         ensures { (o : ℕ) → IsFilled self.now → ordinal ≡ o →
             meaning_of result
             ≡ laws.meaning (laws.tables (said self.now)) false o (offset_of place)
@@ -185,8 +217,7 @@ impl<'a> Unit<'a> {
         match symbol {
             Symbol::Name(name) => self.early_named(ordinal, name),
             Symbol::Here => self.tables.stands(place),
-            Symbol::Backward(digits) => self.backward(ordinal, digits),
-            Symbol::Forward(digits) => self.early_forward(ordinal, digits),
+            Symbol::Reference(reference) => self.early_referred(ordinal, reference),
         }
     }
 
@@ -202,7 +233,7 @@ impl<'a> Unit<'a> {
             (laws.value_by_tables (laws.tables (said self.now)) false o (offset_of place)
             (tree_of_expr expression.now)) }
     {
-        eval(
+        symbolic_value(
             expression,
             0,
             &|symbol| { self.early_meaning(ordinal, place, symbol) },
@@ -210,7 +241,7 @@ impl<'a> Unit<'a> {
     }
 
     /// What a name means by what is defined before.
-    fn early_named(&self, ordinal: u32, name: &[u8]) -> Meaning
+    fn early_named(&self, ordinal: u32, name: &[u8]) -> SymbolMeaning
         ensures { IsIndexed (self.now).tables → (o : ℕ) →
             IsBefore (tables_of (self.now).tables) o →
             meaning_of result ≡ laws.named (tables_of (self.now).tables) false ordinal name.now }
@@ -220,7 +251,7 @@ impl<'a> Unit<'a> {
     }
 
     /// What a name means in its own file, by what is defined before.
-    fn early_own_named(&self, ordinal: u32, name: &[u8]) -> Meaning
+    fn early_own_named(&self, ordinal: u32, name: &[u8]) -> SymbolMeaning
         ensures { IsIndexed (self.now).tables → (o : ℕ) →
             IsBefore (tables_of (self.now).tables) o →
             meaning_of result
@@ -233,7 +264,7 @@ impl<'a> Unit<'a> {
     }
 
     /// What a name means that is not set before.
-    fn early_labelled(&self, ordinal: u32, name: &[u8]) -> Meaning
+    fn early_labelled(&self, ordinal: u32, name: &[u8]) -> SymbolMeaning
         ensures { IsIndexed (self.now).tables → (o : ℕ) →
             IsBefore (tables_of (self.now).tables) o →
             meaning_of result
@@ -242,12 +273,28 @@ impl<'a> Unit<'a> {
     {
         match self.tables.label_before(ordinal, name) {
             Some(label) => self.tables.stands(label.place),
-            None => Meaning::Open,
+            None => SymbolMeaning::Open,
+        }
+    }
+
+    /// What the numeric label of a reference means, where one after is no constant.
+    fn early_referred(&self, ordinal: u32, reference: NumericReference<'_>) -> SymbolMeaning
+        ensures { IsIndexed (self.now).tables → (o : ℕ) →
+            IsBefore (tables_of (self.now).tables) o →
+            meaning_of result
+            ≡ laws.referred (tables_of (self.now).tables) false ordinal
+            (digits_value 10 (digits_in reference.entry.word.now))
+            (is_ahead reference.entry.word.now) }
+    {
+        if reference.is_forward() {
+            self.early_forward(ordinal, reference.digits())
+        } else {
+            self.backward(ordinal, reference.digits())
         }
     }
 
     /// What a numeric label after means: no constant, if there is one.
-    fn early_forward(&self, ordinal: u32, digits: &[u8]) -> Meaning
+    fn early_forward(&self, ordinal: u32, digits: &[u8]) -> SymbolMeaning
         ensures { IsIndexed (self.now).tables → (o : ℕ) →
             IsBefore (tables_of (self.now).tables) o →
             meaning_of result
@@ -256,8 +303,8 @@ impl<'a> Unit<'a> {
             (digits_value 10 digits.now)) }
     {
         match self.tables.numeric_label_after(ordinal, digits) {
-            Some(_) => Meaning::NotConstant,
-            None => Meaning::UndefinedLocal,
+            Some(_) => SymbolMeaning::NotConstant,
+            None => SymbolMeaning::UndefinedLocal,
         }
     }
 
@@ -291,7 +338,7 @@ impl<'a> Unit<'a> {
     }
 
     /// What a symbol means in the statement of an ordinal by the statements before it alone, where nothing comes after it.
-    fn past_meaning(&self, ordinal: u32, place: SectionOffset, symbol: Symbol<'_>) -> Meaning
+    fn past_meaning(&self, ordinal: u32, place: SectionOffset, symbol: Symbol<'_>) -> SymbolMeaning
         ensures { (index : ℕ) → IsFilled self.now → index ≤ length (said self.now) →
             ordinal ≡ index + 1 →
             place.section < length (laws.opened_of (passed (said self.now) index)).sections
@@ -299,10 +346,10 @@ impl<'a> Unit<'a> {
             ≡ laws.meaning (passed (said self.now) index) false (index + 1) (offset_of place)
             (symbol_of symbol.entry) }
     {
-        match symbol {
-            Symbol::Forward(_) => Meaning::UndefinedLocal,
-            symbol => self.early_meaning(ordinal, place, symbol),
+        if comes_after(symbol) {
+            return SymbolMeaning::UndefinedLocal;
         }
+        self.early_meaning(ordinal, place, symbol)
     }
 
     /// The value of an expression of that statement by the statements before it alone.
@@ -319,7 +366,7 @@ impl<'a> Unit<'a> {
             (laws.value_by_tables (passed (said self.now) index) false (index + 1) (offset_of place)
             (tree_of_expr expression.now)) }
     {
-        eval(
+        symbolic_value(
             expression,
             0,
             &|symbol| { self.past_meaning(ordinal, place, symbol) },

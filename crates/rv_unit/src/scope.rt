@@ -1,8 +1,10 @@
 //! What names mean, statement by statement.
 
 ghost use Rattle.std.specs.Prelude.{◌≡◌, ℕ, ◌+◌, ◌<◌, true, false, length, option_map, is_some};
+ghost use Rattle.rv_text_laws.specs.Expression.{Reference};
 ghost use Rattle.rv_text.specs.Nodes.{symbol_of};
 ghost use Rattle.rv_text.specs.Expr.{tree_of_expr};
+ghost use Rattle.rv_lexer.specs.Reference.{digits_in, is_ahead};
 ghost use Rattle.rv_text.specs.Eval.{meaning_of, IsOutcome};
 ghost use Rattle.rv_unit_laws.specs.Tables as laws;
 ghost use Rattle.rv_unit_laws.proofs.BeforeLemmas.{IsBefore};
@@ -12,7 +14,7 @@ ghost use Rattle.rv_unit.specs.Unit.{said, passed, definition_of, IsApart, IsFil
 
 use crate::unit::Unit;
 use rv_statement::Setting;
-use rv_text::{Expr, Meaning, SourceFault, Symbol, Value};
+use rv_text::{Expr, NumericReference, SourceFault, Symbol, SymbolMeaning, Value};
 use rv_unit_tables::{Assignment, Definition, NumericLabel, SectionOffset, assigned};
 
 /// Names as the statements see them, one after the other.
@@ -67,7 +69,7 @@ impl<'u, 'a> Scope<'u, 'a> {
     }
 
     /// What a symbol means in the statement that is next, which stands at the offset.
-    pub fn meaning(&self, place: SectionOffset, symbol: Symbol<'a>) -> Meaning
+    pub fn meaning(&self, place: SectionOffset, symbol: Symbol<'a>) -> SymbolMeaning
         ensures { (index : ℕ) → IsFilled (self.now).unit.now → IsScope self.now index →
             meaning_of result
             ≡ laws.meaning (laws.tables (said (self.now).unit.now)) true (index + 1)
@@ -89,16 +91,23 @@ impl<'u, 'a> Scope<'u, 'a> {
                 ordinal: self.ordinal,
                 plus: 0,
             }),
-            Symbol::Backward(digits) => {
-                definition_of_numeric_label(
-                    self.unit.tables.numeric_label_before(self.ordinal, digits),
-                )
-            }
-            Symbol::Forward(digits) => {
-                definition_of_numeric_label(
-                    self.unit.tables.numeric_label_after(self.ordinal, digits),
-                )
-            }
+            Symbol::Reference(reference) => self.definition_of_reference(reference),
+        }
+    }
+
+    /// Where the numeric label of a reference stands.
+    fn definition_of_reference(&self, reference: NumericReference<'_>) -> Option<Definition>
+        ensures { IsIndexed (self.now).unit.now.tables → (o : ℕ) →
+            IsBefore (tables_of (self.now).unit.now.tables) o →
+            option_map definition_of result
+            ≡ laws.definition (tables_of (self.now).unit.now.tables) (self.now).ordinal
+            (Reference (digits_in reference.entry.word.now) (is_ahead reference.entry.word.now)) }
+    {
+        let digits = reference.digits();
+        if reference.is_forward() {
+            definition_of_numeric_label(self.unit.tables.numeric_label_after(self.ordinal, digits))
+        } else {
+            definition_of_numeric_label(self.unit.tables.numeric_label_before(self.ordinal, digits))
         }
     }
 
@@ -124,8 +133,7 @@ impl<'u, 'a> Scope<'u, 'a> {
         match symbol {
             Symbol::Name(name) => self.unit.tables.is_weak(name),
             Symbol::Here => false,
-            Symbol::Backward(_) => false,
-            Symbol::Forward(_) => false,
+            Symbol::Reference(_) => false,
         }
     }
 

@@ -1,15 +1,17 @@
 //! A source's statements with what they define.
 
-ghost use Rattle.std.specs.Prelude.{◌≡◌, ◌<◌, ◌≤◌, Some, None, length, option_map, IfOk, IfErr, IfSome, IfNone};
+ghost use Rattle.std.specs.Prelude.{◌≡◌, ◌<◌, ◌≤◌, Some, None, length, map, option_map, IfOk, IfErr, IfSome, IfNone};
 ghost use Rattle.rv_text_laws.specs.Codes.{limit};
 ghost use Rattle.rv_statement.specs.Limits.{most_statements};
 ghost use Rattle.rv_statement.specs.Statements.{statements_of};
+ghost use Rattle.rv_statement.specs.View.{statement_of};
 ghost use Rattle.rv_unit_laws.specs.Faults.{first_unit_fault};
 ghost use Rattle.rv_unit_laws.specs.Tables.{tables, assigned_ever};
 ghost use Rattle.rv_unit_tables.specs.Options.{options_of};
-ghost use Rattle.rv_unit_tables.specs.Tables.{tables_of, assignment_of};
+ghost use Rattle.rv_unit_tables.specs.Tables.{assignment_of};
+ghost use Rattle.rv_unit.specs.Filled.{AreFilled};
 
-use rv_statement::{MOST_STATEMENTS, Statements};
+use rv_statement::{MOST_STATEMENTS, Statement, Statements};
 use rv_text::{SourceCode, SourceFault};
 use rv_unit_tables::{Assignment, Binding, Extent, Options, SectionOffset, Tables};
 use std::alloc::{AllocError, Global};
@@ -23,6 +25,8 @@ pub struct Unit<'a> {
     pub(crate) tables: Tables<'a>,
     /// No more than a source may have.
     pub ghost few: { length (statements_of statements) ≤ most_statements },
+    /// The offsets, the options and the tables are those of the statements.
+    pub ghost filled: { AreFilled places.items options.items tables (statements_of statements) },
 }
 
 /// The line of the first statement that is too many.
@@ -39,13 +43,42 @@ fn line_past_most(statements: &Statements<'_>) -> Option<u32>
     Some(statements.read(MOST_STATEMENTS, &mut room).line)
 }
 
+/// The line of the first statement of a plain list that is too many.
+fn extra_line(statements: &[Statement<'_>]) -> Option<u32>
+    ensures past { IfSome result
+        (λ line. first_unit_fault (map statement_of statements.now)
+        ≡ Some (record { code = limit; line = line })) }
+    ensures few { IfNone result (length statements.now ≤ most_statements) }
+{
+    match statements.get(MOST_STATEMENTS) {
+        Some(extra) => Some(extra.line),
+        None => None,
+    }
+}
+
 impl<'a> Unit<'a> {
-    ghost use Rattle.rv_unit.specs.Unit.{said, passed, IsFilled, NamesFirst};
+    ghost use Rattle.rv_unit.specs.Unit.{said, passed, NamesFirst};
 
     /// The statements with their offsets, their sections and their names; or that there are too many of them, or the
     /// first faulty label or directive, or instruction outside code, at the line of its statement.
-    pub fn build(alloc: Global, statements: Statements<'a>) -> Result<Unit<'a>, SourceFault>
-        ensures filled { IfOk result (λ u. IsFilled u) }
+    pub fn build(alloc: Global, statements: Vec<Statement<'a>>) -> Result<Unit<'a>, SourceFault>
+        ensures same { IfOk result (λ u. said u ≡ map statement_of statements.entry.items) }
+        ensures good { IfOk result (λ u. first_unit_fault (said u) ≡ None) }
+        ensures refuses { IfErr result
+            (λ e. NamesFirst e (map statement_of statements.entry.items)) }
+    {
+        if let Some(line) = extra_line(statements.as_slice()) {
+            return Err(SourceFault::At {
+                code: SourceCode::Limit,
+                line,
+            });
+        }
+        let statements = Statements::of(alloc, statements)?;
+        Unit::of(alloc, statements)
+    }
+
+    /// The same of a list that keeps most statements in few bytes.
+    pub fn of(alloc: Global, statements: Statements<'a>) -> Result<Unit<'a>, SourceFault>
         ensures same { IfOk result (λ u. u.statements ≡ statements.entry) }
         ensures good { IfOk result (λ u. first_unit_fault (said u) ≡ None) }
         ensures refuses { IfErr result
@@ -67,7 +100,6 @@ impl<'a> Unit<'a> {
     /// The statements with their offsets, their sections and their names.
     fn fill(alloc: Global, statements: Statements<'a>) -> Result<Unit<'a>, AllocError>
         requires { length (statements_of statements) ≤ most_statements }
-        ensures filled { IfOk result (λ u. IsFilled u) }
         ensures same { IfOk result (λ u. u.statements ≡ statements.entry) }
     {
         let mut tables = Tables::new(alloc)?;
@@ -96,7 +128,7 @@ impl<'a> Unit<'a> {
 
     /// The options in which the statement at this index, from 0, stands.
     pub fn options_at(&self, index: usize) -> Options
-        ensures { IsFilled self.now → index < length (said self.now)
+        ensures { index < length (said self.now)
             → options_of result ≡ (passed (said self.now) index).options }
     {
         match self.options.get(index) {
@@ -114,7 +146,7 @@ impl<'a> Unit<'a> {
 
     /// The binding of a name: what the last `.globl`, `.local` or `.weak` that lists it says.
     pub fn binding(&self, name: &[u8]) -> Binding
-        ensures { IsFilled self.now → result ≡ (tables (said self.now)).bindings name.now }
+        ensures { result ≡ (tables (said self.now)).bindings name.now }
     {
         self.tables.binding(name)
     }
@@ -128,9 +160,8 @@ impl<'a> Unit<'a> {
 
     /// What `.set` gives a name last.
     pub fn assignment(&self, name: &[u8]) -> Option<Assignment<'a>>
-        ensures { IsFilled self.now →
-            option_map assignment_of result
-            ≡ assigned_ever (tables_of (self.now).tables).assignments name.now }
+        ensures { option_map assignment_of result
+            ≡ assigned_ever (tables (said self.now)).assignments name.now }
     {
         self.tables.assignment(name)
     }

@@ -30,7 +30,7 @@ use crate::section::Section;
 use crate::section_offset::SectionOffset;
 use crate::tables::{Assignment, Tables};
 use rv_statement::{Opening, Setting, StatementKind, Statements};
-use rv_text::{Expr, Meaning, SourceFault, Symbol, Value};
+use rv_text::{Expr, SourceFault, Symbol, SymbolMeaning, Value};
 use std::alloc::{AllocError, Global};
 
 /// Whether a statement enters a section.
@@ -42,7 +42,7 @@ fn enters(kind: &StatementKind<'_>) -> bool
 
 /// What a symbol and a number give the name of a `.set`, where `.` means this: a location, if the symbol is `.` in data.
 fn assigned_symbol<'a>(
-    here: Meaning,
+    here: SymbolMeaning,
     ordinal: u32,
     name: &'a [u8],
     symbol: Symbol<'_>,
@@ -55,26 +55,25 @@ fn assigned_symbol<'a>(
 {
     match symbol {
         Symbol::Here => match here {
-            Meaning::InSection(section, offset) => Some(Assignment {
+            SymbolMeaning::InSection(section, offset) => Some(Assignment {
                 name,
                 ordinal,
-                meaning: Meaning::InSection(section, offset.wrapping_add(plus)),
+                meaning: SymbolMeaning::InSection(section, offset.wrapping_add(plus)),
                 plus,
             }),
-            Meaning::Constant(_) => None,
-            Meaning::Open => None,
-            Meaning::NotConstant => None,
-            Meaning::UndefinedLocal => None,
+            SymbolMeaning::Constant(_) => None,
+            SymbolMeaning::Open => None,
+            SymbolMeaning::NotConstant => None,
+            SymbolMeaning::UndefinedLocal => None,
         },
         Symbol::Name(_) => None,
-        Symbol::Backward(_) => None,
-        Symbol::Forward(_) => None,
+        Symbol::Reference(_) => None,
     }
 }
 
 /// What a value gives the name of a `.set`, where `.` means this.
 fn assigned_value<'a>(
-    here: Meaning,
+    here: SymbolMeaning,
     ordinal: u32,
     name: &'a [u8],
     value: Value<'_>,
@@ -88,7 +87,7 @@ fn assigned_value<'a>(
         Value::Constant(number) => Some(Assignment {
             name,
             ordinal,
-            meaning: Meaning::Constant(number),
+            meaning: SymbolMeaning::Constant(number),
             plus: 0,
         }),
         Value::Symbolic(symbol, plus) => assigned_symbol(here, ordinal, name, symbol, plus),
@@ -98,7 +97,7 @@ fn assigned_value<'a>(
 
 /// What the value of its expression gives the name of a `.set`, where `.` means this.
 pub fn assigned<'a>(
-    here: Meaning,
+    here: SymbolMeaning,
     ordinal: u32,
     name: &'a [u8],
     value: Result<Value<'_>, SourceFault>,

@@ -11,6 +11,7 @@ ghost use Rattle.rv_text_laws.specs.Bytes.{digits_value};
 ghost use Rattle.rv_text_laws.specs.Values.{Open};
 ghost use Rattle.rv_text.specs.Nodes.{symbol_of};
 ghost use Rattle.rv_text.specs.Expr.{tree_of_expr};
+ghost use Rattle.rv_lexer.specs.Reference.{digits_in, is_ahead};
 ghost use Rattle.rv_text.specs.Eval.{meaning_of, IsOutcome};
 ghost use Rattle.rv_statement.specs.declared.directive.Choice.TheVariants.{Pop};
 ghost use Rattle.rv_statement.specs.View.{now_of};
@@ -31,7 +32,7 @@ use crate::section::{Extent, Section};
 use crate::section_offset::SectionOffset;
 use indexmap::IndexMap;
 use rv_statement::{Binding, Choice};
-use rv_text::{Expr, Meaning, SourceFault, Symbol, Value, eval};
+use rv_text::{Expr, NumericReference, SourceFault, Symbol, SymbolMeaning, Value, symbolic_value};
 use std::alloc::{AllocError, Global};
 
 /// The most sections of a source.
@@ -59,7 +60,7 @@ pub struct Assignment<'a> {
     pub name: &'a [u8],
     /// The ordinal of its statement, from 1.
     pub ordinal: u32,
-    pub meaning: Meaning,
+    pub meaning: SymbolMeaning,
     /// The bytes between its statement and a location.
     pub plus: u64,
 }
@@ -69,7 +70,7 @@ impl Assignment<'_> {
     pub fn is_location(&self) -> bool
         ensures { result ≡ laws.is_location (assignment_of self.now) }
     {
-        matches!(self.meaning, Meaning::InSection(..))
+        matches!(self.meaning, SymbolMeaning::InSection(..))
     }
 }
 
@@ -154,14 +155,14 @@ impl<'a> Tables<'a> {
     }
 
     /// What an offset means: in data it has a known distance from others of its section.
-    pub fn stands(&self, place: SectionOffset) -> Meaning
+    pub fn stands(&self, place: SectionOffset) -> SymbolMeaning
         ensures { meaning_of result
             ≡ laws.stands (laws.opened_of (tables_of self.now)) (offset_of place) }
     {
         if self.section_at(place.section).executable {
-            Meaning::Open
+            SymbolMeaning::Open
         } else {
-            Meaning::InSection(place.section, u64::from(place.offset))
+            SymbolMeaning::InSection(place.section, u64::from(place.offset))
         }
     }
 
@@ -275,7 +276,7 @@ impl<'a> Tables<'a> {
     }
 
     /// What a name means so far.
-    fn named(&self, name: &[u8]) -> Meaning
+    fn named(&self, name: &[u8]) -> SymbolMeaning
         ensures { IsIndexed self.now → (o : ℕ) → IsBefore (tables_of self.now) o →
             meaning_of result ≡ laws.named (tables_of self.now) false o name.now }
     {
@@ -284,13 +285,13 @@ impl<'a> Tables<'a> {
 
     /// What a name means that means this in its own file: a place whose name is weak is open, as another file's may stand
     /// for it.
-    pub fn weakened(&self, name: &[u8], meaning: Meaning) -> Meaning
+    pub fn weakened(&self, name: &[u8], meaning: SymbolMeaning) -> SymbolMeaning
         ensures { IsIndexed self.now → meaning_of result
             ≡ laws.weakened ((tables_of self.now).bindings name.now) (meaning_of meaning) }
     {
         match meaning {
-            Meaning::InSection(..) => if self.is_weak(name) {
-                Meaning::Open
+            SymbolMeaning::InSection(..) => if self.is_weak(name) {
+                SymbolMeaning::Open
             } else {
                 meaning
             },
@@ -299,7 +300,7 @@ impl<'a> Tables<'a> {
     }
 
     /// What a name means so far in its own file.
-    fn own_named(&self, name: &[u8]) -> Meaning
+    fn own_named(&self, name: &[u8]) -> SymbolMeaning
         ensures { IsIndexed self.now → (o : ℕ) → IsBefore (tables_of self.now) o →
             meaning_of result ≡ laws.own_named (tables_of self.now) false o name.now }
     {
@@ -310,31 +311,46 @@ impl<'a> Tables<'a> {
     }
 
     /// What a name that is not set means so far.
-    fn labelled(&self, name: &[u8]) -> Meaning
+    fn labelled(&self, name: &[u8]) -> SymbolMeaning
         ensures { meaning_of result
             ≡ laws.labelled (laws.opened_of (tables_of self.now))
             (laws.label_of (tables_of self.now).labels true 0 name.now) Open }
     {
         match self.label(name) {
             Some(label) => self.stands(label.place),
-            None => Meaning::Open,
+            None => SymbolMeaning::Open,
         }
     }
 
     /// What a numeric label before means so far.
-    fn backward(&self, digits: &[u8]) -> Meaning
+    fn backward(&self, digits: &[u8]) -> SymbolMeaning
         ensures { IsIndexed self.now → (o : ℕ) → IsBefore (tables_of self.now) o →
             meaning_of result
             ≡ laws.referred (tables_of self.now) false o (digits_value 10 digits.now) false }
     {
         match self.latest_numeric_label(digits) {
             Some(numeric_label) => self.stands(numeric_label.place),
-            None => Meaning::UndefinedLocal,
+            None => SymbolMeaning::UndefinedLocal,
+        }
+    }
+
+    /// What the numeric label of a reference means so far.
+    fn referred(&self, reference: NumericReference<'_>) -> SymbolMeaning
+        ensures { IsIndexed self.now → (o : ℕ) → IsBefore (tables_of self.now) o →
+            meaning_of result
+            ≡ laws.referred (tables_of self.now) false o
+            (digits_value 10 (digits_in reference.entry.word.now))
+            (is_ahead reference.entry.word.now) }
+    {
+        if reference.is_forward() {
+            SymbolMeaning::UndefinedLocal
+        } else {
+            self.backward(reference.digits())
         }
     }
 
     /// What a symbol means in the next statement, as far as the statements before it say.
-    fn meaning(&self, symbol: Symbol<'a>) -> Meaning
+    fn meaning(&self, symbol: Symbol<'a>) -> SymbolMeaning
         ensures { IsIndexed self.now → (o : ℕ) → IsBefore (tables_of self.now) o →
             meaning_of result
             ≡ laws.meaning (tables_of self.now) false o (laws.here (tables_of self.now))
@@ -343,8 +359,7 @@ impl<'a> Tables<'a> {
         match symbol {
             Symbol::Name(name) => self.named(name),
             Symbol::Here => self.stands(self.here()),
-            Symbol::Backward(digits) => self.backward(digits),
-            Symbol::Forward(_) => Meaning::UndefinedLocal,
+            Symbol::Reference(reference) => self.referred(reference),
         }
     }
 
@@ -355,7 +370,7 @@ impl<'a> Tables<'a> {
             (laws.value_by_tables (tables_of self.now) false o (laws.here (tables_of self.now))
             (tree_of_expr expression.now)) }
     {
-        eval(expression, 0, &|symbol| self.meaning(symbol))
+        symbolic_value(expression, 0, &|symbol| self.meaning(symbol))
     }
 
     /// Whether a section of the name is open.

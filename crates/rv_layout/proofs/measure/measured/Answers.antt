@@ -24,7 +24,7 @@ bounds-places-index c =
     let u = c.args.unit.now in
     let i = c.loop-index.index in
     let inside : i < length (said u) = subst (λ n. i < n) (c.len-index-end.ensures ∙ ap (λ s. length (statements_of s)) c.statements-statements.ensures) c.loop-index-test.true in
-    let inside' = subst (λ n. i < n) (sym (places_count u c.requires)) inside in
+    let inside' = subst (λ n. i < n) (sym (places_count u c.args.unit.now.filled)) inside in
     subst (λ l. i < length l) (sym c.places-places.ensures) inside'
 
 pub extent_at-extent-requires : goal.extent_at-extent-requires
@@ -34,7 +34,7 @@ extent_at-extent-requires c =
     let p : SectionOffset = slice_index_or c.places-places.result.now i (record { section = 0; offset = 0 }) in
     let inside : i < length (said u) = subst (λ n. i < n) (c.len-index-end.ensures ∙ ap (λ s. length (statements_of s)) c.statements-statements.ensures) c.loop-index-test.true in
     let stands : p.section < length u.tables.extents.items =
-    place_inside u i (record { section = 0; offset = 0 }) p c.requires inside (ap (λ l. get_or l i (record { section = 0; offset = 0 })) c.places-places.ensures) in
+    place_inside u i (record { section = 0; offset = 0 }) p c.args.unit.now.filled inside (ap (λ l. get_or l i (record { section = 0; offset = 0 })) c.places-places.ensures) in
     subst (λ l. p.section < length l) (sym c.sections-extents.ensures) stands
 
 pub read-statement-requires : goal.read-statement-requires
@@ -57,12 +57,12 @@ loop-index-preserved c =
     let p : SectionOffset = slice_index_or c.places-places.result.now i (record { section = 0; offset = 0 }) in
     let inside : i < length (said u) = subst (λ n. i < n) (c.len-index-end.ensures ∙ ap (λ s. length (statements_of s)) c.statements-statements.ensures) c.loop-index-test.true in
     let is : slice_get (said u) i ≡ Some x = subst (λ s. slice_get (statements_of s) i ≡ Some x) c.statements-statements.ensures c.read-statement.ensures in
-    let at : StandsAt u i x p = stands_at u i x (record { section = 0; offset = 0 }) p c.requires is (ap (λ l. get_or l i (record { section = 0; offset = 0 })) c.places-places.ensures) in
+    let at : StandsAt u i x p = stands_at u i x (record { section = 0; offset = 0 }) p c.args.unit.now.filled is (ap (λ l. get_or l i (record { section = 0; offset = 0 })) c.places-places.ensures) in
     let rvc = c.rvc-compressed.result in
     let same = c.loop-index.invariant.0 in
-    let filled = subst IsFilled (sym same) c.requires in
+    let filled = subst IsFilled (sym same) c.args.unit.now.filled in
     let on : rvc ≡ (located_at (said u) i x).options.rvc =
-    c.rvc-compressed.ensures ∙ ap (λ (o : Options). o.rvc) (c.options_at.ensures c.requires inside) in
+    c.rvc-compressed.ensures ∙ ap (λ (o : Options). o.rvc) (c.options_at.ensures inside) in
     let e = c.extent_at-extent.result in
     let there : IsExtentAt u.tables.extents.items p.section e = subst (λ l. IsExtentAt l p.section e) c.sections-extents.ensures c.extent_at-extent.ensures in
     let seen : SeenThere u (i + 1) (offset_of p) p.section u.places.items e.section.executable rvc x c.seen.result =
@@ -73,7 +73,7 @@ loop-index-preserved c =
     let within' = subst (λ w. i < length (said w)) (sym same) inside in (
       ap (λ b. b.now) c.pass.ensures.unit ∙ same,
       c.pass.ensures.passes i within' c.loop-index.invariant.1,
-      measured_more u i x p rvc e.section.executable c.loop-index.items c.push.new.self c.seen.result c.requires at on (code_there u i x p e at there) seen c.loop-index.invariant.2 more,
+      measured_more u i x p rvc e.section.executable c.loop-index.items c.push.new.self c.seen.result c.args.unit.now.filled at on (code_there u i x p e at there) seen c.loop-index.invariant.2 more,
       ap length more ∙ length_push c.loop-index.items c.seen.result ∙ ap (λ n. n + 1) c.loop-index.invariant.3,
     )
 

@@ -31,5 +31,5 @@ returns-clause-rounds c =
 pub least-requires : goal.least-requires
 least-requires c =
     let u = c.args.unit.now in
-    let input = measured_input u c.in_ok-items.items c.requires c.in_ok-items.ensures in
+    let input = measured_input u c.in_ok-items.items c.args.unit.now.filled c.in_ok-items.ensures in
     subst (λ l. IsInput c.in_ok-items.items (length l)) (sym c.sections.ensures) input

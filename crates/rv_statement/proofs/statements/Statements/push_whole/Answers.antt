@@ -23,9 +23,9 @@ invariant_of-self-2 c =
           omega arith;
     }
 
-pub returns : goal.returns
+pub returns-clause-added : goal.returns-clause-added
 unfolding statements_of
-returns c =
+returns-clause-added c =
     let records : c.push-2.new.self.items ≡ c.args.self.now.records.items ++ record { words = Whole c.len.result; line = c.args.statement.line } ∷ [] = search rules in
     let whole : c.push.new.self.items ≡ c.args.self.now.whole.items ++ c.args.statement ∷ [] = search rules in
     let at : c.len.result ≡ length c.args.self.now.whole.items = search rules in

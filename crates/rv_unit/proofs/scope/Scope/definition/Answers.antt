@@ -1,6 +1,6 @@
 use Rattle.std.proofs.Common.{◌∙◌, ap, sym, ◌+◌, true, false, length, Some}
-use Rattle.rv_text_laws.specs.Bytes.{digits_value}
 use Rattle.rv_text_laws.specs.Expression.{Symbol, Reference}
+use Rattle.rv_lexer.specs.Reference.{digits_in, is_ahead}
 use Rattle.rv_text.specs.Nodes.{symbol_of}
 use Rattle.rv_unit_laws.specs.Tables.{definition, tables, definition_at, numeric_definition}
 use Rattle.rv_unit_tables.specs.Tables.{tables_of}
@@ -21,18 +21,10 @@ returns-in-Here c = λ i f s.
     let ss = said c.args.self.now.unit.now in
     ap (λ o. Some (definition_at o)) s.ordinal ∙ sym (ap (λ x. definition (tables ss) (i + 1) (symbol_of x)) c.in-Here.is)
 
-pub returns-in-Backward : goal.returns-in-Backward
-returns-in-Backward c = λ i f s.
+pub returns-in-Reference : goal.returns-in-Reference
+returns-in-Reference c = λ i f s.
     let u = c.args.self.now.unit.now in
-    let q = Reference c.in-Backward.digits.now false in
-    c.definition_of_numeric_label.ensures (digits_value 10 c.in-Backward.digits.now) ∙ ap numeric_definition (c.numeric_label_before.ensures f.indexed (1 + length (said u)) (whole_before u f))
+    let q = Reference (digits_in c.in-Reference.reference.word.now) (is_ahead c.in-Reference.reference.word.now) in
+    c.definition_of_reference.ensures f.indexed (1 + length (said u)) (whole_before u f)
     ∙ ap (λ o. definition (tables_of u.tables) o q) s.ordinal ∙ ap (λ t. definition t (i + 1) q) f.tables
-    ∙ sym (ap (λ x. definition (tables (said u)) (i + 1) (symbol_of x)) c.in-Backward.is)
-
-pub returns-in-Forward : goal.returns-in-Forward
-returns-in-Forward c = λ i f s.
-    let u = c.args.self.now.unit.now in
-    let q = Reference c.in-Forward.digits.now true in
-    c.definition_of_numeric_label-in-Forward.ensures (digits_value 10 c.in-Forward.digits.now) ∙ ap numeric_definition (c.numeric_label_after.ensures f.indexed (1 + length (said u)) (whole_before u f))
-    ∙ ap (λ o. definition (tables_of u.tables) o q) s.ordinal ∙ ap (λ t. definition t (i + 1) q) f.tables
-    ∙ sym (ap (λ x. definition (tables (said u)) (i + 1) (symbol_of x)) c.in-Forward.is)
+    ∙ sym (ap (λ x. definition (tables (said u)) (i + 1) (symbol_of x)) c.in-Reference.is)

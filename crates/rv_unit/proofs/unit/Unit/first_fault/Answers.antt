@@ -22,7 +22,7 @@ bounds-places-index c =
     let u = c.args.self.now in
     let i = c.loop-index.index in
     let inside : i < length (said u) = subst (λ n. i < n) (c.len-index-end.ensures ∙ ap (λ s. length (statements_of s)) c.statements-statements.ensures) c.loop-index-test.true in
-    subst (λ l. i < length l) (sym c.places-places.ensures) (subst (λ n. i < n) (sym (places_count u c.requires)) inside)
+    subst (λ l. i < length l) (sym c.places-places.ensures) (subst (λ n. i < n) (sym (places_count u u.filled)) inside)
 
 pub ordinal_of-requires : goal.ordinal_of-requires
 ordinal_of-requires c =
@@ -40,7 +40,7 @@ returns-in-Some c =
     let x = statement_of c.read-statement.result.now in
     let p : SectionOffset = slice_index_or c.places-places.result.now i (record { section = 0; offset = 0 }) in
     let listed : slice_get ss i ≡ Some x = ap (λ s. slice_get (statements_of s) i) (sym c.statements-statements.ensures) ∙ c.read-statement.ensures in
-    let first : IsStatementOf u i (i + 1) p x.kind = is_at u i x p (record { section = 0; offset = 0 }) c.requires listed (ap (λ l. get_or l i (record { section = 0; offset = 0 })) c.places-places.ensures) in
+    let first : IsStatementOf u i (i + 1) p x.kind = is_at u i x p (record { section = 0; offset = 0 }) u.filled listed (ap (λ l. get_or l i (record { section = 0; offset = 0 })) c.places-places.ensures) in
     let at : IsStatementOf u i c.ordinal_of.result p x.kind = subst (λ o. IsStatementOf u i o p x.kind) (sym c.ordinal_of.ensures) first in
     let found = c.fault.ensures i at c.loop-index.invariant.0 in
     sym (check_found ss i (source_fault_number c.in-Some.code) x (drop_listed ss i x listed) (check_lowest ss i x c.fault.result (Some c.in-Some.code) found c.in-Some.is))
@@ -54,7 +54,7 @@ loop-index-preserved c =
     let x = statement_of c.read-statement.result.now in
     let p : SectionOffset = slice_index_or c.places-places.result.now i (record { section = 0; offset = 0 }) in
     let listed : slice_get ss i ≡ Some x = ap (λ s. slice_get (statements_of s) i) (sym c.statements-statements.ensures) ∙ c.read-statement.ensures in
-    let first : IsStatementOf u i (i + 1) p x.kind = is_at u i x p (record { section = 0; offset = 0 }) c.requires listed (ap (λ l. get_or l i (record { section = 0; offset = 0 })) c.places-places.ensures) in
+    let first : IsStatementOf u i (i + 1) p x.kind = is_at u i x p (record { section = 0; offset = 0 }) u.filled listed (ap (λ l. get_or l i (record { section = 0; offset = 0 })) c.places-places.ensures) in
     let at : IsStatementOf u i c.ordinal_of.result p x.kind = subst (λ o. IsStatementOf u i o p x.kind) (sym c.ordinal_of.ensures) first in
     let found = c.fault.ensures i at c.loop-index.invariant.0 in
     let low = check_lowest ss i x c.fault.result None found c.in-None.is in

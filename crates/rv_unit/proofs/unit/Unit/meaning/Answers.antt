@@ -1,4 +1,5 @@
 use Rattle.std.proofs.Common.{◌∙◌, ◌+◌, ap, sym, length, true, false}
+use Rattle.rv_lexer.specs.Reference.{digits_in, is_ahead}
 use Rattle.rv_text.specs.Nodes.{symbol_of}
 use Rattle.rv_text_laws.specs.Bytes.{digits_value}
 use Rattle.rv_unit_laws.specs.Tables as laws
@@ -25,18 +26,12 @@ returns-in-Here c = λ o f at.
     c.stands.ensures ∙ ap (λ (x : laws.Tables). laws.stands (laws.opened_of x) p) f.tables
     ∙ sym (ap (λ x. laws.meaning (laws.tables ss) true o p (symbol_of x)) c.in-Here.is)
 
-pub returns-in-Backward : goal.returns-in-Backward
-returns-in-Backward c = λ o f at.
+pub returns-in-Reference : goal.returns-in-Reference
+returns-in-Reference c = λ o f at.
     let all = tables_of c.args.self.now.tables in
     let ss = said c.args.self.now in
     let p = offset_of c.args.place in
-    c.backward.ensures f.indexed (1 + length ss) (whole_before c.args.self.now f) ∙ ap (λ n. laws.referred all true n (digits_value 10 c.in-Backward.digits.now) false) at ∙ ap (λ x. laws.referred x true o (digits_value 10 c.in-Backward.digits.now) false) f.tables
-    ∙ sym (ap (λ x. laws.meaning (laws.tables ss) true o p (symbol_of x)) c.in-Backward.is)
-
-pub returns-in-Forward : goal.returns-in-Forward
-returns-in-Forward c = λ o f at.
-    let all = tables_of c.args.self.now.tables in
-    let ss = said c.args.self.now in
-    let p = offset_of c.args.place in
-    c.forward.ensures f.indexed (1 + length ss) (whole_before c.args.self.now f) ∙ ap (λ n. laws.referred all true n (digits_value 10 c.in-Forward.digits.now) true) at ∙ ap (λ x. laws.referred x true o (digits_value 10 c.in-Forward.digits.now) true) f.tables
-    ∙ sym (ap (λ x. laws.meaning (laws.tables ss) true o p (symbol_of x)) c.in-Forward.is)
+    let n = digits_value 10 (digits_in c.in-Reference.reference.word.now) in
+    let ahead = is_ahead c.in-Reference.reference.word.now in
+    c.referred.ensures f.indexed (1 + length ss) (whole_before c.args.self.now f) ∙ ap (λ i. laws.referred all true i n ahead) at ∙ ap (λ x. laws.referred x true o n ahead) f.tables
+    ∙ sym (ap (λ x. laws.meaning (laws.tables ss) true o p (symbol_of x)) c.in-Reference.is)

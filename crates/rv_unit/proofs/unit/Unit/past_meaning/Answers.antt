@@ -1,19 +1,13 @@
-use Rattle.std.proofs.Common.{◌∙◌, ◌+◌, ap, sym, false}
-use Rattle.rv_text.specs.Nodes.{symbol_of}
-use Rattle.rv_unit_laws.specs.Tables.{meaning}
+use Rattle.std.proofs.Common.{◌∙◌, ◌+◌, sym}
 use Rattle.rv_unit_tables.specs.Sections.{offset_of}
-use Rattle.rv_unit.specs.Unit.{said, passed}
-use Rattle.rv_unit.proofs.ScopedLemmas.{past_ahead, past_symbol}
+use Rattle.rv_unit.specs.Unit.{said}
+use Rattle.rv_unit.proofs.ScopedLemmas.{past_beyond, past_symbol}
 use Rattle.rv_unit.proofs.unit.Unit.past_meaning.Goals as goal
 
-pub returns-in-Forward : goal.returns-in-Forward
-returns-in-Forward c = λ i f within at inside.
-    let ss = said c.args.self.now in
-    let p = offset_of c.args.place in
-    past_ahead ss i p c.in-Forward.field-0.now within ∙ sym (ap (λ x. meaning (passed ss i) false (i + 1) p (symbol_of x)) c.in-Forward.is)
+pub returns-then-comes_after : goal.returns-then-comes_after
+returns-then-comes_after c = λ i f within at inside.
+    past_beyond (said c.args.self.now) i (offset_of c.args.place) c.args.symbol within (sym c.comes_after.ensures ∙ c.if-comes_after.true)
 
-pub returns-in_default : goal.returns-in_default
-returns-in_default c = λ i f within at inside.
-    let ss = said c.args.self.now in
-    let p = offset_of c.args.place in
-    c.early_meaning.ensures (i + 1) f at ∙ past_symbol ss i p c.args.symbol within inside c.in_default.not-Forward
+pub returns : goal.returns
+returns c = λ i f within at inside.
+    c.early_meaning.ensures (i + 1) f at ∙ past_symbol (said c.args.self.now) i (offset_of c.args.place) c.args.symbol within inside (sym c.comes_after.ensures ∙ c.if-comes_after.false)
