@@ -1,0 +1,16 @@
+pub mod WrapsLemmas
+pub mod ValuesLemmas
+pub mod AgreementLemmas
+pub mod ConstantsLemmas
+pub mod FitsLemmas
+pub mod FormsLemmas
+pub mod SearchesLemmas
+pub mod EarlierLemmas
+pub mod AddedLemmas
+pub mod WalkLemmas
+pub mod EntriesLemmas
+pub mod StartsLemmas
+pub mod FollowLemmas
+pub mod FilesLemmas
+pub mod PlacesLemmas
+pub mod NumbersLemmas

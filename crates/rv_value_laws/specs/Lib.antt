@@ -1,0 +1,4 @@
+pub mod Plain
+pub mod Agreement
+pub mod Forms
+pub mod Sites
