@@ -1,11 +1,12 @@
 //! The program `rv`: builds bare RISC-V programs from assembly sources and runs them.
 //!
-//! All but the start of the process is in `rv_program`.
+//! All but the start of the process is in `rv_program`. The line of a run that does not exit ([`end_line`]) is given on.
 #![tactic(auto)]
 
 use rv_host::Host;
 use rv_job_words::CliError;
 use rv_program::{exit_status, report};
+pub use rv_system::end_line;
 use std::alloc::Global;
 use std::env;
 use std::io::ErrorKind;

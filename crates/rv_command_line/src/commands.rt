@@ -4,11 +4,15 @@ use crate::table::{Entry, Form, HELP, Need, WORDS, Word, word_at, word_of};
 use clap::{Arg, ArgAction, Command, Error};
 use std::alloc::{AllocError, Global};
 
+/// What `--version` says. `scripts/marks.py` writes over the words in brackets, in the finished executable, whether it
+/// was proved and of which commit it is.
+const VERSION: &str = "0.1.0 (not marked, commit not recorded)";
+
 /// The command of the program. Where `first` names a word, it has that one alone, which is all that the rest of the words
 /// speak to.
 pub fn command<'a>(alloc: Global, first: Option<&str>) -> Result<Command<'a>, Error> {
     let plain = Command::new(alloc, "rv")
-        .version("0.1.0")
+        .version(VERSION)
         .about("Assembles, links and runs bare RISC-V programs (RV64IMAC).")
         .after_help(HELP);
     match first.and_then(word_of) {

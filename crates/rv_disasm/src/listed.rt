@@ -1,6 +1,6 @@
 //! The listing of an executable: whole, or row by row, for those who write each part before the next is made.
 
-ghost use Rattle.std.specs.Prelude.{◌≡◌, ◌<◌, ◌++◌, [], false, true, OnOk, IfOk};
+ghost use Rattle.std.specs.Prelude.{◌≡◌, ◌<◌, ◌++◌, [], false, true, OnOk, OnErr, IfOk};
 ghost use Rattle.rv_encode.specs.Word.{Spells};
 ghost use Rattle.rv_compress.specs.Parcel.{StandsFor};
 ghost use Rattle.rv_isa_laws.specs.Reader.{Reader};
@@ -63,6 +63,8 @@ impl<'a> ListedRows<'a> {
     }
 
     /// Adds the text of the next row, which is empty where the row has no code; false where no row is left.
+    ///
+    /// Where memory ran out that row is still the next, and a part of its text may have been added.
     pub fn next(&mut self, text: &mut Vec<u8>) -> Result<bool, AllocError>
         ensures added { (reader : Reader Spells StandsFor) → OnOk result
             (text.new.items ++ listing_left reader self.new
@@ -70,6 +72,9 @@ impl<'a> ListedRows<'a> {
         ensures last { (reader : Reader Spells StandsFor) → IfOk result (λ any.
             any ≡ false → listing_left reader self.new ≡ []) }
         ensures fewer { IfOk result (λ any. any ≡ true → rows_left self.new < rows_left self.old) }
+        ensures stays { OnErr result ((rows_left self.new ≡ rows_left self.old)
+            × ((reader : Reader Spells StandsFor) →
+            listing_left reader self.new ≡ listing_left reader self.old)) }
     {
         if self.added >= self.rows.len() {
             return Ok(false);

@@ -7,6 +7,7 @@ use crate::excerpt::Place;
 use crate::names::{is_assignment, is_macro, is_section};
 use crate::place::FaultPlace;
 use crate::tokens::{LineToken, all_tokens, is_end, is_line_feed, part, span, text_of, unlabelled};
+use memchr::{memchr, memchr2};
 use rv_lexer::SourceCode;
 use std::alloc::{AllocError, Global};
 
@@ -40,13 +41,11 @@ fn value_of_assignment(statement: &[u8], code: SourceCode) -> Option<usize> {
     if !is_fault_of_value(code) {
         return None;
     }
-    let mnemonic = statement
-        .iter()
-        .position(|byte| matches!(*byte, b' ' | b'\t'))?;
+    let mnemonic = memchr2(b' ', b'\t', statement)?;
     if !is_assignment(part(statement, 0, mnemonic)) {
         return None;
     }
-    let comma = statement.iter().position(|byte| *byte == b',')?;
+    let comma = memchr(b',', statement)?;
     Some(comma.saturating_add(1))
 }
 
@@ -66,7 +65,7 @@ fn cut_of(draft: &[u8], code: SourceCode, place: &FaultPlace) -> Place {
     let in_labels = place.shown.start < place.statement.start;
     if in_labels && code == SourceCode::DuplicateLabel {
         let rest = part(draft, place.shown.stop, draft.len());
-        let colon = rest.iter().position(|byte| *byte == b':').unwrap_or(0);
+        let colon = memchr(b':', rest).unwrap_or(0);
         return Place {
             start: place.shown.start,
             stop: place.shown.stop.saturating_add(colon).saturating_add(1),

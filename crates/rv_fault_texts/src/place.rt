@@ -11,7 +11,7 @@ use crate::tokens::{
     LineToken, Sort, all_tokens, is_end, is_label, part, place, span, text_of, unlabelled,
 };
 use rv_lexer::{SourceCode, SourceFault};
-use rv_parse::parse;
+use rv_parse::parse_compact;
 use std::alloc::{AllocError, Global};
 
 /// More halvings than any line has tokens.
@@ -139,7 +139,7 @@ fn is_read(
 
 /// Whether a text that ends with a foreign byte is right up to that.
 fn is_right(alloc: Global, text: &[u8]) -> Result<bool, AllocError> {
-    match parse(alloc, text) {
+    match parse_compact(alloc, text) {
         Ok(_) => Ok(true),
         Err(SourceFault::At { code, .. }) => Ok(code == SourceCode::BadByte),
         Err(SourceFault::OutOfMemory) => Err(AllocError),

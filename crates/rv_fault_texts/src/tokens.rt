@@ -92,7 +92,7 @@ fn tokens_of_lines(
     }
     let mut lexer = Lexer::new(source);
     for _ in 0..=source.len() {
-        let token = lexer.next();
+        let token = lexer.token();
         if last < token.line {
             break;
         }
@@ -156,7 +156,7 @@ pub(crate) fn sort_of(kind: TokenKind<'_>) -> Sort {
         TokenKind::Punct(punct) => sort_of_punct(punct),
         TokenKind::Name(_) => Sort::Name,
         TokenKind::Number(_, _) => Sort::Number,
-        TokenKind::Reference(_, _) => Sort::Reference,
+        TokenKind::Reference(_) => Sort::Reference,
         TokenKind::BadWord(_) => Sort::BadWord,
         TokenKind::Text(_) => Sort::Other,
         TokenKind::Character(_) => Sort::Number,

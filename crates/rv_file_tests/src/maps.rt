@@ -1,6 +1,6 @@
 //! A map's text, read and written again.
 
-use rv_map::{Map, Region, Row, read, reread, row_at, write};
+use rv_map::{Map, Region, Row, read, reread, write};
 use std::test::Fail;
 
 /// The map of the program that exits with 7.
@@ -69,8 +69,8 @@ fn reads_exit7(rt: HostRuntime) -> Result<(), Fail> {
     assert!(rt; has_globals(&map));
     assert!(rt; has_rows(&map));
     // the label's row has no bytes
-    assert!(rt; row_at(&map, 0x10000) == map.rows.get(1));
-    assert!(rt; row_at(&map, 0x10002).is_none());
+    assert!(rt; map.row_at(0x10000) == map.rows.get(1));
+    assert!(rt; map.row_at(0x10002).is_none());
     assert!(rt; write(alloc, &map)?.as_slice() == EXIT7);
     let again = reread(alloc, &map)?.ok_or("its text is a map's")?;
     assert!(rt; again == map);

@@ -2,6 +2,7 @@
 
 use crate::bytes::collect;
 use crate::columns::{put, put_blanks, put_bytes, put_right};
+use memchr::memchr;
 use rv_image::Image;
 use rv_map::{Map, Row, put_padded};
 use std::alloc::{AllocError, Global};
@@ -121,7 +122,7 @@ impl<'s, 'n, 't, 'i> SourceLines<'s, 'n, 't, 'i> {
 
 /// The first line of a text, and what is after its end, if there is one.
 fn cut_line(text: &[u8]) -> (&[u8], Option<&[u8]>) {
-    match text.iter().position(|byte| *byte == b'\n') {
+    match memchr(b'\n', text) {
         Some(end) => (
             text.get(..end).unwrap_or(text),
             text.get(end.saturating_add(1)..),

@@ -1,13 +1,15 @@
 -- The last digit of a number in hexadecimal.
 
-use Rattle.std.proofs.Common.{◌≡◌, ℕ, zero, suc, ◌-◌, ◌/◌, ◌%◌, ◌^◌, ◌≤◌, ◌<◌, false, cond, List, [], ◌∷◌, ◌++◌, refl, eqb, sym, ap, ◌∙◌, append_assoc, arith, inl, inr}
+use Rattle.std.proofs.Common.{◌≡◌, ℕ, Bool, true, zero, suc, ◌-◌, ◌/◌, ◌%◌, ◌^◌, ◌≤◌, ◌<◌, false, cond, List, [], ◌∷◌, ◌++◌, refl, eqb, sym, ap, ◌∙◌, append_assoc, arith, inl, inr}
 use Rattle.std.proofs.lemmas.Bool.{cases_lt}
 use Rattle.std.proofs.lemmas.Bool.Decides.{nat_tests}
+use Rattle.std.proofs.lemmas.Str.Ascii.{IsAscii-nil, IsAscii-cons}
 use Rattle.std.specs.Fmt.{digits, digits_onto, digit_glyph}
+use Rattle.std.specs.Str.{IsAscii}
 use Rattle.std.proofs.lemmas.Fmt.{hex_one_digit}
 use Rattle.rv_map.specs.Text.{hexadecimal}
 
-abbrev pub spell : ℕ → ℕ → List ℕ → List ℕ
+abbrev spell : ℕ → ℕ → List ℕ → List ℕ
 spell k n acc = digits_onto k 16 false n acc
 
 abbrev last : ℕ → ℕ
@@ -50,3 +52,22 @@ room_left n zero h small = absurd (omega (arith, h, small))
 room_left n (suc start) h small =
     let less : suc start - 1 ≡ start = omega arith in
     (omega arith, rw less (omega (arith, small)))
+
+-- ---- digits are ASCII
+
+below : (d : ℕ) → d < 16 → digit_glyph false d < 128
+below d h = grind (arith, nat_tests)
+
+either : (t : Bool) (xs ys : List ℕ) → IsAscii xs → IsAscii ys → IsAscii (cond t xs ys)
+either true xs ys h k = h
+either false xs ys h k = k
+
+ascii_onto : (k n : ℕ) (acc : List ℕ) → IsAscii acc → IsAscii (spell k n acc)
+ascii_onto zero n acc h = h
+ascii_onto (suc k) n acc h =
+    let more = IsAscii-cons (last n) acc (below (n % 16) (omega arith)) h in
+    either (eqb (n / 16) 0) (last n ∷ acc) (spell k (n / 16) (last n ∷ acc)) more (ascii_onto k (n / 16) (last n ∷ acc) more)
+
+pub ascii_hexadecimal : (n : ℕ) → IsAscii (hexadecimal n)
+unfolding digits
+ascii_hexadecimal n = ascii_onto 64 n [] IsAscii-nil

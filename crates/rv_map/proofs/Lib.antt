@@ -1,5 +1,4 @@
 pub mod HexadecimalLemmas
-pub mod PaddedLemmas
 pub mod CuttingLemmas
 pub mod DigitsLemmas
 pub mod NumbersLemmas

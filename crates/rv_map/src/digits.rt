@@ -1,6 +1,6 @@
 //! Numbers in hexadecimal, added to a text.
 
-ghost use Rattle.std.specs.Prelude.{◌≡◌, ◌<◌, ◌≤◌, ◌++◌, OnOk, drop, false};
+ghost use Rattle.std.specs.Prelude.{◌≡◌, ◌<◌, ◌++◌, OnOk, drop, replicate, false};
 ghost use Rattle.std.specs.Fmt.{digit_glyph};
 ghost use Rattle.rv_map.specs.Text.{hexadecimal, padded};
 
@@ -17,13 +17,34 @@ pub fn put_hexadecimal(text: &mut Vec<u8>, number: u64) -> Result<(), AllocError
     ensures { OnOk result (text.new.items ≡ text.old.items ++ hexadecimal number) }
 {
     let mut digits = [0; DIGITS];
-    let start = write_digits(&mut digits, number);
+    let start = write_hexadecimal(&mut digits, number);
     text.extend_from_slice(&digits[start..])?;
     Ok(())
 }
 
-/// Writes a number's digits at the end of the array, the last first, and gives the index of the first.
-fn write_digits(digits: &mut [u8; DIGITS], number: u64) -> usize
+/// Adds a number in hexadecimal, in lower case, with zeros in front where it has fewer digits than `width`.
+pub fn put_padded(text: &mut Vec<u8>, number: u64, width: usize) -> Result<(), AllocError>
+    ensures { OnOk result (text.new.items ≡ text.old.items ++ padded width number) }
+{
+    let mut digits = [0; DIGITS];
+    let start = write_hexadecimal(&mut digits, number);
+    put_zeros(text, width.saturating_sub(DIGITS - start))?;
+    text.extend_from_slice(&digits[start..])?;
+    Ok(())
+}
+
+/// Adds zeros.
+fn put_zeros(text: &mut Vec<u8>, count: usize) -> Result<(), AllocError>
+    ensures { OnOk result (text.new.items ≡ text.old.items ++ replicate count 48) }
+{
+    for _ in 0..count {
+        text.push(b'0')?;
+    }
+    Ok(())
+}
+
+/// Writes a number's digits in hexadecimal, in lower case, at the end of the array, and gives the index of the first.
+pub fn write_hexadecimal(digits: &mut [u8; DIGITS], number: u64) -> usize
     ensures fits { result < 16 }
     ensures written { drop result digits.new ≡ hexadecimal number }
 {
@@ -36,18 +57,6 @@ fn write_digits(digits: &mut [u8; DIGITS], number: u64) -> usize
     }
     digits[start] = digit(rest);
     start
-}
-
-/// Adds a number in hexadecimal, in lower case, with zeros in front where it has fewer digits than `width`.
-pub fn put_padded(text: &mut Vec<u8>, number: u64, width: usize) -> Result<(), AllocError>
-    requires { 1 ≤ width }
-    ensures { OnOk result (text.new.items ≡ text.old.items ++ padded width number) }
-{
-    if number < 16 && width == 1 {
-        return Ok(text.push(digit(number))?);
-    }
-    put_padded(text, number / 16, width.saturating_sub(1).max(1))?;
-    Ok(text.push(digit(number % 16))?)
 }
 
 /// The hexadecimal digit of a number below 16.

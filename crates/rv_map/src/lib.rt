@@ -11,7 +11,7 @@
 //! ```text
 //! let map = read(alloc, text)?.ok_or("no map")?;
 //! let start = map.entry;
-//! let row = row_at(&map, start);
+//! let row = map.row_at(start);
 //! let again = write(alloc, &map)?;
 //! // again.as_slice() == text
 //! ```
@@ -25,9 +25,8 @@ mod numeral;
 mod reading;
 mod writing;
 
-pub use digits::{put_hexadecimal, put_padded};
+pub use digits::{put_hexadecimal, put_padded, write_hexadecimal};
 pub use law::{one_map, reread};
-pub use lookup::row_at;
 pub use map::{Global, Map, Region, Row, SectionId};
 pub use reading::read;
 pub use writing::write;

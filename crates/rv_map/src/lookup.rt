@@ -6,11 +6,14 @@ ghost use Rattle.rv_map.specs.Lookup.{starts_at};
 
 use crate::map::{Map, Row};
 
-/// The first row with more than 0 bytes that starts at the address.
-pub fn row_at(map: &Map, address: u64) -> Option<&Row>
-    ensures { option_map (λ row. row.now) result ≡ find (starts_at address) map.now.rows.items }
-{
-    map.rows
-        .iter()
-        .find(|row| row.address == address && row.bytes > 0)
+impl Map {
+    /// The first row with more than 0 bytes that starts at the address.
+    pub fn row_at(&self, address: u64) -> Option<&Row>
+        ensures { option_map (λ row. row.now) result
+            ≡ find (starts_at address) self.now.rows.items }
+    {
+        self.rows
+            .iter()
+            .find(|row| row.address == address && row.bytes > 0)
+    }
 }

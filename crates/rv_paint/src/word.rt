@@ -4,6 +4,8 @@
 
 ghost use Rattle.std.specs.Prelude.{◌<◌, ◌≤◌, length};
 
+use memchr::memchr;
+
 /// The length of the word at the front of a text.
 pub(crate) fn word_length(text: &[u8]) -> usize
     requires { 0 < length text.now }
@@ -25,9 +27,7 @@ pub(crate) fn word_length(text: &[u8]) -> usize
 fn line_length(text: &[u8]) -> usize
     ensures { result ≤ length text.now }
 {
-    text.iter()
-        .position(|byte| *byte == b'\n')
-        .unwrap_or(text.len())
+    memchr(b'\n', text).unwrap_or(text.len())
 }
 
 /// How many blanks are at the front.

@@ -17,9 +17,9 @@ use Rattle.rv_machine.specs.declared.end.End.{End}
 use Rattle.rv_machine.specs.End as ends
 use Rattle.rv_machine.specs.declared.running.RunFault.{RunFault}
 use Rattle.rv_machine.specs.declared.running.RunFault.TheVariants as runs
-use Rattle.rv_link.specs.declared.fault.LinkFault.{LinkFault}
-use Rattle.rv_link.specs.declared.fault.LinkFault.TheVariants.{Undefined, Duplicate}
-use Rattle.rv_link.specs.Fault as links
+use Rattle.rv_reloc.specs.declared.fault.LinkFault.{LinkFault}
+use Rattle.rv_reloc.specs.declared.fault.LinkFault.TheVariants.{Undefined, Duplicate}
+use Rattle.rv_reloc.specs.Fault as links
 use Rattle.rv_fault.specs.declared.fault.Fault.{Fault}
 use Rattle.rv_fault.specs.declared.fault.Fault.TheVariants.{Source, File, Link, Memory}
 use Rattle.rv_system.specs.declared.error.JobError.{JobError}

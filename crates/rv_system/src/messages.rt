@@ -11,6 +11,7 @@ use rv_fault::Fault;
 use rv_lexer::SourceFault;
 use rv_link::LinkFault;
 use rv_machine::{End, RunFault};
+use rv_map::write_hexadecimal;
 use std::alloc::{AllocError, Global};
 use std::str::from_utf8;
 
@@ -124,9 +125,9 @@ pub fn end_line(end: &End) -> ArrayString<LINE_BYTES>
     };
     line.push_str(" ");
     let mut digits = [0; 16];
-    let count = io::hex(address, 1, &mut digits);
+    let start = write_hexadecimal(&mut digits, address);
     // Digits are ASCII.
-    if let Ok(digits) = from_utf8(&digits[..count]) {
+    if let Ok(digits) = from_utf8(&digits[start..]) {
         line.push_str(digits);
     }
     line

@@ -1,6 +1,6 @@
 use Rattle.std.proofs.Common.{◌+◌, ◌≡◌, ◌<◌, ◌++◌, ◌^◌, suc, drop, length}
 use Rattle.rv_map.specs.Text.{hexadecimal}
-use Rattle.rv_map.proofs.digits.write_digits.Given as goal
+use Rattle.rv_map.proofs.digits.write_hexadecimal.Given as goal
 
 abbrev pub invariant-loop-rest : goal.invariant-loop-rest
 invariant-loop-rest l =

@@ -1,7 +1,7 @@
 use Rattle.std.proofs.Common.{◌≡◌, ◌+◌, ◌-◌, arith, append_assoc, append-nil}
 use Rattle.std.proofs.lemmas.List.{drop-set, drop_all, length-set}
 use Rattle.rv_map.proofs.HexadecimalLemmas.{hexadecimal_step, hexadecimal_digit, room_left}
-use Rattle.rv_map.proofs.digits.write_digits.Goals as goal
+use Rattle.rv_map.proofs.digits.write_hexadecimal.Goals as goal
 
 pub loop-rest-init : goal.loop-rest-init
 loop-rest-init c =
