@@ -4,7 +4,7 @@ ghost use Rattle.std.specs.Prelude.{◌≡◌};
 
 use rv_elf::FileFault;
 use rv_lexer::SourceFault;
-use rv_link::LinkFault;
+use rv_reloc::LinkFault;
 use std::alloc::{AllocError, AllocFailed};
 use thiserror::Error;
 

@@ -5,8 +5,8 @@ use Rattle.std.specs.Prelude.{◌≡◌, ◌-◌, ◌^◌, ◌%◌, ℤ, pos, ne
 use Rattle.rv_isa.specs.declared.kind.Kind.{Kind}
 use Rattle.rv_isa.specs.declared.kind.Kind.TheVariants as kind
 use Rattle.rv_isa_laws.specs.Halves.{hi}
-use Rattle.rv_reloc.specs.declared.fault.PatchFault.{PatchFault}
-use Rattle.rv_reloc.specs.declared.fault.PatchFault.TheVariants.{Overflow, OddTarget}
+use Rattle.rv_reloc.specs.declared.fault.LinkFault.{LinkFault}
+use Rattle.rv_reloc.specs.declared.fault.LinkFault.TheVariants.{Overflow, OddTarget}
 
 abbrev pub IsBetween : (low high : ℤ) → ℤ → Type 0
 IsBetween low high v = (low ≤ℤ v) × (v ≤ℤ high)
@@ -47,7 +47,8 @@ pub record Takes (k : Kind) (v : ℤ) : Type 0 where
   pub range : IsInRange k v
   pub even : is_target k ≡ true → IsOdd v → ⊥
 
--- why it does not: out of range, and only in range odd
-abbrev pub Refuses : Kind → ℤ → PatchFault → Type 0
+-- why it does not: out of range, and only in range odd; for no other reason
+abbrev pub Refuses : Kind → ℤ → LinkFault → Type 0
 Refuses k v Overflow = IsInRange k v → ⊥
 Refuses k v OddTarget = IsInRange k v × (is_target k ≡ true) × IsOdd v
+Refuses k v _ = ⊥

@@ -13,8 +13,8 @@ ghost use Rattle.rv_reloc.specs.Fields.{
   low_six,
 };
 ghost use Rattle.rv_reloc.specs.Ranges.{Refuses, Takes};
-ghost use Rattle.rv_reloc.specs.declared.fault.PatchFault.{PatchFault};
-ghost use Rattle.rv_reloc.specs.declared.fault.PatchFault.TheVariants.{Overflow, OddTarget};
+ghost use Rattle.rv_reloc.specs.declared.fault.LinkFault.{LinkFault};
+ghost use Rattle.rv_reloc.specs.declared.fault.LinkFault.TheVariants.{Overflow, OddTarget};
 ghost use Rattle.std.specs.Prelude.{ℤ};
 
 /// A field whose immediate is set to a number has that immediate, and every other bit as before.
@@ -31,6 +31,6 @@ pub fn immediates_are_held()
 
 /// A value that a field takes is not refused, and no value is refused for both causes.
 pub fn refusals_are_exact()
-    ensures taken { (k : Kind) (v : ℤ) (fault : PatchFault) → Takes k v → Refuses k v fault → ⊥ }
+    ensures taken { (k : Kind) (v : ℤ) (fault : LinkFault) → Takes k v → Refuses k v fault → ⊥ }
     ensures one { (k : Kind) (v : ℤ) → Refuses k v Overflow → Refuses k v OddTarget → ⊥ }
 {}

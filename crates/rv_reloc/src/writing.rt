@@ -9,7 +9,7 @@ ghost use Rattle.rv_isa_laws.specs.Bytes.{little_endian};
 ghost use Rattle.rv_reloc.specs.Fields.{written, patched};
 ghost use Rattle.rv_reloc.specs.Ranges as is;
 
-use crate::fault::PatchFault;
+use crate::fault::LinkFault;
 use crate::immediate::{
     with_b, with_both, with_cb, with_cj, with_i, with_j, with_low_six, with_s, with_u,
 };
@@ -53,15 +53,15 @@ fn is_target(kind: Kind) -> bool
 }
 
 /// Refuses what the field cannot take.
-fn check(kind: Kind, value: i64) -> Result<(), PatchFault>
+fn check(kind: Kind, value: i64) -> Result<(), LinkFault>
     ensures takes { OnOk result (is.Takes kind value) }
     ensures refuses { IfErr result (is.Refuses kind value) }
 {
     if !is_in_range(kind, value) {
-        return Err(PatchFault::Overflow);
+        return Err(LinkFault::Overflow);
     }
     if is_target(kind) && value.unsigned_abs() % 2 == 1 {
-        return Err(PatchFault::OddTarget);
+        return Err(LinkFault::OddTarget);
     }
     Ok(())
 }
@@ -99,8 +99,8 @@ fn rewritten(kind: Kind, value: i64, number: u64) -> u64
 /// # Errors
 ///
 /// `Overflow` where the value is out of the field's range, and, in that range, `OddTarget` where a jump would go to an
-/// odd address. The field is unchanged then.
-pub fn patch(field: &mut [u8], kind: Kind, value: i64) -> Result<(), PatchFault>
+/// odd address. The field is unchanged then. No other fault is answered: this takes no memory.
+pub fn patch(field: &mut [u8], kind: Kind, value: i64) -> Result<(), LinkFault>
     requires { length field.old ≡ width_of kind }
     ensures takes { OnOk result (is.Takes kind value) }
     ensures writes { OnOk result (field.new ≡ patched kind value field.old) }

@@ -1,10 +1,10 @@
 use crate::table::{ROWS, Row};
 use rv_isa::{Kind, kind_of};
-use rv_reloc::{PatchFault, patch, value};
+use rv_reloc::{LinkFault, patch, value};
 use std::process::Abort;
 
 /// A value's answer, and the field afterwards, of a field that was the low bytes of `old`.
-fn patched(rt: &impl Abort, kind: Kind, value: i64, old: u64) -> (Result<(), PatchFault>, u64) {
+fn patched(rt: &impl Abort, kind: Kind, value: i64, old: u64) -> (Result<(), LinkFault>, u64) {
     let mut bytes = old.to_le_bytes();
     let width = kind.width();
     assert!(rt; width <= 8);
@@ -47,64 +47,79 @@ fn fields_of_gnu(rt: HostRuntime) {
     assert_eq!(&rt; first_wrong(&rt), None);
 }
 
-/// What is refused, by the ranges of the formats: one past each end, and the last odd values before it.
-const REFUSED: &[(Kind, i64, PatchFault)] = &[
-    (Kind::Abs32, 0x1_0000_0000, PatchFault::Overflow),
-    (Kind::Abs32, -0x8000_0001, PatchFault::Overflow),
-    (Kind::Abs32, i64::MAX, PatchFault::Overflow),
-    (Kind::Pcrel32, 0x8000_0000, PatchFault::Overflow),
-    (Kind::Pcrel32, -0x8000_0001, PatchFault::Overflow),
-    (Kind::Branch, 4096, PatchFault::Overflow),
-    (Kind::Branch, 4095, PatchFault::Overflow),
-    (Kind::Branch, 4093, PatchFault::OddTarget),
-    (Kind::Branch, 1, PatchFault::OddTarget),
-    (Kind::Branch, -1, PatchFault::OddTarget),
-    (Kind::Branch, -4095, PatchFault::OddTarget),
-    (Kind::Branch, -4097, PatchFault::Overflow),
-    (Kind::Jal, 1_048_576, PatchFault::Overflow),
-    (Kind::Jal, 1_048_575, PatchFault::Overflow),
-    (Kind::Jal, 1_048_573, PatchFault::OddTarget),
-    (Kind::Jal, -1_048_575, PatchFault::OddTarget),
-    (Kind::Jal, -1_048_577, PatchFault::Overflow),
-    (Kind::RvcBranch, 256, PatchFault::Overflow),
-    (Kind::RvcBranch, 255, PatchFault::Overflow),
-    (Kind::RvcBranch, 253, PatchFault::OddTarget),
-    (Kind::RvcBranch, -255, PatchFault::OddTarget),
-    (Kind::RvcBranch, -257, PatchFault::Overflow),
-    (Kind::RvcJump, 2048, PatchFault::Overflow),
-    (Kind::RvcJump, 2047, PatchFault::Overflow),
-    (Kind::RvcJump, 2045, PatchFault::OddTarget),
-    (Kind::RvcJump, -2047, PatchFault::OddTarget),
-    (Kind::RvcJump, -2049, PatchFault::Overflow),
-    (Kind::Call, 0x7fff_f800, PatchFault::Overflow),
-    (Kind::Call, 0x7fff_f7ff, PatchFault::OddTarget),
-    (Kind::Call, -0x8000_07ff, PatchFault::OddTarget),
-    (Kind::Call, -0x8000_0801, PatchFault::Overflow),
-    (Kind::CallPlt, 0x7fff_f800, PatchFault::Overflow),
-    (Kind::CallPlt, 0x7fff_f7ff, PatchFault::OddTarget),
-    (Kind::CallPlt, -0x8000_07ff, PatchFault::OddTarget),
-    (Kind::CallPlt, -0x8000_0801, PatchFault::Overflow),
-    (Kind::CallPlt, i64::MAX, PatchFault::Overflow),
-    (Kind::CallPlt, i64::MIN, PatchFault::Overflow),
-    (Kind::PcrelHi20, 0x7fff_f800, PatchFault::Overflow),
-    (Kind::PcrelHi20, -0x8000_0801, PatchFault::Overflow),
-    (Kind::PcrelHi20, i64::MIN, PatchFault::Overflow),
-    (Kind::Hi20, 0x7fff_f800, PatchFault::Overflow),
-    (Kind::Hi20, -0x8000_0801, PatchFault::Overflow),
-    (Kind::Hi20, i64::MAX, PatchFault::Overflow),
+/// What no field of the kind holds, by the ranges of the formats: one past each end, and the last values.
+const PAST: &[(Kind, i64)] = &[
+    (Kind::Abs32, 0x1_0000_0000),
+    (Kind::Abs32, -0x8000_0001),
+    (Kind::Abs32, i64::MAX),
+    (Kind::Pcrel32, 0x8000_0000),
+    (Kind::Pcrel32, -0x8000_0001),
+    (Kind::Branch, 4096),
+    (Kind::Branch, 4095),
+    (Kind::Branch, -4097),
+    (Kind::Jal, 1_048_576),
+    (Kind::Jal, 1_048_575),
+    (Kind::Jal, -1_048_577),
+    (Kind::RvcBranch, 256),
+    (Kind::RvcBranch, 255),
+    (Kind::RvcBranch, -257),
+    (Kind::RvcJump, 2048),
+    (Kind::RvcJump, 2047),
+    (Kind::RvcJump, -2049),
+    (Kind::Call, 0x7fff_f800),
+    (Kind::Call, -0x8000_0801),
+    (Kind::CallPlt, 0x7fff_f800),
+    (Kind::CallPlt, -0x8000_0801),
+    (Kind::CallPlt, i64::MAX),
+    (Kind::CallPlt, i64::MIN),
+    (Kind::PcrelHi20, 0x7fff_f800),
+    (Kind::PcrelHi20, -0x8000_0801),
+    (Kind::PcrelHi20, i64::MIN),
+    (Kind::Hi20, 0x7fff_f800),
+    (Kind::Hi20, -0x8000_0801),
+    (Kind::Hi20, i64::MAX),
 ];
 
-/// Whether a field of zeros and a field of ones are refused so and keep their bytes.
-fn is_refused(rt: &impl Abort, row: &(Kind, i64, PatchFault)) -> bool {
-    let (kind, value, fault) = *row;
-    patched(rt, kind, value, 0) == (Err(fault), 0)
-        && patched(rt, kind, value, u64::MAX) == (Err(fault), u64::MAX)
+/// What is in range but odd, where a jump goes: the last ones.
+const ODD: &[(Kind, i64)] = &[
+    (Kind::Branch, 4093),
+    (Kind::Branch, 1),
+    (Kind::Branch, -1),
+    (Kind::Branch, -4095),
+    (Kind::Jal, 1_048_573),
+    (Kind::Jal, -1_048_575),
+    (Kind::RvcBranch, 253),
+    (Kind::RvcBranch, -255),
+    (Kind::RvcJump, 2045),
+    (Kind::RvcJump, -2047),
+    (Kind::Call, 0x7fff_f7ff),
+    (Kind::Call, -0x8000_07ff),
+    (Kind::CallPlt, 0x7fff_f7ff),
+    (Kind::CallPlt, -0x8000_07ff),
+];
+
+/// Whether a field of zeros and a field of ones refuse the value so and keep their bytes.
+fn is_refused(rt: &impl Abort, row: &(Kind, i64), fault: &LinkFault) -> bool {
+    let (kind, value) = *row;
+    let (of_zeros, zeros) = patched(rt, kind, value, 0);
+    let (of_ones, ones) = patched(rt, kind, value, u64::MAX);
+    of_zeros.as_ref() == Err(fault)
+        && zeros == 0
+        && of_ones.as_ref() == Err(fault)
+        && ones == u64::MAX
 }
 
 #[test]
-fn refused_values(rt: HostRuntime) {
-    for (index, row) in REFUSED.iter().enumerate() {
-        assert!(&rt; is_refused(&rt, row), "row {index}");
+fn values_past_the_range(rt: HostRuntime) {
+    for (index, row) in PAST.iter().enumerate() {
+        assert!(&rt; is_refused(&rt, row, &LinkFault::Overflow), "row {index}");
+    }
+}
+
+#[test]
+fn odd_targets(rt: HostRuntime) {
+    for (index, row) in ODD.iter().enumerate() {
+        assert!(&rt; is_refused(&rt, row, &LinkFault::OddTarget), "row {index}");
     }
 }
 
