@@ -7,14 +7,14 @@ use Rattle.std.specs.Global.{Vec}
 use Rattle.std.specs.List.{AllByRecursion}
 use Rattle.std.specs.Prelude.{slice_get, slice_set, if◌then◌else◌}
 use Rattle.rv_isa.specs.declared.kind.Kind.{Kind}
-use Rattle.rv_object.specs.declared.relocation.Relocation.{Relocation as DeclaredRelocation}
-use Rattle.rv_object.specs.Object.{Relocation}
+use Rattle.rv_object_types.specs.declared.relocation.Relocation.{Relocation as DeclaredRelocation}
+use Rattle.rv_object_types.specs.Object.{Relocation}
 use Rattle.rv_assemble_laws.specs.Fields.{Field}
 use Rattle.rv_draft.specs.declared.field.OpenField.{OpenField}
 use Rattle.rv_draft.specs.Draft.{field_of}
 use Rattle.rv_assemble.specs.Making.{list_of, field_relocation, relocations_at, relocations_in}
 use Rattle.rv_assemble.specs.Lists.{list_in, GainsOne}
-use Rattle.rv_object.specs.Parts.{relocation_of}
+use Rattle.rv_object_types.specs.Parts.{relocation_of}
 
 pub empty_behind : (xs : List (Vec DeclaredRelocation)) (x : Vec DeclaredRelocation) (j : ℕ) → x.items ≡ [] → ((i : ℕ) → list_in xs i ≡ []) → list_in (xs ++ x ∷ []) j ≡ []
 empty_behind [] x zero e h = ap (map relocation_of) e

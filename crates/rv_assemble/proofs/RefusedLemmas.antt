@@ -7,8 +7,8 @@ use Rattle.rv_lexer.specs.declared.fault.SourceFault.TheVariants.{At, OutOfMemor
 use Rattle.rv_statement.specs.Statement.{Statement}
 use Rattle.rv_parse_laws.specs.Reading.{Reads}
 use Rattle.rv_unit_laws.specs.Faults.{first_unit_fault}
-use Rattle.rv_object.specs.declared.object.Object.{Object as DeclaredObject}
-use Rattle.rv_object.specs.View.{object_of}
+use Rattle.rv_object_types.specs.declared.object.Object.{Object as DeclaredObject}
+use Rattle.rv_object_types.specs.View.{object_of}
 use Rattle.rv_assemble_laws.specs.IsObjectOf.{IsObjectOf}
 use Rattle.rv_assemble_laws.specs.Refusals.{code_fault, else_fault, statements_fault}
 use Rattle.rv_draft.specs.Draft.{IsRefusedSource}

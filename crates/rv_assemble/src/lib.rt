@@ -1,6 +1,6 @@
 //! Assembling: the object of a source.
 //!
-//! It takes the bytes of one source. It gives an [`rv_object::Object`]: sections with their bytes and their open fields as
+//! It takes the bytes of one source. It gives an [`rv_object_types::Object`]: sections with their bytes and their open fields as
 //! relocations, symbols and rows; or the first fault of the source. The object lends the names of the source.
 //! Main contract: [`assemble`]: in `object` the object is that of the statements that the bytes read as (`IsObjectOf`), in
 //! `refuses` the fault is the first one of the source (`IsFirstFault`), unless memory ran out.
@@ -26,6 +26,6 @@ mod sections;
 mod source;
 mod symbols;
 
-pub use rv_object::Object;
+pub use rv_object_types::Object;
 pub use rv_text::{SourceCode, SourceFault};
 pub use source::assemble;

@@ -1,8 +1,8 @@
 //! The object of a draft.
 
 ghost use Rattle.std.specs.Prelude.{◌≡◌, None, IfOk};
-ghost use Rattle.rv_unit.specs.Unit.{said, IsFilled};
-ghost use Rattle.rv_object.specs.View.{object_of};
+ghost use Rattle.rv_unit.specs.Unit.{said};
+ghost use Rattle.rv_object_types.specs.View.{object_of};
 ghost use Rattle.rv_assemble_laws.specs.IsObjectOf.{IsObjectOf};
 ghost use Rattle.rv_assemble_laws.specs.Refusals.{statements_fault};
 ghost use Rattle.rv_draft.specs.Draft.{IsDraft};
@@ -14,7 +14,7 @@ use crate::relocations::relocations;
 use crate::rows::rows;
 use crate::sections::sections;
 use rv_draft::Draft;
-use rv_object::Object;
+use rv_object_types::Object;
 use rv_symbols::SymbolTable;
 use rv_unit::Unit;
 use std::alloc::{AllocError, Global};
@@ -26,7 +26,6 @@ pub(crate) fn object<'a>(
     draft: Draft<'a>,
     table: SymbolTable<'a>,
 ) -> Result<Object<'a>, AllocError>
-    requires filled { IsFilled unit }
     requires good { statements_fault (said unit) ≡ None }
     requires kept { OpenKept (said unit) }
     requires draft { IsDraft (said unit) draft }

@@ -7,7 +7,7 @@ ghost use Rattle.rv_assemble.specs.Making.{relocations_in};
 ghost use Rattle.rv_assemble.specs.Lists.{list_in, GainsOne};
 
 use rv_draft::OpenField;
-use rv_object::Relocation;
+use rv_object_types::Relocation;
 use std::alloc::{AllocError, Global};
 
 /// The relocations of `count` sections: of each field, which stands in one of them, with the index

@@ -2,13 +2,13 @@
 
 ghost use Rattle.std.specs.Prelude.{◌≡◌, IfOk, map};
 ghost use Rattle.rv_unit_tables.specs.Sections.{extent_section};
-ghost use Rattle.rv_object.specs.Parts.{contents_of as made_of, relocation_of};
-ghost use Rattle.rv_object.specs.Sections.{section_of};
+ghost use Rattle.rv_object_types.specs.Parts.{contents_of as made_of, relocation_of};
+ghost use Rattle.rv_object_types.specs.Sections.{section_of};
 ghost use Rattle.rv_assemble_laws.specs.IsObjectOf.{contents_of};
 ghost use Rattle.rv_assemble.specs.Making.{section_by, IsMakeable, sections_by, AreEach};
 ghost use Rattle.std.specs.List.{AllByRecursion};
 
-use rv_object::{Contents, Relocation, Section};
+use rv_object_types::{Contents, Relocation, Section};
 use rv_unit::{Extent, SectionType};
 use std::alloc::{AllocError, Global};
 use std::borrow::CowSlice;

@@ -4,8 +4,8 @@ ghost use Rattle.std.specs.Prelude.{◌≡◌, List, None, IfOk, IfErr};
 ghost use Rattle.rv_statement.specs.Statement.{Statement};
 ghost use Rattle.rv_parse_laws.specs.Reading.{Reads};
 ghost use Rattle.rv_unit_laws.specs.Faults.{first_unit_fault};
-ghost use Rattle.rv_unit.specs.Unit.{said, IsFilled};
-ghost use Rattle.rv_object.specs.View.{object_of};
+ghost use Rattle.rv_unit.specs.Unit.{said};
+ghost use Rattle.rv_object_types.specs.View.{object_of};
 ghost use Rattle.rv_assemble_laws.specs.IsObjectOf.{IsObjectOf};
 ghost use Rattle.rv_assemble_laws.specs.Refusals.{statements_fault};
 ghost use Rattle.rv_assemble_laws.specs.ShownNames.{HasNames};
@@ -18,8 +18,8 @@ use crate::object::object;
 use crate::symbols::table;
 use rv_assemble_laws::{names_are_shown, statements_are_small};
 use rv_draft::Draft;
-use rv_object::Object;
-use rv_parse::parse;
+use rv_object_types::Object;
+use rv_parse::parse_compact;
 use rv_text::SourceFault;
 use rv_unit::Unit;
 use std::alloc::Global;
@@ -32,8 +32,8 @@ pub fn assemble(alloc: Global, source: &[u8]) -> Result<Object<'_>, SourceFault>
         × IsObjectOf ss (object_of o)) }
     ensures refuses { IfErr result (λ fault. IsFirstFault source.now fault) }
 {
-    let statements = parse(alloc, source)?;
-    let unit = Unit::build(alloc, statements)?;
+    let statements = parse_compact(alloc, source)?;
+    let unit = Unit::of(alloc, statements)?;
     // its names can be shown, and are few
     names_are_shown();
     statements_are_small();
@@ -42,7 +42,6 @@ pub fn assemble(alloc: Global, source: &[u8]) -> Result<Object<'_>, SourceFault>
 
 /// The object of a unit.
 fn assembled<'a>(alloc: Global, unit: Unit<'a>) -> Result<Object<'a>, SourceFault>
-    requires filled { IsFilled unit }
     requires good { first_unit_fault (said unit) ≡ None }
     requires names { HasNames (said unit) }
     requires small { AreSmall (said unit) }

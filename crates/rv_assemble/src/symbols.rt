@@ -2,7 +2,7 @@
 
 ghost use Rattle.std.specs.Prelude.{◌≡◌, ◌++◌, None, IfOk, OnOk, flat_map};
 ghost use Rattle.rv_unit_laws.specs.Faults.{first_unit_fault};
-ghost use Rattle.rv_unit.specs.Unit.{said, IsFilled};
+ghost use Rattle.rv_unit.specs.Unit.{said};
 ghost use Rattle.rv_assemble_laws.specs.ShownNames.{HasNames};
 ghost use Rattle.rv_assemble_laws.specs.Small.{AreSmall};
 ghost use Rattle.rv_draft.specs.Draft.{IsDraft};
@@ -20,7 +20,6 @@ pub(crate) fn table<'a>(
     unit: &Unit<'a>,
     draft: &Draft<'a>,
 ) -> Result<SymbolTable<'a>, AllocError>
-    requires filled { IsFilled unit.now }
     requires good { first_unit_fault (said unit.now) ≡ None }
     requires names { HasNames (said unit.now) }
     requires small { AreSmall (said unit.now) }

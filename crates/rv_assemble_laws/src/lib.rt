@@ -1,6 +1,6 @@
 //! What assembling is: when an object is that of a source.
 //!
-//! It takes the statements of a source with their tables (`rv_unit_laws`, `rv_source_laws`) and objects (`rv_object`), all as
+//! It takes the statements of a source with their tables (`rv_unit_laws`, `rv_source_laws`) and objects (`rv_object_types`), all as
 //! plain data. It gives the definition `IsObjectOf statements object` (`specs/IsObjectOf`): sections with their flags, alignment
 //! and bytes, with zeros in open fields (`Templates`, `LaidStatements`), relocations, symbols (`Symbols`) and rows.
 //!

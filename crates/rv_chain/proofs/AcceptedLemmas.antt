@@ -23,13 +23,13 @@ use Rattle.rv_elf.specs.FirstTrue.{no_fault_parts}
 use Rattle.rv_elf.specs.Sections.{program_headers, is_load}
 use Rattle.rv_disasm.specs.declared.code.Code.{Code}
 use Rattle.rv_disasm.specs.Raw.{IsSourced, IsRawListing, raw_bytes, is_executable, lines_text, raw_lines}
-use Rattle.rv_object.specs.Object.{Object}
-use Rattle.rv_object.specs.View.{object_of}
+use Rattle.rv_object_types.specs.Object.{Object}
+use Rattle.rv_object_types.specs.View.{object_of}
 use Rattle.rv_assemble_laws.specs.Refusals.{statements_fault, IsStatementsFault, IsTooLong}
 use Rattle.rv_assemble_laws.specs.IsObjectOf.{IsObjectOf}
 use Rattle.rv_assemble.specs.FirstFault.{IsFirstFault}
-use Rattle.rv_link.specs.declared.fault.LinkFault.{LinkFault}
-use Rattle.rv_link.specs.declared.fault.LinkFault.TheVariants as links
+use Rattle.rv_reloc.specs.declared.fault.LinkFault.{LinkFault}
+use Rattle.rv_reloc.specs.declared.fault.LinkFault.TheVariants as links
 use Rattle.rv_link.specs.Refusals.{IsTextStart, ArePast, HasNoProgram}
 use Rattle.rv_raw_link_laws.specs.Listed.{IsShortListing, listed, HaveNoFault, HaveAProgram}
 use Rattle.rv_fault.specs.declared.fault.Fault.{Fault}

@@ -4,14 +4,14 @@ use Rattle.std.proofs.Common.{◌≡◌, ℕ, Bool, ◌<◌, ◌≤◌, ◌⊎�
 use Rattle.std.specs.List.{AllByRecursion}
 use Rattle.rv_map.specs.declared.map.SectionId.{SectionId}
 use Rattle.rv_image.specs.Linked.{Linked}
-use Rattle.rv_object.specs.Object.{Object}
+use Rattle.rv_object_types.specs.Object.{Object}
 use Rattle.rv_object_laws.specs.IsLinkOf.{most_files}
 use Rattle.rv_object_laws.specs.IsProgramOf.{Leaves, IsProgramOf}
 use Rattle.rv_object_laws.specs.Without.{without}
 use Rattle.rv_object_laws.proofs.WithoutLemmas.{as_many_objects}
-use Rattle.rv_link.specs.declared.fault.LinkFault.{LinkFault}
-use Rattle.rv_link.specs.declared.fault.LinkFault.TheVariants as links
-use Rattle.rv_link.specs.Fault.{link_fault_number}
+use Rattle.rv_reloc.specs.declared.fault.LinkFault.{LinkFault}
+use Rattle.rv_reloc.specs.declared.fault.LinkFault.TheVariants as links
+use Rattle.rv_reloc.specs.Fault.{link_fault_number}
 use Rattle.rv_link.specs.Refusals.{AreWithin, ArePast, HasNoProgram}
 use Rattle.rv_link.proofs.LeftLemmas.{alike, past_unlinked}
 use Rattle.rv_unique_link_laws.specs.Asked.{IsSound}

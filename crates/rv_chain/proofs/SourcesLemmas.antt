@@ -12,13 +12,13 @@ use Rattle.rv_statement.specs.Statement.{Statement}
 use Rattle.rv_parse_laws.specs.Reading.{Reads}
 use Rattle.rv_parse_laws.specs.Refusals.{SyntaxFault as TextFault, Refuses}
 use Rattle.rv_unit_laws.specs.Faults.{StatementFault as StatementsFault}
-use Rattle.rv_object.specs.Object.{Object}
-use Rattle.rv_object.specs.View.{object_of}
+use Rattle.rv_object_types.specs.Object.{Object}
+use Rattle.rv_object_types.specs.View.{object_of}
 use Rattle.rv_assemble_laws.specs.Refusals.{statements_fault, IsTooLong, IsStatementsFault}
 use Rattle.rv_assemble_laws.specs.ShownNames.{HasNames}
 use Rattle.rv_assemble_laws.specs.IsObjectOf.{IsObjectOf}
 use Rattle.rv_assemble.specs.FirstFault.{IsFirstFault}
-use Rattle.rv_link.specs.declared.fault.LinkFault.{LinkFault}
+use Rattle.rv_reloc.specs.declared.fault.LinkFault.{LinkFault}
 use Rattle.rv_link.specs.Refusals.{AreWithin, ArePast, HasNoProgram}
 use Rattle.rv_unique_link_laws.specs.Asked.{IsSound}
 use Rattle.rv_unique_link_laws.specs.Same.{IsSameFault}

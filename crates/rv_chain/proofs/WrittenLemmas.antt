@@ -9,7 +9,7 @@ use Rattle.rv_image.specs.Executable.{exe_of, linked_image}
 use Rattle.rv_image.specs.ImageOf.{ImageOf}
 use Rattle.rv_image.specs.FirstFault.{first_fault}
 use Rattle.rv_image.proofs.LoadedAgainLemmas.{laid_out, reload_image, reload_fault}
-use Rattle.rv_object.specs.Object.{Object}
+use Rattle.rv_object_types.specs.Object.{Object}
 use Rattle.rv_object_laws.specs.IsProgramOf.{IsProgramOf}
 use Rattle.rv_link.specs.Details.{with_details}
 use Rattle.rv_chain.specs.Linking.{IsBuiltOf}

@@ -3,7 +3,7 @@
 ghost use Rattle.std.specs.Prelude.{◌<◌, ◌≤◌, ◌+◌, map, length, IfOk, IfErr};
 ghost use Rattle.rv_statement.specs.View.{now_of};
 ghost use Rattle.rv_image.specs.Linked.{linked_of};
-ghost use Rattle.rv_object.specs.View.{object_of};
+ghost use Rattle.rv_object_types.specs.View.{object_of};
 ghost use Rattle.rv_object_laws.specs.IsLinkOf.{most_files};
 ghost use Rattle.rv_chain_laws.specs.Headline.{TheHeadline};
 ghost use Rattle.rv_chain.specs.Building.{IsProgramWithFrom, IsExecutableOf};
@@ -18,7 +18,7 @@ use rv_assemble::assemble;
 use rv_fault::Fault;
 use rv_image::{Linked, write_exec};
 use rv_link::{LinkOptions, link_with_details, within_limits};
-use rv_object::Object;
+use rv_object_types::Object;
 use rv_reach_laws::{short_branches_reach, short_calls_reach};
 use rv_reassembly_laws::raw_listings_reassemble;
 use rv_sources_link_laws::{linked_objects_are_flagged, objects_of_sources_link};

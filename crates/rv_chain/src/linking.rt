@@ -3,7 +3,7 @@
 ghost use Rattle.std.specs.Prelude.{◌<◌, ◌≤◌, ◌+◌, map, length, IfOk, IfErr};
 ghost use Rattle.rv_statement.specs.View.{now_of};
 ghost use Rattle.rv_image.specs.Linked.{linked_of};
-ghost use Rattle.rv_object.specs.View.{object_of};
+ghost use Rattle.rv_object_types.specs.View.{object_of};
 ghost use Rattle.rv_object_laws.specs.IsLinkOf.{most_files};
 ghost use Rattle.rv_chain.specs.Linking.{AreLinked, IsLinkedAs, IsProgramWithOf};
 ghost use Rattle.rv_chain.specs.LinkRefusals.{IsUnreadAt, AreUnread, AreUnlinkable};
@@ -13,8 +13,7 @@ use crate::built::Built;
 use rv_fault::Fault;
 use rv_image::{FileFault, Linked, write_exec};
 use rv_link::{LinkOptions, link_with_details, within_limits};
-use rv_object::Object;
-use rv_object_reader::read;
+use rv_object::{Object, read};
 use std::alloc::Global;
 
 /// Links objects, whoever wrote them: the executable and its map. `objects` are the bytes of their files.

@@ -6,11 +6,11 @@ use Rattle.std.specs.List.{slice_get}
 use Rattle.std.proofs.lemmas.List.{map-append}
 use Rattle.std.proofs.lemmas.List.Elements.{filter-append}
 use Rattle.rv_map.specs.declared.map.SectionId.{SectionId}
-use Rattle.rv_object.specs.declared.object.Object.{Object as DeclaredObject}
-use Rattle.rv_object.specs.declared.section.Section.{Section as DeclaredSection}
-use Rattle.rv_object.specs.Object.{Section, Object}
-use Rattle.rv_object.specs.Sections.{section_of}
-use Rattle.rv_object.specs.View.{object_of}
+use Rattle.rv_object_types.specs.declared.object.Object.{Object as DeclaredObject}
+use Rattle.rv_object_types.specs.declared.section.Section.{Section as DeclaredSection}
+use Rattle.rv_object_types.specs.Object.{Section, Object}
+use Rattle.rv_object_types.specs.Sections.{section_of}
+use Rattle.rv_object_types.specs.View.{object_of}
 use Rattle.rv_object_laws.specs.Collects.{id_of, loaded_sections}
 use Rattle.rv_object_laws.specs.Inputs.{InputSection, inputs_from, inputs_of}
 use Rattle.rv_object_laws.specs.IsLinkOf.{is_loaded}

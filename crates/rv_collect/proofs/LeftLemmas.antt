@@ -9,12 +9,12 @@ use Rattle.std.proofs.lemmas.Option.{slice_get-map, slice_get-get_or}
 use Rattle.std.proofs.lemmas.Bool.{and_parts, and_from, true≢false}
 use Rattle.rv_map.specs.declared.map.SectionId.{SectionId}
 use Rattle.rv_collect_laws.specs.Graph.{is_dropped}
-use Rattle.rv_object.specs.declared.object.Object.{Object as DeclaredObject}
-use Rattle.rv_object.specs.declared.row.Row.{Row}
-use Rattle.rv_object.specs.declared.section.Section.{Section as DeclaredSection}
-use Rattle.rv_object.specs.Sections.{section_of}
-use Rattle.rv_object.specs.Valid.{is_counted, are_counted}
-use Rattle.rv_object.specs.View.{object_of}
+use Rattle.rv_object_types.specs.declared.object.Object.{Object as DeclaredObject}
+use Rattle.rv_object_types.specs.declared.row.Row.{Row}
+use Rattle.rv_object_types.specs.declared.section.Section.{Section as DeclaredSection}
+use Rattle.rv_object_types.specs.Sections.{section_of}
+use Rattle.rv_object_types.specs.Valid.{is_counted, are_counted}
+use Rattle.rv_object_types.specs.View.{object_of}
 use Rattle.rv_object_laws.specs.Without.{without_section, without_sections, without_object, without_from}
 pub use Rattle.rv_resolve.proofs.StepsLemmas.{left}
 

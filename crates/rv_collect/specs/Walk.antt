@@ -2,7 +2,7 @@
 
 use Rattle.std.specs.Prelude.{◌≡◌, ◌≤◌, ℕ, true, List, [], ◌∷◌, ◌++◌, length, take, Option}
 use Rattle.rv_map.specs.declared.map.SectionId.{SectionId}
-use Rattle.rv_object.specs.Object.{Object}
+use Rattle.rv_object_types.specs.Object.{Object}
 use Rattle.rv_object_laws.specs.Collects.{graph_of, entry_place, lies_in, refers}
 use Rattle.rv_object_laws.specs.Names.{Place}
 use Rattle.rv_collect.specs.declared.walk.Walk.{Walk}

@@ -2,8 +2,8 @@
 
 ghost use Rattle.std.specs.Prelude.{◌≡◌, ◌++◌, ◌+◌, ◌^◌, ◌<◌, [], ◌∷◌, All, true, map, if◌then◌else◌, OnOk, IfOk};
 ghost use Rattle.rv_map.specs.Limits.{IsDrop};
-ghost use Rattle.rv_object.specs.Sections.{section_of};
-ghost use Rattle.rv_object.specs.View.{object_of};
+ghost use Rattle.rv_object_types.specs.Sections.{section_of};
+ghost use Rattle.rv_object_types.specs.View.{object_of};
 ghost use Rattle.rv_object_laws.specs.Collects.{Collects};
 ghost use Rattle.rv_object_laws.specs.Without.{without};
 ghost use Rattle.rv_resolve.specs.Names.{IsNames};
@@ -13,7 +13,7 @@ use crate::left::{is_dropped, left_object};
 use crate::marks::Marks;
 use crate::walk::Walk;
 use rv_map::SectionId;
-use rv_object::{Object, Section};
+use rv_object_types::{Object, Section};
 use rv_resolve::Names;
 use std::alloc::{AllocError, Global};
 

@@ -4,14 +4,14 @@
 //! know that sections can be dropped: an object is all that it sees.
 
 ghost use Rattle.std.specs.Prelude.{◌≡◌, ◌++◌, [], ◌∷◌, true, not, map, filter, if◌then◌else◌, IfOk, OnOk};
-ghost use Rattle.rv_object.specs.Parts.{symbol_of};
-ghost use Rattle.rv_object.specs.Sections.{section_of};
-ghost use Rattle.rv_object.specs.View.{object_of};
+ghost use Rattle.rv_object_types.specs.Parts.{symbol_of};
+ghost use Rattle.rv_object_types.specs.Sections.{section_of};
+ghost use Rattle.rv_object_types.specs.View.{object_of};
 ghost use Rattle.rv_object_laws.specs.Without.{without_object, without_section, without_sections};
 ghost use Rattle.rv_collect.specs.Drops.{drops_in};
 
 use crate::marks::mark_in;
-use rv_object::{Object, Row, Section, Symbol};
+use rv_object_types::{Object, Row, Section, Symbol};
 use std::alloc::{AllocError, Global};
 
 /// What is left of an object, with the marks of its sections.

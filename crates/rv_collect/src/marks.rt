@@ -1,10 +1,10 @@
 //! Marks of sections.
 
 ghost use Rattle.std.specs.Prelude.{◌≡◌, ◌<◌, ◌||◌, ◌&&◌, ◌==◌, ℕ, false, length, map, replicate, IfOk};
-ghost use Rattle.rv_object.specs.View.{object_of};
+ghost use Rattle.rv_object_types.specs.View.{object_of};
 ghost use Rattle.rv_collect.specs.Drops as laws;
 
-use rv_object::Object;
+use rv_object_types::Object;
 use std::alloc::{AllocError, Global};
 
 /// Which sections are marked.

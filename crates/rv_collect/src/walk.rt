@@ -6,9 +6,9 @@
 ghost use Rattle.std.specs.Prelude.{◌≡◌, ◌+◌, Some, true, map, option_map, option_and_then, OnOk, IfOk};
 ghost use Rattle.std.specs.List.{slice_get};
 ghost use Rattle.rv_map.specs.declared.map.SectionId.{SectionId};
-ghost use Rattle.rv_object.specs.Object.{Object as SaidObject};
-ghost use Rattle.rv_object.specs.Parts.{relocation_of};
-ghost use Rattle.rv_object.specs.View.{object_of};
+ghost use Rattle.rv_object_types.specs.Object.{Object as SaidObject};
+ghost use Rattle.rv_object_types.specs.Parts.{relocation_of};
+ghost use Rattle.rv_object_types.specs.View.{object_of};
 ghost use Rattle.rv_object_laws.specs.Collects.{entry_place, graph_of, lies_in};
 ghost use Rattle.rv_resolve.specs.Names.{IsNames, place_of};
 ghost use Rattle.rv_resolve.specs.Undefined.{is_loaded_at};
@@ -17,7 +17,7 @@ ghost use Rattle.rv_collect.specs.Targets.{leads_in, target_in};
 ghost use Rattle.rv_collect_laws.specs.Graph.{Has};
 
 use crate::marks::Marks;
-use rv_object::{Object, Relocation};
+use rv_object_types::{Object, Relocation};
 use rv_resolve::Names;
 use std::alloc::{AllocError, Global};
 

@@ -29,7 +29,7 @@ use crate::compressed::{is_code, is_instruction};
 use crate::item::CodeSize;
 use rv_instruction::{Coded, Encoded, code as code_of, one_code};
 use rv_layout::{Layout, bytes_of, extent_at, statement_padding, width};
-use rv_object::put_no_operations;
+use rv_object_types::put_no_operations;
 use rv_statement::{Statement, Statements};
 use rv_text::{SourceCode, SourceFault};
 use rv_unit::{LONGEST_SECTION, Scope, SectionOffset, Unit};
@@ -408,7 +408,6 @@ pub(crate) fn code(
     unit: &Unit<'_>,
     layout: &Layout,
 ) -> Result<SectionCode, SourceFault>
-    requires filled { IsFilled unit.now }
     requires count { length (layout.now).sizes.items ≡ length (said unit.now) }
     requires sizes { AreSizes (tables (said unit.now))
         (located_from 1 1 (at_start (said unit.now)) (said unit.now)) (layout.now).sizes.items }

@@ -1,7 +1,7 @@
 //! Whether a source has compressed code.
 
 ghost use Rattle.std.specs.Prelude.{◌≡◌, ◌&&◌, ◌||◌, ◌∷◌, [], false};
-ghost use Rattle.rv_unit.specs.Unit.{said, IsFilled};
+ghost use Rattle.rv_unit.specs.Unit.{said};
 ghost use Rattle.rv_source_laws.specs.Compressed as laws;
 ghost use Rattle.rv_draft.specs.Compressed.{is_code_kind, names_parcel_kind};
 
@@ -50,7 +50,6 @@ fn is_compressed(compressed: bool, executable: bool, kind: &StatementKind<'_>) -
 
 /// Whether a statement of the source is compressed code.
 pub(crate) fn has_compressed(unit: &Unit<'_>) -> bool
-    requires { IsFilled unit.now }
     ensures { result ≡ laws.is_compressed (said unit.now ∷ []) }
 {
     let statements = unit.statements();

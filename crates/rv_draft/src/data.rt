@@ -14,7 +14,7 @@ ghost use Rattle.rv_statement.specs.View.{width_bytes, quoted, statement_kind, s
 ghost use Rattle.rv_unit_laws.specs.Tables.{at_start, tables, string_bytes, longest_section};
 ghost use Rattle.rv_unit_tables.specs.Sections.{section_of};
 ghost use Rattle.rv_unit.specs.Faults.{ForValue};
-ghost use Rattle.rv_unit.specs.Unit.{said, IsFilled, IsScope};
+ghost use Rattle.rv_unit.specs.Unit.{said, IsScope};
 ghost use Rattle.rv_source_laws.specs.Located.{located_from};
 ghost use Rattle.rv_assemble_laws.specs.Templates as laws;
 ghost use Rattle.rv_assemble_laws.specs.Templates.{opened, value_bytes};
@@ -455,7 +455,6 @@ fn put_next<'a>(
     scope: &Scope<'_, 'a>,
     items: &[Item],
 ) -> Result<(), AllocError>
-    requires filled { IsFilled unit.now }
     requires within { index < length (said unit.now) }
     requires said { slice_get (said unit.now) index ≡ Some (statement_of statement.now) }
     requires few { length (said unit.now) < 2 ^ 32 }
@@ -516,7 +515,6 @@ pub(crate) fn data<'a>(
     items: &[Item],
     code: Vec<Vec<u8>>,
 ) -> Result<Filled<'a>, AllocError>
-    requires filled { IsFilled unit.now }
     requires few { length (said unit.now) < 2 ^ 32 }
     requires count { length items.now ≡ length (said unit.now) }
     requires laid { IsLaid (said unit.now) items.now }

@@ -7,7 +7,7 @@
 
 ghost use Rattle.std.specs.Prelude.{◌≡◌, None, IfOk, IfErr};
 ghost use Rattle.rv_unit_laws.specs.Faults.{first_unit_fault};
-ghost use Rattle.rv_unit.specs.Unit.{said, IsFilled};
+ghost use Rattle.rv_unit.specs.Unit.{said};
 ghost use Rattle.rv_assemble_laws.specs.Refusals.{code_fault};
 
 use crate::code::code;
@@ -41,7 +41,6 @@ impl<'a> Draft<'a> {
     /// The draft of a source without faulty labels and directives; or its first fault as code, or
     /// that its code is too long, at the line of the statement.
     pub fn of(alloc: Global, unit: &Unit<'a>) -> Result<Draft<'a>, SourceFault>
-        requires filled { IsFilled unit.now }
         requires good { first_unit_fault (said unit.now) ≡ None }
         ensures draft { IfOk result (λ d. IsDraft (said unit.now) d) }
         ensures sound { IfOk result (λ _. code_fault (said unit.now) ≡ None) }

@@ -3,7 +3,7 @@
 ghost use Rattle.std.specs.Prelude.{◌≡◌};
 ghost use Rattle.rv_draft.specs.Code.{size_bytes, size_instructions};
 
-use rv_object::operations;
+use rv_object_types::operations;
 
 /// How large the code of a statement is: of an instruction, and of an alignment in a section of code;
 /// what else there is has none.

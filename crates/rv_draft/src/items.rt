@@ -10,7 +10,7 @@ ghost use Rattle.rv_lexer.specs.declared.fault.SourceFault.TheVariants.{OutOfMem
 ghost use Rattle.rv_statement.specs.View.{width_bytes, quoted, statement_kind};
 ghost use Rattle.rv_unit_laws.specs.Faults.{first_unit_fault};
 ghost use Rattle.rv_unit_laws.specs.Tables as laws;
-ghost use Rattle.rv_unit.specs.Unit.{said, IsFilled};
+ghost use Rattle.rv_unit.specs.Unit.{said};
 ghost use Rattle.rv_source_laws.specs.Located.{located};
 ghost use Rattle.rv_assemble_laws.specs.Refusals.{size_fault_from};
 ghost use Rattle.rv_draft.specs.Items.{AreItems};
@@ -337,7 +337,6 @@ pub(crate) fn items(
     unit: &Unit<'_>,
     mut sizes: Vec<CodeSize>,
 ) -> Result<(Vec<Item>, Vec<u32>), SourceFault>
-    requires filled { IsFilled unit.now }
     requires sizes { length sizes.items ≡ length (said unit.now) }
     ensures count { IfOk result (λ r. length r.0.items ≡ length (said unit.now)) }
     ensures sections { IfOk result

@@ -10,7 +10,7 @@
 //! It knows neither symbol tables nor addresses, and no object.
 //!
 //! ```text
-//! let unit = Unit::build(alloc, statements)?;
+//! let unit = Unit::of(alloc, statements)?;
 //! let draft = Draft::of(alloc, &unit)?;
 //! let text = draft.sections[0].as_slice();
 //! let first = draft.items[0];

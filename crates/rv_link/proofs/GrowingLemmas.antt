@@ -6,7 +6,7 @@ use Rattle.std.specs.Prelude.{slice_index_or, ℤ, IsTrue, Option, Some, None}
 use Rattle.std.specs.List.{AllByRecursion, list_all, slice_get}
 use Rattle.rv_layout_laws.specs.Alignment.{aligned}
 use Rattle.rv_map.specs.declared.map.Region.{Region}
-use Rattle.rv_object.specs.Object.{Relocation, Section, Object}
+use Rattle.rv_object_types.specs.Object.{Relocation, Section, Object}
 use Rattle.rv_object_laws.specs.Moves.{Move, moves, new_offset, kept, has_room, alignments_of}
 use Rattle.rv_object_laws.specs.Inputs.{Starts, InputSection, goes_to_text, inputs_from, inputs_of, raised, begins_at, start_of, size, Stand, sections_end, Holds, contents}
 use Rattle.rv_object_laws.specs.Names.{object_at, no_object}

@@ -10,9 +10,9 @@ use Rattle.rv_isa.specs.declared.kind.Kind.{Kind}
 use Rattle.rv_isa.specs.declared.kind.Kind.TheVariants as kinds
 use Rattle.rv_reloc.specs.Values.{value_of}
 use Rattle.rv_reloc.specs.Ranges.{Takes}
-use Rattle.rv_object.specs.Object.{Relocation, Object}
-use Rattle.rv_object.specs.Parts.{relocation_of}
-use Rattle.rv_object.specs.declared.relocation.Relocation.{Relocation as Declared}
+use Rattle.rv_object_types.specs.Object.{Relocation, Object}
+use Rattle.rv_object_types.specs.Parts.{relocation_of}
+use Rattle.rv_object_types.specs.declared.relocation.Relocation.{Relocation as Declared}
 use Rattle.rv_object_laws.specs.CallSites.{is_call}
 use Rattle.rv_object_laws.specs.Moves.{Move}
 use Rattle.rv_shorten.specs.Cutting.{cut_at, cut_relocation, kind_left}

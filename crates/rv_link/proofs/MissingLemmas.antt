@@ -9,13 +9,13 @@ use Rattle.std.specs.Option.{option_or}
 use Rattle.rv_map.specs.Globals.{AreDistinct}
 use Rattle.rv_map.specs.Regions.{is_text}
 use Rattle.rv_map.specs.declared.map.SectionId.{SectionId}
-use Rattle.rv_object.specs.declared.object.Object.{Object as DeclaredObject}
-use Rattle.rv_object.specs.declared.symbol.Binding.{Binding}
-use Rattle.rv_object.specs.declared.symbol.Definition.{Definition}
-use Rattle.rv_object.specs.declared.symbol.Definition.TheVariants as definitions
-use Rattle.rv_object.specs.Bindings.{is_global, is_weak}
-use Rattle.rv_object.specs.Object.{Section, Symbol, Object}
-use Rattle.rv_object.specs.View.{object_of}
+use Rattle.rv_object_types.specs.declared.object.Object.{Object as DeclaredObject}
+use Rattle.rv_object_types.specs.declared.symbol.Binding.{Binding}
+use Rattle.rv_object_types.specs.declared.symbol.Definition.{Definition}
+use Rattle.rv_object_types.specs.declared.symbol.Definition.TheVariants as definitions
+use Rattle.rv_object_types.specs.Bindings.{is_global, is_weak}
+use Rattle.rv_object_types.specs.Object.{Section, Symbol, Object}
+use Rattle.rv_object_types.specs.View.{object_of}
 use Rattle.rv_object_laws.specs.Collects.{entry_place, Collects}
 use Rattle.rv_object_laws.specs.Inputs.{InputSection, goes_to_text, inputs_from, inputs_of}
 use Rattle.rv_object_laws.specs.IsLinkOf.{is_loaded}
@@ -27,7 +27,7 @@ use Rattle.rv_object_laws.proofs.TextInputsLemmas.{all_append}
 use Rattle.rv_resolve.specs.Entry.{is_entry, has_entry}
 use Rattle.rv_resolve.specs.Undefined.{undefined_name, first_some, undefined_in, first_undefined}
 use Rattle.rv_resolve.proofs.AlikeLemmas.{same_names}
-use Rattle.rv_link.specs.declared.fault.LinkFault.TheVariants.{Undefined, EntryMissing}
+use Rattle.rv_reloc.specs.declared.fault.LinkFault.TheVariants.{Undefined, EntryMissing}
 use Rattle.rv_link.specs.Refusals.{AreWithin, HasNoProgram}
 use Rattle.rv_link.proofs.LeftLemmas.{some_leaves}
 

@@ -5,10 +5,10 @@ use Rattle.std.specs.List.{AllByRecursion, list_all, slice_get}
 use Rattle.std.proofs.lemmas.Bool.{and_parts}
 use Rattle.std.proofs.lemmas.Option.{slice_get_within}
 use Rattle.rv_map.specs.Limits.{IsRow}
-use Rattle.rv_object.specs.declared.row.Row.{Row}
-use Rattle.rv_object.specs.Object.{Object, size_of}
-use Rattle.rv_object.specs.Valid.{is_row_in, is_counted, are_counted}
-use Rattle.rv_object.proofs.CountedLemmas.{counted_widths}
+use Rattle.rv_object_types.specs.declared.row.Row.{Row}
+use Rattle.rv_object_types.specs.Object.{Object, size_of}
+use Rattle.rv_object_types.specs.Valid.{is_row_in, is_counted, are_counted}
+use Rattle.rv_object_types.proofs.CountedLemmas.{counted_widths}
 use Rattle.rv_object_laws.specs.IsLinkOf.{inserted_row, by_ordinal, map_row, moves_at, row_in, rows_of, most_files}
 use Rattle.rv_object_laws.specs.Moves.{Move, moves, new_offset}
 use Rattle.rv_object_laws.proofs.TextInputsLemmas.{all_append}

@@ -5,7 +5,7 @@ use Rattle.std.proofs.lemmas.Bool.{and_parts}
 use Rattle.std.proofs.lemmas.List.{length-map}
 use Rattle.std.specs.Global.{Vec}
 use Rattle.std.specs.List.{list_all, slice_get}
-use Rattle.rv_object.specs.Object.{Object}
+use Rattle.rv_object_types.specs.Object.{Object}
 use Rattle.rv_object_laws.specs.Moves.{has_room}
 use Rattle.rv_object_laws.specs.Names.{object_at, no_object}
 use Rattle.rv_shorten.specs.declared.object.ShortObject.{ShortObject}

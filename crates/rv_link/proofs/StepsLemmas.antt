@@ -6,11 +6,11 @@ use Rattle.std.proofs.lemmas.Bool.{and_parts, eqb-true}
 use Rattle.std.specs.Prelude.{◌==◌, is_some, unwrap_or, ℤ, pos, IsTrue, true}
 use Rattle.std.specs.List.{AllByRecursion, list_all}
 use Rattle.rv_isa.specs.Kinds.{width_of, is_low_part}
-use Rattle.rv_reloc.specs.Ranges.{Takes}
-use Rattle.rv_object.specs.Object.{Contents, Progbits, Note, Nobits, Relocation, Section, Object, size_of}
-use Rattle.rv_object.specs.Valid.{are_paddings, fit_inside}
-use Rattle.rv_object.specs.Parts.{relocation_of}
-use Rattle.rv_object.specs.declared.relocation.Relocation.{Relocation as Declared}
+use Rattle.rv_reloc.specs.Ranges.{Takes, Refuses}
+use Rattle.rv_object_types.specs.Object.{Contents, Progbits, Note, Nobits, Relocation, Section, Object, size_of}
+use Rattle.rv_object_types.specs.Valid.{are_paddings, fit_inside}
+use Rattle.rv_object_types.specs.Parts.{relocation_of}
+use Rattle.rv_object_types.specs.declared.relocation.Relocation.{Relocation as Declared}
 use Rattle.rv_object_laws.specs.Moves.{Move, moves, new_offset, kept, has_room}
 use Rattle.rv_object_laws.specs.Inputs.{InputSection, has_no_bytes}
 use Rattle.rv_object_laws.specs.Values.{applied, patched_at, value, initial_bytes}
@@ -18,9 +18,8 @@ use Rattle.rv_shorten.specs.Cutting.{cut_relocation}
 use Rattle.rv_placement.specs.declared.placement.Placement.{Placement}
 use Rattle.rv_placement.specs.Placement.{starts_of}
 use Rattle.rv_resolve.specs.Shown.{outer_in}
-use Rattle.rv_link.specs.declared.fault.LinkFault.{LinkFault}
-use Rattle.rv_link.specs.declared.fault.LinkFault.TheVariants.{Overflow, OddTarget, DanglingPcrel, AlignmentShort, Undefined, Duplicate, EntryMissing, ImageTooLarge, BadTextStart, TooManyFiles, OutOfMemory}
-use Rattle.rv_link.specs.Fault.{IsOfPatch}
+use Rattle.rv_reloc.specs.declared.fault.LinkFault.{LinkFault}
+use Rattle.rv_reloc.specs.declared.fault.LinkFault.TheVariants.{Overflow, OddTarget, DanglingPcrel, AlignmentShort, Undefined, Duplicate, EntryMissing, ImageTooLarge, BadTextStart, TooManyFiles, OutOfMemory}
 use Rattle.rv_link.specs.Filled.{IsInside, IsTaken, worth}
 use Rattle.rv_link.specs.Untaken.{IsFirst, IsUntaken}
 use Rattle.rv_link.proofs.FollowingLemmas.{Follow, kept_size}
@@ -73,7 +72,7 @@ patched_failed os p i ms all old from r left bytes fault is front h = is.first f
 
 -- a field that does not take its value
 pub untaken_by : (os : List Object) (p : Placement) (i : InputSection) (r : Relocation) (v : ℤ) (fault : LinkFault) → value (outer_in os p) (starts_of p) os i r ≡ Some v → (is_low_part r.kind ≡ true → r.addend ≡ pos 0)
-    → IsOfPatch r.kind v fault → IsUntaken os p i fault r
+    → Refuses r.kind v fault → IsUntaken os p i fault r
 untaken_by os p i r v Overflow found alone h = (v, (found, alone), h)
 untaken_by os p i r v OddTarget found alone h = (v, (found, alone), h)
 untaken_by os p i r v DanglingPcrel found alone h = absurd h

@@ -1,7 +1,7 @@
 -- Why a link ends: what each pass says of it.
 
 use Rattle.std.proofs.Common.{◌≡◌, ℕ, List, [], ◌∷◌, true, inl, inr, subst, sym}
-use Rattle.rv_object.specs.Object.{Relocation, Object}
+use Rattle.rv_object_types.specs.Object.{Relocation, Object}
 use Rattle.rv_object_laws.specs.Inputs.{InputSection, inputs}
 use Rattle.rv_object_laws.specs.IsLinkOf.{is_loaded}
 use Rattle.rv_placement.specs.declared.fault.PlacementFault.{PlacementFault}
@@ -9,9 +9,9 @@ use Rattle.rv_placement.specs.declared.fault.PlacementFault.TheVariants as place
 use Rattle.rv_placement.specs.declared.placement.Placement.{Placement}
 use Rattle.rv_placement.specs.Placement.{are_roomy, IsPlacement, IsUnplaced}
 use Rattle.rv_placement.proofs.LayoutsLemmas.{has_layout}
-use Rattle.rv_link.specs.declared.fault.LinkFault.{LinkFault}
-use Rattle.rv_link.specs.declared.fault.LinkFault.TheVariants.{Overflow, OddTarget, DanglingPcrel, AlignmentShort, Undefined, Duplicate, EntryMissing, ImageTooLarge, BadTextStart, TooManyFiles, OutOfMemory}
-use Rattle.rv_link.specs.Fault.{of_placement}
+use Rattle.rv_reloc.specs.declared.fault.LinkFault.{LinkFault}
+use Rattle.rv_reloc.specs.declared.fault.LinkFault.TheVariants.{Overflow, OddTarget, DanglingPcrel, AlignmentShort, Undefined, Duplicate, EntryMissing, ImageTooLarge, BadTextStart, TooManyFiles, OutOfMemory}
+use Rattle.rv_placement.specs.Fault.{of_placement}
 use Rattle.rv_link.specs.Filled.{IsTaken}
 use Rattle.rv_link.specs.Untaken.{IsFirst, IsUntaken, AreTaken, AreUntaken, IsFirstUntaken, AreUnfilled}
 use Rattle.rv_link.specs.Refusals.{AreUnplaced, ComesToPlaces, IsUnlinked}

@@ -3,10 +3,10 @@
 use Rattle.std.specs.Prelude.{◌≡◌, ℕ, Bool, List}
 use Rattle.rv_image.specs.Linked.{Linked}
 use Rattle.rv_map.specs.declared.map.SectionId.{SectionId}
-use Rattle.rv_object.specs.Object.{Object}
+use Rattle.rv_object_types.specs.Object.{Object}
 use Rattle.rv_object_laws.specs.IsLinkOf.{IsLinkOf}
 use Rattle.rv_object_laws.specs.Shortened.{Relaxes}
-use Rattle.rv_link.specs.declared.fault.LinkFault.{LinkFault}
+use Rattle.rv_reloc.specs.declared.fault.LinkFault.{LinkFault}
 use Rattle.rv_link.specs.Refusals.{IsUnlinked}
 use Rattle.rv_link.specs.Details.{with_details}
 

@@ -1,4 +1,3 @@
-pub mod Fault
 pub mod Filled
 pub mod Idle
 pub mod Untaken

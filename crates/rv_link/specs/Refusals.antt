@@ -5,7 +5,7 @@ use Rattle.std.specs.Prelude.{◌≡◌, ◌⊎◌, ⊤, ℕ, ◌%◌, ◌<◌, 
 use Rattle.rv_map.specs.Globals.{AreDistinct}
 use Rattle.rv_isa_laws.specs.Platform.{stack_start}
 use Rattle.rv_map.specs.declared.map.SectionId.{SectionId}
-use Rattle.rv_object.specs.Object.{Object}
+use Rattle.rv_object_types.specs.Object.{Object}
 use Rattle.rv_object_laws.specs.Inputs.{Starts, goes_to_text, inputs, Stand}
 use Rattle.rv_object_laws.specs.Names.{global_names, entry_of}
 use Rattle.rv_object_laws.specs.IsLinkOf.{most_files, is_loaded}
@@ -15,8 +15,8 @@ use Rattle.rv_placement.specs.Placement.{starts_of, are_roomy, IsPlacement, AreR
 use Rattle.rv_resolve.specs.Entry.{has_entry}
 use Rattle.rv_resolve.specs.Exports.{first_duplicate}
 use Rattle.rv_resolve.specs.Undefined.{first_undefined}
-use Rattle.rv_link.specs.declared.fault.LinkFault.{LinkFault}
-use Rattle.rv_link.specs.declared.fault.LinkFault.TheVariants.{Overflow, OddTarget, DanglingPcrel, AlignmentShort, Undefined, Duplicate, EntryMissing, ImageTooLarge, BadTextStart, TooManyFiles, OutOfMemory}
+use Rattle.rv_reloc.specs.declared.fault.LinkFault.{LinkFault}
+use Rattle.rv_reloc.specs.declared.fault.LinkFault.TheVariants.{Overflow, OddTarget, DanglingPcrel, AlignmentShort, Undefined, Duplicate, EntryMissing, ImageTooLarge, BadTextStart, TooManyFiles, OutOfMemory}
 use Rattle.rv_link.specs.Untaken.{IsFirstUntaken}
 
 -- ---- limits

@@ -4,7 +4,7 @@ use Rattle.std.specs.Prelude.{◌≡◌, ℕ, suc, ◌+◌, Bool, true, List, �
 use Rattle.std.specs.List.{AllByRecursion}
 use Rattle.rv_map.specs.Globals.{AreDistinct}
 use Rattle.rv_map.specs.declared.map.Region.{Region}
-use Rattle.rv_object.specs.Object.{Section, Object}
+use Rattle.rv_object_types.specs.Object.{Section, Object}
 use Rattle.rv_object_laws.specs.Inputs.{Starts, InputSection, goes_to_text, goes_to_rodata, goes_to_data, inputs_from, inputs_of, inputs, Stand, sections_end, contents}
 use Rattle.rv_map.specs.Map.{Map}
 use Rattle.rv_object_laws.specs.Names.{object_at, outer_address, globals_of, global_names, shown_linker_symbols}
@@ -18,7 +18,7 @@ use Rattle.rv_placement.specs.Placement.{starts_of, are_roomy, IsPlacement}
 use Rattle.rv_link_values.specs.Values.{IsValues}
 use Rattle.rv_link.specs.declared.fixed.Fixed.{Fixed}
 use Rattle.rv_link.specs.declared.regions.Regions.{Regions}
-use Rattle.rv_link.specs.declared.fault.LinkFault.{LinkFault}
+use Rattle.rv_reloc.specs.declared.fault.LinkFault.{LinkFault}
 use Rattle.rv_link.specs.Filled.{objects_of, linked_in}
 use Rattle.rv_link.specs.Untaken.{AreTaken, IsFirstUntaken}
 

@@ -3,17 +3,16 @@
 
 use Rattle.std.specs.Prelude.{◌≡◌, ◌⊎◌, ℤ, List, [], ◌∷◌}
 use Rattle.std.specs.List.{AllByRecursion}
-use Rattle.rv_reloc.specs.declared.fault.PatchFault.TheVariants as patches
+use Rattle.rv_reloc.specs.declared.fault.LinkFault.{LinkFault}
+use Rattle.rv_reloc.specs.declared.fault.LinkFault.TheVariants.{Overflow, OddTarget, DanglingPcrel, OutOfMemory}
 use Rattle.rv_reloc.specs.Ranges.{Refuses}
-use Rattle.rv_object.specs.Object.{Relocation, Object}
+use Rattle.rv_object_types.specs.Object.{Relocation, Object}
 use Rattle.rv_object_laws.specs.Inputs.{InputSection, inputs}
 use Rattle.rv_object_laws.specs.IsLinkOf.{is_loaded}
 use Rattle.rv_placement.specs.declared.placement.Placement.{Placement}
 use Rattle.rv_placement.specs.Placement.{starts_of}
 use Rattle.rv_resolve.specs.Shown.{outer_in}
 use Rattle.rv_link_values.specs.Values.{IsValueOf, IsDangling}
-use Rattle.rv_link.specs.declared.fault.LinkFault.{LinkFault}
-use Rattle.rv_link.specs.declared.fault.LinkFault.TheVariants.{Overflow, OddTarget, DanglingPcrel, OutOfMemory}
 use Rattle.rv_link.specs.declared.fixed.Input.{Input}
 use Rattle.rv_link.specs.declared.fixed.Fixed.{Fixed}
 use Rattle.rv_link.specs.Filled.{objects_of, input_of, IsTaken}
@@ -31,8 +30,8 @@ IsUnfit os p i r Refused =
 
 -- why a relocation cannot be applied
 abbrev pub IsUntaken : List Object → Placement → InputSection → LinkFault → Relocation → Type 0
-IsUntaken os p i Overflow r = IsUnfit os p i r (λ v. Refuses r.kind v patches.Overflow)
-IsUntaken os p i OddTarget r = IsUnfit os p i r (λ v. Refuses r.kind v patches.OddTarget)
+IsUntaken os p i Overflow r = IsUnfit os p i r (λ v. Refuses r.kind v Overflow)
+IsUntaken os p i OddTarget r = IsUnfit os p i r (λ v. Refuses r.kind v OddTarget)
 IsUntaken os p i DanglingPcrel r = IsDangling (outer_in os p) (starts_of p) os i r
 IsUntaken os p i _ r = ⊥
 

@@ -3,12 +3,10 @@
 ghost use Rattle.std.specs.Prelude.{◌≡◌, ◌+◌, ◌<◌, ◌≤◌, IfErr, OnOk, length};
 ghost use Rattle.rv_isa.specs.Kinds.{width_of};
 ghost use Rattle.rv_object_laws.specs.Values.{patched_at};
-ghost use Rattle.rv_reloc.specs.Ranges.{Takes};
-ghost use Rattle.rv_link.specs.Fault.{IsOfPatch};
+ghost use Rattle.rv_reloc.specs.Ranges.{Takes, Refuses};
 
-use crate::fault::LinkFault;
 use rv_isa::Kind;
-use rv_reloc::patch;
+use rv_reloc::{LinkFault, patch};
 
 /// Writes a value to the field at an offset of these bytes. Kinds without a field change nothing.
 ///
@@ -19,13 +17,12 @@ pub(crate) fn apply(bytes: &mut [u8], place: u64, kind: Kind, value: i64) -> Res
     requires { 0 < width_of kind → place + width_of kind ≤ length bytes.old }
     ensures takes { OnOk result (Takes kind value) }
     ensures writes { OnOk result (bytes.new ≡ patched_at place kind value bytes.old) }
-    ensures refuses { IfErr result (IsOfPatch kind value) }
+    ensures refuses { IfErr result (Refuses kind value) }
 {
     let width = kind.width();
     if width == 0 {
         return Ok(());
     }
     let from = place as usize;
-    patch(&mut bytes[from..from + width], kind, value)?;
-    Ok(())
+    patch(&mut bytes[from..from + width], kind, value)
 }

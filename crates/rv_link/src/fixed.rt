@@ -7,7 +7,7 @@ ghost use Rattle.std.specs.Prelude.{◌≡◌, ◌+◌, ◌-◌, ◌++◌, ◌<�
 ghost use Rattle.std.specs.List.{AllByRecursion};
 ghost use Rattle.rv_isa.specs.Kinds.{is_low_part};
 ghost use Rattle.rv_isa_laws.specs.Bytes.{zeros};
-ghost use Rattle.rv_object.specs.Parts.{relocation_of};
+ghost use Rattle.rv_object_types.specs.Parts.{relocation_of};
 ghost use Rattle.rv_object_laws.specs.Inputs.{has_no_bytes};
 ghost use Rattle.rv_object_laws.specs.Moves.{kept, new_offset};
 ghost use Rattle.rv_object_laws.specs.Values.{applied, initial_bytes, value};
@@ -29,13 +29,13 @@ ghost use Rattle.rv_link.specs.Filled.{
   worth,
 };
 
-use crate::fault::LinkFault;
 use crate::fields::apply;
 use rv_isa::Kind;
 use rv_link_values::Values;
-use rv_object::{Contents, Relocation};
+use rv_object_types::{Contents, Relocation};
 use rv_placement::{PlacedSection, Placement};
 use rv_relax::SectionPlan;
+use rv_reloc::LinkFault;
 use rv_shorten::{LeftBytes, ShortObject, ShortSection};
 use std::alloc::{AllocError, Global};
 

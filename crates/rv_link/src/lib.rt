@@ -1,6 +1,6 @@
 //! Linking: the program that a list of objects becomes.
 //!
-//! It takes objects (`rv_object`), whoever made them, and the address at which their text starts, and gives a linked program
+//! It takes objects (`rv_object_types`), whoever made them, and the address at which their text starts, and gives a linked program
 //! (`rv_image`): the bytes of its regions with each relocation applied, and its map. Nothing here knows of statements.
 //!
 //! Main contract: [`link`] answers only a program that `IsProgramOf` the objects (`rv_object_laws`): the link of what collection
@@ -26,7 +26,6 @@
 #![tactic(auto)]
 
 mod details;
-mod fault;
 mod fields;
 mod fixed;
 mod law;
@@ -36,8 +35,9 @@ mod programs;
 mod regions;
 mod relaxation;
 
-pub use fault::LinkFault;
 pub use law::a_missing_entry_comes_first;
 pub use options::LinkOptions;
 pub use passes::{MOST_FILES, within_limits};
 pub use programs::{link, link_exe, link_with_details};
+pub use rv_image::Linked;
+pub use rv_reloc::LinkFault;

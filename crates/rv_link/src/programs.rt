@@ -3,21 +3,21 @@
 ghost use Rattle.std.specs.Prelude.{All, length, true, map, IfOk, IfErr};
 ghost use Rattle.rv_image.specs.Linked.{linked_of};
 ghost use Rattle.rv_map.specs.Limits.{IsDrop};
-ghost use Rattle.rv_object.specs.View.{object_of};
+ghost use Rattle.rv_object_types.specs.View.{object_of};
 ghost use Rattle.rv_object_laws.specs.IsProgramOf.{IsProgramOf};
 ghost use Rattle.rv_resolve.specs.Names.{IsNames};
 ghost use Rattle.rv_link.specs.Left.{HasNoLink, IsLinkOfLeft};
 ghost use Rattle.rv_link.specs.Refusals.{AreWithin, HasNoProgram};
 ghost use Rattle.rv_link.specs.Details.{IsProgramWith, IsProgramWithoutDetails};
 
-use crate::fault::LinkFault;
 use crate::options::LinkOptions;
 use crate::passes::{link_as_they_are, named, within_limits};
 use crate::relaxation::relaxed;
 use rv_collect::Collection;
 use rv_image::Linked;
 use rv_map::SectionId;
-use rv_object::Object;
+use rv_object_types::Object;
+use rv_reloc::LinkFault;
 use rv_resolve::Names;
 use std::alloc::Global;
 

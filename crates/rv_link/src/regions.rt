@@ -6,8 +6,8 @@ ghost use Rattle.rv_link.specs.Filled.{IsInputOf, objects_of};
 ghost use Rattle.rv_link.specs.Untaken.{AreUnfilled};
 ghost use Rattle.rv_link.specs.Regions.{AreGrown, IsFixed, left_files, left_from};
 
-use crate::fault::LinkFault;
 use crate::fixed::{Fixed, Input};
+use rv_reloc::LinkFault;
 use rv_shorten::ShortSection;
 use std::alloc::Global;
 

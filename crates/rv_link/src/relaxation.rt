@@ -1,16 +1,16 @@
 //! Relaxation: objects with the calls shortened that can be short.
 
 ghost use Rattle.std.specs.Prelude.{◌≡◌, map, IfOk, IfErr};
-ghost use Rattle.rv_object.specs.View.{object_of};
+ghost use Rattle.rv_object_types.specs.View.{object_of};
 ghost use Rattle.rv_object_laws.specs.Shortened.{Relaxes};
 ghost use Rattle.rv_shorten.specs.View.{short_object_of};
 ghost use Rattle.rv_resolve.specs.Names.{IsNames};
-ghost use Rattle.rv_link.specs.declared.fault.LinkFault.TheVariants.{OutOfMemory};
+ghost use Rattle.rv_reloc.specs.declared.fault.LinkFault.TheVariants.{OutOfMemory};
 
-use crate::fault::LinkFault;
 use rv_link_sites::placed;
-use rv_object::Object;
+use rv_object_types::Object;
 use rv_relax::kept_sizes;
+use rv_reloc::LinkFault;
 use rv_resolve::Names;
 use rv_shorten::{ShortObject, shorten, whole};
 use std::alloc::Global;

@@ -13,13 +13,13 @@ use Rattle.rv_layout_laws.specs.Sites.{padding_site}
 use Rattle.rv_isa.specs.Kinds.{width_of}
 use Rattle.rv_layout_laws.specs.declared.site.Site.{Site}
 use Rattle.rv_layout_laws.specs.declared.site.Call.{Call}
-use Rattle.rv_object.specs.declared.relocation.Relocation.{Relocation as Declared}
-use Rattle.rv_object.specs.declared.section.Section.{Section as DeclaredSection}
-use Rattle.rv_object.specs.Object as objects
-use Rattle.rv_object.specs.Object.{Relocation, Section, Object, Contents, stored, size_of}
-use Rattle.rv_object.specs.Parts.{relocation_of}
-use Rattle.rv_object.specs.Sections.{section_of}
-use Rattle.rv_object.specs.Valid.{is_align, padding_of, is_padding, is_padding_of, fits_inside, are_all_apart}
+use Rattle.rv_object_types.specs.declared.relocation.Relocation.{Relocation as Declared}
+use Rattle.rv_object_types.specs.declared.section.Section.{Section as DeclaredSection}
+use Rattle.rv_object_types.specs.Object as objects
+use Rattle.rv_object_types.specs.Object.{Relocation, Section, Object, Contents, stored, size_of}
+use Rattle.rv_object_types.specs.Parts.{relocation_of}
+use Rattle.rv_object_types.specs.Sections.{section_of}
+use Rattle.rv_object_types.specs.Valid.{is_align, padding_of, is_padding, is_padding_of, fits_inside, are_all_apart}
 use Rattle.rv_object_laws.specs.Moves.{has_padding, full_padding, alignment_of}
 use Rattle.rv_object_laws.specs.Inputs.{InputSection, goes_to_text}
 use Rattle.rv_object_laws.specs.CallSites.{is_call, has_relax, are_call_words, is_text_place, target_place, text_offset, excess, constant, is_entered, meets, is_permitted, may_change, call_site, site_of, is_compressible}

@@ -8,7 +8,7 @@ use Rattle.std.proofs.lemmas.List.{drop_all, length-map, length-append}
 use Rattle.rv_layout_laws.specs.Sites.{padding_site}
 use Rattle.rv_layout_laws.specs.declared.site.Site.{Site}
 use Rattle.rv_layout_laws.specs.Calls.{site_at}
-use Rattle.rv_object.specs.Object.{Section, Object, Relocation, size_of}
+use Rattle.rv_object_types.specs.Object.{Section, Object, Relocation, size_of}
 use Rattle.rv_object_laws.specs.Moves.{alignment_of, full_padding, has_padding}
 use Rattle.rv_object_laws.specs.Inputs.{InputSection, goes_to_text, inputs_from, inputs_of, inputs, begins_at}
 use Rattle.rv_object_laws.specs.CallSites.{call_site, changes, site_of, sites_from, sites_of, start_padding}

@@ -6,10 +6,10 @@ use Rattle.std.proofs.lemmas.Bool.{cond-true, cond-false, cases_Bool, leb-true, 
 use Rattle.std.specs.List.{list_all}
 use Rattle.std.specs.List.Sorted.{IsNonDecreasingBy, IsStableByKey}
 use Rattle.rv_isa.specs.declared.kind.Kind.TheVariants as kinds
-use Rattle.rv_object.specs.declared.relocation.Relocation.{Relocation as Declared}
-use Rattle.rv_object.specs.Object.{Relocation, Object}
-use Rattle.rv_object.specs.Parts.{relocation_of}
-use Rattle.rv_object.specs.Valid.{held, are_all_apart}
+use Rattle.rv_object_types.specs.declared.relocation.Relocation.{Relocation as Declared}
+use Rattle.rv_object_types.specs.Object.{Relocation, Object}
+use Rattle.rv_object_types.specs.Parts.{relocation_of}
+use Rattle.rv_object_types.specs.Valid.{held, are_all_apart}
 use Rattle.rv_object_laws.specs.Inputs.{InputSection}
 use Rattle.rv_object_laws.specs.CallSites.{inserted_change, in_order, may_change, changes}
 use Rattle.rv_object_laws.proofs.ChangesLemmas.{are_clear, all_ordered, AllClear, all_clear}

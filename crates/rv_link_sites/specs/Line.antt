@@ -3,7 +3,7 @@
 use Rattle.std.specs.Prelude.{◌≡◌, ℕ, suc, ◌+◌, ◌*◌, Bool, true, false, List, [], ◌∷◌, ◌++◌, length, map, if◌then◌else◌}
 use Rattle.rv_layout_laws.specs.Sites.{padding_site}
 use Rattle.rv_layout_laws.specs.declared.site.Site.{Site}
-use Rattle.rv_object.specs.Object.{Section, Object, size_of}
+use Rattle.rv_object_types.specs.Object.{Section, Object, size_of}
 use Rattle.rv_object_laws.specs.Inputs.{InputSection, goes_to_text, inputs, begins_at}
 use Rattle.rv_object_laws.specs.CallSites.{changes, start_padding, site_of}
 use Rattle.rv_link_sites.specs.declared.line.Line.{Line}

@@ -3,9 +3,9 @@
 use Rattle.std.specs.Prelude.{◌≡◌, ◌+◌, ◌*◌, ◌≤◌, ◌^◌, Bool, not, ◌&&◌, true, List, length, map, Option, Some, None, if◌then◌else◌}
 use Rattle.std.specs.List.{slice_get}
 use Rattle.rv_layout_laws.specs.declared.site.Call.{Call}
-use Rattle.rv_object.specs.Object.{Relocation, Section, Object, stored, size_of}
-use Rattle.rv_object.specs.Sections.{section_of}
-use Rattle.rv_object.specs.View.{object_of}
+use Rattle.rv_object_types.specs.Object.{Relocation, Section, Object, stored, size_of}
+use Rattle.rv_object_types.specs.Sections.{section_of}
+use Rattle.rv_object_types.specs.View.{object_of}
 use Rattle.rv_object_laws.specs.Moves.{full_padding, has_padding}
 use Rattle.rv_object_laws.specs.Inputs.{InputSection, goes_to_text}
 use Rattle.rv_object_laws.specs.Names.{Place}

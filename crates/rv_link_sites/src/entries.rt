@@ -3,14 +3,14 @@
 ghost use Rattle.std.specs.Prelude.{◌≡◌, ◌++◌, ◌<◌, ◌≤◌, ℕ, [], map, nat_le, length, IfOk, OnOk};
 ghost use Rattle.std.specs.List.{list_any};
 ghost use Rattle.std.specs.List.Sorted.{IsNonDecreasing, IsPartitionPoint, IsPermutation};
-ghost use Rattle.rv_object.specs.declared.symbol.Definition.TheVariants.{InSection};
-ghost use Rattle.rv_object.specs.Object.{Object as SaidObject};
-ghost use Rattle.rv_object.specs.Parts.{symbol_of};
-ghost use Rattle.rv_object.specs.View.{object_of};
+ghost use Rattle.rv_object_types.specs.declared.symbol.Definition.TheVariants.{InSection};
+ghost use Rattle.rv_object_types.specs.Object.{Object as SaidObject};
+ghost use Rattle.rv_object_types.specs.Parts.{symbol_of};
+ghost use Rattle.rv_object_types.specs.View.{object_of};
 ghost use Rattle.rv_object_laws.specs.CallSites as laws;
 ghost use Rattle.rv_link_sites.specs.Entries.{AreEntries, is_within_call, list_at, offset_in, offsets_in};
 
-use rv_object::{Definition, Object, Symbol};
+use rv_object_types::{Definition, Object, Symbol};
 use std::alloc::{AllocError, Global};
 
 /// The offsets that the symbols of an object name, those of each section in order.

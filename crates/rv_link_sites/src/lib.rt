@@ -1,6 +1,6 @@
 //! The sites of objects: the calls that may be shortened, the alignments, and the starts of sections of text.
 //!
-//! It takes objects (`rv_object`) and what their names mean (`rv_resolve`). It gives the text (`rv_relax`, `Placed`) by
+//! It takes objects (`rv_object_types`) and what their names mean (`rv_resolve`). It gives the text (`rv_relax`, `Placed`) by
 //! whose sites calls are shortened: all sections of text in one line, as long as they are before anything is taken out.
 //!
 //! Main contract: [`placed`] gives the text whose sites are `sites_of` the objects (`rv_object_laws`, specs/CallSites), in which

@@ -1,12 +1,12 @@
 //! The text of objects in one line.
 
 ghost use Rattle.std.specs.Prelude.{◌≡◌, ◌+◌, ◌*◌, ◌++◌, ◌≤◌, ◌^◌, length, map, IfOk};
-ghost use Rattle.rv_object.specs.Sections.{section_of};
-ghost use Rattle.rv_object.specs.View.{object_of};
+ghost use Rattle.rv_object_types.specs.Sections.{section_of};
+ghost use Rattle.rv_object_types.specs.View.{object_of};
 ghost use Rattle.rv_object_laws.specs.CallSites as laws;
 ghost use Rattle.rv_link_sites.specs.Line as walk;
 
-use rv_object::{Object, Section};
+use rv_object_types::{Object, Section};
 use rv_placement::begins_at;
 use rv_shorten::is_text;
 use std::alloc::{AllocError, Global};

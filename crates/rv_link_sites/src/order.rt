@@ -5,7 +5,7 @@ ghost use Rattle.std.specs.Bool.{OnTrue};
 ghost use Rattle.std.specs.Ordering.{nat_cmp};
 ghost use Rattle.std.specs.List.Sorted.{IsNonDecreasingBy, IsPermutation, IsStableByKey};
 
-use rv_object::Relocation;
+use rv_object_types::Relocation;
 use std::alloc::{AllocError, Global};
 
 /// Whether relocations stand in the order of their places.

@@ -3,8 +3,7 @@
 use crate::files::{CALL_OF_FIRST, RELAX, START, file, place};
 use rv_image::Region;
 use rv_link::{LinkOptions, link, link_exe};
-use rv_object::Object;
-use rv_object_reader::read;
+use rv_object::{Object, read};
 use std::alloc::Global;
 use std::test::Fail;
 

@@ -3,8 +3,7 @@
 
 use crate::files::{ALIGN, CALL_OF_FIRST, RELAX, file, place};
 use rv_link_sites::placed;
-use rv_object::Object;
-use rv_object_reader::read;
+use rv_object::{Object, read};
 use rv_relax::{Placed, Plan};
 use rv_resolve::Names;
 use std::alloc::{AllocError, Global};

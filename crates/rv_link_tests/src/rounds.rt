@@ -3,7 +3,7 @@
 
 use crate::files::{CALL_PLT, RELAX, file, place};
 use crate::plans::text;
-use rv_object_reader::read;
+use rv_object::read;
 use rv_relax::Plan;
 use std::alloc::{AllocError, Global};
 use std::test::Fail;

@@ -9,9 +9,9 @@ use Rattle.std.proofs.lemmas.Bool.Decides.{nat_tests}
 use Rattle.std.proofs.lemmas.List.{take_more, take_all}
 use Rattle.rv_isa.specs.declared.kind.Kind.{Kind}
 use Rattle.rv_isa.specs.declared.kind.Kind.TheVariants as kinds
-use Rattle.rv_object.specs.declared.relocation.Relocation.{Relocation as DeclaredRelocation}
-use Rattle.rv_object.specs.Object.{Relocation}
-use Rattle.rv_object.specs.Parts.{relocation_of}
+use Rattle.rv_object_types.specs.declared.relocation.Relocation.{Relocation as DeclaredRelocation}
+use Rattle.rv_object_types.specs.Object.{Relocation}
+use Rattle.rv_object_types.specs.Parts.{relocation_of}
 use Rattle.rv_object_laws.specs.CallSites.{is_call}
 use Rattle.rv_object_laws.specs.Moves.{Move}
 use Rattle.rv_object_laws.specs.Values.{is_high}

@@ -4,7 +4,7 @@
 use Rattle.std.specs.Prelude.{◌≡◌, ◌⊎◌, ℕ, ◌+◌, ℤ, pos, true, List, map, Some, None}
 use Rattle.std.specs.List.{slice_get}
 use Rattle.rv_isa.specs.Kinds.{is_low_part}
-use Rattle.rv_object.specs.Object.{Relocation, Object}
+use Rattle.rv_object_types.specs.Object.{Relocation, Object}
 use Rattle.rv_object_laws.specs.Inputs.{Starts, InputSection}
 use Rattle.rv_object_laws.specs.Names.{Outer}
 use Rattle.rv_object_laws.specs.Values.{value}

@@ -5,7 +5,7 @@
 
 ghost use Rattle.std.specs.Prelude.{◌≡◌, ℕ, [], ◌∷◌, Some, map, option_map, IfOk, OnOk};
 ghost use Rattle.std.specs.List.{slice_get};
-ghost use Rattle.rv_object.specs.Parts.{relocation_of};
+ghost use Rattle.rv_object_types.specs.Parts.{relocation_of};
 ghost use Rattle.rv_object_laws.specs.Moves.{new_offset};
 ghost use Rattle.rv_object_laws.specs.Values.{is_high};
 ghost use Rattle.rv_shorten.specs.Cutting.{cut_relocation};
@@ -16,7 +16,7 @@ ghost use Rattle.rv_placement.specs.Placement.{placed_at};
 ghost use Rattle.rv_link_values.specs.Highs.{found, high_to, high_in, high_of, HasBefore, HasFileBefore};
 
 use rv_isa::Kind;
-use rv_object::Relocation;
+use rv_object_types::Relocation;
 use rv_placement::{PlacedSection, Placement};
 use rv_relax::SectionPlan;
 use rv_shorten::{ShortObject, ShortSection};

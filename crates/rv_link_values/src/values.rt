@@ -3,8 +3,8 @@
 ghost use Rattle.std.specs.Prelude.{◌≡◌, ◌+◌, ◌%◌, ◌^◌, ℕ, List, map, option_map, unwrap_or, Some, IfOk, IfErr};
 ghost use Rattle.std.specs.List.{slice_get};
 ghost use Rattle.rv_isa.specs.Kinds.{is_low_part};
-ghost use Rattle.rv_object.specs.Object.{Object as PlainObject};
-ghost use Rattle.rv_object.specs.Parts.{relocation_of};
+ghost use Rattle.rv_object_types.specs.Object.{Object as PlainObject};
+ghost use Rattle.rv_object_types.specs.Parts.{relocation_of};
 ghost use Rattle.rv_object_laws.specs.Inputs.{InputSection};
 ghost use Rattle.rv_object_laws.specs.Values as laws;
 ghost use Rattle.rv_shorten.specs.View.{short_object_of};
@@ -17,7 +17,7 @@ ghost use Rattle.rv_link_values.specs.Values.{IsInputAt, IsValueOf, IsDangling, 
 use crate::fault::ValueFault;
 use crate::high::Highs;
 use rv_isa::Kind;
-use rv_object::Relocation;
+use rv_object_types::Relocation;
 use rv_placement::{PlacedSection, Placement};
 use rv_resolve::Names;
 use rv_shorten::ShortObject;

@@ -1,33 +1,22 @@
-//! Objects: what the assembler makes of a source, and what the linker takes.
+//! Relocatable objects and their files.
 //!
-//! It gives the types [`Object`], [`Section`], [`Symbol`], [`Relocation`] and [`Row`], and in `specs/Object` the same as
-//! plain data, of which the contracts of the assembler and the linker speak. What a reader of files tests, each value of
-//! these types keeps (`specs/Valid`): powers of two as alignments, fields inside their sections, indices below counts.
+//! It gives an [`Object`] with its parts, `write`, which makes the bytes of an object's file, and `read`, which takes any
+//! bytes and gives the object of which they are the file, or the first fault that they have.
 //!
-//! Padding in code is written and counted here, as the assembler and the linker both do it.
-//!
-//! It knows neither statements nor addresses.
+//! The types stand in `rv_object_types`, so that the assembler and the linker need neither files nor ELF; `write` stands
+//! in `rv_object_writer`, `read` in `rv_object_reader`, each with its contract.
 //!
 //! ```text
-//! let text = Section { name: b".text", loaded: true, executable: true, writable: false, contents, alignment: 2, relocations };
-//! let object = Object { sections, symbols, rows, rvc: false };
+//! let file = write(alloc, &object)?;
+//! let same = read(alloc, &file)?;         // same == object
 //! ```
 //!
-//! Source: System V gABI, "Sections", "Symbol Table", "Relocation"; RISC-V ELF psABI, "Relocations".
+//! Source: System V gABI, chapters 4 and 5; RISC-V ELF psABI, "Relocations".
 #![tactic(auto)]
 
-mod contents;
-mod object;
-mod padding;
-mod relocation;
-mod row;
-mod section;
-mod symbol;
-
-pub use contents::Contents;
-pub use object::Object;
-pub use padding::{operations, put_no_operations};
-pub use relocation::Relocation;
-pub use row::Row;
-pub use section::Section;
-pub use symbol::{Binding, Definition, Symbol};
+pub use rv_elf::FileFault;
+pub use rv_object_reader::read;
+pub use rv_object_types::{
+    Binding, Contents, Definition, Object, Relocation, Row, Section, Symbol,
+};
+pub use rv_object_writer::write;

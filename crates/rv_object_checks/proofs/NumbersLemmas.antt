@@ -1,29 +1,17 @@
 -- Numbers of a record that is cut out of its section.
 
 use Rattle.std.proofs.Common.{◌≡◌, ℕ, ◌+◌, ◌-◌, ◌≤◌, List, take, drop, ap, ◌∙◌, arith}
-use Rattle.std.specs.Int.{from_le_bytes, w32, w64}
 use Rattle.std.proofs.lemmas.List.{drop-drop, drop-take}
 use Rattle.byteorder.specs.Endian.{little_number}
 use Rattle.byteorder.specs.Numbers.{little_from-take}
 use Rattle.rv_elf.specs.Fields.{Field, field, number_in}
 
-four : (bs : List ℕ) → from_le_bytes w32 bs ≡ little_number 4 bs
-four bs = omega arith
-
-eight : (bs : List ℕ) → from_le_bytes w64 bs ≡ little_number 8 bs
-eight bs = omega arith
-
-pub word_is : (table bs : List ℕ) (offset : ℕ) → bs ≡ take 4 (drop offset table) → from_le_bytes w32 bs ≡ number_in (field offset 4) 0 table
+-- a field of a record whose bytes these are
+pub number_here : (offset width : ℕ) (bytes : List ℕ) → little_number width (drop offset bytes) ≡ number_in (field offset width) 0 bytes
 unfolding number_in
-word_is table bs offset same =
+number_here offset width bytes =
     let here : offset ≡ 0 + offset = omega arith in
-    four bs ∙ ap (little_number 4) same ∙ little_from-take 0 4 4 (drop offset table) (omega arith) ∙ ap (λ n. little_number 4 (drop n table)) here
-
-pub double_is : (table bs : List ℕ) (offset : ℕ) → bs ≡ take 8 (drop offset table) → from_le_bytes w64 bs ≡ number_in (field offset 8) 0 table
-unfolding number_in
-double_is table bs offset same =
-    let here : offset ≡ 0 + offset = omega arith in
-    eight bs ∙ ap (little_number 8) same ∙ little_from-take 0 8 8 (drop offset table) (omega arith) ∙ ap (λ n. little_number 8 (drop n table)) here
+    ap (λ n. little_number width (drop n bytes)) here
 
 -- a field of the first k bytes behind a place
 pub number_cut : (f : Field) (p k : ℕ) (bytes : List ℕ) → f.offset + f.width ≤ k → number_in f 0 (take k (drop p bytes)) ≡ number_in f p bytes

@@ -13,6 +13,7 @@ ghost use Rattle.rv_object_checks.specs.Rows.{record_of, room_of, row_lies_in};
 use crate::headers::is_loaded;
 use crate::rows::{ROW_SIZE, RowRecord};
 use crate::tables::Tables;
+use byteorder::{ByteOrder, LittleEndian};
 use rv_elf::{FileFault, SectionHeader, SectionIndex};
 
 /// The row of this index, from 0, in a section of these bytes.
@@ -39,10 +40,7 @@ fn word(record: &[u8], offset: usize) -> u32
     requires { offset + 4 ≤ length record.now }
     ensures { result ≡ number_in (field offset 4) 0 record.now }
 {
-    match record[offset..].first_chunk::<4>() {
-        Some(bytes) => u32::from_le_bytes(*bytes),
-        None => 0,
-    }
+    LittleEndian::read_u32(&record[offset..])
 }
 
 /// The eight bytes at an offset in a record, the lowest first.
@@ -51,10 +49,7 @@ fn double(record: &[u8], offset: usize) -> u64
     requires { offset + 8 ≤ length record.now }
     ensures { result ≡ number_in (field offset 8) 0 record.now }
 {
-    match record[offset..].first_chunk::<8>() {
-        Some(bytes) => u64::from_le_bytes(*bytes),
-        None => 0,
-    }
+    LittleEndian::read_u64(&record[offset..])
 }
 
 /// A section that a row names. Rows of one section mostly follow each other, so the next asks nothing of the file.

@@ -7,12 +7,12 @@ use Rattle.std.proofs.lemmas.Bool.{leb-true, ltb-true, ltb-false, eqb-true, le-l
 use Rattle.std.proofs.lemmas.List.Sums.{sum_by-cons}
 use Rattle.rv_isa.specs.declared.kind.Kind.{Kind}
 use Rattle.rv_isa.specs.Kinds.{width_of}
-use Rattle.rv_object.specs.Object.{Relocation, Contents, size_of, stored}
-use Rattle.rv_object.specs.Valid.{is_align, is_padding, is_padding_of, padding_of, held, fits_inside, are_apart, are_all_apart}
+use Rattle.rv_object_types.specs.Object.{Relocation, Contents, size_of, stored}
+use Rattle.rv_object_types.specs.Valid.{is_align, is_padding, is_padding_of, padding_of, held, fits_inside, are_apart, are_all_apart}
 use Rattle.rv_object_laws.specs.Moves.{full_padding, has_padding}
 use Rattle.rv_object_laws.specs.Inputs.{InputSection}
 use Rattle.rv_object_laws.specs.CallSites.{is_call, has_relax, are_call_words, is_text_place, target_place, is_entered, meets, is_permitted, may_change, inserted_change, in_order}
-use Rattle.rv_object.specs.Object as objects
+use Rattle.rv_object_types.specs.Object as objects
 
 -- ---- a permitted call
 

@@ -9,7 +9,7 @@ use Rattle.rv_map.specs.declared.map.SectionId.{SectionId}
 use Rattle.rv_collect_laws.specs.Graph.{is_same, is_one_of, Has, IsLeastClosed, staying, is_dropped}
 use Rattle.rv_collect_laws.proofs.MarksLemmas.{some_drops, same_drops, drops_within, rest_least}
 use Rattle.rv_collect_laws.proofs.SectionsLemmas.{same_laws}
-use Rattle.rv_object.specs.Object.{Relocation, Section, Object}
+use Rattle.rv_object_types.specs.Object.{Relocation, Section, Object}
 use Rattle.rv_object_laws.specs.CallSites.{target_place}
 use Rattle.rv_object_laws.specs.Collects.{id_of, loaded_sections, lies_in, entry_place, leads_to, is_at, graph_of, Collects}
 use Rattle.rv_object_laws.specs.Inputs.{InputSection, inputs_from, inputs_of, inputs}

@@ -7,9 +7,9 @@ use Rattle.std.specs.Option.{option_map}
 use Rattle.std.proofs.lemmas.List.{map-append}
 use Rattle.rv_map.specs.declared.map.SectionId.{SectionId}
 use Rattle.rv_collect_laws.specs.Graph.{is_dropped}
-use Rattle.rv_object.specs.Bindings.{is_global, is_shared, is_weak}
-use Rattle.rv_object.specs.declared.symbol.Binding.{Binding}
-use Rattle.rv_object.specs.Object.{Relocation, Symbol, Object}
+use Rattle.rv_object_types.specs.Bindings.{is_global, is_shared, is_weak}
+use Rattle.rv_object_types.specs.declared.symbol.Binding.{Binding}
+use Rattle.rv_object_types.specs.Object.{Relocation, Symbol, Object}
 use Rattle.rv_object_laws.specs.CallSites.{target_place}
 use Rattle.rv_object_laws.specs.Inputs.{InputSection}
 use Rattle.rv_object_laws.specs.Left.{left_of, export_left}

@@ -3,7 +3,7 @@
 use Rattle.std.proofs.Common.{◌≡◌, ℕ, List, [], ◌∷◌, refl, ap, ◌∙◌}
 use Rattle.std.specs.Prelude.{if◌then◌else◌}
 use Rattle.std.proofs.lemmas.Bool.{le-leb}
-use Rattle.rv_object.specs.declared.row.Row.{Row}
+use Rattle.rv_object_types.specs.declared.row.Row.{Row}
 use Rattle.rv_object_laws.specs.IsLinkOf.{inserted_row, by_ordinal}
 use Rattle.rv_object_laws.specs.Rising.{Rise}
 

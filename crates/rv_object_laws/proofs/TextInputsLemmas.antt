@@ -3,10 +3,10 @@
 use Rattle.std.proofs.Common.{◌≡◌, ℕ, suc, ◌+◌, ◌-◌, ◌≤◌, Bool, true, false, List, [], ◌∷◌, ◌++◌, Some, map, slice_index_or, refl, ap, ◌∙◌, arith}
 use Rattle.std.specs.Prelude.{if◌then◌else◌}
 use Rattle.std.specs.List.{AllByRecursion, slice_get}
-use Rattle.rv_object.specs.declared.object.Object.{Object as DeclaredObject}
-use Rattle.rv_object.specs.Object.{Section, Object}
-use Rattle.rv_object.specs.Valid.{fit_inside, are_paddings}
-use Rattle.rv_object.specs.View.{object_of}
+use Rattle.rv_object_types.specs.declared.object.Object.{Object as DeclaredObject}
+use Rattle.rv_object_types.specs.Object.{Section, Object}
+use Rattle.rv_object_types.specs.Valid.{fit_inside, are_paddings}
+use Rattle.rv_object_types.specs.View.{object_of}
 use Rattle.rv_object_laws.specs.Inputs.{InputSection, goes_to_text, inputs_from, inputs_of, inputs}
 use Rattle.rv_object_laws.specs.Names.{no_object, object_at}
 use Rattle.rv_object_laws.specs.Whole.{IsWholeSection, IsWhole}

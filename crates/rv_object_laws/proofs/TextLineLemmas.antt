@@ -11,10 +11,10 @@ use Rattle.rv_layout_laws.specs.declared.site.SiteKind.{SiteKind}
 use Rattle.rv_layout_laws.specs.declared.site.SiteKind.TheVariants.{Call, Padding}
 use Rattle.rv_layout_laws.specs.Calls.{bytes_of, site_at, InOrder, IsOutside, LeadsOutside, IsText}
 use Rattle.rv_layout_laws.specs.Calls as layout
-use Rattle.rv_object.specs.declared.object.Object.{Object as DeclaredObject}
-use Rattle.rv_object.specs.Object.{Section, Object, Relocation, size_of}
-use Rattle.rv_object.specs.Valid.{held, is_align, is_padding, are_all_apart}
-use Rattle.rv_object.specs.View.{object_of}
+use Rattle.rv_object_types.specs.declared.object.Object.{Object as DeclaredObject}
+use Rattle.rv_object_types.specs.Object.{Section, Object, Relocation, size_of}
+use Rattle.rv_object_types.specs.Valid.{held, is_align, is_padding, are_all_apart}
+use Rattle.rv_object_types.specs.View.{object_of}
 use Rattle.rv_object_laws.specs.Moves.{full_padding, has_padding, alignment_of}
 use Rattle.rv_object_laws.specs.Inputs.{InputSection, goes_to_text, inputs_from, inputs_of, inputs}
 use Rattle.rv_object_laws.specs.Names.{Place, no_object, object_at, is_in_text}

@@ -4,12 +4,12 @@ use Rattle.std.proofs.Common.{◌≡◌, ℕ, suc, ◌+◌, ◌-◌, ◌<◌, �
 use Rattle.std.specs.Prelude.{◌==◌, if◌then◌else◌, option_and_then, bytes_eq}
 use Rattle.std.specs.List.{AllByRecursion, find, list_any, slice_get}
 use Rattle.std.proofs.lemmas.Bool.{eqb-true, eq-eqb, lt-ltb, and_from, or_left, or_right, or_cases, cases_lt}
-use Rattle.rv_object.specs.declared.symbol.Binding.{Binding}
-use Rattle.rv_object.specs.declared.symbol.Definition.{Definition}
-use Rattle.rv_object.specs.declared.symbol.Definition.TheVariants as definitions
-use Rattle.rv_object.specs.Object.{Symbol, Object, Relocation}
+use Rattle.rv_object_types.specs.declared.symbol.Binding.{Binding}
+use Rattle.rv_object_types.specs.declared.symbol.Definition.{Definition}
+use Rattle.rv_object_types.specs.declared.symbol.Definition.TheVariants as definitions
+use Rattle.rv_object_types.specs.Object.{Symbol, Object, Relocation}
 use Rattle.rv_object_laws.specs.Inputs.{InputSection}
-use Rattle.rv_object.specs.Bindings.{is_global, is_weak}
+use Rattle.rv_object_types.specs.Bindings.{is_global, is_weak}
 use Rattle.rv_object_laws.specs.Names.{is_sure, is_export, Export, exports_in, exports_from, exports_where, candidates, chosen, Place, place_in, shared_place, symbol_place, no_object, object_at}
 use Rattle.rv_object_laws.proofs.TextInputsLemmas.{all_append}
 use Rattle.rv_object_laws.specs.CallSites.{is_inside, is_entered, target_place}

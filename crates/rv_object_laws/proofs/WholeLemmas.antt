@@ -7,13 +7,13 @@ use Rattle.std.specs.List.{AllByRecursion, list_all, slice_get}
 use Rattle.std.proofs.lemmas.Bool.{and_parts, and_from}
 use Rattle.rv_map.specs.declared.map.SectionId.{SectionId}
 use Rattle.rv_collect_laws.specs.Graph.{is_dropped}
-use Rattle.rv_object.specs.declared.object.Object.{Object as DeclaredObject}
-use Rattle.rv_object.specs.declared.row.Row.{Row}
-use Rattle.rv_object.specs.declared.section.Section.{Section as DeclaredSection}
-use Rattle.rv_object.specs.Object.{Contents, Progbits, Note, Nobits, Section, Symbol, Object}
-use Rattle.rv_object.specs.Sections.{section_of}
-use Rattle.rv_object.specs.Valid.{fit_inside, is_below, are_indexed, is_defined_in, are_defined, is_row_in, are_rows}
-use Rattle.rv_object.specs.View.{object_of}
+use Rattle.rv_object_types.specs.declared.object.Object.{Object as DeclaredObject}
+use Rattle.rv_object_types.specs.declared.row.Row.{Row}
+use Rattle.rv_object_types.specs.declared.section.Section.{Section as DeclaredSection}
+use Rattle.rv_object_types.specs.Object.{Contents, Progbits, Note, Nobits, Section, Symbol, Object}
+use Rattle.rv_object_types.specs.Sections.{section_of}
+use Rattle.rv_object_types.specs.Valid.{fit_inside, is_below, are_indexed, is_defined_in, are_defined, is_row_in, are_rows}
+use Rattle.rv_object_types.specs.View.{object_of}
 use Rattle.rv_object_laws.specs.Whole.{IsWholeSection, IsWhole}
 use Rattle.rv_object_laws.specs.Without.{without_section, without_sections, without_object, without_from, without}
 use Rattle.rv_object_laws.proofs.WithoutLemmas.{as_many_sections, section_left}

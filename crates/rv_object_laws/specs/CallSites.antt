@@ -12,10 +12,10 @@ use Rattle.rv_isa.specs.declared.instruction.Inst.TheVariants as isa
 use Rattle.rv_encode.specs.Word.{form, word as word_of}
 use Rattle.rv_layout_laws.specs.declared.site.Site.{Site}
 use Rattle.rv_layout_laws.specs.declared.site.SiteKind.TheVariants as sites
-use Rattle.rv_object.specs.declared.symbol.Definition.{Definition}
-use Rattle.rv_object.specs.declared.symbol.Definition.TheVariants as definitions
-use Rattle.rv_object.specs.Object.{Relocation, Section, Object, size_of, stored}
-use Rattle.rv_object.specs.Valid.{held}
+use Rattle.rv_object_types.specs.declared.symbol.Definition.{Definition}
+use Rattle.rv_object_types.specs.declared.symbol.Definition.TheVariants as definitions
+use Rattle.rv_object_types.specs.Object.{Relocation, Section, Object, size_of, stored}
+use Rattle.rv_object_types.specs.Valid.{held}
 use Rattle.rv_object_laws.specs.Moves.{alignment_of, full_padding, has_padding}
 use Rattle.rv_object_laws.specs.Inputs.{InputSection, goes_to_text, inputs, begins_at}
 use Rattle.rv_object_laws.specs.Names.{Place, symbol_place, object_at, is_in_text}

@@ -5,7 +5,7 @@ use Rattle.std.specs.Prelude.{suc, Bool, false, ◌&&◌, ◌==◌, List, map, O
 use Rattle.std.specs.List.{list_any}
 use Rattle.rv_map.specs.declared.map.SectionId.{SectionId}
 use Rattle.rv_collect_laws.specs.Graph.{Graph, AreDrops}
-use Rattle.rv_object.specs.Object.{Relocation, Object}
+use Rattle.rv_object_types.specs.Object.{Relocation, Object}
 use Rattle.rv_object_laws.specs.Inputs.{InputSection, inputs}
 use Rattle.rv_object_laws.specs.Names.{Export, Place, place_in, chosen, begins_run}
 use Rattle.rv_object_laws.specs.CallSites.{target_place}

@@ -9,8 +9,8 @@ use Rattle.rv_isa_laws.specs.Platform.{stack_start, memory_limit}
 use Rattle.rv_map.specs.declared.map.Row.{Row as MapRow}
 use Rattle.rv_map.specs.Limits.{IsMap}
 use Rattle.rv_image.specs.Linked.{Linked}
-use Rattle.rv_object.specs.declared.row.Row.{Row}
-use Rattle.rv_object.specs.Object.{Section, Object}
+use Rattle.rv_object_types.specs.declared.row.Row.{Row}
+use Rattle.rv_object_types.specs.Object.{Section, Object}
 use Rattle.rv_object_laws.specs.Moves.{Move, moves, new_offset, has_room, lost}
 use Rattle.rv_object_laws.specs.Inputs.{Starts, goes_to_text, goes_to_rodata, goes_to_data, goes_to_bss, inputs, start_of, Holds, gaps_of, greatest, contents}
 use Rattle.rv_object_laws.specs.Names.{Outer, outer_address, globals_of, global_names, shown_linker_symbols, entry_of}

@@ -4,7 +4,7 @@
 use Rattle.std.specs.Prelude.{ℕ, Bool, List}
 use Rattle.rv_image.specs.Linked.{Linked}
 use Rattle.rv_map.specs.declared.map.SectionId.{SectionId}
-use Rattle.rv_object.specs.Object.{Object}
+use Rattle.rv_object_types.specs.Object.{Object}
 use Rattle.rv_object_laws.specs.Collects.{Collects}
 use Rattle.rv_object_laws.specs.IsLinkOf.{IsLinkOf}
 use Rattle.rv_object_laws.specs.Shortened.{Relaxes}

@@ -4,9 +4,9 @@
 use Rattle.std.specs.Prelude.{ℕ, ◌+◌, ◌-◌, Bool, ◌&&◌, nat_le, nat_lt, min, List, [], ◌∷◌, ◌++◌, length, take, drop, filter, sum_by, unwrap_or, if◌then◌else◌}
 use Rattle.std.specs.List.{find}
 use Rattle.rv_layout_laws.specs.Alignment.{aligned}
-use Rattle.rv_object.specs.Object.{Relocation, Section}
-use Rattle.rv_object.specs.Padding.{no_operations, operations_in}
-use Rattle.rv_object.specs.Valid.{is_align, padding_of}
+use Rattle.rv_object_types.specs.Object.{Relocation, Section}
+use Rattle.rv_object_types.specs.Padding.{no_operations, operations_in}
+use Rattle.rv_object_types.specs.Valid.{is_align, padding_of}
 
 -- of `full` bytes from an offset on, these are left, written anew
 pub record Move : Type 0 where

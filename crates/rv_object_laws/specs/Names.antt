@@ -5,11 +5,11 @@ use Rattle.std.specs.List.{find, slice_get}
 use Rattle.std.specs.Option.{option_or}
 use Rattle.rv_map.specs.Globals.{global_address, shown, linker_symbols}
 use Rattle.rv_map.specs.Map.{Map, Global}
-use Rattle.rv_object.specs.declared.symbol.Binding.{Binding}
-use Rattle.rv_object.specs.declared.symbol.Definition.{Definition}
-use Rattle.rv_object.specs.declared.symbol.Definition.TheVariants as definitions
-use Rattle.rv_object.specs.Bindings.{is_shared, is_global, is_weak}
-use Rattle.rv_object.specs.Object.{Section, Symbol, Object}
+use Rattle.rv_object_types.specs.declared.symbol.Binding.{Binding}
+use Rattle.rv_object_types.specs.declared.symbol.Definition.{Definition}
+use Rattle.rv_object_types.specs.declared.symbol.Definition.TheVariants as definitions
+use Rattle.rv_object_types.specs.Bindings.{is_shared, is_global, is_weak}
+use Rattle.rv_object_types.specs.Object.{Section, Symbol, Object}
 use Rattle.rv_object_laws.specs.Moves.{moves, new_offset}
 use Rattle.rv_object_laws.specs.Inputs.{Starts, goes_to_text}
 

@@ -1,7 +1,7 @@
 -- Rows in the order of their ordinals.
 
 use Rattle.std.specs.Prelude.{ℕ, ◌≤◌, ⊤, List, [], ◌∷◌}
-use Rattle.rv_object.specs.declared.row.Row.{Row}
+use Rattle.rv_object_types.specs.declared.row.Row.{Row}
 
 -- no ordinal is below the one before it, nor the first below this
 abbrev pub Rise : ℕ → List Row → Type 0

@@ -12,10 +12,10 @@ use Rattle.rv_encode.specs.Word.{form, word}
 use Rattle.rv_compress.specs.declared.form.Compressed.TheVariants as compressed
 use Rattle.rv_compress.specs.Parcel.{parcel}
 use Rattle.rv_layout_laws.specs.Calls.{IsGreatestClosed}
-use Rattle.rv_object.specs.declared.symbol.Definition.{Definition}
-use Rattle.rv_object.specs.declared.symbol.Definition.TheVariants as definitions
-use Rattle.rv_object.specs.declared.row.Row.{Row}
-use Rattle.rv_object.specs.Object.{Contents, Progbits, Note, Nobits, Relocation, Section, Symbol, Object, stored}
+use Rattle.rv_object_types.specs.declared.symbol.Definition.{Definition}
+use Rattle.rv_object_types.specs.declared.symbol.Definition.TheVariants as definitions
+use Rattle.rv_object_types.specs.declared.row.Row.{Row}
+use Rattle.rv_object_types.specs.Object.{Contents, Progbits, Note, Nobits, Relocation, Section, Symbol, Object, stored}
 use Rattle.rv_object_laws.specs.Moves.{Move, new_offset, kept, lost}
 use Rattle.rv_object_laws.specs.Inputs.{goes_to_text}
 use Rattle.rv_object_laws.specs.CallSites.{is_call, link_register, in_order, base, sites_of}

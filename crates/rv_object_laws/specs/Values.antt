@@ -10,7 +10,7 @@ use Rattle.rv_isa.specs.Kinds.{width_of, is_low_part}
 use Rattle.rv_reloc.specs.Values.{value_of}
 use Rattle.rv_reloc.specs.Fields.{patched}
 use Rattle.rv_reloc.specs.Ranges.{Takes}
-use Rattle.rv_object.specs.Object.{Contents, Progbits, Note, Nobits, Relocation, Section, Object}
+use Rattle.rv_object_types.specs.Object.{Contents, Progbits, Note, Nobits, Relocation, Section, Object}
 use Rattle.rv_object_laws.specs.Moves.{Move, moves, new_offset, kept}
 use Rattle.rv_object_laws.specs.Inputs.{Starts, InputSection, start_of}
 use Rattle.rv_object_laws.specs.Names.{Place, Outer, symbol_address, symbol_place, object_at}

@@ -5,7 +5,7 @@
 use Rattle.std.specs.Prelude.{ℕ, suc, Bool, false, not, List, [], ◌∷◌, filter, if◌then◌else◌}
 use Rattle.rv_map.specs.declared.map.SectionId.{SectionId}
 use Rattle.rv_collect_laws.specs.Graph.{is_dropped}
-use Rattle.rv_object.specs.Object.{Section, Object}
+use Rattle.rv_object_types.specs.Object.{Section, Object}
 
 abbrev pub without_section : Bool → Section → Section
 without_section dropped s =

@@ -1,6 +1,6 @@
 //! Reads objects: the object of a file, whoever wrote it.
 //!
-//! It takes the bytes of any file. It gives the [`rv_object::Object`] that the file holds, or the first fault of the
+//! It takes the bytes of any file. It gives the [`rv_object_types::Object`] that the file holds, or the first fault of the
 //! file. The object lends its names and contents from the file.
 //!
 //! Main contract: [`read`] answers an object just of a file without a fault (`first_fault`), and then the file's own
@@ -24,4 +24,4 @@ mod symbols;
 
 pub use reading::read;
 pub use rv_elf::FileFault;
-pub use rv_object::Object;
+pub use rv_object_types::Object;

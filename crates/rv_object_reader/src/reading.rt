@@ -2,7 +2,7 @@
 
 ghost use Rattle.std.specs.Prelude.{◌≡◌, ◌⊎◌, None, Some, IfOk, IfErr};
 ghost use Rattle.rv_elf.specs.declared.fault.FileFault.TheVariants.{OutOfMemory};
-ghost use Rattle.rv_object.specs.View.{object_of};
+ghost use Rattle.rv_object_types.specs.View.{object_of};
 ghost use Rattle.rv_object_file_laws.specs.FirstFault.{first_fault};
 ghost use Rattle.rv_object_file_laws.specs.ObjectOf.{ObjectOf};
 
@@ -12,8 +12,8 @@ use crate::rows::rows;
 use crate::sections::sections;
 use crate::symbols::symbols;
 use rv_elf::FileFault;
-use rv_object::Object;
 use rv_object_checks::check;
+use rv_object_types::Object;
 use std::alloc::Global;
 
 /// The object of a file, or the first of the file's faults.

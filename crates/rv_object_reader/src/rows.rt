@@ -2,7 +2,7 @@
 
 ghost use Rattle.std.specs.Prelude.{◌≡◌, true, IfOk, map};
 ghost use Rattle.std.specs.List.{AllByRecursion};
-ghost use Rattle.rv_object.specs.Valid.{is_counted, are_counted};
+ghost use Rattle.rv_object_types.specs.Valid.{is_counted, are_counted};
 ghost use Rattle.rv_object_checks.specs.Rows.{record_of};
 ghost use Rattle.rv_object_file_laws.specs.FirstFault.{is_row_of};
 ghost use Rattle.rv_object_file_laws.specs.ObjectOf.{row_in as row_of};
@@ -10,8 +10,8 @@ ghost use Rattle.rv_object_file_laws.specs.Parts.{kept_at, row_records};
 ghost use Rattle.rv_object_file_laws.specs.Rows.{rows_in as records_in};
 
 use rv_elf::SectionIndex;
-use rv_object::Row;
 use rv_object_checks::{Checked, ROW_SIZE, RowRecord, row_in};
+use rv_object_types::Row;
 use std::alloc::{AllocError, Global};
 
 /// The rows of a file; none where it has no section of them.

@@ -2,8 +2,8 @@
 
 ghost use Rattle.std.specs.Prelude.{◌≡◌, ◌<◌, true, IfOk, map};
 ghost use Rattle.rv_elf.specs.Sections.{section_count};
-ghost use Rattle.rv_object.specs.Parts.{relocation_of};
-ghost use Rattle.rv_object.specs.Sections.{section_of};
+ghost use Rattle.rv_object_types.specs.Parts.{relocation_of};
+ghost use Rattle.rv_object_types.specs.Sections.{section_of};
 ghost use Rattle.rv_object_checks.specs.Found.{section_at};
 ghost use Rattle.rv_object_checks.specs.Names.{names_table};
 ghost use Rattle.rv_object_file_laws.specs.ObjectOf.{section_in};
@@ -13,8 +13,8 @@ ghost use Rattle.rv_object_reader.specs.Collected.{lists_of, lists_in, list_so_f
 use crate::parts::{contents, is_writable, name, section_names};
 use crate::strings::Strings;
 use rv_elf::SectionIndex;
-use rv_object::{Relocation, Section};
 use rv_object_checks::{Checked, count_sections, is_executable, is_loaded};
+use rv_object_types::{Relocation, Section};
 use std::alloc::{AllocError, Global};
 use std::mem;
 

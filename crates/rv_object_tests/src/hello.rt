@@ -3,7 +3,7 @@
 use crate::sources::HELLO;
 use rv_assemble::assemble;
 use rv_elf::{ElfView, SectionIndex, SymbolIndex, rela_in, symbol_in};
-use rv_object_writer::write;
+use rv_object::write;
 use std::test::Fail;
 
 /// Name, size and `sh_info` of each section, in order.

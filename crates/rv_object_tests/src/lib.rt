@@ -1,5 +1,5 @@
 //! Objects as bytes: the object of a source, written, and read as any reader of ELF reads it (`rv_elf`) and as this
-//! project's own does (`rv_object_reader`). The numbers are from the gABI's sizes of records and the
+//! project's own does (`rv_object`). The numbers are from the gABI's sizes of records and the
 //! psABI's kinds of relocations. And the sizes of a source's statements (`rv_layout`), as GNU as lists them.
 #![tactic(auto)]
 

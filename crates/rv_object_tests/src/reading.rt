@@ -3,8 +3,7 @@
 
 use crate::sources::{HELLO, KINDS};
 use rv_assemble::assemble;
-use rv_object_reader::read;
-use rv_object_writer::write;
+use rv_object::{read, write};
 use std::alloc::{AllocError, Global};
 use std::test::Fail;
 

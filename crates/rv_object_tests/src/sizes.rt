@@ -1,8 +1,9 @@
 //! The sizes of a source's statements, as the listing of GNU as (Binutils 2.40) has them.
 
 use rv_layout::Layout;
-use rv_parse::parse;
+use rv_parse::{parse, parse_compact};
 use rv_unit::Unit;
+use std::alloc::{AllocError, Global};
 use std::test::Fail;
 
 /// A branch out of reach and one in reach, paddings of code and of data, and data.
@@ -19,16 +20,26 @@ far: ret
 .zero 5
 ";
 
-#[test]
-fn sizes_of_statements(rt: HostRuntime) -> Result<(), Fail> {
-    let alloc = rt.alloc();
-    let unit = Unit::build(alloc, parse(alloc, SOURCE)?)?;
-    let layout = Layout::of(alloc, &unit)?;
+/// Their sizes.
+const SIZES: [u32; 13] = [8, 2, 0, 2, 4094, 4094, 0, 2, 0, 2, 6, 3, 5];
+
+/// The sizes of a unit's statements.
+fn sizes(alloc: Global, unit: &Unit<'_>) -> Result<Vec<u32>, AllocError> {
+    let layout = Layout::of(alloc, unit)?;
     let mut sizes = Vec::new(alloc);
     for index in 0..unit.statements().len() {
         sizes.push(layout.size(index))?;
     }
-    assert!(rt; sizes.as_slice() == [8, 2, 0, 2, 4094, 4094, 0, 2, 0, 2, 6, 3, 5].as_slice());
-    assert!(rt; layout.rounds() <= 5);
+    Ok(sizes)
+}
+
+#[test]
+fn sizes_of_statements(rt: HostRuntime) -> Result<(), Fail> {
+    let alloc = rt.alloc();
+    let unit = Unit::build(alloc, parse(alloc, SOURCE)?)?;
+    assert!(rt; sizes(alloc, &unit)?.as_slice() == SIZES.as_slice());
+    assert!(rt; Layout::of(alloc, &unit)?.rounds() <= 5);
+    let compact = Unit::of(alloc, parse_compact(alloc, SOURCE)?)?;
+    assert!(rt; sizes(alloc, &compact)?.as_slice() == SIZES.as_slice());
     Ok(())
 }

@@ -1,6 +1,6 @@
 -- Fields keep the low bytes of a number.
 
-use Rattle.std.proofs.Common.{◌≡◌, ℕ, ◌/◌, ◌%◌, ◌^◌, ◌∷◌, [], ◌++◌, arith}
+use Rattle.std.proofs.Common.{◌≡◌, ℕ, suc, ◌+◌, ◌/◌, ◌%◌, ◌^◌, ◌∷◌, [], ◌++◌, ap, ◌∙◌, arith}
 use Rattle.byteorder.specs.Endian.{little_bytes}
 use Rattle.rv_elf.specs.declared.file_header.FileHeader.{FileHeader}
 use Rattle.rv_elf.specs.declared.section_header.SectionHeader.{SectionHeader}
@@ -8,6 +8,10 @@ use Rattle.rv_elf.specs.declared.symbol.Symbol.{Symbol}
 use Rattle.rv_elf.specs.declared.rela.Rela.{Rela}
 use Rattle.rv_elf.specs.Fields as at
 use Rattle.rv_elf.specs.Records.{ident, file_header_bytes, section_header_bytes, symbol_bytes, rela_bytes}
+use Rattle.rv_object_types.specs.declared.row.Row.{Row}
+use Rattle.rv_object_file_laws.specs.Rows as rows
+use Rattle.rv_object_file_laws.specs.Rows.{row_bytes}
+use Rattle.rv_object_file_laws.specs.Written.{row_record}
 use Rattle.std.specs.Int.{cast_unsigned, w64}
 
 pub half_cut : (x : ℕ) → little_bytes 2 (x % 2 ^ 16) ≡ little_bytes 2 x
@@ -49,6 +53,16 @@ pub rela_cut : (r : Rela) (symbol : ℕ) → rela_bytes (record r { r_sym = symb
 unfolding rela_bytes
 rela_cut r symbol = λ k. at.bytes_of at.r_offset r.r_offset
     ++ (at.bytes_of at.r_type r.r_type ++ (word_cut symbol k ++ at.bytes_of at.r_addend (cast_unsigned w64 r.r_addend)))
+
+pub row_cut : (row : Row) → row_bytes (record (row_record row) { r_section = (row.section + 1) % 2 ^ 32 }) ≡ row_bytes (row_record row)
+unfolding row_bytes
+row_cut row =
+    let next : row.section + 1 ≡ suc row.section = omega arith in
+    let home : little_bytes 4 ((row.section + 1) % 2 ^ 32) ≡ little_bytes 4 (suc row.section) = word_cut (row.section + 1) ∙ ap (little_bytes 4) next in
+    λ k. at.bytes_of rows.line row.line
+    ++ (at.bytes_of rows.ordinal row.ordinal ++ (home k
+    ++ (at.bytes_of rows.instructions row.instructions ++ (at.bytes_of rows.offset row.offset
+    ++ (at.bytes_of rows.bytes row.bytes ++ at.bytes_of rows.reserved 0)))))
 
 pub section_cut : (h : SectionHeader) (name size link info : ℕ)
     → section_header_bytes (record h { sh_name = name % 2 ^ 32; sh_size = size % 2 ^ 64; sh_link = link % 2 ^ 32; sh_info = info % 2 ^ 32 })

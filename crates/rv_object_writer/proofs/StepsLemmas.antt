@@ -7,10 +7,10 @@ use Rattle.std.proofs.Math.Seq.{drop-append_seam}
 use mir.Val.{bool_byte}
 use Rattle.rv_elf.specs.declared.file_header.FileHeader.{FileHeader}
 use Rattle.rv_elf.specs.Records.{file_header_bytes, section_header_bytes}
-use Rattle.rv_object.specs.declared.row.Row.{Row}
-use Rattle.rv_object.specs.declared.section.Section.{Section as DeclaredSection}
-use Rattle.rv_object.specs.Object.{Section, Symbol}
-use Rattle.rv_object.specs.Sections.{section_of}
+use Rattle.rv_object_types.specs.declared.row.Row.{Row}
+use Rattle.rv_object_types.specs.declared.section.Section.{Section as DeclaredSection}
+use Rattle.rv_object_types.specs.Object.{Section, Symbol}
+use Rattle.rv_object_types.specs.Sections.{section_of}
 use Rattle.rv_layout_laws.specs.Alignment.{aligned}
 use Rattle.rv_object_writer.specs.declared.piece.Piece.{Piece as DeclaredPiece}
 use Rattle.rv_object_writer.specs.Pieces.{body_bytes, piece_of, rows_bytes}
@@ -35,11 +35,6 @@ pub done : {A B : Type 0} (F : List A → List B) → F [] ≡ [] → (xs : List
     → (out whole : List B) → out ++ F (drop i xs) ≡ whole → out ≡ whole
 done F nil xs i past out whole so_far =
     sym (append-nil out) ∙ ap (λ l. out ++ l) (sym (ap F (drop_all i xs past) ∙ nil)) ∙ so_far
-
--- three parts, one after the other
-pub three : (a b c old one two new : List ℕ) → one ≡ old ++ a → two ≡ one ++ b → new ≡ two ++ c → new ≡ old ++ (a ++ (b ++ c))
-three a b c old one two new e f g =
-    g ∙ ap (λ l. l ++ c) (f ∙ ap (λ l. l ++ b) e) ∙ append_assoc (old ++ a) b c ∙ append_assoc old a (b ++ c)
 
 -- three lists and two items, one after the other
 pub five : {A : Type 0} (a b c : List A) (x y : A) {one two more most all : List A} → one ≡ a → two ≡ one ++ b → more ≡ two ++ c → most ≡ more ++ x ∷ []

@@ -1,4 +1,4 @@
-//! Writes objects: an [`rv_object::Object`] as an ELF file.
+//! Writes objects: an [`rv_object_types::Object`] as an ELF file.
 //!
 //! Main contract: what `write` gives is the file of the object (`file_of` of rv_object_file_laws). It refuses nothing but
 //! want of memory; a number too large for its field loses its upper bytes there. Where the fields of a file can hold what

@@ -1,15 +1,15 @@
 //! The names of symbols and sections.
 
 ghost use Rattle.std.specs.Prelude.{[], ◌∷◌, ◌++◌, map, codes, IfOk};
-ghost use Rattle.rv_object.specs.Parts.{symbol_of};
-ghost use Rattle.rv_object.specs.Object.{Symbol as SaidSymbol};
+ghost use Rattle.rv_object_types.specs.Parts.{symbol_of};
+ghost use Rattle.rv_object_types.specs.Object.{Symbol as SaidSymbol};
 ghost use Rattle.rv_object_file_laws.specs.Written.{strings_of, UnplacedSection as SaidPiece};
 ghost use Rattle.rv_object_writer.specs.Pieces.{piece_of};
 ghost use Rattle.rv_object_writer.specs.Strings.{IsStringTable};
 
 use crate::piece::Piece;
 use crate::strings::StringTable;
-use rv_object::Symbol;
+use rv_object_types::Symbol;
 use std::alloc::{AllocError, Global};
 
 /// The name of the section with the names of sections.

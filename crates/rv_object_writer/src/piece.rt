@@ -1,13 +1,13 @@
 //! Sections as the file has them.
 
 ghost use Rattle.std.specs.Prelude.{◌≡◌, ◌<◌, ◌^◌};
-ghost use Rattle.rv_object.specs.Object.{size_of};
-ghost use Rattle.rv_object.specs.Parts.{contents_of};
-ghost use Rattle.rv_object.specs.Sections.{section_of};
+ghost use Rattle.rv_object_types.specs.Object.{size_of};
+ghost use Rattle.rv_object_types.specs.Parts.{contents_of};
+ghost use Rattle.rv_object_types.specs.Sections.{section_of};
 ghost use Rattle.rv_object_file_laws.specs.Written.{kind_of, flags_of};
 
 use rv_elf::{SHF_ALLOC, SHF_EXECINSTR, SHF_WRITE, SHT_NOBITS, SHT_NOTE, SHT_PROGBITS};
-use rv_object::{Contents, Row, Section};
+use rv_object_types::{Contents, Row, Section};
 
 /// What the file has of a section.
 #[derive(Clone, Copy, Drop)]

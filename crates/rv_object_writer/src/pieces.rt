@@ -4,9 +4,9 @@ ghost use Rattle.std.specs.Prelude.{◌≡◌, ◌+◌, ◌++◌, ◌∷◌, [],
 ghost use Rattle.std.specs.List.{AllByRecursion};
 ghost use Rattle.rv_elf.specs.Fields.{symbol_size};
 ghost use Rattle.rv_elf.specs.Numbers.{sht_strtab, sht_symtab};
-ghost use Rattle.rv_object.specs.Object.{size_of};
-ghost use Rattle.rv_object.specs.Sections.{section_of};
-ghost use Rattle.rv_object.specs.View.{object_of};
+ghost use Rattle.rv_object_types.specs.Object.{size_of};
+ghost use Rattle.rv_object_types.specs.Sections.{section_of};
+ghost use Rattle.rv_object_types.specs.View.{object_of};
 ghost use Rattle.rv_object_file_laws.specs.Written.{section_piece, table_piece, row_pieces, symtab_index, first_pieces, symbol_names, rela_pieces, locals};
 ghost use Rattle.rv_object_writer.specs.Pieces.{piece_of, rela_piece, AreTables, HaveKnownNumbers};
 
@@ -14,7 +14,7 @@ use crate::names::{SECTION_NAMES, symbol_names};
 use crate::piece::{Body, Piece};
 use crate::tables::{RelaTable, locals, rela_tables, symbols_table};
 use rv_elf::{SHT_RELA, SHT_STRTAB, SHT_SYMTAB};
-use rv_object::{Object, Row, Section};
+use rv_object_types::{Object, Row, Section};
 use std::alloc::{AllocError, Global};
 
 /// What the file has beside the contents of the object's sections.

@@ -4,26 +4,25 @@
 //! they are; of rows, which are 32 bytes each, their number says it. The loops that write relocations and symbols also show
 //! that their numbers have the widths of their fields; of rows the object says it.
 
-ghost use Rattle.std.specs.Prelude.{◌≡◌, ◌+◌, ◌<◌, ◌%◌, ◌^◌, ℕ, suc, List, [], ◌∷◌, ◌++◌, map, flat_map, replicate, codes, IfOk, OnOk};
+ghost use Rattle.std.specs.Prelude.{◌≡◌, ◌+◌, ◌<◌, ◌%◌, ◌^◌, ℕ, List, [], ◌∷◌, ◌++◌, map, flat_map, replicate, codes, IfOk, OnOk};
 ghost use Rattle.std.specs.List.{AllByRecursion};
-ghost use Rattle.byteorder.specs.Endian.{little_bytes};
-ghost use Rattle.rv_elf.specs.Fields.{bytes_of, symbol_size};
+ghost use Rattle.rv_elf.specs.Fields.{symbol_size};
 ghost use Rattle.rv_elf.specs.Records.{rela_bytes, symbol_bytes};
-ghost use Rattle.rv_object.specs.Parts.{relocation_of, symbol_of};
-ghost use Rattle.rv_object.specs.Sections.{section_of};
+ghost use Rattle.rv_object_types.specs.Parts.{relocation_of, symbol_of};
+ghost use Rattle.rv_object_types.specs.Sections.{section_of};
 ghost use Rattle.rv_object_file_laws.specs.Known.{IsRelocation, IsSymbol};
 ghost use Rattle.rv_object_file_laws.specs.Rows.{row_bytes};
-ghost use Rattle.rv_object_file_laws.specs.Rows as fields;
 ghost use Rattle.rv_object_file_laws.specs.Written.{strings_of, symbol_number, rela_of, relocations_bytes, row_record, binding_number, section_index_of, definition_value, symbol_record, is_local, locals, rela_pieces};
 ghost use Rattle.rv_object_writer.specs.Pieces.{rela_piece, rows_bytes};
 ghost use Rattle.rv_object_writer.specs.Strings.{IsStringTable};
 
 use crate::strings::StringTable;
+use byteorder::{ByteOrder, LittleEndian};
 use rv_elf::{
     ElfWriter, Rela, SHN_ABS, SHN_UNDEF, STB_GLOBAL, STB_LOCAL, STB_WEAK, SYMBOL_SIZE,
     Symbol as SymbolRecord,
 };
-use rv_object::{Binding, Definition, Relocation, Row, Section, Symbol};
+use rv_object_types::{Binding, Definition, Relocation, Row, Section, Symbol};
 use std::alloc::{AllocError, Global};
 
 // ---- relocations
@@ -135,69 +134,30 @@ pub(crate) fn rela_tables(
 
 // ---- rows
 
-/// Writes a number of four bytes.
-fn put_word(out: &mut ElfWriter, number: u32) -> Result<(), AllocError>
-    ensures { OnOk result (out.new ≡ out.old ++ little_bytes 4 number) }
-{
-    out.raw(&number.to_le_bytes())
-}
+/// The bytes of a row.
+const ROW_SIZE: usize = 32;
 
-/// Writes a number of eight bytes.
-fn put_double(out: &mut ElfWriter, number: u64) -> Result<(), AllocError>
-    ensures { OnOk result (out.new ≡ out.old ++ little_bytes 8 number) }
+/// Its bytes, by the index of its section in the file.
+#[tactic(auto, unfolding(rv_object_file_laws::specs::Rows::row_bytes))]
+fn row_bytes(row: &Row, section: u32) -> [u8; ROW_SIZE]
+    ensures { result ≡ row_bytes (record (row_record row.now) { r_section = section }) }
 {
-    out.raw(&number.to_le_bytes())
-}
-
-/// Writes the index of a row's section in the file.
-#[tactic(auto, using(crate::proofs::CutLemmas::word_cut))]
-fn put_row_section(out: &mut ElfWriter, row: &Row) -> Result<(), AllocError>
-    ensures { OnOk result (out.new ≡ out.old ++ bytes_of fields.section (suc (row.now).section)) }
-{
-    put_word(out, row.section.wrapping_add(1))
-}
-
-/// Writes the front of a row: its line, its ordinal and the index of its section in the file.
-fn put_row_place(out: &mut ElfWriter, row: &Row) -> Result<(), AllocError>
-    ensures { OnOk result (out.new ≡ out.old
-        ++ (bytes_of fields.line (row.now).line ++ (bytes_of fields.ordinal (row.now).ordinal
-        ++ bytes_of fields.section (suc (row.now).section)))) }
-{
-    put_word(out, row.line)?;
-    put_word(out, row.ordinal)?;
-    put_row_section(out, row)?;
-    Ok(())
-}
-
-/// Writes how many bytes a row has, and what is always 0.
-fn put_row_size(out: &mut ElfWriter, row: &Row) -> Result<(), AllocError>
-    ensures { OnOk result (out.new
-        ≡ out.old ++ (bytes_of fields.bytes (row.now).bytes ++ bytes_of fields.reserved 0)) }
-{
-    put_word(out, row.bytes)?;
-    put_word(out, 0)
-}
-
-/// Writes the rest of a row: how many instructions it has, where, and how many bytes.
-fn put_row_extent(out: &mut ElfWriter, row: &Row) -> Result<(), AllocError>
-    ensures { OnOk result (out.new ≡ out.old
-        ++ (bytes_of fields.instructions (row.now).instructions
-        ++ (bytes_of fields.offset (row.now).offset
-        ++ (bytes_of fields.bytes (row.now).bytes ++ bytes_of fields.reserved 0)))) }
-{
-    put_word(out, row.instructions)?;
-    put_double(out, row.offset)?;
-    put_row_size(out, row)?;
-    Ok(())
+    let mut bytes = [0; ROW_SIZE];
+    LittleEndian::write_u32(&mut bytes[0..], row.line);
+    LittleEndian::write_u32(&mut bytes[4..], row.ordinal);
+    LittleEndian::write_u32(&mut bytes[8..], section);
+    LittleEndian::write_u32(&mut bytes[12..], row.instructions);
+    LittleEndian::write_u64(&mut bytes[16..], row.offset);
+    LittleEndian::write_u32(&mut bytes[24..], row.bytes);
+    LittleEndian::write_u32(&mut bytes[28..], 0);
+    bytes
 }
 
 /// Writes a row.
-#[tactic(auto, unfolding(rv_object_file_laws::specs::Rows::row_bytes))]
-fn put_row(out: &mut ElfWriter, row: Row) -> Result<(), AllocError>
-    ensures { OnOk result (out.new ≡ out.old ++ row_bytes (row_record row)) }
+fn put_row(out: &mut ElfWriter, row: &Row) -> Result<(), AllocError>
+    ensures { OnOk result (out.new ≡ out.old ++ row_bytes (row_record row.now)) }
 {
-    put_row_place(out, &row)?;
-    put_row_extent(out, &row)
+    out.raw(&row_bytes(row, row.section.wrapping_add(1)))
 }
 
 /// Writes rows.
@@ -205,7 +165,7 @@ pub(crate) fn put_rows(out: &mut ElfWriter, rows: &[Row]) -> Result<(), AllocErr
     ensures { OnOk result (out.new ≡ out.old ++ rows_bytes rows.now) }
 {
     for row in rows {
-        put_row(out, *row)?;
+        put_row(out, row)?;
     }
     Ok(())
 }

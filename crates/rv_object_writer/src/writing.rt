@@ -7,8 +7,8 @@ ghost use Rattle.std.specs.Prelude.{◌≡◌, ◌+◌, ◌++◌, ◌^◌, ◌<�
 ghost use Rattle.std.specs.List.{AllByRecursion};
 ghost use Rattle.rv_elf.specs.Fields.{file_header_size, section_header_size};
 ghost use Rattle.rv_elf.specs.Records.{file_header_bytes, section_header_bytes};
-ghost use Rattle.rv_object.specs.Object.{size_of};
-ghost use Rattle.rv_object.specs.View.{object_of};
+ghost use Rattle.rv_object_types.specs.Object.{size_of};
+ghost use Rattle.rv_object_types.specs.View.{object_of};
 ghost use Rattle.rv_object_file_laws.specs.FirstFault.{first_fault};
 ghost use Rattle.rv_object_file_laws.specs.Known.{IsObject};
 ghost use Rattle.rv_object_file_laws.specs.ObjectOf.{ObjectOf};
@@ -25,8 +25,8 @@ use crate::tables::put_rows;
 use rv_elf::{
     EM_RISCV, ET_REL, ElfWriter, FILE_HEADER_SIZE, FileHeader, SECTION_HEADER_SIZE, SectionHeader,
 };
-use rv_object::Object;
 use rv_object_file_laws::written_object_is_read;
+use rv_object_types::Object;
 use std::alloc::{AllocError, Global};
 
 /// The file of an object.

@@ -4,7 +4,7 @@ use Rattle.std.proofs.Common.{suc, zero, ◌≡◌, ◌<◌, ◌+◌, ◌-◌, �
 use Rattle.std.specs.Global.{Vec}
 use Rattle.std.specs.List.{slice_get}
 use Rattle.std.proofs.lemmas.Option.{slice_get_within}
-use Rattle.rv_object.specs.Object.{Section, Object}
+use Rattle.rv_object_types.specs.Object.{Section, Object}
 use Rattle.rv_object_laws.specs.Moves.{moves, new_offset}
 use Rattle.rv_object_laws.specs.Names.{offset_address}
 use Rattle.rv_relax.specs.Plan.{moves_of}

@@ -5,9 +5,9 @@ use Rattle.std.specs.List.{list_all, slice_get}
 use Rattle.std.proofs.lemmas.Bool.{leb-true, and_parts}
 use Rattle.std.proofs.lemmas.List.{get_or_default}
 use Rattle.rv_map.specs.declared.map.Row.{Row as MapRow}
-use Rattle.rv_object.specs.declared.row.Row.{Row}
-use Rattle.rv_object.specs.Object.{Section, Object, size_of}
-use Rattle.rv_object.specs.Valid.{is_row_in, are_rows}
+use Rattle.rv_object_types.specs.declared.row.Row.{Row}
+use Rattle.rv_object_types.specs.Object.{Section, Object, size_of}
+use Rattle.rv_object_types.specs.Valid.{is_row_in, are_rows}
 use Rattle.rv_object_laws.specs.IsLinkOf.{by_ordinal, map_row, moves_at, row_in, rows_of}
 use Rattle.rv_object_laws.specs.Moves.{new_offset, moves}
 use Rattle.rv_shorten.specs.declared.object.ShortObject.{ShortObject}

@@ -7,7 +7,7 @@ use Rattle.std.specs.List.{AllZip}
 use Rattle.std.proofs.lemmas.List.{take_more, map-append}
 use Rattle.std.proofs.lemmas.Slice.Zip.{all_zipped_more}
 use Rattle.rv_map.specs.declared.map.Region.{Region}
-use Rattle.rv_object.specs.Object.{Section, Object, size_of}
+use Rattle.rv_object_types.specs.Object.{Section, Object, size_of}
 use Rattle.rv_object_laws.specs.Moves.{Move, moves, new_offset}
 use Rattle.rv_object_laws.specs.Inputs.{goes_to_text}
 use Rattle.rv_shorten.specs.declared.section.ShortSection.{ShortSection}

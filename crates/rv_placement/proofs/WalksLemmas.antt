@@ -6,7 +6,7 @@ use Rattle.std.specs.Global.{Vec}
 use Rattle.std.proofs.lemmas.List.{drop_more, take_more_set, drop-set-lt, map-set, length-map}
 use Rattle.std.specs.List.{drop-map}
 use Rattle.rv_layout_laws.specs.Alignment.{aligned}
-use Rattle.rv_object.specs.Object.{Section, Object}
+use Rattle.rv_object_types.specs.Object.{Section, Object}
 use Rattle.rv_object_laws.specs.Inputs.{begins_at}
 use Rattle.rv_shorten.specs.declared.section.ShortSection.{ShortSection}
 use Rattle.rv_shorten.specs.declared.object.ShortObject.{ShortObject}

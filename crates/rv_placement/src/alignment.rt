@@ -2,8 +2,8 @@
 
 ghost use Rattle.std.specs.Prelude.{◌≡◌, ◌<◌, ◌≤◌, ◌^◌, map, max};
 ghost use Rattle.rv_layout_laws.specs.Alignment.{aligned};
-ghost use Rattle.rv_object.specs.Parts.{relocation_of};
-ghost use Rattle.rv_object.specs.Sections.{section_of};
+ghost use Rattle.rv_object_types.specs.Parts.{relocation_of};
+ghost use Rattle.rv_object_types.specs.Sections.{section_of};
 ghost use Rattle.rv_object_laws.specs.Moves as moves;
 ghost use Rattle.rv_object_laws.specs.Inputs as inputs;
 ghost use Rattle.rv_shorten.specs.Sections.{short_section_of};
@@ -12,7 +12,7 @@ ghost use Rattle.rv_placement.specs.Alignments as laws;
 ghost use Rattle.rv_placement.specs.Walk as walk;
 
 use crate::destination::{Destination, goes_to};
-use rv_object::{Relocation, Section};
+use rv_object_types::{Relocation, Section};
 use rv_relax::{asked_alignment, has_padding};
 use rv_shorten::{ShortObject, ShortSection, is_text};
 

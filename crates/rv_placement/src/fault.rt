@@ -2,6 +2,7 @@
 
 ghost use Rattle.std.specs.Prelude.{◌≡◌};
 
+use rv_reloc::LinkFault;
 use std::alloc::AllocError;
 use thiserror::Error;
 
@@ -25,5 +26,19 @@ impl From<AllocError> for PlacementFault {
 
     fn from(_: AllocError) -> Self {
         PlacementFault::OutOfMemory
+    }
+}
+
+impl From<PlacementFault> for LinkFault {
+    ghost use Rattle.rv_placement.specs.Fault.{of_placement};
+
+    ghost from_gives = { λ fault e. e ≡ of_placement fault };
+
+    fn from(fault: PlacementFault) -> Self {
+        match fault {
+            PlacementFault::Short => LinkFault::AlignmentShort,
+            PlacementFault::TooLarge => LinkFault::ImageTooLarge,
+            PlacementFault::OutOfMemory => LinkFault::OutOfMemory,
+        }
     }
 }

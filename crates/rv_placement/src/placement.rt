@@ -3,7 +3,7 @@
 ghost use Rattle.std.specs.Prelude.{◌≡◌, ◌+◌, ◌%◌, ◌<◌, ◌≤◌, ◌↔◌, ℕ, true, IfOk, IfErr, Some, map, option_map, List};
 ghost use Rattle.std.specs.List.{slice_get};
 ghost use Rattle.rv_isa_laws.specs.Platform.{stack_start};
-ghost use Rattle.rv_object.specs.Object.{Object as PlainObject};
+ghost use Rattle.rv_object_types.specs.Object.{Object as PlainObject};
 ghost use Rattle.rv_object_laws.specs.Names.{offset_address};
 ghost use Rattle.rv_shorten.specs.Sections.{short_section_of};
 ghost use Rattle.rv_shorten.specs.View.{short_object_of};

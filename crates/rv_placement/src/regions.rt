@@ -5,7 +5,7 @@
 
 ghost use Rattle.std.specs.Prelude.{◌≡◌, ◌+◌, ◌<◌, ◌≤◌, map, length, IfSome, IfNone};
 ghost use Rattle.rv_isa_laws.specs.Platform.{stack_start};
-ghost use Rattle.rv_object.specs.Object.{size_of};
+ghost use Rattle.rv_object_types.specs.Object.{size_of};
 ghost use Rattle.rv_shorten.specs.Sections.{short_section_of};
 ghost use Rattle.rv_shorten.specs.View.{short_object_of};
 ghost use Rattle.rv_placement.specs.Walk.{goes, next, ended, ended_files, start_behind, moved_to, started, started_files};

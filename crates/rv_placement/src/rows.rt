@@ -7,8 +7,8 @@ ghost use Rattle.std.specs.Prelude.{◌≡◌, ◌+◌, ◌<◌, ◌++◌, ◌^�
 ghost use Rattle.std.specs.Bool.{OnTrue};
 ghost use Rattle.std.specs.List.{slice_get};
 ghost use Rattle.rv_map.specs.Limits.{IsRow};
-ghost use Rattle.rv_object.specs.Object.{Object as PlainObject};
-ghost use Rattle.rv_object.specs.Valid.{are_rows};
+ghost use Rattle.rv_object_types.specs.Object.{Object as PlainObject};
+ghost use Rattle.rv_object_types.specs.Valid.{are_rows};
 ghost use Rattle.rv_object_laws.specs.IsLinkOf as laws;
 ghost use Rattle.rv_object_laws.specs.Moves.{new_offset};
 ghost use Rattle.rv_shorten.specs.View.{short_object_of};
@@ -18,7 +18,7 @@ ghost use Rattle.rv_placement.specs.Placement.{starts_of, IsPlacement};
 
 use crate::placement::{PlacedSection, Placement};
 use rv_map::Row as MapRow;
-use rv_object::Row;
+use rv_object_types::Row;
 use rv_shorten::ShortObject;
 use std::alloc::{AllocError, Global};
 

@@ -6,7 +6,7 @@ use Rattle.std.proofs.lemmas.Bool.{or_right, true≢false}
 use Rattle.rv_layout_laws.specs.declared.site.Site.{Site}
 use Rattle.rv_layout_laws.specs.Sites.{padding_site}
 use Rattle.rv_layout_laws.specs.Calls.{is_call}
-use Rattle.rv_object.specs.Object.{Object, Relocation, size_of}
+use Rattle.rv_object_types.specs.Object.{Object, Relocation, size_of}
 use Rattle.rv_object_laws.specs.Moves.{has_padding, full_padding, alignment_of}
 use Rattle.rv_object_laws.specs.Inputs.{InputSection}
 use Rattle.rv_object_laws.specs.CallSites.{changes, may_change, is_permitted, site_of, call_site, sites_from, start_padding}

@@ -7,8 +7,8 @@ use Rattle.rv_layout_laws.specs.declared.site.Site.{Site}
 use Rattle.rv_layout_laws.specs.declared.site.SiteKind.{SiteKind}
 use Rattle.rv_layout_laws.specs.declared.site.SiteKind.TheVariants.{Call, Padding}
 use Rattle.rv_layout_laws.specs.Calls.{bytes_of, InOrder, dropped as sites_dropped}
-use Rattle.rv_object.specs.Padding.{no_operations}
-use Rattle.rv_object.proofs.NopsLemmas.{length_even}
+use Rattle.rv_object_types.specs.Padding.{no_operations}
+use Rattle.rv_object_types.proofs.NopsLemmas.{length_even}
 use Rattle.rv_object_laws.specs.Moves.{Move, dropped}
 use Rattle.rv_object_laws.specs.CallSites.{link_register}
 use Rattle.rv_object_laws.specs.Shortened.{short_call}

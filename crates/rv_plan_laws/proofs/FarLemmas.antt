@@ -3,11 +3,11 @@
 use Rattle.std.proofs.Common.{◌≡◌, ℕ, ◌+◌, ◌-◌, ◌%◌, ◌^◌, ◌<◌, ◌≤◌, Bool, true, false, cond, ◌||◌, nat_le, max, List, [], ◌∷◌, refl, sym, subst, arith}
 use Rattle.std.specs.Prelude.{◌==◌}
 use Rattle.std.proofs.lemmas.Bool.{leb-true, leb-false, eqb-true}
-use Rattle.rv_object.specs.Valid.{is_section_alignment}
+use Rattle.rv_object_types.specs.Valid.{is_section_alignment}
 use Rattle.rv_object_laws.specs.Moves.{alignments_of, alignment_of, full_padding}
 use Rattle.rv_object_laws.specs.Inputs.{InputSection, raised, begins_at, goes_to_text}
 use Rattle.std.specs.List.{list_any, AllByRecursion}
-use Rattle.rv_object.specs.Object.{Relocation}
+use Rattle.rv_object_types.specs.Object.{Relocation}
 use Rattle.rv_layout_laws.specs.Alignment.{aligned}
 use Rattle.rv_relax.proofs.AlignedLemmas.{alignments}
 use Rattle.rv_plan_laws.proofs.PlannedLemmas.{IsMultiple}

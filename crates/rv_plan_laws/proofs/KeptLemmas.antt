@@ -10,7 +10,7 @@ use Rattle.rv_object_laws.specs.Moves.{Move, has_room}
 use Rattle.rv_relax.specs.Padded.{joined, pads, are_roomy}
 use Rattle.rv_plan_laws.specs.Plans.{bytes_kept}
 use Rattle.rv_plan_laws.proofs.DropsLemmas.{left_by, pads_left, IsLeft, AreLeft, no_starts}
-use Rattle.rv_object.proofs.NopsLemmas.{length_even}
+use Rattle.rv_object_types.proofs.NopsLemmas.{length_even}
 
 one_pad : (kind : SiteKind) (place cut k l : ℕ) (rest : ℕ → List Move) (others : List ℕ) → IsLeft kind k l → ((c : ℕ) → others ≡ map bytes_kept (rest c))
     → cond (is_call kind) others (l ∷ others) ≡ map bytes_kept (left_by kind place cut l rest)

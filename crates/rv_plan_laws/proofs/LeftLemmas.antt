@@ -2,8 +2,8 @@
 
 use Rattle.std.proofs.Common.{◌≡◌, ℕ, suc, ◌+◌, ◌%◌, Bool, true, false, cond, List, [], ◌∷◌, ◌++◌, map, refl, sym, ap, subst, ◌∙◌}
 use Rattle.std.specs.List.{AllByRecursion}
-use Rattle.rv_object.specs.Object.{Section, Object, size_of}
-use Rattle.rv_object.specs.Valid.{is_section_alignment}
+use Rattle.rv_object_types.specs.Object.{Section, Object, size_of}
+use Rattle.rv_object_types.specs.Valid.{is_section_alignment}
 use Rattle.rv_object_laws.specs.Moves.{moves, new_offset}
 use Rattle.rv_layout_laws.specs.Alignment.{aligned}
 use Rattle.rv_object_laws.specs.Inputs.{InputSection, Starts, Stand, goes_to_text, inputs_from, inputs_of, inputs, start_of, begins_at, size}

@@ -4,9 +4,9 @@ use Rattle.std.proofs.Common.{◌≡◌, ℕ, suc, ◌*◌, ◌%◌, ◌^◌, �
 use Rattle.std.specs.Prelude.{◌==◌}
 use Rattle.std.specs.List.{AllByRecursion}
 use Rattle.std.proofs.lemmas.Bool.{leb-true, leb-false, eqb-true, and_parts}
-use Rattle.rv_object.specs.Object.{Object, Relocation, Section, size_of}
-use Rattle.rv_object.specs.Valid.{is_section_alignment, is_even}
-use Rattle.rv_object.specs.View.{object_of}
+use Rattle.rv_object_types.specs.Object.{Object, Relocation, Section, size_of}
+use Rattle.rv_object_types.specs.Valid.{is_section_alignment, is_even}
+use Rattle.rv_object_types.specs.View.{object_of}
 use Rattle.rv_object_laws.specs.Moves.{alignment_of, alignments_of, full_padding}
 use Rattle.rv_object_laws.specs.Inputs.{InputSection, Starts, Stand, goes_to_text, inputs_from, inputs_of, inputs, begins_at, raised}
 use Rattle.rv_object_laws.specs.CallSites.{sites_of}

@@ -4,8 +4,8 @@ use Rattle.std.proofs.Common.{◌≡◌, ℕ, ◌+◌, ◌-◌, ◌≤◌, ◌�
 use Rattle.std.specs.Prelude.{filter}
 use Rattle.rv_layout_laws.specs.declared.site.Site.{Site}
 use Rattle.rv_layout_laws.specs.Calls.{InOrder}
-use Rattle.rv_object.specs.Object.{Object, Relocation}
-use Rattle.rv_object.specs.Padding.{no_operations}
+use Rattle.rv_object_types.specs.Object.{Object, Relocation}
+use Rattle.rv_object_types.specs.Padding.{no_operations}
 use Rattle.rv_object_laws.specs.Moves.{Move, dropped, new_offset, has_padding, full_padding, alignment_of, plan}
 use Rattle.rv_layout_laws.specs.Alignment.{aligned}
 use Rattle.rv_object_laws.specs.Inputs.{InputSection}

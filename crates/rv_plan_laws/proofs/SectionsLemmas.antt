@@ -3,7 +3,7 @@
 use Rattle.std.proofs.Common.{◌≡◌, ℕ, ◌+◌, ◌≤◌, true, cond, List, [], ◌∷◌, ◌++◌, map, sym, ap, ◌∙◌, arith, ◌-◌, subst}
 use Rattle.rv_layout_laws.specs.declared.site.Site.{Site}
 use Rattle.rv_layout_laws.specs.Calls.{InOrder, bytes_of, dropped as sites_dropped}
-use Rattle.rv_object.specs.Object.{Relocation, Object, stored}
+use Rattle.rv_object_types.specs.Object.{Relocation, Object, stored}
 use Rattle.rv_object_laws.specs.Inputs.{InputSection, goes_to_text}
 use Rattle.rv_object_laws.specs.CallSites.{changes, site_of}
 use Rattle.rv_object_laws.specs.Shortened.{Sizes, cuts, shortened_section, shortened_text}

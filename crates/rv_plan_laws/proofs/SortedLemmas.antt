@@ -4,8 +4,8 @@ use Rattle.std.proofs.Common.{◌≡◌, ℕ, ◌+◌, ◌≤◌, inl, inr, Bool
 use Rattle.std.specs.Prelude.{filter}
 use Rattle.std.specs.List.{list_all}
 use Rattle.std.proofs.lemmas.Bool.{cases_Bool, leb-true, ltb-true, le-leb, and_parts, or_left}
-use Rattle.rv_object.specs.Object.{Relocation, Section, size_of, Object}
-use Rattle.rv_object.specs.Valid.{is_align, held, are_all_apart}
+use Rattle.rv_object_types.specs.Object.{Relocation, Section, size_of, Object}
+use Rattle.rv_object_types.specs.Valid.{is_align, held, are_all_apart}
 use Rattle.rv_object_laws.specs.Moves.{Move, new_offset, full_padding, has_padding, inserted, by_place, alignments_of}
 use Rattle.rv_object_laws.specs.CallSites.{inserted_change, in_order, changes, may_change, is_permitted, site_of}
 use Rattle.rv_object_laws.specs.Inputs.{InputSection, goes_to_text}

@@ -6,8 +6,8 @@ use Rattle.std.specs.List.{AllByRecursion, list_all}
 use Rattle.std.proofs.lemmas.Bool.{eqb-true, and_parts}
 use Rattle.rv_layout_laws.specs.declared.site.Site.{Site}
 use Rattle.rv_layout_laws.specs.Calls.{Offers, site_at}
-use Rattle.rv_object.specs.Object.{Contents, Section, Object, Relocation, size_of}
-use Rattle.rv_object.specs.Valid.{is_align, padding_of, is_padding_of, is_padding, are_all_apart}
+use Rattle.rv_object_types.specs.Object.{Contents, Section, Object, Relocation, size_of}
+use Rattle.rv_object_types.specs.Valid.{is_align, padding_of, is_padding_of, is_padding, are_all_apart}
 use Rattle.rv_object_laws.specs.Moves.{has_padding, full_padding, alignment_of}
 use Rattle.rv_object_laws.specs.Inputs.{InputSection, goes_to_text, begins_at}
 use Rattle.rv_object_laws.specs.CallSites.{changes, may_change, site_of, sites_from, start_padding, call_site}

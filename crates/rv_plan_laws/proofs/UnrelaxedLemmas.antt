@@ -8,7 +8,7 @@ use Rattle.rv_layout_laws.specs.declared.site.SiteKind.{SiteKind}
 use Rattle.rv_layout_laws.specs.declared.site.SiteKind.TheVariants.{Call, Padding}
 use Rattle.rv_layout_laws.specs.Sites.{size_at}
 use Rattle.rv_layout_laws.specs.Calls.{bytes_of, is_call as is_call_site, whole_sizes}
-use Rattle.rv_object.specs.Object.{Relocation, Section, Object}
+use Rattle.rv_object_types.specs.Object.{Relocation, Section, Object}
 use Rattle.rv_object_laws.specs.Inputs.{goes_to_text}
 use Rattle.rv_object_laws.specs.CallSites.{is_call, in_order, base, sites_of}
 use Rattle.rv_object_laws.specs.Shortened.{Sizes, sizes_by, is_shortened, cut, cuts, shortened_object, shortened_from, shortened}

@@ -3,7 +3,7 @@
 use Rattle.std.proofs.Common.{◌≡◌, ℕ, suc, ◌+◌, ◌≤◌, true, false, cond, List, [], ◌∷◌, ◌++◌, length, drop, refl, arith, Bool}
 use Rattle.std.specs.Prelude.{⊤}
 use Rattle.rv_layout_laws.specs.Calls.{InOrder}
-use Rattle.rv_object.specs.Object.{Section, Object, size_of}
+use Rattle.rv_object_types.specs.Object.{Section, Object, size_of}
 use Rattle.rv_object_laws.specs.Inputs.{InputSection, goes_to_text, inputs, inputs_from, inputs_of}
 use Rattle.rv_object_laws.specs.CallSites.{changes, sites_from, sites_of, start_padding}
 use Rattle.rv_object_laws.specs.Shortened.{sizes_by}

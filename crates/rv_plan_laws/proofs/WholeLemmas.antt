@@ -6,7 +6,7 @@ use Rattle.std.specs.List.{AllByRecursion, list_all}
 use Rattle.std.proofs.lemmas.List.{length-map}
 use Rattle.rv_layout_laws.specs.declared.site.Site.{Site}
 use Rattle.rv_layout_laws.specs.Calls.{InOrder, dropped as sites_dropped, new_offset as site_offset}
-use Rattle.rv_object.specs.Object.{Object, Relocation, size_of}
+use Rattle.rv_object_types.specs.Object.{Object, Relocation, size_of}
 use Rattle.rv_object_laws.specs.Moves.{dropped, alignment_of, has_room}
 use Rattle.rv_layout_laws.specs.Alignment.{aligned}
 use Rattle.rv_object_laws.specs.Inputs.{InputSection, Starts, start_of, begins_at}

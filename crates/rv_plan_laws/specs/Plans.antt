@@ -6,9 +6,9 @@ use Rattle.std.specs.Prelude.{◌≡◌, ℕ, ◌+◌, ◌%◌, ◌≤◌, ⊤, 
 use Rattle.std.specs.List.{AllByRecursion, list_all}
 use Rattle.rv_layout_laws.specs.Calls.{new_offset as offset_of}
 use Rattle.rv_image.specs.Linked.{Linked}
-use Rattle.rv_object.specs.declared.object.Object.{Object as DeclaredObject}
-use Rattle.rv_object.specs.Object.{Relocation, Object, size_of}
-use Rattle.rv_object.specs.View.{object_of}
+use Rattle.rv_object_types.specs.declared.object.Object.{Object as DeclaredObject}
+use Rattle.rv_object_types.specs.Object.{Relocation, Object, size_of}
+use Rattle.rv_object_types.specs.View.{object_of}
 use Rattle.rv_object_laws.specs.Moves.{Move, moves, has_room, new_offset}
 use Rattle.rv_object_laws.specs.Inputs.{InputSection, Starts, Stand, goes_to_text, inputs, start_of}
 use Rattle.rv_object_laws.specs.CallSites.{in_order, is_permitted, sites_of}

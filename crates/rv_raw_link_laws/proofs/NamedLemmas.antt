@@ -4,7 +4,7 @@ use Rattle.std.proofs.Common.{◌≡◌, ℕ, true, List, [], ◌∷◌, Some, N
 use Rattle.std.specs.Prelude.{if◌then◌else◌}
 use Rattle.std.specs.List.{AllByRecursion, slice_get}
 use Rattle.std.specs.Option.{option_or}
-use Rattle.rv_object.specs.Object.{Relocation, Object}
+use Rattle.rv_object_types.specs.Object.{Relocation, Object}
 use Rattle.rv_object_laws.specs.Names.{chosen}
 use Rattle.rv_resolve.specs.Exports.{first_again, first_duplicate}
 use Rattle.rv_resolve.specs.Undefined.{is_loaded_at, has_address, is_known, is_resolved, undefined_symbol, undefined_name, first_some, undefined_in, first_undefined}

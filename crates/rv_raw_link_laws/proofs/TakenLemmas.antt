@@ -5,10 +5,9 @@ use Rattle.std.specs.Prelude.{if◌then◌else◌, unwrap_or, option_and_then}
 use Rattle.std.specs.List.{AllByRecursion}
 use Rattle.rv_isa.specs.declared.kind.Kind.{Kind}
 use Rattle.rv_isa.specs.declared.kind.Kind.TheVariants as kinds
-use Rattle.rv_reloc.specs.declared.fault.PatchFault.TheVariants as patches
 use Rattle.rv_reloc.specs.Ranges.{Refuses}
 use Rattle.rv_reloc.specs.Values.{relative, calculation, value_of}
-use Rattle.rv_object.specs.Object.{Relocation, Object}
+use Rattle.rv_object_types.specs.Object.{Relocation, Object}
 use Rattle.rv_object_laws.specs.Inputs.{InputSection, inputs}
 use Rattle.rv_object_laws.specs.IsLinkOf.{is_loaded}
 use Rattle.rv_object_laws.specs.Names.{symbol_address}
@@ -16,8 +15,8 @@ use Rattle.rv_object_laws.specs.Values.{target, moved, own_value, paired, value}
 use Rattle.rv_placement.specs.declared.placement.Placement.{Placement}
 use Rattle.rv_placement.specs.Placement.{starts_of, IsPlacement}
 use Rattle.rv_resolve.specs.Shown.{outer_in}
-use Rattle.rv_link.specs.declared.fault.LinkFault.{LinkFault}
-use Rattle.rv_link.specs.declared.fault.LinkFault.TheVariants.{Overflow, OddTarget, DanglingPcrel}
+use Rattle.rv_reloc.specs.declared.fault.LinkFault.{LinkFault}
+use Rattle.rv_reloc.specs.declared.fault.LinkFault.TheVariants.{Overflow, OddTarget, DanglingPcrel}
 use Rattle.rv_link.specs.Filled.{IsTaken}
 use Rattle.rv_link.specs.Untaken.{IsFirst, IsUntaken, IsFirstUntaken}
 use Rattle.rv_raw_link_laws.proofs.CodesLemmas.{leads}
@@ -71,8 +70,8 @@ module _ (o : Object) (start : ℕ) (h : IsSimple o start) (p : Placement) (plac
     same v e = let both : Some r.addend ≡ Some v = sym value_is ∙ e in cc
 
     never : (fault : LinkFault) → IsUntaken (o ∷ []) p i fault r → ⊥
-    never Overflow (v, is, refused) = subst (λ v. Refuses r.kind v patches.Overflow) (sym (same v is.0)) refused l.takes.range
-    never OddTarget (v, is, refused) = let odd = subst (λ v. Refuses r.kind v patches.OddTarget) (sym (same v is.0)) refused in l.takes.even odd.1 odd.2
+    never Overflow (v, is, refused) = subst (λ v. Refuses r.kind v Overflow) (sym (same v is.0)) refused l.takes.range
+    never OddTarget (v, is, refused) = let odd = subst (λ v. Refuses r.kind v OddTarget) (sym (same v is.0)) refused in l.takes.even odd.1 odd.2
     never DanglingPcrel (low, rest) = absurd (let clash : true ≡ false = sym low ∙ never_low r.kind l.leads_there in cc)
     never _ none = absurd none
 

@@ -17,13 +17,13 @@ use Rattle.rv_layout_laws.specs.Calls.{IsGreatestClosed}
 use Rattle.rv_layout_laws.proofs.ReachingLemmas.{Nearer, reaches_nearer}
 use Rattle.rv_unit_laws.specs.Sections.{Section as SourceSection}
 use Rattle.rv_unit_laws.specs.Tables.{Tables, tables, opened_of, longest_section}
-use Rattle.rv_object.specs.declared.symbol.Definition.TheVariants as definitions
-use Rattle.rv_object.specs.declared.row.Row.{Row}
-use Rattle.rv_object.specs.Object.{Relocation, Section, Symbol, Object, size_of}
-use Rattle.rv_object.specs.View.{object_of}
+use Rattle.rv_object_types.specs.declared.symbol.Definition.TheVariants as definitions
+use Rattle.rv_object_types.specs.declared.row.Row.{Row}
+use Rattle.rv_object_types.specs.Object.{Relocation, Section, Symbol, Object, size_of}
+use Rattle.rv_object_types.specs.View.{object_of}
 use Rattle.rv_object_laws.specs.Moves.{Move, moves, new_offset}
 use Rattle.rv_object_laws.specs.Inputs.{InputSection, goes_to_text, inputs}
-use Rattle.rv_object.specs.Bindings.{is_weak}
+use Rattle.rv_object_types.specs.Bindings.{is_weak}
 use Rattle.rv_object_laws.specs.Names.{offset_address, defined_address, symbol_address}
 use Rattle.rv_object_laws.specs.Values.{target}
 use Rattle.rv_object_laws.specs.CallSites.{is_call, sites_of}

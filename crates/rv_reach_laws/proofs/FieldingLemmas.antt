@@ -20,7 +20,7 @@ use Rattle.rv_source_laws.specs.Located.{Located}
 use Rattle.rv_source_laws.specs.Lines.{operand_of}
 use Rattle.rv_source_laws.specs.Compressed.{names_parcel}
 use Rattle.rv_source_laws.specs.Shortened.{is_call_statement}
-use Rattle.rv_object.specs.Object.{Relocation, Symbol}
+use Rattle.rv_object_types.specs.Object.{Relocation, Symbol}
 use Rattle.rv_assemble_laws.specs.CodeFields.{symbol_field, low_field, low_field_at, label_field, field_of, relax_fields, part_fields}
 use Rattle.rv_compress.specs.declared.form.Compressed.{Compressed}
 use Rattle.rv_assemble_laws.specs.Coded.{constants, AreCodedParts, joined, IsCode}

@@ -11,7 +11,7 @@ use Rattle.rv_layout_laws.specs.declared.site.SiteKind.{SiteKind}
 use Rattle.rv_layout_laws.specs.declared.site.SiteKind.TheVariants as kinds
 use Rattle.rv_layout_laws.specs.Calls as layout
 use Rattle.rv_layout_laws.specs.Calls.{Offers, bytes_of, site_at, dropped_of, InOrder, is_call as is_call_site}
-use Rattle.rv_object.specs.Object.{Relocation, Section, Object, size_of, stored}
+use Rattle.rv_object_types.specs.Object.{Relocation, Section, Object, size_of, stored}
 use Rattle.rv_object_laws.specs.Moves.{Move, dropped}
 use Rattle.rv_object_laws.specs.Inputs.{InputSection, begins_at}
 use Rattle.rv_object_laws.specs.CallSites.{changes, site_of, sites_from, sites_of, start_padding, base, base_in, link_register}

@@ -5,9 +5,9 @@ use Rattle.std.specs.Prelude.{filter, if◌then◌else◌}
 use Rattle.std.specs.List.{list_all}
 use Rattle.std.proofs.lemmas.Bool.{and_parts}
 use Rattle.rv_layout_laws.specs.Alignment.{aligned}
-use Rattle.rv_object.specs.Object.{Relocation, Section, size_of}
-use Rattle.rv_object.specs.Padding.{no_operations}
-use Rattle.rv_object.specs.Valid.{is_padding, are_all_apart, are_paddings}
+use Rattle.rv_object_types.specs.Object.{Relocation, Section, size_of}
+use Rattle.rv_object_types.specs.Padding.{no_operations}
+use Rattle.rv_object_types.specs.Valid.{is_padding, are_all_apart, are_paddings}
 use Rattle.rv_object_laws.specs.Moves.{Move, dropped, new_offset, full_padding, has_padding, alignment_of, by_place, alignments_of, plan, moves}
 use Rattle.rv_object_laws.specs.Inputs.{goes_to_text}
 use Rattle.rv_relax.specs.Paddings.{are_alignments}

@@ -17,9 +17,9 @@ use Rattle.rv_layout_laws.specs.Calls as layout
 use Rattle.rv_layout_laws.specs.Calls.{Offers, half, site_at, bytes_of, InOrder, IsText, IsFamily, IsGreatestClosed, ReachesFrom, is_call as is_call_site}
 use Rattle.rv_layout_laws.proofs.ReachingLemmas.{Nearer, reaches_nearer}
 use Rattle.rv_layout_laws.proofs.ShorteningLemmas.{greatest_reaching}
-use Rattle.rv_object.specs.Object.{Relocation, Section, Object, size_of}
-use Rattle.rv_object.specs.Valid.{are_paddings}
-use Rattle.rv_object.specs.View.{object_of}
+use Rattle.rv_object_types.specs.Object.{Relocation, Section, Object, size_of}
+use Rattle.rv_object_types.specs.Valid.{are_paddings}
+use Rattle.rv_object_types.specs.View.{object_of}
 use Rattle.rv_object_laws.specs.Moves.{Move, dropped, moves, new_offset, has_padding}
 use Rattle.rv_object_laws.specs.Inputs.{Starts, InputSection, goes_to_text, inputs, Stand}
 use Rattle.rv_object_laws.specs.Names.{Place}

@@ -12,8 +12,8 @@ use Rattle.rv_layout_laws.specs.Calls as layout
 use Rattle.rv_layout_laws.specs.Calls.{InOrder}
 use Rattle.rv_layout_laws.proofs.ReachingLemmas.{Nearer, Ahead, Behind}
 use Rattle.rv_layout_laws.proofs.DroppingLemmas.{dropped_most}
-use Rattle.rv_object.specs.Object.{Relocation, Section, Object, size_of}
-use Rattle.rv_object.specs.Valid.{is_align}
+use Rattle.rv_object_types.specs.Object.{Relocation, Section, Object, size_of}
+use Rattle.rv_object_types.specs.Valid.{is_align}
 use Rattle.rv_object_laws.specs.Moves.{Move, dropped, new_offset, full_padding, has_padding, alignment_of, inserted, by_place, alignments_of, moves}
 use Rattle.rv_object_laws.specs.Inputs.{Starts, InputSection, goes_to_text, inputs_from, inputs_of, raised, begins_at, start_of, size, Stand}
 use Rattle.rv_object_laws.specs.CallSites.{is_call, start_padding, base, sites_of}

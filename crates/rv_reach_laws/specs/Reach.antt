@@ -9,10 +9,10 @@ use Rattle.rv_isa.specs.declared.kind.Kind.{Kind}
 use Rattle.rv_isa.specs.declared.kind.Kind.TheVariants as kinds
 use Rattle.rv_map.specs.declared.map.SectionId.{SectionId}
 use Rattle.rv_statement.specs.Statement.{Statement}
-use Rattle.rv_object.specs.declared.object.Object.{Object as DeclaredObject}
-use Rattle.rv_object.specs.declared.row.Row.{Row}
-use Rattle.rv_object.specs.Object.{Relocation, Object}
-use Rattle.rv_object.specs.View.{object_of}
+use Rattle.rv_object_types.specs.declared.object.Object.{Object as DeclaredObject}
+use Rattle.rv_object_types.specs.declared.row.Row.{Row}
+use Rattle.rv_object_types.specs.Object.{Relocation, Object}
+use Rattle.rv_object_types.specs.View.{object_of}
 use Rattle.rv_source_laws.specs.Compressed.{names_parcel}
 use Rattle.rv_object_laws.specs.Inputs.{InputSection, goes_to_text, inputs}
 use Rattle.rv_object_laws.specs.CallSites.{is_call}

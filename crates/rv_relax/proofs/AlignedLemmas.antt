@@ -8,7 +8,7 @@ use Rattle.std.specs.List.{AllByRecursion, find}
 use Rattle.std.proofs.lemmas.Bool.{lt-ltb, le-ltb}
 use Rattle.std.proofs.lemmas.List.{drop_more}
 use Rattle.rv_layout_laws.specs.Alignment.{aligned}
-use Rattle.rv_object.specs.Object.{Relocation}
+use Rattle.rv_object_types.specs.Object.{Relocation}
 use Rattle.rv_object_laws.specs.Moves.{alignment_of, full_padding}
 
 pub none_left : (a n : ℕ) → 0 < a → n % a ≡ 0 → 0 ≡ aligned a n - n

@@ -4,8 +4,8 @@ use Rattle.std.proofs.Common.{◌≡◌, ℕ, ◌+◌, ◌%◌, ◌^◌, ◌<◌
 use Rattle.std.specs.Prelude.{◌==◌, unwrap_or}
 use Rattle.std.specs.List.{list_all, filter}
 use Rattle.std.proofs.lemmas.Bool.{leb-true, ltb-true, le-leb, and_parts, and_from, or_left, or_right}
-use Rattle.rv_object.specs.Object.{Relocation, Contents, size_of}
-use Rattle.rv_object.specs.Valid.{is_align, is_padding, is_padding_of, padding_of, held, are_apart, are_all_apart, are_paddings}
+use Rattle.rv_object_types.specs.Object.{Relocation, Contents, size_of}
+use Rattle.rv_object_types.specs.Valid.{is_align, is_padding, is_padding_of, padding_of, held, are_apart, are_all_apart, are_paddings}
 use Rattle.rv_object_laws.specs.Moves.{full_padding, has_padding, inserted, by_place}
 use Rattle.rv_relax.specs.Paddings.{are_alignments}
 use Rattle.rv_relax.proofs.PlannedLemmas.{IsNextAlignment, next_alignment, other_alignments, next_is}

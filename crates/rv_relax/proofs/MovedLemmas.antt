@@ -3,9 +3,9 @@
 use Rattle.std.proofs.Common.{◌≡◌, ℕ, ◌+◌, ◌<◌, Bool, true, false, cond, ◌&&◌, nat_lt, List, [], ◌∷◌, ◌++◌, length, map, drop, slice_index_or, refl, sym, ap, ◌∙◌}
 use Rattle.std.specs.List.{filter}
 use Rattle.std.proofs.lemmas.List.{append_assoc, drop_more}
-use Rattle.rv_object.specs.declared.relocation.Relocation.{Relocation as DeclaredRelocation}
-use Rattle.rv_object.specs.Object.{Relocation}
-use Rattle.rv_object.specs.Parts.{relocation_of}
+use Rattle.rv_object_types.specs.declared.relocation.Relocation.{Relocation as DeclaredRelocation}
+use Rattle.rv_object_types.specs.Object.{Relocation}
+use Rattle.rv_object_types.specs.Parts.{relocation_of}
 use Rattle.rv_object_laws.specs.Moves.{Move, full_padding, has_padding}
 use Rattle.rv_shorten.specs.Cutting.{cut_relocation}
 use Rattle.rv_shorten.proofs.PaddingsLemmas.{align_stays}

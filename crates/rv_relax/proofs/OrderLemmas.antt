@@ -8,7 +8,7 @@ use Rattle.rv_object_laws.specs.Moves.{dropped, has_room}
 use Rattle.rv_relax.specs.Paddings.{move_of, is_next, are_in_order}
 use Rattle.rv_shorten.specs.Pieces.{is_next_piece, are_pieces, pieces_dropped}
 use Rattle.rv_relax.specs.Pieces.{Piece}
-use Rattle.rv_object.proofs.NopsLemmas.{length_even}
+use Rattle.rv_object_types.proofs.NopsLemmas.{length_even}
 use Rattle.rv_relax.proofs.PiecedLemmas.{fits}
 
 -- a padding that stands behind others

@@ -5,14 +5,14 @@ use Rattle.std.specs.Prelude.{◌==◌}
 use Rattle.std.proofs.lemmas.Bool.{ltb-true, leb-true, le-leb, lt-ltb, eq-eqb, and_parts, and_from}
 use Rattle.std.proofs.lemmas.List.{append_assoc, map_push}
 use Rattle.rv_layout_laws.specs.Alignment.{aligned}
-use Rattle.rv_object.specs.Object.{Relocation}
-use Rattle.rv_object.specs.Padding.{no_operations}
+use Rattle.rv_object_types.specs.Object.{Relocation}
+use Rattle.rv_object_types.specs.Padding.{no_operations}
 use Rattle.rv_object_laws.specs.Moves.{Move, alignment_of, full_padding, plan}
 use Rattle.rv_relax.specs.Pieces.{Piece}
 use Rattle.rv_relax.specs.Paddings.{move_of, is_next, are_in_order, is_next_alignment, are_alignments}
-use Rattle.rv_object.specs.declared.relocation.Relocation.{Relocation as DeclaredRelocation}
-use Rattle.rv_object.specs.Parts.{relocation_of}
-use Rattle.rv_object.proofs.NopsLemmas.{same_even}
+use Rattle.rv_object_types.specs.declared.relocation.Relocation.{Relocation as DeclaredRelocation}
+use Rattle.rv_object_types.specs.Parts.{relocation_of}
+use Rattle.rv_object_types.proofs.NopsLemmas.{same_even}
 use Rattle.rv_relax.proofs.SortingLemmas.{nothing, backwards, last_first}
 
 -- an alignment that stands behind others

@@ -1,7 +1,7 @@
 -- A byte that stands before another one stands before it afterwards.
 
 use Rattle.std.proofs.Common.{◌≡◌, ℕ, ◌+◌, ◌-◌, ◌≤◌, min, max, true, List, [], ◌∷◌, length, map, refl, arith}
-use Rattle.rv_object.specs.Padding.{no_operations}
+use Rattle.rv_object_types.specs.Padding.{no_operations}
 use Rattle.rv_object_laws.specs.Moves.{Move, dropped, new_offset}
 use Rattle.rv_relax.specs.Pieces.{Piece}
 use Rattle.rv_relax.specs.declared.section_plan.SectionPlan.{SectionPlan}

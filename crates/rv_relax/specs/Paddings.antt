@@ -2,8 +2,8 @@
 
 use Rattle.std.specs.Prelude.{ℕ, zero, suc, ◌+◌, ◌-◌, ◌%◌, ◌^◌, Bool, true, ◌&&◌, ◌==◌, nat_le, nat_lt, List, [], ◌∷◌, slice_index}
 use Rattle.rv_relax.specs.Pieces.{Piece}
-use Rattle.rv_object.specs.Object.{Relocation}
-use Rattle.rv_object.specs.Padding.{no_operations, operations_in}
+use Rattle.rv_object_types.specs.Object.{Relocation}
+use Rattle.rv_object_types.specs.Padding.{no_operations, operations_in}
 use Rattle.rv_object_laws.specs.Moves.{Move, full_padding}
 
 -- what is kept of a padding

@@ -6,8 +6,8 @@ use Rattle.rv_isa.specs.declared.kind.Kind.TheVariants as kinds
 use Rattle.rv_layout_laws.specs.declared.site.Site.{Site}
 use Rattle.rv_layout_laws.specs.declared.site.SiteKind.TheVariants as sites
 use Rattle.rv_layout_laws.specs.Calls.{new_offset}
-use Rattle.rv_object.specs.Object.{Relocation, Section, Progbits}
-use Rattle.rv_object.specs.Padding.{no_operations}
+use Rattle.rv_object_types.specs.Object.{Relocation, Section, Progbits}
+use Rattle.rv_object_types.specs.Padding.{no_operations}
 use Rattle.rv_object_laws.specs.Moves.{Move}
 use Rattle.rv_relax.specs.Padded as text
 

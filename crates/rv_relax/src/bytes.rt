@@ -5,7 +5,7 @@ ghost use Rattle.rv_object_laws.specs.Moves.{kept};
 ghost use Rattle.rv_relax.specs.Paddings.{are_in_order, move_of};
 ghost use Rattle.rv_shorten.specs.Bytes.{left_bytes};
 
-use rv_object::put_no_operations;
+use rv_object_types::put_no_operations;
 use rv_shorten::{LeftBytes, Piece};
 use std::alloc::AllocError;
 

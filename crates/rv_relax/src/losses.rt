@@ -4,12 +4,12 @@
 //! 160,000 overlapping rows took 34 seconds.
 
 ghost use Rattle.std.specs.Prelude.{◌≡◌, ◌-◌, ◌≤◌, true, length, map, IfOk};
-ghost use Rattle.rv_object.specs.Padding.{operations_in};
+ghost use Rattle.rv_object_types.specs.Padding.{operations_in};
 ghost use Rattle.rv_object_laws.specs.Moves.{lost as lost_of};
 ghost use Rattle.rv_relax.specs.Paddings.{are_in_order, lost_sums, move_of, sum_of_first};
 
 use crate::pieces::count_ended;
-use rv_object::operations;
+use rv_object_types::operations;
 use rv_shorten::{Piece, count_before};
 use std::alloc::{AllocError, Global};
 

@@ -12,8 +12,8 @@ use Rattle.std.specs.Cmp.Lexicographic.{slice_cmp}
 use Rattle.std.specs.Ordering.{nat_cmp}
 use Rattle.rv_map.specs.Globals.{shown}
 use Rattle.rv_map.specs.Map.{Global}
-use Rattle.rv_object.specs.Object.{Symbol, Object}
-use Rattle.rv_object.specs.Bindings.{is_shared}
+use Rattle.rv_object_types.specs.Object.{Symbol, Object}
+use Rattle.rv_object_types.specs.Bindings.{is_shared}
 use Rattle.rv_object_laws.specs.Names.{Export, defined_address, export_address, is_export, exports_in, exports_from, chosen, is_chosen}
 use Rattle.rv_placement.specs.declared.placement.Placement.{Placement}
 use Rattle.rv_placement.specs.Placement.{starts_of}

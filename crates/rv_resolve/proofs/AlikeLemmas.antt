@@ -3,8 +3,8 @@
 use Rattle.std.proofs.Common.{◌≡◌, ℕ, suc, List, [], ◌∷◌, map, refl, subst, sym, ap, ◌∙◌}
 use Rattle.rv_map.specs.Globals.{AreDistinct}
 use Rattle.rv_map.specs.declared.map.SectionId.{SectionId}
-use Rattle.rv_object.specs.Object.{Object}
-use Rattle.rv_object.specs.Bindings.{is_global}
+use Rattle.rv_object_types.specs.Object.{Object}
+use Rattle.rv_object_types.specs.Bindings.{is_global}
 use Rattle.rv_object_laws.specs.Names.{global_names}
 use Rattle.rv_object_laws.specs.Without.{without, without_from}
 use Rattle.rv_resolve.specs.declared.names.Names.{Names}

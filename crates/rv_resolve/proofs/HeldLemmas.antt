@@ -6,10 +6,10 @@ use Rattle.std.specs.List.{AllByRecursion, find}
 use Rattle.std.proofs.lemmas.Bool.{and_parts, and_from, or_left, or_right}
 use Rattle.std.proofs.lemmas.Slice.Eq.{bytes_eq-Decides}
 use Rattle.rv_map.specs.Globals.{is_one_of}
-use Rattle.rv_object.specs.declared.symbol.Binding.{Binding}
-use Rattle.rv_object.specs.declared.symbol.Binding.TheVariants as bindings
-use Rattle.rv_object.specs.Object.{Symbol, Object}
-use Rattle.rv_object.specs.Bindings.{is_global, is_weak, is_shared}
+use Rattle.rv_object_types.specs.declared.symbol.Binding.{Binding}
+use Rattle.rv_object_types.specs.declared.symbol.Binding.TheVariants as bindings
+use Rattle.rv_object_types.specs.Object.{Symbol, Object}
+use Rattle.rv_object_types.specs.Bindings.{is_global, is_weak, is_shared}
 use Rattle.rv_object_laws.specs.Names.{Export, is_defined, is_export, exports_in, exports_from, exports_where, names_of, candidates}
 use Rattle.rv_object_laws.proofs.TextInputsLemmas.{all_append}
 use Rattle.rv_shorten.specs.Cutting.{In}

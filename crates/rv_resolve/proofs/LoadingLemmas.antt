@@ -2,13 +2,13 @@
 
 use Rattle.std.proofs.Common.{◌≡◌, ◌<◌, ◌+◌, ℕ, suc, Bool, List, [], ◌++◌, length, map, drop, get_or, sym, ap, subst, ◌∙◌, append_assoc, append-nil, arith}
 use Rattle.rv_map.specs.Globals.{AreDistinct}
-use Rattle.rv_object.specs.declared.object.Object.{Object as DeclaredObject}
-use Rattle.rv_object.specs.declared.symbol.Binding.{Binding}
-use Rattle.rv_object.specs.declared.symbol.Symbol.{Symbol as DeclaredSymbol}
-use Rattle.rv_object.specs.Object.{Object}
-use Rattle.rv_object.specs.Parts.{symbol_of}
-use Rattle.rv_object.specs.View.{object_of}
-use Rattle.rv_object.specs.Bindings.{is_global}
+use Rattle.rv_object_types.specs.declared.object.Object.{Object as DeclaredObject}
+use Rattle.rv_object_types.specs.declared.symbol.Binding.{Binding}
+use Rattle.rv_object_types.specs.declared.symbol.Symbol.{Symbol as DeclaredSymbol}
+use Rattle.rv_object_types.specs.Object.{Object}
+use Rattle.rv_object_types.specs.Parts.{symbol_of}
+use Rattle.rv_object_types.specs.View.{object_of}
+use Rattle.rv_object_types.specs.Bindings.{is_global}
 use Rattle.rv_object_laws.specs.Names.{global_names}
 use Rattle.rv_resolve.specs.declared.definitions.Definitions.{Definitions}
 use Rattle.rv_resolve.specs.declared.fault.ResolveFault.{ResolveFault}

@@ -6,12 +6,12 @@ use Rattle.std.specs.List.{AllByRecursion}
 use Rattle.std.specs.Option.{option_or}
 use Rattle.rv_map.specs.Globals.{global_address, is_one_of, linker_symbols}
 use Rattle.rv_map.specs.Map.{Map}
-use Rattle.rv_object.specs.declared.symbol.Definition.{Definition}
-use Rattle.rv_object.specs.declared.symbol.Definition.TheVariants as definitions
-use Rattle.rv_object.specs.Object.{Relocation, Section, Symbol, Object}
+use Rattle.rv_object_types.specs.declared.symbol.Definition.{Definition}
+use Rattle.rv_object_types.specs.declared.symbol.Definition.TheVariants as definitions
+use Rattle.rv_object_types.specs.Object.{Relocation, Section, Symbol, Object}
 use Rattle.rv_object_laws.specs.Inputs.{Starts, InputSection, inputs_from, inputs_of}
 use Rattle.rv_object_laws.specs.IsLinkOf.{is_loaded}
-use Rattle.rv_object.specs.Bindings.{is_weak}
+use Rattle.rv_object_types.specs.Bindings.{is_weak}
 use Rattle.rv_object_laws.specs.Names.{Export, Outer, is_sure, chosen, defined_address, offset_address, outer_address, symbol_address}
 use Rattle.rv_object_laws.specs.Values.{target}
 use Rattle.rv_object_laws.proofs.TextInputsLemmas.{all_append}

@@ -9,9 +9,9 @@ use Rattle.std.proofs.lemmas.List.Folds.{find-append}
 use Rattle.std.proofs.lemmas.Slice.Eq.{bytes_eq-Decides}
 use Rattle.rv_map.specs.Globals.{global_address, is_one_of, AreDistinct, shown, linker_symbols}
 use Rattle.rv_map.specs.Map.{Map, Global}
-use Rattle.rv_object.specs.Object.{Symbol, Object}
+use Rattle.rv_object_types.specs.Object.{Symbol, Object}
 use Rattle.rv_object_laws.specs.Inputs.{Starts}
-use Rattle.rv_object.specs.Bindings.{is_shared, is_global, is_weak}
+use Rattle.rv_object_types.specs.Bindings.{is_shared, is_global, is_weak}
 use Rattle.rv_object_laws.specs.Names.{Export, exports_where, names_of, chosen, is_this, is_chosen, chosen_exports, global_names, export_address, globals_of, shown_linker_symbols, unshown_address, outer_address}
 use Rattle.rv_shorten.specs.Cutting.{In}
 use Rattle.rv_resolve.proofs.ChosenLemmas.{chosen_held, chosen_named}

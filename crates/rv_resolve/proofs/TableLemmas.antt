@@ -9,7 +9,7 @@ use Rattle.std.proofs.lemmas.List.{map-append}
 use Rattle.std.proofs.lemmas.List.Folds.{find-append}
 use Rattle.std.proofs.lemmas.Slice.Eq.{bytes_eq-Decides}
 use Rattle.rv_map.specs.Globals.{is_one_of}
-use Rattle.rv_object.specs.declared.symbol.Binding.{Binding}
+use Rattle.rv_object_types.specs.declared.symbol.Binding.{Binding}
 use Rattle.rv_resolve.specs.declared.definitions.Definitions.{Definitions}
 use Rattle.rv_resolve.specs.declared.definitions.Exported.{Exported}
 use Rattle.rv_resolve.specs.Chosen.{Seen, Definer, definers_at, names_in, first_named}

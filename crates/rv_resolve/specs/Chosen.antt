@@ -2,9 +2,9 @@
 
 use Rattle.std.specs.Prelude.{ℕ, suc, Bool, ◌&&◌, List, [], ◌∷◌, ◌++◌, map, Option, bytes_eq, if◌then◌else◌}
 use Rattle.std.specs.List.{find}
-use Rattle.rv_object.specs.declared.symbol.Binding.{Binding}
-use Rattle.rv_object.specs.Object.{Symbol, Object}
-use Rattle.rv_object.specs.Bindings.{is_global, is_weak}
+use Rattle.rv_object_types.specs.declared.symbol.Binding.{Binding}
+use Rattle.rv_object_types.specs.Object.{Symbol, Object}
+use Rattle.rv_object_types.specs.Bindings.{is_global, is_weak}
 use Rattle.rv_object_laws.specs.Names.{is_defined, is_sure}
 
 -- what names depend on of a symbol: all but where its definition stands

@@ -1,7 +1,7 @@
 -- Whether a run can begin (GNU ld, "Setting the Entry Point").
 
 use Rattle.std.specs.Prelude.{Bool, false, List, Option, Some, None, codes}
-use Rattle.rv_object.specs.Object.{Object}
+use Rattle.rv_object_types.specs.Object.{Object}
 use Rattle.rv_object_laws.specs.Names.{Export, chosen, begins_run}
 
 abbrev pub is_entry : Option Export → Bool

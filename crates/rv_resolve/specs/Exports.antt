@@ -2,7 +2,7 @@
 
 use Rattle.std.specs.Prelude.{ℕ, List, [], ◌∷◌, ◌++◌, Option, Some, None, if◌then◌else◌}
 use Rattle.rv_map.specs.Globals.{is_one_of}
-use Rattle.rv_object.specs.Object.{Object}
+use Rattle.rv_object_types.specs.Object.{Object}
 use Rattle.rv_object_laws.specs.Names.{global_names}
 
 -- the first of these names that stands before it, there or among others

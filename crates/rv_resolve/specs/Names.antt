@@ -8,7 +8,7 @@ use Rattle.std.specs.Global.{Vec}
 use Rattle.std.specs.List.{slice_get}
 use Rattle.std.specs.Ordering.{nat_cmp}
 use Rattle.rv_map.specs.Globals.{AreDistinct}
-use Rattle.rv_object.specs.Object.{Symbol, Object}
+use Rattle.rv_object_types.specs.Object.{Symbol, Object}
 use Rattle.rv_object_laws.specs.Names.{Export, chosen, global_names, is_sure, Place}
 use Rattle.rv_resolve.specs.declared.fault.ResolveFault.{ResolveFault}
 use Rattle.rv_resolve.specs.declared.fault.ResolveFault.TheVariants.{Duplicate, OutOfMemory}

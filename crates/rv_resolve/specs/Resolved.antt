@@ -2,7 +2,7 @@
 
 use Rattle.std.specs.Prelude.{IsTrue, List, is_some}
 use Rattle.std.specs.List.{AllByRecursion}
-use Rattle.rv_object.specs.Object.{Object}
+use Rattle.rv_object_types.specs.Object.{Object}
 use Rattle.rv_object_laws.specs.Inputs.{Starts, inputs}
 use Rattle.rv_object_laws.specs.IsLinkOf.{is_loaded}
 use Rattle.rv_object_laws.specs.Names.{Outer}

@@ -4,8 +4,8 @@ use Rattle.std.specs.Prelude.{ℕ, ◌+◌, Bool, ◌&&◌, List, [], ◌∷◌,
 use Rattle.std.specs.Borrow.{Bor}
 use Rattle.rv_map.specs.Globals.{global, shown}
 use Rattle.rv_map.specs.Map.{Map, Global}
-use Rattle.rv_object.specs.Object.{Symbol, Object}
-use Rattle.rv_object.specs.Bindings.{is_shared}
+use Rattle.rv_object_types.specs.Object.{Symbol, Object}
+use Rattle.rv_object_types.specs.Bindings.{is_shared}
 use Rattle.rv_object_laws.specs.Names.{Export, Outer, outer_address, globals_of, shown_linker_symbols, export_address, exports_in, is_export, is_chosen}
 use Rattle.rv_placement.specs.declared.placement.Placement.{Placement}
 use Rattle.rv_placement.specs.Placement.{starts_of}

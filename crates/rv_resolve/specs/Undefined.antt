@@ -4,10 +4,10 @@ use Rattle.std.specs.Prelude.{ℕ, Bool, true, false, ◌||◌, List, [], ◌∷
 use Rattle.std.specs.List.{slice_get}
 use Rattle.std.specs.Option.{option_or}
 use Rattle.rv_map.specs.Globals.{is_one_of}
-use Rattle.rv_object.specs.declared.symbol.Definition.{Definition}
-use Rattle.rv_object.specs.declared.symbol.Definition.TheVariants as definitions
-use Rattle.rv_object.specs.Object.{Section, Symbol, Object}
-use Rattle.rv_object.specs.Bindings.{is_weak}
+use Rattle.rv_object_types.specs.declared.symbol.Definition.{Definition}
+use Rattle.rv_object_types.specs.declared.symbol.Definition.TheVariants as definitions
+use Rattle.rv_object_types.specs.Object.{Section, Symbol, Object}
+use Rattle.rv_object_types.specs.Bindings.{is_weak}
 use Rattle.rv_object_laws.specs.Names.{Export, is_sure, chosen}
 
 abbrev pub is_loaded_at : Option Section → Bool

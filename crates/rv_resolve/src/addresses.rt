@@ -7,9 +7,9 @@ ghost use Rattle.std.specs.Prelude.{◌≡◌, ◌+◌, ℕ, List, Some, None, m
 ghost use Rattle.std.specs.List.{slice_get};
 ghost use Rattle.std.specs.Option.{option_or};
 ghost use Rattle.rv_map.specs.Globals.{global_address, linker_symbols};
-ghost use Rattle.rv_object.specs.Object.{Object as SaidObject, Symbol as SaidSymbol};
-ghost use Rattle.rv_object.specs.View.{object_of};
-ghost use Rattle.rv_object.specs.Bindings as bindings;
+ghost use Rattle.rv_object_types.specs.Object.{Object as SaidObject, Symbol as SaidSymbol};
+ghost use Rattle.rv_object_types.specs.View.{object_of};
+ghost use Rattle.rv_object_types.specs.Bindings as bindings;
 ghost use Rattle.rv_object_laws.specs.Collects.{entry_place, run_place};
 ghost use Rattle.rv_object_laws.specs.Names as laws;
 ghost use Rattle.rv_placement.specs.Placement.{starts_of, IsPlacement};
@@ -21,7 +21,7 @@ ghost use Rattle.rv_shorten.specs.View.{short_object_of};
 use crate::definitions::Exported;
 use crate::names::{Meant, Names, symbol_at};
 use crate::symbol::{is_sure, is_weak};
-use rv_object::{Binding, Definition, Object};
+use rv_object_types::{Binding, Definition, Object};
 use rv_placement::Placement;
 use rv_shorten::ShortObject;
 

@@ -2,9 +2,9 @@
 
 ghost use Rattle.std.specs.Prelude.{List, ◌++◌, map, IfOk, IfErr, OnOk};
 ghost use Rattle.rv_map.specs.Globals.{AreDistinct};
-ghost use Rattle.rv_object.specs.Parts.{symbol_of};
-ghost use Rattle.rv_object.specs.View.{object_of};
-ghost use Rattle.rv_object.specs.Bindings.{is_global, is_weak};
+ghost use Rattle.rv_object_types.specs.Parts.{symbol_of};
+ghost use Rattle.rv_object_types.specs.View.{object_of};
+ghost use Rattle.rv_object_types.specs.Bindings.{is_global, is_weak};
 ghost use Rattle.rv_object_laws.specs.Names.{global_names};
 ghost use Rattle.rv_resolve.specs.Chosen.{Definer, seen, seen_of, definers_at, definers_in, definers_from, definitions};
 ghost use Rattle.rv_resolve.specs.Exports.{first_duplicate};
@@ -12,7 +12,7 @@ ghost use Rattle.rv_resolve.specs.Names.{AnswersFirst, IsDefinitionTable, IsRefu
 
 use crate::fault::ResolveFault;
 use crate::symbol::{is_global_definition, is_weak_definition};
-use rv_object::{Object, Symbol};
+use rv_object_types::{Object, Symbol};
 use std::alloc::{AllocError, Global};
 use std::collections::BTreeMap;
 

@@ -7,14 +7,14 @@
 //! What is remembered may be any place, since the name there is compared.
 
 ghost use Rattle.std.specs.Prelude.{◌≡◌, ◌<◌, true, List, map, option_map, IfOk, IfSome};
-ghost use Rattle.rv_object.specs.Parts.{symbol_of};
-ghost use Rattle.rv_object.specs.View.{object_of};
+ghost use Rattle.rv_object_types.specs.Parts.{symbol_of};
+ghost use Rattle.rv_object_types.specs.View.{object_of};
 ghost use Rattle.rv_resolve.specs.Chosen.{Definer, seen, definitions as chosen_from, first_named};
 ghost use Rattle.rv_resolve.specs.Names.{AnswersFirst, exported_of, outside, meant_at, AreMeanings, AreRows};
 
 use crate::definitions::{Definitions, Exported};
 use crate::symbol::is_sure;
-use rv_object::{Object, Symbol};
+use rv_object_types::{Object, Symbol};
 use std::alloc::{AllocError, Global};
 
 /// How many names are remembered.

@@ -10,8 +10,8 @@
 ghost use Rattle.std.specs.Prelude.{◌≡◌, false, Some, map, option_map, codes, IfOk, IfErr};
 ghost use Rattle.std.specs.List.{slice_get};
 ghost use Rattle.rv_map.specs.Globals.{AreDistinct};
-ghost use Rattle.rv_object.specs.Object.{Object as SaidObject, Symbol as SaidSymbol};
-ghost use Rattle.rv_object.specs.View.{object_of};
+ghost use Rattle.rv_object_types.specs.Object.{Object as SaidObject, Symbol as SaidSymbol};
+ghost use Rattle.rv_object_types.specs.View.{object_of};
 ghost use Rattle.rv_object_laws.specs.Names.{Export, chosen, global_names, is_sure as means_own};
 ghost use Rattle.rv_resolve.specs.Exports.{first_duplicate};
 ghost use Rattle.rv_resolve.specs.Moved.{with_definition};
@@ -22,7 +22,7 @@ use crate::definitions::{Definitions, Exported};
 use crate::fault::ResolveFault;
 use crate::meanings::Meanings;
 use crate::symbol::is_sure;
-use rv_object::{Binding, Definition, Object, Symbol};
+use rv_object_types::{Binding, Definition, Object, Symbol};
 use rv_shorten::ShortObject;
 use std::alloc::Global;
 

@@ -1,13 +1,13 @@
 //! Which symbols are definitions for all files, and which are their own objects' whatever others define.
 
 ghost use Rattle.std.specs.Prelude.{◌≡◌, List};
-ghost use Rattle.rv_object.specs.Parts.{symbol_of};
+ghost use Rattle.rv_object_types.specs.Parts.{symbol_of};
 ghost use Rattle.rv_object_laws.specs.Moves.{Move};
-ghost use Rattle.rv_object.specs.Bindings as bindings;
+ghost use Rattle.rv_object_types.specs.Bindings as bindings;
 ghost use Rattle.rv_object_laws.specs.Names as laws;
 ghost use Rattle.rv_shorten.specs.Cutting.{cut_definition};
 
-use rv_object::{Binding, Definition, Symbol};
+use rv_object_types::{Binding, Definition, Symbol};
 
 /// Whether a symbol is a global definition.
 pub(crate) fn is_global_definition(symbol: &Symbol<'_>) -> bool

@@ -7,8 +7,8 @@ ghost use Rattle.std.specs.Prelude.{◌≡◌, ◌++◌, Some, None, false, List
 ghost use Rattle.std.specs.List.{slice_get};
 ghost use Rattle.rv_map.specs.Globals.{is_one_of};
 ghost use Rattle.rv_map.specs.Map.{Map};
-ghost use Rattle.rv_object.specs.Object.{Object as SaidObject, Symbol as SaidSymbol};
-ghost use Rattle.rv_object.specs.Parts.{relocation_of, symbol_of};
+ghost use Rattle.rv_object_types.specs.Object.{Object as SaidObject, Symbol as SaidSymbol};
+ghost use Rattle.rv_object_types.specs.Parts.{relocation_of, symbol_of};
 ghost use Rattle.rv_object_laws.specs.Inputs.{Starts};
 ghost use Rattle.rv_object_laws.specs.Moves.{Move};
 ghost use Rattle.rv_object_laws.specs.Names.{chosen, globals_of, is_sure as means_own, outer_address, shown_linker_symbols};
@@ -20,7 +20,7 @@ ghost use Rattle.rv_shorten.specs.View.{short_object_of};
 
 use crate::names::Names;
 use crate::symbol::{is_sure, is_weak};
-use rv_object::{Definition, Relocation, Symbol};
+use rv_object_types::{Definition, Relocation, Symbol};
 use rv_shorten::ShortObject;
 
 impl Names<'_> {

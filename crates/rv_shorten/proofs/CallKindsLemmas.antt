@@ -5,7 +5,7 @@ use Rattle.std.specs.Prelude.{◌==◌}
 use Rattle.rv_isa.specs.declared.kind.Kind.{Kind}
 use Rattle.rv_isa.specs.declared.kind.Kind.TheVariants as kinds
 use Rattle.rv_isa.specs.Kinds.{width_of}
-use Rattle.rv_object.specs.Valid.{is_align}
+use Rattle.rv_object_types.specs.Valid.{is_align}
 use Rattle.rv_object_laws.specs.Moves.{Move}
 use Rattle.rv_object_laws.specs.CallSites.{is_call}
 use Rattle.rv_shorten.specs.Cutting.{kind_left}

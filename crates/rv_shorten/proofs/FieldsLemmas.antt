@@ -5,7 +5,7 @@ use Rattle.std.specs.Prelude.{◌==◌, IsTrue}
 use Rattle.std.specs.List.{list_all}
 use Rattle.std.proofs.lemmas.Bool.{ltb-true, ltb-false, eqb-true, eqb-false, and_parts, and_from}
 use Rattle.rv_isa.specs.Kinds.{width_of}
-use Rattle.rv_object.specs.Object.{Relocation}
+use Rattle.rv_object_types.specs.Object.{Relocation}
 use Rattle.rv_object_laws.specs.Moves.{Move, new_offset}
 use Rattle.rv_object_laws.specs.CallSites.{is_call, meets}
 use Rattle.rv_shorten.specs.Cutting.{In, are_cuts, IsClear, cut_at, kind_left, cut_kind}

@@ -8,11 +8,11 @@ use Rattle.std.proofs.lemmas.Bool.{eq-eqb, ne_eqb, and_from, and_left, and_right
 use Rattle.rv_layout_laws.specs.Sites.{padding_site, size_at}
 use Rattle.rv_layout_laws.specs.declared.site.Site.{Site}
 use Rattle.rv_layout_laws.specs.Calls.{InOrder}
-use Rattle.rv_object.specs.declared.object.Object.{Object as DeclaredObject}
-use Rattle.rv_object.specs.declared.section.Section.{Section as DeclaredSection}
-use Rattle.rv_object.specs.Object.{Relocation, Section, Object, size_of, stored}
-use Rattle.rv_object.specs.Sections.{section_of}
-use Rattle.rv_object.specs.View.{object_of}
+use Rattle.rv_object_types.specs.declared.object.Object.{Object as DeclaredObject}
+use Rattle.rv_object_types.specs.declared.section.Section.{Section as DeclaredSection}
+use Rattle.rv_object_types.specs.Object.{Relocation, Section, Object, size_of, stored}
+use Rattle.rv_object_types.specs.Sections.{section_of}
+use Rattle.rv_object_types.specs.View.{object_of}
 use Rattle.rv_object_laws.specs.Inputs.{InputSection, goes_to_text, begins_at}
 use Rattle.rv_object_laws.specs.CallSites.{changes, site_of, sites_from, sites_of, start_padding, base, base_in}
 use Rattle.rv_object_laws.specs.Shortened.{Sizes, sizes_by, cut, cuts}

@@ -4,8 +4,8 @@ use Rattle.std.proofs.Common.{◌≡◌, ◌+◌, ◌<◌, ◌≤◌, inl, inr, 
 use Rattle.std.specs.Prelude.{filter, count_by, ⊤}
 use Rattle.std.proofs.lemmas.List.Sums.{sum_by-cons}
 use Rattle.std.proofs.lemmas.Bool.{leb-true, le-leb, true≢false}
-use Rattle.rv_object.specs.Object.{Relocation}
-use Rattle.rv_object.specs.Valid.{held}
+use Rattle.rv_object_types.specs.Object.{Relocation}
+use Rattle.rv_object_types.specs.Valid.{held}
 use Rattle.rv_object_laws.specs.CallSites.{inserted_change, in_order}
 use Rattle.rv_shorten.specs.Cutting.{In}
 use Rattle.rv_object_laws.proofs.ChangesLemmas.{one_if as tally}

@@ -10,7 +10,7 @@ use Rattle.rv_isa.specs.Kinds.{width_of}
 use Rattle.rv_isa_laws.specs.Bytes.{little_endian}
 use Rattle.rv_layout_laws.specs.declared.site.Site.{Site}
 use Rattle.rv_layout_laws.specs.Calls.{InOrder, is_call as is_call_site}
-use Rattle.rv_object.specs.Object.{Relocation, Section, Object, size_of, stored}
+use Rattle.rv_object_types.specs.Object.{Relocation, Section, Object, size_of, stored}
 use Rattle.rv_object_laws.specs.Moves.{Move, new_offset, has_padding}
 use Rattle.rv_object_laws.specs.Inputs.{InputSection, goes_to_text}
 use Rattle.rv_object_laws.specs.CallSites.{is_call, meets, link_register, is_permitted, may_change, in_order, changes, site_of}

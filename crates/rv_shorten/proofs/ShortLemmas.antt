@@ -6,8 +6,8 @@ use Rattle.std.specs.List.{list_all}
 use Rattle.std.proofs.lemmas.List.{length-map}
 use Rattle.std.proofs.lemmas.Bool.{leb-true, le-leb, eqb-true, eq-eqb, and_parts, and_from}
 use Rattle.rv_isa.specs.Kinds.{width_of}
-use Rattle.rv_object.specs.Object.{Contents, Progbits, Note, Nobits, Relocation, Section, size_of}
-use Rattle.rv_object.specs.Valid.{keeps_name, is_even, is_loaded_alone, fits_inside, fit_inside, is_padding, are_all_apart, are_paddings}
+use Rattle.rv_object_types.specs.Object.{Contents, Progbits, Note, Nobits, Relocation, Section, size_of}
+use Rattle.rv_object_types.specs.Valid.{keeps_name, is_even, is_loaded_alone, fits_inside, fit_inside, is_padding, are_all_apart, are_paddings}
 use Rattle.rv_object_laws.specs.Moves.{Move, new_offset, kept}
 use Rattle.rv_object_laws.specs.CallSites.{is_call}
 use Rattle.rv_object_laws.specs.Shortened.{shortened_contents}

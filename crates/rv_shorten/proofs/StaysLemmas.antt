@@ -4,13 +4,13 @@ use Rattle.std.proofs.Common.{◌≡◌, ℕ, zero, suc, ◌+◌, ◌-◌, Bool,
 use Rattle.std.specs.List.{list_all, slice_get}
 use Rattle.std.proofs.lemmas.List.{length-map}
 use Rattle.std.proofs.lemmas.Bool.{leb-true, le-leb, and_parts, and_from}
-use Rattle.rv_object.specs.declared.symbol.Definition.{Definition}
-use Rattle.rv_object.specs.declared.symbol.Definition.TheVariants as definitions
-use Rattle.rv_object.specs.declared.row.Row.{Row}
-use Rattle.rv_object.specs.declared.section.Section.{Section as DeclaredSection}
-use Rattle.rv_object.specs.Object.{Section, Symbol, size_of}
-use Rattle.rv_object.specs.Sections.{section_of}
-use Rattle.rv_object.specs.Valid.{fit_inside, is_below, are_indexed, is_defined_in, are_defined, is_row_in, are_rows}
+use Rattle.rv_object_types.specs.declared.symbol.Definition.{Definition}
+use Rattle.rv_object_types.specs.declared.symbol.Definition.TheVariants as definitions
+use Rattle.rv_object_types.specs.declared.row.Row.{Row}
+use Rattle.rv_object_types.specs.declared.section.Section.{Section as DeclaredSection}
+use Rattle.rv_object_types.specs.Object.{Section, Symbol, size_of}
+use Rattle.rv_object_types.specs.Sections.{section_of}
+use Rattle.rv_object_types.specs.Valid.{fit_inside, is_below, are_indexed, is_defined_in, are_defined, is_row_in, are_rows}
 use Rattle.rv_object_laws.specs.Moves.{Move, new_offset}
 use Rattle.rv_object_laws.specs.Shortened.{shortened_contents}
 use Rattle.rv_shorten.specs.Cutting.{AreCuts, AllCut, cut_relocation, cut_section, cut_sections, moves_at, cut_definition, cut_symbol, cut_row}

@@ -7,8 +7,8 @@ use Rattle.std.proofs.lemmas.Bool.{le-leb, lt-ltb, eq-eqb, and_from}
 use Rattle.rv_isa_laws.specs.Bytes.{little_endian}
 use Rattle.rv_layout_laws.specs.declared.site.Site.{Site}
 use Rattle.rv_layout_laws.specs.declared.site.SiteKind.TheVariants.{Call}
-use Rattle.rv_object.specs.Object.{Contents, Progbits, Note, Nobits, Section, Object, size_of, stored}
-use Rattle.rv_object.specs.Valid.{fit_inside}
+use Rattle.rv_object_types.specs.Object.{Contents, Progbits, Note, Nobits, Section, Object, size_of, stored}
+use Rattle.rv_object_types.specs.Valid.{fit_inside}
 use Rattle.rv_object_laws.specs.Moves.{Move, kept}
 use Rattle.rv_object_laws.specs.CallSites.{link_register}
 use Rattle.rv_object_laws.specs.Shortened.{empty_jump, empty_jal, short_call, shortened_contents}

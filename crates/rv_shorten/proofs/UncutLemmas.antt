@@ -1,10 +1,10 @@
 -- Objects of which nothing is cut are as they were.
 
 use Rattle.std.proofs.Common.{◌≡◌, ℕ, zero, suc, ◌+◌, ◌-◌, List, [], ◌∷◌, map, refl, sym, ap, ◌∙◌, arith}
-use Rattle.rv_object.specs.declared.symbol.Definition.{Definition}
-use Rattle.rv_object.specs.declared.symbol.Definition.TheVariants as definitions
-use Rattle.rv_object.specs.declared.row.Row.{Row}
-use Rattle.rv_object.specs.Object.{Section, Symbol, Object}
+use Rattle.rv_object_types.specs.declared.symbol.Definition.{Definition}
+use Rattle.rv_object_types.specs.declared.symbol.Definition.TheVariants as definitions
+use Rattle.rv_object_types.specs.declared.row.Row.{Row}
+use Rattle.rv_object_types.specs.Object.{Section, Symbol, Object}
 use Rattle.rv_object_laws.specs.Moves.{Move, new_offset}
 use Rattle.rv_shorten.specs.Cutting.{AllCut, cut_sections, moves_at, cut_definition, cut_symbol, cut_row, cut_row_of, cut_object}
 use Rattle.rv_shorten.proofs.ShortLemmas.{nothing_cut}

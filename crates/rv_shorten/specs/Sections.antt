@@ -1,8 +1,8 @@
 -- What a section stands for of which calls are cut short.
 
 use Rattle.std.specs.Prelude.{List, map}
-use Rattle.rv_object.specs.Object.{Section}
-use Rattle.rv_object.specs.Sections.{section_of}
+use Rattle.rv_object_types.specs.Object.{Section}
+use Rattle.rv_object_types.specs.Sections.{section_of}
 use Rattle.rv_object_laws.specs.Moves.{Move}
 use Rattle.rv_shorten.specs.declared.section.ShortSection.{ShortSection}
 use Rattle.rv_shorten.specs.Cut.{move_of}

@@ -1,8 +1,8 @@
 -- What an object stands for of which calls are cut short.
 
 use Rattle.std.specs.Prelude.{List, map}
-use Rattle.rv_object.specs.Object.{Object}
-use Rattle.rv_object.specs.Parts.{symbol_of}
+use Rattle.rv_object_types.specs.Object.{Object}
+use Rattle.rv_object_types.specs.Parts.{symbol_of}
 use Rattle.rv_object_laws.specs.Moves.{Move}
 use Rattle.rv_shorten.specs.declared.object.ShortObject.{ShortObject}
 use Rattle.rv_shorten.specs.Cutting.{cut_symbol, cut_row_of}

@@ -3,7 +3,7 @@
 use Rattle.std.specs.Prelude.{⊤, ℕ, suc, ◌+◌, ◌-◌, ◌==◌, Bool, ◌&&◌, nat_lt, List, [], ◌∷◌, take, drop, if◌then◌else◌}
 use Rattle.rv_layout_laws.specs.declared.site.Site.{Site}
 use Rattle.rv_layout_laws.specs.Calls.{is_call, bytes_of}
-use Rattle.rv_object.specs.Object.{Section, Object, size_of, stored}
+use Rattle.rv_object_types.specs.Object.{Section, Object, size_of, stored}
 use Rattle.rv_object_laws.specs.Moves.{Move}
 use Rattle.rv_object_laws.specs.Inputs.{goes_to_text}
 use Rattle.rv_object_laws.specs.CallSites.{link_register}

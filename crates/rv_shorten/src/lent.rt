@@ -1,14 +1,14 @@
 //! Objects of which no call is cut short.
 
 ghost use Rattle.std.specs.Prelude.{◌≡◌, [], map, IfOk};
-ghost use Rattle.rv_object.specs.Sections.{section_of};
-ghost use Rattle.rv_object.specs.View.{object_of};
+ghost use Rattle.rv_object_types.specs.Sections.{section_of};
+ghost use Rattle.rv_object_types.specs.View.{object_of};
 ghost use Rattle.rv_shorten.specs.Sections.{moves_in_all, short_section_of};
 ghost use Rattle.rv_shorten.specs.View.{short_object_of};
 
 use crate::object::ShortObject;
 use crate::section::ShortSection;
-use rv_object::{Object, Section};
+use rv_object_types::{Object, Section};
 use std::alloc::{AllocError, Global};
 
 /// Sections of which nothing is cut.

@@ -4,8 +4,8 @@
 //! it represents is `short_object_of`; nothing of it is made.
 
 ghost use Rattle.std.specs.Prelude.{◌≡◌, true, IsTrue, map};
-ghost use Rattle.rv_object.specs.Valid.{are_rows};
-ghost use Rattle.rv_object.specs.View.{object_of};
+ghost use Rattle.rv_object_types.specs.Valid.{are_rows};
+ghost use Rattle.rv_object_types.specs.View.{object_of};
 ghost use Rattle.rv_shorten.specs.Cut.{are_in_order, move_of};
 ghost use Rattle.rv_shorten.specs.Cutting as cutting;
 ghost use Rattle.rv_shorten.specs.Sections.{moves_in_all, short_section_of};
@@ -14,7 +14,7 @@ use crate::cut::Cut;
 use crate::offsets::{lost, new_offset};
 use crate::pieces::dropped_before;
 use crate::section::ShortSection;
-use rv_object::{Definition, Object, Row};
+use rv_object_types::{Definition, Object, Row};
 
 /// An object, less what is cut of its calls. It is lent, and nothing of it is copied: what moves is told when it is asked for.
 #[derive(Drop)]

@@ -2,7 +2,7 @@
 
 ghost use Rattle.std.specs.Prelude.{◌≡◌, length, map, IfOk};
 ghost use Rattle.rv_layout_laws.specs.Calls.{IsText};
-ghost use Rattle.rv_object.specs.View.{object_of};
+ghost use Rattle.rv_object_types.specs.View.{object_of};
 ghost use Rattle.rv_object_laws.specs.CallSites.{sites_of};
 ghost use Rattle.rv_object_laws.specs.Shortened.{shortened};
 ghost use Rattle.rv_shorten.specs.View.{short_object_of};
@@ -11,7 +11,7 @@ ghost use Rattle.rv_shorten.specs.Walk.{AreWalked, walked};
 use crate::object::ShortObject;
 use crate::sites::short_sections;
 use rv_layout_laws::Site;
-use rv_object::Object;
+use rv_object_types::Object;
 use std::alloc::{AllocError, Global};
 
 /// The objects that are left, as the sites of the text go by.

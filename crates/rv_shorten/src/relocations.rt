@@ -1,7 +1,7 @@
 //! Relocations of a section of which calls are cut short.
 
 ghost use Rattle.std.specs.Prelude.{◌≡◌, true, map};
-ghost use Rattle.rv_object.specs.Parts.{relocation_of};
+ghost use Rattle.rv_object_types.specs.Parts.{relocation_of};
 ghost use Rattle.rv_object_laws.specs.CallSites.{is_call as is_call_kind};
 ghost use Rattle.rv_shorten.specs.Cut.{are_in_order, move_of};
 ghost use Rattle.rv_shorten.specs.Cutting.{cut_kind, cut_relocation};
@@ -10,7 +10,7 @@ use crate::cut::Cut;
 use crate::offsets::new_offset;
 use crate::pieces::count_before;
 use rv_isa::Kind;
-use rv_object::Relocation;
+use rv_object_types::Relocation;
 
 /// Whether a relocation is a call.
 fn is_call(kind: Kind) -> bool

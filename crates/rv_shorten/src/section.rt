@@ -1,9 +1,9 @@
 //! A section of which calls are cut short.
 
 ghost use Rattle.std.specs.Prelude.{◌≡◌, true, IsTrue, length, map};
-ghost use Rattle.rv_object.specs.Object.{size_of, stored};
-ghost use Rattle.rv_object.specs.Parts.{relocation_of};
-ghost use Rattle.rv_object.specs.Sections.{section_of};
+ghost use Rattle.rv_object_types.specs.Object.{size_of, stored};
+ghost use Rattle.rv_object_types.specs.Parts.{relocation_of};
+ghost use Rattle.rv_object_types.specs.Sections.{section_of};
 ghost use Rattle.rv_object_laws.specs.Inputs as inputs;
 ghost use Rattle.rv_object_laws.specs.Moves.{new_offset as offset_of};
 ghost use Rattle.rv_shorten.specs.Cut.{are_in_order, move_of};
@@ -13,7 +13,7 @@ use crate::bytes::LeftBytes;
 use crate::cut::Cut;
 use crate::offsets::new_offset;
 use crate::relocations::moved;
-use rv_object::{Contents, Relocation, Section};
+use rv_object_types::{Contents, Relocation, Section};
 
 /// A section, less what is cut of its calls. It is lent, and nothing of it is copied: what moves is told when it is asked for.
 #[derive(Drop)]

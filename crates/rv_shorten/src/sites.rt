@@ -4,8 +4,8 @@
 //! come after that: one walk over sections and sites finds which belong together.
 
 ghost use Rattle.std.specs.Prelude.{◌≡◌, ◌+◌, ◌-◌, ◌≤◌, ◌++◌, [], true, length, map, IfOk, OnOk};
-ghost use Rattle.rv_object.specs.Object as said;
-ghost use Rattle.rv_object.specs.Sections.{section_of};
+ghost use Rattle.rv_object_types.specs.Object as said;
+ghost use Rattle.rv_object_types.specs.Sections.{section_of};
 ghost use Rattle.rv_object_laws.specs.Inputs.{goes_to_text};
 ghost use Rattle.rv_layout_laws.specs.Calls as calls;
 ghost use Rattle.rv_shorten.specs.Cut.{are_in_order, move_of};
@@ -17,7 +17,7 @@ use crate::cut::Cut;
 use crate::section::ShortSection;
 use crate::words::link_register;
 use rv_layout_laws::{Site, SiteKind};
-use rv_object::Section;
+use rv_object_types::Section;
 use std::alloc::{AllocError, Global};
 
 /// Whether a section goes to the text.

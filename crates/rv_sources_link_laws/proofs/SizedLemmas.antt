@@ -11,7 +11,7 @@ use Rattle.rv_map.specs.declared.map.Row.{Row as MapRow}
 use Rattle.rv_source_laws.specs.Located.{Located, has_row}
 use Rattle.rv_source_laws.specs.Program.{MaybeMapped, Program, tables_in}
 use Rattle.rv_source_laws.specs.Sized.{statement_size, HasSizeBy, HaveSizes, statements_in, AreFilesSized}
-use Rattle.rv_object.specs.Object.{Object}
+use Rattle.rv_object_types.specs.Object.{Object}
 use Rattle.rv_object_laws.specs.Inputs.{Starts}
 use Rattle.rv_object_laws.specs.Shortened.{Sizes}
 use Rattle.rv_assemble_laws.specs.LaidStatements.{LaidStatement, expression_value}

@@ -1,7 +1,7 @@
 //! The symbols of a source's object, in their order, and for each use of a symbol its index.
 //!
 //! It takes a source's unit (`rv_unit`), where each statement stands in its section, and the symbols that relocations
-//! name. It gives the symbols as an object has them (`rv_object`), those of the file alone, then those that it defines for
+//! name. It gives the symbols as an object has them (`rv_object_types`), those of the file alone, then those that it defines for
 //! other files, then those that it leaves undefined, and a number for each use. The symbols lend the names of the source. The
 //! main contract is that of [`symbols`]: these are the symbols that `rv_assemble_laws` defines (`specs/Symbols`), and each
 //! number stands for its use.

@@ -8,8 +8,8 @@ ghost use Rattle.rv_text.specs.Nodes.{symbol_of};
 ghost use Rattle.rv_statement.specs.View.{now_of};
 ghost use Rattle.rv_unit_laws.specs.Tables.{Tables};
 ghost use Rattle.rv_unit.specs.Unit.{definition_of};
-ghost use Rattle.rv_object.specs.Object.{Symbol as SaidSymbol};
-ghost use Rattle.rv_object.specs.Parts.{symbol_of as object_symbol};
+ghost use Rattle.rv_object_types.specs.Object.{Symbol as SaidSymbol};
+ghost use Rattle.rv_object_types.specs.Parts.{symbol_of as object_symbol};
 ghost use Rattle.rv_assemble_laws.specs.LaidStatements.{LaidStatement};
 ghost use Rattle.rv_assemble_laws.specs.Symbols.{laid_at};
 ghost use Rattle.rv_symbols.specs.SymbolUse.{uses_of};
@@ -21,7 +21,7 @@ ghost use Rattle.rv_symbols.specs.Indices.{AreNameIndices, ArePlaceIndices};
 use crate::source::Source;
 use crate::symbol_use::SymbolUse;
 use indexmap::IndexSet;
-use rv_object::{Definition as Defined, Symbol};
+use rv_object_types::{Definition as Defined, Symbol};
 use rv_text::Symbol as Named;
 use rv_unit::Definition;
 use std::alloc::{AllocError, Global};
@@ -159,8 +159,7 @@ impl<'i, 'u, 'a> Indices<'i, 'u, 'a> {
         match symbol {
             Named::Name(name) => self.names.get(&name).copied().unwrap_or(0),
             Named::Here => self.place_number(definition.ordinal),
-            Named::Backward(_) => self.place_number(definition.ordinal),
-            Named::Forward(_) => self.place_number(definition.ordinal),
+            Named::Reference(_) => self.place_number(definition.ordinal),
         }
     }
 
@@ -176,8 +175,7 @@ impl<'i, 'u, 'a> Indices<'i, 'u, 'a> {
                 (self.count + after) as u32
             }
             Named::Here => 0,
-            Named::Backward(_) => 0,
-            Named::Forward(_) => 0,
+            Named::Reference(_) => 0,
         }
     }
 

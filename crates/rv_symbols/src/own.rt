@@ -6,9 +6,9 @@ ghost use Rattle.std.specs.Prelude.{◌≡◌, ◌<◌, ◌≤◌, ◌+◌, ◌*
 ghost use Rattle.std.specs.HashSet.{contains};
 ghost use Rattle.rv_statement.specs.View.{statement_of};
 ghost use Rattle.rv_unit.specs.Unit.{said};
-ghost use Rattle.rv_object.specs.declared.symbol.Binding.TheVariants.{Local};
-ghost use Rattle.rv_object.specs.declared.symbol.Definition.TheVariants.{InSection};
-ghost use Rattle.rv_object.specs.Parts.{symbol_of};
+ghost use Rattle.rv_object_types.specs.declared.symbol.Binding.TheVariants.{Local};
+ghost use Rattle.rv_object_types.specs.declared.symbol.Definition.TheVariants.{InSection};
+ghost use Rattle.rv_object_types.specs.Parts.{symbol_of};
 ghost use Rattle.rv_assemble_laws.specs.LaidStatements.{LaidStatement};
 ghost use Rattle.rv_assemble_laws.specs.Symbols.{local_symbol, named_symbols, exports_of, references};
 ghost use Rattle.rv_assemble_laws.specs.ShownNames.{said_names, are_shown, HasNames};
@@ -17,7 +17,7 @@ ghost use Rattle.rv_symbols.specs.Numbers.{own_symbols as own_in};
 ghost use Rattle.rv_symbols.specs.Found.{is_number, same_place, AreMarks};
 
 use crate::source::Source;
-use rv_object::{Binding, Definition, Symbol};
+use rv_object_types::{Binding, Definition, Symbol};
 use rv_statement::{Statement, Statements};
 use std::alloc::{AllocError, Global};
 use std::collections::HashSet;

@@ -7,7 +7,7 @@ ghost use Rattle.rv_unit_laws.specs.Tables.{tables, assigned_ever};
 ghost use Rattle.rv_unit_tables.specs.Tables.{assignment_of};
 ghost use Rattle.rv_unit.specs.Unit.{said, IsFilled};
 ghost use Rattle.rv_map.specs.Name.{is_name};
-ghost use Rattle.rv_object.specs.Valid.{is_shown};
+ghost use Rattle.rv_object_types.specs.Valid.{is_shown};
 ghost use Rattle.rv_source_laws.specs.Exports.{sets_first, defined_name};
 ghost use Rattle.rv_assemble_laws.specs.LaidStatements.{LaidStatement};
 ghost use Rattle.rv_assemble_laws.specs.Symbols.{laid_at, after_found, assigned_definition, statement_definition, outer_binding};
@@ -15,9 +15,9 @@ ghost use Rattle.rv_assemble_laws.specs.ShownNames.{said_names, are_shown};
 ghost use Rattle.rv_symbols.specs.Settings.{AreFirsts};
 
 use crate::settings::FirstSettings;
-use rv_object::{Binding as ObjectBinding, Definition};
+use rv_object_types::{Binding as ObjectBinding, Definition};
 use rv_statement::{Statement, StatementKind};
-use rv_text::Meaning;
+use rv_text::SymbolMeaning;
 use rv_unit::{Assignment, Binding, Item, Unit};
 use std::alloc::{AllocError, Global};
 
@@ -151,8 +151,11 @@ impl<'u, 'a> Source<'u, 'a> {
             → result ≡ assigned_definition laid (Some (assignment_of assignment.entry)) }
     {
         match assignment.meaning {
-            Meaning::Constant(number) => Definition::Absolute(number),
-            Meaning::InSection(_, _) => self.after(assignment.ordinal as usize, assignment.plus),
+            SymbolMeaning::Constant(number) => Definition::Absolute(number),
+            SymbolMeaning::InSection(_, _) => self.after(
+                assignment.ordinal as usize,
+                assignment.plus,
+            ),
             _ => Definition::Skipped(0),
         }
     }

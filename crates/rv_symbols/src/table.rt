@@ -3,7 +3,7 @@
 ghost use Rattle.std.specs.Prelude.{◌≡◌, ◌+◌, ◌*◌, ◌^◌, ◌<◌, None, List, length, IfOk};
 ghost use Rattle.rv_unit_laws.specs.Tables.{tables};
 ghost use Rattle.rv_unit_laws.specs.Faults.{first_unit_fault};
-ghost use Rattle.rv_unit.specs.Unit.{said, IsFilled};
+ghost use Rattle.rv_unit.specs.Unit.{said};
 ghost use Rattle.rv_unit.specs.Items.{offsets_of};
 ghost use Rattle.rv_assemble_laws.specs.LaidStatements.{LaidStatement};
 ghost use Rattle.rv_assemble_laws.specs.ShownNames.{used_names, HasNames, AreShown};
@@ -16,7 +16,7 @@ use crate::source::Source;
 use crate::symbol_use::SymbolUse;
 use crate::undefined::put_undefined;
 use crate::uses::{definitions, marks, missing};
-use rv_object::Symbol;
+use rv_object_types::Symbol;
 use rv_unit::{Item, Unit};
 use std::alloc::{AllocError, Global};
 
@@ -37,7 +37,6 @@ pub fn symbols<'a>(
     items: &[Item],
     uses: &[SymbolUse<'a>],
 ) -> Result<SymbolTable<'a>, AllocError>
-    requires filled { IsFilled unit.now }
     requires good { first_unit_fault (said unit.now) ≡ None }
     requires names { HasNames (said unit.now) }
     requires shown { AreShown (uses_of uses.now) }

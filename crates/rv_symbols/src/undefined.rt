@@ -2,15 +2,15 @@
 
 ghost use Rattle.std.specs.Prelude.{◌≡◌, ◌++◌, List, true, map, OnOk};
 ghost use Rattle.rv_statement.specs.View.{now_of};
-ghost use Rattle.rv_object.specs.declared.symbol.Definition.TheVariants.{Undefined};
-ghost use Rattle.rv_object.specs.Parts.{symbol_of};
+ghost use Rattle.rv_object_types.specs.declared.symbol.Definition.TheVariants.{Undefined};
+ghost use Rattle.rv_object_types.specs.Parts.{symbol_of};
 ghost use Rattle.rv_assemble_laws.specs.LaidStatements.{LaidStatement};
 ghost use Rattle.rv_assemble_laws.specs.Symbols.{shared_symbol};
 ghost use Rattle.rv_assemble_laws.specs.ShownNames.{are_shown};
 ghost use Rattle.rv_symbols.specs.Source.{tables_of, IsSource};
 
 use crate::source::Source;
-use rv_object::{Definition, Symbol};
+use rv_object_types::{Definition, Symbol};
 use std::alloc::AllocError;
 
 /// Adds the names that a file leaves undefined.

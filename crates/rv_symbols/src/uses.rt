@@ -35,8 +35,7 @@ fn is_here(symbol: Symbol<'_>) -> bool
     match symbol {
         Symbol::Name(_) => false,
         Symbol::Here => true,
-        Symbol::Backward(_) => false,
-        Symbol::Forward(_) => false,
+        Symbol::Reference(_) => false,
     }
 }
 
@@ -99,8 +98,7 @@ fn is_nameless(symbol: Symbol<'_>) -> bool
     match symbol {
         Symbol::Name(_) => false,
         Symbol::Here => true,
-        Symbol::Backward(_) => true,
-        Symbol::Forward(_) => true,
+        Symbol::Reference(_) => true,
     }
 }
 

@@ -4,10 +4,10 @@ use Rattle.std.proofs.Common.{◌≡◌, ℕ, suc, ◌+◌, ◌%◌, ◌^◌, Bo
 use Rattle.std.specs.Prelude.{option_and_then, flat_map, nat_le, codes, if◌then◌else◌}
 use Rattle.std.specs.List.{AllByRecursion, slice_get}
 use Rattle.rv_map.specs.Globals.{shown}
-use Rattle.rv_object.specs.declared.row.Row.{Row}
-use Rattle.rv_object.specs.declared.symbol.Definition.{Definition}
-use Rattle.rv_object.specs.declared.symbol.Definition.TheVariants as definitions
-use Rattle.rv_object.specs.Object.{Section, Object}
+use Rattle.rv_object_types.specs.declared.row.Row.{Row}
+use Rattle.rv_object_types.specs.declared.symbol.Definition.{Definition}
+use Rattle.rv_object_types.specs.declared.symbol.Definition.TheVariants as definitions
+use Rattle.rv_object_types.specs.Object.{Section, Object}
 use Rattle.rv_object_laws.specs.Moves.{moves, new_offset}
 use Rattle.rv_object_laws.specs.Inputs.{Starts}
 use Rattle.rv_object_laws.specs.Names.{Export, offset_address, defined_address, chosen, chosen_exports, export_address, globals_of, begins_run, run_start, entry_of}

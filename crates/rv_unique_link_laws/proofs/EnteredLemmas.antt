@@ -1,7 +1,7 @@
 -- A run has an entry where `_start` means one.
 
 use Rattle.std.proofs.Common.{◌≡◌, ℕ, true, Option, Some, None, List, is_some, refl, ◌∙◌}
-use Rattle.rv_object.specs.Object.{Object}
+use Rattle.rv_object_types.specs.Object.{Object}
 use Rattle.rv_object_laws.specs.Inputs.{Starts}
 use Rattle.rv_object_laws.specs.Names.{entry_of}
 use Rattle.rv_resolve.specs.Entry.{has_entry}

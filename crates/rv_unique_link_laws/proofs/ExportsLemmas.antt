@@ -3,9 +3,9 @@
 use Rattle.std.proofs.Common.{◌≡◌, ℕ, suc, Bool, true, false, cond, Some, List, [], ◌∷◌}
 use Rattle.std.specs.Prelude.{⊤, filter, bytes_eq, if◌then◌else◌}
 use Rattle.std.specs.List.{AllByRecursion}
-use Rattle.rv_object.specs.declared.symbol.Binding.{Binding}
-use Rattle.rv_object.specs.Object.{Symbol, Object}
-use Rattle.rv_object.specs.Bindings.{is_global, is_weak, is_shared}
+use Rattle.rv_object_types.specs.declared.symbol.Binding.{Binding}
+use Rattle.rv_object_types.specs.Object.{Symbol, Object}
+use Rattle.rv_object_types.specs.Bindings.{is_global, is_weak, is_shared}
 use Rattle.rv_object_laws.specs.Names.{Export, is_export, exports_in, exports_from, exports_where, is_chosen, chosen_exports, candidates, chosen}
 use Rattle.rv_object_laws.proofs.TextInputsLemmas.{all_append}
 use Rattle.rv_resolve.proofs.HeldLemmas.{all_found}

@@ -4,12 +4,11 @@ use Rattle.std.proofs.Common.{◌≡◌, ℕ, ℤ, pos, true, false, List, [], �
 use Rattle.std.specs.Prelude.{◌⊎◌, IsTrue, is_some, unwrap_or}
 use Rattle.std.specs.List.{AllByRecursion}
 use Rattle.rv_isa.specs.Kinds.{is_low_part}
-use Rattle.rv_reloc.specs.declared.fault.PatchFault.TheVariants as patches
 use Rattle.rv_reloc.specs.Ranges.{IsInRange, IsOdd, Takes, Refuses}
-use Rattle.rv_object.specs.Object.{Relocation}
-use Rattle.rv_link.specs.declared.fault.LinkFault.{LinkFault}
-use Rattle.rv_link.specs.declared.fault.LinkFault.TheVariants.{Overflow, OddTarget, DanglingPcrel, AlignmentShort, Undefined, Duplicate, EntryMissing, ImageTooLarge, BadTextStart, TooManyFiles, OutOfMemory}
-use Rattle.rv_link.specs.Fault.{link_fault_number}
+use Rattle.rv_object_types.specs.Object.{Relocation}
+use Rattle.rv_reloc.specs.declared.fault.LinkFault.{LinkFault}
+use Rattle.rv_reloc.specs.declared.fault.LinkFault.TheVariants.{Overflow, OddTarget, DanglingPcrel, AlignmentShort, Undefined, Duplicate, EntryMissing, ImageTooLarge, BadTextStart, TooManyFiles, OutOfMemory}
+use Rattle.rv_reloc.specs.Fault.{link_fault_number}
 use Rattle.rv_link.specs.Untaken.{IsFirst}
 use Rattle.rv_unique_link_laws.specs.Same.{name_in, IsSameFault}
 
@@ -46,8 +45,8 @@ Dangles v r = (is_low_part r.kind ≡ true) × ((v ≡ None) ⊎ (r.addend ≡ p
 
 -- why it is refused, by its value
 abbrev pub IsRefusedFor : LinkFault → Option ℤ → Relocation → Type 0
-IsRefusedFor Overflow v r = (w : ℤ) × HasValue v r w × Refuses r.kind w patches.Overflow
-IsRefusedFor OddTarget v r = (w : ℤ) × HasValue v r w × Refuses r.kind w patches.OddTarget
+IsRefusedFor Overflow v r = (w : ℤ) × HasValue v r w × Refuses r.kind w Overflow
+IsRefusedFor OddTarget v r = (w : ℤ) × HasValue v r w × Refuses r.kind w OddTarget
 IsRefusedFor DanglingPcrel v r = Dangles v r
 IsRefusedFor _ v r = ⊥
 

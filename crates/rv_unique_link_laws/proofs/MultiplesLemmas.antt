@@ -5,8 +5,8 @@ use Rattle.std.specs.Prelude.{IsTrue, if◌then◌else◌}
 use Rattle.std.specs.List.{AllByRecursion}
 use Rattle.std.proofs.Math.Nat.{div-mul-le_self}
 use Rattle.rv_layout_laws.specs.Alignment.{aligned}
-use Rattle.rv_object.specs.Object.{Relocation, Section, Object}
-use Rattle.rv_object.specs.Valid.{is_section_alignment}
+use Rattle.rv_object_types.specs.Object.{Relocation, Section, Object}
+use Rattle.rv_object_types.specs.Valid.{is_section_alignment}
 use Rattle.rv_object_laws.specs.Moves.{full_padding, alignment_of, alignments_of}
 use Rattle.rv_object_laws.specs.Inputs.{InputSection, goes_to_text, inputs, raised, begins_at}
 use Rattle.rv_relax.proofs.AlignedLemmas.{alignments}

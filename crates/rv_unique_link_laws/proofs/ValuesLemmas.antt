@@ -5,9 +5,9 @@ use Rattle.std.specs.Prelude.{option_and_then, unwrap_or, if◌then◌else◌}
 use Rattle.std.specs.List.{AllByRecursion, slice_get}
 use Rattle.rv_isa.specs.Kinds.{is_low_part}
 use Rattle.rv_reloc.specs.Values.{value_of}
-use Rattle.rv_object.specs.declared.symbol.Definition.{Definition}
-use Rattle.rv_object.specs.declared.symbol.Definition.TheVariants as definitions
-use Rattle.rv_object.specs.Object.{Relocation, Section, Symbol, Object}
+use Rattle.rv_object_types.specs.declared.symbol.Definition.{Definition}
+use Rattle.rv_object_types.specs.declared.symbol.Definition.TheVariants as definitions
+use Rattle.rv_object_types.specs.Object.{Relocation, Section, Symbol, Object}
 use Rattle.rv_object_laws.specs.Moves.{moves, new_offset, kept}
 use Rattle.rv_object_laws.specs.Inputs.{Starts, InputSection, start_of, inputs}
 use Rattle.rv_object_laws.specs.Names.{Export, Outer, is_sure, chosen, symbol_address, place_in, shared_place, symbol_place, object_at}

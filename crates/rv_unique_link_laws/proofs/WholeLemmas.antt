@@ -2,12 +2,12 @@
 
 use Rattle.std.proofs.Common.{◌≡◌, ℕ, Bool, List, sym, subst}
 use Rattle.rv_image.specs.Linked.{Linked}
-use Rattle.rv_object.specs.Object.{Object}
+use Rattle.rv_object_types.specs.Object.{Object}
 use Rattle.rv_object_laws.specs.IsLinkOf.{IsLinkOf}
 use Rattle.rv_object_laws.specs.Without.{without}
 use Rattle.rv_object_laws.specs.IsProgramOf.{IsProgramOf}
-use Rattle.rv_link.specs.declared.fault.LinkFault.{LinkFault}
-use Rattle.rv_link.specs.declared.fault.LinkFault.TheVariants.{OutOfMemory}
+use Rattle.rv_reloc.specs.declared.fault.LinkFault.{LinkFault}
+use Rattle.rv_reloc.specs.declared.fault.LinkFault.TheVariants.{OutOfMemory}
 use Rattle.rv_link.specs.Refusals.{IsUnlinked, HasNoProgram}
 use Rattle.rv_unique_link_laws.specs.Asked.{HavePlacedRows, LeavesEven}
 use Rattle.rv_unique_link_laws.specs.Same.{IsSameFault}

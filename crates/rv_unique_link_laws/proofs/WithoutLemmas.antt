@@ -7,9 +7,9 @@ use Rattle.std.proofs.lemmas.Bool.{and_parts, and_from}
 use Rattle.rv_map.specs.declared.map.SectionId.{SectionId}
 use Rattle.rv_collect_laws.specs.Graph.{is_dropped}
 use Rattle.rv_collect_laws.proofs.MarksLemmas.{same_drops}
-use Rattle.rv_object.specs.declared.row.Row.{Row}
-use Rattle.rv_object.specs.Object.{Section, Object}
-use Rattle.rv_object.specs.Valid.{is_section_alignment, fit_inside, are_paddings, is_row_in, are_rows}
+use Rattle.rv_object_types.specs.declared.row.Row.{Row}
+use Rattle.rv_object_types.specs.Object.{Section, Object}
+use Rattle.rv_object_types.specs.Valid.{is_section_alignment, fit_inside, are_paddings, is_row_in, are_rows}
 use Rattle.rv_object_laws.specs.Collects.{graph_of}
 use Rattle.rv_object_laws.specs.IsProgramOf.{Leaves}
 use Rattle.rv_object_laws.specs.Shortened.{Relaxes}

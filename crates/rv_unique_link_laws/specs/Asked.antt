@@ -3,8 +3,8 @@
 use Rattle.std.specs.Prelude.{◌≡◌, ℕ, ◌%◌, Bool, true, IsTrue, List, Some}
 use Rattle.std.specs.List.{AllByRecursion, slice_get}
 use Rattle.rv_map.specs.declared.map.SectionId.{SectionId}
-use Rattle.rv_object.specs.Object.{Object}
-use Rattle.rv_object.specs.Valid.{is_section_alignment, fit_inside, are_paddings, are_rows}
+use Rattle.rv_object_types.specs.Object.{Object}
+use Rattle.rv_object_types.specs.Valid.{is_section_alignment, fit_inside, are_paddings, are_rows}
 use Rattle.rv_object_laws.specs.Inputs.{Starts, goes_to_text, inputs, Stand}
 use Rattle.rv_object_laws.specs.Names.{entry_of}
 use Rattle.rv_object_laws.specs.IsProgramOf.{Leaves}

@@ -3,11 +3,11 @@
 use Rattle.std.specs.Prelude.{◌≡◌, ℕ, Bool, List, []}
 use Rattle.std.specs.List.{AllByRecursion}
 use Rattle.rv_image.specs.Linked.{Linked}
-use Rattle.rv_object.specs.Object.{Object}
+use Rattle.rv_object_types.specs.Object.{Object}
 use Rattle.rv_object_laws.specs.IsProgramOf.{IsProgramOf}
-use Rattle.rv_link.specs.declared.fault.LinkFault.{LinkFault}
-use Rattle.rv_link.specs.declared.fault.LinkFault.TheVariants.{Undefined, Duplicate, OutOfMemory}
-use Rattle.rv_link.specs.Fault.{link_fault_number}
+use Rattle.rv_reloc.specs.declared.fault.LinkFault.{LinkFault}
+use Rattle.rv_reloc.specs.declared.fault.LinkFault.TheVariants.{Undefined, Duplicate, OutOfMemory}
+use Rattle.rv_reloc.specs.Fault.{link_fault_number}
 use Rattle.rv_link.specs.Refusals.{HasNoProgram}
 use Rattle.rv_unique_link_laws.specs.Asked.{HavePlacedRows, LeavesEven, IsSound}
 

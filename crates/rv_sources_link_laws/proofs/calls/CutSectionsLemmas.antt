@@ -16,8 +16,8 @@ use Rattle.rv_unit_laws.specs.declared.section_type.SectionType.{SectionType}
 use Rattle.rv_unit_laws.specs.declared.section_type.SectionType.TheVariants as types
 use Rattle.rv_unit_laws.specs.Sections.{Section as SourceSection, is_nobits_type, is_nobits, goes_to_text as source_text}
 use Rattle.rv_unit_laws.specs.Tables.{Tables, longest_section}
-use Rattle.rv_object.specs.Object.{Progbits, Note, Nobits, Relocation, Section, Symbol, stored}
-use Rattle.rv_object.specs.Valid.{held}
+use Rattle.rv_object_types.specs.Object.{Progbits, Note, Nobits, Relocation, Section, Symbol, stored}
+use Rattle.rv_object_types.specs.Valid.{held}
 use Rattle.rv_object_laws.specs.CallSites.{word_at, link_register as linked_by, inserted_change, in_order}
 use Rattle.rv_object_laws.specs.Inputs.{goes_to_text}
 use Rattle.rv_object_laws.specs.Moves.{Move, dropped, new_offset, kept, lost}

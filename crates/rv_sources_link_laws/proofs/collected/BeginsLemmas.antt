@@ -13,8 +13,8 @@ use Rattle.rv_source_laws.specs.Exports.{defined_name}
 use Rattle.rv_source_laws.specs.Program as source
 use Rattle.rv_source_laws.specs.Resolves.{is_label}
 use Rattle.rv_source_laws.specs.Collected.{home_of, entry_home, is_in}
-use Rattle.rv_object.specs.declared.symbol.Definition.TheVariants.{InSection}
-use Rattle.rv_object.specs.Object.{Section, Object}
+use Rattle.rv_object_types.specs.declared.symbol.Definition.TheVariants.{InSection}
+use Rattle.rv_object_types.specs.Object.{Section, Object}
 use Rattle.rv_object_laws.specs.Names as objects
 use Rattle.rv_object_laws.specs.Names.{Place, is_in_text, can_begin, place_in}
 use Rattle.rv_object_laws.specs.Collects.{run_place, lies_in}

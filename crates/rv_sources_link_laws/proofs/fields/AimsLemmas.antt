@@ -9,7 +9,7 @@ use Rattle.rv_source_laws.specs.Located.{Located, has_row}
 use Rattle.rv_source_laws.specs.Program.{Program}
 use Rattle.rv_source_laws.specs.Fits as source
 use Rattle.rv_source_laws.specs.Shortened.{Placed}
-use Rattle.rv_object.specs.Object.{size_of}
+use Rattle.rv_object_types.specs.Object.{size_of}
 use Rattle.rv_object_laws.specs.CallSites.{start_padding, base_in}
 use Rattle.rv_object_laws.specs.Inputs.{Starts, InputSection}
 use Rattle.rv_object_laws.specs.Shortened.{Sizes}

@@ -12,7 +12,7 @@ use Rattle.rv_unit_laws.specs.Tables.{Tables}
 use Rattle.rv_map.specs.Limits.{IsGlobal}
 use Rattle.rv_source_laws.specs.Program.{Program, tables_in, address_at}
 use Rattle.rv_source_laws.proofs.HomesLemmas.{all_filter}
-use Rattle.rv_object.specs.Object.{Relocation, Section, Object}
+use Rattle.rv_object_types.specs.Object.{Relocation, Section, Object}
 use Rattle.rv_object_laws.specs.Moves.{alignments_of, moves, new_offset}
 use Rattle.rv_object_laws.specs.Inputs.{Starts, InputSection}
 use Rattle.rv_object_laws.specs.Values.{target, value, IsRelocated}

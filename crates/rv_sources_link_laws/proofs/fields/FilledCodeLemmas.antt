@@ -26,7 +26,7 @@ use Rattle.rv_source_laws.specs.Located.{has_row}
 use Rattle.rv_source_laws.specs.Program.{Mapped, Program, tables_in, address_at, home_address, own_address, own_value as own_value_in_map, in_operand, have_values, has_value, has_values, address as address_in, number as number_of, value as value_in_map}
 use Rattle.rv_source_laws.specs.Fits.{IsPaired}
 use Rattle.rv_source_laws.specs.Lines.{other_operand, operand_of, operand_number, operand_value, field_value, distance, pair_of, pair_distance, label_section, upper_at, statement_section}
-use Rattle.rv_object.specs.Object.{Section, Object}
+use Rattle.rv_object_types.specs.Object.{Section, Object}
 use Rattle.rv_object_laws.specs.Moves.{alignments_of}
 use Rattle.rv_object_laws.specs.Inputs.{Starts}
 use Rattle.rv_object_laws.specs.Values.{value, IsRelocated}

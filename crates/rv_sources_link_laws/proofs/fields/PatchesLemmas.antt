@@ -12,7 +12,7 @@ use Rattle.rv_isa_laws.specs.Bytes.{little_endian, number_in, zeros}
 use Rattle.rv_reloc.specs.Fields.{patched, written as field_written}
 use Rattle.rv_text_laws.specs.Expression.{Primary}
 use Rattle.rv_text_laws.specs.Values.{Meaning, Constant, Symbolic, Difference, Faulty, add, subtract}
-use Rattle.rv_object.specs.Object.{Relocation}
+use Rattle.rv_object_types.specs.Object.{Relocation}
 use Rattle.rv_source_laws.specs.Program.{resolved}
 use Rattle.rv_assemble_laws.specs.Templates.{Template, Fixed, Datum, Coded, Open, opened, template_fields, IsTemplate, IsWide, IsWidth}
 use Rattle.rv_assemble_laws.specs.LaidStatements.{LaidPart, laid_part, part_bytes}

@@ -13,7 +13,7 @@ use Rattle.rv_source_laws.specs.Fits as source
 use Rattle.rv_source_laws.specs.Sized.{statement_size}
 use Rattle.rv_source_laws.specs.Shortened as line
 use Rattle.rv_source_laws.specs.Shortened.{is_call_statement, Placed, full_size, full_length, placed_from, text_from, HaveBytes}
-use Rattle.rv_object.specs.Object.{size_of}
+use Rattle.rv_object_types.specs.Object.{size_of}
 use Rattle.rv_object_laws.specs.CallSites.{start_padding, base_in}
 use Rattle.rv_object_laws.specs.Inputs.{Starts, InputSection, begins_at}
 use Rattle.rv_object_laws.specs.Shortened.{Sizes}

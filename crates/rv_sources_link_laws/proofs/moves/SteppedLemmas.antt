@@ -8,8 +8,8 @@ use Rattle.std.specs.List.{AllByRecursion}
 use Rattle.rv_layout_laws.specs.Alignment.{aligned}
 use Rattle.rv_unit_laws.specs.Sections.{Section as SourceSection}
 use Rattle.rv_unit_laws.specs.Tables.{Tables}
-use Rattle.rv_object.specs.Object.{Relocation}
-use Rattle.rv_object.specs.Padding.{no_operations}
+use Rattle.rv_object_types.specs.Object.{Relocation}
+use Rattle.rv_object_types.specs.Padding.{no_operations}
 use Rattle.rv_object_laws.specs.Moves.{Move, new_offset, kept, has_padding, alignment_of, plan}
 use Rattle.rv_object_laws.specs.Inputs.{raised}
 use Rattle.rv_assemble_laws.specs.Templates.{Fixed, Open, template_fields}

@@ -12,8 +12,8 @@ use Rattle.rv_source_laws.specs.Exports.{defined_name}
 use Rattle.rv_source_laws.specs.Program as source
 use Rattle.rv_source_laws.specs.Program.{Program, address_of}
 use Rattle.rv_source_laws.specs.Resolves.{is_label, run_start}
-use Rattle.rv_object.specs.declared.symbol.Definition.TheVariants.{InSection}
-use Rattle.rv_object.specs.Object.{Object}
+use Rattle.rv_object_types.specs.declared.symbol.Definition.TheVariants.{InSection}
+use Rattle.rv_object_types.specs.Object.{Object}
 use Rattle.rv_object_laws.specs.Inputs.{Starts}
 use Rattle.rv_object_laws.specs.Names as objects
 use Rattle.rv_object_laws.specs.Names.{defined_address, is_in_text, can_begin}

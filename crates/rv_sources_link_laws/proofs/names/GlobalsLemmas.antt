@@ -14,8 +14,8 @@ use Rattle.rv_source_laws.specs.Program as source
 use Rattle.rv_source_laws.specs.Program.{Program, tables_in, address_of, home_address}
 use Rattle.rv_source_laws.specs.Resolves as resolves
 use Rattle.rv_source_laws.specs.Resolves.{set_address, export_address}
-use Rattle.rv_object.specs.declared.symbol.Definition.TheVariants.{InSection}
-use Rattle.rv_object.specs.Object.{Object}
+use Rattle.rv_object_types.specs.declared.symbol.Definition.TheVariants.{InSection}
+use Rattle.rv_object_types.specs.Object.{Object}
 use Rattle.rv_object_laws.specs.Inputs.{Starts}
 use Rattle.rv_object_laws.specs.Names as objects
 use Rattle.rv_object_laws.specs.Names.{defined_address, offset_address}

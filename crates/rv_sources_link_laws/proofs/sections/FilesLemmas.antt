@@ -12,7 +12,7 @@ use Rattle.rv_source_laws.specs.Located.{has_row, left, masked, located_now, loc
 use Rattle.rv_source_laws.specs.Program.{Program, program, tables_in, address_at, mapped_of, mapped_statements}
 use Rattle.rv_source_laws.specs.Lines.{statement_section}
 use Rattle.rv_source_laws.specs.Fits.{mapped_in}
-use Rattle.rv_object.specs.Object.{Section, Symbol, Object}
+use Rattle.rv_object_types.specs.Object.{Section, Symbol, Object}
 use Rattle.rv_object_laws.specs.Moves.{alignments_of, plan}
 use Rattle.rv_object_laws.specs.Inputs.{Starts}
 use Rattle.rv_object_laws.specs.Rising.{Rise}

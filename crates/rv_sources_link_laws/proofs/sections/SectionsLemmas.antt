@@ -18,7 +18,7 @@ use Rattle.rv_map.specs.declared.map.Row.{Row as MapRow}
 use Rattle.rv_source_laws.specs.Program.{Mapped, Program, tables_in, address_by, resolved, number as number_of}
 use Rattle.rv_source_laws.specs.Start.{spelled_said}
 use Rattle.rv_source_laws.proofs.HeldLemmas.{IsHeld}
-use Rattle.rv_object.specs.Object.{Relocation}
+use Rattle.rv_object_types.specs.Object.{Relocation}
 use Rattle.rv_object_laws.specs.Inputs.{Starts}
 use Rattle.rv_sources_link_laws.proofs.statements.MarkedLemmas.{part_fields}
 use Rattle.rv_assemble_laws.specs.Templates.{Datum, Open, IsTemplate, HasField, template_fields, value_fields}
@@ -30,7 +30,7 @@ use Rattle.rv_sources_link_laws.proofs.statements.CodingLemmas.{coded_bytes}
 use Rattle.rv_sources_link_laws.proofs.statements.StatementsLemmas.{mapped_at}
 use Rattle.rv_sources_link_laws.proofs.statements.SettledLemmas.{IsPlacedKind}
 use Rattle.rv_sources_link_laws.proofs.statements.SuitsLemmas as suits
-use Rattle.rv_object.specs.Padding.{no_operations, operations_in}
+use Rattle.rv_object_types.specs.Padding.{no_operations, operations_in}
 use Rattle.rv_sources_link_laws.proofs.moves.ShrunkLemmas.{padding_templates, IsPaddedIn, parts_of, parts, Tile, shrunk_templates, HasShrunkSize}
 
 -- ---- lists

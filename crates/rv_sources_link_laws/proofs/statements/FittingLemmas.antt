@@ -33,7 +33,7 @@ use Rattle.rv_assemble_laws.specs.Templates.{Open as OpenField}
 use Rattle.rv_sources_link_laws.proofs.statements.CodingLemmas.{coded_bytes, AreFilledParts, all_few, lines_of, lines_lie, lines_sized, lines_encoded, lines_say, closed_say, lines_valid, lines_counted, lines_taken, closed_taken, lines_whole}
 use Rattle.rv_source_laws.specs.Fits.{needs_no_padding}
 use Rattle.rv_source_laws.proofs.HeldLemmas.{IsHeld, DirectiveHeld}
-use Rattle.rv_object.specs.Padding.{no_operations}
+use Rattle.rv_object_types.specs.Padding.{no_operations}
 use Rattle.rv_sources_link_laws.proofs.statements.QuietLemmas.{formed}
 use Rattle.rv_sources_link_laws.proofs.statements.NopsLemmas.{padding_row, padding_lines, padding_said, padding_lies, padding_sized, padding_encoded}
 use Rattle.rv_sources_link_laws.proofs.statements.SuitsLemmas.{IsMultiple, SuitsPadding, SuitsDirective, Suits, directive_said, code_said}

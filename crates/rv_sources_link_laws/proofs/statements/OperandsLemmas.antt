@@ -16,7 +16,7 @@ use Rattle.rv_reloc.specs.Values.{value_of}
 use Rattle.rv_source_laws.specs.Lines.{constant_of, other_operand, distance}
 use Rattle.rv_source_laws.specs.Program.{resolved}
 use Rattle.rv_source_laws.proofs.HeldLemmas.{none_left, no_test}
-use Rattle.rv_object.specs.Object.{Section, Object}
+use Rattle.rv_object_types.specs.Object.{Section, Object}
 use Rattle.rv_object_laws.specs.Moves.{alignments_of, moves, new_offset}
 use Rattle.rv_object_laws.specs.Inputs.{Starts}
 use Rattle.rv_object_laws.specs.Names.{Outer}

@@ -1,7 +1,7 @@
 use Rattle.std.proofs.Common.{◌≡◌, ◌<◌, ◌^◌, ℕ, length, map, sym, ap, ◌∙◌, subst}
 use Rattle.std.specs.List.{AllByRecursion}
 use Rattle.rv_unit.specs.Unit.{said}
-use Rattle.rv_object.specs.Sections.{section_of}
+use Rattle.rv_object_types.specs.Sections.{section_of}
 use Rattle.rv_draft.specs.declared.field.OpenField.{OpenField}
 use Rattle.rv_draft.specs.Draft.{field_of}
 use Rattle.rv_assemble.specs.Lists.{list_in}
@@ -19,7 +19,7 @@ pub relocations-requires-clause-inside : goal.relocations-requires-clause-inside
 relocations-requires-clause-inside c =
     subst (λ fs. AllByRecursion (λ (f : OpenField). f.section < length c.sections-extents.result.now) fs) (sym c.as_slice-3.ensures.value)
     (subst (λ n. AllByRecursion (λ (f : OpenField). f.section < n) c.args.draft.fields.items) (ap length (sym c.sections-extents.ensures))
-    (inside c.args.unit c.args.draft c.args.table c.requires.filled c.requires.good c.requires.kept c.requires.draft c.requires.table))
+    (inside c.args.unit c.args.draft c.args.table c.args.unit.filled c.requires.good c.requires.kept c.requires.draft c.requires.table))
 
 pub rows-requires : goal.rows-requires
 rows-requires c =
@@ -40,7 +40,7 @@ sections-requires-clause-makeable c =
     ∙ ap (λ l. relocations_in j fs l) made_of in
     subst (λ es. AllByRecursion IsMakeable (sections_by es c.as_slice-5.result.now d.sections.items lists)) (sym c.sections-extents.ensures)
     (subst (λ ns. AllByRecursion IsMakeable (sections_by u.tables.extents.items ns d.sections.items lists)) (sym c.as_slice-5.ensures.value)
-    (makeable u d x c.requires.filled c.requires.good c.requires.kept c.requires.draft c.requires.table lists counted listed))
+    (makeable u d x c.args.unit.filled c.requires.good c.requires.kept c.requires.draft c.requires.table lists counted listed))
 
 pub invariant_of-result : goal.invariant_of-result
 invariant_of-result c =
@@ -62,9 +62,9 @@ invariant_of-result c =
     let rows = c.in_ok-rows.rows.items in
     let listed_rows : rows ≡ rows_from 1 d.items.items = c.in_ok-rows.ensures.made in
     record {
-      indexed = indexed u d x c.requires.filled c.requires.good c.requires.kept c.requires.draft c.requires.table lists counted listed sections rows made listed_rows;
-      defined = defined u d x c.requires.filled c.requires.good c.requires.kept c.requires.draft c.requires.table lists counted listed sections rows made listed_rows;
-      lie = lie u d x c.requires.filled c.requires.good c.requires.kept c.requires.draft c.requires.table lists counted listed sections rows made listed_rows;
+      indexed = indexed u d x c.args.unit.filled c.requires.good c.requires.kept c.requires.draft c.requires.table lists counted listed sections rows made listed_rows;
+      defined = defined u d x c.args.unit.filled c.requires.good c.requires.kept c.requires.draft c.requires.table lists counted listed sections rows made listed_rows;
+      lie = lie u d x c.args.unit.filled c.requires.good c.requires.kept c.requires.draft c.requires.table lists counted listed sections rows made listed_rows;
       counted = c.in_ok-rows.ensures.counted;
     }
 
@@ -87,4 +87,4 @@ returns c =
     ∙ ap (λ ns. sections_by u.tables.extents.items ns d.sections.items lists) c.as_slice-5.ensures.value in
     let rows = c.in_ok-rows.rows.items in
     let listed_rows : rows ≡ rows_from 1 d.items.items = c.in_ok-rows.ensures.made in
-    is_object u d x c.requires.filled c.requires.good c.requires.kept c.requires.draft c.requires.table lists counted listed sections rows made listed_rows
+    is_object u d x c.args.unit.filled c.requires.good c.requires.kept c.requires.draft c.requires.table lists counted listed sections rows made listed_rows

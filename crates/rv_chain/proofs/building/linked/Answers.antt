@@ -2,7 +2,7 @@ use Rattle.std.proofs.Common.{◌≡◌, length, map, sym, subst}
 use Rattle.std.proofs.lemmas.List.{length-map}
 use Rattle.rv_statement.specs.View.{now_of}
 use Rattle.rv_image.specs.Linked.{linked_of}
-use Rattle.rv_object.specs.View.{object_of}
+use Rattle.rv_object_types.specs.View.{object_of}
 use Rattle.rv_link.specs.Refusals.{AreWithin, HasNoProgram}
 use Rattle.rv_link.specs.Details.{IsProgramWith}
 use Rattle.rv_chain.specs.Refusals.{AreUnlinked, IsRefusedFor}

@@ -1,7 +1,7 @@
 use Rattle.std.proofs.Common.{◌≡◌, ◌<◌, ◌∷◌, [], ◌++◌, length, map, take, get_or, sym, subst, ◌+◌, ℕ, List, rules, arith}
 use Rattle.std.proofs.lemmas.List.{length-map, map-append}
 use Rattle.rv_statement.specs.View.{now_of}
-use Rattle.rv_object.specs.View.{object_of}
+use Rattle.rv_object_types.specs.View.{object_of}
 use Rattle.rv_chain.specs.Objects.{IsObjectFrom, AreObjectsFrom}
 use Rattle.rv_chain.specs.Refusals.{IsRefusedAt, IsRefusedIn}
 use Rattle.rv_chain.proofs.GatheredLemmas.{err_given, one_more, refused_in, source_at, take_one_more}

@@ -1,6 +1,6 @@
 use Rattle.std.proofs.Common.{◌<◌, ◌++◌, ◌∷◌, ◌+◌, ◌∙◌, ℕ, [], Bool, length, map, drop, rules, ap}
 use Rattle.std.specs.Prelude.{if◌then◌else◌}
-use Rattle.rv_object.specs.Sections.{section_of}
+use Rattle.rv_object_types.specs.Sections.{section_of}
 use Rattle.rv_collect.specs.Drops.{drops_in, dropped_from, id_at}
 use Rattle.rv_collect.proofs.DropsLemmas.{dropped_one}
 use Rattle.rv_collect.proofs.LeftLemmas.{some_more}

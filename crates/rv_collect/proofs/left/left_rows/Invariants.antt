@@ -1,6 +1,6 @@
 -- The rows so far, with those that come, are all that stay.
 use Rattle.std.proofs.Common.{◌≡◌, ◌++◌, not, filter, map, drop}
-use Rattle.rv_object.specs.Sections.{section_of}
+use Rattle.rv_object_types.specs.Sections.{section_of}
 use Rattle.rv_collect.specs.Drops.{drops_in}
 use Rattle.rv_collect.proofs.left.left_rows.Given as goal
 

@@ -1,6 +1,6 @@
 use Rattle.std.proofs.Common.{◌++◌, ◌∷◌, ◌+◌, ◌∙◌, [], map, drop, ap}
 use Rattle.std.proofs.lemmas.List.{map_push}
-use Rattle.rv_object.specs.Parts.{symbol_of}
+use Rattle.rv_object_types.specs.Parts.{symbol_of}
 use Rattle.rv_collect.proofs.LeftLemmas.{left}
 use Rattle.rv_collect.proofs.LeftLemmas.{one_more}
 use Rattle.rv_collect.proofs.left.same_symbols.Goals as goal

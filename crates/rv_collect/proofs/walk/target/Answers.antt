@@ -2,8 +2,8 @@ use Rattle.std.proofs.Common.{◌≡◌, ◌+◌, ◌∙◌, suc, Some, length, 
 use Rattle.std.specs.Prelude.{option_and_then}
 use Rattle.std.specs.List.{slice_get}
 use Rattle.std.proofs.lemmas.Option.{slice_get-map, slice_get_read}
-use Rattle.rv_object.specs.Parts.{symbol_of}
-use Rattle.rv_object.specs.View.{object_of}
+use Rattle.rv_object_types.specs.Parts.{symbol_of}
+use Rattle.rv_object_types.specs.View.{object_of}
 use Rattle.rv_object_laws.specs.Names.{symbol_place}
 use Rattle.rv_collect.proofs.walk.target.Goals as goal
 

@@ -31,7 +31,7 @@ bounds-places-index c =
     let u = c.args.unit.now in
     let i = c.loop-index.index in
     let inside : i < length (said u) = subst (λ n. i < n) (c.len-index-end.ensures ∙ ap (λ l. length (statements_of l)) c.statements-statements.ensures) c.loop-index-test.true in
-    let inside' = subst (λ n. i < n) (sym (places_count u c.requires.filled)) inside in
+    let inside' = subst (λ n. i < n) (sym (places_count u c.args.unit.now.filled)) inside in
     subst (λ l. i < length l) (sym c.places-places.ensures) inside'
 
 pub read-requires : goal.read-requires
@@ -45,10 +45,10 @@ add-requires c =
     let p : SectionOffset = slice_index_or c.places-places.result.now i (record { section = 0; offset = 0 }) in
     let inside : i < length (said u) = subst (λ n. i < n) (c.len-index-end.ensures ∙ ap (λ l. length (statements_of l)) c.statements-statements.ensures) c.loop-index-test.true in
     let is : slice_get (said u) i ≡ Some x = subst (λ l. slice_get (statements_of l) i ≡ Some x) c.statements-statements.ensures c.read.ensures in
-    let at : StandsAt u i x p = stands_at u i x (record { section = 0; offset = 0 }) p c.requires.filled is (ap (λ l. get_or l i (record { section = 0; offset = 0 })) c.places-places.ensures) in
+    let at : StandsAt u i x p = stands_at u i x (record { section = 0; offset = 0 }) p c.args.unit.now.filled is (ap (λ l. get_or l i (record { section = 0; offset = 0 })) c.places-places.ensures) in
     let stands = got_inside (map extent_section u.tables.extents.items) p.section (located_at (said u) i x).home at.home in
     let on : c.rvc-compressed.result ≡ (located_at (said u) i x).options.rvc =
-    c.rvc-compressed.ensures ∙ ap (λ (o : Options). o.rvc) (c.options_at.ensures c.requires.filled inside) in
+    c.rvc-compressed.ensures ∙ ap (λ (o : Options). o.rvc) (c.options_at.ensures inside) in
     let all = located_from 1 1 (at_start (said u)) (said u) in
     let told = size_here (tables (said u)) all c.args.layout.now.sizes.items i (located_at (said u) i x) (drop (i + 1) all) c.requires.sizes at.next in
     record {
@@ -72,7 +72,7 @@ extent_at-extent-requires c =
     let p : SectionOffset = slice_index_or c.places-places.result.now i (record { section = 0; offset = 0 }) in
     let inside : i < length (said u) = subst (λ n. i < n) (c.len-index-end.ensures ∙ ap (λ l. length (statements_of l)) c.statements-statements.ensures) c.loop-index-test.true in
     let stands : p.section < length u.tables.extents.items =
-    place_inside u i (record { section = 0; offset = 0 }) p c.requires.filled inside (ap (λ l. get_or l i (record { section = 0; offset = 0 })) c.places-places.ensures) in
+    place_inside u i (record { section = 0; offset = 0 }) p c.args.unit.now.filled inside (ap (λ l. get_or l i (record { section = 0; offset = 0 })) c.places-places.ensures) in
     subst (λ l. p.section < length l) (sym c.sections-extents.ensures) stands
 
 pub loop-index-preserved : goal.loop-index-preserved
@@ -83,16 +83,16 @@ loop-index-preserved c =
     let p : SectionOffset = slice_index_or c.places-places.result.now i (record { section = 0; offset = 0 }) in
     let inside : i < length (said u) = subst (λ n. i < n) (c.len-index-end.ensures ∙ ap (λ l. length (statements_of l)) c.statements-statements.ensures) c.loop-index-test.true in
     let is : slice_get (said u) i ≡ Some x = subst (λ l. slice_get (statements_of l) i ≡ Some x) c.statements-statements.ensures c.read.ensures in
-    let at : StandsAt u i x p = stands_at u i x (record { section = 0; offset = 0 }) p c.requires.filled is (ap (λ l. get_or l i (record { section = 0; offset = 0 })) c.places-places.ensures) in
+    let at : StandsAt u i x p = stands_at u i x (record { section = 0; offset = 0 }) p c.args.unit.now.filled is (ap (λ l. get_or l i (record { section = 0; offset = 0 })) c.places-places.ensures) in
     let e = c.extent_at-extent.result in
     let there : IsExtentAt u.tables.extents.items p.section e = subst (λ l. IsExtentAt l p.section e) c.sections-extents.ensures c.extent_at-extent.ensures in
     let rvc = c.rvc-compressed.result in
     let same = c.loop-index.invariant.0 in
-    let filled = subst IsFilled (sym same) c.requires.filled in
+    let filled = subst IsFilled (sym same) c.args.unit.now.filled in
     let faults = faults_in (tables (said u)) (i + 1) (offset_of p) x in
     let known = faults_there u i x p at in
     let on : rvc ≡ (located_at (said u) i x).options.rvc =
-    c.rvc-compressed.ensures ∙ ap (λ (o : Options). o.rvc) (c.options_at.ensures c.requires.filled inside) in
+    c.rvc-compressed.ensures ∙ ap (λ (o : Options). o.rvc) (c.options_at.ensures inside) in
     let t = tables (said u) in
     let all = located_from 1 1 (at_start (said u)) (said u) in
     let st = located_at (said u) i x in
@@ -127,12 +127,12 @@ returns-in_err-add-clause-code c =
     let p : SectionOffset = slice_index_or c.places-places.result.now i (record { section = 0; offset = 0 }) in
     let inside : i < length (said u) = subst (λ n. i < n) (c.len-index-end.ensures ∙ ap (λ l. length (statements_of l)) c.statements-statements.ensures) c.loop-index-test.true in
     let is : slice_get (said u) i ≡ Some x = subst (λ l. slice_get (statements_of l) i ≡ Some x) c.statements-statements.ensures c.read.ensures in
-    let at : StandsAt u i x p = stands_at u i x (record { section = 0; offset = 0 }) p c.requires.filled is (ap (λ l. get_or l i (record { section = 0; offset = 0 })) c.places-places.ensures) in
+    let at : StandsAt u i x p = stands_at u i x (record { section = 0; offset = 0 }) p c.args.unit.now.filled is (ap (λ l. get_or l i (record { section = 0; offset = 0 })) c.places-places.ensures) in
     let e = c.extent_at-extent.result in
     let there : IsExtentAt u.tables.extents.items p.section e = subst (λ l. IsExtentAt l p.section e) c.sections-extents.ensures c.extent_at-extent.ensures in
     let rvc = c.rvc-compressed.result in
     let same = c.loop-index.invariant.0 in
-    let filled = subst IsFilled (sym same) c.requires.filled in
+    let filled = subst IsFilled (sym same) c.args.unit.now.filled in
     let faults = faults_in (tables (said u)) (i + 1) (offset_of p) x in
     let known = faults_there u i x p at in
     let wrong =

@@ -19,7 +19,7 @@ bounds-places-index c =
     let u = c.args.unit.now in
     let i = c.loop-index.index in
     let inside : i < length (said u) = subst (λ n. i < n) (c.len-index-end.ensures ∙ ap (λ l. length (statements_of l)) c.statements-statements.ensures) c.loop-index-test.true in
-    let inside' = subst (λ n. i < n) (sym (places_count u c.requires)) inside in
+    let inside' = subst (λ n. i < n) (sym (places_count u c.args.unit.now.filled)) inside in
     subst (λ l. i < length l) (sym c.places-places.ensures) inside'
 
 pub extent_at-extent-requires : goal.extent_at-extent-requires
@@ -29,7 +29,7 @@ extent_at-extent-requires c =
     let p : SectionOffset = slice_index_or c.places-places.result.now i (record { section = 0; offset = 0 }) in
     let inside : i < length (said u) = subst (λ n. i < n) (c.len-index-end.ensures ∙ ap (λ l. length (statements_of l)) c.statements-statements.ensures) c.loop-index-test.true in
     let stands : p.section < length u.tables.extents.items =
-    place_inside u i (record { section = 0; offset = 0 }) p c.requires inside (ap (λ l. get_or l i (record { section = 0; offset = 0 })) c.places-places.ensures) in
+    place_inside u i (record { section = 0; offset = 0 }) p c.args.unit.now.filled inside (ap (λ l. get_or l i (record { section = 0; offset = 0 })) c.places-places.ensures) in
     subst (λ l. p.section < length l) (sym c.sections-extents.ensures) stands
 
 pub read-statement-requires : goal.read-statement-requires
@@ -43,11 +43,11 @@ returns-then-is_compressed c =
     let p : SectionOffset = slice_index_or c.places-places.result.now i (record { section = 0; offset = 0 }) in
     let inside : i < length (said u) = subst (λ n. i < n) (c.len-index-end.ensures ∙ ap (λ l. length (statements_of l)) c.statements-statements.ensures) c.loop-index-test.true in
     let is : slice_get (said u) i ≡ Some x = subst (λ l. slice_get (statements_of l) i ≡ Some x) c.statements-statements.ensures c.read-statement.ensures in
-    let at : StandsAt u i x p = stands_at u i x (record { section = 0; offset = 0 }) p c.requires is (ap (λ l. get_or l i (record { section = 0; offset = 0 })) c.places-places.ensures) in
+    let at : StandsAt u i x p = stands_at u i x (record { section = 0; offset = 0 }) p c.args.unit.now.filled is (ap (λ l. get_or l i (record { section = 0; offset = 0 })) c.places-places.ensures) in
     let e = c.extent_at-extent.result in
     let there : IsExtentAt u.tables.extents.items p.section e = subst (λ l. IsExtentAt l p.section e) c.sections-extents.ensures c.extent_at-extent.ensures in
     let on : c.rvc-compressed.result ≡ (located_at (said u) i x).options.rvc =
-    c.rvc-compressed.ensures ∙ ap (λ (o : Options). o.rvc) (c.options_at.ensures c.requires inside) in
+    c.rvc-compressed.ensures ∙ ap (λ (o : Options). o.rvc) (c.options_at.ensures inside) in
     decided (said u) i (located_at (said u) i x) at.next c.loop-index.invariant
     (sym c.if-is_compressed.true ∙ c.is_compressed.ensures ∙ compressed_as u i c.read-statement.result.now p e c.rvc-compressed.result at there on)
 
@@ -59,11 +59,11 @@ loop-index-preserved c =
     let p : SectionOffset = slice_index_or c.places-places.result.now i (record { section = 0; offset = 0 }) in
     let inside : i < length (said u) = subst (λ n. i < n) (c.len-index-end.ensures ∙ ap (λ l. length (statements_of l)) c.statements-statements.ensures) c.loop-index-test.true in
     let is : slice_get (said u) i ≡ Some x = subst (λ l. slice_get (statements_of l) i ≡ Some x) c.statements-statements.ensures c.read-statement.ensures in
-    let at : StandsAt u i x p = stands_at u i x (record { section = 0; offset = 0 }) p c.requires is (ap (λ l. get_or l i (record { section = 0; offset = 0 })) c.places-places.ensures) in
+    let at : StandsAt u i x p = stands_at u i x (record { section = 0; offset = 0 }) p c.args.unit.now.filled is (ap (λ l. get_or l i (record { section = 0; offset = 0 })) c.places-places.ensures) in
     let e = c.extent_at-extent.result in
     let there : IsExtentAt u.tables.extents.items p.section e = subst (λ l. IsExtentAt l p.section e) c.sections-extents.ensures c.extent_at-extent.ensures in
     let on : c.rvc-compressed.result ≡ (located_at (said u) i x).options.rvc =
-    c.rvc-compressed.ensures ∙ ap (λ (o : Options). o.rvc) (c.options_at.ensures c.requires inside) in
+    c.rvc-compressed.ensures ∙ ap (λ (o : Options). o.rvc) (c.options_at.ensures inside) in
     left_to_others (said u) i (located_at (said u) i x) at.next c.loop-index.invariant
     (sym c.if-is_compressed.false ∙ c.is_compressed.ensures ∙ compressed_as u i c.read-statement.result.now p e c.rvc-compressed.result at there on)
 

@@ -24,7 +24,6 @@ put_next-requires c =
     let inside : i < length (said u) = subst (λ n. i < n) (c.len-index-end.ensures ∙ ap (λ l. length (statements_of l)) c.statements-statements.ensures) c.loop-index-test.true in
     let is : slice_get (said u) i ≡ Some x = subst (λ l. slice_get (statements_of l) i ≡ Some x) c.statements-statements.ensures c.read.ensures in
     record {
-      filled = c.requires.filled;
       within = inside;
       said = is;
       few = c.requires.few;

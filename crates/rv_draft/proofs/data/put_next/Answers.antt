@@ -23,7 +23,7 @@ pub bounds-places-index : goal.bounds-places-index
 bounds-places-index c =
     let u = c.args.unit.now in
     let i = c.args.index in
-    let inside = subst (λ n. i < n) (sym (places_count u c.requires.filled)) c.requires.within in
+    let inside = subst (λ n. i < n) (sym (places_count u c.args.unit.now.filled)) c.requires.within in
     subst (λ l. i < length l) (sym c.places.ensures) inside
 
 pub bounds-sections-place : goal.bounds-sections-place
@@ -32,7 +32,7 @@ bounds-sections-place c =
     let i = c.args.index in
     let x = statement_of c.args.statement.now in
     let p : SectionOffset = slice_index_or c.places.result.now i (record { section = 0; offset = 0 }) in
-    let at : StandsAt u i x p = stands_at u i x (record { section = 0; offset = 0 }) p c.requires.filled c.requires.said (ap (λ l. get_or l i (record { section = 0; offset = 0 })) c.places.ensures) in
+    let at : StandsAt u i x p = stands_at u i x (record { section = 0; offset = 0 }) p c.args.unit.now.filled c.requires.said (ap (λ l. get_or l i (record { section = 0; offset = 0 })) c.places.ensures) in
     let stands = got_inside (map extent_section u.tables.extents.items) p.section (located_at (said u) i x).home at.home in
     subst (λ n. p.section < n) (length-map u.tables.extents.items extent_section ∙ sym (ap length c.sections.ensures)) stands
 
@@ -44,7 +44,7 @@ put_statement-requires c =
     let p : SectionOffset = slice_index_or c.places.result.now i (record { section = 0; offset = 0 }) in
     let none : Item = record { section = 0; offset = 0; bytes = 0; line = 0; shown = false; instructions = 0 } in
     let item : Item = slice_index_or c.args.items.now i none in
-    let at : StandsAt u i x p = stands_at u i x (record { section = 0; offset = 0 }) p c.requires.filled c.requires.said (ap (λ l. get_or l i (record { section = 0; offset = 0 })) c.places.ensures) in
+    let at : StandsAt u i x p = stands_at u i x (record { section = 0; offset = 0 }) p c.args.unit.now.filled c.requires.said (ap (λ l. get_or l i (record { section = 0; offset = 0 })) c.places.ensures) in
     let stands = got_inside (map extent_section u.tables.extents.items) p.section (located_at (said u) i x).home at.home in
     record {
       room = room_for (said u) c.args.items.now i x item c.requires.laid at.here (drop_more c.args.items.now i none c.requires.item);
@@ -63,13 +63,13 @@ put_code-requires c =
     let p : SectionOffset = slice_index_or c.places.result.now i (record { section = 0; offset = 0 }) in
     let none : Item = record { section = 0; offset = 0; bytes = 0; line = 0; shown = false; instructions = 0 } in
     let item : Item = slice_index_or c.args.items.now i none in
-    let at : StandsAt u i x p = stands_at u i x (record { section = 0; offset = 0 }) p c.requires.filled c.requires.said (ap (λ l. get_or l i (record { section = 0; offset = 0 })) c.places.ensures) in
+    let at : StandsAt u i x p = stands_at u i x (record { section = 0; offset = 0 }) p c.args.unit.now.filled c.requires.said (ap (λ l. get_or l i (record { section = 0; offset = 0 })) c.places.ensures) in
     let next = drop_more c.args.items.now i none c.requires.item in
-    let options = c.options_at-options.ensures c.requires.filled c.requires.within in
+    let options = c.options_at-options.ensures c.requires.within in
     let all = located_from 1 1 (at_start ss) ss in
     record {
       fits = item_low ss c.args.items.now i x item c.requires.laid at.here next;
-      made = made_spot _ u i x c.rvc.result item.bytes c.requires.same c.requires.filled c.requires.next at (c.rvc.ensures ∙ ap (λ (o : Options). o.rvc) options)
+      made = made_spot _ u i x c.rvc.result item.bytes c.requires.same c.args.unit.now.filled c.requires.next at (c.rvc.ensures ∙ ap (λ (o : Options). o.rvc) options)
           (made_left (tables ss) all c.args.items.now i (located_at ss i x) (drop (i + 1) all) item (drop (i + 1) c.args.items.now) c.requires.made at.next next);
     }
 
@@ -82,17 +82,17 @@ returns-then-extent-clause-data c =
     let p : SectionOffset = slice_index_or c.places.result.now i (record { section = 0; offset = 0 }) in
     let none : Item = record { section = 0; offset = 0; bytes = 0; line = 0; shown = false; instructions = 0 } in
     let item : Item = slice_index_or c.args.items.now i none in
-    let at : StandsAt u i x p = stands_at u i x (record { section = 0; offset = 0 }) p c.requires.filled c.requires.said (ap (λ l. get_or l i (record { section = 0; offset = 0 })) c.places.ensures) in
+    let at : StandsAt u i x p = stands_at u i x (record { section = 0; offset = 0 }) p c.args.unit.now.filled c.requires.said (ap (λ l. get_or l i (record { section = 0; offset = 0 })) c.places.ensures) in
     let st = located_at ss i x in
     let here : slice_get (map extent_section c.sections.result.now) p.section ≡ Some st.home = ap (λ l. slice_get (map extent_section l) p.section) c.sections.ensures ∙ at.home in
     let home = got_as extent_section c.sections.result.now p.section _ st.home here in
     let next = drop_more c.args.items.now i none c.requires.item in
-    let options = c.options_at-options.ensures c.requires.filled c.requires.within in
+    let options = c.options_at-options.ensures c.requires.within in
     on_ok_weaker c.put_code.result
     (λ told start codes have so_far.
     let same = c.requires.same in
     let coded = code_of i codes in
-    let filled = subst IsFilled (sym same) c.requires.filled in
+    let filled = subst IsFilled (sym same) c.args.unit.now.filled in
     let own = told i filled c.requires.next st coded
     (record {
       ordinal = c.ordinal.ensures;
@@ -120,7 +120,7 @@ returns-clause-data c =
     let p : SectionOffset = slice_index_or c.places.result.now i (record { section = 0; offset = 0 }) in
     let none : Item = record { section = 0; offset = 0; bytes = 0; line = 0; shown = false; instructions = 0 } in
     let item : Item = slice_index_or c.args.items.now i none in
-    let at : StandsAt u i x p = stands_at u i x (record { section = 0; offset = 0 }) p c.requires.filled c.requires.said (ap (λ l. get_or l i (record { section = 0; offset = 0 })) c.places.ensures) in
+    let at : StandsAt u i x p = stands_at u i x (record { section = 0; offset = 0 }) p c.args.unit.now.filled c.requires.said (ap (λ l. get_or l i (record { section = 0; offset = 0 })) c.places.ensures) in
     let st = located_at ss i x in
     let here : slice_get (map extent_section c.sections.result.now) p.section ≡ Some st.home = ap (λ l. slice_get (map extent_section l) p.section) c.sections.ensures ∙ at.home in
     let home = got_as extent_section c.sections.result.now p.section _ st.home here in
@@ -128,7 +128,7 @@ returns-clause-data c =
     let same = c.requires.same in
     let scope = c.requires.next in
     λ start codes have so_far.
-    let filled = subst IsFilled (sym same) c.requires.filled in
+    let filled = subst IsFilled (sym same) c.args.unit.now.filled in
     data_more ss c.args.items.now codes start i x item c.args.sections.now c.put_statement.new.sections c.args.fields.now.items c.put_statement.new.fields.items
     at.here (drop_more c.args.items.now i none c.requires.item)
     (sym (ap (λ (h : Section). h.executable) home) ∙ c.if-extent.false)

@@ -46,7 +46,7 @@ bounds-places-index c =
     let u = c.args.unit.now in
     let i = c.loop-index.index in
     let inside : i < length (said u) = subst (λ n. i < n) (c.len-index-end.ensures ∙ ap (λ l. length (statements_of l)) c.statements-statements.ensures) c.loop-index-test.true in
-    let inside' = subst (λ n. i < n) (sym (places_count u c.requires.filled)) inside in
+    let inside' = subst (λ n. i < n) (sym (places_count u c.args.unit.now.filled)) inside in
     subst (λ l. i < length l) (sym c.places-places.ensures) inside'
 
 pub extent_at-extent-requires : goal.extent_at-extent-requires
@@ -56,7 +56,7 @@ extent_at-extent-requires c =
     let p : SectionOffset = slice_index_or c.places-places.result.now i (record { section = 0; offset = 0 }) in
     let inside : i < length (said u) = subst (λ n. i < n) (c.len-index-end.ensures ∙ ap (λ l. length (statements_of l)) c.statements-statements.ensures) c.loop-index-test.true in
     let stands : p.section < length u.tables.extents.items =
-    place_inside u i (record { section = 0; offset = 0 }) p c.requires.filled inside (ap (λ l. get_or l i (record { section = 0; offset = 0 })) c.places-places.ensures) in
+    place_inside u i (record { section = 0; offset = 0 }) p c.args.unit.now.filled inside (ap (λ l. get_or l i (record { section = 0; offset = 0 })) c.places-places.ensures) in
     subst (λ l. p.section < length l) (sym c.sections-extents.ensures) stands
 
 pub end-offset-requires : goal.end-offset-requires
@@ -66,7 +66,7 @@ end-offset-requires c =
     let p : SectionOffset = slice_index_or c.places-places.result.now i (record { section = 0; offset = 0 }) in
     let inside : i < length (said u) = subst (λ n. i < n) (c.len-index-end.ensures ∙ ap (λ l. length (statements_of l)) c.statements-statements.ensures) c.loop-index-test.true in
     let stands : p.section < length u.tables.extents.items =
-    place_inside u i (record { section = 0; offset = 0 }) p c.requires.filled inside (ap (λ l. get_or l i (record { section = 0; offset = 0 })) c.places-places.ensures) in
+    place_inside u i (record { section = 0; offset = 0 }) p c.args.unit.now.filled inside (ap (λ l. get_or l i (record { section = 0; offset = 0 })) c.places-places.ensures) in
     subst (λ l. p.section < length l) (sym c.as_slice.ensures.value) (subst (λ n. p.section < n) (sym c.loop-index.invariant.sections) stands)
 
 pub take_size-code-requires : goal.take_size-code-requires
@@ -91,7 +91,7 @@ grow-requires-clause-section c =
     let p : SectionOffset = slice_index_or c.places-places.result.now i (record { section = 0; offset = 0 }) in
     let inside : i < length (said u) = subst (λ n. i < n) (c.len-index-end.ensures ∙ ap (λ l. length (statements_of l)) c.statements-statements.ensures) c.loop-index-test.true in
     let stands : p.section < length u.tables.extents.items =
-    place_inside u i (record { section = 0; offset = 0 }) p c.requires.filled inside (ap (λ l. get_or l i (record { section = 0; offset = 0 })) c.places-places.ensures) in
+    place_inside u i (record { section = 0; offset = 0 }) p c.args.unit.now.filled inside (ap (λ l. get_or l i (record { section = 0; offset = 0 })) c.places-places.ensures) in
     let ends = c.loop-index.ends.items in
     subst (λ n. n < length ends) (sym c.in_ok-item.ensures.section) (subst (λ n. p.section < n) (sym c.loop-index.invariant.sections) stands)
 
@@ -110,7 +110,7 @@ returns-in_err-item-clause-refuses c =
     let p : SectionOffset = slice_index_or c.places-places.result.now i (record { section = 0; offset = 0 }) in
     let inside : i < length (said u) = subst (λ n. i < n) (c.len-index-end.ensures ∙ ap (λ l. length (statements_of l)) c.statements-statements.ensures) c.loop-index-test.true in
     let is : slice_get (said u) i ≡ Some x = subst (λ l. slice_get (statements_of l) i ≡ Some x) c.statements-statements.ensures c.read-statement.ensures in
-    let at : StandsAt u i x p = stands_at u i x (record { section = 0; offset = 0 }) p c.requires.filled is (ap (λ l. get_or l i (record { section = 0; offset = 0 })) c.places-places.ensures) in
+    let at : StandsAt u i x p = stands_at u i x (record { section = 0; offset = 0 }) p c.args.unit.now.filled is (ap (λ l. get_or l i (record { section = 0; offset = 0 })) c.places-places.ensures) in
     let sizes = c.args.sizes.items in
     let own : CodeSize = c.take_size-code.result in
     let taken = c.take_size-code.new.sizes.items in
@@ -118,7 +118,7 @@ returns-in_err-item-clause-refuses c =
     let sized_is : drop i (bytes_of_sizes sizes) ≡ size_bytes own ∷ drop (i + 1) (bytes_of_sizes sizes) =
     mapped_next sizes c.loop-index.sizes.items taken i own known inv.left c.take_size-code.ensures size_bytes in
     let same = inv.unit in
-    let filled = subst IsFilled (sym same) c.requires.filled in
+    let filled = subst IsFilled (sym same) c.args.unit.now.filled in
     let e = c.extent_at-extent.result in
     let there : IsExtentAt u.tables.extents.items p.section e = subst (λ l. IsExtentAt l p.section e) c.sections-extents.ensures c.extent_at-extent.ensures in
     let offset : slice_index ends p.section ≡ c.end-offset.result = sym (c.end-offset.ensures ∙ ap (λ l. slice_index l p.section) c.as_slice.ensures.value) in
@@ -129,7 +129,7 @@ returns-in_err-item-clause-refuses c =
     (sym same)
     (λ placed.
     subst (λ n. HasRoom (λ t. value_of (tables ss) true (i + 1) (offset_of p) t) e.section.executable e.alignment n own x.kind) offset
-    (room_at u i x p e own before _ c.requires.filled at there (roomy_now ss i x at.here good c.args.sizes.items own sized_is before inv.low (inv.room good sizes) placed))))))
+    (room_at u i x p e own before _ c.args.unit.now.filled at there (roomy_now ss i x at.here good c.args.sizes.items own sized_is before inv.low (inv.room good sizes) placed))))))
 
 pub loop-index-preserved : goal.loop-index-preserved
 loop-index-preserved c =
@@ -144,7 +144,7 @@ loop-index-preserved c =
     let p : SectionOffset = slice_index_or c.places-places.result.now i (record { section = 0; offset = 0 }) in
     let inside : i < length (said u) = subst (λ n. i < n) (c.len-index-end.ensures ∙ ap (λ l. length (statements_of l)) c.statements-statements.ensures) c.loop-index-test.true in
     let is : slice_get (said u) i ≡ Some x = subst (λ l. slice_get (statements_of l) i ≡ Some x) c.statements-statements.ensures c.read-statement.ensures in
-    let at : StandsAt u i x p = stands_at u i x (record { section = 0; offset = 0 }) p c.requires.filled is (ap (λ l. get_or l i (record { section = 0; offset = 0 })) c.places-places.ensures) in
+    let at : StandsAt u i x p = stands_at u i x (record { section = 0; offset = 0 }) p c.args.unit.now.filled is (ap (λ l. get_or l i (record { section = 0; offset = 0 })) c.places-places.ensures) in
     let sizes = c.args.sizes.items in
     let own : CodeSize = c.take_size-code.result in
     let taken = c.take_size-code.new.sizes.items in
@@ -152,7 +152,7 @@ loop-index-preserved c =
     let sized_is : drop i (bytes_of_sizes sizes) ≡ size_bytes own ∷ drop (i + 1) (bytes_of_sizes sizes) =
     mapped_next sizes c.loop-index.sizes.items taken i own known inv.left c.take_size-code.ensures size_bytes in
     let same = inv.unit in
-    let filled = subst IsFilled (sym same) c.requires.filled in
+    let filled = subst IsFilled (sym same) c.args.unit.now.filled in
     let within = subst (λ w. i < length (said w)) (sym same) inside in
     let e = c.extent_at-extent.result in
     let there : IsExtentAt u.tables.extents.items p.section e = subst (λ l. IsExtentAt l p.section e) c.sections-extents.ensures c.extent_at-extent.ensures in
@@ -168,7 +168,7 @@ loop-index-preserved c =
     subst (λ w. is_placed (passed (said w) i) (i + 1) x.kind ≡ false → y.bytes ≡ 0) same (told.absent i filled inv.scope here) in
     let one : IsItem (located_at ss i x) before y = item_at u i x p e before y at there section offset told.line shown absent in
     let sized : IsSizedAt (tables ss) ss i x own y =
-    sized_at u i x p e own y c.requires.filled at there section
+    sized_at u i x p e own y c.args.unit.now.filled at there section
     (subst (λ w. is_placed (passed (said w) i) (i + 1) x.kind ≡ true → IsSized (λ t. value_of (tables (said w)) true (i + 1) (offset_of p) t) e.section.executable y e.alignment own x.kind) same (told.sized i filled inv.scope here)) in
     let at_end : y.offset ≡ slice_index ends y.section = offset ∙ ap (λ n. slice_index ends n) (sym section) in
     let grows : (j : ℕ) → behind j ≡ grown before y j = λ j. ap (λ l. slice_index l j) c.grow.ensures ∙ grown_by ends y j room at_end in

@@ -1,7 +1,7 @@
 use Rattle.std.proofs.Common.{map}
 use Rattle.std.proofs.lemmas.Result.{IfOk-weaker}
 use Rattle.rv_image.specs.Linked.{linked_of}
-use Rattle.rv_object.specs.View.{object_of}
+use Rattle.rv_object_types.specs.View.{object_of}
 use Rattle.rv_link.proofs.LeftLemmas.{with_all}
 use Rattle.rv_link.proofs.programs.link.Goals as goal
 

@@ -1,6 +1,6 @@
 use Rattle.std.proofs.Common.{◌≡◌, map, subst, sym, rules}
 use Rattle.rv_layout_laws.specs.Calls.{IsText}
-use Rattle.rv_object.specs.View.{object_of}
+use Rattle.rv_object_types.specs.View.{object_of}
 use Rattle.rv_object_laws.specs.CallSites.{sites_of}
 use Rattle.rv_object_laws.proofs.TextLineLemmas.{sites_text}
 use Rattle.rv_link.proofs.relaxation.relaxed.Goals as goal

@@ -1,5 +1,5 @@
 use Rattle.std.proofs.Common.{nat_le, map, sym, ap, ◌∙◌}
-use Rattle.rv_object.specs.Parts.{relocation_of}
+use Rattle.rv_object_types.specs.Parts.{relocation_of}
 use Rattle.rv_link_sites.proofs.AloneLemmas.{alone_past, alone_next, alone_last}
 use Rattle.rv_link_sites.proofs.between.is_alone.Goals as goal
 

@@ -1,5 +1,5 @@
 use Rattle.std.proofs.Common.{◌≡◌, Some, map, ◌∙◌, rules}
-use Rattle.rv_object.specs.Parts.{relocation_of}
+use Rattle.rv_object_types.specs.Parts.{relocation_of}
 use Rattle.rv_link_sites.proofs.AloneLemmas.{rise_behind, relaxed_before, relaxed_behind}
 use Rattle.rv_link_sites.proofs.between.is_relaxed.Goals as goal
 

@@ -1,6 +1,6 @@
 use Rattle.std.proofs.Common.{map, rules, ◌<◌, ◌≤◌}
 use Rattle.rv_isa.specs.Kinds.{width_of}
-use Rattle.rv_object.specs.Parts.{relocation_of}
+use Rattle.rv_object_types.specs.Parts.{relocation_of}
 use Rattle.rv_link_sites.specs.Between.{next_field}
 use Rattle.rv_link_sites.proofs.LoopsLemmas.{at, field_found, field_past, field_none}
 use Rattle.rv_link_sites.proofs.between.next_field.Goals as goal

@@ -1,5 +1,5 @@
 use Rattle.std.proofs.Common.{◌∷◌, ◌++◌, map, sym, ◌∙◌, arith}
-use Rattle.rv_object.specs.Parts.{relocation_of}
+use Rattle.rv_object_types.specs.Parts.{relocation_of}
 use Rattle.rv_link_sites.specs.Text.{objects_of, input_of}
 use Rattle.rv_link_sites.proofs.ChangedLemmas.{may_not, may_if, none_added, call_added}
 use Rattle.rv_link_sites.proofs.changes.put_change.Goals as goal

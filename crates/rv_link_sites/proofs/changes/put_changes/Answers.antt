@@ -2,8 +2,8 @@ use Rattle.std.proofs.Common.{◌++◌, map, take, refl, sym, ap, subst, ◌∙�
 use Rattle.std.specs.Prelude.{filter}
 use Rattle.std.proofs.lemmas.List.{take_all}
 use Rattle.std.proofs.lemmas.List.Sorted.{IsPermutation-map}
-use Rattle.rv_object.specs.Parts.{relocation_of}
-use Rattle.rv_object.specs.Sections.{section_of}
+use Rattle.rv_object_types.specs.Parts.{relocation_of}
+use Rattle.rv_object_types.specs.Sections.{section_of}
 use Rattle.rv_object_laws.specs.CallSites as laws
 use Rattle.rv_link_sites.specs.Between.{Rise, IsBefore}
 use Rattle.rv_link_sites.specs.Text.{objects_of, input_of}

@@ -1,5 +1,5 @@
 use Rattle.std.proofs.Common.{◌≡◌, ◌<◌, ◌++◌, ℕ, length, map, take}
-use Rattle.rv_object.specs.Parts.{symbol_of}
+use Rattle.rv_object_types.specs.Parts.{symbol_of}
 use Rattle.rv_link_sites.specs.Entries.{list_at, offsets_in}
 use Rattle.rv_link_sites.proofs.entries.put_all.Given as goal
 

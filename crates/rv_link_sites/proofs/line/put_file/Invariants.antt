@@ -1,5 +1,5 @@
 use Rattle.std.proofs.Common.{◌≡◌, ◌+◌, ◌*◌, ◌++◌, ◌≤◌, ◌^◌, length, map, drop}
-use Rattle.rv_object.specs.Sections.{section_of}
+use Rattle.rv_object_types.specs.Sections.{section_of}
 use Rattle.rv_link_sites.specs.Line.{ended, places}
 use Rattle.rv_link_sites.proofs.line.put_file.Given as goal
 

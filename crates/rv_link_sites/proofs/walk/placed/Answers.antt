@@ -3,8 +3,8 @@ use Rattle.rv_layout_laws.specs.declared.site.Site.{Site}
 use Rattle.rv_layout_laws.specs.declared.site.SiteKind.{SiteKind}
 use Rattle.rv_layout_laws.specs.declared.site.SiteKind.TheVariants.{Call, Padding}
 use Rattle.rv_layout_laws.specs.Calls.{IsText, site_at}
-use Rattle.rv_object.specs.Object.{Object}
-use Rattle.rv_object.specs.View.{object_of}
+use Rattle.rv_object_types.specs.Object.{Object}
+use Rattle.rv_object_types.specs.View.{object_of}
 use Rattle.rv_object_laws.specs.CallSites.{sites_of}
 use Rattle.rv_object_laws.specs.Within.{IsWithin, LeadsWithin}
 use Rattle.rv_relax.specs.Passes.{IsInput, LeadsLow}

@@ -1,5 +1,5 @@
 use Rattle.std.proofs.Common.{◌<◌, ◌≤◌, ◌+◌, ◌*◌, ◌^◌, length, arith, rules}
-use Rattle.rv_object.specs.View.{object_of}
+use Rattle.rv_object_types.specs.View.{object_of}
 use Rattle.std.proofs.lemmas.List.{length-map}
 use Rattle.rv_link_sites.specs.Line.{ended_files}
 use Rattle.rv_link_sites.specs.Text.{objects_of}

@@ -1,6 +1,6 @@
 use Rattle.std.proofs.Common.{◌<◌, ◌+◌, ◌*◌, ◌^◌, length, rules}
-use Rattle.rv_object.specs.Sections.{section_of}
-use Rattle.rv_object.specs.View.{object_of}
+use Rattle.rv_object_types.specs.Sections.{section_of}
+use Rattle.rv_object_types.specs.View.{object_of}
 use Rattle.rv_link_sites.specs.Line.{ended}
 use Rattle.rv_link_sites.specs.Text.{objects_of}
 use Rattle.rv_link_sites.proofs.MarksLemmas.{starts_more}

@@ -1,11 +1,12 @@
-use Rattle.std.proofs.Common.{◌-◌, length, drop, take, ap, ◌∙◌, le_of_eq}
+use Rattle.std.proofs.Common.{◌-◌, length, drop, ap, ◌∙◌, le_of_eq}
 use Rattle.std.proofs.lemmas.List.{length-drop, take_all}
-use Rattle.rv_object_checks.proofs.NumbersLemmas.{double_is}
+use Rattle.byteorder.specs.Endian.{little_number}
+use Rattle.rv_object_checks.proofs.NumbersLemmas.{number_here}
 use Rattle.rv_object_checks.proofs.rows_reading.double.Goals as goal
 
-pub returns-in-Some : goal.returns-in-Some
-returns-in-Some c =
+pub returns : goal.returns
+returns c =
     let table = c.args.record.now in
     let p = c.args.offset in
     let all = take_all (length table - p) (drop p table) (le_of_eq (length-drop p table)) in
-    c.from_le_bytes.ensures ∙ double_is table c.in-Some.bytes.now p (c.in-Some.ensures.cases.same ∙ ap (take 8) all)
+    c.read_u64.ensures ∙ ap (little_number 8) all ∙ number_here p 8 table

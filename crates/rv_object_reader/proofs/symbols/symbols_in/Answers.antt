@@ -2,7 +2,7 @@ use Rattle.std.proofs.Common.{◌≡◌, ◌+◌, ◌*◌, ◌-◌, ◌/◌, len
 use Rattle.rv_elf.specs.FirstFault.{first_true}
 use Rattle.rv_elf.specs.Records.{symbol_at}
 use Rattle.rv_elf.specs.Sections.{records, symbols_in}
-use Rattle.rv_object.specs.Parts.{symbol_of}
+use Rattle.rv_object_types.specs.Parts.{symbol_of}
 use Rattle.rv_object_file_laws.specs.FirstFault.{symbol_tests}
 use Rattle.rv_object_file_laws.specs.ObjectOf.{symbol_in}
 use Rattle.rv_object_reader.proofs.MadeLemmas.{records_next, records_behind, so_far_start, so_far_more}

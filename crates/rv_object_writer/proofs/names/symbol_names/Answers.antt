@@ -1,7 +1,7 @@
 use Rattle.std.proofs.Common.{◌≡◌, ◌<◌, ◌+◌, ◌++◌, ◌∙◌, [], ◌∷◌, ℕ, List, length, map, drop, refl, sym, ap, subst, append-nil, rules}
 use Rattle.std.proofs.lemmas.List.{drop_all}
-use Rattle.rv_object.specs.Object.{Symbol}
-use Rattle.rv_object.specs.Parts.{symbol_of}
+use Rattle.rv_object_types.specs.Object.{Symbol}
+use Rattle.rv_object_types.specs.Parts.{symbol_of}
 use Rattle.rv_object_file_laws.specs.Written.{unseen, strings_of}
 use Rattle.rv_object_writer.specs.Strings.{IsStringTable, with_string}
 use Rattle.rv_object_writer.proofs.NamingLemmas.{name_more}

@@ -2,10 +2,10 @@ use Rattle.std.proofs.Common.{◌≡◌, ◌+◌, ◌++◌, ◌∙◌, [], ◌�
 use Rattle.std.proofs.lemmas.List.{map_push}
 use Rattle.rv_elf.specs.Fields.{symbol_size}
 use Rattle.rv_elf.specs.Numbers.{sht_strtab, sht_symtab}
-use Rattle.rv_object.specs.Object.{Object}
-use Rattle.rv_object.specs.Parts.{symbol_of}
-use Rattle.rv_object.specs.Sections.{section_of}
-use Rattle.rv_object.specs.View.{object_of}
+use Rattle.rv_object_types.specs.Object.{Object}
+use Rattle.rv_object_types.specs.Parts.{symbol_of}
+use Rattle.rv_object_types.specs.Sections.{section_of}
+use Rattle.rv_object_types.specs.View.{object_of}
 use Rattle.rv_object_file_laws.specs.Written.{section_piece, table_piece, row_pieces, symtab_index, rela_pieces, locals}
 use Rattle.rv_object_writer.specs.Pieces.{piece_of, rela_piece}
 use Rattle.rv_object_writer.proofs.StepsLemmas.{five}

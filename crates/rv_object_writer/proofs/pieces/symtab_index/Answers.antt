@@ -1,7 +1,7 @@
 use Rattle.std.proofs.Common.{◌≡◌, ◌+◌, ◌∙◌, ◌==◌, not, sym, ap, map, filter, length, arith}
 use Rattle.std.proofs.lemmas.List.{length-map}
 use mir.Val.{bool_byte}
-use Rattle.rv_object.specs.Sections.{section_of}
+use Rattle.rv_object_types.specs.Sections.{section_of}
 use Rattle.rv_object_file_laws.specs.Written.{row_pieces, has_relocations}
 use Rattle.rv_object_writer.specs.Pieces.{rela_piece}
 use Rattle.rv_object_writer.proofs.StepsLemmas.{relas_count, rows_count}

@@ -1,7 +1,7 @@
 use Rattle.std.proofs.Common.{◌≡◌, ◌++◌, ◌∙◌, ◌*◌, ◌%◌, ◌^◌, ap}
 use Rattle.rv_elf.specs.Records.{symbol_bytes}
-use Rattle.rv_object.specs.Object.{Symbol}
-use Rattle.rv_object.specs.Parts.{symbol_of}
+use Rattle.rv_object_types.specs.Object.{Symbol}
+use Rattle.rv_object_types.specs.Parts.{symbol_of}
 use Rattle.rv_object_file_laws.specs.Written.{strings_of, name_offset, section_index_of, symbol_record}
 use Rattle.rv_object_writer.proofs.CutLemmas.{symbol_cut}
 use Rattle.rv_object_writer.proofs.tables.put_symbol.Goals as goal

@@ -1,9 +1,9 @@
 use Rattle.std.proofs.Common.{List, subst}
 use Rattle.std.proofs.lemmas.List.Elements.{All-more}
 use Rattle.std.specs.List.{AllByRecursion}
-use Rattle.rv_object.specs.Object.{Section as PlainSection}
-use Rattle.rv_object.specs.declared.section.Section.{Section}
-use Rattle.rv_object.specs.Sections.{section_of}
+use Rattle.rv_object_types.specs.Object.{Section as PlainSection}
+use Rattle.rv_object_types.specs.declared.section.Section.{Section}
+use Rattle.rv_object_types.specs.Sections.{section_of}
 use Rattle.rv_object_file_laws.specs.Known.{IsRelocation}
 use Rattle.rv_object_writer.proofs.KnownLemmas.{all_passed}
 use Rattle.rv_object_writer.proofs.StepsLemmas.{relas_step}

@@ -1,6 +1,6 @@
 use Rattle.std.proofs.Common.{◌≡◌, ◌++◌, ℕ, suc, map, drop, take, All}
 use Rattle.std.specs.List.{AllByRecursion}
-use Rattle.rv_object.specs.Sections.{section_of}
+use Rattle.rv_object_types.specs.Sections.{section_of}
 use Rattle.rv_object_file_laws.specs.Known.{IsRelocation}
 use Rattle.rv_object_file_laws.specs.Written.{rela_pieces}
 use Rattle.rv_object_writer.specs.Pieces.{rela_piece}

@@ -1,5 +1,5 @@
 use Rattle.std.proofs.Common.{◌∙◌, sym}
-use Rattle.rv_object.specs.Sections.{section_of}
+use Rattle.rv_object_types.specs.Sections.{section_of}
 use Rattle.rv_shorten.specs.Sections.{moves_in}
 use Rattle.rv_placement.proofs.AlignmentsLemmas.{begins_left}
 use Rattle.rv_placement.proofs.alignment.multiple_of.Goals as goal

@@ -1,6 +1,6 @@
 use Rattle.std.proofs.Common.{◌≡◌, ◌+◌, ◌++◌, List, map, drop, subst, sym}
-use Rattle.rv_object.specs.declared.relocation.Relocation.{Relocation}
-use Rattle.rv_object.specs.Parts.{relocation_of}
+use Rattle.rv_object_types.specs.declared.relocation.Relocation.{Relocation}
+use Rattle.rv_object_types.specs.Parts.{relocation_of}
 use Rattle.rv_shorten.specs.Sections.{moves_in}
 use Rattle.rv_relax.proofs.MovedLemmas.{found_more, padded_of}
 use Rattle.rv_relax.proofs.alignments.with_padding.Goals as goal

@@ -1,6 +1,6 @@
 -- Those so far, and those among the relocations that are left, are all of them.
 use Rattle.std.proofs.Common.{◌≡◌, ◌++◌, map, drop}
-use Rattle.rv_object.specs.Parts.{relocation_of}
+use Rattle.rv_object_types.specs.Parts.{relocation_of}
 use Rattle.rv_shorten.specs.Sections.{moves_in}
 use Rattle.rv_relax.proofs.MovedLemmas.{padded_of}
 use Rattle.rv_relax.proofs.alignments.with_padding.Given as goal

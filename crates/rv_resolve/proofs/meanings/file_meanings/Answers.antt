@@ -1,6 +1,6 @@
 use Rattle.std.proofs.Common.{◌<◌, ◌≤◌, ◌+◌, ◌++◌, ◌∷◌, ◌∙◌, [], length, map, drop, rules, ap, sym, append-nil}
 use Rattle.std.proofs.lemmas.List.{at_drop_all}
-use Rattle.rv_object.specs.Parts.{symbol_of}
+use Rattle.rv_object_types.specs.Parts.{symbol_of}
 use Rattle.rv_resolve.specs.Chosen.{seen}
 use Rattle.rv_resolve.specs.Names.{outside}
 use Rattle.rv_resolve.proofs.LoadingLemmas.{seen_symbols}

@@ -1,6 +1,6 @@
 -- The row so far, with what is left, is the whole.
 use Rattle.std.proofs.Common.{◌≡◌, ◌++◌, List, map, drop}
-use Rattle.rv_object.specs.View.{object_of}
+use Rattle.rv_object_types.specs.View.{object_of}
 use Rattle.rv_resolve.specs.Chosen.{Definer}
 use Rattle.rv_resolve.specs.Names.{AnswersFirst, outside, AreRows}
 use Rattle.rv_resolve.proofs.LoadingLemmas.{seen_symbols}

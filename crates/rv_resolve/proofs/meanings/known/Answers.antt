@@ -1,7 +1,7 @@
 use Rattle.std.proofs.Common.{◌≡◌, Some, length, map, option_map, slice_get, refl, sym, ap, ◌∙◌}
 use Rattle.std.proofs.lemmas.Option.{slice_get-map, slice_get_read}
-use Rattle.rv_object.specs.Parts.{symbol_of}
-use Rattle.rv_object.specs.View.{object_of}
+use Rattle.rv_object_types.specs.Parts.{symbol_of}
+use Rattle.rv_object_types.specs.View.{object_of}
 use Rattle.rv_resolve.specs.Chosen.{first_named}
 use Rattle.rv_resolve.specs.Names.{exported_of}
 use Rattle.rv_resolve.proofs.RememberedLemmas.{known_is}

@@ -1,5 +1,5 @@
 use Rattle.std.proofs.Common.{sym, ◌∙◌}
-use Rattle.rv_object.specs.Parts.{symbol_of}
+use Rattle.rv_object_types.specs.Parts.{symbol_of}
 use Rattle.rv_resolve.specs.Chosen.{seen}
 use Rattle.rv_resolve.proofs.RememberedLemmas.{outside_free}
 use Rattle.rv_resolve.proofs.meanings.meaning.Goals as goal

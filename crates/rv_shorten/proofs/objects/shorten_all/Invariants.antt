@@ -1,5 +1,5 @@
 use Rattle.std.proofs.Common.{◌≡◌, ◌≤◌, ◌++◌, length, map, drop}
-use Rattle.rv_object.specs.View.{object_of}
+use Rattle.rv_object_types.specs.View.{object_of}
 use Rattle.rv_shorten.specs.View.{short_object_of}
 use Rattle.rv_shorten.specs.Walk.{AreWalked, walked}
 use Rattle.rv_shorten.proofs.objects.shorten_all.Given as goal

@@ -1,5 +1,5 @@
 use Rattle.std.proofs.Common.{◌≡◌, ◌+◌, ◌≤◌, ◌++◌, length, map, drop}
-use Rattle.rv_object.specs.Sections.{section_of}
+use Rattle.rv_object_types.specs.Sections.{section_of}
 use Rattle.rv_shorten.specs.Cutting.{AllCut, cut_sections}
 use Rattle.rv_shorten.specs.Sections.{moves_in_all, short_section_of}
 use Rattle.rv_shorten.specs.Walk.{object_moves, passed_all}

@@ -1,5 +1,5 @@
 use Rattle.std.proofs.Common.{map, take}
-use Rattle.rv_object.specs.Parts.{symbol_of}
+use Rattle.rv_object_types.specs.Parts.{symbol_of}
 use Rattle.rv_symbols.specs.Indices.{AreNameIndices}
 use Rattle.rv_symbols.proofs.numbers.name_indices.Given as goal
 

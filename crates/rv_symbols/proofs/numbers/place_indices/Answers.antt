@@ -1,6 +1,6 @@
 use Rattle.std.proofs.Common.{◌≡◌, ◌<◌, ◌≤◌, ◌+◌, [], ◌∷◌, ◌++◌, length, map, take, sym, ap, ◌∙◌, subst, arith, rules}
 use Rattle.std.proofs.lemmas.List.{take_all}
-use Rattle.rv_object.specs.Parts.{symbol_of}
+use Rattle.rv_object_types.specs.Parts.{symbol_of}
 use Rattle.rv_symbols.specs.Indices.{ArePlaceIndices}
 use Rattle.rv_symbols.proofs.IndexingLemmas.{symbols_next, symbols_count}
 use Rattle.rv_symbols.proofs.numbers.place_indices.Goals as goal

@@ -1,5 +1,5 @@
 use Rattle.std.proofs.Common.{refl}
-use Rattle.rv_object.specs.Parts.{symbol_of}
+use Rattle.rv_object_types.specs.Parts.{symbol_of}
 use Rattle.rv_symbols.proofs.IndexingLemmas.{name_more}
 use Rattle.rv_symbols.proofs.numbers.put_name.Goals as goal
 

@@ -1,6 +1,6 @@
 use Rattle.std.proofs.Common.{◌≡◌, true, false, length, rules}
 use Rattle.std.specs.Prelude.{◌==◌}
-use Rattle.rv_object.specs.Parts.{symbol_of}
+use Rattle.rv_object_types.specs.Parts.{symbol_of}
 use Rattle.rv_symbols.proofs.IndexingLemmas.{no_place, named_nowhere, elsewhere, place_more}
 use Rattle.rv_symbols.proofs.numbers.put_place.Goals as goal
 

@@ -1,7 +1,7 @@
 use Rattle.std.proofs.Common.{◌≡◌, ◌<◌, ◌≤◌, ◌*◌, ◌^◌, ℕ, List, [], ◌++◌, length, map, take, drop}
 use Rattle.std.specs.Prelude.{Some, flat_map, slice_get}
 use Rattle.std.specs.HashSet.{contains}
-use Rattle.rv_object.specs.Parts.{symbol_of}
+use Rattle.rv_object_types.specs.Parts.{symbol_of}
 use Rattle.rv_assemble_laws.specs.LaidStatements.{LaidStatement}
 use Rattle.rv_assemble_laws.specs.Symbols.{references, local_symbols, exports_of, exports}
 use Rattle.rv_symbols.specs.Source.{tables_of, IsSource}

@@ -1,9 +1,9 @@
 use Rattle.std.proofs.Common.{◌≡◌, ℕ, List, [], ◌∷◌, ◌++◌, map, ap, ◌∙◌, append_assoc, arith}
 use Rattle.std.specs.Prelude.{◌&&◌, ◌||◌, not, if◌then◌else◌}
 use Rattle.std.specs.HashSet.{contains}
-use Rattle.rv_object.specs.declared.symbol.Definition.TheVariants.{InSection}
-use Rattle.rv_object.specs.Object.{Symbol}
-use Rattle.rv_object.specs.Parts.{symbol_of}
+use Rattle.rv_object_types.specs.declared.symbol.Definition.TheVariants.{InSection}
+use Rattle.rv_object_types.specs.Object.{Symbol}
+use Rattle.rv_object_types.specs.Parts.{symbol_of}
 use Rattle.rv_assemble_laws.specs.Symbols.{local_symbol, named_symbols}
 use Rattle.rv_symbols.specs.Source.{tables_of}
 use Rattle.rv_symbols.specs.Found.{same_place}

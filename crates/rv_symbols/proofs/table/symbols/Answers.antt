@@ -8,9 +8,9 @@ use Rattle.rv_unit_laws.specs.Tables.{Tables, at_start, tables}
 use Rattle.rv_unit.specs.Unit.{said, definition_of, IsFilled}
 use Rattle.rv_unit.specs.Items.{offsets_of}
 use Rattle.rv_source_laws.specs.Located.{located_from}
-use Rattle.rv_object.specs.declared.symbol.Definition.TheVariants.{Undefined}
-use Rattle.rv_object.specs.Object.{Symbol}
-use Rattle.rv_object.specs.Parts.{symbol_of}
+use Rattle.rv_object_types.specs.declared.symbol.Definition.TheVariants.{Undefined}
+use Rattle.rv_object_types.specs.Object.{Symbol}
+use Rattle.rv_object_types.specs.Parts.{symbol_of}
 use Rattle.rv_assemble_laws.specs.Symbols.{SymbolUse, references, local_symbols, exports, shared_symbol, symbols_of}
 use Rattle.rv_symbols.specs.Settings.{AreFirsts}
 use Rattle.std.specs.List.{AllByRecursion}
@@ -40,14 +40,14 @@ returns c = λ laid w.
     let x = c.in_ok-source.source in
     let unit = c.in_ok-source.ensures.unit in
     let h : IsSource x laid = record {
-      filled = subst IsFilled (sym unit) c.requires.filled;
-      firsts = subst (λ v. AreFirsts x.firsts.ordinals (tables (said v)).assignments) (sym unit) (c.in_ok-source.ensures.firsts c.requires.filled);
+      filled = subst IsFilled (sym unit) c.args.unit.now.filled;
+      firsts = subst (λ v. AreFirsts x.firsts.ordinals (tables (said v)).assignments) (sym unit) (c.in_ok-source.ensures.firsts c.args.unit.now.filled);
       located = w.located ∙ ap (λ v. located_from 1 1 (at_start (said v)) (said v)) (sym unit);
       at = w.at ∙ ap offsets_of (sym c.in_ok-source.ensures.items);
     } in
     let same : tables_of x ≡ t = ap (λ v. tables (said v)) unit in
     let rises : Rises 1 (length ss) rs = subst (Rises 1 (length ss)) w.named (rises_from t 1 (length ss) (at_start ss) ss laid w.located (omega arith)) in
-    let defs : map (option_map definition_of) c.in_ok-definitions.definitions.items ≡ map (definition_in t) rs = c.in_ok-definitions.ensures.found c.requires.filled rises in
+    let defs : map (option_map definition_of) c.in_ok-definitions.definitions.items ≡ map (definition_in t) rs = c.in_ok-definitions.ensures.found c.args.unit.now.filled rises in
     let meant = c.in_ok-meant.meant.items in
     let marks : AreMarks t rs meant (length c.args.items.now) = c.in_ok-meant.ensures.marks t (ap (map (option_map definition_of)) c.as_slice.ensures.value ∙ defs) in
     let marked : AreMarks t (references t laid) meant (length meant) =

@@ -1,7 +1,6 @@
-use Rattle.std.proofs.Common.{◌≡◌, false, ◌<◌, ◌≤◌, ◌+◌, ◌-◌, [], ◌++◌, length, map, drop, get_or, sym, ap, ◌∙◌, subst, append-nil, arith, rules}
+use Rattle.std.proofs.Common.{◌≡◌, Some, false, ◌<◌, ◌≤◌, ◌+◌, ◌-◌, [], ◌++◌, length, map, drop, get_or, sym, ap, ◌∙◌, subst, append-nil, arith, rules}
 use Rattle.std.specs.Prelude.{option_map}
 use Rattle.std.proofs.lemmas.List.{length-map, at_drop_all}
-use Rattle.rv_text.specs.declared.node.Symbol.TheVariants.{Name}
 use Rattle.rv_unit_laws.specs.Tables.{tables}
 use Rattle.rv_unit.specs.Unit.{said, definition_of, IsFilled, IsScope}
 use Rattle.rv_symbols.specs.declared.symbol_use.SymbolUse.{SymbolUse}
@@ -11,9 +10,6 @@ use Rattle.rv_symbols.proofs.NamingLemmas.{drop_next}
 use Rattle.rv_symbols.proofs.UsingLemmas.{use_at, found_more, next_within, next_own}
 use Rattle.rv_symbols.proofs.uses.definitions.Goals as goal
 
-abbrev no_use : SymbolUse
-no_use = record { ordinal = 0; symbol = Name (record { ref_ptr = (0, 0); now = [] }) }
-
 pub loop-symbol_use-preserved : goal.loop-symbol_use-preserved
 loop-symbol_use-preserved c =
     let i = c.loop-symbol_use.symbol_use-index in
@@ -22,15 +18,17 @@ loop-symbol_use-preserved c =
     let before = c.loop-symbol_use.scope in
     let after = c.pass.new.scope in
     let was = c.loop-symbol_use.ordinal in
-    let r = use_of (get_or us i no_use) in
+    let item = c.symbol_use-item.result in
+    let r = use_of item in
     let next = next_ordinal was r in
     let inside : i < length us = search rules in
+    let used = use_at us i item inside ∙ ap (λ (x : SymbolUse). Some (use_of x)) (sym c.symbol_use-item.is) in
     let same : after.unit.now ≡ u = ap (λ b. b.now) c.pass.ensures.unit ∙ c.loop-symbol_use.invariant.unit in
     let is_next : c.next_ordinal-next.result ≡ next = c.next_ordinal-next.ensures in
     let counted : c.saturating_sub.result ≡ c.next_ordinal-next.result - was = search rules in
     let count : c.saturating_sub.result ≡ next - was = counted ∙ ap (λ n. n - was) is_next in
     let asked : IsFilled u → Rises 1 (length (said u)) (uses_of us) → IsNext was (length (said u)) r × Rises next (length (said u)) (drop (i + 1) (uses_of us)) = λ f h.
-    subst (Rises was (length (said u))) (drop_next (uses_of us) i r (use_at us i no_use inside)) (c.loop-symbol_use.invariant.rises f h) in
+    subst (Rises was (length (said u))) (drop_next (uses_of us) i r used) (c.loop-symbol_use.invariant.rises f h) in
     let within : IsFilled u → Rises 1 (length (said u)) (uses_of us) → (was ≤ next) × (next ≤ length (said u) + 1) = λ f h.
     next_within was (length (said u)) r (asked f h).0 (c.loop-symbol_use.invariant.within f h) in
     let low : IsFilled u → Rises 1 (length (said u)) (uses_of us) → 1 ≤ next = λ f h.
@@ -61,7 +59,7 @@ loop-symbol_use-preserved c =
           ) in
           let is : option_map definition_of c.definition.result ≡ definition_in t r =
           c.definition.ensures (subst IsFilled (sym same) f) at ∙ ap (λ x. definition_in (tables (said x)) r) same in
-          found_more t (uses_of us) i r c.loop-symbol_use.found.items c.push.new.self.items c.definition.result _ (use_at us i no_use inside) c.in_ok-push.ensures.items is
+          found_more t (uses_of us) i r c.loop-symbol_use.found.items c.push.new.self.items c.definition.result _ used c.in_ok-push.ensures.items is
           (c.loop-symbol_use.invariant.found f h);
     }
 

@@ -3,16 +3,11 @@ use Rattle.std.specs.Prelude.{IsOk, option_map, slice_index_or}
 use Rattle.std.specs.Vec.{vec_len}
 use Rattle.std.proofs.lemmas.List.{length-map, take_all}
 use Rattle.rv_text.specs.Nodes.{symbol_of}
-use Rattle.rv_text.specs.declared.node.Symbol.TheVariants.{Name}
 use Rattle.rv_unit.specs.Unit.{definition_of}
-use Rattle.rv_symbols.specs.declared.symbol_use.SymbolUse.{SymbolUse}
 use Rattle.rv_symbols.specs.SymbolUse.{use_of, uses_of}
 use Rattle.rv_symbols.specs.Found.{any_means}
 use Rattle.rv_symbols.proofs.UsingLemmas.{use_at, found_at, mark_more}
 use Rattle.rv_symbols.proofs.uses.marks.Goals as goal
-
-abbrev no_use : SymbolUse
-no_use = record { ordinal = 0; symbol = Name (record { ref_ptr = (0, 0); now = [] }) }
 
 pub loop-i-init : goal.loop-i-init
 loop-i-init c = record {
@@ -28,14 +23,15 @@ loop-i-preserved c =
     let i = c.loop-i.i in
     let us = c.args.uses.now in
     let ds = c.args.definitions.now in
+    let d = c.index-uses-i.result in
     let inside : i < length us = search rules in
     let within : i < length ds = search rules in
     record {
       len = c.mark.ensures.len ∙ c.loop-i.invariant.len;
       marks = λ t defs k below.
-          mark_more t (uses_of us) i (use_of (get_or us i no_use)) (k + 1) (symbol_of (get_or us i no_use).symbol) (option_map definition_of (get_or ds i None))
+          mark_more t (uses_of us) i (use_of (get_or us i d)) (k + 1) (symbol_of (get_or us i d).symbol) (option_map definition_of (get_or ds i None))
           (slice_index_or c.loop-i.meant.items k false) (slice_index_or c.mark.new.meant.items k false)
-          (use_at us i no_use inside) refl (found_at t us ds defs i no_use None inside within)
+          (use_at us i d inside) refl (found_at t us ds defs i d None inside within)
           (c.mark.ensures.marks k (subst (λ n. k < n) (sym c.loop-i.invariant.len) below)) (c.loop-i.invariant.marks t defs k below);
     }
 

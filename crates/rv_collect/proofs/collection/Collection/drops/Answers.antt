@@ -1,7 +1,7 @@
 use Rattle.std.proofs.Common.{◌<◌, ◌++◌, ◌+◌, ◌∙◌, suc, length, map, drop, rules, ap, sym}
-use Rattle.rv_object.specs.declared.object.Object.{Object as DeclaredObject}
-use Rattle.rv_object.specs.Sections.{section_of}
-use Rattle.rv_object.specs.View.{object_of}
+use Rattle.rv_object_types.specs.declared.object.Object.{Object as DeclaredObject}
+use Rattle.rv_object_types.specs.Sections.{section_of}
+use Rattle.rv_object_types.specs.View.{object_of}
 use Rattle.rv_collect.specs.Drops.{drops_in, dropped_from}
 use Rattle.rv_collect.specs.Marks.{row_of}
 use Rattle.rv_collect.proofs.DropsLemmas.{dropped_of, drops_one}

@@ -1,7 +1,7 @@
 use Rattle.std.proofs.Common.{◌≡◌, ◌<◌, ◌++◌, ◌∷◌, ◌+◌, ◌∙◌, [], suc, length, map, drop, rules, ap, sym}
 use Rattle.std.proofs.lemmas.List.{map_push}
 use Rattle.rv_collect_laws.specs.Graph.{is_dropped}
-use Rattle.rv_object.specs.View.{object_of}
+use Rattle.rv_object_types.specs.View.{object_of}
 use Rattle.rv_object_laws.specs.Without.{without_object, without_from, without}
 use Rattle.rv_collect.specs.Drops.{drops_in}
 use Rattle.rv_collect.specs.Marks.{row_of, drops_of}

@@ -1,5 +1,5 @@
 use Rattle.std.proofs.Common.{map, refl}
-use Rattle.rv_object.specs.View.{object_of}
+use Rattle.rv_object_types.specs.View.{object_of}
 use Rattle.rv_collect.specs.Marks.{is_marked}
 use Rattle.rv_collect.proofs.WalkLemmas.{ends_closed}
 use Rattle.rv_collect.proofs.collection.Collection.of.Goals as goal

@@ -1,6 +1,6 @@
 use Rattle.std.proofs.Common.{◌≡◌, ◌<◌, ◌≤◌, ◌+◌, length, map, rules, arith, ap, ◌∙◌}
 use Rattle.std.proofs.lemmas.List.{length-append}
-use Rattle.rv_object.specs.View.{object_of}
+use Rattle.rv_object_types.specs.View.{object_of}
 use Rattle.rv_collect.specs.Drops.{id_at}
 use Rattle.rv_collect.proofs.LeftLemmas.{at_index}
 use Rattle.rv_collect.proofs.WalkLemmas.{next_marked, followed_on, still_marked, all_followed}

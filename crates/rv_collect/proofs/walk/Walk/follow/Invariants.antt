@@ -1,6 +1,6 @@
 -- All that the sections before the next one refer to is marked.
 use Rattle.std.proofs.Common.{◌-◌, ◌≤◌, length, map}
-use Rattle.rv_object.specs.View.{object_of}
+use Rattle.rv_object_types.specs.View.{object_of}
 use Rattle.rv_object_laws.specs.Collects.{graph_of, entry_place}
 use Rattle.rv_collect_laws.specs.Graph.{Graph}
 use Rattle.rv_collect.specs.Walk.{IsWalk, IsPlaceMarked, AreFollowedTo}

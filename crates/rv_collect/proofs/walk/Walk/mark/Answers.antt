@@ -1,5 +1,5 @@
 use Rattle.std.proofs.Common.{◌∙◌, map, sym}
-use Rattle.rv_object.specs.View.{object_of}
+use Rattle.rv_object_types.specs.View.{object_of}
 use Rattle.rv_collect.specs.declared.walk.Walk.{Walk}
 use Rattle.rv_collect.specs.Marks.{mark_rows}
 use Rattle.rv_collect.proofs.LoadedLemmas.{has_loaded, is_has, is_not}

@@ -1,9 +1,9 @@
 use Rattle.std.proofs.Common.{◌<◌, None, length, map, get_or, pos}
 use Rattle.std.proofs.lemmas.List.{get_or_default}
 use Rattle.rv_isa.specs.declared.kind.Kind.TheVariants as kinds
-use Rattle.rv_object.specs.declared.relocation.Relocation.{Relocation as DeclaredRelocation}
-use Rattle.rv_object.specs.Parts.{relocation_of}
-use Rattle.rv_object.specs.View.{object_of}
+use Rattle.rv_object_types.specs.declared.relocation.Relocation.{Relocation as DeclaredRelocation}
+use Rattle.rv_object_types.specs.Parts.{relocation_of}
+use Rattle.rv_object_types.specs.View.{object_of}
 use Rattle.rv_collect.proofs.LeftLemmas.{viewed_at}
 use Rattle.rv_collect.proofs.WalkLemmas.{grows_on, still_reached, leads_one, marked_on}
 use Rattle.rv_collect.proofs.walk.Walk.mark_all.Goals as goal

@@ -1,8 +1,8 @@
 -- All to which the relocations so far lead is marked.
 use Rattle.std.proofs.Common.{◌≡◌, true, map, take}
 use Rattle.rv_map.specs.declared.map.SectionId.{SectionId}
-use Rattle.rv_object.specs.Parts.{relocation_of}
-use Rattle.rv_object.specs.View.{object_of}
+use Rattle.rv_object_types.specs.Parts.{relocation_of}
+use Rattle.rv_object_types.specs.View.{object_of}
 use Rattle.rv_collect.specs.Targets.{leads_in}
 use Rattle.rv_collect.specs.Walk.{IsWalk, Grows, IsMarked}
 use Rattle.rv_collect.proofs.walk.Walk.mark_all.Given as goal

@@ -1,6 +1,6 @@
 use Rattle.std.proofs.Common.{◌<◌, ◌∙◌, length, map, rules, ap, sym}
-use Rattle.rv_object.specs.Parts.{relocation_of}
-use Rattle.rv_object.specs.View.{object_of}
+use Rattle.rv_object_types.specs.Parts.{relocation_of}
+use Rattle.rv_object_types.specs.View.{object_of}
 use Rattle.rv_collect.specs.Drops.{id_at}
 use Rattle.rv_collect.specs.Targets.{leads_in}
 use Rattle.rv_collect.specs.Walk.{Referred}

@@ -1,5 +1,5 @@
 use Rattle.std.proofs.Common.{map}
-use Rattle.rv_object.specs.View.{object_of}
+use Rattle.rv_object_types.specs.View.{object_of}
 use Rattle.rv_collect.specs.declared.walk.Walk.{Walk}
 use Rattle.rv_collect.proofs.WalkLemmas.{none_walk}
 use Rattle.rv_collect.proofs.walk.Walk.start.Goals as goal

@@ -32,13 +32,13 @@ data-requires-clause-few c =
     let few : length (said u) ≤ 2 ^ 22 = few_of (said u) c.requires.good in
     omega (arith, few)
 
-pub items-requires-clause-sizes : goal.items-requires-clause-sizes
-items-requires-clause-sizes c =
+pub items-requires : goal.items-requires
+items-requires c = record { sizes =
     let u = c.args.unit.now in
     let ss = said u in
     let code = c.in_ok-code.code in
     sizes_count (tables ss) (located (ss ∷ [])) _ code.sections.items code.sizes.items c.in_ok-code.ensures.code
-    ∙ ap length (one_file ss) ∙ stated_length 1 1 (at_start ss) ss
+    ∙ ap length (one_file ss) ∙ stated_length 1 1 (at_start ss) ss }
 
 pub returns-in_err-items-clause-refuses : goal.returns-in_err-items-clause-refuses
 returns-in_err-items-clause-refuses c =
@@ -66,7 +66,7 @@ returns-clause-draft c =
     let ss = said u in
     let found = c.in_ok-filled.filled in
     let d : Draft = record { items = c.in_ok-items.items; sections = found.sections; ends = c.in_ok-items.ends; fields = found.fields; rvc = c.has_compressed.result } in
-    let sections = sym (length-map u.tables.extents.items extent_section) ∙ ap length (sections_are u.tables.extents.items ∙ ap (λ (t : Tables). (opened_of t).sections) c.requires.filled.tables) in
+    let sections = sym (length-map u.tables.extents.items extent_section) ∙ ap length (sections_are u.tables.extents.items ∙ ap (λ (t : Tables). (opened_of t).sections) c.args.unit.now.filled.tables) in
     let few : length ss ≤ 2 ^ 22 = few_of ss c.requires.good in
     is_draft ss _ c.in_ok-code.code.sections.items c.in_ok-code.code.sizes.items d
     (record {

@@ -1,15 +1,14 @@
 use Rattle.std.proofs.Common.{rules, ◌≡◌, pos, None, subst, sym, ap, ◌∙◌, arith, w64, FitsSigned, to_z, of_z}
 use Rattle.std.proofs.lemmas.Int.{to_z-of_z}
 use Rattle.std.proofs.lemmas.Result.{err_from_is_err_and}
-use Rattle.rv_reloc.specs.Ranges.{Takes}
+use Rattle.rv_reloc.specs.Ranges.{Takes, Refuses}
 use Rattle.rv_object_laws.specs.Moves.{new_offset}
 use Rattle.rv_object_laws.specs.Values.{patched_at}
 use Rattle.rv_isa.specs.declared.kind.Kind.TheVariants as kinds
-use Rattle.rv_object.specs.declared.relocation.Relocation.{Relocation}
-use Rattle.rv_object.specs.Parts.{relocation_of}
+use Rattle.rv_object_types.specs.declared.relocation.Relocation.{Relocation}
+use Rattle.rv_object_types.specs.Parts.{relocation_of}
 use Rattle.rv_shorten.specs.Sections.{moves_in}
 use Rattle.rv_relax.specs.Plan.{moves_of}
-use Rattle.rv_link.specs.Fault.{IsOfPatch}
 use Rattle.rv_link.specs.Filled.{objects_of, input_of}
 use Rattle.rv_link.proofs.IdleLemmas.{idle_next}
 use Rattle.rv_link.proofs.StepsLemmas.{moved_next, patched_step, patched_failed, untaken_by, inside_next}
@@ -69,7 +68,7 @@ returns-in_err-apply-clause-refuses c =
     let fault = c.in_err-apply.field-0.0 in
     let fits : FitsSigned w64 v = search rules in
     let same : to_z w64 (of_z w64 v) ≡ v = to_z-of_z w64 v fits in
-    let told : IsOfPatch r.kind v fault = subst (λ x. IsOfPatch r.kind x fault) same c.in_err-apply.ensures.refuses in
+    let told : Refuses r.kind v fault = subst (λ x. Refuses r.kind x fault) same c.in_err-apply.ensures.refuses in
     let found = err_from_is_err_and c.from_residual-in_err-apply.result c.from_residual-in_err-apply.ensures.1 in
     rw (found.1, found.2) (patched_failed _ _ _ _ _ _ _ (relocation_of r) _ _ fault c.loop-relocation.invariant there
     (untaken_by (objects_of f) f.placement.now (input_of f c.args.input.now) (relocation_of r) v fault c.in_ok-value.ensures.found c.in_ok-value.ensures.alone told))

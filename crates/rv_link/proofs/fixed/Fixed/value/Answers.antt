@@ -1,7 +1,7 @@
 use Rattle.std.proofs.Common.{rules, ◌≡◌, Some, sym, ap, ◌∙◌, w64, FitsSigned, to_z, of_z}
 use Rattle.std.proofs.lemmas.Int.{to_z-of_z}
 use Rattle.std.proofs.lemmas.Result.{err_from_is_err_and}
-use Rattle.rv_object.specs.Parts.{relocation_of}
+use Rattle.rv_object_types.specs.Parts.{relocation_of}
 use Rattle.rv_shorten.specs.Sections.{short_section_of}
 use Rattle.rv_placement.specs.Placement.{starts_of}
 use Rattle.rv_resolve.specs.Shown.{outer_in}

@@ -1,5 +1,5 @@
 use Rattle.std.proofs.Common.{◌≡◌, max, rules}
-use Rattle.rv_object.specs.Parts.{relocation_of}
+use Rattle.rv_object_types.specs.Parts.{relocation_of}
 use Rattle.rv_link_sites.specs.Between.{field_end}
 use Rattle.rv_link_sites.proofs.AloneLemmas.{before_more}
 use Rattle.rv_link_sites.proofs.between.Before.and.Goals as goal

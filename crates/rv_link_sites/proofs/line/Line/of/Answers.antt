@@ -1,6 +1,6 @@
 use Rattle.std.proofs.Common.{◌≡◌, ◌≤◌, ◌+◌, ◌++◌, ◌∷◌, [], length, map, ap, ◌∙◌, arith, rules}
 use Rattle.std.proofs.lemmas.List.{length-append}
-use Rattle.rv_object.specs.Sections.{section_of}
+use Rattle.rv_object_types.specs.Sections.{section_of}
 use Rattle.rv_link_sites.specs.Line.{ended, places}
 use Rattle.rv_link_sites.proofs.StepsLemmas.{files_ended, many_places, object_entries, object_ends, object_places}
 use Rattle.rv_link_sites.proofs.line.Line.of.Goals as goal

@@ -1,5 +1,5 @@
 use Rattle.std.proofs.Common.{◌≡◌, ◌+◌, ◌*◌, ◌++◌, ◌≤◌, ◌^◌, length, map, drop}
-use Rattle.rv_object.specs.View.{object_of}
+use Rattle.rv_object_types.specs.View.{object_of}
 use Rattle.rv_link_sites.specs.Line.{ended_files, places_files, entries}
 use Rattle.rv_link_sites.proofs.line.Line.of.Given as goal
 

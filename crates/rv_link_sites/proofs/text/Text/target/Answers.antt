@@ -1,5 +1,5 @@
 use Rattle.std.proofs.Common.{◌≡◌, ◌∙◌, ◌+◌, ap, sym, rules, Some, None}
-use Rattle.rv_object.specs.Parts.{relocation_of}
+use Rattle.rv_object_types.specs.Parts.{relocation_of}
 use Rattle.rv_link_sites.specs.Text.{objects_of, text_target}
 use Rattle.rv_link_sites.proofs.TargetsLemmas.{target_none, target_is}
 use Rattle.rv_link_sites.proofs.text.Text.target.Goals as goal

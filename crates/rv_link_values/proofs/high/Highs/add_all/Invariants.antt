@@ -1,7 +1,7 @@
 -- The relocations that are done stand behind those that are left, and each place has the first of them.
 use Rattle.std.proofs.Common.{◌≡◌, ◌++◌, List, map, length}
-use Rattle.rv_object.specs.declared.relocation.Relocation.{Relocation as DeclaredRelocation}
-use Rattle.rv_object.specs.Parts.{relocation_of}
+use Rattle.rv_object_types.specs.declared.relocation.Relocation.{Relocation as DeclaredRelocation}
+use Rattle.rv_object_types.specs.Parts.{relocation_of}
 use Rattle.rv_object_laws.specs.Moves.{new_offset}
 use Rattle.rv_shorten.specs.Cutting.{cut_relocation}
 use Rattle.rv_shorten.specs.Sections.{moves_in}

@@ -2,12 +2,12 @@ use Rattle.std.proofs.Common.{◌≡◌, ◌+◌, ◌∙◌, ◌++◌, replicate
 use Rattle.std.specs.List.{AllByRecursion}
 use Rattle.rv_elf.specs.Fields.{symbol_size}
 use Rattle.rv_elf.specs.Records.{symbol_bytes}
-use Rattle.rv_object.specs.Object.{Object, Symbol}
-use Rattle.rv_object.specs.Parts.{symbol_of}
-use Rattle.rv_object.specs.Sections.{section_of}
-use Rattle.rv_object.specs.View.{object_of}
-use Rattle.rv_object.specs.declared.section.Section.{Section as DeclaredSection}
-use Rattle.rv_object.specs.declared.symbol.Symbol.{Symbol as DeclaredSymbol}
+use Rattle.rv_object_types.specs.Object.{Object, Symbol}
+use Rattle.rv_object_types.specs.Parts.{symbol_of}
+use Rattle.rv_object_types.specs.Sections.{section_of}
+use Rattle.rv_object_types.specs.View.{object_of}
+use Rattle.rv_object_types.specs.declared.section.Section.{Section as DeclaredSection}
+use Rattle.rv_object_types.specs.declared.symbol.Symbol.{Symbol as DeclaredSymbol}
 use Rattle.rv_object_file_laws.specs.Known.{IsRelocation, IsSymbol}
 use Rattle.rv_object_file_laws.specs.Written.{rela_pieces, symbol_names, strings_of, symbol_record, symbols_bytes, last_index}
 use Rattle.rv_object_writer.specs.Strings.{IsStringTable}

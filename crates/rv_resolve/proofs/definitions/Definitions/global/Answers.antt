@@ -6,9 +6,9 @@ use Rattle.std.specs.Ordering.{nat_cmp}
 use Rattle.std.specs.Map.{lookup}
 use Rattle.std.proofs.lemmas.List.{at_drop_all}
 use Rattle.std.proofs.lemmas.Result.{err_from_is_err_and}
-use Rattle.rv_object.specs.declared.object.Object.{Object as DeclaredObject}
-use Rattle.rv_object.specs.View.{object_of}
-use Rattle.rv_object.specs.Bindings.{is_global}
+use Rattle.rv_object_types.specs.declared.object.Object.{Object as DeclaredObject}
+use Rattle.rv_object_types.specs.View.{object_of}
+use Rattle.rv_object_types.specs.Bindings.{is_global}
 use Rattle.rv_resolve.specs.Chosen.{Definer, seen_of, definers_in, definers_from}
 use Rattle.rv_resolve.specs.Names.{IsDefinitionTable, IsRefused}
 use Rattle.rv_resolve.proofs.LoadingLemmas.{seen_symbols, files_left, HasBut, all_had, one_more, one_refused, global_definers, table_distinct, first_refused}

@@ -1,5 +1,5 @@
 use Rattle.std.proofs.Common.{map}
-use Rattle.rv_object.specs.View.{object_of}
+use Rattle.rv_object_types.specs.View.{object_of}
 use Rattle.rv_resolve.proofs.LoadingLemmas.{global_definers}
 use Rattle.rv_resolve.proofs.definitions.Definitions.of.Goals as goal
 

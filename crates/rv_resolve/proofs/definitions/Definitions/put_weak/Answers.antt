@@ -1,8 +1,8 @@
 use Rattle.std.proofs.Common.{◌<◌, ◌≤◌, ◌++◌, ◌+◌, List, length, map, drop, rules, refl, sym, ap, subst, ◌∙◌}
 use Rattle.std.proofs.lemmas.List.{at_drop_all}
-use Rattle.rv_object.specs.declared.object.Object.{Object as DeclaredObject}
-use Rattle.rv_object.specs.View.{object_of}
-use Rattle.rv_object.specs.Bindings.{is_weak}
+use Rattle.rv_object_types.specs.declared.object.Object.{Object as DeclaredObject}
+use Rattle.rv_object_types.specs.View.{object_of}
+use Rattle.rv_object_types.specs.Bindings.{is_weak}
 use Rattle.rv_resolve.specs.Chosen.{Definer, seen_of, definers_in, definers_from}
 use Rattle.rv_resolve.specs.Names.{AnswersFirst}
 use Rattle.rv_resolve.proofs.LoadingLemmas.{seen_symbols, files_left, HasBut, all_had, one_more}

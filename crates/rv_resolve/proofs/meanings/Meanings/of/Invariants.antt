@@ -1,7 +1,7 @@
 -- The rows so far, with what is left, are the whole.
 use Rattle.std.proofs.Common.{◌≡◌, ◌++◌, Option, map, drop}
 use Rattle.std.specs.Global.{Vec}
-use Rattle.rv_object.specs.View.{object_of}
+use Rattle.rv_object_types.specs.View.{object_of}
 use Rattle.rv_resolve.specs.declared.definitions.Exported.{Exported}
 use Rattle.rv_resolve.specs.Chosen.{seen_of, definitions}
 use Rattle.rv_resolve.specs.Names.{AnswersFirst, outside}

@@ -1,6 +1,6 @@
 use Rattle.std.proofs.Common.{◌≡◌, ◌∙◌, Some, None, option_map, map, ap, sym}
 use Rattle.std.specs.Prelude.{option_and_then}
-use Rattle.rv_object.specs.View.{object_of}
+use Rattle.rv_object_types.specs.View.{object_of}
 use Rattle.rv_object_laws.specs.Collects.{run_place}
 use Rattle.rv_resolve.specs.Chosen.{definer}
 use Rattle.rv_resolve.specs.Names.{exported_of}

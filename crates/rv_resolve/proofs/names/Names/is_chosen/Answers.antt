@@ -1,6 +1,6 @@
 use Rattle.std.proofs.Common.{◌≡◌, true, sym, ap, ◌∙◌}
 use Rattle.std.specs.Prelude.{◌&&◌, option_map}
-use Rattle.rv_object.specs.Parts.{symbol_of}
+use Rattle.rv_object_types.specs.Parts.{symbol_of}
 use Rattle.rv_object_laws.specs.Names.{is_defined}
 use Rattle.rv_shorten.specs.Cutting.{cut_symbol}
 use Rattle.rv_resolve.specs.Chosen.{definer}

@@ -1,8 +1,8 @@
 use Rattle.std.proofs.Common.{◌≡◌, None, map, option_map, ap, sym, ◌∙◌}
 use Rattle.std.specs.Prelude.{◌||◌}
 use Rattle.rv_map.specs.Globals.{is_one_of}
-use Rattle.rv_object.specs.Parts.{symbol_of}
-use Rattle.rv_object.specs.Bindings.{is_weak}
+use Rattle.rv_object_types.specs.Parts.{symbol_of}
+use Rattle.rv_object_types.specs.Bindings.{is_weak}
 use Rattle.rv_object_laws.specs.Names.{chosen}
 use Rattle.rv_shorten.specs.View.{short_object_of}
 use Rattle.rv_resolve.specs.declared.names.Meant.{Meant}

@@ -1,6 +1,6 @@
 use Rattle.std.proofs.Common.{◌≡◌, ◌<◌, ◌≤◌, ◌∙◌, None, length, map, option_map, rules, ap, sym, subst}
 use Rattle.std.proofs.lemmas.List.{at_drop_all}
-use Rattle.rv_object.specs.Object.{Object}
+use Rattle.rv_object_types.specs.Object.{Object}
 use Rattle.rv_object_laws.specs.Names.{outer_address}
 use Rattle.rv_shorten.specs.View.{short_object_of}
 use Rattle.rv_resolve.specs.Names.{name_bytes}

@@ -1,9 +1,9 @@
 use Rattle.std.proofs.Common.{◌<◌, None, length, map, option_map, get_or, rules, ap, sym, pos, ◌∙◌}
 use Rattle.std.proofs.lemmas.List.{get_or_default}
 use Rattle.rv_isa.specs.declared.kind.Kind.TheVariants as kinds
-use Rattle.rv_object.specs.declared.relocation.Relocation.{Relocation as DeclaredRelocation}
-use Rattle.rv_object.specs.Object.{Relocation}
-use Rattle.rv_object.specs.Parts.{relocation_of}
+use Rattle.rv_object_types.specs.declared.relocation.Relocation.{Relocation as DeclaredRelocation}
+use Rattle.rv_object_types.specs.Object.{Relocation}
+use Rattle.rv_object_types.specs.Parts.{relocation_of}
 use Rattle.rv_shorten.specs.View.{short_object_of}
 use Rattle.rv_resolve.specs.Names.{name_bytes}
 use Rattle.rv_resolve.specs.Undefined.{undefined_name}

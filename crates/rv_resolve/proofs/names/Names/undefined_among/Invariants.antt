@@ -1,7 +1,7 @@
 -- The first of what is left is the first of all.
 use Rattle.std.proofs.Common.{◌≡◌, Some, map, drop}
 use Rattle.std.specs.List.{slice_get}
-use Rattle.rv_object.specs.Parts.{relocation_of}
+use Rattle.rv_object_types.specs.Parts.{relocation_of}
 use Rattle.rv_shorten.specs.View.{short_object_of}
 use Rattle.rv_resolve.specs.Names.{IsNames}
 use Rattle.rv_resolve.specs.Undefined.{first_some, undefined_name}

@@ -1,7 +1,7 @@
 use Rattle.std.proofs.Common.{map, ap, ◌∙◌}
-use Rattle.rv_object.specs.Parts.{symbol_of}
-use Rattle.rv_object.specs.Sections.{section_of}
-use Rattle.rv_object.specs.Valid.{are_rows}
+use Rattle.rv_object_types.specs.Parts.{symbol_of}
+use Rattle.rv_object_types.specs.Sections.{section_of}
+use Rattle.rv_object_types.specs.Valid.{are_rows}
 use Rattle.rv_shorten.specs.Cutting.{cut_symbol, cut_row_of}
 use Rattle.rv_shorten.specs.Sections.{moves_in_all}
 use Rattle.rv_shorten.proofs.StaysLemmas.{all_fitting, rows_stay}

@@ -1,11 +1,11 @@
 -- What the parts of an object stand for.
 
 use Rattle.std.specs.Cow.{cow_slice_items}
-use Rattle.rv_object.specs.declared.contents.Contents.{Contents as DeclaredContents}
-use Rattle.rv_object.specs.declared.contents.Contents.TheVariants as contents
-use Rattle.rv_object.specs.declared.symbol.Symbol.{Symbol as DeclaredSymbol}
-use Rattle.rv_object.specs.declared.relocation.Relocation.{Relocation as DeclaredRelocation}
-use Rattle.rv_object.specs.Object.{Contents, Progbits, Note, Nobits, Relocation, Symbol}
+use Rattle.rv_object_types.specs.declared.contents.Contents.{Contents as DeclaredContents}
+use Rattle.rv_object_types.specs.declared.contents.Contents.TheVariants as contents
+use Rattle.rv_object_types.specs.declared.symbol.Symbol.{Symbol as DeclaredSymbol}
+use Rattle.rv_object_types.specs.declared.relocation.Relocation.{Relocation as DeclaredRelocation}
+use Rattle.rv_object_types.specs.Object.{Contents, Progbits, Note, Nobits, Relocation, Symbol}
 
 abbrev pub contents_of : DeclaredContents → Contents
 contents_of (contents.Progbits bytes) = Progbits (cow_slice_items bytes)

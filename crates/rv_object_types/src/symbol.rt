@@ -1,7 +1,7 @@
 //! Symbols of an object.
 
 ghost use Rattle.std.specs.Prelude.{IsTrue};
-ghost use Rattle.rv_object.specs.Valid.{is_shown, has_64_bits};
+ghost use Rattle.rv_object_types.specs.Valid.{is_shown, has_64_bits};
 
 /// Who may name a symbol (gABI, "Symbol Table", st_info).
 #[derive(Clone, Copy, Debug, PartialEq, Eq, Drop)]

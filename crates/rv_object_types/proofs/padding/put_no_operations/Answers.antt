@@ -1,7 +1,7 @@
 use Rattle.std.proofs.Common.{◌+◌, ◌-◌, ◌/◌, ◌++◌, ap, ◌∙◌}
-use Rattle.rv_object.specs.Padding.{four_each}
-use Rattle.rv_object.proofs.NopsLemmas.{four_more, whole, and_half}
-use Rattle.rv_object.proofs.padding.put_no_operations.Goals as goal
+use Rattle.rv_object_types.specs.Padding.{four_each}
+use Rattle.rv_object_types.proofs.NopsLemmas.{four_more, whole, and_half}
+use Rattle.rv_object_types.proofs.padding.put_no_operations.Goals as goal
 
 pub loop-preserved : goal.loop-preserved
 loop-preserved c =

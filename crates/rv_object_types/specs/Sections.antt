@@ -1,9 +1,9 @@
 -- What a section of the code stands for.
 
 use Rattle.std.specs.Prelude.{map}
-use Rattle.rv_object.specs.declared.section.Section.{Section as DeclaredSection}
-use Rattle.rv_object.specs.Object.{Section}
-use Rattle.rv_object.specs.Parts.{contents_of, relocation_of}
+use Rattle.rv_object_types.specs.declared.section.Section.{Section as DeclaredSection}
+use Rattle.rv_object_types.specs.Object.{Section}
+use Rattle.rv_object_types.specs.Parts.{contents_of, relocation_of}
 
 abbrev pub section_of : DeclaredSection → Section
 section_of s = record {

@@ -1,6 +1,6 @@
 use Rattle.std.proofs.Common.{◌≡◌, ◌-◌, ◌/◌, ◌++◌}
-use Rattle.rv_object.specs.Padding.{four_each}
-use Rattle.rv_object.proofs.padding.put_no_operations.Given as goal
+use Rattle.rv_object_types.specs.Padding.{four_each}
+use Rattle.rv_object_types.proofs.padding.put_no_operations.Given as goal
 
 -- what is there so far, and what is left, make up the whole
 abbrev pub invariant-loop : goal.invariant-loop

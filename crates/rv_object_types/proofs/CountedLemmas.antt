@@ -3,8 +3,8 @@
 use Rattle.std.proofs.Common.{◌≡◌, ◌<◌, ◌^◌, true, ◌&&◌, nat_lt, List, [], ◌∷◌, ◌++◌, refl, ap, ◌∙◌}
 use Rattle.std.proofs.lemmas.Bool.{and_from, and_parts, lt-ltb, ltb-true}
 use Rattle.std.proofs.lemmas.List.Folds.{list_all-append}
-use Rattle.rv_object.specs.declared.row.Row.{Row}
-use Rattle.rv_object.specs.Valid.{is_counted, are_counted}
+use Rattle.rv_object_types.specs.declared.row.Row.{Row}
+use Rattle.rv_object_types.specs.Valid.{is_counted, are_counted}
 
 pub row_counted : (r : Row) → r.line < 2 ^ 32 → r.ordinal < 2 ^ 32 → r.section < 2 ^ 32 → r.offset < 2 ^ 64 → r.bytes < 2 ^ 32 → r.instructions < 2 ^ 32 → is_counted r ≡ true
 row_counted r line ordinal section offset bytes instructions =

@@ -1,8 +1,8 @@
 -- What the binding of a symbol says (gABI, "Symbol Table", st_info).
 
 use Rattle.std.specs.Prelude.{Bool, true, false}
-use Rattle.rv_object.specs.declared.symbol.Binding.{Binding}
-use Rattle.rv_object.specs.declared.symbol.Binding.TheVariants.{Local, Global, Weak}
+use Rattle.rv_object_types.specs.declared.symbol.Binding.{Binding}
+use Rattle.rv_object_types.specs.declared.symbol.Binding.TheVariants.{Local, Global, Weak}
 
 -- all files can mean the name
 abbrev pub is_shared : Binding → Bool

@@ -2,9 +2,9 @@
 
 use Rattle.std.specs.Prelude.{ℕ, ℤ, Bool, List, [], length, Option}
 use Rattle.rv_isa.specs.declared.kind.Kind.{Kind}
-use Rattle.rv_object.specs.declared.symbol.Binding.{Binding}
-use Rattle.rv_object.specs.declared.symbol.Definition.{Definition}
-use Rattle.rv_object.specs.declared.row.Row.{Row}
+use Rattle.rv_object_types.specs.declared.symbol.Binding.{Binding}
+use Rattle.rv_object_types.specs.declared.symbol.Definition.{Definition}
+use Rattle.rv_object_types.specs.declared.row.Row.{Row}
 
 -- what a section has in the file: SHT_PROGBITS, SHT_NOTE, SHT_NOBITS
 pub data Contents : Type 0 where

@@ -1,9 +1,9 @@
 //! Relocatable objects.
 
 ghost use Rattle.std.specs.Prelude.{IsTrue, map};
-ghost use Rattle.rv_object.specs.Parts.{symbol_of};
-ghost use Rattle.rv_object.specs.Sections.{section_of};
-ghost use Rattle.rv_object.specs.Valid.{are_indexed, are_defined, are_rows, are_counted};
+ghost use Rattle.rv_object_types.specs.Parts.{symbol_of};
+ghost use Rattle.rv_object_types.specs.Sections.{section_of};
+ghost use Rattle.rv_object_types.specs.Valid.{are_indexed, are_defined, are_rows, are_counted};
 
 use crate::row::Row;
 use crate::section::Section;

@@ -1,8 +1,8 @@
 //! Sections of an object.
 
 ghost use Rattle.std.specs.Prelude.{IsTrue, map};
-ghost use Rattle.rv_object.specs.Parts.{relocation_of, contents_of};
-ghost use Rattle.rv_object.specs.Valid.{is_section_alignment, is_string, keeps_name, is_even, is_loaded_alone, fit_inside, are_paddings};
+ghost use Rattle.rv_object_types.specs.Parts.{relocation_of, contents_of};
+ghost use Rattle.rv_object_types.specs.Valid.{is_section_alignment, is_string, keeps_name, is_even, is_loaded_alone, fit_inside, are_paddings};
 
 use crate::contents::Contents;
 use crate::relocation::Relocation;

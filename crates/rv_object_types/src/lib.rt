@@ -1,0 +1,33 @@
+//! Objects: what the assembler makes of a source, and what the linker takes.
+//!
+//! It gives the types [`Object`], [`Section`], [`Symbol`], [`Relocation`] and [`Row`], and in `specs/Object` the same as
+//! plain data, of which the contracts of the assembler and the linker speak. What a reader of files tests, each value of
+//! these types keeps (`specs/Valid`): powers of two as alignments, fields inside their sections, indices below counts.
+//!
+//! Padding in code is written and counted here, as the assembler and the linker both do it.
+//!
+//! It knows neither statements nor addresses.
+//!
+//! ```text
+//! let text = Section { name: b".text", loaded: true, executable: true, writable: false, contents, alignment: 2, relocations };
+//! let object = Object { sections, symbols, rows, rvc: false };
+//! ```
+//!
+//! Source: System V gABI, "Sections", "Symbol Table", "Relocation"; RISC-V ELF psABI, "Relocations".
+#![tactic(auto)]
+
+mod contents;
+mod object;
+mod padding;
+mod relocation;
+mod row;
+mod section;
+mod symbol;
+
+pub use contents::Contents;
+pub use object::Object;
+pub use padding::{operations, put_no_operations};
+pub use relocation::Relocation;
+pub use row::Row;
+pub use section::Section;
+pub use symbol::{Binding, Definition, Symbol};
