@@ -1,12 +1,13 @@
-# make             proves and builds the program as ./rv, and runs an example with it
-# make check       runs the cases of tests/ over ./rv, in seconds
+# make quick       builds the program as ./rv in minutes, with no proof, and runs an example with it
+# make             proves and builds the program as ./rv, and runs the example
+# make check       runs the cases of tests/ over ./rv, whichever of both made it, in seconds
 # make refused     refuses each request for memory of ./rv and of the library's calls in turn
 # make test        the whole gate: every proof from nothing, the must-fail edits, the tests, the programs and their cases,
 #                  and what each crate cost
 # make bench       measures rv beside GNU's tools, qemu-riscv64 and an interpreter in C, where they are installed,
 #                  and prints the table of targets last
 # make growth      draws how their times grow: bench/growth.svg
-# make install     PREFIX=/usr/local by default; puts the man page and the completions of shells in place as well,
+# make install     PREFIX=/usr/local by default; the proved program, the man page and the completions of shells,
 #                  and an assembler for gcc -B PREFIX/libexec/rv/
 
 PREFIX ?= /usr/local
@@ -17,16 +18,40 @@ PROGRAM := crates/rv_cli/out/rv_cli
 FILES := $(shell find crates \( -name out -o -name must-fail -o -name '*_tests' \) -prune -o -type f -print)
 SOURCES := crates.txt $(filter-out crates/rv_refused/%,$(FILES))
 
-.PHONY: all check refused test bench growth install clean
+# ./rv is a copy of the program that was made last. Each has a file of its own, so `make` makes the proved one however
+# new an unproved one is.
+PROVED := out/proved/rv
+UNPROVED := out/quick/rv
 
-all: rv
-	@echo "rv run $(EXAMPLE)"
-	@./rv run $(EXAMPLE) </dev/null; echo "exit status $$?"
+.PHONY: all quick proved check refused test bench growth install clean
 
-# A program bears its crate's name; it is copied under its own.
-rv: $(SOURCES)
+all: proved
+	$(RUN_EXAMPLE)
+
+define RUN_EXAMPLE
+@echo "rv run $(EXAMPLE)"
+@./rv run $(EXAMPLE) </dev/null; echo "exit status $$?"
+endef
+
+quick: $(UNPROVED)
+	@cp -f $(UNPROVED) rv
+	$(RUN_EXAMPLE)
+	@echo "Nothing of this ./rv is proved; make proves and builds it."
+
+proved: $(PROVED)
+	@cp -f $(PROVED) rv
+
+# A program bears its crate's name; it is copied under its own, with its mark.
+$(PROVED): $(SOURCES)
 	scripts/build.py rv_cli
-	cp $(PROGRAM) rv
+	scripts/marks.py $(PROGRAM) $(PROVED)
+
+$(UNPROVED): $(SOURCES)
+	scripts/quick.py rv_cli $(UNPROVED)
+
+# (where there is none, or one of older sources)
+rv: $(SOURCES)
+	$(MAKE) --no-print-directory proved
 
 rv_refused: crates.txt $(FILES)
 	scripts/build.py rv_refused
@@ -39,6 +64,7 @@ check: rv
 	tests/tour.py
 	tests/shells.py
 	tests/terminal.py
+	tests/making.py
 	scripts/links.py
 	scripts/want_of_memory.py
 	scripts/definitions.py
@@ -56,7 +82,7 @@ bench: rv
 growth: rv
 	python3 bench/growth.py
 
-install: rv
+install: proved
 	install -D -m 755 rv $(TO)/bin/rv
 	install -D -m 755 scripts/as.sh $(TO)/libexec/rv/as
 	scripts/manual_page.py | install -D -m 644 /dev/stdin $(TO)/share/man/man1/rv.1

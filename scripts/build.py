@@ -10,58 +10,16 @@ passed over. A line a crate tells the seconds that it took; the first that is re
 As many checks run at once as there are processors and 3 GB of free memory for each, the longest chain first.
 """
 
-import importlib.machinery
-import importlib.util
 import os
-import shutil
 import signal
 import subprocess
 import sys
-import tempfile
-import threading
 import time
 from concurrent.futures import FIRST_COMPLETED, ThreadPoolExecutor, wait
 
-ROOT = os.path.dirname(os.path.dirname(os.path.realpath(__file__)))
+import kit
+
 EACH = 3_000_000_000
-
-
-def checker_module(name, file):
-    """A Python file that stands beside `rt`, as a module."""
-    rt = shutil.which("rt") or sys.exit("rt is not on the PATH: README.md names the checker that this needs")
-    path = f"{os.path.dirname(os.path.realpath(rt))}/{file}"
-    loader = importlib.machinery.SourceFileLoader(name, path)
-    made = importlib.util.module_from_spec(importlib.util.spec_from_loader(name, loader))
-    sys.modules[name] = made
-    loader.exec_module(made)
-    return made
-
-
-def checker():
-    """The checker's own library, which `rt` loads in the same way."""
-    made = checker_module("rtlib", "rtlib.py")
-    made.Crate.stamp = once(made.Crate.stamp)
-    return made
-
-
-def once(stamp):
-    """A crate's stamp is made of the stamps of those below it: each is made once for an answer, and not once for each
-    way that leads to it, of which there are a hundred thousand below the uppermost crates."""
-    local = threading.local()
-
-    def answer(crate):
-        is_outermost = not hasattr(local, "known")
-        if is_outermost:
-            local.known = {}
-        try:
-            if crate.folder not in local.known:
-                local.known[crate.folder] = stamp(crate)
-            return local.known[crate.folder]
-        finally:
-            if is_outermost:
-                del local.known
-
-    return answer
 
 
 def lanes():
@@ -69,18 +27,6 @@ def lanes():
     with open("/proc/meminfo") as it:
         free = next(1024 * int(line.split()[1]) for line in it if line.startswith("MemAvailable"))
     return max(min(len(os.sched_getaffinity(0)), free // EACH), 1)
-
-
-def build(crate, jobs):
-    """Builds one library; its status and what the checker wrote."""
-    os.makedirs(f"{crate.folder}/out", exist_ok=True)
-    with tempfile.TemporaryFile("w+", errors="replace") as crate.out:
-        try:
-            status = crate.build_rlib(["--jobs", str(jobs)], anew=False)
-        except SystemExit:
-            status = 2
-        crate.out.seek(0)
-        return status, crate.out.read()
 
 
 def stop(name, status, said):
@@ -93,18 +39,18 @@ def build_all(crates, built, at_once):
     """Builds the libraries, lowest first, each once those below it are built."""
     length = {}
     for it in reversed(crates):
-        length[it] = it.count(rb"\n") + max((length[up] for up in length if it in up.below()), default=0)
+        length[it] = it.lines + max((length[up] for up in length if it in up.below), default=0)
     left, running, done = sorted(crates, key=lambda it: -length[it]), {}, {*built}
     with ThreadPoolExecutor(at_once) as pool:
         while left or running:
-            ready = [it for it in left if done.issuperset(it.below())]
+            ready = [it for it in left if done.issuperset(it.below)]
             for at, it in enumerate(ready):
                 idle = at_once - sum(jobs for _, jobs, _ in running.values())
                 if idle > 0:
                     left.remove(it)
                     # (a crate gets the processors that no other waits for)
                     jobs = max(idle // (len(ready) - at), 1)
-                    running[pool.submit(build, it, jobs)] = it, jobs, time.monotonic()
+                    running[pool.submit(it.build, jobs)] = it, jobs, time.monotonic()
             for ended in wait(running, return_when=FIRST_COMPLETED).done:
                 crate, _, start = running.pop(ended)
                 status, said = ended.result()
@@ -121,7 +67,7 @@ def tell(count, name, start):
 def build_program(program):
     """Proves, compiles and links the program over its libraries, and sees that it starts."""
     start = time.monotonic()
-    how = {"cwd": f"{ROOT}/crates/{program}", "stdout": subprocess.PIPE, "stderr": subprocess.STDOUT, "text": True}
+    how = {"cwd": f"{kit.ROOT}/crates/{program}", "stdout": subprocess.PIPE, "stderr": subprocess.STDOUT, "text": True}
     words = [sys.executable, os.path.realpath(__file__), program, "--version"]
     ran = subprocess.run(words, stdin=subprocess.DEVNULL, errors="replace", **how)
     if ran.returncode:
@@ -129,31 +75,17 @@ def build_program(program):
     tell("program", program, start)
 
 
-def run_program(words):
-    """Does what `rt run` does in the working folder, with these words for the program, with stamps that are made once."""
-    rt = checker_module("rt", "rt")
-    rt.rtlib.Crate.stamp = once(rt.rtlib.Crate.stamp)
-    return rt.main(["run", "--", *words])
-
-
 def main(program, *words):
     if words:
-        return run_program(words)
+        return kit.run(words)
     # (with Python's own handler, Ctrl-C would wait for the checks)
     signal.signal(signal.SIGINT, signal.SIG_DFL)
-    rtlib = checker()
-    rtlib.guarded()
-    needed = rtlib.Crate(f"{ROOT}/crates/{program}", ROOT, {}).below()
-    held = rtlib.lock(needed)
-    built = [it for it in needed if it.is_built()]
-    crates = [it for it in needed if it not in built]
-    for it in crates:
-        rtlib.stop_on_links(it.folder)
-    at_once = lanes()
-    print(f"{len(crates)} of {len(needed)} libraries to prove, up to {at_once} checks at once", flush=True)
-    build_all(crates, built, at_once)
-    for it in held:
-        os.close(it)
+    with kit.libraries(program) as needed:
+        built = [it for it in needed if it.is_built]
+        crates = [it for it in needed if not it.is_built]
+        at_once = lanes()
+        print(f"{len(crates)} of {len(needed)} libraries to prove, up to {at_once} checks at once", flush=True)
+        build_all(crates, built, at_once)
     build_program(program)
     return 0
 

@@ -15,12 +15,14 @@ import sys
 from pathlib import Path
 
 import gate_times
+import marks
 
 ROOT = Path(__file__).resolve().parent.parent
-PROGRAMS = {"rv_cli": "rv", "rv_refused": "rv_refused"}
+# Where `make` looks for the program that it made.
+PROVED = ROOT / "out/proved/rv"
 OF_PROGRAMS = [["tests/run.py"], ["tests/collected.py"], ["tests/damaged.py", "--all"], ["tests/explained.py"],
                ["tests/tour.py"], ["tests/shells.py"], ["tests/terminal.py"],
-               ["tests/refused.py"]]
+               ["tests/making.py"], ["tests/refused.py"]]
 OF_FILES = [["scripts/links.py"], ["scripts/want_of_memory.py"], ["scripts/definitions.py"]]
 
 
@@ -38,19 +40,20 @@ def said(words):
     return passed, failed or int(ran.returncode != 0)
 
 
-def copy(built, program):
+def copy(built, program, by=shutil.copy):
     """Copies a program that was built; without one, none of an earlier run stays."""
     program.unlink(missing_ok=True)
     if built.exists():
-        shutil.copy(built, program)
+        by(built, program)
 
 
 def main():
     status, lines = gate_times.measured(["rt", "ci"])
     passed, failed = counts(lines[-1].strip() if lines else "")
     sums = [(passed, failed or int(status != 0))]
-    for crate, name in PROGRAMS.items():
-        copy(ROOT / "crates" / crate / "out" / crate, ROOT / name)
+    copy(ROOT / "crates/rv_cli/out/rv_cli", PROVED, marks.mark)
+    copy(PROVED, ROOT / "rv")
+    copy(ROOT / "crates/rv_refused/out/rv_refused", ROOT / "rv_refused")
     scripts = [*(OF_PROGRAMS if (ROOT / "rv").exists() else []), *OF_FILES]
     sums += [said(words) for words in scripts]
     passed, failed = map(sum, zip(*sums))
