@@ -19,8 +19,8 @@ LONGEST = 100
 MOST_MEANINGS = 2
 WORD = r"[A-Za-z_][\w'-]*"
 HEAD = re.compile(rf"(?:(?:abbrev|unfoldable|pub|data|record) )*({WORD})")
-USE = re.compile(r"^(?:pub )?use ([\w.]+?)(?:\.\{([^}]*)\})?(?: as (\w+))?\s*$", re.M)
-NO_DEFINITION = ("use ", "pub use", "pub mod", "unfolding")
+USE = re.compile(r"^(?:(?:unfoldable )?pub )?use ([\w.]+?)(?:\.\{([^}]*)\})?(?: as (\w+))?\s*$", re.M)
+NO_DEFINITION = ("use ", "pub use", "unfoldable pub use", "pub mod", "unfolding")
 # What a definition with such a result says, other files see only by `abbrev`; so without it may stand again.
 KEPT_BACK = re.compile(r"(?:Bool|ℕ|Type 0|Site|Row|Token|Options|Expression|StatementKind|(?:List|Option) .*)")
 
@@ -56,7 +56,7 @@ class File:
     def faults(self):
         """The lines of a file of definitions that are too long."""
         for number, line in enumerate(self.text.splitlines() if self.is_spec else [], 1):
-            if len(line) > LONGEST and not line.startswith(("use ", "pub use ", "--")):
+            if len(line) > LONGEST and not line.startswith(("use ", "pub use ", "unfoldable pub use ", "--")):
                 yield f"line {number} has {len(line)} characters"
 
 

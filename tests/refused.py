@@ -48,14 +48,14 @@ SOURCES = {
     "far_tail": Source([f"{START}tail f; {1021 * 'nop; '}f: {EXIT}"]),
     "two_files": Source(
         [f"{START}li a0, 0; loop: addi a0, a0, 1; li t0, 3; blt a0, t0, loop; tail f",
-         f".weak f; .globl loop; f: loop: addi a0, a0, 4; li t0, 10; blt a0, t0, loop; {EXIT}"],
+         f".globl f, loop; f: loop: addi a0, a0, 4; li t0, 10; blt a0, t0, loop; {EXIT}"],
         status=11),
     "echo_four": Source(
         [f"{START}li a0, 0; la a1, b; li a2, 4; li a7, 63; ecall; mv a2, a0; li a0, 1; li a7, 64; ecall; li a0, 0; {EXIT}; "
          ".bss; b: .zero 4"],
         console=b"abcd", given=b"abcdef"),
     "outside": Source(
-        [f"{START}li a0, 1; la a1, b; li a2, 1; li a7, 64; ecall; ld a0, (zero); .data; b: .byte 'b'"],
+        [f"{START}li a0, 1; la a1, b; li a2, 1; li a7, 64; ecall; ld a0, (zero); .data; .weak b; b: .byte 'b'"],
         console=b"b", status=125, end="LoadOutside 0"),
     "left_out": Source(
         [f'{START}call f; {EXIT}; .section .text.g, "ax"; g: la a0, d; ret; .data; d: .dword 9',

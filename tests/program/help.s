@@ -37,8 +37,6 @@
 # out is: explain.txt
 # rv: completions --help
 # out is: completions.txt
-# rv: --version
-# out: rv 0.1.0\n
 #--- rv.txt
 Assembles, links and runs bare RISC-V programs (RV64IMAC).
 
