@@ -12,7 +12,7 @@ use Rattle.rv_object_laws.specs.Inputs.{Starts, InputSection, goes_to_text, inpu
 use Rattle.rv_object_laws.specs.Names.{object_at, no_object}
 use Rattle.rv_object_laws.specs.Values.{patched_at, applied, initial_bytes}
 use Rattle.rv_shorten.specs.Sections.{short_section_of}
-use Rattle.rv_relax.specs.Plan.{moves_of}
+use Rattle.rv_relax.specs.Kept.{moves_of}
 use Rattle.rv_placement.specs.declared.placement.Placement.{Placement}
 use Rattle.rv_placement.specs.Placement.{starts_of, section_in, object_section}
 use Rattle.rv_isa.specs.declared.kind.Kind.{Kind}
@@ -192,7 +192,7 @@ linked_long os p x is =
     let i : InputSection = input_at os x.file x.index s in
     let base : ℕ = starts_of p (x.file + 1) x.index in
     let ms : List Move = moves base s in
-    let same : moves_of x.placed.now.plan ≡ ms = is.planned ∙ ap (λ n. moves n s) (sym is.start) in
+    let same : moves_of x.placed.now.plan.now ≡ ms = is.planned ∙ ap (λ n. moves n s) (sym is.start) in
     let room : IsTrue (list_all has_room ms) = subst (λ m. IsTrue (list_all has_room m)) same is.room in
     let inside : AllByRecursion (IsInside ms (length (kept 0 ms (initial_bytes s.contents)))) s.relocations = all_inside s base ms (kept 0 ms (initial_bytes s.contents)) refl room x.section.now.paddings x.section.now.inside refl in
     applied_length ms (worth os p i) s.relocations (kept 0 ms (initial_bytes s.contents)) inside ∙ kept_long s base ms refl room x.section.now.paddings

@@ -15,7 +15,7 @@ use Rattle.rv_object_laws.specs.Names.{entry_of}
 use Rattle.rv_object_laws.specs.IsLinkOf.{most_files, IsLinkOf, is_loaded}
 use Rattle.rv_object_laws.proofs.TextInputsLemmas.{all_append}
 use Rattle.rv_isa_laws.specs.Platform.{stack_start}
-use Rattle.rv_relax.specs.Plan.{moves_of}
+use Rattle.rv_relax.specs.Kept.{moves_of}
 use Rattle.rv_placement.specs.declared.placement.PlacedSection.{PlacedSection}
 use Rattle.rv_placement.specs.declared.placement.Placement.{Placement}
 use Rattle.rv_placement.specs.Placement.{starts_of, start_in, placed_in, placed_at, section_in, object_section, are_roomy_in, are_roomy, IsPlacement}
@@ -85,9 +85,9 @@ has_its_room os start p placed roomy file o index s at there =
     let found : placed_at p file index ≡ Some q = ap (λ z. placed_in z index) qs_there ∙ q_there in
     let back : suc file - 1 ≡ file = omega arith in
     let starts : starts_of p (suc file) index ≡ q.start = ap (λ n. start_in (placed_at p n index)) back ∙ ap start_in found in
-    let planned : moves_of q.plan ≡ moves q.start s = placed.planned file index s q stands found in
+    let planned : moves_of q.plan.now ≡ moves q.start s = placed.planned file index s q stands found in
     let row : are_roomy_in qs.items ≡ true = all_at (λ g. are_roomy_in g.items) p.files.items file qs roomy qs_there in
-    let own : list_all has_room (moves_of q.plan) ≡ true = all_at (λ z. list_all has_room (moves_of z.plan)) qs.items index q row q_there in
+    let own : list_all has_room (moves_of q.plan.now) ≡ true = all_at (λ z. list_all has_room (moves_of z.plan.now)) qs.items index q row q_there in
     subst (λ m. IsTrue (list_all has_room m)) (planned ∙ ap (λ n. moves n s) (sym starts)) own
 
 -- ---- the whole

@@ -15,7 +15,7 @@ use Rattle.rv_object_laws.proofs.TextInputsLemmas.{all_append}
 use Rattle.rv_shorten.specs.declared.object.ShortObject.{ShortObject}
 use Rattle.rv_shorten.specs.Cutting.{cut_row_of}
 use Rattle.rv_shorten.specs.View.{short_object_of, moves_by_section as cuts_of}
-use Rattle.rv_relax.specs.Plan.{moves_of}
+use Rattle.rv_relax.specs.Kept.{moves_of}
 use Rattle.rv_relax.proofs.RisingLemmas.{plan_rises}
 use Rattle.rv_placement.specs.declared.placement.Placement.{Placement}
 use Rattle.rv_placement.specs.Placement.{starts_of, object_section, IsPlacement}
@@ -69,20 +69,20 @@ module _ (os : List Object) (start : ℕ) (p : Placement) (is : IsPlacement os s
       let stands : object_section os file r.section ≡ Some s = in_object os file r.section o at ∙ there in
       let (q, found) = is_placed os start p is file r.section s stands in
       let low = is.low file r.section s q stands found in
-      let planned : moves_of q.plan ≡ moves q.start s = is.planned file r.section s q stands found in
+      let planned : moves_of q.plan.now ≡ moves q.start s = is.planned file r.section s q stands found in
       let same : file + 1 ≡ suc file = omega arith in
       let begins : q.start ≡ starts_of p (suc file) r.section = sym (start_is p file r.section q (sym found)) ∙ ap (λ n. starts_of p n r.section) same in
-      let row_is : map_row (suc file) q.start (moves_of q.plan) r ≡ row_in (starts_of p) (suc file) o r =
+      let row_is : map_row (suc file) q.start (moves_of q.plan.now) r ≡ row_in (starts_of p) (suc file) o r =
       ap (λ ms. map_row (suc file) q.start ms r) planned
       ∙ ap (λ x. map_row (suc file) q.start (moves_at q.start x) r) (sym there)
       ∙ ap (λ n. map_row (suc file) n (moves_at n (slice_get o.sections r.section)) r) begins in
       let size = size_of s.contents in
-      let new = new_offset (moves_of q.plan) in
-      let first : new r.offset ≤ new size = plan_rises q.plan r.offset size (omega (arith, within)) in
-      let last : new (r.offset + r.bytes) ≤ new size = plan_rises q.plan (r.offset + r.bytes) size within in
+      let new = new_offset (moves_of q.plan.now) in
+      let first : new r.offset ≤ new size = plan_rises q.plan.now r.offset size (omega (arith, within)) in
+      let last : new (r.offset + r.bytes) ≤ new size = plan_rises q.plan.now (r.offset + r.bytes) size within in
       let ends : q.start + new size < 2 ^ 64 = subst (λ ms. q.start + new_offset ms size < 2 ^ 64) (sym planned) low.1 in
       let many : file < 1024 = few in
-      let known : IsRow (map_row (suc file) q.start (moves_of q.plan) r) = (
+      let known : IsRow (map_row (suc file) q.start (moves_of q.plan.now) r) = (
         omega (arith, many),
         numbered.0,
         numbered.1,

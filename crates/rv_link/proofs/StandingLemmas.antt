@@ -11,7 +11,7 @@ use Rattle.rv_object_laws.specs.Names.{object_at, no_object}
 use Rattle.rv_shorten.specs.declared.object.ShortObject.{ShortObject}
 use Rattle.rv_shorten.specs.Sections.{short_section_of}
 use Rattle.rv_shorten.specs.View.{short_object_of}
-use Rattle.rv_relax.specs.Plan.{moves_of}
+use Rattle.rv_relax.specs.Kept.{moves_of}
 use Rattle.rv_placement.specs.declared.placement.PlacedSection.{PlacedSection}
 use Rattle.rv_placement.specs.declared.placement.Placement.{Placement}
 use Rattle.rv_placement.specs.Placement.{starts_of, start_in, placed_in, placed_at, section_in, object_section, are_roomy_in, are_roomy, IsPlacement}
@@ -99,5 +99,5 @@ module _ (objects : List ShortObject) (first : ℕ) (p : Placement) (placed : Is
           stands = subst (λ n. object_section (map short_object_of objects) n x.index ≡ Some (short_section_of x.section.now)) same_file (subst (λ n. object_section (map short_object_of objects) file n ≡ Some (short_section_of x.section.now)) same_index stands);
           start = subst (λ n. starts_of p (n + 1) x.index ≡ x.placed.now.start) same_file (subst (λ n. starts_of p (file + 1) n ≡ x.placed.now.start) same_index start);
           planned = placed.planned file index (short_section_of x.section.now) x.placed.now stands at;
-          room = all_at (λ q. list_all has_room (moves_of q.plan)) qs.items index x.placed.now row q_there;
+          room = all_at (λ q. list_all has_room (moves_of q.plan.now)) qs.items index x.placed.now row q_there;
         }

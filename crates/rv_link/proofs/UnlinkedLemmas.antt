@@ -1,6 +1,6 @@
 -- Why a link ends: what each pass says of it.
 
-use Rattle.std.proofs.Common.{◌≡◌, ℕ, List, [], ◌∷◌, true, inl, inr, subst, sym}
+use Rattle.std.proofs.Common.{◌≡◌, ℕ, List, [], ◌∷◌, length, true, inl, inr, subst, sym}
 use Rattle.rv_object_types.specs.Object.{Relocation, Object}
 use Rattle.rv_object_laws.specs.Inputs.{InputSection, inputs}
 use Rattle.rv_object_laws.specs.IsLinkOf.{is_loaded}
@@ -8,19 +8,44 @@ use Rattle.rv_placement.specs.declared.fault.PlacementFault.{PlacementFault}
 use Rattle.rv_placement.specs.declared.fault.PlacementFault.TheVariants as placements
 use Rattle.rv_placement.specs.declared.placement.Placement.{Placement}
 use Rattle.rv_placement.specs.Placement.{are_roomy, IsPlacement, IsUnplaced}
-use Rattle.rv_placement.proofs.LayoutsLemmas.{has_layout}
 use Rattle.rv_reloc.specs.declared.fault.LinkFault.{LinkFault}
 use Rattle.rv_reloc.specs.declared.fault.LinkFault.TheVariants.{Overflow, OddTarget, DanglingPcrel, AlignmentShort, Undefined, Duplicate, EntryMissing, ImageTooLarge, BadTextStart, TooManyFiles, OutOfMemory}
 use Rattle.rv_placement.specs.Fault.{of_placement}
 use Rattle.rv_link.specs.Filled.{IsTaken}
 use Rattle.rv_link.specs.Untaken.{IsFirst, IsUntaken, AreTaken, AreUntaken, IsFirstUntaken, AreUnfilled}
-use Rattle.rv_link.specs.Refusals.{AreUnplaced, ComesToPlaces, IsUnlinked}
+use Rattle.rv_link.specs.Refusals.{AreUnnamed, AreUnplaced, AreWithin, ComesToPlaces, IsUnlinked}
 
 -- why sections cannot be placed
 pub unplaced : (os : List Object) (start : ℕ) (fault : PlacementFault) → IsUnplaced os start fault → AreUnplaced os start (of_placement fault)
-unplaced os start placements.Short h = let layout = has_layout os start in (layout.0, layout.5.1, h.1 layout.0 layout.5.1)
 unplaced os start placements.TooLarge h = h
 unplaced os start placements.OutOfMemory h = tt
+
+-- what is told of names, and then of places
+pub unnamed : (os : List Object) (start : ℕ) (fault : LinkFault) → AreWithin (length os) start → AreUnnamed os fault → IsUnlinked os start fault
+unnamed os start Overflow within h = absurd h
+unnamed os start OddTarget within h = absurd h
+unnamed os start DanglingPcrel within h = absurd h
+unnamed os start AlignmentShort within h = absurd h
+unnamed os start (Undefined name) within h = (within, h)
+unnamed os start (Duplicate name) within h = (within, h)
+unnamed os start EntryMissing within h = absurd h
+unnamed os start ImageTooLarge within h = absurd h
+unnamed os start BadTextStart within h = absurd h
+unnamed os start TooManyFiles within h = absurd h
+unnamed os start OutOfMemory within h = tt
+
+pub not_placed : (os : List Object) (start : ℕ) (fault : LinkFault) → ComesToPlaces os start → AreUnplaced os start fault → IsUnlinked os start fault
+not_placed os start Overflow so h = absurd h
+not_placed os start OddTarget so h = absurd h
+not_placed os start DanglingPcrel so h = absurd h
+not_placed os start AlignmentShort so h = (so, h)
+not_placed os start (Undefined name) so h = absurd h
+not_placed os start (Duplicate name) so h = absurd h
+not_placed os start EntryMissing so h = absurd h
+not_placed os start ImageTooLarge so h = (so, h)
+not_placed os start BadTextStart so h = absurd h
+not_placed os start TooManyFiles so h = absurd h
+not_placed os start OutOfMemory so h = tt
 
 -- what nothing can be, is first of no list
 none_first : {X : Type 0} (Passes Fails : X → Type 0) → ((x : X) → Fails x → ⊥) → (xs : List X) → IsFirst Passes Fails xs → ⊥

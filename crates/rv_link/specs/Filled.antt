@@ -11,7 +11,7 @@ use Rattle.rv_object_laws.specs.Names.{object_at}
 use Rattle.rv_object_laws.specs.Values.{value, linked_bytes}
 use Rattle.rv_shorten.specs.Sections.{short_section_of}
 use Rattle.rv_shorten.specs.View.{short_object_of}
-use Rattle.rv_relax.specs.Plan.{moves_of}
+use Rattle.rv_relax.specs.Kept.{moves_of}
 use Rattle.rv_placement.specs.declared.placement.Placement.{Placement}
 use Rattle.rv_placement.specs.Placement.{starts_of, object_section}
 use Rattle.rv_link.specs.declared.fixed.Input.{Input}
@@ -34,9 +34,9 @@ input_of f x = input_at (objects_of f) x.file x.index (short_section_of x.sectio
 pub record IsPlacedInput (os : List Object) (p : Placement) (x : Input) : Type 0 where
   pub stands : object_section os x.file x.index ≡ Some (short_section_of x.section.now)
   pub start : starts_of p (x.file + 1) x.index ≡ x.placed.now.start
-  pub planned : moves_of x.placed.now.plan
+  pub planned : moves_of x.placed.now.plan.now
       ≡ moves x.placed.now.start (short_section_of x.section.now)
-  pub room : IsTrue (list_all has_room (moves_of x.placed.now.plan))
+  pub room : IsTrue (list_all has_room (moves_of x.placed.now.plan.now))
 
 abbrev pub IsInputOf : Fixed → Input → Type 0
 IsInputOf f x = IsPlacedInput (objects_of f) f.placement.now x

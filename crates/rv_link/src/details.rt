@@ -23,7 +23,7 @@ pub(crate) fn globals(
     alloc: Global,
     objects: &[ShortObject<'_, '_>],
     names: &Names<'_>,
-    placement: &Placement,
+    placement: &Placement<'_>,
     wanted: bool,
 ) -> Result<Vec<MapGlobal>, AllocError>
     ensures { (start : ℕ) → IsNames (map short_object_of objects.now) names.now
@@ -41,7 +41,7 @@ pub(crate) fn globals(
 pub(crate) fn rows(
     alloc: Global,
     objects: &[ShortObject<'_, '_>],
-    placement: &Placement,
+    placement: &Placement<'_>,
     wanted: bool,
 ) -> Result<Vec<MapRow>, AllocError>
     ensures { (start : ℕ) → IsPlacement (map short_object_of objects.now) start placement.now

@@ -13,7 +13,7 @@ ghost use Rattle.rv_object_laws.specs.Moves.{kept, new_offset};
 ghost use Rattle.rv_object_laws.specs.Values.{applied, initial_bytes, value};
 ghost use Rattle.rv_object_laws.specs.Names.{object_at};
 ghost use Rattle.rv_shorten.specs.Sections.{short_section_of};
-ghost use Rattle.rv_relax.specs.Plan.{moves_of};
+ghost use Rattle.rv_relax.specs.Kept.{moves_of};
 ghost use Rattle.rv_placement.specs.Placement.{starts_of};
 ghost use Rattle.rv_link.specs.Idle.{is_idle};
 ghost use Rattle.rv_link.specs.Regions.{IsFixed};
@@ -34,7 +34,7 @@ use rv_isa::Kind;
 use rv_link_values::Values;
 use rv_object_types::{Contents, Relocation};
 use rv_placement::{PlacedSection, Placement};
-use rv_relax::SectionPlan;
+use rv_relax::SectionPaddings;
 use rv_reloc::LinkFault;
 use rv_shorten::{LeftBytes, ShortObject, ShortSection};
 use std::alloc::{AllocError, Global};
@@ -47,14 +47,14 @@ pub(crate) struct Input<'p, 'o, 'a> {
     /// Its own place there.
     pub(crate) index: usize,
     pub(crate) section: &'p ShortSection<'o, 'a>,
-    pub(crate) placed: &'p PlacedSection,
+    pub(crate) placed: &'p PlacedSection<'p>,
 }
 
 /// Objects whose sections and names have their addresses.
 #[derive(Drop)]
 pub(crate) struct Fixed<'p, 'o, 'a, 'n> {
     pub(crate) objects: &'p [ShortObject<'o, 'a>],
-    pub(crate) placement: &'p Placement,
+    pub(crate) placement: &'p Placement<'p>,
     pub(crate) values: &'p Values<'p, 'o, 'a, 'n>,
 }
 
@@ -101,10 +101,10 @@ impl<'p, 'o, 'a, 'n> Fixed<'p, 'o, 'a, 'n> {
         requires fixed { IsFixed self.now }
         requires input { IsInputOf self.now input.now }
         requires inside { AllByRecursion
-            (IsInside (moves_of (input.now).placed.now.plan) (length bytes.old))
+            (IsInside (moves_of (input.now).placed.now.plan.now) (length bytes.old))
             (short_section_of (input.now).section.now).relocations }
         ensures applied { OnOk result
-            (bytes.new ≡ applied (new_offset (moves_of (input.now).placed.now.plan))
+            (bytes.new ≡ applied (new_offset (moves_of (input.now).placed.now.plan.now))
             (worth (objects_of self.now) (self.now).placement.now (input_of self.now input.now))
             (short_section_of (input.now).section.now).relocations bytes.old) }
         // each of its relocations has a value, which its field takes
@@ -151,7 +151,7 @@ impl<'p, 'o, 'a, 'n> Fixed<'p, 'o, 'a, 'n> {
         ensures refuses { IfErr result (OrMemory (AreUntakenOf self.now input.now)) }
     {
         let from = out.len();
-        put_contents(alloc, &input.placed.plan, input.section, out)?;
+        put_contents(alloc, input.placed.plan, input.section, out)?;
         self.relocate(input, &mut out[from..])?;
         Ok(())
     }
@@ -199,7 +199,7 @@ fn put_zeros(out: &mut Vec<u8>, count: u64) -> Result<(), AllocError>
 /// Adds what is kept of the bytes with which a section begins.
 fn put_contents(
     alloc: Global,
-    plan: &SectionPlan,
+    plan: &SectionPaddings,
     section: &ShortSection<'_, '_>,
     out: &mut Vec<u8>,
 ) -> Result<(), AllocError>

@@ -5,9 +5,9 @@
 //!
 //! Main contract: [`link`] answers only a program that `IsProgramOf` the objects (`rv_object_laws`): the link of what collection
 //! and relaxation leave of them, where these are on. First, names get their meaning, once (`rv_resolve`). Then sections are dropped
-//! to which nothing leads from the entry (`rv_collect`): the passes behind get objects without them. Then calls become short:
-//! which may (`rv_link_sites`), which do (`rv_relax`), and what is left of the objects then (`rv_shorten`). No size changes after
-//! that, and the work is that of the crates below, pass by pass: places (`rv_placement`), values (`rv_link_values`), fields
+//! to which nothing leads from the entry (`rv_collect`): the passes behind get objects without them. Then the plan is made
+//! (`rv_relax`): which calls may become short (`rv_link_sites`), which do, and what is kept of each padding. No size changes after
+//! that. All later passes ask the plan: whether paddings have room, places (`rv_placement`), values (`rv_link_values`), fields
 //! (`rv_reloc`). The objects are lent: each byte moves once, from its object into the program. [`link_exe`] gives the same program
 //! without the names and the rows of its map, for an executable alone: they cost more than all else.
 //!
@@ -38,6 +38,6 @@ mod relaxation;
 pub use law::a_missing_entry_comes_first;
 pub use options::LinkOptions;
 pub use passes::{MOST_FILES, within_limits};
-pub use programs::{link, link_exe, link_with_details};
+pub use programs::{link, link_exe};
 pub use rv_image::Linked;
 pub use rv_reloc::LinkFault;

@@ -1,9 +1,9 @@
-//! The passes of a link of objects whose calls are as long as they will be.
+//! The passes of a link of objects by their plan, which tells what is kept of each call and of each padding.
 //!
 //! Each pass fixes one thing: what names mean was first, then come addresses, then bytes. The order of the faults is that of the passes,
 //! so what costs least to see is told first.
 
-ghost use Rattle.std.specs.Prelude.{◌≡◌, ◌%◌, ◌<◌, ◌≤◌, [], All, List, Some, length, map, IfOk, IfErr, OnOk};
+ghost use Rattle.std.specs.Prelude.{◌≡◌, ◌%◌, ◌<◌, ◌≤◌, [], All, List, Some, length, map, true, IfOk, IfErr, OnOk};
 ghost use Rattle.std.specs.List.{list_any};
 ghost use Rattle.rv_map.specs.Globals.{AreDistinct};
 ghost use Rattle.rv_isa_laws.specs.Platform.{stack_start};
@@ -13,7 +13,8 @@ ghost use Rattle.rv_object_types.specs.View.{object_of};
 ghost use Rattle.rv_object_laws.specs.IsLinkOf.{most_files};
 ghost use Rattle.rv_object_laws.specs.Names.{global_names, entry_of};
 ghost use Rattle.rv_shorten.specs.View.{short_object_of};
-ghost use Rattle.rv_placement.specs.Placement.{IsPlacement, starts_of};
+ghost use Rattle.rv_relax.specs.Plan.{are_roomy_objects, planned_objects};
+ghost use Rattle.rv_placement.specs.Placement.{IsPlacement, are_roomy, starts_of};
 ghost use Rattle.rv_map.specs.Limits.{IsDrop, IsMap};
 ghost use Rattle.rv_link.specs.Made.{made};
 ghost use Rattle.rv_link.specs.Left.{IsLinkWith};
@@ -34,6 +35,7 @@ use rv_link_values::Values;
 use rv_map::{Map, SectionId};
 use rv_object_types::Object;
 use rv_placement::Placement;
+use rv_relax::Plan;
 use rv_reloc::LinkFault;
 use rv_resolve::{Names, ResolveFault};
 use rv_shorten::ShortObject;
@@ -42,32 +44,33 @@ use std::alloc::{AllocError, Global};
 /// The most files that are linked at once.
 pub const MOST_FILES: usize = 1024;
 
-/// Links objects with their calls as they are into a program, whose text starts at an address, and whose names mean this. Its map
-/// says what was dropped of them before, and has names and rows where they are wanted.
-pub(crate) fn link_as_they_are(
+/// Links objects by their plan into a program, whose text starts at an address, and whose names mean this. Its map says what was
+/// dropped of them before, and has names and rows where they are wanted.
+pub(crate) fn link_by_plan(
     alloc: Global,
-    objects: &[ShortObject<'_, '_>],
+    plan: &Plan<'_, '_>,
     names: &Names<'_>,
     drops: Vec<SectionId>,
     start: u64,
     details: bool,
 ) -> Result<Linked, LinkFault>
-    requires within { AreWithin (length objects.now) start }
-    requires names { IsNames (map short_object_of objects.now) names.now }
+    requires within { AreWithin (length (planned_objects plan.now)) start }
+    requires names { IsNames (planned_objects plan.now) names.now }
     requires drops { All (λ d. IsDrop d) drops.items }
-    ensures links { IfOk result (λ l. IsLinkWith (map short_object_of objects.now)
+    ensures links { IfOk result (λ l. IsLinkWith (planned_objects plan.now)
         start drops.items details (linked_of l)) }
-    ensures refuses { IfErr result (IsUnlinked (map short_object_of objects.now) start) }
+    ensures refuses { IfErr result (IsUnlinked (planned_objects plan.now) start) }
 {
+    let objects = plan.objects.as_slice();
     resolve(alloc, objects, names)?;
     if !names.has_entry(objects) {
         return Err(LinkFault::EntryMissing);
     }
-    let placement = place(alloc, objects, start)?;
-    let entry = entry(names, objects, &placement)?;
-    if !placement.is_roomy() {
+    if !plan.is_roomy() {
         return Err(LinkFault::AlignmentShort);
     }
+    let placement = place(alloc, plan, start)?;
+    let entry = entry(names, objects, &placement)?;
     // all addresses are fixed: those of sections, of what is kept of them, and of names
     let regions = fill(alloc, objects, &placement, names)?;
     // all bytes are fixed; what is left is to show them
@@ -141,14 +144,16 @@ fn undefined(alloc: Global, name: &[u8]) -> Result<LinkFault, AllocError>
     Ok(LinkFault::Undefined(name))
 }
 
-/// Where the sections of objects stand.
-fn place(alloc: Global, objects: &[ShortObject<'_, '_>], start: u64) -> Result<Placement, LinkFault>
+/// Where the sections of objects stand by their plan.
+fn place<'p>(alloc: Global, plan: &'p Plan<'_, '_>, start: u64) -> Result<Placement<'p>, LinkFault>
     requires page { start % 4096 ≡ 0 }
     requires low { start < stack_start }
-    ensures placed { IfOk result (IsPlacement (map short_object_of objects.now) start) }
-    ensures refuses { IfErr result (AreUnplaced (map short_object_of objects.now) start) }
+    requires roomy { are_roomy_objects (planned_objects plan.now) ≡ true }
+    ensures placed { IfOk result (IsPlacement (planned_objects plan.now) start) }
+    ensures room { IfOk result (λ placement. are_roomy placement ≡ true) }
+    ensures refuses { IfErr result (AreUnplaced (planned_objects plan.now) start) }
 {
-    let placement = Placement::of(alloc, objects, start)?;
+    let placement = Placement::of(alloc, plan, start)?;
     Ok(placement)
 }
 
@@ -156,7 +161,7 @@ fn place(alloc: Global, objects: &[ShortObject<'_, '_>], start: u64) -> Result<P
 fn entry(
     names: &Names<'_>,
     objects: &[ShortObject<'_, '_>],
-    placement: &Placement,
+    placement: &Placement<'_>,
 ) -> Result<u64, LinkFault>
     requires { IsPlaced (map short_object_of objects.now) names.now placement.now }
     ensures entry { IfOk result
@@ -181,7 +186,7 @@ fn entry(
 fn fill(
     alloc: Global,
     objects: &[ShortObject<'_, '_>],
-    placement: &Placement,
+    placement: &Placement<'_>,
     names: &Names<'_>,
 ) -> Result<Regions, LinkFault>
     requires { IsReady (map short_object_of objects.now) names.now placement.now }
@@ -204,7 +209,7 @@ fn finish(
     objects: &[ShortObject<'_, '_>],
     names: &Names<'_>,
     drops: Vec<SectionId>,
-    placement: Placement,
+    placement: Placement<'_>,
     entry: u64,
     regions: Regions,
     details: bool,

@@ -11,7 +11,7 @@ ghost use Rattle.rv_link.specs.Refusals.{AreWithin, HasNoProgram};
 ghost use Rattle.rv_link.specs.Details.{IsProgramWith, IsProgramWithoutDetails};
 
 use crate::options::LinkOptions;
-use crate::passes::{link_as_they_are, named, within_limits};
+use crate::passes::{link_by_plan, named, within_limits};
 use crate::relaxation::relaxed;
 use rv_collect::Collection;
 use rv_image::Linked;
@@ -60,11 +60,7 @@ pub fn link_exe(
 }
 
 /// Links objects as `link`, with the names and the rows of the map where they are wanted.
-///
-/// # Errors
-///
-/// Those of `link`.
-pub fn link_with_details(
+fn link_with_details(
     alloc: Global,
     objects: &[Object<'_>],
     options: LinkOptions,
@@ -124,7 +120,7 @@ fn link_left(
     ensures refuses { IfErr result
         (HasNoLink (map object_of objects.now) options.text_start options.relax) }
 {
-    let left = relaxed(alloc, objects, names, options.relax)?;
-    // no call changes any more
-    link_as_they_are(alloc, &left, names, drops, options.text_start, details)
+    let plan = relaxed(alloc, objects, names, options.relax)?;
+    // no call and no padding changes any more
+    link_by_plan(alloc, &plan, names, drops, options.text_start, details)
 }

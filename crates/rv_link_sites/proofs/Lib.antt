@@ -8,5 +8,4 @@ pub mod StepsLemmas
 pub mod ChangedLemmas
 pub mod TargetsLemmas
 pub mod WalksLemmas
-pub mod MarksLemmas
 pub mod ConstantLemmas

@@ -1,10 +1,10 @@
 -- The text in one line, section by section, as passes over objects go along it.
 
-use Rattle.std.specs.Prelude.{◌≡◌, ℕ, suc, ◌+◌, ◌*◌, Bool, true, false, List, [], ◌∷◌, ◌++◌, length, map, if◌then◌else◌}
+use Rattle.std.specs.Prelude.{◌≡◌, ℕ, suc, ◌+◌, ◌*◌, List, [], ◌∷◌, ◌++◌, length, map, if◌then◌else◌}
 use Rattle.rv_layout_laws.specs.Sites.{padding_site}
 use Rattle.rv_layout_laws.specs.declared.site.Site.{Site}
 use Rattle.rv_object_types.specs.Object.{Section, Object, size_of}
-use Rattle.rv_object_laws.specs.Inputs.{InputSection, goes_to_text, inputs, begins_at}
+use Rattle.rv_object_laws.specs.Inputs.{InputSection, goes_to_text, begins_at}
 use Rattle.rv_object_laws.specs.CallSites.{changes, start_padding, site_of}
 use Rattle.rv_link_sites.specs.declared.line.Line.{Line}
 
@@ -71,32 +71,3 @@ files_sites os file stop [] = []
 files_sites os file stop (o ∷ rest) =
     object_sites os file o 0 stop o.sections
     ++ files_sites os (suc file) (ended stop o.sections) rest
-
--- ---- starts of sections
-
--- of each of the sites of sections, whether it is the start of one: the first of each is
-abbrev pub text_starts : List Object → InputSection → List Bool
-text_starts os i = true ∷ map (λ r. false) (changes os i)
-
-abbrev pub starts_from : List Object → List InputSection → List Bool
-starts_from os [] = []
-starts_from os (i ∷ is) = text_starts os i ++ starts_from os is
-
--- of each of the sites of the text of objects (`sites_of`)
-abbrev pub starts_of : List Object → List Bool
-starts_of os = starts_from os (inputs goes_to_text os)
-
--- and section by section
-abbrev pub section_starts : List Object → InputSection → List Bool
-section_starts os i = if goes_to_text i.section then text_starts os i else []
-
-abbrev pub object_starts : List Object → (file : ℕ) → Object → (index : ℕ) → List Section →
-    List Bool
-object_starts os file o index [] = []
-object_starts os file o index (s ∷ ss) =
-    section_starts os (input file o index s) ++ object_starts os file o (suc index) ss
-
-abbrev pub files_starts : List Object → (file : ℕ) → List Object → List Bool
-files_starts os file [] = []
-files_starts os file (o ∷ rest) =
-    object_starts os file o 0 o.sections ++ files_starts os (suc file) rest

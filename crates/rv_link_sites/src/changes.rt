@@ -5,7 +5,7 @@
 //! the constant that is added to the end. Where the rules are silent, a call keeps eight bytes: at an odd place no instruction
 //! begins.
 
-ghost use Rattle.std.specs.Prelude.{◌≡◌, ◌+◌, ◌*◌, ◌≤◌, ◌<◌, ◌^◌, ◌++◌, ◌∷◌, [], List, pos, ◌+ℤ◌, map, length, replicate, Some, None, false, IfOk, OnOk, if◌then◌else◌};
+ghost use Rattle.std.specs.Prelude.{◌≡◌, ◌+◌, ◌*◌, ◌≤◌, ◌<◌, ◌^◌, ◌++◌, ◌∷◌, [], List, pos, ◌+ℤ◌, map, length, Some, None, IfOk, OnOk, if◌then◌else◌};
 ghost use Rattle.std.specs.Int.{w64, int_wrap};
 ghost use Rattle.std.specs.Ordering.{nat_cmp};
 ghost use Rattle.std.specs.List.Sorted.{IsNonDecreasingBy, IsPermutation, IsStableByKey};
@@ -15,7 +15,7 @@ ghost use Rattle.rv_object_types.specs.Parts.{relocation_of};
 ghost use Rattle.rv_object_types.specs.Sections.{section_of};
 ghost use Rattle.rv_object_laws.specs.CallSites as laws;
 ghost use Rattle.rv_link_sites.specs.Between.{IsBefore, Rise};
-ghost use Rattle.rv_link_sites.specs.Line.{end_from, text_sites, text_starts};
+ghost use Rattle.rv_link_sites.specs.Line.{end_from, text_sites};
 ghost use Rattle.rv_link_sites.specs.Text.{call_of, can_shorten, input_of, objects_of, IsGiven, IsLaidText, IsLying};
 
 use crate::between::{Before, is_allowed};
@@ -40,15 +40,6 @@ pub(crate) struct Input<'i, 'a> {
     pub(crate) section: &'i Section<'a>,
     /// What the symbols of its object name.
     pub(crate) entries: &'i Entries,
-}
-
-/// The sites of a text, as far as they are found.
-#[derive(Drop)]
-pub(crate) struct Marked {
-    /// In the order of the text.
-    pub(crate) sites: Vec<Site>,
-    /// Of each, whether it is the start of a section.
-    pub(crate) starts: Vec<bool>,
 }
 
 /// A padding.
@@ -212,20 +203,10 @@ fn put_changes(
     Ok(())
 }
 
-/// Marks that so many sites are no starts of sections.
-fn put_no_starts(starts: &mut Vec<bool>, count: usize) -> Result<(), AllocError>
-    ensures { OnOk result (starts.new.items ≡ starts.old.items ++ replicate count false) }
-{
-    for _ in 0..count {
-        starts.push(false)?;
-    }
-    Ok(())
-}
-
 /// Adds the sites of a section of text behind an end of the line: its start, and what may change of it. Gives the end after it.
 pub(crate) fn put_section(
     alloc: Global,
-    marked: &mut Marked,
+    sites: &mut Vec<Site>,
     text: &Text<'_, '_, '_>,
     input: &Input<'_, '_>,
     stop: u128,
@@ -234,20 +215,15 @@ pub(crate) fn put_section(
     requires given { IsGiven text.now input.now }
     requires low { end_from stop (section_of ((input.now).section).now) ≤ 9 * 2 ^ 123 }
     ensures end { IfOk result (λ end. end ≡ end_from stop (section_of ((input.now).section).now)) }
-    ensures sites { OnOk result (marked.new.sites.items
-        ≡ marked.old.sites.items ++ text_sites (objects_of text.now) stop (input_of input.now)) }
-    ensures starts { OnOk result (marked.new.starts.items
-        ≡ marked.old.starts.items ++ text_starts (objects_of text.now) (input_of input.now)) }
+    ensures sites { OnOk result (sites.new.items
+        ≡ sites.old.items ++ text_sites (objects_of text.now) stop (input_of input.now)) }
 {
     let padding = start_padding(input.section);
     let size = input.section.contents.size();
     let first = stop + u128::from(padding);
     let site = padding_site(stop, padding, begins_at(input.section));
-    marked.sites.push(site)?;
-    marked.starts.push(true)?;
-    let before = marked.sites.len();
+    sites.push(site)?;
     let sorted = by_place(alloc, &input.section.relocations)?;
-    put_changes(&mut marked.sites, text, input, first, &sorted)?;
-    put_no_starts(&mut marked.starts, marked.sites.len() - before)?;
+    put_changes(sites, text, input, first, &sorted)?;
     Ok(first + u128::from(size))
 }

@@ -1,63 +1,49 @@
 //! The sites of the text of objects.
 
-ghost use Rattle.std.specs.Prelude.{◌≡◌, ◌+◌, ◌*◌, ◌≤◌, ◌^◌, ◌++◌, ◌<◌, ℕ, Some, map, length, IfOk, OnOk};
+ghost use Rattle.std.specs.Prelude.{◌≡◌, ◌+◌, ◌*◌, ◌≤◌, ◌^◌, ◌++◌, ◌<◌, Some, map, length, IfOk, OnOk};
 ghost use Rattle.std.specs.List.{slice_get};
-ghost use Rattle.rv_layout_laws.specs.Calls.{IsText, site_at};
 ghost use Rattle.rv_object_types.specs.Object.{Section};
 ghost use Rattle.rv_object_types.specs.View.{object_of};
 ghost use Rattle.rv_object_laws.specs.CallSites.{sites_of};
-ghost use Rattle.rv_object_laws.specs.Within.{IsWithin};
-ghost use Rattle.rv_relax.specs.Plan.{placed_sites, placed_starts};
+ghost use Rattle.rv_relax.specs.Plan.{placed_objects};
 ghost use Rattle.rv_resolve.specs.Names.{IsNames};
 ghost use Rattle.rv_link_sites.specs.Entries.{AreEntries};
 ghost use Rattle.rv_link_sites.specs.Line as walk;
 ghost use Rattle.rv_link_sites.specs.Text.{IsLaidText, objects_of};
 
-use crate::changes::{Input, Marked, put_section};
+use crate::changes::{Input, put_section};
 use crate::entries::Entries;
 use crate::text::Text;
+use rv_layout_laws::Site;
 use rv_object_types::Object;
 use rv_relax::Placed;
 use rv_resolve::Names;
 use rv_shorten::is_text;
 use std::alloc::{AllocError, Global};
 
-/// The text of objects, whose names mean this: its sites, and which of them are starts of sections.
-pub fn placed(
+/// Objects, whose names mean this, with the sites of their text.
+pub fn placed<'o, 'a>(
     alloc: Global,
-    objects: &[Object<'_>],
+    objects: &'o [Object<'a>],
     names: &Names<'_>,
-) -> Result<Placed, AllocError>
+) -> Result<Placed<'o, 'a>, AllocError>
     requires { IsNames (map object_of objects.now) names.now }
-    ensures sites { IfOk result
-        (λ text. placed_sites text ≡ sites_of (map object_of objects.now)) }
-    ensures starts { IfOk result
-        (λ text. placed_starts text ≡ walk.starts_of (map object_of objects.now)) }
-    ensures text { IfOk result (λ text. IsText (placed_sites text)) }
-    ensures within { IfOk result
-        (λ text. (i : ℕ) → IsWithin (9 * 2 ^ 123) (site_at (placed_sites text) i)) }
+    ensures { IfOk result (λ placed. placed_objects placed ≡ map object_of objects.now) }
 {
     let text = Text::of(alloc, objects, names)?;
-    let mut marked = Marked {
-        sites: Vec::new(alloc),
-        starts: Vec::new(alloc),
-    };
-    put_all(alloc, &mut marked, &text)?;
-    let Marked { sites, starts } = marked;
-    Ok(Placed::of(sites, starts))
+    let mut sites = Vec::new(alloc);
+    put_all(alloc, &mut sites, &text)?;
+    Ok(Placed::of(objects, sites))
 }
 
 /// Adds the sites of all objects.
-fn put_all(alloc: Global, marked: &mut Marked, text: &Text<'_, '_, '_>) -> Result<(), AllocError>
+fn put_all(alloc: Global, sites: &mut Vec<Site>, text: &Text<'_, '_, '_>) -> Result<(), AllocError>
     requires { IsLaidText text.now }
-    ensures sites { OnOk result
-        (marked.new.sites.items ≡ marked.old.sites.items ++ sites_of (objects_of text.now)) }
-    ensures starts { OnOk result (marked.new.starts.items
-        ≡ marked.old.starts.items ++ walk.starts_of (objects_of text.now)) }
+    ensures { OnOk result (sites.new.items ≡ sites.old.items ++ sites_of (objects_of text.now)) }
 {
     let mut stop = 0;
     for file in 0..text.objects.len() {
-        stop = put_object(alloc, marked, text, file, &text.objects[file], stop)?;
+        stop = put_object(alloc, sites, text, file, &text.objects[file], stop)?;
     }
     Ok(())
 }
@@ -65,7 +51,7 @@ fn put_all(alloc: Global, marked: &mut Marked, text: &Text<'_, '_, '_>) -> Resul
 /// Adds the sites of an object, by its place, from 0, behind an end of the line. Gives the end after it.
 fn put_object(
     alloc: Global,
-    marked: &mut Marked,
+    sites: &mut Vec<Site>,
     text: &Text<'_, '_, '_>,
     file: usize,
     object: &Object<'_>,
@@ -75,17 +61,14 @@ fn put_object(
     requires at { slice_get (objects_of text.now) file ≡ Some (object_of object.now) }
     requires low { walk.ended first (object_of object.now).sections ≤ 9 * 2 ^ 123 }
     ensures end { IfOk result (λ end. end ≡ walk.ended first (object_of object.now).sections) }
-    ensures sites { OnOk result (marked.new.sites.items ≡ marked.old.sites.items
+    ensures sites { OnOk result (sites.new.items ≡ sites.old.items
         ++ walk.object_sites (objects_of text.now) (file + 1) (object_of object.now) 0 first
-        (object_of object.now).sections) }
-    ensures starts { OnOk result (marked.new.starts.items ≡ marked.old.starts.items
-        ++ walk.object_starts (objects_of text.now) (file + 1) (object_of object.now) 0
         (object_of object.now).sections) }
 {
     let entries = Entries::of(alloc, object)?;
     let mut stop = first;
     for index in 0..object.sections.len() {
-        stop = put_at(alloc, marked, text, file, object, &entries, index, stop)?;
+        stop = put_at(alloc, sites, text, file, object, &entries, index, stop)?;
     }
     Ok(stop)
 }
@@ -93,7 +76,7 @@ fn put_object(
 /// Adds the sites of a section of an object, if it goes to the text, behind an end of the line. Gives the end after it.
 fn put_at(
     alloc: Global,
-    marked: &mut Marked,
+    sites: &mut Vec<Site>,
     text: &Text<'_, '_, '_>,
     file: usize,
     object: &Object<'_>,
@@ -111,13 +94,8 @@ fn put_at(
         → slice_get (object_of object.now).sections index ≡ Some s → end ≡ walk.next stop s) }
     ensures sites { OnOk result ((s : Section)
         → slice_get (object_of object.now).sections index ≡ Some s
-        → marked.new.sites.items ≡ marked.old.sites.items
+        → sites.new.items ≡ sites.old.items
         ++ walk.section_sites (objects_of text.now) stop
-        (walk.input (file + 1) (object_of object.now) index s)) }
-    ensures starts { OnOk result ((s : Section)
-        → slice_get (object_of object.now).sections index ≡ Some s
-        → marked.new.starts.items ≡ marked.old.starts.items
-        ++ walk.section_starts (objects_of text.now)
         (walk.input (file + 1) (object_of object.now) index s)) }
 {
     let section = &object.sections[index];
@@ -131,6 +109,6 @@ fn put_at(
         section,
         entries,
     };
-    let end = put_section(alloc, marked, text, &input, stop)?;
+    let end = put_section(alloc, sites, text, &input, stop)?;
     Ok(end)
 }

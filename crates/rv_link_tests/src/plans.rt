@@ -5,6 +5,7 @@ use crate::files::{ALIGN, CALL_OF_FIRST, RELAX, file, place};
 use rv_link_sites::placed;
 use rv_object::{Object, read};
 use rv_relax::{Placed, Plan};
+use rv_reloc::LinkFault;
 use rv_resolve::Names;
 use std::alloc::{AllocError, Global};
 use std::test::Fail;
@@ -43,33 +44,33 @@ const SHORT: &[u8] = b"\x82\x80\x13\0\0\0";
 const SHORT_PADDING: [[u64; 3]; 1] = [[2, ALIGN, 4]];
 
 /// The text of objects; none where a name has two definitions.
-pub(crate) fn text(alloc: Global, objects: &[Object<'_>]) -> Result<Option<Placed>, AllocError> {
+pub(crate) fn text<'o, 'a>(
+    alloc: Global,
+    objects: &'o [Object<'a>],
+) -> Result<Option<Placed<'o, 'a>>, AllocError> {
     let Ok(names) = Names::of(alloc, objects) else {
         return Ok(None);
     };
     Ok(Some(placed(alloc, objects, &names)?))
 }
 
-/// The bytes of each call.
-fn sizes(alloc: Global, plan: &Plan<'_>) -> Result<Vec<u32>, AllocError> {
-    let mut sizes = Vec::new(alloc);
-    for i in 0..plan.calls() {
-        sizes.push(plan.call_size(i))?;
+/// Whether a plan has these sizes of calls and of alignments, and no more.
+fn has(plan: &Plan<'_, '_>, calls: &[u32], alignments: &[u32]) -> bool {
+    for i in 0..calls.len() {
+        if plan.call_size(i) != calls[i] {
+            return false;
+        }
     }
-    Ok(sizes)
+    for i in 0..alignments.len() {
+        if plan.pad(i) != alignments[i] {
+            return false;
+        }
+    }
+    plan.call_size(calls.len()) == 0 && plan.pad(alignments.len()) == 0
 }
 
-/// The bytes of each alignment.
-fn pads(alloc: Global, plan: &Plan<'_>) -> Result<Vec<u32>, AllocError> {
-    let mut pads = Vec::new(alloc);
-    for i in 0..plan.alignments() {
-        pads.push(plan.pad(i))?;
-    }
-    Ok(pads)
-}
-
-/// Whether the plan of the object in a file has these sizes of calls and of alignments, has room for these, and gives each
-/// offset this one afterwards.
+/// Whether the plan of the object in a file has these sizes of calls and of alignments, and gives each offset this one
+/// afterwards; where an alignment lacks bytes, whether it is refused.
 fn tells(
     alloc: Global,
     file: &[u8],
@@ -82,17 +83,16 @@ fn tells(
     let Some(text) = text(alloc, &objects)? else {
         return Ok(false);
     };
-    let plan = Plan::of(alloc, &text, true)?;
+    let plan = match Plan::of(alloc, &text, true) {
+        Ok(plan) => plan,
+        Err(fault) => return Ok(!is_roomy && fault == LinkFault::AlignmentShort),
+    };
     for (old, new) in offsets {
         if plan.new_offset(*old) != *new {
             return Ok(false);
         }
     }
-    Ok(
-        sizes(alloc, &plan)?.as_slice() == calls
-            && pads(alloc, &plan)?.as_slice() == alignments
-            && plan.is_roomy() == is_roomy,
-    )
+    Ok(is_roomy && has(&plan, calls, alignments))
 }
 
 #[test]
@@ -121,6 +121,6 @@ fn plans_tell_of_texts(rt: HostRuntime) -> Result<(), Fail> {
         )?
     );
     let short = file(alloc, &[(SHORT, 2, SHORT_PADDING.as_slice())], &[])?;
-    assert!(rt; tells(alloc, &short, &[], &[6], false, &[(2, 2)])?);
+    assert!(rt; tells(alloc, &short, &[], &[], false, &[])?);
     Ok(())
 }

@@ -26,8 +26,12 @@ fn passes(alloc: Global, file: &[u8]) -> Result<Option<(usize, bool)>, Fail> {
         return Ok(None);
     };
     let plan = Plan::of(alloc, &text, true)?;
-    let are_short = plan.kept().iter().all(|kept| *kept <= 4);
-    Ok(Some((plan.rounds(), are_short)))
+    for i in 0..COUNT as usize {
+        if plan.call_size(i) != 4 {
+            return Ok(Some((plan.rounds(), false)));
+        }
+    }
+    Ok(Some((plan.rounds(), true)))
 }
 
 /// The file of an object of zeros in which calls stand from an offset on, eight bytes each, and their targets four bytes apart.

@@ -9,7 +9,7 @@ use Rattle.rv_object_laws.specs.Moves.{moves, new_offset}
 use Rattle.rv_object_laws.specs.Inputs.{InputSection}
 use Rattle.rv_object_laws.specs.Names.{Outer, object_at, no_object}
 use Rattle.rv_object_laws.specs.Values.{own_value, high_at, value_at, value_in}
-use Rattle.rv_relax.specs.Plan.{moves_of}
+use Rattle.rv_relax.specs.Kept.{moves_of}
 use Rattle.rv_placement.specs.declared.placement.PlacedSection.{PlacedSection}
 use Rattle.rv_placement.specs.declared.placement.Placement.{Placement}
 use Rattle.rv_placement.specs.Placement.{starts_of, start_in, placed_at, section_in, object_section, IsPlacement}
@@ -64,15 +64,15 @@ module _ (os : List Object) (start : ℕ) (p : Placement) (is : IsPlacement os s
       ap (λ n. start_in (placed_at p n index)) same ∙ ap start_in there
 
   high_found : (q : PlacedSection) → placed_at p file index ≡ Some q → (o : Object) (s : Section) → slice_get os file ≡ Some o → slice_get o.sections index ≡ Some s
-      → high_at (moves (starts_of p (file + 1) index) s) offset s.relocations ≡ high_of p os file index (new_offset (moves_of q.plan) offset)
+      → high_at (moves (starts_of p (file + 1) index) s) offset s.relocations ≡ high_of p os file index (new_offset (moves_of q.plan.now) offset)
   high_found q there o s at stands =
       let section : object_section os file index ≡ Some s = ap (λ x. section_in x index) at ∙ stands in
       ap (λ a. high_at (moves a s) offset s.relocations) (start_is q there)
       ∙ ap (λ ms. high_at ms offset s.relocations) (sym (is.planned file index s q section there))
-      ∙ sym (ap (λ w. high_in w (object_section os file index) (new_offset (moves_of q.plan) offset)) there ∙ ap (λ t. high_in (Some q) t (new_offset (moves_of q.plan) offset)) section)
+      ∙ sym (ap (λ w. high_in w (object_section os file index) (new_offset (moves_of q.plan.now) offset)) there ∙ ap (λ t. high_in (Some q) t (new_offset (moves_of q.plan.now) offset)) section)
 
   present : (q : PlacedSection) → placed_at p file index ≡ Some q → (o : Object) (s : Section) → slice_get os file ≡ Some o → slice_get o.sections index ≡ Some s
-      → worth ≡ option_map (own_value outer (starts_of p (file + 1)) o (starts_of p (file + 1) index) s) (high_of p os file index (new_offset (moves_of q.plan) offset))
+      → worth ≡ option_map (own_value outer (starts_of p (file + 1)) o (starts_of p (file + 1) index) s) (high_of p os file index (new_offset (moves_of q.plan.now) offset))
   present q there o s at stands =
       ap (λ x. value_in outer (starts_of p) (file + 1) x index offset (slice_get x.sections index)) (same_object os file o at)
       ∙ ap (value_in outer (starts_of p) (file + 1) o index offset) stands
@@ -84,17 +84,17 @@ module _ (os : List Object) (start : ℕ) (p : Placement) (is : IsPlacement os s
     | inr (o, s, at, stands) ↦ absurd (not_placed os start p is file index s (ap (λ x. section_in x index) at ∙ stands) none)
   ]
 
-  pub without_high : (q : PlacedSection) → placed_at p file index ≡ Some q → high_of p os file index (new_offset (moves_of q.plan) offset) ≡ None → None ≡ worth
+  pub without_high : (q : PlacedSection) → placed_at p file index ≡ Some q → high_of p os file index (new_offset (moves_of q.plan.now) offset) ≡ None → None ≡ worth
   without_high q there none = elim (section_cases os file index) [
     | inl gone ↦ sym (absent gone)
     | inr (o, s, at, stands) ↦ sym (present q there o s at stands ∙ ap (option_map (own_value outer (starts_of p (file + 1)) o (starts_of p (file + 1) index) s)) none)
   ]
 
-  pub with_high : (q : PlacedSection) → placed_at p file index ≡ Some q → (r : Relocation) → high_of p os file index (new_offset (moves_of q.plan) offset) ≡ Some r
+  pub with_high : (q : PlacedSection) → placed_at p file index ≡ Some q → (r : Relocation) → high_of p os file index (new_offset (moves_of q.plan.now) offset) ≡ Some r
       → (n : ℤ) → ((i : InputSection) → IsInputAt os file index i → n ≡ own_value outer (starts_of p i.file) i.object (starts_of p i.file i.index) i.section r)
       → Some n ≡ worth
   with_high q there r high n claim = elim (section_cases os file index) [
-    | inl gone ↦ absurd (let none : Some r ≡ None = sym high ∙ ap (λ w. high_in w (object_section os file index) (new_offset (moves_of q.plan) offset)) there ∙ ap (λ t. high_in (Some q) t (new_offset (moves_of q.plan) offset)) gone in cc)
+    | inl gone ↦ absurd (let none : Some r ≡ None = sym high ∙ ap (λ w. high_in w (object_section os file index) (new_offset (moves_of q.plan.now) offset)) there ∙ ap (λ t. high_in (Some q) t (new_offset (moves_of q.plan.now) offset)) gone in cc)
     | inr (o, s, at, stands) ↦
         let i : InputSection = record { file = file + 1; object = o; index = index; section = s } in
         ap Some (claim i (record { numbered = refl; at = at; indexed = refl; there = stands }))

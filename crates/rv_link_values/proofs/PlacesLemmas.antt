@@ -5,7 +5,7 @@ use Rattle.rv_object_types.specs.Object.{Section, Object}
 use Rattle.rv_object_laws.specs.Moves.{new_offset}
 use Rattle.rv_object_laws.specs.Inputs.{InputSection}
 use Rattle.rv_object_laws.specs.Values.{moved}
-use Rattle.rv_relax.specs.Plan.{moves_of}
+use Rattle.rv_relax.specs.Kept.{moves_of}
 use Rattle.rv_placement.specs.declared.placement.PlacedSection.{PlacedSection}
 use Rattle.rv_placement.specs.declared.placement.Placement.{Placement}
 use Rattle.rv_placement.specs.Placement.{starts_of, start_in, placed_at, section_in, object_section, IsPlacement}
@@ -31,7 +31,7 @@ start_of_input os p file index i at q there =
     ap (λ n. start_in (placed_at p n i.index)) same ∙ ap (λ k. start_in (placed_at p file k)) at.indexed ∙ ap start_in there
 
 pub moved_is : (os : List Object) (start : ℕ) (p : Placement) → IsPlacement os start p → (file index : ℕ) (i : InputSection) → IsInputAt os file index i
-    → (q : PlacedSection) → placed_at p file index ≡ Some q → (offset : ℕ) → moved (starts_of p i.file i.index) i.section offset ≡ q.start + new_offset (moves_of q.plan) offset
+    → (q : PlacedSection) → placed_at p file index ≡ Some q → (offset : ℕ) → moved (starts_of p i.file i.index) i.section offset ≡ q.start + new_offset (moves_of q.plan.now) offset
 moved_is os start p is file index i at q there offset =
     ap (λ a. moved a i.section offset) (start_of_input os p file index i at q there)
     ∙ ap (λ ms. q.start + new_offset ms offset) (sym (is.planned file index i.section q (section_of_input os file index i at) there))

@@ -10,7 +10,7 @@ use Rattle.rv_object_types.specs.Object.{Relocation, Section, Object}
 use Rattle.rv_object_types.specs.Parts.{relocation_of}
 use Rattle.rv_object_laws.specs.Moves.{new_offset}
 use Rattle.rv_object_laws.specs.Values.{is_high}
-use Rattle.rv_relax.specs.Plan.{moves_of}
+use Rattle.rv_relax.specs.Kept.{moves_of}
 use Rattle.rv_placement.specs.declared.placement.PlacedSection.{PlacedSection}
 use Rattle.rv_placement.specs.declared.placement.Placement.{Placement}
 use Rattle.rv_placement.specs.Placement.{placed_at, object_section}
@@ -42,7 +42,7 @@ high_to new offset rs = find (λ r. is_high r.kind && (new r.place == offset)) r
 abbrev pub high_in : Option PlacedSection → Option Section → ℕ → Option Relocation
 high_in None s offset = None
 high_in (Some q) None offset = None
-high_in (Some q) (Some s) offset = high_to (new_offset (moves_of q.plan)) offset s.relocations
+high_in (Some q) (Some s) offset = high_to (new_offset (moves_of q.plan.now)) offset s.relocations
 
 -- of placed objects, both counted from 0
 abbrev pub high_of : Placement → List Object → ℕ → ℕ → ℕ → Option Relocation

@@ -11,14 +11,14 @@ ghost use Rattle.rv_object_laws.specs.Values.{is_high};
 ghost use Rattle.rv_shorten.specs.Cutting.{cut_relocation};
 ghost use Rattle.rv_shorten.specs.Sections.{moves_in, short_section_of};
 ghost use Rattle.rv_shorten.specs.View.{short_object_of};
-ghost use Rattle.rv_relax.specs.Plan.{moves_of};
+ghost use Rattle.rv_relax.specs.Kept.{moves_of};
 ghost use Rattle.rv_placement.specs.Placement.{placed_at};
 ghost use Rattle.rv_link_values.specs.Highs.{found, high_to, high_in, high_of, HasBefore, HasFileBefore};
 
 use rv_isa::Kind;
 use rv_object_types::Relocation;
 use rv_placement::{PlacedSection, Placement};
-use rv_relax::SectionPlan;
+use rv_relax::SectionPaddings;
 use rv_shorten::{ShortObject, ShortSection};
 use std::alloc::{AllocError, Global};
 use std::collections::BTreeMap;
@@ -50,7 +50,7 @@ impl Highs {
     pub(crate) fn of(
         alloc: Global,
         objects: &[ShortObject<'_, '_>],
-        placement: &Placement,
+        placement: &Placement<'_>,
     ) -> Result<Highs, AllocError>
         ensures { IfOk result (λ h. (file section offset : ℕ) → found h file section offset
             ≡ high_of placement.now (map short_object_of objects.now) file section offset) }
@@ -82,7 +82,7 @@ impl Highs {
         &mut self,
         file: usize,
         object: &ShortObject<'_, '_>,
-        placement: &Placement,
+        placement: &Placement<'_>,
     ) -> Result<(), AllocError>
         ensures { OnOk result (HasFileBefore self.old self.new file (λ s offset.
             high_in (placed_at placement.now file s)
@@ -103,13 +103,13 @@ impl Highs {
         file: usize,
         index: usize,
         section: &ShortSection<'_, '_>,
-        places: &[PlacedSection],
+        places: &[PlacedSection<'_>],
     ) -> Result<(), AllocError>
         ensures { OnOk result (HasBefore self.old self.new file index
             (high_in (slice_get places.now index) (Some (short_section_of section.now)))) }
     {
         match places.get(index) {
-            Some(place) => self.add_all(file, index, section, &place.plan),
+            Some(place) => self.add_all(file, index, section, place.plan),
             None => Ok(()),
         }
     }
@@ -121,7 +121,7 @@ impl Highs {
         file: usize,
         index: usize,
         section: &ShortSection<'_, '_>,
-        plan: &SectionPlan,
+        plan: &SectionPaddings,
     ) -> Result<(), AllocError>
         ensures { OnOk result (HasBefore self.old self.new file index (λ offset.
             high_to (new_offset (moves_of plan.now)) offset
@@ -141,7 +141,7 @@ impl Highs {
         file: usize,
         index: usize,
         section: &ShortSection<'_, '_>,
-        plan: &SectionPlan,
+        plan: &SectionPaddings,
         relocation: &Relocation,
     ) -> Result<(), AllocError>
         ensures { OnOk result (HasBefore self.old self.new file index (λ offset.

@@ -27,7 +27,7 @@ use std::alloc::{AllocError, Global};
 #[derive(Drop)]
 pub struct Values<'p, 'o, 'a, 'n> {
     pub(crate) objects: &'p [ShortObject<'o, 'a>],
-    pub(crate) placement: &'p Placement,
+    pub(crate) placement: &'p Placement<'p>,
     pub(crate) names: &'p Names<'n>,
     pub(crate) highs: Highs,
 }
@@ -40,7 +40,11 @@ fn is_low_part(kind: Kind) -> bool
 }
 
 /// The place of a section by its file and its index there, both from 0.
-fn placed(placement: &Placement, file: usize, index: usize) -> Option<&PlacedSection>
+fn placed<'s, 'p>(
+    placement: &'s Placement<'p>,
+    file: usize,
+    index: usize,
+) -> Option<&'s PlacedSection<'p>>
     ensures { option_map (λ q. q.now) result ≡ placed_at placement.now file index }
 {
     let sections = placement.files.get(file)?;
@@ -52,7 +56,7 @@ impl<'p, 'o, 'a, 'n> Values<'p, 'o, 'a, 'n> {
     pub fn of(
         alloc: Global,
         objects: &'p [ShortObject<'o, 'a>],
-        placement: &'p Placement,
+        placement: &'p Placement<'p>,
         names: &'p Names<'n>,
     ) -> Result<Values<'p, 'o, 'a, 'n>, AllocError>
         ensures { (start : ℕ) → IsNames (map short_object_of objects.now) names.now

@@ -7,7 +7,7 @@ use Rattle.std.proofs.lemmas.Option.{slice_get_within}
 use Rattle.rv_object_types.specs.Object.{Section, Object}
 use Rattle.rv_object_laws.specs.Moves.{moves, new_offset}
 use Rattle.rv_object_laws.specs.Names.{offset_address}
-use Rattle.rv_relax.specs.Plan.{moves_of}
+use Rattle.rv_relax.specs.Kept.{moves_of}
 use Rattle.rv_placement.specs.declared.placement.PlacedSection.{PlacedSection}
 use Rattle.rv_placement.specs.declared.placement.Placement.{Placement}
 use Rattle.rv_placement.specs.Placement.{starts_of, start_in, placed_in, placed_at, section_in, object_section, IsPlacement}
@@ -63,7 +63,7 @@ address_unloaded os file index o start offset s at is not =
     by_loaded s.loaded (Some ((start + new_offset (moves start s) offset) % 2 ^ 64)) not ∙ ap (offset_address start offset) (is ∙ in_object os file index o at)
 
 pub address_is : (os : List Object) (first : ℕ) (p : Placement) → IsPlacement os first p → (file index : ℕ) (o : Object) (offset n : ℕ) (s : Section) (q : PlacedSection)
-    → slice_get os file ≡ Some o → Some s ≡ object_section os file index → Some q ≡ placed_at p file index → s.loaded ≡ true → n ≡ new_offset (moves_of q.plan) offset
+    → slice_get os file ≡ Some o → Some s ≡ object_section os file index → Some q ≡ placed_at p file index → s.loaded ≡ true → n ≡ new_offset (moves_of q.plan.now) offset
     → Some ((q.start + n) % 2 ^ 64) ≡ offset_address (starts_of p (file + 1) index) offset (slice_get o.sections index)
 address_is os first p is file index o offset n s q at stands there yes' new =
     let planned = is.planned file index s q (sym stands) (sym there) in

@@ -12,7 +12,7 @@ use Rattle.rv_object_laws.specs.IsLinkOf.{by_ordinal, map_row, moves_at, row_in,
 use Rattle.rv_object_laws.specs.Moves.{new_offset, moves}
 use Rattle.rv_shorten.specs.declared.object.ShortObject.{ShortObject}
 use Rattle.rv_shorten.specs.View.{short_object_of}
-use Rattle.rv_relax.specs.Plan.{moves_of}
+use Rattle.rv_relax.specs.Kept.{moves_of}
 use Rattle.rv_relax.proofs.RisingLemmas.{plan_rises}
 use Rattle.rv_placement.specs.declared.placement.PlacedSection.{PlacedSection}
 use Rattle.rv_placement.specs.declared.placement.Placement.{Placement}
@@ -52,18 +52,18 @@ module _ (os : List Object) (start : ℕ) (p : Placement) (is : IsPlacement os s
   row_placed none = not_placed os start p is file r.section stands.0 there (sym none)
 
   abbrev IsLow : PlacedSection → Row → Type 0
-  IsLow q row = (row.offset + row.bytes < 2 ^ 64) × (q.start + new_offset (moves_of q.plan) row.offset < 2 ^ 64)
+  IsLow q row = (row.offset + row.bytes < 2 ^ 64) × (q.start + new_offset (moves_of q.plan.now) row.offset < 2 ^ 64)
 
   row_low : (q : PlacedSection) → Some q ≡ placed_at p file r.section → IsLow q moved
   row_low q found =
       let s = stands.0 in
       let low = is.low file r.section s q there (sym found) in
       let within = stands.2 in
-      let before = plan_rises q.plan moved.offset (size_of s.contents) (omega (arith, within)) in
-      let same : new_offset (moves_of q.plan) (size_of s.contents) ≡ new_offset (moves q.start s) (size_of s.contents) = ap (λ ms. new_offset ms (size_of s.contents)) (is.planned file r.section s q there (sym found)) in
+      let before = plan_rises q.plan.now moved.offset (size_of s.contents) (omega (arith, within)) in
+      let same : new_offset (moves_of q.plan.now) (size_of s.contents) ≡ new_offset (moves q.start s) (size_of s.contents) = ap (λ ms. new_offset ms (size_of s.contents)) (is.planned file r.section s q there (sym found)) in
       (omega (arith, low.0, within), omega (arith, low.1, before, same))
 
-  row_is : (q : PlacedSection) → Some q ≡ placed_at p file r.section → map_row (file + 1) q.start (moves_of q.plan) moved ≡ row_in (starts_of p) (file + 1) (short_object_of o) moved
+  row_is : (q : PlacedSection) → Some q ≡ placed_at p file r.section → map_row (file + 1) q.start (moves_of q.plan.now) moved ≡ row_in (starts_of p) (file + 1) (short_object_of o) moved
   row_is q found =
       ap (λ ms. map_row (file + 1) q.start ms moved) (is.planned file r.section stands.0 q there (sym found))
       ∙ ap (λ s. map_row (file + 1) q.start (moves_at q.start s) moved) (sym stands.1)
@@ -71,13 +71,13 @@ module _ (os : List Object) (start : ℕ) (p : Placement) (is : IsPlacement os s
 
   -- one row more
   pub row_more : (q : PlacedSection) (row : Row) (m : MapRow) (old new all : List MapRow) → Some q ≡ placed_at p file r.section → row ≡ moved
-      → (row.offset + row.bytes < 2 ^ 64 → q.start + new_offset (moves_of q.plan) row.offset < 2 ^ 64 → m ≡ map_row (file + 1) q.start (moves_of q.plan) row) → new ≡ old ++ (m ∷ [])
+      → (row.offset + row.bytes < 2 ^ 64 → q.start + new_offset (moves_of q.plan.now) row.offset < 2 ^ 64 → m ≡ map_row (file + 1) q.start (moves_of q.plan.now) row) → new ≡ old ++ (m ∷ [])
       → old ++ map (row_in (starts_of p) (file + 1) (short_object_of o)) (moved_rows o (drop i rows)) ≡ all
       → new ++ map (row_in (starts_of p) (file + 1) (short_object_of o)) (moved_rows o (drop (i + 1) rows)) ≡ all
   row_more q row m old new all found same made pushed h =
       let rest = map (row_in (starts_of p) (file + 1) (short_object_of o)) (moved_rows o (drop (i + 1) rows)) in
       let low : IsLow q row = subst (IsLow q) (sym same) (row_low q found) in
-      let one : m ≡ row_in (starts_of p) (file + 1) (short_object_of o) moved = made low.0 low.1 ∙ ap (map_row (file + 1) q.start (moves_of q.plan)) same ∙ row_is q found in
+      let one : m ≡ row_in (starts_of p) (file + 1) (short_object_of o) moved = made low.0 low.1 ∙ ap (map_row (file + 1) q.start (moves_of q.plan.now)) same ∙ row_is q found in
       ap (λ l. l ++ rest) pushed ∙ append_assoc old (m ∷ []) rest ∙ ap (λ x. old ++ (x ∷ rest)) one
       ∙ ap (λ l. old ++ map (row_in (starts_of p) (file + 1) (short_object_of o)) (moved_rows o l)) (sym (left rows i r inside here)) ∙ h
 

@@ -7,7 +7,7 @@ use Rattle.std.specs.List.{AllByRecursion, list_all, slice_get}
 use Rattle.rv_object_types.specs.Object.{Section, Object}
 use Rattle.rv_object_laws.specs.Moves.{moves, has_room}
 use Rattle.rv_object_laws.specs.Inputs.{Starts, InputSection, goes_to_text, inputs, inputs_from, inputs_of, start_of}
-use Rattle.rv_relax.specs.Plan.{moves_of}
+use Rattle.rv_relax.specs.Kept.{moves_of}
 use Rattle.rv_placement.specs.declared.placement.PlacedSection.{PlacedSection}
 use Rattle.rv_placement.specs.declared.placement.Placement.{Placement}
 use Rattle.rv_placement.specs.Placement.{starts_of, start_in, placed_in, placed_at, section_in, are_roomy_in, are_roomy, IsPlacement, AreRoomy}
@@ -22,7 +22,7 @@ and_assoc false b c = refl
 
 module _ (starts : Starts) where
   room_file : (file : ℕ) (o : Object) (index : ℕ) (qs : List PlacedSection) (ss : List Section) (rest : List InputSection) → length qs ≡ length ss
-      → ((k : ℕ) (s : Section) (q : PlacedSection) → slice_get ss k ≡ Some s → slice_get qs k ≡ Some q → moves_of q.plan ≡ moves q.start s)
+      → ((k : ℕ) (s : Section) (q : PlacedSection) → slice_get ss k ≡ Some s → slice_get qs k ≡ Some q → moves_of q.plan.now ≡ moves q.start s)
       → ((k : ℕ) → starts file (index + k) ≡ start_in (slice_get qs k))
       → list_all (room starts) (inputs_from goes_to_text file o index ss ++ rest) ≡ (are_roomy_in qs && list_all (room starts) rest)
   room_file file o index [] [] rest same planned at = refl
@@ -35,22 +35,22 @@ module _ (starts : Starts) where
       here : starts file index ≡ q.start
       here = ap (starts file) (let e : index ≡ index + 0 = omega arith in e) ∙ at 0
 
-      plans : moves_of q.plan ≡ moves q.start s
+      plans : moves_of q.plan.now ≡ moves q.start s
       plans = planned 0 s q refl refl
 
       go : (b : Bool) → goes_to_text s ≡ b → list_all (room starts) (inputs_from goes_to_text file o (suc index) ss ++ rest) ≡ (are_roomy_in qs && list_all (room starts) rest)
           → list_all (room starts) ((if b then record { file = file; object = o; index = index; section = s } ∷ inputs_from goes_to_text file o (suc index) ss else inputs_from goes_to_text file o (suc index) ss) ++ rest)
-          ≡ ((list_all has_room (moves_of q.plan) && are_roomy_in qs) && list_all (room starts) rest)
+          ≡ ((list_all has_room (moves_of q.plan.now) && are_roomy_in qs) && list_all (room starts) rest)
       go true e h =
-          let one : list_all has_room (moves (starts file index) s) ≡ list_all has_room (moves_of q.plan) = ap (λ n. list_all has_room (moves n s)) here ∙ ap (list_all has_room) (sym plans) in
-          ap (λ b. b && list_all (room starts) (inputs_from goes_to_text file o (suc index) ss ++ rest)) one ∙ ap (λ b. list_all has_room (moves_of q.plan) && b) h
-          ∙ and_assoc (list_all has_room (moves_of q.plan)) (are_roomy_in qs) (list_all (room starts) rest)
+          let one : list_all has_room (moves (starts file index) s) ≡ list_all has_room (moves_of q.plan.now) = ap (λ n. list_all has_room (moves n s)) here ∙ ap (list_all has_room) (sym plans) in
+          ap (λ b. b && list_all (room starts) (inputs_from goes_to_text file o (suc index) ss ++ rest)) one ∙ ap (λ b. list_all has_room (moves_of q.plan.now) && b) h
+          ∙ and_assoc (list_all has_room (moves_of q.plan.now)) (are_roomy_in qs) (list_all (room starts) rest)
       go false e h =
-          let none : list_all has_room (moves_of q.plan) ≡ true = ap (list_all has_room) (plans ∙ moves_other s q.start e) in
+          let none : list_all has_room (moves_of q.plan.now) ≡ true = ap (list_all has_room) (plans ∙ moves_other s q.start e) in
           h ∙ ap (λ b. (b && are_roomy_in qs) && list_all (room starts) rest) (sym none)
 
   room_files : (file : ℕ) (fs : List (Vec PlacedSection)) (os : List Object) → map (λ f. length f.items) fs ≡ map (λ o. length o.sections) os
-      → ((j k : ℕ) (s : Section) (q : PlacedSection) → section_in (slice_get os j) k ≡ Some s → placed_in (slice_get fs j) k ≡ Some q → moves_of q.plan ≡ moves q.start s)
+      → ((j k : ℕ) (s : Section) (q : PlacedSection) → section_in (slice_get os j) k ≡ Some s → placed_in (slice_get fs j) k ≡ Some q → moves_of q.plan.now ≡ moves q.start s)
       → ((j k : ℕ) → starts (file + j) k ≡ start_in (placed_in (slice_get fs j) k)) → list_all (room starts) (inputs_of goes_to_text file os) ≡ list_all (λ f. are_roomy_in f.items) fs
   room_files file [] [] each planned at = refl
   room_files file [] (o ∷ os) each planned at = absurd (cc)

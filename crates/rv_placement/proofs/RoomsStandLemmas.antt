@@ -11,11 +11,11 @@ use Rattle.rv_shorten.specs.declared.section.ShortSection.{ShortSection}
 use Rattle.rv_shorten.specs.declared.object.ShortObject.{ShortObject}
 use Rattle.rv_shorten.specs.Sections.{short_section_of}
 use Rattle.rv_shorten.specs.View.{short_object_of}
-use Rattle.rv_placement.specs.declared.fault.PlacementFault.TheVariants.{TooLarge, Short}
-use Rattle.rv_placement.specs.Placement.{IsTooLarge, IsUnplaced}
-use Rattle.rv_placement.specs.Walk.{is_roomy, are_roomy_objects}
+use Rattle.rv_relax.specs.Plan.{are_roomy_objects, is_roomy}
+use Rattle.rv_placement.specs.declared.placement.Placement.{Placement}
+use Rattle.rv_placement.specs.Placement.{starts_of, are_roomy, IsPlacement, AreRoomy, HasRoom}
 use Rattle.rv_placement.proofs.AlignedLemmas.{moves_still}
-use Rattle.rv_placement.proofs.RoomsLemmas.{room, and_assoc, all_true, true_all}
+use Rattle.rv_placement.proofs.RoomsLemmas.{room, and_assoc, all_true, true_all, are_rooms}
 use Rattle.rv_placement.proofs.StandingLemmas.{moves_other}
 
 -- ---- wherever they stand
@@ -63,21 +63,21 @@ all_aligned : (os : List ShortObject) → AllByRecursion (λ o. AreAligned o.sec
 all_aligned [] = tt
 all_aligned (o ∷ os) = (are_aligned o.sections.items, all_aligned os)
 
-module _ (objects : List ShortObject) (start : ℕ) (roomy : Bool) (is : roomy ≡ are_roomy_objects (map short_object_of objects)) where
+module _ (objects : List ShortObject) (start : ℕ) where
   abbrev os : List Object
   os = map short_object_of objects
 
-  rooms : (starts : Starts) → Stand starts start (inputs goes_to_text os) → list_all (room starts) (inputs goes_to_text os) ≡ roomy
-  rooms starts h = in_files starts 1 start os (all_aligned objects) h ∙ sym is
+  rooms : (starts : Starts) → Stand starts start (inputs goes_to_text os) → list_all (room starts) (inputs goes_to_text os) ≡ are_roomy_objects os
+  rooms starts h = in_files starts 1 start os (all_aligned objects) h
 
-  pub too_large_roomy : roomy ≡ true → IsTooLarge os start → IsUnplaced os start TooLarge
-  too_large_roomy e large = (large, λ starts h. all_true (room starts) (inputs goes_to_text os) (rooms starts h ∙ e))
+  pub has_room_anywhere : are_roomy_objects os ≡ true → HasRoom os start
+  has_room_anywhere e starts h = all_true (room starts) (inputs goes_to_text os) (rooms starts h ∙ e)
 
-  pub too_large_short : roomy ≡ false → IsTooLarge os start → IsUnplaced os start Short
-  too_large_short e large = (
-    large,
-    λ starts h roomies.
-        let all : list_all (room starts) (inputs goes_to_text os) ≡ true = true_all (room starts) (inputs goes_to_text os) roomies in
-        let none : list_all (room starts) (inputs goes_to_text os) ≡ false = rooms starts h ∙ e in
-        absurd (cc),
-  )
+  pub lacks_room_anywhere : are_roomy_objects os ≡ false → (starts : Starts) → Stand starts start (inputs goes_to_text os) → AreRoomy os starts → ⊥
+  lacks_room_anywhere e starts h roomies =
+      let all : list_all (room starts) (inputs goes_to_text os) ≡ true = true_all (room starts) (inputs goes_to_text os) roomies in
+      let none : list_all (room starts) (inputs goes_to_text os) ≡ false = rooms starts h ∙ e in
+      absurd (cc)
+
+  pub placed_roomy : are_roomy_objects os ≡ true → (p : Placement) → IsPlacement os start p → are_roomy p ≡ true
+  placed_roomy e p is = (are_rooms os start p is (are_roomy p) refl).1 (has_room_anywhere e (starts_of p) is.text.1)

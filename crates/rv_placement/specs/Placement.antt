@@ -9,9 +9,9 @@ use Rattle.rv_map.specs.declared.map.Region.{Region}
 use Rattle.rv_object_types.specs.Object.{Section, Object, size_of}
 use Rattle.rv_object_laws.specs.Moves.{moves, has_room, new_offset}
 use Rattle.rv_object_laws.specs.Inputs.{Starts, goes_to_text, goes_to_rodata, goes_to_data, goes_to_bss, inputs, start_of, Stand, Holds, gaps_of, greatest}
-use Rattle.rv_relax.specs.Plan.{moves_of}
+use Rattle.rv_relax.specs.Kept.{moves_of}
 use Rattle.rv_placement.specs.declared.fault.PlacementFault.{PlacementFault}
-use Rattle.rv_placement.specs.declared.fault.PlacementFault.TheVariants.{TooLarge, Short, OutOfMemory}
+use Rattle.rv_placement.specs.declared.fault.PlacementFault.TheVariants.{TooLarge, OutOfMemory}
 use Rattle.rv_placement.specs.declared.placement.PlacedSection.{PlacedSection}
 use Rattle.rv_placement.specs.declared.placement.Placement.{Placement}
 
@@ -50,7 +50,7 @@ pub record IsPlacement (os : List Object) (text_start : ℕ) (p : Placement) : T
   -- with what is kept where it starts
   pub planned : (file index : ℕ) (s : Section) (q : PlacedSection)
       → object_section os file index ≡ Some s → placed_at p file index ≡ Some q
-      → moves_of q.plan ≡ moves q.start s
+      → moves_of q.plan.now ≡ moves q.start s
   -- each of its bytes has an offset, and each that is kept an address
   pub low : (file index : ℕ) (s : Section) (q : PlacedSection)
       → object_section os file index ≡ Some s → placed_at p file index ≡ Some q
@@ -72,7 +72,7 @@ pub record IsPlacement (os : List Object) (text_start : ℕ) (p : Placement) : T
 
 -- whether each padding that is placed has room for what is kept of it
 abbrev pub are_roomy_in : List PlacedSection → Bool
-are_roomy_in qs = list_all (λ q. list_all has_room (moves_of q.plan)) qs
+are_roomy_in qs = list_all (λ q. list_all has_room (moves_of q.plan.now)) qs
 
 abbrev pub are_roomy : Placement → Bool
 are_roomy p = list_all (λ f. are_roomy_in f.items) p.files.items
@@ -95,12 +95,7 @@ IsTooLarge os text_start =
     (inputs goes_to_bss os)
     → (stack_start < bss.end) ⊎ (memory_limit < memory_of text rodata variables bss)
 
--- wherever the text's sections stand one behind the other, one of them has a padding without room
-abbrev pub IsShort : List Object → ℕ → Type 0
-IsShort os text_start =
-    (starts : Starts) → Stand starts text_start (inputs goes_to_text os) → AreRoomy os starts → ⊥
-
--- or each of them has room for its paddings
+-- wherever the text's sections stand one behind the other, each has room for its paddings
 abbrev pub HasRoom : List Object → ℕ → Type 0
 HasRoom os text_start =
     (starts : Starts) → Stand starts text_start (inputs goes_to_text os) → AreRoomy os starts
@@ -108,7 +103,6 @@ HasRoom os text_start =
 -- why sections cannot be placed
 abbrev pub IsUnplaced : List Object → ℕ → PlacementFault → Type 0
 IsUnplaced os text_start TooLarge = IsTooLarge os text_start × HasRoom os text_start
-IsUnplaced os text_start Short = IsTooLarge os text_start × IsShort os text_start
 IsUnplaced os text_start OutOfMemory = ⊤
 
 -- sections have a layout, however large it is

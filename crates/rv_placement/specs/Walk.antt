@@ -2,14 +2,14 @@
 
 use Rattle.std.specs.Prelude.{◌≡◌, ℕ, ◌+◌, ◌<◌, ◌^◌, Bool, nat_lt, max, map, List, [], ◌∷◌, ◌++◌, if◌then◌else◌}
 use Rattle.std.specs.Global.{Vec}
-use Rattle.std.specs.List.{AllZip, list_all}
+use Rattle.std.specs.List.{AllZip}
 use Rattle.rv_layout_laws.specs.Alignment.{aligned}
 use Rattle.rv_isa_laws.specs.Platform.{stack_start}
 use Rattle.rv_map.specs.declared.map.Region.{Region}
 use Rattle.rv_object_types.specs.Object.{Section, Object, size_of}
-use Rattle.rv_object_laws.specs.Moves.{moves, has_room, new_offset}
+use Rattle.rv_object_laws.specs.Moves.{moves, new_offset}
 use Rattle.rv_object_laws.specs.Inputs.{goes_to_text, goes_to_rodata, goes_to_data, goes_to_bss, begins_at}
-use Rattle.rv_relax.specs.Plan.{moves_of}
+use Rattle.rv_relax.specs.Kept.{moves_of}
 use Rattle.rv_placement.specs.declared.destination.Destination.{Destination}
 use Rattle.rv_placement.specs.declared.destination.Destination.TheVariants.{Rodata, Data, Bss}
 use Rattle.rv_placement.specs.declared.placement.PlacedSection.{PlacedSection}
@@ -42,14 +42,6 @@ ended to stop (s ∷ ss) = ended to (next to stop s) ss
 abbrev pub ended_files : (Section → Bool) → ℕ → List Object → ℕ
 ended_files to stop [] = stop
 ended_files to stop (o ∷ os) = ended_files to (ended to stop o.sections) os
-
--- whether the paddings of a section have room: where it stands makes no difference, since it begins
--- at a multiple of each of its alignments
-abbrev pub is_roomy : Section → Bool
-is_roomy s = list_all has_room (moves 0 s)
-
-abbrev pub are_roomy_objects : List Object → Bool
-are_roomy_objects os = list_all (λ o. list_all is_roomy o.sections) os
 
 -- where it starts; one that goes elsewhere stays
 abbrev pub start_from : (Section → Bool) → ℕ → ℕ → Section → ℕ
@@ -117,7 +109,7 @@ greatest_of to (o ∷ os) = max (greatest_in to o.sections) (greatest_of to os)
 -- is kept an address
 abbrev pub IsKept : Section → PlacedSection → Type 0
 IsKept s q =
-    (moves_of q.plan ≡ moves q.start s) × (size_of s.contents < 2 ^ 64)
+    (moves_of q.plan.now ≡ moves q.start s) × (size_of s.contents < 2 ^ 64)
     × (end_from q.start s < 2 ^ 64)
 
 abbrev pub AreKept : Object → List PlacedSection → Type 0

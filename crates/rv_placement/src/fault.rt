@@ -9,12 +9,9 @@ use thiserror::Error;
 /// Why sections cannot be placed.
 #[derive(Clone, Copy, Debug, PartialEq, Eq, Drop, Error)]
 pub enum PlacementFault {
-    /// They pass the end of memory, or need too much of it; each padding of the text has room.
+    /// They pass the end of memory, or need too much of it.
     #[error("the sections need too much memory")]
     TooLarge,
-    /// They are too large, and a padding of the text has no room.
-    #[error("a padding of the text has no room")]
-    Short,
     #[error("out of memory")]
     OutOfMemory,
 }
@@ -36,7 +33,6 @@ impl From<PlacementFault> for LinkFault {
 
     fn from(fault: PlacementFault) -> Self {
         match fault {
-            PlacementFault::Short => LinkFault::AlignmentShort,
             PlacementFault::TooLarge => LinkFault::ImageTooLarge,
             PlacementFault::OutOfMemory => LinkFault::OutOfMemory,
         }

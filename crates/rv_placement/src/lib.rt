@@ -1,15 +1,15 @@
 //! Where the sections of objects stand in memory.
 //!
-//! It takes a list of objects as calls that are cut short leave them (`rv_shorten`) and the address at which the text begins, and
-//! gives the [`Placement`]: where each section starts, what is kept of it, the regions, and the gaps of the text.
+//! It takes the plan of objects (`rv_relax`), in which each padding has room, and the address at which the text begins, and
+//! gives the [`Placement`]: where each section starts, what the plan keeps of it, the regions, and the gaps of the text.
 //!
 //! Main contracts: of `Placement::of`, that the regions hold the sections of all files as `rv_object_laws` says (`IsPlacement`),
-//! or that these are too large for memory wherever they stand so (`IsTooLarge`; by `sections_stand` they stand so somewhere), and
-//! then that a padding of the text has no room (`IsShort`) or that each has (`HasRoom`); of `rows` and `address`, that they
-//! are those of the definitions at these starts. It must not know symbols, values of relocations, nor statements.
+//! or that these are too large for memory wherever they stand so (`IsTooLarge`; by `sections_stand` they stand so somewhere); of
+//! `rows` and `address`, that they are those of the definitions at these starts. It must not know symbols, values of
+//! relocations, nor statements.
 //!
 //! ```text
-//! let placement = Placement::of(alloc, &objects, 0x10000)?;
+//! let placement = Placement::of(alloc, &plan, 0x10000)?;
 //! let first = &placement.files[0][0];                         // PlacedSection { start: 0x10000, .. }
 //! let address = placement.address(&objects, 0, 0, 8);         // Some(0x10008), where no byte before it is dropped
 //! let rows = placement.rows(alloc, &objects)?;
@@ -24,7 +24,6 @@ mod fault;
 mod law;
 mod placement;
 mod regions;
-mod room;
 mod rows;
 mod text;
 

@@ -1,39 +1,39 @@
 //! The sections of objects with their places.
 
-ghost use Rattle.std.specs.Prelude.{◌≡◌, ◌+◌, ◌%◌, ◌<◌, ◌≤◌, ◌↔◌, ℕ, true, IfOk, IfErr, Some, map, option_map, List};
+ghost use Rattle.std.specs.Prelude.{◌≡◌, ◌+◌, ◌%◌, ◌<◌, ◌≤◌, ℕ, true, IfOk, IfErr, Some, map, option_map};
 ghost use Rattle.std.specs.List.{slice_get};
 ghost use Rattle.rv_isa_laws.specs.Platform.{stack_start};
 ghost use Rattle.rv_object_types.specs.Object.{Object as PlainObject};
 ghost use Rattle.rv_object_laws.specs.Names.{offset_address};
 ghost use Rattle.rv_shorten.specs.Sections.{short_section_of};
 ghost use Rattle.rv_shorten.specs.View.{short_object_of};
+ghost use Rattle.rv_relax.specs.Plan.{are_roomy_objects, planned_objects};
 ghost use Rattle.rv_placement.specs.Placement as laws;
-ghost use Rattle.rv_placement.specs.Placement.{starts_of, placed_at, are_roomy_in, are_roomy, IsPlacement, AreRoomy, IsUnplaced};
+ghost use Rattle.rv_placement.specs.Placement.{starts_of, placed_at, are_roomy, IsPlacement, IsUnplaced};
 
 use crate::fault::PlacementFault;
 use crate::regions::{Regions, regions_behind};
-use crate::room::unplaced;
 use crate::text::put_files;
 use rv_image::MEMORY_LIMIT;
 use rv_map::Region;
-use rv_relax::SectionPlan;
+use rv_relax::{Plan, SectionPaddings};
 use rv_shorten::{ShortObject, ShortSection};
 use std::alloc::Global;
 
 /// A section with its address, and what is kept of it.
 #[derive(Drop)]
-pub struct PlacedSection {
+pub struct PlacedSection<'p> {
     /// The address of its first byte; 0 if it has no place in memory.
     pub start: u64,
     /// What is kept of its paddings.
-    pub plan: SectionPlan,
+    pub plan: &'p SectionPaddings,
 }
 
 /// Where the sections of objects stand.
 #[derive(Drop)]
-pub struct Placement {
+pub struct Placement<'p> {
     /// By object, and then by section, in their order.
-    pub files: Vec<Vec<PlacedSection>>,
+    pub files: Vec<Vec<PlacedSection<'p>>>,
     /// The instructions.
     pub text: Region,
     /// The constants.
@@ -70,40 +70,43 @@ pub(crate) fn section_at<'s, 'o, 'a>(
     object.sections.get(index as usize)
 }
 
-/// Whether each padding of these sections has room for what is kept of it.
-fn are_roomy(sections: &[PlacedSection]) -> bool
-    ensures { result ≡ are_roomy_in sections.now }
-{
-    sections.iter().all(|section| section.plan.is_roomy())
-}
-
-impl Placement {
-    /// Places the sections of objects whose text begins at an address.
+impl<'p> Placement<'p> {
+    /// Places the sections of objects by their plan, in which each padding has room. The text begins at an address.
     pub fn of(
         alloc: Global,
-        objects: &[ShortObject<'_, '_>],
+        plan: &'p Plan<'_, '_>,
         text_start: u64,
-    ) -> Result<Placement, PlacementFault>
+    ) -> Result<Placement<'p>, PlacementFault>
         requires page { text_start % 4096 ≡ 0 }
         requires low { text_start < stack_start }
-        ensures placement { IfOk result (IsPlacement (map short_object_of objects.now) text_start) }
-        ensures refuses { IfErr result (IsUnplaced (map short_object_of objects.now) text_start) }
+        requires roomy { are_roomy_objects (planned_objects plan.now) ≡ true }
+        ensures placement { IfOk result (IsPlacement (planned_objects plan.now) text_start) }
+        ensures room { IfOk result (λ placement. are_roomy placement ≡ true) }
+        ensures refuses { IfErr result (IsUnplaced (planned_objects plan.now) text_start) }
     {
-        let mut files = Vec::new(alloc);
+        let mut files: Vec<Vec<PlacedSection<'p>>> = Vec::new(alloc);
         let mut gaps = Vec::new(alloc);
-        let found = put_files(alloc, &mut files, &mut gaps, objects, text_start)?;
+        let objects = plan.objects.as_slice();
+        let found = put_files(
+            alloc,
+            &mut files,
+            &mut gaps,
+            objects,
+            plan.paddings.as_slice(),
+            text_start,
+        )?;
         let Some(end) = found else {
-            return Err(unplaced(alloc, objects)?);
+            return Err(PlacementFault::TooLarge);
         };
         let text = Region {
             start: text_start,
             end,
         };
         let Some(behind) = regions_behind(files.as_mut_slice(), objects, end) else {
-            return Err(unplaced(alloc, objects)?);
+            return Err(PlacementFault::TooLarge);
         };
         if memory_of(text, behind) > MEMORY_LIMIT {
-            return Err(unplaced(alloc, objects)?);
+            return Err(PlacementFault::TooLarge);
         }
         Ok(Placement {
             files,
@@ -116,7 +119,7 @@ impl Placement {
     }
 
     /// The place of a section by its object, from 0, and its index there.
-    pub(crate) fn section(&self, file: usize, index: u32) -> Option<&PlacedSection>
+    pub(crate) fn section(&self, file: usize, index: u32) -> Option<&PlacedSection<'p>>
         ensures { option_map (λ q. q.now) result ≡ placed_at self.now file index }
     {
         let section = self.files.get(file)?;
@@ -144,21 +147,5 @@ impl Placement {
             return None;
         }
         Some(place.start.wrapping_add(place.plan.new_offset(offset)))
-    }
-
-    /// Whether each padding that is placed has room for what is kept of it.
-    fn has_rooms(&self) -> bool
-        ensures { result ≡ are_roomy self.now }
-    {
-        self.files.iter().all(|file| are_roomy(file.as_slice()))
-    }
-
-    /// Whether each padding of the sections has room for what is kept of it.
-    pub fn is_roomy(&self) -> bool
-        ensures each { result ≡ are_roomy self.now }
-        ensures room { (os : List PlainObject) (start : ℕ) → IsPlacement os start self.now
-            → (result ≡ true) ↔ AreRoomy os (starts_of self.now) }
-    {
-        self.has_rooms()
     }
 }

@@ -55,7 +55,7 @@ fn behind(section: &ShortSection<'_, '_>, stop: u64) -> Option<(u64, u64)>
 /// Moves a section that goes to a region behind an end. Gives the end after it, or `None` where it
 /// passes the end of memory.
 fn move_section(
-    place: &mut PlacedSection,
+    place: &mut PlacedSection<'_>,
     section: &ShortSection<'_, '_>,
     destination: Destination,
     stop: u64,
@@ -78,7 +78,7 @@ fn move_section(
 
 /// Moves the sections of a file that go to a region, one behind another. Gives their end.
 fn move_file(
-    places: &mut [PlacedSection],
+    places: &mut [PlacedSection<'_>],
     sections: &[ShortSection<'_, '_>],
     destination: Destination,
     first: u64,
@@ -102,7 +102,7 @@ fn move_file(
 
 /// Moves the sections of all files that go to a region. Gives their end.
 fn move_files(
-    files: &mut [Vec<PlacedSection>],
+    files: &mut [Vec<PlacedSection<'_>>],
     objects: &[ShortObject<'_, '_>],
     destination: Destination,
     first: u64,
@@ -129,7 +129,7 @@ fn move_files(
 /// Places the sections that go to a region from an address on; `None` where they pass the end of
 /// memory.
 fn region(
-    files: &mut [Vec<PlacedSection>],
+    files: &mut [Vec<PlacedSection<'_>>],
     objects: &[ShortObject<'_, '_>],
     destination: Destination,
     start: u64,
@@ -154,7 +154,7 @@ fn region(
 /// Places the regions behind a text that ends at an address: rodata and data at the next pages, bss
 /// after data. `None` where they pass the end of memory.
 pub(crate) fn regions_behind(
-    files: &mut [Vec<PlacedSection>],
+    files: &mut [Vec<PlacedSection<'_>>],
     objects: &[ShortObject<'_, '_>],
     text_end: u64,
 ) -> Option<Regions>

@@ -12,7 +12,7 @@ ghost use Rattle.rv_object_types.specs.Valid.{are_rows};
 ghost use Rattle.rv_object_laws.specs.IsLinkOf as laws;
 ghost use Rattle.rv_object_laws.specs.Moves.{new_offset};
 ghost use Rattle.rv_shorten.specs.View.{short_object_of};
-ghost use Rattle.rv_relax.specs.Plan.{moves_of};
+ghost use Rattle.rv_relax.specs.Kept.{moves_of};
 ghost use Rattle.rv_placement.specs.Moved.{moved_rows};
 ghost use Rattle.rv_placement.specs.Placement.{starts_of, IsPlacement};
 
@@ -24,11 +24,11 @@ use std::alloc::{AllocError, Global};
 
 /// The row of a map for a row of an object: it moves with the bytes that are kept, and loses the
 /// instructions that go.
-fn map_row(file: u64, place: &PlacedSection, row: &Row) -> MapRow
+fn map_row(file: u64, place: &PlacedSection<'_>, row: &Row) -> MapRow
     ensures known { IsRow result }
     ensures moved { (row.now).offset + (row.now).bytes < 2 ^ 64
-        → (place.now).start + new_offset (moves_of (place.now).plan) (row.now).offset < 2 ^ 64
-        → result ≡ laws.map_row file (place.now).start (moves_of (place.now).plan) row.now }
+        → (place.now).start + new_offset (moves_of (place.now).plan.now) (row.now).offset < 2 ^ 64
+        → result ≡ laws.map_row file (place.now).start (moves_of (place.now).plan.now) row.now }
 {
     let offset = place.plan.new_offset(row.offset);
     let end = row.offset.wrapping_add(u64::from(row.bytes));
@@ -59,7 +59,7 @@ fn by_ordinal(alloc: Global, rows: &[Row]) -> Result<Vec<Row>, AllocError>
     Ok(sorted)
 }
 
-impl Placement {
+impl<'p> Placement<'p> {
     /// Adds rows of an object, by its place, from 0, as its cuts have moved them.
     fn put_rows(
         &self,

@@ -1,12 +1,13 @@
 //! The sections of the text.
 //!
-//! Each padding has its least size, which the address of its section decides. So sections are placed one after another, and
-//! where one ends is known only when it has its start.
+//! The plan tells what is kept of the paddings of each, and so how long it is, wherever it starts.
 
 ghost use Rattle.std.specs.Prelude.{◌≡◌, ◌+◌, ◌++◌, ◌<◌, ◌≤◌, [], map, IfOk, IfSome, IfNone};
 ghost use Rattle.std.specs.List.{AllZip};
 ghost use Rattle.rv_isa_laws.specs.Platform.{stack_start};
 ghost use Rattle.rv_object_laws.specs.Inputs.{goes_to_text};
+ghost use Rattle.rv_object_laws.specs.Moves.{moves};
+ghost use Rattle.rv_relax.specs.Kept.{kept_in, moves_of};
 ghost use Rattle.rv_shorten.specs.Sections.{short_section_of};
 ghost use Rattle.rv_shorten.specs.View.{short_object_of};
 ghost use Rattle.rv_placement.specs.Walk.{end_from, start_from, next, ended, ended_files, lists_of, text_starts, text_files, gap_between, gap_behind, gapped, gapped_files, IsKept, AreKept, IsPut};
@@ -15,34 +16,36 @@ use crate::alignment::{multiple_of, next_multiple};
 use crate::placement::PlacedSection;
 use rv_image::STACK_START;
 use rv_map::Region;
-use rv_relax::SectionPlan;
+use rv_relax::SectionPaddings;
 use rv_shorten::{ShortObject, ShortSection, is_text};
 use std::alloc::{AllocError, Global};
 
 /// Adds the place of a section that has none in the text.
-fn put_other(
-    alloc: Global,
-    places: &mut Vec<PlacedSection>,
+fn put_other<'p>(
+    places: &mut Vec<PlacedSection<'p>>,
     section: &ShortSection<'_, '_>,
+    plan: &'p SectionPaddings,
 ) -> Result<(), AllocError>
+    requires { moves_of plan.now ≡ kept_in section.now }
     ensures { IfOk result
         (λ _. IsPut (short_section_of section.now) 0 places.old.items places.new.items) }
 {
+    // tells that what is left of the section has a size in 64 bits
     let _size = section.size();
-    let plan = SectionPlan::of(alloc, section, 0)?;
     places.push(PlacedSection { start: 0, plan })?;
     Ok(())
 }
 
 /// Adds the place of a section of the text that starts at an address. Gives its end, or `None`
 /// where that passes the end of memory.
-fn put_code(
-    alloc: Global,
-    places: &mut Vec<PlacedSection>,
+fn put_code<'p>(
+    places: &mut Vec<PlacedSection<'p>>,
     section: &ShortSection<'_, '_>,
+    plan: &'p SectionPaddings,
     start: u64,
 ) -> Result<Option<u64>, AllocError>
-    requires { start ≤ stack_start }
+    requires low { start ≤ stack_start }
+    requires plan { moves_of plan.now ≡ moves start (short_section_of section.now) }
     ensures placed { IfOk result (λ found. IfSome found (λ end.
         (end ≡ end_from start (short_section_of section.now)) × (end ≤ stack_start)
         × IsPut (short_section_of section.now) start places.old.items places.new.items)) }
@@ -50,7 +53,6 @@ fn put_code(
         (stack_start < end_from start (short_section_of section.now))) }
 {
     let size = section.size();
-    let plan = SectionPlan::of(alloc, section, start)?;
     let end = start.saturating_add(plan.new_offset(size));
     if end > STACK_START {
         return Ok(None);
@@ -74,14 +76,15 @@ fn put_gap(gaps: &mut Vec<Region>, stop: u64, start: u64) -> Result<(), AllocErr
 
 /// Adds the place of a section that comes after an end of the text. Gives the end after it, or
 /// `None` where that passes the end of memory.
-fn put_section(
-    alloc: Global,
-    places: &mut Vec<PlacedSection>,
+fn put_section<'p>(
+    places: &mut Vec<PlacedSection<'p>>,
     gaps: &mut Vec<Region>,
     section: &ShortSection<'_, '_>,
+    plan: &'p SectionPaddings,
     stop: u64,
 ) -> Result<Option<u64>, AllocError>
-    requires { stop ≤ stack_start }
+    requires low { stop ≤ stack_start }
+    requires plan { moves_of plan.now ≡ kept_in section.now }
     ensures placed { IfOk result (λ found. IfSome found (λ end.
         (end ≡ next goes_to_text stop (short_section_of section.now)) × (end ≤ stack_start)
         × IsPut (short_section_of section.now)
@@ -92,7 +95,7 @@ fn put_section(
         (stack_start < next goes_to_text stop (short_section_of section.now))) }
 {
     if !is_text(section.whole) {
-        put_other(alloc, places, section)?;
+        put_other(places, section, plan)?;
         return Ok(Some(stop));
     }
     let start = next_multiple(multiple_of(section), stop);
@@ -100,7 +103,7 @@ fn put_section(
         return Ok(None);
     }
     put_gap(gaps, stop, start)?;
-    match put_code(alloc, places, section, start)? {
+    match put_code(places, section, plan, start)? {
         Some(end) => Ok(Some(end)),
         None => Ok(None),
     }
@@ -108,15 +111,16 @@ fn put_section(
 
 /// Adds the places of a file's sections, where those of the text begin at an address. Gives their
 /// end, or `None` where that passes the end of memory.
-fn put_file(
-    alloc: Global,
-    places: &mut Vec<PlacedSection>,
+fn put_file<'p>(
+    places: &mut Vec<PlacedSection<'p>>,
     gaps: &mut Vec<Region>,
     sections: &[ShortSection<'_, '_>],
+    plans: &'p [SectionPaddings],
     first: u64,
 ) -> Result<Option<u64>, AllocError>
     requires empty { places.old.items ≡ [] }
     requires low { first ≤ stack_start }
+    requires plans { map moves_of plans.now ≡ map kept_in sections.now }
     ensures placed { IfOk result (λ found. IfSome found (λ end.
         (end ≡ ended goes_to_text first (map short_section_of sections.now)) × (end ≤ stack_start)
         × (map (λ q. q.start) places.new.items
@@ -127,8 +131,8 @@ fn put_file(
         (stack_start < ended goes_to_text first (map short_section_of sections.now))) }
 {
     let mut stop = first;
-    for section in sections {
-        match put_section(alloc, places, gaps, section, stop)? {
+    for i in 0..sections.len() {
+        match put_section(places, gaps, &sections[i], &plans[i], stop)? {
             Some(end) => stop = end,
             None => return Ok(None),
         }
@@ -138,15 +142,18 @@ fn put_file(
 
 /// Adds the places of all sections, where those of the text begin at an address. Gives the end of
 /// the text, or `None` where that passes the end of memory.
-pub(crate) fn put_files(
+pub(crate) fn put_files<'p>(
     alloc: Global,
-    files: &mut Vec<Vec<PlacedSection>>,
+    files: &mut Vec<Vec<PlacedSection<'p>>>,
     gaps: &mut Vec<Region>,
     objects: &[ShortObject<'_, '_>],
+    plans: &'p [Vec<SectionPaddings>],
     first: u64,
 ) -> Result<Option<u64>, AllocError>
     requires empty { files.old.items ≡ [] }
     requires low { first ≤ stack_start }
+    requires plans { map (λ f. map moves_of f.items) plans.now
+        ≡ map (λ o. map kept_in o.sections.items) objects.now }
     ensures placed { IfOk result (λ found. IfSome found (λ end.
         (end ≡ ended_files goes_to_text first (map short_object_of objects.now))
         × (end ≤ stack_start)
@@ -159,9 +166,10 @@ pub(crate) fn put_files(
         (stack_start < ended_files goes_to_text first (map short_object_of objects.now))) }
 {
     let mut stop = first;
-    for object in objects {
-        let mut places = Vec::new(alloc);
-        match put_file(alloc, &mut places, gaps, object.sections.as_slice(), stop)? {
+    for i in 0..objects.len() {
+        let mut places: Vec<PlacedSection<'p>> = Vec::new(alloc);
+        let sections = objects[i].sections.as_slice();
+        match put_file(&mut places, gaps, sections, plans[i].as_slice(), stop)? {
             Some(end) => stop = end,
             None => return Ok(None),
         }

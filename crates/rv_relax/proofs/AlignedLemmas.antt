@@ -1,6 +1,6 @@
 -- The least multiple of an alignment, and the least alignment above a padding.
 
-use Rattle.std.proofs.Common.{◌≡◌, ℕ, ◌+◌, ◌-◌, ◌*◌, ◌/◌, ◌%◌, ◌^◌, ◌<◌, ◌≤◌, Bool, true, false, List, [], ◌∷◌, Option, Some, cond, nat_lt, length, drop, slice_index_or, sym, ap, ◌∙◌, arith}
+use Rattle.std.proofs.Common.{◌≡◌, ℕ, ◌+◌, ◌-◌, ◌*◌, ◌/◌, ◌%◌, ◌<◌, ◌≤◌, Bool, true, false, List, [], ◌∷◌, Option, Some, cond, nat_lt, length, drop, slice_index_or, sym, ap, ◌∙◌, arith}
 use Rattle.std.specs.Prelude.{unwrap_or}
 use Rattle.std.proofs.lemmas.Nat.{div-mul-add, div-add-mod'}
 use Rattle.std.proofs.Math.Nat.{mod-lt}
@@ -8,16 +8,6 @@ use Rattle.std.specs.List.{AllByRecursion, find}
 use Rattle.std.proofs.lemmas.Bool.{lt-ltb, le-ltb}
 use Rattle.std.proofs.lemmas.List.{drop_more}
 use Rattle.rv_layout_laws.specs.Alignment.{aligned}
-use Rattle.rv_object_types.specs.Object.{Relocation}
-use Rattle.rv_object_laws.specs.Moves.{alignment_of, full_padding}
-
-pub none_left : (a n : ℕ) → 0 < a → n % a ≡ 0 → 0 ≡ aligned a n - n
-none_left a n some is =
-    let parts = div-add-mod' n a in
-    let whole : n + (a - 1) ≡ n / a * a + (a - 1) = omega arith in
-    let quotient : (n + (a - 1)) / a ≡ n / a = ap (λ m. m / a) whole ∙ div-mul-add (n / a) a (a - 1) (omega arith) in
-    let same : (n + (a - 1)) / a * a ≡ n / a * a = ap (λ q. q * a) quotient in
-    omega arith
 
 pub some_left : (a n : ℕ) → 0 < a → 0 < n % a → a - n % a ≡ aligned a n - n
 some_left a n some is =
@@ -28,7 +18,7 @@ some_left a n some is =
     let same : (n + (a - 1)) / a * a ≡ (n / a + 1) * a = ap (λ q. q * a) quotient in
     omega arith
 
--- ---- addresses modulo 2 ^ 64
+-- ---- the alignments that a padding can ask for
 
 abbrev pub alignments : List ℕ
 alignments = 2 ∷ 4 ∷ 8 ∷ 16 ∷ 32 ∷ 64 ∷ 128 ∷ 256 ∷ 512 ∷ 1024 ∷ 2048 ∷ 4096 ∷ []
@@ -40,15 +30,6 @@ one_of P full (a ∷ xs) most each = by (nat_lt full a) (one_of P full xs most e
     by : (b : Bool) → P (unwrap_or (find (λ a. nat_lt full a) xs) 4096) → P (unwrap_or (cond b (Some a) (find (λ a. nat_lt full a) xs)) 4096)
     by true more = each.0
     by false more = more
-
--- an alignment's least padding looks at the address modulo 2 ^ 64 alone
-abbrev IsSame : ℕ → ℕ → Type 0
-IsSame n a = aligned a (n % 2 ^ 64) - n % 2 ^ 64 ≡ aligned a n - n
-
-pub same_least : (r : Relocation) (n : ℕ) → aligned (alignment_of r) (n % 2 ^ 64) - n % 2 ^ 64 ≡ aligned (alignment_of r) n - n
-same_least r n =
-    one_of (IsSame n) (full_padding r) alignments (omega arith)
-    (omega arith, (omega arith, (omega arith, (omega arith, (omega arith, (omega arith, (omega arith, (omega arith, (omega arith, (omega arith, (omega arith, (omega arith, tt))))))))))))
 
 -- ---- the least alignment above a padding
 

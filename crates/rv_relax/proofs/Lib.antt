@@ -12,9 +12,11 @@ pub mod TablesLemmas
 pub mod GoingLemmas
 pub mod LaidLemmas
 pub mod PlacingLemmas
-pub mod SizingLemmas
 pub mod PiecedLemmas
 pub mod OrderLemmas
 pub mod LosingLemmas
 pub mod SpreadLemmas
 pub mod RisingLemmas
+pub mod RoomsLemmas
+pub mod PadsLemmas
+pub mod ToldLemmas

@@ -8,7 +8,7 @@ use Rattle.rv_layout_laws.specs.declared.site.SiteKind.TheVariants.{Call, Paddin
 use Rattle.rv_layout_laws.specs.Calls.{is_call, site_at, InOrder, IsOutside, LeadsOutside}
 use Rattle.rv_shorten.specs.Walk.{site_end}
 use Rattle.rv_relax.specs.Passes.{IsInput, LeadsLow}
-use Rattle.rv_relax.specs.Placed.{ArePlaced, are_in_line, is_aligning, is_outside, leads_low, leads_outside}
+use Rattle.rv_relax.specs.Placed.{ArePlaced, are_in_line, is_outside, leads_low, leads_outside}
 
 -- ---- what is tested stands
 
@@ -59,13 +59,12 @@ low_meant (Padding padding) h = tt
 
 -- ---- all sites
 
-pub placed_from : (sites : List Site) → IsInput sites → ((i : ℕ) → is_aligning (site_at sites i).kind ≡ true) → ArePlaced sites
-placed_from sites input aligning = record {
+pub placed_from : (sites : List Site) → IsInput sites → ArePlaced sites
+placed_from sites input = record {
   in_line = line_from 0 sites input.text.in_order;
   outside = λ i j. outside_from (site_at sites i).kind (site_at sites j) (input.text.outside i j);
   ends = input.ends;
   targets = λ i. low_from (site_at sites i).kind (input.targets i);
-  aligning = aligning;
 }
 
 pub input_from : (sites : List Site) → ArePlaced sites → IsInput sites

@@ -4,9 +4,9 @@ use Rattle.std.proofs.Common.{◌≡◌, ℕ, ◌+◌, ◌-◌, ◌≤◌, min, 
 use Rattle.rv_object_types.specs.Padding.{no_operations}
 use Rattle.rv_object_laws.specs.Moves.{Move, dropped, new_offset}
 use Rattle.rv_relax.specs.Pieces.{Piece}
-use Rattle.rv_relax.specs.declared.section_plan.SectionPlan.{SectionPlan}
+use Rattle.rv_relax.specs.declared.section_paddings.SectionPaddings.{SectionPaddings}
 use Rattle.rv_relax.specs.Paddings.{move_of, are_in_order}
-use Rattle.rv_relax.specs.Plan.{moves_of}
+use Rattle.rv_relax.specs.Kept.{moves_of}
 use Rattle.rv_relax.proofs.OrderLemmas.{first, rest}
 
 none_before : (ms : List Move) → dropped ms 0 ≡ 0
@@ -28,7 +28,7 @@ slow stop past a b (p ∷ ps) h le =
     (dropped (map move_of ps) b) (dropped (map move_of ps) a) (p.place + p.full) refl later in
     all
 
-pub plan_rises : (p : SectionPlan) (a b : ℕ) → a ≤ b → new_offset (moves_of p) a ≤ new_offset (moves_of p) b
+pub plan_rises : (p : SectionPaddings) (a b : ℕ) → a ≤ b → new_offset (moves_of p) a ≤ new_offset (moves_of p) b
 unfolding moves_of
 plan_rises p a b le =
     let ms = map move_of p.paddings.items in

@@ -1,8 +1,8 @@
-pub mod Padded
+pub mod Kept
 pub mod Paddings
 pub mod Passes
 pub mod Pieces
 pub mod Placed
 pub mod Plan
-pub mod Sizes
+pub mod Told
 pub mod Worked

@@ -1,7 +1,7 @@
 -- What the tables hold while a pass goes over the sites of a text: the bytes that are dropped
 -- before each site, or from it on.
 
-use Rattle.std.specs.Prelude.{◌≡◌, ◌⊎◌, ℕ, ◌+◌, ◌-◌, ◌*◌, ◌^◌, ◌≤◌, ◌<◌, nat_le, Bool, true, false, ◌&&◌, List, [], ◌∷◌, length, set, slice_index, ℤ, ⊤, MatchBool}
+use Rattle.std.specs.Prelude.{◌≡◌, ◌⊎◌, ℕ, ◌+◌, ◌-◌, ◌*◌, ◌^◌, ◌≤◌, ◌<◌, Bool, List, [], ◌∷◌, length, set, slice_index, ℤ, ⊤, MatchBool}
 use Rattle.rv_layout_laws.specs.declared.site.Site.{Site}
 use Rattle.rv_layout_laws.specs.declared.site.Call.{Call as CallSite}
 use Rattle.rv_layout_laws.specs.declared.site.SiteKind.{SiteKind}
@@ -54,15 +54,6 @@ pub record IsTable (sites : List Site) (i : ℕ) (kept stands : List ℕ) : Type
   pub starts : (j : ℕ) → j < i → slice_index stands j ≡ offset (drops sites kept) j
   pub rests : (j : ℕ) → i ≤ j → j ≤ length sites →
       slice_index stands j ≡ rest (drops sites kept) j
-
--- sites one behind the other, of each of which no more is kept than there is
-abbrev pub are_laid : ℕ → List Site → List ℕ → Bool
-are_laid stop [] [] = true
-are_laid stop [] (k ∷ kept) = false
-are_laid stop (site ∷ sites) [] = false
-are_laid stop (site ∷ sites) (k ∷ kept) =
-    nat_le stop site.offset
-    && (nat_le k (bytes_of site.kind) && are_laid (site_end site) sites kept)
 
 -- ---- a pass
 

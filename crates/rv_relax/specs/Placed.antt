@@ -1,6 +1,6 @@
 -- The sites of a text, as `Placed` has them: what `IsInput` says, site by site, as tests.
 
-use Rattle.std.specs.Prelude.{◌≡◌, ℕ, ◌*◌, ◌^◌, ◌≤◌, Bool, true, not, ◌&&◌, ◌||◌, nat_le, nat_lt, List, [], ◌∷◌}
+use Rattle.std.specs.Prelude.{◌≡◌, ℕ, ◌*◌, ◌^◌, ◌≤◌, Bool, true, not, ◌&&◌, ◌||◌, nat_le, List, [], ◌∷◌}
 use Rattle.rv_shorten.specs.Walk.{site_end}
 use Rattle.rv_layout_laws.specs.declared.site.Site.{Site}
 use Rattle.rv_layout_laws.specs.declared.site.SiteKind.{SiteKind}
@@ -25,15 +25,9 @@ abbrev pub leads_low : SiteKind → Bool
 leads_low (Call call) = nat_le call.target (9 * 2 ^ 123)
 leads_low (Padding padding) = true
 
--- a padding ends at a multiple of some number
-abbrev pub is_aligning : SiteKind → Bool
-is_aligning (Call call) = true
-is_aligning (Padding padding) = nat_lt 0 padding.alignment
-
 -- the sites of a text of at most 9 * 2 ^ 123 bytes: more than a list of sections can have
 pub record ArePlaced (sites : List Site) : Type 0 where
   pub in_line : are_in_line 0 sites ≡ true
   pub outside : (i j : ℕ) → leads_outside (site_at sites i).kind (site_at sites j) ≡ true
   pub ends : (i : ℕ) → site_end (site_at sites i) ≤ 9 * 2 ^ 123
   pub targets : (i : ℕ) → leads_low (site_at sites i).kind ≡ true
-  pub aligning : (i : ℕ) → is_aligning (site_at sites i).kind ≡ true

@@ -1,47 +1,44 @@
 -- What plans say is kept.
 
-use Rattle.std.specs.Prelude.{ℕ, Bool, List, map}
-use Rattle.rv_layout_laws.specs.declared.site.Site.{Site}
-use Rattle.rv_relax.specs.declared.calls.Plan.{Plan}
+use Rattle.std.specs.Prelude.{◌≡◌, ⊤, ℕ, Bool, true, false, List, map}
+use Rattle.std.specs.List.{list_all}
+use Rattle.rv_object_types.specs.Object.{Section, Object}
+use Rattle.rv_object_types.specs.View.{object_of}
+use Rattle.rv_object_laws.specs.Moves.{has_room, moves}
+use Rattle.rv_object_laws.specs.Shortened.{Relaxes}
+use Rattle.rv_reloc.specs.declared.fault.LinkFault.{LinkFault}
+use Rattle.rv_reloc.specs.declared.fault.LinkFault.TheVariants.{AlignmentShort, OutOfMemory}
+use Rattle.rv_shorten.specs.View.{short_object_of}
 use Rattle.rv_relax.specs.declared.placed.Placed.{Placed}
-use Rattle.rv_relax.specs.declared.section_plan.SectionPlan.{SectionPlan}
-use Rattle.rv_relax.specs.Padded.{inner, joined, padded}
-use Rattle.rv_relax.specs.Paddings.{move_of}
-use Rattle.rv_object_laws.specs.Moves.{Move}
+use Rattle.rv_relax.specs.declared.plan.Plan.{Plan}
 
--- the moves of a section, in the order of their places
-unfoldable pub moves_of : SectionPlan → List Move
-moves_of p = map move_of p.paddings.items
+-- the objects of a text
+unfoldable pub placed_objects : Placed → List Object
+placed_objects p = map object_of p.objects.now
 
--- the sites of a text, and of each whether it is the start of a section
-unfoldable pub placed_sites : Placed → List Site
-placed_sites p = p.sites.items
-
-unfoldable pub placed_starts : Placed → List Bool
-placed_starts p = p.starts.items
-
--- those that a plan is of
-unfoldable pub sites_in : Plan → List Site
-sites_in p = p.sites.now
-
-unfoldable pub starts_in : Plan → List Bool
-starts_in p = p.starts.now
-
--- the bytes that are kept of each, paddings in full
-unfoldable pub kept_of : Plan → List ℕ
-kept_of p = p.kept.items
-
--- and with paddings as short as they can be
-unfoldable pub padded_of : Plan → List ℕ
-padded_of p = padded 0 p.sites.now p.kept.items
-
--- its calls and alignments, where the sections' bytes stand end to end, and what is kept of each
-abbrev pub joined_sites : Plan → List Site
-joined_sites p = joined 0 (starts_in p) (sites_in p)
-
-abbrev pub joined_kept : Plan → List ℕ
-joined_kept p = inner (starts_in p) (padded_of p)
+-- what a plan leaves of objects, calls cut and paddings whole
+abbrev pub planned_objects : Plan → List Object
+planned_objects p = map short_object_of p.objects.items
 
 -- how many passes found the sizes of its calls
 unfoldable pub rounds_of : Plan → ℕ
 rounds_of p = p.rounds
+
+-- ---- room
+
+-- whether the paddings of a section have room: where it stands makes no difference, since it begins
+-- at a multiple of each of its alignments
+abbrev pub is_roomy : Section → Bool
+is_roomy s = list_all has_room (moves 0 s)
+
+abbrev pub are_roomy_objects : List Object → Bool
+are_roomy_objects os = list_all (λ o. list_all is_roomy o.sections) os
+
+-- ---- refusals
+
+-- why a text has no plan: a padding of what relaxation leaves of it has no room
+abbrev pub IsUnplanned : (relax : Bool) → List Object → LinkFault → Type 0
+IsUnplanned relax os AlignmentShort =
+    (left : List Object) × Relaxes relax os left × (are_roomy_objects left ≡ false)
+IsUnplanned relax os OutOfMemory = ⊤
+IsUnplanned relax os _ = ⊥

@@ -44,16 +44,16 @@ pub fn asked_alignment(alignment: &Relocation) -> u64
 }
 
 /// The bytes from an address to the next multiple of an alignment.
-pub(crate) fn least_padding(alignment: u32, address: u128) -> u32
+pub(crate) fn least_padding(alignment: u32, address: u64) -> u32
     requires { 0 < alignment }
     ensures value { result ≡ aligned alignment address - address }
     ensures low { result < alignment }
 {
-    let over = address % u128::from(alignment);
+    let over = address % u64::from(alignment);
     if over == 0 {
         return 0;
     }
-    (u128::from(alignment) - over) as u32
+    (u64::from(alignment) - over) as u32
 }
 
 /// Whether a relocation is an alignment with bytes of padding.

@@ -4,9 +4,7 @@ ghost use Rattle.std.specs.Prelude.{◌≡◌, [], ◌∷◌, true, false};
 ghost use Rattle.std.specs.List.{list_all};
 ghost use Rattle.rv_layout_laws.specs.Calls.{IsGreatestClosed};
 ghost use Rattle.rv_object_laws.specs.Moves.{has_room, kept, lost, moves, new_offset};
-ghost use Rattle.rv_relax.specs.Padded.{padded};
-ghost use Rattle.rv_relax.specs.Sizes.{call_sizes};
-ghost use Rattle.rv_relax.specs.Worked.{align_at, behind_a_call, calls_to_f, code_with, is_roomy_after, kept_of, offset_after, pads_after, start_and, starts_of_two, two_texts};
+ghost use Rattle.rv_relax.specs.Worked.{align_at, calls_to_f, code_with, kept_of};
 
 /// Two bytes of code, and then an alignment to 8 with 6 bytes of padding. In a section that starts at a multiple of 8 all of
 /// it is needed; at an address with the remainder 2 four bytes are, with the remainder 6 none.
@@ -37,37 +35,7 @@ pub fn two_alignments()
         ≡ kept_of 2 6 4 ∷ kept_of 8 2 0 ∷ [] }
 {}
 
-/// Three calls, each of 8 bytes, and 8 bytes between them and their target: `jal` reaches, so each keeps 4, and what follows
-/// moves up.
+/// Three calls, each of 8 bytes, and 8 bytes between them and their target: `jal` reaches, so each keeps 4.
 pub fn three_calls()
-    ensures kept { IsGreatestClosed calls_to_f (0 ∷ 4 ∷ 4 ∷ 4 ∷ []) }
-    ensures sizes { call_sizes calls_to_f (0 ∷ 4 ∷ 4 ∷ 4 ∷ []) ≡ 4 ∷ 4 ∷ 4 ∷ [] }
-    ensures pads { pads_after (start_and 3) calls_to_f (0 ∷ 4 ∷ 4 ∷ 4 ∷ []) ≡ [] }
-    ensures first { offset_after (start_and 3) calls_to_f (0 ∷ 4 ∷ 4 ∷ 4 ∷ []) 0 ≡ 0 }
-    ensures second { offset_after (start_and 3) calls_to_f (0 ∷ 4 ∷ 4 ∷ 4 ∷ []) 8 ≡ 4 }
-    ensures third { offset_after (start_and 3) calls_to_f (0 ∷ 4 ∷ 4 ∷ 4 ∷ []) 16 ≡ 8 }
-    ensures after { offset_after (start_and 3) calls_to_f (0 ∷ 4 ∷ 4 ∷ 4 ∷ []) 24 ≡ 12 }
-    ensures target { offset_after (start_and 3) calls_to_f (0 ∷ 4 ∷ 4 ∷ 4 ∷ []) 32 ≡ 20 }
-{}
-
-/// A call that keeps 4 bytes of 8, and then an alignment to 8, of whose 6 bytes 4 are kept; the start of the section keeps none.
-/// An alignment of 2 bytes has too few there, and one of 4 just as many as it needs.
-pub fn call_and_alignment()
-    ensures kept { padded 0 (behind_a_call 6) (6 ∷ 4 ∷ 6 ∷ []) ≡ 0 ∷ 4 ∷ 4 ∷ [] }
-    ensures pads { pads_after (start_and 2) (behind_a_call 6) (6 ∷ 4 ∷ 6 ∷ []) ≡ 4 ∷ [] }
-    ensures call { offset_after (start_and 2) (behind_a_call 6) (6 ∷ 4 ∷ 6 ∷ []) 8 ≡ 4 }
-    ensures within { offset_after (start_and 2) (behind_a_call 6) (6 ∷ 4 ∷ 6 ∷ []) 12 ≡ 8 }
-    ensures after { offset_after (start_and 2) (behind_a_call 6) (6 ∷ 4 ∷ 6 ∷ []) 14 ≡ 8 }
-    ensures room { is_roomy_after (start_and 2) (behind_a_call 4) (6 ∷ 4 ∷ 4 ∷ []) ≡ true }
-    ensures short { is_roomy_after (start_and 2) (behind_a_call 2) (6 ∷ 4 ∷ 2 ∷ []) ≡ false }
-{}
-
-/// Two sections, each with a call that keeps 4 bytes. The second begins at a multiple of 8, 4 bytes behind the first; they do
-/// not count, and no more do the 6 that may have stood there.
-pub fn two_sections()
-    ensures kept { padded 0 two_texts (0 ∷ 4 ∷ 6 ∷ 4 ∷ []) ≡ 0 ∷ 4 ∷ 4 ∷ 4 ∷ [] }
-    ensures pads { pads_after starts_of_two two_texts (0 ∷ 4 ∷ 6 ∷ 4 ∷ []) ≡ [] }
-    ensures first { offset_after starts_of_two two_texts (0 ∷ 4 ∷ 6 ∷ 4 ∷ []) 8 ≡ 4 }
-    ensures second { offset_after starts_of_two two_texts (0 ∷ 4 ∷ 6 ∷ 4 ∷ []) 16 ≡ 8 }
-    ensures end { offset_after starts_of_two two_texts (0 ∷ 4 ∷ 6 ∷ 4 ∷ []) 18 ≡ 10 }
+    ensures { IsGreatestClosed calls_to_f (0 ∷ 4 ∷ 4 ∷ 4 ∷ []) }
 {}

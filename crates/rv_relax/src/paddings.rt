@@ -10,15 +10,14 @@ use rv_object_types::Relocation;
 use rv_shorten::Piece;
 use std::alloc::{AllocError, Global};
 
-/// What is kept of the paddings in a section that starts at an address; the alignments stand from the last to the first.
+/// What is kept of the paddings in a section that starts at a multiple of its alignments, which stand from the last to the first.
 pub(crate) fn paddings(
     alloc: Global,
     alignments: &[Relocation],
-    start: u64,
 ) -> Result<Vec<Piece<()>>, AllocError>
     requires { are_alignments 0 (reverse (map relocation_of alignments.now)) ≡ true }
     ensures moves { IfOk result (λ v. map move_of v.items
-        ≡ plan start 0 (reverse (map relocation_of alignments.now))) }
+        ≡ plan 0 0 (reverse (map relocation_of alignments.now))) }
     ensures order { IfOk result (λ v. are_in_order 0 0 v.items ≡ true) }
 {
     let mut paddings = Vec::new(alloc);
@@ -28,8 +27,8 @@ pub(crate) fn paddings(
         rest -= 1;
         let alignment = &alignments[rest];
         let full = full_padding(alignment) as u32;
-        let stands = start.wrapping_add(alignment.place - gone);
-        let least = least_padding(asked_alignment(alignment) as u32, u128::from(stands));
+        let stands = alignment.place - gone;
+        let least = least_padding(asked_alignment(alignment) as u32, stands);
         let left = least - least % 2;
         paddings.push(Piece {
             place: alignment.place,

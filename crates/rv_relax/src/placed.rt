@@ -1,58 +1,54 @@
-//! The sites of a text.
+//! The sites of the text of objects.
 //!
-//! What is found over numbers knows no object: the sites are those of a text by ghost fields. These are tests
-//! (`ArePlaced`), since what the passes ask has alternatives, which no ghost field may have.
+//! What is found over numbers knows no object: the sites are those of a text by ghost fields. What the passes ask of them are
+//! tests (`ArePlaced`), since it has alternatives, which no ghost field may have.
 
-ghost use Rattle.std.specs.Prelude.{◌≡◌, ℕ, true, length};
-ghost use Rattle.rv_layout_laws.specs.Calls.{site_at};
+ghost use Rattle.std.specs.Prelude.{◌≡◌, map};
+ghost use Rattle.rv_object_types.specs.View.{object_of};
+ghost use Rattle.rv_object_laws.specs.CallSites.{sites_of};
 ghost use Rattle.rv_relax.specs.Passes.{IsInput};
-ghost use Rattle.rv_relax.specs.Placed.{ArePlaced, is_aligning};
+ghost use Rattle.rv_relax.specs.Placed.{ArePlaced};
 
 use rv_layout_laws::Site;
+use rv_object_types::Object;
 
-/// The text of objects, as far as its size can change: the calls that may be shortened, each with the place that it leads to,
-/// the alignments, and the starts of sections. All stand on one line, on which each padding has its bytes in full.
+/// Objects with their text in order, as far as its size can change: the calls that may be shortened, each with the place that
+/// it leads to, the alignments, and the starts of sections. All stand on one line, on which each padding has its bytes in full.
 #[derive(Drop)]
-pub struct Placed {
+pub struct Placed<'o, 'a> {
+    objects: &'o [Object<'a>],
     /// In the order of the text.
     sites: Vec<Site>,
-    /// Of each, whether it is the start of a section.
-    starts: Vec<bool>,
-    /// They stand one behind the other, calls lead to the start or the end of a call or outside, none too far, and paddings are
-    /// up to a multiple.
+    /// They are those of the objects.
+    ghost line: { sites.items ≡ sites_of (map object_of objects.now) },
+    /// They stand one behind the other, and calls lead to the start or the end of a call or outside, none too far.
     ghost placed: { ArePlaced sites.items },
-    /// Each site has its mark.
-    ghost same_length: { length starts.items ≡ length sites.items },
 }
 
-impl Placed {
-    ghost use Rattle.rv_relax.specs.Plan.{placed_sites, placed_starts};
+impl<'o, 'a> Placed<'o, 'a> {
+    ghost use Rattle.rv_relax.specs.Plan.{placed_objects};
 
-    /// A text with these sites, of which these are starts of sections.
-    pub fn of(sites: Vec<Site>, starts: Vec<bool>) -> Placed
+    /// Objects whose text has these sites.
+    pub fn of(objects: &'o [Object<'a>], sites: Vec<Site>) -> Placed<'o, 'a>
+        requires line { sites.items ≡ sites_of (map object_of objects.now) }
         requires input { IsInput sites.items }
-        requires aligning { (i : ℕ) → is_aligning (site_at sites.items i).kind ≡ true }
-        requires same_length { length starts.items ≡ length sites.items }
-        ensures sites { placed_sites result ≡ sites.items }
-        ensures starts { placed_starts result ≡ starts.items }
+        ensures { placed_objects result ≡ map object_of objects.now }
     {
-        Placed { sites, starts }
+        Placed { objects, sites }
     }
 
-    /// Its sites, in order.
-    pub fn sites(&self) -> &[Site]
-        ensures value { result.now ≡ placed_sites self.now }
+    /// The objects.
+    pub(crate) fn objects(&self) -> &'o [Object<'a>]
+        ensures { map object_of result.now ≡ placed_objects self.now }
+    {
+        self.objects
+    }
+
+    /// The sites of their text, in order.
+    pub(crate) fn sites(&self) -> &[Site]
+        ensures value { result.now ≡ sites_of (placed_objects self.now) }
         ensures input { IsInput result.now }
-        ensures aligning { (i : ℕ) → is_aligning (site_at result.now i).kind ≡ true }
     {
         &self.sites
-    }
-
-    /// Of each of its sites, whether it is the start of a section.
-    pub fn starts(&self) -> &[bool]
-        ensures value { result.now ≡ placed_starts self.now }
-        ensures same_length { length result.now ≡ length (placed_sites self.now) }
-    {
-        &self.starts
     }
 }

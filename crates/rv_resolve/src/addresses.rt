@@ -31,7 +31,7 @@ impl<'o> Names<'o> {
     pub fn address(
         &self,
         objects: &[ShortObject<'_, '_>],
-        placement: &Placement,
+        placement: &Placement<'_>,
         file: usize,
         index: u32,
     ) -> Option<u64>
@@ -108,7 +108,7 @@ impl<'o> Names<'o> {
     }
 
     /// Where a run begins: the address of what `_start` means, if that stands at an even place of a section of text.
-    pub fn entry(&self, objects: &[ShortObject<'_, '_>], placement: &Placement) -> Option<u64>
+    pub fn entry(&self, objects: &[ShortObject<'_, '_>], placement: &Placement<'_>) -> Option<u64>
         ensures { (start : ℕ) → IsNames (map short_object_of objects.now) self.now
             → IsPlacement (map short_object_of objects.now) start placement.now
             → result ≡ laws.entry_of (starts_of placement.now) (map short_object_of objects.now) }
@@ -191,7 +191,7 @@ fn placed(meant: Meant) -> Option<(usize, u32, u64)>
 /// The address of what a file defines.
 pub(crate) fn defined_address(
     objects: &[ShortObject<'_, '_>],
-    placement: &Placement,
+    placement: &Placement<'_>,
     file: usize,
     definition: Definition,
 ) -> Option<u64>
@@ -236,7 +236,7 @@ fn goes_to_text(objects: &[ShortObject<'_, '_>], file: usize, section: u32) -> b
 }
 
 /// The address of a name that no object defines: what the linker gives; where it gives none, 0 for a weak symbol.
-fn undefined_address(placement: &Placement, binding: Binding, name: &[u8]) -> Option<u64>
+fn undefined_address(placement: &Placement<'_>, binding: Binding, name: &[u8]) -> Option<u64>
     ensures { (os : List SaidObject) (start : ℕ) → IsPlacement os start placement.now
         → result ≡ option_or (global_address (linker_symbols (regions_of placement.now)) name.now)
         (if bindings.is_weak binding then Some 0 else None) }
@@ -248,7 +248,7 @@ fn undefined_address(placement: &Placement, binding: Binding, name: &[u8]) -> Op
 }
 
 /// The address of a name that the linker gives.
-fn linker_address(placement: &Placement, name: &[u8]) -> Option<u64>
+fn linker_address(placement: &Placement<'_>, name: &[u8]) -> Option<u64>
     ensures { (os : List SaidObject) (start : ℕ) → IsPlacement os start placement.now
         → result ≡ global_address (linker_symbols (regions_of placement.now)) name.now }
 {
@@ -268,7 +268,7 @@ fn linker_address(placement: &Placement, name: &[u8]) -> Option<u64>
 }
 
 /// The address of `__global_pointer$`, from which code reaches the most of the variables.
-pub(crate) fn global_pointer(placement: &Placement) -> u64
+pub(crate) fn global_pointer(placement: &Placement<'_>) -> u64
     ensures { (os : List SaidObject) (start : ℕ) → IsPlacement os start placement.now
         → result ≡ (placement.now).data.start + 0x800 }
 {

@@ -34,7 +34,7 @@ impl<'o> Names<'o> {
         &self,
         alloc: Allocator,
         objects: &[ShortObject<'_, '_>],
-        placement: &Placement,
+        placement: &Placement<'_>,
     ) -> Result<Vec<Global>, AllocError>
         ensures known { IfOk result (λ globals. All (λ g. IsGlobal (global_of g)) globals.items) }
         ensures shown { (start : ℕ) → IsNames (map short_object_of objects.now) self.now
@@ -62,7 +62,7 @@ impl<'o> Names<'o> {
         &self,
         alloc: Allocator,
         globals: &mut Vec<Global>,
-        placement: &Placement,
+        placement: &Placement<'_>,
     ) -> Result<(), AllocError>
         ensures known { OnOk result (All (λ g. IsGlobal (global_of g)) globals.old.items
             → All (λ g. IsGlobal (global_of g)) globals.new.items) }
@@ -114,7 +114,7 @@ impl<'o> Names<'o> {
         alloc: Allocator,
         globals: &mut Vec<Global>,
         objects: &[ShortObject<'_, '_>],
-        placement: &Placement,
+        placement: &Placement<'_>,
         file: usize,
         object: &ShortObject<'_, '_>,
     ) -> Result<(), AllocError>
@@ -140,7 +140,7 @@ impl<'o> Names<'o> {
         alloc: Allocator,
         globals: &mut Vec<Global>,
         objects: &[ShortObject<'_, '_>],
-        placement: &Placement,
+        placement: &Placement<'_>,
         file: usize,
         index: usize,
     ) -> Result<(), AllocError>
@@ -168,7 +168,7 @@ impl<'o> Names<'o> {
     fn shown_at<'n>(
         &self,
         objects: &[ShortObject<'_, 'n>],
-        placement: &Placement,
+        placement: &Placement<'_>,
         file: usize,
         index: usize,
     ) -> Option<(&'n [u8], u64)>

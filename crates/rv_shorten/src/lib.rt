@@ -39,6 +39,7 @@ pub use object::ShortObject;
 pub use objects::shorten;
 pub use piece::Piece;
 pub use pieces::{count_before, dropped_before};
+pub use relocations::is_call;
 pub use section::ShortSection;
 pub use sites::is_text;
 pub use words::{link_register, word_at};

@@ -12,8 +12,8 @@ use crate::pieces::count_before;
 use rv_isa::Kind;
 use rv_object_types::Relocation;
 
-/// Whether a relocation is a call.
-fn is_call(kind: Kind) -> bool
+/// Whether a relocation of this kind is a call.
+pub fn is_call(kind: Kind) -> bool
     ensures { result ≡ is_call_kind kind }
 {
     matches!(kind, Kind::Call | Kind::CallPlt)

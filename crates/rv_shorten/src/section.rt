@@ -70,6 +70,13 @@ impl<'o, 'a> ShortSection<'o, 'a> {
         new_offset(&self.cuts, self.whole.contents.size())
     }
 
+    /// Where an offset of it is afterwards.
+    pub fn new_offset(&self, old: u64) -> u64
+        ensures { result ≡ offset_of (moves_in self.now) old }
+    {
+        new_offset(&self.cuts, old)
+    }
+
     /// What one of its relocations is afterwards.
     pub fn relocation(&self, relocation: &Relocation) -> Relocation
         ensures { relocation_of result

@@ -1,4 +1,4 @@
-use Rattle.std.proofs.Common.{◌≡◌, ℕ, ◌≤◌, ◌*◌, ◌^◌, ◌++◌, true, [], List, length, map, subst, sym, ap, ◌∙◌}
+use Rattle.std.proofs.Common.{◌≡◌, ℕ, ◌≤◌, ◌*◌, ◌^◌, ◌++◌, [], List, map, subst, ap, ◌∙◌}
 use Rattle.rv_layout_laws.specs.declared.site.Site.{Site}
 use Rattle.rv_layout_laws.specs.declared.site.SiteKind.{SiteKind}
 use Rattle.rv_layout_laws.specs.declared.site.SiteKind.TheVariants.{Call, Padding}
@@ -8,10 +8,8 @@ use Rattle.rv_object_types.specs.View.{object_of}
 use Rattle.rv_object_laws.specs.CallSites.{sites_of}
 use Rattle.rv_object_laws.specs.Within.{IsWithin, LeadsWithin}
 use Rattle.rv_relax.specs.Passes.{IsInput, LeadsLow}
-use Rattle.rv_relax.specs.Placed.{is_aligning}
-use Rattle.rv_link_sites.specs.Line.{ended_files, starts_of}
+use Rattle.rv_link_sites.specs.Line.{ended_files}
 use Rattle.rv_link_sites.specs.Text.{objects_of}
-use Rattle.rv_link_sites.proofs.MarksLemmas.{aligning, same_length}
 use Rattle.rv_link_sites.proofs.TargetsLemmas.{is_text, are_within}
 use Rattle.rv_link_sites.proofs.walk.placed.Goals as goal
 
@@ -33,48 +31,13 @@ all_of f os own none new empty is same = is ∙ ap (λ l. l ++ f own) empty ∙ 
 low : (os own : List Object) → own ≡ os → ended_files 0 own ≤ 9 * 2 ^ 123 → ended_files 0 os ≤ 9 * 2 ^ 123
 low os own same h = subst (λ l. ended_files 0 l ≤ 9 * 2 ^ 123) same h
 
+pub of-requires-2-clause-line : goal.of-requires-2-clause-line
+of-requires-2-clause-line c =
+    all_of sites_of (map object_of c.args.objects.now) (objects_of c.in_ok-text.text) c.new.result.items c.put_all.new.sites.items c.new.ensures.items c.in_ok-put_all.ensures c.in_ok-text.ensures.same
+
 pub of-requires-2-clause-input : goal.of-requires-2-clause-input
 of-requires-2-clause-input c =
     let os = map object_of c.args.objects.now in
     let same = c.in_ok-text.ensures.same in
-    let is : c.put_all.new.marked.sites.items ≡ sites_of os = all_of sites_of os (objects_of c.in_ok-text.text) c.new.result.items c.put_all.new.marked.sites.items c.new.ensures.items c.in_ok-put_all.ensures.sites same in
-    input c.put_all.new.marked.sites.items (is_text c.args.objects.now _ is) (are_within c.args.objects.now _ is (low os _ same c.in_ok-text.ensures.laid.low))
-
-pub of-requires-2-clause-aligning : goal.of-requires-2-clause-aligning
-of-requires-2-clause-aligning c =
-    let os = map object_of c.args.objects.now in
-    let is : c.put_all.new.marked.sites.items ≡ sites_of os = all_of sites_of os (objects_of c.in_ok-text.text) c.new.result.items c.put_all.new.marked.sites.items c.new.ensures.items c.in_ok-put_all.ensures.sites c.in_ok-text.ensures.same in
-    subst (λ (sites : List Site). (i : ℕ) → is_aligning (site_at sites i).kind ≡ true) (sym is) (aligning os)
-
-pub of-requires-2-clause-same_length : goal.of-requires-2-clause-same_length
-of-requires-2-clause-same_length c =
-    let os = map object_of c.args.objects.now in
-    let same = c.in_ok-text.ensures.same in
-    let is : c.put_all.new.marked.sites.items ≡ sites_of os = all_of sites_of os (objects_of c.in_ok-text.text) c.new.result.items c.put_all.new.marked.sites.items c.new.ensures.items c.in_ok-put_all.ensures.sites same in
-    let starts : c.put_all.new.marked.starts.items ≡ starts_of os = all_of starts_of os (objects_of c.in_ok-text.text) c.new-2.result.items c.put_all.new.marked.starts.items c.new-2.ensures.items c.in_ok-put_all.ensures.starts same in
-    ap length starts ∙ same_length os ∙ sym (ap length is)
-
-pub returns-clause-sites : goal.returns-clause-sites
-returns-clause-sites c =
-    let os = map object_of c.args.objects.now in
-    let is : c.put_all.new.marked.sites.items ≡ sites_of os = all_of sites_of os (objects_of c.in_ok-text.text) c.new.result.items c.put_all.new.marked.sites.items c.new.ensures.items c.in_ok-put_all.ensures.sites c.in_ok-text.ensures.same in
-    c.of-2.ensures.sites ∙ is
-
-pub returns-clause-starts : goal.returns-clause-starts
-returns-clause-starts c =
-    let os = map object_of c.args.objects.now in
-    let starts : c.put_all.new.marked.starts.items ≡ starts_of os = all_of starts_of os (objects_of c.in_ok-text.text) c.new-2.result.items c.put_all.new.marked.starts.items c.new-2.ensures.items c.in_ok-put_all.ensures.starts c.in_ok-text.ensures.same in
-    c.of-2.ensures.starts ∙ starts
-
-pub returns-clause-text : goal.returns-clause-text
-returns-clause-text c =
-    let os = map object_of c.args.objects.now in
-    let is : c.put_all.new.marked.sites.items ≡ sites_of os = all_of sites_of os (objects_of c.in_ok-text.text) c.new.result.items c.put_all.new.marked.sites.items c.new.ensures.items c.in_ok-put_all.ensures.sites c.in_ok-text.ensures.same in
-    is_text c.args.objects.now _ (c.of-2.ensures.sites ∙ is)
-
-pub returns-clause-within : goal.returns-clause-within
-returns-clause-within c =
-    let os = map object_of c.args.objects.now in
-    let same = c.in_ok-text.ensures.same in
-    let is : c.put_all.new.marked.sites.items ≡ sites_of os = all_of sites_of os (objects_of c.in_ok-text.text) c.new.result.items c.put_all.new.marked.sites.items c.new.ensures.items c.in_ok-put_all.ensures.sites same in
-    are_within c.args.objects.now _ (c.of-2.ensures.sites ∙ is) (low os _ same c.in_ok-text.ensures.laid.low)
+    let is : c.put_all.new.sites.items ≡ sites_of os = all_of sites_of os (objects_of c.in_ok-text.text) c.new.result.items c.put_all.new.sites.items c.new.ensures.items c.in_ok-put_all.ensures same in
+    input c.put_all.new.sites.items (is_text c.args.objects.now _ is) (are_within c.args.objects.now _ is (low os _ same c.in_ok-text.ensures.laid.low))

@@ -3,7 +3,6 @@ use Rattle.rv_object_types.specs.View.{object_of}
 use Rattle.std.proofs.lemmas.List.{length-map}
 use Rattle.rv_link_sites.specs.Line.{ended_files}
 use Rattle.rv_link_sites.specs.Text.{objects_of}
-use Rattle.rv_link_sites.proofs.MarksLemmas.{files_done, files_more}
 use Rattle.rv_link_sites.proofs.WalksLemmas.{mapped_at, object_low, object_ends, object_more, objects_done}
 use Rattle.rv_link_sites.proofs.walk.put_all.Goals as goal
 
@@ -21,19 +20,12 @@ loop-file-preserved c =
     let there = mapped_at object_of c.args.text.now.objects.now c.loop-file.file c.index-text-file.result inside in
     let ends = c.in_ok-stop.ensures.end in
     record {
-      sites = object_more c.loop-file.stop c.loop-file.file os _ there c.in_ok-stop.stop ends c.loop-file.marked.sites.items c.put_object.new.marked.sites.items _ c.in_ok-stop.ensures.sites c.loop-file.invariant.sites;
-      starts = files_more c.loop-file.file os _ there c.loop-file.marked.starts.items c.put_object.new.marked.starts.items _ c.in_ok-stop.ensures.starts c.loop-file.invariant.starts;
+      sites = object_more c.loop-file.stop c.loop-file.file os _ there c.in_ok-stop.stop ends c.loop-file.sites.items c.put_object.new.sites.items _ c.in_ok-stop.ensures.sites c.loop-file.invariant.sites;
       ends = object_ends c.loop-file.stop c.loop-file.file os _ there c.in_ok-stop.stop ends (ended_files 0 os) c.loop-file.invariant.ends;
     }
 
-pub returns-clause-sites : goal.returns-clause-sites
-returns-clause-sites c =
+pub returns : goal.returns
+returns c =
     let os = objects_of c.args.text.now in
     let past : length os ≤ c.loop-file.file = (let many = length-map c.args.text.now.objects.now object_of in let test : length c.args.text.now.objects.now ≤ c.loop-file.file = search rules in omega (arith, many, test)) in
-    objects_done (c.loop-file.file + 1) c.loop-file.file c.loop-file.stop os os c.loop-file.marked.sites.items c.args.marked.now.sites.items past c.loop-file.invariant.sites
-
-pub returns-clause-starts : goal.returns-clause-starts
-returns-clause-starts c =
-    let os = objects_of c.args.text.now in
-    let past : length os ≤ c.loop-file.file = (let many = length-map c.args.text.now.objects.now object_of in let test : length c.args.text.now.objects.now ≤ c.loop-file.file = search rules in omega (arith, many, test)) in
-    files_done (c.loop-file.file + 1) c.loop-file.file os os c.loop-file.marked.starts.items c.args.marked.now.starts.items past c.loop-file.invariant.starts
+    objects_done (c.loop-file.file + 1) c.loop-file.file c.loop-file.stop os os c.loop-file.sites.items c.args.sites.now.items past c.loop-file.invariant.sites

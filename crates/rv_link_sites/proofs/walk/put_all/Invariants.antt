@@ -1,5 +1,5 @@
 use Rattle.std.proofs.Common.{◌≡◌, ◌+◌, ◌++◌, drop}
-use Rattle.rv_link_sites.specs.Line.{ended_files, files_sites, files_starts}
+use Rattle.rv_link_sites.specs.Line.{ended_files, files_sites}
 use Rattle.rv_link_sites.specs.Text.{objects_of}
 use Rattle.rv_link_sites.proofs.walk.put_all.Given as goal
 
@@ -8,7 +8,6 @@ abbrev pub invariant-loop-file : goal.invariant-loop-file
 invariant-loop-file l =
     let os = objects_of l.text in
     record {
-      sites : l.marked.sites.items ++ files_sites os (l.file + 1) l.stop (drop l.file os) ≡ l.fn.marked.sites.items ++ files_sites os 1 0 os;
-      starts : l.marked.starts.items ++ files_starts os (l.file + 1) (drop l.file os) ≡ l.fn.marked.starts.items ++ files_starts os 1 os;
+      sites : l.sites.items ++ files_sites os (l.file + 1) l.stop (drop l.file os) ≡ l.fn.sites.items ++ files_sites os 1 0 os;
       ends : ended_files l.stop (drop l.file os) ≡ ended_files 0 os;
     }

@@ -3,9 +3,8 @@ use Rattle.rv_object_types.specs.Object.{Section}
 use Rattle.rv_object_types.specs.Sections.{section_of}
 use Rattle.rv_object_types.specs.View.{object_of}
 use Rattle.rv_object_laws.specs.Inputs.{InputSection, goes_to_text}
-use Rattle.rv_link_sites.specs.Line.{next, input, section_sites, section_starts}
+use Rattle.rv_link_sites.specs.Line.{next, input, section_sites}
 use Rattle.rv_link_sites.specs.Text.{objects_of}
-use Rattle.rv_link_sites.proofs.MarksLemmas.{starts_other, starts_text}
 use Rattle.rv_link_sites.proofs.WalksLemmas.{mapped_there, one_there, next_text, sites_other, sites_text}
 use Rattle.rv_link_sites.proofs.walk.put_at.Goals as goal
 
@@ -14,7 +13,7 @@ returns-then-not-is_text-clause-sites c = λ s at.
     let x = section_of c.index-section.result.now in
     let there = mapped_there section_of c.args.object.now.sections.items c.args.index c.index-section.result.now c.requires.inside c.index-section.ensures in
     let same = one_there (object_of c.args.object.now).sections c.args.index x s there at in
-    sites_other (objects_of c.args.text.now) c.args.stop (input (c.args.file + 1) (object_of c.args.object.now) c.args.index s) c.args.marked.now.sites.items
+    sites_other (objects_of c.args.text.now) c.args.stop (input (c.args.file + 1) (object_of c.args.object.now) c.args.index s) c.args.sites.now.items
     (ap goes_to_text (sym same) ∙ sym c.is_text.ensures ∙ c.if-not-is_text.true)
 
 pub put_section-requires-clause-given : goal.put_section-requires-clause-given
@@ -46,22 +45,4 @@ returns-clause-sites c = λ s at.
     let same = one_there (object_of c.args.object.now).sections c.args.index x s there at in
     let in_place : Section → InputSection = input (c.args.file + 1) (object_of c.args.object.now) c.args.index in
     c.in_ok-end.ensures.sites
-    ∙ ap (λ l. c.args.marked.now.sites.items ++ l) (sites_text os c.args.stop (in_place x) (sym c.is_text.ensures ∙ c.if-not-is_text.false) ∙ ap (λ t. section_sites os c.args.stop (in_place t)) same)
-
-pub returns-then-not-is_text-clause-starts : goal.returns-then-not-is_text-clause-starts
-returns-then-not-is_text-clause-starts c = λ s at.
-    let x = section_of c.index-section.result.now in
-    let there = mapped_there section_of c.args.object.now.sections.items c.args.index c.index-section.result.now c.requires.inside c.index-section.ensures in
-    let same = one_there (object_of c.args.object.now).sections c.args.index x s there at in
-    starts_other (objects_of c.args.text.now) (input (c.args.file + 1) (object_of c.args.object.now) c.args.index s) c.args.marked.now.starts.items
-    (ap goes_to_text (sym same) ∙ sym c.is_text.ensures ∙ c.if-not-is_text.true)
-
-pub returns-clause-starts : goal.returns-clause-starts
-returns-clause-starts c = λ s at.
-    let x = section_of c.index-section.result.now in
-    let os = objects_of c.args.text.now in
-    let there = mapped_there section_of c.args.object.now.sections.items c.args.index c.index-section.result.now c.requires.inside c.index-section.ensures in
-    let same = one_there (object_of c.args.object.now).sections c.args.index x s there at in
-    let in_place : Section → InputSection = input (c.args.file + 1) (object_of c.args.object.now) c.args.index in
-    c.in_ok-end.ensures.starts
-    ∙ ap (λ l. c.args.marked.now.starts.items ++ l) (starts_text os (in_place x) (sym c.is_text.ensures ∙ c.if-not-is_text.false) ∙ ap (λ t. section_starts os (in_place t)) same)
+    ∙ ap (λ l. c.args.sites.now.items ++ l) (sites_text os c.args.stop (in_place x) (sym c.is_text.ensures ∙ c.if-not-is_text.false) ∙ ap (λ t. section_sites os c.args.stop (in_place t)) same)

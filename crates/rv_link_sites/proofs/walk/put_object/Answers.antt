@@ -3,7 +3,6 @@ use Rattle.rv_object_types.specs.Sections.{section_of}
 use Rattle.rv_object_types.specs.View.{object_of}
 use Rattle.rv_link_sites.specs.Line.{ended}
 use Rattle.rv_link_sites.specs.Text.{objects_of}
-use Rattle.rv_link_sites.proofs.MarksLemmas.{starts_more}
 use Rattle.rv_link_sites.proofs.WalksLemmas.{some_mapped, section_low, section_ends, section_more}
 use Rattle.rv_link_sites.proofs.walk.put_object.Goals as goal
 
@@ -20,9 +19,7 @@ loop-index-preserved c =
     let there = some_mapped section_of c.args.object.now.sections.items c.loop-index.index inside in
     let ends = c.in_ok-stop.ensures.end there.0 there.1 in
     record {
-      sites = section_more c.loop-index.stop c.loop-index.index o.sections there.0 there.1 c.in_ok-stop.stop ends os (c.args.file + 1) o c.loop-index.marked.sites.items c.put_at.new.marked.sites.items _
+      sites = section_more c.loop-index.stop c.loop-index.index o.sections there.0 there.1 c.in_ok-stop.stop ends os (c.args.file + 1) o c.loop-index.sites.items c.put_at.new.sites.items _
           (c.in_ok-stop.ensures.sites there.0 there.1) c.loop-index.invariant.sites;
-      starts = starts_more c.loop-index.index o.sections there.0 there.1 os (c.args.file + 1) o c.loop-index.marked.starts.items c.put_at.new.marked.starts.items _ (c.in_ok-stop.ensures.starts there.0 there.1)
-          c.loop-index.invariant.starts;
       ends = section_ends c.loop-index.stop c.loop-index.index o.sections there.0 there.1 c.in_ok-stop.stop ends (ended c.args.first o.sections) c.loop-index.invariant.ends;
     }

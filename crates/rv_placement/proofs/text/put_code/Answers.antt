@@ -3,7 +3,7 @@ use Rattle.rv_isa_laws.specs.Platform.{stack_start}
 use Rattle.rv_object_types.specs.Object.{size_of}
 use Rattle.rv_object_laws.specs.Moves.{moves}
 use Rattle.rv_shorten.specs.Sections.{short_section_of}
-use Rattle.rv_relax.specs.Plan.{moves_of}
+use Rattle.rv_relax.specs.Kept.{moves_of}
 use Rattle.rv_placement.specs.Walk.{end_from}
 use Rattle.rv_placement.proofs.TextsLemmas.{shrunk}
 use Rattle.rv_placement.proofs.text.put_code.Goals as goal
@@ -12,7 +12,7 @@ pub returns-then-end-gt-STACK_START-clause-far : goal.returns-then-end-gt-STACK_
 returns-then-end-gt-STACK_START-clause-far c =
     let s = short_section_of c.args.section.now in
     let whole =
-    shrunk c.args.start c.new_offset.result c.size-size.result (size_of s.contents) (moves_of c.in_ok-plan.plan) (moves c.args.start s) c.new_offset.ensures c.size-size.ensures c.in_ok-plan.ensures in
+    shrunk c.args.start c.new_offset.result c.size-size.result (size_of s.contents) (moves_of c.args.plan.now) (moves c.args.start s) c.new_offset.ensures c.size-size.ensures c.requires.plan in
     omega (arith, whole, c.saturating_add-end.ensures, c.if-end-gt-STACK_START.true)
 
 pub returns-clause-placed : goal.returns-clause-placed
@@ -20,9 +20,9 @@ returns-clause-placed c =
     let s = short_section_of c.args.section.now in
     let end = c.saturating_add-end.result in
     let whole =
-    shrunk c.args.start c.new_offset.result c.size-size.result (size_of s.contents) (moves_of c.in_ok-plan.plan) (moves c.args.start s) c.new_offset.ensures c.size-size.ensures c.in_ok-plan.ensures in
+    shrunk c.args.start c.new_offset.result c.size-size.result (size_of s.contents) (moves_of c.args.plan.now) (moves c.args.start s) c.new_offset.ensures c.size-size.ensures c.requires.plan in
     let low : end ≤ stack_start = c.if-end-gt-STACK_START.false in
     let is : end ≡ end_from c.args.start s = omega (arith, whole, c.saturating_add-end.ensures, low) in
     let sized : size_of s.contents < 2 ^ 64 = search rules in
     let below : end_from c.args.start s < 2 ^ 64 = omega (arith, is, low) in
-    (is, low, (record { start = c.args.start; plan = c.in_ok-plan.plan }, c.in_ok-push.ensures.items, refl, (c.in_ok-plan.ensures, sized, below)))
+    (is, low, (record { start = c.args.start; plan = c.args.plan }, c.in_ok-push.ensures.items, refl, (c.requires.plan, sized, below)))

@@ -6,10 +6,10 @@ use Rattle.rv_placement.specs.Walk.{ended_files, text_files, gapped_files, lists
 use Rattle.rv_placement.proofs.text.put_files.Given as goal
 
 -- what is placed so far, and what is left, make up the whole
-abbrev pub invariant-loop-object : goal.invariant-loop-object
-invariant-loop-object l =
-    (map (λ f. map (λ q. q.start) f) (lists_of l.files.items) ++ text_files l.stop (map short_object_of (drop l.object-index l.objects)) ≡ text_files l.first (map short_object_of l.objects))
-    × (ended_files goes_to_text l.stop (map short_object_of (drop l.object-index l.objects)) ≡ ended_files goes_to_text l.first (map short_object_of l.objects))
+abbrev pub invariant-loop-i : goal.invariant-loop-i
+invariant-loop-i l =
+    (map (λ f. map (λ q. q.start) f) (lists_of l.files.items) ++ text_files l.stop (map short_object_of (drop l.i l.objects)) ≡ text_files l.first (map short_object_of l.objects))
+    × (ended_files goes_to_text l.stop (map short_object_of (drop l.i l.objects)) ≡ ended_files goes_to_text l.first (map short_object_of l.objects))
     × (l.stop ≤ 0x3ff0_0000)
-    × AllZip AreKept (map short_object_of (take l.object-index l.objects)) (lists_of l.files.items)
-    × (l.gaps.items ++ gapped_files l.stop (map short_object_of (drop l.object-index l.objects)) ≡ l.initial.gaps.items ++ gapped_files l.first (map short_object_of l.objects))
+    × AllZip AreKept (map short_object_of (take l.i l.objects)) (lists_of l.files.items)
+    × (l.gaps.items ++ gapped_files l.stop (map short_object_of (drop l.i l.objects)) ≡ l.initial.gaps.items ++ gapped_files l.first (map short_object_of l.objects))

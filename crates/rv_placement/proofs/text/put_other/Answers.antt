@@ -9,4 +9,4 @@ returns c =
     let s = short_section_of c.args.section.now in
     let sized : size_of s.contents < 2 ^ 64 = search rules in
     let below : end_from 0 s < 2 ^ 64 = omega (arith, sized) in
-    (record { start = 0; plan = c.in_ok-plan.plan }, c.in_ok-push.ensures.items, refl, (c.in_ok-plan.ensures, sized, below))
+    (record { start = 0; plan = c.args.plan }, c.in_ok-push.ensures.items, refl, (c.requires, sized, below))

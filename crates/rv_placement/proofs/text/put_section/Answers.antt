@@ -1,8 +1,9 @@
-use Rattle.std.proofs.Common.{rules, ◌≡◌, ◌∙◌, ap, true, false}
+use Rattle.std.proofs.Common.{rules, ◌≡◌, ◌∙◌, ap, sym, true, false}
 use Rattle.rv_layout_laws.specs.Alignment.{aligned}
 use Rattle.rv_object_laws.specs.Inputs.{goes_to_text}
 use Rattle.rv_shorten.specs.Sections.{short_section_of}
 use Rattle.rv_placement.specs.Walk.{start_behind}
+use Rattle.rv_placement.proofs.AlignedLemmas.{moves_still}
 use Rattle.rv_placement.proofs.TextsLemmas.{told, put_at, put_text, next_other, start_other, gap_other}
 use Rattle.rv_placement.proofs.text.put_section.Goals as goal
 
@@ -11,10 +12,17 @@ returns-then-not-is_text-clause-placed c =
     let s = short_section_of c.args.section.now in
     let other : goes_to_text s ≡ false = search rules in (
       next_other c.args.stop s other,
-      c.requires,
+      c.requires.low,
       put_at s 0 _ c.args.places.now.items c.put_other.new.places.items (start_other c.args.stop s other) c.in_ok-put_other.ensures,
       gap_other c.args.stop s c.args.gaps.now.items other,
     )
+
+pub put_code-requires-clause-plan : goal.put_code-requires-clause-plan
+put_code-requires-clause-plan c =
+    let s = short_section_of c.args.section.now in
+    let start = c.next_multiple-start.result in
+    let is : start ≡ start_behind c.args.stop s = c.next_multiple-start.ensures ∙ ap (λ a. aligned a c.args.stop) c.multiple_of.ensures.value in
+    c.requires.plan ∙ sym (moves_still start c.args.stop s c.args.section.now.whole.now.aligned is)
 
 pub returns-in-Some-clause-placed : goal.returns-in-Some-clause-placed
 returns-in-Some-clause-placed c =

@@ -54,5 +54,5 @@ closed = record { family = record { same_length = refl; offered = forms }; close
     none (suc (suc (suc zero))) shorter may = four_is_shortest (record { target = 32; addend = pos 0; compressed = false }) refl shorter may.shrinks may.offered
     none (suc (suc (suc (suc i)))) shorter may = let less : shorter < 0 = may.shrinks in omega arith
 
-pub returns-clause-kept : goal.returns-clause-kept
-returns-clause-kept c = shortened_greatest calls_to_f text (0 ∷ 4 ∷ 4 ∷ 4 ∷ []) 3 shortened closed
+pub returns : goal.returns
+returns c = shortened_greatest calls_to_f text (0 ∷ 4 ∷ 4 ∷ 4 ∷ []) 3 shortened closed

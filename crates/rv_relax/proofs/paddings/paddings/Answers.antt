@@ -3,7 +3,6 @@ use Rattle.rv_layout_laws.specs.Alignment.{aligned}
 use Rattle.rv_object_types.specs.Parts.{relocation_of}
 use Rattle.rv_object_laws.specs.Moves.{alignment_of, full_padding, plan}
 use Rattle.rv_relax.specs.Paddings.{are_in_order, move_of}
-use Rattle.rv_relax.proofs.AlignedLemmas.{same_least}
 use Rattle.rv_relax.proofs.SortingLemmas.{nothing, backwards}
 use Rattle.rv_relax.proofs.PlannedLemmas.{next_alignment, other_alignments, at_hand, plan_at, least_of, planned, one_behind}
 use Rattle.rv_relax.proofs.paddings.paddings.Goals as goal
@@ -11,7 +10,6 @@ use Rattle.rv_relax.proofs.paddings.paddings.Goals as goal
 pub overflow_cast-full : goal.overflow_cast-full
 overflow_cast-full c =
     let xs = c.args.alignments.now in
-    let start = c.args.start in
     let at = c.loop-rest.rest in
     let is : at - 1 + 1 ≡ at = omega (arith, c.loop-rest-test.true) in
     let inside : at - 1 < length xs = omega (arith, c.loop-rest.invariant.0, c.loop-rest-test.true) in
@@ -25,7 +23,6 @@ overflow_cast-full c =
 pub overflow_sub-stands : goal.overflow_sub-stands
 overflow_sub-stands c =
     let xs = c.args.alignments.now in
-    let start = c.args.start in
     let at = c.loop-rest.rest in
     let is : at - 1 + 1 ≡ at = omega (arith, c.loop-rest-test.true) in
     let inside : at - 1 < length xs = omega (arith, c.loop-rest.invariant.0, c.loop-rest-test.true) in
@@ -39,7 +36,6 @@ overflow_sub-stands c =
 pub overflow_add-gone : goal.overflow_add-gone
 overflow_add-gone c =
     let xs = c.args.alignments.now in
-    let start = c.args.start in
     let at = c.loop-rest.rest in
     let is : at - 1 + 1 ≡ at = omega (arith, c.loop-rest-test.true) in
     let inside : at - 1 < length xs = omega (arith, c.loop-rest.invariant.0, c.loop-rest-test.true) in
@@ -53,7 +49,6 @@ overflow_add-gone c =
 pub overflow_add-dropped : goal.overflow_add-dropped
 overflow_add-dropped c =
     let xs = c.args.alignments.now in
-    let start = c.args.start in
     let at = c.loop-rest.rest in
     let is : at - 1 + 1 ≡ at = omega (arith, c.loop-rest-test.true) in
     let inside : at - 1 < length xs = omega (arith, c.loop-rest.invariant.0, c.loop-rest-test.true) in
@@ -71,7 +66,6 @@ returns-clause-order c =
 pub loop-rest-preserved : goal.loop-rest-preserved
 loop-rest-preserved c =
     let xs = c.args.alignments.now in
-    let start = c.args.start in
     let at = c.loop-rest.rest in
     let is : at - 1 + 1 ≡ at = omega (arith, c.loop-rest-test.true) in
     let inside : at - 1 < length xs = omega (arith, c.loop-rest.invariant.0, c.loop-rest-test.true) in
@@ -86,18 +80,17 @@ loop-rest-preserved c =
     let least = c.least_padding-least.result in
     let full : c.full_padding-full.result ≡ full_padding r = c.full_padding-full.ensures in
     let above : c.asked_alignment.result ≡ alignment_of r = c.asked_alignment.ensures.value in
-    let stands = start + (r.place - gone) in
-    let wrapped = stands % 2 ^ 64 in
-    let least_is : least ≡ least_of start gone r =
-    c.least_padding-least.ensures.value ∙ ap (λ n. aligned c.asked_alignment.result n - n) c.from.ensures ∙ ap (λ a. aligned a wrapped - wrapped) above ∙ same_least r stands in
+    let stands : r.place - gone ≡ 0 + (r.place - gone) = omega arith in
+    let least_is : least ≡ least_of 0 gone r =
+    c.least_padding-least.ensures.value ∙ ap (λ n. aligned c.asked_alignment.result n - n) stands ∙ ap (λ a. aligned a (0 + (r.place - gone)) - (0 + (r.place - gone))) above in
     let items : c.push.new.self.items ≡ ps ++ record { place = r.place; gone = past; full = full_padding r; left = least - least % 2; detail = tt } ∷ [] =
     c.in_ok-push.ensures.items ∙ ap (λ n. ps ++ record { place = r.place; gone = past; full = n; left = least - least % 2; detail = tt } ∷ []) full in
     let more_gone : c.from-gone.result ≡ full_padding r - least = c.from-gone.ensures ∙ c.saturating_sub.ensures ∙ ap (λ n. n - least) full in
     let more_dropped : c.from-dropped.result ≡ full_padding r - (least - least % 2) = c.from-dropped.ensures ∙ c.saturating_sub-in-loop-rest.ensures ∙ ap (λ n. n - (least - least % 2)) full in (
       omega (arith, c.loop-rest.invariant.0),
-      ap (λ l. map move_of l ++ plan start (gone + c.from-gone.result) rs) items
-          ∙ ap (λ n. map move_of (ps ++ record { place = r.place; gone = past; full = full_padding r; left = least - least % 2; detail = tt } ∷ []) ++ plan start (gone + n) rs) more_gone
-          ∙ planned start gone past least r rs ps (plan start 0 (backwards xs)) least_is (ap (λ l. map move_of ps ++ l) (plan_at start gone xs (at - 1) at is inside) ∙ c.loop-rest.invariant.1),
+      ap (λ l. map move_of l ++ plan 0 (gone + c.from-gone.result) rs) items
+          ∙ ap (λ n. map move_of (ps ++ record { place = r.place; gone = past; full = full_padding r; left = least - least % 2; detail = tt } ∷ []) ++ plan 0 (gone + n) rs) more_gone
+          ∙ planned 0 gone past least r rs ps (plan 0 0 (backwards xs)) least_is (ap (λ l. map move_of ps ++ l) (plan_at 0 gone xs (at - 1) at is inside) ∙ c.loop-rest.invariant.1),
       (
         r.place + full_padding r,
         other_alignments stop r rs all,

@@ -9,7 +9,7 @@ use Rattle.rv_relax.proofs.paddings.paddings.Given as goal
 abbrev pub invariant-loop-rest : goal.invariant-loop-rest
 invariant-loop-rest l =
     (l.rest ≤ length l.alignments)
-    × (map move_of l.paddings.items ++ plan l.start l.gone (backwards (take l.rest l.alignments)) ≡ plan l.start 0 (backwards l.alignments))
+    × (map move_of l.paddings.items ++ plan 0 l.gone (backwards (take l.rest l.alignments)) ≡ plan 0 0 (backwards l.alignments))
     × ((stop : ℕ) × (are_alignments stop (backwards (take l.rest l.alignments)) ≡ true) × (l.gone ≤ stop) × (l.dropped ≤ stop)
     × ((more : List Piece) → are_in_order stop l.dropped more ≡ true → are_in_order 0 0 (l.paddings.items ++ more) ≡ true))
 

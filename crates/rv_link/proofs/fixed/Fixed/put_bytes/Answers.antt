@@ -5,7 +5,7 @@ use borrow.Rule.Slice.PartMut.{post_of}
 use Rattle.rv_shorten.specs.Sections.{short_section_of}
 use Rattle.rv_object_laws.specs.Moves.{Move, moves, kept, new_offset}
 use Rattle.rv_object_laws.specs.Values.{applied, initial_bytes}
-use Rattle.rv_relax.specs.Plan.{moves_of}
+use Rattle.rv_relax.specs.Kept.{moves_of}
 use Rattle.rv_link.specs.Filled.{IsInside, objects_of, input_of, worth, linked_in}
 use Rattle.rv_link.proofs.StepsLemmas.{part_is, part_new, all_inside}
 use Rattle.rv_link.proofs.fixed.Fixed.put_bytes.Goals as goal
@@ -14,7 +14,7 @@ pub relocate-requires-clause-inside : goal.relocate-requires-clause-inside
 relocate-requires-clause-inside c =
     let x = c.args.input.now in
     let s = short_section_of x.section.now in
-    let ms : List Move = moves_of x.placed.now.plan in
+    let ms : List Move = moves_of x.placed.now.plan.now in
     let k : List ℕ = kept 0 ms (initial_bytes s.contents) in
     let from : c.len-from.result ≡ length c.args.out.now.items = search rules in
     let part : take (length c.deref_mut.result.now - c.len-from.result) (drop c.len-from.result c.deref_mut.result.now) ≡ k =
@@ -26,7 +26,7 @@ pub returns-clause-bytes : goal.returns-clause-bytes
 returns-clause-bytes c =
     let x = c.args.input.now in
     let s = short_section_of x.section.now in
-    let ms : List Move = moves_of x.placed.now.plan in
+    let ms : List Move = moves_of x.placed.now.plan.now in
     let k : List ℕ = kept 0 ms (initial_bytes s.contents) in
     let old = c.args.out.now.items in
     let all = c.deref_mut.result.now in

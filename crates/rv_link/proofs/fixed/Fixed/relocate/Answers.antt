@@ -8,7 +8,7 @@ use Rattle.rv_isa.specs.declared.kind.Kind.TheVariants as kinds
 use Rattle.rv_object_types.specs.declared.relocation.Relocation.{Relocation}
 use Rattle.rv_object_types.specs.Parts.{relocation_of}
 use Rattle.rv_shorten.specs.Sections.{moves_in}
-use Rattle.rv_relax.specs.Plan.{moves_of}
+use Rattle.rv_relax.specs.Kept.{moves_of}
 use Rattle.rv_link.specs.Filled.{objects_of, input_of}
 use Rattle.rv_link.proofs.IdleLemmas.{idle_next}
 use Rattle.rv_link.proofs.StepsLemmas.{moved_next, patched_step, patched_failed, untaken_by, inside_next}
@@ -43,7 +43,7 @@ loop-relocation-preserved c =
     let same : to_z w64 (of_z w64 v) ≡ v = to_z-of_z w64 v fits in
     let takes : Takes r.kind v = subst (λ x. Takes r.kind x) same c.in_ok-apply.ensures.takes in
     let old = c.loop-relocation.bytes in
-    let writes : c.apply.new.bytes ≡ patched_at (new_offset (moves_of c.args.input.now.placed.now.plan) r.place) r.kind v old =
+    let writes : c.apply.new.bytes ≡ patched_at (new_offset (moves_of c.args.input.now.placed.now.plan.now) r.place) r.kind v old =
     c.in_ok-apply.ensures.writes ∙ ap (λ x. patched_at c.new_offset-place.result r.kind x old) same ∙ ap (λ k. patched_at k r.kind v old) c.new_offset-place.ensures in
     patched_step _ _ _ _ _ _ _ (relocation_of r) _ old c.apply.new.bytes v c.loop-relocation.invariant there
     c.in_ok-value.ensures.found c.in_ok-value.ensures.alone takes writes (search rules)

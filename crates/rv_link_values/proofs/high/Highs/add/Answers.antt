@@ -6,7 +6,7 @@ use Rattle.rv_object_laws.specs.Moves.{new_offset}
 use Rattle.rv_object_laws.specs.Values.{is_high}
 use Rattle.rv_shorten.specs.Cutting.{cut_relocation}
 use Rattle.rv_shorten.specs.Sections.{moves_in}
-use Rattle.rv_relax.specs.Plan.{moves_of}
+use Rattle.rv_relax.specs.Kept.{moves_of}
 use Rattle.rv_link_values.specs.declared.high.HighPlace.{HighPlace}
 use Rattle.rv_link_values.specs.Highs.{else_found, found, high_to, place_cmp}
 use Rattle.rv_link_values.proofs.AddingLemmas.{put_found, put_nothing, same_place, stays_high}

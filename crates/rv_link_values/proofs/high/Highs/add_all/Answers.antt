@@ -6,7 +6,7 @@ use Rattle.rv_object_types.specs.Parts.{relocation_of}
 use Rattle.rv_object_laws.specs.Moves.{new_offset}
 use Rattle.rv_shorten.specs.Cutting.{cut_relocation}
 use Rattle.rv_shorten.specs.Sections.{moves_in}
-use Rattle.rv_relax.specs.Plan.{moves_of}
+use Rattle.rv_relax.specs.Kept.{moves_of}
 use Rattle.rv_link_values.specs.Highs.{else_found, high_to}
 use Rattle.rv_link_values.proofs.AddingLemmas.{before_others, last_taken}
 use Rattle.rv_link_values.proofs.high.Highs.add_all.Goals as goal

@@ -2,7 +2,7 @@ use Rattle.std.proofs.Common.{◌≡◌, ◌∙◌, ap, sym, rules, w64, Some, N
 use Rattle.std.proofs.lemmas.Int.{to_z-of_z}
 use Rattle.rv_object_types.specs.Parts.{relocation_of}
 use Rattle.rv_object_laws.specs.Moves.{new_offset}
-use Rattle.rv_relax.specs.Plan.{moves_of}
+use Rattle.rv_relax.specs.Kept.{moves_of}
 use Rattle.rv_placement.specs.Placement.{placed_at}
 use Rattle.rv_resolve.specs.Shown.{outer_in}
 use Rattle.rv_link_values.specs.Highs.{high_of}
@@ -18,7 +18,7 @@ pub returns-in_err-high : goal.returns-in_err-high
 returns-in_err-high c = λ os p h.
     let q = c.in_ok-place.place.now in
     let there : placed_at p c.args.file c.args.section ≡ Some q = sym (ap (λ r. placed_at r c.args.file c.args.section) h.placement) ∙ sym c.in_ok-place.ensures in
-    let none : high_of p os c.args.file c.args.section (new_offset (moves_of q.plan) c.args.offset) ≡ None =
+    let none : high_of p os c.args.file c.args.section (new_offset (moves_of q.plan.now) c.args.offset) ≡ None =
     ap (high_of p os c.args.file c.args.section) (sym c.new_offset.ensures)
     ∙ sym (h.highs c.args.file c.args.section c.new_offset.result)
     ∙ sym c.in_err-high.ensures in
@@ -28,7 +28,7 @@ pub returns : goal.returns
 returns c = λ os p h.
     let q = c.in_ok-place.place.now in
     let there : placed_at p c.args.file c.args.section ≡ Some q = sym (ap (λ r. placed_at r c.args.file c.args.section) h.placement) ∙ sym c.in_ok-place.ensures in
-    let high : high_of p os c.args.file c.args.section (new_offset (moves_of q.plan) c.args.offset) ≡ Some (relocation_of c.in_ok-high.high) =
+    let high : high_of p os c.args.file c.args.section (new_offset (moves_of q.plan.now) c.args.offset) ≡ Some (relocation_of c.in_ok-high.high) =
     ap (high_of p os c.args.file c.args.section) (sym c.new_offset.ensures)
     ∙ sym (h.highs c.args.file c.args.section c.new_offset.result)
     ∙ sym c.in_ok-high.ensures in

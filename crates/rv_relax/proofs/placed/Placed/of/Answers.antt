@@ -1,15 +1,11 @@
 use Rattle.std.proofs.Common.{refl}
-use Rattle.rv_relax.specs.Plan.{placed_sites, placed_starts}
+use Rattle.rv_relax.specs.Plan.{placed_objects}
 use Rattle.rv_relax.proofs.PlacingLemmas.{placed_from}
 use Rattle.rv_relax.proofs.placed.Placed.of.Goals as goal
 
 pub invariant_of-result : goal.invariant_of-result
-invariant_of-result c = record { placed = placed_from c.args.sites.items c.requires.input c.requires.aligning; same_length = c.requires.same_length }
+invariant_of-result c = record { line = c.requires.line; placed = placed_from c.args.sites.items c.requires.input }
 
-pub returns-clause-sites : goal.returns-clause-sites
-unfolding placed_sites
-returns-clause-sites c = refl
-
-pub returns-clause-starts : goal.returns-clause-starts
-unfolding placed_starts
-returns-clause-starts c = refl
+pub returns : goal.returns
+unfolding placed_objects
+returns c = refl

@@ -1,0 +1,184 @@
+//! How much is kept of each call and of each padding of a text.
+//!
+//! First the passes find the sizes of calls, with each padding in full: then a shortened call reaches, whatever paddings become.
+//! After that each section keeps the least padding of each of its alignments. It begins at a multiple of all of them, so these
+//! are the same wherever it stands, and are found before any section has its address.
+
+ghost use Rattle.std.specs.Prelude.{◌≡◌, ◌+◌, ◌*◌, ◌≤◌, true, map, IfOk, IfErr};
+ghost use Rattle.std.specs.List.{list_all};
+ghost use Rattle.rv_layout_laws.specs.Calls.{calls};
+ghost use Rattle.rv_object_types.specs.View.{object_of};
+ghost use Rattle.rv_object_laws.specs.CallSites.{sites_of};
+ghost use Rattle.rv_object_laws.specs.Moves.{has_room};
+ghost use Rattle.rv_object_laws.specs.Shortened.{Relaxes};
+ghost use Rattle.rv_shorten.specs.View.{short_object_of};
+ghost use Rattle.rv_relax.specs.Kept.{kept_in, moves_of};
+
+use crate::placed::Placed;
+use crate::section_paddings::SectionPaddings;
+use crate::sizes::{Sizes, find_sizes};
+use rv_object_types::Object;
+use rv_reloc::LinkFault;
+use rv_shorten::{ShortObject, ShortSection, shorten, whole};
+use std::alloc::{AllocError, Global};
+
+/// How much is kept of each call and of each padding of a text, so that the calls which can be short are short, and then each
+/// alignment is as short as it can be. No byte of the text is in it.
+#[derive(Drop)]
+pub struct Plan<'o, 'a> {
+    /// The objects, less what is cut of their calls.
+    pub objects: Vec<ShortObject<'o, 'a>>,
+    /// By object, and then by section: what is kept of its paddings.
+    pub paddings: Vec<Vec<SectionPaddings>>,
+    /// How many passes over the sites there were, the last of which shortened nothing; none where calls are not relaxed.
+    rounds: usize,
+    /// The paddings are those of the sections.
+    pub ghost planned: { map (λ f. map moves_of f.items) paddings.items
+        ≡ map (λ o. map kept_in o.sections.items) objects.items },
+}
+
+/// What is kept of the paddings of sections.
+fn paddings_of(
+    alloc: Global,
+    sections: &[ShortSection<'_, '_>],
+) -> Result<Vec<SectionPaddings>, AllocError>
+    ensures { IfOk result (λ plans. map moves_of plans.items ≡ map kept_in sections.now) }
+{
+    let mut plans = Vec::with_capacity(alloc, sections.len())?;
+    for section in sections {
+        plans.push(SectionPaddings::of(alloc, section)?)?;
+    }
+    Ok(plans)
+}
+
+/// What is kept of the paddings of the sections of objects.
+fn paddings_of_all(
+    alloc: Global,
+    objects: &[ShortObject<'_, '_>],
+) -> Result<Vec<Vec<SectionPaddings>>, AllocError>
+    ensures { IfOk result (λ plans. map (λ f. map moves_of f.items) plans.items
+        ≡ map (λ o. map kept_in o.sections.items) objects.now) }
+{
+    let mut plans = Vec::with_capacity(alloc, objects.len())?;
+    for object in objects {
+        plans.push(paddings_of(alloc, object.sections.as_slice())?)?;
+    }
+    Ok(plans)
+}
+
+/// Whether each padding of these sections is as long as what is needed of it.
+fn are_roomy(plans: &[SectionPaddings]) -> bool
+    ensures { result ≡ list_all (λ p. list_all has_room (moves_of p)) plans.now }
+{
+    plans.iter().all(|plan| plan.is_roomy())
+}
+
+impl<'o, 'a> Plan<'o, 'a> {
+    ghost use Rattle.rv_relax.specs.Plan.{IsUnplanned, are_roomy_objects, planned_objects, placed_objects, rounds_of};
+
+    /// The plan of a text in which each alignment has as many bytes as it needs (`Plan::relaxed`).
+    ///
+    /// # Errors
+    ///
+    /// `AlignmentShort` where an alignment needs more bytes than it has; `OutOfMemory`.
+    pub fn of(
+        alloc: Global,
+        placed: &Placed<'o, 'a>,
+        relax: bool,
+    ) -> Result<Plan<'o, 'a>, LinkFault>
+        ensures relaxes { IfOk result
+            (λ plan. Relaxes relax (placed_objects placed.now) (planned_objects plan)) }
+        ensures room { IfOk result (λ plan. are_roomy_objects (planned_objects plan) ≡ true) }
+        ensures rounds { IfOk result
+            (λ plan. rounds_of plan ≤ 2 * calls (sites_of (placed_objects placed.now)) + 1) }
+        ensures refuses { IfErr result (IsUnplanned relax (placed_objects placed.now)) }
+    {
+        let plan = Plan::relaxed(alloc, placed, relax)?;
+        if !plan.is_roomy() {
+            return Err(LinkFault::AlignmentShort);
+        }
+        Ok(plan)
+    }
+
+    /// Where calls are relaxed, the greatest sizes with which no call has a shorter form that reaches, found in passes over
+    /// the sites of a text, forwards and backwards in turn. Elsewhere each call keeps its eight bytes. Then each padding is the
+    /// least that aligns its end, whether it has room or not: [`Plan::is_roomy`] tells.
+    ///
+    /// # Errors
+    ///
+    /// `AllocError` where there is no memory for some 32 bytes a site.
+    pub fn relaxed(
+        alloc: Global,
+        placed: &Placed<'o, 'a>,
+        relax: bool,
+    ) -> Result<Plan<'o, 'a>, AllocError>
+        ensures relaxes { IfOk result
+            (λ plan. Relaxes relax (placed_objects placed.now) (planned_objects plan)) }
+        ensures rounds { IfOk result
+            (λ plan. rounds_of plan ≤ 2 * calls (sites_of (placed_objects placed.now)) + 1) }
+    {
+        let objects = placed.objects();
+        if !relax {
+            return Plan::whole(alloc, objects);
+        }
+        let sites = placed.sites();
+        let Sizes { kept, rounds } = find_sizes(alloc, sites)?;
+        let objects = shorten(alloc, objects, sites, &kept)?;
+        Plan::behind(alloc, objects, rounds)
+    }
+
+    /// The plan of objects whose calls keep their eight bytes.
+    ///
+    /// # Errors
+    ///
+    /// Want of memory.
+    pub fn whole(alloc: Global, objects: &'o [Object<'a>]) -> Result<Plan<'o, 'a>, AllocError>
+        ensures same { IfOk result (λ plan. planned_objects plan ≡ map object_of objects.now) }
+        ensures rounds { IfOk result (λ plan. rounds_of plan ≡ 0) }
+    {
+        let objects = whole(alloc, objects)?;
+        Plan::behind(alloc, objects, 0)
+    }
+
+    /// The plan of objects of which this is left, behind so many passes.
+    fn behind(
+        alloc: Global,
+        objects: Vec<ShortObject<'o, 'a>>,
+        rounds: usize,
+    ) -> Result<Plan<'o, 'a>, AllocError>
+        ensures same { IfOk result
+            (λ plan. planned_objects plan ≡ map short_object_of objects.entry.items) }
+        ensures rounds { IfOk result (λ plan. rounds_of plan ≡ rounds) }
+    {
+        let paddings = paddings_of_all(alloc, objects.as_slice())?;
+        Ok(Plan {
+            objects,
+            paddings,
+            rounds,
+        })
+    }
+
+    /// Whether each padding of each file is as long as what is needed of it.
+    fn has_rooms(&self) -> bool
+        ensures { result ≡ list_all (λ f. list_all (λ p. list_all has_room (moves_of p)) f.items)
+            (self.now).paddings.items }
+    {
+        self.paddings
+            .iter()
+            .all(|plans| are_roomy(plans.as_slice()))
+    }
+
+    /// Whether each alignment has as many bytes as it needs.
+    pub fn is_roomy(&self) -> bool
+        ensures { result ≡ are_roomy_objects (planned_objects self.now) }
+    {
+        self.has_rooms()
+    }
+
+    /// How many passes over the sites there were.
+    pub fn rounds(&self) -> usize
+        ensures { result ≡ rounds_of self.now }
+    {
+        self.rounds
+    }
+}
