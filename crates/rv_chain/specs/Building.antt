@@ -7,7 +7,8 @@ use Rattle.rv_source_laws.specs.Compressed.{is_compressed}
 use Rattle.rv_chain_laws.specs.Contents.{IsLinked}
 use Rattle.rv_link.specs.Details.{with_details}
 use Rattle.rv_chain_laws.specs.Headline.{AllRead, TheHeadline}
-use Rattle.rv_chain.specs.Linking.{IsProgramOfObjectsFrom}
+use Rattle.rv_chain.specs.Linking.{IsProgramOfObjectsFrom, AreBuilt}
+use Rattle.rv_chain.specs.Listed.{IsListedAs}
 
 -- the linked program of the statements that the texts read as, relaxed or not, flagged where they
 -- have compressed code
@@ -27,7 +28,10 @@ pub record IsProgramWithFrom (texts : List (List ℕ)) (start : ℕ) (relax gc d
   pub links : IsProgramOfObjectsFrom texts start relax gc whole
   pub shown : l ≡ with_details details whole
 
--- the bytes of an executable with the promise of `build`: some text shows its map
-abbrev pub IsExecutableOf : List (List ℕ) → ℕ → Bool → Bool → List ℕ → Type 0
-IsExecutableOf texts start relax gc executable =
-    (map_bytes : List ℕ) × TheHeadline texts start relax gc executable map_bytes
+-- the bytes of an executable with what `build` promises of them, for some text, which shows its map
+pub record IsExecutableOf (texts : List (List ℕ)) (start : ℕ) (relax gc : Bool)
+    (executable : List ℕ) : Type 0 where
+  pub map_bytes : List ℕ
+  pub headline : TheHeadline texts start relax gc executable map_bytes
+  pub listed : IsListedAs texts executable map_bytes
+  pub links : AreBuilt texts start relax gc executable map_bytes

@@ -8,3 +8,4 @@ pub mod OneFault
 pub mod Reassembled
 pub mod Refusals
 pub mod Running
+pub mod Valued

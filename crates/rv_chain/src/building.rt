@@ -12,17 +12,20 @@ ghost use Rattle.rv_chain.specs.Listed.{IsListedAs};
 ghost use Rattle.rv_chain.specs.Objects.{IsObjectFrom, AreObjectsFrom};
 ghost use Rattle.rv_chain.specs.Reassembled.{Reassembles};
 ghost use Rattle.rv_chain.specs.Refusals.{AreGood, IsRefusedFor, IsRefusedIn, IsRefusedAt};
+ghost use Rattle.rv_chain.specs.Valued.{AreValued};
 
 use crate::built::Built;
+use crate::linking::program;
 use rv_assemble::assemble;
 use rv_fault::Fault;
 use rv_image::{Linked, write_exec};
-use rv_link::{LinkOptions, link_with_details, within_limits};
+use rv_link::{LinkOptions, within_limits};
 use rv_object_types::Object;
 use rv_reach_laws::{short_branches_reach, short_calls_reach};
 use rv_reassembly_laws::raw_listings_reassemble;
 use rv_sources_link_laws::{linked_objects_are_flagged, objects_of_sources_link};
 use rv_text::SourceFault;
+use rv_value_laws::values_are_plain;
 use std::alloc::Global;
 
 /// Assembles and links a list of sources: the executable and its map.
@@ -43,6 +46,9 @@ pub fn build(alloc: Global, sources: &[&[u8]], options: LinkOptions) -> Result<B
     ensures links { IfOk result
         (λ built. AreBuilt (map now_of sources.now)
         options.text_start options.relax options.gc built.exe.items built.map.items) }
+    // each value in the sources is plain arithmetic with the addresses of the map
+    ensures values { IfOk result
+        (λ built. AreValued (map now_of sources.now) options.text_start built.map.items) }
     // a source that is a raw listing has the bytes that were listed, and the entry
     ensures reassembles { IfOk result
         (λ built. Reassembles (map now_of sources.now) options.text_start built.exe.items) }
@@ -54,13 +60,15 @@ pub fn build(alloc: Global, sources: &[&[u8]], options: LinkOptions) -> Result<B
 {
     let linked = linked(alloc, sources, options, true)?;
     raw_listings_reassemble();
+    values_are_plain();
     let built = Built::of(alloc, &linked)?;
     Ok(built)
 }
 
 /// Assembles and links as `build`, without the map: the same executable.
 pub fn build_exe(alloc: Global, sources: &[&[u8]], options: LinkOptions) -> Result<Vec<u8>, Fault>
-    ensures headline { IfOk result
+    // the clauses `headline`, `listed` and `links` of `build`, with the map that is not written
+    ensures builds { IfOk result
         (λ exe. IsExecutableOf
         (map now_of sources.now) options.text_start options.relax options.gc exe.items) }
     ensures reassembles { IfOk result
@@ -96,7 +104,7 @@ fn linked(
     // and a refusal is never for a form that was chosen too short
     short_calls_reach();
     short_branches_reach();
-    let linked = link_with_details(alloc, &objects, options, details)?;
+    let linked = program(alloc, &objects, options, details)?;
     Ok(linked)
 }
 

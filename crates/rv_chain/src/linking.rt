@@ -5,6 +5,8 @@ ghost use Rattle.rv_statement.specs.View.{now_of};
 ghost use Rattle.rv_image.specs.Linked.{linked_of};
 ghost use Rattle.rv_object_types.specs.View.{object_of};
 ghost use Rattle.rv_object_laws.specs.IsLinkOf.{most_files};
+ghost use Rattle.rv_link.specs.Details.{IsProgramWith};
+ghost use Rattle.rv_link.specs.Refusals.{HasNoProgram};
 ghost use Rattle.rv_chain.specs.Linking.{AreLinked, IsLinkedAs, IsProgramWithOf};
 ghost use Rattle.rv_chain.specs.LinkRefusals.{IsUnreadAt, AreUnread, AreUnlinkable};
 ghost use Rattle.rv_chain.specs.Objects.{IsObjectIn, AreObjectsIn};
@@ -12,7 +14,7 @@ ghost use Rattle.rv_chain.specs.Objects.{IsObjectIn, AreObjectsIn};
 use crate::built::Built;
 use rv_fault::Fault;
 use rv_image::{FileFault, Linked, write_exec};
-use rv_link::{LinkOptions, link_with_details, within_limits};
+use rv_link::{LinkFault, LinkOptions, link, link_exe, within_limits};
 use rv_object::{Object, read};
 use std::alloc::Global;
 
@@ -62,8 +64,27 @@ fn link_files(
 {
     within_limits(files.len(), options.text_start)?;
     let read = read_objects(alloc, files)?;
-    let linked = link_with_details(alloc, &read, options, details)?;
+    let linked = program(alloc, &read, options, details)?;
     Ok(linked)
+}
+
+/// The program of objects, with the names and the rows of its map where they are wanted.
+pub(crate) fn program(
+    alloc: Global,
+    objects: &[Object<'_>],
+    options: LinkOptions,
+    details: bool,
+) -> Result<Linked, LinkFault>
+    ensures links { IfOk result (λ l. IsProgramWith (map object_of objects.now)
+        options.text_start options.relax options.gc details (linked_of l)) }
+    ensures refuses { IfErr result (HasNoProgram (map object_of objects.now)
+        options.text_start options.relax options.gc) }
+{
+    if details {
+        link(alloc, objects, options)
+    } else {
+        link_exe(alloc, objects, options)
+    }
 }
 
 /// The objects in files, in their order.

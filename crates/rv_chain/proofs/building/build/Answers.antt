@@ -51,3 +51,8 @@ returns-clause-reassembles c =
     let exe = c.in_ok-built.built.exe.items in
     built_again c.raw_listings_reassemble.ensures (map now_of c.args.sources.now) o.text_start o.relax o.gc from.whole exe (whole_laid_out c.in_ok-linked.linked true from.whole from.shown from.links.2.linked.readable) from.program
     (whole_written true (linked_of c.in_ok-linked.linked) from.whole exe from.shown c.in_ok-built.ensures.exe)
+
+pub returns-clause-values : goal.returns-clause-values
+returns-clause-values c =
+    let h = returns-clause-headline c in
+    record { sources = h.sources; read = h.read; map = h.map; shown = h.shown; fits = h.fits; plain = c.values_are_plain.ensures h.sources h.map c.args.options.text_start h.readable h.fits }
