@@ -6,7 +6,7 @@ use std::alloc::{AllocError, Global};
 
 /// What `--version` says. `scripts/marks.py` writes over the words in brackets, in the finished executable, whether it
 /// was proved and of which commit it is.
-const VERSION: &str = "0.1.0 (not marked, commit not recorded)";
+const VERSION: &str = "0.2.0 (not marked, commit not recorded)";
 
 /// The command of the program. Where `first` names a word, it has that one alone, which is all that the rest of the words
 /// speak to.
