@@ -61,7 +61,7 @@ check: rv
 	tests/run.py
 	tests/damaged.py
 	tests/explained.py
-	tests/tour.py
+	tests/documents.py
 	tests/shells.py
 	tests/terminal.py
 	tests/making.py

@@ -1,0 +1,77 @@
+#!/usr/bin/env python3
+"""Runs the commands of the documents over ./rv, and compares what they print with the page.
+
+A block ```sh has commands behind `$`, each with what it prints to both streams, where a line `...` is any number of
+lines; a command without output there may print anything, but has to succeed. A block below a comment that begins
+`<!-- not run` is only read. A block ```asm is the file that the paragraph before it names last, as `digits.s`. The
+commands of a page share a folder, in which `examples` and `./rv` are those of the repository. Standard library alone;
+the last line is 'N passed, M failed'.
+"""
+
+import os
+import re
+import subprocess
+import sys
+import tempfile
+from pathlib import Path
+
+ROOT = Path(__file__).resolve().parent.parent
+PAGES = [ROOT / "README.md", ROOT / "CONTRIBUTING.md", ROOT / "tests/README.md", ROOT / "examples/README.md"]
+PAGES += sorted(ROOT.glob("docs/manual/*.md"))
+BLOCK = re.compile(r"(?m)^(\S.*)\n\n?```(sh|asm)\n((?:(?!```).*\n)*)```$")
+COMMAND = re.compile(r"(?m)^\$ (.*)\n((?:(?!\$ ).*\n)*)")
+SECONDS = 60
+
+
+def blocks(text):
+    """The kind of each block that is to be used, its text, and the line before it."""
+    for before, kind, block in BLOCK.findall(text):
+        if not before.startswith("<!-- not run"):
+            yield kind, block, before
+
+
+def ran(command, folder):
+    """The status of a command in a folder, and what it prints to standard output and standard error."""
+    words = {**os.environ, "PATH": f"{folder}:{os.environ['PATH']}", "LC_ALL": "C"}
+    done = subprocess.run(["sh", "-c", command], cwd=folder, env=words, stdin=subprocess.DEVNULL,
+                          stdout=subprocess.PIPE, stderr=subprocess.STDOUT, text=True, timeout=SECONDS)
+    return done.returncode, done.stdout
+
+
+def is_right(wanted, status, came):
+    """Whether a command did what its page says."""
+    if not wanted:
+        return status == 0
+    pattern = "".join(r"(?:.*\n)*?" if line == "..." else re.escape(line) + "\n" for line in wanted.splitlines())
+    return bool(re.fullmatch(pattern, came))
+
+
+def faults(page, folder):
+    """Each command of a page, with what is wrong with it, or nothing."""
+    for name in ("rv", "examples"):
+        os.symlink(ROOT / name, f"{folder}/{name}")
+    for kind, block, before in blocks(page.read_text()):
+        if kind == "asm":
+            Path(folder, re.findall(r"`(\w+\.s)`", before)[-1]).write_text(block)
+            continue
+        for command, wanted in COMMAND.findall(block):
+            status, came = ran(command, folder)
+            right = is_right(wanted, status, came)
+            yield "" if right else f"{command}\n  wanted {wanted!r}\n  came   {came!r}, status {status}"
+
+
+def main():
+    passed = failed = 0
+    for page in PAGES:
+        with tempfile.TemporaryDirectory() as folder:
+            for fault in faults(page, folder):
+                passed += not fault
+                failed += bool(fault)
+                if fault:
+                    print(f"{page.relative_to(ROOT)}: {fault}")
+    print(f"{passed} passed, {failed or int(not passed)} failed")
+    return int(failed or not passed)
+
+
+if __name__ == "__main__":
+    sys.exit(main())
