@@ -62,6 +62,7 @@ check: rv
 	tests/damaged.py
 	tests/explained.py
 	tests/documents.py
+	scripts/pictures.py --check
 	tests/shells.py
 	tests/terminal.py
 	tests/making.py

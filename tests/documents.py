@@ -35,7 +35,7 @@ def ran(command, folder):
     words = {**os.environ, "PATH": f"{folder}:{os.environ['PATH']}", "LC_ALL": "C"}
     done = subprocess.run(["sh", "-c", command], cwd=folder, env=words, stdin=subprocess.DEVNULL,
                           stdout=subprocess.PIPE, stderr=subprocess.STDOUT, text=True, timeout=SECONDS)
-    return done.returncode, done.stdout
+    return done.returncode, done.stdout.removesuffix("\n") + "\n" * bool(done.stdout)
 
 
 def is_right(wanted, status, came):
