@@ -48,7 +48,7 @@ def fault(page, target):
     return "no such heading" if anchor and place.suffix == ".md" and anchor not in anchors(place) else None
 
 
-pages = [TOP / "README.md"] + [page for folder in FOLDERS for page in sorted((TOP / folder).rglob("*.md"))]
+pages = sorted(TOP.glob("*.md")) + [page for folder in FOLDERS for page in sorted((TOP / folder).rglob("*.md"))]
 links = [(page, link) for page in pages for link in LINK.findall(CODE.sub("`", prose(page.read_text(encoding="utf-8"))))]
 links = [(page, link) for page, link in links if link and not ELSEWHERE.match(link)]
 faults = [(page, link, why) for page, link in links if (why := fault(page, link))]

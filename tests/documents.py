@@ -1,11 +1,10 @@
 #!/usr/bin/env python3
 """Runs the commands of the documents over ./rv, and compares what they print with the page.
 
-A block ```sh has commands behind `$`, each with what it prints to both streams, where a line `...` is any number of
-lines; a command without output there may print anything, but has to succeed. A block below a comment that begins
-`<!-- not run` is only read. A block ```asm is the file that the paragraph before it names last, as `digits.s`. The
-commands of a page share a folder, in which `examples` and `./rv` are those of the repository. Standard library alone;
-the last line is 'N passed, M failed'.
+A block ```sh has commands behind `$`, each with what it prints to both streams; where a page shows nothing, the command
+may print anything, but has to succeed. A block below a comment that begins `<!-- not run` is passed over. A block ```asm
+is the file that the line before it names last, as `digits.s`. The commands of a page share a folder, in which `rv`,
+`examples` and `tests` are those of the repository. Standard library alone; the last line is 'N passed, M failed'.
 """
 
 import os
@@ -18,16 +17,20 @@ from pathlib import Path
 ROOT = Path(__file__).resolve().parent.parent
 PAGES = [ROOT / "README.md", ROOT / "CONTRIBUTING.md", ROOT / "tests/README.md", ROOT / "examples/README.md"]
 PAGES += sorted(ROOT.glob("docs/manual/*.md"))
-BLOCK = re.compile(r"(?m)^(\S.*)\n\n?```(sh|asm)\n((?:(?!```).*\n)*)```$")
+BLOCK = re.compile(r"(?m)^```(sh|asm)\n((?:(?!```).*\n)*)```$")
 COMMAND = re.compile(r"(?m)^\$ (.*)\n((?:(?!\$ ).*\n)*)")
 SECONDS = 60
 
 
 def blocks(text):
     """The kind of each block that is to be used, its text, and the line before it."""
-    for before, kind, block in BLOCK.findall(text):
+    found = [*BLOCK.finditer(text)]
+    if len(found) != len(re.findall(r"(?m)^ *```(?:sh|asm)", text)):
+        sys.exit("a block is indented or has no end")
+    for block in found:
+        before = text[: block.start()].rstrip().rpartition("\n")[2]
         if not before.startswith("<!-- not run"):
-            yield kind, block, before
+            yield block[1], block[2], before
 
 
 def ran(command, folder):
@@ -38,17 +41,9 @@ def ran(command, folder):
     return done.returncode, done.stdout.removesuffix("\n") + "\n" * bool(done.stdout)
 
 
-def is_right(wanted, status, came):
-    """Whether a command did what its page says."""
-    if not wanted:
-        return status == 0
-    pattern = "".join(r"(?:.*\n)*?" if line == "..." else re.escape(line) + "\n" for line in wanted.splitlines())
-    return bool(re.fullmatch(pattern, came))
-
-
 def faults(page, folder):
     """Each command of a page, with what is wrong with it, or nothing."""
-    for name in ("rv", "examples"):
+    for name in ("rv", "examples", "tests"):
         os.symlink(ROOT / name, f"{folder}/{name}")
     for kind, block, before in blocks(page.read_text()):
         if kind == "asm":
@@ -56,8 +51,8 @@ def faults(page, folder):
             continue
         for command, wanted in COMMAND.findall(block):
             status, came = ran(command, folder)
-            right = is_right(wanted, status, came)
-            yield "" if right else f"{command}\n  wanted {wanted!r}\n  came   {came!r}, status {status}"
+            is_right = came == wanted if wanted else status == 0
+            yield "" if is_right else f"{command}\n  wanted {wanted!r}\n  came   {came!r}, status {status}"
 
 
 def main():
