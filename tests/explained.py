@@ -17,7 +17,7 @@ from pathlib import Path
 from run import RV, SECONDS, TESTS, Failed, same
 
 MANUAL = TESTS.parent / "docs" / "manual"
-ROW = re.compile(r'\| <a id="\w+"></a>(.*) \| (.*) \| (.*) \| (.*) \|')
+ROW = re.compile(r'\| <a id="\w+"></a>(.*) \| (.*) \| (.*) \|')
 
 
 def rv(folder, *words):
@@ -33,7 +33,7 @@ def rows():
     """The title, the cause and the cure of each code in the manual."""
     for line in (MANUAL / "faults.md").read_text().splitlines():
         if found := ROW.fullmatch(line):
-            title, cause, _, cure = map(plain, found.groups())
+            title, cause, cure = map(plain, found.groups())
             yield " ".join(title.split()[:2]), cause, cure
 
 
