@@ -65,7 +65,7 @@ fn constant(addend: i64, past_end: u64) -> i64
 }
 
 /// A call, if its words, its target and the symbols of its object allow that it is shortened.
-fn call(text: &Text<'_, '_, '_>, input: &Input<'_, '_>, relocation: &Relocation) -> Option<Call>
+fn call(text: &Text<'_, '_, '_, '_>, input: &Input<'_, '_>, relocation: &Relocation) -> Option<Call>
     requires laid { IsLaidText text.now }
     requires given { IsGiven text.now input.now }
     requires within { (relocation.now).place + 8
@@ -96,7 +96,7 @@ fn call(text: &Text<'_, '_, '_>, input: &Input<'_, '_>, relocation: &Relocation)
 /// that it is shortened.
 fn put_call(
     sites: &mut Vec<Site>,
-    text: &Text<'_, '_, '_>,
+    text: &Text<'_, '_, '_, '_>,
     input: &Input<'_, '_>,
     first: u128,
     relocation: &Relocation,
@@ -128,7 +128,7 @@ fn put_call(
 /// It stands between the others of the section, which are in the order of their places.
 fn put_change(
     sites: &mut Vec<Site>,
-    text: &Text<'_, '_, '_>,
+    text: &Text<'_, '_, '_, '_>,
     input: &Input<'_, '_>,
     first: u128,
     before: Before,
@@ -169,7 +169,7 @@ fn put_change(
 /// Adds what may change of a section whose first byte stands at an offset, by its relocations in the order of their places.
 fn put_changes(
     sites: &mut Vec<Site>,
-    text: &Text<'_, '_, '_>,
+    text: &Text<'_, '_, '_, '_>,
     input: &Input<'_, '_>,
     first: u128,
     sorted: &[Relocation],
@@ -207,7 +207,7 @@ fn put_changes(
 pub(crate) fn put_section(
     alloc: Global,
     sites: &mut Vec<Site>,
-    text: &Text<'_, '_, '_>,
+    text: &Text<'_, '_, '_, '_>,
     input: &Input<'_, '_>,
     stop: u128,
 ) -> Result<u128, AllocError>

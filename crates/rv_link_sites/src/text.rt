@@ -20,9 +20,9 @@ use std::alloc::{AllocError, Global};
 
 /// The text of objects in one line.
 #[derive(Drop)]
-pub(crate) struct Text<'t, 'a, 'o> {
+pub(crate) struct Text<'t, 'a, 'n, 'o> {
     pub(crate) objects: &'t [Object<'a>],
-    pub(crate) names: &'t Names<'o>,
+    pub(crate) names: &'n Names<'o>,
     pub(crate) line: Line,
 }
 
@@ -48,13 +48,13 @@ fn is_in_text(objects: &[Object<'_>], file: usize, section: usize) -> bool
     }
 }
 
-impl<'t, 'a, 'o> Text<'t, 'a, 'o> {
+impl<'t, 'a, 'n, 'o> Text<'t, 'a, 'n, 'o> {
     /// That of objects, whose names mean this.
     pub(crate) fn of(
         alloc: Global,
         objects: &'t [Object<'a>],
-        names: &'t Names<'o>,
-    ) -> Result<Text<'t, 'a, 'o>, AllocError>
+        names: &'n Names<'o>,
+    ) -> Result<Text<'t, 'a, 'n, 'o>, AllocError>
         requires { IsNames (map object_of objects.now) names.now }
         ensures laid { IfOk result IsLaidText }
         ensures same { IfOk result (λ text. objects_of text ≡ map object_of objects.now) }

@@ -37,7 +37,11 @@ pub fn placed<'o, 'a>(
 }
 
 /// Adds the sites of all objects.
-fn put_all(alloc: Global, sites: &mut Vec<Site>, text: &Text<'_, '_, '_>) -> Result<(), AllocError>
+fn put_all(
+    alloc: Global,
+    sites: &mut Vec<Site>,
+    text: &Text<'_, '_, '_, '_>,
+) -> Result<(), AllocError>
     requires { IsLaidText text.now }
     ensures { OnOk result (sites.new.items ≡ sites.old.items ++ sites_of (objects_of text.now)) }
 {
@@ -52,7 +56,7 @@ fn put_all(alloc: Global, sites: &mut Vec<Site>, text: &Text<'_, '_, '_>) -> Res
 fn put_object(
     alloc: Global,
     sites: &mut Vec<Site>,
-    text: &Text<'_, '_, '_>,
+    text: &Text<'_, '_, '_, '_>,
     file: usize,
     object: &Object<'_>,
     first: u128,
@@ -77,7 +81,7 @@ fn put_object(
 fn put_at(
     alloc: Global,
     sites: &mut Vec<Site>,
-    text: &Text<'_, '_, '_>,
+    text: &Text<'_, '_, '_, '_>,
     file: usize,
     object: &Object<'_>,
     entries: &Entries,
