@@ -4,6 +4,7 @@
 # make refused     refuses each request for memory of ./rv and of the library's calls in turn
 # make test        the whole gate: every proof from nothing, the must-fail edits, the tests, the programs and their cases,
 #                  and what each crate cost
+# make definitions prints the definitions on which all that is proved rests, in reading order
 # make bench       measures rv beside GNU's tools, qemu-riscv64 and an interpreter in C, where they are installed,
 #                  and prints the table of targets last
 # make growth      draws how their times grow: bench/growth.svg
@@ -23,7 +24,7 @@ SOURCES := crates.txt $(filter-out crates/rv_refused/%,$(FILES))
 PROVED := out/proved/rv
 UNPROVED := out/quick/rv
 
-.PHONY: all quick proved check refused test bench growth install clean
+.PHONY: all quick proved check refused test definitions bench growth install clean
 
 all: proved
 	$(RUN_EXAMPLE)
@@ -69,12 +70,16 @@ check: rv
 	scripts/links.py
 	scripts/want_of_memory.py
 	scripts/definitions.py
+	scripts/trusted.py --check
 
 refused: rv rv_refused
 	tests/refused.py
 
 test:
 	scripts/test.py
+
+definitions:
+	@scripts/trusted.py
 
 bench: rv
 	python3 bench/run.py

@@ -3,8 +3,8 @@
 
 First `rt ci`, with what each crate cost (gate_times.py): every proof from nothing, the wrong bodies that must be
 refused, the tests of the library. Then, over the programs that it built, the cases of tests/ and each request for
-memory refused; and the links of the documents, where want of memory is made, and that a word of the definitions leads
-to one thing. The last line sums all up as
+memory refused; and the links of the documents, where want of memory is made, that a word of the definitions leads to one
+thing, and that the list of definitions is today's. The last line sums all up as
 'N passed, M failed'; the exit status is 0 if nothing failed.
 """
 
@@ -23,7 +23,8 @@ PROVED = ROOT / "out/proved/rv"
 OF_PROGRAMS = [["tests/run.py"], ["tests/collected.py"], ["tests/damaged.py", "--all"], ["tests/explained.py"],
                ["tests/documents.py"], ["scripts/pictures.py", "--check"], ["tests/shells.py"], ["tests/terminal.py"],
                ["tests/making.py"], ["tests/refused.py"]]
-OF_FILES = [["scripts/links.py"], ["scripts/want_of_memory.py"], ["scripts/definitions.py"]]
+OF_FILES = [["scripts/links.py"], ["scripts/want_of_memory.py"], ["scripts/definitions.py"],
+            ["scripts/trusted.py", "--check"]]
 
 
 def counts(line):
