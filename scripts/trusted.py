@@ -33,15 +33,14 @@ STANDARDS = {"gABI": "gABI|System V", "psABI": "psABI", "ISA": r"\bISA\b", "APM"
              "as": r"GNU as", "Intel": "Intel,", "Motorola": "Motorola,", "IEEE": "IEEE", "ECMA": "ECMA"}
 INTRODUCTION = """# Definitions
 
-Whoever relies on [PROVED](PROVED.md) has to agree with the definitions in these files, because its claims rest on them.
-The files are in reading order, each with the standards that it cites and the numbers of those claims. `make definitions`
-prints the definitions themselves and says how many lines they have; [HEADLINE](HEADLINE.md) explains twelve. A type of
-the code, such as an enum, is under `specs.declared`. `scripts/trusted.py --page` makes this page.
+Whoever relies on [PROVED](PROVED.md) has to agree with the definitions in these files, in reading order, each with its
+standards and the claims that rest on it. `make definitions` prints them and counts their lines; [HEADLINE](HEADLINE.md)
+explains twelve. A type of the code, such as an enum, is under `specs.declared`. `scripts/trusted.py` makes this page.
 
-Standards: RISC-V Unprivileged ISA 20191213 (ISA), RISC-V ELF psABI, Assembly Programmer's Manual (APM), System V gABI,
-the manuals of GNU as and ld. A file without one joins others, or has [this project's rules](manual/README.md). Where a
-standard leaves a choice, [DECISIONS](DECISIONS.md) says which was taken.
+Standards: RISC-V Unprivileged ISA 20191213, RISC-V ELF psABI, Assembly Programmer's Manual (APM), System V gABI, GNU as,
+GNU ld. A file without one joins others, or has [this project's rules](manual/README.md).
 """
+SAFETY = 0
 HOME, TYPES, FUNCTIONS, MODULES = {}, defaultdict(list), defaultdict(list), {}
 
 
@@ -173,11 +172,12 @@ def roots(line):
 
 
 def claims():
-    """The lines of PROVED that claim something, by number."""
+    """The lines of PROVED that claim something, by number; those about safety have none."""
     for section in (TOP / "docs/PROVED.md").read_text(encoding="utf-8").split("\n## ")[1:]:
         for line in section.splitlines() if not section.startswith("What is") else []:
-            if number := re.match(r"(\d+)\. ", line):
-                yield int(number[1]), line
+            number = re.match(r"(?:(\d+)\.|-) ", line)
+            if number and (number[1] or "](../crates" in line):
+                yield int(number[1] or SAFETY), line
 
 
 def follow():
@@ -218,11 +218,11 @@ def ranges(numbers):
     """Numbers in few words: '1-6,24'."""
     runs = []
     for number in sorted(numbers):
-        if runs and number == runs[-1][1] + 1:
+        if runs and number == runs[-1][1] + 1 > 1:
             runs[-1][1] = number
         else:
             runs.append([number, number])
-    return ",".join(f"{first}-{last}" if first < last else f"{first}" for first, last in runs)
+    return ",".join(f"{first}-{last}" if first < last else f"{first or 'safety'}" for first, last in runs)
 
 
 def size(parts):
