@@ -1,5 +1,5 @@
 #!/usr/bin/env python3
-"""The text with which whoever relies on docs/PROVED.md has to agree: make definitions.
+"""The definitions with which whoever relies on docs/PROVED.md has to agree: make definitions.
 
 A claim of that page names functions and definitions in backticks and links their files. From the contracts of these
 functions (where the claim names clauses, from these) this follows every word to the definition or type that it names.
@@ -23,25 +23,25 @@ ORDER = re.findall(r"^(\w+):", (TOP / "crates.txt").read_text(encoding="utf-8"),
 WORD = r"[A-Za-z_][\w'-]*"
 USE = re.compile(r"^\s*(?:(?:unfoldable|pub|ghost) )*use (Rattle[\w.]+?)(?:\.\{([^}]*)\})?(?: as (\w+))?;?$", re.M)
 RUST_USE = re.compile(r"^(?:pub(?:\(crate\))? )?use (\w+)::(?:\w+::)*(?:\{([^}]*)\}|(\w+))(?: as (\w+))?;", re.M)
-HEAD = re.compile(rf"(?!(?:unfoldable )?(?:pub )?(?:use|mod|infix\w?|unfolding)\b|[}})\]])(?:(?:abbrev|unfoldable|pub|data"
-                  rf"|record) )*({WORD}|\S*◌\S*)")
+NO_HEAD = re.compile(r"(?:unfoldable )?(?:pub )?(?:use|mod|infix\w?|unfolding)\b|[})\]\s]|$")
+HEAD = re.compile(rf"(?:(?:abbrev|unfoldable|pub|data|record) )*({WORD}|\S*◌\S*)")
 TYPE = re.compile(r"(?:pub(?:\(crate\))? )?(struct|enum|trait|const|type) (\w+)")
 FUNCTION = re.compile(r"( *)(?:pub(?:\(crate\))? )?(?:const )?fn (\w+)")
-CLAUSE = re.compile(rf"\s*(?:requires|ensures (?P<name>{WORD} )?)")
-GROUP = r"(?:\(|: (?=RISC-V|System V))((?:[^()]|\([^()]*\))*?)(?:\)|\.(?= |$))"
-STANDARDS = {"gABI": "gABI|System V", "psABI": "psABI", "ISA": r"\bISA\b", "APM": "Programmer's Manual", "ld": "GNU ld",
-             "as": r"GNU as", "Intel": "Intel,", "Motorola": "Motorola,", "IEEE": "IEEE", "ECMA": "ECMA"}
+CLAUSE = re.compile(rf"\s*(?:requires|ensures ({WORD} )?)")
+CITED = re.compile(r"(?:\(|: (?=RISC-V|System V))((?:[^()]|\([^()]*\))*?)(?:\)|\.(?= |$))")
+NAMES = r"gABI=gABI|System psABI=psABI ISA=\bISA\b APM=Programmer's as=GNU.as ld=GNU.ld"
+STANDARDS = dict(pair.split("=") for pair in f"{NAMES} Intel=Intel, Motorola=Motorola, IEEE=IEEE ECMA=ECMA".split())
+SAFETY = 0
+HOME, TYPES, FUNCTIONS, MODULES = {}, defaultdict(list), defaultdict(list), {}
 INTRODUCTION = """# Definitions
 
 Whoever relies on [PROVED](PROVED.md) has to agree with the definitions in these files, in reading order, each with its
 standards and the claims that rest on it. `make definitions` prints them and counts their lines; [HEADLINE](HEADLINE.md)
 explains twelve. A type of the code, such as an enum, is under `specs.declared`. `scripts/trusted.py` makes this page.
 
-Standards: RISC-V Unprivileged ISA 20191213, RISC-V ELF psABI, Assembly Programmer's Manual (APM), System V gABI, GNU as,
-GNU ld. A file without one joins others, or has [this project's rules](manual/README.md).
+Standards: RISC-V Unprivileged ISA 20191213, RISC-V ELF psABI, Assembly Programmer's Manual (APM), System V gABI,
+GNU as, GNU ld. A file without one joins others, or has [this project's rules](manual/README.md).
 """
-SAFETY = 0
-HOME, TYPES, FUNCTIONS, MODULES = {}, defaultdict(list), defaultdict(list), {}
 
 
 class Part:
@@ -67,12 +67,11 @@ class File:
         self.path, self.text = path, path.read_text(encoding="utf-8")
         self.crate, self.folder, *_ = path.relative_to(CRATES).parts
         self.module = "Rattle." + ".".join(path.relative_to(CRATES).with_suffix("").parts)
-        self.names, self.aliases, self.types = {}, {}, {}
         MODULES[self.module] = self
+        self.names, self.aliases, self.types = {}, {}, {}
         for module, names, alias in USE.findall(self.text):
-            if not names:
-                self.aliases[alias or module.rpartition(".")[2]] = module
             self.names.update((here, (module, there)) for there, here in listed(names))
+            self.aliases.update({} if names else {alias or module.rpartition(".")[2]: module})
         for crate, names, name, alias in RUST_USE.findall(self.text):
             crate = self.crate if crate == "crate" else crate
             self.types.update((alias or here, (crate, there)) for there, here in listed(names or name))
@@ -83,11 +82,12 @@ class File:
     def read_definitions(self):
         """Its paragraphs, each by every name that it defines, with those of a type's cases."""
         for paragraph in re.split(r"\n{2,}", self.text):
-            plain = re.sub(r"--.*", "", paragraph)
-            names = [found[1] for line in plain.splitlines() if line[:1].strip() and (found := HEAD.match(line))]
+            lines = re.sub(r"--.*", "", paragraph).splitlines()
+            names = [found[1] for line in lines if not NO_HEAD.match(line) and (found := HEAD.match(line))]
             part = next((HOME[self.module, name] for name in names if (self.module, name) in HOME), Part(self, ""))
             part.text = (part.text + "\n\n" + paragraph).strip("\n")
-            cases = re.findall(rf"^ +((?:{WORD} )+):", plain, re.M) if re.search("^(?:pub )?data ", plain, re.M) else []
+            is_type = any(re.match("(?:pub )?data ", line) for line in lines)
+            cases = [found[1] for line in lines if is_type and (found := re.match(rf" +((?:{WORD} )+):", line))]
             for name in [*names, *" ".join(cases).split()]:
                 HOME.setdefault((self.module, name), part)
 
@@ -98,12 +98,11 @@ class File:
         for start, line in enumerate(lines):
             owner = line if re.match(r"(?:impl|(?:pub )?trait)\b", line) else owner
             if found := TYPE.match(line):
-                end = r".*;$" if found[1] in ("const", "type") else "}"
-                last = start if line.endswith(("}", ";")) else next(
-                    at for at in range(start + 1, len(lines)) if re.match(end, lines[at]))
-                part = Part(self, "\n".join([*comment, *lines[start:last + 1]]))
-                HOME[f"{module}.{'TheConstants' if found[1] == 'const' else found[2]}", found[2]] = part
-                TYPES[self.crate, found[2]].append(part)
+                kind, name = found.groups()
+                end = ".*;$" if kind in ("const", "type") else "}|.*[};]$" if line.endswith(("}", ";")) else "}"
+                last = next(at for at in range(start, len(lines)) if re.match(end, lines[at]))
+                TYPES[self.crate, name].append(Part(self, "\n".join([*comment, *lines[start : last + 1]])))
+                HOME[f"{module}.{'TheConstants' if kind == 'const' else name}", name] = TYPES[self.crate, name][-1]
             elif (found := FUNCTION.match(line)) and len(contract := clauses(lines[start:], found[1])) > 1:
                 FUNCTIONS[found[2]].append((self, re.findall(r"\w+", owner) if found[1] else [], contract))
             comment = [*comment, line] if line.startswith(("///", "#[")) else []
@@ -117,7 +116,7 @@ def listed(names):
 
 def cited(text):
     """What a comment has of standards in parentheses."""
-    return "; ".join(group for group in re.findall(GROUP, text) if re.search("|".join(STANDARDS.values()), group))
+    return "; ".join(group for group in CITED.findall(text) if re.search("|".join(STANDARDS.values()), group))
 
 
 def clauses(lines, indent):
@@ -137,18 +136,18 @@ def clauses(lines, indent):
 
 @cache
 def home(module, name):
-    """The part for which a name of a module stands, here or where the module has it from."""
+    """The part that a name of a module is, defined there or handed on."""
     module = module.removesuffix(".TheVariants")
-    there = HOME.get((module, name)) or HOME.get((module, module.rpartition(".")[2]))
+    part = HOME.get((module, name)) or HOME.get((module, module.rpartition(".")[2]))
     file = MODULES.get(module)
-    ways = [file.names[name]] if file and name in file.names else []
-    ways += [(other, name) for other in file.aliases.values()] if file else []
-    return there or next(filter(None, (home(*way) for way in ways)), None)
+    ways = [file.names.get(name), *((other, name) for other in file.aliases.values())] if file and not part else []
+    return part or next(filter(None, (home(*way) for way in ways if way)), None)
 
 
 def used(file, text):
     """The parts that the words of a text of a file name."""
-    found = {home(*way) for name, way in file.names.items() if "◌" in name and all(bit in text for bit in name.split("◌"))}
+    signs = [way for name, way in file.names.items() if "◌" in name and all(sign in text for sign in name.split("◌"))]
+    found = {home(*way) for way in signs}
     for word, part in re.findall(rf"(?<![\w'.-])({WORD})(?:\.({WORD}))?", text):
         found.add(home(file.aliases[word], part) if part and word in file.aliases else None)
         found.add(home(*file.names.get(word, (file.module, word))))
@@ -163,36 +162,30 @@ def roots(line):
     crates, found = {crate for crate, _ in links}, set()
     for owner, _, name in (name.rpartition("::") for name in names):
         known = [one for one in FUNCTIONS[name] if one[0].crate in crates and (not owner or owner in one[1])]
-        known += [one for all_of in FUNCTIONS.values() for one in all_of if one[0].crate in crates and name in one[1]]
+        known += [one for group in FUNCTIONS.values() for one in group if one[0].crate in crates and name in one[1]]
         for file, _, (head, *parts) in [one for one in known if (one[0].crate, one[0].path.stem) in links] or known:
-            named = [part for part in parts if (CLAUSE.match(part)["name"] or "").strip() in names]
+            named = [part for part in parts if (CLAUSE.match(part)[1] or "").strip() in names]
             found |= used(file, head) | used(file, "".join(named or parts))
         found |= {part for (_, word), part in HOME.items() if word == name and part.file.crate in crates}
     return found
 
 
-def claims():
-    """The lines of PROVED that claim something, by number; those about safety have none."""
-    for section in (TOP / "docs/PROVED.md").read_text(encoding="utf-8").split("\n## ")[1:]:
-        for line in section.splitlines() if not section.startswith("What is") else []:
-            number = re.match(r"(?:(\d+)\.|-) ", line)
-            if number and (number[1] or "](../crates" in line):
-                yield int(number[1] or SAFETY), line
-
-
 def follow():
-    """Says of each part which claims reach it, and gives the claims that reach nothing."""
-    empty = []
-    for number, line in claims():
-        waiting, seen = list(roots(line)), set()
-        empty += [] if waiting else [number]
-        while waiting:
-            part = waiting.pop()
-            if part not in seen:
-                seen.add(part)
-                part.claims.append(number)
-                waiting += part.uses()
-    return empty
+    """Says of each part which claims of PROVED reach it, and gives all claims and those that reach nothing."""
+    sections, numbers, empty = (TOP / "docs/PROVED.md").read_text(encoding="utf-8").split("\n## ")[1:], [], []
+    for line in "\n".join(text for text in sections if not text.startswith("What is")).splitlines():
+        number = re.match(r"(?:(\d+)\.|-) ", line)
+        if number and (number[1] or "](../crates" in line):
+            numbers.append(int(number[1] or SAFETY))
+            waiting, seen = list(roots(line)), set()
+            empty += [] if waiting else numbers[-1:]
+            while waiting:
+                part = waiting.pop()
+                if part not in seen:
+                    seen.add(part)
+                    part.claims.append(numbers[-1])
+                    waiting += part.uses()
+    return numbers, empty
 
 
 def in_reading_order(parts):
@@ -214,10 +207,10 @@ def in_reading_order(parts):
     return done
 
 
-def ranges(numbers):
-    """Numbers in few words: '1-6,24'."""
+def ranges(parts):
+    """The claims of parts in few words: '1-6,24'."""
     runs = []
-    for number in sorted(numbers):
+    for number in sorted({number for part in parts for number in part.claims}):
         if runs and number == runs[-1][1] + 1 > 1:
             runs[-1][1] = number
         else:
@@ -225,50 +218,45 @@ def ranges(numbers):
     return ",".join(f"{first}-{last}" if first < last else f"{first or 'safety'}" for first, last in runs)
 
 
-def size(parts):
-    """The lines of parts that are not empty."""
-    return sum(bool(line.strip()) for part in parts for line in part.text.splitlines())
-
-
 def page(files):
     """docs/DEFINITIONS.md: a paragraph a crate, a line a file."""
     crates = defaultdict(list)
-    for file, own in files.items():
+    for file, parts in files.items():
         if file.folder == "specs":
-            standards = [name for name, words in STANDARDS.items() if re.search(words, cited(file.head))]
-            numbers = ranges({number for part in own for number in part.claims})
+            standards = ",".join(name for name, words in STANDARDS.items() if re.search(words, cited(file.head)))
             link = f"[{file.path.stem}](../{file.path.relative_to(TOP)})"
-            crates[file.crate].append(" ".join([link, *[",".join(standards)] * bool(standards), numbers]))
+            crates[file.crate].append(" ".join(filter(None, [link, standards, ranges(parts)])))
     return INTRODUCTION + "".join(f"\n**{crate}**\n" + ";\n".join(lines) + "\n" for crate, lines in crates.items())
 
 
 def text(files):
     """The definitions in reading order, under a list of contents."""
-    parts = [part for own in files.values() for part in own]
-    yield f"{len(parts)} definitions and types in {len(files)} files, {size(parts)} lines, on which docs/PROVED.md rests\n"
-    for file, own in files.items():
-        yield f"{size(own):6}  {file.path.relative_to(CRATES)}  {cited(file.head)}"
-    for file, own in files.items():
+    lines = {file: sum(bool(line.strip()) for part in files[file] for line in part.text.split("\n")) for file in files}
+    count = sum(map(len, files.values()))
+    yield f"{count} definitions and types, {sum(lines.values())} lines, in {len(files)} files: PROVED rests on them\n"
+    for file in files:
+        yield f"{lines[file]:6}  {file.path.relative_to(CRATES)}  {cited(file.head)}".rstrip()
+    for file, parts in files.items():
         yield f"\n{'=' * 100}\n{file.path.relative_to(TOP)}\n{file.head}"
-        for part in own:
-            yield f"\n[{part.standard()}; claims {ranges(part.claims)}]\n{part.text}"
+        for part in parts:
+            yield f"\n[{part.standard()}; claims {ranges([part])}]\n{part.text}"
 
 
 def main(words):
     for crate in ORDER:
-        for folder in ("src", "specs"):
-            for path in sorted((CRATES / crate / folder).rglob("*.rt" if folder == "src" else "*.antt")):
+        for folder, kind in (("src", "*.rt"), ("specs", "*.antt")):
+            for path in sorted((CRATES / crate / folder).rglob(kind)):
                 File(path)
-    empty = follow()
-    files = in_reading_order(dict.fromkeys(part for part in [*HOME.values()] if part.claims))
-    if "--check" in words:
-        faults = [f"claim {number} of docs/PROVED.md leads to no contract and no definition" for number in empty]
-        if PAGE.read_text(encoding="utf-8") != page(files):
-            faults.append(f"{PAGE.relative_to(TOP)} is not what scripts/trusted.py --page prints")
-        print(*faults, f"{len(list(claims())) + 1 - len(faults)} passed, {len(faults)} failed", sep="\n")
-        return 1 if faults else 0
-    print(page(files) if "--page" in words else "\n".join(text(files)), end="")
-    return 0
+    numbers, empty = follow()
+    files = in_reading_order(dict.fromkeys(part for part in HOME.values() if part.claims))
+    if "--check" not in words:
+        print(page(files) if "--page" in words else "\n".join(text(files)) + "\n", end="")
+        return 0
+    faults = [f"docs/PROVED.md: claim {number} leads to no contract and no definition" for number in empty]
+    if PAGE.read_text(encoding="utf-8") != page(files):
+        faults.append("docs/DEFINITIONS.md: scripts/trusted.py --page prints another page")
+    print(*faults, f"{len(numbers) + 1 - len(faults)} passed, {len(faults)} failed", sep="\n")
+    return 1 if faults else 0
 
 
 if __name__ == "__main__":
