@@ -33,12 +33,14 @@ data-requires-clause-few c =
     omega (arith, few)
 
 pub items-requires : goal.items-requires
-items-requires c = record { sizes =
-    let u = c.args.unit.now in
-    let ss = said u in
-    let code = c.in_ok-code.code in
-    sizes_count (tables ss) (located (ss ∷ [])) _ code.sections.items code.sizes.items c.in_ok-code.ensures.code
-    ∙ ap length (one_file ss) ∙ stated_length 1 1 (at_start ss) ss }
+items-requires c = record {
+  sizes =
+      let u = c.args.unit.now in
+      let ss = said u in
+      let code = c.in_ok-code.code in
+      sizes_count (tables ss) (located (ss ∷ [])) _ code.sections.items code.sizes.items c.in_ok-code.ensures.code
+      ∙ ap length (one_file ss) ∙ stated_length 1 1 (at_start ss) ss;
+}
 
 pub returns-in_err-items-clause-refuses : goal.returns-in_err-items-clause-refuses
 returns-in_err-items-clause-refuses c =
