@@ -8,6 +8,10 @@ use Rattle.rv_shorten.specs.declared.section.ShortSection.{ShortSection}
 use Rattle.rv_shorten.specs.Cut.{move_of}
 use Rattle.rv_shorten.specs.Cutting.{cut_section}
 
+-- the section as it was
+abbrev pub whole_section_of : ShortSection → Section
+whole_section_of s = section_of s.whole.now
+
 -- what is kept of its calls
 abbrev pub moves_in : ShortSection → List Move
 moves_in s = map move_of s.cuts.items

@@ -6,7 +6,16 @@ use Rattle.rv_object_types.specs.Parts.{symbol_of}
 use Rattle.rv_object_laws.specs.Moves.{Move}
 use Rattle.rv_shorten.specs.declared.object.ShortObject.{ShortObject}
 use Rattle.rv_shorten.specs.Cutting.{cut_symbol, cut_row_of}
-use Rattle.rv_shorten.specs.Sections.{moves_in_all, short_section_of}
+use Rattle.rv_shorten.specs.Sections.{moves_in_all, short_section_of, whole_section_of}
+
+-- the object as it was
+abbrev pub whole_object_of : ShortObject → Object
+whole_object_of o = record {
+  sections = map whole_section_of o.sections.items;
+  symbols = map symbol_of o.whole.now.symbols.items;
+  rows = o.whole.now.rows.items;
+  rvc = o.whole.now.rvc;
+}
 
 -- the moves of its sections
 abbrev pub moves_by_section : ShortObject → List (List Move)

@@ -3,8 +3,8 @@
 ghost use Rattle.std.specs.Prelude.{◌≡◌, [], map, IfOk};
 ghost use Rattle.rv_object_types.specs.Sections.{section_of};
 ghost use Rattle.rv_object_types.specs.View.{object_of};
-ghost use Rattle.rv_shorten.specs.Sections.{moves_in_all, short_section_of};
-ghost use Rattle.rv_shorten.specs.View.{short_object_of};
+ghost use Rattle.rv_shorten.specs.Sections.{moves_in_all, short_section_of, whole_section_of};
+ghost use Rattle.rv_shorten.specs.View.{short_object_of, whole_object_of};
 
 use crate::object::ShortObject;
 use crate::section::ShortSection;
@@ -16,6 +16,8 @@ fn whole_sections<'o, 'a>(
     alloc: Global,
     sections: &'o [Section<'a>],
 ) -> Result<Vec<ShortSection<'o, 'a>>, AllocError>
+    ensures whole { IfOk result
+        (λ left. map whole_section_of left.items ≡ map section_of sections.now) }
     ensures same { IfOk result
         (λ left. map short_section_of left.items ≡ map section_of sections.now) }
     ensures none { IfOk result
@@ -37,7 +39,9 @@ pub fn whole<'o, 'a>(
     alloc: Global,
     objects: &'o [Object<'a>],
 ) -> Result<Vec<ShortObject<'o, 'a>>, AllocError>
-    ensures { IfOk result
+    ensures whole { IfOk result
+        (λ left. map whole_object_of left.items ≡ map object_of objects.now) }
+    ensures same { IfOk result
         (λ left. map short_object_of left.items ≡ map object_of objects.now) }
 {
     let mut left = Vec::with_capacity(alloc, objects.len())?;

@@ -12,7 +12,7 @@
 //! It must not know how the family is found, nor addresses.
 //!
 //! ```text
-//! let left = shorten(alloc, &objects, &sites, plan.kept())?;
+//! let left = shorten(alloc, &objects, &sites, &kept)?;
 //! let place = left[0].sections[0].relocation(&relocation).place;
 //! left[0].sections[0].bytes().put_all(&mut out)?;
 //! ```

@@ -8,7 +8,7 @@ ghost use Rattle.rv_object_types.specs.Valid.{are_rows};
 ghost use Rattle.rv_object_types.specs.View.{object_of};
 ghost use Rattle.rv_shorten.specs.Cut.{are_in_order, move_of};
 ghost use Rattle.rv_shorten.specs.Cutting as cutting;
-ghost use Rattle.rv_shorten.specs.Sections.{moves_in_all, short_section_of};
+ghost use Rattle.rv_shorten.specs.Sections.{moves_in_all, short_section_of, whole_section_of};
 
 use crate::cut::Cut;
 use crate::offsets::{lost, new_offset};
@@ -59,18 +59,20 @@ fn moved_row(row: Row, cuts: &[Cut]) -> Row
 }
 
 impl<'o, 'a> ShortObject<'o, 'a> {
-    ghost use Rattle.rv_shorten.specs.View.{short_object_of};
+    ghost use Rattle.rv_shorten.specs.View.{short_object_of, whole_object_of};
 
     /// An object of which these sections are left.
     pub(crate) fn of(
         whole: &'o Object<'a>,
         sections: Vec<ShortSection<'o, 'a>>,
     ) -> ShortObject<'o, 'a>
+        requires whole { map whole_section_of sections.items ≡ (object_of whole.now).sections }
         requires cuts { cutting.AllCut (object_of whole.now).sections
             (moves_in_all sections.items) }
         requires left { map short_section_of sections.items
             ≡ cutting.cut_sections (moves_in_all sections.items) (object_of whole.now).sections }
-        ensures { short_object_of result
+        ensures whole { whole_object_of result ≡ object_of whole.now }
+        ensures left { short_object_of result
             ≡ cutting.cut_object (moves_in_all sections.entry.items) (object_of whole.now) }
     {
         ShortObject { whole, sections }

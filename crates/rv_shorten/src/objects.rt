@@ -5,7 +5,7 @@ ghost use Rattle.rv_layout_laws.specs.Calls.{IsText};
 ghost use Rattle.rv_object_types.specs.View.{object_of};
 ghost use Rattle.rv_object_laws.specs.CallSites.{sites_of};
 ghost use Rattle.rv_object_laws.specs.Shortened.{shortened};
-ghost use Rattle.rv_shorten.specs.View.{short_object_of};
+ghost use Rattle.rv_shorten.specs.View.{short_object_of, whole_object_of};
 ghost use Rattle.rv_shorten.specs.Walk.{AreWalked, walked};
 
 use crate::object::ShortObject;
@@ -23,7 +23,9 @@ fn shorten_all<'o, 'a>(
 ) -> Result<Vec<ShortObject<'o, 'a>>, AllocError>
     requires many { length kept.now ≡ length sites.now }
     requires walked { AreWalked (map object_of objects.now) sites.now kept.now }
-    ensures { IfOk result (λ left. map short_object_of left.items
+    ensures whole { IfOk result
+        (λ left. map whole_object_of left.items ≡ map object_of objects.now) }
+    ensures left { IfOk result (λ left. map short_object_of left.items
         ≡ walked (map object_of objects.now) sites.now kept.now) }
 {
     let mut left = Vec::with_capacity(alloc, objects.len())?;
@@ -51,7 +53,9 @@ pub fn shorten<'o, 'a>(
     requires sites { sites.now ≡ sites_of (map object_of objects.now) }
     requires text { IsText sites.now }
     requires family { length kept.now ≡ length sites.now }
-    ensures { IfOk result (λ left. map short_object_of left.items
+    ensures whole { IfOk result
+        (λ left. map whole_object_of left.items ≡ map object_of objects.now) }
+    ensures left { IfOk result (λ left. map short_object_of left.items
         ≡ shortened kept.now (map object_of objects.now)) }
 {
     shorten_all(alloc, objects, sites, kept)

@@ -40,12 +40,13 @@ pub struct ShortSection<'o, 'a> {
 
 impl<'o, 'a> ShortSection<'o, 'a> {
     ghost use Rattle.rv_shorten.specs.Bytes.{left_bytes};
-    ghost use Rattle.rv_shorten.specs.Sections.{moves_in, short_section_of};
+    ghost use Rattle.rv_shorten.specs.Sections.{moves_in, short_section_of, whole_section_of};
 
     /// A section of which these calls are cut short.
     pub(crate) fn of(whole: &'o Section<'a>, cuts: Vec<Cut>) -> ShortSection<'o, 'a>
         requires order { are_in_order 0 0 cuts.items ≡ true }
         requires cuts { AreCuts (section_of whole.now) (map move_of cuts.items) }
+        ensures whole { whole_section_of result ≡ section_of whole.now }
         ensures cuts { moves_in result ≡ map move_of cuts.items }
         ensures left { short_section_of result
             ≡ cut_section (map move_of cuts.items) (section_of whole.now) }

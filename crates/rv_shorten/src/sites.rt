@@ -10,7 +10,7 @@ ghost use Rattle.rv_object_laws.specs.Inputs.{goes_to_text};
 ghost use Rattle.rv_layout_laws.specs.Calls as calls;
 ghost use Rattle.rv_shorten.specs.Cut.{are_in_order, move_of};
 ghost use Rattle.rv_shorten.specs.Cutting.{AllCut, are_cuts, cut_sections};
-ghost use Rattle.rv_shorten.specs.Sections.{moves_in_all, short_section_of};
+ghost use Rattle.rv_shorten.specs.Sections.{moves_in_all, short_section_of, whole_section_of};
 ghost use Rattle.rv_shorten.specs.Walk as walk;
 
 use crate::cut::Cut;
@@ -187,6 +187,8 @@ pub(crate) fn short_sections<'o, 'a>(
     requires many { length kept.now ≡ length sites.now }
     requires cuts { AllCut (map section_of sections.now)
         (walk.object_moves (map section_of sections.now) sites.now kept.now) }
+    ensures whole { IfOk result
+        (λ found. map whole_section_of found.0.items ≡ map section_of sections.now) }
     ensures moves { IfOk result (λ found. moves_in_all found.0.items
         ≡ walk.object_moves (map section_of sections.now) sites.now kept.now) }
     ensures left { IfOk result (λ found. map short_section_of found.0.items

@@ -5,9 +5,12 @@ use Rattle.rv_object_types.specs.View.{object_of}
 use Rattle.rv_object_laws.specs.Moves.{Move}
 use Rattle.rv_shorten.specs.Cutting.{AllCut, cut_sections, cut_object}
 use Rattle.rv_shorten.specs.Sections.{moves_in_all}
-use Rattle.rv_shorten.specs.View.{short_object_of}
+use Rattle.rv_shorten.specs.View.{short_object_of, whole_object_of}
 use Rattle.rv_shorten.proofs.UncutLemmas.{none_in, none_cut, same_sections, same_object}
 use Rattle.rv_shorten.proofs.lent.whole.Goals as goal
+
+pub of-requires-clause-whole : goal.of-requires-clause-whole
+of-requires-clause-whole c = c.in_ok-sections.ensures.whole ∙ ap (λ l. map section_of l) c.deref.ensures.value
 
 pub of-requires-clause-cuts : goal.of-requires-clause-cuts
 of-requires-clause-cuts c =
@@ -31,9 +34,16 @@ loop-object-preserved c =
     let more = drop (i + 1) c.args.objects.now in
     let now : drop i c.args.objects.now ≡ item ∷ more = drop_more c.args.objects.now i item c.loop-object-test.true ∙ ap (λ x. x ∷ more) (sym c.object-item.is) in
     let none : moves_in_all c.in_ok-sections.sections.items ≡ none_in xs = c.in_ok-sections.ensures.none ∙ ap (λ l. none_in l) c.deref.ensures.value in
-    let is : short_object_of new ≡ object_of item = c.of.ensures ∙ ap (λ (l : List (List Move)). cut_object l (object_of item)) none ∙ same_object section_of xs (object_of item) refl in
+    let is : short_object_of new ≡ object_of item = c.of.ensures.left ∙ ap (λ (l : List (List Move)). cut_object l (object_of item)) none ∙ same_object section_of xs (object_of item) refl in
     let shown : map short_object_of c.push.new.self.items ≡ map short_object_of left ++ short_object_of new ∷ [] = ap (λ l. map short_object_of l) c.in_ok-push.ensures.items ∙ map_push short_object_of left new in
-    ap (λ l. l ++ map object_of more) shown
-    ∙ append_assoc (map short_object_of left) (short_object_of new ∷ []) (map object_of more)
-    ∙ ap (λ o. map short_object_of left ++ (o ∷ map object_of more)) is
-    ∙ sym (ap (λ l. map short_object_of left ++ map object_of l) now) ∙ c.loop-object.invariant
+    let lent : map whole_object_of c.push.new.self.items ≡ map whole_object_of left ++ whole_object_of new ∷ [] = ap (λ l. map whole_object_of l) c.in_ok-push.ensures.items ∙ map_push whole_object_of left new in
+    record {
+      whole = ap (λ l. l ++ map object_of more) lent
+          ∙ append_assoc (map whole_object_of left) (whole_object_of new ∷ []) (map object_of more)
+          ∙ ap (λ o. map whole_object_of left ++ (o ∷ map object_of more)) c.of.ensures.whole
+          ∙ sym (ap (λ l. map whole_object_of left ++ map object_of l) now) ∙ c.loop-object.invariant.whole;
+      same = ap (λ l. l ++ map object_of more) shown
+          ∙ append_assoc (map short_object_of left) (short_object_of new ∷ []) (map object_of more)
+          ∙ ap (λ o. map short_object_of left ++ (o ∷ map object_of more)) is
+          ∙ sym (ap (λ l. map short_object_of left ++ map object_of l) now) ∙ c.loop-object.invariant.same;
+    }

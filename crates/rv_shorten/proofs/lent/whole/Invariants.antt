@@ -1,8 +1,11 @@
 use Rattle.std.proofs.Common.{◌≡◌, ◌++◌, map, drop}
 use Rattle.rv_object_types.specs.View.{object_of}
-use Rattle.rv_shorten.specs.View.{short_object_of}
+use Rattle.rv_shorten.specs.View.{short_object_of, whole_object_of}
 use Rattle.rv_shorten.proofs.lent.whole.Given as goal
 
 abbrev pub invariant-loop-object : goal.invariant-loop-object
 invariant-loop-object l =
-    map short_object_of l.left.items ++ map object_of (drop l.object-index l.objects) ≡ map object_of l.objects
+    record {
+      whole : map whole_object_of l.left.items ++ map object_of (drop l.object-index l.objects) ≡ map object_of l.objects;
+      same : map short_object_of l.left.items ++ map object_of (drop l.object-index l.objects) ≡ map object_of l.objects;
+    }

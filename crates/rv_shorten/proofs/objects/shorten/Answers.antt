@@ -18,11 +18,11 @@ shorten_all-requires-clause-walked c =
     let walk = walk_is os kept (sound_objects c.args.objects.now) (subst IsText is c.requires.text) (c.requires.family ∙ ap (λ (l : List Site). length l) is) in
     subst (λ (l : List Site). AreWalked os l kept) (sym is) walk.allowed
 
-pub returns : goal.returns
-returns c =
+pub returns-clause-left : goal.returns-clause-left
+returns-clause-left c =
     let os = map object_of c.args.objects.now in
     let kept = c.args.kept.now in
     let is = c.requires.sites in
     let walk = walk_is os kept (sound_objects c.args.objects.now) (subst IsText is c.requires.text) (c.requires.family ∙ ap (λ (l : List Site). length l) is) in
     IfOk-weaker c.shorten_all.result (λ left. map short_object_of left.items ≡ walked os c.args.sites.now kept) (λ left. map short_object_of left.items ≡ shortened kept os)
-    (λ left made. made ∙ ap (λ (l : List Site). walked os l kept) is ∙ walk.same) c.shorten_all.ensures
+    (λ left made. made ∙ ap (λ (l : List Site). walked os l kept) is ∙ walk.same) c.shorten_all.ensures.left

@@ -1,11 +1,11 @@
 use Rattle.std.proofs.Common.{◌≡◌, ℕ, ◌∷◌, ◌+◌, ◌-◌, ◌≤◌, ◌++◌, [], true, List, length, map, take, drop, sym, ap, subst, ◌∙◌, arith}
-use Rattle.std.proofs.lemmas.List.{drop_more, drop-drop, length-drop, take_all, map_push}
+use Rattle.std.proofs.lemmas.List.{drop_more, drop-drop, length-drop, take_all, map_push, append_assoc}
 use Rattle.rv_layout_laws.specs.declared.site.Site.{Site}
 use Rattle.rv_object_types.specs.Object.{Section, stored}
 use Rattle.rv_object_types.specs.Sections.{section_of}
 use Rattle.rv_shorten.specs.Cut.{move_of}
 use Rattle.rv_shorten.specs.Cutting.{AreCuts, AllCut, are_cuts, cut_section, cut_sections}
-use Rattle.rv_shorten.specs.Sections.{moves_in, moves_in_all, short_section_of}
+use Rattle.rv_shorten.specs.Sections.{moves_in, moves_in_all, short_section_of, whole_section_of}
 use Rattle.rv_shorten.specs.Walk.{own_moves, section_moves, object_moves, passed, passed_all}
 use Rattle.rv_shorten.proofs.StepsLemmas.{stored_order, one_of_object, one_left}
 use Rattle.rv_shorten.proofs.sites.short_sections.Goals as goal
@@ -76,7 +76,12 @@ loop-section-preserved c =
     let so_far = c.loop-section.invariant.passed in
     let total = ap (λ l. passed_all l ys) now in
     let ahead = ap (λ l. passed_all rest l) same_sites in
+    let lent : map whole_section_of c.push.new.self.items ≡ map whole_section_of left ++ whole_section_of new ∷ [] = ap (λ l. map whole_section_of l) c.in_ok-push.ensures.items ∙ map_push whole_section_of left new in
     record {
+      whole = ap (λ l. l ++ rest) lent
+          ∙ append_assoc (map whole_section_of left) (whole_section_of new ∷ []) rest
+          ∙ ap (λ x. map whole_section_of left ++ (x ∷ rest)) c.of.ensures.whole
+          ∙ sym (ap (λ l. map whole_section_of left ++ l) now) ∙ c.loop-section.invariant.whole;
       made = ap (λ l. l ++ object_moves rest (drop (at + n) c.args.sites.now) (drop (at + n) c.args.kept.now)) pushed
           ∙ ap (λ l. (moves_in_all left ++ moves_in new ∷ []) ++ object_moves rest l (drop (at + n) c.args.kept.now)) sites
           ∙ ap (λ l. (moves_in_all left ++ moves_in new ∷ []) ++ object_moves rest (drop n ys) l) kept

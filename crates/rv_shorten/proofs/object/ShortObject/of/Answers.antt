@@ -16,8 +16,13 @@ invariant_of-result c =
           ∙ rows_stay (map section_of whole.sections.items) mss whole.rows.items c.requires.cuts (all_fitting whole.sections.items) whole.lie;
     }
 
-pub returns : goal.returns
-returns c =
+pub returns-clause-whole : goal.returns-clause-whole
+returns-clause-whole c =
+    let whole = c.args.whole.now in
+    ap (λ l. record { sections = l; symbols = map symbol_of whole.symbols.items; rows = whole.rows.items; rvc = whole.rvc }) c.requires.whole
+
+pub returns-clause-left : goal.returns-clause-left
+returns-clause-left c =
     let whole = c.args.whole.now in
     let mss = moves_in_all c.args.sections.items in
     ap (λ l. record { sections = l; symbols = map (cut_symbol mss) (map symbol_of whole.symbols.items); rows = map (cut_row_of mss) whole.rows.items; rvc = whole.rvc }) c.requires.left
