@@ -9,7 +9,7 @@ use Rattle.rv_layout_laws.specs.declared.site.SiteKind.{SiteKind}
 use Rattle.rv_layout_laws.specs.declared.site.SiteKind.TheVariants.{Call, Padding}
 use Rattle.rv_layout_laws.specs.Offsets.{offset, rest}
 use Rattle.rv_layout_laws.specs.Calls.{bytes_of, Offers, is_call, site_at, dropped_of, dropped, whole_sizes, IsFamily, InOrder, IsOutside}
-use Rattle.rv_layout_laws.proofs.ShorteningLemmas.{IsOpen, offers_most, before_all}
+use Rattle.rv_layout_laws.proofs.ShorteningLemmas.{IsOpen, before_all}
 use Rattle.rv_shorten.specs.Walk.{site_end}
 use Rattle.rv_relax.specs.Passes.{IsPlace, drops}
 
@@ -147,9 +147,6 @@ dropped_is (site ∷ sites) (k ∷ kept) old (suc n) same before after =
     let split : offset (drops (site ∷ sites) (k ∷ kept)) (suc n) ≡ (bytes_of site.kind - k) + offset (drops sites kept) n = sum_by-cons (λ x. x) (bytes_of site.kind - k) (take n (drops sites kept)) in
     let whole : dropped (site ∷ sites) (k ∷ kept) old ≡ min (bytes_of site.kind - k) (old - (site.offset + k)) + dropped sites kept old = refl in
     omega arith
-
-pub family_most : (sites : List Site) (kept : List ℕ) → IsFamily sites kept → (i : ℕ) → slice_index kept i ≤ bytes_of (site_at sites i).kind
-family_most sites kept f i = offers_most (site_at sites i).kind (slice_index kept i) (f.offered i)
 
 -- before a site
 pub dropped_before_site : (sites : List Site) (kept : List ℕ) (i : ℕ) → InOrder 0 sites → length kept ≡ length sites → i < length sites → dropped sites kept (site_at sites i).offset ≡ offset (drops sites kept) i

@@ -1,10 +1,9 @@
 -- What a pass has done so far, and what rounds have done in all.
 
-use Rattle.std.proofs.Common.{◌≡◌, ◌⊎◌, inl, inr, ℕ, suc, ◌+◌, ◌-◌, ◌≤◌, ◌<◌, Bool, true, false, List, length, set, slice_index, refl, subst, sym, arith}
+use Rattle.std.proofs.Common.{◌≡◌, ◌⊎◌, inl, inr, ℕ, suc, ◌+◌, ◌-◌, ◌≤◌, ◌<◌, Bool, true, false, List, set, refl, subst, sym, arith}
 use Rattle.std.proofs.lemmas.Bool.{cases_lt}
-use Rattle.std.proofs.lemmas.List.{get_or_past}
 use Rattle.rv_layout_laws.specs.declared.site.Site.{Site}
-use Rattle.rv_layout_laws.specs.Calls.{IsFamily, IsClosed, IsGreatestClosed, IsText, Shortenings, Unchanged, Shortens, Rounds, Begins, Shortens_some, whole_sizes}
+use Rattle.rv_layout_laws.specs.Calls.{IsClosed, IsGreatestClosed, IsText, Shortenings, Unchanged, Shortens, Rounds, Begins, Shortens_some, whole_sizes}
 use Rattle.rv_layout_laws.proofs.ShorteningLemmas.{shortenings_joined, shortened_greatest}
 use Rattle.rv_relax.specs.Passes.{Stays, IsVisit}
 
@@ -45,18 +44,6 @@ step_up i j a b = elim (cases_lt j i) [ inl before ↦ inl (a, before) | inr aft
 
 pub step_down : (i high j : ℕ) → 0 < i → i - 1 ≤ j → j < high → ((i ≤ j) × (j < high)) ⊎ (j ≡ i - 1)
 step_down i high j some a b = elim (cases_lt j i) [ inl before ↦ inr (omega arith) | inr after ↦ inl (after, b) ]
-
-pub closed_from : (sites : List Site) (kept : List ℕ) → IsFamily sites kept → ((j : ℕ) → j < length sites → Stays sites kept j) → IsClosed sites kept
-closed_from sites kept f stays = record {
-  family = f;
-  closed = λ i shorter may. elim (cases_lt i (length sites)) [
-    | inl within ↦ stays i within shorter may
-    | inr past ↦
-        let none : slice_index kept i ≡ 0 = get_or_past kept i 0 (omega (arith, f.same_length)) in
-        let less : shorter < slice_index kept i = may.shrinks in
-        absurd (omega arith)
-  ];
-}
 
 -- ---- rounds
 

@@ -4,8 +4,7 @@ use Rattle.std.proofs.Common.{◌≡◌, ◌↔◌, inl, inr, ⊎_elim, ℕ, ◌
 use Rattle.std.proofs.lemmas.List.{set-get_or}
 use Rattle.rv_layout_laws.specs.declared.site.Site.{Site}
 use Rattle.rv_layout_laws.specs.declared.site.Call.{Call as CallSite}
-use Rattle.rv_layout_laws.specs.declared.site.Padding.{Padding as PaddingSite}
-use Rattle.rv_layout_laws.specs.declared.site.SiteKind.TheVariants.{Call, Padding}
+use Rattle.rv_layout_laws.specs.declared.site.SiteKind.TheVariants.{Call}
 use Rattle.rv_layout_laws.specs.Offsets.{Reaches}
 use Rattle.rv_layout_laws.specs.Calls.{Offers, half, site_at, new_offset, ReachesFrom, IsFamily, MayShorten}
 use Rattle.rv_relax.specs.Passes.{HasForm, MayTake, IsJudged, CannotShrink, IsTurn, IsVisit}
@@ -19,29 +18,10 @@ taken call away size shorter addend distance r less form a d t = (
   λ may. t.1 (subst (λ z. Reaches (half shorter) z distance) (sym a) (subst (Reaches (half shorter) call.addend) (sym d) may.reaching)),
 )
 
-pub two_is_shortest : (call : CallSite) → CannotShrink call 2
-two_is_shortest call shorter lt form = ⊎_elim (λ a. omega arith) (λ b. ⊎_elim (λ c. omega arith) (λ d. let e : shorter ≡ 2 = d.0 in omega arith) b) form
-
 pub four_is_shortest : (call : CallSite) → call.compressed ≡ false → CannotShrink call 4
 four_is_shortest call not shorter lt form = ⊎_elim (λ a. omega arith) (λ b. ⊎_elim (λ c. omega arith) (λ d. let is : call.compressed ≡ true = d.1 in cc) b) form
 
--- what may be taken of a size is 4 or 2
-pub judged_same : (call : CallSite) (away : ℤ) (size : ℕ) → HasForm call size → (MayTake call away size 2 → ⊥) → (MayTake call away size 4 → ⊥) → IsJudged call away size size
-judged_same call away size form no_two no_four = inl (refl, λ shorter may. stays shorter may may.offered)
-  where
-    stays : (shorter : ℕ) → MayTake call away size shorter → HasForm call shorter → ⊥
-    stays shorter may offered =
-        ⊎_elim
-        (λ a. let less : shorter < size = may.shrinks in ⊎_elim (λ x. omega arith) (λ y. ⊎_elim (λ x. omega arith) (λ x. let e : size ≡ 2 = x.0 in omega arith) y) form)
-        (λ b. ⊎_elim (λ c. no_four (subst (MayTake call away size) c may)) (λ d. no_two (subst (MayTake call away size) d.0 may)) b) offered
-
 -- ---- a site
-
-pub turn_padding : (sites : List Site) (kept : List ℕ) (i : ℕ) (padding : PaddingSite) → (site_at sites i).kind ≡ Padding padding → IsTurn sites kept i (slice_index kept i)
-turn_padding sites kept i padding is = inl (refl, λ shorter may. subst (λ kind. ReachesFrom sites kept (site_at sites i).offset kind shorter) is may.reaching)
-
-pub turn_shortest : (sites : List Site) (kept : List ℕ) (i : ℕ) (call : CallSite) → (site_at sites i).kind ≡ Call call → CannotShrink call (slice_index kept i) → IsTurn sites kept i (slice_index kept i)
-turn_shortest sites kept i call is cannot = inl (refl, λ shorter may. cannot shorter may.shrinks (subst (λ kind. Offers kind shorter) is may.offered))
 
 may_shorten : (sites : List Site) (kept : List ℕ) (i : ℕ) (call : CallSite) (away : ℤ) (shorter : ℕ) → (site_at sites i).kind ≡ Call call
     → away ≡ pos (new_offset sites kept call.target) -ℤ pos (new_offset sites kept (site_at sites i).offset) → MayTake call away (slice_index kept i) shorter → MayShorten sites kept i shorter

@@ -20,3 +20,4 @@ pub mod RisingLemmas
 pub mod RoomsLemmas
 pub mod PadsLemmas
 pub mod ToldLemmas
+pub mod CallSizesLemmas

@@ -108,10 +108,6 @@ module _ {X : Type 0} (f : X → List ShortSection) (xs : List X) (i : ℕ) (x :
   offset_found n one more =
       sym (so_far more) ∙ ap (λ l. stands l now) (one_ahead f xs i x inside is more) ∙ one (flat_map f (drop (i + 1) xs) ++ more)
 
-pub offsets_passed : {X : Type 0} (f : X → List ShortSection) (xs : List X) (i : ℕ) (old now : Standing) → length xs ≤ i → ((more : List ShortSection) → stands (flat_map f (drop i xs) ++ more) now ≡ stands (flat_map f xs ++ more) old)
-    → (more : List ShortSection) → stands (flat_map f xs ++ more) old ≡ stands more now
-offsets_passed f xs i old now past so_far more = sym (so_far more) ∙ ap (λ l. stands l now) (at_end f xs i past more)
-
 -- ---- the whole
 
 pub at_index : (xs : List ℕ) (i n : ℕ) → slice_get (xs ++ []) i ≡ Some n → n ≡ slice_index xs i

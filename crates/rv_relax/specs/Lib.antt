@@ -6,3 +6,4 @@ pub mod Placed
 pub mod Plan
 pub mod Told
 pub mod Worked
+pub mod CallSizes

@@ -1,6 +1,6 @@
 -- What plans say is kept.
 
-use Rattle.std.specs.Prelude.{◌≡◌, ⊤, ℕ, Bool, true, false, List, map}
+use Rattle.std.specs.Prelude.{◌≡◌, ⊤, ℕ, Bool, false, List, map}
 use Rattle.std.specs.List.{list_all}
 use Rattle.rv_object_types.specs.Object.{Section, Object}
 use Rattle.rv_object_types.specs.View.{object_of}
@@ -8,7 +8,7 @@ use Rattle.rv_object_laws.specs.Moves.{has_room, moves}
 use Rattle.rv_object_laws.specs.Shortened.{Relaxes}
 use Rattle.rv_reloc.specs.declared.fault.LinkFault.{LinkFault}
 use Rattle.rv_reloc.specs.declared.fault.LinkFault.TheVariants.{AlignmentShort, OutOfMemory}
-use Rattle.rv_shorten.specs.View.{short_object_of}
+use Rattle.rv_shorten.specs.View.{short_object_of, whole_object_of}
 use Rattle.rv_relax.specs.declared.placed.Placed.{Placed}
 use Rattle.rv_relax.specs.declared.plan.Plan.{Plan}
 
@@ -19,6 +19,10 @@ placed_objects p = map object_of p.objects.now
 -- what a plan leaves of objects, calls cut and paddings whole
 abbrev pub planned_objects : Plan → List Object
 planned_objects p = map short_object_of p.objects.items
+
+-- the objects as they were
+abbrev pub whole_objects : Plan → List Object
+whole_objects p = map whole_object_of p.objects.items
 
 -- how many passes found the sizes of its calls
 unfoldable pub rounds_of : Plan → ℕ

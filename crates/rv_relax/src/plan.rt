@@ -11,8 +11,10 @@ ghost use Rattle.rv_object_types.specs.View.{object_of};
 ghost use Rattle.rv_object_laws.specs.CallSites.{sites_of};
 ghost use Rattle.rv_object_laws.specs.Moves.{has_room};
 ghost use Rattle.rv_object_laws.specs.Shortened.{Relaxes};
-ghost use Rattle.rv_shorten.specs.View.{short_object_of};
+ghost use Rattle.rv_relax.specs.CallSizes.{AreCallSizes};
 ghost use Rattle.rv_relax.specs.Kept.{kept_in, moves_of};
+ghost use Rattle.rv_relax.specs.Told.{told_objects};
+ghost use Rattle.rv_relax.specs.declared.told.Counted.TheVariants.{Calls};
 
 use crate::placed::Placed;
 use crate::section_paddings::SectionPaddings;
@@ -74,7 +76,7 @@ fn are_roomy(plans: &[SectionPaddings]) -> bool
 }
 
 impl<'o, 'a> Plan<'o, 'a> {
-    ghost use Rattle.rv_relax.specs.Plan.{IsUnplanned, are_roomy_objects, planned_objects, placed_objects, rounds_of};
+    ghost use Rattle.rv_relax.specs.Plan.{IsUnplanned, are_roomy_objects, planned_objects, placed_objects, rounds_of, whole_objects};
 
     /// The plan of a text in which each alignment has as many bytes as it needs (`Plan::relaxed`).
     ///
@@ -86,8 +88,11 @@ impl<'o, 'a> Plan<'o, 'a> {
         placed: &Placed<'o, 'a>,
         relax: bool,
     ) -> Result<Plan<'o, 'a>, LinkFault>
+        ensures whole { IfOk result (λ plan. whole_objects plan ≡ placed_objects placed.now) }
         ensures relaxes { IfOk result
             (λ plan. Relaxes relax (placed_objects placed.now) (planned_objects plan)) }
+        ensures calls { IfOk result (λ plan. AreCallSizes relax (placed_objects placed.now)
+            (told_objects Calls plan.objects.items)) }
         ensures room { IfOk result (λ plan. are_roomy_objects (planned_objects plan) ≡ true) }
         ensures rounds { IfOk result
             (λ plan. rounds_of plan ≤ 2 * calls (sites_of (placed_objects placed.now)) + 1) }
@@ -112,8 +117,11 @@ impl<'o, 'a> Plan<'o, 'a> {
         placed: &Placed<'o, 'a>,
         relax: bool,
     ) -> Result<Plan<'o, 'a>, AllocError>
+        ensures whole { IfOk result (λ plan. whole_objects plan ≡ placed_objects placed.now) }
         ensures relaxes { IfOk result
             (λ plan. Relaxes relax (placed_objects placed.now) (planned_objects plan)) }
+        ensures calls { IfOk result (λ plan. AreCallSizes relax (placed_objects placed.now)
+            (told_objects Calls plan.objects.items)) }
         ensures rounds { IfOk result
             (λ plan. rounds_of plan ≤ 2 * calls (sites_of (placed_objects placed.now)) + 1) }
     {
@@ -133,6 +141,7 @@ impl<'o, 'a> Plan<'o, 'a> {
     ///
     /// Want of memory.
     pub fn whole(alloc: Global, objects: &'o [Object<'a>]) -> Result<Plan<'o, 'a>, AllocError>
+        ensures whole { IfOk result (λ plan. whole_objects plan ≡ map object_of objects.now) }
         ensures same { IfOk result (λ plan. planned_objects plan ≡ map object_of objects.now) }
         ensures rounds { IfOk result (λ plan. rounds_of plan ≡ 0) }
     {
@@ -146,8 +155,7 @@ impl<'o, 'a> Plan<'o, 'a> {
         objects: Vec<ShortObject<'o, 'a>>,
         rounds: usize,
     ) -> Result<Plan<'o, 'a>, AllocError>
-        ensures same { IfOk result
-            (λ plan. planned_objects plan ≡ map short_object_of objects.entry.items) }
+        ensures objects { IfOk result (λ plan. plan.objects.items ≡ objects.entry.items) }
         ensures rounds { IfOk result (λ plan. rounds_of plan ≡ rounds) }
     {
         let paddings = paddings_of_all(alloc, objects.as_slice())?;

@@ -1,13 +1,13 @@
-use Rattle.std.proofs.Common.{◌≡◌, ◌<◌, ◌≤◌, ◌++◌, ℕ, List, Some, true, length, slice_index_or, drop, get_or, sym, ap, subst, ◌∙◌}
-use Rattle.std.specs.List.{flat_map, slice_get}
+use Rattle.std.proofs.Common.{◌≡◌, ◌<◌, ◌≤◌, ◌++◌, true, length, slice_index_or, get_or, sym, ap, subst, ◌∙◌}
+use Rattle.std.specs.List.{slice_get}
 use Rattle.rv_object_types.specs.Parts.{relocation_of}
 use Rattle.rv_object_types.specs.Sections.{section_of}
 use Rattle.rv_object_laws.specs.Inputs.{goes_to_text}
 use Rattle.rv_shorten.specs.Sections.{moves_in}
-use Rattle.rv_relax.specs.Kept.{kept_in, moves_of}
+use Rattle.rv_relax.specs.Kept.{kept_in}
 use Rattle.rv_relax.specs.Told.{as_list, told_at}
 use Rattle.rv_relax.proofs.SortingLemmas.{nothing}
-use Rattle.rv_relax.proofs.ToldLemmas.{read_any, told_by, section_told, found_one, passed_one, passed_all}
+use Rattle.rv_relax.proofs.ToldLemmas.{read_any, told_by, section_told, found_one, passed_all}
 use Rattle.rv_relax.proofs.told.found_in.Goals as goal
 
 pub returns-in-Some : goal.returns-in-Some

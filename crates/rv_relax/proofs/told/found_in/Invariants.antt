@@ -1,7 +1,5 @@
 use Rattle.std.proofs.Common.{◌≡◌, ◌++◌, ℕ, List, drop}
 use Rattle.std.specs.List.{flat_map, slice_get}
-use Rattle.rv_shorten.specs.Sections.{moves_in}
-use Rattle.rv_relax.specs.Kept.{kept_in}
 use Rattle.rv_relax.proofs.ToldLemmas.{told_by}
 use Rattle.rv_relax.proofs.told.found_in.Given as goal
 

@@ -1,12 +1,11 @@
-use Rattle.std.proofs.Common.{◌≡◌, ◌++◌, List, map, sym, ap, ◌∙◌}
+use Rattle.std.proofs.Common.{◌++◌, List, map, sym, ap, ◌∙◌}
 use Rattle.std.specs.Global.{Vec}
 use Rattle.std.specs.List.{slice_get}
 use Rattle.rv_object_laws.specs.Moves.{Move}
-use Rattle.rv_shorten.specs.declared.section.ShortSection.{ShortSection}
 use Rattle.rv_shorten.specs.declared.object.ShortObject.{ShortObject}
 use Rattle.rv_relax.specs.declared.section_paddings.SectionPaddings.{SectionPaddings}
 use Rattle.rv_relax.specs.Kept.{kept_in, moves_of}
-use Rattle.rv_relax.specs.Told.{told_sections, planned_sections}
+use Rattle.rv_relax.specs.Told.{told_sections}
 use Rattle.rv_relax.proofs.ToldLemmas.{same_inside, same_at, passed_one, found_one, told_in}
 use Rattle.rv_relax.proofs.told.found_in_all.Goals as goal
 

@@ -1,13 +1,10 @@
-use Rattle.std.proofs.Common.{◌≡◌, ◌++◌, List, map, sym, ap, ◌∙◌}
+use Rattle.std.proofs.Common.{List, map, sym, ap, ◌∙◌}
 use Rattle.std.specs.Global.{Vec}
-use Rattle.std.specs.List.{slice_get}
 use Rattle.rv_object_laws.specs.Moves.{Move}
-use Rattle.rv_shorten.specs.declared.section.ShortSection.{ShortSection}
 use Rattle.rv_shorten.specs.declared.object.ShortObject.{ShortObject}
 use Rattle.rv_relax.specs.declared.section_paddings.SectionPaddings.{SectionPaddings}
 use Rattle.rv_relax.specs.Kept.{kept_in, moves_of}
-use Rattle.rv_relax.specs.Told.{told_sections, planned_sections}
-use Rattle.rv_relax.proofs.ToldLemmas.{same_inside, same_at, offset_passed, offset_found, stands, text_in}
+use Rattle.rv_relax.proofs.ToldLemmas.{same_inside, same_at}
 use Rattle.rv_relax.proofs.told.passed_all.Goals as goal
 
 abbrev of_plans : Vec SectionPaddings → List (List Move)

@@ -1,7 +1,5 @@
-use Rattle.std.proofs.Common.{[], ◌++◌, map, ap, sym, subst, ◌∙◌}
+use Rattle.std.proofs.Common.{[], ◌++◌, ap, sym, ◌∙◌}
 use Rattle.std.specs.List.{slice_get}
-use Rattle.rv_shorten.specs.declared.object.ShortObject.{ShortObject}
-use Rattle.rv_relax.specs.Kept.{kept_in}
 use Rattle.rv_relax.specs.Told.{told_objects}
 use Rattle.rv_relax.proofs.ToldLemmas.{at_index, past_all}
 use Rattle.rv_relax.proofs.plan.Plan.told.Goals as goal
