@@ -33,11 +33,11 @@ low os own same h = subst (λ l. ended_files 0 l ≤ 9 * 2 ^ 123) same h
 
 pub of-requires-2-clause-line : goal.of-requires-2-clause-line
 of-requires-2-clause-line c =
-    all_of sites_of (map object_of c.args.objects.now) (objects_of c.in_ok-text.text) c.new.result.items c.put_all.new.sites.items c.new.ensures.items c.in_ok-put_all.ensures c.in_ok-text.ensures.same
+    all_of sites_of (map object_of c.args.objects.now) (objects_of c.in_ok-text.text) c.new-sites.result.items c.put_all.new.sites.items c.new-sites.ensures.items c.in_ok-put_all.ensures c.in_ok-text.ensures.same
 
 pub of-requires-2-clause-input : goal.of-requires-2-clause-input
 of-requires-2-clause-input c =
     let os = map object_of c.args.objects.now in
     let same = c.in_ok-text.ensures.same in
-    let is : c.put_all.new.sites.items ≡ sites_of os = all_of sites_of os (objects_of c.in_ok-text.text) c.new.result.items c.put_all.new.sites.items c.new.ensures.items c.in_ok-put_all.ensures same in
+    let is : c.put_all.new.sites.items ≡ sites_of os = all_of sites_of os (objects_of c.in_ok-text.text) c.new-sites.result.items c.put_all.new.sites.items c.new-sites.ensures.items c.in_ok-put_all.ensures same in
     input c.put_all.new.sites.items (is_text c.args.objects.now _ is) (are_within c.args.objects.now _ is (low os _ same c.in_ok-text.ensures.laid.low))
