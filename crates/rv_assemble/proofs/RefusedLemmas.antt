@@ -12,7 +12,7 @@ use Rattle.rv_object_types.specs.View.{object_of}
 use Rattle.rv_assemble_laws.specs.IsObjectOf.{IsObjectOf}
 use Rattle.rv_assemble_laws.specs.Refusals.{code_fault, else_fault, statements_fault}
 use Rattle.rv_draft.specs.Draft.{IsRefusedSource}
-use Rattle.rv_assemble.specs.FirstFault.{IsFirstFault}
+use Rattle.rv_assemble_laws.specs.FirstFault.{IsFirstFault}
 
 pub all_sound : (ss : List Statement) → first_unit_fault ss ≡ None → code_fault ss ≡ None → statements_fault ss ≡ None
 all_sound ss good code = ap (λ f. else_fault f (code_fault ss)) good ∙ code

@@ -1,4 +1,3 @@
-pub mod FirstFault
 pub mod KeptNames
 pub mod Making
 pub mod Lists

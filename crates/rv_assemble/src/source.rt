@@ -11,7 +11,7 @@ ghost use Rattle.rv_assemble_laws.specs.Refusals.{statements_fault};
 ghost use Rattle.rv_assemble_laws.specs.ShownNames.{HasNames};
 ghost use Rattle.rv_assemble_laws.specs.Small.{AreSmall};
 ghost use Rattle.rv_draft.specs.Draft.{IsRefusedSource};
-ghost use Rattle.rv_assemble.specs.FirstFault.{IsFirstFault};
+ghost use Rattle.rv_assemble_laws.specs.FirstFault.{IsFirstFault};
 ghost use Rattle.rv_assemble.specs.KeptNames.{OpenKept};
 
 use crate::object::object;

@@ -5,3 +5,12 @@ pub mod OpenedNamesLemmas
 pub mod WeightsLemmas
 pub mod ValueWeightsLemmas
 pub mod UseWeightsLemmas
+pub mod SingleLemmas
+pub mod OneNameLemmas
+pub mod DefinedNamesLemmas
+pub mod FixedLemmas
+pub mod LeastAllLemmas
+pub mod ItemSectionsLemmas
+pub mod LeastCodeLemmas
+pub mod ListsLemmas
+pub mod OrdinalsLemmas

@@ -9,3 +9,4 @@ pub mod InstructionFaults
 pub mod Refusals
 pub mod Fields
 pub mod Small
+pub mod FirstFault

@@ -1,7 +1,7 @@
 -- The symbols of an object, in their order (gABI, "Symbol Table"; GNU as, "Symbols"): local ones,
 -- those that the source makes global or weak, and those that it leaves undefined.
 
-use Rattle.std.specs.Prelude.{◌≡◌, ℕ, Bool, true, false, not, ◌&&◌, ◌==◌, List, [], ◌∷◌, ◌++◌, filter, flat_map, map, Option, Some, None, if◌then◌else◌}
+use Rattle.std.specs.Prelude.{◌≡◌, ℕ, Bool, true, false, not, ◌&&◌, ◌==◌, List, [], ◌∷◌, ◌++◌, filter, flat_map, map, Option, Some, None, if◌then◌else◌, bytes_eq}
 use Rattle.std.specs.List.{find, list_any}
 use Rattle.rv_map.specs.Globals.{is_one_of}
 use Rattle.rv_text_laws.specs.Expression.{Primary, Symbol as Named, Literal, Here, Reference}
@@ -209,3 +209,12 @@ StandsFor t laid ordinal q None = ⊥
 StandsFor t laid ordinal q (Some x) =
     IsNamed q x × (is_weak x.binding ≡ gives_way t q)
     × IsDefinedBy laid q (definition t ordinal q) x
+
+-- ---- what a symbol is asked
+
+abbrev pub is_named : List ℕ → Symbol → Bool
+is_named name x = bytes_eq x.name name
+
+abbrev pub stands_in : ℕ → ℕ → Defined → Bool
+stands_in section offset (InSection s o) = (s == section) && (o == offset)
+stands_in section offset _ = false

@@ -18,7 +18,7 @@ use Rattle.rv_object_laws.specs.Shortened.{Relaxes}
 use Rattle.rv_object_laws.specs.Without.{without}
 use Rattle.rv_chain_laws.specs.Headline.{AllRead}
 use Rattle.rv_sources_link_laws.specs.Joins.{AreObjectsOf}
-use Rattle.rv_assemble.specs.FirstFault.{IsFirstFault}
+use Rattle.rv_assemble_laws.specs.FirstFault.{IsFirstFault}
 use Rattle.rv_chain.specs.Objects.{AreEach, AreObjectsFrom}
 use Rattle.rv_reloc.specs.declared.fault.LinkFault.{LinkFault}
 use Rattle.rv_reloc.specs.declared.fault.LinkFault.TheVariants as faults

@@ -8,7 +8,7 @@ use Rattle.rv_object_types.specs.declared.object.Object.{Object as DeclaredObjec
 use Rattle.rv_object_types.specs.Object.{Object}
 use Rattle.rv_object_types.specs.View.{object_of}
 use Rattle.rv_object_laws.specs.Without.{without}
-use Rattle.rv_assemble.specs.FirstFault.{IsFirstFault}
+use Rattle.rv_assemble_laws.specs.FirstFault.{IsFirstFault}
 use Rattle.rv_reloc.specs.declared.fault.LinkFault.{LinkFault}
 use Rattle.rv_link.specs.Refusals.{AreWithin, ArePast, HasNoProgram}
 use Rattle.rv_chain_laws.specs.Headline.{AllRead}

@@ -18,7 +18,7 @@ use Rattle.rv_layout.specs.Code.{statement_padding, data_of, beside_of}
 use Rattle.rv_layout.specs.Measure.{HasLength, IsSize, AreSizes}
 use Rattle.rv_layout.proofs.StandingLemmas.{first_same}
 use Rattle.rv_draft.specs.Lengths.{IsLength, AreLengths, code_length, code_lengths}
-use Rattle.rv_draft.proofs.LeastAllLemmas.{Agree, least_all}
+use Rattle.rv_assemble_laws.proofs.LeastAllLemmas.{Agree, least_all}
 
 -- ---- one statement
 

@@ -26,7 +26,7 @@ use Rattle.rv_draft.specs.Sized.{AreSized}
 use Rattle.rv_draft.specs.declared.item.CodeSize.{CodeSize}
 use Rattle.rv_draft.specs.Draft.{IsDraft, IsDrafted}
 use Rattle.rv_draft.proofs.FittedLemmas.{Fit, IsWideKind, fits_from, have_all_fields, all_spare}
-use Rattle.rv_draft.proofs.LeastAllLemmas.{least_all}
+use Rattle.rv_assemble_laws.proofs.LeastAllLemmas.{least_all}
 use Rattle.rv_draft.proofs.LocationsLemmas.{places_stand}
 use Rattle.rv_draft.proofs.SectionedLemmas.{IsOf, all_located, all_items, all_laid, data_as, agree, tiles, all_of, code_in, section_bytes, code_bytes, all_sizes, section_templates, all_fields, asks_some}
 use Rattle.rv_draft.proofs.WholeLemmas.{one_file}

@@ -10,7 +10,6 @@ pub mod FittedLemmas
 pub mod GrowingLemmas
 pub mod ItemizedLemmas
 pub mod JoinedLemmas
-pub mod LeastAllLemmas
 pub mod LengthsLemmas
 pub mod LocationsLemmas
 pub mod LoneLemmas

@@ -25,7 +25,7 @@ use Rattle.rv_draft.specs.Seated.{laid_of, first_code, other_codes, laid_from}
 use Rattle.rv_draft.specs.Draft.{item_of}
 use Rattle.rv_draft.proofs.EvensLemmas.{code_long}
 use Rattle.rv_draft.proofs.FittedLemmas.{Fit, code_at}
-use Rattle.rv_draft.proofs.LeastAllLemmas.{Agree}
+use Rattle.rv_assemble_laws.proofs.LeastAllLemmas.{Agree}
 
 -- ---- the statements of laid statements, and their items
 

@@ -23,6 +23,7 @@ use Rattle.rv_source_laws.specs.Located.{Located, located_now, located_from}
 use Rattle.rv_source_laws.specs.Program.{place_of}
 use Rattle.rv_source_laws.specs.Sizes.{Near, near_forms, near_at, near_value, near_target, target_in, settled, branch_item, item_by, item_by_kind, items_of}
 use Rattle.rv_source_laws.proofs.HomesLemmas.{IsHomeIn, homes_from}
+use Rattle.rv_assemble_laws.proofs.ItemSectionsLemmas.{item_section}
 use Rattle.rv_layout.specs.Measure.{IsMeasured}
 use Rattle.rv_layout.proofs.SeenLemmas.{Found, other, found_none, items_count}
 use Rattle.rv_layout.proofs.StandingLemmas.{got_inside, stated_length}
@@ -49,18 +50,6 @@ item_got t all (x ∷ xs) [] i s count e = absurd (let f : 0 ≡ suc (length xs)
 item_got t all (x ∷ xs) (l ∷ ls) zero s count e = let same : x ≡ s = cc in (l, ap (λ (y : Located). item_by_kind t all y l y.kind) same)
 item_got t all (x ∷ xs) (l ∷ ls) (suc i) s count e =
     item_got t all xs ls i s (let f : suc (length ls) ≡ suc (length xs) = count in omega (arith, f)) e
-
--- each statement has an item of its own section
-branch_section : (s : Located) (forms : Forms) (near : Option Near) → (branch_item s forms near).section ≡ s.section
-branch_section s forms None = refl
-branch_section s forms (Some near) = refl
-
-pub item_section : (t : Tables) (all : List Located) (s : Located) (n : ℕ) (os : List Operand) (forms : Option Forms) → (item_by t all s n os forms).section ≡ s.section
-item_section t all s n os None = refl
-item_section t all s n os (Some (Settled size)) = refl
-item_section t all s n os (Some CompressedBranch) = branch_section s CompressedBranch (near_target t all s os)
-item_section t all s n os (Some Branch) = branch_section s Branch (near_target t all s os)
-item_section t all s n os (Some CompressedJump) = branch_section s CompressedJump (near_target t all s os)
 
 kind_section : (t : Tables) (all : List Located) (s : Located) (n : ℕ) (kind : StatementKind) → (item_by_kind t all s n kind).section ≡ s.section
 kind_section t all s n (Instruction mnemonic os) = item_section t all s n os (near_forms s.options.rvc mnemonic os)

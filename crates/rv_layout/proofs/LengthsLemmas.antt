@@ -1,13 +1,13 @@
 -- How long the code of a statement is: two codes of one statement have as many bytes.
 
-use Rattle.std.proofs.Common.{◌≡◌, ℕ, zero, suc, ◌+◌, Bool, true, false, List, [], ◌∷◌, ◌++◌, length, Option, Some, None, Err, inl, inr, refl, sym, ap, ◌∙◌, subst, arith, length-append}
-use Rattle.std.specs.Prelude.{◌&&◌, unwrap_or}
+use Rattle.std.proofs.Common.{◌≡◌, ℕ, zero, suc, ◌+◌, Bool, List, [], ◌∷◌, ◌++◌, length, Option, Some, None, Err, inl, inr, refl, sym, ap, ◌∙◌, subst, arith, length-append}
+use Rattle.std.specs.Prelude.{◌&&◌}
 use Rattle.rv_isa.specs.declared.instruction.Inst.{Inst}
 use Rattle.rv_isa.specs.Kinds.{width_of}
 use Rattle.rv_isa_laws.specs.Bytes.{little_endian}
 use Rattle.rv_encode.specs.Word.{word, form}
 use Rattle.rv_compress.specs.declared.form.Compressed.{Compressed}
-use Rattle.rv_compress.specs.Encoded.{IsLeast, IsLeastAs, IsEncodedIn}
+use Rattle.rv_compress.specs.Encoded.{IsLeastAs, IsEncodedIn}
 use Rattle.rv_text_laws.specs.Values.{Value}
 use Rattle.rv_text_laws.specs.Expression.{Primary}
 use Rattle.rv_lexer.specs.declared.fault.SourceFault.{SourceFault}
@@ -24,7 +24,8 @@ use Rattle.rv_assemble_laws.specs.InstructionFaults.{instruction_faults}
 use Rattle.rv_instruction.specs.declared.encoded.Coded.{Coded}
 use Rattle.rv_instruction.specs.Code.{IsCodeOf, Codes, coded_by, near_forms_of}
 use Rattle.rv_layout.specs.Code.{bytes_coded, IsCoded}
-use Rattle.rv_layout.proofs.FixedLemmas.{code_fixed}
+use Rattle.rv_assemble_laws.proofs.FixedLemmas.{code_fixed}
+use Rattle.rv_assemble_laws.proofs.LeastCodeLemmas.{least_one, some_parts}
 
 -- ---- the bytes of a part have one length
 
@@ -35,13 +36,6 @@ little_long (suc width) n = ap suc (little_long width _)
 pub encoded_long : (i : Inst) (n : ℕ) (bytes : List ℕ) → IsEncodedIn i n bytes → length bytes ≡ n
 encoded_long i n bytes (inl (e, f)) = ap length f ∙ little_long 4 (word (form i)) ∙ sym e
 encoded_long i n bytes (inr (e, (q, h, f))) = ap length f ∙ little_long 2 q ∙ sym e
-
-pub least_one : (rvc : Bool) (i : Inst) (m n : ℕ) → IsLeast rvc i m → IsLeast rvc i n → m ≡ n
-least_one true i m n (inl (e, h)) (inl (f, g)) = e ∙ sym f
-least_one true i m n (inl (e, h)) (inr (f, g)) = absurd (g h)
-least_one true i m n (inr (e, h)) (inl (f, g)) = absurd (h g)
-least_one true i m n (inr (e, h)) (inr (f, g)) = e ∙ sym f
-least_one false i m n e f = e ∙ sym f
 
 least_one_as : (named : Option Compressed) (rvc : Bool) (i : Inst) (m n : ℕ) → IsLeastAs named rvc i m → IsLeastAs named rvc i n → m ≡ n
 least_one_as (Some form) rvc i m n e f = e ∙ sym f
@@ -61,9 +55,6 @@ part_long named rvc (Joined k i j) a b (v, w, (f, (s, x, y, e))) (v', w', (f', (
     pair_long i j a f s x y e ∙ sym (pair_long i j b f' s' x' y' e')
 
 -- ---- two codes of a statement
-
-pub some_parts : (ps qs : List Part) → Some ps ≡ Some qs → ps ≡ qs
-some_parts ps qs e = ap (λ o. unwrap_or o []) e
 
 parts_long : (named : Option Compressed) (rvc : Bool) (ps : List Part) (xs ys : List (List ℕ)) → AreCodedParts named rvc ps xs → AreCodedParts named rvc ps ys → length (joined xs) ≡ length (joined ys)
 parts_long named rvc [] [] [] h k = refl

@@ -1,6 +1,5 @@
 pub mod BesideLemmas
 pub mod ExtentsLemmas
-pub mod FixedLemmas
 pub mod InputLemmas
 pub mod LeftLemmas
 pub mod LengthsLemmas

@@ -29,7 +29,8 @@ use Rattle.rv_assemble_laws.specs.LaidStatements.{LaidStatement, LaidPart, expre
 use Rattle.rv_assemble_laws.specs.Symbols.{use_of, references_in}
 use Rattle.rv_assemble_laws.specs.IsObjectOf.{Numbering, relocation_at, relocations_from, IsNumbered, ArePartsNumbered}
 use Rattle.rv_sources_link_laws.proofs.moves.WalkLemmas.{relocations_join}
-use Rattle.rv_sources_link_laws.proofs.sections.SectionsLemmas.{split, join}
+use Rattle.rv_sources_link_laws.proofs.sections.SectionsLemmas.{split}
+use Rattle.rv_assemble_laws.proofs.ListsLemmas.{join}
 use Rattle.rv_sources_link_laws.proofs.calls.UncutLemmas.{IsUncut}
 use Rattle.rv_shorten.specs.Cutting.{In}
 use Rattle.rv_reach_laws.specs.Reach.{is_short_branch}

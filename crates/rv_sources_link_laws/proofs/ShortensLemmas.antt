@@ -47,7 +47,7 @@ use Rattle.rv_sources_link_laws.proofs.names.KnownLemmas.{all_found}
 use Rattle.rv_sources_link_laws.proofs.moves.PiecesLemmas.{IsPiece, ArePieces, placed_at, text_is, piece_placed, piece_length, piece_start, line_at, line_of, lines}
 use Rattle.rv_sources_link_laws.proofs.moves.PiecesOfLemmas.{laid_by}
 use Rattle.rv_sources_link_laws.proofs.RelaxedLemmas as relaxed
-use Rattle.rv_sources_link_laws.proofs.sections.SectionsLemmas.{join}
+use Rattle.rv_assemble_laws.proofs.ListsLemmas.{join}
 use Rattle.rv_sources_link_laws.proofs.statements.SettledLemmas.{IsSettled, laid_are_in}
 use Rattle.rv_sources_link_laws.proofs.moves.ShrinkingLemmas.{AreAt, all_at}
 use Rattle.rv_sources_link_laws.proofs.moves.ShrunkLemmas as shrunk

@@ -21,8 +21,9 @@ use Rattle.rv_symbols.specs.SymbolUse.{is_meant_use, AreMeant}
 use Rattle.rv_symbols.specs.Numbers.{numbering_in}
 use Rattle.rv_symbols.proofs.DefiningLemmas.{by_index, laid_of, own_name}
 use Rattle.rv_symbols.proofs.NamingLemmas.{all_got}
-use Rattle.rv_symbols.proofs.DefinedNamesLemmas.{names_some}
-use Rattle.rv_symbols.proofs.NumberedLemmas.{all_index, undefined_stands}
+use Rattle.rv_assemble_laws.proofs.DefinedNamesLemmas.{names_some}
+use Rattle.rv_assemble_laws.proofs.ListsLemmas.{all_index}
+use Rattle.rv_symbols.proofs.NumberedLemmas.{undefined_stands}
 use Rattle.rv_symbols.proofs.UnnamedLemmas.{unnamed_stands}
 use Rattle.rv_symbols.proofs.StandingLemmas.{StandsAt, AreNumeric, uses_stand, found_of, reversed}
 use Rattle.rv_symbols.proofs.MeantLemmas.{numeric_labels, means}

@@ -22,11 +22,12 @@ use Rattle.rv_object_types.specs.declared.symbol.Definition.TheVariants.{Absolut
 use Rattle.rv_assemble_laws.specs.LaidStatements.{LaidStatement}
 use Rattle.rv_assemble_laws.specs.Symbols.{laid_at, after_statement, after_found, assigned_definition, statement_definition, local_symbol, is_absolute, symbols_of, StandsFor}
 use Rattle.rv_symbols.specs.Numbers.{numbering_in}
-use Rattle.rv_symbols.proofs.StandsLemmas.{statement_by, ordinal_by}
-use Rattle.rv_symbols.proofs.NumberedLemmas.{all_index}
+use Rattle.rv_symbols.proofs.StandsLemmas.{statement_by}
+use Rattle.rv_assemble_laws.proofs.OrdinalsLemmas.{ordinal_by}
+use Rattle.rv_assemble_laws.proofs.ListsLemmas.{all_index}
 use Rattle.rv_symbols.proofs.OwnedLemmas.{own_stands, own_named, own_all}
-use Rattle.rv_symbols.proofs.SingleLemmas.{OnlySet, AreNumbers, of_label, of_set, of_numbers}
-use Rattle.rv_symbols.proofs.OneNameLemmas.{Is, IsSet, IsFound, one_name, labels_found, none_all}
+use Rattle.rv_assemble_laws.proofs.SingleLemmas.{OnlySet, AreNumbers, of_label, of_set, of_numbers}
+use Rattle.rv_assemble_laws.proofs.OneNameLemmas.{Is, IsSet, IsFound, one_name, labels_found, none_all}
 
 -- ---- lists
 

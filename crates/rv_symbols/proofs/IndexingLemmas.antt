@@ -15,7 +15,8 @@ use Rattle.rv_object_types.specs.Object.{Symbol}
 use Rattle.rv_object_types.specs.Parts.{symbol_of}
 use Rattle.rv_assemble_laws.specs.LaidStatements.{LaidStatement}
 use Rattle.rv_symbols.specs.Source.{place_in}
-use Rattle.rv_symbols.specs.Numbers.{last_from, last_index, is_named, stands_in, is_at_place, place_number}
+use Rattle.rv_symbols.specs.Numbers.{last_from, last_index, is_at_place, place_number}
+use Rattle.rv_assemble_laws.specs.Symbols.{is_named, stands_in}
 use Rattle.rv_symbols.specs.Found.{same_place}
 
 last_end : (i : ℕ) (test : Symbol → Bool) (xs : List Symbol) (x : Symbol) (found : Option ℕ) (n : ℕ) → n ≡ i + length xs → last_from i test (xs ++ x ∷ []) found ≡ (if test x then Some n else last_from i test xs found)

@@ -4,13 +4,10 @@ pub mod NamingLemmas
 pub mod UsingLemmas
 pub mod IndexingLemmas
 pub mod OrderedLemmas
-pub mod DefinedNamesLemmas
 pub mod NumberedLemmas
 pub mod UnnamedLemmas
 pub mod StandingLemmas
 pub mod OwnedLemmas
-pub mod SingleLemmas
-pub mod OneNameLemmas
 pub mod DefiningLemmas
 pub mod MeantLemmas
 pub mod AllLemmas

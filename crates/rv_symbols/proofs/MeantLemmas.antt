@@ -9,8 +9,8 @@ use Rattle.rv_unit_laws.specs.Tables.{Tables, Definition, Labelled, Assignment, 
 use Rattle.rv_unit_laws.proofs.BeforeLemmas.{before_start}
 use Rattle.rv_source_laws.specs.Located.{located_from}
 use Rattle.rv_assemble_laws.specs.LaidStatements.{LaidStatement}
-use Rattle.rv_symbols.proofs.SingleLemmas.{AreNumbers, of_label, of_set, of_numbers}
-use Rattle.rv_symbols.proofs.OneNameLemmas.{Is, IsSet, one_name, none_all}
+use Rattle.rv_assemble_laws.proofs.SingleLemmas.{AreNumbers, of_label, of_set, of_numbers}
+use Rattle.rv_assemble_laws.proofs.OneNameLemmas.{Is, IsSet, one_name, none_all}
 use Rattle.rv_symbols.proofs.StandingLemmas.{StandsAt, AreNumeric, Means, numeric_stand, found_of, reversed}
 
 module _ (ss : List Statement) (laid : List LaidStatement) (located : map (λ s. s.located) laid ≡ located_from 1 1 (at_start ss) ss) where

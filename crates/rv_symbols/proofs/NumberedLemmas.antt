@@ -2,7 +2,7 @@
 
 use Rattle.std.proofs.Common.{◌≡◌, ℕ, zero, suc, ◌+◌, ◌<◌, Bool, true, false, cond, List, [], ◌∷◌, ◌++◌, length, map, drop, refl, sym, ap, ◌∙◌, subst, arith, append_assoc, inl, inr, Option, Some, None}
 use Rattle.std.specs.Prelude.{◌⊎◌, ◌||◌, not, flat_map, position, slice_get, unwrap_or, if◌then◌else◌}
-use Rattle.std.specs.List.{AllByRecursion, list_any, position_or_len}
+use Rattle.std.specs.List.{list_any, position_or_len}
 use Rattle.std.specs.Str.{bytes_eq}
 use Rattle.std.proofs.lemmas.Bool.{lt-ltb, or_right, or_left}
 use Rattle.std.proofs.lemmas.List.Folds.{list_any-append}
@@ -28,14 +28,6 @@ any_front p xs ys e = list_any-append p xs ys ∙ or_left (list_any p xs) (list_
 
 pub any_behind : {X : Type 0} (p : X → Bool) (xs ys : List X) → list_any p ys ≡ true → list_any p (xs ++ ys) ≡ true
 any_behind p xs ys e = list_any-append p xs ys ∙ or_right (list_any p xs) (list_any p ys) e
-
-pub all_index : {X : Type 0} (P : X → Type 0) (xs : List X) (i : ℕ) (x : X) → slice_get xs i ≡ Some x → AllByRecursion P xs → P x
-all_index P [] zero x e h = absurd (cc)
-all_index P [] (suc i) x e h = absurd (cc)
-all_index P (y ∷ ys) zero x e h =
-    let same : y ≡ x = cc in
-    subst P same h.0
-all_index P (y ∷ ys) (suc i) x e h = all_index P ys i x e h.1
 
 -- an element at an index passes
 abbrev pub Has : {X : Type 0} → List X → (X → Bool) → Option ℕ → Type 0

@@ -20,13 +20,10 @@ use Rattle.rv_object_types.specs.declared.symbol.Definition.TheVariants.{InSecti
 use Rattle.rv_object_types.specs.Object.{Symbol}
 use Rattle.rv_assemble_laws.specs.LaidStatements.{LaidStatement}
 use Rattle.rv_object_types.specs.Bindings.{is_weak}
-use Rattle.rv_assemble_laws.specs.Symbols.{references, statement_definition, local_symbol, outer_binding, shared_symbol, is_absolute, unnamed_symbols, named_symbols, local_symbols, exports_of, exports, symbols_of, IsOwn, IsDefinedBy, StandsFor}
-use Rattle.rv_symbols.specs.Numbers.{last_index, is_named, own_symbols, missing_names, number_by, numbering_in}
-use Rattle.rv_symbols.proofs.NumberedLemmas.{any_front, any_behind, all_index, got_last, got_front, shared_weak, whole}
-
-pub join : {X : Type 0} (P : X → Type 0) (xs ys : List X) → AllByRecursion P xs → AllByRecursion P ys → AllByRecursion P (xs ++ ys)
-join P [] ys h k = k
-join P (x ∷ xs) ys (h, hs) k = (h, join P xs ys hs k)
+use Rattle.rv_assemble_laws.specs.Symbols.{references, statement_definition, local_symbol, outer_binding, shared_symbol, is_absolute, unnamed_symbols, named_symbols, local_symbols, exports_of, exports, symbols_of, IsOwn, IsDefinedBy, StandsFor, is_named}
+use Rattle.rv_symbols.specs.Numbers.{last_index, own_symbols, missing_names, number_by, numbering_in}
+use Rattle.rv_symbols.proofs.NumberedLemmas.{any_front, any_behind, got_last, got_front, shared_weak, whole}
+use Rattle.rv_assemble_laws.proofs.ListsLemmas.{all_index, join, mapped}
 
 -- what holds of all, and more of those that are kept
 kept : {X : Type 0} (P Q : X → Type 0) (test : X → Bool) → ((x : X) → test x ≡ true → P x → Q x) → (xs : List X) → AllByRecursion P xs → AllByRecursion Q (filter test xs)
@@ -36,10 +33,6 @@ kept P Q test more (x ∷ xs) (p, ps) = go (test x) refl (kept P Q test more xs 
     go : (b : Bool) → test x ≡ b → AllByRecursion Q (filter test xs) → AllByRecursion Q (if b then x ∷ filter test xs else filter test xs)
     go true e rest = (more x e p, rest)
     go false e rest = rest
-
-pub mapped : {X Y : Type 0} (P : Y → Type 0) (f : X → Y) (xs : List X) → AllByRecursion (λ x. P (f x)) xs → AllByRecursion P (map f xs)
-mapped P f [] h = tt
-mapped P f (x ∷ xs) (p, ps) = (p, mapped P f xs ps)
 
 -- a name that its own file alone can mean is not weak
 own_strong : (b : Binding) → not (is_shared b) ≡ true → source.is_weak b ≡ false

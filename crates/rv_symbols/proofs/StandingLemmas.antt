@@ -1,7 +1,7 @@
 -- Where the statements stand that uses without names mean.
 
 use Rattle.std.proofs.Common.{◌≡◌, ℕ, suc, Bool, true, false, List, [], ◌∷◌, map, drop, refl, sym, ap, ◌∙◌, subst, inl, inr, Option, Some, None}
-use Rattle.rv_symbols.proofs.OwnedLemmas.{join}
+use Rattle.rv_assemble_laws.proofs.ListsLemmas.{join}
 use Rattle.rv_symbols.proofs.NumberedLemmas.{front_got}
 use Rattle.rv_symbols.proofs.StandsLemmas.{cons_parts}
 use Rattle.std.specs.Prelude.{reverse, flat_map, slice_get, if◌then◌else◌}

@@ -20,6 +20,7 @@ use Rattle.rv_symbols.specs.declared.source.Source.{Source}
 use Rattle.rv_symbols.specs.Source.{place_in, IsSource}
 pub use Rattle.rv_assemble_laws.proofs.UseWeightsLemmas.{cons_parts}
 pub use Rattle.rv_unit_tables.proofs.OrderedLemmas.{some_at, got}
+use Rattle.rv_assemble_laws.proofs.OrdinalsLemmas.{ordinal_by}
 
 -- the statement of an ordinal is that at its index
 pub statement_by : (k : ℕ) (t : Tables) (ss : List Statement) (laid : List LaidStatement) → map (λ s. s.located) laid ≡ located_from 1 k t ss → (n i : ℕ) → n ≡ k + i
@@ -95,16 +96,6 @@ place_of x laid h i =
 kinds_are : (k : ℕ) (t : Tables) (ss : List Statement) → map (λ (l : Located). l.kind) (located_from 1 k t ss) ≡ map (λ (s : Statement). s.kind) ss
 kinds_are k t [] = refl
 kinds_are k t (s ∷ ss) = ap (λ l. s.kind ∷ l) (kinds_are (suc k) (after t k s.kind) ss)
-
-pub ordinal_by : (k : ℕ) (t : Tables) (ss : List Statement) (laid : List LaidStatement) → map (λ s. s.located) laid ≡ located_from 1 k t ss → (i : ℕ) (s : LaidStatement) → slice_get laid i ≡ Some s → s.located.ordinal ≡ k + i
-ordinal_by k t ss [] e zero s f = absurd (cc)
-ordinal_by k t ss [] e (suc i) s f = absurd (cc)
-ordinal_by k t [] (x ∷ laid) e i s f = absurd (cc)
-ordinal_by k t (y ∷ ss) (x ∷ laid) e zero s f =
-    let same : x ≡ s = cc in
-    ap (λ (s : LaidStatement). s.located.ordinal) (sym same) ∙ ap (λ (l : Located). l.ordinal) (cons_parts _ _ _ _ e).0 ∙ (let m : k ≡ k + 0 = omega arith in m)
-ordinal_by k t (y ∷ ss) (x ∷ laid) e (suc i) s f =
-    ordinal_by (suc k) (after t k y.kind) ss laid (cons_parts _ _ _ _ e).1 i s f ∙ (let m : suc k + i ≡ k + suc i = omega arith in m)
 
 -- the statement at an index
 pub ordinal_is : (x : Source) (laid : List LaidStatement) → IsSource x laid → (i : ℕ) (s : LaidStatement) → slice_get laid i ≡ Some s → s.located.ordinal ≡ i + 1

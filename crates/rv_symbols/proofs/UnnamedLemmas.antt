@@ -16,10 +16,11 @@ use Rattle.rv_object_types.specs.declared.symbol.Definition.TheVariants.{Undefin
 use Rattle.rv_object_types.specs.Object.{Symbol}
 use Rattle.rv_assemble_laws.specs.LaidStatements.{LaidStatement}
 use Rattle.rv_object_types.specs.Bindings.{is_weak}
-use Rattle.rv_assemble_laws.specs.Symbols.{SymbolUse, references, laid_at, local_symbol, is_unnamed, is_defined_at, is_meant, unnamed_symbols, named_symbols, local_symbols, exports, symbols_of, IsNamed, IsDefinedBy, StandsFor}
-use Rattle.rv_symbols.specs.Numbers.{last_index, stands_in, is_at_place, own_symbols, missing_names, own_number, place_number, number_by, numbering_in}
-use Rattle.rv_symbols.proofs.DefinedNamesLemmas.{AreSome}
-use Rattle.rv_symbols.proofs.NumberedLemmas.{any_front, any_behind, all_index, got_last, got_front, whole}
+use Rattle.rv_assemble_laws.specs.Symbols.{SymbolUse, references, laid_at, local_symbol, is_unnamed, is_defined_at, is_meant, unnamed_symbols, named_symbols, local_symbols, exports, symbols_of, IsNamed, IsDefinedBy, StandsFor, stands_in}
+use Rattle.rv_symbols.specs.Numbers.{last_index, is_at_place, own_symbols, missing_names, own_number, place_number, number_by, numbering_in}
+use Rattle.rv_assemble_laws.proofs.DefinedNamesLemmas.{AreSome}
+use Rattle.rv_symbols.proofs.NumberedLemmas.{any_front, any_behind, got_last, got_front, whole}
+use Rattle.rv_assemble_laws.proofs.ListsLemmas.{all_index}
 use Rattle.rv_symbols.proofs.OwnedLemmas.{each_own}
 
 place_here : (section offset : ℕ) → is_at_place section offset (local_symbol [] (InSection section offset)) ≡ true

@@ -1,14 +1,12 @@
 -- The indices of symbols.
 
-use Rattle.std.specs.Prelude.{ℕ, suc, ◌+◌, Bool, false, ◌&&◌, ◌==◌, List, [], ◌∷◌, ◌++◌, length, flat_map, position, Option, Some, None, unwrap_or, bytes_eq, if◌then◌else◌}
+use Rattle.std.specs.Prelude.{ℕ, suc, ◌+◌, Bool, ◌&&◌, List, [], ◌∷◌, ◌++◌, length, flat_map, position, Option, Some, None, unwrap_or, bytes_eq, if◌then◌else◌}
 use Rattle.rv_text_laws.specs.Expression.{Primary, Symbol as Named}
 use Rattle.rv_unit_laws.specs.Tables.{Tables, definition}
 use Rattle.rv_unit_laws.specs.Tables as laws
-use Rattle.rv_object_types.specs.declared.symbol.Definition.{Definition as Defined}
-use Rattle.rv_object_types.specs.declared.symbol.Definition.TheVariants.{InSection}
 use Rattle.rv_object_types.specs.Object.{Symbol}
 use Rattle.rv_assemble_laws.specs.LaidStatements.{LaidStatement}
-use Rattle.rv_assemble_laws.specs.Symbols.{SymbolUse, references, laid_at, local_symbols, exports, missing_name, distinct_from}
+use Rattle.rv_assemble_laws.specs.Symbols.{SymbolUse, references, laid_at, local_symbols, exports, missing_name, distinct_from, is_named, stands_in}
 use Rattle.rv_assemble_laws.specs.IsObjectOf.{Numbering}
 
 -- the index of the last symbol that passes a test
@@ -18,13 +16,6 @@ last_from i test (x ∷ xs) found = last_from (suc i) test xs (if test x then So
 
 abbrev pub last_index : (Symbol → Bool) → List Symbol → Option ℕ
 last_index test xs = last_from 0 test xs None
-
-abbrev pub is_named : List ℕ → Symbol → Bool
-is_named name x = bytes_eq x.name name
-
-abbrev pub stands_in : ℕ → ℕ → Defined → Bool
-stands_in section offset (InSection s o) = (s == section) && (o == offset)
-stands_in section offset _ = false
 
 -- a symbol without a name at a place
 abbrev pub is_at_place : ℕ → ℕ → Symbol → Bool

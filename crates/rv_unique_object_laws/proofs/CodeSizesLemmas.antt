@@ -12,7 +12,7 @@ use Rattle.rv_source_laws.specs.Located.{Located}
 use Rattle.rv_source_laws.specs.Sizes.{near_forms, item_by, item_by_kind, items_of, settled, AreLeast}
 use Rattle.rv_assemble_laws.specs.LaidStatements.{expression_value}
 use Rattle.rv_assemble_laws.specs.Refusals.{HasCodeSize, AreCodeSizes}
-use Rattle.rv_layout.proofs.FixedLemmas.{code_fixed}
+use Rattle.rv_assemble_laws.proofs.FixedLemmas.{code_fixed}
 use Rattle.rv_unique_object_laws.proofs.OneCodeLemmas.{code_one}
 
 module _ (t : Tables) (all : List Located) where

@@ -1,7 +1,7 @@
 -- No two symbols of a source have one name and one place.
 
 use Rattle.std.proofs.Common.{◌≡◌, ℕ, ◌+◌, ◌≤◌, Bool, true, false, List, [], ◌∷◌, ◌++◌, map, refl, sym, ap, ◌∙◌, subst, arith, Option, Some, None}
-use Rattle.rv_symbols.specs.Numbers.{is_named, stands_in}
+use Rattle.rv_assemble_laws.specs.Symbols.{is_named, stands_in, SymbolUse, laid_at, after_found, assigned_definition, statement_definition, local_symbol, shared_symbol, references, is_meant, unnamed_symbols, is_absolute, named_symbols, local_symbols, exports_of, exports, missing_name, distinct_from, undefined_symbols, symbols_of}
 use Rattle.std.specs.Prelude.{not, ◌&&◌, ◌||◌, ◌==◌, filter, flat_map, if◌then◌else◌}
 use Rattle.std.specs.List.{AllByRecursion, list_any}
 use Rattle.std.specs.Str.{bytes_eq}
@@ -18,10 +18,9 @@ use Rattle.rv_object_types.specs.declared.symbol.Definition.{Definition as Defin
 use Rattle.rv_object_types.specs.declared.symbol.Definition.TheVariants.{Undefined, Absolute, InSection, Skipped}
 use Rattle.rv_object_types.specs.Object.{Symbol}
 use Rattle.rv_assemble_laws.specs.LaidStatements.{LaidStatement}
-use Rattle.rv_assemble_laws.specs.Symbols.{SymbolUse, laid_at, after_found, assigned_definition, statement_definition, local_symbol, shared_symbol, references, is_meant, unnamed_symbols, is_absolute, named_symbols, local_symbols, exports_of, exports, missing_name, distinct_from, undefined_symbols, symbols_of}
 use Rattle.rv_unique_object_laws.proofs.CountsLemmas.{one_if, count, count_append, one_most, one_is, one_none, count_less, count_none, count_map, count_kept, count_dropped}
 use Rattle.rv_source_laws.proofs.HomesLemmas.{all_filter as kept}
-use Rattle.rv_symbols.proofs.OwnedLemmas.{join, mapped}
+use Rattle.rv_assemble_laws.proofs.ListsLemmas.{join, mapped}
 
 -- ---- tests
 

@@ -14,7 +14,7 @@ use Rattle.rv_compress.specs.declared.form.Compressed.{Compressed}
 use Rattle.rv_compress.specs.Encoded.{IsEncodedIn, IsLeastAs, IsEncodedAs}
 use Rattle.rv_assemble_laws.specs.Coded.{constants, IsCodedPart, AreCodedParts, joined, instructions_in, IsCode}
 use Rattle.rv_unique_object_laws.proofs.ParcelsLemmas.{one_parcel}
-use Rattle.rv_layout.proofs.LengthsLemmas.{least_one, some_parts}
+use Rattle.rv_assemble_laws.proofs.LeastCodeLemmas.{least_one, some_parts}
 
 -- ---- the bytes of a part
 

@@ -14,9 +14,9 @@ use Rattle.rv_unit_laws.proofs.BeforeLemmas.{before_start}
 use Rattle.rv_source_laws.specs.Located.{located_from}
 use Rattle.rv_source_laws.specs.Exports.{sets_first, defined_name}
 use Rattle.rv_assemble_laws.specs.LaidStatements.{LaidStatement}
-use Rattle.rv_symbols.proofs.StandsLemmas.{ordinal_by}
-use Rattle.rv_symbols.proofs.NumberedLemmas.{all_index}
-use Rattle.rv_symbols.proofs.OneNameLemmas.{Is, IsFound, one_name, labels_found}
+use Rattle.rv_assemble_laws.proofs.OrdinalsLemmas.{ordinal_by}
+use Rattle.rv_assemble_laws.proofs.ListsLemmas.{all_index}
+use Rattle.rv_assemble_laws.proofs.OneNameLemmas.{Is, IsFound, one_name, labels_found}
 use Rattle.rv_unique_object_laws.proofs.CountsLemmas.{one_if, count, count_append, one_most}
 use Rattle.rv_unique_object_laws.proofs.LoneSymbolsLemmas.{is_this, names_of}
 

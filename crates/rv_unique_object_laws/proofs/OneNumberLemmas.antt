@@ -1,7 +1,7 @@
 -- A reference has one symbol.
 
 use Rattle.std.proofs.Common.{◌≡◌, ℕ, ◌+◌, true, List, [], ◌∷◌, ◌++◌, map, length, refl, sym, ap, ◌∙◌, Option, Some, None}
-use Rattle.rv_symbols.specs.Numbers.{stands_in}
+use Rattle.rv_assemble_laws.specs.Symbols.{stands_in, SymbolUse, use_of, after_statement, after_found, symbols_of, IsNamed, IsOwn, IsOuter, IsDefinedBy, StandsFor}
 use Rattle.std.specs.Prelude.{◌==◌, flat_map, slice_get, option_map}
 use Rattle.std.specs.List.{AllByRecursion}
 use Rattle.std.specs.Str.{bytes_eq}
@@ -18,10 +18,9 @@ use Rattle.rv_object_types.specs.declared.symbol.Definition.TheVariants.{Undefin
 use Rattle.rv_object_types.specs.Object.{Symbol}
 use Rattle.rv_assemble_laws.specs.Templates.{Open, template_fields}
 use Rattle.rv_assemble_laws.specs.LaidStatements.{LaidStatement, LaidPart, part_bytes}
-use Rattle.rv_assemble_laws.specs.Symbols.{SymbolUse, use_of, after_statement, after_found, symbols_of, IsNamed, IsOwn, IsOuter, IsDefinedBy, StandsFor}
 use Rattle.rv_assemble_laws.specs.ShownNames.{HasNames}
 use Rattle.rv_assemble_laws.specs.IsObjectOf.{Numbering, relocation_at, relocations_from, IsNumbered, ArePartsNumbered}
-use Rattle.rv_symbols.proofs.DefinedNamesLemmas.{names_some}
+use Rattle.rv_assemble_laws.proofs.DefinedNamesLemmas.{names_some}
 use Rattle.rv_unique_object_laws.proofs.CountsLemmas.{one_index}
 use Rattle.rv_unique_object_laws.proofs.OneDefinitionLemmas.{defined_once}
 use Rattle.rv_unique_object_laws.proofs.LoneSymbolsLemmas.{is_undefined, is_place, is_outer, outer_once, named_once, unnamed_once}

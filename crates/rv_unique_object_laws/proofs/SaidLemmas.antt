@@ -17,7 +17,7 @@ use Rattle.rv_assemble_laws.specs.LaidStatements.{LaidStatement, expression_valu
 use Rattle.rv_assemble_laws.specs.Refusals.{HasCodeSize, HasSizeAt, AreCodeSizes}
 use Rattle.rv_assemble_laws.specs.IsObjectOf.{Numbering, IsSectionOf, AreSectionsOf, IsObjectOf}
 use Rattle.rv_assemble_laws.proofs.FaultlessLemmas.{no_first_fault}
-use Rattle.rv_draft.proofs.LeastAllLemmas.{Agree, least_all}
+use Rattle.rv_assemble_laws.proofs.LeastAllLemmas.{Agree, least_all}
 use Rattle.rv_unique_object_laws.proofs.PairsLemmas.{IsHome, all_in, all_from}
 
 -- ---- statements without a place

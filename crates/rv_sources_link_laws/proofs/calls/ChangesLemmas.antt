@@ -45,7 +45,7 @@ use Rattle.rv_sources_link_laws.proofs.fields.TextPlacesLemmas.{stands_in, aim_a
 use Rattle.rv_sources_link_laws.proofs.calls.LongCallsLemmas as long
 use Rattle.rv_sources_link_laws.proofs.calls.LongCallsLemmas.{IsLongCall}
 use Rattle.rv_sources_link_laws.proofs.statements.PadsLemmas.{IsPower, IsValidAlignment, by_power}
-use Rattle.rv_sources_link_laws.proofs.sections.SectionsLemmas.{join}
+use Rattle.rv_assemble_laws.proofs.ListsLemmas.{join}
 use Rattle.rv_sources_link_laws.proofs.statements.StatementsLemmas.{renumbered, row_in, mapped_at}
 use Rattle.rv_sources_link_laws.proofs.moves.WalkLemmas.{align_at, alignment_is, template_plain}
 

@@ -44,7 +44,8 @@ use Rattle.rv_sources_link_laws.proofs.statements.MarkedLemmas.{part_fields}
 use Rattle.rv_sources_link_laws.proofs.statements.PadsLemmas.{power_valid, byte_valid, bare_before}
 use Rattle.rv_sources_link_laws.proofs.fields.TextPlacesLemmas.{stands_in, aim_at}
 use Rattle.rv_sources_link_laws.proofs.fields.RangesLemmas.{InRange, even_bytes, in_range}
-use Rattle.rv_sources_link_laws.proofs.sections.SectionsLemmas.{split, join}
+use Rattle.rv_sources_link_laws.proofs.sections.SectionsLemmas.{split}
+use Rattle.rv_assemble_laws.proofs.ListsLemmas.{join}
 use Rattle.rv_sources_link_laws.proofs.statements.SettledLemmas.{IsLaidIn}
 use Rattle.rv_sources_link_laws.proofs.statements.StatementsLemmas.{renumbered, mapped_at}
 use Rattle.rv_sources_link_laws.proofs.sections.StoodLemmas.{IsAside}

@@ -24,7 +24,8 @@ use Rattle.rv_sources_link_laws.proofs.calls.CalledLemmas.{short_coded}
 use Rattle.rv_sources_link_laws.proofs.calls.CutsLemmas.{link_of, is_cut, AreCalm, IsStill, IsCutCall}
 use Rattle.rv_sources_link_laws.proofs.calls.LongCallsLemmas as long
 use Rattle.rv_sources_link_laws.proofs.statements.PadsLemmas.{at}
-use Rattle.rv_sources_link_laws.proofs.sections.SectionsLemmas.{split, join}
+use Rattle.rv_sources_link_laws.proofs.sections.SectionsLemmas.{split}
+use Rattle.rv_assemble_laws.proofs.ListsLemmas.{join}
 use Rattle.rv_sources_link_laws.proofs.moves.SteppedLemmas.{drop_whole}
 use Rattle.rv_sources_link_laws.proofs.moves.WalkLemmas.{Ahead, dropped_none, lost_none, lost_before, kept_front, relocations_join}
 

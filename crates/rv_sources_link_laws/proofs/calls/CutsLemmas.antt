@@ -29,7 +29,7 @@ use Rattle.rv_sources_link_laws.proofs.calls.LongCallsLemmas as long
 use Rattle.rv_sources_link_laws.proofs.calls.LongCallsLemmas.{IsLongCall, long_call}
 use Rattle.rv_sources_link_laws.proofs.statements.MarkedLemmas.{part_fields}
 use Rattle.rv_sources_link_laws.proofs.statements.PadsLemmas.{at, bare_before}
-use Rattle.rv_sources_link_laws.proofs.sections.SectionsLemmas.{join}
+use Rattle.rv_assemble_laws.proofs.ListsLemmas.{join}
 use Rattle.rv_sources_link_laws.proofs.statements.SettledLemmas.{IsLaidIn}
 use Rattle.rv_sources_link_laws.proofs.calls.UncutLemmas.{IsUncut}
 use Rattle.rv_sources_link_laws.proofs.fields.WholesLemmas.{IsSound}

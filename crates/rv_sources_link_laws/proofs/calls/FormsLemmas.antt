@@ -38,7 +38,7 @@ use Rattle.rv_sources_link_laws.proofs.calls.LongCallsLemmas as long
 use Rattle.rv_sources_link_laws.proofs.calls.LongCallsLemmas.{IsLongCall, long_call}
 use Rattle.rv_sources_link_laws.proofs.moves.PiecesOfLemmas.{size_is}
 use Rattle.rv_sources_link_laws.proofs.fields.RangesLemmas.{InRange, in_range}
-use Rattle.rv_sources_link_laws.proofs.sections.SectionsLemmas.{join}
+use Rattle.rv_assemble_laws.proofs.ListsLemmas.{join}
 use Rattle.rv_sources_link_laws.proofs.statements.SettledLemmas.{of_sections, IsLaidIn, laid_are_in}
 use Rattle.rv_sources_link_laws.proofs.moves.ShrinkingLemmas.{AreAt, all_at}
 use Rattle.rv_sources_link_laws.proofs.fields.TargetsLemmas.{section_of, all_settled, present_of}

@@ -26,7 +26,7 @@ use Rattle.rv_sources_link_laws.proofs.statements.FieldedLemmas.{part_kinds}
 use Rattle.rv_sources_link_laws.proofs.statements.MarkedLemmas.{part_fields}
 use Rattle.rv_sources_link_laws.proofs.statements.NopsLemmas.{nops_long}
 use Rattle.rv_sources_link_laws.proofs.statements.PadsLemmas.{IsPlainLaid, IsPadLaid, bare_before, sort_of}
-use Rattle.rv_sources_link_laws.proofs.sections.SectionsLemmas.{join}
+use Rattle.rv_assemble_laws.proofs.ListsLemmas.{join}
 use Rattle.rv_sources_link_laws.proofs.statements.SettledLemmas.{IsLaidIn}
 use Rattle.rv_sources_link_laws.proofs.moves.WalkLemmas.{power_some}
 

@@ -20,7 +20,7 @@ use Rattle.rv_object_laws.specs.Shortened.{Sizes}
 use Rattle.rv_assemble_laws.specs.LaidStatements.{LaidStatement, expression_value, laid_in, end_of}
 use Rattle.rv_sources_link_laws.proofs.sections.AssembledLemmas.{Tile}
 use Rattle.rv_sources_link_laws.proofs.calls.FinalsLemmas.{IsFinal}
-use Rattle.rv_sources_link_laws.proofs.sections.SectionsLemmas.{join}
+use Rattle.rv_assemble_laws.proofs.ListsLemmas.{join}
 use Rattle.rv_sources_link_laws.proofs.statements.SettledLemmas.{IsLaidIn}
 use Rattle.rv_sources_link_laws.proofs.statements.StatementsLemmas.{renumbered, mapped_at, mapped_from}
 

@@ -28,7 +28,7 @@ use Rattle.rv_sources_link_laws.proofs.sections.AssembledLemmas.{Tile, parts, Is
 use Rattle.rv_sources_link_laws.proofs.sections.FilesLemmas.{IsFile, AreFiles}
 use Rattle.rv_sources_link_laws.proofs.calls.FinalsLemmas.{IsFinal, IsFinalFile, AreFinal}
 use Rattle.rv_sources_link_laws.proofs.moves.PiecesLemmas.{IsPiece, ArePieces, pieces_join, is_same, Apart}
-use Rattle.rv_sources_link_laws.proofs.sections.SectionsLemmas.{join}
+use Rattle.rv_assemble_laws.proofs.ListsLemmas.{join}
 use Rattle.rv_sources_link_laws.proofs.statements.SettledLemmas.{settled_left, IsLaidIn, laid_are_in}
 use Rattle.rv_sources_link_laws.proofs.moves.ShrinksLemmas.{tidy_at}
 use Rattle.rv_sources_link_laws.proofs.moves.ShrunkLemmas as shrunk

@@ -25,7 +25,7 @@ use Rattle.rv_object_laws.specs.IsLinkOf.{moves_at}
 use Rattle.rv_sources_link_laws.proofs.fields.PatchesLemmas.{take_drop}
 use Rattle.rv_sources_link_laws.proofs.names.ExportedLemmas.{is_exported, exported}
 use Rattle.rv_sources_link_laws.proofs.names.KnownLemmas.{still, all_found}
-use Rattle.rv_sources_link_laws.proofs.sections.SectionsLemmas.{join}
+use Rattle.rv_assemble_laws.proofs.ListsLemmas.{join}
 
 -- ---- what it is
 

@@ -28,7 +28,8 @@ use Rattle.rv_sources_link_laws.proofs.sections.AssembledLemmas.{IsSectionOf, Ar
 use Rattle.rv_sources_link_laws.proofs.statements.SettledLemmas.{IsSettled, laid_are_in, of_sections}
 use Rattle.rv_sources_link_laws.proofs.names.ExportedLemmas.{exported}
 use Rattle.rv_sources_link_laws.proofs.names.KnownLemmas.{all_found}
-use Rattle.rv_sources_link_laws.proofs.sections.SectionsLemmas.{split, join}
+use Rattle.rv_sources_link_laws.proofs.sections.SectionsLemmas.{split}
+use Rattle.rv_assemble_laws.proofs.ListsLemmas.{join}
 use Rattle.rv_sources_link_laws.proofs.fields.WholesLemmas.{relocated_at}
 use Rattle.rv_sources_link_laws.proofs.sections.FiledLemmas as filed
 use Rattle.rv_sources_link_laws.proofs.statements.OrderedLemmas.{its_source}

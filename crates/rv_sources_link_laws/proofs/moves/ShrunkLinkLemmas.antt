@@ -25,7 +25,7 @@ use Rattle.rv_object_laws.specs.Values.{initial_bytes, linked_bytes, IsRelocated
 use Rattle.rv_object_laws.specs.IsLinkOf.{moves_at, map_row, row_in, inserted_row, by_ordinal, rows_of, is_loaded, outer_of, IsLinkOf}
 use Rattle.rv_sources_link_laws.proofs.names.ExportedLemmas.{is_exported, exported}
 use Rattle.rv_sources_link_laws.proofs.names.KnownLemmas.{all_found}
-use Rattle.rv_sources_link_laws.proofs.sections.SectionsLemmas.{join}
+use Rattle.rv_assemble_laws.proofs.ListsLemmas.{join}
 use Rattle.rv_sources_link_laws.proofs.moves.ShrinkingLemmas.{shrunk_contents, shrunk_section, sections_from, moves_in, shrunk_definition, shrunk_row, shrunk_object, shrunk_objects, shrunk_input, shrunk_export, IsBlind, none_left, stays, moves_none, section_is, defined_same, exports_same, chosen_same, AreAt, all_at, relocated_all, linked_same}
 
 -- what a section owes so that its moves change no other

@@ -24,7 +24,8 @@ use Rattle.rv_assemble_laws.proofs.FilledLemmas.{bytes_append}
 use Rattle.rv_sources_link_laws.proofs.statements.OrderedLemmas.{filled}
 use Rattle.rv_sources_link_laws.proofs.sections.AssembledLemmas.{parts_of, parts, assembled_templates, Tile, IsSectionOf}
 use Rattle.rv_sources_link_laws.proofs.statements.SettledLemmas.{IsLaidIn}
-use Rattle.rv_sources_link_laws.proofs.sections.SectionsLemmas.{split, join, multiple_from}
+use Rattle.rv_sources_link_laws.proofs.sections.SectionsLemmas.{split, multiple_from}
+use Rattle.rv_assemble_laws.proofs.ListsLemmas.{join}
 use Rattle.rv_sources_link_laws.proofs.moves.ShrunkLemmas as shrunk
 use Rattle.rv_sources_link_laws.proofs.moves.ShrinkingLemmas.{shrunk_relocations, shrunk_contents, shrunk_section, none_left}
 use Rattle.rv_sources_link_laws.proofs.moves.ShrunkLinkLemmas.{IsTidy}

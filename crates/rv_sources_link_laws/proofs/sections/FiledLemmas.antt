@@ -12,7 +12,7 @@ use Rattle.rv_sources_link_laws.proofs.sections.MaskedLemmas.{source_sections}
 use Rattle.rv_sources_link_laws.proofs.sections.AssembledLemmas.{Tile, IsSectionOf, IsAssembled}
 use Rattle.rv_sources_link_laws.proofs.moves.MovedLemmas.{IsBound}
 use Rattle.rv_sources_link_laws.proofs.statements.OrderedLemmas.{its_section}
-use Rattle.rv_sources_link_laws.proofs.sections.SectionsLemmas.{join}
+use Rattle.rv_assemble_laws.proofs.ListsLemmas.{join}
 use Rattle.rv_sources_link_laws.proofs.statements.SettledLemmas.{IsSettled, settled_left, of_sections, IsLaidIn, laid_are_in}
 
 -- a statement lies in its section

@@ -35,7 +35,8 @@ use Rattle.rv_sources_link_laws.proofs.statements.OperandsLemmas.{worth_at}
 use Rattle.rv_sources_link_laws.proofs.fields.FieldsLemmas.{new, same, worth, s, worths, relocations_are, K, Known, known, Facts, facts}
 use Rattle.rv_sources_link_laws.proofs.fields.UppersLemmas.{IsOwn, owns}
 use Rattle.rv_sources_link_laws.proofs.fields.FilledCodeLemmas.{filled_code}
-use Rattle.rv_sources_link_laws.proofs.sections.SectionsLemmas.{join, each, HasAddressIn, HasAddress, all_valued, meant_in, said, suits_by, spelled_by, coded_by}
+use Rattle.rv_assemble_laws.proofs.ListsLemmas.{join}
+use Rattle.rv_sources_link_laws.proofs.sections.SectionsLemmas.{each, HasAddressIn, HasAddress, all_valued, meant_in, said, suits_by, spelled_by, coded_by}
 use Rattle.rv_sources_link_laws.proofs.statements.SuitsLemmas as suits
 use Rattle.rv_sources_link_laws.proofs.statements.CodeOfLemmas.{IsCodeOf}
 use Rattle.rv_sources_link_laws.proofs.statements.FittingLemmas.{IsFilled, IsFilledCode, fits, is_written}

@@ -39,10 +39,6 @@ pub split : {X : Type 0} (P : X → Type 0) (xs ys : List X) → AllByRecursion 
 split P [] ys h = (tt, h)
 split P (x ∷ xs) ys (h, hs) = let rest = split P xs ys hs in ((h, rest.0), rest.1)
 
-pub join : {X : Type 0} (P : X → Type 0) (xs ys : List X) → AllByRecursion P xs → AllByRecursion P ys → AllByRecursion P (xs ++ ys)
-join P [] ys h k = k
-join P (x ∷ xs) ys (h, hs) k = (h, join P xs ys hs k)
-
 pub each : {X Y : Type 0} (P : Y → Type 0) (f : X → List Y) (xs : List X) → AllByRecursion P (flat_map f xs) → AllByRecursion (λ x. AllByRecursion P (f x)) xs
 each P f [] h = tt
 each P f (x ∷ xs) h = let parts = split P (f x) (flat_map f xs) h in (parts.0, each P f xs parts.1)

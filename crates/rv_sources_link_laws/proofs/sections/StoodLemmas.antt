@@ -19,7 +19,7 @@ use Rattle.rv_assemble_laws.specs.LaidStatements.{LaidStatement, laid_in}
 use Rattle.rv_assemble_laws.specs.Symbols.{laid_at, after_found, assigned_definition, statement_definition, local_symbol, shared_symbol, references, unnamed_symbols, named_symbols, local_symbols, exports_of, exports, undefined_symbols, is_absolute, is_meant, are_together, distinct_from, missing_name}
 use Rattle.rv_assemble_laws.specs.IsObjectOf.{IsInData, StandsInData, IsObjectOf}
 use Rattle.rv_sources_link_laws.proofs.names.KnownLemmas.{all_found}
-use Rattle.rv_sources_link_laws.proofs.sections.SectionsLemmas.{join}
+use Rattle.rv_assemble_laws.proofs.ListsLemmas.{join}
 use Rattle.rv_sources_link_laws.proofs.statements.CodeOfLemmas.{IsFound, found_from}
 
 -- a statement is the first of its ordinal

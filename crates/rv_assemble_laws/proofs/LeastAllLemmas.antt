@@ -15,7 +15,7 @@ use Rattle.rv_source_laws.specs.Located.{Located}
 use Rattle.rv_source_laws.specs.Sizes.{near_forms, settled, item_by_kind, items_of, AreLeast}
 use Rattle.rv_source_laws.proofs.HeldLemmas.{IsHeld, Held}
 use Rattle.rv_source_laws.proofs.HomesLemmas.{IsHomeIn}
-use Rattle.rv_layout.proofs.InputLemmas.{item_section}
+use Rattle.rv_assemble_laws.proofs.ItemSectionsLemmas.{item_section}
 
 -- ---- items that differ outside sections of code alone
 

@@ -20,7 +20,7 @@ use Rattle.rv_unit_laws.proofs.BeforeLemmas.{IsBefore, placed_latest, before_aft
 use Rattle.rv_source_laws.specs.Located.{Located, is_placed, located_from}
 use Rattle.rv_source_laws.proofs.HeldLemmas.{no_test, no_lowest, no_fault}
 use Rattle.rv_assemble_laws.specs.LaidStatements.{LaidStatement}
-use Rattle.rv_symbols.proofs.SingleLemmas.{OnlySet, AreNumbers}
+use Rattle.rv_assemble_laws.proofs.SingleLemmas.{OnlySet, AreNumbers}
 
 -- ---- what a directive leaves alone
 
