@@ -14,7 +14,7 @@ use Rattle.rv_object_types.specs.View.{object_of}
 use Rattle.rv_object_laws.specs.Collects.{id_of, loaded_sections}
 use Rattle.rv_object_laws.specs.Inputs.{InputSection, inputs_from, inputs_of}
 use Rattle.rv_object_laws.specs.IsLinkOf.{is_loaded}
-use Rattle.rv_resolve.specs.Undefined.{is_loaded_at}
+use Rattle.rv_object_laws.specs.Undefined.{is_loaded_at}
 use Rattle.rv_collect_laws.specs.Graph.{is_dropped, outside}
 use Rattle.rv_collect_laws.proofs.SectionsLemmas.{in_outside}
 use Rattle.rv_collect.specs.declared.collection.Collection.{Collection}

@@ -16,7 +16,7 @@ use Rattle.rv_object_types.specs.Sections.{section_of}
 use Rattle.rv_object_types.specs.Valid.{is_counted, are_counted}
 use Rattle.rv_object_types.specs.View.{object_of}
 use Rattle.rv_object_laws.specs.Without.{without_section, without_sections, without_object, without_from}
-pub use Rattle.rv_resolve.proofs.StepsLemmas.{left}
+pub use Rattle.rv_object_laws.proofs.StepsLemmas.{left}
 
 -- an element more, as a function of what is left gives it
 pub one_more : {X : Type 0} (out new : List X) (x : X) (rest all whole : List X) → new ≡ out ++ x ∷ [] → all ≡ x ∷ rest → out ++ all ≡ whole → new ++ rest ≡ whole

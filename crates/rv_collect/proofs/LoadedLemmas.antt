@@ -19,7 +19,7 @@ use Rattle.rv_collect.proofs.LeftLemmas.{viewed_at}
 use Rattle.rv_object_laws.specs.Collects.{id_of, loaded_sections, leads_to, is_at, refers, graph_of}
 use Rattle.rv_object_laws.specs.Inputs.{InputSection, inputs_from, inputs_of, inputs}
 use Rattle.rv_object_laws.specs.IsLinkOf.{is_loaded}
-use Rattle.rv_resolve.specs.Undefined.{is_loaded_at}
+use Rattle.rv_object_laws.specs.Undefined.{is_loaded_at}
 use Rattle.rv_collect_laws.specs.Graph.{is_one_of, Has}
 use Rattle.rv_collect.specs.Drops.{id_at}
 use Rattle.rv_collect.specs.Targets.{leads_in}

@@ -11,7 +11,7 @@ ghost use Rattle.rv_object_types.specs.Parts.{relocation_of};
 ghost use Rattle.rv_object_types.specs.View.{object_of};
 ghost use Rattle.rv_object_laws.specs.Collects.{entry_place, graph_of, lies_in};
 ghost use Rattle.rv_resolve.specs.Names.{IsNames, place_of};
-ghost use Rattle.rv_resolve.specs.Undefined.{is_loaded_at};
+ghost use Rattle.rv_object_laws.specs.Undefined.{is_loaded_at};
 ghost use Rattle.rv_collect.specs.Drops.{id_at};
 ghost use Rattle.rv_collect.specs.Targets.{leads_in, target_in};
 ghost use Rattle.rv_collect_laws.specs.Graph.{Has};

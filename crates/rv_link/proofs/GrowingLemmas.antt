@@ -2,14 +2,14 @@
 
 use Rattle.std.proofs.Common.{◌≡◌, ℕ, zero, suc, ◌+◌, ◌-◌, ◌*◌, ◌/◌, ◌%◌, ◌<◌, ◌≤◌, max, Bool, true, false, if◌then◌else◌, List, [], ◌∷◌, ◌++◌, length, take, drop, min, refl, sym, ap, ◌∙◌, subst, arith, add-one, add-zero, append_assoc}
 use Rattle.std.proofs.lemmas.List.{append-nil, length-append, length-take, length-drop, length-replicate}
-use Rattle.std.specs.Prelude.{slice_index_or, ℤ, IsTrue, Option, Some, None}
+use Rattle.std.specs.Prelude.{ℤ, IsTrue, Option, Some, None}
 use Rattle.std.specs.List.{AllByRecursion, list_all, slice_get}
 use Rattle.rv_layout_laws.specs.Alignment.{aligned}
 use Rattle.rv_map.specs.declared.map.Region.{Region}
 use Rattle.rv_object_types.specs.Object.{Relocation, Section, Object}
 use Rattle.rv_object_laws.specs.Moves.{Move, moves, new_offset, kept, has_room, alignments_of}
 use Rattle.rv_object_laws.specs.Inputs.{Starts, InputSection, goes_to_text, inputs_from, inputs_of, raised, begins_at, start_of, size, Stand, sections_end, Holds, contents}
-use Rattle.rv_object_laws.specs.Names.{object_at, no_object}
+use Rattle.rv_object_laws.specs.Names.{object_at}
 use Rattle.rv_object_laws.specs.Values.{patched_at, applied, initial_bytes}
 use Rattle.rv_shorten.specs.Sections.{short_section_of}
 use Rattle.rv_relax.specs.Kept.{moves_of}
@@ -19,6 +19,7 @@ use Rattle.rv_isa.specs.declared.kind.Kind.{Kind}
 use Rattle.rv_isa.specs.Kinds.{width_of}
 use Rattle.rv_isa_laws.specs.Bytes.{little_endian, zeros}
 use Rattle.rv_reloc.specs.Fields.{patched}
+use Rattle.rv_object_laws.proofs.ListsLemmas.{found_at}
 use Rattle.rv_link.specs.declared.fixed.Input.{Input}
 use Rattle.rv_link_values.specs.Values.{IsInputAt}
 use Rattle.rv_link.proofs.StepsLemmas.{all_inside, kept_long}
@@ -107,15 +108,6 @@ get_front : {A : Type 0} (xs : List A) (i : ℕ) (x : A) → slice_get xs i ≡ 
 get_front [] i x e = absurd (cc)
 get_front (y ∷ ys) zero x e = let same : y ≡ x = cc in ap (λ z. z ∷ ys) same
 get_front (y ∷ ys) (suc i) x e = get_front ys i x e
-
-pub found_at : (os : List Object) (file : ℕ) (o : Object) → slice_get os file ≡ Some o → object_at os (file + 1) ≡ o
-found_at os file o e =
-    let same : file + 1 - 1 ≡ file = omega arith in
-    ap (λ n. slice_index_or os n no_object) same ∙ go os file e where
-      go : (os : List Object) (file : ℕ) → slice_get os file ≡ Some o → slice_index_or os file no_object ≡ o
-      go [] file e = absurd (cc)
-      go (x ∷ xs) zero e = cc
-      go (x ∷ xs) (suc file) e = go xs file e
 
 pub found_object : (os : List Object) (file index : ℕ) (s : Section) → object_section os file index ≡ Some s → slice_get os file ≡ Some (object_at os (file + 1))
 found_object os file index s e = go (slice_get os file) refl e where

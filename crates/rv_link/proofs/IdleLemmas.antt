@@ -15,7 +15,7 @@ use Rattle.rv_object_types.specs.Parts.{relocation_of}
 use Rattle.rv_object_types.specs.declared.relocation.Relocation.{Relocation as Declared}
 use Rattle.rv_object_laws.specs.CallSites.{is_call}
 use Rattle.rv_object_laws.specs.Moves.{Move}
-use Rattle.rv_shorten.specs.Cutting.{cut_at, cut_relocation, kind_left}
+use Rattle.rv_cut_laws.specs.Cutting.{cut_at, cut_relocation, kind_left}
 use Rattle.rv_object_laws.specs.Inputs.{InputSection, start_of}
 use Rattle.rv_object_laws.specs.Values.{value, own_value, paired, patched_at}
 use Rattle.rv_placement.specs.declared.placement.Placement.{Placement}

@@ -21,7 +21,7 @@ use Rattle.rv_object_laws.proofs.TextLineLemmas.{sites_text, whole_text}
 use Rattle.rv_object_laws.proofs.WholeLemmas.{are_whole, whole_left}
 use Rattle.rv_object_laws.proofs.WithoutLemmas.{without_none, as_many_from as many_left_from}
 use Rattle.rv_resolve.specs.Chosen.{seen, seen_of}
-use Rattle.rv_resolve.specs.Exports.{first_again}
+use Rattle.rv_object_laws.specs.Exports.{first_again}
 use Rattle.rv_resolve.proofs.AlikeLemmas.{same_names, seen_left}
 use Rattle.rv_reloc.specs.declared.fault.LinkFault.{LinkFault}
 use Rattle.rv_reloc.specs.declared.fault.LinkFault.TheVariants.{Overflow, OddTarget, DanglingPcrel, AlignmentShort, Undefined, Duplicate, EntryMissing, ImageTooLarge, BadTextStart, TooManyFiles, OutOfMemory}

@@ -1,5 +1,3 @@
-pub mod FollowingLemmas
-pub mod ApartLemmas
 pub mod GrowingLemmas
 pub mod StandingLemmas
 pub mod LinksLemmas

@@ -15,6 +15,7 @@ use Rattle.rv_object_laws.specs.Names.{entry_of}
 use Rattle.rv_object_laws.specs.IsLinkOf.{most_files, IsLinkOf, is_loaded}
 use Rattle.rv_object_laws.proofs.TextInputsLemmas.{all_append}
 use Rattle.rv_isa_laws.specs.Platform.{stack_start}
+use Rattle.rv_object_laws.proofs.ListsLemmas.{all_both}
 use Rattle.rv_relax.specs.Kept.{moves_of}
 use Rattle.rv_placement.specs.declared.placement.PlacedSection.{PlacedSection}
 use Rattle.rv_placement.specs.declared.placement.Placement.{Placement}
@@ -30,10 +31,6 @@ use Rattle.rv_link.proofs.StandingLemmas.{all_at}
 use Rattle.rv_placement.proofs.FoundLemmas.{some_at}
 
 -- ---- every input section
-
-pub all_both : {A : Type 0} (P Q R : A → Type 0) → ((x : A) → P x → Q x → R x) → (xs : List A) → AllByRecursion P xs → AllByRecursion Q xs → AllByRecursion R xs
-all_both P Q R f [] h k = tt
-all_both P Q R f (x ∷ xs) (one, h) (two, k) = (f x one two, all_both P Q R f xs h k)
 
 module _ (os : List Object) (goes : Section → Bool) (P : InputSection → Type 0)
     (each : (file : ℕ) (o : Object) (index : ℕ) (s : Section) → slice_get os file ≡ Some o → slice_get o.sections index ≡ Some s

@@ -24,8 +24,8 @@ use Rattle.rv_object_laws.specs.Shortened.{Sizes, shortened_text, shortened_sect
 use Rattle.rv_object_laws.specs.Without.{without}
 use Rattle.rv_object_laws.proofs.DanglingLemmas.{nothing_left}
 use Rattle.rv_object_laws.proofs.TextInputsLemmas.{all_append}
-use Rattle.rv_resolve.specs.Entry.{is_entry, has_entry}
-use Rattle.rv_resolve.specs.Undefined.{undefined_name, first_some, undefined_in, first_undefined}
+use Rattle.rv_object_laws.specs.Entry.{is_entry, has_entry}
+use Rattle.rv_object_laws.specs.Undefined.{undefined_name, first_some, undefined_in, first_undefined}
 use Rattle.rv_resolve.proofs.AlikeLemmas.{same_names}
 use Rattle.rv_reloc.specs.declared.fault.LinkFault.TheVariants.{Undefined, EntryMissing}
 use Rattle.rv_link.specs.Refusals.{AreWithin, HasNoProgram}

@@ -21,7 +21,7 @@ use Rattle.rv_object_laws.specs.Moves.{Move, moves, new_offset}
 use Rattle.rv_object_laws.specs.Names.{Export, chosen, is_defined, is_export, exports_in, exports_from, exports_where, is_chosen, chosen_exports, offset_address, defined_address, export_address, globals_of, shown_linker_symbols}
 use Rattle.rv_object_laws.proofs.TextInputsLemmas.{all_append}
 use Rattle.rv_shorten.specs.declared.object.ShortObject.{ShortObject}
-use Rattle.rv_shorten.specs.Cutting.{cut_definition, cut_symbol}
+use Rattle.rv_cut_laws.specs.Cutting.{cut_definition, cut_symbol}
 use Rattle.rv_shorten.specs.View.{short_object_of, moves_by_section}
 use Rattle.rv_placement.specs.declared.placement.Placement.{Placement}
 use Rattle.rv_placement.specs.Placement.{starts_of, IsPlacement}

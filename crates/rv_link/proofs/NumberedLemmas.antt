@@ -13,7 +13,7 @@ use Rattle.rv_object_laws.specs.IsLinkOf.{inserted_row, by_ordinal, map_row, mov
 use Rattle.rv_object_laws.specs.Moves.{Move, moves, new_offset}
 use Rattle.rv_object_laws.proofs.TextInputsLemmas.{all_append}
 use Rattle.rv_shorten.specs.declared.object.ShortObject.{ShortObject}
-use Rattle.rv_shorten.specs.Cutting.{cut_row_of}
+use Rattle.rv_cut_laws.specs.Cutting.{cut_row_of}
 use Rattle.rv_shorten.specs.View.{short_object_of, moves_by_section as cuts_of}
 use Rattle.rv_relax.specs.Kept.{moves_of}
 use Rattle.rv_relax.proofs.RisingLemmas.{plan_rises}

@@ -17,7 +17,7 @@ use Rattle.rv_placement.specs.declared.placement.Placement.{Placement}
 use Rattle.rv_placement.specs.Placement.{starts_of, start_in, placed_in, placed_at, section_in, object_section, are_roomy_in, are_roomy, IsPlacement}
 use Rattle.rv_link.specs.declared.fixed.Input.{Input}
 use Rattle.rv_link.specs.Filled.{IsPlacedInput}
-use Rattle.rv_link.proofs.GrowingLemmas.{found_at}
+use Rattle.rv_object_laws.proofs.ListsLemmas.{found_at}
 
 pub read : {A B : Type 0} (f : A → B) (xs : List A) (i : ℕ) (x : A) → i < length xs → x ≡ get_or xs i x → slice_get (map f xs) i ≡ Some (f x)
 read f [] i x h e = absurd (omega arith)

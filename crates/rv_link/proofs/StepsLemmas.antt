@@ -14,7 +14,7 @@ use Rattle.rv_object_types.specs.declared.relocation.Relocation.{Relocation as D
 use Rattle.rv_object_laws.specs.Moves.{Move, moves, new_offset, kept, has_room}
 use Rattle.rv_object_laws.specs.Inputs.{InputSection, has_no_bytes}
 use Rattle.rv_object_laws.specs.Values.{applied, patched_at, value, initial_bytes}
-use Rattle.rv_shorten.specs.Cutting.{cut_relocation}
+use Rattle.rv_cut_laws.specs.Cutting.{cut_relocation}
 use Rattle.rv_placement.specs.declared.placement.Placement.{Placement}
 use Rattle.rv_placement.specs.Placement.{starts_of}
 use Rattle.rv_resolve.specs.Shown.{outer_in}
@@ -22,8 +22,8 @@ use Rattle.rv_reloc.specs.declared.fault.LinkFault.{LinkFault}
 use Rattle.rv_reloc.specs.declared.fault.LinkFault.TheVariants.{Overflow, OddTarget, DanglingPcrel, AlignmentShort, Undefined, Duplicate, EntryMissing, ImageTooLarge, BadTextStart, TooManyFiles, OutOfMemory}
 use Rattle.rv_link.specs.Filled.{IsInside, IsTaken, worth}
 use Rattle.rv_link.specs.Untaken.{IsFirst, IsUntaken}
-use Rattle.rv_link.proofs.FollowingLemmas.{Follow, kept_size}
-use Rattle.rv_link.proofs.ApartLemmas.{section_follows, fields_inside}
+use Rattle.rv_cut_laws.proofs.FollowingLemmas.{Follow, kept_size}
+use Rattle.rv_cut_laws.proofs.OrderedLemmas.{section_follows, fields_inside}
 
 -- ---- lists
 

@@ -12,9 +12,9 @@ use Rattle.rv_object_laws.specs.IsLinkOf.{most_files, is_loaded}
 use Rattle.rv_object_laws.specs.IsProgramOf.{Leaves}
 use Rattle.rv_placement.specs.declared.placement.Placement.{Placement}
 use Rattle.rv_placement.specs.Placement.{starts_of, are_roomy, IsPlacement, AreRoomy, IsTooLarge, HasRoom}
-use Rattle.rv_resolve.specs.Entry.{has_entry}
-use Rattle.rv_resolve.specs.Exports.{first_duplicate}
-use Rattle.rv_resolve.specs.Undefined.{first_undefined}
+use Rattle.rv_object_laws.specs.Entry.{has_entry}
+use Rattle.rv_object_laws.specs.Exports.{first_duplicate}
+use Rattle.rv_object_laws.specs.Undefined.{first_undefined}
 use Rattle.rv_reloc.specs.declared.fault.LinkFault.{LinkFault}
 use Rattle.rv_reloc.specs.declared.fault.LinkFault.TheVariants.{Overflow, OddTarget, DanglingPcrel, AlignmentShort, Undefined, Duplicate, EntryMissing, ImageTooLarge, BadTextStart, TooManyFiles, OutOfMemory}
 use Rattle.rv_link.specs.Untaken.{IsFirstUntaken}

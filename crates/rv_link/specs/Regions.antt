@@ -11,7 +11,7 @@ use Rattle.rv_object_laws.specs.Names.{object_at, outer_address, globals_of, glo
 use Rattle.rv_resolve.specs.declared.names.Names.{Names}
 use Rattle.rv_resolve.specs.Names.{IsNames}
 use Rattle.rv_resolve.specs.Resolved.{AreResolved}
-use Rattle.rv_resolve.specs.Undefined.{first_undefined}
+use Rattle.rv_object_laws.specs.Undefined.{first_undefined}
 use Rattle.rv_object_laws.specs.IsLinkOf.{is_loaded}
 use Rattle.rv_placement.specs.declared.placement.Placement.{Placement}
 use Rattle.rv_placement.specs.Placement.{starts_of, are_roomy, IsPlacement}

@@ -10,7 +10,7 @@ ghost use Rattle.rv_object_types.specs.declared.object.Object.{Object as AnyObje
 ghost use Rattle.rv_object_laws.specs.Collects.{Collects, entry_place};
 ghost use Rattle.rv_object_laws.specs.Names.{global_names};
 ghost use Rattle.rv_object_laws.specs.Without.{without};
-ghost use Rattle.rv_resolve.specs.Undefined.{first_undefined};
+ghost use Rattle.rv_object_laws.specs.Undefined.{first_undefined};
 ghost use Rattle.rv_reloc.specs.declared.fault.LinkFault.TheVariants.{EntryMissing, Undefined};
 ghost use Rattle.rv_link.specs.Refusals.{AreWithin, HasNoProgram};
 

@@ -9,3 +9,11 @@ pub mod NamesLeftLemmas
 pub mod InputsLeftLemmas
 pub mod EntryLeftLemmas
 pub mod DanglingLemmas
+pub mod ChosenLemmas
+pub mod EntryLemmas
+pub mod ListsLemmas
+pub mod HeldLemmas
+pub mod ShownLemmas
+pub mod FirstSomeLemmas
+pub mod LinkerNamesLemmas
+pub mod StepsLemmas

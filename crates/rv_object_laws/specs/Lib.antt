@@ -12,3 +12,7 @@ pub mod Without
 pub mod Collects
 pub mod IsProgramOf
 pub mod Left
+pub mod Lists
+pub mod Entry
+pub mod Exports
+pub mod Undefined

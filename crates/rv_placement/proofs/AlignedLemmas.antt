@@ -1,10 +1,10 @@
 -- Paddings of a section that begins at a multiple of each of its alignments: they are the same wherever it stands.
 
-use Rattle.std.proofs.Common.{◌≡◌, ℕ, ◌+◌, ◌-◌, ◌*◌, ◌/◌, ◌%◌, ◌^◌, ◌<◌, ◌≤◌, Bool, true, false, ◌||◌, nat_le, max, List, [], ◌∷◌, refl, sym, ap, subst, ◌∙◌, arith}
-use Rattle.std.specs.Prelude.{◌==◌, if◌then◌else◌}
-use Rattle.std.specs.List.{AllByRecursion, list_any}
+use Rattle.std.proofs.Common.{◌≡◌, ℕ, ◌+◌, ◌-◌, ◌*◌, ◌/◌, ◌%◌, ◌^◌, ◌<◌, ◌≤◌, Bool, true, false, nat_le, max, List, [], ◌∷◌, refl, sym, ap, subst, ◌∙◌, arith}
+use Rattle.std.specs.Prelude.{if◌then◌else◌}
+use Rattle.std.specs.List.{AllByRecursion}
 use Rattle.std.proofs.Math.Nat.{mul_assoc, mul-mod_left}
-use Rattle.std.proofs.lemmas.Bool.{eqb-true, leb-true, leb-false}
+use Rattle.std.proofs.lemmas.Bool.{leb-true, leb-false}
 use Rattle.std.proofs.lemmas.Nat.{div-add-mod', pow-add, pow_below}
 use Rattle.rv_layout_laws.specs.Alignment.{aligned}
 use Rattle.rv_object_types.specs.Object.{Relocation, Section}
@@ -12,17 +12,10 @@ use Rattle.rv_object_types.specs.Padding.{no_operations}
 use Rattle.rv_object_types.specs.Valid.{is_section_alignment}
 use Rattle.rv_object_laws.specs.Moves.{full_padding, alignment_of, alignments_of, moves, plan}
 use Rattle.rv_object_laws.specs.Inputs.{goes_to_text, raised, begins_at}
-pub use Rattle.rv_relax.proofs.AlignedLemmas.{one_of}
+use Rattle.rv_cut_laws.proofs.PowersLemmas.{any_power}
+pub use Rattle.rv_cut_laws.proofs.AlignedLemmas.{one_of}
 
 -- ---- powers of two
-
-pub any_power : (P : ℕ → Type 0) (n : ℕ) (ks : List ℕ) → AllByRecursion (λ k. P (2 ^ k)) ks → list_any (λ k. n == 2 ^ k) ks ≡ true → P n
-any_power P n [] each e = absurd (cc)
-any_power P n (k ∷ ks) each e = by (n == 2 ^ k) refl e (any_power P n ks each.1)
-  where
-    by : (b : Bool) → (n == 2 ^ k) ≡ b → (b || list_any (λ j. n == 2 ^ j) ks) ≡ true → (list_any (λ j. n == 2 ^ j) ks ≡ true → P n) → P n
-    by true is e rest = subst P (sym (eqb-true n (2 ^ k) is)) each.0
-    by false is e rest = rest e
 
 abbrev IsPower : ℕ → Type 0
 IsPower a = (k : ℕ) × (a ≡ 2 ^ k)

@@ -8,8 +8,8 @@ use Rattle.rv_object_types.specs.declared.relocation.Relocation.{Relocation as D
 use Rattle.rv_object_types.specs.Parts.{relocation_of}
 use Rattle.rv_object_laws.specs.Moves.{Move, has_padding, alignment_of, alignments_of, inserted, by_place, full_padding}
 use Rattle.rv_object_laws.specs.Inputs.{raised, begins_at, goes_to_text}
-use Rattle.rv_shorten.specs.Cutting.{cut_relocation, cut_section}
-use Rattle.rv_shorten.proofs.PaddingsLemmas.{align_stays}
+use Rattle.rv_cut_laws.specs.Cutting.{cut_relocation, cut_section}
+use Rattle.rv_cut_laws.proofs.PaddingsLemmas.{align_stays}
 use Rattle.rv_placement.specs.Alignments.{asked, raised_by}
 use Rattle.rv_placement.specs.Walk.{greatest_in, greatest_of}
 

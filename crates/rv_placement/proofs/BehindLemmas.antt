@@ -7,7 +7,8 @@ use Rattle.rv_object_types.specs.Object.{Section, Object}
 use Rattle.rv_placement.specs.declared.destination.Destination.TheVariants.{Rodata, Data, Bss}
 use Rattle.rv_placement.specs.declared.placement.PlacedSection.{PlacedSection}
 use Rattle.rv_placement.specs.Walk.{goes, ended, ended_files, started_files, greatest_of, AreBehind}
-use Rattle.rv_placement.proofs.WalksLemmas.{above, grows_files, length-started}
+use Rattle.rv_object_laws.proofs.ListsLemmas.{above}
+use Rattle.rv_placement.proofs.WalksLemmas.{grows_files, length-started}
 use Rattle.rv_placement.proofs.AlignmentsLemmas.{greatest_some_of as greatest_some}
 
 module _ (os : List Object) (stop : ℕ) (rodata variables bss : Region) (h : AreBehind os stop rodata variables bss) where

@@ -18,7 +18,7 @@ use Rattle.rv_placement.specs.declared.placement.PlacedSection.{PlacedSection}
 use Rattle.rv_placement.specs.declared.placement.Placement.{Placement}
 use Rattle.rv_placement.specs.Moved.{moved_row, moved_rows}
 use Rattle.rv_placement.specs.Placement.{starts_of, placed_at, object_section, IsPlacement}
-use Rattle.rv_placement.proofs.WalksLemmas.{left}
+use Rattle.rv_object_laws.proofs.ListsLemmas.{left}
 use Rattle.rv_placement.proofs.FoundLemmas.{in_object, not_placed, start_is}
 
 all_moved : {A B : Type 0} (p : B → Bool) (f : A → B) (xs : List A) (i : ℕ) (x : A) → list_all p (map f xs) ≡ true → i < length xs → x ≡ get_or xs i x → p (f x) ≡ true

@@ -16,7 +16,7 @@ use Rattle.rv_shorten.specs.Sections.{short_section_of}
 use Rattle.rv_shorten.specs.View.{short_object_of}
 use Rattle.rv_placement.specs.declared.placement.PlacedSection.{PlacedSection}
 use Rattle.rv_placement.specs.Walk.{start_behind, end_behind, next, ended, ended_files, start_from, text_starts, text_files, gap_between, gap_behind, gapped, gapped_files, lists_of, IsKept, AreKept, IsPut}
-use Rattle.rv_placement.proofs.WalksLemmas.{left}
+use Rattle.rv_object_laws.proofs.ListsLemmas.{left}
 use Rattle.rv_relax.proofs.SpreadLemmas.{grown}
 
 -- what is said of the value that an option has

@@ -5,9 +5,9 @@ use Rattle.std.specs.Prelude.{if◌then◌else◌, IfNone}
 use Rattle.std.specs.Global.{Vec}
 use Rattle.std.proofs.lemmas.List.{drop_more, take_more_set, drop-set-lt, map-set, length-map}
 use Rattle.std.specs.List.{drop-map}
-use Rattle.rv_layout_laws.specs.Alignment.{aligned}
 use Rattle.rv_object_types.specs.Object.{Section, Object}
 use Rattle.rv_object_laws.specs.Inputs.{begins_at}
+use Rattle.rv_object_laws.proofs.ListsLemmas.{above, left}
 use Rattle.rv_shorten.specs.declared.section.ShortSection.{ShortSection}
 use Rattle.rv_shorten.specs.declared.object.ShortObject.{ShortObject}
 use Rattle.rv_shorten.specs.Sections.{short_section_of}
@@ -17,9 +17,6 @@ use Rattle.rv_placement.specs.Walk.{end_behind, next, ended, ended_files, starte
 use Rattle.rv_placement.proofs.AlignmentsLemmas.{begins_some}
 
 -- ---- ends only grow
-
-pub above : (a n : ℕ) → 0 < a → n ≤ aligned a n
-above a n some = omega arith
 
 pub next_up : (to : Section → Bool) (stop : ℕ) (s : Section) → stop ≤ next to stop s
 next_up to stop s = go (to s)
@@ -39,10 +36,6 @@ grows_files to stop (o ∷ os) = let h = grows to stop o.sections in let more = 
 pub if_none : {T P : Type 0} (r : Option T) → P → IfNone r P
 if_none None h = h
 if_none (Some x) h = tt
-
--- what is left of a list, from an element on
-pub left : {X : Type 0} (xs : List X) (i : ℕ) (x : X) → i < length xs → x ≡ get_or xs i x → drop i xs ≡ x ∷ drop (i + 1) xs
-left xs i x inside is = drop_more xs i x inside ∙ ap (λ y. y ∷ drop (i + 1) xs) (sym is)
 
 -- ---- the sections of a file
 

@@ -3,7 +3,7 @@
 use Rattle.std.specs.Prelude.{List, map}
 use Rattle.rv_object_types.specs.declared.row.Row.{Row}
 use Rattle.rv_shorten.specs.declared.object.ShortObject.{ShortObject}
-use Rattle.rv_shorten.specs.Cutting.{cut_row_of}
+use Rattle.rv_cut_laws.specs.Cutting.{cut_row_of}
 use Rattle.rv_shorten.specs.View.{moves_by_section}
 
 -- where a row stands afterwards

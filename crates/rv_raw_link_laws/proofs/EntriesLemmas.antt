@@ -7,7 +7,7 @@ use Rattle.rv_object_laws.specs.Inputs.{Starts}
 use Rattle.rv_object_laws.specs.Names.{begins_run, run_start, export_address, entry_of}
 use Rattle.rv_placement.specs.declared.placement.Placement.{Placement}
 use Rattle.rv_placement.specs.Placement.{starts_of, IsPlacement}
-use Rattle.rv_resolve.specs.Entry.{is_entry, has_entry}
+use Rattle.rv_object_laws.specs.Entry.{is_entry, has_entry}
 use Rattle.rv_link.specs.Refusals.{IsOddEntry, LacksEntry}
 use Rattle.rv_raw_link_laws.proofs.LeavesLemmas.{begins}
 use Rattle.rv_raw_link_laws.proofs.PlacesLemmas.{IsSimple, text, stands, address_in}

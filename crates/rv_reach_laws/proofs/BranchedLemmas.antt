@@ -50,7 +50,7 @@ use Rattle.rv_sources_link_laws.proofs.moves.PiecesOfLemmas.{size_is}
 use Rattle.rv_sources_link_laws.proofs.fields.RangesLemmas.{even_bytes}
 use Rattle.rv_sources_link_laws.proofs.statements.SettledLemmas.{IsInstructed, IsSettled, settled as settled_all, IsLaidIn, laid_are_in}
 use Rattle.rv_sources_link_laws.proofs.calls.UncutLemmas.{IsUncut, uncut, sections_same}
-use Rattle.rv_shorten.specs.Cutting.{In}
+use Rattle.rv_object_laws.specs.Lists.{In}
 use Rattle.rv_unique_link_laws.proofs.FoundLemmas.{EachOf, all_of}
 use Rattle.rv_reach_laws.specs.Reach.{is_short_branch, is_parcel_statement, is_in_row, is_of_parcel, is_chosen_branch, ForEachLeft, ShortBranchesReach}
 use Rattle.rv_reach_laws.proofs.MovingLemmas.{IsPaddedText, rises}

@@ -32,7 +32,7 @@ use Rattle.rv_sources_link_laws.proofs.moves.WalkLemmas.{relocations_join}
 use Rattle.rv_sources_link_laws.proofs.sections.SectionsLemmas.{split}
 use Rattle.rv_assemble_laws.proofs.ListsLemmas.{join}
 use Rattle.rv_sources_link_laws.proofs.calls.UncutLemmas.{IsUncut}
-use Rattle.rv_shorten.specs.Cutting.{In}
+use Rattle.rv_object_laws.specs.Lists.{In}
 use Rattle.rv_reach_laws.specs.Reach.{is_short_branch}
 use Rattle.rv_reach_laws.proofs.BranchingLemmas.{IsUnshort, IsBranching, IsParcelled, Sorted, sorted}
 

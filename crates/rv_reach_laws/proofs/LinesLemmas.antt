@@ -17,12 +17,13 @@ use Rattle.rv_object_laws.specs.Inputs.{InputSection, begins_at}
 use Rattle.rv_object_laws.specs.CallSites.{changes, site_of, sites_from, sites_of, start_padding, base, base_in, link_register}
 use Rattle.rv_object_laws.specs.Shortened.{Sizes, sizes_by, short_call, cut, cuts}
 use Rattle.rv_object_laws.proofs.TextInputsLemmas.{IsTextInput}
-use Rattle.rv_shorten.specs.Cutting.{In, are_cuts, AreCuts}
-use Rattle.rv_shorten.specs.Walk.{moves_of}
-use Rattle.rv_shorten.proofs.ShiftsLemmas.{first_cut, other_cuts}
-use Rattle.rv_shorten.proofs.ChangesLemmas.{IsSound, change_inside, site_offset, passed_by, order_behind, changes_match, moves_match}
-use Rattle.rv_shorten.proofs.SectionsLemmas.{AreAllPermitted, all_permitted, is_change, may_be_cut, rising_changes, cuts_of_text}
-use Rattle.rv_shorten.proofs.LineLemmas.{Later, Stands}
+use Rattle.rv_object_laws.specs.Lists.{In}
+use Rattle.rv_cut_laws.specs.Cutting.{are_cuts, AreCuts}
+use Rattle.rv_cut_laws.specs.Walk.{moves_of}
+use Rattle.rv_cut_laws.proofs.ShiftsLemmas.{first_cut, other_cuts}
+use Rattle.rv_cut_laws.proofs.ChangesLemmas.{IsSound, change_inside, site_offset, passed_by, order_behind, changes_match, moves_match}
+use Rattle.rv_cut_laws.proofs.SectionsLemmas.{AreAllPermitted, all_permitted, is_change, may_be_cut, rising_changes, cuts_of_text}
+use Rattle.rv_cut_laws.proofs.LineLemmas.{Later, Stands}
 
 nothing : 1 ≤ 0 → ⊥
 nothing le = absurd (omega (arith, le))

@@ -10,10 +10,10 @@ use Rattle.rv_object_types.specs.Padding.{no_operations}
 use Rattle.rv_object_types.specs.Valid.{is_padding, are_all_apart, are_paddings}
 use Rattle.rv_object_laws.specs.Moves.{Move, dropped, new_offset, full_padding, has_padding, alignment_of, by_place, alignments_of, plan, moves}
 use Rattle.rv_object_laws.specs.Inputs.{goes_to_text}
-use Rattle.rv_relax.specs.Paddings.{are_alignments}
-use Rattle.rv_relax.proofs.PlannedLemmas.{next_alignment, other_alignments}
-use Rattle.rv_relax.proofs.ApartLemmas.{of_section}
-use Rattle.rv_link.proofs.ApartLemmas.{AreOrdered, ordered}
+use Rattle.rv_cut_laws.specs.Alignments.{are_alignments}
+use Rattle.rv_cut_laws.proofs.AlignmentsLemmas.{next_alignment, other_alignments}
+use Rattle.rv_cut_laws.proofs.ApartLemmas.{of_section}
+use Rattle.rv_cut_laws.proofs.OrderedLemmas.{AreOrdered, ordered}
 use Rattle.rv_unique_link_laws.proofs.EvensLemmas.{section_padded, dropped_even}
 use Rattle.rv_layout_laws.proofs.DroppingLemmas.{span_within}
 

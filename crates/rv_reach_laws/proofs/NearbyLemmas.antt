@@ -18,8 +18,8 @@ use Rattle.rv_placement.specs.declared.placement.Placement.{Placement}
 use Rattle.rv_placement.specs.Placement.{starts_of}
 use Rattle.rv_resolve.specs.Shown.{outer_in}
 use Rattle.rv_link.specs.Filled.{IsTaken}
-use Rattle.rv_shorten.specs.Cutting.{are_cuts}
-use Rattle.rv_shorten.proofs.ShiftsLemmas as cut
+use Rattle.rv_cut_laws.specs.Cutting.{are_cuts}
+use Rattle.rv_cut_laws.proofs.ShiftsLemmas as cut
 use Rattle.rv_reach_laws.specs.Reach.{is_short_branch}
 use Rattle.rv_reach_laws.proofs.MovingLemmas as padding
 use Rattle.rv_reach_laws.proofs.MovingLemmas.{IsPaddedText}

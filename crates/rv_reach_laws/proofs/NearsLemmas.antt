@@ -28,7 +28,7 @@ use Rattle.rv_assemble_laws.specs.Symbols.{laid_at, after_statement, IsOwn, IsDe
 use Rattle.rv_assemble_laws.specs.IsObjectOf.{IsObjectOf}
 use Rattle.rv_sources_link_laws.proofs.moves.MovedLemmas.{AddsInData, adds}
 use Rattle.rv_sources_link_laws.proofs.statements.SettledLemmas.{IsSettled}
-use Rattle.rv_shorten.specs.Cutting.{In}
+use Rattle.rv_object_laws.specs.Lists.{In}
 use Rattle.rv_reach_laws.proofs.BranchingLemmas.{IsBranchForm, HasForms}
 use Rattle.rv_reach_laws.proofs.FieldingLemmas.{IsBranchOf}
 

@@ -11,7 +11,7 @@ use Rattle.rv_source_laws.specs.Located.{Located, located_from, has_row}
 use Rattle.rv_source_laws.specs.Compressed.{names_parcel}
 use Rattle.rv_assemble_laws.specs.LaidStatements.{LaidStatement, laid_in}
 use Rattle.rv_assemble_laws.specs.IsObjectOf.{row_of, rows_at}
-use Rattle.rv_shorten.specs.Cutting.{In}
+use Rattle.rv_object_laws.specs.Lists.{In}
 use Rattle.rv_reach_laws.specs.Reach.{is_parcel_statement, is_in_row}
 
 -- ---- the statement of an ordinal

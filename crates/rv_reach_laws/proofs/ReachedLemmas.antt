@@ -38,12 +38,13 @@ use Rattle.rv_placement.specs.Placement.{starts_of, IsPlacement}
 use Rattle.rv_resolve.specs.Shown.{regions_of, outer_in}
 use Rattle.rv_link.specs.Refusals.{IsTextStart}
 use Rattle.rv_link.specs.Filled.{IsTaken}
-use Rattle.rv_shorten.specs.Cutting.{In, are_cuts}
-use Rattle.rv_shorten.proofs.ChangesLemmas as changed
-use Rattle.rv_shorten.proofs.ListsLemmas.{filter_in, ordered_in}
-use Rattle.rv_shorten.proofs.SectionsLemmas.{short_parts, same_text}
-use Rattle.rv_shorten.proofs.ShortLemmas.{size_left, paddings_stay}
-use Rattle.rv_shorten.proofs.ShiftsLemmas as cut
+use Rattle.rv_object_laws.specs.Lists.{In}
+use Rattle.rv_cut_laws.specs.Cutting.{are_cuts}
+use Rattle.rv_cut_laws.proofs.ChangesLemmas as changed
+use Rattle.rv_cut_laws.proofs.ListsLemmas.{filter_in, ordered_in}
+use Rattle.rv_cut_laws.proofs.SectionsLemmas.{short_parts, same_text}
+use Rattle.rv_cut_laws.proofs.ShortLemmas.{size_left, paddings_stay}
+use Rattle.rv_cut_laws.proofs.ShiftsLemmas as cut
 use Rattle.rv_unique_link_laws.proofs.MultiplesLemmas.{BeginsSo, all_begin}
 use Rattle.rv_reach_laws.specs.Reach.{is_short_call, ForEachLeft, ShortCallsReach}
 use Rattle.rv_reach_laws.proofs.MovingLemmas.{rises, ended, within as within_paddings}

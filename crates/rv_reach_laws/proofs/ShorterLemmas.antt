@@ -19,9 +19,9 @@ use Rattle.rv_object_laws.specs.Whole.{IsWholeSection, IsWhole}
 use Rattle.rv_placement.specs.declared.placement.PlacedSection.{PlacedSection}
 use Rattle.rv_placement.specs.declared.placement.Placement.{Placement}
 use Rattle.rv_placement.specs.Placement.{placed_in, start_in, starts_of, section_in, object_section, IsPlacement}
-use Rattle.rv_shorten.specs.Cutting.{In}
-use Rattle.rv_shorten.proofs.ChangesLemmas as changed
-use Rattle.rv_shorten.proofs.LineLemmas.{Later}
+use Rattle.rv_object_laws.specs.Lists.{In}
+use Rattle.rv_cut_laws.proofs.ChangesLemmas as changed
+use Rattle.rv_cut_laws.proofs.LineLemmas.{Later}
 use Rattle.rv_unique_link_laws.specs.Asked.{IsSound}
 use Rattle.rv_unique_link_laws.proofs.FoundLemmas.{EachOf, all_of}
 use Rattle.rv_reach_laws.proofs.LinesLemmas.{Ordered}

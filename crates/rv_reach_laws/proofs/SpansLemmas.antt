@@ -18,9 +18,9 @@ use Rattle.rv_object_laws.specs.Moves.{Move, dropped, new_offset, full_padding, 
 use Rattle.rv_object_laws.specs.Inputs.{Starts, InputSection, goes_to_text, inputs_from, inputs_of, raised, begins_at, start_of, size, Stand}
 use Rattle.rv_object_laws.specs.CallSites.{is_call, start_padding, base, sites_of}
 use Rattle.rv_object_laws.specs.Shortened.{Sizes, sizes_by, is_shortened, cuts, shortened_kind, shortened_relocation, shortened_text, shortened_section, shortened_sections, shortened_object, shortened_from}
-use Rattle.rv_placement.proofs.WalksLemmas.{above}
-use Rattle.rv_shorten.proofs.CallKindsLemmas.{call_no_align}
-use Rattle.rv_shorten.proofs.ShiftsLemmas as cut
+use Rattle.rv_object_laws.proofs.ListsLemmas.{above}
+use Rattle.rv_cut_laws.proofs.CallKindsLemmas.{call_no_align}
+use Rattle.rv_cut_laws.proofs.ShiftsLemmas as cut
 use Rattle.rv_unique_link_laws.proofs.MultiplesLemmas.{aligned_even, aligned_near}
 use Rattle.rv_reach_laws.proofs.MovingLemmas as padding
 use Rattle.rv_reach_laws.proofs.MovingLemmas.{IsPaddedText}

@@ -19,8 +19,8 @@ use Rattle.rv_object_laws.specs.Names.{offset_address, defined_address, is_defin
 use Rattle.rv_object_laws.specs.Values.{target}
 use Rattle.rv_object_laws.specs.CallSites.{target_place, is_text_place}
 use Rattle.rv_object_laws.specs.Shortened.{Sizes, sizes_by, cuts, cuts_at, cuts_in, shortened_text, shortened_section, shortened_sections, shortened_definition, shortened_symbol, shortened_object, shortened_from}
-use Rattle.rv_resolve.proofs.ChosenLemmas.{chosen_held}
-use Rattle.rv_resolve.proofs.ShownLemmas.{meaning, means}
+use Rattle.rv_object_laws.proofs.ChosenLemmas.{chosen_held}
+use Rattle.rv_object_laws.proofs.ShownLemmas.{meaning, means}
 
 -- ---- which section of the text a place is in
 

@@ -9,7 +9,7 @@ use Rattle.rv_object_types.specs.Object.{Relocation}
 use Rattle.rv_object_types.specs.Parts.{relocation_of}
 use Rattle.rv_object_types.specs.Valid.{is_align, are_apart, are_all_apart}
 use Rattle.rv_object_laws.specs.Moves.{full_padding, has_padding, inserted, by_place}
-use Rattle.rv_relax.proofs.ApartLemmas.{are_clear, clear, all_by_place}
+use Rattle.rv_cut_laws.proofs.ApartLemmas.{are_clear, clear, all_by_place}
 use Rattle.rv_relax.proofs.StableLemmas.{inserted_by, ordered_by}
 
 abbrev pub place_of : DeclaredRelocation → ℕ

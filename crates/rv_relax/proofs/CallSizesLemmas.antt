@@ -1,9 +1,8 @@
 -- What a plan tells of calls is what relaxation keeps of them.
 
 use Rattle.std.proofs.Common.{◌≡◌, ◌⊎◌, inl, inr, ℕ, suc, Bool, true, false, cond, List, [], ◌∷◌, ◌++◌, Some, None, map, slice_index, refl, sym, ap, ◌∙◌}
-use Rattle.std.specs.Prelude.{◌==◌, ◌&&◌, ◌+◌, nat_lt}
+use Rattle.std.specs.Prelude.{◌==◌, ◌&&◌, ◌+◌, nat_lt, Result, Ok, Err, IfOk}
 use Rattle.std.specs.List.{flat_map}
-use Rattle.std.specs.Prelude.{Result, Ok, Err, IfOk}
 use Rattle.rv_isa.specs.declared.kind.Kind.{Kind}
 use Rattle.rv_isa.specs.declared.kind.Kind.TheVariants as kinds
 use Rattle.rv_layout_laws.specs.declared.site.Site.{Site}
@@ -18,7 +17,7 @@ use Rattle.rv_object_laws.specs.CallSites.{is_call, base, sites_of}
 use Rattle.rv_object_laws.specs.Shortened.{Sizes, sizes_by, cuts, shortened_kind, shortened_relocation, shortened_text, shortened_section, shortened_sections, shortened_object, shortened_from, shortened}
 use Rattle.rv_shorten.specs.declared.section.ShortSection.{ShortSection}
 use Rattle.rv_shorten.specs.declared.object.ShortObject.{ShortObject}
-use Rattle.rv_shorten.specs.Cutting.{cut_kind, cut_relocation}
+use Rattle.rv_cut_laws.specs.Cutting.{cut_kind, cut_relocation}
 use Rattle.rv_shorten.specs.Sections.{moves_in, short_section_of, whole_section_of}
 use Rattle.rv_shorten.specs.View.{short_object_of, whole_object_of}
 use Rattle.rv_relax.specs.declared.told.Counted.TheVariants.{Calls}

@@ -10,7 +10,7 @@ use Rattle.rv_layout_laws.specs.declared.site.SiteKind.TheVariants.{Call, Paddin
 use Rattle.rv_layout_laws.specs.Offsets.{offset, rest}
 use Rattle.rv_layout_laws.specs.Calls.{bytes_of, Offers, is_call, site_at, dropped_of, dropped, whole_sizes, IsFamily, InOrder, IsOutside}
 use Rattle.rv_layout_laws.proofs.ShorteningLemmas.{IsOpen, before_all}
-use Rattle.rv_shorten.specs.Walk.{site_end}
+use Rattle.rv_cut_laws.specs.Walk.{site_end}
 use Rattle.rv_relax.specs.Passes.{IsPlace, drops}
 
 -- what the code has past the end of a text

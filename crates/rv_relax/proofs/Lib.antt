@@ -1,10 +1,8 @@
-pub mod AlignedLemmas
 pub mod SortingLemmas
 pub mod MovedLemmas
 pub mod StableLemmas
 pub mod PlannedLemmas
 pub mod KeptLemmas
-pub mod ApartLemmas
 pub mod ByPlaceLemmas
 pub mod DroppingLemmas
 pub mod JudgingLemmas

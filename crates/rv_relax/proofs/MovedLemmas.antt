@@ -7,8 +7,8 @@ use Rattle.rv_object_types.specs.declared.relocation.Relocation.{Relocation as D
 use Rattle.rv_object_types.specs.Object.{Relocation}
 use Rattle.rv_object_types.specs.Parts.{relocation_of}
 use Rattle.rv_object_laws.specs.Moves.{Move, full_padding, has_padding}
-use Rattle.rv_shorten.specs.Cutting.{cut_relocation}
-use Rattle.rv_shorten.proofs.PaddingsLemmas.{align_stays}
+use Rattle.rv_cut_laws.specs.Cutting.{cut_relocation}
+use Rattle.rv_cut_laws.proofs.PaddingsLemmas.{align_stays}
 use Rattle.rv_relax.proofs.SortingLemmas.{nothing}
 
 -- what has padding keeps it

@@ -1,46 +1,21 @@
 -- The plan of alignments in order, padding by padding.
 
-use Rattle.std.proofs.Common.{◌≡◌, ℕ, ◌+◌, ◌-◌, ◌%◌, ◌^◌, ◌<◌, ◌≤◌, true, ◌&&◌, nat_lt, nat_le, List, [], ◌∷◌, ◌++◌, map, length, take, slice_index_or, refl, sym, ap, ◌∙◌, arith}
+use Rattle.std.proofs.Common.{◌≡◌, ℕ, ◌+◌, ◌-◌, ◌%◌, ◌^◌, ◌<◌, true, ◌&&◌, nat_lt, nat_le, List, [], ◌∷◌, ◌++◌, map, length, take, slice_index_or, refl, sym, ap, ◌∙◌, arith}
 use Rattle.std.specs.Prelude.{◌==◌}
-use Rattle.std.proofs.lemmas.Bool.{ltb-true, leb-true, le-leb, lt-ltb, eq-eqb, and_parts, and_from}
+use Rattle.std.proofs.lemmas.Bool.{le-leb, lt-ltb, eq-eqb, and_from}
 use Rattle.std.proofs.lemmas.List.{append_assoc, map_push}
 use Rattle.rv_layout_laws.specs.Alignment.{aligned}
 use Rattle.rv_object_types.specs.Object.{Relocation}
 use Rattle.rv_object_types.specs.Padding.{no_operations}
 use Rattle.rv_object_laws.specs.Moves.{Move, alignment_of, full_padding, plan}
 use Rattle.rv_relax.specs.Pieces.{Piece}
-use Rattle.rv_relax.specs.Paddings.{move_of, is_next, are_in_order, is_next_alignment, are_alignments}
+use Rattle.rv_relax.specs.Paddings.{move_of, is_next, are_in_order}
+use Rattle.rv_cut_laws.specs.Alignments.{are_alignments}
 use Rattle.rv_object_types.specs.declared.relocation.Relocation.{Relocation as DeclaredRelocation}
 use Rattle.rv_object_types.specs.Parts.{relocation_of}
 use Rattle.rv_object_types.proofs.NopsLemmas.{same_even}
+use Rattle.rv_cut_laws.proofs.AlignmentsLemmas.{IsNextAlignment}
 use Rattle.rv_relax.proofs.SortingLemmas.{nothing, backwards, last_first}
-
--- an alignment that stands behind others
-pub record IsNextAlignment (stop : ℕ) (r : Relocation) : Type 0 where
-  pub from : stop ≤ r.place
-  pub short : full_padding r ≤ 4094
-  pub low : r.place + full_padding r < 2 ^ 64
-
-pub next_alignment : (stop : ℕ) (r : Relocation) (rs : List Relocation) → are_alignments stop (r ∷ rs) ≡ true → IsNextAlignment stop r
-next_alignment stop r rs h =
-    let all = and_parts (is_next_alignment stop r) (are_alignments (r.place + full_padding r) rs) h in
-    let one = and_parts (nat_le stop r.place) (nat_le (full_padding r) 4094 && nat_lt (r.place + full_padding r) (2 ^ 64)) all.0 in
-    let two = and_parts (nat_le (full_padding r) 4094) (nat_lt (r.place + full_padding r) (2 ^ 64)) one.1 in
-    record {
-      from = leb-true stop r.place one.0;
-      short = leb-true (full_padding r) 4094 two.0;
-      low = ltb-true (r.place + full_padding r) (2 ^ 64) two.1;
-    }
-
-pub other_alignments : (stop : ℕ) (r : Relocation) (rs : List Relocation) → are_alignments stop (r ∷ rs) ≡ true → are_alignments (r.place + full_padding r) rs ≡ true
-other_alignments stop r rs h = (and_parts (is_next_alignment stop r) (are_alignments (r.place + full_padding r) rs) h).1
-
-pub next_is : (stop : ℕ) (r : Relocation) (rs : List Relocation) → IsNextAlignment stop r → are_alignments (r.place + full_padding r) rs ≡ true → are_alignments stop (r ∷ rs) ≡ true
-next_is stop r rs one more =
-    and_from (is_next_alignment stop r) (are_alignments (r.place + full_padding r) rs)
-    (and_from (nat_le stop r.place) (nat_le (full_padding r) 4094 && nat_lt (r.place + full_padding r) (2 ^ 64)) (le-leb stop r.place one.from)
-    (and_from (nat_le (full_padding r) 4094) (nat_lt (r.place + full_padding r) (2 ^ 64)) (le-leb (full_padding r) 4094 one.short) (lt-ltb (r.place + full_padding r) (2 ^ 64) one.low)))
-    more
 
 -- the least padding of an alignment
 abbrev pub least_of : ℕ → ℕ → Relocation → ℕ

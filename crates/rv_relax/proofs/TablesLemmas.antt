@@ -13,7 +13,7 @@ use Rattle.rv_layout_laws.proofs.ReachingLemmas.{offset_more}
 use Rattle.rv_layout_laws.proofs.WideningLemmas.{set_holds}
 use Rattle.rv_layout_laws.proofs.DroppingLemmas.{dropped_most}
 use Rattle.rv_layout_laws.proofs.ShorteningLemmas.{IsOpen, whole_family}
-use Rattle.rv_shorten.specs.Walk.{site_end}
+use Rattle.rv_cut_laws.specs.Walk.{site_end}
 use Rattle.rv_relax.specs.Passes.{IsInput, IsPlace, IsTable, LeadsLow, drops}
 use Rattle.rv_relax.proofs.DroppingLemmas.{take_kept, drop_kept, drop_at, rest_more, parts, sum_low, none_at_first, dropped_before_site, dropped_outside}
 

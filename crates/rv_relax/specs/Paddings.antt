@@ -2,9 +2,8 @@
 
 use Rattle.std.specs.Prelude.{ℕ, zero, suc, ◌+◌, ◌-◌, ◌%◌, ◌^◌, Bool, true, ◌&&◌, ◌==◌, nat_le, nat_lt, List, [], ◌∷◌, slice_index}
 use Rattle.rv_relax.specs.Pieces.{Piece}
-use Rattle.rv_object_types.specs.Object.{Relocation}
 use Rattle.rv_object_types.specs.Padding.{no_operations, operations_in}
-use Rattle.rv_object_laws.specs.Moves.{Move, full_padding}
+use Rattle.rv_object_laws.specs.Moves.{Move}
 
 -- what is kept of a padding
 abbrev pub move_of : Piece → Move
@@ -35,15 +34,3 @@ lost_sums lost (p ∷ ps) = (lost + loses p) ∷ lost_sums (lost + loses p) ps
 abbrev pub sum_of_first : ℕ → List ℕ → ℕ
 sum_of_first zero sums = 0
 sum_of_first (suc k) sums = slice_index sums k
-
--- behind paddings that end at an offset, alignments whose paddings lie one behind the other, in a
--- section of less than 2 ^ 64 bytes
-abbrev pub is_next_alignment : ℕ → Relocation → Bool
-is_next_alignment stop r =
-    nat_le stop r.place
-    && (nat_le (full_padding r) 4094 && nat_lt (r.place + full_padding r) (2 ^ 64))
-
-abbrev pub are_alignments : ℕ → List Relocation → Bool
-are_alignments stop [] = true
-are_alignments stop (r ∷ rs) =
-    is_next_alignment stop r && are_alignments (r.place + full_padding r) rs

@@ -8,7 +8,7 @@ use Rattle.rv_layout_laws.specs.declared.site.SiteKind.{SiteKind}
 use Rattle.rv_layout_laws.specs.declared.site.SiteKind.TheVariants.{Call, Padding}
 use Rattle.rv_layout_laws.specs.Offsets.{offset, rest, Reaches}
 use Rattle.rv_layout_laws.specs.Calls.{bytes_of, Offers, half, site_at, IsFamily, IsText, MayShorten}
-use Rattle.rv_shorten.specs.Walk.{site_end}
+use Rattle.rv_cut_laws.specs.Walk.{site_end}
 
 -- ---- sites
 

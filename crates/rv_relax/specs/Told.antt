@@ -14,7 +14,7 @@ use Rattle.rv_object_laws.specs.Inputs.{goes_to_text}
 use Rattle.rv_object_laws.specs.CallSites.{is_call}
 use Rattle.rv_shorten.specs.declared.section.ShortSection.{ShortSection}
 use Rattle.rv_shorten.specs.declared.object.ShortObject.{ShortObject}
-use Rattle.rv_shorten.specs.Cutting.{cut_kind}
+use Rattle.rv_cut_laws.specs.Cutting.{cut_kind}
 use Rattle.rv_shorten.specs.Sections.{moves_in}
 use Rattle.rv_relax.specs.declared.told.Counted.{Counted}
 use Rattle.rv_relax.specs.declared.told.Counted.TheVariants.{Calls, Alignments}

@@ -3,7 +3,8 @@
 ghost use Rattle.std.specs.Prelude.{◌≡◌, true, map, reverse, IfOk};
 ghost use Rattle.rv_object_types.specs.Parts.{relocation_of};
 ghost use Rattle.rv_object_laws.specs.Moves.{plan};
-ghost use Rattle.rv_relax.specs.Paddings.{are_alignments, are_in_order, move_of};
+ghost use Rattle.rv_cut_laws.specs.Alignments.{are_alignments};
+ghost use Rattle.rv_relax.specs.Paddings.{are_in_order, move_of};
 
 use crate::alignments::{asked_alignment, full_padding, least_padding};
 use rv_object_types::Relocation;

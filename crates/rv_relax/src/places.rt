@@ -2,7 +2,7 @@
 
 ghost use Rattle.std.specs.Prelude.{◌≡◌, ◌-◌, nat_le, IfOk};
 ghost use Rattle.rv_layout_laws.specs.Calls.{InOrder, bytes_of, is_call as is_call_site, whole_sizes};
-ghost use Rattle.rv_shorten.specs.Walk.{site_end};
+ghost use Rattle.rv_cut_laws.specs.Walk.{site_end};
 ghost use Rattle.rv_relax.specs.Passes.{AreTargets, IsPlace, LeadsTo};
 
 use rv_layout_laws::{Site, SiteKind};

@@ -22,7 +22,7 @@ use Rattle.rv_resolve.specs.declared.names.Names.{Names}
 use Rattle.rv_resolve.specs.Names.{IsNames}
 use Rattle.rv_resolve.specs.Shown.{shown_exports, export_at, is_chosen_at, shown_in}
 use Rattle.rv_resolve.proofs.ChosenLemmas.{kept_some}
-use Rattle.rv_resolve.proofs.StepsLemmas.{left, left_at}
+use Rattle.rv_object_laws.proofs.StepsLemmas.{left, left_at}
 use Rattle.rv_resolve.proofs.TableLemmas.{copied_some}
 
 -- ---- the linker's

@@ -11,8 +11,8 @@ use Rattle.rv_object_laws.specs.Names.{Export, is_export, exports_in, exports_fr
 use Rattle.rv_resolve.specs.declared.definitions.Exported.{Exported}
 use Rattle.rv_resolve.specs.Chosen.{seen, seen_of, Definer, definers_in, definers_from, definitions, names_in, first_named, definer}
 use Rattle.rv_resolve.specs.Names.{exported_of, IsAt}
-use Rattle.rv_resolve.proofs.HeldLemmas.{IsHeld, candidates_held, all_found, found_passes}
-use Rattle.rv_resolve.proofs.TableLemmas.{same_bytes, still_some, still_none}
+use Rattle.rv_object_laws.proofs.ChosenLemmas.{chosen_held}
+use Rattle.rv_resolve.proofs.TableLemmas.{still_some, still_none}
 
 -- ---- one by one they are the definitions of the laws
 
@@ -68,12 +68,6 @@ pub definer_is : (os : List Object) (name : List ℕ) → definer os name ≡ op
 definer_is os name = ap (λ ds. first_named ds name) (definitions_are os) ∙ found_in (candidates os) name
 
 -- ---- what a name means
-
-pub chosen_held : (os : List Object) (name : List ℕ) (e : Export) → chosen os name ≡ Some e → IsHeld os e
-chosen_held os name e is = all_found (IsHeld os) (λ (f : Export). bytes_eq f.symbol.name name) (candidates os) e (candidates_held os) is
-
-pub chosen_named : (os : List Object) (name : List ℕ) (e : Export) → chosen os name ≡ Some e → e.symbol.name ≡ name
-chosen_named os name e is = same_bytes e.symbol.name name (found_passes (λ (f : Export). bytes_eq f.symbol.name name) (candidates os) e is)
 
 -- what is kept of it
 abbrev pub kept : Export → Exported

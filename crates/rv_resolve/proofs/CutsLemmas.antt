@@ -12,10 +12,10 @@ use Rattle.rv_object_types.specs.Parts.{symbol_of}
 use Rattle.rv_object_laws.specs.Moves.{Move}
 use Rattle.rv_object_laws.specs.Names.{is_defined}
 use Rattle.rv_shorten.specs.declared.object.ShortObject.{ShortObject}
-use Rattle.rv_shorten.specs.Cutting.{cut_definition, cut_relocation, cut_symbol}
+use Rattle.rv_cut_laws.specs.Cutting.{cut_definition, cut_relocation, cut_symbol}
 use Rattle.rv_shorten.specs.View.{moves_by_section, short_object_of}
 use Rattle.rv_resolve.specs.Moved.{moved_in, short_symbols}
-use Rattle.rv_resolve.specs.Undefined.{first_some, has_address}
+use Rattle.rv_object_laws.specs.Undefined.{first_some, has_address}
 
 -- ---- the symbols that it has
 

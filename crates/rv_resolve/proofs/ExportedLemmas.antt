@@ -12,10 +12,11 @@ use Rattle.rv_object_laws.specs.Names.{Export, is_defined, is_export, chosen, is
 use Rattle.rv_resolve.specs.Chosen.{definer}
 use Rattle.rv_resolve.specs.Names.{exported_of, is_kept}
 use Rattle.rv_resolve.specs.Shown.{export_at, is_chosen_at}
-use Rattle.rv_resolve.proofs.ChosenLemmas.{kept, kept_is, chosen_held}
-use Rattle.rv_resolve.proofs.HeldLemmas.{IsHeld, held_one}
-use Rattle.rv_resolve.proofs.LinkerNamesLemmas.{same_tests}
-use Rattle.rv_resolve.proofs.ShownLemmas.{chosen_kept, global_chosen}
+use Rattle.rv_resolve.proofs.ChosenLemmas.{kept, kept_is}
+use Rattle.rv_object_laws.proofs.ChosenLemmas.{chosen_held}
+use Rattle.rv_object_laws.proofs.HeldLemmas.{IsHeld, held_one}
+use Rattle.rv_object_laws.proofs.LinkerNamesLemmas.{same_tests}
+use Rattle.rv_object_laws.proofs.ShownLemmas.{chosen_kept, global_chosen}
 
 -- the numbers of a file and of an index there, from 0, tell a definition
 same_place : (file index : ℕ) (e f : Export) → e.file ≡ file + 1 → e.index ≡ index → f.file - 1 + 1 ≡ f.file → is_kept file index (Some (kept f)) ≡ is_this e (Some f)

@@ -13,11 +13,11 @@ use Rattle.rv_object_laws.specs.Names.{global_names}
 use Rattle.rv_resolve.specs.declared.definitions.Definitions.{Definitions}
 use Rattle.rv_resolve.specs.declared.fault.ResolveFault.{ResolveFault}
 use Rattle.rv_resolve.specs.Chosen.{Seen, seen, seen_of, Definer, definers_at, definers_in, definers_from, names_in}
-use Rattle.rv_resolve.specs.Exports.{first_again, first_duplicate}
+use Rattle.rv_object_laws.specs.Exports.{first_again, first_duplicate}
 use Rattle.rv_resolve.specs.Names.{IsDefinitionTable, IsDuplicate, IsRefused}
 use Rattle.rv_resolve.proofs.ChosenLemmas.{global_names_are}
 use Rattle.rv_resolve.proofs.DistinctLemmas.{all_apart}
-use Rattle.rv_resolve.proofs.StepsLemmas.{left}
+use Rattle.rv_object_laws.proofs.StepsLemmas.{left}
 
 -- ---- what is left
 

@@ -15,11 +15,11 @@ use Rattle.rv_object_types.specs.Bindings.{is_weak}
 use Rattle.rv_object_laws.specs.Names.{Export, Outer, is_sure, chosen, defined_address, offset_address, outer_address, symbol_address}
 use Rattle.rv_object_laws.specs.Values.{target}
 use Rattle.rv_object_laws.proofs.TextInputsLemmas.{all_append}
-use Rattle.rv_resolve.specs.Undefined.{has_address, is_loaded_at, is_known, is_resolved, linker_names, undefined_symbol, undefined_name, undefined_in, first_some, first_undefined}
+use Rattle.rv_object_laws.specs.Undefined.{has_address, is_loaded_at, is_known, is_resolved, linker_names, undefined_symbol, undefined_name, undefined_in, first_some, first_undefined}
 use Rattle.rv_resolve.specs.Resolved.{AreResolved}
-use Rattle.rv_resolve.proofs.FirstSomeLemmas.{each_none}
-use Rattle.rv_resolve.proofs.LinkerNamesLemmas.{some_address}
-use Rattle.rv_resolve.proofs.ShownLemmas.{every, outer_some, outer_none}
+use Rattle.rv_object_laws.proofs.FirstSomeLemmas.{each_none}
+use Rattle.rv_object_laws.proofs.LinkerNamesLemmas.{some_address}
+use Rattle.rv_object_laws.proofs.ShownLemmas.{every, outer_some, outer_none}
 
 some_if : (b : Bool) (n : ℕ) → b ≡ true → is_some (if b then Some n else None) ≡ true
 some_if b n e = ap (λ c. is_some (if c then Some n else None)) e

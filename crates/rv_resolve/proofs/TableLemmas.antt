@@ -7,17 +7,14 @@ use Rattle.std.specs.List.{find}
 use Rattle.std.specs.Option.{option_or, option_copied}
 use Rattle.std.proofs.lemmas.List.{map-append}
 use Rattle.std.proofs.lemmas.List.Folds.{find-append}
-use Rattle.std.proofs.lemmas.Slice.Eq.{bytes_eq-Decides}
 use Rattle.rv_map.specs.Globals.{is_one_of}
 use Rattle.rv_object_types.specs.declared.symbol.Binding.{Binding}
+use Rattle.rv_object_laws.proofs.ChosenLemmas.{same_bytes}
 use Rattle.rv_resolve.specs.declared.definitions.Definitions.{Definitions}
 use Rattle.rv_resolve.specs.declared.definitions.Exported.{Exported}
 use Rattle.rv_resolve.specs.Chosen.{Seen, Definer, definers_at, names_in, first_named}
-use Rattle.rv_resolve.specs.Exports.{first_again}
+use Rattle.rv_object_laws.specs.Exports.{first_again}
 use Rattle.rv_resolve.specs.Names.{exported_of, IsDefinitionTable}
-
-pub same_bytes : (x y : List ℕ) → bytes_eq x y ≡ true → x ≡ y
-same_bytes x y e = (bytes_eq-Decides x y).0 e
 
 -- a name is that of an element where one is found by it
 pub one_of_named : {X : Type 0} (own : X → List ℕ) (xs : List X) (name : List ℕ) → is_one_of (map own xs) name ≡ is_some (find (λ x. bytes_eq (own x) name) xs)

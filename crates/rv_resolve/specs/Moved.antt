@@ -7,7 +7,7 @@ use Rattle.rv_object_types.specs.declared.symbol.Symbol.{Symbol as DeclaredSymbo
 use Rattle.rv_object_types.specs.Object.{Symbol}
 use Rattle.rv_object_types.specs.Parts.{symbol_of}
 use Rattle.rv_shorten.specs.declared.object.ShortObject.{ShortObject}
-use Rattle.rv_shorten.specs.Cutting.{cut_symbol}
+use Rattle.rv_cut_laws.specs.Cutting.{cut_symbol}
 use Rattle.rv_shorten.specs.View.{moves_by_section}
 
 -- one of its symbols, as it has moved

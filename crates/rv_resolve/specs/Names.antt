@@ -18,7 +18,7 @@ use Rattle.rv_resolve.specs.declared.meanings.Meanings.{Meanings}
 use Rattle.rv_resolve.specs.declared.names.Meant.{Meant}
 use Rattle.rv_resolve.specs.declared.names.Names.{Names}
 use Rattle.rv_resolve.specs.Chosen.{Definer, Seen, seen_of, definitions, names_in, first_named}
-use Rattle.rv_resolve.specs.Exports.{first_again}
+use Rattle.rv_object_laws.specs.Exports.{first_again}
 
 -- what is kept of a symbol that defines a name for all files
 abbrev pub exported_of : Definer → Exported

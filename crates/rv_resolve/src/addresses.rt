@@ -13,7 +13,7 @@ ghost use Rattle.rv_object_types.specs.Bindings as bindings;
 ghost use Rattle.rv_object_laws.specs.Collects.{entry_place, run_place};
 ghost use Rattle.rv_object_laws.specs.Names as laws;
 ghost use Rattle.rv_placement.specs.Placement.{starts_of, IsPlacement};
-ghost use Rattle.rv_resolve.specs.Entry.{has_entry};
+ghost use Rattle.rv_object_laws.specs.Entry.{has_entry};
 ghost use Rattle.rv_resolve.specs.Names.{IsAt, IsNames, place_of};
 ghost use Rattle.rv_resolve.specs.Shown.{outer_in, regions_of};
 ghost use Rattle.rv_shorten.specs.View.{short_object_of};

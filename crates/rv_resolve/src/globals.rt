@@ -15,7 +15,7 @@ ghost use Rattle.rv_placement.specs.Placement.{IsPlacement};
 ghost use Rattle.rv_resolve.specs.Chosen.{definer};
 ghost use Rattle.rv_resolve.specs.Names.{IsNames, exported_of, is_kept};
 ghost use Rattle.rv_resolve.specs.Shown.{shown_globals, regions_of, shown_in, is_chosen_at, listed};
-ghost use Rattle.rv_shorten.specs.Cutting.{cut_symbol};
+ghost use Rattle.rv_cut_laws.specs.Cutting.{cut_symbol};
 ghost use Rattle.rv_shorten.specs.View.{short_object_of};
 
 use crate::addresses::{defined_address, global_pointer};

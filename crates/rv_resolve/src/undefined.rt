@@ -14,8 +14,8 @@ ghost use Rattle.rv_object_laws.specs.Moves.{Move};
 ghost use Rattle.rv_object_laws.specs.Names.{chosen, globals_of, is_sure as means_own, outer_address, shown_linker_symbols};
 ghost use Rattle.rv_resolve.specs.Names.{IsNames, name_bytes};
 ghost use Rattle.rv_resolve.specs.Resolved.{AreResolved};
-ghost use Rattle.rv_resolve.specs.Undefined as laws;
-ghost use Rattle.rv_shorten.specs.Cutting.{cut_symbol};
+ghost use Rattle.rv_object_laws.specs.Undefined as laws;
+ghost use Rattle.rv_cut_laws.specs.Cutting.{cut_symbol};
 ghost use Rattle.rv_shorten.specs.View.{short_object_of};
 
 use crate::names::Names;

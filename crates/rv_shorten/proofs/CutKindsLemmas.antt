@@ -3,12 +3,12 @@
 use Rattle.std.proofs.Common.{◌≡◌, ℕ, zero, suc, ◌<◌, ◌≤◌, ◌≢◌, ◌⊎◌, inl, inr, nat_lt, Bool, true, false, cond, List, [], ◌∷◌, Option, Some, None, length, map, slice_index_or, refl, sym, ap, ◌∙◌, arith}
 use Rattle.std.specs.Prelude.{◌==◌}
 use Rattle.std.specs.List.{AllWithin}
-use Rattle.std.proofs.lemmas.Bool.{eq-eqb, ne_eqb, ltb-true, ltb-false}
+use Rattle.std.proofs.lemmas.Bool.{eq-eqb, ne_eqb, ltb-true, ltb-false, eqb-true}
 use Rattle.rv_isa.specs.declared.kind.Kind.{Kind}
 use Rattle.rv_isa.specs.declared.kind.Kind.TheVariants as kinds
 use Rattle.rv_object_laws.specs.Moves.{Move}
 use Rattle.rv_shorten.specs.Cut.{Cut, move_of, are_in_order}
-use Rattle.rv_shorten.specs.Cutting.{cut_at, kind_left}
+use Rattle.rv_cut_laws.specs.Cutting.{cut_at, kind_left}
 use Rattle.rv_shorten.proofs.OrderLemmas.{length_left, as_pieces}
 use Rattle.rv_shorten.proofs.PiecedLemmas.{rising}
 
@@ -65,3 +65,7 @@ pub same_at : (cs : List Cut) (k : ℕ) (d e : Cut) → k < length cs → (slice
 same_at [] k d e inside = absurd (omega arith)
 same_at (c ∷ cs) zero d e inside = refl
 same_at (c ∷ cs) (suc k) d e inside = same_at cs k d e (omega arith)
+
+pub none_of_none : (cs : List Cut) → (length cs == 0) ≡ true → map move_of cs ≡ []
+none_of_none [] is = refl
+none_of_none (c ∷ cs) is = let none = eqb-true (length (c ∷ cs)) 0 is in absurd (omega arith)

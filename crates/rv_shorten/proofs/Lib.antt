@@ -2,17 +2,5 @@ pub mod PiecedLemmas
 pub mod OrderLemmas
 pub mod LossesLemmas
 pub mod CutKindsLemmas
-pub mod CallKindsLemmas
-pub mod ShiftsLemmas
 pub mod RunningLemmas
-pub mod FieldsLemmas
-pub mod PaddingsLemmas
-pub mod ShortLemmas
-pub mod StaysLemmas
-pub mod UncutLemmas
 pub mod StepsLemmas
-pub mod ListsLemmas
-pub mod ChangesLemmas
-pub mod SectionsLemmas
-pub mod LineLemmas
-pub mod LaidLemmas

@@ -10,9 +10,9 @@ use Rattle.rv_isa_laws.specs.Bytes.{little_endian}
 use Rattle.rv_object_laws.specs.Moves.{kept}
 use Rattle.rv_object_laws.specs.Shortened.{short_call}
 use Rattle.rv_shorten.specs.Cut.{Cut, cut_left, move_of}
-use Rattle.rv_shorten.specs.Cutting.{are_cuts}
+use Rattle.rv_cut_laws.specs.Cutting.{are_cuts}
 use Rattle.rv_shorten.specs.Bytes.{room_before}
-use Rattle.rv_shorten.proofs.ShiftsLemmas.{first_cut, length_kept_from}
+use Rattle.rv_cut_laws.proofs.ShiftsLemmas.{first_cut, length_kept_from}
 
 -- ---- numbers
 

@@ -13,10 +13,11 @@ use Rattle.rv_object_laws.specs.Moves.{Move, kept}
 use Rattle.rv_object_laws.specs.CallSites.{link_register}
 use Rattle.rv_object_laws.specs.Shortened.{empty_jump, empty_jal, short_call, shortened_contents}
 use Rattle.rv_shorten.specs.Cut.{Cut, cut_left, move_of, is_next, are_in_order}
-use Rattle.rv_shorten.specs.Cutting.{are_cuts, AreCuts, cut_section, cut_sections, cut_object}
-use Rattle.rv_shorten.specs.Walk.{moves_of, cut_of, is_cut_site, cuts_of, gone_of, passed, passed_all, section_moves, object_moves, walked}
-use Rattle.rv_shorten.proofs.ShiftsLemmas.{first_cut, other_cuts}
-use Rattle.rv_shorten.proofs.ShortLemmas.{none_in_zeros}
+use Rattle.rv_cut_laws.specs.Cutting.{are_cuts, AreCuts, cut_section, cut_sections, cut_object}
+use Rattle.rv_cut_laws.specs.Walk.{moves_of, passed, passed_all, section_moves, object_moves, walked}
+use Rattle.rv_shorten.specs.SiteCuts.{cut_of, is_cut_site, cuts_of, gone_of}
+use Rattle.rv_cut_laws.proofs.ShiftsLemmas.{first_cut, other_cuts}
+use Rattle.rv_cut_laws.proofs.ShortLemmas.{none_in_zeros}
 
 -- what is left of a call is 2 bytes or 4
 short_same : (k link : ℕ) → short_call (cond (k == 2) 2 4) link ≡ short_call k link

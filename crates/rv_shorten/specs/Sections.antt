@@ -6,7 +6,7 @@ use Rattle.rv_object_types.specs.Sections.{section_of}
 use Rattle.rv_object_laws.specs.Moves.{Move}
 use Rattle.rv_shorten.specs.declared.section.ShortSection.{ShortSection}
 use Rattle.rv_shorten.specs.Cut.{move_of}
-use Rattle.rv_shorten.specs.Cutting.{cut_section}
+use Rattle.rv_cut_laws.specs.Cutting.{cut_section}
 
 -- the section as it was
 abbrev pub whole_section_of : ShortSection → Section

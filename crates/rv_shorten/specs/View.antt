@@ -5,7 +5,7 @@ use Rattle.rv_object_types.specs.Object.{Object}
 use Rattle.rv_object_types.specs.Parts.{symbol_of}
 use Rattle.rv_object_laws.specs.Moves.{Move}
 use Rattle.rv_shorten.specs.declared.object.ShortObject.{ShortObject}
-use Rattle.rv_shorten.specs.Cutting.{cut_symbol, cut_row_of}
+use Rattle.rv_cut_laws.specs.Cutting.{cut_symbol, cut_row_of}
 use Rattle.rv_shorten.specs.Sections.{moves_in_all, short_section_of, whole_section_of}
 
 -- the object as it was

@@ -8,7 +8,7 @@ ghost use Rattle.rv_isa_laws.specs.Bytes.{little_endian};
 ghost use Rattle.rv_object_laws.specs.Moves.{kept};
 ghost use Rattle.rv_object_laws.specs.Shortened.{short_call};
 ghost use Rattle.rv_shorten.specs.Cut.{cut_left, move_of};
-ghost use Rattle.rv_shorten.specs.Cutting.{are_cuts};
+ghost use Rattle.rv_cut_laws.specs.Cutting.{are_cuts};
 
 use crate::cut::Cut;
 use rv_compress::{Compressed, write};

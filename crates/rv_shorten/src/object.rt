@@ -7,7 +7,7 @@ ghost use Rattle.std.specs.Prelude.{◌≡◌, true, IsTrue, map};
 ghost use Rattle.rv_object_types.specs.Valid.{are_rows};
 ghost use Rattle.rv_object_types.specs.View.{object_of};
 ghost use Rattle.rv_shorten.specs.Cut.{are_in_order, move_of};
-ghost use Rattle.rv_shorten.specs.Cutting as cutting;
+ghost use Rattle.rv_cut_laws.specs.Cutting as cutting;
 ghost use Rattle.rv_shorten.specs.Sections.{moves_in_all, short_section_of, whole_section_of};
 
 use crate::cut::Cut;

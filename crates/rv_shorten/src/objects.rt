@@ -6,7 +6,7 @@ ghost use Rattle.rv_object_types.specs.View.{object_of};
 ghost use Rattle.rv_object_laws.specs.CallSites.{sites_of};
 ghost use Rattle.rv_object_laws.specs.Shortened.{shortened};
 ghost use Rattle.rv_shorten.specs.View.{short_object_of, whole_object_of};
-ghost use Rattle.rv_shorten.specs.Walk.{AreWalked, walked};
+ghost use Rattle.rv_cut_laws.specs.Walk.{AreWalked, walked};
 
 use crate::object::ShortObject;
 use crate::sites::short_sections;

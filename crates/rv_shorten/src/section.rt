@@ -7,7 +7,7 @@ ghost use Rattle.rv_object_types.specs.Sections.{section_of};
 ghost use Rattle.rv_object_laws.specs.Inputs as inputs;
 ghost use Rattle.rv_object_laws.specs.Moves.{new_offset as offset_of};
 ghost use Rattle.rv_shorten.specs.Cut.{are_in_order, move_of};
-ghost use Rattle.rv_shorten.specs.Cutting.{AreCuts, are_cuts, cut_relocation, cut_section, fits, keeps_paddings};
+ghost use Rattle.rv_cut_laws.specs.Cutting.{AreCuts, are_cuts, cut_relocation, cut_section, fits, keeps_paddings};
 
 use crate::bytes::LeftBytes;
 use crate::cut::Cut;

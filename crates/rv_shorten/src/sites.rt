@@ -9,9 +9,10 @@ ghost use Rattle.rv_object_types.specs.Sections.{section_of};
 ghost use Rattle.rv_object_laws.specs.Inputs.{goes_to_text};
 ghost use Rattle.rv_layout_laws.specs.Calls as calls;
 ghost use Rattle.rv_shorten.specs.Cut.{are_in_order, move_of};
-ghost use Rattle.rv_shorten.specs.Cutting.{AllCut, are_cuts, cut_sections};
+ghost use Rattle.rv_cut_laws.specs.Cutting.{AllCut, are_cuts, cut_sections};
 ghost use Rattle.rv_shorten.specs.Sections.{moves_in_all, short_section_of, whole_section_of};
-ghost use Rattle.rv_shorten.specs.Walk as walk;
+ghost use Rattle.rv_cut_laws.specs.Walk as walk;
+ghost use Rattle.rv_shorten.specs.SiteCuts as site_cuts;
 
 use crate::cut::Cut;
 use crate::section::ShortSection;
@@ -88,7 +89,7 @@ fn passed(section: &Section<'_>, sites: &[Site]) -> usize
 /// A call at a place, of which so many bytes are kept.
 fn cut(bytes: &[u8], place: u64, gone: u64, left: u32) -> Cut
     requires { place + 8 ≤ length bytes.now }
-    ensures { result ≡ walk.cut_of place gone bytes.now left }
+    ensures { result ≡ site_cuts.cut_of place gone bytes.now left }
 {
     Cut {
         place,
@@ -109,11 +110,11 @@ fn put_site(
     site: &Site,
     left: u32,
 ) -> Result<u64, AllocError>
-    requires inside { walk.is_cut_site site.now left ≡ true
+    requires inside { site_cuts.is_cut_site site.now left ≡ true
         → (place + 8 ≤ length bytes.now) × (gone ≤ place) }
     ensures items { OnOk result (cuts.new.items
-        ≡ cuts.old.items ++ walk.cuts_of place gone bytes.now site.now left) }
-    ensures gone { IfOk result (λ g. g ≡ gone + walk.gone_of site.now left) }
+        ≡ cuts.old.items ++ site_cuts.cuts_of place gone bytes.now site.now left) }
+    ensures gone { IfOk result (λ g. g ≡ gone + site_cuts.gone_of site.now left) }
 {
     if !is_call(site) || left >= 8 {
         return Ok(gone);

@@ -12,7 +12,7 @@ use Rattle.rv_object_laws.specs.Moves.{moves, new_offset}
 use Rattle.rv_object_laws.specs.Inputs.{Starts}
 use Rattle.rv_object_laws.specs.Names.{Export, offset_address, defined_address, chosen, chosen_exports, export_address, globals_of, begins_run, run_start, entry_of}
 use Rattle.rv_object_laws.specs.IsLinkOf.{moves_at, map_row, row_in, inserted_row, by_ordinal, rows_of}
-use Rattle.rv_resolve.specs.Undefined.{is_loaded_at}
+use Rattle.rv_object_laws.specs.Undefined.{is_loaded_at}
 use Rattle.rv_unique_link_laws.specs.Asked.{HavePlacedRows}
 use Rattle.rv_unique_link_laws.proofs.ExportsLemmas.{OfExport, of_chosen, all_chosen}
 use Rattle.rv_unique_link_laws.proofs.AgreedLemmas.{IsAgreed, AreAgreed}

@@ -8,7 +8,7 @@ use Rattle.std.proofs.lemmas.Slice.Eq.{bytes_eq-Decides}
 use Rattle.rv_map.specs.Globals.{is_one_of, AreDistinct}
 use Rattle.rv_object_types.specs.Object.{Object}
 use Rattle.rv_object_laws.specs.Names.{global_names}
-use Rattle.rv_resolve.specs.Exports.{first_again, first_duplicate}
+use Rattle.rv_object_laws.specs.Exports.{first_again, first_duplicate}
 
 -- none of these names is among others
 abbrev AreNew : List (List ℕ) → List (List ℕ) → Type 0

@@ -8,7 +8,7 @@ use Rattle.rv_object_types.specs.Object.{Symbol, Object}
 use Rattle.rv_object_types.specs.Bindings.{is_global, is_weak, is_shared}
 use Rattle.rv_object_laws.specs.Names.{Export, is_export, exports_in, exports_from, exports_where, is_chosen, chosen_exports, candidates, chosen}
 use Rattle.rv_object_laws.proofs.TextInputsLemmas.{all_append}
-use Rattle.rv_resolve.proofs.HeldLemmas.{all_found}
+use Rattle.rv_object_laws.proofs.HeldLemmas.{all_found}
 
 module _ (P : ℕ → Object → Type 0) where
   -- files from a number on

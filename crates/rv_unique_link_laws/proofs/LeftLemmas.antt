@@ -9,7 +9,7 @@ use Rattle.rv_object_types.specs.Object.{Section, Object}
 use Rattle.rv_object_laws.specs.Inputs.{goes_to_text}
 use Rattle.rv_object_laws.specs.CallSites.{sites_of}
 use Rattle.rv_object_laws.specs.Shortened.{Sizes, sizes_by, shortened_text, shortened_section, shortened_sections, shortened_row, shortened_from, shortened, Relaxes}
-use Rattle.rv_resolve.specs.Undefined.{is_loaded_at}
+use Rattle.rv_object_laws.specs.Undefined.{is_loaded_at}
 use Rattle.rv_unique_link_laws.specs.Asked.{HavePlacedRows}
 
 -- ---- one list

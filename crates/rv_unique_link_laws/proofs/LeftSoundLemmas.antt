@@ -16,13 +16,13 @@ use Rattle.rv_object_laws.specs.Shortened.{Relaxes}
 use Rattle.rv_object_laws.specs.Without.{without}
 use Rattle.rv_object_laws.proofs.TextInputsLemmas.{IsTextInput}
 use Rattle.rv_object_laws.proofs.TextLineLemmas.{text}
-use Rattle.rv_shorten.specs.Cutting.{AreCuts, AllCut, cut_section, cut_sections, cut_object}
-use Rattle.rv_shorten.specs.Walk.{AreWalked, walked, object_moves, passed_all}
-use Rattle.rv_shorten.proofs.ShortLemmas.{fit_stays, paddings_stay}
-use Rattle.rv_shorten.proofs.StaysLemmas.{all_fit, rows_stay}
-use Rattle.rv_shorten.proofs.LineLemmas.{AreSound, AllSound}
-use Rattle.rv_shorten.proofs.LaidLemmas.{walk_is}
-use Rattle.rv_link.proofs.LinksLemmas.{all_both}
+use Rattle.rv_cut_laws.specs.Cutting.{AreCuts, AllCut, cut_section, cut_sections, cut_object}
+use Rattle.rv_cut_laws.specs.Walk.{AreWalked, walked, object_moves, passed_all}
+use Rattle.rv_cut_laws.proofs.ShortLemmas.{fit_stays, paddings_stay}
+use Rattle.rv_cut_laws.proofs.StaysLemmas.{all_fit, rows_stay}
+use Rattle.rv_cut_laws.proofs.LineLemmas.{AreSound, AllSound}
+use Rattle.rv_cut_laws.proofs.LaidLemmas.{walk_is}
+use Rattle.rv_object_laws.proofs.ListsLemmas.{all_both}
 use Rattle.rv_unique_link_laws.specs.Asked.{LeavesEven, IsSound}
 use Rattle.rv_unique_link_laws.proofs.FoundLemmas.{EachOf, all_of}
 use Rattle.rv_unique_link_laws.proofs.ValuesLemmas.{all_at}

@@ -12,8 +12,8 @@ use Rattle.rv_object_laws.specs.Inputs.{Starts, has_no_bytes, goes_to_text, goes
 use Rattle.rv_object_laws.specs.Names.{Outer, outer_address, globals_of, shown_linker_symbols}
 use Rattle.rv_object_laws.specs.Values.{target, value, IsRelocated, linked_bytes}
 use Rattle.rv_object_laws.specs.IsLinkOf.{is_loaded, outer_of, IsLinkOf}
-use Rattle.rv_resolve.specs.Undefined.{first_undefined}
-use Rattle.rv_link.proofs.LinksLemmas.{all_both}
+use Rattle.rv_object_laws.specs.Undefined.{first_undefined}
+use Rattle.rv_object_laws.proofs.ListsLemmas.{all_both}
 use Rattle.rv_unique_link_laws.specs.Asked.{HavePlacedRows}
 use Rattle.rv_unique_link_laws.proofs.FoundLemmas.{all_map}
 use Rattle.rv_unique_link_laws.proofs.AgreedLemmas.{StartsSame, AreAgreed, AreLaid, AreOne, gaps_same, contents_same, laid_same}

@@ -10,9 +10,9 @@ use Rattle.rv_object_laws.specs.IsLinkOf.{most_files, is_loaded}
 use Rattle.rv_placement.specs.declared.placement.Placement.{Placement}
 use Rattle.rv_placement.specs.Placement.{starts_of, memory_of, IsPlacement, IsTooLarge, HasRoom}
 use Rattle.rv_isa_laws.specs.Platform.{stack_start, memory_limit}
-use Rattle.rv_resolve.specs.Entry.{has_entry}
-use Rattle.rv_resolve.specs.Exports.{first_duplicate}
-use Rattle.rv_resolve.specs.Undefined.{first_undefined}
+use Rattle.rv_object_laws.specs.Entry.{has_entry}
+use Rattle.rv_object_laws.specs.Exports.{first_duplicate}
+use Rattle.rv_object_laws.specs.Undefined.{first_undefined}
 use Rattle.rv_reloc.specs.declared.fault.LinkFault.{LinkFault}
 use Rattle.rv_reloc.specs.declared.fault.LinkFault.TheVariants.{Overflow, OddTarget, DanglingPcrel, AlignmentShort, Undefined, Duplicate, EntryMissing, ImageTooLarge, BadTextStart, TooManyFiles, OutOfMemory}
 use Rattle.rv_reloc.specs.Fault.{link_fault_number}

@@ -7,9 +7,9 @@ use Rattle.rv_object_types.specs.Object.{Object}
 use Rattle.rv_object_laws.specs.IsLinkOf.{IsLinkOf}
 use Rattle.rv_isa_laws.specs.Platform.{stack_start, memory_limit}
 use Rattle.rv_placement.specs.Placement.{starts_of, memory_of, IsTooLarge}
-use Rattle.rv_resolve.specs.Exports.{first_duplicate}
-use Rattle.rv_resolve.specs.Undefined.{first_undefined}
-use Rattle.rv_resolve.proofs.EntryLemmas.{entry_some}
+use Rattle.rv_object_laws.specs.Exports.{first_duplicate}
+use Rattle.rv_object_laws.specs.Undefined.{first_undefined}
+use Rattle.rv_object_laws.proofs.EntryLemmas.{entry_some}
 use Rattle.rv_reloc.specs.declared.fault.LinkFault.{LinkFault}
 use Rattle.rv_reloc.specs.declared.fault.LinkFault.TheVariants.{Overflow, OddTarget, DanglingPcrel, AlignmentShort, Undefined, Duplicate, EntryMissing, ImageTooLarge, BadTextStart, TooManyFiles, OutOfMemory}
 use Rattle.rv_link.specs.Refusals.{LacksRoom, LacksEntry, IsUnapplied, IsUnlinked}

@@ -14,12 +14,12 @@ use Rattle.rv_placement.specs.declared.placement.Placement.{Placement}
 use Rattle.rv_placement.specs.Placement.{starts_of, are_roomy, IsPlacement, AreRoomy}
 use Rattle.rv_placement.proofs.RoomsLemmas.{are_rooms}
 use Rattle.rv_resolve.specs.Shown.{regions_of, outer_in}
-use Rattle.rv_resolve.specs.Undefined.{first_undefined}
+use Rattle.rv_object_laws.specs.Undefined.{first_undefined}
 use Rattle.rv_reloc.specs.declared.fault.LinkFault.{LinkFault}
 use Rattle.rv_reloc.specs.declared.fault.LinkFault.TheVariants.{Overflow, OddTarget, DanglingPcrel, AlignmentShort, Undefined, Duplicate, EntryMissing, ImageTooLarge, BadTextStart, TooManyFiles, OutOfMemory}
 use Rattle.rv_link.specs.Filled.{IsTaken}
 use Rattle.rv_link.specs.Untaken.{IsUntaken, AreTaken, AreUntaken, IsFirstUntaken}
-use Rattle.rv_link.proofs.LinksLemmas.{all_both}
+use Rattle.rv_object_laws.proofs.ListsLemmas.{all_both}
 use Rattle.rv_unique_link_laws.specs.Same.{IsSameFault}
 use Rattle.rv_unique_link_laws.proofs.AgreedLemmas.{StartsSame, stand_same, AreLaid, AreOne, laid_same}
 use Rattle.rv_unique_link_laws.proofs.ProgramLemmas.{every_same, values_between, linked_laid, linked_meant}

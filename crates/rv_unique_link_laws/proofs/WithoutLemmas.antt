@@ -15,7 +15,7 @@ use Rattle.rv_object_laws.specs.IsProgramOf.{Leaves}
 use Rattle.rv_object_laws.specs.Shortened.{Relaxes}
 use Rattle.rv_object_laws.specs.Without.{without_section, without_sections, without_object, without_from, without}
 use Rattle.rv_object_laws.proofs.WithoutLemmas.{section_left}
-use Rattle.rv_resolve.specs.Undefined.{is_loaded_at}
+use Rattle.rv_object_laws.specs.Undefined.{is_loaded_at}
 use Rattle.rv_unique_link_laws.specs.Asked.{HasPlacedRows, HavePlacedRows, IsSound}
 use Rattle.rv_unique_link_laws.proofs.LeftLemmas.{one_left}
 use Rattle.rv_object_laws.proofs.WholeLemmas.{by_paddings as no_paddings, by_fits as nothing_inside}

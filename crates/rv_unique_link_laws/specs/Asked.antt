@@ -8,7 +8,7 @@ use Rattle.rv_object_types.specs.Valid.{is_section_alignment, fit_inside, are_pa
 use Rattle.rv_object_laws.specs.Inputs.{Starts, goes_to_text, inputs, Stand}
 use Rattle.rv_object_laws.specs.Names.{entry_of}
 use Rattle.rv_object_laws.specs.IsProgramOf.{Leaves}
-use Rattle.rv_resolve.specs.Undefined.{is_loaded_at}
+use Rattle.rv_object_laws.specs.Undefined.{is_loaded_at}
 
 -- ---- what each law needs
 

@@ -6,7 +6,7 @@ use Rattle.rv_object_types.specs.Object.{Object}
 use Rattle.rv_shorten.specs.declared.object.ShortObject.{ShortObject}
 use Rattle.rv_shorten.specs.View.{short_object_of}
 use Rattle.rv_resolve.specs.declared.names.Names.{Names}
-use Rattle.rv_resolve.specs.Entry.{has_entry}
+use Rattle.rv_object_laws.specs.Entry.{has_entry}
 use Rattle.rv_resolve.specs.Names.{IsNames}
 use Rattle.rv_placement.specs.declared.placement.Placement.{Placement}
 use Rattle.rv_placement.specs.Placement.{IsPlacement}

@@ -1,7 +1,7 @@
 use Rattle.std.proofs.Common.{◌<◌, ◌≤◌, nat_lt, slice_index_or, length, sym, ap, ◌∙◌, rules}
 use Rattle.std.specs.Prelude.{unwrap_or}
 use Rattle.std.specs.List.{find}
-use Rattle.rv_relax.proofs.AlignedLemmas.{alignments, found, passed}
+use Rattle.rv_cut_laws.proofs.AlignedLemmas.{alignments, found, passed}
 use Rattle.rv_relax.proofs.alignments.asked_alignment.Goals as goal
 
 pub returns-then-full-power-clause-value : goal.returns-then-full-power-clause-value

@@ -1,6 +1,6 @@
 use Rattle.std.proofs.Common.{◌≡◌, nat_lt, drop}
 use Rattle.std.specs.List.{find}
-use Rattle.rv_relax.proofs.AlignedLemmas.{alignments}
+use Rattle.rv_cut_laws.proofs.AlignedLemmas.{alignments}
 use Rattle.rv_relax.proofs.alignments.asked_alignment.Given as goal
 
 -- those so far are too low

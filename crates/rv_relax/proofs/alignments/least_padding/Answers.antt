@@ -1,5 +1,5 @@
 use Rattle.std.proofs.Common.{◌≡◌, ◌<◌, ◌-◌, ◌%◌, ap, sym, ◌∙◌, arith}
-use Rattle.rv_relax.proofs.AlignedLemmas.{some_left}
+use Rattle.rv_cut_laws.proofs.AlignedLemmas.{some_left}
 use Rattle.rv_relax.proofs.alignments.least_padding.Goals as goal
 
 pub returns-clause-value : goal.returns-clause-value

@@ -4,7 +4,8 @@ use Rattle.rv_object_types.specs.Parts.{relocation_of}
 use Rattle.rv_object_laws.specs.Moves.{alignment_of, full_padding, plan}
 use Rattle.rv_relax.specs.Paddings.{are_in_order, move_of}
 use Rattle.rv_relax.proofs.SortingLemmas.{nothing, backwards}
-use Rattle.rv_relax.proofs.PlannedLemmas.{next_alignment, other_alignments, at_hand, plan_at, least_of, planned, one_behind}
+use Rattle.rv_cut_laws.proofs.AlignmentsLemmas.{next_alignment, other_alignments}
+use Rattle.rv_relax.proofs.PlannedLemmas.{at_hand, plan_at, least_of, planned, one_behind}
 use Rattle.rv_relax.proofs.paddings.paddings.Goals as goal
 
 pub overflow_cast-full : goal.overflow_cast-full

@@ -1,7 +1,8 @@
 use Rattle.std.proofs.Common.{◌≡◌, ℕ, ◌≤◌, ◌++◌, true, length, map, take, List}
 use Rattle.rv_object_laws.specs.Moves.{plan}
 use Rattle.rv_relax.specs.Pieces.{Piece}
-use Rattle.rv_relax.specs.Paddings.{are_alignments, are_in_order, move_of}
+use Rattle.rv_cut_laws.specs.Alignments.{are_alignments}
+use Rattle.rv_relax.specs.Paddings.{are_in_order, move_of}
 use Rattle.rv_relax.proofs.SortingLemmas.{backwards}
 use Rattle.rv_relax.proofs.paddings.paddings.Given as goal
 

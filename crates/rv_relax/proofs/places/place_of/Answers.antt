@@ -3,7 +3,7 @@ use Rattle.std.proofs.lemmas.Fn.{always_returns_same}
 use Rattle.std.proofs.lemmas.Bool.{leb-true, leb-false}
 use Rattle.rv_layout_laws.specs.declared.site.Site.{Site}
 use Rattle.rv_layout_laws.specs.Calls.{site_at}
-use Rattle.rv_shorten.specs.Walk.{site_end}
+use Rattle.rv_cut_laws.specs.Walk.{site_end}
 use Rattle.rv_relax.proofs.LaidLemmas.{no_site, partitioned}
 use Rattle.rv_relax.proofs.places.place_of.Goals as goal
 

@@ -3,8 +3,8 @@ use Rattle.std.proofs.lemmas.List.{drop_more, map_push, append_assoc}
 use Rattle.rv_object_types.specs.Sections.{section_of}
 use Rattle.rv_shorten.specs.Cut.{move_of}
 use Rattle.rv_shorten.specs.Sections.{moves_in, moves_in_all, short_section_of, whole_section_of}
-use Rattle.rv_shorten.proofs.ShortLemmas.{nothing_cut}
-use Rattle.rv_shorten.proofs.UncutLemmas.{none_in}
+use Rattle.rv_cut_laws.proofs.ShortLemmas.{nothing_cut}
+use Rattle.rv_cut_laws.proofs.UncutLemmas.{none_in}
 use Rattle.rv_shorten.proofs.lent.whole_sections.Goals as goal
 
 pub loop-section-preserved : goal.loop-section-preserved

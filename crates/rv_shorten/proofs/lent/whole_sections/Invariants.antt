@@ -1,7 +1,7 @@
 use Rattle.std.proofs.Common.{◌≡◌, ◌++◌, map, drop}
 use Rattle.rv_object_types.specs.Sections.{section_of}
 use Rattle.rv_shorten.specs.Sections.{moves_in_all, short_section_of, whole_section_of}
-use Rattle.rv_shorten.proofs.UncutLemmas.{none_in}
+use Rattle.rv_cut_laws.proofs.UncutLemmas.{none_in}
 use Rattle.rv_shorten.proofs.lent.whole_sections.Given as goal
 
 abbrev pub invariant-loop-section : goal.invariant-loop-section

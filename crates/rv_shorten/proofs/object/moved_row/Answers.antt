@@ -2,7 +2,7 @@ use Rattle.std.proofs.Common.{◌≡◌, ◌-◌, ◌+◌, ◌^◌, map, min, ar
 use Rattle.rv_object_laws.specs.Moves.{new_offset, lost}
 use Rattle.rv_shorten.specs.Cut.{move_of}
 use Rattle.rv_shorten.proofs.OrderLemmas.{as_cuts, as_pieces, moves_dropped}
-use Rattle.rv_shorten.proofs.ShiftsLemmas.{dropped_within}
+use Rattle.rv_cut_laws.proofs.ShiftsLemmas.{dropped_within}
 use Rattle.rv_shorten.proofs.object.moved_row.Goals as goal
 
 pub dropped_before-before-requires : goal.dropped_before-before-requires

@@ -5,9 +5,9 @@ use Rattle.rv_layout_laws.specs.Calls.{IsText}
 use Rattle.rv_object_types.specs.View.{object_of}
 use Rattle.rv_object_laws.specs.Shortened.{shortened}
 use Rattle.rv_shorten.specs.View.{short_object_of}
-use Rattle.rv_shorten.specs.Walk.{AreWalked, walked}
-use Rattle.rv_shorten.proofs.LineLemmas.{sound_objects}
-use Rattle.rv_shorten.proofs.LaidLemmas.{walk_is}
+use Rattle.rv_cut_laws.specs.Walk.{AreWalked, walked}
+use Rattle.rv_cut_laws.proofs.LineLemmas.{sound_objects}
+use Rattle.rv_cut_laws.proofs.LaidLemmas.{walk_is}
 use Rattle.rv_shorten.proofs.objects.shorten.Goals as goal
 
 pub shorten_all-requires-clause-walked : goal.shorten_all-requires-clause-walked

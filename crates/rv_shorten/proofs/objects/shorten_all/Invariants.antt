@@ -1,7 +1,7 @@
 use Rattle.std.proofs.Common.{◌≡◌, ◌≤◌, ◌++◌, length, map, drop}
 use Rattle.rv_object_types.specs.View.{object_of}
 use Rattle.rv_shorten.specs.View.{short_object_of, whole_object_of}
-use Rattle.rv_shorten.specs.Walk.{AreWalked, walked}
+use Rattle.rv_cut_laws.specs.Walk.{AreWalked, walked}
 use Rattle.rv_shorten.proofs.objects.shorten_all.Given as goal
 
 abbrev pub invariant-loop-object : goal.invariant-loop-object

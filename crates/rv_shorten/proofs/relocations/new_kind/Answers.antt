@@ -3,7 +3,7 @@ use Rattle.std.proofs.lemmas.Bool.{eq-eqb, ne_eqb}
 use Rattle.rv_object_laws.specs.CallSites.{is_call}
 use Rattle.rv_isa.specs.declared.kind.Kind.TheVariants as kinds
 use Rattle.rv_shorten.specs.Cut.{move_of}
-use Rattle.rv_shorten.specs.Cutting.{cut_at}
+use Rattle.rv_cut_laws.specs.Cutting.{cut_at}
 use Rattle.rv_shorten.proofs.OrderLemmas.{zeros, as_pieces}
 use Rattle.rv_shorten.proofs.CutKindsLemmas.{one_at, same_at, absent, kept_kind, left_kind}
 use Rattle.rv_shorten.proofs.relocations.new_kind.Goals as goal

@@ -4,9 +4,9 @@ use Rattle.rv_layout_laws.specs.declared.site.Site.{Site}
 use Rattle.rv_object_types.specs.Object.{Section, stored}
 use Rattle.rv_object_types.specs.Sections.{section_of}
 use Rattle.rv_shorten.specs.Cut.{move_of}
-use Rattle.rv_shorten.specs.Cutting.{AreCuts, AllCut, are_cuts, cut_section, cut_sections}
+use Rattle.rv_cut_laws.specs.Cutting.{AreCuts, AllCut, are_cuts, cut_section, cut_sections}
 use Rattle.rv_shorten.specs.Sections.{moves_in, moves_in_all, short_section_of, whole_section_of}
-use Rattle.rv_shorten.specs.Walk.{own_moves, section_moves, object_moves, passed, passed_all}
+use Rattle.rv_cut_laws.specs.Walk.{own_moves, section_moves, object_moves, passed, passed_all}
 use Rattle.rv_shorten.proofs.StepsLemmas.{stored_order, one_of_object, one_left}
 use Rattle.rv_shorten.proofs.sites.short_sections.Goals as goal
 

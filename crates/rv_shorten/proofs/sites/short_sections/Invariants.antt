@@ -1,8 +1,8 @@
 use Rattle.std.proofs.Common.{◌≡◌, ◌+◌, ◌≤◌, ◌++◌, length, map, drop}
 use Rattle.rv_object_types.specs.Sections.{section_of}
-use Rattle.rv_shorten.specs.Cutting.{AllCut, cut_sections}
+use Rattle.rv_cut_laws.specs.Cutting.{AllCut, cut_sections}
 use Rattle.rv_shorten.specs.Sections.{moves_in_all, short_section_of, whole_section_of}
-use Rattle.rv_shorten.specs.Walk.{object_moves, passed_all}
+use Rattle.rv_cut_laws.specs.Walk.{object_moves, passed_all}
 use Rattle.rv_shorten.proofs.sites.short_sections.Given as goal
 
 abbrev pub invariant-loop-section : goal.invariant-loop-section

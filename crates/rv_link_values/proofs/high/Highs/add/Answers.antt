@@ -4,7 +4,7 @@ use Rattle.std.specs.BTreeMap.{get}
 use Rattle.rv_object_types.specs.Parts.{relocation_of}
 use Rattle.rv_object_laws.specs.Moves.{new_offset}
 use Rattle.rv_object_laws.specs.Values.{is_high}
-use Rattle.rv_shorten.specs.Cutting.{cut_relocation}
+use Rattle.rv_cut_laws.specs.Cutting.{cut_relocation}
 use Rattle.rv_shorten.specs.Sections.{moves_in}
 use Rattle.rv_relax.specs.Kept.{moves_of}
 use Rattle.rv_link_values.specs.declared.high.HighPlace.{HighPlace}

@@ -7,8 +7,9 @@ use Rattle.rv_object_types.specs.Parts.{relocation_of}
 use Rattle.rv_object_laws.specs.Moves.{has_padding, by_place, plan}
 use Rattle.rv_shorten.specs.Sections.{short_section_of}
 use Rattle.rv_relax.specs.Kept.{moves_of}
-use Rattle.rv_relax.specs.Paddings.{move_of, are_alignments}
-use Rattle.rv_relax.proofs.ApartLemmas.{all_apart, of_section}
+use Rattle.rv_relax.specs.Paddings.{move_of}
+use Rattle.rv_cut_laws.specs.Alignments.{are_alignments}
+use Rattle.rv_cut_laws.proofs.ApartLemmas.{all_apart, of_section}
 use Rattle.rv_relax.proofs.section_paddings.SectionPaddings.of.Goals as goal
 use Rattle.rv_relax.proofs.section_paddings.SectionPaddings.of.Goals.{then-not-section-via-then-not-section, then-not-section-via-else-not-section+then-not-section-2}
 

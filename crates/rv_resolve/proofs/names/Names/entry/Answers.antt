@@ -4,7 +4,8 @@ use Rattle.rv_object_laws.specs.Names.{chosen, defined_address, run_start}
 use Rattle.rv_placement.specs.Placement.{starts_of}
 use Rattle.rv_shorten.specs.View.{short_object_of}
 use Rattle.rv_resolve.specs.Names.{meant_of}
-use Rattle.rv_resolve.proofs.EntryLemmas.{start_name, start_kept}
+use Rattle.rv_object_laws.proofs.EntryLemmas.{start_name}
+use Rattle.rv_resolve.proofs.EntryLemmas.{start_kept}
 use Rattle.rv_resolve.proofs.MeantLemmas.{kept_held}
 use Rattle.rv_resolve.proofs.TableLemmas.{still_none}
 use Rattle.rv_resolve.proofs.names.Names.entry.Goals as goal

@@ -6,7 +6,7 @@ use Rattle.rv_placement.specs.Placement.{starts_of}
 use Rattle.rv_shorten.specs.View.{short_object_of}
 use Rattle.rv_resolve.specs.Shown.{regions_of}
 use Rattle.rv_resolve.proofs.AddingLemmas.{files_shown, file_more}
-use Rattle.rv_resolve.proofs.StepsLemmas.{viewed, there}
+use Rattle.rv_object_laws.proofs.StepsLemmas.{viewed, there}
 use Rattle.rv_resolve.proofs.names.Names.globals.Goals as goal
 
 pub loop-file-preserved : goal.loop-file-preserved

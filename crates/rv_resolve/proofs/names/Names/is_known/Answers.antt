@@ -7,7 +7,7 @@ use Rattle.rv_object_laws.specs.Names.{chosen}
 use Rattle.rv_shorten.specs.View.{short_object_of}
 use Rattle.rv_resolve.specs.declared.names.Meant.{Meant}
 use Rattle.rv_resolve.specs.Names.{meant_of}
-use Rattle.rv_resolve.specs.Undefined.{has_address, is_known, linker_names}
+use Rattle.rv_object_laws.specs.Undefined.{has_address, is_known, linker_names}
 use Rattle.rv_resolve.proofs.MeantLemmas.{kept_held}
 use Rattle.rv_resolve.proofs.TableLemmas.{still_none}
 use Rattle.rv_resolve.proofs.names.Names.is_known.Goals as goal

@@ -6,8 +6,8 @@ use Rattle.rv_object_types.specs.Object.{Relocation}
 use Rattle.rv_object_types.specs.Parts.{relocation_of}
 use Rattle.rv_shorten.specs.View.{short_object_of}
 use Rattle.rv_resolve.specs.Names.{name_bytes}
-use Rattle.rv_resolve.specs.Undefined.{undefined_name}
-use Rattle.rv_resolve.proofs.FirstSomeLemmas.{none_here, one_here}
+use Rattle.rv_object_laws.specs.Undefined.{undefined_name}
+use Rattle.rv_object_laws.proofs.FirstSomeLemmas.{none_here, one_here}
 use Rattle.rv_resolve.proofs.names.Names.undefined_among.Goals as goal
 
 abbrev no_relocation : DeclaredRelocation

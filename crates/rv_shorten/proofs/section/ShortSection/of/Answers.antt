@@ -1,7 +1,7 @@
 use Rattle.std.proofs.Common.{map}
 use Rattle.rv_object_types.specs.Sections.{section_of}
 use Rattle.rv_shorten.specs.Cut.{move_of}
-use Rattle.rv_shorten.proofs.ShortLemmas.{size_left, fit_stays, paddings_stay}
+use Rattle.rv_cut_laws.proofs.ShortLemmas.{size_left, fit_stays, paddings_stay}
 use Rattle.rv_shorten.proofs.StepsLemmas.{stored_order}
 use Rattle.rv_shorten.proofs.section.ShortSection.of.Goals as goal
 

@@ -15,12 +15,13 @@ use Rattle.rv_object_laws.specs.Moves.{Move, new_offset, has_padding}
 use Rattle.rv_object_laws.specs.Inputs.{InputSection, goes_to_text}
 use Rattle.rv_object_laws.specs.CallSites.{is_call, meets, link_register, is_permitted, may_change, in_order, changes, site_of}
 use Rattle.rv_object_laws.specs.Shortened.{Sizes, empty_jump, empty_jal, short_call, is_shortened, cut, cuts, shortened_kind, shortened_relocation, shortened_contents, shortened_text}
-use Rattle.rv_shorten.specs.Cutting.{In, are_cuts, AreCuts, kind_left, cut_kind, cut_relocation, cut_section}
-use Rattle.rv_shorten.specs.Walk.{count_within, moves_of}
-use Rattle.rv_shorten.proofs.CallKindsLemmas.{call_width}
-use Rattle.rv_shorten.proofs.FieldsLemmas.{Found, Absent, Present, found, not_a_call, not_cut, a_cut_call}
-use Rattle.rv_shorten.proofs.ListsLemmas.{in_filter, filter_in, in_map, map_in, in_ordered, ordered_in, only_one, filter_ordered}
-use Rattle.rv_shorten.proofs.ChangesLemmas.{permitted, change_permitted, padding_no_call, IsSound, call_inside, site_offset, changes_rise, none_ahead, source_of, cuts_order}
+use Rattle.rv_object_laws.specs.Lists.{In}
+use Rattle.rv_cut_laws.specs.Cutting.{are_cuts, AreCuts, kind_left, cut_kind, cut_relocation, cut_section}
+use Rattle.rv_cut_laws.specs.Walk.{count_within, moves_of}
+use Rattle.rv_cut_laws.proofs.CallKindsLemmas.{call_width}
+use Rattle.rv_cut_laws.proofs.FieldsLemmas.{Found, Absent, Present, found, not_a_call, not_cut, a_cut_call}
+use Rattle.rv_cut_laws.proofs.ListsLemmas.{in_filter, filter_in, in_map, map_in, in_ordered, ordered_in, only_one, filter_ordered}
+use Rattle.rv_cut_laws.proofs.ChangesLemmas.{permitted, change_permitted, padding_no_call, IsSound, call_inside, site_offset, changes_rise, none_ahead, source_of, cuts_order}
 
 -- ---- calls that are cut short are permitted
 

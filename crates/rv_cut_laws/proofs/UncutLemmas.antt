@@ -6,9 +6,9 @@ use Rattle.rv_object_types.specs.declared.symbol.Definition.TheVariants as defin
 use Rattle.rv_object_types.specs.declared.row.Row.{Row}
 use Rattle.rv_object_types.specs.Object.{Section, Symbol, Object}
 use Rattle.rv_object_laws.specs.Moves.{Move, new_offset}
-use Rattle.rv_shorten.specs.Cutting.{AllCut, cut_sections, moves_at, cut_definition, cut_symbol, cut_row, cut_row_of, cut_object}
-use Rattle.rv_shorten.proofs.ShortLemmas.{nothing_cut}
-pub use Rattle.rv_shorten.proofs.LaidLemmas.{none_cut as no_cuts}
+use Rattle.rv_cut_laws.specs.Cutting.{AllCut, cut_sections, moves_at, cut_definition, cut_symbol, cut_row, cut_row_of, cut_object}
+use Rattle.rv_cut_laws.proofs.ShortLemmas.{nothing_cut}
+pub use Rattle.rv_cut_laws.proofs.LaidLemmas.{none_cut as no_cuts}
 
 -- no moves in any section
 abbrev pub none_in : {X : Type 0} → List X → List (List Move)

@@ -15,11 +15,12 @@ use Rattle.rv_object_laws.specs.Moves.{Move, full_padding, has_padding, alignmen
 use Rattle.rv_object_laws.specs.Inputs.{InputSection, goes_to_text}
 use Rattle.rv_object_laws.specs.CallSites.{is_call, meets, has_relax, are_call_words, is_auipc, is_jalr, rs1, rd, word_at, is_text_place, target_place, is_entered, is_permitted, may_change, call_site, site_of, link_register}
 use Rattle.rv_object_laws.specs.Shortened.{Sizes, empty_jump, empty_jal, short_call, is_shortened, cut}
-use Rattle.rv_shorten.specs.Cutting.{In, is_cut, are_cuts}
-use Rattle.rv_shorten.specs.Walk.{moves_of}
-use Rattle.rv_shorten.proofs.CallKindsLemmas.{call_width, call_no_align}
-use Rattle.rv_shorten.proofs.FieldsLemmas.{all_in}
-use Rattle.rv_shorten.proofs.ListsLemmas.{Rising}
+use Rattle.rv_object_laws.specs.Lists.{In}
+use Rattle.rv_cut_laws.specs.Cutting.{is_cut, are_cuts}
+use Rattle.rv_cut_laws.specs.Walk.{moves_of}
+use Rattle.rv_cut_laws.proofs.CallKindsLemmas.{call_width, call_no_align}
+use Rattle.rv_cut_laws.proofs.FieldsLemmas.{all_in}
+use Rattle.rv_cut_laws.proofs.ListsLemmas.{Rising}
 
 -- ---- permitted calls
 

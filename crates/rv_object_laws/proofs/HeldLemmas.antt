@@ -12,7 +12,7 @@ use Rattle.rv_object_types.specs.Object.{Symbol, Object}
 use Rattle.rv_object_types.specs.Bindings.{is_global, is_weak, is_shared}
 use Rattle.rv_object_laws.specs.Names.{Export, is_defined, is_export, exports_in, exports_from, exports_where, names_of, candidates}
 use Rattle.rv_object_laws.proofs.TextInputsLemmas.{all_append}
-use Rattle.rv_shorten.specs.Cutting.{In}
+use Rattle.rv_object_laws.specs.Lists.{In}
 pub use Rattle.rv_object_laws.proofs.TextPlacesLemmas.{all_found}
 
 -- a definition for all files is a symbol of its object

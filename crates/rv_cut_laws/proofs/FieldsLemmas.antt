@@ -8,9 +8,10 @@ use Rattle.rv_isa.specs.Kinds.{width_of}
 use Rattle.rv_object_types.specs.Object.{Relocation}
 use Rattle.rv_object_laws.specs.Moves.{Move, new_offset}
 use Rattle.rv_object_laws.specs.CallSites.{is_call, meets}
-use Rattle.rv_shorten.specs.Cutting.{In, are_cuts, IsClear, cut_at, kind_left, cut_kind}
-use Rattle.rv_shorten.proofs.CallKindsLemmas.{call_width, left_width}
-use Rattle.rv_shorten.proofs.ShiftsLemmas.{rising, stays, left_stays, length_of_left}
+use Rattle.rv_object_laws.specs.Lists.{In}
+use Rattle.rv_cut_laws.specs.Cutting.{are_cuts, IsClear, cut_at, kind_left, cut_kind}
+use Rattle.rv_cut_laws.proofs.CallKindsLemmas.{call_width, left_width}
+use Rattle.rv_cut_laws.proofs.ShiftsLemmas.{rising, stays, left_stays, length_of_left}
 
 -- ---- lists
 

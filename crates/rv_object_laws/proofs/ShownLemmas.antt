@@ -13,10 +13,9 @@ use Rattle.rv_object_types.specs.Object.{Symbol, Object}
 use Rattle.rv_object_laws.specs.Inputs.{Starts}
 use Rattle.rv_object_types.specs.Bindings.{is_shared, is_global, is_weak}
 use Rattle.rv_object_laws.specs.Names.{Export, exports_where, names_of, chosen, is_this, is_chosen, chosen_exports, global_names, export_address, globals_of, shown_linker_symbols, unshown_address, outer_address}
-use Rattle.rv_shorten.specs.Cutting.{In}
-use Rattle.rv_resolve.proofs.ChosenLemmas.{chosen_held, chosen_named}
-use Rattle.rv_resolve.proofs.HeldLemmas.{IsHeld, shared_held, same_export, held_one, in_filter, named_in}
-use Rattle.rv_resolve.proofs.TableLemmas.{same_bytes}
+use Rattle.rv_object_laws.specs.Lists.{In}
+use Rattle.rv_object_laws.proofs.ChosenLemmas.{chosen_held, chosen_named, same_bytes}
+use Rattle.rv_object_laws.proofs.HeldLemmas.{IsHeld, shared_held, same_export, held_one, in_filter, named_in}
 
 -- ---- the definitions that names mean
 

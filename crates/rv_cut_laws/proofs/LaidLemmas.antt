@@ -12,11 +12,11 @@ use Rattle.rv_object_laws.specs.Moves.{Move, new_offset}
 use Rattle.rv_object_laws.specs.Inputs.{InputSection, goes_to_text, inputs_from, inputs_of}
 use Rattle.rv_object_laws.specs.CallSites.{sites_from, sites_of}
 use Rattle.rv_object_laws.specs.Shortened.{Sizes, sizes_by, cuts, cuts_at, cuts_in, shortened_section, shortened_text, shortened_sections, shortened_definition, shortened_symbol, shortened_row, shortened_object, shortened_from}
-use Rattle.rv_shorten.specs.Cutting.{AreCuts, AllCut, cut_section, cut_sections, moves_at, cut_definition, cut_symbol, cut_row, cut_object}
-use Rattle.rv_shorten.specs.Walk.{own_moves, passed, passed_at, object_moves, passed_all, walked, AreWalked}
-use Rattle.rv_shorten.proofs.ShortLemmas.{nothing_cut}
-use Rattle.rv_shorten.proofs.SectionsLemmas.{cuts_elsewhere, same_text}
-use Rattle.rv_shorten.proofs.LineLemmas.{AreSound, AllSound, Stands, Step, next_index, next_file, text_step}
+use Rattle.rv_cut_laws.specs.Cutting.{AreCuts, AllCut, cut_section, cut_sections, moves_at, cut_definition, cut_symbol, cut_row, cut_object}
+use Rattle.rv_cut_laws.specs.Walk.{own_moves, passed, passed_at, object_moves, passed_all, walked, AreWalked}
+use Rattle.rv_cut_laws.proofs.ShortLemmas.{nothing_cut}
+use Rattle.rv_cut_laws.proofs.SectionsLemmas.{cuts_elsewhere, same_text}
+use Rattle.rv_cut_laws.proofs.LineLemmas.{AreSound, AllSound, Stands, Step, next_index, next_file, text_step}
 
 -- ---- sections of other regions
 

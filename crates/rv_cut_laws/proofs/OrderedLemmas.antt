@@ -13,8 +13,8 @@ use Rattle.rv_object_types.specs.Object.{Contents, Progbits, Note, Nobits, Reloc
 use Rattle.rv_object_types.specs.Valid.{is_align, padding_of, is_padding, is_padding_of, held, are_apart, are_all_apart, are_paddings, fits_inside, fit_inside}
 use Rattle.rv_object_types.specs.Padding.{no_operations}
 use Rattle.rv_object_laws.specs.Moves.{full_padding, has_padding, alignment_of, inserted, by_place, plan, moves, new_offset, has_room}
-use Rattle.rv_link.proofs.FollowingLemmas.{Follow, Clears, field_inside}
-use Rattle.rv_relax.proofs.ApartLemmas.{padded}
+use Rattle.rv_cut_laws.proofs.FollowingLemmas.{Follow, Clears, field_inside}
+use Rattle.rv_cut_laws.proofs.ApartLemmas.{padded}
 
 -- ---- tests
 

@@ -6,7 +6,7 @@ use Rattle.std.specs.List.{find}
 use Rattle.std.proofs.lemmas.Slice.Eq.{bytes_eq-Decides}
 use Rattle.rv_map.specs.Globals.{global_address, is_one_of}
 use Rattle.rv_map.specs.Map.{Global}
-use Rattle.rv_resolve.proofs.TableLemmas.{same_bytes}
+use Rattle.rv_object_laws.proofs.ChosenLemmas.{same_bytes}
 
 pub same_tests : (a b : Bool) → (a ≡ true → b ≡ true) → (b ≡ true → a ≡ true) → a ≡ b
 same_tests true b f g = sym (f refl)

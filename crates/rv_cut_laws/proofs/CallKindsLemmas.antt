@@ -8,7 +8,7 @@ use Rattle.rv_isa.specs.Kinds.{width_of}
 use Rattle.rv_object_types.specs.Valid.{is_align}
 use Rattle.rv_object_laws.specs.Moves.{Move}
 use Rattle.rv_object_laws.specs.CallSites.{is_call}
-use Rattle.rv_shorten.specs.Cutting.{kind_left}
+use Rattle.rv_cut_laws.specs.Cutting.{kind_left}
 
 pub call_width : (k : Kind) → is_call k ≡ true → width_of k ≡ 8
 call_width kinds.None h = absurd (cc)

@@ -3,8 +3,8 @@
 use Rattle.std.proofs.Common.{◌≡◌, ◌<◌, ◌+◌, ℕ, Option, Some, None, List, [], ◌∷◌, map, length, drop, get_or, refl, sym, ap, ◌∙◌}
 use Rattle.std.specs.List.{AllByRecursion}
 use Rattle.std.specs.Option.{option_or}
-use Rattle.rv_resolve.specs.Undefined.{first_some}
-use Rattle.rv_resolve.proofs.StepsLemmas.{left}
+use Rattle.rv_object_laws.specs.Undefined.{first_some}
+use Rattle.rv_object_laws.proofs.StepsLemmas.{left}
 
 module _ {X : Type 0} (f : X → Option (List ℕ)) where
   step : (x : X) (xs : List X) (n : Option (List ℕ)) → f x ≡ n → first_some f (x ∷ xs) ≡ option_or n (first_some f xs)

@@ -16,10 +16,11 @@ use Rattle.rv_object_types.specs.View.{object_of}
 use Rattle.rv_object_laws.specs.Inputs.{InputSection, goes_to_text, begins_at}
 use Rattle.rv_object_laws.specs.CallSites.{changes, site_of, sites_from, sites_of, start_padding, base, base_in}
 use Rattle.rv_object_laws.specs.Shortened.{Sizes, sizes_by, cut, cuts}
-use Rattle.rv_shorten.specs.Cutting.{In, AreCuts}
-use Rattle.rv_shorten.specs.Walk.{count_within, moves_of, own_moves, passed, section_moves}
-use Rattle.rv_shorten.proofs.ChangesLemmas.{IsSound, Matches, change_inside, site_offset, passed_by, order_behind, changes_match, moves_match}
-use Rattle.rv_shorten.proofs.SectionsLemmas.{AreAllPermitted, all_permitted, is_change, may_be_cut, moves_of_front, count_changes, rising_changes, cuts_of_text}
+use Rattle.rv_object_laws.specs.Lists.{In}
+use Rattle.rv_cut_laws.specs.Cutting.{AreCuts}
+use Rattle.rv_cut_laws.specs.Walk.{count_within, moves_of, own_moves, passed, section_moves}
+use Rattle.rv_cut_laws.proofs.ChangesLemmas.{IsSound, Matches, change_inside, site_offset, passed_by, order_behind, changes_match, moves_match}
+use Rattle.rv_cut_laws.proofs.SectionsLemmas.{AreAllPermitted, all_permitted, is_change, may_be_cut, moves_of_front, count_changes, rising_changes, cuts_of_text}
 
 -- ---- sound sections
 

@@ -13,10 +13,10 @@ use Rattle.rv_object_types.specs.Sections.{section_of}
 use Rattle.rv_object_types.specs.Valid.{fit_inside, is_below, are_indexed, is_defined_in, are_defined, is_row_in, are_rows}
 use Rattle.rv_object_laws.specs.Moves.{Move, new_offset}
 use Rattle.rv_object_laws.specs.Shortened.{shortened_contents}
-use Rattle.rv_shorten.specs.Cutting.{AreCuts, AllCut, cut_relocation, cut_section, cut_sections, moves_at, cut_definition, cut_symbol, cut_row}
-use Rattle.rv_shorten.proofs.ShiftsLemmas.{rising}
-use Rattle.rv_shorten.proofs.FieldsLemmas.{all_mapped}
-use Rattle.rv_shorten.proofs.ShortLemmas.{size_left}
+use Rattle.rv_cut_laws.specs.Cutting.{AreCuts, AllCut, cut_relocation, cut_section, cut_sections, moves_at, cut_definition, cut_symbol, cut_row}
+use Rattle.rv_cut_laws.proofs.ShiftsLemmas.{rising}
+use Rattle.rv_cut_laws.proofs.FieldsLemmas.{all_mapped}
+use Rattle.rv_cut_laws.proofs.ShortLemmas.{size_left}
 
 -- ---- what the object keeps
 

@@ -1,6 +1,6 @@
 -- What the sites of a text cut out of its sections, one section after another.
 
-use Rattle.std.specs.Prelude.{⊤, ℕ, suc, ◌+◌, ◌-◌, ◌==◌, Bool, ◌&&◌, nat_lt, List, [], ◌∷◌, take, drop, if◌then◌else◌}
+use Rattle.std.specs.Prelude.{⊤, ℕ, suc, ◌+◌, ◌-◌, ◌&&◌, nat_lt, List, [], ◌∷◌, take, drop, if◌then◌else◌}
 use Rattle.rv_layout_laws.specs.declared.site.Site.{Site}
 use Rattle.rv_layout_laws.specs.Calls.{is_call, bytes_of}
 use Rattle.rv_object_types.specs.Object.{Section, Object, size_of, stored}
@@ -8,8 +8,7 @@ use Rattle.rv_object_laws.specs.Moves.{Move}
 use Rattle.rv_object_laws.specs.Inputs.{goes_to_text}
 use Rattle.rv_object_laws.specs.CallSites.{link_register}
 use Rattle.rv_object_laws.specs.Shortened.{short_call}
-use Rattle.rv_shorten.specs.Cut.{Cut}
-use Rattle.rv_shorten.specs.Cutting.{cut_object, AllCut}
+use Rattle.rv_cut_laws.specs.Cutting.{cut_object, AllCut}
 
 -- the offset of the byte after a site: after the padding at its start, a section begins there
 abbrev pub site_end : Site → ℕ
@@ -78,23 +77,3 @@ AreWalked (o ∷ os) sites kept =
     let count = passed_all o.sections sites in
     AllCut o.sections (object_moves o.sections sites kept)
     × AreWalked os (drop count sites) (drop count kept)
-
--- ---- a site
-
-abbrev pub cut_of : (place gone : ℕ) → List ℕ → ℕ → Cut
-cut_of place gone stored k = record {
-  place = place;
-  gone = gone;
-  full = 8;
-  left = if k == 2 then 2 else 4;
-  detail = link_register stored place;
-}
-
-abbrev pub is_cut_site : Site → ℕ → Bool
-is_cut_site s k = is_call s.kind && nat_lt k 8
-
-abbrev pub cuts_of : (place gone : ℕ) → List ℕ → Site → ℕ → List Cut
-cuts_of place gone stored s k = if is_cut_site s k then cut_of place gone stored k ∷ [] else []
-
-abbrev pub gone_of : Site → ℕ → ℕ
-gone_of s k = if is_cut_site s k then 8 - (if k == 2 then 2 else 4) else 0

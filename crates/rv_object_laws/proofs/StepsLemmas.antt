@@ -3,7 +3,7 @@
 use Rattle.std.proofs.lemmas.Option.{slice_get-map, slice_get-get_or}
 use Rattle.std.proofs.Common.{◌≡◌, ◌<◌, ◌+◌, Some, option_map, slice_get, ℕ, zero, suc, List, [], ◌∷◌, length, map, drop, get_or, sym, ap, ◌∙◌, arith}
 use Rattle.std.proofs.lemmas.List.{get_or-map}
-pub use Rattle.rv_placement.proofs.WalksLemmas.{left}
+pub use Rattle.rv_object_laws.proofs.ListsLemmas.{left}
 
 pub left_at : {X : Type 0} (xs : List X) (i : ℕ) (x : X) → slice_get xs i ≡ Some x → drop i xs ≡ x ∷ drop (i + 1) xs
 left_at [] i x at = absurd (cc)

@@ -12,6 +12,7 @@ use Rattle.rv_object_types.specs.Valid.{fit_inside, are_paddings}
 use Rattle.rv_object_laws.specs.Moves.{Move, new_offset, lost}
 use Rattle.rv_object_laws.specs.CallSites.{is_call, meets}
 use Rattle.rv_object_laws.specs.Shortened.{shortened_contents}
+use Rattle.rv_object_laws.specs.Lists.{In}
 
 -- ---- the cuts of a section
 
@@ -27,10 +28,6 @@ is_cut stop size m =
 abbrev pub are_cuts : (stop size : ℕ) → List Move → Bool
 are_cuts stop size [] = true
 are_cuts stop size (m ∷ ms) = is_cut stop size m && are_cuts (m.place + 8) size ms
-
-abbrev pub In : {X : Type 0} → X → List X → Type 0
-In x [] = ⊥
-In x (y ∷ ys) = (y ≡ x) ⊎ In x ys
 
 -- a relocation that is no call at a cut meets none
 abbrev pub IsClear : List Move → Relocation → Type 0

@@ -11,12 +11,11 @@ use Rattle.rv_object_types.specs.Valid.{keeps_name, is_even, is_loaded_alone, fi
 use Rattle.rv_object_laws.specs.Moves.{Move, new_offset, kept}
 use Rattle.rv_object_laws.specs.CallSites.{is_call}
 use Rattle.rv_object_laws.specs.Shortened.{shortened_contents}
-use Rattle.rv_shorten.specs.Cut.{Cut, move_of}
-use Rattle.rv_shorten.specs.Cutting.{are_cuts, IsClear, AreCuts, cut_kind, cut_relocation, cut_section}
-use Rattle.rv_shorten.proofs.CallKindsLemmas.{call_width}
-use Rattle.rv_shorten.proofs.ShiftsLemmas.{rising, stays_even, length_kept}
-use Rattle.rv_shorten.proofs.FieldsLemmas.{all_in, all_mapped, field_stays}
-use Rattle.rv_shorten.proofs.PaddingsLemmas.{held_stays, all_stay_apart, padding_stays}
+use Rattle.rv_cut_laws.specs.Cutting.{are_cuts, IsClear, AreCuts, cut_kind, cut_relocation, cut_section}
+use Rattle.rv_cut_laws.proofs.CallKindsLemmas.{call_width}
+use Rattle.rv_cut_laws.proofs.ShiftsLemmas.{rising, stays_even, length_kept}
+use Rattle.rv_cut_laws.proofs.FieldsLemmas.{all_in, all_mapped, field_stays}
+use Rattle.rv_cut_laws.proofs.PaddingsLemmas.{held_stays, all_stay_apart, padding_stays}
 
 -- ---- nothing is cut
 
@@ -119,7 +118,3 @@ paddings_stay s ms true fit cuts h =
     (all_mapped (is_padding true s.contents) (is_padding true (shortened_contents ms s.contents)) (cut_relocation ms) s.relocations
     (λ r i one. padding_stays s ms (shortened_contents ms s.contents) true r cuts.order (size_left s ms fit cuts) (λ _. held_stays s ms r cuts both.1 i) one) both.0)
     (all_stay_apart (size_of s.contents) ms s.relocations cuts.order (λ r i. held_stays s ms r cuts both.1 i) both.1)
-
-pub none_of_none : (cs : List Cut) → (length cs == 0) ≡ true → map move_of cs ≡ []
-none_of_none [] is = refl
-none_of_none (c ∷ cs) is = let none = eqb-true (length (c ∷ cs)) 0 is in absurd (omega arith)

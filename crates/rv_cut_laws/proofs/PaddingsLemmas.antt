@@ -9,10 +9,11 @@ use Rattle.rv_object_types.specs.Object.{Contents, Relocation, Section, size_of}
 use Rattle.rv_object_types.specs.Valid.{is_align, padding_of, is_padding_of, is_padding, held, are_apart, are_all_apart}
 use Rattle.rv_object_laws.specs.Moves.{Move, new_offset}
 use Rattle.rv_object_laws.specs.CallSites.{is_call}
-use Rattle.rv_shorten.specs.Cutting.{In, are_cuts, AreCuts, cut_kind, cut_relocation}
-use Rattle.rv_shorten.proofs.CallKindsLemmas.{call_width, call_no_align, left_no_align}
-use Rattle.rv_shorten.proofs.ShiftsLemmas.{rising, stays, stays_even}
-use Rattle.rv_shorten.proofs.FieldsLemmas.{Found, Absent, Present, found, not_a_call, not_cut, a_cut_call, all_in, all_mapped, field_stays}
+use Rattle.rv_object_laws.specs.Lists.{In}
+use Rattle.rv_cut_laws.specs.Cutting.{are_cuts, AreCuts, cut_kind, cut_relocation}
+use Rattle.rv_cut_laws.proofs.CallKindsLemmas.{call_width, call_no_align, left_no_align}
+use Rattle.rv_cut_laws.proofs.ShiftsLemmas.{rising, stays, stays_even}
+use Rattle.rv_cut_laws.proofs.FieldsLemmas.{Found, Absent, Present, found, not_a_call, not_cut, a_cut_call, all_in, all_mapped, field_stays}
 
 -- ---- what is an alignment stays one
 

@@ -1,0 +1,3 @@
+pub mod Alignments
+pub mod Cutting
+pub mod Walk
