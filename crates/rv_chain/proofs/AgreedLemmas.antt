@@ -12,8 +12,8 @@ use Rattle.rv_object_file_laws.specs.ObjectOf.{ObjectOf}
 use Rattle.rv_object_file_laws.specs.Written.{HasFile, file_of}
 use Rattle.rv_assemble_laws.specs.IsObjectOf.{IsObjectOf}
 use Rattle.rv_fault.specs.declared.fault.Fault.TheVariants.{Source, File, Link, Memory}
-use Rattle.rv_chain.specs.Objects.{IsObjectFrom, IsObjectIn, AreObjectsFrom, AreObjectsIn}
-use Rattle.rv_chain.specs.Linking.{IsBuiltOf, AreBuilt, AreLinked}
+use Rattle.rv_chain_laws.specs.Objects.{IsObjectFrom, IsObjectIn, AreObjectsFrom, AreObjectsIn}
+use Rattle.rv_chain_laws.specs.Linking.{IsBuiltOf, AreBuilt, AreLinked}
 use Rattle.rv_chain.specs.Agreement.{IsFileFor, AreFilesFor, AreBuiltAlike, AreNotUnlinkable, AreNotRefused, AreRefusedAlike, BuildsAsItLinks}
 use Rattle.rv_chain.proofs.EachLemmas.{same_each}
 use Rattle.rv_chain.proofs.ReasonsLemmas.{LinkLaws, no_refusal, one_reason}

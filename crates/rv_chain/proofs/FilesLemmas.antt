@@ -15,12 +15,13 @@ use Rattle.rv_object_reader.proofs.WalkLemmas.{sections_are}
 use Rattle.rv_object_reader.proofs.ValidSectionsLemmas.{IsValid, section_valid}
 use Rattle.rv_object_reader.proofs.ValidSymbolsLemmas.{object_rows}
 use Rattle.rv_reloc.specs.declared.fault.LinkFault.{LinkFault}
-use Rattle.rv_link.specs.Refusals.{AreWithin, ArePast, HasNoProgram}
+use Rattle.rv_object_laws.specs.TextStart.{AreWithin}
+use Rattle.rv_link.specs.Refusals.{ArePast, HasNoProgram}
 use Rattle.rv_unique_link_laws.specs.Asked.{IsSound}
 use Rattle.rv_unique_link_laws.specs.Same.{IsSameFault}
 use Rattle.rv_fault.specs.declared.fault.Fault.TheVariants.{Source, File, Link, Memory}
 use Rattle.rv_fault.specs.Fault.{IsNamed}
-use Rattle.rv_chain.specs.Objects.{IsObjectIn, AreEach, AreObjectsIn}
+use Rattle.rv_chain_laws.specs.Objects.{IsObjectIn, AreEach, AreObjectsIn}
 use Rattle.rv_chain.specs.LinkRefusals.{IsFirstUnread, AreReadUnlinked}
 use Rattle.rv_chain.specs.OneFault.{FilesForMemory, FilesForOne, FilesHaveOneFault}
 use Rattle.rv_chain.proofs.EachLemmas.{weaken, same_each, count_each, in_middle, all_each, one_first}

@@ -10,8 +10,8 @@ use Rattle.rv_image.specs.ImageOf.{ImageOf}
 use Rattle.rv_image.specs.FirstFault.{first_fault}
 use Rattle.rv_image.proofs.LoadedAgainLemmas.{reads, reload_image, reload_fault}
 use Rattle.rv_chain_laws.specs.Headline.{TheHeadline, rvc_flag}
-use Rattle.rv_chain_laws.proofs.ContentsLemmas.{linked_agrees}
-use Rattle.rv_chain.specs.Building.{IsProgramFrom}
+use Rattle.rv_runs_laws.proofs.ContentsLemmas.{linked_agrees}
+use Rattle.rv_chain_laws.specs.Building.{IsProgramFrom}
 
 pub headlined : (texts : List (List ℕ)) (start : ℕ) (relax gc : Bool) (l : Linked) (exe : List ℕ) → IsLaidOut l → IsMap l.map → IsProgramFrom texts start relax gc l → exe ≡ exe_of l
     → TheHeadline texts start relax gc exe (map_text l.map)

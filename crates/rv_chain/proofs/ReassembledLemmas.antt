@@ -15,7 +15,7 @@ use Rattle.rv_disasm.specs.declared.code.Code.TheVariants.{Word, Parcel}
 use Rattle.rv_disasm.specs.Raw.{raw_bytes, is_executable}
 use Rattle.rv_chain_laws.specs.Headline.{AllRead}
 use Rattle.rv_reassembly_laws.specs.Reassembles.{RawListingsReassemble}
-use Rattle.rv_chain.specs.Building.{IsProgramFrom}
+use Rattle.rv_chain_laws.specs.Building.{IsProgramFrom}
 use Rattle.rv_chain.specs.Reassembled.{Reassembles}
 
 -- ---- a listing has an instruction, and so its segment has bytes

@@ -17,9 +17,9 @@ use Rattle.rv_image.proofs.LoadedAgainLemmas.{reload_image}
 use Rattle.rv_source_laws.specs.Program.{program}
 use Rattle.rv_disasm.specs.Listing.{IsListing}
 use Rattle.rv_chain_laws.specs.SourceListing.{IsSourceListing}
-use Rattle.rv_chain_laws.proofs.ListedLemmas.{listed_is}
-use Rattle.rv_chain.specs.Building.{IsProgramFrom}
-use Rattle.rv_chain.specs.Listed.{IsListedAs}
+use Rattle.rv_runs_laws.proofs.ListedLemmas.{listed_is}
+use Rattle.rv_chain_laws.specs.Building.{IsProgramFrom}
+use Rattle.rv_chain_laws.specs.Listed.{IsListedAs}
 
 -- a file has one image
 one_image : (file : List ℕ) (image other : Image) → ImageOf file image → ImageOf file other → image ≡ other

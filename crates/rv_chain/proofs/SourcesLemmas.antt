@@ -19,12 +19,13 @@ use Rattle.rv_assemble_laws.specs.ShownNames.{HasNames}
 use Rattle.rv_assemble_laws.specs.IsObjectOf.{IsObjectOf}
 use Rattle.rv_assemble_laws.specs.FirstFault.{IsFirstFault}
 use Rattle.rv_reloc.specs.declared.fault.LinkFault.{LinkFault}
-use Rattle.rv_link.specs.Refusals.{AreWithin, ArePast, HasNoProgram}
+use Rattle.rv_object_laws.specs.TextStart.{AreWithin}
+use Rattle.rv_link.specs.Refusals.{ArePast, HasNoProgram}
 use Rattle.rv_unique_link_laws.specs.Asked.{IsSound}
 use Rattle.rv_unique_link_laws.specs.Same.{IsSameFault}
 use Rattle.rv_fault.specs.declared.fault.Fault.TheVariants.{Source, File, Link, Memory}
 use Rattle.rv_fault.specs.Fault.{IsNamed}
-use Rattle.rv_chain.specs.Objects.{IsObjectFrom, AreEach, AreObjectsFrom}
+use Rattle.rv_chain_laws.specs.Objects.{IsObjectFrom, AreEach, AreObjectsFrom}
 use Rattle.rv_chain.specs.Refusals.{IsFirstRefused, AreUnlinked}
 use Rattle.rv_chain.specs.OneFault.{SourcesForMemory, SourcesForOne, SourcesHaveOneFault}
 use Rattle.rv_chain.proofs.EachLemmas.{same_each, count_each, in_middle, all_each, each_has, one_first}

@@ -10,7 +10,7 @@ use Rattle.rv_reloc.specs.declared.fault.LinkFault.TheVariants as faults
 use Rattle.rv_fault.specs.declared.fault.Fault.{Fault}
 use Rattle.rv_fault.specs.declared.fault.Fault.TheVariants as cases
 use Rattle.rv_fault.specs.Fault.{of_link}
-use Rattle.rv_chain.specs.Objects.{AreObjectsIn}
+use Rattle.rv_chain_laws.specs.Objects.{AreObjectsIn}
 use Rattle.rv_chain.specs.LinkRefusals.{IsUnreadAt, IsFirstUnread, AreUnread, AreReadUnlinked, AreUnlinkable}
 use Rattle.rv_chain.proofs.GatheredLemmas.{split_at, taken}
 

@@ -11,8 +11,8 @@ use Rattle.rv_image.specs.FirstFault.{first_fault}
 use Rattle.rv_image.proofs.LoadedAgainLemmas.{laid_out, reload_image, reload_fault}
 use Rattle.rv_object_types.specs.Object.{Object}
 use Rattle.rv_object_laws.specs.IsProgramOf.{IsProgramOf}
-use Rattle.rv_link.specs.Details.{with_details}
-use Rattle.rv_chain.specs.Linking.{IsBuiltOf}
+use Rattle.rv_object_laws.specs.Details.{with_details}
+use Rattle.rv_chain_laws.specs.Linking.{IsBuiltOf}
 
 -- the names and the rows of a map are no part of its layout, nor of its executable
 same_layout : (details : Bool) (l : Linked) → IsLaidOut (with_details details l) → IsLaidOut l

@@ -3,8 +3,8 @@
 use Rattle.std.specs.Prelude.{◌≡◌, ℕ, ◌<◌, ◌^◌, Bool, ⊤, List, [], ◌∷◌, length}
 use Rattle.rv_fault.specs.declared.fault.Fault.{Fault}
 use Rattle.rv_fault.specs.declared.fault.Fault.TheVariants.{Memory}
-use Rattle.rv_chain.specs.Objects.{IsObjectFile}
-use Rattle.rv_chain.specs.Linking.{AreBuilt, AreLinked}
+use Rattle.rv_chain_laws.specs.Objects.{IsObjectFile}
+use Rattle.rv_chain_laws.specs.Linking.{AreBuilt, AreLinked}
 use Rattle.rv_chain.specs.Refusals.{IsRefusedFor}
 use Rattle.rv_chain.specs.LinkRefusals.{AreUnlinkable}
 use Rattle.rv_chain.specs.OneFault.{IsMemoryOrSame}

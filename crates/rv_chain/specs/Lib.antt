@@ -1,11 +1,6 @@
 pub mod Agreement
-pub mod Building
-pub mod Linking
-pub mod Listed
 pub mod LinkRefusals
-pub mod Objects
 pub mod OneFault
 pub mod Reassembled
 pub mod Refusals
-pub mod Running
 pub mod Valued

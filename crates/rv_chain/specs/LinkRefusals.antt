@@ -7,11 +7,12 @@ use Rattle.rv_elf.specs.declared.fault.FileFault.{FileFault}
 use Rattle.rv_object_types.specs.Object.{Object}
 use Rattle.rv_object_file_laws.specs.FirstFault.{first_fault}
 use Rattle.rv_reloc.specs.declared.fault.LinkFault.{LinkFault}
-use Rattle.rv_link.specs.Refusals.{AreWithin, ArePast, HasNoProgram}
+use Rattle.rv_object_laws.specs.TextStart.{AreWithin}
+use Rattle.rv_link.specs.Refusals.{ArePast, HasNoProgram}
 use Rattle.rv_fault.specs.declared.fault.Fault.{Fault}
 use Rattle.rv_fault.specs.declared.fault.Fault.TheVariants.{Source, File, Link, Memory}
 use Rattle.rv_fault.specs.Fault.{IsNamed}
-use Rattle.rv_chain.specs.Objects.{AreObjectsIn}
+use Rattle.rv_chain_laws.specs.Objects.{AreObjectsIn}
 
 -- a file of this number is refused, by its first fault; memory may run out
 abbrev pub IsUnreadAt : ℕ → List ℕ → Fault → Type 0

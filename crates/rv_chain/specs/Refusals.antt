@@ -10,13 +10,14 @@ use Rattle.rv_object_types.specs.View.{object_of}
 use Rattle.rv_object_laws.specs.Without.{without}
 use Rattle.rv_assemble_laws.specs.FirstFault.{IsFirstFault}
 use Rattle.rv_reloc.specs.declared.fault.LinkFault.{LinkFault}
-use Rattle.rv_link.specs.Refusals.{AreWithin, ArePast, HasNoProgram}
+use Rattle.rv_object_laws.specs.TextStart.{AreWithin}
+use Rattle.rv_link.specs.Refusals.{ArePast, HasNoProgram}
 use Rattle.rv_chain_laws.specs.Headline.{AllRead}
 use Rattle.rv_reach_laws.specs.Reach.{ShortFormsReach}
 use Rattle.rv_fault.specs.declared.fault.Fault.{Fault}
 use Rattle.rv_fault.specs.declared.fault.Fault.TheVariants.{Source, File, Link, Memory}
 use Rattle.rv_fault.specs.Fault.{IsNamed}
-use Rattle.rv_chain.specs.Objects.{AreObjectsFrom}
+use Rattle.rv_chain_laws.specs.Objects.{AreObjectsFrom}
 
 -- a source of this number is refused, by its first fault; memory may run out
 abbrev pub IsRefusedAt : ℕ → List ℕ → Fault → Type 0

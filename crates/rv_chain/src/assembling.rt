@@ -1,7 +1,7 @@
 //! From a source to the file of its object.
 
 ghost use Rattle.std.specs.Prelude.{IfOk, IfErr};
-ghost use Rattle.rv_chain.specs.Objects.{IsObjectFile};
+ghost use Rattle.rv_chain_laws.specs.Objects.{IsObjectFile};
 ghost use Rattle.rv_chain.specs.Refusals.{IsRefusedAt};
 
 use crate::building::object;

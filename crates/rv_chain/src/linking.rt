@@ -5,11 +5,11 @@ ghost use Rattle.rv_statement.specs.View.{now_of};
 ghost use Rattle.rv_image.specs.Linked.{linked_of};
 ghost use Rattle.rv_object_types.specs.View.{object_of};
 ghost use Rattle.rv_object_laws.specs.IsLinkOf.{most_files};
-ghost use Rattle.rv_link.specs.Details.{IsProgramWith};
+ghost use Rattle.rv_object_laws.specs.Details.{IsProgramWith};
 ghost use Rattle.rv_link.specs.Refusals.{HasNoProgram};
-ghost use Rattle.rv_chain.specs.Linking.{AreLinked, IsLinkedAs, IsProgramWithOf};
+ghost use Rattle.rv_chain_laws.specs.Linking.{AreLinked, IsLinkedAs, IsProgramWithOf};
 ghost use Rattle.rv_chain.specs.LinkRefusals.{IsUnreadAt, AreUnread, AreUnlinkable};
-ghost use Rattle.rv_chain.specs.Objects.{IsObjectIn, AreObjectsIn};
+ghost use Rattle.rv_chain_laws.specs.Objects.{IsObjectIn, AreObjectsIn};
 
 use crate::built::Built;
 use rv_fault::Fault;

@@ -5,7 +5,7 @@ ghost use Rattle.rv_encode.specs.Word.{Spells};
 ghost use Rattle.rv_compress.specs.Parcel.{StandsFor};
 ghost use Rattle.rv_isa_laws.specs.Reader.{Reader};
 ghost use Rattle.rv_machine.specs.Outcome.{outcome_of};
-ghost use Rattle.rv_chain.specs.Running.{RunsFile, RefusesFile};
+ghost use Rattle.rv_chain_laws.specs.Running.{RunsFile, RefusesFile};
 
 use rv_fault::Fault;
 use rv_image::{FileFault, load};

@@ -5,3 +5,8 @@ pub mod Contents
 pub mod SourceListing
 pub mod Walks
 pub mod Named
+pub mod Objects
+pub mod Listed
+pub mod Linking
+pub mod Building
+pub mod Running

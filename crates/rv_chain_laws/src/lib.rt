@@ -1,16 +1,13 @@
-//! The headline: when an executable does what its sources say, statement by statement, at the addresses of a map; and the law
-//! that it does.
+//! The headline: when an executable does what its sources say, statement by statement, at the addresses of a map; and all
+//! that a build or a link promises beside it.
 //!
 //! It takes what sources mean (`rv_source_laws`), what a linked program and an image are (`rv_image`) and what the machine
 //! does (`rv_isa_laws`). It gives the definition that `build` promises (`specs/Headline`), what a linked program owes to it
-//! (`Contents`) and what memory owes to it (`Realizes`).
+//! (`Contents`) and what memory owes to it (`Realizes`); what the instructions of a statement come to (`Walks`); the listing of
+//! sources, in which no byte occurs (`SourceListing`); and what is said of files of objects (`Objects`), of links and builds
+//! (`Linking`, `Building`), of their listings (`Listed`) and of runs (`Running`). `rv_runs_laws` has the law.
 //!
-//! Its main contract is the law `linked_runs_agree`: where the regions of a linked program hold the sections of its sources
-//! (`IsLinked`), the image's run agrees with the sources' run for every input and every limit. `code_has_a_reader` says that
-//! this speaks of some reading of code, and `lines_do_as_meant` is its core: the instructions of each statement do what it
-//! means (`specs/Walks`). Beside it, `listing_is_the_sources`: the listing of a linked program's image is the sources' own
-//! listing (`specs/SourceListing`), in which no byte occurs, and there is one alone (`one_source_listing`); it names
-//! instructions as sources do (`listings_name_alike`). Nothing here runs, and nothing here knows how a source is read or linked.
+//! Nothing here runs.
 //!
 //! A contract that cites it:
 //!
@@ -23,9 +20,3 @@
 //!
 //! Source: RISC-V Unprivileged ISA 20191213; RISC-V Assembly Programmer's Manual.
 #![tactic(auto)]
-
-mod law;
-mod listing;
-
-pub use law::{code_has_a_reader, lines_do_as_meant, linked_runs_agree, runs_agree};
-pub use listing::{listing_is_the_sources, listings_name_alike, one_source_listing};

@@ -26,8 +26,9 @@ use Rattle.rv_resolve.proofs.AlikeLemmas.{same_names, seen_left}
 use Rattle.rv_reloc.specs.declared.fault.LinkFault.{LinkFault}
 use Rattle.rv_reloc.specs.declared.fault.LinkFault.TheVariants.{Overflow, OddTarget, DanglingPcrel, AlignmentShort, Undefined, Duplicate, EntryMissing, ImageTooLarge, BadTextStart, TooManyFiles, OutOfMemory}
 use Rattle.rv_link.specs.Left.{HasNoLink, IsLinkOfLeft}
-use Rattle.rv_link.specs.Details.{IsProgramWith}
-use Rattle.rv_link.specs.Refusals.{ArePast, AreWithin, AreDoubled, IsUnlinked, HasNoProgram}
+use Rattle.rv_object_laws.specs.Details.{IsProgramWith}
+use Rattle.rv_link.specs.Refusals.{ArePast, AreDoubled, IsUnlinked, HasNoProgram}
+use Rattle.rv_object_laws.specs.TextStart.{AreWithin}
 
 -- ---- names
 

@@ -28,7 +28,8 @@ use Rattle.rv_object_laws.specs.Entry.{is_entry, has_entry}
 use Rattle.rv_object_laws.specs.Undefined.{undefined_name, first_some, undefined_in, first_undefined}
 use Rattle.rv_resolve.proofs.AlikeLemmas.{same_names}
 use Rattle.rv_reloc.specs.declared.fault.LinkFault.TheVariants.{Undefined, EntryMissing}
-use Rattle.rv_link.specs.Refusals.{AreWithin, HasNoProgram}
+use Rattle.rv_object_laws.specs.TextStart.{AreWithin}
+use Rattle.rv_link.specs.Refusals.{HasNoProgram}
 use Rattle.rv_link.proofs.LeftLemmas.{some_leaves}
 
 -- ---- objects of which nothing has an address

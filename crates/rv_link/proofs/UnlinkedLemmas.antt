@@ -13,7 +13,8 @@ use Rattle.rv_reloc.specs.declared.fault.LinkFault.TheVariants.{Overflow, OddTar
 use Rattle.rv_placement.specs.Fault.{of_placement}
 use Rattle.rv_link.specs.Filled.{IsTaken}
 use Rattle.rv_link.specs.Untaken.{IsFirst, IsUntaken, AreTaken, AreUntaken, IsFirstUntaken, AreUnfilled}
-use Rattle.rv_link.specs.Refusals.{AreUnnamed, AreUnplaced, AreWithin, ComesToPlaces, IsUnlinked}
+use Rattle.rv_link.specs.Refusals.{AreUnnamed, AreUnplaced, ComesToPlaces, IsUnlinked}
+use Rattle.rv_object_laws.specs.TextStart.{AreWithin}
 
 -- why sections cannot be placed
 pub unplaced : (os : List Object) (start : ℕ) (fault : PlacementFault) → IsUnplaced os start fault → AreUnplaced os start (of_placement fault)

@@ -8,7 +8,7 @@ use Rattle.rv_object_laws.specs.IsLinkOf.{IsLinkOf}
 use Rattle.rv_object_laws.specs.Shortened.{Relaxes}
 use Rattle.rv_reloc.specs.declared.fault.LinkFault.{LinkFault}
 use Rattle.rv_link.specs.Refusals.{IsUnlinked}
-use Rattle.rv_link.specs.Details.{with_details}
+use Rattle.rv_object_laws.specs.Details.{with_details}
 
 -- objects are linked, to a map that says that these sections were dropped before, with its details
 -- or without

@@ -5,4 +5,3 @@ pub mod Refusals
 pub mod Made
 pub mod Regions
 pub mod Left
-pub mod Details

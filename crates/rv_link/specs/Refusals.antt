@@ -3,7 +3,6 @@
 
 use Rattle.std.specs.Prelude.{◌≡◌, ◌⊎◌, ⊤, ℕ, ◌%◌, ◌<◌, ◌≤◌, Bool, true, false, List, length, Some, None}
 use Rattle.rv_map.specs.Globals.{AreDistinct}
-use Rattle.rv_isa_laws.specs.Platform.{stack_start}
 use Rattle.rv_map.specs.declared.map.SectionId.{SectionId}
 use Rattle.rv_object_types.specs.Object.{Object}
 use Rattle.rv_object_laws.specs.Inputs.{Starts, goes_to_text, inputs, Stand}
@@ -17,17 +16,10 @@ use Rattle.rv_object_laws.specs.Exports.{first_duplicate}
 use Rattle.rv_object_laws.specs.Undefined.{first_undefined}
 use Rattle.rv_reloc.specs.declared.fault.LinkFault.{LinkFault}
 use Rattle.rv_reloc.specs.declared.fault.LinkFault.TheVariants.{Overflow, OddTarget, DanglingPcrel, AlignmentShort, Undefined, Duplicate, EntryMissing, ImageTooLarge, BadTextStart, TooManyFiles, OutOfMemory}
+use Rattle.rv_object_laws.specs.TextStart.{IsTextStart, AreWithin}
 use Rattle.rv_link.specs.Untaken.{IsFirstUntaken}
 
 -- ---- limits
-
--- a text starts at a page below the stack
-abbrev pub IsTextStart : ℕ → Type 0
-IsTextStart start = (start % 4096 ≡ 0) × (start < stack_start)
-
--- files and a text's start that can be linked
-abbrev pub AreWithin : ℕ → ℕ → Type 0
-AreWithin files start = (files ≤ most_files) × IsTextStart start
 
 -- why others cannot: the count of files comes first
 abbrev pub ArePast : ℕ → ℕ → LinkFault → Type 0

@@ -10,7 +10,7 @@ ghost use Rattle.rv_shorten.specs.View.{short_object_of};
 ghost use Rattle.rv_placement.specs.Placement.{starts_of, IsPlacement};
 ghost use Rattle.rv_resolve.specs.Names.{IsNames};
 ghost use Rattle.rv_resolve.specs.Shown.{shown_globals};
-ghost use Rattle.rv_link.specs.Details.{if_wanted};
+ghost use Rattle.rv_object_laws.specs.Details.{if_wanted};
 
 use rv_map::{Global as MapGlobal, Row as MapRow};
 use rv_placement::Placement;

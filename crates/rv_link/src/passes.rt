@@ -18,13 +18,14 @@ ghost use Rattle.rv_placement.specs.Placement.{IsPlacement, are_roomy, starts_of
 ghost use Rattle.rv_map.specs.Limits.{IsDrop, IsMap};
 ghost use Rattle.rv_link.specs.Made.{made};
 ghost use Rattle.rv_link.specs.Left.{IsLinkWith};
-ghost use Rattle.rv_link.specs.Details.{with_details};
+ghost use Rattle.rv_object_laws.specs.Details.{with_details};
 ghost use Rattle.rv_resolve.specs.Names.{IsDuplicate, IsNames};
 ghost use Rattle.rv_object_laws.specs.Exports.{first_duplicate};
 ghost use Rattle.rv_object_laws.specs.Undefined.{first_undefined};
 ghost use Rattle.rv_reloc.specs.declared.fault.LinkFault.TheVariants.{EntryMissing, OutOfMemory};
 ghost use Rattle.rv_link.specs.Untaken.{AreUnfilled};
-ghost use Rattle.rv_link.specs.Refusals.{AreDoubled, AreWithin, ArePast, AreUnnamed, AreUnplaced, IsOddEntry, IsUnlinked};
+ghost use Rattle.rv_link.specs.Refusals.{AreDoubled, ArePast, AreUnnamed, AreUnplaced, IsOddEntry, IsUnlinked};
+ghost use Rattle.rv_object_laws.specs.TextStart.{AreWithin};
 ghost use Rattle.rv_link.specs.Regions.{AreGrown, HasLinkNames, IsReady, IsPlaced};
 
 use crate::details::{globals as globals_of_map, rows as rows_of_map};

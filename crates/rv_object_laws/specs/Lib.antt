@@ -16,3 +16,5 @@ pub mod Lists
 pub mod Entry
 pub mod Exports
 pub mod Undefined
+pub mod TextStart
+pub mod Details

@@ -12,7 +12,7 @@ use Rattle.rv_object_laws.specs.Inputs.{Starts, goes_to_text, raised, begins_at,
 use Rattle.rv_object_laws.specs.IsLinkOf.{is_loaded}
 use Rattle.rv_object_laws.specs.Moves.{full_padding, has_padding, by_place, alignments_of, plan, moves, new_offset}
 use Rattle.rv_object_laws.specs.Names.{Outer, is_sure, is_sure_by, offset_address, defined_address, symbol_address}
-use Rattle.rv_link.specs.Refusals.{IsTextStart}
+use Rattle.rv_object_laws.specs.TextStart.{IsTextStart}
 use Rattle.rv_raw_link_laws.proofs.CodesLemmas.{leads}
 use Rattle.rv_raw_link_laws.proofs.FieldsLemmas.{IsLeading}
 use Rattle.rv_raw_link_laws.proofs.LeavesLemmas.{input, inputs_one}

@@ -37,7 +37,7 @@ use Rattle.rv_object_laws.proofs.WholeLemmas.{are_whole, whole_left}
 use Rattle.rv_placement.specs.declared.placement.Placement.{Placement}
 use Rattle.rv_placement.specs.Placement.{starts_of, IsPlacement}
 use Rattle.rv_resolve.specs.Shown.{outer_in}
-use Rattle.rv_link.specs.Refusals.{IsTextStart}
+use Rattle.rv_object_laws.specs.TextStart.{IsTextStart}
 use Rattle.rv_link.specs.Filled.{IsTaken}
 use Rattle.rv_assemble_laws.specs.LaidStatements.{LaidStatement, expression_value, parts, laid_in, end_of, HasSize}
 use Rattle.rv_assemble_laws.specs.IsObjectOf.{Numbering, row_of, relocations_from, IsSectionOf, IsObjectOf}

@@ -36,7 +36,7 @@ use Rattle.rv_object_laws.proofs.TextPlacesLemmas.{target_named}
 use Rattle.rv_placement.specs.declared.placement.Placement.{Placement}
 use Rattle.rv_placement.specs.Placement.{starts_of, IsPlacement}
 use Rattle.rv_resolve.specs.Shown.{regions_of, outer_in}
-use Rattle.rv_link.specs.Refusals.{IsTextStart}
+use Rattle.rv_object_laws.specs.TextStart.{IsTextStart}
 use Rattle.rv_link.specs.Filled.{IsTaken}
 use Rattle.rv_object_laws.specs.Lists.{In}
 use Rattle.rv_cut_laws.specs.Cutting.{are_cuts}

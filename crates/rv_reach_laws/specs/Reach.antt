@@ -20,7 +20,7 @@ use Rattle.rv_object_laws.specs.Shortened.{Relaxes}
 use Rattle.rv_object_laws.specs.Without.{without}
 use Rattle.rv_placement.specs.declared.placement.Placement.{Placement}
 use Rattle.rv_placement.specs.Placement.{IsPlacement}
-use Rattle.rv_link.specs.Refusals.{IsTextStart}
+use Rattle.rv_object_laws.specs.TextStart.{IsTextStart}
 use Rattle.rv_link.specs.Filled.{IsTaken}
 use Rattle.rv_sources_link_laws.specs.Joins.{AreObjectsOf}
 

@@ -22,7 +22,7 @@ use Rattle.rv_source_laws.specs.Resolves.{is_label, run_start}
 use Rattle.rv_source_laws.specs.Sized.{statements_in, HaveSizes}
 use Rattle.rv_source_laws.specs.Sizes.{items_of}
 use Rattle.rv_chain_laws.specs.Contents.{IsWritten, contents, IsLinked}
-use Rattle.rv_chain_laws.proofs.ContentsLemmas.{all_found, all_candidates, lines_length}
+use Rattle.rv_runs_laws.proofs.ContentsLemmas.{all_found, all_candidates, lines_length}
 use Rattle.rv_reassembly_laws.proofs.CodesLemmas.{code_kind}
 use Rattle.rv_reassembly_laws.proofs.PlacesLemmas.{source_of, Turns, raw_tables, tables_are, place, whole, located_are, home_of, left_is, IsHome, whole_home, all_statements, seats, site, sites, heads, statements_are, mapped_are, count_rows, rows_are, all_inside, IsFound, all_are_found}
 use Rattle.rv_reassembly_laws.proofs.StepsLemmas.{Step, A_code, The_entry, kind_of, bytes_at, IsSpoken, kinds_of, all_placed, told, at_seat, IsFullStep, step_written}

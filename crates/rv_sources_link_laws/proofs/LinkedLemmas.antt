@@ -28,7 +28,7 @@ use Rattle.rv_source_laws.specs.Start.{spelled}
 use Rattle.rv_source_laws.proofs.HomesLemmas.{all_map}
 use Rattle.rv_image.specs.Linked.{Linked}
 use Rattle.rv_chain_laws.specs.Contents.{IsWritten, IsLinked, contents as source_contents}
-use Rattle.rv_chain_laws.proofs.HomesLemmas.{IsAtHome, homes, from_blocks, sections_in}
+use Rattle.rv_runs_laws.proofs.HomesLemmas.{IsAtHome, homes, from_blocks, sections_in}
 use Rattle.rv_object_types.specs.Object.{Section, Object}
 use Rattle.rv_object_laws.specs.Inputs as objects
 use Rattle.rv_object_laws.specs.Inputs.{Starts, InputSection, inputs_from, inputs_of, inputs, contents, Holds}

@@ -17,7 +17,8 @@ use Rattle.rv_reloc.specs.declared.fault.LinkFault.{LinkFault}
 use Rattle.rv_reloc.specs.declared.fault.LinkFault.TheVariants.{Overflow, OddTarget, DanglingPcrel, AlignmentShort, Undefined, Duplicate, EntryMissing, ImageTooLarge, BadTextStart, TooManyFiles, OutOfMemory}
 use Rattle.rv_reloc.specs.Fault.{link_fault_number}
 use Rattle.rv_link.specs.Untaken.{IsFirstUntaken}
-use Rattle.rv_link.specs.Refusals.{IsTextStart, AreWithin, LacksRoom, LacksEntry, ComesToEntry, ComesToPlaces, IsUnapplied, IsUnlinked}
+use Rattle.rv_object_laws.specs.TextStart.{IsTextStart, AreWithin}
+use Rattle.rv_link.specs.Refusals.{LacksRoom, LacksEntry, ComesToEntry, ComesToPlaces, IsUnapplied, IsUnlinked}
 use Rattle.rv_unique_link_laws.specs.Asked.{BeginsEven}
 use Rattle.rv_unique_link_laws.specs.Same.{name_in, IsSameFault}
 use Rattle.rv_unique_link_laws.proofs.DistinctLemmas.{no_duplicate}

@@ -17,7 +17,7 @@ use Rattle.rv_source_laws.specs.Located.{without_address, has_row}
 use Rattle.rv_source_laws.specs.Program.{Mapped, Program, tables_in, address_at}
 use Rattle.rv_source_laws.specs.Fits as source
 use Rattle.rv_chain_laws.specs.Contents.{contents as source_contents}
-use Rattle.rv_chain_laws.proofs.RegionsLemmas.{AllIn}
+use Rattle.rv_runs_laws.proofs.RegionsLemmas.{AllIn}
 use Rattle.rv_object_types.specs.Object.{Section, Object, size_of}
 use Rattle.rv_object_laws.specs.Moves.{alignments_of}
 use Rattle.rv_object_laws.specs.Inputs.{Starts, InputSection, inputs_from, begins_at, start_of, size, Stand, sections_end, gaps_of, raised, greatest, contents, goes_to_text}

@@ -37,7 +37,7 @@ use Rattle.rv_object_types.specs.Padding.{no_operations}
 use Rattle.rv_sources_link_laws.proofs.statements.QuietLemmas.{formed}
 use Rattle.rv_sources_link_laws.proofs.statements.NopsLemmas.{padding_row, padding_lines, padding_said, padding_lies, padding_sized, padding_encoded}
 use Rattle.rv_sources_link_laws.proofs.statements.SuitsLemmas.{IsMultiple, SuitsPadding, SuitsDirective, Suits, directive_said, code_said}
-use Rattle.rv_chain_laws.proofs.AscendingLemmas.{true_false}
+use Rattle.rv_runs_laws.proofs.AscendingLemmas.{true_false}
 use Rattle.rv_filling_laws.proofs.AllLemmas.{little_long as little_length}
 
 -- ---- constants

@@ -27,7 +27,7 @@ use Rattle.rv_assemble_laws.specs.Templates.{Open, open_at}
 use Rattle.rv_assemble_laws.specs.IsObjectOf.{Numbering, relocation_at}
 use Rattle.rv_sources_link_laws.proofs.names.KnownLemmas.{still}
 use Rattle.rv_sources_link_laws.proofs.statements.RowsLemmas.{is_distance}
-use Rattle.rv_chain_laws.proofs.LaidOutLemmas.{not_false as no_not}
+use Rattle.rv_runs_laws.proofs.LaidOutLemmas.{not_false as no_not}
 
 -- ---- numbers
 

@@ -2,7 +2,7 @@ use Rattle.std.proofs.Common.{◌≡◌, ◌<◌, ◌∷◌, [], ◌++◌, lengt
 use Rattle.std.proofs.lemmas.List.{length-map, map-append}
 use Rattle.rv_statement.specs.View.{now_of}
 use Rattle.rv_object_types.specs.View.{object_of}
-use Rattle.rv_chain.specs.Objects.{IsObjectFrom, AreObjectsFrom}
+use Rattle.rv_chain_laws.specs.Objects.{IsObjectFrom, AreObjectsFrom}
 use Rattle.rv_chain.specs.Refusals.{IsRefusedAt, IsRefusedIn}
 use Rattle.rv_chain.proofs.GatheredLemmas.{err_given, one_more, refused_in, source_at, take_one_more}
 use Rattle.rv_chain.proofs.building.objects.Goals as goal

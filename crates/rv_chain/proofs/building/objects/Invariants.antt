@@ -1,7 +1,7 @@
 use Rattle.std.proofs.Common.{map, take}
 use Rattle.rv_statement.specs.View.{now_of}
 use Rattle.rv_object_types.specs.View.{object_of}
-use Rattle.rv_chain.specs.Objects.{AreObjectsFrom}
+use Rattle.rv_chain_laws.specs.Objects.{AreObjectsFrom}
 use Rattle.rv_chain.proofs.building.objects.Given as goal
 
 abbrev pub invariant-loop-index : goal.invariant-loop-index

@@ -2,7 +2,7 @@ use Rattle.std.proofs.Common.{◌≡◌, ◌<◌, ◌∷◌, [], ◌++◌, lengt
 use Rattle.std.proofs.lemmas.List.{length-map, map-append}
 use Rattle.rv_statement.specs.View.{now_of}
 use Rattle.rv_object_types.specs.View.{object_of}
-use Rattle.rv_chain.specs.Objects.{IsObjectIn, AreObjectsIn}
+use Rattle.rv_chain_laws.specs.Objects.{IsObjectIn, AreObjectsIn}
 use Rattle.rv_chain.specs.LinkRefusals.{IsUnreadAt, AreUnread}
 use Rattle.rv_chain.proofs.GatheredLemmas.{err_given, one_more, source_at, take_one_more}
 use Rattle.rv_chain.proofs.UnreadLemmas.{unread_in}

@@ -15,7 +15,8 @@ use Rattle.rv_placement.proofs.RoomsStandLemmas.{lacks_room_anywhere}
 use Rattle.rv_reloc.specs.declared.fault.LinkFault.{LinkFault}
 use Rattle.rv_reloc.specs.declared.fault.LinkFault.TheVariants.{EntryMissing}
 use Rattle.rv_link.specs.Left.{IsLinkWith}
-use Rattle.rv_link.specs.Refusals.{AreWithin, ComesToPlaces, IsUnlinked}
+use Rattle.rv_object_laws.specs.TextStart.{AreWithin}
+use Rattle.rv_link.specs.Refusals.{ComesToPlaces, IsUnlinked}
 use Rattle.rv_link.specs.Regions.{HasLinkNames}
 use Rattle.rv_link.specs.Made.{made}
 use Rattle.rv_link.proofs.UnlinkedLemmas.{not_placed, unfilled, unnamed}

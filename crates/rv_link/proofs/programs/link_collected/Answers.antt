@@ -9,7 +9,7 @@ use Rattle.rv_resolve.specs.Names.{IsNames}
 use Rattle.rv_resolve.proofs.AlikeLemmas.{names_left}
 use Rattle.rv_reloc.specs.declared.fault.LinkFault.TheVariants.{OutOfMemory}
 use Rattle.rv_link.specs.Left.{HasNoLink, IsLinkOfLeft}
-use Rattle.rv_link.specs.Refusals.{AreWithin}
+use Rattle.rv_object_laws.specs.TextStart.{AreWithin}
 use Rattle.rv_link.proofs.LeftLemmas.{doubled, many_left, some_dropped, some_unlinked}
 use Rattle.rv_link.proofs.programs.link_collected.Goals as goal
 

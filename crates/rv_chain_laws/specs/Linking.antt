@@ -1,0 +1,52 @@
+-- What a link makes of objects, and of the files that hold them.
+
+use Rattle.std.specs.Prelude.{◌≡◌, ℕ, Bool, List, length, None}
+use Rattle.rv_map.specs.Text.{map_text}
+use Rattle.rv_image.specs.Linked.{Linked}
+use Rattle.rv_image.specs.Executable.{exe_of, linked_image}
+use Rattle.rv_image.specs.ImageOf.{ImageOf}
+use Rattle.rv_image.specs.FirstFault.{first_fault}
+use Rattle.rv_object_types.specs.Object.{Object}
+use Rattle.rv_object_laws.specs.IsProgramOf.{IsProgramOf}
+use Rattle.rv_object_laws.specs.TextStart.{AreWithin}
+use Rattle.rv_object_laws.specs.Details.{IsProgramWith}
+use Rattle.rv_chain_laws.specs.Objects.{AreObjectsFrom, AreObjectsIn}
+
+-- the bytes of the executable of the program of these objects, relaxed or not, and the text of its
+-- map
+pub record IsBuiltOf (os : List Object) (start : ℕ) (relax gc : Bool)
+    (file text : List ℕ) : Type 0 where
+  pub linked : Linked
+  pub links : IsProgramOf os start relax gc linked
+  pub written : file ≡ exe_of linked
+  pub shown : text ≡ map_text linked.map
+  -- a loader takes the executable, as what was linked
+  pub accepted : first_fault file ≡ None
+  pub loads : ImageOf file (linked_image linked)
+
+-- those of the program of the objects in files, which have no fault
+abbrev pub AreLinked : List (List ℕ) → ℕ → Bool → Bool → List ℕ → List ℕ → Type 0
+AreLinked files start relax gc executable text =
+    AreWithin (length files) start
+    × ((os : List Object) × AreObjectsIn files os × IsBuiltOf os start relax gc executable text)
+
+-- the bytes of the executable alone: some text shows its map
+abbrev pub IsLinkedAs : List (List ℕ) → ℕ → Bool → Bool → List ℕ → Type 0
+IsLinkedAs files start relax gc executable =
+    (text : List ℕ) × AreLinked files start relax gc executable text
+
+-- the program of the objects in files, with the names and the rows of its map or without
+abbrev pub IsProgramWithOf : List (List ℕ) → ℕ → Bool → Bool → Bool → Linked → Type 0
+IsProgramWithOf files start relax gc details l =
+    AreWithin (length files) start
+    × ((os : List Object) × AreObjectsIn files os × IsProgramWith os start relax gc details l)
+
+-- the program of the objects of texts
+abbrev pub IsProgramOfObjectsFrom : List (List ℕ) → ℕ → Bool → Bool → Linked → Type 0
+IsProgramOfObjectsFrom texts start relax gc l =
+    (os : List Object) × AreObjectsFrom texts os × IsProgramOf os start relax gc l
+
+-- what is written of the program of the objects of texts
+abbrev pub AreBuilt : List (List ℕ) → ℕ → Bool → Bool → List ℕ → List ℕ → Type 0
+AreBuilt texts start relax gc executable text =
+    (os : List Object) × AreObjectsFrom texts os × IsBuiltOf os start relax gc executable text
