@@ -71,6 +71,7 @@ check: rv
 	scripts/want_of_memory.py
 	scripts/definitions.py
 	scripts/trusted.py --check
+	scripts/storeys.py
 
 refused: rv rv_refused
 	tests/refused.py
