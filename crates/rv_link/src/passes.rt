@@ -222,9 +222,9 @@ fn finish(
     requires drops { All (λ d. IsDrop d) drops.items }
     ensures made { IfOk result
         (λ l. linked_of l ≡ with_details details
-        (made drops.items (map short_object_of objects.now) placement entry regions)) }
+        (made drops.items (map short_object_of objects.now) placement.entry entry regions)) }
     ensures readable { IfOk result (λ _. IsMap
-        (made drops.items (map short_object_of objects.now) placement entry regions).map) }
+        (made drops.items (map short_object_of objects.now) placement.entry entry regions).map) }
     ensures refuses { IfErr result (λ fault. fault ≡ OutOfMemory) }
 {
     let globals = globals_of_map(alloc, objects, names, &placement, details)?;
