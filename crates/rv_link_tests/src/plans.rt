@@ -70,7 +70,7 @@ fn has(plan: &Plan<'_, '_>, calls: &[u32], alignments: &[u32]) -> bool {
 }
 
 /// Whether the plan of the object in a file has these sizes of calls and of alignments, and gives each offset this one
-/// afterwards; where an alignment lacks bytes, whether it is refused.
+/// afterwards, and is refused only where an alignment lacks bytes.
 fn tells(
     alloc: Global,
     file: &[u8],
@@ -83,16 +83,17 @@ fn tells(
     let Some(text) = text(alloc, &objects)? else {
         return Ok(false);
     };
-    let plan = match Plan::of(alloc, &text, true) {
-        Ok(plan) => plan,
-        Err(fault) => return Ok(!is_roomy && fault == LinkFault::AlignmentShort),
+    let is_answered = match Plan::of(alloc, &text, true) {
+        Ok(_) => is_roomy,
+        Err(fault) => !is_roomy && fault == LinkFault::AlignmentShort,
     };
+    let plan = Plan::relaxed(alloc, &text, true)?;
     for (old, new) in offsets {
         if plan.new_offset(*old) != *new {
             return Ok(false);
         }
     }
-    Ok(is_roomy && has(&plan, calls, alignments))
+    Ok(is_answered && plan.is_roomy() == is_roomy && has(&plan, calls, alignments))
 }
 
 #[test]
@@ -121,6 +122,6 @@ fn plans_tell_of_texts(rt: HostRuntime) -> Result<(), Fail> {
         )?
     );
     let short = file(alloc, &[(SHORT, 2, SHORT_PADDING.as_slice())], &[])?;
-    assert!(rt; tells(alloc, &short, &[], &[], false, &[])?);
+    assert!(rt; tells(alloc, &short, &[], &[6], false, &[(2, 2)])?);
     Ok(())
 }
