@@ -6,13 +6,13 @@
 //!
 //! The main contract: what `build` gives keeps `TheHeadline`: the run of the executable's bytes is the run of the
 //! sources' statements at the addresses of the printed map, for every input and limit; and the listing of the executable
-//! with the map is the sources' own (`specs/Listed`). `build_exe` gives the same executable without the map's text.
+//! with the map is the sources' own (`rv_chain_laws/specs/Listed`). `build_exe` gives the same executable without the map's text.
 //! `assemble_object` gives the file that is written of a source's object. `link_objects` takes such files, and those that
-//! other tools wrote: it gives what is written of the link of the objects that they hold (`specs/Linking`);
+//! other tools wrote: it gives what is written of the link of the objects that they hold (`rv_chain_laws/specs/Linking`);
 //! `link_objects_exe` gives the same executable without the map's text.
 //! `builds_as_it_links` says that sources and the files of their objects come to the same executable and map, or to the
 //! same fault of the link (`specs/Agreement`). `run_exec` gives the machine's run over the file's image. What is refused
-//! has its reason in the clauses `refuses` (`specs/Refusals`, `specs/LinkRefusals`, `specs/Running`): memory ran out, which
+//! has its reason in the clauses `refuses` (`specs/Refusals`, `specs/LinkRefusals`, and `Running` beside `Linking`): memory ran out, which
 //! is `Fault::Memory` alone, or a fault names its cause. `sources_have_one_fault` and `files_have_one_fault` say that there
 //! is one such fault, and none where there is a program (`specs/OneFault`).
 //!
