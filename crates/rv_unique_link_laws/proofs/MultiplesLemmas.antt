@@ -9,8 +9,7 @@ use Rattle.rv_object_types.specs.Object.{Relocation, Section, Object}
 use Rattle.rv_object_types.specs.Valid.{is_section_alignment}
 use Rattle.rv_object_laws.specs.Moves.{full_padding, alignment_of, alignments_of}
 use Rattle.rv_object_laws.specs.Inputs.{InputSection, goes_to_text, inputs, raised, begins_at}
-use Rattle.rv_cut_laws.proofs.AlignedLemmas.{alignments}
-use Rattle.rv_placement.proofs.AlignedLemmas.{one_of}
+use Rattle.rv_cut_laws.proofs.AlignedLemmas.{alignments, one_of}
 use Rattle.rv_cut_laws.proofs.PowersLemmas.{any_power}
 use Rattle.rv_unique_link_laws.specs.Asked.{IsSound}
 use Rattle.rv_unique_link_laws.proofs.FoundLemmas.{EachOf, all_of}
