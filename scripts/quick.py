@@ -86,16 +86,21 @@ def without_unread(lines):
     return [line for at, line in enumerate(lines) if at not in gone]
 
 
-def function(head, lines):
-    """A function of the module as a proved build has it."""
+def function(head, lines, change):
+    """A function of the module as a proved build has it, with its lines changed."""
     # (at a label a comment lists the blocks before it)
     lines = [it if it.startswith("  ") else it.split(";")[0].rstrip() for it in lines]
-    lines = without_unread(without_choices([*kit.without_checks(lines)]))
+    lines = change(head, [*without_unread(without_choices([*kit.without_checks(lines)]))])
     return "\n".join([kit.with_hint(head), *lines, "}\n"])
 
 
-def turned(source, target):
-    """Copies the module of `rt try` as the one that a proved build would compile."""
+def unchanged(_, lines):
+    """A function's lines as they are."""
+    return lines
+
+
+def turned(source, target, change=unchanged):
+    """Copies the module of `rt try` as the one that a proved build would compile, with a change of each function's lines."""
     text = {"encoding": "latin-1"}
     with open(source, **text) as lines, open(target, "w", **text) as out:
         lines = (it.rstrip("\n") for it in lines)
@@ -104,7 +109,7 @@ def turned(source, target):
                 out.write(f"{line}\n")
                 continue
             inside = [*takewhile("}".__ne__, lines)]
-            out.write("" if kit.is_check(line) else function(line, inside))
+            out.write("" if kit.is_check(line) else function(line, inside, change))
         out.write(kit.attributes())
 
 

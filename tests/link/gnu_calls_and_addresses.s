@@ -1,5 +1,5 @@
 # A call, branches and jumps, and the halves of addresses, in two files. GNU as 2.40, -march=rv64ima -mno-relax, wrote
-# the objects of the sources below, and GNU ld 2.40 makes of them what stands here: scripts/link_cases.py.
+# the objects of the sources below, and GNU ld 2.40 makes of them what stands here: tests/against/link_cases.py.
 # options: --no-relax
 # text: 97000000 e7808004 6306b500 6f008000 e3e8a5fe 97250000 9385c5fe 17250000 032585fe 97220000 23aea2fc 37260100 13060600 03254600 2324a600 17030000 6700c300 13000000 17250000 130505fd eff01ffb 67800000 13000000 6ff0dffe
 # rodata: 07000000 00000000 02000100 00000000

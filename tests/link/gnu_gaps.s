@@ -1,5 +1,5 @@
 # Sections of text with alignments and one of constants: zeros between them. GNU as 2.40, -march=rv64ima -mno-relax,
-# wrote the objects of the sources below, and GNU ld 2.40 makes of them what stands here: scripts/link_cases.py.
+# wrote the objects of the sources below, and GNU ld 2.40 makes of them what stands here: tests/against/link_cases.py.
 # options: --no-relax
 # text: 6f000004 00000000 00000000 00000000 00000000 00000000 00000000 00000000 00000000 00000000 00000000 00000000 00000000 00000000 00000000 00000000 67800000 00000100 13000000 13000000 13000000 13000000 13000000 13000000 13000000 13000000 13000000 13000000 13000000 13000000 13000000 13000000 13000000
 # rodata: 01000000 00000000 00000000 00000000 00000000 00000000 00000000 00000000 02

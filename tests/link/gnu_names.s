@@ -1,5 +1,5 @@
 # The linker's names, numbers for all files, and local names of two files. GNU as 2.40, -march=rv64ima -mno-relax,
-# wrote the objects of the sources below, and GNU ld 2.40 makes of them what stands here: scripts/link_cases.py.
+# wrote the objects of the sources below, and GNU ld 2.40 makes of them what stands here: tests/against/link_cases.py.
 # options: --no-relax
 # text: 37553412 13058567 97150000 93858501 17160000 13063601 6f000000
 # rodata:

@@ -1,5 +1,5 @@
 # Paddings of 6 bytes that keep 4 and 2. GNU as 2.40, -march=rv64imac -mrelax, wrote the objects of the sources below,
-# and GNU ld 2.40 makes of them what stands here: scripts/link_cases.py.
+# and GNU ld 2.40 makes of them what stands here: tests/against/link_cases.py.
 # options: --no-relax
 # text: 01000100 13000000 01a00100 01000100 e308b5fe d5bf0000 0000
 # rodata:

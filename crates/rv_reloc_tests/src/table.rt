@@ -1,4 +1,4 @@
-//! Fields as GNU's linker patches them; made by `scripts/relocation_table.py`.
+//! Fields as GNU's linker patches them; made by `tests/against/relocation_table.py`.
 
 use rv_isa::Kind;
 

@@ -1,7 +1,6 @@
-#!/usr/bin/env python3
 """Compares `rv dis` with GNU objdump, line by line, over objects and executables that GCC and GNU ld make of csmith's programs.
 
-usage: disassembly.py [PROGRAMS]      (20 by default; with ./rv, riscv64-unknown-elf-gcc, its binutils and csmith)
+usage: compare.py disassembly [PROGRAMS]      (20 by default; with ./rv, riscv64-unknown-elf-gcc, its binutils and csmith)
 
 Each program is drawn from a seed, from 1 on, and compiled at four levels; its object, its executable by GNU ld and the object
 that `rv as` makes of its assembly are shown, by aliases and by base instructions. Where a relocation is against a symbol
@@ -15,38 +14,35 @@ from difflib import unified_diff
 from itertools import count, islice
 from pathlib import Path
 
-ROOT = Path(__file__).resolve().parent.parent
-sys.path.insert(0, str(ROOT / "examples" / "c" / "random"))
-from compare import FLAGS, GNU, draw, made, need, said  # noqa: E402
+from against.common import FLAGS, GNU, RV, completed, draw, need, succeeds
 
-RV = str(ROOT / "rv")
 LEVELS = ["-O0 -fdata-sections", "-O1", "-O2", "-Os"]
 # What a relocation is against, behind the symbol's section.
 PLACE = re.compile(r"(?m)(\t\.[\w.]+)\+0x[0-9a-f]+$")
 
 
 def shown(words):
-    ended = said(words)
-    return None if ended is None or ended.returncode else PLACE.sub(r"\1", ended.stdout.decode())
+    process = completed(words)
+    return None if process is None or process.returncode else PLACE.sub(r"\1", process.stdout.decode())
 
 
 def files_of(folder, level):
     """The files of a program, as far as they can be made."""
     source, assembly = folder / "program.c", folder / "program.s"
-    if not made([f"{GNU}gcc", *FLAGS, *level.split(), "-S", "-o", str(assembly), str(source)]):
+    if not succeeds([f"{GNU}gcc", *FLAGS, *level.split(), "-S", "-o", assembly, source]):
         return []
     theirs, exe, ours = folder / "theirs.o", folder / "exe", folder / "ours.o"
-    found = [theirs] if made([f"{GNU}as", "-march=rv64imac", "-o", str(theirs), str(assembly)]) else []
-    found += [exe] if found and made([f"{GNU}ld", "--no-warn-rwx-segments", "-o", str(exe), str(theirs)]) else []
-    return [*found, ours] if made([RV, "as", "-o", str(ours), str(assembly)]) else found
+    found = [theirs] if succeeds([f"{GNU}as", "-march=rv64imac", "-o", theirs, assembly]) else []
+    found += [exe] if found and succeeds([f"{GNU}ld", "--no-warn-rwx-segments", "-o", exe, theirs]) else []
+    return [*found, ours] if succeeds([RV, "as", "-o", ours, assembly]) else found
 
 
 def faults(folder, level):
     """The lines that differ of each file of a program, in both styles."""
     for file in files_of(folder, level):
         for style, more in (([], []), (["--base"], ["-M", "no-aliases"])):
-            wanted = shown([f"{GNU}objdump", "-d", "-r", *more, str(file)])
-            came = shown([RV, "dis", *style, str(file)])
+            wanted = shown([f"{GNU}objdump", "-d", "-r", *more, file])
+            came = shown([RV, "dis", *style, file])
             lines = [] if came == wanted else list(islice(unified_diff((wanted or "").split("\n"), (came or "").split("\n"), n=0), 12))
             yield f"{file.name} {level} {' '.join(style)}", lines, (wanted or "").count("\n")
 
@@ -67,7 +63,3 @@ def main():
                     print(f"seed {seed}: {found}", *differ, sep="\n  ")
     print(f"{lines} lines\n{passed} passed, {failed} failed")
     return int(failed > 0)
-
-
-if __name__ == "__main__":
-    sys.exit(main())

@@ -1,10 +1,9 @@
-#!/usr/bin/env python3
 """Compares which calls rv and GNU ld shorten in random C programs.
 
-usage: relaxation.py [--first SEED] [--count N] [--jobs N] [--rv RV]
+usage: compare.py relaxation [--first SEED] [--count N] [--jobs N] [--rv RV]
 
-It runs at the top of the repository, where rv stands, and takes 100 programs that csmith draws from seed 1 on, each as
-GCC writes it in six ways, in two of them with pages of padding between its functions, so that calls are far. Both lay
+It takes 100 programs that csmith draws from seed 1 on, each as GCC writes it in six ways, in two of them with pages of
+padding between its functions, so that calls are far. Both lay
 the text out alike: from one address, section by section in the order of the source; and no address in it is near enough
 to zero or to a global pointer for GNU ld to shorten anything but calls.
 
@@ -21,13 +20,12 @@ The last line is 'longer=0' where no call is longer so, and only then the status
 
 import re
 import struct
-import sys
 import tempfile
 from collections import Counter
 from concurrent.futures import ThreadPoolExecutor
 from pathlib import Path
 
-from compare import GNU, assemblies, draw, made, need, options_given, said
+from against.common import GNU, assemblies, completed, csmith_options, draw, need, succeeds
 
 # How GCC writes a program, and how many pages are put between two of its functions.
 WAYS = [
@@ -70,10 +68,10 @@ def kinds_of_calls(folder, source):
     """The bytes that GNU ld leaves of each call of a source, in the order of their addresses; none where it fails."""
     before, after, script = folder / "before.o", folder / "after", folder / "script"
     script.write_text(SCRIPT)
-    if not made([f"{GNU}as", "-march=rv64imac", "-mabi=lp64", "-o", str(before), str(source)]):
+    if not succeeds([f"{GNU}as", "-march=rv64imac", "-mabi=lp64", "-o", before, source]):
         return None
-    ld = [f"{GNU}ld", "--no-warn-rwx-segments", "-q", "-T", str(script), "-e", str(START)]
-    if not made([*ld, "--unresolved-symbols=ignore-all", "-o", str(after), str(before)]):
+    ld = [f"{GNU}ld", "--no-warn-rwx-segments", "-q", "-T", script, "-e", str(START)]
+    if not succeeds([*ld, "--unresolved-symbols=ignore-all", "-o", after, before]):
         return None
     old = [kind for _, of_section in sorted(relocations(before.read_bytes())) for _, kind in of_section]
     new = [kind for _, of_section in relocations(after.read_bytes()) for _, kind in of_section]
@@ -85,9 +83,9 @@ def kinds_of_calls(folder, source):
 def map_rows(folder, options, source):
     """The address and the bytes of each statement in rv's map, by its line and in the order of the source; none where
     rv refuses it."""
-    words = ["build", "--text-start", str(START), "-o", str(folder / "ours"), "--map", str(folder / "map"), str(source)]
-    built = said([options.rv, *words])
-    if built is None or built.returncode != 0:
+    words = ["build", "--text-start", START, "-o", folder / "ours", "--map", folder / "map", source]
+    build = completed([options.rv, *words])
+    if build is None or build.returncode != 0:
         return None
     rows = re.findall(r"^row \d+ (\d+) \d+ ([0-9a-f]+) (\d+) \d+$", (folder / "map").read_text(), re.M)
     return [(int(line), int(address, 16), int(size)) for line, address, size in rows]
@@ -97,9 +95,9 @@ def section_of_lines(lines):
     """The section of code of each line, none where it is another, and the sections in their order."""
     section, found, names = ".text", [], [".text"]
     for line in lines:
-        said_so = re.match(r"\s*(?:\.section\s+([^\s,]+)|(\.text|\.data|\.bss)\b)", line)
-        if said_so:
-            section = said_so.group(1) or said_so.group(2)
+        opening = re.match(r"\s*(?:\.section\s+([^\s,]+)|(\.text|\.data|\.bss)\b)", line)
+        if opening:
+            section = opening.group(1) or opening.group(2)
         is_code = section.startswith(".text")
         if is_code and section not in names:
             names.append(section)
@@ -109,8 +107,8 @@ def section_of_lines(lines):
 
 def full_padding(line):
     """The bytes of padding that an alignment may need; none for another statement."""
-    said_so = re.match(r"\s*\.(?:p2)?align\s+(\d+)", line)
-    return max((1 << int(said_so.group(1))) - 2, 0) if said_so else None
+    alignment = re.match(r"\s*\.(?:p2)?align\s+(\d+)", line)
+    return max((1 << int(alignment.group(1))) - 2, 0) if alignment else None
 
 
 def full_offsets(lines, rows):
@@ -192,7 +190,7 @@ def program(seed, options):
 
 
 def main():
-    options = options_given(__doc__, count=100)
+    options = csmith_options(__doc__, 100)
     need(options.rv, "csmith", *(f"{GNU}{tool}" for tool in ("gcc", "as", "ld")))
     counts = {way: Counter() for way in WAYS}
     with ThreadPoolExecutor(options.jobs) as lanes:
@@ -200,12 +198,8 @@ def main():
             for way, found in ends:
                 counts[way].update(found)
     for (flags, pages), found in counts.items():
-        said_so = ", ".join(f"{end} {count}" for end, count in sorted(found.items()))
-        print(f"{flags}, {pages} pages between functions: {said_so}")
+        ends = ", ".join(f"{end} {count}" for end, count in sorted(found.items()))
+        print(f"{flags}, {pages} pages between functions: {ends}")
     longer = sum(found["longer"] for found in counts.values())
     print(f"longer={longer}")
     return 0 if longer == 0 else 1
-
-
-if __name__ == "__main__":
-    sys.exit(main())

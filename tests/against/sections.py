@@ -1,10 +1,8 @@
-#!/usr/bin/env python3
 """Compares which sections of random C programs rv and GNU ld leave out with --gc-sections.
 
-usage: sections.py [--first SEED] [--count N] [--jobs N] [--limit N] [--keep FOLDER] [--rv RV]
+usage: compare.py sections [--first SEED] [--count N] [--jobs N] [--limit N] [--keep FOLDER] [--rv RV]
 
-It runs at the top of the repository, where rv stands, and takes 200 programs that csmith draws from seed 1 on, unless
-told otherwise. GCC writes each at four levels, each function and each variable in a section of its own, and the start
+It takes 200 programs that csmith draws from seed 1 on, unless told otherwise. GCC writes each at four levels, each function and each variable in a section of its own, and the start
 and the printing in a source apart. Of the same objects of GNU as, `rv ld --gc-sections` and GNU ld with
 `--gc-sections -e _start` make programs; so does `rv build --gc-sections` of the sources. Each program ends as one of:
 
@@ -21,15 +19,14 @@ where nothing differs, and only then the status is 0.
 """
 
 import re
-import subprocess
-import sys
 import tempfile
 from collections import Counter
 from concurrent.futures import ThreadPoolExecutor
 from pathlib import Path
 
-import compare
-from compare import GNU, SECONDS, said
+from against.common import (
+    GNU, QEMU, assemblies, completed, csmith_options, draw, gnu_link, is_limit, is_past_end, keep, need, outcome, refusal,
+    run_by_qemu, run_by_rv, summary)
 
 LEVELS = ["-O0", "-O1", "-O2", "-Os"]
 APART = "-ffunction-sections -fdata-sections -fno-asynchronous-unwind-tables -fno-ipa-icf"
@@ -38,7 +35,7 @@ ALLOC, EXEC = "A", "X"
 
 def headers(path):
     """The section headers of a file: name, type, size and flags."""
-    shown = said([f"{GNU}readelf", "-S", "-W", str(path)]).stdout.decode()
+    shown = completed([f"{GNU}readelf", "-S", "-W", path]).stdout.decode()
     return re.findall(r"^ *\[ *\d+\] (\S*) +(\S+) +[0-9a-f]+ [0-9a-f]+ ([0-9a-f]+) [0-9a-f]+ +([A-Z]*)", shown, re.M)
 
 
@@ -59,53 +56,44 @@ def left_out(folder, objects):
 def left_out_by_gnu(folder, objects):
     """The same of GNU ld; none where it makes no program."""
     words = [f"{GNU}ld", "--no-warn-rwx-segments", "--gc-sections", "-e", "_start", "--print-gc-sections"]
-    ended = said([*words, "-o", str(folder / "theirs"), *map(str, objects)])
-    if ended is None or ended.returncode != 0:
+    link = completed([*words, "-o", folder / "theirs", *objects])
+    if link is None or link.returncode != 0:
         return None
-    said_so = (ended.stdout + ended.stderr).decode()
-    return {(Path(path).name, name) for name, path in re.findall(r"removing unused section '(.*)' in file '(.*)'", said_so)}
+    message = (link.stdout + link.stderr).decode()
+    return {(Path(path).name, name) for name, path in re.findall(r"removing unused section '(.*)' in file '(.*)'", message)}
 
 
 def text_bytes(path):
     """The bytes of a program's code: those of its sections, or, as rv writes none, of its executable segments."""
     code = sum(int(size, 16) for _, _, size, flags in headers(path) if EXEC in flags)
-    shown = said([f"{GNU}readelf", "-l", "-W", str(path)]).stdout.decode()
+    shown = completed([f"{GNU}readelf", "-l", "-W", path]).stdout.decode()
     return code or sum(int(size, 16) for size in re.findall(r"LOAD +\S+ \S+ \S+ (\S+) \S+ [RW ]*E", shown))
-
-
-def run_of(options, path):
-    """How rv ends the run of a program."""
-    return said([options.rv, "run", "--limit", str(options.limit), str(path)], 10 * SECONDS, stdin=subprocess.DEVNULL)
-
-
-def shown(ended):
-    return ended and (ended.returncode, ended.stdout)
 
 
 def compared(folder, sources, options, sizes, alone):
     """How a program ends."""
     objects = [source.with_suffix(".o") for source in sources]
-    if not compare.gnu_link(folder, sources):
+    if not gnu_link(folder, sources):
         return "none"
-    wanted = compare.theirs(folder, 20)
+    wanted = run_by_qemu(folder / "theirs", 20)
     theirs = left_out_by_gnu(folder, objects)
     if wanted is None:
         return "too long"
     if theirs is None:
         return "none"
-    words = ["--gc-sections", "--map", str(folder / "map"), "-o"]
+    words = ["--gc-sections", "--map", folder / "map", "-o"]
     for command, files in (("build", sources), ("ld", objects)):
-        made = said([options.rv, command, *words, str(folder / command), *map(str, files)])
-        if made is None or made.returncode != 0:
-            return compare.refusal(made) if made else "differs"
-        ended = run_of(options, folder / command)
-        if ended is None or compare.is_limit(ended):
+        process = completed([options.rv, command, *words, folder / command, *files])
+        if process is None or process.returncode != 0:
+            return refusal(process) if process else "differs"
+        run = run_by_rv(options, folder / command)
+        if run is None or is_limit(run):
             return "too long"
-        if compare.is_past_end(folder, ended):
+        if is_past_end(folder, run):
             return "past end"
-        if shown(ended) != shown(wanted):
+        if outcome(run) != outcome(wanted):
             return "differs"
-    if shown(compare.theirs(folder, 20)) != shown(wanted):
+    if outcome(run_by_qemu(folder / "theirs", 20)) != outcome(wanted):
         return "none"
     sizes.update(rv=text_bytes(folder / "ld"), GNU=text_bytes(folder / "theirs"))
     ours = left_out(folder, objects)
@@ -121,20 +109,20 @@ def program(seed, options):
     sizes, alone = Counter(), Counter()
     with tempfile.TemporaryDirectory() as name:
         folder = Path(name)
-        drawn = compare.draw(folder, seed)
+        drawn = draw(folder, seed)
         ends = []
         for level in LEVELS:
-            sources = compare.assemblies(folder, f"{level} {APART}", True) if drawn else None
+            sources = assemblies(folder, f"{level} {APART}", True) if drawn else None
             end = compared(folder, sources, options, sizes, alone) if sources else "none"
             if end == "differs":
-                compare.keep(folder, seed, level, end, options)
+                keep(folder, seed, level, end, options)
             ends.append((level, end))
     return ends, sizes, alone
 
 
 def main():
-    options = compare.options_given(__doc__, 200)
-    compare.need(options.rv, "csmith", "qemu-riscv64", *(f"{GNU}{tool}" for tool in ("gcc", "as", "ld", "readelf")))
+    options = csmith_options(__doc__, 200)
+    need(options.rv, "csmith", QEMU, *(f"{GNU}{tool}" for tool in ("gcc", "as", "ld", "readelf")))
     counts, sizes, alone = Counter(), Counter(), Counter()
     seeds = range(options.first, options.first + options.count)
     with ThreadPoolExecutor(options.jobs) as lanes:
@@ -145,8 +133,4 @@ def main():
     print(f"text: {sizes['rv']} bytes by rv, {sizes['GNU']} by GNU ld")
     for why, count in sorted(alone.items()):
         print(f"{why}: {count}")
-    return compare.summary(counts, LEVELS)
-
-
-if __name__ == "__main__":
-    sys.exit(main())
+    return summary(counts, LEVELS)

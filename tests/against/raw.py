@@ -1,7 +1,6 @@
-#!/usr/bin/env python3
 """Prints executables as raw listings and builds these again: the same text bytes, and the same entry.
 
-usage: raw.py [WORDS [SEEDS]]      (20,000 words and 70 seeds by default; 1,000,000 words take some minutes)
+usage: compare.py raw [WORDS [SEEDS]]      (20,000 words and 70 seeds by default; 1,000,000 words take some minutes)
 
 Every parcel, and WORDS random words of the profile, in texts of 64 KiB at most. Their lines are compared with those of
 GNU's objdump without aliases (Debian's binutils-riscv64-unknown-elf), which decides which parcels there are. Each parcel
@@ -12,7 +11,6 @@ counted by their reason. The last line is 'N passed, M failed'.
 
 import collections
 import functools
-import os
 import random
 import re
 import struct
@@ -22,13 +20,10 @@ import tempfile
 from concurrent.futures import ThreadPoolExecutor
 from pathlib import Path
 
-ROOT = Path(__file__).resolve().parent.parent
-sys.path[:0] = [str(ROOT / "tests"), str(ROOT / "examples" / "c" / "random")]
-from compare import GNU, assemblies, draw, gnu_link  # noqa: E402
-from objects import object_of  # noqa: E402
-from run import cases  # noqa: E402
+from against.common import GNU, RV, assemblies, draw, gnu_link, need, processors
+from objects import object_of
+from run import cases
 
-RV = str(ROOT / "rv")
 START = 0x10000
 STACK = 0x3FF00000
 LEVELS = ["-O0 -fdata-sections", "-O1", "-O2", "-Os"]
@@ -49,8 +44,8 @@ def run(*words, at):
 def linked(code, at, entry=0):
     """Links an object whose text has these bytes; the executable's name."""
     Path(at, "a.o").write_bytes(object_of(f"section .text ax 2: {code.hex()}\nsymbol _start global 1 {entry}\nrvc"))
-    made = run(RV, "ld", "-o", "a", "a.o", at=at)
-    assert made.returncode == 0, made.stderr
+    process = run(RV, "ld", "-o", "a", "a.o", at=at)
+    assert process.returncode == 0, process.stderr
     return "a"
 
 
@@ -140,12 +135,12 @@ def is_hint(name, operands):
 
 def parcels(at):
     """All parcels, in those that sources say and the others."""
-    said, others = [], []
+    possible, others = [], []
     for value in range(1 << 16):
         if value % 4 != 3:
-            (said if value else others).append(struct.pack("<H", value))
+            (possible if value else others).append(struct.pack("<H", value))
     good = []
-    for (_, size, name, operands), code in zip(gnu(b"".join(said), at), said):
+    for (_, size, name, operands), code in zip(gnu(b"".join(possible), at), possible):
         assert size == 2
         if name.startswith("c.") and name not in FLOATS and name != "c.unimp" and not is_hint(name, operands):
             good.append(code)
@@ -284,9 +279,11 @@ def of_programs(seed, at):
             yield f"seed {seed} {level} by rv", "ours"
 
 
-def main(count=20_000, seeds=70):
+def main():
+    need(RV, "csmith", *(f"{GNU}{tool}" for tool in ("gcc", "as", "ld", "objdump")))
+    count, seeds = map(int, [*sys.argv[1:], *["20000", "70"][len(sys.argv) - 1 :]])
     failed, passed = [], 0
-    with tempfile.TemporaryDirectory() as at, ThreadPoolExecutor(os.cpu_count()) as pool:
+    with tempfile.TemporaryDirectory() as at, ThreadPoolExecutor(processors()) as pool:
         good, others = parcels(at)
         for what, each in ((try_text, texts(good)), (try_text, texts(words(count))), (try_other, others)):
             for found in pool.map(what, each):
@@ -309,7 +306,3 @@ def main(count=20_000, seeds=70):
         print(each)
     print(f"{passed} passed, {len(failed)} failed")
     return bool(failed)
-
-
-if __name__ == "__main__":
-    sys.exit(main(*map(int, sys.argv[1:])))

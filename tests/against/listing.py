@@ -1,7 +1,6 @@
-#!/usr/bin/env python3
 """Compares the listing of rv with GNU objdump's, for every parcel and for words at the edges of their fields.
 
-usage: compare.py [--rv RV]
+usage: compare.py listing [--rv RV]
 
 It writes an executable whose text has each of the 49,152 parcels that begin no word, and each word whose opcode has its
 low two bits set and is not that of a longer instruction, with every funct3 and funct7 and with registers at the edges
@@ -16,12 +15,13 @@ import argparse
 import re
 import struct
 import subprocess
-import sys
 import tempfile
 from collections import Counter
 from pathlib import Path
 
-OBJDUMP = "riscv64-unknown-elf-objdump"
+from against.common import GNU, RV, need
+
+OBJDUMP = f"{GNU}objdump"
 START = 0x10000
 SHOWN = 20
 
@@ -166,8 +166,9 @@ def of_gnu(folder, text):
 
 def main():
     options = argparse.ArgumentParser(description=__doc__, formatter_class=argparse.RawDescriptionHelpFormatter)
-    options.add_argument("--rv", default="./rv")
-    rv = Path(options.parse_args().rv).resolve()
+    options.add_argument("--rv", type=Path, default=RV)
+    rv = options.parse_args().rv.resolve()
+    need(rv, OBJDUMP)
     codes = [*parcels(), *words()]
     differs, count = 0, Counter()
     with tempfile.TemporaryDirectory() as name:
@@ -187,7 +188,3 @@ def main():
         address += len(code)
     print(f"{len(codes)} instructions: {count['the same']} the same, {count['unknown']} unknown to both, differs={differs}")
     return min(differs, 1)
-
-
-if __name__ == "__main__":
-    sys.exit(main())

@@ -1,7 +1,6 @@
-#!/usr/bin/env python3
 """Writes tests/link/gnu_*.s: programs that GNU's linker makes of objects that GNU's assembler wrote.
 
-usage: link_cases.py, with riscv64-unknown-elf-as and -ld 2.40
+usage: compare.py link_cases    (with riscv64-unknown-elf-as and -ld 2.40)
 
 Each program is a list of sources. The case holds the object of each as a file in hexadecimal. GNU's linker then links the
 objects with a script that lays the sections out in the order of regions, without relaxation of calls; what the case wants
@@ -14,8 +13,9 @@ import tempfile
 import textwrap
 from pathlib import Path
 
-FOLDER = Path(__file__).resolve().parent.parent / "tests" / "link"
-TOOLS = "riscv64-unknown-elf-"
+from against.common import GNU, ROOT, need
+
+FOLDER = ROOT / "tests" / "link"
 SCRIPT = """
 ENTRY(_start)
 SECTIONS {
@@ -189,7 +189,7 @@ def text(strings, at):
 
 
 def run(*words):
-    subprocess.run([TOOLS + words[0], *map(str, words[1:])], check=True)
+    subprocess.run([GNU + words[0], *map(str, words[1:])], check=True)
 
 
 def grouped(data):
@@ -206,7 +206,7 @@ def case(folder, shows, options, sources):
     (folder / "script").write_text(SCRIPT)
     run("ld", "--no-relax", "-T", folder / "script", "-o", folder / "program", *objects)
     elf = Elf((folder / "program").read_bytes())
-    about = f"{shows} GNU as 2.40, {' '.join(options)}, wrote the objects of the sources below, and GNU ld 2.40 makes of them what stands here: scripts/link_cases.py."
+    about = f"{shows} GNU as 2.40, {' '.join(options)}, wrote the objects of the sources below, and GNU ld 2.40 makes of them what stands here: tests/against/link_cases.py."
     lines = ["# " + line for line in textwrap.wrap(about, 116)] + ["# options: --no-relax"]
     lines += [f"# {name}: {grouped(elf.region('.' + name)[1])}".rstrip() for name in ("text", "rodata", "data")]
     for name in ("rodata", "data"):
@@ -222,9 +222,7 @@ def case(folder, shows, options, sources):
 
 
 def main():
+    need(*(f"{GNU}{tool}" for tool in ("as", "ld")))
     with tempfile.TemporaryDirectory() as folder:
         for name, shows, options, sources in PROGRAMS:
             (FOLDER / f"{name}.s").write_text("\n".join(case(Path(folder), shows, options, sources)) + "\n")
-
-
-main()

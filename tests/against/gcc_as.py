@@ -1,7 +1,6 @@
-#!/usr/bin/env python3
 """Lets GCC take rv for its assembler, and compares what both linkers make of its objects.
 
-usage: gcc_as.py PREFIX [PROGRAMS]      (200 programs by default; PREFIX is what 'make install PREFIX=..' was told)
+usage: compare.py gcc_as PREFIX [PROGRAMS]      (200 programs by default; PREFIX is what 'make install PREFIX=..' was told)
 
 GCC compiles with `-B PREFIX/libexec/rv/ -march=rv64imac -mabi=lp64 -c`: the programs of bench/, each at four levels, and
 programs that csmith draws from seed 1 on, at one level each, every second one in two files. Their objects must be rv's.
@@ -14,7 +13,6 @@ instructions, and where it loads bytes past the end of a region, as GCC does beh
 'N passed, M failed'. Standard library alone; it needs riscv64-unknown-elf-gcc, its binutils and csmith.
 """
 
-import os
 import re
 import shutil
 import struct
@@ -25,9 +23,8 @@ from concurrent.futures import ThreadPoolExecutor
 from itertools import count, islice
 from pathlib import Path
 
-ROOT = Path(__file__).resolve().parent.parent
-sys.path.insert(0, str(ROOT / "examples" / "c" / "random"))
-from compare import FLAGS, GNU, HERE, LEFT_OUT, draw, is_limit, made, need, refusal, said  # noqa: E402
+from against.common import (
+    CSMITH, FLAGS, GNU, LEFT_OUT, QEMU, ROOT, completed, draw, is_limit, need, outcome, processors, refusal, succeeds)
 
 BENCH = sorted((ROOT / "bench" / "programs").glob("*.c"))
 LEVELS = ["-O0 -fdata-sections", "-O1 -pipe", "-O2", "-Os"]
@@ -46,49 +43,49 @@ class Tools:
     def __init__(self, prefix):
         self.rv = str(prefix / "bin" / "rv")
         self.folder = prefix / "libexec" / "rv"
-        self.has_qemu = shutil.which("qemu-riscv64") is not None
+        self.has_qemu = shutil.which(QEMU) is not None
 
     def compiled(self, folder, sources, flags, kind):
         """The objects of sources, by rv where `kind` is ours."""
         ours = ["-B", f"{self.folder}/"] if kind == "ours" else []
         objects = [folder / f"{source.stem}.{kind}.o" for source in sources]
         for source, wanted in zip(sources, objects):
-            ended = said([f"{GNU}gcc", *ours, *FLAGS, *flags, "-c", "-o", str(wanted), str(source)])
-            if ended is None or ended.returncode:
-                return None if ended is None else ended.stderr.decode(errors="replace")
+            gcc = completed([f"{GNU}gcc", *ours, *FLAGS, *flags, "-c", "-o", wanted, source])
+            if gcc is None or gcc.returncode:
+                return None if gcc is None else gcc.stderr.decode(errors="replace")
         return objects
 
     def why_left_out(self, folder, sources, flags):
         """The reason for which a source is refused, if the language leaves out what it has."""
         for source in sources:
             text = folder / f"{source.stem}.s"
-            made([f"{GNU}gcc", *FLAGS, *flags, "-S", "-o", str(text), str(source)])
-            built = said([self.rv, "as", "-o", str(folder / "none.o"), str(text)])
-            if built.returncode and refusal(built) in LEFT_OUT:
-                return refusal(built)
+            succeeds([f"{GNU}gcc", *FLAGS, *flags, "-S", "-o", text, source])
+            process = completed([self.rv, "as", "-o", folder / "none.o", text])
+            if process and process.returncode and refusal(process) in LEFT_OUT:
+                return refusal(process)
         return None
 
     def gnu_link(self, exe, objects):
         """Whether GNU ld links objects; its own shortening of addresses fails at times."""
-        ld = [f"{GNU}ld", "--no-warn-rwx-segments", "-o", str(exe)]
-        return made([*ld, *map(str, objects)]) or made([*ld, "--no-relax", *map(str, objects)])
+        ld = [f"{GNU}ld", "--no-warn-rwx-segments", "-o", exe]
+        return succeeds([*ld, *objects]) or succeeds([*ld, "--no-relax", *objects])
 
     def run(self, exe):
         """The end of a run by rv."""
-        return said([self.rv, "run", "--limit", LIMIT, str(exe)], input=INPUT)
+        return completed([self.rv, "run", "--limit", LIMIT, exe], input=INPUT)
 
     def ends(self, exe):
         """How an executable ends, by each machine."""
         runs = [self.run(exe)]
         if self.has_qemu:
-            runs.append(said(["qemu-riscv64", str(exe)], input=INPUT))
+            runs.append(completed([QEMU, exe], input=INPUT))
         return runs
 
 
-def is_past_end(exe, ended):
+def is_past_end(exe, process):
     """Whether a run of rv ended at a load that begins in a segment and goes on past its end."""
-    load = re.match(rb"rv: Load(?:Outside|Text) ([0-9a-f]+)", ended.stderr)
-    if ended.returncode != 125 or load is None:
+    load = re.match(rb"rv: Load(?:Outside|Text) ([0-9a-f]+)", process.stderr)
+    if process.returncode != 125 or load is None:
         return False
     data, start = exe.read_bytes(), int(load.group(1), 16)
     headers = [struct.unpack_from("<16xQ16xQ", data, 64 + 56 * at) for at in range(data[56])]
@@ -111,14 +108,14 @@ def fault(tools, folder, sources, flags):
         raise TakesNoPart(reason)
     if any(b".rv.rows" not in object_file.read_bytes() for object_file in ours):
         return "GCC did not take rv"
-    if not made([tools.rv, "ld", "-o", str(folder / "a"), *map(str, ours)]):
+    if not succeeds([tools.rv, "ld", "-o", folder / "a", *ours]):
         return "not linked by rv ld"
     if not tools.gnu_link(folder / "b", ours):
         return "not linked by GNU ld"
     runs = {"wanted": by_gnu, "a": tools.ends(folder / "a"), "b": tools.ends(folder / "b")}
     if any(ends[0] is not None and is_past_end(folder / exe, ends[0]) for exe, ends in runs.items()):
         raise TakesNoPart("a load past an end")
-    ends = {None if end is None else (end.returncode, end.stdout) for each in runs.values() for end in each}
+    ends = {outcome(end) for each in runs.values() for end in each}
     return None if len(ends) == 1 else f"{len(ends)} ends"
 
 
@@ -136,7 +133,7 @@ def fault_of_seed(tools, seed):
         if not draw(folder, seed):
             raise TakesNoPart("not drawn")
         apart = seed % 2 == 1
-        sources = [folder / "program.c", *([HERE / "runtime.c"] if apart else [])]
+        sources = [folder / "program.c", *([CSMITH / "runtime.c"] if apart else [])]
         return fault(tools, folder, sources, [*level.split(), *(["-DAPART"] if apart else [])])
 
 
@@ -149,7 +146,7 @@ def programs(tools):
         yield f"seed {seed}", lambda seed=seed: fault_of_seed(tools, seed)
 
 
-def outcome(program):
+def result(program):
     """The name of a program, and whether it passed; otherwise why not."""
     name, compare = program
     try:
@@ -165,11 +162,11 @@ def main():
     need(tools.rv, str(tools.folder / "as"), "csmith", *(f"{GNU}{tool}" for tool in ("gcc", "as", "ld")))
     wanted = int(sys.argv[2]) if len(sys.argv) > 2 else 200
     passed, failed, left_out, line = 0, 0, Counter(), programs(tools)
-    lanes = len(os.sched_getaffinity(0))
+    lanes = processors()
     with ThreadPoolExecutor(lanes) as pool:
         while passed + failed < wanted:
             some = list(islice(line, min(4 * lanes, wanted - passed - failed)))
-            for name, differs, reason in pool.map(outcome, some):
+            for name, differs, reason in pool.map(result, some):
                 left_out[reason] += reason is not None
                 failed += differs is not None
                 passed += differs is None and reason is None
@@ -178,7 +175,3 @@ def main():
     print("took no part: " + (", ".join(f"{reason} {many}" for reason, many in sorted((+left_out).items())) or "none"))
     print(f"{passed} passed, {failed} failed")
     return failed != 0
-
-
-if __name__ == "__main__":
-    sys.exit(main())

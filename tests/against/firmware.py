@@ -1,26 +1,20 @@
-#!/usr/bin/env python3
 """Reads images of executables back with GNU objcopy: each format gives the bytes of the raw binary.
 
-usage: firmware.py SOURCE ..    (with ./rv and riscv64-unknown-elf-objcopy)
+usage: compare.py firmware SOURCE ..    (with ./rv and riscv64-unknown-elf-objcopy)
 
 Of each source, at two addresses, with gaps filled and without. GNU's verilog format is written only, so that text is
 read here. The last line is 'N read back, M differ'.
 """
 
-import subprocess
 import sys
 import tempfile
 from pathlib import Path
 
-RV = Path(__file__).resolve().parent.parent / "rv"
-OBJCOPY = "riscv64-unknown-elf-objcopy"
+from against.common import GNU, RV, need, succeeds
+
+OBJCOPY = f"{GNU}objcopy"
 READ_BACK = {"ihex": "ihex", "srec": "srec"}
 STARTS = ("0x10000", "0x20fff000")
-
-
-def run(*command):
-    """Whether a command ends well."""
-    return subprocess.run([*map(str, command)], capture_output=True).returncode == 0
 
 
 def memory_of(text):
@@ -44,26 +38,27 @@ def images_agree(folder, exe, filled):
     """How many formats give the bytes of the raw binary, and how many don't."""
     fill = ["--fill", "0xa5"] if filled else []
     byte = 0xA5 if filled else 0
-    run(RV, "image", "--bin", *fill, "-o", folder / "raw", exe)
+    succeeds([RV, "image", "--bin", *fill, "-o", folder / "raw", exe])
     wanted, good, bad = (folder / "raw").read_bytes(), 0, 0
     for name, kind in READ_BACK.items():
         text, back = folder / name, folder / f"{name}.bin"
-        run(RV, "image", f"--{name}", *fill, "-o", text, exe)
+        succeeds([RV, "image", f"--{name}", *fill, "-o", text, exe])
         gap = ["--gap-fill", str(byte)]
-        agrees = run(OBJCOPY, "-I", kind, "-O", "binary", *gap, text, back) and back.read_bytes() == wanted
+        agrees = succeeds([OBJCOPY, "-I", kind, "-O", "binary", *gap, text, back]) and back.read_bytes() == wanted
         good, bad = good + agrees, bad + (not agrees)
-    run(RV, "image", "--vhex", *fill, "-o", folder / "vhex", exe)
+    succeeds([RV, "image", "--vhex", *fill, "-o", folder / "vhex", exe])
     agrees = read_memory_text(folder / "vhex", byte) == wanted
     return good + agrees, bad + (not agrees)
 
 
 def main():
+    need(RV, OBJCOPY)
     good, bad = 0, 0
     with tempfile.TemporaryDirectory() as folder:
         exe = Path(folder) / "exe"
         for source in sys.argv[1:]:
             for start in STARTS:
-                if not run(RV, "build", "--text-start", start, "-o", exe, source):
+                if not succeeds([RV, "build", "--text-start", start, "-o", exe, source]):
                     continue
                 for filled in (False, True):
                     same, other = images_agree(Path(folder), exe, filled)
@@ -72,7 +67,3 @@ def main():
                         print(f"{source} at {start}: {other} formats differ")
     print(f"{good} read back, {bad} differ")
     return bad != 0
-
-
-if __name__ == "__main__":
-    sys.exit(main())

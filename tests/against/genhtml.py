@@ -1,7 +1,6 @@
-#!/usr/bin/env python3
 """Draws what `rv stats --lcov` writes with genhtml of lcov, which must have nothing to say against it.
 
-usage: coverage.py [SOURCE ..]    (with ./rv and Debian's lcov; examples/*.s and bench/programs/*.c by default)
+usage: compare.py genhtml [SOURCE ..]    (with ./rv and Debian's lcov; examples/*.s and bench/programs/*.c by default)
 
 A C program is compiled by GCC first, and reads the number 1. Of each program genhtml must end with status 0, without a
 warning or an error, and name as many lines, and as many of them executed, as the tracefile has; and the page of the
@@ -14,9 +13,9 @@ import sys
 import tempfile
 from pathlib import Path
 
-ROOT = Path(__file__).resolve().parent.parent
-RV = str(ROOT / "rv")
-GCC = "riscv64-unknown-elf-gcc -march=rv64imac -mabi=lp64 -O2 -ffreestanding -fdata-sections -w -S".split()
+from against.common import GNU, ROOT, RV, need
+
+GCC = f"{GNU}gcc -march=rv64imac -mabi=lp64 -O2 -ffreestanding -fdata-sections -w -S".split()
 # A line of a page: its number, how often it was executed, and its text.
 SHOWN = re.compile(r'<span class="lineNum"> *(\d+) </span><span class="line(?:No)?Cov"> *(\d+) :')
 
@@ -61,6 +60,7 @@ def fault(program, folder):
 
 
 def main():
+    need(RV, "genhtml")
     named = [Path(name) for name in sys.argv[1:]]
     programs = named or sorted([*ROOT.glob("examples/*.s"), *ROOT.glob("bench/programs/*.c")])
     failed = 0
@@ -72,7 +72,3 @@ def main():
             print(f"{program}: {wrong}")
     print(f"{len(programs) - failed} passed, {failed} failed")
     return failed != 0
-
-
-if __name__ == "__main__":
-    sys.exit(main())

@@ -1,7 +1,6 @@
-#!/usr/bin/env python3
 """Links random lists of objects with ./rv, and by a plain walk over their bytes that is written apart.
 
-usage: walk.py COUNT [--seed N] [--from N] [--jobs N] [--only N] [--rv PROGRAM]
+usage: compare.py walk COUNT [--seed N] [--from N] [--jobs N] [--only N] [--rv PROGRAM]
 
 Each list has one to five objects: text with calls, branches, halves of addresses, words and paddings, data, sections that
 are not loaded, code without bytes up to 2^63, symbols of each binding at, before and past the ends of sections, numbers,
@@ -14,10 +13,8 @@ the same in each run; `--only N` takes it alone.
 Each find is one line; its objects are kept in the folder that the last line names. Exit status 1 if there is a find.
 """
 
-import argparse
 import itertools
 import multiprocessing
-import os
 import random
 import signal
 import struct
@@ -29,10 +26,8 @@ from collections import Counter
 from dataclasses import dataclass, field, replace
 from pathlib import Path
 
-TOP = Path(__file__).resolve().parent.parent
-sys.path.insert(0, str(TOP / "tests"))
-from objects import KINDS  # noqa: E402
-from run import RV  # noqa: E402
+from against.common import need, numbers_of, random_options
+from objects import KINDS
 
 PROGBITS, NOTE, NOBITS = 1, 7, 8
 WRITE, ALLOC, EXEC = 1, 2, 4
@@ -192,11 +187,11 @@ class Link:
 
     def answer(self):
         try:
-            return self.made()
+            return self.linked()
         except Refused as it:
             return str(it)
 
-    def made(self):
+    def linked(self):
         if len(self.objects) > 1024:
             raise Refused("L10 TooManyFiles")
         if self.start >= STACK or self.start % 4096:
@@ -749,13 +744,13 @@ def linked(folder, files, start, options):
     for name in ("exe", "map"):
         (folder / name).unlink(missing_ok=True)
     words = ["ld", "-o", "exe", "--map", "map", "--text-start", hex(start), *options, *files]
-    ran = subprocess.run([PROGRAM, *words], cwd=folder, capture_output=True, timeout=600)
-    said = ran.stderr.decode("utf8", "backslashreplace")
-    if ran.returncode == 0 and not said:
+    process = subprocess.run([PROGRAM, *words], cwd=folder, capture_output=True, timeout=600)
+    message = process.stderr.decode("utf8", "backslashreplace")
+    if process.returncode == 0 and not message:
         return (folder / "exe").read_bytes(), (folder / "map").read_text()
-    if ran.returncode != 1 or any((folder / name).exists() for name in ("exe", "map")):
-        return f"status {ran.returncode}: {said}"
-    return said.removeprefix("rv: ").removesuffix("\n")
+    if process.returncode != 1 or any((folder / name).exists() for name in ("exe", "map")):
+        return f"status {process.returncode}: {message}"
+    return message.removeprefix("rv: ").removesuffix("\n")
 
 
 def difference(wanted, got):
@@ -804,32 +799,20 @@ def compared(number):
 
 def main():
     global SEED, KEPT, PROGRAM
-    words = argparse.ArgumentParser(description="links random lists of objects and compares with a plain walk")
-    words.add_argument("count", type=int)
-    words.add_argument("--seed", type=int, default=1)
-    words.add_argument("--from", type=int, default=0, dest="first")
-    words.add_argument("--jobs", type=int, default=len(os.sched_getaffinity(0)))
-    words.add_argument("--only", type=int)
-    words.add_argument("--rv", type=Path, default=RV)
-    given = words.parse_args()
-    if not given.rv.exists():
-        sys.exit("no ./rv: run make first")
+    given = random_options(__doc__).parse_args()
+    need(given.rv)
     SEED, PROGRAM, KEPT = given.seed, given.rv.resolve(), Path(tempfile.mkdtemp(prefix="walk-"))
-    first, count = (given.first, given.count) if given.only is None else (given.only, 1)
+    numbers = numbers_of(given)
     ends, finds, done, start = Counter(), 0, 0, time.monotonic()
     with multiprocessing.get_context("fork").Pool(given.jobs, signal.signal, (signal.SIGINT, signal.SIG_IGN)) as pool:
-        for found, ended in pool.imap_unordered(compared, range(first, first + count), chunksize=5):
+        for found, ended in pool.imap_unordered(compared, numbers, chunksize=5):
             done, ends, finds = done + 1, ends + ended, finds + len(found)
             for line in found:
                 print(line, flush=True)
             if done % 1000 == 0:
                 print(f"{done} lists, {done / (time.monotonic() - start):.0f} a second", file=sys.stderr, flush=True)
     print(", ".join(f"{it} {count}" for it, count in sorted(ends.items())))
-    print(f"{done} lists of seed {SEED}, from {first} on, {finds} finds in {KEPT}")
+    print(f"{done} lists of seed {SEED}, from {numbers[0]} on, {finds} finds in {KEPT}")
     if not finds:
         KEPT.rmdir()
     return 1 if finds else 0
-
-
-if __name__ == "__main__":
-    sys.exit(main())

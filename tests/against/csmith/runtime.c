@@ -1,5 +1,5 @@
 /* What the random programs of csmith need: a sum over their variables, which is printed at the end and gives the status. */
-#include "../bare.h"
+#include "../../../examples/c/bare.h"
 
 u64 crc32_context = 1;
 

@@ -1,10 +1,9 @@
-#!/usr/bin/env python3
 """Takes examples and random C programs through object files, rv's and GNU's, and compares what they do.
 
-usage: objects.py [--first SEED] [--count N] [--jobs N] [--limit N] [--keep FOLDER] [--rv RV]
+usage: compare.py object_files [--first SEED] [--count N] [--jobs N] [--limit N] [--keep FOLDER] [--rv RV]
 
-It runs at the top of the repository, where rv stands, and takes examples/*.s and, unless told otherwise, 200 programs
-that csmith draws from seed 1 on, each in five ways, as compare.py beside it does. What GNU as and ld make of a program
+It takes examples/*.s and, unless told otherwise, 200 programs that csmith draws from seed 1 on, each in five ways, as
+programs.py beside it does. What GNU as and ld make of a program
 and qemu-riscv64 runs says which console and which status are wanted. Of the objects of rv it asks that
 
   readable   readelf -a and objdump -dr read them without a warning
@@ -17,7 +16,7 @@ and of those of GNU as that rv ld links them and rv ends as wanted. A program's 
   same       all of that holds
   differs    it does not: the program's files are kept in FOLDER, which is a new one unless said, and a line says which
   refused    by rv, with the code of its fault
-  past end   rv stops at a load that begins in a region and ends past it, as compare.py says
+  past end   rv stops at a load that begins in a region and ends past it, as programs.py says
   too long   qemu does not end within 20 seconds, or rv not within --limit instructions
   none       csmith, GCC or GNU's tools make no program
 
@@ -25,15 +24,16 @@ The last line is 'differs=0' where nothing differs, and only then the status is 
 """
 
 import re
-import subprocess
-import sys
 import tempfile
 from collections import Counter
 from concurrent.futures import ThreadPoolExecutor
 from pathlib import Path
 
-import compare
-from compare import GNU, SECONDS, said
+from against.common import (
+    GNU, QEMU, ROOT, assemblies, completed, csmith_options, draw, gnu_link, is_limit, is_past_end, keep, need, outcome,
+    run_by_qemu, run_by_rv, summary)
+from against.common import refusal as refusal_of_build
+from against.programs import WAYS
 
 LD = [f"{GNU}ld", "--no-warn-rwx-segments", "--no-relax"]
 # Where rv puts what the examples have: one of them knows the address of its constants.
@@ -47,73 +47,72 @@ class Differs(Exception):
 
 def silent(words):
     """Runs a tool that has nothing to warn of."""
-    ended = said(words)
-    if ended is None or ended.returncode != 0 or ended.stderr or b"arning" in ended.stdout:
-        raise Differs(f"{words[0]} {words[1]}: {ended and (ended.stderr or ended.stdout[:200])}")
+    tool = completed(words)
+    if tool is None or tool.returncode != 0 or tool.stderr or b"arning" in tool.stdout:
+        raise Differs(f"{words[0]} {words[1]}: {tool and (tool.stderr or tool.stdout[:200])}")
 
 
-def same(name, ended, wanted):
+def same(name, run, wanted):
     """Asks that a run ended as the wanted one."""
-    if ended is None or (ended.returncode, ended.stdout) != (wanted.returncode, wanted.stdout):
-        raise Differs(f"{name}: {ended and (ended.returncode, ended.stderr)}, wanted {wanted.returncode}")
+    if outcome(run) != outcome(wanted):
+        raise Differs(f"{name}: {run and (run.returncode, run.stderr)}, wanted {wanted.returncode}")
 
 
-def refusal(ended):
+def refusal(process):
     """The code for which rv refuses files; none where it takes them."""
-    if ended.returncode == 0:
+    if process.returncode == 0:
         return None
-    code = re.match(rb"rv: .*\b(F\d+) ", ended.stderr)
-    return f"refused {code.group(1).decode()}" if code else compare.refusal(ended)
+    code = re.match(rb"rv: .*\b(F\d+) ", process.stderr)
+    return f"refused {code.group(1).decode()}" if code else refusal_of_build(process)
 
 
 def ended_as(options, folder, name, wanted):
     """How the run of folder/linked ends, whose map is folder/map."""
-    words = [options.rv, "run", "--limit", str(options.limit), str(folder / "linked")]
-    ended = said(words, 10 * SECONDS, stdin=subprocess.DEVNULL)
-    if ended is None or compare.is_limit(ended):
+    run = run_by_rv(options, folder / "linked")
+    if run is None or is_limit(run):
         return "too long"
-    if compare.is_past_end(folder, ended):
+    if is_past_end(folder, run):
         return "past end"
-    same(name, ended, wanted)
+    same(name, run, wanted)
     return "same"
 
 
 def linked(options, folder, name, objects, wanted):
     """How objects end that rv ld links."""
-    written = ["-o", str(folder / "linked"), "--map", str(folder / "map")]
-    ended = said([options.rv, "ld", *written, *map(str, objects)])
-    if ended is None:
+    written = ["-o", folder / "linked", "--map", folder / "map"]
+    link = completed([options.rv, "ld", *written, *objects])
+    if link is None:
         raise Differs(f"{name}: rv ld does not end")
-    return refusal(ended) or ended_as(options, folder, name, wanted)
+    return refusal(link) or ended_as(options, folder, name, wanted)
 
 
 def built_the_same(options, folder, sources, objects):
     """Asks that rv ld of objects does what rv build does of their sources; the refusal of both."""
-    made = []
+    results = []
     for command, files in (("build", sources), ("ld", objects)):
         paths = [folder / f"{command}.exe", folder / f"{command}.map"]
         for path in paths:
             path.unlink(missing_ok=True)
-        words = [options.rv, command, "-o", str(paths[0]), "--map", str(paths[1]), *map(str, files)]
-        ended = said(words)
-        kept = [path.read_bytes() for path in paths if path.exists()]
-        made.append((ended and (ended.returncode, ended.stderr), kept))
-    if made[0] != made[1]:
-        other = "" if made[0][0] != made[1][0] else ", and other bytes"
-        raise Differs(f"rv build: {made[0][0]}, rv ld: {made[1][0]}{other}")
-    return refusal(ended)
+        process = completed([options.rv, command, "-o", paths[0], "--map", paths[1], *files])
+        held = [path.read_bytes() for path in paths if path.exists()]
+        results.append((process and (process.returncode, process.stderr), held))
+    (build, built), (link, linked_files) = results
+    if (build, built) != (link, linked_files):
+        other = "" if build != link else ", and other bytes"
+        raise Differs(f"rv build: {build}, rv ld: {link}{other}")
+    return refusal(process)
 
 
 def assembled(options, source):
     """The object of a source by rv as, which GNU's tools read; or its refusal."""
     written = source.with_suffix(".ours.o")
-    ended = said([options.rv, "as", "-o", str(written), str(source)])
-    if ended is None:
+    process = completed([options.rv, "as", "-o", written, source])
+    if process is None:
         raise Differs("rv as does not end")
-    if ended.returncode != 0:
-        return None, compare.refusal(ended)
-    silent([f"{GNU}readelf", "-a", "-W", str(written)])
-    silent([f"{GNU}objdump", "-dr", str(written)])
+    if process.returncode != 0:
+        return None, refusal_of_build(process)
+    silent([f"{GNU}readelf", "-a", "-W", written])
+    silent([f"{GNU}objdump", "-dr", written])
     return written, None
 
 
@@ -125,9 +124,8 @@ def of_rv(options, folder, sources, places, wanted):
         if refused:
             return refused
         objects.append(written)
-    silent([*LD, *places, "-o", str(folder / "by-gnu"), *map(str, objects)])
-    ended = said(["qemu-riscv64", str(folder / "by-gnu")], SECONDS, stdin=subprocess.DEVNULL)
-    same("by GNU", ended, wanted)
+    silent([*LD, *places, "-o", folder / "by-gnu", *objects])
+    same("by GNU", run_by_qemu(folder / "by-gnu"), wanted)
     refused = built_the_same(options, folder, sources, objects)
     end = refused or linked(options, folder, "by rv", objects, wanted)
     if end == "same" and len(sources) > 1:
@@ -143,9 +141,9 @@ def of_gnu(options, folder, sources, places, wanted):
 
 def taken(options, folder, sources, places=()):
     """How the objects of sources end, by who makes them: GNU's tools first, which say what is wanted."""
-    if sources is None or not compare.gnu_link(folder, sources, *places):
+    if sources is None or not gnu_link(folder, sources, *places):
         return dict.fromkeys(MAKERS, "none")
-    wanted = compare.theirs(folder, 20)
+    wanted = run_by_qemu(folder / "theirs", 20)
     if wanted is None:
         return dict.fromkeys(MAKERS, "too long")
     ends = {}
@@ -169,7 +167,7 @@ def example(path, options):
         source = Path(name) / path.name
         source.write_bytes(path.read_bytes())
         ends = taken(options, Path(name), [source], PLACES)
-        print(f"{path}: {ends}", flush=True)
+        print(f"{path.name}: {ends}", flush=True)
         return counted("examples", ends)
 
 
@@ -177,32 +175,28 @@ def program(seed, options):
     """How the program of a seed ends, for each way."""
     with tempfile.TemporaryDirectory() as name:
         folder = Path(name)
-        drawn = compare.draw(folder, seed)
+        drawn = draw(folder, seed)
         counts = []
-        for way in compare.WAYS:
-            sources = compare.assemblies(folder, way, seed % 2 == 1) if drawn else None
+        for way in WAYS:
+            sources = assemblies(folder, way, seed % 2 == 1) if drawn else None
             ends = taken(options, folder, sources)
             if "differs" in ends.values():
-                compare.keep(folder, seed, way, "differs", options)
+                keep(folder, seed, way, "differs", options)
             counts += counted(way, ends)
         return counts
 
 
 def main():
-    options = compare.options_given(__doc__, 200)
+    options = csmith_options(__doc__, 200)
     gnu = [f"{GNU}{tool}" for tool in ("gcc", "as", "ld", "readelf", "objdump")]
-    compare.need(options.rv, "csmith", "qemu-riscv64", *gnu)
+    need(options.rv, "csmith", QEMU, *gnu)
     counts = Counter()
-    examples = sorted(Path("examples").glob("*.s"))
+    examples = sorted((ROOT / "examples").glob("*.s"))
     seeds = range(options.first, options.first + options.count)
     with ThreadPoolExecutor(options.jobs) as lanes:
         for ends in lanes.map(lambda path: example(path, options), examples):
             counts.update(ends)
         for ends in lanes.map(lambda seed: program(seed, options), seeds):
             counts.update(ends)
-    groups = [group for way in ("examples", *compare.WAYS) for group, _ in counted(way, dict.fromkeys(MAKERS, ""))]
-    return compare.summary(counts, groups)
-
-
-if __name__ == "__main__":
-    sys.exit(main())
+    groups = [group for way in ("examples", *WAYS) for group, _ in counted(way, dict.fromkeys(MAKERS, ""))]
+    return summary(counts, groups)

@@ -1,7 +1,6 @@
-#!/usr/bin/env python3
 """Damages sources and compares what `./rv check` says of them with `./rv build`.
 
-usage: checked.py COUNT [SEED]
+usage: compare.py checked COUNT [SEED]
 
 One source or two are drawn from tests/ and examples/, each changed at up to four places: a byte, a line of another source,
 a cut, a target. `check` and `build` must end with the same status, the first line of a check must be the fault of the
@@ -10,14 +9,13 @@ last line is 'N passed, M failed'.
 """
 
 import random
-import subprocess
 import sys
 import tempfile
 import time
 from pathlib import Path
 
-ROOT = Path(__file__).resolve().parent.parent
-RV = ROOT / "rv"
+from against.common import ROOT, RV, completed
+
 LONGEST, SECONDS = 20_000, 2
 BYTES = b'\n\t ,()+-%.:abcx0159"#;\xff\x00'
 TARGETS = [b"1f+1", b"1f+0x100000", b"g", b"1b"]
@@ -50,15 +48,17 @@ def damaged(draw, texts, lines):
 def fault(folder, names):
     """What differs between a check and a build of sources, if anything."""
     begun = time.monotonic()
-    check = subprocess.run([RV, "check", *names], cwd=folder, capture_output=True, timeout=60)
-    if time.monotonic() - begun > SECONDS:
+    check = completed([RV, "check", *names], cwd=folder)
+    if check is None or time.monotonic() - begun > SECONDS:
         return "a check of over 2 seconds"
-    build = subprocess.run([RV, "build", "-o", "exe", *names], cwd=folder, capture_output=True, timeout=60)
+    build = completed([RV, "build", "-o", "exe", *names], cwd=folder)
+    if build is None:
+        return "a build of over a minute"
     if check.returncode != build.returncode:
         return f"status {check.returncode} and {build.returncode}"
-    told = (check.stdout + check.stderr).split(b"\n")[0]
+    first = (check.stdout + check.stderr).split(b"\n")[0]
     wanted = build.stderr.split(b"\n")[0].removeprefix(b"rv: ")
-    return f"{told} and {wanted}" if build.returncode and told != wanted else None
+    return f"{first} and {wanted}" if build.returncode and first != wanted else None
 
 
 def main():
@@ -79,7 +79,3 @@ def main():
                 print(f"{number}: {differs}", flush=True)
     print(f"{count - failed} passed, {failed} failed")
     return int(failed > 0)
-
-
-if __name__ == "__main__":
-    sys.exit(main())

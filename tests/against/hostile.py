@@ -1,7 +1,6 @@
-#!/usr/bin/env python3
 """Damages sources, objects, executables and maps, and looks at how ./rv takes them.
 
-usage: hostile.py COUNT [--seed N] [--from N] [--jobs N] [--only N] [--gnu PREFIX]
+usage: compare.py hostile COUNT [--seed N] [--from N] [--jobs N] [--only N] [--gnu PREFIX]
 
 The files of tests/ and examples/, and the objects, executables and maps that ./rv makes of them, are damaged in the ways
 of `OF_ALL`, `OF_ELF`, `OF_SOURCES` and `OF_MAPS`, one to four at once. With `--gnu`, as in `--gnu riscv64-unknown-elf-`,
@@ -22,7 +21,6 @@ command; the finds of each kind are counted before it. How far it is, and how ma
 standard error every 10,000 files. Exit status 1 if there is a find. A long run: `TMPDIR=/dev/shm nice -n 19`.
 """
 
-import argparse
 import multiprocessing
 import os
 import random
@@ -37,9 +35,8 @@ import time
 from collections import Counter
 from pathlib import Path
 
-TOP = Path(__file__).resolve().parent.parent
-sys.path.insert(0, str(TOP / "tests"))
-from run import RV, cases  # noqa: E402
+from against.common import ROOT, RV, need, numbers_of, random_options
+from run import cases
 
 MIB = 1 << 20
 SECONDS, CLOCK, STEPS = 2, 60, 50_000
@@ -310,7 +307,7 @@ def with_made_lines(pick, text, _):
     count, length = many(pick, 8000), many(pick, 5000)
     every = lambda form: "\n".join(form.replace("#", str(it)) for it in range(count)) + "\n"
     name, deep = "n" * length, many(pick, 70000)
-    made = pick.choice([
+    lines_made = pick.choice([
         lambda: f".set x, {'(' * deep}1{')' * deep}\n",
         lambda: f".set x, {pick.choice('-~+') * deep}1\n",
         lambda: f".dword {'+'.join(['1'] * (deep // 2))}\n",
@@ -338,7 +335,7 @@ def with_made_lines(pick, text, _):
     ])()
     lines = text.split(b"\n")
     at = pick.randrange(len(lines) + 1)
-    return b"\n".join(lines[:at]) + b"\n" + made.encode() + b"\n".join(lines[at:])
+    return b"\n".join(lines[:at]) + b"\n" + lines_made.encode() + b"\n".join(lines[at:])
 
 
 def with_large_rows(pick, text, _):
@@ -392,7 +389,7 @@ def corpus_of(pick, gnu):
         for it in files.values():
             if len(it) <= LARGEST and (not it.startswith(b"\x7fELF") or pick.random() < 0.1):
                 corpus["object" if it.startswith(b"\x7fELF") else "source"].append((it, None))
-    for path in TOP.glob("examples/**/*.s"):
+    for path in ROOT.glob("examples/**/*.s"):
         corpus["source"] += 9 * [(path.read_bytes(), None)]
     with tempfile.TemporaryDirectory() as folder:
         at = Path(folder)
@@ -418,7 +415,7 @@ def corpus_of(pick, gnu):
 
 def messages():
     """The names of faults, by their codes, and those of ends, as the manual lists them."""
-    manual = TOP / "docs" / "manual"
+    manual = ROOT / "docs" / "manual"
     faults = re.findall(r"(?m)^\| <a id=\"\w+\"></a>`(\w+) (\w+)`", (manual / "faults.md").read_text())
     ends = re.search(r"(?s)## How a run ends\n(.*?)\n\n[A-Z]", (manual / "platform.md").read_text())[1]
     return dict(faults), set(re.findall(r"`([A-Z]\w+)`", ends))
@@ -429,11 +426,11 @@ FAULTS, ENDS = messages()
 OF_FILES = (": not a map", ": no symbols", ": no raw listing")
 
 
-def is_named(words, status, said):
+def is_named(words, status, message):
     """Whether the manual has this message, with this status."""
-    if not said:
+    if not message:
         return status == 0 or words[0] == "run"
-    line = re.fullmatch(r"rv: ([^\n]+)\n", said)
+    line = re.fullmatch(r"rv: ([^\n]+)\n", message)
     if not line or status not in (1, 125):
         return False
     if status == 125:
@@ -444,15 +441,15 @@ def is_named(words, status, said):
 
 
 def called(words, at, most=None):
-    """Runs a call, with that much memory: its status and what it said."""
+    """Runs a call, with that much memory: its status and its message."""
     limits = f"ulimit -S -t {SECONDS}; " + (f"ulimit -v {most // 1024}; " if most else "")
     with open(at / "file" if words[0] == "run" else os.devnull) as given:
         try:
-            ran = subprocess.run(["sh", "-c", limits + 'exec "$0" "$@"', RV, *words], cwd=at, stdin=given,
+            process = subprocess.run(["sh", "-c", limits + 'exec "$0" "$@"', RV, *words], cwd=at, stdin=given,
                 stdout=subprocess.DEVNULL, stderr=subprocess.PIPE, timeout=CLOCK)
         except subprocess.TimeoutExpired:
             return -signal.SIGXCPU, "hangs"
-    return ran.returncode, ran.stderr.decode("utf8", "backslashreplace")
+    return process.returncode, process.stderr.decode("utf8", "backslashreplace")
 
 
 PEAK = "import os, sys; it = os.posix_spawn(sys.argv[1], sys.argv[1:], os.environ); print(os.wait4(it, 0)[2].ru_maxrss)"
@@ -462,8 +459,8 @@ def peak(words, at):
     """The most memory that a call takes, in bytes, and whether it says that memory ran out."""
     measure = [sys.executable, "-I", "-S", "-c", PEAK, "/bin/sh", "-c", 'ulimit -S -t 10; exec "$0" "$@" > /dev/null', RV, *words]
     with open(at / "file") as given:
-        ran = subprocess.run(measure, cwd=at, stdin=given, capture_output=True, text=True, errors="replace")
-    return 1024 * int(ran.stdout), "out of memory" in ran.stderr
+        process = subprocess.run(measure, cwd=at, stdin=given, capture_output=True, text=True, errors="replace")
+    return 1024 * int(process.stdout), "out of memory" in process.stderr
 
 
 def least():
@@ -489,41 +486,41 @@ def read_by(words, at):
 def own_bytes(words, at):
     """The bytes of the program that a call made or loaded, of its map, and of the objects that a build makes first, also
     where `run` is given a source."""
-    made = sum((at / it).stat().st_size for it in outputs(words) if (at / it).exists())
+    size = sum((at / it).stat().st_size for it in outputs(words) if (at / it).exists())
     if words[0] in ("build", "map", "run") and (at / "obj").exists():
-        made += words.count("file") * (at / "obj").stat().st_size
+        size += words.count("file") * (at / "obj").stat().st_size
     for path in read_by(words, at):
         file = path.read_bytes()[:LARGEST]
         if file.startswith(b"\x7fELF") and len(file) >= 64:
             places = next(it for kind, it, _ in tables(file) if kind == "segment")
-            made += sum(min(get(file, it + 40, 8), 256 * MIB) for it in places)
-    return made
+            size += sum(min(get(file, it + 40, 8), 256 * MIB) for it in places)
+    return size
 
 
 def find_in(words, at):
     """What is wrong with how a call ends, or nothing; and how it ended."""
-    made = outputs(words)
-    for it in made:
-        (at / it).unlink(missing_ok=True)
+    written = outputs(words)
+    for name in written:
+        (at / name).unlink(missing_ok=True)
     most = 20 * sum(it.stat().st_size for it in read_by(words, at)) + 16 * MIB
-    status, said = called(words, at, most + LEAST)
+    status, message = called(words, at, most + LEAST)
     if status == -signal.SIGXCPU:
-        return "time", said
+        return "time", message
     if status < 0 or status > 128 and words[0] != "run":
-        return "signal", f"{status} {said}"
-    if not is_named(words, status, said):
-        return "no name", f"status {status}: {said[:200]}"
-    if status and any((at / it).exists() for it in made):
-        return "file", said
-    if said == "rv: out of memory\n":
+        return "signal", f"{status} {message}"
+    if not is_named(words, status, message):
+        return "no name", f"status {status}: {message[:200]}"
+    if status and any((at / name).exists() for name in written):
+        return "file", message
+    if message == "rv: out of memory\n":
         took, again = peak(words, at)
         if again and took <= most:
             return "want", f"{took // MIB} MiB"
         if took > most + 3 * own_bytes(words, at):
             return "memory", f"{took // MIB} MiB for {(most - 16 * MIB) // 20} bytes"
         return None, "memory of the program's own size"
-    fault = re.search(r"([EFLX]\d+) \w+|not a map", said)
-    return None, fault[0] if fault else words[0] + (" ended" if said else "")
+    fault = re.search(r"([EFLX]\d+) \w+|not a map", message)
+    return None, fault[0] if fault else words[0] + (" ended" if message else "")
 
 
 def calls(pick, kind, at):
@@ -597,24 +594,18 @@ def tell(done, start):
 
 
 def main():
-    global SEED, CORPUS, KEPT, LEAST
-    words = argparse.ArgumentParser(description="damages files and looks at how ./rv takes them")
-    words.add_argument("count", type=int)
-    words.add_argument("--seed", type=int, default=1)
-    words.add_argument("--from", type=int, default=0, dest="first")
-    words.add_argument("--jobs", type=int, default=len(os.sched_getaffinity(0)))
-    words.add_argument("--only", type=int)
+    global SEED, CORPUS, KEPT, LEAST, RV
+    words = random_options(__doc__)
     words.add_argument("--gnu")
     given = words.parse_args()
-    if not RV.exists():
-        sys.exit("no ./rv: run make first")
-    SEED, KEPT = given.seed, Path(tempfile.mkdtemp(prefix="hostile-"))
+    need(given.rv)
+    RV, SEED, KEPT = given.rv.resolve(), given.seed, Path(tempfile.mkdtemp(prefix="hostile-"))
     LEAST, CORPUS = least(), corpus_of(random.Random(SEED), given.gnu)
-    first, count = (given.first, given.count) if given.only is None else (given.only, 1)
+    numbers = numbers_of(given)
     kinds, done, ends, start = Counter(), 0, Counter(), time.monotonic()
     with multiprocessing.get_context("fork").Pool(given.jobs, signal.signal, (signal.SIGINT, signal.SIG_IGN)) as pool:
         try:
-            for found, ended in pool.imap_unordered(attack, range(first, first + count), chunksize=20):
+            for found, ended in pool.imap_unordered(attack, numbers, chunksize=20):
                 done, ends = done + 1, ends + ended
                 for kind, line in found:
                     kinds[kind] += 1
@@ -625,11 +616,7 @@ def main():
     for counts in filter(None, (ends, kinds)):
         print(", ".join(f"{it} {count}" for it, count in sorted(counts.items())))
     finds = sum(kinds.values())
-    print(f"{done} files of seed {SEED}, from {first} on, {sum(ends.values())} calls, {finds} finds in {KEPT}")
+    print(f"{done} files of seed {SEED}, from {numbers[0]} on, {sum(ends.values())} calls, {finds} finds in {KEPT}")
     if not finds:
         KEPT.rmdir()
     return 1 if finds else 0
-
-
-if __name__ == "__main__":
-    sys.exit(main())

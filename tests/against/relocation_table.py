@@ -1,7 +1,6 @@
-#!/usr/bin/env python3
 """Writes the table of fields that GNU's linker patches, as crates/rv_reloc_tests/src/table.rt has it.
 
-usage: relocation_table.py > crates/rv_reloc_tests/src/table.rt, and then rt fmt in that crate
+usage: compare.py relocation_table > crates/rv_reloc_tests/src/table.rt, and then rt fmt in that crate
 
 It needs riscv64-unknown-elf-as, -ld and -objcopy. Each row is a field at an address of its own, under one `.reloc`
 with a symbol of its own, whose value the linker is told; the source is linked twice without relaxation, once with fields of zeros and once
@@ -11,7 +10,8 @@ with fields of ones.
 import subprocess
 import tempfile
 
-TOOLS = "riscv64-unknown-elf-"
+from against.common import GNU, need
+
 START = 0x10000
 STEP = 32
 MASK = (1 << 64) - 1
@@ -74,7 +74,7 @@ def rows():
 
 def run(folder, tool, *words):
     """Runs one of GNU's tools in a folder."""
-    subprocess.run([TOOLS + tool, *words], cwd=folder, check=True)
+    subprocess.run([GNU + tool, *words], cwd=folder, check=True)
 
 
 def linked(fill):
@@ -104,8 +104,9 @@ def linked(fill):
 
 
 def main():
+    need(*(f"{GNU}{tool}" for tool in ("as", "ld", "objcopy")))
     zeros, ones = linked(0), linked(255)
-    print("//! Fields as GNU's linker patches them; made by `scripts/relocation_table.py`.")
+    print("//! Fields as GNU's linker patches them; made by `tests/against/relocation_table.py`.")
     print()
     print("use rv_isa::Kind;")
     print()
@@ -120,6 +121,3 @@ def main():
         row = [f"Kind::{kind}", *numbers, *(f"{field:#x}" for field in fields)]
         print(f"    ({', '.join(row)}),")
     print("];")
-
-
-main()

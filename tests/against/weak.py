@@ -1,7 +1,6 @@
-#!/usr/bin/env python3
 """Links random lists of sources with weak, global and local names by rv and by GNU ld, and compares what names mean.
 
-usage: weak.py [COUNT] [--seed N] [--from N] [--only N] [--jobs N] [--rv RV]
+usage: compare.py weak [COUNT] [--seed N] [--from N] [--only N] [--jobs N] [--rv RV]
 
 It needs riscv64-unknown-elf-as and -ld 2.40, and takes 300 lists unless told otherwise. List N of a seed is the same in
 each run; `--only N` takes it alone and shows it. Its sources define some of a few names as labels of text, of data or of
@@ -28,8 +27,6 @@ Where the manual names a difference from GNU's tools, what it says is asked of r
 Each difference is a line; the last one counts the lists. Exit status 1 if there is a difference.
 """
 
-import argparse
-import os
 import random
 import re
 import struct
@@ -40,9 +37,8 @@ from collections import Counter
 from concurrent.futures import ThreadPoolExecutor
 from pathlib import Path
 
-TOP = Path(__file__).resolve().parent.parent
-GNU = "riscv64-unknown-elf-"
-SECONDS = 60
+from against.common import GNU, SECONDS, need, numbers_of, random_options
+
 SCRIPT = """ENTRY(_start)
 SECTIONS {
   . = 0x10000;
@@ -118,11 +114,11 @@ class Source:
     def text(self, pick):
         """The source as it is written; each reference has a label before it."""
         named = {*self.definitions, *(name for name, _ in self.references)}
-        said = [(how, name) for name, how in self.bindings.items() if name in named]
-        said = [(how, name) for how, name in said if how != "local" or pick.random() < 0.3]
+        bound = [(how, name) for name, how in self.bindings.items() if name in named]
+        bound = [(how, name) for how, name in bound if how != "local" or pick.random() < 0.3]
         words = {"global": ".globl", "weak": ".weak", "local": ".local"}
-        lines = [f"{words[how]} {name}" for how, name in said]
-        before = [f".globl {name}" for how, name in said if how == "weak" and pick.random() < 0.1]
+        lines = [f"{words[how]} {name}" for how, name in bound]
+        before = [f".globl {name}" for how, name in bound if how == "weak" and pick.random() < 0.1]
         body = []
         for name, how in self.definitions.items():
             if how == "number":
@@ -177,15 +173,16 @@ def refusal(sources):
 # --- what the tools do
 
 
-def said(*words):
+def finished(*words):
     return subprocess.run(list(map(str, words)), capture_output=True, text=True, timeout=SECONDS)
 
 
-def done(*words):
-    ended = said(*words)
-    if ended.returncode:
-        raise Differs(f"{' '.join(map(str, words))}: {ended.stderr.strip()}")
-    return ended
+def succeeded(*words):
+    """Runs a tool that has to do its work."""
+    process = finished(*words)
+    if process.returncode:
+        raise Differs(f"{' '.join(map(str, words))}: {process.stderr.strip()}")
+    return process
 
 
 class Program:
@@ -248,11 +245,11 @@ class Linked:
 
     def __init__(self, rv, folder, command, options, files):
         paths = [folder / "made.exe", folder / "made.map"]
-        ended = said(rv, command, *options, "-o", paths[0], "--map", paths[1], *files)
+        process = finished(rv, command, *options, "-o", paths[0], "--map", paths[1], *files)
         self.files = [path.read_bytes() for path in paths if path.exists()]
         self.fault, self.program, self.globals = None, None, {}
-        if ended.returncode:
-            found = re.search(r"rv: (?:(L\d+) \w+ ?(\S*)|.*)$", ended.stderr.strip())
+        if process.returncode:
+            found = re.search(r"rv: (?:(L\d+) \w+ ?(\S*)|.*)$", process.stderr.strip())
             self.fault = (found[1] or found[0], found[2])
         else:
             self.program = Program(paths[0])
@@ -307,7 +304,7 @@ def compare(rv, folder, sources, objects, maker):
     """Compares the links of the objects of a list; how they end."""
     wanted, ours = refusal(sources), Linked(rv, folder, "ld", ["--no-relax"], objects)
     gnu = [f"{GNU}ld", "-T", folder / "script", "-o", folder / "gnu", *objects]
-    theirs = said(*gnu, "--no-relax")
+    theirs = finished(*gnu, "--no-relax")
     if wanted:
         return compare_refusals(sources, wanted, ours, theirs)
     same("fault", None, ours.fault)
@@ -316,7 +313,7 @@ def compare(rv, folder, sources, objects, maker):
     end = compare_values(sources, ours, Program(folder / "gnu"))
     called = [meaning(sources, it, name) for it in sources for name, way in it.references if way in CALLS]
     if maker == "rv" and all(it == "text" for it in called):
-        done(*gnu)
+        succeeded(*gnu)
         compare_names("names with short calls", Program(folder / "gnu"), Linked(rv, folder, "ld", [], objects))
     return end
 
@@ -332,7 +329,7 @@ def objects_of(words, files):
     """The objects that an assembler makes of sources."""
     objects = [path.with_suffix(".o") for path in files]
     for path, written in zip(files, objects):
-        done(*words, "-o", written, path)
+        succeeded(*words, "-o", written, path)
     return objects
 
 
@@ -367,15 +364,9 @@ def taken(options, number):
 
 
 def main():
-    words = argparse.ArgumentParser(description=__doc__.split("\n")[0])
-    words.add_argument("count", type=int, nargs="?", default=300)
-    words.add_argument("--seed", type=int, default=1)
-    words.add_argument("--from", type=int, default=1, dest="first")
-    words.add_argument("--only", type=int)
-    words.add_argument("--jobs", type=int, default=len(os.sched_getaffinity(0)))
-    words.add_argument("--rv", default=str(TOP / "rv"))
-    options = words.parse_args()
-    lists = [options.only] if options.only is not None else range(options.first, options.first + options.count)
+    options = random_options(__doc__, count=300, first=1).parse_args()
+    need(options.rv, *(f"{GNU}{tool}" for tool in ("as", "ld")))
+    lists = numbers_of(options)
     counts = Counter()
     with ThreadPoolExecutor(options.jobs) as lanes:
         for ends in lanes.map(lambda number: taken(options, number), lists):
@@ -389,7 +380,3 @@ def main():
     differs = sum(count for (_, end), count in counts.items() if end == "differs")
     print(f"{len(lists)} lists, differs={differs}")
     return 1 if differs else 0
-
-
-if __name__ == "__main__":
-    sys.exit(main())
