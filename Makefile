@@ -5,6 +5,8 @@
 # make test        the whole gate: every proof from nothing, the must-fail edits, the tests, the programs and their cases,
 #                  and what each crate cost
 # make definitions prints the definitions on which all that is proved rests, in reading order
+# make lint        looks at the layout and the rules of the Python and shell files
+# make reached     lists the functions of rv that no case of tests/ reaches
 # make bench       measures rv beside GNU's tools, qemu-riscv64 and an interpreter in C, where they are installed,
 #                  and prints the table of targets last
 # make growth      draws how their times grow: bench/growth.svg
@@ -24,7 +26,7 @@ SOURCES := crates.txt $(filter-out crates/rv_refused/%,$(FILES))
 PROVED := out/proved/rv
 UNPROVED := out/quick/rv
 
-.PHONY: all quick proved check refused test definitions bench growth install clean
+.PHONY: all quick proved check refused test definitions lint reached bench growth install clean
 
 all: proved
 	$(RUN_EXAMPLE)
@@ -66,6 +68,7 @@ check: rv
 	scripts/pictures.py --check
 	tests/shells.py
 	tests/terminal.py
+	tests/streams.py
 	tests/making.py
 	scripts/links.py
 	scripts/want_of_memory.py
@@ -81,6 +84,12 @@ test:
 
 definitions:
 	@scripts/trusted.py
+
+lint:
+	scripts/lint.sh
+
+reached:
+	tests/reached.py
 
 bench: rv
 	python3 bench/run.py

@@ -93,7 +93,9 @@ def ends(program, given, limit):
 
 def compile_for(architecture, source, program, *more):
     """Has GCC compile a source without a library."""
-    subprocess.run([GCC, f"-march={architecture}", *FLAGS, *more, "-o", program, source], check=True, capture_output=True)
+    subprocess.run(
+        [GCC, f"-march={architecture}", *FLAGS, *more, "-o", program, source], check=True, capture_output=True
+    )
 
 
 def simulators(folder):
@@ -125,7 +127,8 @@ def rates(commands, program, given):
 
 
 def hart(folder):
-    """Running programs, each without and with compressed code: millions of instructions a second, of rv and of others."""
+    """Running programs, each without and with compressed code: millions of instructions a second, of rv and of
+    others."""
     if missing(GCC) or missing(CC):
         return
     commands = simulators(folder)
@@ -148,7 +151,9 @@ def hart(folder):
 
 def rate_row(name, row):
     """A line of the table of the rates of simulators."""
-    print(f"{name:20}" + "".join(f"{rate:24.0f}" for rate in row.values()) + f"{row['rv run'] / row['interpreter']:20.2f}")
+    print(
+        f"{name:20}" + "".join(f"{rate:24.0f}" for rate in row.values()) + f"{row['rv run'] / row['interpreter']:20.2f}"
+    )
 
 
 def start(folder):
@@ -266,7 +271,9 @@ def builders(folder, source, architecture="rv64ima"):
 
 def row(name, seconds, length, memory, note):
     """A line of the table for a source of a length."""
-    print(f"{name:24} {seconds:6.2f} s {length / seconds / 1e6:7.1f} million bytes per second, {memory / 2**20:5.0f} MiB{note}")
+    print(
+        f"{name:24} {seconds:6.2f} s {length / seconds / 1e6:7.1f} million bytes per second, {memory / 2**20:5.0f} MiB{note}"
+    )
 
 
 def measured(name, command, length):
@@ -371,8 +378,8 @@ def write_parts(folder):
 
 
 def objects(folder):
-    """Linking many objects, those of rv and those of GNU as: bytes of text a second, and the memory that it takes. Calls
-    keep their eight bytes."""
+    """Linking many objects, those of rv and those of GNU as: bytes of text a second, and the memory that it takes.
+    Calls keep their eight bytes."""
     sources = write_parts(folder)
     length = OBJECTS * OBJECT_BYTES
     print(f"Linking {OBJECTS} objects with {length} bytes of text together")
@@ -425,7 +432,9 @@ def statements(folder):
         memory, good = peak(command)
         print(f"{name:24} {memory / STATEMENTS:6.0f} bytes a statement{'' if good else ', BUT REFUSES IT'}")
     memory, good = peak([RV, "build", "-o", folder / "executable", faulty], status=1)
-    print(f"{'rv, reading alone':24} {(memory - length) / STATEMENTS:6.0f} bytes a statement beside the source{'' if good else ', BUT TAKES ITS FAULT'}")
+    print(
+        f"{'rv, reading alone':24} {(memory - length) / STATEMENTS:6.0f} bytes a statement beside the source{'' if good else ', BUT TAKES ITS FAULT'}"
+    )
 
 
 # How a source grows, by what it has much of: the lines of the statement of a number among so many.
@@ -435,7 +444,7 @@ GROWING = {
     # is too short once the last has grown, and so on to the first
     "branches": (lambda at, count: f"label_{at}: beqz a0, label_{min(at + 127, count)}", 100_000),
     "calls": (lambda at, count: f"label_{at}: call label_{at * 7919 % count}", 100_000),
-    "sections": (lambda at, count: f".section .text.part_{at}, \"ax\"\nlabel_{at}: j label_{at * 7919 % count}", 7_500),
+    "sections": (lambda at, count: f'.section .text.part_{at}, "ax"\nlabel_{at}: j label_{at * 7919 % count}', 7_500),
     "data": (lambda at, count: f"label_{at}: .dword label_{at * 7919 % count} + {at}", 100_000),
 }
 
@@ -476,7 +485,8 @@ def write_graph(folder, path, count):
 
 
 def write_cascade(folder, path, count):
-    """Writes tails, each of which reaches in two bytes once all of the 1021 behind it have two: the last is the first."""
+    """Writes tails, each of which reaches in two bytes once all of the 1021 behind it have two: the last is the
+    first."""
     with path.open("w") as file:
         file.write(".globl _start\n_start:\n")
         file.writelines(f"label_{at}: tail label_{min(at + 1022, count)}\n" for at in range(count))
@@ -540,7 +550,9 @@ def relaxation(folder):
                 left[name] = text_left(folder / "map")
         for name, times in rows.items():
             said = " ".join(f"{seconds:8.3f}" for seconds in times)
-            print(f"{kind:18} {name:14} {said} s, exponent {math.log2(times[3] / times[0]) / 3:5.2f}, {left[name]:9} bytes")
+            print(
+                f"{kind:18} {name:14} {said} s, exponent {math.log2(times[3] / times[0]) / 3:5.2f}, {left[name]:9} bytes"
+            )
 
 
 def main():

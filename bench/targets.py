@@ -7,7 +7,6 @@ Host instructions are counted by callgrind, so other work on the machine changes
 missing, the row says so. `make bench` prints this table last.
 """
 
-import os
 import re
 import statistics
 import subprocess
@@ -47,14 +46,17 @@ def host_instructions(*command, given=b""):
 def peak(*command):
     """The most memory that a command has, in bytes. (Started from Python, a small program seems as large as Python.)"""
     need("time")
-    ran = subprocess.run(["time", "-f", "%M", *map(str, command)], stdout=subprocess.DEVNULL, stderr=subprocess.PIPE, text=True)
+    ran = subprocess.run(
+        ["time", "-f", "%M", *map(str, command)], stdout=subprocess.DEVNULL, stderr=subprocess.PIPE, text=True
+    )
     if ran.returncode != 0:
         raise SystemExit(f"{command[0]} {command[1]} ends badly")
     return int(ran.stderr.split()[-1]) * 1024
 
 
 def usual_peak(*command):
-    """The median of what many runs have: where the loader puts a small program and its library changes it by a tenth."""
+    """The median of what many runs have: where the loader puts a small program and its library changes it by a
+    tenth."""
     return statistics.median(peak(*command) for _ in range(RUNS))
 
 
@@ -210,7 +212,13 @@ def memory_ratio(folder):
 # Each row: its name, what it measures, the unit, what is wanted, and whether more is better.
 ROWS = (
     ("build, GCC's output, 1 MiB", lambda it: build_ratio(it, compiled(it, MIB)), "GNU by rv", 5, True),
-    ("build, branches and labels", lambda it: build_ratio(it, generated(it, "branches", write_branches)), "GNU by rv", 5, True),
+    (
+        "build, branches and labels",
+        lambda it: build_ratio(it, generated(it, "branches", write_branches)),
+        "GNU by rv",
+        5,
+        True,
+    ),
     ("build, data", lambda it: build_ratio(it, generated(it, "data", write_data)), "GNU by rv", 1.6, True),
     ("link, 500 objects of GNU as, time", linked_time, "GNU by rv", 1.2, True),
     ("link, 513 objects", linked_ratio, "GNU by rv", 4, True),

@@ -3,7 +3,7 @@
 
 source=/dev/stdin
 named=
-for word do
+for word; do
   if [ "$named" ]; then
     named=
     continue

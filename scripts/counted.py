@@ -4,12 +4,11 @@
 usage: counted.py PROGRAM FILE
 
 The program is that of quick.py, but each function of the repository's crates sets a byte of its own when it is entered.
-Where the environment names a file by RV_ENTERED, these bytes are that file's: all runs of the program share them, however
-they end. FILE.functions has a line for each byte, the function's name; the file has to have as many bytes as there are lines,
-up to the next multiple of 4096.
+Where the environment names a file by RV_ENTERED, these bytes are that file's: all runs of the program share them,
+however they end. FILE.functions has a line for each byte, the function's name; the file has to have as many bytes as
+there are lines, up to the next multiple of 4096.
 """
 
-import os
 import re
 import subprocess
 import sys
@@ -53,7 +52,7 @@ class Counter:
     def with_mark(self, head, lines):
         """A function's lines with the one that sets its byte, where the function is one of the repository's."""
         name = DEFINED.search(head)[1].strip('"')
-        if not re.match(r"<*&?(\w+)", name) or re.match(r"<*&?(\w+)", name)[1] not in self.crates:
+        if name.split("::")[0] not in self.crates:
             return lines
         mark = f"  store i8 1, ptr getelementptr inbounds (i8, ptr @rv_entered, i64 {len(self.names)}), align 1"
         self.names.append(name)

@@ -119,7 +119,10 @@ def table(lines, seen, spent, clock):
     of = lambda crate, kind: [it for it in seen.values() if it.crate == crate and it.kind == kind]
     whole = lambda some: round(sum(it.seconds for it in some))
     shown = lambda number: f"{number:,}" if number else ""
-    yield "| Crate | Functions | Proof, with its tests: processor seconds | Must-fail edits: processor seconds | Largest process, MB |"
+    yield (
+        "| Crate | Functions | Proof, with its tests: processor seconds | Must-fail edits: processor seconds "
+        "| Largest process, MB |"
+    )
     yield "| --- | --- | --- | --- | --- |"
     for name in names:
         proof, edits = of(name, PROOF), of(name, EDITS)

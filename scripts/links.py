@@ -49,7 +49,9 @@ def fault(page, target):
 
 
 pages = sorted(TOP.glob("*.md")) + [page for folder in FOLDERS for page in sorted((TOP / folder).rglob("*.md"))]
-links = [(page, link) for page in pages for link in LINK.findall(CODE.sub("`", prose(page.read_text(encoding="utf-8"))))]
+links = [
+    (page, link) for page in pages for link in LINK.findall(CODE.sub("`", prose(page.read_text(encoding="utf-8"))))
+]
 links = [(page, link) for page, link in links if link and not ELSEWHERE.match(link)]
 faults = [(page, link, why) for page, link in links if (why := fault(page, link))]
 for page, link, why in faults:

@@ -3,8 +3,8 @@
 
 usage: marks.py BUILT PROGRAM
 
-A program that `rt` builds is proved, and is marked so; quick.py marks its own. The words are written over those that the
-source has in their place, as many bytes, so the program stays what it was but for them.
+A program that `rt` builds is proved, and is marked so; quick.py marks its own. The words are written over those that
+the source has in their place, as many bytes, so the program stays what it was but for them.
 """
 
 import os

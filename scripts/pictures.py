@@ -56,7 +56,9 @@ def on_terminal(command, folder):
     ours, theirs = pty.openpty()
     words = {key: value for key, value in os.environ.items() if key != "NO_COLOR"}
     words["PATH"] = f"{ROOT}:{words['PATH']}"
-    with subprocess.Popen(["sh", "-c", command], cwd=folder, env=words, stdout=theirs, stderr=theirs, stdin=theirs) as run:
+    with subprocess.Popen(
+        ["sh", "-c", command], cwd=folder, env=words, stdout=theirs, stderr=theirs, stdin=theirs
+    ) as run:
         os.close(theirs)
         came = b""
         try:

@@ -23,11 +23,13 @@ import marks
 REGISTER = re.compile(r"%[\w.$-]+")
 # A line that only makes a value, and one that only writes, into a local if nothing reads it.
 VALUE = re.compile(
-    r"  (%[\w.$-]+) = (?:zext|sext|trunc|icmp|and|or|xor|add|sub|mul|shl|lshr|ashr|udiv|urem|ptrtoaddr|ptrtoint|inttoptr"
-    r"|getelementptr|alloca|select|extractvalue|load(?! volatile| atomic)) ")
+    r"  (%[\w.$-]+) = (?:zext|sext|trunc|icmp|and|or|xor|add|sub|mul|shl|lshr|ashr|udiv|urem|ptrtoaddr|ptrtoint"
+    r"|inttoptr|getelementptr|alloca|select|extractvalue|load(?! volatile| atomic)) "
+)
 WRITE = re.compile(
     r"  store .*, ptr (%[\w.$-]+), align \d+$"
-    r"|  call void @llvm\.memset\.p0\.i64\(ptr (%[\w.$-]+), i8 \d+, i64 \d+, i1 false\)$")
+    r"|  call void @llvm\.memset\.p0\.i64\(ptr (%[\w.$-]+), i8 \d+, i64 \d+, i1 false\)$"
+)
 BRANCH = re.compile(r"  br i1 %[\w.]+, label %([\w.]+), label %([\w.]+)$")
 
 
@@ -100,7 +102,8 @@ def unchanged(_, lines):
 
 
 def turned(source, target, change=unchanged):
-    """Copies the module of `rt try` as the one that a proved build would compile, with a change of each function's lines."""
+    """Copies the module of `rt try` as the one that a proved build would compile, with a change of each function's
+    lines."""
     text = {"encoding": "latin-1"}
     with open(source, **text) as lines, open(target, "w", **text) as out:
         lines = (it.rstrip("\n") for it in lines)

@@ -20,9 +20,19 @@ from pathlib import Path
 TOP = Path(__file__).resolve().parent.parent
 STILL = TOP / "scripts" / "storeys.txt"
 NAMED = re.compile(r"^[ ]*(?:pub |ghost |unfoldable )*use (?:Rattle\.)?(rv_\w+)(?:\.(specs|proofs)|::).*$", re.M)
-RUNS = re.compile(r"^ *(?:pub(?:\(\w+\))? )?fn (\w+)(?:(?!^ *(?:pub )?fn ).*\n)*?( *)\{\n(?! *(?:\w+\(\);\n *)*\2\})", re.M)
-MAY = {("definitions", "definitions"), ("theorems", "definitions"), ("theorems", "theorems"), ("theorems", "code", None),
-       ("code", "definitions"), ("code", "code"), ("code", "theorems", None), ("code", "theorems", "specs")}
+RUNS = re.compile(
+    r"^ *(?:pub(?:\(\w+\))? )?fn (\w+)(?:(?!^ *(?:pub )?fn ).*\n)*?( *)\{\n(?! *(?:\w+\(\);\n *)*\2\})", re.M
+)
+MAY = {
+    ("definitions", "definitions"),
+    ("theorems", "definitions"),
+    ("theorems", "theorems"),
+    ("theorems", "code", None),
+    ("code", "definitions"),
+    ("code", "code"),
+    ("code", "theorems", None),
+    ("code", "theorems", "specs"),
+}
 
 
 def storeys():
@@ -49,7 +59,9 @@ def main():
     storey, types = storeys()
     told = {}
     for crate in storey:
-        for path in sorted(p for part in ("src", "specs", "proofs") for p in (TOP / "crates" / crate / part).rglob("*.*t*")):
+        for path in sorted(
+            p for part in ("src", "specs", "proofs") for p in (TOP / "crates" / crate / part).rglob("*.*t*")
+        ):
             text = re.sub(r"//.*", "", path.read_text(encoding="utf-8"))
             runs = path.suffix == ".rt" and storey[crate] != "code" and crate not in types
             for place, other, fault in faults(crate, text, storey, runs):
@@ -63,7 +75,11 @@ def main():
         lines, may = told.get(pair, []), still.get(pair, 0)
         if len(lines) != may:
             failed += 1
-            print(f"{pair[0]} names {pair[1]} in {len(lines)} lines, and scripts/storeys.txt says {may}", *lines, sep="\n    ")
+            print(
+                f"{pair[0]} names {pair[1]} in {len(lines)} lines, and scripts/storeys.txt says {may}",
+                *lines,
+                sep="\n    ",
+            )
     print(f"{sum(still.values())} lines of {len(still)} pairs of crates may still name what their storey may not")
     print(f"{len(storey) - failed} passed, {failed} failed")
     sys.exit(failed > 0)

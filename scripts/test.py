@@ -20,11 +20,26 @@ import marks
 ROOT = Path(__file__).resolve().parent.parent
 # Where `make` looks for the program that it made.
 PROVED = ROOT / "out/proved/rv"
-OF_PROGRAMS = [["tests/run.py"], ["tests/collected.py"], ["tests/damaged.py", "--all"], ["tests/explained.py"],
-               ["tests/documents.py"], ["scripts/pictures.py", "--check"], ["tests/shells.py"], ["tests/terminal.py"],
-               ["tests/making.py"], ["tests/refused.py"]]
-OF_FILES = [["scripts/links.py"], ["scripts/want_of_memory.py"], ["scripts/definitions.py"],
-            ["scripts/trusted.py", "--check"]]
+OF_PROGRAMS = [
+    ["tests/run.py"],
+    ["tests/collected.py"],
+    ["tests/damaged.py", "--all"],
+    ["tests/explained.py"],
+    ["tests/documents.py"],
+    ["scripts/pictures.py", "--check"],
+    ["tests/shells.py"],
+    ["tests/terminal.py"],
+    ["tests/streams.py"],
+    ["tests/making.py"],
+    ["tests/refused.py"],
+]
+OF_FILES = [
+    ["scripts/links.py"],
+    ["scripts/want_of_memory.py"],
+    ["scripts/definitions.py"],
+    ["scripts/storeys.py"],
+    ["scripts/trusted.py", "--check"],
+]
 
 
 def counts(line):

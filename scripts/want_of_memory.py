@@ -129,7 +129,8 @@ def arms(items):
 
 
 def made_in_if(items, index):
-    """The lines that an `if let` or `while let` makes want of memory on, but for the patterns; and where its block ends."""
+    """The lines that an `if let` or `while let` makes want of memory on, but for the patterns; and where its block
+    ends."""
     block = find(items, index, "{")
     patterns, lines = [], []
     for part in parted(items[index + 1 : block], "&&"):
@@ -273,7 +274,9 @@ def of_cases():
 
 def main():
     broken, passed = of_cases()
-    files = [it for it in sorted(TOP.glob("crates/*/src/**/*.rt")) if not it.relative_to(TOP).parts[1].endswith("_tests")]
+    files = [
+        it for it in sorted(TOP.glob("crates/*/src/**/*.rt")) if not it.relative_to(TOP).parts[1].endswith("_tests")
+    ]
     for path in files:
         source = path.read_text(encoding="utf-8")
         lines = made(items_of(source))

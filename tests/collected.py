@@ -3,11 +3,12 @@
 
 usage: collected.py [NAME ..]     only cases whose path below tests/ begins so
 
-- The map has a `drop` line for each section with an address that nothing keeps, and no other: what keeps them is found here
-  in the objects (System V gABI, "Symbol Table", "Relocation"), which `rv as` makes of sources.
+- The map has a `drop` line for each section with an address that nothing keeps, and no other: what keeps them is found
+  here in the objects (System V gABI, "Symbol Table", "Relocation"), which `rv as` makes of sources.
 - Without such a line the executable and the map are those without the option.
 - Each name of the map is one without the option too.
-- What is refused is so for the same fault; but a section that is left out has none of L1 to L5 and L8, and L7 comes before L5.
+- What is refused is so for the same fault; but a section that is left out has none of L1 to L5 and L8, and L7 comes
+  before L5.
 
 Standard library alone; the last line is 'N passed, M failed'.
 """
@@ -103,7 +104,10 @@ def compare(folder, words):
     """Compares what one build or link makes without the option and with it."""
     skipped = ("-o", "--map")
     said = [it for at, it in enumerate(words) if it not in (*skipped, OPTION) and words[at - 1] not in skipped]
-    made = [call(folder, [said[0], "-o", it, "--map", f"{it}.map", *option, *said[1:]]) for it, option in (("whole", []), ("left", [OPTION]))]
+    made = [
+        call(folder, [said[0], "-o", it, "--map", f"{it}.map", *option, *said[1:]])
+        for it, option in (("whole", []), ("left", [OPTION]))
+    ]
     if made[0] and made[0].startswith(OF_A_SECTION):
         if made[1] is not None and not made[1].startswith(("rv: L7 ", *OF_A_SECTION)):
             raise Failed(f"{made[0].strip()} became {made[1].strip()}")
@@ -122,8 +126,12 @@ def compare(folder, words):
         return
     if not wanted:
         for kind in ("", ".map"):
-            same(f"the bytes of exe{kind}", (folder / f"whole{kind}").read_bytes(), (folder / f"left{kind}").read_bytes())
-    alone = {it[0] for it in lines(folder, "left.map", "global")} - {it[0] for it in lines(folder, "whole.map", "global")}
+            same(
+                f"the bytes of exe{kind}", (folder / f"whole{kind}").read_bytes(), (folder / f"left{kind}").read_bytes()
+            )
+    alone = {it[0] for it in lines(folder, "left.map", "global")} - {
+        it[0] for it in lines(folder, "whole.map", "global")
+    }
     same("names alone with the option", set(), alone)
 
 

@@ -3,14 +3,14 @@
 
 usage: damaged.py [--all]
 
-Makes objects and executables with ./rv. Each front part of a file is refused as truncated, and
-with any one of its bytes set to 0, or to FFh, it is answered: no signal ends rv, and what it says is a fault or an end.
-Of the zeros up to an executable's first page one in 64 is changed, and the file cut there; all of them with --all.
-An object of 114 KB, whose 2,001 global names are ends of one string and have 65 MB written out, is linked within 64 MB.
-Its names are shown, and the 96 MB that 500 rows of a map over the same 8,000 instructions list, in no more memory than 20
-times the files and 16 MiB: each text is made here once more, and both are counted and hashed as they come. Standard
-library alone; the last line is 'N passed, M failed', where a file counts once for each of the three, and that link and
-each of these texts once.
+Makes objects and executables with ./rv. Each front part of a file is refused as truncated, and with any one of its
+bytes set to 0, or to FFh, it is answered: no signal ends rv, and what it says is a fault or an end. Of the zeros up to
+an executable's first page one in 64 is changed, and the file cut there; all of them with --all. An object of 114 KB,
+whose 2,001 global names are ends of one string and have 65 MB written out, is linked within 64 MB. Its names are shown,
+and the 96 MB that 500 rows of a map over the same 8,000 instructions list, in no more memory than 20 times the files
+and 16 MiB: each text is made here once more, and both are counted and hashed as they come. Standard library alone; the
+last line is 'N passed, M failed', where a file counts once for each of the three, and that link and each of these texts
+once.
 """
 
 import hashlib
@@ -80,7 +80,9 @@ def answer(use, held, folder):
     path.mkdir(exist_ok=True)
     (path / "file").write_bytes(held)
     words = [RV, *USES[use], "file"]
-    ran = subprocess.run(words, cwd=path, stdin=subprocess.DEVNULL, capture_output=True, timeout=SECONDS, close_fds=False)
+    ran = subprocess.run(
+        words, cwd=path, stdin=subprocess.DEVNULL, capture_output=True, timeout=SECONDS, close_fds=False
+    )
     lines = ran.stderr.decode("utf8", "replace").splitlines()
     return ran.returncode, lines[-1] if lines else ""
 
@@ -120,19 +122,24 @@ STARTS = [65530 * place // 2000 for place in range(2001)]
 
 
 def long_names():
-    """An object that exits with 7, of 2,001 global names that are ends of one string of 64 KB: each means its first byte."""
+    """An object that exits with 7, of 2,001 global names that are ends of one string of 64 KB: each means its first
+    byte."""
     text, string, tables = bytes.fromhex("130570009308d00573000000"), LONG, b"\0.text\0.symtab\0.strtab\0"
     symbols = bytes(24) + b"".join(struct.pack("<IBBHQQ", 1 + start, 16, 0, 1, 0, 0) for start in STARTS)
     held, headers = bytearray(64), [bytes(64)]
     for name, kind, flags, body, align, link, info, each in (
-        (b".text", 1, 6, text, 4, 0, 0, 0), (b".symtab", 2, 0, symbols, 8, 3, 1, 24),
-        (b".strtab", 3, 0, b"\0" + string, 1, 0, 0, 0), (b".strtab", 3, 0, tables, 1, 0, 0, 0),
+        (b".text", 1, 6, text, 4, 0, 0, 0),
+        (b".symtab", 2, 0, symbols, 8, 3, 1, 24),
+        (b".strtab", 3, 0, b"\0" + string, 1, 0, 0, 0),
+        (b".strtab", 3, 0, tables, 1, 0, 0, 0),
     ):
         place = len(held)
         held.extend(body + bytes(-len(body) % 8))
         at = tables.index(name)
         headers.append(struct.pack("<IIQQQQIIQQ", at, kind, flags, 0, place, len(body), link, info, align, each))
-    held[:64] = b"\x7fELF\2\1\1" + bytes(9) + struct.pack("<HHIQQQIHHHHHH", 1, 243, 1, 0, 0, len(held), 0, 64, 0, 0, 64, 5, 4)
+    held[:64] = (
+        b"\x7fELF\2\1\1" + bytes(9) + struct.pack("<HHIQQQIHHHHHH", 1, 243, 1, 0, 0, len(held), 0, 64, 0, 0, 64, 5, 4)
+    )
     return bytes(held) + b"".join(headers)
 
 
@@ -140,7 +147,9 @@ def wrong_names(folder):
     """What is wrong with a link without a map of the object of long names, or nothing."""
     Path(folder, "names").write_bytes(long_names())
     least = lambda: resource.setrlimit(resource.RLIMIT_AS, (1 << 26, 1 << 26))
-    ran = subprocess.run([RV, "ld", "-o", "made", "names"], cwd=folder, capture_output=True, timeout=SECONDS, preexec_fn=least)
+    ran = subprocess.run(
+        [RV, "ld", "-o", "made", "names"], cwd=folder, capture_output=True, timeout=SECONDS, preexec_fn=least
+    )
     if ran.returncode:
         return f"object of long names: status {ran.returncode}, {ran.stderr!r}"
     ended = subprocess.run([RV, "run", "made"], cwd=folder, capture_output=True, timeout=SECONDS).returncode
@@ -154,7 +163,8 @@ def shown_names(folder):
 
 
 def listed_rows(folder):
-    """Writes 8,000 instructions and a map of 500 rows that each have all of them; the words that list these, and the rows."""
+    """Writes 8,000 instructions and a map of 500 rows that each have all of them; the words that list these, and the
+    rows."""
     source = ".option norvc\n.globl _start\n_start:\n" + 8000 * "nop\n"
     Path(folder, "exe").write_bytes(made(source, "executable"))
     regions = "".join(f"{name} 0 0\n" for name in ("text", "rodata", "data", "bss"))

@@ -36,8 +36,16 @@ def blocks(text):
 def ran(command, folder):
     """The status of a command in a folder, and what it prints to standard output and standard error."""
     words = {**os.environ, "PATH": f"{folder}:{os.environ['PATH']}", "LC_ALL": "C"}
-    done = subprocess.run(["sh", "-c", command], cwd=folder, env=words, stdin=subprocess.DEVNULL,
-                          stdout=subprocess.PIPE, stderr=subprocess.STDOUT, text=True, timeout=SECONDS)
+    done = subprocess.run(
+        ["sh", "-c", command],
+        cwd=folder,
+        env=words,
+        stdin=subprocess.DEVNULL,
+        stdout=subprocess.PIPE,
+        stderr=subprocess.STDOUT,
+        text=True,
+        timeout=SECONDS,
+    )
     return done.returncode, done.stdout.removesuffix("\n") + "\n" * bool(done.stdout)
 
 

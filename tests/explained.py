@@ -1,8 +1,8 @@
 #!/usr/bin/env python3
 """Looks at what `rv explain` says of each code and of each end of a run.
 
-- The example of a code of a source or of a link gives that very code when it is built, that of an end gives the end when it
-  is run. The example of L4 is an object, and that of L10 a count of files: they are made here.
+- The example of a code of a source or of a link gives that very code when it is built, that of an end gives the end
+  when it is run. The example of L4 is an object, and that of L10 a count of files: they are made here.
 - The cause and the cure are those of docs/manual/faults.md, and the ends those of docs/manual/platform.md.
 
 Standard library alone; the last line is 'N passed, M failed'.
@@ -40,7 +40,9 @@ def rows():
 def entry(folder, code):
     """The title, cause, example and cure that rv prints of a code."""
     text = rv(folder, "explain", code).stdout.decode()
-    title, cause, example, cure = re.fullmatch(r"(.*)\nCause: (.*)\nExample:\n((?:    .*\n)+)Cure: (.*)\n", text, re.S).groups()
+    title, cause, example, cure = re.fullmatch(
+        r"(.*)\nCause: (.*)\nExample:\n((?:    .*\n)+)Cure: (.*)\n", text, re.S
+    ).groups()
     return title, " ".join(cause.split()), [it[4:] for it in example.splitlines()], " ".join(cure.split())
 
 
@@ -86,7 +88,9 @@ def look_at_manual(titles):
             _, told, _, cured = entry(folder, title.split()[0])
             same(f"the cause of {title}", cause, told)
             same(f"the cure of {title}", cure, cured)
-    ends = re.findall(r"`([A-Z]\w+)`", (MANUAL / "platform.md").read_text().split("## How a run ends")[1].split("\n\n")[1])
+    ends = re.findall(
+        r"`([A-Z]\w+)`", (MANUAL / "platform.md").read_text().split("## How a run ends")[1].split("\n\n")[1]
+    )
     same("the ends", ends, [it for it in titles if " " not in it])
 
 

@@ -38,7 +38,9 @@ def makers(folder):
     for script, *words in MAKERS:
         words = [sys.executable, TOP / script, *words]
         status, said = output(words, folder, f"{folder}:{os.environ['PATH']}")
-        yield f"{script}, another toolchain", status == 1 and said.startswith("the toolchain here is another-kit, "), said
+        yield f"{script}, another toolchain", status == 1 and said.startswith(
+            "the toolchain here is another-kit, "
+        ), said
         status, said = output(words, folder, "")
         yield f"{script}, no toolchain", status == 1 and said.startswith("rt is not on the PATH: "), said
         yield f"{script} makes nothing then", not (folder / "made").exists(), ""
@@ -47,7 +49,11 @@ def makers(folder):
 def marks(folder):
     """A program without one place for its mark, or that does not say the mark, is not handed on."""
     mark = [sys.executable, TOP / "scripts/marks.py", "built", "program"]
-    for name, text in (("no place", b""), ("two places", PLACE + PLACE), ("a place that is not said", b"exit # " + PLACE)):
+    for name, text in (
+        ("no place", b""),
+        ("two places", PLACE + PLACE),
+        ("a place that is not said", b"exit # " + PLACE),
+    ):
         (folder / "built").write_bytes(b"#!/bin/sh\n" + text + b"\n")
         status, said = output(mark, folder)
         yield f"a mark with {name}", status == 1 and not (folder / "program").exists(), said

@@ -7,8 +7,9 @@ A case is a command of ./rv, or a call that ./rv_refused makes (crates/rv_refuse
 which gives the ordinary answer and the count of requests; then once for each number up to that count with that request
 refused (refuse.c), and once with the number after it. Of a command is wanted `rv: out of memory` with status 1, no
 output but whole lines of a trace, no input taken and no file left; of a call that it answers so, and gives the ordinary
-answer when it is made again. In the end the ordinary answer is wanted. A text of more than 64 KiB is written as it comes;
-no case has one. One line for each other answer. Needs a C compiler, `cc`, and glibc; the last line is 'N passed, M failed'.
+answer when it is made again. In the end the ordinary answer is wanted. A text of more than 64 KiB is written as it
+comes; no case has one. One line for each other answer. Needs a C compiler, `cc`, and glibc; the last line is 'N passed,
+M failed'.
 """
 
 import os
@@ -43,24 +44,43 @@ class Source:
 SOURCES = {
     "exit7": Source([f".option norvc; {START}li a0, 7; {EXIT}"], status=7),
     "hello": Source(
-        [f'{START}li a0, 1; la a1, msg; li a2, 5; li a7, 64; ecall; li a0, 0; {EXIT}; .section .rodata; msg: .ascii "hello"'],
-        console=b"hello"),
+        [
+            f"{START}li a0, 1; la a1, msg; li a2, 5; li a7, 64; ecall; li a0, 0; {EXIT}; "
+            '.section .rodata; msg: .ascii "hello"'
+        ],
+        console=b"hello",
+    ),
     "far_tail": Source([f"{START}tail f; {1021 * 'nop; '}f: {EXIT}"]),
     "two_files": Source(
-        [f"{START}li a0, 0; loop: addi a0, a0, 1; li t0, 3; blt a0, t0, loop; tail f",
-         f".globl f, loop; f: loop: addi a0, a0, 4; li t0, 10; blt a0, t0, loop; {EXIT}"],
-        status=11),
+        [
+            f"{START}li a0, 0; loop: addi a0, a0, 1; li t0, 3; blt a0, t0, loop; tail f",
+            f".globl f, loop; f: loop: addi a0, a0, 4; li t0, 10; blt a0, t0, loop; {EXIT}",
+        ],
+        status=11,
+    ),
     "echo_four": Source(
-        [f"{START}li a0, 0; la a1, b; li a2, 4; li a7, 63; ecall; mv a2, a0; li a0, 1; li a7, 64; ecall; li a0, 0; {EXIT}; "
-         ".bss; b: .zero 4"],
-        console=b"abcd", given=b"abcdef"),
+        [
+            f"{START}li a0, 0; la a1, b; li a2, 4; li a7, 63; ecall; mv a2, a0; li a0, 1; li a7, 64; ecall; "
+            f"li a0, 0; {EXIT}; "
+            ".bss; b: .zero 4"
+        ],
+        console=b"abcd",
+        given=b"abcdef",
+    ),
     "outside": Source(
         [f"{START}li a0, 1; la a1, b; li a2, 1; li a7, 64; ecall; ld a0, (zero); .data; .weak b; b: .byte 'b'"],
-        console=b"b", status=125, end="LoadOutside 0"),
+        console=b"b",
+        status=125,
+        end="LoadOutside 0",
+    ),
     "left_out": Source(
-        [f'{START}call f; {EXIT}; .section .text.g, "ax"; g: la a0, d; ret; .data; d: .dword 9',
-         '.globl f; .section .text.f, "ax"; f: li a0, 4; ret; .bss; .zero 8'],
-        status=4, options=("--gc-sections",)),
+        [
+            f'{START}call f; {EXIT}; .section .text.g, "ax"; g: la a0, d; ret; .data; d: .dword 9',
+            '.globl f; .section .text.f, "ax"; f: li a0, 4; ret; .bss; .zero 8',
+        ],
+        status=4,
+        options=("--gc-sections",),
+    ),
     "undefined": Source([f"{START}call f; call _g"], fault="L5 Undefined f"),
     "twice": Source([f"{START}{EXIT}", ".globl _start; _start: nop"], fault="L6 Duplicate _start"),
     "no_operands": Source([f"{START}addi a0, a1; {EXIT}"], fault="1.s:1: E7 BadOperands"),
@@ -113,8 +133,9 @@ class Case:
             given.write(self.given)
             given.flush()
             os.lseek(given.fileno(), 0, os.SEEK_SET)
-            ran = subprocess.run(self.words, cwd=folder, stdin=given, capture_output=True, timeout=SECONDS,
-                env={**os.environ, **set_by})
+            ran = subprocess.run(
+                self.words, cwd=folder, stdin=given, capture_output=True, timeout=SECONDS, env={**os.environ, **set_by}
+            )
             taken = os.lseek(given.fileno(), 0, os.SEEK_CUR)
             left = tuple((it.name, it.read_bytes()) for it in sorted(Path(folder).iterdir()))
         said = ran.stderr.decode("utf8", "replace").replace(f"{self.at}/", "")
@@ -165,7 +186,9 @@ def written(at, texts, options):
 
 def raw_listing(at):
     """The raw listing of what ./rv made of sources, or nothing where it has none."""
-    return subprocess.run([RV, "objdump", "--raw", "exe"], cwd=at, timeout=SECONDS, stdout=subprocess.PIPE, stderr=subprocess.PIPE).stdout
+    return subprocess.run(
+        [RV, "objdump", "--raw", "exe"], cwd=at, timeout=SECONDS, stdout=subprocess.PIPE, stderr=subprocess.PIPE
+    ).stdout
 
 
 def commands(name, source, at, texts):
@@ -178,12 +201,25 @@ def commands(name, source, at, texts):
     shown = lambda out: Answer(0, out, "", 0, ())
     dump = made(at, "dump", "exe")
     objs = [str(at / it.replace(".s", ".o")) for it in texts]
-    looked = [["size", *objs], ["nm", objs[0]], ["nm", "--map", str(at / "map"), str(at / "exe")], ["elf", objs[0]],
-              ["dis", objs[0]], ["dis", "--map", str(at / "map"), str(at / "exe")], ["list", *paths]]
-    calls = [(f"as {name}" + f" {text}" * (len(texts) > 1), ["as", "-o", "obj", path], wrote(obj=held))
-        for text, path, held in zip(texts, paths[len(source.options):], objects)]
+    looked = [
+        ["size", *objs],
+        ["nm", objs[0]],
+        ["nm", "--map", str(at / "map"), str(at / "exe")],
+        ["elf", objs[0]],
+        ["dis", objs[0]],
+        ["dis", "--map", str(at / "map"), str(at / "exe")],
+        ["list", *paths],
+    ]
+    calls = [
+        (f"as {name}" + f" {text}" * (len(texts) > 1), ["as", "-o", "obj", path], wrote(obj=held))
+        for text, path, held in zip(texts, paths[len(source.options) :], objects)
+    ]
     calls += [
-        (f"ld {name}", ["ld", "-o", "exe", "--map", "map", *[it.replace(".s", ".o") for it in paths]], wrote(exe=exe, map=map_)),
+        (
+            f"ld {name}",
+            ["ld", "-o", "exe", "--map", "map", *[it.replace(".s", ".o") for it in paths]],
+            wrote(exe=exe, map=map_),
+        ),
         (f"build --map {name}", ["build", "-o", "exe", "--map", "map", *paths], wrote(exe=exe, map=map_)),
         (f"build {name}", ["build", "-o", "exe", *paths], wrote(exe=exe)),
         (f"run {name}", ["run", str(at / "exe")], ran),
@@ -207,7 +243,11 @@ def commands(name, source, at, texts):
 
 def watched(name, source, at, paths):
     """Runs of a source that are looked at; they take memory while the guest runs, so it is one that writes nothing."""
-    calls = [(source.status, ["stats", "--lines"]), (source.status, ["trace"]), (125, ["run", "--report", "--limit", "1"])]
+    calls = [
+        (source.status, ["stats", "--lines"]),
+        (source.status, ["trace"]),
+        (125, ["run", "--report", "--limit", "1"]),
+    ]
     for status, words in calls:
         told = subprocess.run([RV, *words, *paths], timeout=SECONDS, stderr=subprocess.PIPE).stderr.decode()
         wanted = Answer(status, b"", told.replace(f"{at}/", ""), 0, ())
@@ -244,8 +284,15 @@ def of_library(name, source, at, texts):
     end = f"{source.end or f'Exited {source.status}'}\n".encode() + source.console
     built = exe.hex().encode() + b"\n" + map_
     left = f"{max(len(source.given) - len(source.console), 0)} bytes of input left\n".encode()
-    wanted = {"build": built, "link_objects": built, "run_exec": end, "run_io": left + end, "listing": listing,
-        "read_map": map_, "write_map": map_}
+    wanted = {
+        "build": built,
+        "link_objects": built,
+        "run_exec": end,
+        "run_io": left + end,
+        "listing": listing,
+        "read_map": map_,
+        "write_map": map_,
+    }
     raw = raw_listing(at)
     wanted.update({"raw_listing": raw} if raw else {})
     # a step asks for memory where it writes to the console

@@ -22,7 +22,10 @@ TESTS = Path(__file__).resolve().parent
 RV = TESTS.parent / "rv"
 SECONDS = 60
 LINE = re.compile(r"# (?P<key>[a-z]+(?: has| at [0-9a-f]+| [.\w$-]+(?: \w+)?)?|no map): ?(?P<value>.*)")
-KEYS = "rv options input limit exit end console fault status error errors out text rodata data map listing section alignment size same patch cut".split()
+KEYS = (
+    "rv options input limit exit end console fault status error errors out text rodata data map listing section "
+    "alignment size same patch cut"
+).split()
 SEGMENTS = {"text": 1, "rodata": 4, "data": 6}
 BEGIN_RUN = {"exit", "end", "console"}
 
@@ -58,11 +61,14 @@ def expectations(lines):
 
 def with_pieces(text, folder):
     """The bytes of a case, in which a line {{NAME}} stands for the file NAME beside it."""
-    return re.sub(rb"(?m)^\{\{([\w.]+)\}\}\n", lambda it: with_pieces((folder / it[1].decode()).read_bytes(), folder), text)
+    return re.sub(
+        rb"(?m)^\{\{([\w.]+)\}\}\n", lambda it: with_pieces((folder / it[1].decode()).read_bytes(), folder), text
+    )
 
 
 def side(text, at):
-    """A text of several files as the one of this number has it: {{A => B}} stands for A in the first, for B in the next."""
+    """A text of several files as the one of this number has it: {{A => B}} stands for A in the first, for B in the
+    next."""
     return re.sub(rb"\{\{([^{}]* => [^{}]*)\}\}", lambda it: it[1].split(b" => ")[at], text)
 
 
@@ -175,7 +181,9 @@ def look_at_files(folder, words, key, value):
     first, _, rest = key.partition(" ")
     written = lambda flag: folder / words[words.index(flag) + 1]
     if first in SEGMENTS:
-        held = [(address, it) for flags, address, it in segments(written("-o").read_bytes()) if flags == SEGMENTS[first]]
+        held = [
+            (address, it) for flags, address, it in segments(written("-o").read_bytes()) if flags == SEGMENTS[first]
+        ]
         address, held = held[0] if held else (0, b"")
         wanted = bytes.fromhex(repeated(value.encode()).decode())
         if rest.startswith("at "):
@@ -210,9 +218,19 @@ def look_at(folder, words, head):
     ran = subprocess.run([RV, *words], cwd=folder, input=given, capture_output=True, timeout=SECONDS)
     said = ran.stderr.decode("utf8", "replace").splitlines()
     last, one = said[-1] if said else "", dict(head)
-    status = int(one["status"]) if "status" in one else 1 if "fault" in one else 125 if "end" in one else int(one.get("exit", 0))
+    status = (
+        int(one["status"])
+        if "status" in one
+        else 1
+        if "fault" in one
+        else 125
+        if "end" in one
+        else int(one.get("exit", 0))
+    )
     same(f"rv {' '.join(words)}: its status, with {last!r}", status, ran.returncode)
-    wanted = one.get("error") or ("rv: " + one["fault"] if "fault" in one else "rv: " + one["end"] if "end" in one else None)
+    wanted = one.get("error") or (
+        "rv: " + one["fault"] if "fault" in one else "rv: " + one["end"] if "end" in one else None
+    )
     if wanted is not None:
         same("standard error", wanted, last)
     for key, came in (("console", ran.stdout), ("out", ran.stdout), ("errors", ran.stderr)):

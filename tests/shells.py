@@ -1,6 +1,8 @@
 #!/usr/bin/env python3
-"""Completes words of rv in bash by what `rv completions bash` writes; zsh and fish read theirs, where they are installed.
-GCC's assembler, a script of the shell, reads a file, or standard input where none is named.
+"""Completes words of rv in bash by what `rv completions bash` writes, and assembles as GCC would.
+
+zsh and fish read their scripts, where they are installed. GCC's assembler, a script of the shell, reads a file, or
+standard input where none is named.
 
 Standard library alone; the last line is 'N passed, M failed'.
 """
@@ -35,8 +37,10 @@ echo "${{COMPREPLY[@]}}"
 
 SOURCE = "f: addi a0, a0, 1\n ret\n"
 # The words of `gcc -c` and of `gcc -pipe -I include -c`.
-ASSEMBLES = ["--traditional-format -march=rv64imac -mabi=lp64 -o file.o program.s",
-             "-I include --traditional-format -march=rv64imac -mabi=lp64 -o pipe.o"]
+ASSEMBLES = [
+    "--traditional-format -march=rv64imac -mabi=lp64 -o file.o program.s",
+    "-I include --traditional-format -march=rv64imac -mabi=lp64 -o pipe.o",
+]
 
 
 def output(words, folder, given=""):

@@ -2,8 +2,8 @@
 """Does with the streams of ./rv run what a person does: pipes that stay open, devices, a reader that goes away.
 
 It shows that a guest answers a line before the next one is typed, that a run ends when nobody reads on, and that a full
-disk, and an input that cannot be read, are reported. Each check is bounded in time. Standard library alone; the last line
-is 'N passed, M failed'.
+disk, and an input that cannot be read, are reported. Each check is bounded in time. Standard library alone; the last
+line is 'N passed, M failed'.
 """
 
 import os
@@ -38,7 +38,9 @@ def ends_when_nobody_reads():
 
 def reports_a_full_disk():
     with open("/dev/full", "wb") as full:
-        process = subprocess.run([RV, "run", GUEST], input=b"text", stdout=full, stderr=subprocess.PIPE, timeout=SECONDS)
+        process = subprocess.run(
+            [RV, "run", GUEST], input=b"text", stdout=full, stderr=subprocess.PIPE, timeout=SECONDS
+        )
     found = (process.returncode, process.stderr)
     return None if found == (1, b"rv: X2 OutputFault\n") else f"{found!r}"
 

@@ -1,7 +1,8 @@
 #!/usr/bin/env python3
 """Looks at when rv shows colours: on a terminal, and neither in a pipe nor a file, nor where NO_COLOR is set.
 
-Without its colours what a terminal shows is what a pipe has. Standard library alone; the last line is 'N passed, M failed'.
+Without its colours what a terminal shows is what a pipe has. Standard library alone; the last line is 'N passed, M
+failed'.
 """
 
 import os

@@ -2,9 +2,10 @@
 
 usage: compare.py c_examples
 
-Compared are the runs of the executable that GNU ld links, and those of GCC's assembly, as rv builds it and as GNU as and
-ld do. Each reads README.md. What the language leaves out, as .comm, is shown with its fault (E7, E9) and counts as no
-difference. It needs ./rv, riscv64-unknown-elf-gcc, its binutils and qemu-riscv64; the last line is 'N passed, M failed'.
+Compared are the runs of the executable that GNU ld links, and those of GCC's assembly, as rv builds it and as GNU as
+and ld do. Each reads README.md. What the language leaves out, as .comm, is shown with its fault (E7, E9) and counts as
+no difference. It needs ./rv, riscv64-unknown-elf-gcc, its binutils and qemu-riscv64; the last line is 'N passed, M
+failed'.
 """
 
 import re

@@ -2,10 +2,10 @@
 
 usage: compare.py checked COUNT [SEED]
 
-One source or two are drawn from tests/ and examples/, each changed at up to four places: a byte, a line of another source,
-a cut, a target. `check` and `build` must end with the same status, the first line of a check must be the fault of the
-build, and no check may take more than 2 seconds. Source N of a seed is the same in each run. Standard library alone; the
-last line is 'N passed, M failed'.
+One source or two are drawn from tests/ and examples/, each changed at up to four places: a byte, a line of another
+source, a cut, a target. `check` and `build` must end with the same status, the first line of a check must be the fault
+of the build, and no check may take more than 2 seconds. Source N of a seed is the same in each run. Standard library
+alone; the last line is 'N passed, M failed'.
 """
 
 import random

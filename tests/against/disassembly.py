@@ -1,10 +1,12 @@
-"""Compares `rv dis` with GNU objdump, line by line, over objects and executables that GCC and GNU ld make of csmith's programs.
+"""Compares `rv dis` with GNU objdump, line by line, over objects and executables of csmith's programs.
 
-usage: compare.py disassembly [PROGRAMS]      (20 by default; with ./rv, riscv64-unknown-elf-gcc, its binutils and csmith)
+usage: compare.py disassembly [PROGRAMS]      (20 by default)
 
-Each program is drawn from a seed, from 1 on, and compiled at four levels; its object, its executable by GNU ld and the object
-that `rv as` makes of its assembly are shown, by aliases and by base instructions. Where a relocation is against a symbol
-without a name, GNU shows its section alone. The last line is 'N passed, M failed'. Standard library alone.
+It needs ./rv, riscv64-unknown-elf-gcc, its binutils and csmith.
+
+Each program is drawn from a seed, from 1 on, and compiled at four levels; its object, its executable by GNU ld and the
+object that `rv as` makes of its assembly are shown, by aliases and by base instructions. Where a relocation is against
+a symbol without a name, GNU shows its section alone. The last line is 'N passed, M failed'. Standard library alone.
 """
 
 import re
@@ -43,7 +45,11 @@ def faults(folder, level):
         for style, more in (([], []), (["--base"], ["-M", "no-aliases"])):
             wanted = shown([f"{GNU}objdump", "-d", "-r", *more, file])
             came = shown([RV, "dis", *style, file])
-            lines = [] if came == wanted else list(islice(unified_diff((wanted or "").split("\n"), (came or "").split("\n"), n=0), 12))
+            lines = (
+                []
+                if came == wanted
+                else list(islice(unified_diff((wanted or "").split("\n"), (came or "").split("\n"), n=0), 12))
+            )
             yield f"{file.name} {level} {' '.join(style)}", lines, (wanted or "").count("\n")
 
 

@@ -1,16 +1,18 @@
 """Lets GCC take rv for its assembler, and compares what both linkers make of its objects.
 
-usage: compare.py gcc_as PREFIX [PROGRAMS]      (200 programs by default; PREFIX is what 'make install PREFIX=..' was told)
+usage: compare.py gcc_as PREFIX [PROGRAMS]      (200 programs by default)
 
-GCC compiles with `-B PREFIX/libexec/rv/ -march=rv64imac -mabi=lp64 -c`: the programs of bench/, each at four levels, and
-programs that csmith draws from seed 1 on, at one level each, every second one in two files. Their objects must be rv's.
-`rv ld` and GNU ld link them, and GNU ld what GNU as makes of the same programs. All three executables run by `rv run`,
-and by qemu-riscv64 where it is installed, and must end alike: the same status and the same console.
+PREFIX is what 'make install PREFIX=..' was given.
 
-A program takes no part, and is counted by its reason, where csmith draws none or GCC compiles none, where its source has
-what the language leaves out (`.comm`, and `.set` of a name as another's), where it is longer than 20 million
-instructions, and where it loads bytes past the end of a region, as GCC does behind the last object. The last line is
-'N passed, M failed'. Standard library alone; it needs riscv64-unknown-elf-gcc, its binutils and csmith.
+GCC compiles with `-B PREFIX/libexec/rv/ -march=rv64imac -mabi=lp64 -c`: the programs of bench/, each at four levels,
+and programs that csmith draws from seed 1 on, at one level each, every second one in two files. Their objects must be
+rv's. `rv ld` and GNU ld link them, and GNU ld what GNU as makes of the same programs. All three executables run by `rv
+run`, and by qemu-riscv64 where it is installed, and must end alike: the same status and the same console.
+
+A program takes no part, and is counted by its reason, where csmith draws none or GCC compiles none, where its source
+has what the language leaves out (`.comm`, and `.set` of a name as another's), where it is longer than 20 million
+instructions, and where it loads bytes past the end of a region, as GCC does behind the last object. The last line is 'N
+passed, M failed'. Standard library alone; it needs riscv64-unknown-elf-gcc, its binutils and csmith.
 """
 
 import re
@@ -24,7 +26,21 @@ from itertools import count, islice
 from pathlib import Path
 
 from against.common import (
-    CSMITH, FLAGS, GNU, LEFT_OUT, QEMU, ROOT, completed, draw, is_limit, need, outcome, processors, refusal, succeeds)
+    CSMITH,
+    FLAGS,
+    GNU,
+    LEFT_OUT,
+    QEMU,
+    ROOT,
+    completed,
+    draw,
+    is_limit,
+    need,
+    outcome,
+    processors,
+    refusal,
+    succeeds,
+)
 
 BENCH = sorted((ROOT / "bench" / "programs").glob("*.c"))
 LEVELS = ["-O0 -fdata-sections", "-O1 -pipe", "-O2", "-Os"]

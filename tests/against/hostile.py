@@ -2,11 +2,12 @@
 
 usage: compare.py hostile COUNT [--seed N] [--from N] [--jobs N] [--only N] [--gnu PREFIX]
 
-The files of tests/ and examples/, and the objects, executables and maps that ./rv makes of them, are damaged in the ways
-of `OF_ALL`, `OF_ELF`, `OF_SOURCES` and `OF_MAPS`, one to four at once. With `--gnu`, as in `--gnu riscv64-unknown-elf-`,
-so are the objects and executables that GNU's tools make of them. File N of a seed is the same in each run with the same
-./rv; `--only N` takes it alone, and `--from N` begins with it. Each file is given to the commands that read its kind, a
-guest reads it as its input, and an object is linked alone, twice, or with another. A find is
+The files of tests/ and examples/, and the objects, executables and maps that ./rv makes of them, are damaged in the
+ways of `OF_ALL`, `OF_ELF`, `OF_SOURCES` and `OF_MAPS`, one to four at once. With `--gnu`, as in `--gnu
+riscv64-unknown-elf-`, so are the objects and executables that GNU's tools make of them. File N of a seed is the same in
+each run with the same ./rv; `--only N` takes it alone, and `--from N` begins with it. Each file is given to the
+commands that read its kind, a guest reads it as its input, and an object is linked alone, twice, or with another. A
+find is
 
   signal    the program is ended by a signal
   time      it takes more than 2 seconds of a processor, or 60 of the clock
@@ -42,26 +43,35 @@ MIB = 1 << 20
 SECONDS, CLOCK, STEPS = 2, 60, 50_000
 SHOWN, TELLS = 20, 10_000
 LARGEST = 1 << 18
-NUMBERS = [0, 1, 2, 3, 4, 7, 8, 16, 24, 31, 32, 63, 64, 127, 128, 255, 256, 4095, 4096, 4097, 8192, 0x7FFF, 0x8000, 0xFF00,
+# fmt: off
+NUMBERS = [
+    0, 1, 2, 3, 4, 7, 8, 16, 24, 31, 32, 63, 64, 127, 128, 255, 256, 4095, 4096, 4097, 8192, 0x7FFF, 0x8000, 0xFF00,
     0xFFF1, 0xFFFF, 0x10000, MIB, 16 * MIB, 256 * MIB, 0x3FEFF000, 0x3FF00000, 0x40000000, 1 << 31, 1 << 32, 1 << 62,
-    1 << 63, (1 << 64) - 4096, 1 << 64]
+    1 << 63, (1 << 64) - 4096, 1 << 64,
+]
+# fmt: on
 # the fields of each record of a file (System V gABI; files.md for rows): offset and bytes
+# fmt: off
 FIELDS = {
-    "header": [(4, 1), (5, 1), (6, 1), (16, 2), (18, 2), (20, 4), (24, 8), (32, 8), (40, 8), (48, 4), (52, 2), (54, 2), (56, 2),
-        (58, 2), (60, 2), (62, 2)],
+    "header": [
+        (4, 1), (5, 1), (6, 1), (16, 2), (18, 2), (20, 4), (24, 8), (32, 8), (40, 8), (48, 4), (52, 2), (54, 2),
+        (56, 2), (58, 2), (60, 2), (62, 2),
+    ],
     "segment": [(0, 4), (4, 4), (8, 8), (16, 8), (24, 8), (32, 8), (40, 8), (48, 8)],
     "section": [(0, 4), (4, 4), (8, 8), (16, 8), (24, 8), (32, 8), (40, 4), (44, 4), (48, 8), (56, 8)],
     "symbol": [(0, 4), (4, 1), (5, 1), (6, 2), (8, 8), (16, 8)],
     "relocation": [(0, 8), (8, 4), (12, 4), (16, 8)],
     "row": [(0, 4), (4, 4), (8, 4), (12, 4), (16, 8), (24, 4), (28, 4)],
 }
+# fmt: on
 SIZES = {"header": 64, "segment": 56, "section": 64, "symbol": 24, "relocation": 24, "row": 32}
 TABLES = {2: "symbol", 4: "relocation"}
 TOKEN = re.compile(rb'"[^"\n]*"|[\w.$%@]+|<<|>>|[^\s\w]')
-WORDS = b"""( ) - ~ + * / % << >> | & ^ , : ; " ' # /* */ // @ . 1b 1f 2b zero ra sp t0 a0 a1 x8 %lo %hi %pcrel_hi %pcrel_lo @plt
-li la call tail j jal beq addi lui auipc ld sd jr jalr lr.w sc.d amoadd.w fence ecall .text .data .bss .rodata .section .globl
-.local .weak .set .equ .align .balign .zero .space .byte .half .word .dword .ascii .asciz .option push pop relax norelax rvc norvc
-.type .size .cfi_startproc .comm "ax" "aw" @nobits \\x41 \\0""".split()
+WORDS = b"""( ) - ~ + * / % << >> | & ^ , : ; " ' # /* */ // @ . 1b 1f 2b zero ra sp t0 a0 a1 x8 %lo %hi %pcrel_hi
+%pcrel_lo @plt li la call tail j jal beq addi lui auipc ld sd jr jalr lr.w sc.d amoadd.w fence ecall
+.text .data .bss .rodata .section .globl .local .weak .set .equ .align .balign .zero .space .byte .half
+.word .dword .ascii .asciz .option push pop relax norelax rvc norvc .type .size .cfi_startproc .comm "ax"
+"aw" @nobits \\x41 \\0""".split()
 
 
 def some_number(pick, near=()):
@@ -80,7 +90,9 @@ def many(pick, most):
 def with_bytes(pick, file, _):
     file = bytearray(file)
     for _ in range(many(pick, 9) if file else 0):
-        file[pick.randrange(len(file))] = pick.choice([0, 0xFF, 0x80, 0x7F, 10, 32, pick.randrange(256), pick.randrange(256)])
+        file[pick.randrange(len(file))] = pick.choice(
+            [0, 0xFF, 0x80, 0x7F, 10, 32, pick.randrange(256), pick.randrange(256)]
+        )
     return bytes(file)
 
 
@@ -128,7 +140,16 @@ def with_part_of_another(pick, file, corpus):
     return file[:place] + other[at : min(end, at + 4096)] + file[place + pick.choice([0, end - at]) :]
 
 
-OF_ALL = [with_bytes, with_bit, with_word, cut, without_range, with_range_twice, with_ranges_swapped, with_part_of_another]
+OF_ALL = [
+    with_bytes,
+    with_bit,
+    with_word,
+    cut,
+    without_range,
+    with_range_twice,
+    with_ranges_swapped,
+    with_part_of_another,
+]
 
 # --- damage to objects and executables
 
@@ -156,7 +177,9 @@ def tables(file):
     yield "section", places, None
     for it in places:
         offset, size, width, flags = (get(file, it + there, 8) for there in (24, 32, 56, 8))
-        kind = TABLES.get(get(file, it + 4, 4), "row" if get(file, it + 4, 4) == 1 and not flags and size % 32 == 0 else None)
+        kind = TABLES.get(
+            get(file, it + 4, 4), "row" if get(file, it + 4, 4) == 1 and not flags and size % 32 == 0 else None
+        )
         if kind and size and offset + size <= len(file) and (kind == "row" or width == SIZES[kind]):
             yield kind, list(range(offset, offset + size, SIZES[kind])), it
 
@@ -181,7 +204,10 @@ def with_records_swapped(pick, file, _):
     if table:
         kind, places, _ = table
         a, b, size = pick.choice(places), pick.choice(places), SIZES[kind]
-        file[a : a + size], file[b : b + size] = file[b : b + size], file[a : a + size] if pick.random() < 0.6 else file[b : b + size]
+        file[a : a + size], file[b : b + size] = (
+            file[b : b + size],
+            file[a : a + size] if pick.random() < 0.6 else file[b : b + size],
+        )
     return bytes(file)
 
 
@@ -258,7 +284,14 @@ def with_overlapping_names(pick, file, _):
     return with_table(file, "symbol", header, records)
 
 
-OF_ELF = [with_field, with_field, with_field, with_records_swapped, with_sections_over_each_other, with_whole_file_as_section]
+OF_ELF = [
+    with_field,
+    with_field,
+    with_field,
+    with_records_swapped,
+    with_sections_over_each_other,
+    with_whole_file_as_section,
+]
 OF_ELF_AT_SIZE = [with_longer_table, with_overlapping_names]
 
 # --- damage to sources and maps
@@ -307,32 +340,34 @@ def with_made_lines(pick, text, _):
     count, length = many(pick, 8000), many(pick, 5000)
     every = lambda form: "\n".join(form.replace("#", str(it)) for it in range(count)) + "\n"
     name, deep = "n" * length, many(pick, 70000)
-    lines_made = pick.choice([
-        lambda: f".set x, {'(' * deep}1{')' * deep}\n",
-        lambda: f".set x, {pick.choice('-~+') * deep}1\n",
-        lambda: f".dword {'+'.join(['1'] * (deep // 2))}\n",
-        lambda: f".dword {'1,' * (deep // 2)}1\n",
-        lambda: f".ascii \"{'x' * deep}\"\n",
-        lambda: f"{name}: .globl {name}\n",
-        lambda: every(f"{name[: LARGEST // count]}#:"),
-        lambda: every(f".globl {name[: LARGEST // count]}#"),
-        lambda: every(f".set x, {name[: LARGEST // count]}"),
-        lambda: every('.section .s#,"aw"\n.byte #') if pick.random() < 0.5 else every('.section .s#,"ax"'),
-        lambda: every(".set s#, s# + 1"),
-        lambda: ".set s0, 1\n" + every(".set t#, s0 + #"),
-        lambda: ".text\n" + every("b#: beq a0, a1, b#+4"),
-        lambda: ".text\n" + every("1: beqz a0, 1f; tail 2f; 2: j 1b; 1:"),
-        lambda: ".text\n" + every("call f#; .balign 8") + every("f#: nop"),
-        lambda: ".text\n" + every("f#: beqz a0, g#; nop") + every("g#: bnez a0, f#"),
-        lambda: ".text\n1:\n" + every("j 1b"),
-        lambda: ".data\n" + every("d#: .dword d0 - d#, d#, f# - ."),
-        lambda: every(".option push") + every(".option pop"),
-        lambda: every(".zero #; .balign 4096"),
-        lambda: f".data\n.zero {some_number(pick)}\n",
-        lambda: f"/*{chr(10) * deep}*/ .frob\n",
-        lambda: ";" * deep + "\n",
-        lambda: "\n".join(f"{it}: .word {it}b" for it in range(count)) + "\n",
-    ])()
+    lines_made = pick.choice(
+        [
+            lambda: f".set x, {'(' * deep}1{')' * deep}\n",
+            lambda: f".set x, {pick.choice('-~+') * deep}1\n",
+            lambda: f".dword {'+'.join(['1'] * (deep // 2))}\n",
+            lambda: f".dword {'1,' * (deep // 2)}1\n",
+            lambda: f".ascii \"{'x' * deep}\"\n",
+            lambda: f"{name}: .globl {name}\n",
+            lambda: every(f"{name[: LARGEST // count]}#:"),
+            lambda: every(f".globl {name[: LARGEST // count]}#"),
+            lambda: every(f".set x, {name[: LARGEST // count]}"),
+            lambda: every('.section .s#,"aw"\n.byte #') if pick.random() < 0.5 else every('.section .s#,"ax"'),
+            lambda: every(".set s#, s# + 1"),
+            lambda: ".set s0, 1\n" + every(".set t#, s0 + #"),
+            lambda: ".text\n" + every("b#: beq a0, a1, b#+4"),
+            lambda: ".text\n" + every("1: beqz a0, 1f; tail 2f; 2: j 1b; 1:"),
+            lambda: ".text\n" + every("call f#; .balign 8") + every("f#: nop"),
+            lambda: ".text\n" + every("f#: beqz a0, g#; nop") + every("g#: bnez a0, f#"),
+            lambda: ".text\n1:\n" + every("j 1b"),
+            lambda: ".data\n" + every("d#: .dword d0 - d#, d#, f# - ."),
+            lambda: every(".option push") + every(".option pop"),
+            lambda: every(".zero #; .balign 4096"),
+            lambda: f".data\n.zero {some_number(pick)}\n",
+            lambda: f"/*{chr(10) * deep}*/ .frob\n",
+            lambda: ";" * deep + "\n",
+            lambda: "\n".join(f"{it}: .word {it}b" for it in range(count)) + "\n",
+        ]
+    )()
     lines = text.split(b"\n")
     at = pick.randrange(len(lines) + 1)
     return b"\n".join(lines[:at]) + b"\n" + lines_made.encode() + b"\n".join(lines[at:])
@@ -343,7 +378,9 @@ def with_large_rows(pick, text, _):
     text_of = re.search(rb"text ([0-9a-f]{1,16}) ([0-9a-f]{1,16})\n", text)
     whole = int(text_of[2], 16) - int(text_of[1], 16) if text_of else 4
     size, step = pick.choice([0, 4, 64, whole, whole, whole // 2, some_number(pick)]), pick.choice([0, 0, 2])
-    rows = (b"row 1 %d %d %x %d 1\n" % (it, it, 0x10000 + step * it, size % (1 << 64)) for it in range(many(pick, 5000)))
+    rows = (
+        b"row 1 %d %d %x %d 1\n" % (it, it, 0x10000 + step * it, size % (1 << 64)) for it in range(many(pick, 5000))
+    )
     return text + b"".join(rows)
 
 
@@ -445,8 +482,14 @@ def called(words, at, most=None):
     limits = f"ulimit -S -t {SECONDS}; " + (f"ulimit -v {most // 1024}; " if most else "")
     with open(at / "file" if words[0] == "run" else os.devnull) as given:
         try:
-            process = subprocess.run(["sh", "-c", limits + 'exec "$0" "$@"', RV, *words], cwd=at, stdin=given,
-                stdout=subprocess.DEVNULL, stderr=subprocess.PIPE, timeout=CLOCK)
+            process = subprocess.run(
+                ["sh", "-c", limits + 'exec "$0" "$@"', RV, *words],
+                cwd=at,
+                stdin=given,
+                stdout=subprocess.DEVNULL,
+                stderr=subprocess.PIPE,
+                timeout=CLOCK,
+            )
         except subprocess.TimeoutExpired:
             return -signal.SIGXCPU, "hangs"
     return process.returncode, process.stderr.decode("utf8", "backslashreplace")
@@ -457,7 +500,18 @@ PEAK = "import os, sys; it = os.posix_spawn(sys.argv[1], sys.argv[1:], os.enviro
 
 def peak(words, at):
     """The most memory that a call takes, in bytes, and whether it says that memory ran out."""
-    measure = [sys.executable, "-I", "-S", "-c", PEAK, "/bin/sh", "-c", 'ulimit -S -t 10; exec "$0" "$@" > /dev/null', RV, *words]
+    measure = [
+        sys.executable,
+        "-I",
+        "-S",
+        "-c",
+        PEAK,
+        "/bin/sh",
+        "-c",
+        'ulimit -S -t 10; exec "$0" "$@" > /dev/null',
+        RV,
+        *words,
+    ]
     with open(at / "file") as given:
         process = subprocess.run(measure, cwd=at, stdin=given, capture_output=True, text=True, errors="replace")
     return 1024 * int(process.stdout), "out of memory" in process.stderr
@@ -484,8 +538,8 @@ def read_by(words, at):
 
 
 def own_bytes(words, at):
-    """The bytes of the program that a call made or loaded, of its map, and of the objects that a build makes first, also
-    where `run` is given a source."""
+    """The bytes of the program that a call made or loaded, of its map, and of the objects that a build makes first,
+    also where `run` is given a source."""
     size = sum((at / it).stat().st_size for it in outputs(words) if (at / it).exists())
     if words[0] in ("build", "map", "run") and (at / "obj").exists():
         size += words.count("file") * (at / "obj").stat().st_size
@@ -526,7 +580,9 @@ def find_in(words, at):
 def calls(pick, kind, at):
     """The calls for a file of this kind, which is called `file`; `other` belongs to it. What one makes others read."""
     run = ["run", "--limit", str(STEPS)]
-    options = pick.choice([[], [], [], ["--no-relax"], ["--gc-sections"], ["--text-start", hex(some_number(pick) % (1 << 64) & ~0xFFF)]])
+    options = pick.choice(
+        [[], [], [], ["--no-relax"], ["--gc-sections"], ["--text-start", hex(some_number(pick) % (1 << 64) & ~0xFFF)]]
+    )
     twice = ["file"] * pick.choice([1, 1, 1, 1, 2])
     if pick.random() < 0.05:
         yield ["dump", "file"]

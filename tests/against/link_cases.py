@@ -2,9 +2,9 @@
 
 usage: compare.py link_cases    (with riscv64-unknown-elf-as and -ld 2.40)
 
-Each program is a list of sources. The case holds the object of each as a file in hexadecimal. GNU's linker then links the
-objects with a script that lays the sections out in the order of regions, without relaxation of calls; what the case wants
-is what it writes.
+Each program is a list of sources. The case holds the object of each as a file in hexadecimal. GNU's linker then links
+the objects with a script that lays the sections out in the order of regions, without relaxation of calls; what the case
+wants is what it writes.
 """
 
 import struct
@@ -32,7 +32,12 @@ SECTIONS {
 
 # the case's name, what it shows, the assembler's options, and the sources
 PROGRAMS = [
-    ("gnu_calls_and_addresses", "A call, branches and jumps, and the halves of addresses, in two files.", ["-march=rv64ima", "-mno-relax"], ["""
+    (
+        "gnu_calls_and_addresses",
+        "A call, branches and jumps, and the halves of addresses, in two files.",
+        ["-march=rv64ima", "-mno-relax"],
+        [
+            """
 .globl _start
 _start:
  call f
@@ -59,7 +64,8 @@ word: .word 1b
 .bss
  .balign 64
  .zero 5
-""", """
+""",
+            """
 .globl f
  nop
 f: la a0, here
@@ -74,8 +80,15 @@ here: .word 5f - 4f, _start
 5: j f
 .bss
  .zero 9
-"""]),
-    ("gnu_paddings", "Paddings of 6 bytes that keep 4 and 2.", ["-march=rv64imac", "-mrelax"], ["""
+""",
+        ],
+    ),
+    (
+        "gnu_paddings",
+        "Paddings of 6 bytes that keep 4 and 2.",
+        ["-march=rv64imac", "-mrelax"],
+        [
+            """
 .globl _start
 _start: c.nop
  c.nop
@@ -89,13 +102,21 @@ b: beq a0, a1, _start
 .data
  .dword a, b
  .word b - a
-"""]),
-    ("gnu_paddings_behind_a_call", "Sections of text one behind the other: paddings by where each begins, with what refers to what is behind them.",
-     ["-march=rv64imac", "-mrelax"], ["""
+"""
+        ],
+    ),
+    (
+        "gnu_paddings_behind_a_call",
+        "Sections of text one behind the other: paddings by where each begins, with what refers to what is behind "
+        "them.",
+        ["-march=rv64imac", "-mrelax"],
+        [
+            """
 .globl _start
 _start: c.nop
  call g
-""", """
+""",
+            """
 .option norelax
  c.nop
  c.j 1f
@@ -113,13 +134,21 @@ h: ret
  .byte 0
 far: .half h - g
  .byte h - g
-"""]),
-    ("gnu_gaps", "Sections of text with alignments and one of constants: zeros between them.", ["-march=rv64ima", "-mno-relax"], ["""
+""",
+        ],
+    ),
+    (
+        "gnu_gaps",
+        "Sections of text with alignments and one of constants: zeros between them.",
+        ["-march=rv64ima", "-mno-relax"],
+        [
+            """
 .globl _start
 _start: j f
 .section .rodata
  .byte 1
-""", """
+""",
+            """
  .p2align 6
 .globl f
 f: ret
@@ -132,13 +161,21 @@ f: ret
 .bss
  .balign 256
  .zero 1
-""", """
+""",
+            """
  .word 0x13
 .data
  .balign 64
  .dword f
-"""]),
-    ("gnu_names", "The linker's names, numbers for all files, and local names of two files.", ["-march=rv64ima", "-mno-relax"], ["""
+""",
+        ],
+    ),
+    (
+        "gnu_names",
+        "The linker's names, numbers for all files, and local names of two files.",
+        ["-march=rv64ima", "-mno-relax"],
+        [
+            """
 .globl _start, number
 number = 0x12345678
 _start: lui a0, %hi(number)
@@ -149,11 +186,14 @@ x: la a1, _edata
  .dword _edata, x, number+1
 .bss
  .zero 3
-""", """
+""",
+            """
 x: j x
 .data
  .word x, number
-"""]),
+""",
+        ],
+    ),
 ]
 
 
@@ -164,10 +204,10 @@ class Elf:
         self.entry, _, table = struct.unpack_from("<QQQ", raw, 24)
         size, count, names = struct.unpack_from("<HHH", raw, 58)
         heads = [struct.unpack_from("<IIQQQQIIQQ", raw, table + i * size) for i in range(count)]
-        strings = raw[heads[names][4]:][:heads[names][5]]
+        strings = raw[heads[names][4] :][: heads[names][5]]
         self.sections = []
         for name, kind, flags, address, offset, length, link, info, align, _ in heads:
-            body = b"" if kind == 8 else raw[offset:offset + length]
+            body = b"" if kind == 8 else raw[offset : offset + length]
             self.sections.append((text(strings, name), kind, flags, address, body, length, link, info, align))
 
     def symbols(self):
@@ -185,7 +225,7 @@ class Elf:
 
 
 def text(strings, at):
-    return strings[at:strings.index(b"\0", at)].decode()
+    return strings[at : strings.index(b"\0", at)].decode()
 
 
 def run(*words):
@@ -193,7 +233,7 @@ def run(*words):
 
 
 def grouped(data):
-    return " ".join(data[at:at + 4].hex() for at in range(0, len(data), 4))
+    return " ".join(data[at : at + 4].hex() for at in range(0, len(data), 4))
 
 
 def case(folder, shows, options, sources):
@@ -206,7 +246,10 @@ def case(folder, shows, options, sources):
     (folder / "script").write_text(SCRIPT)
     run("ld", "--no-relax", "-T", folder / "script", "-o", folder / "program", *objects)
     elf = Elf((folder / "program").read_bytes())
-    about = f"{shows} GNU as 2.40, {' '.join(options)}, wrote the objects of the sources below, and GNU ld 2.40 makes of them what stands here: tests/against/link_cases.py."
+    about = (
+        f"{shows} GNU as 2.40, {' '.join(options)}, wrote the objects of the sources below, and GNU ld 2.40 makes of "
+        "them what stands here: tests/against/link_cases.py."
+    )
     lines = ["# " + line for line in textwrap.wrap(about, 116)] + ["# options: --no-relax"]
     lines += [f"# {name}: {grouped(elf.region('.' + name)[1])}".rstrip() for name in ("text", "rodata", "data")]
     for name in ("rodata", "data"):
@@ -217,7 +260,7 @@ def case(folder, shows, options, sources):
         lines += ["#", f"# {letter}.s", *("#     " + line for line in source.strip("\n").split("\n"))]
     for letter, path in zip("abc", objects):
         raw = path.read_bytes()
-        lines += [f"#--- {letter}.o hex", *(raw[at:at + 48].hex() for at in range(0, len(raw), 48))]
+        lines += [f"#--- {letter}.o hex", *(raw[at : at + 48].hex() for at in range(0, len(raw), 48))]
     return lines
 
 

@@ -4,9 +4,10 @@ usage: compare.py listing [--rv RV]
 
 It writes an executable whose text has each of the 49,152 parcels that begin no word, and each word whose opcode has its
 low two bits set and is not that of a longer instruction, with every funct3 and funct7 and with registers at the edges
-of their fields, which are those of the immediates as well; and a map with a row for each of them. `rv objdump` of both is
-laid beside `objdump -M no-aliases`, whose forms are told as the manual of rv says they differ (docs/manual/differences.md):
-a parcel as the instruction that it stands for, by the ISA's chapter 16, and what is not of RV64IMAC as unknown.
+of their fields, which are those of the immediates as well; and a map with a row for each of them. `rv objdump` of both
+is laid beside `objdump -M no-aliases`, whose forms are told as the manual of rv says they differ
+(docs/manual/differences.md): a parcel as the instruction that it stands for, by the ISA's chapter 16, and what is not
+of RV64IMAC as unknown.
 
 The last line is 'differs=0' where nothing differs, and only then the status is 0.
 """
@@ -69,9 +70,9 @@ RESERVED = ("c.addi16sp", ["sp", "0"])
 SHIFTS = {"slli", "srli", "srai", "slliw", "srliw", "sraiw"}
 JUMPS = {"jal", "beq", "bne", "blt", "bge", "bltu", "bgeu"}
 OPERATIONS = set(
-    "add sub sll slt sltu xor srl sra or and addw subw sllw srlw sraw mul mulh mulhsu mulhu div divu rem remu mulw divw "
-    "divuw remw remuw addi slti sltiu xori ori andi addiw lui auipc lb lh lw ld lbu lhu lwu sb sh sw sd jalr fence fence.tso "
-    "ecall ebreak".split()
+    "add sub sll slt sltu xor srl sra or and addw subw sllw srlw sraw mul mulh mulhsu mulhu div divu rem remu mulw "
+    "divw divuw remw remuw addi slti sltiu xori ori andi addiw lui auipc lb lh lw ld lbu lhu lwu sb sh sw sd jalr "
+    "fence fence.tso ecall ebreak".split()
 )
 OPERATIONS |= SHIFTS | JUMPS
 ATOMIC = re.compile(r"(lr|sc|amo(swap|add|xor|and|or|minu?|maxu?))\.[wd](\.aq|\.rl|\.aqrl)?")
@@ -118,7 +119,9 @@ def map_text(codes):
 
 def of_rv(rv, folder):
     """What the listing shows at the address of each row."""
-    listing = subprocess.run([rv, "objdump", "--map", folder / "map", folder / "executable"], capture_output=True, check=True)
+    listing = subprocess.run(
+        [rv, "objdump", "--map", folder / "map", folder / "executable"], capture_output=True, check=True
+    )
     shown, starts = {}, False
     for line in listing.stdout.decode().splitlines():
         if not line.startswith("@") and starts:
@@ -153,7 +156,18 @@ def told(mnemonic, operands):
 def of_gnu(folder, text):
     """What GNU objdump shows at each address, as rv shows it."""
     (folder / "text").write_bytes(text)
-    words = [OBJDUMP, "-D", "-b", "binary", "-m", "riscv:rv64", "-M", "no-aliases", f"--adjust-vma={START}", folder / "text"]
+    words = [
+        OBJDUMP,
+        "-D",
+        "-b",
+        "binary",
+        "-m",
+        "riscv:rv64",
+        "-M",
+        "no-aliases",
+        f"--adjust-vma={START}",
+        folder / "text",
+    ]
     shown = {}
     with subprocess.Popen(words, stdout=subprocess.PIPE, text=True) as tool:
         for line in tool.stdout:
@@ -186,5 +200,8 @@ def main():
                 print(f"{address:x} {code[::-1].hex()}: rv {one}, GNU {other}")
         count["unknown" if one == "unknown" else "the same"] += one == other
         address += len(code)
-    print(f"{len(codes)} instructions: {count['the same']} the same, {count['unknown']} unknown to both, differs={differs}")
+    print(
+        f"{len(codes)} instructions: {count['the same']} the same, {count['unknown']} unknown to both, "
+        f"differs={differs}"
+    )
     return min(differs, 1)

@@ -3,13 +3,14 @@
 usage: compare.py object_files [--first SEED] [--count N] [--jobs N] [--limit N] [--keep FOLDER] [--rv RV]
 
 It takes examples/*.s and, unless told otherwise, 200 programs that csmith draws from seed 1 on, each in five ways, as
-programs.py beside it does. What GNU as and ld make of a program
-and qemu-riscv64 runs says which console and which status are wanted. Of the objects of rv it asks that
+programs.py beside it does. What GNU as and ld make of a program and qemu-riscv64 runs says which console and which
+status are wanted. Of the objects of rv it asks that
 
   readable   readelf -a and objdump -dr read them without a warning
   by GNU     GNU ld links them without a warning, and qemu-riscv64 ends as wanted
   by rv      rv ld makes of them the executable and the map that rv build makes of the sources, and rv ends as wanted
-  mixed      where a program has two sources, rv ld links the object of one and GNU's of the other, and rv ends as wanted
+  mixed      where a program has two sources, rv ld links the object of one and GNU's of the other, and rv ends as
+             wanted
 
 and of those of GNU as that rv ld links them and rv ends as wanted. A program's objects end as one of:
 
@@ -30,8 +31,23 @@ from concurrent.futures import ThreadPoolExecutor
 from pathlib import Path
 
 from against.common import (
-    GNU, QEMU, ROOT, assemblies, completed, csmith_options, draw, gnu_link, is_limit, is_past_end, keep, need, outcome,
-    run_by_qemu, run_by_rv, summary)
+    GNU,
+    QEMU,
+    ROOT,
+    assemblies,
+    completed,
+    csmith_options,
+    draw,
+    gnu_link,
+    is_limit,
+    is_past_end,
+    keep,
+    need,
+    outcome,
+    run_by_qemu,
+    run_by_rv,
+    summary,
+)
 from against.common import refusal as refusal_of_build
 from against.programs import WAYS
 

@@ -26,8 +26,24 @@ from concurrent.futures import ThreadPoolExecutor
 from pathlib import Path
 
 from against.common import (
-    GNU, LEFT_OUT, QEMU, assemblies, completed, csmith_options, draw, gnu_link, is_limit, is_past_end, keep, need,
-    outcome, refusal, run_by_qemu, run_by_rv, summary)
+    GNU,
+    LEFT_OUT,
+    QEMU,
+    assemblies,
+    completed,
+    csmith_options,
+    draw,
+    gnu_link,
+    is_limit,
+    is_past_end,
+    keep,
+    need,
+    outcome,
+    refusal,
+    run_by_qemu,
+    run_by_rv,
+    summary,
+)
 
 # GCC writes variables that begin as zero with .comm at -O0, which rv refuses, but not in sections of their own.
 WAYS = ["-O0", "-O0 -fdata-sections", "-O1", "-O2", "-Os"]

@@ -3,10 +3,10 @@
 usage: compare.py raw [WORDS [SEEDS]]      (20,000 words and 70 seeds by default; 1,000,000 words take some minutes)
 
 Every parcel, and WORDS random words of the profile, in texts of 64 KiB at most. Their lines are compared with those of
-GNU's objdump without aliases (Debian's binutils-riscv64-unknown-elf), which decides which parcels there are. Each parcel
-that no source says, HINTs among them, is refused alone. Then come the executables of all cases of one source in tests/,
-and of C programs that csmith draws, by GCC at four levels, linked by GNU ld and by rv: those without a raw listing are
-counted by their reason. The last line is 'N passed, M failed'.
+GNU's objdump without aliases (Debian's binutils-riscv64-unknown-elf), which decides which parcels there are. Each
+parcel that no source says, HINTs among them, is refused alone. Then come the executables of all cases of one source in
+tests/, and of C programs that csmith draws, by GCC at four levels, linked by GNU ld and by rv: those without a raw
+listing are counted by their reason. The last line is 'N passed, M failed'.
 """
 
 import collections
@@ -120,7 +120,8 @@ FLOATS = set("c.fld c.fsd c.fldsp c.fsdsp".split())
 
 
 def is_hint(name, operands):
-    """A parcel that has no effect by its operands (Unprivileged ISA, 16.7), or is reserved though GNU shows it (16.8)."""
+    """A parcel that has no effect by its operands (Unprivileged ISA, 16.7), or is reserved though GNU shows it
+    (16.8)."""
     parts = operands.split(",")
     if name == "c.addi16sp":
         return parts[-1] == "0"
@@ -176,7 +177,14 @@ def shapes():
     for funct3, upper in ((1, 0), (5, 0), (5, 0x10)):
         yield (0x13, 7), free, (funct3, 3), free, (None, 6), (upper, 6)
         yield (0x1B, 7), free, (funct3, 3), free, (None, 5), (upper << 1, 7)
-    for funct7, opcode, numbers in ((0, 0x33, range(8)), (0x20, 0x33, (0, 5)), (1, 0x33, range(8)), (0, 0x3B, (0, 1, 5)), (0x20, 0x3B, (0, 5)), (1, 0x3B, (0, 4, 5, 6, 7))):
+    for funct7, opcode, numbers in (
+        (0, 0x33, range(8)),
+        (0x20, 0x33, (0, 5)),
+        (1, 0x33, range(8)),
+        (0, 0x3B, (0, 1, 5)),
+        (0x20, 0x3B, (0, 5)),
+        (1, 0x3B, (0, 4, 5, 6, 7)),
+    ):
         for funct3 in numbers:
             yield (opcode, 7), free, (funct3, 3), free, free, (funct7, 7)
     for width in (2, 3):
@@ -289,7 +297,9 @@ def main():
             for found in pool.map(what, each):
                 failed += found
                 passed += not found
-        print(f"{len(good)} parcels and {count} words printed and built again, {len(others)} parcels refused", flush=True)
+        print(
+            f"{len(good)} parcels and {count} words printed and built again, {len(others)} parcels refused", flush=True
+        )
         of_one = [case for case in cases([]) if [Path(it).suffix for it in case[1]] == [".s"]]
         of_each = {
             "cases": [functools.partial(of_case, case) for case in of_one],

@@ -3,9 +3,9 @@
 usage: compare.py relaxation [--first SEED] [--count N] [--jobs N] [--rv RV]
 
 It takes 100 programs that csmith draws from seed 1 on, each as GCC writes it in six ways, in two of them with pages of
-padding between its functions, so that calls are far. Both lay
-the text out alike: from one address, section by section in the order of the source; and no address in it is near enough
-to zero or to a global pointer for GNU ld to shorten anything but calls.
+padding between its functions, so that calls are far. Both lay the text out alike: from one address, section by
+section in the order of the source; and no address in it is near enough to zero or to a global pointer for GNU ld to
+shorten anything but calls.
 
 Each call is one of:
   same      it has as many bytes in both, and so many
@@ -57,7 +57,8 @@ def sections(file):
 
 
 def relocations(file):
-    """The kinds of the relocations of each section of code, by place where the file is an object's, else as they stand."""
+    """The kinds of the relocations of each section of code, by place where the file is an object's, else as they
+    stand."""
     headers = sections(file)
     for kind, _, offset, size, info in headers:
         if kind == 4 and headers[info][1] & 4:
@@ -136,7 +137,9 @@ def target(line):
 def reason(lines, offsets, line, size):
     """Why a call has more than so many bytes in rv."""
     start = target(lines[line - 1]) + ":"
-    found = next((offsets[at + 1] for at, text in enumerate(lines) if at + 1 in offsets and text.startswith(start)), None)
+    found = next(
+        (offsets[at + 1] for at, text in enumerate(lines) if at + 1 in offsets and text.startswith(start)), None
+    )
     if found is None:
         return "no label"
     return "longer" if -REACH[size] <= found - offsets[line] < REACH[size] else "paddings"

@@ -2,9 +2,9 @@
 
 usage: compare.py relocation_table > crates/rv_reloc_tests/src/table.rt, and then rt fmt in that crate
 
-It needs riscv64-unknown-elf-as, -ld and -objcopy. Each row is a field at an address of its own, under one `.reloc`
-with a symbol of its own, whose value the linker is told; the source is linked twice without relaxation, once with fields of zeros and once
-with fields of ones.
+It needs riscv64-unknown-elf-as, -ld and -objcopy. Each row is a field at an address of its own, under one `.reloc` with
+a symbol of its own, whose value the linker is told; the source is linked twice without relaxation, once with fields of
+zeros and once with fields of ones.
 """
 
 import subprocess
@@ -79,7 +79,7 @@ def run(folder, tool, *words):
 
 def linked(fill):
     """The bytes of all rows, patched by the linker, from fields of this byte."""
-    lines, defined = [".option norelax", ".section .fields,\"aw\",@progbits"], []
+    lines, defined = [".option norelax", '.section .fields,"aw",@progbits'], []
     for number, (_, name, width, _, symbol, addend, _) in enumerate(rows()):
         defined += ["--defsym", f"s{number}={symbol:#x}"]
         lines += [f".org {STEP * number}"]
@@ -116,7 +116,7 @@ def main():
     print("pub(crate) const ROWS: &[Row] = &[")
     for number, (kind, _, width, value, symbol, addend, place) in enumerate(rows()):
         at = STEP * number
-        fields = [int.from_bytes(image[at:at + width], "little") for image in (zeros, ones)]
+        fields = [int.from_bytes(image[at : at + width], "little") for image in (zeros, ones)]
         numbers = [f"{symbol:#x}", f"{addend}", f"{place:#x}", f"{value}"]
         row = [f"Kind::{kind}", *numbers, *(f"{field:#x}" for field in fields)]
         print(f"    ({', '.join(row)}),")

@@ -2,12 +2,13 @@
 
 usage: compare.py sections [--first SEED] [--count N] [--jobs N] [--limit N] [--keep FOLDER] [--rv RV]
 
-It takes 200 programs that csmith draws from seed 1 on, unless told otherwise. GCC writes each at four levels, each function and each variable in a section of its own, and the start
-and the printing in a source apart. Of the same objects of GNU as, `rv ld --gc-sections` and GNU ld with
-`--gc-sections -e _start` make programs; so does `rv build --gc-sections` of the sources. Each program ends as one of:
+It takes 200 programs that csmith draws from seed 1 on, unless told otherwise. GCC writes each at four levels, each
+function and each variable in a section of its own, and the start and the printing in a source apart. Of the same
+objects of GNU as, `rv ld --gc-sections` and GNU ld with `--gc-sections -e _start` make programs; so does `rv build
+--gc-sections` of the sources. Each program ends as one of:
 
-  same       rv leaves out the sections that GNU ld names, but for those without bytes, which that does not name, and all
-             three programs end as the whole one does
+  same       rv leaves out the sections that GNU ld names, but for those without bytes, which that does not name, and
+             all three programs end as the whole one does
   differs    it does not, or a run ends in another way: the files are kept in FOLDER, and a line says which sections
   refused    by rv, with the code of its fault
   too long   a run does not end in time
@@ -25,8 +26,23 @@ from concurrent.futures import ThreadPoolExecutor
 from pathlib import Path
 
 from against.common import (
-    GNU, QEMU, assemblies, completed, csmith_options, draw, gnu_link, is_limit, is_past_end, keep, need, outcome, refusal,
-    run_by_qemu, run_by_rv, summary)
+    GNU,
+    QEMU,
+    assemblies,
+    completed,
+    csmith_options,
+    draw,
+    gnu_link,
+    is_limit,
+    is_past_end,
+    keep,
+    need,
+    outcome,
+    refusal,
+    run_by_qemu,
+    run_by_rv,
+    summary,
+)
 
 LEVELS = ["-O0", "-O1", "-O2", "-Os"]
 APART = "-ffunction-sections -fdata-sections -fno-asynchronous-unwind-tables -fno-ipa-icf"
@@ -60,7 +76,9 @@ def left_out_by_gnu(folder, objects):
     if link is None or link.returncode != 0:
         return None
     message = (link.stdout + link.stderr).decode()
-    return {(Path(path).name, name) for name, path in re.findall(r"removing unused section '(.*)' in file '(.*)'", message)}
+    return {
+        (Path(path).name, name) for name, path in re.findall(r"removing unused section '(.*)' in file '(.*)'", message)
+    }
 
 
 def text_bytes(path):

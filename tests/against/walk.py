@@ -2,13 +2,12 @@
 
 usage: compare.py walk COUNT [--seed N] [--from N] [--jobs N] [--only N] [--rv PROGRAM]
 
-Each list has one to five objects: text with calls, branches, halves of addresses, words and paddings, data, sections that
-are not loaded, code without bytes up to 2^63, symbols of each binding at, before and past the ends of sections, numbers,
-rows. The walk takes what a link is from the manual and the standards alone: which calls become short (passes over all
-calls, and where they are few each family of sizes is tried), paddings, addresses, bytes, the map, or the first fault. Each
-list is linked with and without `--no-relax`, and so with `--gc-sections`; the walk's answer must be that of `rv ld`, byte
-by byte. List N of a seed is
-the same in each run; `--only N` takes it alone.
+Each list has one to five objects: text with calls, branches, halves of addresses, words and paddings, data, sections
+that are not loaded, code without bytes up to 2^63, symbols of each binding at, before and past the ends of sections,
+numbers, rows. The walk takes what a link is from the manual and the standards alone: which calls become short (passes
+over all calls, and where they are few each family of sizes is tried), paddings, addresses, bytes, the map, or the first
+fault. Each list is linked with and without `--no-relax`, and so with `--gc-sections`; the walk's answer must be that of
+`rv ld`, byte by byte. List N of a seed is the same in each run; `--only N` takes it alone.
 
 Each find is one line; its objects are kept in the folder that the last line names. Exit status 1 if there is a find.
 """
@@ -35,9 +34,14 @@ LOCAL, GLOBAL, WEAK = 0, 1, 2
 ABSOLUTE, UNDEFINED, UNLOADED = "absolute", "undefined", "unloaded"
 WHOLE, STACK, MIB = 1 << 64, 0x3FF00000, 1 << 20
 NAME = {number: name for name, number in KINDS.items()}
-WIDTH = {"32": 4, "64": 8, "BRANCH": 4, "JAL": 4, "CALL": 8, "CALL_PLT": 8, "PCREL_HI20": 4, "PCREL_LO12_I": 4,
-    "PCREL_LO12_S": 4, "HI20": 4, "LO12_I": 4, "LO12_S": 4, "RVC_BRANCH": 2, "RVC_JUMP": 2, "SUB6": 1, "SET6": 1, "SET8": 1,
-    "SET16": 2, "SET32": 4, "32_PCREL": 4, **{it + size: int(size) // 8 for it in ("ADD", "SUB") for size in "8 16 32 64".split()}}
+# fmt: off
+WIDTH = {
+    "32": 4, "64": 8, "BRANCH": 4, "JAL": 4, "CALL": 8, "CALL_PLT": 8, "PCREL_HI20": 4, "PCREL_LO12_I": 4,
+    "PCREL_LO12_S": 4, "HI20": 4, "LO12_I": 4, "LO12_S": 4, "RVC_BRANCH": 2, "RVC_JUMP": 2, "SUB6": 1, "SET6": 1,
+    "SET8": 1, "SET16": 2, "SET32": 4, "32_PCREL": 4,
+    **{it + size: int(size) // 8 for it in ("ADD", "SUB") for size in "8 16 32 64".split()},
+}
+# fmt: on
 LINKER = ["_etext", "__bss_start", "_edata", "_end", "__global_pointer$"]
 CALLS = ("CALL", "CALL_PLT")
 
@@ -79,21 +83,31 @@ def file_of(it):
 
     def add(name, kind, flags, body, size, align, link=0, info=0, record=0):
         held.extend(bytes(-len(held) % 8))
-        headers.append(struct.pack("<IIQQQQIIQQ", len(names), kind, flags, 0, len(held), size, link, info, align, record))
+        headers.append(
+            struct.pack("<IIQQQQIIQQ", len(names), kind, flags, 0, len(held), size, link, info, align, record)
+        )
         names.extend(name.encode() + b"\0")
         held.extend(body)
 
-    tables = [(number, section.relocs[part]) for part in (slice(it.split), slice(it.split, None))
-        for number, section in enumerate(it.sections, 1) if section.relocs[part]]
+    tables = [
+        (number, section.relocs[part])
+        for part in (slice(it.split), slice(it.split, None))
+        for number, section in enumerate(it.sections, 1)
+        if section.relocs[part]
+    ]
     table = 1 + len(it.sections) + len(tables) + bool(it.rows)
     for number, section in enumerate(it.sections, 1):
         add(f"s{number}", section.kind, section.flags, section.body or b"", section.size, section.align)
     for number, relocs in tables:
-        body = b"".join(struct.pack("<QIIQ", place, KINDS[kind], symbol, addend % WHOLE) for place, kind, symbol, addend in relocs)
+        body = b"".join(
+            struct.pack("<QIIQ", place, KINDS[kind], symbol, addend % WHOLE) for place, kind, symbol, addend in relocs
+        )
         add(f".relas{number}", 4, 0, body, len(body), 8, table, number, 24)
     if it.rows:
-        body = b"".join(struct.pack("<IIIIQII", line, ordinal, section, count, place, size, 0)
-            for line, ordinal, section, count, place, size in it.rows)
+        body = b"".join(
+            struct.pack("<IIIIQII", line, ordinal, section, count, place, size, 0)
+            for line, ordinal, section, count, place, size in it.rows
+        )
         add(".rv.rows", PROGBITS, 0, body, len(body), 1)
     homes = {ABSOLUTE: 0xFFF1, UNDEFINED: 0, UNLOADED: table}
     strings, body = bytearray(1), bytearray(24)
@@ -107,8 +121,11 @@ def file_of(it):
     add(".strtab", 3, 0, strings, len(strings), 1)
     add(".shstrtab", 3, 0, names + b".shstrtab\0", len(names) + 10, 1)
     held.extend(bytes(-len(held) % 8))
-    held[:64] = b"\x7fELF\2\1\1" + bytes(9) + struct.pack("<HHIQQQIHHHHHH", 1, 243, 1, 0, 0, len(held), it.rvc, 64, 0, 0, 64,
-        len(headers), table + 2)
+    held[:64] = (
+        b"\x7fELF\2\1\1"
+        + bytes(9)
+        + struct.pack("<HHIQQQIHHHHHH", 1, 243, 1, 0, 0, len(held), it.rvc, 64, 0, 0, 64, len(headers), table + 2)
+    )
     return bytes(held) + b"".join(headers)
 
 
@@ -141,18 +158,26 @@ CB, CJ = [(12, [8, 4, 3]), (6, [7, 6, 2, 1, 5])], [(12, [11, 4, 9, 8, 10, 6, 7, 
 
 
 def set_field(body, at, size, layout, number):
-    word = int.from_bytes(body[at:at + size], "little")
+    word = int.from_bytes(body[at : at + size], "little")
     for top, listed in layout:
         for down, bit in enumerate(listed):
             word = word & ~(1 << top - down) | (number >> bit & 1) << top - down
-    body[at:at + size] = word.to_bytes(size, "little")
+    body[at : at + size] = word.to_bytes(size, "little")
 
 
 def region_of(section):
     """Where a section goes, or nothing for one that is not loaded."""
     if not section.flags & ALLOC:
         return None
-    return "text" if section.flags & EXEC else "bss" if section.kind == NOBITS else "data" if section.flags & WRITE else "rodata"
+    return (
+        "text"
+        if section.flags & EXEC
+        else "bss"
+        if section.kind == NOBITS
+        else "data"
+        if section.flags & WRITE
+        else "rodata"
+    )
 
 
 def alignment_of(addend):
@@ -169,7 +194,9 @@ class Link:
 
     def take(self, objects):
         self.objects = objects
-        self.loaded = [(f, s) for f, it in enumerate(objects) for s in range(1, len(it.sections) + 1) if self.region(f, s)]
+        self.loaded = [
+            (f, s) for f, it in enumerate(objects) for s in range(1, len(it.sections) + 1) if self.region(f, s)
+        ]
         self.text = [at for at in self.loaded if self.region(*at) == "text"]
 
     def section(self, f, s):
@@ -247,8 +274,16 @@ class Link:
                     kept.append(place[0])
         self.drops = [at for at in self.loaded if at not in kept]
         off = lambda f, s, it: replace(it, flags=it.flags & ~ALLOC, relocs=[]) if (f, s) in self.drops else it
-        self.take([replace(object, sections=[off(f, s, it) for s, it in enumerate(object.sections, 1)],
-            rows=[row for row in object.rows if (f, row[2]) not in self.drops]) for f, object in enumerate(self.objects)])
+        self.take(
+            [
+                replace(
+                    object,
+                    sections=[off(f, s, it) for s, it in enumerate(object.sections, 1)],
+                    rows=[row for row in object.rows if (f, row[2]) not in self.drops],
+                )
+                for f, object in enumerate(self.objects)
+            ]
+        )
 
     # which calls become short
 
@@ -265,8 +300,10 @@ class Link:
             return False
         if any(each.home == at[1] and place < each.value < place + 8 for each in self.objects[at[0]].symbols):
             return False
-        if any(n != index and other in WIDTH and there < place + 8 and place < there + WIDTH[other]
-                for n, (there, other, _, _) in enumerate(it.relocs)):
+        if any(
+            n != index and other in WIDTH and there < place + 8 and place < there + WIDTH[other]
+            for n, (there, other, _, _) in enumerate(it.relocs)
+        ):
             return False
         return any(there == place and other == "RELAX" for there, other, _, _ in it.relocs)
 
@@ -285,7 +322,9 @@ class Link:
         for each in self.text:
             starts[each] = end + self.align(each) - 2
             end = starts[each] + self.section(*each).size - self.cut(each, sizes, self.section(*each).size)
-        distance = starts[there] + value - self.cut(there, sizes, value) - (starts[at] + place - self.cut(at, sizes, place))
+        distance = (
+            starts[there] + value - self.cut(there, sizes, value) - (starts[at] + place - self.cut(at, sizes, place))
+        )
         least, most = {2: (-2048, 2046), 4: (-MIB, MIB - 2)}[form]
         return all(least <= it <= most and it % 2 == 0 for it in (constant, distance + constant))
 
@@ -312,12 +351,19 @@ class Link:
         sizes, before = dict.fromkeys(calls, 8), None
         while sizes != before:
             before = sizes
-            sizes = {it: next((form for form in self.forms(it) if form < size and self.reaches(it, form, before)), size)
-                for it, size in before.items()}
+            sizes = {
+                it: next((form for form in self.forms(it) if form < size and self.reaches(it, form, before)), size)
+                for it, size in before.items()
+            }
         if len(calls) <= 3:
             families = [dict(zip(calls, it)) for it in itertools.product(*([8, *self.forms(it)] for it in calls))]
-            closed = [it for it in families if not any(self.reaches(call, form, it)
-                for call in calls for form in self.forms(call) if form < it[call])]
+            closed = [
+                it
+                for it in families
+                if not any(
+                    self.reaches(call, form, it) for call in calls for form in self.forms(call) if form < it[call]
+                )
+            ]
             greatest = {call: max(it[call] for it in closed) for call in calls}
             assert greatest in closed and greatest == sizes, "passes find another family"
         return sizes
@@ -325,7 +371,8 @@ class Link:
     # where all stands
 
     def place(self):
-        """The address of each section, its cuts (first and last offset), its paddings, and the bounds of the regions."""
+        """The address of each section, its cuts (first and last offset), its paddings, and the bounds of the
+        regions."""
         self.address, self.cuts, self.pads, self.gaps, self.bounds = {}, {at: [] for at in self.loaded}, {}, [], {}
         end = self.start
         for at in self.text:
@@ -333,7 +380,9 @@ class Link:
             if begin > end:
                 self.gaps.append((end, begin))
             self.address[at] = begin
-            steps = [(self.section(*at).relocs[n][0], n, size) for (where, n), size in self.sizes.items() if where == at]
+            steps = [
+                (self.section(*at).relocs[n][0], n, size) for (where, n), size in self.sizes.items() if where == at
+            ]
             steps += [(place, n, None) for n, (place, kind, _, _) in enumerate(it.relocs) if kind == "ALIGN"]
             for place, n, size in sorted(steps, key=lambda it: it[:2]):
                 if size is not None:
@@ -361,7 +410,14 @@ class Link:
     def memory(self):
         """The bytes of all segments; bss belongs to the segment of data."""
         bounds = self.bounds
-        return bounds["text"][1] - self.start + bounds["rodata"][1] - bounds["rodata"][0] + bounds["bss"][1] - bounds["data"][0]
+        return (
+            bounds["text"][1]
+            - self.start
+            + bounds["rodata"][1]
+            - bounds["rodata"][0]
+            + bounds["bss"][1]
+            - bounds["data"][0]
+        )
 
     def at(self, section, offset):
         """The address of an offset of a section."""
@@ -377,8 +433,13 @@ class Link:
 
     def linker(self, name):
         """The address of one of the linker's names."""
-        return {"_etext": self.bounds["text"][1], "__bss_start": self.bounds["bss"][0], "_edata": self.bounds["data"][1],
-            "_end": self.bounds["bss"][1], "__global_pointer$": self.bounds["data"][0] + 0x800}[name]
+        return {
+            "_etext": self.bounds["text"][1],
+            "__bss_start": self.bounds["bss"][0],
+            "_edata": self.bounds["data"][1],
+            "_end": self.bounds["bss"][1],
+            "__global_pointer$": self.bounds["data"][0] + 0x800,
+        }[name]
 
     def filled(self):
         image = {it: bytearray(last - first) for it, (first, last) in self.bounds.items() if it != "bss"}
@@ -387,7 +448,7 @@ class Link:
             if region != "bss":
                 first = self.address[at] - self.bounds[region][0]
                 body = self.kept(at)
-                image[region][first:first + len(body)] = body
+                image[region][first : first + len(body)] = body
         for at in self.loaded:
             region = self.region(*at)
             for n, (place, kind, symbol, addend) in enumerate(self.section(*at).relocs):
@@ -402,7 +463,7 @@ class Link:
         for n, least in self.pads.items():
             if n[0] == at:
                 place = it.relocs[n[1]][0]
-                body[place:place + least] = b"\x13\0\0\0" * (least // 4) + b"\x01\0" * (least % 4 // 2)
+                body[place : place + least] = b"\x13\0\0\0" * (least // 4) + b"\x01\0" * (least % 4 // 2)
         for first, last in reversed(gone):
             del body[first:last]
         return body
@@ -430,7 +491,7 @@ class Link:
         elif kind in CALLS and (at, n) in self.sizes and self.sizes[at, n] < 8:
             width = self.sizes[at, n]
             rd = struct.unpack_from("<I", self.section(*at).body, place + 4)[0] & 0xF80
-            body[where:where + width] = (0x6F | rd).to_bytes(4, "little") if width == 4 else b"\x01\xa0"
+            body[where : where + width] = (0x6F | rd).to_bytes(4, "little") if width == 4 else b"\x01\xa0"
             jump(*((J, MIB) if width == 4 else (CJ, 2048)))
         elif kind in CALLS:
             within(hi(away), -1 << 19, (1 << 19) - 1)
@@ -451,10 +512,18 @@ class Link:
                 within(value, -1 << 31, (1 << 32) - 1)
             if kind == "32_PCREL":
                 within(away, -1 << 31, (1 << 31) - 1)
-            old = int.from_bytes(body[where:where + width], "little")
-            new = old + value if kind[:3] == "ADD" else old - value if kind[:3] == "SUB" else away if "PC" in kind else value
+            old = int.from_bytes(body[where : where + width], "little")
+            new = (
+                old + value
+                if kind[:3] == "ADD"
+                else old - value
+                if kind[:3] == "SUB"
+                else away
+                if "PC" in kind
+                else value
+            )
             new = old & 0xC0 | new & 0x3F if kind in ("SUB6", "SET6") else new
-            body[where:where + width] = (new % (1 << 8 * width)).to_bytes(width, "little")
+            body[where : where + width] = (new % (1 << 8 * width)).to_bytes(width, "little")
 
     def high(self, at, symbol, addend):
         """The value of the PCREL_HI20 at the place of a symbol."""
@@ -473,14 +542,19 @@ class Link:
             first, last = bounds[region]
             if last > first:
                 offset = 4096 + first - self.start
-                heads.append(struct.pack("<IIQQQQQQ", 1, right, offset, first, first, len(image[region]), last - first, 4096))
+                heads.append(
+                    struct.pack("<IIQQQQQQ", 1, right, offset, first, first, len(image[region]), last - first, 4096)
+                )
                 if image[region]:
                     file.extend(bytes(max(offset - len(file), 0)))
                     file[offset:] = image[region]
         flags = any(it.rvc for it in self.objects)
-        file[:64] = b"\x7fELF\2\1\1" + bytes(9) + struct.pack("<HHIQQQIHHHHHH", 2, 243, 1, self.entry(), 64, 0, flags, 64, 56,
-            len(heads), 0, 0, 0)
-        file[64:64 + 56 * len(heads)] = b"".join(heads)
+        file[:64] = (
+            b"\x7fELF\2\1\1"
+            + bytes(9)
+            + struct.pack("<HHIQQQIHHHHHH", 2, 243, 1, self.entry(), 64, 0, flags, 64, 56, len(heads), 0, 0, 0)
+        )
+        file[64 : 64 + 56 * len(heads)] = b"".join(heads)
         return bytes(file)
 
     def entry(self):
@@ -510,25 +584,45 @@ class Link:
         """The instructions that a row loses: one for each short call in it, and those of paddings."""
         calls = [self.section(*at).relocs[n][0] for (where, n), size in self.sizes.items() if where == at and size < 8]
         pads = [(self.section(*at).relocs[n], least) for (where, n), least in self.pads.items() if where == at]
-        return sum(first <= it and it + 8 <= last for it in calls) + sum((it[3] + 2) // 4 - (least + 2) // 4
-            for it, least in pads if first <= it[0] and it[0] + it[3] <= last)
+        return sum(first <= it and it + 8 <= last for it in calls) + sum(
+            (it[3] + 2) // 4 - (least + 2) // 4 for it, least in pads if first <= it[0] and it[0] + it[3] <= last
+        )
 
 
 # --- random lists
 
-ADDENDS = [0] * 30 + [2, -2, 4, 8, -8, 1, -1, 2046, -2048, 4094, MIB - 2, -MIB, 1 << 31, -1 << 31, 1 << 62, WHOLE // 2 - 1,
-    -WHOLE // 2]
+# fmt: off
+ADDENDS = [0] * 30 + [
+    2, -2, 4, 8, -8, 1, -1, 2046, -2048, 4094, MIB - 2, -MIB, 1 << 31, -1 << 31, 1 << 62, WHOLE // 2 - 1, -WHOLE // 2,
+]
+# fmt: on
 PADDINGS = [0, 2, 2, 6, 6, 14, 14, 30, 62, 1022, 4094]
 FAR = [0, 1, 2, 4, 8, 2046, 4096, MIB, 1 << 31, 1 << 32, 1 << 61, 1 << 63]
-NUMBERS = [0, 1, 7, 2047, 2048, 0x10000, 0x11002, (1 << 31) - 2049, (1 << 31) - 2048, (1 << 31) - 1, 1 << 31, (1 << 32) - 1,
-    1 << 32, 1 << 63, WHOLE - 1, WHOLE - 2048, WHOLE - (1 << 31) - 2049, WHOLE - (1 << 31) - 2048, WHOLE - (1 << 31) - 1, WHOLE - (1 << 31)]
+# fmt: off
+NUMBERS = [
+    0, 1, 7, 2047, 2048, 0x10000, 0x11002, (1 << 31) - 2049, (1 << 31) - 2048, (1 << 31) - 1, 1 << 31, (1 << 32) - 1,
+    1 << 32, 1 << 63, WHOLE - 1, WHOLE - 2048, WHOLE - (1 << 31) - 2049, WHOLE - (1 << 31) - 2048,
+    WHOLE - (1 << 31) - 1, WHOLE - (1 << 31),
+]
+# fmt: on
 REACH = {"BRANCH": 4094, "JAL": MIB - 2, "RVC_BRANCH": 254, "RVC_JUMP": 2046}
-WORDS = {"BRANCH": 0x63, "JAL": 0x6F, "RVC_BRANCH": 0xC001, "RVC_JUMP": 0xA001, "PCREL_HI20": 0x17, "HI20": 0x37, "LO12_I": 0x13,
-    "LO12_S": 0x23}
+# fmt: off
+WORDS = {
+    "BRANCH": 0x63, "JAL": 0x6F, "RVC_BRANCH": 0xC001, "RVC_JUMP": 0xA001, "PCREL_HI20": 0x17, "HI20": 0x37,
+    "LO12_I": 0x13, "LO12_S": 0x23,
+}
+# fmt: on
 PAIRS = ["ADD8", "ADD16", "ADD32", "ADD64", "SUB8", "SUB16", "SUB32", "SUB64", "SUB6", "SET6", "SET8", "SET16", "SET32"]
-STEPS = {"call": 30, "padding": 14, "filler": 14, "near": 14, "half": 8, "pair": 6, "word": 8, "field": 6, "odd": 3, "limit": 4,
-    "nothing": 4}
-SIZES_HUGE = [1 << 61, 1 << 61, (1 << 61) + 2, (1 << 61) - 2, 1 << 62, (1 << 62) - 2, 1 << 63, (1 << 63) + 6, WHOLE - 2, 300 * MIB]
+# fmt: off
+STEPS = {
+    "call": 30, "padding": 14, "filler": 14, "near": 14, "half": 8, "pair": 6, "word": 8, "field": 6, "odd": 3,
+    "limit": 4, "nothing": 4,
+}
+SIZES_HUGE = [
+    1 << 61, 1 << 61, (1 << 61) + 2, (1 << 61) - 2, 1 << 62, (1 << 62) - 2, 1 << 63, (1 << 63) + 6, WHOLE - 2,
+    300 * MIB,
+]
+# fmt: on
 WANT = -1
 
 
@@ -547,17 +641,23 @@ def filled_section(pick, it, steps, huge):
             body += (words ^ (1 << pick.randrange(64) if pick.random() < 0.06 else 0)).to_bytes(8, "little")
             it.relocs.append((at, pick.choice(CALLS), WANT, 0))
             if pick.random() < 0.88:
-                it.relocs.insert(len(it.relocs) - pick.choice([0, 0, 0, 1]), (at, "RELAX", pick.choice([0] * 9 + [WANT]), 0))
+                it.relocs.insert(
+                    len(it.relocs) - pick.choice([0, 0, 0, 1]), (at, "RELAX", pick.choice([0] * 9 + [WANT]), 0)
+                )
             if pick.random() < 0.1:
                 it.edges.append(at + pick.randrange(1, 8))
             if pick.random() < 0.03:
-                it.relocs.append((at + pick.choice([0, 0, 4, 6]), pick.choice(["SET8", "ADD16", "NONE", "RELAX"]), WANT, 0))
+                it.relocs.append(
+                    (at + pick.choice([0, 0, 4, 6]), pick.choice(["SET8", "ADD16", "NONE", "RELAX"]), WANT, 0)
+                )
         elif step == "padding" and at % 2 == 0:
             addend = pick.choice(PADDINGS) if pick.random() < (0.5 if huge else 0.96) else 2 * pick.randrange(40)
             body += pick.choice([bytes(addend), pick.randbytes(addend)])
             it.relocs.append((at, "ALIGN", pick.choice([0] * 9 + [WANT]), addend))
         elif step == "limit" and code:
-            link, count = pick.choice([0, 0, 0, 1]), pick.choice([2046, 2046, 2046, MIB - 2]) + 2 * pick.randrange(-6, 8)
+            link, count = pick.choice([0, 0, 0, 1]), pick.choice([2046, 2046, 2046, MIB - 2]) + 2 * pick.randrange(
+                -6, 8
+            )
             call = (0x317 | (0x30067 | link << 7) << 32).to_bytes(8, "little")
             behind = pick.random() < 0.5
             body += bytes(count) + call if behind else call + bytes(count)
@@ -579,7 +679,9 @@ def filled_section(pick, it, steps, huge):
                 body += pick.getrandbits(32).to_bytes(4, "little")
                 before = it.edges[max(-2, -len(it.edges))]
                 is_padding = any(place == before and other == "ALIGN" for place, other, _, _ in it.relocs)
-                label = pick.choice([(before,)] if is_padding and pick.random() < 0.5 else [(at,)] * 30 + [(before,), WANT])
+                label = pick.choice(
+                    [(before,)] if is_padding and pick.random() < 0.5 else [(at,)] * 30 + [(before,), WANT]
+                )
                 low = (at + 4, pick.choice(["PCREL_LO12_I", "PCREL_LO12_S"]), label, pick.choice([0] * 40 + [4]))
                 it.relocs.insert(len(it.relocs) - pick.choice([0, 0, 1]), low)
         elif step == "pair":
@@ -604,11 +706,21 @@ def filled_section(pick, it, steps, huge):
 
 def some_section(pick, first, huge):
     """A section: of text where it is the first."""
-    name = "text" if first else pick.choices(["text", "rodata", "data", "bss", "note", "unloaded", "skipped", "ghost", "hole"],
-        [40, 12, 16, 10, 3, 6, 3, 2, 30 if huge else 5])[0]
+    name = (
+        "text"
+        if first
+        else pick.choices(
+            ["text", "rodata", "data", "bss", "note", "unloaded", "skipped", "ghost", "hole"],
+            [40, 12, 16, 10, 3, 6, 3, 2, 30 if huge else 5],
+        )[0]
+    )
     kind = {"bss": NOBITS, "hole": NOBITS, "ghost": NOBITS, "note": NOTE, "skipped": 0x70000003}.get(name, PROGBITS)
-    flags = {"text": 6, "rodata": 2, "data": 3, "bss": 3, "note": 2, "hole": 6}.get(name, 0) | pick.choice([0, 0, 0, 0, 1])
-    it = Section(kind, flags, pick.choice([0, 1, 1, 2, 2, 4, 8, 16, 64, 4096]), 0, None if kind == NOBITS else bytearray())
+    flags = {"text": 6, "rodata": 2, "data": 3, "bss": 3, "note": 2, "hole": 6}.get(name, 0) | pick.choice(
+        [0, 0, 0, 0, 1]
+    )
+    it = Section(
+        kind, flags, pick.choice([0, 1, 1, 2, 2, 4, 8, 16, 64, 4096]), 0, None if kind == NOBITS else bytearray()
+    )
     if kind != NOBITS:
         steps = [*STEPS] if flags & EXEC else ["filler", "pair", "word", "half", "field", "odd", "nothing"]
         weights = [STEPS[step] for step in steps]
@@ -616,12 +728,16 @@ def some_section(pick, first, huge):
         return it
     it.size = pick.choice([0, 2, 10, 4096, 2 * pick.randrange(2000), MIB - 2 * pick.randrange(80)])
     if name == "ghost" or name == "bss" and pick.random() < 0.15:
-        it.size = pick.choice([1, 255 * MIB, 256 * MIB - 4096 * pick.randrange(4), 256 * MIB, 1 << 32, 1 << 63, WHOLE - 1])
+        it.size = pick.choice(
+            [1, 255 * MIB, 256 * MIB - 4096 * pick.randrange(4), 256 * MIB, 1 << 32, 1 << 63, WHOLE - 1]
+        )
     if name == "hole" and huge:
         it.size = pick.choice(SIZES_HUGE)
     it.edges = [0, it.size // 4 * 2, it.size]
     if name == "hole" and it.size > 60 and pick.random() < 0.3:
-        it.relocs = [(at, "ALIGN", 0, pick.choice([2, 4, 6, 14])) for at in (0, 16, it.size - 14) if pick.random() < 0.7]
+        it.relocs = [
+            (at, "ALIGN", 0, pick.choice([2, 4, 6, 14])) for at in (0, 16, it.size - 14) if pick.random() < 0.7
+        ]
     return it
 
 
@@ -637,7 +753,9 @@ def some_object(pick, number, huge):
             value = min(sections[s - 1].size + pick.choice(FAR), WHOLE - 1)
         home = pick.choice([s] * 24 + [ABSOLUTE] * 4 + [UNLOADED])
         binding = pick.choice([LOCAL, GLOBAL, GLOBAL, WEAK])
-        name = pick.choice({LOCAL: ["", f".L{n}", "u1"], GLOBAL: [f"g{number}_{n}"], WEAK: ["u0", "u1", "u2", "v0", "v1"]}[binding])
+        name = pick.choice(
+            {LOCAL: ["", f".L{n}", "u1"], GLOBAL: [f"g{number}_{n}"], WEAK: ["u0", "u1", "u2", "v0", "v1"]}[binding]
+        )
         if binding == GLOBAL and pick.random() < 0.03 or binding == WEAK and pick.random() < 0.1:
             name = pick.choice(["g0_0", "u0", "v1", *LINKER, "_start"])
         if home != s:
@@ -651,8 +769,11 @@ def some_object(pick, number, huge):
 def named(pick, it, symbol):
     """The number of a symbol of an object, which is put there where it is not."""
     for n, other in enumerate(it.symbols, 1):
-        if (symbol.home == UNDEFINED and other.name == symbol.name) or (symbol.home != UNDEFINED
-                and (other.home, other.value) == (symbol.home, symbol.value) and pick.random() < 0.7):
+        if (symbol.home == UNDEFINED and other.name == symbol.name) or (
+            symbol.home != UNDEFINED
+            and (other.home, other.value) == (symbol.home, symbol.value)
+            and pick.random() < 0.7
+        ):
             return n
     it.symbols.append(symbol)
     return len(it.symbols)
@@ -672,10 +793,16 @@ def target(pick, objects, it, s, place, kind):
         if section.flags & ALLOC:
             edges = section.edges + [min(section.size + pick.choice(FAR[:8]), WHOLE - 1)] * (draw < 0.03)
             edges = [edge for edge in edges if (edge - place) % 2 == 0 or kind not in CALLS or draw < 0.02] or edges
-            limits = [edge for edge in edges if there == s and any(abs(abs(edge - place) - far) < 48 for far in (2046, MIB))]
+            limits = [
+                edge for edge in edges if there == s and any(abs(abs(edge - place) - far) < 48 for far in (2046, MIB))
+            ]
             edge = pick.choice(limits or edges)
             back = place - edge + 2 * pick.randrange(-20, 20)
-            addend = pick.choice([back, pick.choice(ADDENDS)]) if kind in CALLS and draw < 0.08 and abs(back) < 1 << 31 else None
+            addend = (
+                pick.choice([back, pick.choice(ADDENDS)])
+                if kind in CALLS and draw < 0.08 and abs(back) < 1 << 31
+                else None
+            )
             return named(pick, it, Symbol("", LOCAL, there, edge)), addend
     if draw < 0.55:
         shared = [other for object in objects for other in object.symbols if other.binding != LOCAL]
@@ -687,8 +814,11 @@ def target(pick, objects, it, s, place, kind):
     if draw < 0.603:
         name, binding = pick.choice([("no1", GLOBAL), ("no3", LOCAL), ("", LOCAL)])
         return named(pick, it, Symbol(name, binding, UNDEFINED, 0)), None
-    own = [n for n, other in enumerate(it.symbols, 1) if other.home == ABSOLUTE
-        or isinstance(other.home, int) and it.sections[other.home - 1].flags & ALLOC]
+    own = [
+        n
+        for n, other in enumerate(it.symbols, 1)
+        if other.home == ABSOLUTE or isinstance(other.home, int) and it.sections[other.home - 1].flags & ALLOC
+    ]
     return pick.choice(own + [0] if own and pick.random() < 0.995 else range(len(it.symbols) + 1)), None
 
 
@@ -716,7 +846,9 @@ def some_list(pick):
             edges = sorted(it for it in section.edges if it <= section.size)
             if section.flags & ALLOC and pick.random() < 0.3 and section.size < 1 << 31:
                 spans = zip(edges, edges[1:])
-                it.rows += [(pick.randrange(1, 99), 0, s, pick.randrange(9), place, end - place) for place, end in spans]
+                it.rows += [
+                    (pick.randrange(1, 99), 0, s, pick.randrange(9), place, end - place) for place, end in spans
+                ]
         ordinals = pick.sample(range(1, 2 + 2 * len(it.rows)), len(it.rows))
         it.rows = [(line, ordinal, *rest) for ordinal, (line, _, *rest) in zip(ordinals, it.rows)]
     if pick.random() < 0.002:
@@ -732,7 +864,9 @@ def some_list(pick):
         link = Link(objects, start, pick.random() < 0.5)
         link.answer()
         if "bss" in getattr(link, "bounds", {}):
-            holes[-1].size = max(0, min(STACK - link.bounds["bss"][1], 256 * MIB - link.memory()) + pick.choice([-1, 0, 0, 1, 2]))
+            holes[-1].size = max(
+                0, min(STACK - link.bounds["bss"][1], 256 * MIB - link.memory()) + pick.choice([-1, 0, 0, 1, 2])
+            )
     return objects, start
 
 
@@ -789,8 +923,11 @@ def compared(number):
             ends["sections dropped"] += len(link.drops)
             for size in link.sizes.values() if not isinstance(wanted, str) else ():
                 ends[f"calls of {size} bytes"] += 1
-            ends["short calls past an end"] += 0 if isinstance(wanted, str) else sum(size < 8 and link.leads_past(*call)
-                for call, size in link.sizes.items())
+            ends["short calls past an end"] += (
+                0
+                if isinstance(wanted, str)
+                else sum(size < 8 and link.leads_past(*call) for call, size in link.sizes.items())
+            )
         if finds:
             for file in folder.iterdir():
                 (KEPT / f"{number}-{file.name}").write_bytes(file.read_bytes())

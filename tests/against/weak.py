@@ -3,10 +3,10 @@
 usage: compare.py weak [COUNT] [--seed N] [--from N] [--only N] [--jobs N] [--rv RV]
 
 It needs riscv64-unknown-elf-as and -ld 2.40, and takes 300 lists unless told otherwise. List N of a seed is the same in
-each run; `--only N` takes it alone and shows it. Its sources define some of a few names as labels of text, of data or of
-a section without `a`, or as numbers, make them local, global or weak, and refer to them from data and from code. The
-objects of rv as, and those of GNU as, are linked by rv ld and by GNU ld, with a script that lays sections out as rv does.
-Asked is that
+each run; `--only N` takes it alone and shows it. Its sources define some of a few names as labels of text, of data or
+of a section without `a`, or as numbers, make them local, global or weak, and refer to them from data and from code. The
+objects of rv as, and those of GNU as, are linked by rv ld and by GNU ld, with a script that lays sections out as rv
+does. Asked is that
 
   refusals  rv refuses a list for a name of which the manual says so, and GNU ld for that name too
   values    without short calls all bytes of the program, its entry and the address of each name are the same
@@ -21,8 +21,8 @@ Where the manual names a difference from GNU's tools, what it says is asked of r
   unloaded    a name that means a place in a section without `a`: rv says L5
   entry       a `_start` that means no label of text: rv says L7
   0           what a pair of instructions comes to that refers to 0 is compared, and not its bytes
-  calls       where a call leads to no label of text, short calls are not compared, nor in objects of GNU as, in which GNU ld
-              shortens more than calls
+  calls       where a call leads to no label of text, short calls are not compared, nor in objects of GNU as, in which
+              GNU ld shortens more than calls
 
 Each difference is a line; the last one counts the lists. Exit status 1 if there is a difference.
 """
@@ -31,7 +31,6 @@ import random
 import re
 import struct
 import subprocess
-import sys
 import tempfile
 from collections import Counter
 from concurrent.futures import ThreadPoolExecutor
@@ -56,14 +55,31 @@ SECTIONS {
 """
 LINKERS = ["_etext", "__bss_start", "_edata", "_end", "__global_pointer$"]
 NAMES = ["f", "g", "h", "v", "w"]
-OPENINGS = {"text": ".text", "data": ".data", "rodata": ".section .rodata", "bss": ".bss",
-    "unloaded": '.section .note.x,""'}
+OPENINGS = {
+    "text": ".text",
+    "data": ".data",
+    "rodata": ".section .rodata",
+    "bss": ".bss",
+    "unloaded": '.section .note.x,""',
+}
 KINDS = ["text"] * 9 + ["data"] * 6 + ["rodata", "bss", "number"] * 3 + ["unloaded"]
-CONTENTS = {"text": "li t3, 1\nret", "data": ".word 1, 2", "rodata": ".half 3", "bss": ".zero 24", "unloaded": ".word 1"}
+CONTENTS = {
+    "text": "li t3, 1\nret",
+    "data": ".word 1, 2",
+    "rodata": ".half 3",
+    "bss": ".zero 24",
+    "unloaded": ".word 1",
+}
 # What refers to a name X from data and from code; L is the label of the reference itself.
 IN_DATA = [".dword X", ".dword X + 6", ".word X", ".dword X - L", ".dword L - X", ".dword X - X + 1"]
-IN_CODE = ["la t0, X", "la t0, X + 4", "ld t0, X", "sd t0, X, t1", "lui t0, %hi(X)\naddi t0, t0, %lo(X)",
-    "lui t0, %hi(X + 4)\nlw t0, %lo(X + 4)(t0)"]
+IN_CODE = [
+    "la t0, X",
+    "la t0, X + 4",
+    "ld t0, X",
+    "sd t0, X, t1",
+    "lui t0, %hi(X)\naddi t0, t0, %lo(X)",
+    "lui t0, %hi(X + 4)\nlw t0, %lo(X + 4)(t0)",
+]
 CALLS = ["call X", "tail X", "jump X, t0"]
 JUMPS = ["j X", "jal X", "beqz t1, X", "bltu t1, t2, X"]
 
@@ -104,7 +120,8 @@ class Source:
         return self.definitions.get(name) == "number"
 
     def is_kept_out(self, name):
-        """Whether a name is the source's own place in a section that isn't loaded: its distance from itself is a number."""
+        """Whether a name is the source's own place in a section that isn't loaded: its distance from itself is a
+        number."""
         return self.is_sure(name) and self.definitions[name] == "unloaded"
 
     def is_sure(self, name):
@@ -269,7 +286,8 @@ def same(what, wanted, came):
 
 
 def compare_names(what, theirs, ours):
-    """Compares the addresses of the names that all files can mean. GNU ld gives the linker's where one is referred to."""
+    """Compares the addresses of the names that all files can mean. GNU ld gives the linker's where one is referred
+    to."""
     wanted = {name: value for name, (binding, value) in theirs.symbols.items() if binding and value is not None}
     same(what, wanted, {name: at for name, at in ours.globals.items() if name in wanted or name not in LINKERS})
 
