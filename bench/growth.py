@@ -4,7 +4,7 @@
 usage: growth.py     (with gnuplot; peers that are not installed have no line)
 
 Each panel has the processor seconds at n, 2n, 4n and 8n, on axes by which a line at 45 degrees is linear. The table
-behind the plot goes to standard output, with the exponent between the first and the last.
+behind the plot goes to standard output, with the exponent between the first and the last, and to bench/out/growth.json.
 """
 
 import math
@@ -13,6 +13,7 @@ import tempfile
 from pathlib import Path
 
 import run as bench
+from results import Results
 
 PLOT = bench.HERE / "growth.svg"
 TIMES = (1, 2, 4, 8)
@@ -102,14 +103,16 @@ def script_of(tables):
 
 
 def main():
-    tables = {}
+    tables, results = {}, Results("growth")
+    results.begin(bench.RV)
     for title, (commands_of, first) in PANELS.items():
         with tempfile.TemporaryDirectory() as folder:
             tables[title] = first, measured(Path(folder), commands_of)
         print(title)
         for tool, row in tables[title][1].items():
-            said = " ".join(f"{value:8.3f}" for value in row)
-            print(f"  {tool:6} {said} s, exponent {math.log(row[-1] / row[0], TIMES[-1]):5.2f}", flush=True)
+            exponent, shown = math.log(row[-1] / row[0], TIMES[-1]), " ".join(f"{value:8.3f}" for value in row)
+            print(f"  {tool:6} {shown} s, exponent {exponent:5.2f}", flush=True)
+            results.add("growth", title, tool, seconds=row, exponent=exponent)
     if are_there(["gnuplot"]):
         subprocess.run(["gnuplot"], input=script_of(tables), text=True, check=True)
         print(f"drawn: {PLOT.name}")

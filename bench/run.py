@@ -2,7 +2,7 @@
 """Measures rv beside its peers, in one run on one machine: make bench.
 
 A benchmark is a function below. What it needs and can't find it names, and goes on. Each time is processor
-time, the least of three runs, with the start of the program.
+time, the least of three runs, with the start of the program. What is printed goes to bench/out/run.json as well.
 """
 
 import math
@@ -14,6 +14,8 @@ import subprocess
 import tempfile
 import time
 from pathlib import Path
+
+from results import Results
 
 HERE = Path(__file__).parent
 RV = HERE.parent / "rv"
@@ -46,6 +48,7 @@ TEXT_BYTES = 16 * 2**20
 TEXTS = 16
 CALLS = 10_000
 CALLED_BYTES = 2**20
+RESULTS = Results("run")
 # No token: the last line of a source that is read whole and refused.
 FAULT = "!\n"
 
@@ -127,8 +130,7 @@ def rates(commands, program, given):
 
 
 def hart(folder):
-    """Running programs, each without and with compressed code: millions of instructions a second, of rv and of
-    others."""
+    """Running programs, without and with compressed code: millions of instructions a second, of rv and of others."""
     if missing(GCC) or missing(CC):
         return
     commands = simulators(folder)
@@ -147,13 +149,16 @@ def hart(folder):
     for kind in commands:
         ratio = mean([table[name, "rv64imac"][kind] / table[name, "rv64ima"][kind] for name in PROGRAMS])
         print(f"{kind}: compressed code has {ratio:.2f} times the instructions a second of uncompressed code")
+        RESULTS.add("hart", "compressed by uncompressed code", kind, ratio=ratio)
 
 
 def rate_row(name, row):
     """A line of the table of the rates of simulators."""
-    print(
-        f"{name:20}" + "".join(f"{rate:24.0f}" for rate in row.values()) + f"{row['rv run'] / row['interpreter']:20.2f}"
-    )
+    ratio = row["rv run"] / row["interpreter"]
+    print(f"{name:20}" + "".join(f"{rate:24.0f}" for rate in row.values()) + f"{ratio:20.2f}")
+    for tool, rate in row.items():
+        RESULTS.add("hart", name, tool, rate=rate)
+    RESULTS.add("hart", name, "rv by the interpreter", ratio=ratio)
 
 
 def start(folder):
@@ -164,6 +169,7 @@ def start(folder):
         subprocess.run([RV, "run", HELLO], capture_output=True)
         least = min(least, time.perf_counter() - begun)
     print(f"Running {HELLO.name}: {least * 1000:.1f} ms")
+    RESULTS.add("start", HELLO.name, "rv run", seconds=least)
 
 
 INSTRUCTIONS = (
@@ -269,21 +275,21 @@ def builders(folder, source, architecture="rv64ima"):
     return commands
 
 
-def row(name, seconds, length, memory, note):
+def row(benchmark, name, seconds, length, memory, note):
     """A line of the table for a source of a length."""
-    print(
-        f"{name:24} {seconds:6.2f} s {length / seconds / 1e6:7.1f} million bytes per second, {memory / 2**20:5.0f} MiB{note}"
-    )
+    rate = length / seconds / 1e6
+    print(f"{name:24} {seconds:6.2f} s {rate:7.1f} million bytes per second, {memory / 2**20:5.0f} MiB{note}")
+    RESULTS.add(benchmark, "", name, seconds=seconds, bytes=length, memory=memory, is_good=not note)
 
 
-def measured(name, command, length):
+def measured(benchmark, name, command, length):
     """A line of the table for a command that takes its source."""
     memory, good = peak(command)
     seconds, _ = best(command, b"")
-    row(name, seconds, length, memory, "" if good else ", BUT REFUSES IT")
+    row(benchmark, name, seconds, length, memory, "" if good else ", BUT REFUSES IT")
 
 
-def reading_alone(folder, source, count, length):
+def reading_alone(benchmark, folder, source, count, length):
     """A line of the table for a source of so many lines that is read whole: a fault in one line more is found then, and
     before anything is built."""
     faulty = folder / "faulty.s"
@@ -292,10 +298,10 @@ def reading_alone(folder, source, count, length):
         file.write(FAULT)
     command = [RV, "build", "-o", folder / "executable", faulty]
     memory, _ = peak(command, status=1)
-    said = subprocess.run(command, capture_output=True, text=True).stderr
+    message = subprocess.run(command, capture_output=True, text=True).stderr
     seconds, _ = best(command, b"")
-    note = "" if f":{count + 1}: " in said else f", BUT ENDS WITH {said.strip()}"
-    row("rv, reading alone", seconds, length, memory, note)
+    note = "" if f":{count + 1}: " in message else f", BUT ENDS WITH {message.strip()}"
+    row(benchmark, "rv, reading alone", seconds, length, memory, note)
 
 
 def reading(folder):
@@ -305,8 +311,8 @@ def reading(folder):
     length = source.stat().st_size
     print(f"Building a source of {length} bytes, {count} lines")
     for name, command in builders(folder, source).items():
-        measured(name, command, length)
-    reading_alone(folder, source, count, length)
+        measured("reading", name, command, length)
+    reading_alone("reading", folder, source, count, length)
 
 
 def compiler(folder):
@@ -318,8 +324,8 @@ def compiler(folder):
     length = source.stat().st_size
     print(f"Building the output of {GCC} -O2, {length} bytes, {count} lines")
     for name, command in builders(folder, source, "rv64imac").items():
-        measured(name, command, length)
-    reading_alone(folder, source, count, length)
+        measured("compiler", name, command, length)
+    reading_alone("compiler", folder, source, count, length)
 
 
 def write_sources(folder):
@@ -354,12 +360,13 @@ def many(folder):
     sources = write_sources(folder)
     length = sum(source.stat().st_size for source in sources)
     print(f"Building {len(sources)} sources of {length} bytes together")
-    measured("rv build", [RV, "build", "-o", folder / "executable", "--map", folder / "map", *sources], length)
+    words = ["-o", folder / "executable", *sources]
+    measured("many", "rv build", [RV, "build", "--map", folder / "map", *words], length)
     if missing(AS) or missing(LD):
         return
     seconds, objects = assemble_all(sources)
-    row("as, one by one", seconds, length, peak([AS, "-o", folder / "object", sources[0]])[0], "")
-    measured("ld", [LD, "-Map", folder / "map", "-o", folder / "executable", *objects], length)
+    row("many", "as, one by one", seconds, length, peak([AS, "-o", folder / "object", sources[0]])[0], "")
+    measured("many", "ld", [LD, "-Map", folder / "map", "-o", folder / "executable", *objects], length)
 
 
 def write_parts(folder):
@@ -391,9 +398,9 @@ def objects(folder):
         makers[", of as"] = assemble_all(sources)[1]
     for maker, made in makers.items():
         written = ["-o", folder / "executable", *made]
-        measured(f"rv ld{maker}", [RV, "ld", "--no-relax", "--map", folder / "map", *written], length)
+        measured("objects", f"rv ld{maker}", [RV, "ld", "--no-relax", "--map", folder / "map", *written], length)
         if not missing(LD):
-            measured(f"ld{maker}", [LD, "--no-relax", "-Map", folder / "map", *written], length)
+            measured("objects", f"ld{maker}", [LD, "--no-relax", "-Map", folder / "map", *written], length)
 
 
 def write_texts(folder):
@@ -413,11 +420,11 @@ def listings(folder):
     executable, shown = folder / "executable", folder / "map"
     subprocess.run([RV, "build", "-o", executable, "--map", shown, *write_texts(folder)], check=True)
     print(f"Listing {TEXT_BYTES} bytes of text")
-    measured("rv objdump", [RV, "objdump", "--map", shown, executable], TEXT_BYTES)
+    measured("listings", "rv objdump", [RV, "objdump", "--map", shown, executable], TEXT_BYTES)
     if not missing(OBJDUMP):
         # (an executable of rv has no sections, which GNU's would list: so it lists the whole file)
         words = ["-D", "-b", "binary", "-m", "riscv:rv64", "-M", "no-aliases", executable]
-        measured("objdump", [OBJDUMP, *words], TEXT_BYTES)
+        measured("listings", "objdump", [OBJDUMP, *words], TEXT_BYTES)
 
 
 def statements(folder):
@@ -431,10 +438,11 @@ def statements(folder):
     for name, command in builders(folder, source).items():
         memory, good = peak(command)
         print(f"{name:24} {memory / STATEMENTS:6.0f} bytes a statement{'' if good else ', BUT REFUSES IT'}")
+        RESULTS.add("statements", "bytes a statement", name, ratio=memory / STATEMENTS, is_good=good)
     memory, good = peak([RV, "build", "-o", folder / "executable", faulty], status=1)
-    print(
-        f"{'rv, reading alone':24} {(memory - length) / STATEMENTS:6.0f} bytes a statement beside the source{'' if good else ', BUT TAKES ITS FAULT'}"
-    )
+    each, note = (memory - length) / STATEMENTS, "" if good else ", BUT TAKES ITS FAULT"
+    print(f"{'rv, reading alone':24} {each:6.0f} bytes a statement beside the source{note}")
+    RESULTS.add("statements", "bytes a statement", "rv, reading alone", ratio=each, is_good=good)
 
 
 # How a source grows, by what it has much of: the lines of the statement of a number among so many.
@@ -471,8 +479,9 @@ def growth(folder):
                 seconds, _ = best(command, b"")
                 rows.setdefault(name, []).append(seconds if good else float("nan"))
         for name, times in rows.items():
-            said = " ".join(f"{seconds:7.3f}" for seconds in times)
-            print(f"{kind:10} {name:10} {said} s, exponent {math.log2(times[2] / times[0]) / 2:5.2f}")
+            exponent, shown = math.log2(times[2] / times[0]) / 2, " ".join(f"{seconds:7.3f}" for seconds in times)
+            print(f"{kind:10} {name:10} {shown} s, exponent {exponent:5.2f}")
+            RESULTS.add("growth", kind, name, seconds=times, exponent=exponent)
 
 
 def write_graph(folder, path, count):
@@ -485,8 +494,7 @@ def write_graph(folder, path, count):
 
 
 def write_cascade(folder, path, count):
-    """Writes tails, each of which reaches in two bytes once all of the 1021 behind it have two: the last is the
-    first."""
+    """Writes tails, each of which reaches in two bytes once all of the 1021 behind it have two: the last does first."""
     with path.open("w") as file:
         file.write(".globl _start\n_start:\n")
         file.writelines(f"label_{at}: tail label_{min(at + 1022, count)}\n" for at in range(count))
@@ -549,13 +557,13 @@ def relaxation(folder):
                 rows.setdefault(name, []).append(seconds)
                 left[name] = text_left(folder / "map")
         for name, times in rows.items():
-            said = " ".join(f"{seconds:8.3f}" for seconds in times)
-            print(
-                f"{kind:18} {name:14} {said} s, exponent {math.log2(times[3] / times[0]) / 3:5.2f}, {left[name]:9} bytes"
-            )
+            exponent, shown = math.log2(times[3] / times[0]) / 3, " ".join(f"{seconds:8.3f}" for seconds in times)
+            print(f"{kind:18} {name:14} {shown} s, exponent {exponent:5.2f}, {left[name]:9} bytes")
+            RESULTS.add("relaxation", kind, name, seconds=times, exponent=exponent, bytes=left[name])
 
 
 def main():
+    RESULTS.begin(RV)
     with tempfile.TemporaryDirectory() as folder:
         for benchmark in (hart, start, reading, compiler, many, objects, listings, statements, growth, relaxation):
             benchmark(Path(folder))

@@ -4,7 +4,7 @@
 usage: targets.py [NAME ..]     only rows whose name begins so, as `build` or `guest`
 
 Host instructions are counted by callgrind, so other work on the machine changes nothing. Where valgrind or a peer is
-missing, the row says so. `make bench` prints this table last.
+missing, the row says so. `make bench` prints this table last. It goes to bench/out/targets.json as well.
 """
 
 import re
@@ -15,6 +15,7 @@ import tempfile
 from pathlib import Path
 
 import run as bench
+from results import Results
 
 RV, AS, LD = bench.RV, bench.AS, bench.LD
 MIB = 2**20
@@ -39,24 +40,22 @@ def host_instructions(*command, given=b""):
     """The host instructions of a command, by callgrind."""
     need("valgrind")
     words = ["valgrind", "--tool=callgrind", "--callgrind-out-file=/dev/null", *map(str, command)]
-    said = subprocess.run(words, input=given, stdout=subprocess.DEVNULL, stderr=subprocess.PIPE, text=False).stderr
-    return int(re.search(rb"Collected : (\d+)", said)[1])
+    process = subprocess.run(words, input=given, stdout=subprocess.DEVNULL, stderr=subprocess.PIPE)
+    return int(re.search(rb"Collected : (\d+)", process.stderr)[1])
 
 
 def peak(*command):
     """The most memory that a command has, in bytes. (Started from Python, a small program seems as large as Python.)"""
     need("time")
-    ran = subprocess.run(
-        ["time", "-f", "%M", *map(str, command)], stdout=subprocess.DEVNULL, stderr=subprocess.PIPE, text=True
-    )
-    if ran.returncode != 0:
+    words = ["time", "-f", "%M", *map(str, command)]
+    process = subprocess.run(words, stdout=subprocess.DEVNULL, stderr=subprocess.PIPE, text=True)
+    if process.returncode != 0:
         raise SystemExit(f"{command[0]} {command[1]} ends badly")
-    return int(ran.stderr.split()[-1]) * 1024
+    return int(process.stderr.split()[-1]) * 1024
 
 
 def usual_peak(*command):
-    """The median of what many runs have: where the loader puts a small program and its library changes it by a
-    tenth."""
+    """The median of many runs, because where the loader puts a small program and its library changes it by a tenth."""
     return statistics.median(peak(*command) for _ in range(RUNS))
 
 
@@ -105,11 +104,11 @@ def write_data(path):
             file.write(f"\t.byte {at % 256}, {at % 100}, 'x', 0\n\t.balign 8\n")
 
 
-def generated(folder, name, write):
+def generated_ratio(folder, name, write):
+    """The same of a source that a function writes."""
     source = folder / f"{name}.s"
-    if not source.exists():
-        write(source)
-    return source
+    write(source)
+    return build_ratio(folder, source)
 
 
 def linked_ratio(folder):
@@ -212,14 +211,8 @@ def memory_ratio(folder):
 # Each row: its name, what it measures, the unit, what is wanted, and whether more is better.
 ROWS = (
     ("build, GCC's output, 1 MiB", lambda it: build_ratio(it, compiled(it, MIB)), "GNU by rv", 5, True),
-    (
-        "build, branches and labels",
-        lambda it: build_ratio(it, generated(it, "branches", write_branches)),
-        "GNU by rv",
-        5,
-        True,
-    ),
-    ("build, data", lambda it: build_ratio(it, generated(it, "data", write_data)), "GNU by rv", 1.6, True),
+    ("build, branches and labels", lambda it: generated_ratio(it, "branches", write_branches), "GNU by rv", 5, True),
+    ("build, data", lambda it: generated_ratio(it, "data", write_data), "GNU by rv", 1.6, True),
     ("link, 500 objects of GNU as, time", linked_time, "GNU by rv", 1.2, True),
     ("link, 513 objects", linked_ratio, "GNU by rv", 4, True),
     ("memory, build of 16 MiB", memory_ratio, "rv by GNU as", 1, False),
@@ -234,7 +227,8 @@ ROWS = (
 
 
 def main():
-    names = tuple(sys.argv[1:])
+    names, results = tuple(sys.argv[1:]), Results("targets")
+    results.begin(RV)
     print(f"{'':36}{'measured':>10}{'wanted':>8}")
     with tempfile.TemporaryDirectory() as folder:
         for name, measure, unit, wanted, is_more_better in ROWS:
@@ -246,6 +240,7 @@ def main():
                 print(f"{name:36}{tool!s:>10} is missing", flush=True)
                 continue
             met = found >= wanted if is_more_better else found <= wanted
+            results.add("targets", name, "rv", ratio=found, unit=unit, wanted=wanted, is_reached=met)
             print(f"{name:36}{found:10.2f}{wanted:8} {unit}{'' if met else ', not reached'}", flush=True)
 
 

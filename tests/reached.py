@@ -1,0 +1,127 @@
+#!/usr/bin/env python3
+"""Lists the functions of rv that no case of tests/ reaches: make reached.
+
+usage: reached.py [--rv PROGRAM]
+
+The program is built by scripts/counted.py, unless one is named that it made, and the scripts of `make check` and
+`make refused` run over it in a copy of the folders that they read. Two lists come out: functions that are part of the
+program and were never entered, and functions of the sources, below the program, that no part of the program calls. A
+function counts as entered if it was with any types. The last line is 'N passed, M failed', where a function fails that
+was never entered.
+"""
+
+import argparse
+import os
+import re
+import shutil
+import subprocess
+import sys
+import tempfile
+from pathlib import Path
+
+ROOT = Path(__file__).resolve().parent.parent
+PROGRAM = ROOT / "out" / "counted" / "rv"
+FOLDERS = ("tests", "docs", "examples", "scripts", "bench")
+FILES = ("README.md", "crates.txt", "Makefile")
+SCRIPTS = "run collected damaged explained tour shells terminal streams making refused".split()
+PAGE = 4096
+# A function of a source that is code, and not part of a contract.
+FUNCTION = re.compile(r'(?m)^ *(?:pub(?:\([^)]*\))? |unsafe |default |const |extern "C" |safe )*fn (\w+)')
+
+
+def built(program):
+    """Builds the program where none is named; its path."""
+    if program is None:
+        subprocess.run([sys.executable, ROOT / "scripts" / "counted.py", "rv_cli", PROGRAM], check=True)
+    return Path(program or PROGRAM).resolve()
+
+
+def copy_of_folders(program, at):
+    """Copies what the scripts read, with the program as ./rv; no call of the library is counted, so it is empty."""
+    for name in FOLDERS:
+        shutil.copytree(ROOT / name, at / name, ignore=shutil.ignore_patterns("out", "__pycache__"))
+    for name in FILES:
+        shutil.copy(ROOT / name, at / name)
+    shutil.copy(program, at / "rv")
+    (at / "rv_refused").write_text("#!/bin/sh\n")
+    (at / "rv_refused").chmod(0o755)
+
+
+def entered(program, names):
+    """The names of the functions that are entered while the scripts run; what fails there is shown alone."""
+    with tempfile.TemporaryDirectory() as name:
+        at = Path(name)
+        copy_of_folders(program, at)
+        shared = at / "entered"
+        shared.write_bytes(bytes(-(-len(names) // PAGE) * PAGE))
+        for script in SCRIPTS:
+            words = [sys.executable, f"tests/{script}.py"]
+            process = subprocess.run(
+                words, cwd=at, env={**os.environ, "RV_ENTERED": str(shared)}, stdout=subprocess.PIPE
+            )
+            lines = process.stdout.decode(errors="replace").splitlines()
+            print(f"{script}: {lines[-1] if lines else process.returncode}", flush=True)
+        return {function for function, byte in zip(names, shared.read_bytes()) if byte}
+
+
+def without_types(name):
+    """A function's name without the types that it is for."""
+    return name.split("::<")[0]
+
+
+def place(name):
+    """The source file of a function, and its name there."""
+    crate, *parts = name.split("::")
+    source = ROOT / "crates" / crate / "src"
+    for count in range(len(parts) - 1, 0, -1):
+        file = source.joinpath(*parts[:count]).with_suffix(".rt")
+        if file.exists():
+            return str(file.relative_to(ROOT)), "::".join(parts[count:])
+    return str(source.relative_to(ROOT)), "::".join(parts)
+
+
+def crates_below(program):
+    """The crates of code that a program is made of, by crates.txt."""
+    lines = (line.partition(":") for line in (ROOT / "crates.txt").read_text().splitlines() if not line.startswith("#"))
+    uses = {crate: names.split() for crate, _, names in lines}
+    found, left = set(), [program]
+    while left:
+        crate = left.pop()
+        if crate in uses and crate not in found:
+            found.add(crate)
+            left += uses[crate]
+    return sorted(crate for crate in found if not crate.endswith("_laws"))
+
+
+def outside(program, names):
+    """The functions of sources of which the program has none of that name."""
+    inside = {(name.split("::")[0], name.split("::")[-1]) for name in names}
+    for crate in crates_below(program):
+        for path in sorted((ROOT / "crates" / crate / "src").rglob("*.rt")):
+            for function in FUNCTION.findall(path.read_text(encoding="utf-8")):
+                if (crate, function) not in inside:
+                    yield str(path.relative_to(ROOT)), function
+
+
+def show(title, places):
+    """Prints functions below a title, by their files."""
+    print(f"{title}: {len(places)}")
+    for file, function in sorted(set(places)):
+        print(f"  {file}: {function}")
+
+
+def main():
+    words = argparse.ArgumentParser(description=__doc__.split("\n")[0])
+    words.add_argument("--rv", help="a program that counted.py made")
+    program = built(words.parse_args().rv)
+    names = Path(f"{program}.functions").read_text(encoding="latin-1").splitlines()
+    reached = {without_types(name) for name in entered(program, names)}
+    every = {without_types(name) for name in names}
+    show("functions of sources that the program has not", [*outside("rv_cli", every)])
+    show("functions of the program that no case reaches", [place(name) for name in every - reached])
+    print(f"{len(reached)} passed, {len(every - reached)} failed")
+    return int(reached != every)
+
+
+if __name__ == "__main__":
+    sys.exit(main())
