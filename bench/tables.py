@@ -4,8 +4,8 @@
 usage: tables.py             prints the tables
        tables.py --write     puts each into RESULTS.md, between the lines `<!-- table NAME -->` and `<!-- end -->`
 
-A table whose benchmark has not run, because a tool is missing, stays as it is. Below each are the day, the commit of the
-program and the processors.
+A table whose benchmark has not run, because a tool is missing, stays as it is. Below each are the day, the commit of
+the program and the processors.
 """
 
 import re

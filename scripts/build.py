@@ -29,9 +29,9 @@ def lanes():
     return max(min(len(os.sched_getaffinity(0)), free // EACH), 1)
 
 
-def stop(name, status, said):
+def stop(name, status, output):
     """Ends the run, and with it the checks of other crates, with what the checker wrote of this one."""
-    print(f"{said}{name}: NOT PROVED", flush=True)
+    print(f"{output}{name}: NOT PROVED", flush=True)
     os._exit(status if status > 0 else 1)
 
 
@@ -53,9 +53,9 @@ def build_all(crates, built, at_once):
                     running[pool.submit(it.build, jobs)] = it, jobs, time.monotonic()
             for ended in wait(running, return_when=FIRST_COMPLETED).done:
                 crate, _, start = running.pop(ended)
-                status, said = ended.result()
+                status, output = ended.result()
                 if status:
-                    stop(crate.name, status, said)
+                    stop(crate.name, status, output)
                 done.add(crate)
                 tell(f"{len(done) - len(built)}/{len(crates)}", crate.name, start)
 
@@ -69,9 +69,9 @@ def build_program(program):
     start = time.monotonic()
     how = {"cwd": f"{kit.ROOT}/crates/{program}", "stdout": subprocess.PIPE, "stderr": subprocess.STDOUT, "text": True}
     words = [sys.executable, os.path.realpath(__file__), program, "--version"]
-    ran = subprocess.run(words, stdin=subprocess.DEVNULL, errors="replace", **how)
-    if ran.returncode:
-        stop(program, ran.returncode, ran.stdout)
+    process = subprocess.run(words, stdin=subprocess.DEVNULL, errors="replace", **how)
+    if process.returncode:
+        stop(program, process.returncode, process.stdout)
     tell("program", program, start)
 
 

@@ -81,21 +81,21 @@ def look_at_all(top, seen):
 def run(command):
     """Runs the command; its status, its output, the processes that it started, and its processor and clock seconds."""
     seen, lines, start = {}, [], time.monotonic()
-    ran = subprocess.Popen(command, cwd=HERE, stdout=subprocess.PIPE, text=True, errors="replace")
+    process = subprocess.Popen(command, cwd=HERE, stdout=subprocess.PIPE, text=True, errors="replace")
 
     def hand_on():
-        for line in ran.stdout:
+        for line in process.stdout:
             lines.append(line)
             print(line, end="", flush=True)
 
     reader = threading.Thread(target=hand_on)
     reader.start()
-    while ran.poll() is None:
-        look_at_all(ran.pid, seen)
+    while process.poll() is None:
+        look_at_all(process.pid, seen)
         time.sleep(PAUSE)
     reader.join()
     used = resource.getrusage(resource.RUSAGE_CHILDREN)
-    return ran.returncode, lines, seen, used.ru_utime + used.ru_stime, time.monotonic() - start
+    return process.returncode, lines, seen, used.ru_utime + used.ru_stime, time.monotonic() - start
 
 
 def functions(lines):

@@ -42,10 +42,10 @@ def mark(built, program, kind=PROVED):
     program.unlink(missing_ok=True)
     program.write_bytes(held.replace(UNMARKED, words.encode()))
     os.chmod(program, 0o755)
-    said = subprocess.run([program, "--version"], capture_output=True, text=True).stdout
-    if words not in said:
+    version = subprocess.run([program, "--version"], capture_output=True, text=True).stdout
+    if words not in version:
         program.unlink()
-        sys.exit(f"{built}: with its mark, --version says {said!r}, and not {words}")
+        sys.exit(f"{built}: with its mark, --version says {version!r}, and not {words}")
 
 
 if __name__ == "__main__":

@@ -48,12 +48,12 @@ def counts(line):
     return (int(found[1]), int(found[2])) if found else (0, 1)
 
 
-def said(words):
+def result(words):
     """Runs a script of the repository, shows what it writes, and gives the numbers of its last line."""
-    ran = subprocess.run([sys.executable, *words], cwd=ROOT, stdout=subprocess.PIPE, text=True)
-    print(f"== {words[0]}\n{ran.stdout}", end="", flush=True)
-    passed, failed = counts((ran.stdout.splitlines() or [""])[-1])
-    return passed, failed or int(ran.returncode != 0)
+    process = subprocess.run([sys.executable, *words], cwd=ROOT, stdout=subprocess.PIPE, text=True)
+    print(f"== {words[0]}\n{process.stdout}", end="", flush=True)
+    passed, failed = counts((process.stdout.splitlines() or [""])[-1])
+    return passed, failed or int(process.returncode != 0)
 
 
 def copy(built, program, by=shutil.copy):
@@ -71,7 +71,7 @@ def main():
     copy(PROVED, ROOT / "rv")
     copy(ROOT / "crates/rv_refused/out/rv_refused", ROOT / "rv_refused")
     scripts = [*(OF_PROGRAMS if (ROOT / "rv").exists() else []), *OF_FILES]
-    sums += [said(words) for words in scripts]
+    sums += [result(words) for words in scripts]
     passed, failed = map(sum, zip(*sums))
     print(f"\n{passed} passed, {failed} failed", flush=True)
     return 1 if failed else 0

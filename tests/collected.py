@@ -92,8 +92,8 @@ def left_out(objects):
 
 def call(folder, words):
     """What a call of rv says where it is refused."""
-    ran = subprocess.run([RV, *words], cwd=folder, capture_output=True, timeout=SECONDS)
-    return ran.stderr.decode("utf8", "replace") if ran.returncode else None
+    process = subprocess.run([RV, *words], cwd=folder, capture_output=True, timeout=SECONDS)
+    return process.stderr.decode("utf8", "replace") if process.returncode else None
 
 
 def lines(folder, name, word):
@@ -103,26 +103,26 @@ def lines(folder, name, word):
 def compare(folder, words):
     """Compares what one build or link makes without the option and with it."""
     skipped = ("-o", "--map")
-    said = [it for at, it in enumerate(words) if it not in (*skipped, OPTION) and words[at - 1] not in skipped]
-    made = [
-        call(folder, [said[0], "-o", it, "--map", f"{it}.map", *option, *said[1:]])
+    given = [it for at, it in enumerate(words) if it not in (*skipped, OPTION) and words[at - 1] not in skipped]
+    results = [
+        call(folder, [given[0], "-o", it, "--map", f"{it}.map", *option, *given[1:]])
         for it, option in (("whole", []), ("left", [OPTION]))
     ]
-    if made[0] and made[0].startswith(OF_A_SECTION):
-        if made[1] is not None and not made[1].startswith(("rv: L7 ", *OF_A_SECTION)):
-            raise Failed(f"{made[0].strip()} became {made[1].strip()}")
-    elif not (made[0] or "").startswith("error: "):
-        same("what is refused", *made)
-    if made[1]:
+    if results[0] and results[0].startswith(OF_A_SECTION):
+        if results[1] is not None and not results[1].startswith(("rv: L7 ", *OF_A_SECTION)):
+            raise Failed(f"{results[0].strip()} became {results[1].strip()}")
+    elif not (results[0] or "").startswith("error: "):
+        same("what is refused", *results)
+    if results[1]:
         return
-    files = [it for it in said[1:] if (folder / it).exists() and not it.startswith("-")]
-    if said[0] == "build":
+    files = [it for it in given[1:] if (folder / it).exists() and not it.startswith("-")]
+    if given[0] == "build":
         for at, source in enumerate(files):
             call(folder, ["as", "-o", f"{at}.of.o", source])
         files = [f"{at}.of.o" for at in range(len(files))]
     wanted = left_out([Object((folder / it).read_bytes()) for it in files])
     same("drop lines", wanted, {(int(file), int(section)) for file, section in lines(folder, "left.map", "drop")})
-    if made[0]:
+    if results[0]:
         return
     if not wanted:
         for kind in ("", ".map"):
@@ -158,14 +158,14 @@ def main(names):
     if not RV.exists():
         sys.exit("no ./rv: run make first")
     with ThreadPoolExecutor(len(os.sched_getaffinity(0))) as pool:
-        ran = list(pool.map(run, cases(names)))
-    for _, wrong in ran:
+        results = list(pool.map(run, cases(names)))
+    for _, wrong in results:
         if wrong:
             print(wrong)
-    failed = sum(wrong is not None for _, wrong in ran)
-    print(f"{sum(count for count, _ in ran)} builds and links with {OPTION} and without")
-    print(f"{len(ran) - failed} passed, {failed} failed")
-    return 1 if failed or not ran else 0
+    failed = sum(wrong is not None for _, wrong in results)
+    print(f"{sum(count for count, _ in results)} builds and links with {OPTION} and without")
+    print(f"{len(results) - failed} passed, {failed} failed")
+    return 1 if failed or not results else 0
 
 
 if __name__ == "__main__":

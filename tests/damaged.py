@@ -80,35 +80,35 @@ def answer(use, held, folder):
     path.mkdir(exist_ok=True)
     (path / "file").write_bytes(held)
     words = [RV, *USES[use], "file"]
-    ran = subprocess.run(
+    process = subprocess.run(
         words, cwd=path, stdin=subprocess.DEVNULL, capture_output=True, timeout=SECONDS, close_fds=False
     )
-    lines = ran.stderr.decode("utf8", "replace").splitlines()
-    return ran.returncode, lines[-1] if lines else ""
+    lines = process.stderr.decode("utf8", "replace").splitlines()
+    return process.returncode, lines[-1] if lines else ""
 
 
 def wrong_cut(job):
     """What is wrong with the answer to the front of a file, or nothing."""
     folder, use, held, size = job
-    status, said = answer(use, held[:size], folder)
+    status, message = answer(use, held[:size], folder)
     # without its first four bytes it is no executable, and rv takes it for a source
     is_source = use == "executable" and size < 4
-    if status == 1 and (SAID.fullmatch(said) if is_source else said == "rv: file: F1 Truncated"):
+    if status == 1 and (SAID.fullmatch(message) if is_source else message == "rv: file: F1 Truncated"):
         return None
-    return f"{use} cut off after {size} bytes: status {status}, {said!r}"
+    return f"{use} cut off after {size} bytes: status {status}, {message!r}"
 
 
 def wrong_byte(job):
     """What is wrong with the answer to a file with another byte at one place, or nothing."""
     folder, use, held, at, byte = job
-    status, said = answer(use, held[:at] + bytes([byte]) + held[at + 1 :], folder)
+    status, message = answer(use, held[:at] + bytes([byte]) + held[at + 1 :], folder)
     statuses = range(256) if use == "executable" else (0, 1)
-    if status in statuses and (SAID.fullmatch(said) if said else status == 0 or use == "executable"):
+    if status in statuses and (SAID.fullmatch(message) if message else status == 0 or use == "executable"):
         return None
-    return f"{use} with {byte:02x} at {at:x}: status {status}, {said!r}"
+    return f"{use} with {byte:02x} at {at:x}: status {status}, {message!r}"
 
 
-def made(source, use):
+def file_of(source, use):
     """The object or the executable of a source."""
     with tempfile.TemporaryDirectory() as folder:
         Path(folder, "a.s").write_text(source)
@@ -147,11 +147,11 @@ def wrong_names(folder):
     """What is wrong with a link without a map of the object of long names, or nothing."""
     Path(folder, "names").write_bytes(long_names())
     least = lambda: resource.setrlimit(resource.RLIMIT_AS, (1 << 26, 1 << 26))
-    ran = subprocess.run(
+    process = subprocess.run(
         [RV, "ld", "-o", "made", "names"], cwd=folder, capture_output=True, timeout=SECONDS, preexec_fn=least
     )
-    if ran.returncode:
-        return f"object of long names: status {ran.returncode}, {ran.stderr!r}"
+    if process.returncode:
+        return f"object of long names: status {process.returncode}, {process.stderr!r}"
     ended = subprocess.run([RV, "run", "made"], cwd=folder, capture_output=True, timeout=SECONDS).returncode
     return None if ended == 7 else f"program of long names: status {ended}"
 
@@ -166,7 +166,7 @@ def listed_rows(folder):
     """Writes 8,000 instructions and a map of 500 rows that each have all of them; the words that list these, and the
     rows."""
     source = ".option norvc\n.globl _start\n_start:\n" + 8000 * "nop\n"
-    Path(folder, "exe").write_bytes(made(source, "executable"))
+    Path(folder, "exe").write_bytes(file_of(source, "executable"))
     regions = "".join(f"{name} 0 0\n" for name in ("text", "rodata", "data", "bss"))
     rows = "".join(f"row 1 {row} {row} 10000 32000 8000\n" for row in range(1, 501))
     Path(folder, "map").write_text(f"rvmap 1\n{regions}entry 0\n{rows}")
@@ -188,11 +188,15 @@ def wrong_text(folder, words, parts):
     most = 20 * sum(it.stat().st_size for it in Path(folder).iterdir() if it.name in words) + 16 * MIB
     limits = {resource.RLIMIT_AS: most, resource.RLIMIT_CPU: SECONDS}
     limit = lambda: [resource.setrlimit(it, (least, least)) for it, least in limits.items()]
-    ran = subprocess.Popen([RV, *words], cwd=folder, stdout=subprocess.PIPE, stderr=subprocess.PIPE, preexec_fn=limit)
-    came, wanted = counted(iter(lambda: ran.stdout.read(MIB), b"")), counted(parts)
-    said = ran.communicate()[1]
-    if ran.returncode or said or came != wanted:
-        return f"{' '.join(words)}: status {ran.returncode}, {said!r}, {came} and not {wanted} within {most} bytes"
+    process = subprocess.Popen(
+        [RV, *words], cwd=folder, stdout=subprocess.PIPE, stderr=subprocess.PIPE, preexec_fn=limit
+    )
+    came, wanted = counted(iter(lambda: process.stdout.read(MIB), b"")), counted(parts)
+    message = process.communicate()[1]
+    if process.returncode or message or came != wanted:
+        return (
+            f"{' '.join(words)}: status {process.returncode}, {message!r}, {came} and not {wanted} within {most} bytes"
+        )
     return None
 
 
@@ -211,7 +215,7 @@ def main(words):
         print("".join(f"{it}\n" for it in large if it), end="")
         passed, failed = large.count(None), len(large) - large.count(None)
         for source, use in FILES:
-            held = made(source, use)
+            held = file_of(source, use)
             tried = places(held, use, 1 if words == ["--all"] else 64)
             tests = [(wrong_cut, [(folder, use, held, at) for at in tried])]
             for byte in (0, 0xFF):

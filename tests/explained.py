@@ -69,13 +69,13 @@ def look_at(title):
         same("in small letters", told, entry(folder, code.lower())[0])
         if re.match(r"[EL]\d", code) and code != "L4":
             words = files(folder, code, example)
-            said = rv(folder, *words).stderr.decode()
-            if not re.fullmatch(rf"rv: (?:a\.s:\d+: )?{title}(?: f)?\n", said):
-                raise Failed(f"the example gives {said!r}")
+            message = rv(folder, *words).stderr.decode()
+            if not re.fullmatch(rf"rv: (?:a\.s:\d+: )?{title}(?: f)?\n", message):
+                raise Failed(f"the example gives {message!r}")
         elif " " not in title:
             files(folder, code, example)
-            ran = rv(folder, "run", "--limit", "1000", "a.s")
-            came = "Exited" if ran.returncode == 7 else ran.stderr.decode().removeprefix("rv: ").split()[0]
+            process = rv(folder, "run", "--limit", "1000", "a.s")
+            came = "Exited" if process.returncode == 7 else process.stderr.decode().removeprefix("rv: ").split()[0]
             same("the end of the example", title, came)
 
 

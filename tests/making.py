@@ -20,14 +20,14 @@ MAKERS = (["scripts/build.py", "rv_cli"], ["scripts/quick.py", "rv_cli", "made"]
 def output(words, folder, path=os.environ["PATH"]):
     """The status of a command in a folder, and all that it writes."""
     how = {"stdout": subprocess.PIPE, "stderr": subprocess.STDOUT, "text": True, "timeout": 60}
-    ran = subprocess.run(words, cwd=folder, env={**os.environ, "PATH": path}, **how)
-    return ran.returncode, ran.stdout
+    process = subprocess.run(words, cwd=folder, env={**os.environ, "PATH": path}, **how)
+    return process.returncode, process.stdout
 
 
 def version(folder):
     """Whether ./rv says whether it is proved, and its commit."""
-    status, said = output([TOP / "rv", "--version"], folder)
-    yield "rv --version", status == 0 and SAYS.fullmatch(said), said
+    status, message = output([TOP / "rv", "--version"], folder)
+    yield "rv --version", status == 0 and SAYS.fullmatch(message), message
 
 
 def makers(folder):
@@ -37,12 +37,12 @@ def makers(folder):
     rt.chmod(0o755)
     for script, *words in MAKERS:
         words = [sys.executable, TOP / script, *words]
-        status, said = output(words, folder, f"{folder}:{os.environ['PATH']}")
-        yield f"{script}, another toolchain", status == 1 and said.startswith(
+        status, message = output(words, folder, f"{folder}:{os.environ['PATH']}")
+        yield f"{script}, another toolchain", status == 1 and message.startswith(
             "the toolchain here is another-kit, "
-        ), said
-        status, said = output(words, folder, "")
-        yield f"{script}, no toolchain", status == 1 and said.startswith("rt is not on the PATH: "), said
+        ), message
+        status, message = output(words, folder, "")
+        yield f"{script}, no toolchain", status == 1 and message.startswith("rt is not on the PATH: "), message
         yield f"{script} makes nothing then", not (folder / "made").exists(), ""
 
 
@@ -55,12 +55,12 @@ def marks(folder):
         ("a place that is not said", b"exit # " + PLACE),
     ):
         (folder / "built").write_bytes(b"#!/bin/sh\n" + text + b"\n")
-        status, said = output(mark, folder)
-        yield f"a mark with {name}", status == 1 and not (folder / "program").exists(), said
+        status, message = output(mark, folder)
+        yield f"a mark with {name}", status == 1 and not (folder / "program").exists(), message
     (folder / "built").write_bytes(b"#!/bin/sh\necho 'rv 0.0.0 " + PLACE + b"'\n")
-    status, said = output(mark, folder)
-    status, said = (status, said) if status else output(["./program"], folder)
-    yield "a mark", status == 0 and SAYS.fullmatch(said), said
+    status, message = output(mark, folder)
+    status, message = (status, message) if status else output(["./program"], folder)
+    yield "a mark", status == 0 and SAYS.fullmatch(message), message
 
 
 def main():
@@ -68,11 +68,11 @@ def main():
         sys.exit("no ./rv: run make first")
     passed = failed = 0
     with tempfile.TemporaryDirectory() as folder:
-        for name, holds, said in (it for part in (version, makers, marks) for it in part(Path(folder))):
+        for name, holds, message in (it for part in (version, makers, marks) for it in part(Path(folder))):
             passed += bool(holds)
             failed += not holds
             if not holds:
-                print(f"{name}: {said.strip()}")
+                print(f"{name}: {message.strip()}")
     print(f"{passed} passed, {failed} failed")
     return int(failed > 0)
 

@@ -94,13 +94,13 @@ class Answer:
 
     status: int
     out: bytes
-    said: str
+    message: str
     taken: int
     left: tuple
 
     def __str__(self):
         ended = f"signal {-self.status}" if self.status < 0 else f"status {self.status}"
-        parts = [ended, self.said.strip().replace("\n", " / ") or "nothing said"]
+        parts = [ended, self.message.strip().replace("\n", " / ") or "nothing said"]
         parts += [f"{len(self.out)} bytes of output, {self.out[:40]!r} .."] if self.out else []
         parts += [f"{self.taken} bytes of input taken"] if self.taken else []
         parts += [f"{name} left" for name, _ in self.left]
@@ -133,13 +133,13 @@ class Case:
             given.write(self.given)
             given.flush()
             os.lseek(given.fileno(), 0, os.SEEK_SET)
-            ran = subprocess.run(
+            process = subprocess.run(
                 self.words, cwd=folder, stdin=given, capture_output=True, timeout=SECONDS, env={**os.environ, **set_by}
             )
             taken = os.lseek(given.fileno(), 0, os.SEEK_CUR)
             left = tuple((it.name, it.read_bytes()) for it in sorted(Path(folder).iterdir()))
-        said = ran.stderr.decode("utf8", "replace").replace(f"{self.at}/", "")
-        return Answer(ran.returncode, ran.stdout, said, taken, left)
+        message = process.stderr.decode("utf8", "replace").replace(f"{self.at}/", "")
+        return Answer(process.returncode, process.stdout, message, taken, left)
 
     def requests(self, shim):
         """How many requests for memory the call makes."""
@@ -165,12 +165,12 @@ class Case:
 
     def was_begun(self, came):
         """Whether whole lines of a run were told, and then that memory ran out."""
-        lines, told, rest = came.said.partition(REFUSED.said)
-        is_part = lines.endswith("\n") and self.wanted.said.startswith(lines)
-        return is_part and not rest and replace(came, said=told) == REFUSED
+        lines, told, rest = came.message.partition(REFUSED.message)
+        is_part = lines.endswith("\n") and self.wanted.message.startswith(lines)
+        return is_part and not rest and replace(came, message=told) == REFUSED
 
 
-def made(at, *words):
+def output_of(at, *words):
     """What ./rv writes to standard output for a call that makes what cases begin with, or are compared with."""
     return subprocess.run([RV, *words], cwd=at, check=True, timeout=SECONDS, stdout=subprocess.PIPE).stdout
 
@@ -178,10 +178,10 @@ def made(at, *words):
 def written(at, texts, options):
     """What ./rv makes of sources: the file of each object, the executable, its map and its listing."""
     for text in texts:
-        made(at, "as", "-o", text.replace(".s", ".o"), text)
-    made(at, "build", *options, "-o", "exe", "--map", "map", *texts)
+        output_of(at, "as", "-o", text.replace(".s", ".o"), text)
+    output_of(at, "build", *options, "-o", "exe", "--map", "map", *texts)
     files = [(at / it).read_bytes() for it in (*[it.replace(".s", ".o") for it in texts], "exe", "map")]
-    return *files, made(at, "objdump", "--map", "map", "exe")
+    return *files, output_of(at, "objdump", "--map", "map", "exe")
 
 
 def raw_listing(at):
@@ -195,11 +195,11 @@ def commands(name, source, at, texts):
     """The cases of a source's commands, each with files that are wanted of it, and output."""
     *objects, exe, map_, listing = written(at, texts, source.options)
     paths = [*source.options, *[str(at / it) for it in texts]]
-    said = f"rv: {source.end}\n" if source.end else ""
-    ran = Answer(source.status, source.console, said, min(len(source.console), len(source.given)), ())
+    message = f"rv: {source.end}\n" if source.end else ""
+    ran = Answer(source.status, source.console, message, min(len(source.console), len(source.given)), ())
     wrote = lambda **files: Answer(0, b"", "", 0, tuple(files.items()))
     shown = lambda out: Answer(0, out, "", 0, ())
-    dump = made(at, "dump", "exe")
+    dump = output_of(at, "dump", "exe")
     objs = [str(at / it.replace(".s", ".o")) for it in texts]
     looked = [
         ["size", *objs],
@@ -226,16 +226,16 @@ def commands(name, source, at, texts):
         (f"objdump {name}", ["objdump", "--map", str(at / "map"), str(at / "exe")], shown(listing)),
         (f"map {name}", ["map", *paths], shown(map_)),
         (f"dump {name}", ["dump", str(at / "exe")], shown(dump)),
-        (f"check {name}", ["check", *paths], shown(made(at, "check", *paths))),
-        (f"explain {name}", ["explain"], shown(made(at, "explain"))),
-        (f"explain E14 {name}", ["explain", "E14"], shown(made(at, "explain", "E14"))),
+        (f"check {name}", ["check", *paths], shown(output_of(at, "check", *paths))),
+        (f"explain {name}", ["explain"], shown(output_of(at, "explain"))),
+        (f"explain E14 {name}", ["explain", "E14"], shown(output_of(at, "explain", "E14"))),
     ]
-    calls += [(f"{it[0]} {name} {number}", it, shown(made(at, *it))) for number, it in enumerate(looked)]
+    calls += [(f"{it[0]} {name} {number}", it, shown(output_of(at, *it))) for number, it in enumerate(looked)]
     raw = raw_listing(at)
     calls += [(f"objdump --raw {name}", ["objdump", "--raw", str(at / "exe")], shown(raw))] if raw else []
     calls += [(f"run of a source {name}", ["run", *paths], ran)] if len(texts) == 1 else []
     shells = [["completions", shell] for shell in ("bash", "zsh", "fish")] if name == "exit7" else []
-    calls += [(f"{' '.join(it)} {name}", it, shown(made(at, *it))) for it in shells]
+    calls += [(f"{' '.join(it)} {name}", it, shown(output_of(at, *it))) for it in shells]
     calls += watched(name, source, at, paths) if name == "exit7" else []
     for called, words, wanted in calls:
         yield Case(called, [RV, *words], at, source.given if wanted is ran else b"", wanted)

@@ -215,9 +215,9 @@ def look_at(folder, words, head):
     """Makes one call, and compares each expectation with what came."""
     given = b"".join(repeated_text(value) for key, value in head if key == "input")
     before = sorted(folder.iterdir())
-    ran = subprocess.run([RV, *words], cwd=folder, input=given, capture_output=True, timeout=SECONDS)
-    said = ran.stderr.decode("utf8", "replace").splitlines()
-    last, one = said[-1] if said else "", dict(head)
+    process = subprocess.run([RV, *words], cwd=folder, input=given, capture_output=True, timeout=SECONDS)
+    error_lines = process.stderr.decode("utf8", "replace").splitlines()
+    last, one = error_lines[-1] if error_lines else "", dict(head)
     status = (
         int(one["status"])
         if "status" in one
@@ -227,26 +227,26 @@ def look_at(folder, words, head):
         if "end" in one
         else int(one.get("exit", 0))
     )
-    same(f"rv {' '.join(words)}: its status, with {last!r}", status, ran.returncode)
+    same(f"rv {' '.join(words)}: its status, with {last!r}", status, process.returncode)
     wanted = one.get("error") or (
         "rv: " + one["fault"] if "fault" in one else "rv: " + one["end"] if "end" in one else None
     )
     if wanted is not None:
         same("standard error", wanted, last)
-    for key, came in (("console", ran.stdout), ("out", ran.stdout), ("errors", ran.stderr)):
+    for key, came in (("console", process.stdout), ("out", process.stdout), ("errors", process.stderr)):
         if key in one:
             same(key, unescaped(one[key]), came)
-    if ran.returncode and not last.endswith(": cannot write"):
+    if process.returncode and not last.endswith(": cannot write"):
         same("files of a call that is refused", before, sorted(folder.iterdir()))
-    if not ran.returncode and words and words[0] in ("build", "ld"):
+    if not process.returncode and words and words[0] in ("build", "ld"):
         look_at_modes(folder, words)
     for key, value in head:
-        if key == "out has" and value not in ran.stdout.decode("utf8", "replace").splitlines():
-            raise Failed(f"out has: {value}\n  came   {ran.stdout!r}")
-        if key == "errors has" and value not in said:
-            raise Failed(f"errors has: {value}\n  came   {ran.stderr!r}")
+        if key == "out has" and value not in process.stdout.decode("utf8", "replace").splitlines():
+            raise Failed(f"out has: {value}\n  came   {process.stdout!r}")
+        if key == "errors has" and value not in error_lines:
+            raise Failed(f"errors has: {value}\n  came   {process.stderr!r}")
         if key in ("out is", "errors is"):
-            same(key, (folder / value).read_bytes(), ran.stdout if key == "out is" else ran.stderr)
+            same(key, (folder / value).read_bytes(), process.stdout if key == "out is" else process.stderr)
         look_at_files(folder, words, key, value)
     mapped, listing = ([value for key, value in head if key == it] for it in ("map", "listing"))
     if "rvmap 1" in mapped:
@@ -266,8 +266,8 @@ def look_at_modes(folder, words):
 def look_at_listing(folder, words, wanted):
     """Looks for lines that follow each other in the listing of what the call built."""
     exe, text = words[words.index("-o") + 1], words[words.index("--map") + 1]
-    ran = subprocess.run([RV, "objdump", "--map", text, exe], cwd=folder, capture_output=True, timeout=SECONDS)
-    lines = ran.stdout.decode().splitlines()
+    process = subprocess.run([RV, "objdump", "--map", text, exe], cwd=folder, capture_output=True, timeout=SECONDS)
+    lines = process.stdout.decode().splitlines()
     if not any(lines[at : at + len(wanted)] == wanted for at in range(len(lines))):
         raise Failed(f"the listing\n  wanted {wanted}\n  came   {lines[:40]}")
 

@@ -72,12 +72,12 @@ def assembled(folder):
         Path(folder, part).mkdir(parents=True)
     Path(folder, "bin/rv").symlink_to(RV)
     shutil.copy(TOP / "scripts/as.sh", Path(folder, "libexec/rv/as"))
-    said = output([RV, "as", "-o", "wanted.o", "program.s"], folder).stderr
+    message = output([RV, "as", "-o", "wanted.o", "program.s"], folder).stderr
     for words in ASSEMBLES:
         came = output(["libexec/rv/as", *words.split()], folder, SOURCE).stderr
         made = Path(folder, words.split()[words.split().index("-o") + 1])
         same = made.exists() and made.read_bytes() == Path(folder, "wanted.o").read_bytes()
-        yield f"as {words}", "the same object", said + came + ("the same object" if same else "another object")
+        yield f"as {words}", "the same object", message + came + ("the same object" if same else "another object")
 
 
 def main():

@@ -29,8 +29,8 @@ LISTINGS = [
 
 
 def in_pipe(words, folder):
-    ran = subprocess.run([RV, *words], cwd=folder, capture_output=True, timeout=60)
-    return ran.stderr if words in TRACES else ran.stdout
+    process = subprocess.run([RV, *words], cwd=folder, capture_output=True, timeout=60)
+    return process.stderr if words in TRACES else process.stdout
 
 
 def on_terminal(words, folder, **more):
