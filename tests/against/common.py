@@ -134,8 +134,8 @@ def csmith_options(document, count):
     return words.parse_args()
 
 
-def random_options(document, count=None, first=0):
-    """The words of a comparison over lists or files that a seed and a number draw."""
+def random_parser(document, count=None, first=0):
+    """Reads the words of a comparison over lists or files that a seed and a number draw."""
     words = argparse.ArgumentParser(description=document.split("\n")[0])
     words.add_argument("count", type=int, nargs=None if count is None else "?", default=count)
     words.add_argument("--seed", type=int, default=1)

@@ -36,7 +36,7 @@ import time
 from collections import Counter
 from pathlib import Path
 
-from against.common import ROOT, RV, need, numbers_of, random_options
+from against.common import ROOT, RV, need, numbers_of, random_parser
 from run import cases
 
 MIB = 1 << 20
@@ -651,7 +651,7 @@ def tell(done, start):
 
 def main():
     global SEED, CORPUS, KEPT, LEAST, RV
-    words = random_options(__doc__)
+    words = random_parser(__doc__)
     words.add_argument("--gnu")
     given = words.parse_args()
     need(given.rv)

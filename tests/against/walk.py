@@ -25,7 +25,7 @@ from collections import Counter
 from dataclasses import dataclass, field, replace
 from pathlib import Path
 
-from against.common import need, numbers_of, random_options
+from against.common import need, numbers_of, random_parser
 from objects import KINDS
 
 PROGBITS, NOTE, NOBITS = 1, 7, 8
@@ -936,7 +936,7 @@ def compared(number):
 
 def main():
     global SEED, KEPT, PROGRAM
-    given = random_options(__doc__).parse_args()
+    given = random_parser(__doc__).parse_args()
     need(given.rv)
     SEED, PROGRAM, KEPT = given.seed, given.rv.resolve(), Path(tempfile.mkdtemp(prefix="walk-"))
     numbers = numbers_of(given)

@@ -36,7 +36,7 @@ from collections import Counter
 from concurrent.futures import ThreadPoolExecutor
 from pathlib import Path
 
-from against.common import GNU, SECONDS, need, numbers_of, random_options
+from against.common import GNU, SECONDS, need, numbers_of, random_parser
 
 SCRIPT = """ENTRY(_start)
 SECTIONS {
@@ -382,7 +382,7 @@ def taken(options, number):
 
 
 def main():
-    options = random_options(__doc__, count=300, first=1).parse_args()
+    options = random_parser(__doc__, count=300, first=1).parse_args()
     need(options.rv, *(f"{GNU}{tool}" for tool in ("as", "ld")))
     lists = numbers_of(options)
     counts = Counter()
