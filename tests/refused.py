@@ -81,6 +81,14 @@ SOURCES = {
         status=4,
         options=("--gc-sections",),
     ),
+    "deep_expression": Source(
+        [
+            f"{START}li a0, 1-(2-(3-(4-(5-(6-(7-(8-(9-10)))))))) + 10; {EXIT}; "
+            ".data; .dword 1+(2+(3+(4+(5+(6+(7+(8+(9+d)))))))); d:"
+        ],
+        status=5,
+        options=("--no-relax",),
+    ),
     "undefined": Source([f"{START}call f; call _g"], fault="L5 Undefined f"),
     "twice": Source([f"{START}{EXIT}", ".globl _start; _start: nop"], fault="L6 Duplicate _start"),
     "no_operands": Source([f"{START}addi a0, a1; {EXIT}"], fault="1.s:1: E7 BadOperands"),
@@ -237,8 +245,17 @@ def commands(name, source, at, texts):
     shells = [["completions", shell] for shell in ("bash", "zsh", "fish")] if name == "exit7" else []
     calls += [(f"{' '.join(it)} {name}", it, shown(output_of(at, *it))) for it in shells]
     calls += watched(name, source, at, paths) if name == "exit7" else []
+    calls += images(name, at) if name == "hello" else []
     for called, words, wanted in calls:
         yield Case(called, [RV, *words], at, source.given if wanted is ran else b"", wanted)
+
+
+def images(name, at):
+    """The images of an executable in each format."""
+    for kind in ("bin", "ihex", "srec", "vhex"):
+        output_of(at, "image", f"--{kind}", "-o", kind, "exe")
+        wanted = Answer(0, b"", "", 0, (("image", (at / kind).read_bytes()),))
+        yield f"image --{kind} {name}", ["image", f"--{kind}", "-o", "image", str(at / "exe")], wanted
 
 
 def watched(name, source, at, paths):

@@ -17,6 +17,13 @@ ROOT = Path(__file__).resolve().parent.parent
 RV = str(ROOT / "rv")
 SOURCE = ROOT / "examples" / "exit7.s"
 COLOUR = re.compile(rb"\x1b\[[\d;]*m")
+# A source with texts, in which quotes and comments are no others.
+TEXTS = """.globl _start
+_start: nop
+.data
+.ascii "a \\"b\\" # c", "\\\\" # d
+.asciz ""
+"""
 # Words that print listings, and those that trace to standard error.
 TRACES = [["trace", str(SOURCE)], ["run", "--report", "--limit", "1", str(SOURCE)]]
 LISTINGS = [
@@ -25,6 +32,7 @@ LISTINGS = [
     ["dis", "exit7"],
     ["dis", "--base", "--map", "exit7.map", "exit7"],
     ["list", str(SOURCE)],
+    ["list", "text.s"],
 ]
 
 
@@ -70,6 +78,7 @@ def main():
     failed = 0
     with tempfile.TemporaryDirectory() as folder:
         subprocess.run([RV, "build", "-o", "exit7", "--map", "exit7.map", str(SOURCE)], cwd=folder, check=True)
+        Path(folder, "text.s").write_text(TEXTS)
         for words in LISTINGS + TRACES:
             found = list(faults(words, folder))
             failed += bool(found)
