@@ -89,6 +89,15 @@ SOURCES = {
         status=5,
         options=("--no-relax",),
     ),
+    "many_names": Source(
+        [
+            f".set x, 2; .weak w; .globl v; {START}1: li a0, x; .option push; .option norvc; beqz a0, 1b; .option pop; "
+            f".set x, 5; 2: li a0, x; j 3f; .balign 16; 3: {EXIT}; "
+            ".data; 1: .half 7; v: .half x, v - 1b; 1: .balign 8; d: .dword d, w; .set z, . - d"
+        ],
+        status=5,
+        options=("--no-relax",),
+    ),
     "undefined": Source([f"{START}call f; call _g"], fault="L5 Undefined f"),
     "twice": Source([f"{START}{EXIT}", ".globl _start; _start: nop"], fault="L6 Duplicate _start"),
     "no_operands": Source([f"{START}addi a0, a1; {EXIT}"], fault="1.s:1: E7 BadOperands"),
