@@ -25,6 +25,8 @@ SOURCES := crates.txt $(filter-out crates/rv_refused/%,$(FILES))
 # new an unproved one is.
 PROVED := out/proved/rv
 UNPROVED := out/quick/rv
+# It notes which of its functions are entered, and is not proved.
+COUNTED := out/counted/rv
 
 .PHONY: all quick proved check refused test definitions lint reached bench growth install clean
 
@@ -51,6 +53,10 @@ $(PROVED): $(SOURCES)
 
 $(UNPROVED): $(SOURCES)
 	scripts/quick.py rv_cli $(UNPROVED)
+
+$(COUNTED): $(SOURCES)
+	mkdir -p $(@D)
+	scripts/counted.py rv_cli $(COUNTED)
 
 # (where there is none, or one of older sources)
 rv: $(SOURCES)
@@ -88,8 +94,8 @@ definitions:
 lint:
 	scripts/lint.sh
 
-reached:
-	tests/reached.py
+reached: $(COUNTED)
+	tests/reached.py $(COUNTED)
 
 bench: rv
 	python3 bench/run.py

@@ -1,16 +1,14 @@
 #!/usr/bin/env python3
 """Lists the functions of rv that no case of tests/ reaches: make reached.
 
-usage: reached.py [--rv PROGRAM]
+usage: reached.py PROGRAM      (one that scripts/counted.py made)
 
-The program is built by scripts/counted.py, unless one is named that it made, and the scripts of `make check` and
-`make refused` run over it in a copy of the folders that they read. Two lists come out: functions that are part of the
-program and were never entered, and functions of the sources, below the program, that no part of the program calls. A
-function counts as entered if it was with any types. The last line is 'N passed, M failed', where a function fails that
-was never entered.
+The scripts of `make check` and `make refused` run over the program, in a copy of the folders that they read. Two lists
+come out: functions that are part of the program and were never entered, and functions of the sources, below the
+program, that no part of the program calls. A function counts as entered if it was with any types. The last line is
+'N passed, M failed', where a function fails that was never entered.
 """
 
-import argparse
 import os
 import re
 import shutil
@@ -20,20 +18,12 @@ import tempfile
 from pathlib import Path
 
 ROOT = Path(__file__).resolve().parent.parent
-PROGRAM = ROOT / "out" / "counted" / "rv"
 FOLDERS = ("tests", "docs", "examples", "scripts", "bench")
 FILES = ("README.md", "crates.txt", "Makefile")
 SCRIPTS = "run collected damaged explained tour shells terminal streams making refused".split()
 PAGE = 4096
 # A function of a source that is code, and not part of a contract.
 FUNCTION = re.compile(r'(?m)^ *(?:pub(?:\([^)]*\))? |unsafe |default |const |extern "C" |safe )*fn (\w+)')
-
-
-def built(program):
-    """Builds the program where none is named; its path."""
-    if program is None:
-        subprocess.run([sys.executable, ROOT / "scripts" / "counted.py", "rv_cli", PROGRAM], check=True)
-    return Path(program or PROGRAM).resolve()
 
 
 def copy_of_folders(program, at):
@@ -122,9 +112,9 @@ def show(title, places):
 
 
 def main():
-    words = argparse.ArgumentParser(description=__doc__.split("\n")[0])
-    words.add_argument("--rv", help="a program that counted.py made")
-    program = built(words.parse_args().rv)
+    if len(sys.argv) != 2:
+        sys.exit(__doc__)
+    program = Path(sys.argv[1]).resolve()
     names = Path(f"{program}.functions").read_text(encoding="latin-1").splitlines()
     reached, every = written(entered(program, names)), written(names)
     show("functions of sources that the program has not", [*outside("rv_cli", every)])
