@@ -1,20 +1,19 @@
 #!/usr/bin/env python3
 """Tests that each crate names what its storey may name.
 
-crates.txt has three lists, each below its heading: '# definitions', '# theorems', '# code'; a line '# types: ..' names the
-crates of definitions whose types have tables beside them. Definitions name definitions. Theorems name definitions and
-theorems; of code they call functions, whose contracts they then have, and name no specs and no proofs. Code names definitions
-and code; of theorems it calls laws and names their statements, and no proofs. Among definitions and theorems nothing runs but
-the tables beside types: a body calls laws alone.
+crates.txt has three lists, each below its heading: '# definitions', '# theorems', '# code'; a line '# types: ..' names
+the crates of definitions whose types have tables beside them. Definitions name definitions. Theorems name definitions
+and theorems; of code they call functions, whose contracts they then have, and name no specs and no proofs. Code names
+definitions and code; of theorems it calls laws and names their statements, and no proofs. Among definitions and
+theorems nothing runs but the tables beside types: a body calls laws alone.
 
-scripts/storeys.txt has what may still break this: a line for each two crates, with how many lines of the first name the
-second. It says exactly what is so, and lines only leave it; --write writes it anew. Lists what breaks the rule beyond that;
-the last line is 'N passed, M failed'.
+scripts/storeys.txt has what may still break this: a line for each two crates, with how many lines of the first name
+the second. It says exactly what is so, and lines only leave it; --write writes it anew. Lists what breaks the rule
+beyond that; the last line is 'N passed, M failed'.
 """
 
 import re
 import sys
-from collections import Counter
 from pathlib import Path
 
 TOP = Path(__file__).resolve().parent.parent
@@ -46,7 +45,7 @@ def storeys():
 
 
 def faults(crate, text, storey, runs):
-    """What a file of a crate names that it may not, and what runs in it and may not: where, whom, and how it is said."""
+    """What a file of a crate names that it may not, and what runs in it and may not: where, whom, how it is said."""
     for found in NAMED.finditer(text):
         pair = storey[crate], storey.get(found[1])
         if found[1] in storey and found[1] != crate and not MAY & {pair, (*pair, found[2])}:

@@ -1,10 +1,11 @@
 #!/usr/bin/env python3
 """Runs the commands of the documents over ./rv, and compares what they print with the page.
 
-A block ```sh has commands behind `$`, each with what it prints to both streams; where a page shows nothing, the command
-may print anything, but has to succeed. A block below a comment that begins `<!-- not run` is passed over. A block ```asm
-is the file that the line before it names last, as `digits.s`. The commands of a page share a folder, in which `rv`,
-`examples` and `tests` are those of the repository. Standard library alone; the last line is 'N passed, M failed'.
+A block ```sh has commands behind `$`, each with what it prints to both streams; where a page shows nothing, the
+command may print anything, but has to succeed. A block below a comment that begins `<!-- not run` is passed over. A
+block ```asm is the file that the line before it names last, as `digits.s`. The commands of a page share a folder, in
+which `rv`, `examples` and `tests` are those of the repository. Standard library alone; the last line is
+'N passed, M failed'.
 """
 
 import os
