@@ -17,6 +17,9 @@ pub enum CliError {
     /// The line that says it.
     #[error("{0}")]
     Line(String),
+    /// Whoever reads standard output wants no more of it.
+    #[error("standard output is closed")]
+    Closed,
     #[error("out of memory")]
     Memory,
 }
@@ -35,6 +38,7 @@ impl From<JobError> for CliError {
     fn from(error: JobError) -> Self {
         match error {
             JobError::Line(line) => CliError::Line(line),
+            JobError::Closed => CliError::Closed,
             JobError::Memory => CliError::Memory,
         }
     }

@@ -5,7 +5,7 @@ use Rattle.clap.specs.Values.{kind_of}
 use Rattle.clap.specs.declared.error.kind.ErrorKind.{ErrorKind}
 use Rattle.clap.specs.declared.error.kind.ErrorKind.TheVariants.{DisplayHelp, DisplayVersion}
 use Rattle.rv_job_words.specs.declared.error.CliError.{CliError}
-use Rattle.rv_job_words.specs.declared.error.CliError.TheVariants.{Usage, NotText, Line, Memory}
+use Rattle.rv_job_words.specs.declared.error.CliError.TheVariants.{Usage, NotText, Line, Closed, Memory}
 
 -- what was asked is done
 abbrev pub done : ℕ
@@ -31,4 +31,5 @@ IsErrorStatus (Usage error) status =
     (status ≡ usage_status (kind_of error)) ⊎ (status ≡ refused)
 IsErrorStatus NotText status = status ≡ wrong_words
 IsErrorStatus (Line line) status = status ≡ refused
+IsErrorStatus Closed status = status ≡ refused
 IsErrorStatus Memory status = status ≡ refused

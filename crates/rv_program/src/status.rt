@@ -8,6 +8,7 @@ use crate::jobs::run_job;
 use rv_job_words::{CliError, parse_job};
 use rv_system::System;
 use std::alloc::Global;
+use std::io::ErrorKind;
 
 /// The exit status of a refused job.
 const REFUSED: u8 = 1;
@@ -44,6 +45,7 @@ pub fn report<S: System>(system: &mut S, error: CliError) -> u8
             USAGE
         }
         CliError::Line(line) => refuse(system, line.as_str()),
+        CliError::Closed => REFUSED,
         CliError::Memory => refuse(system, "out of memory"),
     }
 }
@@ -70,6 +72,7 @@ fn show_usage<S: System>(system: &mut S, error: &clap::Error) -> u8
     }
     match system.print(text.as_bytes()) {
         Ok(()) => 0,
+        Err(error) if error.kind() == ErrorKind::BrokenPipe => REFUSED,
         Err(_) => refuse(system, "-: cannot write"),
     }
 }

@@ -132,6 +132,7 @@ fn ends(alloc: Global, row: &Row) -> Result<bool, AllocError> {
         source,
         input: None,
         closed: !open,
+        is_unread: false,
         colours: false,
     };
     let mut fake = Fake::new(alloc, scene);
@@ -153,6 +154,7 @@ fn what_is_written(rt: HostRuntime) -> Result<(), Fail> {
         source: WRITES_H,
         input: Some(b""),
         closed: false,
+        is_unread: false,
         colours: false,
     };
     let mut fake = Fake::new(rt.alloc(), scene);
@@ -161,6 +163,28 @@ fn what_is_written(rt: HostRuntime) -> Result<(), Fail> {
     assert!(rt; fake.said("", ""));
     assert_eq!(rt; report(&mut fake, CliError::NotText), 2);
     assert!(rt; fake.said("", "rv: a word of the command line is not text\n"));
+    Ok(())
+}
+
+/// Whether words print nothing, and say nothing of it, where nobody reads standard output.
+fn ends_quietly(alloc: Global, words: &str) -> Result<bool, AllocError> {
+    let scene = Scene {
+        source: WRITES_H,
+        input: None,
+        closed: false,
+        is_unread: true,
+        colours: false,
+    };
+    let mut fake = Fake::new(alloc, scene);
+    let found = fake.does(words)?;
+    Ok(found == 1 && fake.said("", ""))
+}
+
+#[test]
+fn who_reads_no_more(rt: HostRuntime) -> Result<(), Fail> {
+    for words in ["rv map a.s", "rv dump a.s", "rv check a.s", "rv --help"] {
+        assert!(rt; ends_quietly(rt.alloc(), words)?, "{words}");
+    }
     Ok(())
 }
 

@@ -18,6 +18,8 @@ pub(super) struct Scene<'a> {
     pub(super) input: Option<&'a [u8]>,
     /// Whether nothing can be written, neither files nor standard output.
     pub(super) closed: bool,
+    /// Whether whoever reads standard output has closed it.
+    pub(super) is_unread: bool,
     /// Whether standard output shows colours.
     pub(super) colours: bool,
 }
@@ -55,7 +57,7 @@ pub(super) struct Output {
 impl Write for Output {
     fn write(&mut self, bytes: &[u8]) -> io::Result<usize> {
         if self.closed {
-            return Err(io::Error::from(ErrorKind::BrokenPipe));
+            return Err(io::Error::from(ErrorKind::Other));
         }
         self.bytes.extend_from_slice(bytes)?;
         Ok(bytes.len())
@@ -142,8 +144,11 @@ impl System for Fake<'_> {
     }
 
     fn print(&mut self, bytes: &[u8]) -> io::Result<()> {
-        if self.scene.closed {
+        if self.scene.is_unread {
             return Err(io::Error::from(ErrorKind::BrokenPipe));
+        }
+        if self.scene.closed {
+            return Err(io::Error::from(ErrorKind::Other));
         }
         self.output.extend_from_slice(bytes)?;
         Ok(())

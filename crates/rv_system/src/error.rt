@@ -9,6 +9,9 @@ pub enum JobError {
     /// The line that says it.
     #[error("{0}")]
     Line(String),
+    /// Whoever reads standard output wants no more of it.
+    #[error("standard output is closed")]
+    Closed,
     #[error("out of memory")]
     Memory,
 }

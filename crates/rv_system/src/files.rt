@@ -9,6 +9,7 @@ use rv_map::{Map, read};
 use rv_paint::painted;
 use rv_streams::ReadFault;
 use std::alloc::{AllocError, Global};
+use std::io::ErrorKind;
 
 /// The bytes of a text that are kept at most before they are written, but for those of its last part.
 const KEPT: usize = 1 << 16;
@@ -89,10 +90,11 @@ pub fn write<S: System>(
     }
 }
 
-/// Writes to standard output, which messages call `-`.
+/// Writes to standard output, which messages call `-`. Where its reader has closed it, as `head` does, nothing is to be said.
 pub fn print<S: System>(system: &mut S, bytes: &[u8]) -> Result<(), JobError> {
     match system.print(bytes) {
         Ok(()) => Ok(()),
+        Err(error) if error.kind() == ErrorKind::BrokenPipe => Err(JobError::Closed),
         Err(_) => Err(cannot(system.alloc(), "write", "-")?),
     }
 }
