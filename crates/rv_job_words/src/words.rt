@@ -7,7 +7,7 @@ ghost use Rattle.std.specs.Prelude.{◌≤◌, ℕ, IfSome, IfNone};
 ghost use Rattle.rv_job_words.specs.Numbers.{IsRadixNumber, IsStart};
 
 use crate::error::CliError;
-use crate::words_of_assembling::parse_assemble;
+use crate::words_of_assembling::{parse_assemble, refuse_debug_information};
 use crate::words_of_images::parse_image;
 use crate::words_of_runs::{parse_report, parse_stats, parse_trace};
 use clap::error::ErrorKind;
@@ -25,6 +25,7 @@ pub(crate) const LIMIT: u64 = 1_000_000_000_000;
 /// What the words ask for; the first word is the program's own name.
 pub fn parse_job<'a>(alloc: Global, words: &'a [&'a str]) -> Result<Job<'a>, CliError> {
     let mut command = command(alloc, words.get(1).copied())?;
+    refuse_debug_information(alloc, &mut command, words)?;
     let matches = command.try_get_matches_from_mut(words)?;
     match matches.subcommand() {
         Some((name, found)) => parse_running(alloc, &mut command, name, found),

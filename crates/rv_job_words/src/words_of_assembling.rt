@@ -30,6 +30,35 @@ pub(crate) fn parse_assemble<'a>(
     })
 }
 
+/// Refuses words for `as` that ask for debug information: all that `clap` can say of one is that it is a file's name behind
+/// `--`, which misleads.
+pub(crate) fn refuse_debug_information(
+    alloc: Global,
+    command: &mut Command<'_>,
+    words: &[&str],
+) -> Result<(), CliError> {
+    if words.get(1).copied() != Some("as") {
+        return Ok(());
+    }
+    for word in words {
+        if *word == "--" {
+            break;
+        }
+        if asks_for_debug_information(word) {
+            let said = format!(in alloc;
+                "'{word}' asks for debug information, which is not written: leave out -g"
+            )?;
+            return Err(CliError::from(command.error(ErrorKind::ValueValidation, said.as_str())?));
+        }
+    }
+    Ok(())
+}
+
+/// Whether a word asks for debug information, as GCC says it where it is given `-g`.
+fn asks_for_debug_information(word: &str) -> bool {
+    word == "-g" || word.starts_with("--gdwarf") || word.starts_with("-gdwarf")
+}
+
 /// Whether calls may be shortened, by the last option that says so.
 fn relaxes(machine: &[&str]) -> bool {
     let mut last = true;
