@@ -75,6 +75,7 @@ check: rv
 	tests/shells.py
 	tests/terminal.py
 	tests/streams.py
+	tests/editors.py
 	tests/making.py
 	scripts/links.py
 	scripts/want_of_memory.py

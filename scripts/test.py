@@ -30,6 +30,7 @@ OF_PROGRAMS = [
     ["tests/shells.py"],
     ["tests/terminal.py"],
     ["tests/streams.py"],
+    ["tests/editors.py"],
     ["tests/making.py"],
     ["tests/refused.py"],
 ]

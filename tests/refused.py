@@ -286,8 +286,9 @@ def faulty(name, source, at, texts):
     for words in (["build", "-o", "exe", "--map", "map"], ["build", "-o", "exe"], ["map"]):
         wanted = Answer(1, b"", f"rv: {source.fault}\n", 0, ())
         yield Case(" ".join([words[0], name]), [RV, *words, *paths], at, b"", wanted)
-    shown = subprocess.run([RV, "check", *paths], cwd=at, timeout=SECONDS, stdout=subprocess.PIPE).stdout
-    yield Case(f"check {name}", [RV, "check", *paths], at, b"", Answer(1, shown, "", 0, ()))
+    for words in (["check"], ["check", "--format=gcc"], ["check", "--format=json"]):
+        shown = subprocess.run([RV, *words, *paths], cwd=at, timeout=SECONDS, stdout=subprocess.PIPE).stdout
+        yield Case(" ".join([*words, name]), [RV, *words, *paths], at, b"", Answer(1, shown, "", 0, ()))
 
 
 def of_bad_files(name, at):

@@ -1,5 +1,5 @@
 # The line of a fault of the link is one that has it, also where another statement of the source adds as much to a name, and
-# where a numeric label is meant. In a source that is collected it is not looked for.
+# where a numeric label is meant, and where sections are collected.
 # rv: check odd.s
 # status: 1
 # errors:
@@ -19,11 +19,11 @@
 # rv: check part.s odd.s
 # status: 1
 # errors:
-# out is: odd
+# out is: odd_behind
 # rv: check --gc-sections odd.s
 # status: 1
 # errors:
-# out is: unknown
+# out is: odd
 #--- odd.s
 .globl _start
 _start: j 1f+1
@@ -56,21 +56,28 @@ L2 OddTarget
   odd.s:2:
     _start: j 1f+1
               ^^
-  a branch, a jump or a call goes to an odd address; instructions stand at even ones
+  1f+0x1 is at 0x10005, at a distance of 5 from here, 0x10000; instructions stand at even addresses
+1 fault
+#--- odd_behind
+L2 OddTarget
+  odd.s:2:
+    _start: j 1f+1
+              ^^
+  1f+0x1 is at 0x10009, at a distance of 5 from here, 0x10004; instructions stand at even addresses
 1 fault
 #--- far
 L1 Overflow
   far.s:3:
     j 1f+0x100000
       ^^
-  a distance or an address does not fit its place: 'rv explain L1' has the reaches
+  1f+0x100000 is at 0x11000a, at a distance of 1048584 from here, 0x10002; a jump reaches -1048576 to 1048574
 1 fault
 #--- short
 L2 OddTarget
   short.s:3:
     beqz a0, 1f+1
              ^^
-  a branch, a jump or a call goes to an odd address; instructions stand at even ones
+  1f+0x1 is at 0x1000b, at a distance of 5 from here, 0x10006; instructions stand at even addresses
 1 fault
 #--- low
 L3 DanglingPcrel
@@ -78,8 +85,4 @@ L3 DanglingPcrel
     addi a0, a0, %pcrel_lo(x)
                   ^^^^^^^^
   %pcrel_lo names a label at which there is no %pcrel_hi
-1 fault
-#--- unknown
-L2 OddTarget
-  a branch, a jump or a call goes to an odd address; instructions stand at even ones; which line has it is not known
 1 fault

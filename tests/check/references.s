@@ -41,5 +41,5 @@ L5 Undefined h
   b.s:2:
     _start: la a0, h
                    ^
-  the name means nothing here: a source has to define it in a loaded section, with .globl
+  the name means nothing here: a source has to define it in a loaded section, with .globl; b.s:5 defines it, but not so
 1 fault

@@ -337,13 +337,15 @@ Arguments:
   <SRC>...  The sources, in the order of their sections
 
 Options:
-      --text-start <N>  The address of the text, decimal or 0x and hexadecimal [default: 0x10000]
-      --no-relax        Leaves every call its eight bytes
-      --gc-sections     Leaves out sections to which nothing leads from the entry
-  -h, --help            Print help
+      --format <FORMAT>  gcc: lines as compilers write them, for editors; json: an object a line
+      --text-start <N>   The address of the text, decimal or 0x and hexadecimal [default: 0x10000]
+      --no-relax         Leaves every call its eight bytes
+      --gc-sections      Leaves out sections to which nothing leads from the entry
+  -h, --help             Print help
 
-Example:
+Examples:
   rv check prog.s
+  rv check --format=gcc prog.s
 
 Status 0 where the sources can be built, and 1 where they have a fault.
 #--- explain.txt

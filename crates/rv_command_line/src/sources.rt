@@ -6,11 +6,26 @@ use crate::table::{Entry, Form, Need, Word};
 const CHECK: Word = Word {
     name: "check",
     about: "Says what is wrong with sources, and where, without writing anything",
-    after_help: "Example:
+    after_help: "Examples:
   rv check prog.s
+  rv check --format=gcc prog.s
 
 Status 0 where the sources can be built, and 1 where they have a fault.",
-    entries: &[TEXT_START, NO_RELAX, COLLECT, SOURCES],
+    entries: &[
+        Entry {
+            id: "format",
+            form: Form::Long {
+                long: "format",
+                value: "FORMAT",
+            },
+            need: Need::Optional,
+            help: "gcc: lines as compilers write them, for editors; json: an object a line",
+        },
+        TEXT_START,
+        NO_RELAX,
+        COLLECT,
+        SOURCES,
+    ],
 };
 
 const LIST: Word = Word {

@@ -1,23 +1,31 @@
 //! What sources come to that have no fault: the sizes of the program's regions, and warnings.
 
-use crate::excerpt::{put_bytes, put_excerpt, put_file_and_line};
+use crate::excerpt::put_bytes;
 use crate::names::is_linker_symbol;
+use crate::remark::Remark;
 use crate::tokens::{LineToken, all_tokens, is_line_feed, part, place, text_of};
 use crate::warnings::{Doubt, Warning, warnings_of};
 use rv_map::{Map, Region, read};
 use std::alloc::{AllocError, Global};
 use std::collections::HashMap;
 
+/// What sources come to.
+#[derive(Debug, Drop)]
+pub struct Closing {
+    /// The sizes of the program's regions: a line, with a line feed.
+    pub sizes: String,
+    /// The warnings, source by source.
+    pub warnings: Vec<Remark>,
+}
+
 /// The sizes of a program by the text of its map, and the warnings of its sources.
-pub fn closing_of(
-    alloc: Global,
-    names: &[&str],
-    sources: &[&[u8]],
-    map: &[u8],
-) -> Result<String, AllocError> {
+pub fn closing_of(alloc: Global, sources: &[&[u8]], map: &[u8]) -> Result<Closing, AllocError> {
     match read(alloc, without_rows(map))? {
-        Some(map) => closing_by(alloc, names, sources, &map),
-        None => Ok(String::new(alloc)),
+        Some(map) => closing_by(alloc, sources, &map),
+        None => Ok(Closing {
+            sizes: String::new(alloc),
+            warnings: Vec::new(alloc),
+        }),
     }
 }
 
@@ -34,18 +42,16 @@ fn without_rows(map: &[u8]) -> &[u8] {
 }
 
 /// The sizes of a program with this map, and the warnings of its sources.
-fn closing_by(
-    alloc: Global,
-    names: &[&str],
-    sources: &[&[u8]],
-    map: &Map,
-) -> Result<String, AllocError> {
+fn closing_by(alloc: Global, sources: &[&[u8]], map: &Map) -> Result<Closing, AllocError> {
     let symbols = symbols_of(alloc, map)?;
-    let mut text = sizes_line(alloc, map)?;
-    for (name, source) in names.iter().zip(sources) {
-        put_warnings(alloc, &mut text, name, source, &symbols)?;
+    let mut warnings = Vec::new(alloc);
+    let mut file = 0usize;
+    for source in sources {
+        put_warnings(alloc, file, source, &symbols, &mut warnings)?;
+        file = file.saturating_add(1);
     }
-    Ok(text)
+    let sizes = sizes_line(alloc, map)?;
+    Ok(Closing { sizes, warnings })
 }
 
 /// The sizes of the regions, a line.
@@ -90,34 +96,32 @@ fn symbols_of(alloc: Global, map: &Map) -> Result<HashMap<u64, &[u8]>, AllocErro
 /// Adds the warnings of a source.
 fn put_warnings(
     alloc: Global,
-    text: &mut String,
-    name: &str,
+    file: usize,
     source: &[u8],
     symbols: &HashMap<u64, &[u8]>,
+    remarks: &mut Vec<Remark>,
 ) -> Result<(), AllocError> {
     let tokens = all_tokens(alloc, source)?;
     let warnings = warnings_of(alloc, source, tokens.as_slice(), symbols)?;
     for warning in &warnings {
-        put_warning(alloc, text, name, source, warning, symbols)?;
+        remarks.push(remark_of(alloc, file, source, warning, symbols)?)?;
     }
     Ok(())
 }
 
-/// Adds a warning.
-fn put_warning(
+/// What is said of a warning.
+fn remark_of(
     alloc: Global,
-    text: &mut String,
-    name: &str,
+    file: usize,
     source: &[u8],
     warning: &Warning,
     symbols: &HashMap<u64, &[u8]>,
-) -> Result<(), AllocError> {
-    let line = warning.token.line;
-    put_file_and_line(alloc, text, name, line)?;
-    text.push_str(" warning: ")?;
-    put_doubt(text, source, warning, symbols)?;
-    text.push_str("\n")?;
-    put_excerpt(text, source, line, place(&warning.token))
+) -> Result<Remark, AllocError> {
+    let mut remark = Remark::new(alloc);
+    let token: LineToken = warning.token;
+    remark.show(file, source, token.line, place(&token))?;
+    put_doubt(&mut remark.sentence, source, warning, symbols)?;
+    Ok(remark)
 }
 
 /// Adds what may be wrong.
@@ -139,6 +143,7 @@ fn put_doubt(
         Doubt::Misaligned => text.push_str(
             "the address is no multiple of the width, as sp is one of 16",
         ),
+        Doubt::AtZero => text.push_str("no program has data near address 0, so the run ends here"),
         Doubt::HidesSymbol => {
             text.push_str("this is the address of ")?;
             put_bytes(text, symbol_at(symbols, token.value))?;

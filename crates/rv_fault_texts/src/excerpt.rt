@@ -11,7 +11,7 @@ const BEFORE: usize = 40;
 const MARGIN: &str = "    ";
 
 /// Bytes of a source, from an offset to another.
-#[derive(Clone, Copy, Drop)]
+#[derive(Clone, Copy, Debug, Drop)]
 pub struct Place {
     pub start: usize,
     pub stop: usize,
@@ -29,7 +29,7 @@ pub(crate) fn put_file_and_line(
 }
 
 /// Adds a line, from 1, with carets below a part of it. A byte that is not printed is shown as `?`, a tab as a blank.
-pub fn put_excerpt(
+pub(crate) fn put_excerpt(
     text: &mut String,
     source: &[u8],
     line: u32,
@@ -77,7 +77,7 @@ fn put_many(text: &mut String, what: &str, count: usize) -> Result<(), AllocErro
 }
 
 /// Adds bytes as they are shown, at most forty.
-pub(crate) fn put_bytes(text: &mut String, bytes: &[u8]) -> Result<(), AllocError> {
+pub fn put_bytes(text: &mut String, bytes: &[u8]) -> Result<(), AllocError> {
     for byte in bytes.iter().take(BEFORE) {
         text.push(shown(*byte))?;
     }

@@ -1,7 +1,7 @@
 //! For people: what the text of a source tells of a fault, in words, and where it stands there.
 //!
 //! It takes sources and the code of a fault at a line, and gives its place, a sentence of it, the lines that define or use a
-//! name, and the source without what is faulty; it takes sources and their map, and gives sizes and warnings; and it takes
+//! name, as a [`Remark`], and the source without what is faulty; it takes sources and their map, and gives sizes and warnings; and it takes
 //! the code of a fault or the name of a run's end, and gives its cause, an example and the cure.
 //!
 //! Main functions: [`place_by_text`], [`put_sentence`], [`closing_of`], [`explanation`]. They are proved to be safe; what they
@@ -18,24 +18,32 @@ mod blanking;
 mod closing;
 mod entries;
 mod excerpt;
+mod link_words;
 mod names;
+mod near_names;
 mod occurrences;
 mod parcel_numbers;
 mod place;
 mod references;
+mod refused_names;
+mod remark;
 mod sentences;
-mod suspects;
+mod statements;
 mod table;
 mod tokens;
 mod warnings;
 
 pub use blanking::{blank, is_of_macro, without_macro, without_sort};
-pub use closing::closing_of;
+pub use closing::{Closing, closing_of};
 pub use entries::{explanation, titles};
-pub use excerpt::{Place, put_excerpt};
+pub use excerpt::{Place, put_bytes};
+pub use link_words::link_words;
+pub use near_names::{NearName, near_name};
 pub use occurrences::section_before;
 pub use place::{Expected, FaultPlace, place_by_text, place_in_group};
-pub use references::{put_definitions, put_found, put_undefined};
+pub use references::{show_definitions, show_undefined};
+pub use refused_names::{follows_from, put_refused_names};
+pub use remark::{Remark, Spot};
 pub use sentences::put_sentence;
-pub use suspects::{Suspect, ValueFault, drafts_of, suspects_of, texts_of};
+pub use statements::symbol_at;
 pub use tokens::{LineToken, Sort, is_end, part, span, tokens_of_line};

@@ -57,6 +57,11 @@ pub(crate) fn is_register(name: &[u8]) -> bool {
     is_among(name, REGISTERS)
 }
 
+/// Whether a name is that of an operator that asks for a part of an address, behind a percent sign.
+pub(crate) fn is_operator(name: &[u8]) -> bool {
+    is_among(name, "hi lo pcrel_hi pcrel_lo")
+}
+
 /// Whether a name is x0's.
 pub(crate) fn is_zero(name: &[u8]) -> bool {
     is_among(name, "x0 zero")
@@ -65,6 +70,11 @@ pub(crate) fn is_zero(name: &[u8]) -> bool {
 /// Whether the statement defines a constant.
 pub(crate) fn is_assignment(mnemonic: &[u8]) -> bool {
     is_among(mnemonic, ".set .equ")
+}
+
+/// Whether the statement defines the name that comes first in it, in this language or in that of GNU as.
+pub(crate) fn is_definer(mnemonic: &[u8]) -> bool {
+    is_among(mnemonic, ".set .equ .equiv .eqv .comm .lcomm .weakref")
 }
 
 /// Whether the instruction is a load or a store.

@@ -20,7 +20,7 @@ const HALVINGS: usize = 64;
 const MOST_NAMES: usize = 16;
 
 /// What may stand in the place of a wrong token, where it is one phrase.
-#[derive(Clone, Copy, Drop)]
+#[derive(Clone, Copy, PartialEq, Eq, Drop)]
 pub enum Expected {
     Unknown,
     Register,
@@ -67,7 +67,7 @@ pub fn place_by_text(
 ) -> Result<Option<FaultPlace>, AllocError> {
     // a line that is too long has no wrong token
     if code != SourceCode::Limit {
-        if let Some(wrong) = wrong_token(alloc, source, tokens)? {
+        if let Some(wrong) = wrong_token(alloc, source, tokens, code)? {
             let expected = expected_at(alloc, source, tokens, wrong, code)?;
             return Ok(place_of_token(tokens, wrong, expected));
         }
@@ -78,12 +78,30 @@ pub fn place_by_text(
     Ok(None)
 }
 
-/// The first token of a line that is wrong where it stands.
+/// The first token of a line that is wrong where it stands. What is left out of the language is shown, and not the end behind it.
 fn wrong_token(
     alloc: Global,
     source: &[u8],
     tokens: &[LineToken],
+    code: SourceCode,
 ) -> Result<Option<LineToken>, AllocError> {
+    let Some(index) = wrong_index(alloc, source, tokens)? else {
+        return Ok(None);
+    };
+    match tokens.get(index) {
+        Some(end) if end.sort == Sort::End && code == SourceCode::UnsupportedHere => {
+            Ok(tokens.get(index.saturating_sub(1)).copied())
+        }
+        found => Ok(found.copied()),
+    }
+}
+
+/// The index of the first token of a line that is wrong where it stands.
+fn wrong_index(
+    alloc: Global,
+    source: &[u8],
+    tokens: &[LineToken],
+) -> Result<Option<usize>, AllocError> {
     let Some(last) = tokens.last() else {
         return Ok(None);
     };
@@ -97,14 +115,35 @@ fn wrong_token(
             break;
         }
         let middle = low.saturating_add((high - low) / 2);
-        match cut_at(tokens, middle) {
-            Some(token) if is_read(alloc, source, tokens, &token)? => low = middle.saturating_add(
-                1,
-            ),
-            _ => high = middle,
+        if is_read_to(alloc, source, tokens, middle)? {
+            low = middle.saturating_add(1);
+        } else {
+            high = middle;
         }
     }
-    Ok(tokens.get(low).copied())
+    Ok(Some(low))
+}
+
+/// Whether a line is right up to the token of an index, whatever comes after it: where a number stands before a register in
+/// parentheses, it is right just with what follows.
+fn is_read_to(
+    alloc: Global,
+    source: &[u8],
+    tokens: &[LineToken],
+    index: usize,
+) -> Result<bool, AllocError> {
+    let Some(token) = cut_at(tokens, index) else {
+        return Ok(false);
+    };
+    if is_read(alloc, source, tokens, &token)? {
+        return Ok(true);
+    }
+    match tokens.first() {
+        Some(first) if token.sort == Sort::Number => {
+            is_read_with(alloc, part(source, first.start, token.stop), "(")
+        }
+        _ => Ok(false),
+    }
 }
 
 /// The token after which a line is cut to try the one of this index: a label is read with its colon.
@@ -181,7 +220,8 @@ fn expected_at(
     wrong: LineToken,
     code: SourceCode,
 ) -> Result<Expected, AllocError> {
-    if code != SourceCode::BadOperands || wrong.sort == Sort::End {
+    let is_of_form = matches!(code, SourceCode::BadOperands | SourceCode::UnsupportedHere);
+    if !is_of_form || wrong.sort == Sort::End {
         return Ok(Expected::Unknown);
     }
     let Some(first) = tokens.first() else {

@@ -1,97 +1,100 @@
 //! The lines of sources that define a name or refer to it, as a fault of the link shows them.
 
-use crate::excerpt::{put_excerpt, put_file_and_line};
 use crate::occurrences::{definition_of, is_made_global, reference_in};
-use crate::tokens::{LineToken, all_tokens, is_end, place, unlabelled};
+use crate::remark::Remark;
+use crate::tokens::{LineToken, all_tokens, is_end, unlabelled};
 use std::alloc::{AllocError, Global};
 
 /// The most references to a name that are shown.
 const MOST_REFERENCES: usize = 20;
 
-/// Adds the references to a name without a meaning: those of sources that do not define it, else those of all.
-pub fn put_undefined(
+/// Shows the references to a name without a meaning: those of sources that do not define it, else those of all.
+pub fn show_undefined(
     alloc: Global,
     names: &[&str],
     sources: &[&[u8]],
     name: &[u8],
-    text: &mut String,
+    remark: &mut Remark,
 ) -> Result<(), AllocError> {
-    let before = text.len();
-    put_references(alloc, names, sources, name, false, text)?;
-    if before < text.len() {
+    show_references(alloc, names, sources, name, false, remark)?;
+    if remark.spot.is_some() {
         return Ok(());
     }
-    put_references(alloc, names, sources, name, true, text)
+    show_references(alloc, names, sources, name, true, remark)
 }
 
-/// Adds the references to a name in the sources that define it, or in those that do not.
-fn put_references(
+/// Shows the references to a name in the sources that define it, or in those that do not.
+fn show_references(
     alloc: Global,
     names: &[&str],
     sources: &[&[u8]],
     name: &[u8],
     defined: bool,
-    text: &mut String,
+    remark: &mut Remark,
 ) -> Result<(), AllocError> {
     let mut left = MOST_REFERENCES;
-    for (file, source) in names.iter().zip(sources) {
-        left = put_references_in(alloc, text, file, source, name, defined, left)?;
+    let mut file = 0usize;
+    for (title, source) in names.iter().zip(sources) {
+        let tokens = all_tokens(alloc, source)?;
+        if definition_of(source, tokens.as_slice(), name).is_some() == defined {
+            let found = references_of(alloc, source, tokens.as_slice(), name, left)?;
+            show_all(alloc, file, title, source, found.as_slice(), remark)?;
+            left = left.saturating_sub(found.len());
+        }
+        file = file.saturating_add(1);
     }
     Ok(())
 }
 
-/// Adds the references to a name in a source that defines it, or in one that does not; how many more there may be.
-fn put_references_in(
+/// The tokens of a source that refer to a name, one for a statement and so many at most.
+fn references_of(
     alloc: Global,
-    text: &mut String,
-    file: &str,
-    source: &[u8],
-    name: &[u8],
-    defined: bool,
-    most: usize,
-) -> Result<usize, AllocError> {
-    let tokens = all_tokens(alloc, source)?;
-    if definition_of(source, tokens.as_slice(), name).is_some() != defined {
-        return Ok(most);
-    }
-    put_references_of(alloc, text, file, source, tokens.as_slice(), name, most)
-}
-
-/// Adds the statements of a source that refer to a name, so many at most; how many more there may be.
-fn put_references_of(
-    alloc: Global,
-    text: &mut String,
-    file: &str,
     source: &[u8],
     tokens: &[LineToken],
     name: &[u8],
     most: usize,
-) -> Result<usize, AllocError> {
-    let mut left = most;
+) -> Result<Vec<LineToken>, AllocError> {
+    let mut found = Vec::new(alloc);
     for group in tokens.split(is_end) {
-        if left == 0 {
+        if most <= found.len() {
             break;
         }
-        let found = reference_in(source, unlabelled(group), name);
-        if found.is_some() {
-            left = left.saturating_sub(1);
-            put_found(alloc, text, file, source, found)?;
+        if let Some(token) = reference_in(source, unlabelled(group), name) {
+            found.push(token)?;
         }
     }
-    Ok(left)
+    Ok(found)
 }
 
-/// Adds the definition of a name in each source that makes it global.
-pub fn put_definitions(
+/// Shows tokens of a source.
+fn show_all(
+    alloc: Global,
+    file: usize,
+    title: &str,
+    source: &[u8],
+    tokens: &[LineToken],
+    remark: &mut Remark,
+) -> Result<(), AllocError> {
+    for token in tokens {
+        remark.show_in_file(alloc, file, title, source, token)?;
+    }
+    Ok(())
+}
+
+/// Shows the definition of a name in each source that makes it global.
+pub fn show_definitions(
     alloc: Global,
     names: &[&str],
     sources: &[&[u8]],
     name: &[u8],
-    text: &mut String,
+    remark: &mut Remark,
 ) -> Result<(), AllocError> {
-    for (file, source) in names.iter().zip(sources) {
-        let found = global_definition(alloc, source, name)?;
-        put_found(alloc, text, file, source, found)?;
+    let mut file = 0usize;
+    for (title, source) in names.iter().zip(sources) {
+        if let Some(token) = global_definition(alloc, source, name)? {
+            remark.show_in_file(alloc, file, title, source, &token)?;
+        }
+        file = file.saturating_add(1);
     }
     Ok(())
 }
@@ -108,21 +111,4 @@ fn global_definition(
     } else {
         Ok(None)
     }
-}
-
-/// Adds the file and the line of a token, and the line with carets.
-pub fn put_found(
-    alloc: Global,
-    text: &mut String,
-    file: &str,
-    source: &[u8],
-    found: Option<LineToken>,
-) -> Result<(), AllocError> {
-    let Some(token) = found else {
-        return Ok(());
-    };
-    text.push_str("  ")?;
-    put_file_and_line(alloc, text, file, token.line)?;
-    text.push_str("\n")?;
-    put_excerpt(text, source, token.line, place(&token))
 }

@@ -36,7 +36,7 @@ struct Subject<'a> {
     first_line: u32,
 }
 
-/// Adds the sentence of a fault, as a line.
+/// Adds the sentence of a fault.
 pub fn put_sentence(
     alloc: Global,
     text: &mut String,
@@ -55,19 +55,22 @@ pub fn put_sentence(
         first,
         second,
         shown: part(source, place.shown.start, place.shown.stop),
-        is_before: place.shown.start < place.statement.start,
+        is_before: place.shown.start < place.statement.start || is_label(source, place),
         is_loaded,
         expected: place.expected,
         first_line: place.first_line,
     };
-    text.push_str("  ")?;
     if place.ends && code == SourceCode::BadOperands {
         put_bytes(text, subject.mnemonic)?;
-        text.push_str(" cannot end here: an operand or a parenthesis is missing")?;
-    } else {
-        put_words(alloc, text, code, place.known, &subject)?;
+        return text.push_str(" cannot end here: an operand or a parenthesis is missing");
     }
-    text.push_str("\n")
+    put_words(alloc, text, code, place.known, &subject)
+}
+
+/// Whether the carets show a label behind which no statement stands.
+fn is_label(source: &[u8], place: &FaultPlace) -> bool {
+    let rest = part(source, place.shown.stop, source.len());
+    place.shown.start == place.statement.start && rest.trim_ascii_start().starts_with(b":")
 }
 
 /// The bytes up to a blank, a comma or a parenthesis.
@@ -101,6 +104,10 @@ fn put_words(
     match code {
         SourceCode::BadToken => put_bad_token(text, subject.shown),
         SourceCode::BadOperands => put_bad_operand(text, known, subject),
+        // a number is left out where it has no register in parentheses
+        SourceCode::UnsupportedHere if subject.expected == Expected::Parenthesis => {
+            put_bad_operand(text, known, subject)
+        }
         SourceCode::ImmediateRange => put_range(alloc, text, known, subject),
         SourceCode::NotConstant => {
             put_shown(text, known, subject, "a value here")?;

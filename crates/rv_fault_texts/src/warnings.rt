@@ -1,9 +1,9 @@
 //! What may be a mistake in a source that has no fault.
 
 use crate::names::{
-    is_addition, is_assignment, is_direct_jump, is_globalizer, is_jump, is_jump_and_link, is_link,
-    is_load_of_number, is_quiet, is_register_jump, is_section, is_silent, is_size, is_stack,
-    is_store, is_zero, width_of,
+    is_access, is_addition, is_assignment, is_direct_jump, is_globalizer, is_jump,
+    is_jump_and_link, is_link, is_load_of_number, is_quiet, is_register_jump, is_section,
+    is_silent, is_size, is_stack, is_store, is_zero, width_of,
 };
 use crate::tokens::{LineToken, Sort, is_end, is_label, text_of, unlabelled};
 use std::alloc::{AllocError, Global};
@@ -19,8 +19,10 @@ pub(crate) enum Doubt {
     UnusedLabel,
     /// An instruction after a jump that has no label.
     Unreachable,
-    /// A load or a store off a multiple of its width.
+    /// A load or a store at `sp` off a multiple of its width.
     Misaligned,
+    /// A load or a store at x0, where no program has data.
+    AtZero,
     /// A `li` of a number that is the address of a global name.
     HidesSymbol,
 }
@@ -54,7 +56,7 @@ fn put_all(
 ) -> Result<(), AllocError> {
     put_unused(alloc, source, tokens, found)?;
     put_unreachable(source, tokens, found)?;
-    put_misaligned(source, tokens, found)?;
+    put_doubtful_accesses(source, tokens, found)?;
     put_hiding(alloc, source, tokens, symbols, found)
 }
 
@@ -343,23 +345,49 @@ fn jumps(source: &[u8], word: &[u8], operands: &[LineToken]) -> bool {
     }
 }
 
-/// Adds loads and stores at `sp` or x0 and a number that is no multiple of their width.
-fn put_misaligned(
+/// Adds loads and stores at x0, and those at `sp` and a number that is no multiple of their width.
+fn put_doubtful_accesses(
     source: &[u8],
     tokens: &[LineToken],
     found: &mut Vec<Warning>,
 ) -> Result<(), AllocError> {
     let is_kept = keeps_stack(source, tokens);
     for group in tokens.split(is_end) {
-        if let Some(token) = misaligned_in(source, unlabelled(group), is_kept) {
-            put(found, Doubt::Misaligned, token)?;
-        }
+        put_doubtful_access(source, unlabelled(group), is_kept, found)?;
     }
     Ok(())
 }
 
-/// The number of a load or a store that is no multiple of its width.
-fn misaligned_in(source: &[u8], statement: &[LineToken], is_kept: bool) -> Option<LineToken> {
+/// Adds a load or a store at x0, or at `sp` off a multiple of its width.
+fn put_doubtful_access(
+    source: &[u8],
+    statement: &[LineToken],
+    is_kept: bool,
+    found: &mut Vec<Warning>,
+) -> Result<(), AllocError> {
+    if let Some(token) = zero_base_in(source, statement) {
+        return put(found, Doubt::AtZero, token);
+    }
+    match misaligned_in(source, statement) {
+        Some(token) if is_kept => put(found, Doubt::Misaligned, token),
+        _ => Ok(()),
+    }
+}
+
+/// The register in parentheses of a load or a store, where it is x0.
+fn zero_base_in(source: &[u8], statement: &[LineToken]) -> Option<LineToken> {
+    let (mnemonic, operands) = statement.split_first()?;
+    let [.., open, base, _] = operands else {
+        return None;
+    };
+    let is_at_zero = open.sort == Sort::Open
+        && is_zero(text_of(source, base))
+        && is_access(text_of(source, mnemonic));
+    if is_at_zero { Some(*base) } else { None }
+}
+
+/// The number of a load or a store at `sp` that is no multiple of its width.
+fn misaligned_in(source: &[u8], statement: &[LineToken]) -> Option<LineToken> {
     let (mnemonic, operands) = statement.split_first()?;
     let (number, base) = match operands {
         [_, _, number, open, base, _] if open.sort == Sort::Open => (number, base),
@@ -369,11 +397,7 @@ fn misaligned_in(source: &[u8], statement: &[LineToken], is_kept: bool) -> Optio
     };
     let width = width_of(text_of(source, mnemonic));
     let is_off = number.sort == Sort::Number && number.value % width != 0;
-    if !is_off {
-        return None;
-    }
-    let base = text_of(source, base);
-    if is_zero(base) || (is_kept && is_stack(base)) {
+    if is_off && is_stack(text_of(source, base)) {
         Some(*number)
     } else {
         None

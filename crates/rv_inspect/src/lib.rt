@@ -51,6 +51,13 @@ mod symbol_lines;
 pub use disassembly::{CodeFile, CodeLines, Style};
 pub use elf::ElfLines;
 pub use names::NameLines;
+pub use parts::{
+    bytes_of, count_relas, count_symbols, rela_at, section_at, section_named, symbol_at,
+    symbol_table,
+};
+pub use relocation_name::kind_name;
 pub use rv_elf::FileFault;
 pub use rv_map::Map;
+pub use section_lines::section_name;
 pub use size::SizeTable;
+pub use symbol_lines::symbol_name;

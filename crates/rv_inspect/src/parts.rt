@@ -6,7 +6,7 @@ use rv_elf::{
 };
 
 /// The header of the section of this index.
-pub(crate) fn section_at(view: &ElfView<'_>, index: u16) -> Option<SectionHeader> {
+pub fn section_at(view: &ElfView<'_>, index: u16) -> Option<SectionHeader> {
     if index >= view.header().e_shnum {
         return None;
     }
@@ -14,7 +14,7 @@ pub(crate) fn section_at(view: &ElfView<'_>, index: u16) -> Option<SectionHeader
 }
 
 /// The header of the section that another names (`sh_link`, `sh_info`).
-pub(crate) fn section_named(view: &ElfView<'_>, index: u32) -> Result<SectionHeader, FileFault> {
+pub fn section_named(view: &ElfView<'_>, index: u32) -> Result<SectionHeader, FileFault> {
     if index >= u32::from(view.header().e_shnum) {
         return Err(FileFault::BadIndex);
     }
@@ -22,10 +22,7 @@ pub(crate) fn section_named(view: &ElfView<'_>, index: u32) -> Result<SectionHea
 }
 
 /// The bytes of a section, which lie in the file.
-pub(crate) fn bytes_of<'a>(
-    view: &ElfView<'a>,
-    header: &SectionHeader,
-) -> Result<&'a [u8], FileFault> {
+pub fn bytes_of<'a>(view: &ElfView<'a>, header: &SectionHeader) -> Result<&'a [u8], FileFault> {
     if header.sh_type != SHT_NOBITS && lies_past(view.file(), header.sh_offset, header.sh_size) {
         return Err(FileFault::Truncated);
     }
@@ -33,7 +30,7 @@ pub(crate) fn bytes_of<'a>(
 }
 
 /// The header of the symbol table, if the file has one.
-pub(crate) fn symbol_table(view: &ElfView<'_>) -> Option<SectionHeader> {
+pub fn symbol_table(view: &ElfView<'_>) -> Option<SectionHeader> {
     for index in 0..view.header().e_shnum {
         if let Some(header) = section_at(view, index) {
             if header.sh_type == SHT_SYMTAB {
@@ -45,12 +42,12 @@ pub(crate) fn symbol_table(view: &ElfView<'_>) -> Option<SectionHeader> {
 }
 
 /// How many symbols a table of these bytes has.
-pub(crate) fn count_symbols(bytes: &[u8]) -> usize {
+pub fn count_symbols(bytes: &[u8]) -> usize {
     bytes.len() / SYMBOL_SIZE
 }
 
 /// The symbol of this index in a table of these bytes.
-pub(crate) fn symbol_at(bytes: &[u8], index: usize) -> Option<Symbol> {
+pub fn symbol_at(bytes: &[u8], index: usize) -> Option<Symbol> {
     let place = index.checked_mul(SYMBOL_SIZE)?;
     let rest = bytes.get(place..)?;
     if rest.len() < SYMBOL_SIZE {
@@ -60,12 +57,12 @@ pub(crate) fn symbol_at(bytes: &[u8], index: usize) -> Option<Symbol> {
 }
 
 /// How many relocations a section of these bytes has.
-pub(crate) fn count_relas(bytes: &[u8]) -> usize {
+pub fn count_relas(bytes: &[u8]) -> usize {
     bytes.len() / RELA_SIZE
 }
 
 /// The relocation of this index in a section of these bytes.
-pub(crate) fn rela_at(bytes: &[u8], index: usize) -> Option<Rela> {
+pub fn rela_at(bytes: &[u8], index: usize) -> Option<Rela> {
     let place = index.checked_mul(RELA_SIZE)?;
     let rest = bytes.get(place..)?;
     if rest.len() < RELA_SIZE {

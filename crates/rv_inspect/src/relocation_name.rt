@@ -9,7 +9,7 @@ GNU_VTINHERIT GNU_VTENTRY ALIGN RVC_BRANCH RVC_JUMP RVC_LUI GPREL_I GPREL_S TPRE
 SET32 32_PCREL IRELATIVE PLT32 SET_ULEB128 SUB_ULEB128";
 
 /// The name of a kind.
-pub(crate) fn kind_name(kind: u32) -> Option<&'static [u8]> {
+pub fn kind_name(kind: u32) -> Option<&'static [u8]> {
     match NAMES.split(' ').nth(kind as usize) {
         Some("-") | None => None,
         Some(name) => Some(name.as_bytes()),

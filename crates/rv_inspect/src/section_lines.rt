@@ -77,7 +77,7 @@ fn put_heading(text: &mut Vec<u8>, view: &ElfView<'_>) -> Result<(), AllocError>
 }
 
 /// The name of a section; none where the file has no names of sections, or no name there.
-pub(crate) fn section_name<'a>(view: &ElfView<'a>, header: &SectionHeader) -> &'a [u8] {
+pub fn section_name<'a>(view: &ElfView<'a>, header: &SectionHeader) -> &'a [u8] {
     let names = view.header().e_shstrndx;
     if names >= view.header().e_shnum {
         return b"";

@@ -171,7 +171,7 @@ fn home<'a>(section: u16) -> Column<'a> {
 }
 
 /// The name of a symbol; that of its section where it stands for one and has none.
-pub(crate) fn symbol_name<'a>(
+pub fn symbol_name<'a>(
     view: &ElfView<'a>,
     strings: &'a [u8],
     symbol: &Symbol,

@@ -41,3 +41,14 @@ pub enum TextFormat {
     /// What Verilog's `$readmemh` reads.
     MemoryText,
 }
+
+/// How what is found in sources is written.
+#[derive(Clone, Copy, Debug, PartialEq, Eq, Drop)]
+pub enum ReportFormat {
+    /// For people.
+    Text,
+    /// As GCC writes faults, for editors.
+    Gcc,
+    /// An object of JSON in a line for each.
+    Json,
+}

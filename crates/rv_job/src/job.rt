@@ -1,6 +1,6 @@
 //! What the program can be asked for.
 
-use crate::files::{AskedCode, AskedImage};
+use crate::files::{AskedCode, AskedImage, ReportFormat};
 use crate::runs::{Asked, Coverage, Shown};
 use rv_command_line::Shell;
 use rv_link::LinkOptions;
@@ -84,6 +84,7 @@ pub enum Job<'a> {
     Check {
         options: LinkOptions,
         sources: Vec<&'a str>,
+        format: ReportFormat,
     },
     /// Prints the entry of a code, or the list of codes.
     Explain {

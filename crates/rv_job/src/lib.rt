@@ -14,6 +14,6 @@ mod files;
 mod job;
 mod runs;
 
-pub use files::{AskedCode, AskedImage, ImageFormat, TextFormat};
+pub use files::{AskedCode, AskedImage, ImageFormat, ReportFormat, TextFormat};
 pub use job::Job;
 pub use runs::{Asked, Coverage, Shown};

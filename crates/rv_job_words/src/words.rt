@@ -14,7 +14,7 @@ use clap::error::ErrorKind;
 use clap::{ArgMatches, Command};
 use rv_command_line::{Shell, command};
 use rv_fault_texts::explanation;
-use rv_job::{AskedCode, Job};
+use rv_job::{AskedCode, Job, ReportFormat};
 use rv_link::LinkOptions;
 use rv_system::TEXT_START;
 use std::alloc::Global;
@@ -225,9 +225,19 @@ fn parse_check<'a>(
     found: &ArgMatches<'a>,
 ) -> Result<Job<'a>, CliError> {
     let options = link_options(command, found)?;
+    let format = match found.get_str("format") {
+        None => ReportFormat::Text,
+        Some("gcc") => ReportFormat::Gcc,
+        Some("json") => ReportFormat::Json,
+        Some(_) => {
+            let wanted = "a format is gcc or json";
+            return Err(CliError::from(command.error(ErrorKind::ValueValidation, wanted)?));
+        }
+    };
     Ok(Job::Check {
         options,
         sources: file_names(alloc, found)?,
+        format,
     })
 }
 

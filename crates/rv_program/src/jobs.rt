@@ -53,7 +53,11 @@ pub(crate) fn run_job<S: System>(system: &mut S, job: &Job<'_>) -> Result<u8, Jo
         Job::Size { files } => sizes(system, files.as_slice()),
         Job::Names { map, file } => names(system, *map, file),
         Job::Elf { file } => elf(system, file),
-        Job::Check { options, sources } => check_files(system, sources.as_slice(), *options),
+        Job::Check {
+            options,
+            sources,
+            format,
+        } => check_files(system, sources.as_slice(), *options, *format),
         Job::Explain { entry } => explain(system, *entry),
         Job::Image(asked) => write_image(system, asked),
         Job::Completions { shell } => complete(system, *shell),

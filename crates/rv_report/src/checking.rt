@@ -7,15 +7,15 @@ ghost use Rattle.std.specs.Prelude.{map, IfOk};
 ghost use Rattle.rv_statement.specs.View.{now_of};
 ghost use Rattle.rv_report.specs.Check.{BeginsWithFaultOf, HasFirst};
 
-use crate::linking::put_link_fault;
+use crate::linking::link_remark;
 use crate::placing::{is_loaded_by_li, place_of};
 use crate::report::{Finding, Report};
 use rv_assemble::assemble;
 use rv_chain::build;
 use rv_fault::Fault;
 use rv_fault_texts::{
-    FaultPlace, blank, closing_of, is_of_macro, put_excerpt, put_sentence, section_before,
-    without_macro, without_sort,
+    FaultPlace, Remark, blank, closing_of, follows_from, is_of_macro, put_refused_names,
+    put_sentence, section_before, without_macro, without_sort,
 };
 use rv_lexer::{SourceCode, SourceFault};
 use rv_link::LinkOptions;
@@ -36,11 +36,15 @@ pub fn check(
         (map now_of sources.now) options.text_start options.relax options.gc report.first) }
 {
     match build(alloc, sources, options) {
-        Ok(built) => Ok(Report {
-            first: None,
-            others: Vec::new(alloc),
-            closing: closing_of(alloc, names, sources, built.map.as_slice())?,
-        }),
+        Ok(built) => {
+            let closing = closing_of(alloc, sources, built.map.as_slice())?;
+            Ok(Report {
+                first: None,
+                others: Vec::new(alloc),
+                warnings: closing.warnings,
+                closing: closing.sizes,
+            })
+        }
         Err(Fault::Memory) => Err(Fault::Memory),
         Err(fault) => refused(alloc, names, sources, fault, options),
     }
@@ -57,37 +61,49 @@ fn refused(
     ensures { IfOk result (λ report. HasFirst report.first fault) }
 {
     let mut others = Vec::new(alloc);
-    let mut text = String::new(alloc);
-    match &fault {
-        Fault::Source(file, SourceFault::At { code, line }) => {
-            put_first(alloc, sources, *file, *code, *line, &mut text)?;
-            put_others(alloc, sources, *file, &mut others)?;
-        }
-        Fault::Link(link) => put_link_fault(alloc, names, sources, link, options, &mut text)?,
-        _ => {}
+    let remark = remark_of(alloc, names, sources, &fault, options)?;
+    if let Fault::Source(file, _) = &fault {
+        put_others(alloc, sources, *file, &mut others)?;
     }
     let closing = count_text(alloc, &mut others)?;
     Ok(Report {
-        first: Some(Finding { fault, text }),
+        first: Some(Finding { fault, remark }),
         others,
+        warnings: Vec::new(alloc),
         closing,
     })
 }
 
-/// Adds what is said of the first fault of a source, whose file counts from 1.
-fn put_first(
+/// What is said of the fault for which a build of sources is refused; `names` are those of the files. An error is want of memory.
+pub fn remark_of(
+    alloc: Global,
+    names: &[&str],
+    sources: &[&[u8]],
+    fault: &Fault,
+    options: LinkOptions,
+) -> Result<Remark, Fault> {
+    match fault {
+        Fault::Source(file, SourceFault::At { code, line }) => {
+            source_remark(alloc, sources, *file, *code, *line)
+        }
+        Fault::Link(link) => link_remark(alloc, names, sources, link, options),
+        _ => Ok(Remark::new(alloc)),
+    }
+}
+
+/// What is said of the first fault of a source, whose file counts from 1.
+fn source_remark(
     alloc: Global,
     sources: &[&[u8]],
     file: u32,
     code: SourceCode,
     line: u32,
-    text: &mut String,
-) -> Result<(), Fault> {
+) -> Result<Remark, Fault> {
     let Some(source) = sources.get((file as usize).saturating_sub(1)) else {
-        return Ok(());
+        return Ok(Remark::new(alloc));
     };
     let place = place_of(alloc, source, code, line)?;
-    put_at(alloc, text, source, code, line, &place)
+    remark_at(alloc, source, file, code, line, &place)
 }
 
 /// Adds the faults after the first, which is in this file; one more than are shown tells that there are more.
@@ -124,8 +140,11 @@ fn put_faults_of(
     but_first: bool,
     others: &mut Vec<Finding>,
 ) -> Result<(), Fault> {
+    let mut omitted = Omitted {
+        unknown: Vec::new(alloc),
+        refused: Vec::new(alloc),
+    };
     let mut is_there = but_first;
-    let mut unknown = Vec::new(alloc);
     for _ in 0..=MOST_FAULTS {
         if MOST_FAULTS <= others.len() {
             return Ok(());
@@ -134,23 +153,80 @@ fn put_faults_of(
             return Ok(());
         };
         let place = place_of(alloc, draft, code, line)?;
-        let follows = code == SourceCode::WrongSection
-            && may_follow(alloc, draft, line, unknown.as_slice())?;
-        if !is_there && !follows {
-            others.push(finding(alloc, source, file, code, line, place)?)?;
+        let cause = cause_of(alloc, source, draft, code, line, &place, &omitted)?;
+        if !is_there && cause == Cause::Own {
+            others.push(finding(alloc, source, file, code, line, &place)?)?;
         }
         is_there = false;
-        if code == SourceCode::UnknownDirective {
-            unknown.push(line)?;
-        }
         let Some(place) = place else {
             return Ok(());
         };
-        if !leave(alloc, draft, code, line, &place, follows)? {
+        omitted.put(alloc, source, code, line, &place)?;
+        if !leave(alloc, draft, code, line, &place, cause)? {
             return Ok(());
         }
     }
     Ok(())
+}
+
+/// What was left out of a draft for its faults.
+#[derive(Drop)]
+struct Omitted<'a> {
+    /// The lines of unknown directives.
+    unknown: Vec<u32>,
+    /// The names whose definitions were refused.
+    refused: Vec<&'a [u8]>,
+}
+
+impl<'a> Omitted<'a> {
+    /// Adds a statement that is left out.
+    fn put(
+        &mut self,
+        alloc: Global,
+        source: &'a [u8],
+        code: SourceCode,
+        line: u32,
+        place: &FaultPlace,
+    ) -> Result<(), AllocError> {
+        if code == SourceCode::UnknownDirective {
+            self.unknown.push(line)?;
+        }
+        put_refused_names(alloc, source, place, &mut self.refused)
+    }
+}
+
+/// Where a fault comes from.
+#[derive(Clone, Copy, PartialEq, Eq, Drop)]
+enum Cause {
+    /// From itself.
+    Own,
+    /// From a directive that is unknown and may have gone to its section.
+    Directive,
+    /// From a name whose definition was refused.
+    Name,
+}
+
+/// Where a fault of a draft comes from.
+fn cause_of(
+    alloc: Global,
+    source: &[u8],
+    draft: &[u8],
+    code: SourceCode,
+    line: u32,
+    place: &Option<FaultPlace>,
+    omitted: &Omitted<'_>,
+) -> Result<Cause, AllocError> {
+    if code == SourceCode::WrongSection
+        && may_follow(alloc, draft, line, omitted.unknown.as_slice())?
+    {
+        return Ok(Cause::Directive);
+    }
+    match place {
+        Some(place) if follows_from(alloc, source, code, place, omitted.refused.as_slice())? => {
+            Ok(Cause::Name)
+        }
+        _ => Ok(Cause::Own),
+    }
 }
 
 /// Whether a directive that is unknown may have gone to the section of a line.
@@ -166,9 +242,9 @@ fn leave(
     code: SourceCode,
     line: u32,
     place: &FaultPlace,
-    follows: bool,
+    cause: Cause,
 ) -> Result<bool, AllocError> {
-    if follows {
+    if cause == Cause::Directive {
         let left = without_sort(alloc, draft, line, place)?;
         return Ok(overwrite(draft, left.as_slice()));
     }
@@ -207,44 +283,32 @@ fn finding(
     file: u32,
     code: SourceCode,
     line: u32,
-    place: Option<FaultPlace>,
+    place: &Option<FaultPlace>,
 ) -> Result<Finding, Fault> {
-    let mut text = String::new(alloc);
-    put_at(alloc, &mut text, source, code, line, &place)?;
+    let remark = remark_at(alloc, source, file, code, line, place)?;
     Ok(Finding {
         fault: Fault::Source(file, SourceFault::At { code, line }),
-        text,
+        remark,
     })
 }
 
-/// Adds what is said of a fault, where its place is known.
-fn put_at(
+/// What is said of a fault of a source: its line with carets and its sentence, where its place is known.
+fn remark_at(
     alloc: Global,
-    text: &mut String,
     source: &[u8],
+    file: u32,
     code: SourceCode,
     line: u32,
     place: &Option<FaultPlace>,
-) -> Result<(), Fault> {
-    match place {
-        Some(place) => put_fault(alloc, text, source, code, line, place),
-        None => Ok(()),
-    }
-}
-
-/// Adds the line of a fault with carets, and its sentence.
-fn put_fault(
-    alloc: Global,
-    text: &mut String,
-    source: &[u8],
-    code: SourceCode,
-    line: u32,
-    place: &FaultPlace,
-) -> Result<(), Fault> {
+) -> Result<Remark, Fault> {
+    let mut remark = Remark::new(alloc);
+    let Some(place) = place else {
+        return Ok(remark);
+    };
     let is_loaded = code == SourceCode::ImmediateRange && is_loaded_by_li(alloc, source, place)?;
-    put_excerpt(text, source, line, place.shown)?;
-    put_sentence(alloc, text, source, code, place, is_loaded)?;
-    Ok(())
+    remark.show((file as usize).saturating_sub(1), source, line, place.shown)?;
+    put_sentence(alloc, &mut remark.sentence, source, code, place, is_loaded)?;
+    Ok(remark)
 }
 
 /// How many faults there are with the first; one that is too many to be shown is taken away.

@@ -1,43 +1,57 @@
 //! What is said of a fault of the link: which lines of which files it is about, where they are known.
 
-use crate::suspects::suspect_of;
+use crate::suspects::put_suspect;
 use rv_fault::Fault;
-use rv_fault_texts::{put_definitions, put_found, put_undefined};
+use rv_fault_texts::{Remark, link_words, near_name, put_bytes, show_definitions, show_undefined};
 use rv_link::{LinkFault, LinkOptions};
-use std::alloc::Global;
+use std::alloc::{AllocError, Global};
 
-/// Adds what is said of a fault of the link of sources with these names.
-pub(crate) fn put_link_fault(
+/// What is said of a fault of the link of sources with these names.
+pub(crate) fn link_remark(
     alloc: Global,
     names: &[&str],
     sources: &[&[u8]],
     fault: &LinkFault,
     options: LinkOptions,
-    text: &mut String,
-) -> Result<(), Fault> {
-    let before = text.len();
-    match fault {
-        LinkFault::Undefined(name) => put_undefined(alloc, names, sources, name.as_slice(), text)?,
-        LinkFault::Duplicate(name) => put_definitions(
-            alloc,
-            names,
-            sources,
-            name.as_slice(),
-            text,
-        )?,
-        LinkFault::Overflow => put_suspect(alloc, names, sources, fault, options, text)?,
-        LinkFault::OddTarget => put_suspect(alloc, names, sources, fault, options, text)?,
-        LinkFault::DanglingPcrel => put_suspect(alloc, names, sources, fault, options, text)?,
-        _ => {}
+) -> Result<Remark, Fault> {
+    let mut remark = Remark::new(alloc);
+    let is_told = match fault {
+        LinkFault::Undefined(name) => {
+            put_undefined(alloc, names, sources, name.as_slice(), fault, &mut remark)?;
+            true
+        }
+        LinkFault::Duplicate(name) => {
+            show_definitions(alloc, names, sources, name.as_slice(), &mut remark)?;
+            false
+        }
+        LinkFault::Overflow | LinkFault::OddTarget | LinkFault::DanglingPcrel => {
+            put_suspect(alloc, names, sources, fault, options, &mut remark)?
+        }
+        _ => false,
+    };
+    if !is_told {
+        remark.sentence.push_str(link_words(fault))?;
     }
-    let is_placed = before < text.len();
-    text.push_str("  ")?;
-    text.push_str(plain_words(fault))?;
-    if !is_placed && has_line(fault) {
-        text.push_str("; which line has it is not known")?;
+    if remark.spot.is_none() && has_line(fault) {
+        remark
+            .sentence
+            .push_str("; which line has it is not known")?;
     }
-    text.push_str("\n")?;
-    Ok(())
+    Ok(remark)
+}
+
+/// Shows the references to a name without a meaning, and says which name may be meant.
+fn put_undefined(
+    alloc: Global,
+    names: &[&str],
+    sources: &[&[u8]],
+    name: &[u8],
+    fault: &LinkFault,
+    remark: &mut Remark,
+) -> Result<(), AllocError> {
+    show_undefined(alloc, names, sources, name, remark)?;
+    remark.sentence.push_str(link_words(fault))?;
+    put_near_name(alloc, names, sources, name, &mut remark.sentence)
 }
 
 /// Whether a line of a source has this fault.
@@ -51,43 +65,27 @@ fn has_line(fault: &LinkFault) -> bool {
     }
 }
 
-/// Adds the statement that has a fault of a value, where it can be told.
-fn put_suspect(
+/// Adds the name that sources define and that may be meant.
+fn put_near_name(
     alloc: Global,
     names: &[&str],
     sources: &[&[u8]],
-    fault: &LinkFault,
-    options: LinkOptions,
-    text: &mut String,
-) -> Result<(), Fault> {
-    let Some(suspect) = suspect_of(alloc, sources, fault, options)? else {
+    name: &[u8],
+    sentence: &mut String,
+) -> Result<(), AllocError> {
+    let Some(near) = near_name(alloc, sources, name)? else {
         return Ok(());
     };
-    if let (Some(file), Some(source)) = (names.get(suspect.file), sources.get(suspect.file)) {
-        put_found(alloc, text, file, source, Some(suspect.symbol))?;
+    let file = names.get(near.file).copied().unwrap_or("");
+    let line = near.line;
+    let place = format!(in alloc; "{file}:{line}")?;
+    sentence.push_str("; ")?;
+    if near.distance == 0 {
+        sentence.push_str(place.as_str())?;
+        return sentence.push_str(" defines it, but not so");
     }
-    Ok(())
-}
-
-/// What is said of a fault whatever the sources are.
-fn plain_words(fault: &LinkFault) -> &'static str {
-    match fault {
-        LinkFault::Overflow =>
-            "a distance or an address does not fit its place: 'rv explain L1' has the reaches",
-        LinkFault::OddTarget =>
-            "a branch, a jump or a call goes to an odd address; instructions stand at even ones",
-        LinkFault::DanglingPcrel => "%pcrel_lo names a label at which there is no %pcrel_hi",
-        LinkFault::AlignmentShort => "an alignment has no room for its padding",
-        LinkFault::Undefined(_) =>
-            "the name means nothing here: a source has to define it in a loaded section, with .globl",
-        LinkFault::Duplicate(_) =>
-            "one source alone may make a name global and define it; .weak in one gives way",
-        LinkFault::EntryMissing =>
-            "a program begins at _start: one source needs .globl _start, and the label in .text",
-        LinkFault::ImageTooLarge =>
-            "the program has over 256 MiB, or meets the stack at 0x3ff00000",
-        LinkFault::BadTextStart => "a text starts at a multiple of 4096 below 0x3ff00000",
-        LinkFault::TooManyFiles => "1,024 files are the most",
-        LinkFault::OutOfMemory => "out of memory",
-    }
+    put_bytes(sentence, near.name)?;
+    sentence.push_str(" at ")?;
+    sentence.push_str(place.as_str())?;
+    sentence.push_str(" is spelt almost so")
 }

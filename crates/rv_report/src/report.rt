@@ -1,14 +1,15 @@
 //! What a check finds.
 
 use rv_fault::Fault;
+use rv_fault_texts::Remark;
 
 /// A fault, and what is said of it.
 #[derive(Debug, Drop)]
 pub struct Finding {
     /// The fault, as `build` answers it.
     pub fault: Fault,
-    /// The lines below the fault's own: the line of the source, carets and a sentence, each with a line feed.
-    pub text: String,
+    /// Where it stands, and why.
+    pub remark: Remark,
 }
 
 /// What a check of sources finds.
@@ -18,6 +19,8 @@ pub struct Report {
     pub first: Option<Finding>,
     /// The faults after it.
     pub others: Vec<Finding>,
-    /// The count of faults, or sizes and warnings: lines, each with a line feed.
+    /// What may be a mistake in sources without a fault.
+    pub warnings: Vec<Remark>,
+    /// The count of faults, or the sizes of the regions: a line, with a line feed.
     pub closing: String,
 }

@@ -1,119 +1,69 @@
-//! The statement that has a fault of the link, found by trial.
-//!
-//! The linker names no line. So the statements that may have the fault are blanked from one on, and the sources built again:
-//! where one statement more brings the fault, and instructions of its size at least do not, it is that statement's.
+//! The statement whose value a link refuses, found in the objects of the sources.
 
-use rv_chain::build_exe;
+use rv_chain::assemble_object;
 use rv_fault::Fault;
-use rv_fault_texts::{Suspect, ValueFault, drafts_of, suspects_of, texts_of};
+use rv_fault_texts::{LineToken, Remark, part, symbol_at};
 use rv_link::{LinkFault, LinkOptions};
+use rv_object_report::{Site, borrowed, faulty_site, put_value, row_of, symbol_of, value_of};
 use std::alloc::Global;
 
-/// More halvings than sources have statements.
-const HALVINGS: usize = 64;
-
-/// What a build of changed sources tells.
-#[derive(Clone, Copy, Drop)]
-enum Verdict {
-    /// The fault is there.
-    Same,
-    /// It is not; another one of a value may be.
-    Gone,
-    /// The sources are wrong in another way.
-    Unclear,
-}
-
-/// The statement that has this fault of a value, where it can be told.
-pub(crate) fn suspect_of(
+/// Shows the statement that has a fault of a value, and says of what that value is made; whether it can be told.
+pub(crate) fn put_suspect(
     alloc: Global,
+    names: &[&str],
     sources: &[&[u8]],
     fault: &LinkFault,
     options: LinkOptions,
-) -> Result<Option<Suspect>, Fault> {
-    // what is blanked may be all that keeps a section
-    if options.gc {
-        return Ok(None);
-    }
-    let Some(wanted) = value_fault(fault) else {
-        return Ok(None);
+    remark: &mut Remark,
+) -> Result<bool, Fault> {
+    let objects = objects_of(alloc, sources)?;
+    let files = borrowed(alloc, objects.as_slice())?;
+    let Some(site) = faulty_site(alloc, files.as_slice(), fault, options)? else {
+        return Ok(false);
     };
-    // few statements add to a name, and most faults are of these
-    let sums = suspects_of(alloc, sources, wanted, true)?;
-    let found = search(alloc, sources, sums.as_slice(), wanted, options)?;
-    if found.is_some() {
-        return Ok(found);
+    let (Some(name), Some(source), Some(file)) = (
+        names.get(site.file),
+        sources.get(site.file),
+        files.get(site.file),
+    ) else {
+        return Ok(false);
+    };
+    let is_lower = matches!(fault, LinkFault::DanglingPcrel);
+    let Some(token) = token_of(alloc, source, file, &site, is_lower)? else {
+        return Ok(false);
+    };
+    remark.show_in_file(alloc, site.file, name, source, &token)?;
+    if is_lower {
+        return Ok(false);
     }
-    let all = suspects_of(alloc, sources, wanted, false)?;
-    search(alloc, sources, all.as_slice(), wanted, options)
+    let Some(value) = value_of(alloc, files.as_slice(), &site, options)? else {
+        return Ok(false);
+    };
+    let symbol = part(source, token.start, token.stop);
+    put_value(alloc, &mut remark.sentence, symbol, &site, &value, fault)?;
+    Ok(true)
 }
 
-/// The suspect that brings the fault, where others before it do not.
-fn search(
+/// The token of a source by which the statement of a relocation of its object refers to its symbol.
+fn token_of(
     alloc: Global,
-    sources: &[&[u8]],
-    suspects: &[Suspect],
-    wanted: ValueFault,
-    options: LinkOptions,
-) -> Result<Option<Suspect>, Fault> {
-    let mut low = 0usize;
-    let mut high = suspects.len();
-    for _ in 0..HALVINGS {
-        if high.saturating_sub(low) <= 1 {
-            break;
-        }
-        let middle = low.saturating_add(high.saturating_sub(low) / 2);
-        match outcome(alloc, sources, suspects, middle, false, wanted, options)? {
-            Verdict::Same => high = middle,
-            _ => low = middle,
-        }
-    }
-    let Some(found) = suspects.get(low) else {
+    source: &[u8],
+    object: &[u8],
+    site: &Site,
+    is_lower: bool,
+) -> Result<Option<LineToken>, Fault> {
+    let Some(row) = row_of(object, site.section, site.rela.r_offset) else {
         return Ok(None);
     };
-    match outcome(alloc, sources, suspects, low, true, wanted, options)? {
-        Verdict::Gone => Ok(Some(*found)),
-        _ => Ok(None),
-    }
+    let name = symbol_of(object, site);
+    Ok(symbol_at(alloc, source, row.r_ordinal, name, is_lower)?)
 }
 
-/// The fault of a value that a fault of the link is, if it is one.
-fn value_fault(fault: &LinkFault) -> Option<ValueFault> {
-    match fault {
-        LinkFault::Overflow => Some(ValueFault::Overflow),
-        LinkFault::OddTarget => Some(ValueFault::OddTarget),
-        LinkFault::DanglingPcrel => Some(ValueFault::DanglingPcrel),
-        _ => None,
+/// The objects of sources, which have no fault of their own.
+fn objects_of(alloc: Global, sources: &[&[u8]]) -> Result<Vec<Vec<u8>>, Fault> {
+    let mut objects = Vec::new(alloc);
+    for source in sources {
+        objects.push(assemble_object(alloc, source)?)?;
     }
-}
-
-/// What a build of the sources with the first so many suspects alone tells; with `fills` the next one is replaced.
-fn outcome(
-    alloc: Global,
-    sources: &[&[u8]],
-    suspects: &[Suspect],
-    kept: usize,
-    fills: bool,
-    wanted: ValueFault,
-    options: LinkOptions,
-) -> Result<Verdict, Fault> {
-    let drafts = drafts_of(alloc, sources, suspects, kept, fills)?;
-    let texts = texts_of(alloc, drafts.as_slice())?;
-    match build_exe(alloc, texts.as_slice(), options) {
-        Ok(_) => Ok(Verdict::Gone),
-        Err(Fault::Memory) => Err(Fault::Memory),
-        Err(fault) => Ok(compared(&fault, wanted)),
-    }
-}
-
-/// What a fault tells of the one that is looked for.
-fn compared(fault: &Fault, wanted: ValueFault) -> Verdict {
-    let found = match fault {
-        Fault::Link(link) => value_fault(link),
-        _ => None,
-    };
-    match found {
-        Some(found) if found == wanted => Verdict::Same,
-        Some(_) => Verdict::Gone,
-        None => Verdict::Unclear,
-    }
+    Ok(objects)
 }

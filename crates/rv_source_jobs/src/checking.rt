@@ -1,6 +1,9 @@
 //! What the program says of sources that it is to check.
 
+use crate::formats::{put_json, put_line_of_compilers};
 use rv_chain::LinkOptions;
+use rv_fault_texts::Remark;
+use rv_job::ReportFormat;
 use rv_report::{Finding, Report, check};
 use rv_system::{JobError, System, borrowed, fault_line, files_bytes, print};
 use std::alloc::Global;
@@ -14,6 +17,7 @@ pub fn check_files<S: System>(
     system: &mut S,
     names: &[&str],
     options: LinkOptions,
+    format: ReportFormat,
 ) -> Result<u8, JobError> {
     let alloc: Global = system.alloc();
     let read = files_bytes(system, names)?;
@@ -22,26 +26,55 @@ pub fn check_files<S: System>(
         Ok(report) => report,
         Err(fault) => return Err(fault_line(alloc, &fault, names)?),
     };
-    let text = report_text(alloc, &report, names)?;
+    let text = report_text(alloc, &report, names, format)?;
     print(system, text.as_bytes())?;
     Ok(if report.first.is_some() { FAULTY } else { 0 })
 }
 
-/// The faults one after the other, each below the line that a build shows, and what stands at the end.
-fn report_text(alloc: Global, report: &Report, names: &[&str]) -> Result<String, JobError> {
+/// The faults one after the other, and then the warnings. For people there is a line more: how many faults there are, or what the
+/// sources come to.
+fn report_text(
+    alloc: Global,
+    report: &Report,
+    names: &[&str],
+    format: ReportFormat,
+) -> Result<String, JobError> {
     let mut text = String::new(alloc);
     if let Some(first) = &report.first {
-        put_finding(alloc, &mut text, first, names)?;
+        put_finding(alloc, &mut text, first, names, format)?;
     }
     for finding in &report.others {
-        put_finding(alloc, &mut text, finding, names)?;
+        put_finding(alloc, &mut text, finding, names, format)?;
     }
-    text.push_str(report.closing.as_str())?;
+    if format == ReportFormat::Text {
+        text.push_str(report.closing.as_str())?;
+    }
+    for warning in &report.warnings {
+        put_warning(alloc, &mut text, warning, names, format)?;
+    }
     Ok(text)
 }
 
-/// Adds a fault: the line that a build shows, and what is said of it.
+/// Adds a fault.
 fn put_finding(
+    alloc: Global,
+    text: &mut String,
+    finding: &Finding,
+    names: &[&str],
+    format: ReportFormat,
+) -> Result<(), JobError> {
+    match format {
+        ReportFormat::Text => put_finding_for_people(alloc, text, finding, names)?,
+        ReportFormat::Gcc => {
+            put_line_of_compilers(alloc, text, names, Some(&finding.fault), &finding.remark)?
+        }
+        ReportFormat::Json => put_json(alloc, text, names, Some(&finding.fault), &finding.remark)?,
+    }
+    Ok(())
+}
+
+/// Adds a fault: the line that a build shows, and what is said of it.
+fn put_finding_for_people(
     alloc: Global,
     text: &mut String,
     finding: &Finding,
@@ -52,6 +85,40 @@ fn put_finding(
         other => return Err(other),
     }
     text.push_str("\n")?;
-    text.push_str(finding.text.as_str())?;
+    finding.remark.put_to(text)?;
+    Ok(())
+}
+
+/// Adds a warning.
+fn put_warning(
+    alloc: Global,
+    text: &mut String,
+    warning: &Remark,
+    names: &[&str],
+    format: ReportFormat,
+) -> Result<(), JobError> {
+    match format {
+        ReportFormat::Text => put_warning_for_people(alloc, text, warning, names)?,
+        ReportFormat::Gcc => put_line_of_compilers(alloc, text, names, None, warning)?,
+        ReportFormat::Json => put_json(alloc, text, names, None, warning)?,
+    }
+    Ok(())
+}
+
+/// Adds a warning: its place, its sentence and its line.
+fn put_warning_for_people(
+    alloc: Global,
+    text: &mut String,
+    warning: &Remark,
+    names: &[&str],
+) -> Result<(), JobError> {
+    if let Some(spot) = &warning.spot {
+        let file = names.get(spot.file).copied().unwrap_or("");
+        let line = spot.line;
+        let sentence = warning.sentence.as_str();
+        let head = format!(in alloc; "{file}:{line}: warning: {sentence}\n")?;
+        text.push_str(head.as_str())?;
+    }
+    text.push_str(warning.excerpt.as_str())?;
     Ok(())
 }

@@ -1,0 +1,154 @@
+//! The places of objects that a fault of the link is about: which refer to a name, and which define it.
+
+use crate::sites::{Site, sites_in};
+use crate::tables::{name_of_section, row_of, symbol_named};
+use rv_elf::{ElfView, SHN_UNDEF, SHT_SYMTAB, STB_GLOBAL};
+use rv_fault_texts::put_bytes;
+use rv_inspect::{bytes_of, count_symbols, section_at, section_named};
+use std::alloc::{AllocError, Global};
+
+/// The most references to a name that are shown.
+const MOST_REFERENCES: usize = 20;
+
+/// Shows the references to a name that has no meaning.
+pub(crate) fn show_references(
+    alloc: Global,
+    names: &[&str],
+    files: &[&[u8]],
+    name: &[u8],
+    text: &mut String,
+) -> Result<(), AllocError> {
+    let mut left = MOST_REFERENCES;
+    for file in 0..files.len() {
+        let all = sites_in(alloc, files[file], file)?;
+        left = show_sites_of(alloc, names, files, all.as_slice(), name, left, text)?;
+    }
+    Ok(())
+}
+
+/// Shows those relocations of a file that name a symbol, so many at most; how many more there may be.
+fn show_sites_of(
+    alloc: Global,
+    names: &[&str],
+    files: &[&[u8]],
+    sites: &[Site],
+    name: &[u8],
+    most: usize,
+    text: &mut String,
+) -> Result<usize, AllocError> {
+    let mut left = most;
+    for site in sites {
+        if left == 0 {
+            break;
+        }
+        if refers_to(files, site, name) {
+            show_site(alloc, names, files, site, text)?;
+            left = left.saturating_sub(1);
+        }
+    }
+    Ok(left)
+}
+
+/// Whether a relocation names a symbol of another object.
+fn refers_to(files: &[&[u8]], site: &Site, name: &[u8]) -> bool {
+    let Some(file) = files.get(site.file) else {
+        return false;
+    };
+    let Ok(view) = ElfView::open(file) else {
+        return false;
+    };
+    match symbol_named(&view, site.symbols, site.rela.r_sym) {
+        Some(symbol) => symbol.section == SHN_UNDEF
+            && symbol.binding == STB_GLOBAL
+            && symbol.name == name,
+        None => false,
+    }
+}
+
+/// Shows a relocation's place.
+pub(crate) fn show_site(
+    alloc: Global,
+    names: &[&str],
+    files: &[&[u8]],
+    site: &Site,
+    text: &mut String,
+) -> Result<(), AllocError> {
+    show_place(
+        alloc,
+        names,
+        files,
+        site.file,
+        site.section,
+        site.rela.r_offset,
+        text,
+    )
+}
+
+/// Shows the symbols that define a name for all objects.
+pub(crate) fn show_definitions(
+    alloc: Global,
+    names: &[&str],
+    files: &[&[u8]],
+    name: &[u8],
+    text: &mut String,
+) -> Result<(), AllocError> {
+    for file in 0..files.len() {
+        if let Some((section, offset)) = definition_in(files[file], name) {
+            show_place(alloc, names, files, file, section, offset, text)?;
+        }
+    }
+    Ok(())
+}
+
+/// The section and the offset that a file gives to a name for all objects; none where it does not.
+fn definition_in(file: &[u8], name: &[u8]) -> Option<(u32, u64)> {
+    let view = ElfView::open(file).ok()?;
+    let table = index_of_symbols(&view)?;
+    let symbols = bytes_of(&view, &section_named(&view, table).ok()?).ok()?;
+    for index in 0..count_symbols(symbols) {
+        let symbol = symbol_named(&view, table, index as u32)?;
+        if symbol.binding == STB_GLOBAL && symbol.section != SHN_UNDEF && symbol.name == name {
+            return Some((u32::from(symbol.section), symbol.value));
+        }
+    }
+    None
+}
+
+/// The index of the section that has the symbols of a file.
+fn index_of_symbols(view: &ElfView<'_>) -> Option<u32> {
+    for index in 0..view.header().e_shnum {
+        match section_at(view, index) {
+            Some(header) if header.sh_type == SHT_SYMTAB => return Some(u32::from(index)),
+            _ => {}
+        }
+    }
+    None
+}
+
+/// Shows a place of a file, as `a.o: .text+0x12, line 5 of its source`; a number has no section.
+fn show_place(
+    alloc: Global,
+    names: &[&str],
+    files: &[&[u8]],
+    file: usize,
+    section: u32,
+    offset: u64,
+    text: &mut String,
+) -> Result<(), AllocError> {
+    let title = names.get(file).copied().unwrap_or("");
+    let bytes = files.get(file).copied().unwrap_or(b"");
+    text.push_str("  ")?;
+    text.push_str(title)?;
+    text.push_str(": ")?;
+    if let Ok(view) = ElfView::open(bytes) {
+        put_bytes(text, name_of_section(&view, section))?;
+    }
+    let place = format!(in alloc; "+0x{offset:x}")?;
+    text.push_str(place.as_str())?;
+    if let Some(row) = row_of(bytes, section, offset) {
+        let line = row.r_line;
+        let told = format!(in alloc; ", line {line} of its source")?;
+        text.push_str(told.as_str())?;
+    }
+    text.push_str("\n")
+}

@@ -1,0 +1,88 @@
+//! What is said of a fault of objects' files or of their link.
+
+use crate::records::put_record;
+use crate::references::{show_definitions, show_references, show_site};
+use crate::search::faulty_site;
+use crate::tables::symbol_of;
+use crate::values::{put_value, value_of};
+use rv_fault::Fault;
+use rv_fault_texts::{Remark, link_words};
+use rv_link::{LinkFault, LinkOptions};
+use std::alloc::Global;
+
+/// What is said of the fault for which a link of files with these names is refused. An error is want of memory.
+pub fn objects_remark(
+    alloc: Global,
+    names: &[&str],
+    files: &[&[u8]],
+    fault: &Fault,
+    options: LinkOptions,
+) -> Result<Remark, Fault> {
+    let mut remark = Remark::new(alloc);
+    match fault {
+        Fault::File(number, fault) => {
+            if let Some(file) = files.get((*number as usize).saturating_sub(1)) {
+                put_record(alloc, file, fault, &mut remark.sentence)?;
+            }
+        }
+        Fault::Link(fault) => put_link(alloc, names, files, fault, options, &mut remark)?,
+        _ => {}
+    }
+    Ok(remark)
+}
+
+/// Adds what is said of a fault of the link.
+fn put_link(
+    alloc: Global,
+    names: &[&str],
+    files: &[&[u8]],
+    fault: &LinkFault,
+    options: LinkOptions,
+    remark: &mut Remark,
+) -> Result<(), Fault> {
+    match fault {
+        LinkFault::Undefined(name) => {
+            show_references(alloc, names, files, name.as_slice(), &mut remark.excerpt)?
+        }
+        LinkFault::Duplicate(name) => {
+            show_definitions(alloc, names, files, name.as_slice(), &mut remark.excerpt)?
+        }
+        LinkFault::Overflow | LinkFault::OddTarget | LinkFault::DanglingPcrel => {
+            return put_refused_value(alloc, names, files, fault, options, remark);
+        }
+        _ => {}
+    }
+    remark.sentence.push_str(link_words(fault))?;
+    Ok(())
+}
+
+/// Adds where a value stands that is refused, and what it is made of.
+fn put_refused_value(
+    alloc: Global,
+    names: &[&str],
+    files: &[&[u8]],
+    fault: &LinkFault,
+    options: LinkOptions,
+    remark: &mut Remark,
+) -> Result<(), Fault> {
+    let Some(site) = faulty_site(alloc, files, fault, options)? else {
+        remark.sentence.push_str(link_words(fault))?;
+        return Ok(());
+    };
+    show_site(alloc, names, files, &site, &mut remark.excerpt)?;
+    let value = match fault {
+        LinkFault::DanglingPcrel => None,
+        _ => value_of(alloc, files, &site, options)?,
+    };
+    match value {
+        Some(value) => {
+            let name = match files.get(site.file) {
+                Some(file) => symbol_of(file, &site),
+                None => b"",
+            };
+            put_value(alloc, &mut remark.sentence, name, &site, &value, fault)?;
+        }
+        None => remark.sentence.push_str(link_words(fault))?,
+    }
+    Ok(())
+}

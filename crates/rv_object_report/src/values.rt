@@ -1,0 +1,177 @@
+//! The value of a relocation that is refused, with the addresses that it is made of.
+//!
+//! A link shows no address of a place that is no global name. So the relocation becomes one of four plain bytes, whatever their
+//! value, and the files are linked twice, with two addends: where the programs differ is the place, and what stands there the symbol.
+
+use crate::drafts::{borrowed, copies, leave, put_addend, put_kind};
+use crate::sites::{Site, Sites};
+use crate::tables::symbol_named;
+use rv_chain::link_objects_exe;
+use rv_elf::{ElfView, SHN_ABS};
+use rv_fault::Fault;
+use rv_fault_texts::put_bytes;
+use rv_isa::Kind;
+use rv_link::{LinkFault, LinkOptions};
+use rv_object_checks::kind_numbered;
+use std::alloc::{AllocError, Global};
+
+/// An addend of which no byte is 0, so that each byte of the sum is another.
+const MARK: i64 = 0x0101_0101;
+/// The offset of the first byte of a program's text in its file.
+const TEXT_OFFSET: usize = 0x1000;
+
+/// The addresses of a relocation.
+#[derive(Clone, Copy, Debug, Drop)]
+pub struct Value {
+    /// That of the place: the psABI's P.
+    pub place: u64,
+    /// That of the symbol with the addend: the psABI's S + A.
+    pub target: u64,
+}
+
+/// The addresses of a relocation that is refused; none where they cannot be told. An error is want of memory.
+pub fn value_of(
+    alloc: Global,
+    files: &[&[u8]],
+    site: &Site,
+    options: LinkOptions,
+) -> Result<Option<Value>, Fault> {
+    let mut drafts = copies(alloc, files)?;
+    let sites = Sites::of(alloc, files)?;
+    leave(drafts.as_mut_slice(), sites.lower.as_slice(), 0, 0);
+    leave(drafts.as_mut_slice(), sites.plain.as_slice(), 0, 0);
+    put_kind(drafts.as_mut_slice(), site, Kind::Set32.number());
+    put_addend(drafts.as_mut_slice(), site, 0);
+    let Some(first) = linked(alloc, drafts.as_slice(), options)? else {
+        return Ok(None);
+    };
+    put_addend(drafts.as_mut_slice(), site, MARK);
+    let Some(second) = linked(alloc, drafts.as_slice(), options)? else {
+        return Ok(None);
+    };
+    let symbol = absolute_of(files, site);
+    Ok(told(
+        first.as_slice(),
+        second.as_slice(),
+        site.rela.r_addend,
+        symbol,
+        options.text_start,
+    ))
+}
+
+/// The number of the symbol of a relocation, where it is one and no place.
+fn absolute_of(files: &[&[u8]], site: &Site) -> Option<u64> {
+    let view = ElfView::open(files.get(site.file)?).ok()?;
+    let symbol = symbol_named(&view, site.symbols, site.rela.r_sym)?;
+    if symbol.section == SHN_ABS {
+        Some(symbol.value)
+    } else {
+        None
+    }
+}
+
+/// The program of files; none where they have none.
+fn linked(
+    alloc: Global,
+    drafts: &[Vec<u8>],
+    options: LinkOptions,
+) -> Result<Option<Vec<u8>>, Fault> {
+    let files = borrowed(alloc, drafts)?;
+    match link_objects_exe(alloc, files.as_slice(), options) {
+        Ok(exe) => Ok(Some(exe)),
+        Err(Fault::Memory) => Err(Fault::Memory),
+        Err(_) => Ok(None),
+    }
+}
+
+/// What two programs tell that differ in a place alone.
+fn told(
+    first: &[u8],
+    second: &[u8],
+    addend: i64,
+    number: Option<u64>,
+    text_start: u64,
+) -> Option<Value> {
+    let offset = first
+        .iter()
+        .zip(second)
+        .position(|(one, other)| *one != *other)?;
+    let inside = offset.checked_sub(TEXT_OFFSET)?;
+    let address = match number {
+        Some(number) => number,
+        None => u64::from(word_at(first, offset)?),
+    };
+    Some(Value {
+        place: text_start.wrapping_add(inside as u64),
+        target: address.wrapping_add_signed(addend),
+    })
+}
+
+/// The number of four bytes, the lowest first.
+fn word_at(bytes: &[u8], offset: usize) -> Option<u32> {
+    let [a, b, c, d, ..] = bytes.get(offset..)? else {
+        return None;
+    };
+    Some(u32::from_le_bytes([*a, *b, *c, *d]))
+}
+
+/// Adds what is said of a value that is refused: the symbol, its distance, and what its field takes.
+pub fn put_value(
+    alloc: Global,
+    sentence: &mut String,
+    name: &[u8],
+    site: &Site,
+    value: &Value,
+    fault: &LinkFault,
+) -> Result<(), AllocError> {
+    let Some(kind) = kind_numbered(site.rela.r_type) else {
+        return Ok(());
+    };
+    put_bytes(sentence, name)?;
+    put_sum(alloc, sentence, site.rela.r_addend)?;
+    let target = value.target;
+    let place = value.place;
+    let added = if is_distance(kind) {
+        let distance = target.wrapping_sub(place).cast_signed();
+        format!(in alloc;
+            " is at 0x{target:x}, at a distance of {distance} from here, 0x{place:x}; "
+        )?
+    } else {
+        format!(in alloc; " is 0x{target:x}; ")?
+    };
+    sentence.push_str(added.as_str())?;
+    sentence.push_str(what_fits(kind, fault))
+}
+
+/// Adds what is added to a symbol.
+fn put_sum(alloc: Global, sentence: &mut String, addend: i64) -> Result<(), AllocError> {
+    if addend == 0 {
+        return Ok(());
+    }
+    let sign = if addend < 0 { "-" } else { "+" };
+    let size = addend.unsigned_abs();
+    let added = format!(in alloc; "{sign}0x{size:x}")?;
+    sentence.push_str(added.as_str())
+}
+
+/// Whether the value of a kind is a distance.
+fn is_distance(kind: Kind) -> bool {
+    !matches!(kind, Kind::Abs32 | Kind::Hi20)
+}
+
+/// What the field of a kind takes (psABI, "Relocations"; ISA manual, "RV32I Base Integer Instruction Set").
+fn what_fits(kind: Kind, fault: &LinkFault) -> &'static str {
+    if matches!(fault, LinkFault::OddTarget) {
+        return "instructions stand at even addresses";
+    }
+    match kind {
+        Kind::Branch => "a branch reaches -4096 to 4094",
+        Kind::Jal => "a jump reaches -1048576 to 1048574",
+        Kind::RvcBranch => "a branch of two bytes reaches -256 to 254",
+        Kind::RvcJump => "a jump of two bytes reaches -2048 to 2046",
+        Kind::Abs32 => "four bytes take -2147483648 to 4294967295",
+        Kind::Pcrel32 => "four bytes take -2147483648 to 2147483647",
+        Kind::Hi20 => "an upper part takes -2147485696 to 2147481599",
+        _ => "an upper part reaches -2147485696 to 2147481599",
+    }
+}

@@ -1,0 +1,185 @@
+//! Findings as programs read them: lines as compilers write them, which editors take, and JSON.
+
+use rv_fault::Fault;
+use rv_fault_texts::Remark;
+use rv_lexer::SourceFault;
+use serde_json::{Value, json};
+use std::alloc::{AllocError, Global};
+
+/// A fault's code, as `E14`, its name, and the place where it stands, as far as they are known.
+#[derive(Drop)]
+struct Heading<'a> {
+    file: Option<&'a str>,
+    line: Option<u64>,
+    column: Option<u64>,
+    code: Option<String>,
+    name: &'static str,
+}
+
+/// Adds a fault, or a warning, as GCC writes it: `FILE:LINE:COLUMN: error: SENTENCE [CODE]`.
+pub(crate) fn put_line_of_compilers(
+    alloc: Global,
+    text: &mut String,
+    names: &[&str],
+    fault: Option<&Fault>,
+    remark: &Remark,
+) -> Result<(), AllocError> {
+    let heading = heading(alloc, names, fault, remark)?;
+    text.push_str(heading.file.unwrap_or("rv"))?;
+    if let Some(line) = heading.line {
+        put_number(alloc, text, line)?;
+    }
+    if let Some(column) = heading.column {
+        put_number(alloc, text, column)?;
+    }
+    text.push_str(": ")?;
+    text.push_str(severity(fault))?;
+    text.push_str(": ")?;
+    text.push_str(message(&heading, remark))?;
+    if let Some(code) = &heading.code {
+        text.push_str(" [")?;
+        text.push_str(code.as_str())?;
+        text.push_str("]")?;
+    }
+    text.push_str("\n")
+}
+
+/// Adds a number behind a colon.
+fn put_number(alloc: Global, text: &mut String, number: u64) -> Result<(), AllocError> {
+    let added = format!(in alloc; ":{number}")?;
+    text.push_str(added.as_str())
+}
+
+/// Adds a fault, or a warning, as an object of JSON in a line; what is not known of it is null.
+pub(crate) fn put_json(
+    alloc: Global,
+    text: &mut String,
+    names: &[&str],
+    fault: Option<&Fault>,
+    remark: &Remark,
+) -> Result<(), AllocError> {
+    let heading = heading(alloc, names, fault, remark)?;
+    let file = text_or_null(alloc, heading.file)?;
+    let code = text_or_null(alloc, heading.code.as_deref())?;
+    let line = number_or_null(heading.line);
+    let column = number_or_null(heading.column);
+    let severity = severity(fault);
+    let message = message(&heading, remark);
+    let found = json!(in alloc; {
+        "file": file,
+        "line": line,
+        "column": column,
+        "severity": severity,
+        "code": code,
+        "message": message
+    })?;
+    text.push_str(found.to_string(alloc)?.as_str())?;
+    text.push_str("\n")
+}
+
+/// A text of JSON, or null.
+fn text_or_null(alloc: Global, text: Option<&str>) -> Result<Value, AllocError> {
+    match text {
+        Some(text) => Value::try_from_str(alloc, text),
+        None => Ok(Value::Null),
+    }
+}
+
+/// A number of JSON, or null.
+fn number_or_null(number: Option<u64>) -> Value {
+    match number {
+        Some(number) => Value::from(number),
+        None => Value::Null,
+    }
+}
+
+/// How grave a finding is.
+fn severity(fault: Option<&Fault>) -> &'static str {
+    match fault {
+        Some(_) => "error",
+        None => "warning",
+    }
+}
+
+/// What is said of a finding: its sentence, else the name of the fault.
+fn message<'a>(heading: &Heading<'_>, remark: &'a Remark) -> &'a str {
+    if remark.sentence.is_empty() {
+        return heading.name;
+    }
+    remark.sentence.as_str()
+}
+
+/// What a finding is called, and where it stands.
+fn heading<'a>(
+    alloc: Global,
+    names: &[&'a str],
+    fault: Option<&Fault>,
+    remark: &Remark,
+) -> Result<Heading<'a>, AllocError> {
+    let (letter, number, name) = match fault {
+        Some(fault) => code_of(fault),
+        None => ("", None, ""),
+    };
+    let code = match number {
+        Some(number) => Some(format!(in alloc; "{letter}{number}")?),
+        None => None,
+    };
+    let spot = spot_of(fault, remark);
+    Ok(Heading {
+        file: spot.file.and_then(|file| names.get(file).copied()),
+        line: spot.line,
+        column: spot.column,
+        code,
+        name,
+    })
+}
+
+/// The letter, the number and the name of a fault's code.
+fn code_of(fault: &Fault) -> (&'static str, Option<u32>, &'static str) {
+    match fault {
+        Fault::Source(_, SourceFault::At { code, .. }) => {
+            ("E", Some(u32::from(code.number())), code.name())
+        }
+        Fault::Link(fault) => match fault.number() {
+            Some(number) => ("L", Some(u32::from(number)), fault.name()),
+            None => ("L", None, fault.name()),
+        },
+        Fault::File(_, fault) => ("F", fault.number(), fault.name()),
+        _ => ("", None, "out of memory"),
+    }
+}
+
+/// Where a finding stands, as far as that is known.
+#[derive(Clone, Copy, Drop)]
+struct KnownSpot {
+    /// The index of its file, from 0.
+    file: Option<usize>,
+    line: Option<u64>,
+    column: Option<u64>,
+}
+
+/// Where a finding stands.
+fn spot_of(fault: Option<&Fault>, remark: &Remark) -> KnownSpot {
+    if let Some(spot) = &remark.spot {
+        return KnownSpot {
+            file: Some(spot.file),
+            line: Some(u64::from(spot.line)),
+            column: Some(spot.column as u64),
+        };
+    }
+    let (file, line) = match fault {
+        Some(Fault::Source(file, SourceFault::At { line, .. })) => {
+            (Some(*file), Some(u64::from(*line)))
+        }
+        Some(Fault::File(file, _)) => (Some(*file), None),
+        _ => (None, None),
+    };
+    KnownSpot {
+        file: match file {
+            Some(file) => Some((file as usize).saturating_sub(1)),
+            None => None,
+        },
+        line,
+        column: None,
+    }
+}
