@@ -32,7 +32,9 @@ def check(folder, form):
     """The lines of what is wrong with both sources."""
     lines = []
     for name in ["faulty.s", "doubtful.s"]:
-        ran = subprocess.run([RV, "check", f"--format={form}", name], cwd=folder, capture_output=True, text=True, timeout=60)
+        ran = subprocess.run(
+            [RV, "check", f"--format={form}", name], cwd=folder, capture_output=True, text=True, timeout=60
+        )
         lines += ran.stdout.splitlines()
     return lines
 

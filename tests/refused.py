@@ -289,6 +289,11 @@ def faulty(name, source, at, texts):
     for words in (["check"], ["check", "--format=gcc"], ["check", "--format=json"]):
         shown = subprocess.run([RV, *words, *paths], cwd=at, timeout=SECONDS, stdout=subprocess.PIPE).stdout
         yield Case(" ".join([*words, name]), [RV, *words, *paths], at, b"", Answer(1, shown, "", 0, ()))
+    words = ["build", "--explain", "-o", "exe"]
+    told = subprocess.run([RV, *words, *paths], cwd=at, timeout=SECONDS, stderr=subprocess.PIPE).stderr.decode()
+    yield Case(
+        f"build --explain {name}", [RV, *words, *paths], at, b"", Answer(1, b"", told.replace(f"{at}/", ""), 0, ())
+    )
 
 
 def of_bad_files(name, at):

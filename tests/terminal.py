@@ -1,5 +1,6 @@
 #!/usr/bin/env python3
-"""Looks at when rv shows colours: on a terminal, and neither in a pipe nor a file, nor where NO_COLOR is set.
+"""Looks at when rv shows colours: on a terminal, and neither in a pipe nor a file, nor where NO_COLOR is set; and at when it explains
+a fault: on a terminal, or where --explain asks for it.
 
 Without its colours what a terminal shows is what a pipe has. Standard library alone; the last line is 'N passed, M
 failed'.
@@ -26,6 +27,14 @@ _start: nop
 """
 # Words that print listings, and those that trace to standard error.
 TRACES = [["trace", str(SOURCE)], ["run", "--report", "--limit", "1", str(SOURCE)]]
+# Words that are refused, with the place of `--explain` before the file.
+REFUSED = [
+    ["build", "-o", "out", "faulty.s"],
+    ["as", "-o", "out", "faulty.s"],
+    ["map", "faulty.s"],
+    ["run", "faulty.s"],
+]
+FAULTY = ".globl _start\n_start: addi a0, zero, 5000\n"
 LISTINGS = [
     ["objdump", "--map", "exit7.map", "exit7"],
     ["objdump", "--raw", "exit7"],
@@ -36,14 +45,19 @@ LISTINGS = [
 ]
 
 
-def in_pipe(words, folder):
-    process = subprocess.run([RV, *words], cwd=folder, capture_output=True, timeout=60)
-    return process.stderr if words in TRACES else process.stdout
+def writes_errors(words):
+    """Whether what is looked at is on standard error."""
+    return words in TRACES or words in REFUSED
+
+
+def in_pipe(words, folder, *more):
+    process = subprocess.run([RV, *words, *more], cwd=folder, capture_output=True, timeout=60)
+    return process.stderr if writes_errors(words) else process.stdout
 
 
 def on_terminal(words, folder, **more):
     """What a program writes to a terminal, with the line ends that it wrote."""
-    stream = "stderr" if words in TRACES else "stdout"
+    stream = "stderr" if writes_errors(words) else "stdout"
     ours, theirs = pty.openpty()
     environment = {key: value for key, value in os.environ.items() if key != "NO_COLOR"} | more
     with subprocess.Popen([RV, *words], cwd=folder, env=environment, **{stream: theirs}) as started:
@@ -74,17 +88,27 @@ def faults(words, folder):
         yield "NO_COLOR has an effect where it is empty"
 
 
+def unexplained(words, folder):
+    """What is wrong with how a fault is explained."""
+    plain, asked = in_pipe(words, folder), in_pipe(words, folder, "--explain")
+    if plain.count(b"\n") != 1 or not asked.startswith(plain) or asked == plain:
+        yield f"a pipe has {plain!r}, with --explain {asked!r}"
+    if (shown := on_terminal(words, folder)) != asked:
+        yield f"a terminal shows {shown!r}, and --explain {asked!r}"
+
+
 def main():
     failed = 0
     with tempfile.TemporaryDirectory() as folder:
         subprocess.run([RV, "build", "-o", "exit7", "--map", "exit7.map", str(SOURCE)], cwd=folder, check=True)
         Path(folder, "text.s").write_text(TEXTS)
-        for words in LISTINGS + TRACES:
-            found = list(faults(words, folder))
+        Path(folder, "faulty.s").write_text(FAULTY)
+        for words in LISTINGS + TRACES + REFUSED:
+            found = list(unexplained(words, folder) if words in REFUSED else faults(words, folder))
             failed += bool(found)
             for fault in found:
                 print(f"rv {' '.join(words)}: {fault}")
-    print(f"{len(LISTINGS + TRACES) - failed} passed, {failed} failed")
+    print(f"{len(LISTINGS + TRACES + REFUSED) - failed} passed, {failed} failed")
     return int(failed > 0)
 
 

@@ -104,6 +104,7 @@ Options:
       --limit <N>  The most instructions to execute [default: 1000000000000]
       --report     Says why the run ended where the program did not exit
       --map <F>    The map of an executable, for its symbols and lines
+      --explain    Shows below a fault where it stands and why, as on a terminal
   -h, --help       Print help
 
 Examples:
@@ -171,6 +172,7 @@ Options:
       --text-start <N>  The address of the text, decimal or 0x and hexadecimal [default: 0x10000]
       --no-relax        Leaves every call its eight bytes
       --gc-sections     Leaves out sections to which nothing leads from the entry
+      --explain         Shows below a fault where it stands and why, as on a terminal
   -h, --help            Print help
 
 Example:
@@ -185,10 +187,11 @@ Arguments:
 
 Options:
   -o <OBJ>                  The object to write
+      --explain             Shows below a fault where it stands and why, as on a terminal
   -m <OPTION>               As GCC says it: arch=rv64imac, abi=lp64, isa-spec=20191213, no-relax
   -f <OPTION>               As GCC says it: no-pic
   -I <DIR>                  As GCC says it; no source includes a file
-      --traditional-format  As GCC says it; has no effect
+      --traditional-format  As GCC says it; explains a fault, as --explain does
   -W                        As GCC says it; has no effect
   -v                        As GCC says it; has no effect
   -h, --help                Print help
@@ -213,6 +216,7 @@ Options:
       --text-start <N>  The address of the text, decimal or 0x and hexadecimal [default: 0x10000]
       --no-relax        Leaves every call its eight bytes
       --gc-sections     Leaves out sections to which nothing leads from the entry
+      --explain         Shows below a fault where it stands and why, as on a terminal
   -h, --help            Print help
 
 Example:
@@ -229,6 +233,7 @@ Options:
       --text-start <N>  The address of the text, decimal or 0x and hexadecimal [default: 0x10000]
       --no-relax        Leaves every call its eight bytes
       --gc-sections     Leaves out sections to which nothing leads from the entry
+      --explain         Shows below a fault where it stands and why, as on a terminal
   -h, --help            Print help
 
 Example:

@@ -2,12 +2,13 @@
 //!
 //! A job writes no file before all that it writes is made.
 
+use crate::refusing::{refused_objects, refused_sources};
 use rv_chain::{
-    Built, LinkOptions, assemble_object, build, build_exe, link_objects, link_objects_exe,
+    Built, Fault, LinkOptions, assemble_object, build, build_exe, link_objects, link_objects_exe,
 };
 use rv_system::{
-    GuestInput, JobError, Purpose, System, borrowed, default_options, fault_line, file_bytes,
-    files_bytes, given_bytes, image_in, print, report_end, run_line, write,
+    GuestInput, JobError, Purpose, System, borrowed, default_options, file_bytes, files_bytes,
+    given_bytes, image_in, print, report_end, run_line, write,
 };
 use std::alloc::{AllocError, Global};
 
@@ -16,12 +17,17 @@ use std::alloc::{AllocError, Global};
 /// Each has a function of its own, so that what a small guest needs stands together in the program, and not among what
 /// a source needs: that is 0.2 MiB of pages.
 #[inline(never)]
-pub fn run<S: System>(system: &mut S, name: &str, limit: u64) -> Result<u8, JobError> {
+pub fn run<S: System>(
+    system: &mut S,
+    name: &str,
+    limit: u64,
+    explains: bool,
+) -> Result<u8, JobError> {
     let bytes = given_bytes(system, name)?;
     if bytes.as_slice().starts_with(b"\x7fELF") {
         return run_executable(system, name, bytes.as_slice(), limit);
     }
-    run_source(system, name, bytes.as_slice(), limit)
+    run_source(system, name, bytes.as_slice(), limit, explains)
 }
 
 /// Builds a source and runs it; the exit status.
@@ -31,8 +37,9 @@ fn run_source<S: System>(
     name: &str,
     source: &[u8],
     limit: u64,
+    explains: bool,
 ) -> Result<u8, JobError> {
-    let exe = executable(system.alloc(), name, source)?;
+    let exe = executable(system, &[name], &[source], default_options(), explains)?;
     run_executable(system, name, exe.as_slice(), limit)
 }
 
@@ -57,11 +64,17 @@ fn run_executable<S: System>(
     }
 }
 
-/// The executable of one source, with the default options.
-fn executable(alloc: Global, name: &str, source: &[u8]) -> Result<Vec<u8>, JobError> {
-    match build_exe(alloc, &[source], default_options()) {
+/// The executable that sources build.
+fn executable<S: System>(
+    system: &S,
+    names: &[&str],
+    sources: &[&[u8]],
+    options: LinkOptions,
+    explains: bool,
+) -> Result<Vec<u8>, JobError> {
+    match build_exe(system.alloc(), sources, options) {
         Ok(exe) => Ok(exe),
-        Err(fault) => Err(fault_line(alloc, &fault, &[name])?),
+        Err(fault) => { Err(refused_sources(system, &fault, names, sources, options, explains)?) }
     }
 }
 
@@ -71,14 +84,18 @@ pub fn build_files<S: System>(
     system: &mut S,
     exe: &str,
     map: Option<&str>,
-    sources: &[&str],
+    names: &[&str],
     options: LinkOptions,
+    explains: bool,
 ) -> Result<u8, JobError> {
     if map.is_some() {
-        let built = build_with_map(system, sources, options)?;
+        let built = build_with_map(system, names, options, explains)?;
         return write_built(system, exe, map, &built);
     }
-    let built = build_without_map(system, sources, options)?;
+    let alloc: Global = system.alloc();
+    let read = files_bytes(system, names)?;
+    let sources = borrowed(alloc, read.as_slice())?;
+    let built = executable(system, names, sources.as_slice(), options, explains)?;
     write(system, exe, Purpose::ToRun, built.as_slice())?;
     Ok(0)
 }
@@ -88,28 +105,25 @@ fn build_with_map<S: System>(
     system: &mut S,
     names: &[&str],
     options: LinkOptions,
+    explains: bool,
 ) -> Result<Built, JobError> {
     let alloc: Global = system.alloc();
     let read = files_bytes(system, names)?;
     let sources = borrowed(alloc, read.as_slice())?;
-    match build(alloc, sources.as_slice(), options) {
-        Ok(built) => Ok(built),
-        Err(fault) => Err(fault_line(alloc, &fault, names)?),
-    }
+    built(system, names, sources.as_slice(), options, explains)
 }
 
-/// Reads the sources in their order and builds them: the executable alone.
-fn build_without_map<S: System>(
-    system: &mut S,
+/// The executable that sources build, and its map.
+pub(crate) fn built<S: System>(
+    system: &S,
     names: &[&str],
+    sources: &[&[u8]],
     options: LinkOptions,
-) -> Result<Vec<u8>, JobError> {
-    let alloc: Global = system.alloc();
-    let read = files_bytes(system, names)?;
-    let sources = borrowed(alloc, read.as_slice())?;
-    match build_exe(alloc, sources.as_slice(), options) {
-        Ok(exe) => Ok(exe),
-        Err(fault) => Err(fault_line(alloc, &fault, names)?),
+    explains: bool,
+) -> Result<Built, JobError> {
+    match build(system.alloc(), sources, options) {
+        Ok(built) => Ok(built),
+        Err(fault) => { Err(refused_sources(system, &fault, names, sources, options, explains)?) }
     }
 }
 
@@ -119,8 +133,9 @@ pub fn print_map<S: System>(
     system: &mut S,
     sources: &[&str],
     options: LinkOptions,
+    explains: bool,
 ) -> Result<u8, JobError> {
-    let built = build_with_map(system, sources, options)?;
+    let built = build_with_map(system, sources, options, explains)?;
     print(system, built.map.as_slice())?;
     Ok(0)
 }
@@ -132,19 +147,32 @@ pub fn assemble<S: System>(
     object: &str,
     source: &str,
     relax: bool,
+    explains: bool,
 ) -> Result<u8, JobError> {
-    let alloc: Global = system.alloc();
-    let mut text = file_bytes(system, source)?;
-    if !relax {
-        text = without_relaxation(alloc, text.as_slice())?;
-    }
-    match assemble_object(alloc, text.as_slice()) {
+    let text = file_bytes(system, source)?;
+    match object_of(system.alloc(), text.as_slice(), relax) {
         Ok(file) => {
             write(system, object, Purpose::ToRead, file.as_slice())?;
             Ok(0)
         }
-        Err(fault) => Err(fault_line(alloc, &fault, &[source])?),
+        Err(fault) => Err(refused_sources(
+            system,
+            &fault,
+            &[source],
+            &[text.as_slice()],
+            default_options(),
+            explains,
+        )?),
     }
+}
+
+/// The object of a source, whose calls may be shortened or not.
+fn object_of(alloc: Global, source: &[u8], relax: bool) -> Result<Vec<u8>, Fault> {
+    if relax {
+        return assemble_object(alloc, source);
+    }
+    let source = without_relaxation(alloc, source)?;
+    assemble_object(alloc, source.as_slice())
 }
 
 /// A source that leaves each of its calls its eight bytes; its lines stay.
@@ -162,23 +190,33 @@ pub fn link_files<S: System>(
     map: Option<&str>,
     names: &[&str],
     options: LinkOptions,
+    explains: bool,
 ) -> Result<u8, JobError> {
     let alloc: Global = system.alloc();
     let read = files_bytes(system, names)?;
     let objects = borrowed(alloc, read.as_slice())?;
-    if map.is_some() {
-        return match link_objects(alloc, objects.as_slice(), options) {
-            Ok(built) => write_built(system, exe, map, &built),
-            Err(fault) => Err(fault_line(alloc, &fault, names)?),
-        };
-    }
-    match link_objects_exe(alloc, objects.as_slice(), options) {
-        Ok(built) => {
-            write(system, exe, Purpose::ToRun, built.as_slice())?;
-            Ok(0)
+    let refused = if map.is_some() {
+        match link_objects(alloc, objects.as_slice(), options) {
+            Ok(built) => return write_built(system, exe, map, &built),
+            Err(fault) => fault,
         }
-        Err(fault) => Err(fault_line(alloc, &fault, names)?),
-    }
+    } else {
+        match link_objects_exe(alloc, objects.as_slice(), options) {
+            Ok(built) => {
+                write(system, exe, Purpose::ToRun, built.as_slice())?;
+                return Ok(0);
+            }
+            Err(fault) => fault,
+        }
+    };
+    Err(refused_objects(
+        system,
+        &refused,
+        names,
+        objects.as_slice(),
+        options,
+        explains,
+    )?)
 }
 
 /// Writes an executable, and then its map where a file is named for it; the exit status.

@@ -7,12 +7,13 @@
 //!
 //! ```text
 //! // rv build -o a a.s
-//! let status = build_files(system, "a", None, &["a.s"], default_options())?;
+//! let status = build_files(system, "a", None, &["a.s"], default_options(), false)?;
 //! ```
 #![tactic(auto)]
 
 mod building;
 mod loading;
+mod refusing;
 
 pub use building::{assemble, build_files, link_files, print_map, run};
 pub use loading::load_program;

@@ -2,12 +2,10 @@
 //!
 //! A source is built with its map; an executable has the map that the words name for it, if any.
 
-use rv_chain::build;
+use crate::building::built;
 use rv_image::Image;
 use rv_job::Asked;
-use rv_system::{
-    JobError, System, default_options, fault_line, file_bytes, given_bytes, image_in, map_in,
-};
+use rv_system::{JobError, System, default_options, file_bytes, given_bytes, image_in, map_in};
 use rv_watched_jobs::Program;
 use std::alloc::Global;
 
@@ -36,15 +34,24 @@ pub fn load_program<S: System>(
         let image = image_in(alloc, asked.file, bytes.as_slice())?;
         return Ok((Program { map, source: None }, image));
     }
-    built_program(alloc, asked.file, bytes)
+    built_program(system, asked.file, bytes, asked.explains)
 }
 
 /// A source as a program, with its map.
-fn built_program(alloc: Global, name: &str, source: Vec<u8>) -> Result<(Program, Image), JobError> {
-    let built = match build(alloc, &[source.as_slice()], default_options()) {
-        Ok(built) => built,
-        Err(fault) => return Err(fault_line(alloc, &fault, &[name])?),
-    };
+fn built_program<S: System>(
+    system: &S,
+    name: &str,
+    source: Vec<u8>,
+    explains: bool,
+) -> Result<(Program, Image), JobError> {
+    let alloc: Global = system.alloc();
+    let built = built(
+        system,
+        &[name],
+        &[source.as_slice()],
+        default_options(),
+        explains,
+    )?;
     let map = map_in(alloc, name, built.map.as_slice())?;
     let image = image_in(alloc, name, built.exe.as_slice())?;
     let program = Program {

@@ -48,6 +48,13 @@ pub(crate) const COLLECT: Entry = Entry {
     help: "Leaves out sections to which nothing leads from the entry",
 };
 
+pub(crate) const EXPLAIN: Entry = Entry {
+    id: "explain",
+    form: Form::Flag { long: "explain" },
+    need: Need::Optional,
+    help: "Shows below a fault where it stands and why, as on a terminal",
+};
+
 pub(crate) const SOURCES: Entry = Entry {
     id: "files",
     form: Form::Several { value: "SRC" },
@@ -66,6 +73,7 @@ const BUILD: Word = Word {
         TEXT_START,
         NO_RELAX,
         COLLECT,
+        EXPLAIN,
         SOURCES,
     ],
 };
@@ -89,6 +97,7 @@ What GCC says of the code that it made is taken where it agrees with RV64IMAC an
             need: Need::Required,
             help: "The object to write",
         },
+        EXPLAIN,
         Entry {
             id: "machine",
             form: Form::Repeated {
@@ -122,7 +131,7 @@ What GCC says of the code that it made is taken where it agrees with RV64IMAC an
                 long: "traditional-format",
             },
             need: Need::Optional,
-            help: "As GCC says it; has no effect",
+            help: "As GCC says it; explains a fault, as --explain does",
         },
         Entry {
             id: "warnings",
@@ -156,6 +165,7 @@ const LINK: Word = Word {
         TEXT_START,
         NO_RELAX,
         COLLECT,
+        EXPLAIN,
         Entry {
             id: "files",
             form: Form::Several { value: "OBJ" },
@@ -170,7 +180,7 @@ const MAP: Word = Word {
     about: "Prints the map of what the sources build",
     after_help: "Example:
   rv map --text-start 0x20000 prog.s",
-    entries: &[TEXT_START, NO_RELAX, COLLECT, SOURCES],
+    entries: &[TEXT_START, NO_RELAX, COLLECT, EXPLAIN, SOURCES],
 };
 
 pub(crate) fn build() -> Word {

@@ -1,5 +1,6 @@
 //! The words that run a guest.
 
+use crate::builds::EXPLAIN;
 use crate::table::{Entry, Form, Need, Word};
 
 const LIMIT: Entry = Entry {
@@ -56,6 +57,7 @@ Standard input is the guest's input, and its console is standard output.",
             need: Need::Beside("report"),
             help: "The map of an executable, for its symbols and lines",
         },
+        EXPLAIN,
         FILE,
     ],
 };

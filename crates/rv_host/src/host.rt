@@ -76,6 +76,10 @@ impl System for Host<'_> {
         self.rt.stdout().is_terminal() && wants_colours(self.rt)
     }
 
+    fn errors_go_to_terminal(&self) -> bool {
+        self.rt.stderr().is_terminal()
+    }
+
     fn print(&mut self, bytes: &[u8]) -> io::Result<()> {
         self.rt.stdout().write_all(bytes)
     }

@@ -12,6 +12,8 @@ pub enum Job<'a> {
     Run {
         file: &'a str,
         limit: u64,
+        /// Whether a fault is explained.
+        explains: bool,
     },
     /// Runs, and says why a run ended where the guest did not exit.
     Report(Asked<'a>),
@@ -25,6 +27,8 @@ pub enum Job<'a> {
         map: Option<&'a str>,
         options: LinkOptions,
         sources: Vec<&'a str>,
+        /// Whether a fault is explained.
+        explains: bool,
     },
     /// Writes the object of a source.
     Assemble {
@@ -32,6 +36,8 @@ pub enum Job<'a> {
         source: &'a str,
         /// Whether calls may be shortened.
         relax: bool,
+        /// Whether a fault is explained.
+        explains: bool,
     },
     /// Links objects: writes the executable, and the map where a file is named for it.
     Link {
@@ -39,11 +45,15 @@ pub enum Job<'a> {
         map: Option<&'a str>,
         options: LinkOptions,
         objects: Vec<&'a str>,
+        /// Whether a fault is explained.
+        explains: bool,
     },
     /// Prints the map.
     Map {
         options: LinkOptions,
         sources: Vec<&'a str>,
+        /// Whether a fault is explained.
+        explains: bool,
     },
     /// Prints the listing; the files are read in the order of the words.
     Objdump {

@@ -11,6 +11,8 @@ pub struct Asked<'a> {
     pub map_first: bool,
     /// The most instructions to execute.
     pub limit: u64,
+    /// Whether a fault of the source is explained.
+    pub explains: bool,
 }
 
 /// Which lines of a trace are written, and where.

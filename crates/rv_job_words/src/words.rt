@@ -32,6 +32,7 @@ pub fn parse_job<'a>(alloc: Global, words: &'a [&'a str]) -> Result<Job<'a>, Cli
         None => Ok(Job::Run {
             file: "-",
             limit: LIMIT,
+            explains: false,
         }),
     }
 }
@@ -111,11 +112,12 @@ fn parse_run<'a>(command: &mut Command<'a>, found: &ArgMatches<'a>) -> Result<Jo
         )?,
     };
     if found.get_flag("report") {
-        return Ok(parse_report(found, limit));
+        return Ok(parse_report(found, limit, found.get_flag("explain")));
     }
     Ok(Job::Run {
         file: found.get_str("file").unwrap_or("-"),
         limit,
+        explains: found.get_flag("explain"),
     })
 }
 
@@ -130,6 +132,7 @@ fn parse_build<'a>(
         map: found.get_str("map"),
         options,
         sources: file_names(alloc, found)?,
+        explains: found.get_flag("explain"),
     })
 }
 
@@ -144,6 +147,7 @@ fn parse_ld<'a>(
         map: found.get_str("map"),
         options,
         objects: file_names(alloc, found)?,
+        explains: found.get_flag("explain"),
     })
 }
 
@@ -156,6 +160,7 @@ fn parse_map<'a>(
     Ok(Job::Map {
         options,
         sources: file_names(alloc, found)?,
+        explains: found.get_flag("explain"),
     })
 }
 

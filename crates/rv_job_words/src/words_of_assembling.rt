@@ -27,6 +27,8 @@ pub(crate) fn parse_assemble<'a>(
         object: found.get_str("output").unwrap_or(""),
         source: found.get_str("source").unwrap_or(""),
         relax: relaxes(machine),
+        // GCC deletes the source behind its assembler, so the statement has to be shown while it is there
+        explains: found.get_flag("explain") || found.get_flag("traditional"),
     })
 }
 

@@ -5,8 +5,8 @@ use crate::words::{LIMIT, decimal, number};
 use clap::{ArgMatches, Command};
 use rv_job::{Asked, Coverage, Job, Shown};
 
-pub(crate) fn parse_report<'a>(found: &ArgMatches<'a>, limit: u64) -> Job<'a> {
-    Job::Report(asked(found, limit))
+pub(crate) fn parse_report<'a>(found: &ArgMatches<'a>, limit: u64, explains: bool) -> Job<'a> {
+    Job::Report(asked(found, limit, explains))
 }
 
 pub(crate) fn parse_trace<'a>(
@@ -24,7 +24,7 @@ pub(crate) fn parse_trace<'a>(
         count,
         output: found.get_str("output"),
     };
-    Ok(Job::Trace(asked(found, limit), shown))
+    Ok(Job::Trace(asked(found, limit, false), shown))
 }
 
 pub(crate) fn parse_stats<'a>(
@@ -36,17 +36,18 @@ pub(crate) fn parse_stats<'a>(
         lines: found.get_flag("lines"),
         lcov: found.get_str("lcov"),
     };
-    Ok(Job::Stats(asked(found, limit), coverage))
+    Ok(Job::Stats(asked(found, limit, false), coverage))
 }
 
-/// The program that the words name, and how far it runs.
-fn asked<'a>(found: &ArgMatches<'a>, limit: u64) -> Asked<'a> {
+/// The program that the words name, how far it runs, and whether a fault of its source is explained.
+fn asked<'a>(found: &ArgMatches<'a>, limit: u64, explains: bool) -> Asked<'a> {
     let map = found.get_str("map");
     Asked {
         file: found.get_str("file").unwrap_or("-"),
         map,
         map_first: map.is_some() && found.index_of("map") < found.index_of("file"),
         limit,
+        explains,
     }
 }
 

@@ -15,7 +15,11 @@ use rv_watched_jobs::{run_with_report, stats, trace};
 /// Does a job; the exit status.
 pub(crate) fn run_job<S: System>(system: &mut S, job: &Job<'_>) -> Result<u8, JobError> {
     match job {
-        Job::Run { file, limit } => run(system, file, *limit),
+        Job::Run {
+            file,
+            limit,
+            explains,
+        } => run(system, file, *limit, *explains),
         Job::Report(asked) => look_back(system, asked),
         Job::Trace(asked, shown) => show_steps(system, asked, shown),
         Job::Stats(asked, coverage) => count(system, asked, coverage),
@@ -24,19 +28,26 @@ pub(crate) fn run_job<S: System>(system: &mut S, job: &Job<'_>) -> Result<u8, Jo
             map,
             options,
             sources,
-        } => build_files(system, exe, *map, sources.as_slice(), *options),
+            explains,
+        } => build_files(system, exe, *map, sources.as_slice(), *options, *explains),
         Job::Assemble {
             object,
             source,
             relax,
-        } => assemble(system, object, source, *relax),
+            explains,
+        } => assemble(system, object, source, *relax, *explains),
         Job::Link {
             exe,
             map,
             options,
             objects,
-        } => link_files(system, exe, *map, objects.as_slice(), *options),
-        Job::Map { options, sources } => print_map(system, sources.as_slice(), *options),
+            explains,
+        } => link_files(system, exe, *map, objects.as_slice(), *options, *explains),
+        Job::Map {
+            options,
+            sources,
+            explains,
+        } => print_map(system, sources.as_slice(), *options, *explains),
         Job::Objdump {
             map,
             exe,

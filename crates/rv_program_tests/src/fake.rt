@@ -143,6 +143,10 @@ impl System for Fake<'_> {
         self.scene.colours
     }
 
+    fn errors_go_to_terminal(&self) -> bool {
+        false
+    }
+
     fn print(&mut self, bytes: &[u8]) -> io::Result<()> {
         if self.scene.is_unread {
             return Err(io::Error::from(ErrorKind::BrokenPipe));

@@ -46,6 +46,9 @@ pub trait System {
     /// Whether standard output shows colours: it is a terminal, and nobody asked for none.
     fn shows_colours(&self) -> bool;
 
+    /// Whether standard error is a terminal, where somebody reads it.
+    fn errors_go_to_terminal(&self) -> bool;
+
     /// Writes to standard output.
     fn print(&mut self, bytes: &[u8]) -> io::Result<()>;
 
