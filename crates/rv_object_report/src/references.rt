@@ -106,7 +106,7 @@ fn definition_in(file: &[u8], name: &[u8]) -> Option<(u32, u64)> {
     let table = index_of_symbols(&view)?;
     let symbols = bytes_of(&view, &section_named(&view, table).ok()?).ok()?;
     for index in 0..count_symbols(symbols) {
-        let symbol = symbol_named(&view, table, index as u32)?;
+        let symbol = symbol_named(&view, table, u32::try_from(index).ok()?)?;
         if symbol.binding == STB_GLOBAL && symbol.section != SHN_UNDEF && symbol.name == name {
             return Some((u32::from(symbol.section), symbol.value));
         }

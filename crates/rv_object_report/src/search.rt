@@ -36,17 +36,11 @@ pub fn faulty_site(
     leave(drafts.as_mut_slice(), sites.plain.as_slice(), 0, 0);
     let is_of_call = is_there(alloc, drafts.as_slice(), wanted, options)?;
     let suspects = if is_of_call {
-        &sites.calls
+        sites.calls.as_slice()
     } else {
-        &sites.plain
+        sites.plain.as_slice()
     };
-    search(
-        alloc,
-        drafts.as_mut_slice(),
-        suspects.as_slice(),
-        wanted,
-        options,
-    )
+    search(alloc, drafts.as_mut_slice(), suspects, wanted, options)
 }
 
 /// The first of some relocations that brings the fault of a number.

@@ -40,11 +40,17 @@ impl Sites {
         };
         for file in 0..files.len() {
             let all = sites_in(alloc, files[file], file)?;
-            for site in &all {
-                sites.put(site)?;
-            }
+            sites.put_all(all.as_slice())?;
         }
         Ok(sites)
+    }
+
+    /// Adds some, each where it belongs.
+    fn put_all(&mut self, sites: &[Site]) -> Result<(), AllocError> {
+        for site in sites {
+            self.put(site)?;
+        }
+        Ok(())
     }
 
     /// Adds one where it belongs.

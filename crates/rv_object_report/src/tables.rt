@@ -21,8 +21,6 @@ pub(crate) fn name_of_section<'a>(view: &ElfView<'a>, index: u32) -> &'a [u8] {
 pub(crate) struct NamedSymbol<'a> {
     /// Its name, or that of its section where it has none.
     pub name: &'a [u8],
-    /// Its name is that of its section, and this its offset there.
-    pub offset: Option<u64>,
     /// The index of its section, as the table has it.
     pub section: u16,
     /// Its binding: `STB_LOCAL`, `STB_GLOBAL` or `STB_WEAK`.
@@ -42,18 +40,13 @@ pub(crate) fn symbol_named<'a>(
     let strings = bytes_of(view, &section_named(view, header.sh_link).ok()?).ok()?;
     let symbol = symbol_at(symbols, index as usize)?;
     let name = symbol_name(view, strings, &symbol).ok()?;
-    let is_place = symbol.st_name == 0;
+    let shown = if name.is_empty() {
+        name_of_section(view, u32::from(symbol.st_shndx))
+    } else {
+        name
+    };
     Some(NamedSymbol {
-        name: if is_place && name.is_empty() {
-            name_of_section(view, u32::from(symbol.st_shndx))
-        } else {
-            name
-        },
-        offset: if is_place {
-            Some(symbol.st_value)
-        } else {
-            None
-        },
+        name: shown,
         section: symbol.st_shndx,
         binding: symbol.st_info / 16,
         value: symbol.st_value,

@@ -92,10 +92,7 @@ fn told(
     number: Option<u64>,
     text_start: u64,
 ) -> Option<Value> {
-    let offset = first
-        .iter()
-        .zip(second)
-        .position(|(one, other)| *one != *other)?;
+    let offset = first_difference(first, second)?;
     let inside = offset.checked_sub(TEXT_OFFSET)?;
     let address = match number {
         Some(number) => number,
@@ -105,6 +102,18 @@ fn told(
         place: text_start.wrapping_add(inside as u64),
         target: address.wrapping_add_signed(addend),
     })
+}
+
+/// The offset of the first byte in which two programs differ.
+fn first_difference(first: &[u8], second: &[u8]) -> Option<usize> {
+    let mut offset = 0usize;
+    for (one, other) in first.iter().zip(second) {
+        if *one != *other {
+            return Some(offset);
+        }
+        offset = offset.saturating_add(1);
+    }
+    None
 }
 
 /// The number of four bytes, the lowest first.

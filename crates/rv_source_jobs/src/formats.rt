@@ -24,7 +24,7 @@ pub(crate) fn put_line_of_compilers(
     fault: Option<&Fault>,
     remark: &Remark,
 ) -> Result<(), AllocError> {
-    let heading = heading(alloc, names, fault, remark)?;
+    let heading = heading_of(alloc, names, fault, remark)?;
     text.push_str(heading.file.unwrap_or("rv"))?;
     if let Some(line) = heading.line {
         put_number(alloc, text, line)?;
@@ -58,7 +58,7 @@ pub(crate) fn put_json(
     fault: Option<&Fault>,
     remark: &Remark,
 ) -> Result<(), AllocError> {
-    let heading = heading(alloc, names, fault, remark)?;
+    let heading = heading_of(alloc, names, fault, remark)?;
     let file = text_or_null(alloc, heading.file)?;
     let code = text_or_null(alloc, heading.code.as_deref())?;
     let line = number_or_null(heading.line);
@@ -110,7 +110,7 @@ fn message<'a>(heading: &Heading<'_>, remark: &'a Remark) -> &'a str {
 }
 
 /// What a finding is called, and where it stands.
-fn heading<'a>(
+fn heading_of<'a>(
     alloc: Global,
     names: &[&'a str],
     fault: Option<&Fault>,
