@@ -1,8 +1,8 @@
 //! For people: what the text of a source tells of a fault, in words, and where it stands there.
 //!
 //! It takes sources and the code of a fault at a line, and gives its place, a sentence of it, the lines that define or use a
-//! name, as a [`Remark`], and the source without what is faulty; it takes sources and their map, and gives sizes and warnings; and it takes
-//! the code of a fault or the name of a run's end, and gives its cause, an example and the cure.
+//! name, as a [`Remark`], and the source without what is faulty; it takes sources and their map, and gives sizes and
+//! warnings; and it takes the code of a fault or the name of a run's end, and gives its cause, an example and the cure.
 //!
 //! Main functions: [`place_by_text`], [`put_sentence`], [`closing_of`], [`explanation`]. They are proved to be safe; what they
 //! say is tested. It must not know how sources are assembled or built, nor where they come from.

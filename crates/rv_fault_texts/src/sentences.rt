@@ -104,10 +104,6 @@ fn put_words(
     match code {
         SourceCode::BadToken => put_bad_token(text, subject.shown),
         SourceCode::BadOperands => put_bad_operand(text, known, subject),
-        // a number is left out where it has no register in parentheses
-        SourceCode::UnsupportedHere if subject.expected == Expected::Parenthesis => {
-            put_bad_operand(text, known, subject)
-        }
         SourceCode::ImmediateRange => put_range(alloc, text, known, subject),
         SourceCode::NotConstant => {
             put_shown(text, known, subject, "a value here")?;
@@ -245,6 +241,10 @@ fn put_bad_token(text: &mut String, shown: &[u8]) -> Result<(), AllocError> {
 
 /// Adds what is said of what is left out: the name of the statement, or an operand.
 fn put_unsupported(text: &mut String, subject: &Subject<'_>) -> Result<(), AllocError> {
+    // a number is left out where no register in parentheses comes after it
+    if subject.expected == Expected::Parenthesis {
+        return put_bad_operand(text, true, subject);
+    }
     if subject.shown == subject.mnemonic {
         return put_shown_and(
             text,

@@ -4,8 +4,8 @@ use crate::names::{is_operator, is_register};
 use crate::tokens::{LineToken, Sort, all_tokens, is_end, text_of, unlabelled};
 use std::alloc::{AllocError, Global};
 
-/// The token by which the statement of a number, from 1, refers to a symbol: that of this name if there is one, else the first; of a
-/// lower part of a distance its operator.
+/// The token by which the statement of a number, from 1, refers to a symbol: that of this name if there is one, else the
+/// first; of a lower part of a distance its operator.
 pub fn symbol_at(
     alloc: Global,
     source: &[u8],

@@ -1,7 +1,8 @@
 //! The value of a relocation that is refused, with the addresses that it is made of.
 //!
-//! A link shows no address of a place that is no global name. So the relocation becomes one of four plain bytes, whatever their
-//! value, and the files are linked twice, with two addends: where the programs differ is the place, and what stands there the symbol.
+//! A link shows no address of a place that is no global name. So the relocation becomes one of four plain bytes, whatever
+//! their value, and the files are linked twice, with two addends: where the programs differ is the place, and what stands
+//! there is the symbol.
 
 use crate::drafts::{borrowed, copies, leave, put_addend, put_kind};
 use crate::sites::{Site, Sites};
