@@ -12,5 +12,5 @@ L2 OddTarget
   a.s:3:
     j _start + 1
       ^^^^^^
-  _start+0x1 is at 0x10001, at a distance of -3 from here, 0x10004; instructions stand at even addresses
+  _start+0x1 is at 0x10001, at a distance of -1 from here, 0x10002; instructions stand at even addresses
 1 fault
