@@ -260,11 +260,12 @@ def commands(name, source, at, texts):
 
 
 def images(name, at):
-    """The images of an executable in each format."""
-    for kind in ("bin", "ihex", "srec", "vhex"):
-        output_of(at, "image", f"--{kind}", "-o", kind, "exe")
-        wanted = Answer(0, b"", "", 0, (("image", (at / kind).read_bytes()),))
-        yield f"image --{kind} {name}", ["image", f"--{kind}", "-o", "image", str(at / "exe")], wanted
+    """The images of an executable in each format, with gaps and with gaps filled."""
+    for options in (["--bin"], ["--ihex"], ["--srec"], ["--vhex"], ["--ihex", "--fill", "0xa5"]):
+        words = ["image", *options, "-o", "image"]
+        output_of(at, *words, "exe")
+        wanted = Answer(0, b"", "", 0, (("image", (at / "image").read_bytes()),))
+        yield " ".join([*words[:-2], name]), [*words, str(at / "exe")], wanted
 
 
 def watched(name, source, at, paths):
