@@ -1,6 +1,6 @@
 #!/usr/bin/env python3
-"""Looks at what editors make of the lines of `rv check --format=gcc`: Vim's quickfix list, where Vim is there, and the pattern of
-VS Code's problem matcher `$gcc`. And each line of `--format=json` is an object that Python reads.
+"""Looks at what editors make of the lines of `rv check --format=gcc`: Vim's quickfix list, where Vim is there, and the
+pattern of VS Code's problem matcher `$gcc`. And each line of `--format=json` is an object that Python reads.
 
 Standard library alone; the last line is 'N passed, M failed'.
 """

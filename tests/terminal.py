@@ -1,6 +1,6 @@
 #!/usr/bin/env python3
-"""Looks at when rv shows colours: on a terminal, and neither in a pipe nor a file, nor where NO_COLOR is set; and at when it explains
-a fault: on a terminal, or where --explain asks for it.
+"""Looks at when rv shows colours: on a terminal, and neither in a pipe nor a file, nor where NO_COLOR is set; and at
+when it explains a fault: on a terminal, or where --explain asks for it.
 
 Without its colours what a terminal shows is what a pipe has. Standard library alone; the last line is 'N passed, M
 failed'.
