@@ -35,12 +35,13 @@ pub fn faulty_site(
     leave(drafts.as_mut_slice(), sites.lower.as_slice(), 0, 0);
     leave(drafts.as_mut_slice(), sites.plain.as_slice(), 0, 0);
     let is_of_call = is_there(alloc, drafts.as_slice(), wanted, options)?;
-    let suspects = if is_of_call {
-        sites.calls.as_slice()
-    } else {
-        sites.plain.as_slice()
-    };
-    search(alloc, drafts.as_mut_slice(), suspects, wanted, options)
+    search(
+        alloc,
+        drafts.as_mut_slice(),
+        sites.calls_or_plain(is_of_call),
+        wanted,
+        options,
+    )
 }
 
 /// The first of some relocations that brings the fault of a number.

@@ -45,6 +45,15 @@ impl Sites {
         Ok(sites)
     }
 
+    /// Those of calls, or the plain ones.
+    pub(crate) fn calls_or_plain(&self, are_calls: bool) -> &[Site] {
+        if are_calls {
+            self.calls.as_slice()
+        } else {
+            self.plain.as_slice()
+        }
+    }
+
     /// Adds some, each where it belongs.
     fn put_all(&mut self, sites: &[Site]) -> Result<(), AllocError> {
         for site in sites {
