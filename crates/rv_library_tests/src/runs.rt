@@ -56,15 +56,13 @@ fn steps(rt: HostRuntime) -> Result<(), Fail> {
     let image = image(alloc)?;
     let entry = image.entry;
     let mut machine = Machine::new(alloc, Flat::new(alloc, image)?, entry, b"")?;
-    let mut count = 0;
-    for _ in 0..20 {
+    for count in 0..20 {
         if let Some(end) = machine.step()? {
             assert_eq!(rt; end, End::Exited(0));
             assert!(rt; machine.console() == b"hello".as_slice());
             assert_eq!(rt; count, 8);
             return Ok(());
         }
-        count += 1;
     }
     Err(Fail::new("no end"))
 }

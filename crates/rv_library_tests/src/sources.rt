@@ -9,11 +9,11 @@ use std::test::Fail;
 #[test]
 fn tokens(rt: HostRuntime) {
     let mut lexer = Lexer::new(b"li a0, 1b # back\n");
-    let mut names = 0;
+    let mut names = 0usize;
     let mut last = TokenKind::End;
     for token in lexer {
         if let TokenKind::Name(_) = token.kind {
-            names += 1;
+            names = names.saturating_add(1);
         }
         last = token.kind;
     }

@@ -13,6 +13,7 @@ fn shows(alloc: Global, fault: Fault, wanted: Option<&str>) -> Result<bool, Allo
 fn tells(error: &JobError, wanted: Option<&str>) -> bool {
     match error {
         JobError::Line(line) => wanted == Some(line.as_str()),
+        JobError::Closed => false,
         JobError::Memory => wanted.is_none(),
     }
 }
