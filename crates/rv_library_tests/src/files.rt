@@ -86,6 +86,14 @@ fn maps(rt: HostRuntime) -> Result<(), Fail> {
     Ok(())
 }
 
+/// The first 40 bytes of a file, or all.
+fn front(file: &[u8]) -> &[u8] {
+    if file.len() < 40 {
+        return file;
+    }
+    &file[..40]
+}
+
 #[test]
 fn executables(rt: HostRuntime) -> Result<(), Fail> {
     let alloc = rt.alloc();
@@ -96,7 +104,6 @@ fn executables(rt: HostRuntime) -> Result<(), Fail> {
     let image = load(alloc, &file)?;
     assert_eq!(rt; (image.entry, image.segments.len()), (0x1_0000, 1));
     // a file that is cut off is refused
-    assert!(rt; 40 < file.len());
-    assert!(rt; load(alloc, &file[..40]) == Err(FileFault::Truncated));
+    assert!(rt; load(alloc, front(&file)) == Err(FileFault::Truncated));
     Ok(())
 }
