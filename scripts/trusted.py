@@ -35,10 +35,10 @@ SAFETY = 0
 HOME, TYPES, FUNCTIONS, MODULES = {}, defaultdict(list), defaultdict(list), {}
 INTRODUCTION = """# Definitions
 
-Whoever relies on [PROVED](PROVED.md) has to agree with the definitions in these files, which are in reading order.
-After a crate are the claims that rest on it, and after a file its standards; a file without one joins others, or has
-[this project's rules](manual/README.md). `make definitions` prints each definition with its standards' sections and its
-own claims. A type of the code, such as an enum, is under `specs.declared`. `scripts/trusted.py` makes this page.
+Whoever relies on [PROVED](PROVED.md) has to agree with the definitions in these files, which are in reading order: a
+crate with the claims that rest on it, and its files with their standards. A file without one joins others, or has
+[this project's rules](manual/README.md). `make definitions` prints each definition with its sections of standards and
+its own claims. A type of the code, such as an enum, is under `specs.declared`. `scripts/trusted.py` makes this page.
 
 Standards: RISC-V Unprivileged ISA 20191213, RISC-V ELF psABI, Assembly Programmer's Manual (APM), System V gABI,
 GNU as, GNU ld.
