@@ -35,10 +35,10 @@ SAFETY = 0
 HOME, TYPES, FUNCTIONS, MODULES = {}, defaultdict(list), defaultdict(list), {}
 INTRODUCTION = """# Definitions
 
-Whoever relies on [PROVED](PROVED.md) has to agree with the definitions in these files, which are in reading order: a
-crate with the claims that rest on it, and its files with their standards. A file without one joins others, or has
-[this project's rules](manual/README.md). `make definitions` prints each definition with its sections of standards and
-its own claims. A type of the code, such as an enum, is under `specs.declared`. `scripts/trusted.py` makes this page.
+Whoever relies on [PROVED](PROVED.md) has to agree with the definitions in these files, which are in reading order with
+their standards. A file without one joins others, or has [this project's rules](manual/README.md). `make definitions`
+prints each definition with its sections of standards and the claims that rest on it. A type of the code, such as an
+enum, is under `specs.declared`. `scripts/trusted.py` makes this page.
 
 Standards: RISC-V Unprivileged ISA 20191213, RISC-V ELF psABI, Assembly Programmer's Manual (APM), System V gABI,
 GNU as, GNU ld.
@@ -220,16 +220,14 @@ def ranges(parts):
 
 
 def page(files):
-    """docs/DEFINITIONS.md: a paragraph a crate with its claims, a line a file."""
-    crates, rested = defaultdict(list), defaultdict(list)
-    for file, parts in files.items():
+    """docs/DEFINITIONS.md: a paragraph a crate, a line a file."""
+    crates = defaultdict(list)
+    for file in files:
         if file.folder == "specs":
             standards = ",".join(name for name, words in STANDARDS.items() if re.search(words, cited(file.head)))
             link = f"[{file.path.stem}](../{file.path.relative_to(TOP)})"
             crates[file.crate].append(f"{link} {standards}".strip())
-            rested[file.crate] += parts
-    heads = {crate: f"\n**{crate}** {ranges(parts)}:\n" for crate, parts in rested.items()}
-    return INTRODUCTION + "".join(heads[crate] + ";\n".join(lines) + "\n" for crate, lines in crates.items())
+    return INTRODUCTION + "".join(f"\n**{crate}**\n" + ";\n".join(lines) + "\n" for crate, lines in crates.items())
 
 
 def text(files):
