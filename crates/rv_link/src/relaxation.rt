@@ -32,5 +32,5 @@ pub(crate) fn relaxed<'o, 'a>(
         return Ok(Plan::whole(alloc, objects)?);
     }
     let placed = placed(alloc, objects, names)?;
-    Ok(Plan::relaxed(alloc, &placed, true)?)
+    Ok(placed.into_plan(alloc)?)
 }

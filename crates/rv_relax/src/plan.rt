@@ -11,6 +11,7 @@ ghost use Rattle.rv_object_types.specs.View.{object_of};
 ghost use Rattle.rv_object_laws.specs.CallSites.{sites_of};
 ghost use Rattle.rv_object_laws.specs.Moves.{has_room};
 ghost use Rattle.rv_object_laws.specs.Shortened.{Relaxes};
+ghost use Rattle.rv_shorten.specs.View.{short_object_of, whole_object_of};
 ghost use Rattle.rv_relax.specs.CallSizes.{AreCallSizes};
 ghost use Rattle.rv_relax.specs.Kept.{kept_in, moves_of};
 ghost use Rattle.rv_relax.specs.Told.{told_objects};
@@ -37,6 +38,54 @@ pub struct Plan<'o, 'a> {
     /// The paddings are those of the sections.
     pub ghost planned: { map (λ f. map moves_of f.items) paddings.items
         ≡ map (λ o. map kept_in o.sections.items) objects.items },
+}
+
+/// Objects, less what relaxation cuts of their calls, and how many passes over the sites found it.
+#[derive(Drop)]
+struct Cut<'o, 'a> {
+    objects: Vec<ShortObject<'o, 'a>>,
+    rounds: usize,
+}
+
+impl<'o, 'a> Cut<'o, 'a> {
+    ghost use Rattle.rv_relax.specs.Plan.{placed_objects};
+
+    /// What is cut of the calls of a text.
+    fn of(alloc: Global, placed: &Placed<'o, 'a>) -> Result<Cut<'o, 'a>, AllocError>
+        ensures whole { IfOk result
+            (λ cut. map whole_object_of cut.objects.items ≡ placed_objects placed.now) }
+        ensures relaxes { IfOk result (λ cut. Relaxes true (placed_objects placed.now)
+            (map short_object_of cut.objects.items)) }
+        ensures calls { IfOk result (λ cut. AreCallSizes true (placed_objects placed.now)
+            (told_objects Calls cut.objects.items)) }
+        ensures rounds { IfOk result
+            (λ cut. cut.rounds ≤ 2 * calls (sites_of (placed_objects placed.now)) + 1) }
+    {
+        let objects = placed.objects();
+        let sites = placed.sites();
+        let Sizes { kept, rounds } = find_sizes(alloc, sites)?;
+        let objects = shorten(alloc, objects, sites, &kept)?;
+        Ok(Cut { objects, rounds })
+    }
+}
+
+impl<'o, 'a> Placed<'o, 'a> {
+    ghost use Rattle.rv_relax.specs.Plan.{placed_objects, planned_objects};
+
+    /// The plan of its text with calls relaxed, as [`Plan::relaxed`] gives it. The sites give their memory back before there
+    /// are paddings, so that a text of many alignments never has both.
+    ///
+    /// # Errors
+    ///
+    /// Want of memory.
+    pub fn into_plan(self, alloc: Global) -> Result<Plan<'o, 'a>, AllocError>
+        ensures relaxes { IfOk result
+            (λ plan. Relaxes true (placed_objects self.entry) (planned_objects plan)) }
+    {
+        let Cut { objects, rounds } = Cut::of(alloc, &self)?;
+        drop(self);
+        Plan::behind(alloc, objects, rounds)
+    }
 }
 
 /// What is kept of the paddings of sections.
@@ -125,13 +174,10 @@ impl<'o, 'a> Plan<'o, 'a> {
         ensures rounds { IfOk result
             (λ plan. rounds_of plan ≤ 2 * calls (sites_of (placed_objects placed.now)) + 1) }
     {
-        let objects = placed.objects();
         if !relax {
-            return Plan::whole(alloc, objects);
+            return Plan::whole(alloc, placed.objects());
         }
-        let sites = placed.sites();
-        let Sizes { kept, rounds } = find_sizes(alloc, sites)?;
-        let objects = shorten(alloc, objects, sites, &kept)?;
+        let Cut { objects, rounds } = Cut::of(alloc, placed)?;
         Plan::behind(alloc, objects, rounds)
     }
 
