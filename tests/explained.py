@@ -3,7 +3,7 @@
 
 - The example of a code of a source or of a link gives that very code when it is built, that of an end gives the end
   when it is run. The example of L4 is an object, and that of L10 a count of files: they are made here.
-- The cause and the cure are those of docs/manual/faults.md, and the ends those of docs/manual/platform.md.
+- The causes are those of docs/manual/faults.md, and the ends those of docs/manual/platform.md. Each code has a cure.
 
 Standard library alone; the last line is 'N passed, M failed'.
 """
@@ -17,7 +17,7 @@ from pathlib import Path
 from run import RV, SECONDS, TESTS, Failed, same
 
 MANUAL = TESTS.parent / "docs" / "manual"
-ROW = re.compile(r'\| <a id="\w+"></a>(.*) \| (.*) \| (.*) \|')
+ROW = re.compile(r'- <a id="\w+"></a>(.*?): (.*)')
 
 
 def rv(folder, *words):
@@ -30,11 +30,11 @@ def plain(text):
 
 
 def rows():
-    """The title, the cause and the cure of each code in the manual."""
+    """The title and the cause of each code in the manual."""
     for line in (MANUAL / "faults.md").read_text().splitlines():
         if found := ROW.fullmatch(line):
-            title, cause, cure = map(plain, found.groups())
-            yield " ".join(title.split()[:2]), cause, cure
+            title, cause = map(plain, found.groups())
+            yield " ".join(title.split()[:2]), cause
 
 
 def entry(folder, code):
@@ -84,10 +84,11 @@ def look_at_manual(titles):
     with tempfile.TemporaryDirectory() as folder:
         coded = [it for it in titles if " " in it]
         same("the codes", [it[0] for it in rows()], coded)
-        for title, cause, cure in rows():
-            _, told, _, cured = entry(folder, title.split()[0])
-            same(f"the cause of {title}", cause, told)
-            same(f"the cure of {title}", cure, cured)
+        for title, cause in rows():
+            _, printed, _, cure = entry(folder, title.split()[0])
+            same(f"the cause of {title}", cause, printed)
+            if not cure:
+                raise Failed(f"{title} has no cure")
     ends = re.findall(
         r"`([A-Z]\w+)`", (MANUAL / "platform.md").read_text().split("## How a run ends")[1].split("\n\n")[1]
     )

@@ -453,7 +453,7 @@ def corpus_of(pick, gnu):
 def messages():
     """The names of faults, by their codes, and those of ends, as the manual lists them."""
     manual = ROOT / "docs" / "manual"
-    faults = re.findall(r"(?m)^\| <a id=\"\w+\"></a>`(\w+) (\w+)`", (manual / "faults.md").read_text())
+    faults = re.findall(r"(?m)^- <a id=\"\w+\"></a>`(\w+) (\w+)`", (manual / "faults.md").read_text())
     ends = re.search(r"(?s)## How a run ends\n(.*?)\n\n[A-Z]", (manual / "platform.md").read_text())[1]
     return dict(faults), set(re.findall(r"`([A-Z]\w+)`", ends))
 
