@@ -14,7 +14,7 @@ use Rattle.rv_parse_laws.specs.Parsing as parsing
 use Rattle.rv_text_laws.specs.SyntaxError as wrongs
 use Rattle.rv_parse_laws.specs.Reading.{statements_of_parts, longest_source}
 use Rattle.rv_statement.specs.Limits.{most_statements}
-use Rattle.rv_parse_laws.specs.Refusals.{SaysUpTo, Refuses}
+use Rattle.rv_parse_laws.specs.Refusals.{SaysUpTo, SyntaxFault, Refuses, RefusesAt}
 use Rattle.rv_parse_laws.proofs.FirstFaultLemmas.{FirstInTokens, wrong_first, past_first, all_good, line_refused, before_tokens, token_refused}
 use Rattle.rv_lexer.specs.declared.syntax_error.SyntaxError.{SyntaxError}
 use Rattle.rv_lexer.specs.declared.syntax_error.ReadError.TheVariants as refusals
@@ -49,23 +49,33 @@ first_in_tokens bytes ts w is (t, us, ss, (ps, cut, opens, said_is), no_end, sto
     go (inr (most, same, not)) = subst (FirstInTokens bytes) (sym same) (past_first bytes ts ps t us lexes cut opens no_end (sym counts ∙ most)
         (λ v e. not v (ap (λ xs. parsing.checked_at (is_opened xs) (t ∷ us)) said_is ∙ e)))
 
+-- the limit's fault, as the code has it
+pub limit_refused : (bytes : List ℕ) (w : SyntaxError) (place : ℕ) → syntax_error_of w ≡ record { offset = place; line = 1 + lexing.newlines (take place bytes); code = limit }
+    → RefusesAt bytes place (record { code = limit; line = 1 + lexing.newlines (take place bytes) }) → RefusesAt bytes w.offset (record { code = source_fault_number w.code; line = w.line })
+limit_refused bytes w place is refuses = subst (λ (v : wrongs.SyntaxError). RefusesAt bytes v.offset (record { code = v.code; line = v.line })) (sym is) refuses
+
+-- the same without the place
+pub refused_with : (bytes : List ℕ) (place : ℕ) (f : SyntaxFault) → RefusesAt bytes place f → Refuses bytes f
+refused_with bytes place f (inl (long, front, same)) = inl (long, same)
+refused_with bytes place f (inr (short, first, at)) = inr (short, first)
+
 -- a line that is too long before the tokens' first fault
 pub line_first : (bytes : List ℕ) (ts : List lexing.Token) (w : SyntaxError) (place line : ℕ) → length bytes ≤ longest_source → ts ≡ tokens_from 0 1 bytes → RefusesTokens ts (refusals.At w)
-    → past_line 0 0 bytes ≡ Some place → place < w.offset → line ≡ 1 + lexing.newlines (take place bytes) → Refuses bytes (record { code = limit; line = line })
+    → past_line 0 0 bytes ≡ Some place → place < w.offset → line ≡ 1 + lexing.newlines (take place bytes) → RefusesAt bytes place (record { code = limit; line = line })
 line_first bytes ts w place line short is refuses past before line_is =
     line_refused bytes place line short (past_found bytes place past) (λ q at. past_least bytes place q past at)
     (λ p c fault. before_tokens bytes (syntax_error_of w) place p c (first_in_tokens bytes ts w is refuses) before fault) line_is
 
 -- a line that is too long behind good statements
 pub line_alone : (bytes : List ℕ) (ts : List lexing.Token) (ss : List Statement) (place line : ℕ) → length bytes ≤ longest_source → ts ≡ tokens_from 0 1 bytes → SaysUpTo ts [] ss
-    → length ss ≤ most_statements → past_line 0 0 bytes ≡ Some place → line ≡ 1 + lexing.newlines (take place bytes) → Refuses bytes (record { code = limit; line = line })
+    → length ss ≤ most_statements → past_line 0 0 bytes ≡ Some place → line ≡ 1 + lexing.newlines (take place bytes) → RefusesAt bytes place (record { code = limit; line = line })
 line_alone bytes ts ss place line short is (ps, cut, opens, said_is) few past line_is =
     line_refused bytes place line short (past_found bytes place past) (λ q at. past_least bytes place q past at)
     (λ p c fault. absurd (all_good bytes ts ps (subst (lexing.Lexes bytes) (sym is) (given bytes)) cut opens (subst (λ (xs : List Statement). length xs ≤ most_statements) said_is few) p c fault)) line_is
 
 -- the tokens' first fault before a line that is too long, or where there is none
 pub token_before : (bytes : List ℕ) (ts : List lexing.Token) (w : SyntaxError) (place : ℕ) → length bytes ≤ longest_source → ts ≡ tokens_from 0 1 bytes → RefusesTokens ts (refusals.At w)
-    → past_line 0 0 bytes ≡ Some place → w.offset ≤ place → Refuses bytes (record { code = source_fault_number w.code; line = w.line })
+    → past_line 0 0 bytes ≡ Some place → w.offset ≤ place → RefusesAt bytes w.offset (record { code = source_fault_number w.code; line = w.line })
 token_before bytes ts w place short is refuses past before =
     token_refused bytes (syntax_error_of w) short (first_in_tokens bytes ts w is refuses) (code_within w.code)
     (λ q at. within q (past_least bytes place q past at))
@@ -74,6 +84,6 @@ token_before bytes ts w place short is refuses past before =
     within q le = omega (arith, before, le)
 
 pub token_alone : (bytes : List ℕ) (ts : List lexing.Token) (w : SyntaxError) → length bytes ≤ longest_source → ts ≡ tokens_from 0 1 bytes → RefusesTokens ts (refusals.At w)
-    → past_line 0 0 bytes ≡ None → Refuses bytes (record { code = source_fault_number w.code; line = w.line })
+    → past_line 0 0 bytes ≡ None → RefusesAt bytes w.offset (record { code = source_fault_number w.code; line = w.line })
 token_alone bytes ts w short is refuses none =
     token_refused bytes (syntax_error_of w) short (first_in_tokens bytes ts w is refuses) (code_within w.code) (λ q at. absurd (past_none bytes none q at))

@@ -11,8 +11,7 @@ use Rattle.rv_parse_laws.specs.Syntax.{is_end, slots, operand_slots, directed}
 use Rattle.rv_lexer.specs.declared.cursor.Cursor.{Cursor}
 use Rattle.rv_text_laws.specs.Codes.{limit}
 use Rattle.rv_statement.specs.Limits.{most_statements}
-use Rattle.rv_parse_laws.specs.Refusals.{SaysUpTo}
-use Rattle.rv_parse_laws.specs.Refusals.{Refuses}
+use Rattle.rv_parse_laws.specs.Refusals.{SaysUpTo, Refuses, RefusesAt}
 use Rattle.rv_lexer.specs.declared.fault.SourceFault.{SourceFault}
 use Rattle.rv_lexer.specs.declared.fault.SourceFault.TheVariants as faults
 use Rattle.rv_text_laws.specs.Lexing as lexing
@@ -82,3 +81,9 @@ abbrev pub RefusedWith : List ℕ → SourceFault → Type 0
 RefusedWith bytes (faults.At code line) =
     Refuses bytes (record { code = source_fault_number code; line = line })
 RefusedWith bytes faults.OutOfMemory = Unit {0}
+
+-- the bytes are refused with the code, the line and the place of the fault, unless memory ran out
+abbrev pub RefusedAt : List ℕ → ReadError → Type 0
+RefusedAt bytes (refusals.At w) =
+    RefusesAt bytes w.offset (record { code = source_fault_number w.code; line = w.line })
+RefusedAt bytes refusals.OutOfMemory = Unit {0}

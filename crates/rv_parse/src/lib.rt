@@ -29,5 +29,5 @@ mod statement;
 mod value;
 
 pub use rv_statement::Statement;
-pub use rv_text::{SourceCode, SourceFault};
-pub use source::{lists_agree, parse, parse_compact};
+pub use rv_text::{ReadError, SourceCode, SourceFault, SyntaxError};
+pub use source::{lists_agree, parse, parse_compact, parse_placed};

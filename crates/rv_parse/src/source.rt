@@ -3,7 +3,7 @@
 //! Lines that are too long are searched apart from the tokens, 65,536 bytes at a time from the back, so that ordinary
 //! sources are hardly read for it. `memchr` looks for line feeds.
 
-ghost use Rattle.std.specs.Prelude.{◌≡◌, ◌<◌, ◌≤◌, ℕ, List, [], IfOk, IfErr, IfSome, length, map, false, ◌+◌};
+ghost use Rattle.std.specs.Prelude.{◌≡◌, ◌<◌, ◌≤◌, ℕ, List, [], IfOk, IfErr, IfSome, length, map, take, false, ◌+◌};
 ghost use Rattle.rv_lexer.specs.Token.{token_of, kind_of};
 ghost use Rattle.rv_text_laws.specs.Lexing.{newlines};
 ghost use Rattle.rv_parse_laws.specs.Syntax.{is_end, Says};
@@ -22,7 +22,7 @@ ghost use Rattle.rv_lexer.specs.Left.{tokens_left};
 ghost use Rattle.rv_statement.specs.View.{statement_kind, statement_of};
 ghost use Rattle.rv_statement.specs.Statements.{statements_of};
 ghost use Rattle.rv_lexer.specs.Cursor.{left, syntax_error_of, Answers};
-ghost use Rattle.rv_parse.specs.Left.{StopsAt, RefusesTokens, RefusedWith};
+ghost use Rattle.rv_parse.specs.Left.{StopsAt, RefusesTokens, RefusedAt, RefusedWith};
 
 use crate::list::StatementList;
 use crate::opening::{Opened, wrong_opening};
@@ -166,42 +166,62 @@ fn line_of(text: &[u8]) -> u32
     memchr_iter(b'\n', text).count() as u32 + 1
 }
 
-/// The statements of a source, put into an empty list, or the first fault.
-fn listed<'a, L: StatementList<'a>>(
+/// The fault of a line that is too long, whose first byte past the limit is at an offset.
+fn past_limit(source: &[u8], place: usize) -> SyntaxError
+    requires within { place ≤ length source.now }
+    requires short { length source.now ≤ 16777216 }
+    ensures { syntax_error_of result
+        ≡ record { offset = place; line = 1 + newlines (take place source.now); code = limit } }
+{
+    SyntaxError {
+        offset: place,
+        line: line_of(&source[..place]),
+        code: SourceCode::Limit,
+    }
+}
+
+/// The statements of a source, put into an empty list, or the first fault with its place.
+fn placed<'a, L: StatementList<'a>>(
     alloc: Global,
     source: &'a [u8],
     list: L,
-) -> Result<L, SourceFault>
+) -> Result<L, ReadError>
     requires { L.said list ≡ [] }
     ensures reads { IfOk result (λ v. Reads source.now (L.said v)) }
-    ensures refuses { IfErr result (λ e. RefusedWith source.now e) }
+    ensures refuses { IfErr result (λ e. RefusedAt source.now e) }
 {
     if LONGEST_SOURCE < source.len() {
-        return Err(SourceFault::At {
-            code: SourceCode::Limit,
+        return Err(ReadError::At(SyntaxError {
+            offset: 0,
             line: 0,
-        });
+            code: SourceCode::Limit,
+        }));
     }
     let past = past_line(source);
     match statements(alloc, Lexer::new(source), list) {
-        Err(ReadError::OutOfMemory) => Err(SourceFault::OutOfMemory),
+        Err(ReadError::OutOfMemory) => Err(ReadError::OutOfMemory),
         Err(ReadError::At(wrong)) => match past {
-            Some(place) if place < wrong.offset => Err(SourceFault::At {
-                code: SourceCode::Limit,
-                line: line_of(&source[..place]),
-            }),
-            _ => Err(SourceFault::At {
-                code: wrong.code,
-                line: wrong.line,
-            }),
+            Some(place) if place < wrong.offset => Err(ReadError::At(past_limit(source, place))),
+            _ => Err(ReadError::At(wrong)),
         },
         Ok(statements) => match past {
-            Some(place) => Err(SourceFault::At {
-                code: SourceCode::Limit,
-                line: line_of(&source[..place]),
-            }),
+            Some(place) => Err(ReadError::At(past_limit(source, place))),
             None => Ok(statements),
         },
+    }
+}
+
+/// A fault without its place.
+#[tactic(auto, using(crate::proofs::RefusalsLemmas::refused_with))]
+fn without_place(error: ReadError) -> SourceFault
+    ensures { (bytes : List ℕ) → RefusedAt bytes error → RefusedWith bytes result }
+{
+    match error {
+        ReadError::At(wrong) => SourceFault::At {
+            code: wrong.code,
+            line: wrong.line,
+        },
+        ReadError::OutOfMemory => SourceFault::OutOfMemory,
     }
 }
 
@@ -211,7 +231,10 @@ pub fn parse(alloc: Global, source: &[u8]) -> Result<Vec<Statement<'_>>, SourceF
     ensures reads { IfOk result (λ v. Reads source.now (map statement_of v.items)) }
     ensures refuses { IfErr result (λ e. RefusedWith source.now e) }
 {
-    listed(alloc, source, Vec::new(alloc))
+    match placed(alloc, source, Vec::new(alloc)) {
+        Ok(statements) => Ok(statements),
+        Err(error) => Err(without_place(error)),
+    }
 }
 
 /// The statements of a source, as [`parse`] reads them, in a list that keeps most of them in few bytes.
@@ -219,7 +242,19 @@ pub fn parse_compact(alloc: Global, source: &[u8]) -> Result<Statements<'_>, Sou
     ensures reads { IfOk result (λ v. Reads source.now (statements_of v)) }
     ensures refuses { IfErr result (λ e. RefusedWith source.now e) }
 {
-    listed(alloc, source, Statements::new(alloc, source))
+    match parse_placed(alloc, source) {
+        Ok(statements) => Ok(statements),
+        Err(error) => Err(without_place(error)),
+    }
+}
+
+/// The statements of a source, as [`parse_compact`] reads them. A fault keeps the offset of its byte, in the source that is
+/// not too long.
+pub fn parse_placed(alloc: Global, source: &[u8]) -> Result<Statements<'_>, ReadError>
+    ensures reads { IfOk result (λ v. Reads source.now (statements_of v)) }
+    ensures refuses { IfErr result (λ e. RefusedAt source.now e) }
+{
+    placed(alloc, source, Statements::new(alloc, source))
 }
 
 /// A source has the same statements in either list.

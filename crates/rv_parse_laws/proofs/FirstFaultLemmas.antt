@@ -16,7 +16,7 @@ use Rattle.rv_parse_laws.specs.Reading.{AreParts, Reads, statements_of_parts, Is
 use Rattle.rv_statement.specs.Limits.{most_statements}
 use Rattle.rv_parse_laws.specs.Opening.{OpenWell}
 use Rattle.rv_parse_laws.proofs.OpenedWellLemmas.{all_open_well}
-use Rattle.rv_parse_laws.specs.Refusals.{OpensWell, AllOpenWell, CanGoOn, WrongToken, WrongOpening, PastStatements, Stands, SyntaxFault, Refuses}
+use Rattle.rv_parse_laws.specs.Refusals.{OpensWell, AllOpenWell, CanGoOn, WrongToken, WrongOpening, PastStatements, Stands, SyntaxFault, Refuses, RefusesAt}
 use Rattle.rv_parse_laws.specs.Wrong.{IsWrongStatement}
 use Rattle.rv_parse_laws.proofs.WrongStatementsLemmas.{statement_wrongs, statement_said}
 use Rattle.rv_parse_laws.proofs.WrongPlacesLemmas.{statement_occurs}
@@ -418,7 +418,7 @@ all_good bytes ts ps lexes parts opens few p c fault = go fault
 
 -- a line that is too long comes first
 pub line_refused : (bytes : List ℕ) (place line : ℕ) → length bytes ≤ longest_source → IsPastLine bytes place
-    → ((q : ℕ) → IsPastLine bytes q → place ≤ q) → ((p c : ℕ) → InTokens bytes p c → place < p) → line ≡ 1 + newlines (take place bytes) → Refuses bytes (record { code = limit; line = line })
+    → ((q : ℕ) → IsPastLine bytes q → place ≤ q) → ((p c : ℕ) → InTokens bytes p c → place < p) → line ≡ 1 + newlines (take place bytes) → RefusesAt bytes place (record { code = limit; line = line })
 line_refused bytes place line short past least before is = inr (
   short,
   record {
@@ -427,6 +427,7 @@ line_refused bytes place line short past least before is = inr (
     first = first;
     line = is;
   },
+  refl,
 )
   where
     within : (p c : ℕ) → place ≤ p → limit ≤ c → (place < p) ⊎ ((place ≡ p) × (limit ≤ c))
@@ -446,7 +447,7 @@ before_tokens bytes w place p c first before fault = elim (first.first p c fault
 
 -- a token's fault comes first
 pub token_refused : (bytes : List ℕ) (w : SyntaxError) → length bytes ≤ longest_source → FirstInTokens bytes w → w.code ≤ limit
-    → ((place : ℕ) → IsPastLine bytes place → w.offset ≤ place) → Refuses bytes (record { code = w.code; line = w.line })
+    → ((place : ℕ) → IsPastLine bytes place → w.offset ≤ place) → RefusesAt bytes w.offset (record { code = w.code; line = w.line })
 token_refused bytes w short tokens low lines = inr (
   short,
   record {
@@ -455,6 +456,7 @@ token_refused bytes w short tokens low lines = inr (
     first = first;
     line = tokens.line;
   },
+  refl,
 )
   where
     stands : InTokens bytes w.offset w.code → Stands bytes w.offset w.code

@@ -121,3 +121,9 @@ abbrev pub Refuses : List ℕ → SyntaxFault → Type 0
 Refuses bytes f =
     ((longest_source < length bytes) × (f ≡ record { code = limit; line = 0 }))
     ⊎ ((length bytes ≤ longest_source) × IsFirst bytes f)
+
+-- the same with the byte at which the fault stands; a source that is too long has it at its front
+abbrev pub RefusesAt : List ℕ → ℕ → SyntaxFault → Type 0
+RefusesAt bytes place f =
+    ((longest_source < length bytes) × (place ≡ 0) × (f ≡ record { code = limit; line = 0 }))
+    ⊎ ((length bytes ≤ longest_source) × (first : IsFirst bytes f) × (first.place ≡ place))
