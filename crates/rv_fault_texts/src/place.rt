@@ -1,8 +1,8 @@
 //! Where a fault stands: its statement, and in it the token or the operand, where they are known.
 //!
-//! What is wrong with a text alone shows when the text is cut: with a foreign byte after a token that is right so far,
-//! the first fault is that byte. So the wrong token is found by reading the line alone, cut at one token after the other.
-//! Later faults have no token; of these the operand is shown that alone can be at fault, else the whole statement.
+//! The parser's faults have a byte, at which the wrong token stands. Later faults have none; of these the operand is shown
+//! that alone can be at fault, else the whole statement. What may stand in the place of a wrong token shows when the line is
+//! read up to it with another word and a foreign byte behind that: where the word is right, the first fault is that byte.
 
 use crate::excerpt::Place;
 use crate::names::{is_alignment, is_assignment, is_register, is_zero};
@@ -11,11 +11,9 @@ use crate::tokens::{
     LineToken, Sort, all_tokens, is_end, is_label, part, place, span, text_of, unlabelled,
 };
 use rv_lexer::{SourceCode, SourceFault};
-use rv_parse::parse_compact;
+use rv_parse::{ReadError, parse_compact, parse_placed};
 use std::alloc::{AllocError, Global};
 
-/// More halvings than any line has tokens.
-const HALVINGS: usize = 64;
 /// The most tokens of a statement among which a name is sought that is defined twice.
 const MOST_NAMES: usize = 16;
 
@@ -78,102 +76,32 @@ pub fn place_by_text(
     Ok(None)
 }
 
-/// The first token of a line that is wrong where it stands. What is left out of the language is shown, and not the end behind it.
+/// The token of a line at which the source is wrong as a text. What is left out of the language is shown, and not the end
+/// behind it.
 fn wrong_token(
     alloc: Global,
     source: &[u8],
     tokens: &[LineToken],
     code: SourceCode,
 ) -> Result<Option<LineToken>, AllocError> {
-    let Some(index) = wrong_index(alloc, source, tokens)? else {
+    let wrong = match parse_placed(alloc, source) {
+        Ok(_) => return Ok(None),
+        Err(ReadError::At(wrong)) => wrong,
+        Err(ReadError::OutOfMemory) => return Err(AllocError),
+    };
+    let Some(index) = tokens.iter().position(|token| token.start == wrong.offset) else {
         return Ok(None);
     };
-    match tokens.get(index) {
-        Some(end) if end.sort == Sort::End && code == SourceCode::UnsupportedHere => {
-            Ok(tokens.get(index.saturating_sub(1)).copied())
-        }
-        found => Ok(found.copied()),
-    }
-}
-
-/// The index of the first token of a line that is wrong where it stands.
-fn wrong_index(
-    alloc: Global,
-    source: &[u8],
-    tokens: &[LineToken],
-) -> Result<Option<usize>, AllocError> {
-    let Some(last) = tokens.last() else {
-        return Ok(None);
-    };
-    if is_read(alloc, source, tokens, last)? {
-        return Ok(None);
-    }
-    let mut low = 0usize;
-    let mut high = tokens.len();
-    for _ in 0..HALVINGS {
-        if high <= low {
-            break;
-        }
-        let middle = low.saturating_add((high - low) / 2);
-        if is_read_to(alloc, source, tokens, middle)? {
-            low = middle.saturating_add(1);
-        } else {
-            high = middle;
-        }
-    }
-    Ok(Some(low))
-}
-
-/// Whether a line is right up to the token of an index, whatever comes after it: where a number stands before a register in
-/// parentheses, it is right just with what follows.
-fn is_read_to(
-    alloc: Global,
-    source: &[u8],
-    tokens: &[LineToken],
-    index: usize,
-) -> Result<bool, AllocError> {
-    let Some(token) = cut_at(tokens, index) else {
-        return Ok(false);
-    };
-    if is_read(alloc, source, tokens, &token)? {
-        return Ok(true);
-    }
-    match tokens.first() {
-        Some(first) if token.sort == Sort::Number => {
-            is_read_with(alloc, part(source, first.start, token.stop), "(")
-        }
-        _ => Ok(false),
-    }
-}
-
-/// The token after which a line is cut to try the one of this index: a label is read with its colon.
-fn cut_at(tokens: &[LineToken], index: usize) -> Option<LineToken> {
-    match tokens.get(index.saturating_add(1)) {
-        Some(next) if next.sort == Sort::Colon => Some(*next),
-        _ => tokens.get(index).copied(),
-    }
-}
-
-/// Whether a line is right up to the end of a token.
-fn is_read(
-    alloc: Global,
-    source: &[u8],
-    tokens: &[LineToken],
-    last: &LineToken,
-) -> Result<bool, AllocError> {
-    if last.sort == Sort::BadByte || last.sort == Sort::BadToken {
-        return Ok(false);
-    }
-    let Some(first) = tokens.first() else {
-        return Ok(true);
-    };
-    let mut text = part(source, first.start, last.stop).to_vec(alloc)?;
-    // a line feed of its own, as that after the line ends what is cut
-    if last.sort == Sort::End {
-        text.push(b'\n')?;
-    }
-    text.extend_from_slice(b" \x01")?;
-    is_right(alloc, text.as_slice())
+    let is_behind = code == SourceCode::UnsupportedHere && tokens.get(index).is_some_and(is_end);
+    Ok(
+        tokens
+            .get(if is_behind {
+                index.saturating_sub(1)
+            } else {
+                index
+            })
+            .copied(),
+    )
 }
 
 /// Whether a text that ends with a foreign byte is right up to that.
