@@ -92,16 +92,51 @@ fn wrong_token(
     let Some(index) = tokens.iter().position(|token| token.start == wrong.offset) else {
         return Ok(None);
     };
-    let is_behind = code == SourceCode::UnsupportedHere && tokens.get(index).is_some_and(is_end);
-    Ok(
-        tokens
-            .get(if is_behind {
-                index.saturating_sub(1)
-            } else {
-                index
-            })
-            .copied(),
-    )
+    let next = tokens.get(index.saturating_add(1));
+    let found = tokens
+        .get(index)
+        .map(|token| with_name(source, token, next));
+    match next {
+        Some(next) if next.sort != Sort::End && lacks_base(alloc, source, tokens, found)? => {
+            Ok(Some(*next))
+        }
+        _ if code == SourceCode::UnsupportedHere && found.is_some_and(|token| is_end(&token)) => {
+            Ok(tokens.get(index.saturating_sub(1)).copied())
+        }
+        _ => Ok(found),
+    }
+}
+
+/// A token, with the name behind it where it begins the word of an assembler function, as `%lo`.
+fn with_name(source: &[u8], token: &LineToken, next: Option<&LineToken>) -> LineToken {
+    match next {
+        Some(name)
+            if name.sort == Sort::Name
+                && name.start == token.stop
+                && text_of(source, token) == b"%".as_slice() => {
+            LineToken {
+                sort: Sort::Other,
+                stop: name.stop,
+                ..*token
+            }
+        }
+        _ => *token,
+    }
+}
+
+/// Whether a token is a number that is right with a register in parentheses behind it.
+fn lacks_base(
+    alloc: Global,
+    source: &[u8],
+    tokens: &[LineToken],
+    token: Option<LineToken>,
+) -> Result<bool, AllocError> {
+    match (tokens.first(), token) {
+        (Some(first), Some(number)) if number.sort == Sort::Number => {
+            is_read_with(alloc, part(source, first.start, number.stop), "(")
+        }
+        _ => Ok(false),
+    }
 }
 
 /// Whether a text that ends with a foreign byte is right up to that.
