@@ -1,6 +1,8 @@
 pub mod CallLemmas
+mod EventLemmas
 pub mod FetchLemmas
 pub mod KnownLemmas
+mod MovedLemmas
 pub mod NumberLemmas
 pub mod QuickLemmas
 pub mod RunLemmas

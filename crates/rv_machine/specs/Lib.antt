@@ -10,4 +10,5 @@ pub mod Streams
 pub mod StreamSteps
 pub mod Outcome
 pub mod Asked
+pub mod Seen
 pub mod Watching

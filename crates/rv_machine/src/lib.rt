@@ -5,8 +5,9 @@
 //!
 //! Main contract: `run` answers, by every reading that is exact, the outcome `machine_run` of the image's memory, its
 //! entry and the input; `Machine::step` does one `step` of that run. `run_io` reads and writes streams so that it comes
-//! to `machine_run` of what was read, and where a stream fails to the beginning of its console. It must not know
-//! sources, maps or files: an image is all that it sees.
+//! to `machine_run` of what was read, and where a stream fails to the beginning of its console. `run_watched` does the
+//! same, and tells a [`Watcher`] exactly the events of the run, which `rv_event_laws` defines. It must not know sources,
+//! maps or files: an image is all that it sees.
 //!
 //! A step is fetched and done by `advance`, but for the bytes that a call moves (`Flow`): those a machine takes from its
 //! input and puts onto its console, and `run_io` moves between memory and streams.
@@ -29,6 +30,7 @@ mod alu;
 mod calls;
 mod console;
 mod end;
+mod event;
 mod fetch;
 mod flow;
 mod formats;
@@ -43,11 +45,14 @@ mod registers;
 mod running;
 mod state;
 mod streams;
+mod telling;
 mod transfers;
 mod watching;
 mod word;
 
 pub use end::End;
+pub use event::{Event, Span};
+pub use fetch::Fetched;
 pub use io::Io;
 pub use laws::runs_agree;
 pub use machine::Machine;

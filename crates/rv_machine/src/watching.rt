@@ -1,10 +1,10 @@
 //! Runs that are looked at between their steps.
 //!
-//! A watched run does the steps of `run_io`, each by the same function, without the quick ones that no one could look at.
-//! A watcher only looks: it cannot change hart or memory, so what it tells is of the run itself. The machine is left in
-//! the run's last state.
+//! A watched run does the steps of `run_io` by the same functions, without the quick ones that no one could look at, and
+//! tells its watcher the event of each. A watcher only looks: it cannot change hart or memory, so what it shows is of the
+//! run itself. The machine is left in the run's last state.
 
-ghost use Rattle.std.specs.Prelude.{◌≡◌, ℕ, List, [], ◌++◌, false};
+ghost use Rattle.std.specs.Prelude.{◌≡◌, ℕ, List, [], ◌++◌, ◌∷◌, false, IfOk};
 ghost use Rattle.std.specs.Io.KnownBytes.{Appends};
 ghost use Rattle.rv_encode.specs.Word.{Spells};
 ghost use Rattle.rv_compress.specs.Parcel.{StandsFor};
@@ -13,19 +13,23 @@ ghost use Rattle.rv_isa_laws.specs.Reader.{Reader};
 ghost use Rattle.rv_machine.specs.Hart.{hart_of};
 ghost use Rattle.rv_machine.specs.Registers.{register_value};
 ghost use Rattle.rv_machine.specs.Streams.{MayFollow};
+ghost use Rattle.rv_event_laws.specs.Event.{Event};
+ghost use Rattle.rv_machine.specs.Seen.{event_as};
+ghost use Rattle.rv_machine.specs.Watching.{Shows, Unfailed, FailsIn};
 ghost use Rattle.rv_machine.specs.StreamSteps.{input_left, HasRead};
-ghost use Rattle.rv_machine.specs.Watching.{ComesTo, FailsIn};
 
 use crate::end::End;
+use crate::event::{Event as Told, Stepped, ended, look_at, went_on};
 use crate::hart::Hart;
-use crate::running::{Intake, RunFault, step};
+use crate::running::{Intake, RunFault};
 use crate::streams::{GuestIn, GuestOut};
+use crate::telling::step_told;
 use rv_isa::Reg;
 use rv_memory::Memory;
 use std::alloc::{AllocError, AllocFailed};
 use thiserror::Error;
 
-/// Why a watcher cannot show what it sees.
+/// Why a watcher cannot show what it is told.
 #[derive(Clone, Copy, Debug, PartialEq, Eq, Drop, Error)]
 pub enum ShowFault {
     #[error("cannot write")]
@@ -52,29 +56,37 @@ pub enum WatchFault {
     /// A stream of the guest failed.
     #[error("a stream failed")]
     Run(RunFault),
-    /// The watcher stopped the run.
-    #[error("the watcher stopped the run")]
+    /// The watcher failed.
+    #[error("the watcher failed")]
     Watcher(ShowFault),
 }
 
 /// A hart over a memory that can be looked at between its steps. Its calls use streams.
 #[derive(Drop)]
-pub struct Watched<M: Memory> {
+pub struct Watched<M: Memory + Drop> {
     hart: Hart,
     memory: M,
     intake: Intake,
 }
 
-/// Who looks at a machine before and after each of its steps.
-pub trait Watcher<M: Memory> {
-    /// Looks at the machine before a step.
-    fn before(&mut self, machine: &Watched<M>) -> Result<(), ShowFault>;
+/// Who is told what each step of a machine did, and looks at the machine before and after it.
+pub trait Watcher<M: Memory + Drop> {
+    /// That the watcher shows exactly these events, in its own words.
+    ghost has_seen: { Self → List Event → Type 0 };
 
-    /// Looks at the machine after a step that did not end the run.
-    fn after(&mut self, machine: &Watched<M>) -> Result<(), ShowFault>;
+    /// Looks at the machine before a step.
+    fn before(&mut self, machine: &Watched<M>) -> Result<(), ShowFault>
+        ensures kept { IfOk result
+            (λ _. (past : List Event) → has_seen self.old past → has_seen self.new past) };
+
+    /// Is told what a step did, and looks at the machine after it.
+    fn after(&mut self, event: &Told, machine: &Watched<M>) -> Result<(), ShowFault>
+        ensures told { IfOk result
+            (λ _. (past : List Event) → has_seen self.old past
+            → has_seen self.new (past ++ (event_as event.now (M.mem machine.now.memory) ∷ []))) };
 }
 
-impl<M: Memory> Watched<M> {
+impl<M: Memory + Drop> Watched<M> {
     /// A machine before its first step: registers 0 but sp, at an entry.
     pub fn new(memory: M, entry: u64) -> Self
         ensures hart { (input : List ℕ) → hart_of result.hart input [] ≡ start entry input }
@@ -116,25 +128,28 @@ impl<M: Memory> Watched<M> {
     }
 }
 
-/// Runs a machine, at most `limit` instructions, and has a watcher look at each step.
-pub fn run_watched<M: Memory, R: GuestIn, W: GuestOut, T: Watcher<M>>(
+/// Runs a machine, at most `limit` instructions, and tells a watcher the event of each step.
+pub fn run_watched<M: Memory + Drop, R: GuestIn, W: GuestOut, T: Watcher<M>>(
     machine: &mut Watched<M>,
     reader: &mut R,
     writer: &mut W,
     watcher: &mut T,
     limit: u64,
 ) -> Result<End, WatchFault>
-    // What was read and written, and the run from the machine's hart and memory for what was read and, unless a take
-    // gave nothing, for every input that begins with it: it comes to this end, and leaves this hart and this memory;
-    // where a stream failed or the watcher stopped it, the beginning was written.
+    // What was read, written and told, and the run from the machine's hart and memory for what was read and, unless a
+    // take gave nothing, for every input that begins with it: it comes to this end, leaves this hart and this memory,
+    // and has exactly the events that were told. Where a stream failed or the watcher stopped it, the beginning was
+    // written and told; a watcher that stopped it left what some of the steps leave.
     ensures runs { let before = input_left machine.old.intake.ended (R.ends reader.old)
         (R.left reader.old) in
         let after = input_left machine.new.intake.ended (R.ends reader.new) (R.left reader.new) in
-        (read written : List ℕ) × HasRead before after read
+        (read written : List ℕ) × (told : List Event) × HasRead before after read
         × Appends (W.written writer.old) (W.written writer.new) written
+        × Unfailed result
+        ((past : List Event) → T.has_seen watcher.old past → T.has_seen watcher.new (past ++ told))
         × ((r : Reader Spells StandsFor) (rest : List ℕ) →
         MayFollow (machine.new.intake.ended ≡ false) rest →
-        ComesTo result written (hart_of machine.new.hart rest written, M.mem machine.new.memory)
+        Shows result written told (hart_of machine.new.hart rest written, M.mem machine.new.memory)
         r limit (hart_of machine.old.hart (read ++ rest) []) (M.mem machine.old.memory)) }
     // The reader has failed exactly at InputFault, the writer exactly at OutputFault.
     ensures failed { FailsIn result (R.in_failed reader.old) (W.out_failed writer.old)
@@ -146,21 +161,30 @@ pub fn run_watched<M: Memory, R: GuestIn, W: GuestOut, T: Watcher<M>>(
             Ok(()) => {}
             Err(fault) => return Err(WatchFault::Watcher(fault)),
         }
-        match step(
+        let look = look_at(&machine.hart, &machine.memory);
+        match step_told(
             &mut machine.hart,
             &mut machine.memory,
             &mut machine.intake,
             reader,
             writer,
         ) {
-            Ok(None) => {}
-            Ok(Some(end)) => return Ok(end),
+            Ok(Stepped::Went(moved)) => {
+                left -= 1;
+                let event = went_on(look, moved, &machine.hart);
+                match watcher.after(&event, machine) {
+                    Ok(()) => {}
+                    Err(fault) => return Err(WatchFault::Watcher(fault)),
+                }
+            }
+            Ok(Stepped::Ended(end)) => {
+                let event = ended(look, end);
+                return match watcher.after(&event, machine) {
+                    Ok(()) => Ok(end),
+                    Err(fault) => Err(WatchFault::Watcher(fault)),
+                };
+            }
             Err(fault) => return Err(WatchFault::Run(fault)),
-        }
-        left -= 1;
-        match watcher.after(machine) {
-            Ok(()) => {}
-            Err(fault) => return Err(WatchFault::Watcher(fault)),
         }
     }
     Ok(End::Limit)

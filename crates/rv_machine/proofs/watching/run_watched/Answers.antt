@@ -1,20 +1,37 @@
-use Rattle.std.proofs.Common.{◌≡◌, suc, ◌-◌, ℕ, List, [], ◌++◌, refl, sym, ap, ◌∙◌, arith}
+use Rattle.std.proofs.Common.{◌≡◌, suc, ◌-◌, ℕ, List, [], ◌∷◌, ◌++◌, refl, sym, ap, ◌∙◌, subst, arith}
+use Rattle.std.proofs.lemmas.List.{append-nil}
 use Rattle.rv_isa_laws.specs.Memory.{Mem}
 use Rattle.rv_isa_laws.specs.Hart as laws
-use Rattle.rv_isa_laws.specs.Run.{run}
+use Rattle.rv_isa_laws.specs.Run.{run, fetch, step}
 use Rattle.rv_machine.specs.End.{law_end}
+use Rattle.rv_event_laws.specs.Event.{Event, events}
 use Rattle.rv_machine.specs.Hart.{hart_of}
 use Rattle.rv_machine.specs.LastState.{last_state}
+use Rattle.rv_machine.specs.Seen.{event_as}
 use Rattle.rv_machine.specs.StreamSteps.{Input, input_left}
+use Rattle.rv_machine.proofs.EventLemmas.{told_on, told_over, told_front, fronts, seen_more}
 use Rattle.rv_machine.proofs.KnownLemmas.{has_read_none, has_read_more, appends_kept}
+use Rattle.rv_machine.proofs.MovedLemmas.{moved_as, moved_between, stepped_as}
 use Rattle.rv_machine.proofs.RunLemmas.{run-on, last-on}
-use Rattle.rv_machine.proofs.StreamLemmas.{steps_as, went_on, came_to, rests_at, stopped, front_so_far, reaches_next}
+use Rattle.rv_machine.proofs.StreamLemmas.{went_on, came_to, rests_at, stopped, reaches_next}
 use Rattle.rv_machine.proofs.watching.run_watched.Goals as goal
 use Rattle.std.proofs.KnownBytes.{Keeps-refl, Appends-trans}
 
 pub loop-left-init : goal.loop-left-init
 loop-left-init g c = record {
-  so_far = ([], [], has_read_none _, appends_kept _ _ (Keeps-refl _), λ r. (λ rest may. refl, λ rest may. refl), 0, omega arith, λ r rest may. refl);
+  so_far = (
+    [],
+    [],
+    has_read_none _,
+    appends_kept _ _ (Keeps-refl _),
+    λ r. (λ rest may. refl, λ rest may. refl),
+    [],
+    λ past seen. subst (λ (xs : List Event). g.T.Watcher.has_seen c.args.watcher.now xs) (sym (append-nil past)) seen,
+    λ r rest may. refl,
+    0,
+    omega arith,
+    λ r rest may. refl,
+  );
   reader = refl;
   writer = refl;
 }
@@ -25,86 +42,13 @@ returns-in-Err-clause-runs g c =
     let far = c.loop-left.invariant.so_far in (
       far.0,
       far.1,
+      far.5,
       far.2,
       far.3,
-      λ r rest may. (
-        front_so_far r c.args.limit c.loop-left.left start (g.M.Memory.mem c.args.machine.now.memory) c.loop-left.machine.hart (g.M.Memory.mem c.loop-left.machine.memory) _ far.0 far.1 (far.4 r).0 rest may,
-        (far.5, omega (arith, far.6), far.7 r rest may),
-      ),
-    )
-
-pub returns-in-Ok-Some-clause-runs : goal.returns-in-Ok-Some-clause-runs
-returns-in-Ok-Some-clause-runs g c =
-    let is : c.loop-left.left ≡ suc (c.loop-left.left - 1) = omega (arith, c.loop-left-test.true) in
-    let start : List ℕ → laws.Hart = λ input. hart_of c.args.machine.now.hart input [] in
-    let first : Input = input_left c.args.machine.now.intake.ended (g.R.GuestIn.ends c.args.reader.now) (g.R.GuestIn.left c.args.reader.now) in
-    let before : Input = input_left c.loop-left.machine.intake.ended (g.R.GuestIn.ends c.loop-left.reader) (g.R.GuestIn.left c.loop-left.reader) in
-    let after : Input = input_left c.step.new.intake.ended (g.R.GuestIn.ends c.step.new.reader) (g.R.GuestIn.left c.step.new.reader) in
-    let m0 : Mem = g.M.Memory.mem c.args.machine.now.memory in
-    let m : Mem = g.M.Memory.mem c.loop-left.machine.memory in
-    let m' : Mem = g.M.Memory.mem c.step.new.memory in
-    let far = c.loop-left.invariant.so_far in
-    let more = c.in-Ok-Some.ensures.steps in (
-      far.0 ++ more.0,
-      far.1 ++ more.1,
-      has_read_more first before after far.0 more.0 far.2 more.2,
-      Appends-trans _ _ _ far.1 more.1 far.3 more.3,
+      tt,
       λ r rest may.
-          let over = steps_as _ _ more.0 more.1 _ _ _ _ _ _ c.in-Ok-Some.field-0-is (more.4 r) in (
-            came_to r c.args.limit c.loop-left.left start m0 before after c.loop-left.machine.hart m far.0 more.0 far.1 more.1 more.2 (far.4 r).0
-                (c.loop-left.left - 1) (law_end c.in-Ok-Some.end) is over.0 over.1.0 (λ input console. (over.1.1 input console).0) rest may,
-            rests_at r c.args.limit c.loop-left.left start m0 before after c.loop-left.machine.hart m far.0 more.0 far.1 more.1 more.2 (far.4 r).1
-                (c.loop-left.left - 1) c.in-Ok-Some.end c.step.new.hart m' is over.0 over.1.0 over.1.1 rest may,
-          ),
-    )
-
-pub returns-in-Err-step-clause-runs : goal.returns-in-Err-step-clause-runs
-returns-in-Err-step-clause-runs g c =
-    let is : c.loop-left.left ≡ suc (c.loop-left.left - 1) = omega (arith, c.loop-left-test.true) in
-    let start : List ℕ → laws.Hart = λ input. hart_of c.args.machine.now.hart input [] in
-    let first : Input = input_left c.args.machine.now.intake.ended (g.R.GuestIn.ends c.args.reader.now) (g.R.GuestIn.left c.args.reader.now) in
-    let before : Input = input_left c.loop-left.machine.intake.ended (g.R.GuestIn.ends c.loop-left.reader) (g.R.GuestIn.left c.loop-left.reader) in
-    let after : Input = input_left c.step.new.intake.ended (g.R.GuestIn.ends c.step.new.reader) (g.R.GuestIn.left c.step.new.reader) in
-    let m0 : Mem = g.M.Memory.mem c.args.machine.now.memory in
-    let m : Mem = g.M.Memory.mem c.loop-left.machine.memory in
-    let m' : Mem = g.M.Memory.mem c.step.new.memory in
-    let far = c.loop-left.invariant.so_far in
-    let more = c.in-Err-step.ensures.steps in (
-      far.0 ++ more.0,
-      far.1 ++ more.1,
-      has_read_more first before after far.0 more.0 far.2 more.2,
-      Appends-trans _ _ _ far.1 more.1 far.3 more.3,
-      λ r rest may.
-          stopped r c.args.limit c.loop-left.left start m0 before after c.loop-left.machine.hart m far.0 more.0 far.1 more.1 more.2 (far.4 r).0
-          c.in-Err-step.fault (c.loop-left.left - 1) c.step.new.hart m' is (more.4 r) rest may,
-    )
-
-pub returns-in-Err-after-clause-runs : goal.returns-in-Err-after-clause-runs
-returns-in-Err-after-clause-runs g c =
-    let is : c.loop-left.left ≡ suc (c.loop-left.left - 1) = omega (arith, c.loop-left-test.true) in
-    let start : List ℕ → laws.Hart = λ input. hart_of c.args.machine.now.hart input [] in
-    let first : Input = input_left c.args.machine.now.intake.ended (g.R.GuestIn.ends c.args.reader.now) (g.R.GuestIn.left c.args.reader.now) in
-    let before : Input = input_left c.loop-left.machine.intake.ended (g.R.GuestIn.ends c.loop-left.reader) (g.R.GuestIn.left c.loop-left.reader) in
-    let after : Input = input_left c.step.new.intake.ended (g.R.GuestIn.ends c.step.new.reader) (g.R.GuestIn.left c.step.new.reader) in
-    let m0 : Mem = g.M.Memory.mem c.args.machine.now.memory in
-    let m : Mem = g.M.Memory.mem c.loop-left.machine.memory in
-    let m' : Mem = g.M.Memory.mem c.step.new.memory in
-    let far = c.loop-left.invariant.so_far in
-    let more = c.in-Ok-None.ensures.steps in (
-      far.0 ++ more.0,
-      far.1 ++ more.1,
-      has_read_more first before after far.0 more.0 far.2 more.2,
-      Appends-trans _ _ _ far.1 more.1 far.3 more.3,
-      λ r rest may. (
-        front_so_far r c.args.limit (c.loop-left.left - 1) start m0 c.step.new.hart m' _ (far.0 ++ more.0) (far.1 ++ more.1)
-            (went_on r (run r) (run-on r) c.args.limit c.loop-left.left start m0 before after c.loop-left.machine.hart m far.0 more.0 far.1 more.1 more.2 (far.4 r).0
-            (c.loop-left.left - 1) c.step.new.hart m' is (steps_as _ _ more.0 more.1 _ _ _ _ _ _ c.in-Ok-None.field-0-is (more.4 r))) rest may,
-        (
-          suc far.5,
-          omega (arith, far.6, is),
-          reaches_next r far.5 start m0 before after c.loop-left.machine.hart c.step.new.hart m m' far.0 more.0 far.1 more.1 more.2 (far.7 r) (steps_as _ _ more.0 more.1 _ _ _ _ _ _ c.in-Ok-None.field-0-is (more.4 r)) rest may,
-        ),
-      ),
+          let front = fronts r far.5 c.args.limit c.loop-left.left start (g.M.Memory.mem c.args.machine.now.memory) c.loop-left.machine.hart (g.M.Memory.mem c.loop-left.machine.memory) _ far.0 far.1 (far.4 r).0 (far.7 r) rest may in
+          (front.0, front.1, (far.8, omega (arith, far.9), far.10 r rest may)),
     )
 
 pub loop-left-preserved : goal.loop-left-preserved
@@ -113,12 +57,12 @@ loop-left-preserved g c =
     let start : List ℕ → laws.Hart = λ input. hart_of c.args.machine.now.hart input [] in
     let first : Input = input_left c.args.machine.now.intake.ended (g.R.GuestIn.ends c.args.reader.now) (g.R.GuestIn.left c.args.reader.now) in
     let before : Input = input_left c.loop-left.machine.intake.ended (g.R.GuestIn.ends c.loop-left.reader) (g.R.GuestIn.left c.loop-left.reader) in
-    let after : Input = input_left c.step.new.intake.ended (g.R.GuestIn.ends c.step.new.reader) (g.R.GuestIn.left c.step.new.reader) in
+    let after : Input = input_left c.step_told.new.intake.ended (g.R.GuestIn.ends c.step_told.new.reader) (g.R.GuestIn.left c.step_told.new.reader) in
     let m0 : Mem = g.M.Memory.mem c.args.machine.now.memory in
     let m : Mem = g.M.Memory.mem c.loop-left.machine.memory in
-    let m' : Mem = g.M.Memory.mem c.step.new.memory in
+    let m' : Mem = g.M.Memory.mem c.step_told.new.memory in
     let far = c.loop-left.invariant.so_far in
-    let more = c.in-Ok-None.ensures.steps in
+    let more = c.in-Ok-Went.ensures.steps in
     record {
       so_far = (
         far.0 ++ more.0,
@@ -127,17 +71,146 @@ loop-left-preserved g c =
         Appends-trans _ _ _ far.1 more.1 far.3 more.3,
         λ r. (
           went_on r (run r) (run-on r) c.args.limit c.loop-left.left start m0 before after c.loop-left.machine.hart m far.0 more.0 far.1 more.1 more.2 (far.4 r).0
-              (c.loop-left.left - 1) c.step.new.hart m' is (steps_as _ _ more.0 more.1 _ _ _ _ _ _ c.in-Ok-None.field-0-is (more.4 r)),
+              (c.loop-left.left - 1) c.step_told.new.hart m' is (stepped_as _ _ more.0 more.1 _ (step r) (hart_of c.loop-left.machine.hart) (hart_of c.step_told.new.hart) m m' c.in-Ok-Went.field-0-is (more.5 r)),
           went_on r (last_state r) (last-on r) c.args.limit c.loop-left.left start m0 before after c.loop-left.machine.hart m far.0 more.0 far.1 more.1 more.2 (far.4 r).1
-              (c.loop-left.left - 1) c.step.new.hart m' is (steps_as _ _ more.0 more.1 _ _ _ _ _ _ c.in-Ok-None.field-0-is (more.4 r)),
+              (c.loop-left.left - 1) c.step_told.new.hart m' is (stepped_as _ _ more.0 more.1 _ (step r) (hart_of c.loop-left.machine.hart) (hart_of c.step_told.new.hart) m m' c.in-Ok-Went.field-0-is (more.5 r)),
         ),
-        suc far.5,
-        omega (arith, far.6, is),
-        λ r. reaches_next r far.5 start m0 before after c.loop-left.machine.hart c.step.new.hart m m' far.0 more.0 far.1 more.1 more.2 (far.7 r) (steps_as _ _ more.0 more.1 _ _ _ _ _ _ c.in-Ok-None.field-0-is (more.4 r)),
+        far.5 ++ (event_as c.went_on-event.result m' ∷ []),
+        seen_more g.T.Watcher.has_seen _ _ _ _ far.5 _ far.6 c.in-Ok.ensures.kept c.in-Ok-after.ensures.told,
+        λ r.
+            told_on r far.5 c.args.limit c.loop-left.left start m0 before after c.loop-left.machine.hart m far.0 more.0 far.1 more.2 (far.7 r) more.1
+            (c.loop-left.left - 1) (event_as c.went_on-event.result m') c.step_told.new.hart m' is
+            (λ others follows. c.went_on-event.ensures (fetch r m c.loop-left.machine.hart.pc) (hart_of c.loop-left.machine.hart (more.0 ++ others) far.1) m others (far.1 ++ more.1) m'
+            (c.look_at-look.ensures r (more.0 ++ others) far.1) ((stepped_as _ _ more.0 more.1 _ (step r) (hart_of c.loop-left.machine.hart) (hart_of c.step_told.new.hart) m m' c.in-Ok-Went.field-0-is (more.5 r)) others far.1 follows)
+            (moved_between c.in-Ok-Went.moved more.0 others far.1 more.1 m' (moved_as _ _ more.0 more.1 m' c.in-Ok-Went.field-0-is more.4)))
+            (stepped_as _ _ more.0 more.1 _ (step r) (hart_of c.loop-left.machine.hart) (hart_of c.step_told.new.hart) m m' c.in-Ok-Went.field-0-is (more.5 r)),
+        suc far.8,
+        omega (arith, far.9, is),
+        λ r. reaches_next r far.8 start m0 before after c.loop-left.machine.hart c.step_told.new.hart m m' far.0 more.0 far.1 more.1 more.2 (far.10 r) (stepped_as _ _ more.0 more.1 _ (step r) (hart_of c.loop-left.machine.hart) (hart_of c.step_told.new.hart) m m' c.in-Ok-Went.field-0-is (more.5 r)),
       );
-      reader = c.in-Ok-None.ensures.failed.0 ∙ c.loop-left.invariant.reader;
-      writer = c.in-Ok-None.ensures.failed.1 ∙ c.loop-left.invariant.writer;
+      reader = c.in-Ok-Went.ensures.failed.0 ∙ c.loop-left.invariant.reader;
+      writer = c.in-Ok-Went.ensures.failed.1 ∙ c.loop-left.invariant.writer;
     }
+
+pub returns-in-Err-after-clause-runs : goal.returns-in-Err-after-clause-runs
+returns-in-Err-after-clause-runs g c =
+    let is : c.loop-left.left ≡ suc (c.loop-left.left - 1) = omega (arith, c.loop-left-test.true) in
+    let start : List ℕ → laws.Hart = λ input. hart_of c.args.machine.now.hart input [] in
+    let first : Input = input_left c.args.machine.now.intake.ended (g.R.GuestIn.ends c.args.reader.now) (g.R.GuestIn.left c.args.reader.now) in
+    let before : Input = input_left c.loop-left.machine.intake.ended (g.R.GuestIn.ends c.loop-left.reader) (g.R.GuestIn.left c.loop-left.reader) in
+    let after : Input = input_left c.step_told.new.intake.ended (g.R.GuestIn.ends c.step_told.new.reader) (g.R.GuestIn.left c.step_told.new.reader) in
+    let m0 : Mem = g.M.Memory.mem c.args.machine.now.memory in
+    let m : Mem = g.M.Memory.mem c.loop-left.machine.memory in
+    let m' : Mem = g.M.Memory.mem c.step_told.new.memory in
+    let far = c.loop-left.invariant.so_far in
+    let more = c.in-Ok-Went.ensures.steps in (
+      far.0 ++ more.0,
+      far.1 ++ more.1,
+      far.5 ++ (event_as c.went_on-event.result m' ∷ []),
+      has_read_more first before after far.0 more.0 far.2 more.2,
+      Appends-trans _ _ _ far.1 more.1 far.3 more.3,
+      tt,
+      λ r rest may.
+          let front = fronts r _ c.args.limit (c.loop-left.left - 1) start m0 c.step_told.new.hart m' _ (far.0 ++ more.0) (far.1 ++ more.1)
+          (went_on r (run r) (run-on r) c.args.limit c.loop-left.left start m0 before after c.loop-left.machine.hart m far.0 more.0 far.1 more.1 more.2 (far.4 r).0
+          (c.loop-left.left - 1) c.step_told.new.hart m' is (stepped_as _ _ more.0 more.1 _ (step r) (hart_of c.loop-left.machine.hart) (hart_of c.step_told.new.hart) m m' c.in-Ok-Went.field-0-is (more.5 r)))
+          (told_on r far.5 c.args.limit c.loop-left.left start m0 before after c.loop-left.machine.hart m far.0 more.0 far.1 more.2 (far.7 r) more.1
+          (c.loop-left.left - 1) (event_as c.went_on-event.result m') c.step_told.new.hart m' is
+          (λ others follows. c.went_on-event.ensures (fetch r m c.loop-left.machine.hart.pc) (hart_of c.loop-left.machine.hart (more.0 ++ others) far.1) m others (far.1 ++ more.1) m'
+          (c.look_at-look.ensures r (more.0 ++ others) far.1) ((stepped_as _ _ more.0 more.1 _ (step r) (hart_of c.loop-left.machine.hart) (hart_of c.step_told.new.hart) m m' c.in-Ok-Went.field-0-is (more.5 r)) others far.1 follows)
+          (moved_between c.in-Ok-Went.moved more.0 others far.1 more.1 m' (moved_as _ _ more.0 more.1 m' c.in-Ok-Went.field-0-is more.4)))
+          (stepped_as _ _ more.0 more.1 _ (step r) (hart_of c.loop-left.machine.hart) (hart_of c.step_told.new.hart) m m' c.in-Ok-Went.field-0-is (more.5 r))) rest may in
+          (front.0, front.1, (suc far.8, omega (arith, far.9, is), reaches_next r far.8 start m0 before after c.loop-left.machine.hart c.step_told.new.hart m m' far.0 more.0 far.1 more.1 more.2 (far.10 r) (stepped_as _ _ more.0 more.1 _ (step r) (hart_of c.loop-left.machine.hart) (hart_of c.step_told.new.hart) m m' c.in-Ok-Went.field-0-is (more.5 r)) rest may)),
+    )
+
+pub returns-in-Ok-after-2-clause-runs : goal.returns-in-Ok-after-2-clause-runs
+returns-in-Ok-after-2-clause-runs g c =
+    let is : c.loop-left.left ≡ suc (c.loop-left.left - 1) = omega (arith, c.loop-left-test.true) in
+    let start : List ℕ → laws.Hart = λ input. hart_of c.args.machine.now.hart input [] in
+    let first : Input = input_left c.args.machine.now.intake.ended (g.R.GuestIn.ends c.args.reader.now) (g.R.GuestIn.left c.args.reader.now) in
+    let before : Input = input_left c.loop-left.machine.intake.ended (g.R.GuestIn.ends c.loop-left.reader) (g.R.GuestIn.left c.loop-left.reader) in
+    let after : Input = input_left c.step_told.new.intake.ended (g.R.GuestIn.ends c.step_told.new.reader) (g.R.GuestIn.left c.step_told.new.reader) in
+    let m0 : Mem = g.M.Memory.mem c.args.machine.now.memory in
+    let m : Mem = g.M.Memory.mem c.loop-left.machine.memory in
+    let m' : Mem = g.M.Memory.mem c.step_told.new.memory in
+    let far = c.loop-left.invariant.so_far in
+    let more = c.in-Ok-Ended.ensures.steps in (
+      far.0 ++ more.0,
+      far.1 ++ more.1,
+      far.5 ++ (event_as c.ended-event.result m' ∷ []),
+      has_read_more first before after far.0 more.0 far.2 more.2,
+      Appends-trans _ _ _ far.1 more.1 far.3 more.3,
+      seen_more g.T.Watcher.has_seen _ _ _ _ far.5 _ far.6 c.in-Ok.ensures.kept c.in-Ok-after-2.ensures.told,
+      λ r rest may.
+          let over = stepped_as _ _ more.0 more.1 _ (step r) (hart_of c.loop-left.machine.hart) (hart_of c.step_told.new.hart) m m' c.in-Ok-Ended.field-0-is (more.5 r) in (
+            came_to r c.args.limit c.loop-left.left start m0 before after c.loop-left.machine.hart m far.0 more.0 far.1 more.1 more.2 (far.4 r).0
+                (c.loop-left.left - 1) (law_end c.in-Ok-Ended.end) is over.0 over.1.0 (λ input console. (over.1.1 input console).0) rest may,
+            rests_at r c.args.limit c.loop-left.left start m0 before after c.loop-left.machine.hart m far.0 more.0 far.1 more.1 more.2 (far.4 r).1
+                (c.loop-left.left - 1) c.in-Ok-Ended.end c.step_told.new.hart m' is over.0 over.1.0 over.1.1 rest may,
+            told_over r far.5 c.args.limit c.loop-left.left start m0 before after c.loop-left.machine.hart m far.0 more.0 far.1 more.2 (far.7 r)
+                (c.loop-left.left - 1) (event_as c.ended-event.result m') (law_end c.in-Ok-Ended.end) is
+                (λ others follows. c.ended-event.ensures (fetch r m c.loop-left.machine.hart.pc) (hart_of c.loop-left.machine.hart (more.0 ++ others) far.1) m m' (c.look_at-look.ensures r (more.0 ++ others) far.1) (over.1.1 (more.0 ++ others) far.1).0)
+                (λ input console. (over.1.1 input console).0) rest may,
+          ),
+    )
+
+pub returns-in-Err-after-2-clause-runs : goal.returns-in-Err-after-2-clause-runs
+returns-in-Err-after-2-clause-runs g c =
+    let is : c.loop-left.left ≡ suc (c.loop-left.left - 1) = omega (arith, c.loop-left-test.true) in
+    let start : List ℕ → laws.Hart = λ input. hart_of c.args.machine.now.hart input [] in
+    let first : Input = input_left c.args.machine.now.intake.ended (g.R.GuestIn.ends c.args.reader.now) (g.R.GuestIn.left c.args.reader.now) in
+    let before : Input = input_left c.loop-left.machine.intake.ended (g.R.GuestIn.ends c.loop-left.reader) (g.R.GuestIn.left c.loop-left.reader) in
+    let after : Input = input_left c.step_told.new.intake.ended (g.R.GuestIn.ends c.step_told.new.reader) (g.R.GuestIn.left c.step_told.new.reader) in
+    let m0 : Mem = g.M.Memory.mem c.args.machine.now.memory in
+    let m : Mem = g.M.Memory.mem c.loop-left.machine.memory in
+    let m' : Mem = g.M.Memory.mem c.step_told.new.memory in
+    let far = c.loop-left.invariant.so_far in
+    let more = c.in-Ok-Ended.ensures.steps in (
+      far.0 ++ more.0,
+      far.1 ++ more.1,
+      far.5,
+      has_read_more first before after far.0 more.0 far.2 more.2,
+      Appends-trans _ _ _ far.1 more.1 far.3 more.3,
+      tt,
+      λ r rest may.
+          let over = stepped_as _ _ more.0 more.1 _ (step r) (hart_of c.loop-left.machine.hart) (hart_of c.step_told.new.hart) m m' c.in-Ok-Ended.field-0-is (more.5 r) in
+          let outcome = came_to r c.args.limit c.loop-left.left start m0 before after c.loop-left.machine.hart m far.0 more.0 far.1 more.1 more.2 (far.4 r).0
+          (c.loop-left.left - 1) (law_end c.in-Ok-Ended.end) is over.0 over.1.0 (λ input console. (over.1.1 input console).0) rest may in (
+            record { rest = []; joined = append-nil _ ∙ sym (ap (λ (o : laws.Outcome). o.console) outcome) },
+            told_front r far.5 c.args.limit c.loop-left.left start m0 before after c.loop-left.machine.hart m far.0 more.0 far.1 more.2 (far.7 r) rest may,
+            (
+              c.args.limit,
+              omega arith,
+              rests_at r c.args.limit c.loop-left.left start m0 before after c.loop-left.machine.hart m far.0 more.0 far.1 more.1 more.2 (far.4 r).1
+                  (c.loop-left.left - 1) c.in-Ok-Ended.end c.step_told.new.hart m' is over.0 over.1.0 over.1.1 rest may,
+            ),
+          ),
+    )
+
+pub returns-in-Err-step_told-clause-runs : goal.returns-in-Err-step_told-clause-runs
+returns-in-Err-step_told-clause-runs g c =
+    let is : c.loop-left.left ≡ suc (c.loop-left.left - 1) = omega (arith, c.loop-left-test.true) in
+    let start : List ℕ → laws.Hart = λ input. hart_of c.args.machine.now.hart input [] in
+    let first : Input = input_left c.args.machine.now.intake.ended (g.R.GuestIn.ends c.args.reader.now) (g.R.GuestIn.left c.args.reader.now) in
+    let before : Input = input_left c.loop-left.machine.intake.ended (g.R.GuestIn.ends c.loop-left.reader) (g.R.GuestIn.left c.loop-left.reader) in
+    let after : Input = input_left c.step_told.new.intake.ended (g.R.GuestIn.ends c.step_told.new.reader) (g.R.GuestIn.left c.step_told.new.reader) in
+    let m0 : Mem = g.M.Memory.mem c.args.machine.now.memory in
+    let m : Mem = g.M.Memory.mem c.loop-left.machine.memory in
+    let m' : Mem = g.M.Memory.mem c.step_told.new.memory in
+    let far = c.loop-left.invariant.so_far in
+    let more = c.in-Err-step_told.ensures.steps in (
+      far.0 ++ more.0,
+      far.1 ++ more.1,
+      far.5,
+      has_read_more first before after far.0 more.0 far.2 more.2,
+      Appends-trans _ _ _ far.1 more.1 far.3 more.3,
+      λ past seen. c.in-Ok.ensures.kept (past ++ far.5) (far.6 past seen),
+      λ r rest may. (
+        stopped r c.args.limit c.loop-left.left start m0 before after c.loop-left.machine.hart m far.0 more.0 far.1 more.1 more.2 (far.4 r).0
+            c.in-Err-step_told.fault (c.loop-left.left - 1) c.step_told.new.hart m' is (more.5 r) rest may,
+        told_front r far.5 c.args.limit c.loop-left.left start m0 before after c.loop-left.machine.hart m far.0 more.0 far.1 more.2 (far.7 r) rest may,
+      ),
+    )
 
 pub returns-clause-runs : goal.returns-clause-runs
 returns-clause-runs g c =
@@ -147,10 +220,13 @@ returns-clause-runs g c =
     let m : Mem = g.M.Memory.mem c.loop-left.machine.memory in (
       far.0,
       far.1,
+      far.5,
       far.2,
       far.3,
+      far.6,
       λ r rest may. (
         sym ((far.4 r).0 rest may) ∙ ap (λ (n : ℕ). run r n (now rest) m) none,
         sym ((far.4 r).1 rest may) ∙ ap (λ (n : ℕ). last_state r n (now rest) m) none,
+        sym (far.7 r rest may) ∙ ap (λ (n : ℕ). far.5 ++ events r n (now rest) m) none ∙ append-nil far.5,
       ),
     )

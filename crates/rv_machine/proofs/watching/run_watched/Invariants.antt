@@ -1,4 +1,4 @@
-use Rattle.std.proofs.Common.{◌≡◌, ◌+◌, false, ℕ, List, []}
+use Rattle.std.proofs.Common.{◌≡◌, ◌+◌, false, ℕ, List, [], ◌++◌}
 use Rattle.std.specs.Io.KnownBytes.{Appends}
 use Rattle.rv_encode.specs.Word.{Spells}
 use Rattle.rv_compress.specs.Parcel.{StandsFor}
@@ -7,10 +7,12 @@ use Rattle.rv_isa_laws.specs.Run.{run}
 use Rattle.rv_machine.specs.Hart.{hart_of}
 use Rattle.rv_machine.specs.LastState.{last_state}
 use Rattle.rv_machine.specs.StreamSteps.{input_left, HasRead}
+use Rattle.rv_event_laws.specs.Event.{Event}
+use Rattle.rv_machine.proofs.EventLemmas.{Telling}
 use Rattle.rv_machine.proofs.StreamLemmas.{Continues, Reaches}
 use Rattle.rv_machine.proofs.watching.run_watched.Given as goal
 
--- what was read and written so far; what is left of the run gives the whole and its last state, and the steps so far leave what is here, whatever may follow; no stream has failed
+-- what was read, written and told so far; what is left of the run gives the whole, its last state and its events, and the steps so far leave what is here, whatever may follow; no stream has failed
 abbrev pub invariant-loop-left : goal.invariant-loop-left
 invariant-loop-left g l = record {
   so_far : (read written : List ℕ)
@@ -18,6 +20,9 @@ invariant-loop-left g l = record {
       × Appends (g.W.GuestOut.written l.fn.writer) (g.W.GuestOut.written l.writer) written
       × ((r : Reader Spells StandsFor) → Continues (run r) l.limit l.left (λ input. hart_of l.fn.machine.hart input []) (g.M.Memory.mem l.fn.machine.memory) l.machine.hart (g.M.Memory.mem l.machine.memory) (l.machine.intake.ended ≡ false) read written
       × Continues (last_state r) l.limit l.left (λ input. hart_of l.fn.machine.hart input []) (g.M.Memory.mem l.fn.machine.memory) l.machine.hart (g.M.Memory.mem l.machine.memory) (l.machine.intake.ended ≡ false) read written)
+      × (told : List Event)
+      × ((past : List Event) → g.T.Watcher.has_seen l.fn.watcher past → g.T.Watcher.has_seen l.watcher (past ++ told))
+      × ((r : Reader Spells StandsFor) → Telling r told l.limit l.left (λ input. hart_of l.fn.machine.hart input []) (g.M.Memory.mem l.fn.machine.memory) l.machine.hart (g.M.Memory.mem l.machine.memory) (l.machine.intake.ended ≡ false) read written)
       × (steps : ℕ) × (steps + l.left ≡ l.limit)
       × ((r : Reader Spells StandsFor) → Reaches r steps (λ input. hart_of l.fn.machine.hart input []) (g.M.Memory.mem l.fn.machine.memory) l.machine.hart (g.M.Memory.mem l.machine.memory) (l.machine.intake.ended ≡ false) read written);
   reader : g.R.GuestIn.in_failed l.reader ≡ g.R.GuestIn.in_failed l.fn.reader;
