@@ -2,9 +2,12 @@
 //!
 //! Source: RISC-V Unprivileged ISA 20191213, sections 2.5, 2.6, 8.2 and 8.4.
 
+ghost use Rattle.std.specs.Prelude.{◌≡◌};
+ghost use Rattle.rv_trace.specs.Shown.{shown_bytes, stores};
+
+use rv_event_laws::Access as Told;
 use rv_isa::{AtomicOperation, BranchOperation, Format, Inst, LoadOperation, Reg, StoreOperation};
-use rv_machine::Watched;
-use rv_memory::Memory;
+use rv_machine::Event;
 
 /// What an instruction does with memory.
 #[derive(Clone, Copy, PartialEq, Eq, Drop)]
@@ -17,33 +20,30 @@ pub(crate) enum AccessKind {
     Update,
 }
 
-/// An access of an instruction: where it is and how many bytes it has.
+/// An access of an instruction: what it is and how many bytes it has.
 #[derive(Clone, Copy, Drop)]
 pub(crate) struct Access {
     pub kind: AccessKind,
-    pub base: Reg,
-    pub offset: i32,
     pub bytes: u64,
 }
 
 impl Access {
-    /// The address of its first byte, modulo 2^64.
-    pub(crate) fn address<M: Memory>(&self, machine: &Watched<M>) -> u64 {
-        let offset = i64::from(self.offset).cast_unsigned();
-        machine.register(self.base).wrapping_add(offset)
-    }
-
-    /// Whether it reads memory.
-    pub(crate) fn loads(&self) -> bool {
-        matches!(
-            self.kind,
-            AccessKind::Load | AccessKind::LoadReserved | AccessKind::Update
-        )
+    /// The bytes that a line shows of an event: those written of what stores, else those read.
+    pub(crate) fn told_by(&self, event: &Event) -> Option<Told>
+        ensures { result ≡ shown_bytes self.now.kind event.now }
+    {
+        if self.stores() {
+            event.stored
+        } else {
+            event.read
+        }
     }
 
     /// Whether it writes memory.
     #[inline]
-    pub(crate) fn stores(&self) -> bool {
+    pub(crate) fn stores(&self) -> bool
+        ensures { result ≡ stores self.now.kind }
+    {
         !matches!(self.kind, AccessKind::Load | AccessKind::LoadReserved)
     }
 
@@ -76,22 +76,17 @@ fn stored(operation: StoreOperation) -> u64 {
 
 /// The access of an instruction, where it has one.
 pub(crate) fn access_of(inst: Inst) -> Option<Access> {
-    let (kind, base, offset, bytes) = match inst.format() {
-        Format::Load(operation, x) => (AccessKind::Load, x.rs1, x.immediate, loaded(operation)),
-        Format::Store(operation, x) => (AccessKind::Store, x.rs1, x.immediate, stored(operation)),
-        Format::LoadReserved(double, x) => (AccessKind::LoadReserved, x.rs1, 0, width(double)),
-        Format::Atomic(AtomicOperation::Sc, double, x) => {
-            (AccessKind::StoreConditional, x.rs1, 0, width(double))
+    let (kind, bytes) = match inst.format() {
+        Format::Load(operation, _) => (AccessKind::Load, loaded(operation)),
+        Format::Store(operation, _) => (AccessKind::Store, stored(operation)),
+        Format::LoadReserved(double, _) => (AccessKind::LoadReserved, width(double)),
+        Format::Atomic(AtomicOperation::Sc, double, _) => {
+            (AccessKind::StoreConditional, width(double))
         }
-        Format::Atomic(_, double, x) => (AccessKind::Update, x.rs1, 0, width(double)),
+        Format::Atomic(_, double, _) => (AccessKind::Update, width(double)),
         _ => return None,
     };
-    Some(Access {
-        kind,
-        base,
-        offset,
-        bytes,
-    })
+    Some(Access { kind, bytes })
 }
 
 fn width(double: bool) -> u64 {

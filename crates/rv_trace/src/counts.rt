@@ -1,13 +1,17 @@
 //! How often each instruction of a run was executed.
 //!
-//! Most of what is asked follows from that: the mnemonic, the bytes and the width of an access stand in the instruction.
-//! What does not is counted beside it: branches taken, stores of `sc`, calls, and the lowest stack pointer.
+//! What was executed, read and stored is summed over the events of the run ([`Totals`]). Beside it is counted, for each
+//! instruction, how often it was executed and called, and branches taken; and the lowest stack pointer is kept.
+
+ghost use Rattle.std.specs.Prelude.{◌≡◌};
+ghost use Rattle.rv_trace.specs.Totals.{totals_of};
 
 use crate::access::{is_call, is_taken};
+use crate::totals::{Totals, is_executed};
 use crate::visited::{VisitedInstruction, VisitedInstructions, bits_at};
 use rv_image::{Image, STACK_BYTES, STACK_START};
-use rv_isa::{AtomicOperation, Format, Reg};
-use rv_machine::{End, ShowFault, Watched, Watcher};
+use rv_isa::{Format, Inst, Reg};
+use rv_machine::{Event, Fetched, ShowFault, Watched, Watcher};
 use rv_memory::Memory;
 use std::alloc::{AllocError, Global};
 
@@ -23,8 +27,8 @@ pub struct Counts {
     current: Option<usize>,
     /// Whether the latest instruction was a call.
     called: bool,
-    /// Address and width of the latest lr or sc, where it was an lr.
-    reserved: Option<(u64, u64)>,
+    /// The sums over the events.
+    totals: Totals,
     /// The lowest value of sp in the stack.
     lowest: u64,
 }
@@ -36,93 +40,121 @@ impl Counts {
             instructions: VisitedInstructions::new(alloc, image)?,
             current: None,
             called: false,
-            reserved: None,
+            totals: Totals::nothing(),
             lowest: STACK_END,
         })
-    }
-
-    /// Takes back the instruction whose access failed.
-    pub fn ended(&mut self, end: &End) {
-        match end {
-            End::LoadText(_)
-            | End::LoadOutside(_)
-            | End::StoreText(_)
-            | End::StoreOutside(_)
-            | End::MisalignedAtomic(_) => {}
-            _ => return,
-        }
-        let Some(index) = self.current else {
-            return;
-        };
-        if let Some(visited) = self.instructions.get_mut(index) {
-            visited.count = visited.count.saturating_sub(1);
-        }
     }
 
     pub(crate) fn instructions(&self) -> &[VisitedInstruction] {
         self.instructions.all()
     }
 
+    /// The sums over the events.
+    pub(crate) fn totals(&self) -> Totals {
+        self.totals
+    }
+
     /// The most bytes of the stack below its end that sp has left.
     pub(crate) fn deepest(&self) -> u64 {
         STACK_END.saturating_sub(self.lowest)
     }
+}
 
-    /// Counts what the instruction is about to do.
-    #[inline]
-    fn note<M: Memory>(&mut self, index: usize, machine: &Watched<M>) {
-        let called = self.called;
-        self.called = false;
-        let Some(visited) = self.instructions.get_mut(index) else {
-            return;
-        };
-        visited.count = visited.count.saturating_add(1);
-        if called {
-            visited.calls = visited.calls.saturating_add(1);
-        }
-        match visited.inst.format() {
-            Format::Branch(operation, x) => {
-                if is_taken(operation, machine.register(x.rs1), machine.register(x.rs2)) {
-                    visited.taken = visited.taken.saturating_add(1);
-                }
-            }
-            Format::Jal(x) => self.called = is_call(x.rd),
-            Format::Jalr(x) => self.called = is_call(x.rd),
-            Format::LoadReserved(double, x) => {
-                self.reserved = Some((machine.register(x.rs1), if double { 8 } else { 4 }));
-            }
-            Format::Atomic(AtomicOperation::Sc, double, x) => {
-                let asked = (machine.register(x.rs1), if double { 8 } else { 4 });
-                if self.reserved == Some(asked) {
-                    visited.taken = visited.taken.saturating_add(1);
-                }
-                self.reserved = None;
-            }
-            _ => {}
-        }
+/// The instruction at the pc, where there is one.
+#[inline]
+fn visited_at<M: Memory + Drop>(
+    instructions: &mut VisitedInstructions,
+    machine: &Watched<M>,
+) -> Result<Option<usize>, AllocError> {
+    let pc = machine.pc();
+    match bits_at(machine.memory(), pc) {
+        Some(bits) => instructions.find(pc, bits),
+        None => Ok(None),
     }
 }
 
-impl<M: Memory> Watcher<M> for Counts {
+/// Counts what an instruction did; `called` says whether the one before was a call.
+#[inline]
+fn note<M: Memory + Drop>(
+    instructions: &mut VisitedInstructions,
+    current: Option<usize>,
+    called: bool,
+    event: &Event,
+    machine: &Watched<M>,
+) {
+    let Some(index) = current else {
+        return;
+    };
+    let Some(visited) = instructions.get_mut(index) else {
+        return;
+    };
+    if called {
+        visited.calls = visited.calls.saturating_add(1);
+    }
+    if !is_executed(event) {
+        return;
+    }
+    visited.count = visited.count.saturating_add(1);
+    if takes(visited.inst, machine) {
+        visited.taken = visited.taken.saturating_add(1);
+    }
+}
+
+/// Whether an instruction was a branch that was taken; it changed no register.
+#[inline]
+fn takes<M: Memory + Drop>(inst: Inst, machine: &Watched<M>) -> bool {
+    match inst.format() {
+        Format::Branch(operation, x) => {
+            is_taken(operation, machine.register(x.rs1), machine.register(x.rs2))
+        }
+        _ => false,
+    }
+}
+
+/// Whether an event's instruction is a call.
+#[inline]
+fn calls(event: &Event) -> bool {
+    let Fetched::Got(inst, _) = event.fetched else {
+        return false;
+    };
+    match inst.format() {
+        Format::Jal(x) => is_call(x.rd),
+        Format::Jalr(x) => is_call(x.rd),
+        _ => false,
+    }
+}
+
+/// The lowest value of sp in the stack, after one more.
+#[inline]
+fn lower(lowest: u64, sp: u64) -> u64 {
+    if STACK_START <= sp && sp < lowest {
+        sp
+    } else {
+        lowest
+    }
+}
+
+impl<M: Memory + Drop> Watcher<M> for Counts {
+    ghost has_seen = { λ counts seen. counts.totals ≡ totals_of seen };
+
     #[inline]
     fn before(&mut self, machine: &Watched<M>) -> Result<(), ShowFault> {
-        let pc = machine.pc();
-        self.current = match bits_at(machine.memory(), pc) {
-            Some(bits) => self.instructions.find(pc, bits)?,
-            None => None,
-        };
-        if let Some(index) = self.current {
-            self.note(index, machine);
-        }
+        self.current = visited_at(&mut self.instructions, machine)?;
         Ok(())
     }
 
     #[inline]
-    fn after(&mut self, machine: &Watched<M>) -> Result<(), ShowFault> {
-        let sp = machine.register(Reg::SP);
-        if STACK_START <= sp && sp < self.lowest {
-            self.lowest = sp;
-        }
+    fn after(&mut self, event: &Event, machine: &Watched<M>) -> Result<(), ShowFault> {
+        self.totals = self.totals.with(event);
+        note(
+            &mut self.instructions,
+            self.current,
+            self.called,
+            event,
+            machine,
+        );
+        self.called = calls(event);
+        self.lowest = lower(self.lowest, machine.register(Reg::SP));
         Ok(())
     }
 }

@@ -4,8 +4,9 @@
 //! ([`Places`], from its map and its source), and gives texts: the instructions executed one by one ([`Trace`]), how often
 //! each was ([`Counts`], `counts_text`, `lines_text`, `lcov_text`), and why the run ended ([`Latest`], `report_text`).
 //!
-//! Main contract: that of `run_watched`, by which a run that is watched is the run of the machine, and the machine after
-//! it is in that run's last state. What the texts show is tested. It must not know files or the words of a command line.
+//! Main contracts: that of `run_watched`, by which a run that is watched is the run of the machine, and each watcher is told
+//! exactly its events; and that of [`Counts`], whose sums are those over the events (`specs/Totals`). What the texts show of
+//! the events is tested. It must not know files or the words of a command line.
 //!
 //! ```text
 //! let places = Places::new(alloc, Some(&map), Some(Source { name: "a.s", text }))?;
@@ -27,6 +28,7 @@ mod pattern;
 mod places;
 mod report;
 mod summary;
+mod totals;
 mod trace;
 mod visited;
 

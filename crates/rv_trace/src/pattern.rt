@@ -40,12 +40,13 @@ pub(crate) struct Pattern {
     pub is_ecall: bool,
 }
 
-/// What an instruction writes and where it loads or stores, and the offsets in the line of the digits of that.
+/// How an instruction loads or stores, and the offsets in the line of the digits of what it writes and accesses.
 #[derive(Clone, Copy, Drop)]
 pub(crate) struct Effects {
-    pub written: Option<Reg>,
     /// Where the value of the register stands.
     pub value: usize,
+    /// Where the line ends of which nothing is accessed.
+    pub no_access: usize,
     pub access: Option<Access>,
     /// Where the address of the access stands.
     pub address: usize,
@@ -166,18 +167,20 @@ fn leave_out_middle(text: &mut Vec<u8>, start: usize) -> Result<(), AllocError> 
 fn put_effects(text: &mut Vec<u8>, start: usize, inst: Inst) -> Result<Effects, AllocError> {
     let written = destination(inst);
     let access = access_of(inst);
+    let bare = text.len();
     if written.is_some() || access.is_some() {
         fill_column(text, start, BEFORE_EFFECT)?;
     }
     let value = put_written(text, written)?.saturating_sub(start);
+    let last = if written.is_some() { text.len() } else { bare };
     if written.is_some() && access.is_some() {
         text.push(b' ')?;
     }
     let address = text.len().saturating_add(1).saturating_sub(start);
     let stored = put_accessed(text, &access)?.saturating_sub(start);
     Ok(Effects {
-        written,
         value,
+        no_access: last.saturating_sub(start),
         access,
         address,
         stored,

@@ -1,5 +1,7 @@
 //! Why a run ended: where, by which access, with what in the registers, and which instructions came before.
 
+ghost use Rattle.std.specs.Prelude.{◌≡◌, ◌%◌, ◌^◌, length};
+
 use crate::access::{AccessKind, access_of};
 use crate::columns::{fill_column, put, put_decimal, put_fixed, put_near};
 use crate::pattern::put_line;
@@ -8,7 +10,7 @@ use crate::visited::{bits_at, inst_of};
 use rv_disasm::{Targets, put_instruction};
 use rv_image::{Image, STACK_BYTES, STACK_START};
 use rv_isa::{Inst, Reg};
-use rv_machine::{End, ShowFault, Watched, Watcher};
+use rv_machine::{End, Event, ShowFault, Watched, Watcher};
 use rv_memory::Memory;
 use std::alloc::{AllocError, Global};
 
@@ -17,7 +19,7 @@ use std::alloc::{AllocError, Global};
 pub struct Latest {
     /// The instruction of number n, from 0, at n modulo 16.
     addresses: [u64; 16],
-    /// How many instructions have begun.
+    /// How many instructions were told.
     count: u64,
 }
 
@@ -31,16 +33,18 @@ impl Latest {
     }
 }
 
-impl<M: Memory> Watcher<M> for Latest {
+impl<M: Memory + Drop> Watcher<M> for Latest {
+    ghost has_seen = { λ latest seen. latest.count ≡ length seen % 2 ^ 64 };
+
     #[inline]
-    fn before(&mut self, machine: &Watched<M>) -> Result<(), ShowFault> {
-        self.addresses[(self.count % 16) as usize] = machine.pc();
-        self.count = self.count.wrapping_add(1);
+    fn before(&mut self, _: &Watched<M>) -> Result<(), ShowFault> {
         Ok(())
     }
 
     #[inline]
-    fn after(&mut self, _: &Watched<M>) -> Result<(), ShowFault> {
+    fn after(&mut self, event: &Event, _: &Watched<M>) -> Result<(), ShowFault> {
+        self.addresses[(self.count % 16) as usize] = event.pc;
+        self.count = self.count.wrapping_add(1);
         Ok(())
     }
 }
@@ -95,7 +99,7 @@ fn add_bounds(bounds: &mut Vec<Bounds>, image: &Image) -> Result<(), AllocError>
 
 /// Why a run ended that the guest did not end by an exit: the instruction at pc, the access that failed, the registers, the
 /// segments and the latest instructions.
-pub fn report_text<M: Memory>(
+pub fn report_text<M: Memory + Drop>(
     alloc: Global,
     machine: &Watched<M>,
     latest: &Latest,
@@ -113,7 +117,7 @@ pub fn report_text<M: Memory>(
 }
 
 /// Adds the lines of the instruction at pc.
-fn put_at<M: Memory>(
+fn put_at<M: Memory + Drop>(
     text: &mut Vec<u8>,
     machine: &Watched<M>,
     places: &Places<'_>,
@@ -129,7 +133,7 @@ fn put_at<M: Memory>(
 }
 
 /// Adds the lines of the registers.
-fn put_registers<M: Memory>(
+fn put_registers<M: Memory + Drop>(
     text: &mut Vec<u8>,
     machine: &Watched<M>,
     places: &Places<'_>,
@@ -151,7 +155,7 @@ fn put_segments(text: &mut Vec<u8>, segments: &Segments) -> Result<(), AllocErro
 }
 
 /// Adds the line of an address: its symbol, and the instruction that stands there.
-fn put_place<M: Memory>(
+fn put_place<M: Memory + Drop>(
     text: &mut Vec<u8>,
     machine: &Watched<M>,
     places: &Places<'_>,
@@ -175,7 +179,7 @@ fn put_place<M: Memory>(
 }
 
 /// Adds the access that failed, where one did.
-fn put_failed<M: Memory>(
+fn put_failed<M: Memory + Drop>(
     text: &mut Vec<u8>,
     machine: &Watched<M>,
     segments: &Segments,
@@ -219,7 +223,7 @@ fn put_why(
 }
 
 /// What a failed access was, and its bytes.
-fn failed<M: Memory>(end: &End, machine: &Watched<M>) -> Option<(&'static str, u64)> {
+fn failed<M: Memory + Drop>(end: &End, machine: &Watched<M>) -> Option<(&'static str, u64)> {
     match end {
         End::FetchOutside(_) => Some(("fetch", 2)),
         End::LoadText(_)
@@ -242,12 +246,12 @@ fn failed<M: Memory>(end: &End, machine: &Watched<M>) -> Option<(&'static str, u
 }
 
 /// The instruction at pc.
-fn inst_at<M: Memory>(machine: &Watched<M>) -> Option<Inst> {
+fn inst_at<M: Memory + Drop>(machine: &Watched<M>) -> Option<Inst> {
     inst_of(bits_at(machine.memory(), machine.pc())?)
 }
 
 /// Adds a register: its name, its value, and the symbol that it points into.
-fn put_register<M: Memory>(
+fn put_register<M: Memory + Drop>(
     text: &mut Vec<u8>,
     machine: &Watched<M>,
     places: &Places<'_>,
@@ -294,7 +298,7 @@ fn rights(flags: u32) -> &'static str {
 }
 
 /// Adds the lines of the latest instructions, the last one at the end.
-fn put_latest<M: Memory>(
+fn put_latest<M: Memory + Drop>(
     text: &mut Vec<u8>,
     machine: &Watched<M>,
     latest: &Latest,

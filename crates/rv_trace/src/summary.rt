@@ -1,9 +1,9 @@
 //! The counts of a run as a text.
 
-use crate::access::{AccessKind, access_of};
 use crate::columns::{fill_column, put, put_blanks, put_count, put_near, put_right, put_share};
 use crate::counts::Counts;
 use crate::places::Places;
+use crate::totals::Totals;
 use crate::visited::VisitedInstruction;
 use rv_isa::{Format, Inst, mnemonic};
 use rv_map::put_hexadecimal;
@@ -20,15 +20,9 @@ const KINDS: [&str; 7] = [
     "other",
 ];
 
-/// Sums over a run.
+/// Sums over the instructions of a run.
 #[derive(Clone, Copy, Drop)]
 struct Sums {
-    executed: u64,
-    compressed: u64,
-    loads: u64,
-    stores: u64,
-    read: u64,
-    written: u64,
     taken: u64,
     untaken: u64,
     kinds: [u64; 7],
@@ -57,18 +51,19 @@ pub fn counts_text(
 ) -> Result<Vec<u8>, AllocError> {
     let mut text = Vec::new(alloc);
     let sums = sums_of(counts.instructions());
-    put_sums(&mut text, &sums, counts.deepest())?;
-    put_kinds(&mut text, &sums)?;
-    put_mnemonics(alloc, &mut text, counts.instructions(), sums.executed)?;
+    let totals = counts.totals();
+    put_sums(&mut text, &totals, &sums, counts.deepest())?;
+    put_kinds(&mut text, &sums, totals.executed)?;
+    put_mnemonics(alloc, &mut text, counts.instructions(), totals.executed)?;
     put_calls(alloc, &mut text, counts.instructions(), places)?;
     Ok(text)
 }
 
 /// Adds the lines of the kinds of instructions.
-fn put_kinds(text: &mut Vec<u8>, sums: &Sums) -> Result<(), AllocError> {
+fn put_kinds(text: &mut Vec<u8>, sums: &Sums, executed: u64) -> Result<(), AllocError> {
     put(text, "by kind\n")?;
     for (name, count) in KINDS.iter().zip(sums.kinds.iter()) {
-        put_part(text, name, *count, sums.executed)?;
+        put_part(text, name, *count, executed)?;
     }
     Ok(())
 }
@@ -102,14 +97,19 @@ fn put_calls(
 }
 
 /// Adds the lines of the sums.
-fn put_sums(text: &mut Vec<u8>, sums: &Sums, deepest: u64) -> Result<(), AllocError> {
+fn put_sums(
+    text: &mut Vec<u8>,
+    totals: &Totals,
+    sums: &Sums,
+    deepest: u64,
+) -> Result<(), AllocError> {
     let lines = [
-        ("instructions", sums.executed),
-        ("compressed", sums.compressed),
-        ("loads", sums.loads),
-        ("bytes read", sums.read),
-        ("stores", sums.stores),
-        ("bytes written", sums.written),
+        ("instructions", totals.executed),
+        ("compressed", totals.compressed),
+        ("loads", totals.loads),
+        ("bytes read", totals.read),
+        ("stores", totals.stores),
+        ("bytes written", totals.written),
         ("branches taken", sums.taken),
         ("branches not taken", sums.untaken),
         ("deepest stack", deepest),
@@ -117,7 +117,7 @@ fn put_sums(text: &mut Vec<u8>, sums: &Sums, deepest: u64) -> Result<(), AllocEr
     for (name, count) in lines {
         put_count(text, 0, name, count)?;
         if name == "compressed" {
-            put_share(text, count, sums.executed)?;
+            put_share(text, count, totals.executed)?;
         }
         text.push(b'\n')?;
     }
@@ -151,12 +151,6 @@ fn put_called(text: &mut Vec<u8>, called: &Called, places: &Places<'_>) -> Resul
 
 fn sums_of(instructions: &[VisitedInstruction]) -> Sums {
     let mut sums = Sums {
-        executed: 0,
-        compressed: 0,
-        loads: 0,
-        stores: 0,
-        read: 0,
-        written: 0,
         taken: 0,
         untaken: 0,
         kinds: [0; 7],
@@ -170,10 +164,6 @@ fn sums_of(instructions: &[VisitedInstruction]) -> Sums {
 /// Adds what the executions of an instruction did.
 fn add_visited(sums: &mut Sums, visited: &VisitedInstruction) {
     let count = visited.count;
-    add(&mut sums.executed, count);
-    if visited.bytes() == 2 {
-        add(&mut sums.compressed, count);
-    }
     let kind = kind_of(visited.inst);
     if let Some(sum) = sums.kinds.get_mut(kind) {
         add(sum, count);
@@ -182,20 +172,6 @@ fn add_visited(sums: &mut Sums, visited: &VisitedInstruction) {
         add(&mut sums.taken, visited.taken);
         add(&mut sums.untaken, count.saturating_sub(visited.taken));
     }
-    let Some(access) = access_of(visited.inst) else {
-        return;
-    };
-    if access.loads() {
-        add(&mut sums.loads, count);
-        add(&mut sums.read, count.saturating_mul(access.bytes));
-    }
-    let stores = match access.kind {
-        AccessKind::Store | AccessKind::Update => count,
-        AccessKind::StoreConditional => visited.taken.min(count),
-        AccessKind::Load | AccessKind::LoadReserved => 0,
-    };
-    add(&mut sums.stores, stores);
-    add(&mut sums.written, stores.saturating_mul(access.bytes));
 }
 
 fn add(sum: &mut u64, count: u64) {

@@ -4,28 +4,22 @@
 //! are kept until there are many, or a call of the environment comes, so that they stand in order with what the guest
 //! writes.
 
-use crate::access::Access;
+ghost use Rattle.std.specs.Prelude.{◌≡◌, ⊤};
+ghost use Rattle.rv_trace.specs.Shown.{is_full};
+
 use crate::columns::{fill_column, set_fixed, set_low_digits};
 use crate::counter::{Counter, DIGITS};
-use crate::pattern::{BEFORE_SOURCE, Patterns};
+use crate::pattern::{BEFORE_SOURCE, Effects, Patterns};
 use crate::places::Places;
 use crate::visited::{VisitedInstructions, bits_at};
 use rv_image::Image;
-use rv_machine::{ShowFault, Watched, Watcher};
-use rv_memory::{Memory, Right};
+use rv_machine::{Event, ShowFault, Watched, Watcher};
+use rv_memory::Memory;
 use std::alloc::{AllocError, Global};
 use std::io::Write;
 
 /// The bytes of lines that are kept at most before they are written.
 const KEPT: usize = 1 << 15;
-
-/// The instruction that is executed and gets a line.
-#[derive(Clone, Copy, Drop)]
-struct Open {
-    visited: usize,
-    /// Where it loads or stores.
-    address: u64,
-}
 
 /// Writes a line for each instruction from one on.
 #[derive(Drop)]
@@ -35,7 +29,8 @@ pub struct Trace<'a, L: Write> {
     instructions: VisitedInstructions,
     patterns: Patterns,
     kept: Vec<u8>,
-    open: Option<Open>,
+    /// The instruction that is executed and gets a line.
+    open: Option<usize>,
     /// The number of the first instruction that has a line, from 1.
     first: u64,
     /// How many instructions have begun.
@@ -65,9 +60,9 @@ impl<'a, L: Write> Trace<'a, L> {
 
     /// Adds the line of an instruction that was not executed to its end, and writes what is kept.
     pub fn finish(&mut self) -> Result<(), ShowFault> {
-        if let Some(open) = self.open {
+        if let Some(visited) = self.open {
             self.open = None;
-            self.put_bare(open.visited)?;
+            self.put_bare(visited)?;
         }
         self.write_kept()
     }
@@ -82,9 +77,9 @@ impl<'a, L: Write> Trace<'a, L> {
         }
     }
 
-    /// Notes the instruction whose instruction is executed next, and where that loads or stores.
+    /// Notes the instruction that is executed next.
     #[inline]
-    fn begin<M: Memory>(&mut self, index: usize, machine: &Watched<M>) -> Result<(), ShowFault> {
+    fn begin(&mut self, index: usize) -> Result<(), ShowFault> {
         if index >= self.patterns.len() {
             if let Some(visited) = self.instructions.all().get(index) {
                 self.patterns.add(self.places, visited)?;
@@ -94,14 +89,7 @@ impl<'a, L: Write> Trace<'a, L> {
             return Ok(());
         };
         let is_ecall = pattern.is_ecall;
-        let address = match &pattern.effects.access {
-            Some(access) => access.address(machine),
-            None => 0,
-        };
-        self.open = Some(Open {
-            visited: index,
-            address,
-        });
+        self.open = Some(index);
         if is_ecall {
             return self.write_kept();
         }
@@ -118,35 +106,44 @@ impl<'a, L: Write> Trace<'a, L> {
         put_rest(&mut self.kept, start, self.patterns.rest(pattern))
     }
 
-    /// Adds the line of an instruction that was executed.
-    fn put_line<M: Memory>(&mut self, open: &Open, machine: &Watched<M>) -> Result<(), AllocError> {
-        let Some(pattern) = self.patterns.get(open.visited) else {
+    /// Adds the line of an instruction that was executed: the text of its event.
+    fn put_event(&mut self, visited: usize, event: &Event) -> Result<(), AllocError> {
+        let Some(pattern) = self.patterns.get(visited) else {
             return Ok(());
         };
         let text = self.patterns.line(pattern);
         let start = put_numbered(&mut self.kept, &self.count, text)?;
+        let effects = &pattern.effects;
         let Some(line) = self.kept.as_mut_slice().get_mut(start..) else {
             return Ok(());
         };
-        let effects = &pattern.effects;
-        if let Some(reg) = effects.written {
-            set_fixed(line, effects.value, machine.register(reg));
-        }
-        let Some(access) = &effects.access else {
-            return Ok(());
-        };
-        set_fixed(line, effects.address, open.address);
-        if !access.stores() {
+        if fill(line, effects, event) {
             return Ok(());
         }
-        if let Some(value) = stored_value(access, open.address, machine) {
-            set_low_digits(line, effects.stored, access.digits(), value);
-            return Ok(());
-        }
-        let before = effects.stored.saturating_sub(1);
-        self.kept.truncate(start.saturating_add(before));
+        self.kept.truncate(start.saturating_add(effects.no_access));
         put_rest(&mut self.kept, start, self.patterns.rest(pattern))
     }
+}
+
+/// Writes into a line what its event tells; whether that fills the line. It does not where nothing was accessed, as by an `sc`
+/// that failed.
+fn fill(line: &mut [u8], effects: &Effects, event: &Event) -> bool
+    ensures { result ≡ is_full effects.now.access event.now }
+{
+    if let Some(setting) = event.set {
+        set_fixed(line, effects.value, setting.value);
+    }
+    let Some(access) = &effects.access else {
+        return true;
+    };
+    let Some(told) = access.told_by(event) else {
+        return false;
+    };
+    set_fixed(line, effects.address, told.address);
+    if access.stores() {
+        set_low_digits(line, effects.stored, access.digits(), told.number);
+    }
+    true
 }
 
 /// Adds a text that begins with blanks for the number of its line, and the number; where the text begins.
@@ -173,18 +170,10 @@ fn put_rest(text: &mut Vec<u8>, start: usize, rest: &[u8]) -> Result<(), AllocEr
     Ok(())
 }
 
-/// What stands where an instruction stored, if it may be read.
-fn stored_value<M: Memory>(access: &Access, address: u64, machine: &Watched<M>) -> Option<u64> {
-    let memory = machine.memory();
-    match access.bytes {
-        1 => memory.try_load(address, 1, Right::Read),
-        2 => memory.try_load(address, 2, Right::Read),
-        4 => memory.try_load(address, 4, Right::Read),
-        _ => memory.try_load(address, 8, Right::Read),
-    }
-}
+impl<M: Memory + Drop, L: Write> Watcher<M> for Trace<'_, L> {
+    // what the lines say of the events is tested
+    ghost has_seen = { λ _ _. ⊤ };
 
-impl<M: Memory, L: Write> Watcher<M> for Trace<'_, L> {
     #[inline]
     fn before(&mut self, machine: &Watched<M>) -> Result<(), ShowFault> {
         self.count.advance();
@@ -196,18 +185,22 @@ impl<M: Memory, L: Write> Watcher<M> for Trace<'_, L> {
             return Ok(());
         };
         match self.instructions.find(pc, bits)? {
-            Some(index) => self.begin(index, machine),
+            Some(index) => self.begin(index),
             None => Ok(()),
         }
     }
 
     #[inline]
-    fn after(&mut self, machine: &Watched<M>) -> Result<(), ShowFault> {
-        let Some(open) = self.open else {
+    fn after(&mut self, event: &Event, _: &Watched<M>) -> Result<(), ShowFault> {
+        // the line of an instruction that ended the run is the last
+        if event.end.is_some() {
+            return Ok(());
+        }
+        let Some(visited) = self.open else {
             return Ok(());
         };
         self.open = None;
-        self.put_line(&open, machine)?;
+        self.put_event(visited, event)?;
         if self.kept.len() >= KEPT {
             return self.write_kept();
         }

@@ -19,7 +19,7 @@ pub(crate) struct VisitedInstruction {
     pub inst: Inst,
     /// How often it was executed.
     pub count: u64,
-    /// How often it branched, of a branch; how often it stored, of an `sc`.
+    /// How often it branched, of a branch.
     pub taken: u64,
     /// How often it was called.
     pub calls: u64,

@@ -84,7 +84,6 @@ pub fn stats<S: System>(
     let mut machine = machine_of(alloc, image)?;
     let watched = watch(system, &mut machine, asked, &mut counts, asked.limit);
     let end = ended(alloc, watched, "-")?;
-    counts.ended(&end);
     let mut text = counts_text(alloc, &counts, &places)?;
     if coverage.lines {
         text.extend_from_slice(lines_text(alloc, &counts, &places)?.as_slice())?;

@@ -1,0 +1,62 @@
+-- What the counts of a run sum over its events.
+
+use Rattle.std.specs.Prelude.{ℕ, ◌+◌, ◌-◌, ◌^◌, ◌==◌, min, Bool, true, false, if◌then◌else◌, List, fold, Option, Some, None}
+use Rattle.rv_isa_laws.specs.Hart.{End, Exited, Breakpoint}
+use Rattle.rv_isa_laws.specs.Run.{Fetched, Got, NoRight, NoInstruction}
+use Rattle.rv_event_laws.specs.declared.access.Access.{Access}
+use Rattle.rv_event_laws.specs.Event.{Event}
+use Rattle.rv_trace.specs.declared.totals.Totals.{Totals}
+
+-- an instruction is executed where its step goes on, or ends the run by what it means, and not by
+-- an access that fails
+abbrev pub is_meant : End → Bool
+is_meant (Exited code) = true
+is_meant Breakpoint = true
+is_meant _ = false
+
+abbrev pub is_executed : Fetched → Option End → Bool
+is_executed (Got i bytes) None = true
+is_executed (Got i bytes) (Some e) = is_meant e
+is_executed NoRight e = false
+is_executed NoInstruction e = false
+
+abbrev pub is_compressed : Fetched → Bool
+is_compressed (Got i bytes) = bytes == 2
+is_compressed NoRight = false
+is_compressed NoInstruction = false
+
+abbrev pub one_if : Bool → ℕ
+one_if holds = if holds then 1 else 0
+
+-- whether something was read or stored, and its bytes
+abbrev pub accesses_in : Option Access → ℕ
+accesses_in None = 0
+accesses_in (Some x) = 1
+
+abbrev pub access_bytes : Option Access → ℕ
+access_bytes None = 0
+access_bytes (Some x) = x.bytes
+
+-- sums stay at 2 ^ 64 - 1 where they would be more
+abbrev pub more : ℕ → ℕ → ℕ
+more sum added = min (sum + added) (2 ^ 64 - 1)
+
+abbrev pub with_event : Totals → Event → Totals
+with_event t e =
+    let executed = is_executed e.fetched e.«end» in
+    record {
+      executed = more t.executed (one_if executed);
+      compressed =
+          more t.compressed (if executed then one_if (is_compressed e.fetched) else 0);
+      loads = more t.loads (accesses_in e.read);
+      read = more t.read (access_bytes e.read);
+      stores = more t.stores (accesses_in e.stored);
+      written = more t.written (access_bytes e.stored);
+    }
+
+abbrev pub nothing : Totals
+nothing =
+    record { executed = 0; compressed = 0; loads = 0; read = 0; stores = 0; written = 0 }
+
+abbrev pub totals_of : List Event → Totals
+totals_of seen = fold with_event nothing seen
