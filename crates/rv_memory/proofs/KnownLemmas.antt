@@ -1,13 +1,14 @@
 -- What a memory of pages knows of its segments, before and after bytes are put.
 
-use Rattle.std.proofs.Common.{◌≡◌, ℕ, suc, ◌*◌, Bool, true, false, cond, List, [], ◌∷◌, Option, Some, length, refl, ap, sym, ◌∙◌, arith}
-use Rattle.std.specs.List.{list_any}
+use Rattle.std.proofs.Common.{◌≡◌, ℕ, suc, ◌*◌, Bool, true, false, cond, List, [], ◌∷◌, Option, Some, None, length, get_or, refl, ap, sym, ◌∙◌, arith}
 use Rattle.rv_isa_laws.specs.Memory.{Right, Execute}
 use Rattle.rv_image.specs.Segment.{Segment, do_meet}
 use Rattle.rv_image.specs.Memory.{lies_in, segment_at, gives_right, right_in}
 use Rattle.rv_memory.specs.Rights.{IsWidth}
 use Rattle.rv_memory.specs.Stretches.{IsStretch, AreAlike}
-use Rattle.rv_memory.specs.Pages.{AreOrdered, ArePages, HoldsPage, has_byte_on}
+use Rattle.rv_memory.specs.Pages.{AreOrdered, AreListed, HoldsPage, has_byte_on}
+use Rattle.rv_memory.specs.Flat.{no_segment}
+use Rattle.rv_memory.specs.Unmade.{IsUnmade}
 use Rattle.rv_memory.specs.Quick.{room_of, IsQuick, AreKnown}
 use Rattle.rv_memory.specs.declared.page.Page.{Page}
 use Rattle.rv_memory.specs.declared.stretch.Near.{Near}
@@ -22,18 +23,12 @@ alike-rest s t ss ts alike = record {
   flags = λ k. alike.flags (suc k);
 }
 
--- the same pages have a byte of them
-alike-bytes : (n : ℕ) (ss ts : List Segment) → AreAlike ss ts → list_any (has_byte_on n) ts ≡ list_any (has_byte_on n) ss
-alike-bytes n [] [] alike = refl
-alike-bytes n [] (t ∷ ts) alike = absurd (omega (arith, alike.count))
-alike-bytes n (s ∷ ss) [] alike = absurd (omega (arith, alike.count))
-alike-bytes n (s ∷ ss) (t ∷ ts) alike =
-    let address : t.address ≡ s.address = alike.addresses 0 in
-    let size : length t.bytes ≡ length s.bytes = alike.lengths 0 in
-    let rest = alike-bytes n ss ts (alike-rest s t ss ts alike) in
-    let here : has_byte_on n t ≡ has_byte_on n s =
-    ap (λ (a : ℕ). do_meet a (length t.bytes) (4096 * n) 4096) address ∙ ap (λ (k : ℕ). do_meet s.address k (4096 * n) 4096) size in
-    rw (here, rest) refl
+-- the same pages have a byte of each
+byte-still : (n k : ℕ) (ss ts : List Segment) → AreAlike ss ts → has_byte_on n (get_or ts k no_segment) ≡ has_byte_on n (get_or ss k no_segment)
+byte-still n k ss ts alike =
+    let s : Segment = get_or ss k no_segment in
+    let t : Segment = get_or ts k no_segment in
+    ap (λ (a : ℕ). do_meet a (length t.bytes) (4096 * n) 4096) (alike.addresses k) ∙ ap (λ (m : ℕ). do_meet s.address m (4096 * n) 4096) (alike.lengths k)
 
 right-by : (b : Bool) (s t : Segment) (o p : Option Segment) (r : Right) → t.flags ≡ s.flags → right_in o r ≡ right_in p r →
     right_in (cond b (Some t) o) r ≡ right_in (cond b (Some s) p) r
@@ -50,6 +45,31 @@ alike-rights x r (s ∷ ss) (t ∷ ts) alike =
     let rest = alike-rights x r ss ts (alike-rest s t ss ts alike) in
     rw here (right-by (lies_in s x) s t (segment_at ts x) (segment_at ss x) r (alike.flags 0) rest)
 
+-- no address gets a segment
+none-by : (b : Bool) (s t : Segment) (o p : Option Segment) → (o ≡ None → p ≡ None) → cond b (Some s) o ≡ None → cond b (Some t) p ≡ None
+none-by true s t o p rest none = absurd (cc)
+none-by false s t o p rest none = rest none
+
+none-still : (x : ℕ) (ss ts : List Segment) → AreAlike ss ts → segment_at ss x ≡ None → segment_at ts x ≡ None
+none-still x [] [] alike none = refl
+none-still x [] (t ∷ ts) alike none = absurd (omega (arith, alike.count))
+none-still x (s ∷ ss) [] alike none = refl
+none-still x (s ∷ ss) (t ∷ ts) alike none =
+    let here : lies_in t x ≡ lies_in s x = holds-same s t x (alike.addresses 0) (alike.lengths 0) in
+    rw here (none-by (lies_in s x) s t (segment_at ss x) (segment_at ts x) (none-still x ss ts (alike-rest s t ss ts alike)) none)
+
+pub unmade-still : (ss ts : List Segment) (i base : ℕ) → AreAlike ss ts → IsUnmade ss i base → IsUnmade ts i base
+unmade-still ss ts i base alike is = record {
+  within = omega (arith, is.within, alike.count);
+  top = record {
+    starts = alike.addresses i ∙ is.top.starts;
+    ends = omega (arith, is.top.ends, alike.lengths i);
+    flags = alike.flags i ∙ is.top.flags;
+  };
+  above = is.above;
+  free = λ x low high. none-still x ss ts alike (is.free x low high);
+}
+
 ordered-still : (ss ts : List Segment) → AreAlike ss ts → AreOrdered ss → AreOrdered ts
 ordered-still ss ts alike ordered = record {
   rises = λ i j low within. rw (alike.addresses i, alike.addresses j) (ordered.rises i j low (omega (arith, within, alike.count)));
@@ -64,11 +84,11 @@ whole-still ss ts n flags i alike whole = record {
   gives = rw (alike.flags i) whole.gives;
 }
 
-pages-still : (ss ts : List Segment) (pages : List Page) → AreAlike ss ts → ArePages ss pages → ArePages ts pages
-pages-still ss ts pages alike are = record {
+pages-still : (ss ts : List Segment) (i : ℕ) (pages : List Page) → AreAlike ss ts → AreListed ss i pages → AreListed ts i pages
+pages-still ss ts i pages alike are = record {
   ascending = are.ascending;
-  all = λ n. are.all n ∙ sym (alike-bytes n ss ts alike);
-  right = λ k within flags i says. whole-still ss ts _ flags i alike (are.right k within flags i says);
+  all = λ k n other within byte. are.all k n other (omega (arith, within, alike.count)) (sym (byte-still n k ss ts alike) ∙ byte);
+  right = λ k within flags j says. whole-still ss ts _ flags j alike (are.right k within flags j says);
 }
 
 quick-still : (ss ts : List Segment) (i : ℕ) (near : Near) (r : Right) → AreAlike ss ts → IsQuick ss i near r → IsQuick ts i near r
@@ -78,7 +98,7 @@ pub known-still : (ss ts : List Segment) (pages : List Page) (code stack low wri
     AreKnown ss pages code stack low written n → AreKnown ts pages code stack low written n
 known-still ss ts pages code stack low written n alike known = record {
   ordered = ordered-still ss ts alike known.ordered;
-  listed = pages-still ss ts pages alike known.listed;
+  listed = pages-still ss ts _ pages alike known.listed;
   code_executes = quick-still ss ts 0 code Execute alike known.code_executes;
   code_ends = λ some. alike-rights _ Execute ss ts alike ∙ known.code_ends some;
   stack_reads = quick-still ss ts _ stack _ alike known.stack_reads;

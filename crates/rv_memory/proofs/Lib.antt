@@ -5,3 +5,4 @@ pub mod StretchLemmas
 mod OrderLemmas
 mod PageLemmas
 mod KnownLemmas
+mod UnmadeLemmas

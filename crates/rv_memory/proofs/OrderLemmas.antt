@@ -144,6 +144,7 @@ filter-segments (x ∷ xs) = kept-map (has_bytes (segment_of x)) x (filter (λ s
 pub record AreKept (ss ts : List Segment) : Type 0 where
   pub apart : AreDisjoint ts
   pub memory : memory_of ts ≡ memory_of ss
+  pub found : (x : ℕ) → segment_at ts x ≡ segment_at ss x
 
 pub filled-kept : (ss : List Segment) → AreDisjoint ss → AreKept ss (filter has_bytes ss)
 filled-kept ss apart =
@@ -153,6 +154,7 @@ filled-kept ss apart =
     record {
       apart = there;
       memory = same-made ss (filter has_bytes ss) apart there among (λ s some has. filter-among has_bytes ss s has);
+      found = λ x. same-found ss (filter has_bytes ss) x (segment_at ss x) apart there among (λ s some has. filter-among has_bytes ss s has) refl;
     }
 
 -- no address lies in the segments at two indices
@@ -201,6 +203,8 @@ permuted-kept ss ts moved apart =
       apart = there;
       memory = same-made ss ts apart there (λ s some has. Contains-permutation ss ts s moved has)
           (λ s some has. Contains-permutation ts ss s (IsPermutation-sym ss ts moved) has);
+      found = λ x. same-found ss ts x (segment_at ss x) apart there (λ s some has. Contains-permutation ss ts s moved has)
+          (λ s some has. Contains-permutation ts ss s (IsPermutation-sym ss ts moved) has) refl;
     }
 
 -- what a binary search by address finds among them

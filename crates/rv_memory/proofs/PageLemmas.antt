@@ -16,7 +16,7 @@ use Rattle.rv_image.specs.Segment.{Segment}
 use Rattle.rv_isa_laws.specs.Memory.{Right, Read, Write, Execute}
 use Rattle.rv_image.specs.Memory.{lies_in, segment_at, gives_right, right_in}
 use Rattle.rv_memory.specs.Flat.{AreDisjoint, no_segment}
-use Rattle.rv_memory.specs.Pages.{AreOrdered, has_byte_on, is_listed, is_reached, with_page, no_page, AreAscending, HoldsPage, IsRight, ArePages}
+use Rattle.rv_memory.specs.Pages.{AreOrdered, has_byte_on, is_listed, is_reached, with_page, no_page, AreAscending, HoldsPage, IsRight, ArePages, AreListed}
 use Rattle.rv_memory.specs.declared.page.Page.{Page}
 use Rattle.rv_memory.specs.declared.page.PageRights.TheVariants.{Same}
 use Rattle.rv_memory.proofs.FlatLemmas.{holds-range, range-holds, held-segment}
@@ -276,17 +276,28 @@ gives-low flags Execute = let e : flags % 8 % 2 ≡ flags % 2 = omega arith in a
 gives-low flags Write = let e : flags % 8 / 2 % 2 ≡ flags / 2 % 2 = omega arith in ap (λ (n : ℕ). n == 1) e
 gives-low flags Read = let e : flags % 8 / 4 % 2 ≡ flags / 4 % 2 = omega arith in ap (λ (n : ℕ). n == 1) e
 
--- an address whose page is not listed lies in no segment
-pub not-listed : (ss : List Segment) (pages : List Page) (x : ℕ) → ArePages ss pages → is_listed (x / 4096) pages ≡ false → segment_at ss x ≡ None
-not-listed ss pages x are none = none-found ss x (segment_at ss x) never refl
+-- the pages of segments are those of all but one
+pub pages-listed : (ss : List Segment) (i : ℕ) (pages : List Page) → ArePages ss pages → AreListed ss i pages
+pages-listed ss i pages are = record {
+  ascending = are.ascending;
+  all = λ k n other within byte. are.all n ∙ list_any_at _ ss k no_segment within byte;
+  right = are.right;
+}
+
+-- an address whose page is not listed lies in no segment but that one
+pub not-listed : (ss : List Segment) (i : ℕ) (pages : List Page) (x : ℕ) → AreListed ss i pages → lies_in (get_or ss i no_segment) x ≡ false →
+    is_listed (x / 4096) pages ≡ false → segment_at ss x ≡ None
+not-listed ss i pages x are lacks none = none-found ss x (segment_at ss x) never refl
   where
     never : (k : ℕ) → k < length ss → lies_in (get_or ss k no_segment) x ≡ true → ⊥
-    never k within h =
-        let range = holds-range (get_or ss k no_segment) x h in
-        let byte : has_byte_on (x / 4096) (get_or ss k no_segment) ≡ true = on-page (get_or ss k no_segment) x range.0 range.1 in
-        let some : list_any (has_byte_on (x / 4096)) ss ≡ true = list_any_at _ ss k no_segment within byte in
-        let all = are.all (x / 4096) in
-        cc
+    never k within h = elim (cases_eq k i) [
+      | inl same ↦ (let e : lies_in (get_or ss i no_segment) x ≡ true = subst (λ (j : ℕ). lies_in (get_or ss j no_segment) x ≡ true) same h in cc)
+      | inr other ↦
+          let range = holds-range (get_or ss k no_segment) x h in
+          let byte : has_byte_on (x / 4096) (get_or ss k no_segment) ≡ true = on-page (get_or ss k no_segment) x range.0 range.1 in
+          let some : is_listed (x / 4096) pages ≡ true = are.all k (x / 4096) other within byte in
+          cc
+    ]
 
 -- the segment of an address, its index, and its rights
 pub record IsFound (ss : List Segment) (x i flags : ℕ) : Type 0 where
@@ -295,9 +306,9 @@ pub record IsFound (ss : List Segment) (x i flags : ℕ) : Type 0 where
   pub rights : (r : Right) → gives_right flags r ≡ right_in (segment_at ss x) r
 
 -- where its page has one right
-pub whole-found : (ss : List Segment) (pages : List Page) (k flags i x : ℕ) → AreDisjoint ss → ArePages ss pages → k < length pages →
+pub whole-found : (ss : List Segment) (j : ℕ) (pages : List Page) (k flags i x : ℕ) → AreDisjoint ss → AreListed ss j pages → k < length pages →
     (get_or pages k no_page).number ≡ x / 4096 → (get_or pages k no_page).rights ≡ Same flags i → IsFound ss x i flags
-whole-found ss pages k flags i x apart are within number says =
+whole-found ss j pages k flags i x apart are within number says =
     let whole = are.right k within flags i says in
     let s : Segment = get_or ss i no_segment in
     let at : slice_get ss i ≡ Some s = slice_get-get_or ss i no_segment whole.within in
@@ -309,9 +320,9 @@ whole-found ss pages k flags i x apart are within number says =
       rights = λ r. rw (here, whole.gives) (gives-low s.flags r);
     }
 
-pub page-found : (ss : List Segment) (pages listed : List Page) (page : Page) (k flags i x : ℕ) → AreDisjoint ss → ArePages ss pages → listed ≡ pages →
+pub page-found : (ss : List Segment) (j : ℕ) (pages listed : List Page) (page : Page) (k flags i x : ℕ) → AreDisjoint ss → AreListed ss j pages → listed ≡ pages →
     (k < length listed) × ((get_or listed k no_page).number ≡ x / 4096) → page ≡ get_or pages k page → page.rights ≡ Same flags i → IsFound ss x i flags
-page-found ss pages listed page k flags i x apart are same found is says =
+page-found ss j pages listed page k flags i x apart are same found is says =
     let here = subst (λ (l : List Page). (k < length l) × ((get_or l k no_page).number ≡ x / 4096)) same found in
     let rights = ap (λ (p : Page). p.rights) (get_or_default pages k no_page page here.0 ∙ sym is) in
-    whole-found ss pages k flags i x apart are here.0 here.1 (rights ∙ says)
+    whole-found ss j pages k flags i x apart are here.0 here.1 (rights ∙ says)

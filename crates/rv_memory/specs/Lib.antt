@@ -4,4 +4,5 @@ pub mod Held
 pub mod Stretches
 pub mod Quick
 pub mod Pages
+pub mod Unmade
 pub mod HeldPages

@@ -1,6 +1,6 @@
 -- The list of pages by which the bytes of segments are found.
 
-use Rattle.std.specs.Prelude.{◌≡◌, ℕ, ◌+◌, ◌*◌, ◌%◌, ◌<◌, ◌≤◌, ◌==◌, nat_le, Bool, if◌then◌else◌, List, [], ◌∷◌, ◌++◌, length, slice_index_or}
+use Rattle.std.specs.Prelude.{◌≡◌, ℕ, ◌+◌, ◌*◌, ◌%◌, ◌<◌, ◌≤◌, ◌==◌, nat_le, Bool, if◌then◌else◌, List, [], ◌∷◌, ◌++◌, length, slice_index_or, true}
 use Rattle.std.specs.List.{list_any}
 use Rattle.rv_image.specs.Segment.{Segment, do_meet}
 use Rattle.rv_memory.specs.Flat.{no_segment}
@@ -68,4 +68,12 @@ IsRight segments page =
 pub record ArePages (segments : List Segment) (pages : List Page) : Type 0 where
   pub ascending : AreAscending pages
   pub all : (number : ℕ) → is_listed number pages ≡ list_any (has_byte_on number) segments
+  pub right : (k : ℕ) → k < length pages → IsRight segments (slice_index_or pages k no_page)
+
+-- pages by which the bytes of all segments but that at index i are found
+pub record AreListed (segments : List Segment) (i : ℕ) (pages : List Page) : Type 0 where
+  pub ascending : AreAscending pages
+  pub all : (k number : ℕ) → (k ≡ i → ⊥) → k < length segments →
+      has_byte_on number (slice_index_or segments k no_segment) ≡ true →
+      is_listed number pages ≡ true
   pub right : (k : ℕ) → k < length pages → IsRight segments (slice_index_or pages k no_page)

@@ -6,7 +6,7 @@ use Rattle.rv_image.specs.Segment.{Segment}
 use Rattle.rv_memory.specs.Flat.{memory_of}
 use Rattle.rv_memory.specs.Rights.{IsWidth}
 use Rattle.rv_memory.specs.Stretches.{IsStretch}
-use Rattle.rv_memory.specs.Pages.{AreOrdered, ArePages}
+use Rattle.rv_memory.specs.Pages.{AreOrdered, AreListed}
 use Rattle.rv_memory.specs.declared.page.Page.{Page}
 use Rattle.rv_memory.specs.declared.stretch.Near.{Near}
 
@@ -27,12 +27,12 @@ abbrev pub IsEnd : List Segment → ℕ → ℕ → Type 0
 IsEnd segments start bytes =
     0 < bytes → (memory_of segments).has ((start + bytes) % 2 ^ 64) Execute ≡ false
 
--- the segments are in order and have these pages; what is near to code, stack and data, to be read
+-- the segments are in order, and all but the stack have these pages; what is near to code, stack and data, to be read
 -- and to be written, is right, and so is where code ends
 pub record AreKnown (segments : List Segment) (list : List Page)
     (code stack low written : Near) (code_bytes : ℕ) : Type 0 where
   pub ordered : AreOrdered segments
-  pub listed : ArePages segments list
+  pub listed : AreListed segments stack.segment list
   pub code_executes : IsQuick segments 0 code Execute
   pub code_ends : IsEnd segments code.start code_bytes
   pub stack_reads : IsQuick segments stack.segment stack Read

@@ -25,7 +25,6 @@ ghost use Rattle.std.specs.Prelude.{
   ◌++◌,
   IfSome,
   IfOk,
-  OnOk,
   replicate,
   MatchOption,
   MatchBool,
@@ -33,6 +32,7 @@ ghost use Rattle.std.specs.Prelude.{
   slice_index,
   slice_index_or,
   set,
+  vec_capacity,
 };
 ghost use Rattle.rv_isa_laws.specs.Memory.{
   may,
@@ -48,6 +48,8 @@ ghost use Rattle.rv_memory.specs.Rights.{right_of, IsWidth, IsToLoad, MayLoad};
 ghost use Rattle.rv_memory.specs.Flat.{memory_of, AreDisjoint, no_segment, with_part};
 ghost use Rattle.rv_memory.specs.Stretches.{AreAlike, IsStretch};
 ghost use Rattle.rv_memory.specs.Pages.{AreOrdered, IsLastBegun};
+ghost use Rattle.rv_memory.specs.Unmade.{HasTop, IsFree, IsTop, deeper, with_unmade};
+ghost use Rattle.rv_isa_laws.specs.Platform.{stack_end, stack_start};
 ghost use Rattle.rv_image.specs.Memory.{lies_in, gives_right, right_in, segment_at, mem_of};
 ghost use Rattle.std.specs.List.{All};
 ghost use Rattle.rv_image.specs.Image.{image_of};
@@ -75,13 +77,29 @@ pub struct Flat {
 /// How many zeros are written at once: vectors fill few bytes in fewer instructions than the processor's loop for many.
 const FILLED_AT_ONCE: usize = 1024;
 
-/// Fills a list up to a length with zeros.
-fn extend(list: &mut Vec<u8>, long: usize) -> Result<(), AllocError>
-    requires { length list.old.items ≤ long }
-    ensures { OnOk result
-        (list.new.items ≡ list.old.items ++ replicate (long - length list.old.items) 0) }
+/// Fills an empty list that has room for them with zeros.
+fn fill(list: &mut Vec<u8>, count: usize)
+    requires empty { list.old.items ≡ [] }
+    requires room { count ≤ vec_capacity list.old }
+    ensures zeros { list.new.items ≡ replicate count 0 }
+    ensures room { vec_capacity list.old ≤ vec_capacity list.new }
 {
-    list.resize(long, 0)
+    let mut done = 0;
+    while done < count {
+        let next = done + (count - done).min(FILLED_AT_ONCE);
+        list.resize(next, 0).unwrap();
+        done = next;
+    }
+}
+
+/// Puts so many zeros and then bytes into an empty list that has room for all.
+fn fill_below(list: &mut Vec<u8>, count: usize, bytes: &[u8])
+    requires empty { list.old.items ≡ [] }
+    requires room { count + length bytes.now ≤ vec_capacity list.old }
+    ensures { list.new.items ≡ replicate count 0 ++ bytes.now }
+{
+    fill(list, count);
+    list.extend_from_slice(bytes).unwrap();
 }
 
 /// So many zeros.
@@ -90,24 +108,24 @@ fn zeros(alloc: Global, count: usize) -> Result<Vec<u8>, AllocError>
     ensures zeros { IfOk result (λ v. (k : ℕ) → slice_index v.items k ≡ 0) }
 {
     let mut zeros = Vec::with_capacity(alloc, count)?;
-    let mut done = 0;
-    while done < count {
-        let next = done + (count - done).min(FILLED_AT_ONCE);
-        extend(&mut zeros, next)?;
-        done = next;
-    }
+    fill(&mut zeros, count);
     Ok(zeros)
 }
 
-/// The segments of an image, and the stack after them.
-pub(crate) fn with_stack(alloc: Global, image: Image) -> Result<Vec<Segment>, AllocError>
+/// The segments of an image, and the stack after them, from one of its addresses on.
+fn with_stack(alloc: Global, image: Image, from: u64) -> Result<Vec<Segment>, AllocError>
+    requires low { stack_start ≤ from }
+    requires high { from < stack_end }
     ensures apart { IfOk result (λ segments. AreDisjoint (map segment_of segments.items)) }
     ensures memory { IfOk result
-        (λ segments. memory_of (map segment_of segments.items) ≡ mem_of (image_of image)) }
+        (λ segments. with_unmade from (memory_of (map segment_of segments.items))
+        ≡ mem_of (image_of image)) }
+    ensures free { IfOk result (λ segments. IsFree (map segment_of segments.items) from) }
+    ensures top { IfOk result (λ segments. HasTop (map segment_of segments.items) from) }
 {
     let stack = Segment {
-        address: STACK_START,
-        bytes: zeros(alloc, STACK_BYTES)?,
+        address: from,
+        bytes: zeros(alloc, (STACK_START + STACK_BYTES as u64 - from) as usize)?,
         flags: 6,
     };
     let mut segments = image.segments;
@@ -122,6 +140,8 @@ fn drop_empty(segments: &mut Vec<Segment>)
     ensures filled { All (λ s. 0 < length s.bytes.items) segments.new.items }
     ensures memory { memory_of (map segment_of segments.new.items)
         ≡ memory_of (map segment_of segments.old.items) }
+    ensures found { (x : ℕ) → segment_at (map segment_of segments.new.items) x
+        ≡ segment_at (map segment_of segments.old.items) x }
 {
     segments.retain(|segment| !segment.bytes.is_empty());
 }
@@ -134,6 +154,8 @@ fn put_in_order(segments: &mut Vec<Segment>)
     ensures ordered { AreOrdered (map segment_of segments.new.items) }
     ensures memory { memory_of (map segment_of segments.new.items)
         ≡ memory_of (map segment_of segments.old.items) }
+    ensures found { (x : ℕ) → segment_at (map segment_of segments.new.items) x
+        ≡ segment_at (map segment_of segments.old.items) x }
 {
     segments.sort_unstable_by_key(|segment| segment.address);
 }
@@ -208,18 +230,24 @@ impl Flat {
         ensures { IfOk result (λ flat. held flat ≡ mem_of (image_of image)) }
     {
         Ok(Flat {
-            segments: with_stack(alloc, image)?,
+            segments: with_stack(alloc, image, STACK_START)?,
             code: Cell::new(0),
             data: Cell::new(0),
         })
     }
 
-    /// The same memory, with the segments that have bytes in the order of their addresses.
-    pub(crate) fn in_order(alloc: Global, image: Image) -> Result<Self, AllocError>
+    /// The same memory with the stack from one of its addresses on, and the segments that have bytes in the order of
+    /// their addresses.
+    pub(crate) fn in_order(alloc: Global, image: Image, from: u64) -> Result<Self, AllocError>
+        requires low { stack_start ≤ from }
+    requires high { from < stack_end }
         ensures ordered { IfOk result (λ flat. AreOrdered (pieces flat)) }
-        ensures memory { IfOk result (λ flat. held flat ≡ mem_of (image_of image)) }
+        ensures memory { IfOk result
+            (λ flat. with_unmade from (held flat) ≡ mem_of (image_of image)) }
+        ensures free { IfOk result (λ flat. IsFree (pieces flat) from) }
+        ensures top { IfOk result (λ flat. HasTop (pieces flat) from) }
     {
-        let mut segments = with_stack(alloc, image)?;
+        let mut segments = with_stack(alloc, image, from)?;
         drop_empty(&mut segments);
         put_in_order(&mut segments);
         Ok(Flat {
@@ -291,6 +319,43 @@ impl Flat {
             }
             None => None,
         }
+    }
+
+    /// The index of the segment that has the stack from an address on.
+    pub(crate) fn stack_index(&self, from: u64) -> usize
+        requires ordered { AreOrdered (pieces self.now) }
+        requires top { HasTop (pieces self.now) from }
+        ensures within { result < length (pieces self.now) }
+        ensures top { IsTop from (slice_index_or (pieces self.now) result no_segment) }
+    {
+        self.position_in_order(from).unwrap()
+    }
+
+    /// Puts zeros in front of the segment at the index, from an address on where no segment lies, in an empty list with
+    /// room for all of its bytes.
+    pub(crate) fn deepen(&mut self, i: usize, start: u64, mut room: Vec<u8>)
+        requires index { i < length self.old.segments.items }
+        requires low { start ≤ (slice_index_or (pieces self.old) i no_segment).address }
+        requires empty { room.items ≡ [] }
+        requires room { (slice_index_or (pieces self.old) i no_segment).address - start
+            + length (slice_index_or (pieces self.old) i no_segment).bytes
+            ≤ vec_capacity room }
+        requires free { (x : ℕ) → start ≤ x →
+            x < (slice_index_or (pieces self.old) i no_segment).address →
+            segment_at (pieces self.old) x ≡ None }
+        ensures { pieces self.new
+            ≡ set (pieces self.old) i
+            (deeper start (slice_index_or (pieces self.old) i no_segment)) }
+    {
+        let segment = &self.segments[i];
+        let flags = segment.flags;
+        let zeros = (segment.address - start) as usize;
+        fill_below(&mut room, zeros, &segment.bytes);
+        self.segments[i] = Segment {
+            address: start,
+            bytes: room,
+            flags,
+        };
     }
 
     /// How many bytes from an address on have the right, as far as its segment goes, whose index is given.

@@ -1,8 +1,12 @@
-//! A memory that keeps pages of 4096 bytes.
+//! A memory that keeps pages of 4096 bytes, and of the stack no more than is used.
 //!
 //! A list has every page of the image and of the stack by ascending numbers, each with its rights: one for the whole page
 //! where all of its bytes agree, else those of its segments. A look-up is a binary search. The bytes of neighbouring pages
 //! lie one after the other in their segment, where the image had them, so none is copied.
+//!
+//! At the start the stack's segment has only the last of its bytes. Below are zeros that no segment has: a load reads them
+//! as they are, and the first store there has the segment begin at the stack's start. The room for that is asked for at
+//! the start, as a store cannot want memory.
 //!
 //! In front of the search stand stretches: of code, of the stack and of data. One compare tells which, and one whether an
 //! access of its width lies in it, wherever pages end. All else is out of line, so that the hot loop takes these into
@@ -25,33 +29,45 @@ ghost use Rattle.std.specs.Prelude.{
   Some,
   None,
   slice_get,
-  slice_index_or,
+  slice_index,
+  vec_capacity,
 };
 ghost use Rattle.rv_isa_laws.specs.Memory.{
   may,
   with_bytes,
   with_number,
   number_at,
+  bytes_at,
   Read as ToRead,
   Write as ToWrite,
   Execute as ToExecute,
   Right as ARight,
 };
 ghost use Rattle.rv_image.specs.Image.{image_of};
-ghost use Rattle.rv_image.specs.Memory.{mem_of, segment_at, gives_right, right_in};
+ghost use Rattle.rv_image.specs.Memory.{mem_of, lies_in, segment_at, gives_right, right_in};
 ghost use Rattle.rv_memory.specs.Held.{pieces};
 ghost use Rattle.rv_memory.specs.Quick.{AreKnown, IsEnd};
 ghost use Rattle.rv_memory.specs.Rights.{right_of, IsWidth, IsToLoad};
+ghost use Rattle.rv_memory.specs.Stretches.{IsStretch};
+ghost use Rattle.rv_memory.specs.Unmade.{lies_unmade, IsUnmade, CanDeepen};
+ghost use Rattle.rv_isa_laws.specs.Platform.{stack_start};
 
-use crate::flat::{Flat, give};
+use crate::flat::{Flat, give, is_held};
 use crate::memory::{Memory, Right};
 use crate::page::{Page, PageRights, page_of, pages_of};
 use crate::pieces::{Pieces, have_right, load_number, number, store_number};
-use crate::stretch::{Near, near_of};
-use rv_image::{Image, STACK_START};
+use crate::stretch::{Near, Stretch, near_of};
+use rv_image::{Image, STACK_BYTES, STACK_START};
 use std::alloc::{AllocError, Global};
+use std::mem;
 
-/// Pages by ascending numbers: all of an image's segments and of the stack.
+/// How many bytes of the stack are made at the start.
+const MADE_AT_START: usize = 0x1_0000;
+
+/// From here on the stack is made at the start.
+const MADE_FROM: u64 = STACK_START + (STACK_BYTES - MADE_AT_START) as u64;
+
+/// Pages by ascending numbers: all of an image's segments.
 #[derive(Drop)]
 pub struct Paged {
     /// The bytes of the pages: segments in the order of their addresses.
@@ -68,7 +84,13 @@ pub struct Paged {
     data: Near,
     /// Where a store below looks: the same segment.
     written: Near,
+    /// From here on the stack is made.
+    pub(crate) base: u64,
+    /// Empty, with room for the bytes of the whole stack until it is made.
+    room: Vec<u8>,
     ghost known: { AreKnown (pieces flat) pages.items code stack «data» written code_bytes },
+    ghost unmade: { IsUnmade (pieces flat) stack.segment base },
+    ghost has_room: { CanDeepen base room.items (vec_capacity room) },
 }
 
 /// The segment of an address, and its rights as segment flags.
@@ -89,15 +111,16 @@ fn bytes_before_end(flat: &Flat, start: u64, bytes: u64) -> u64
 }
 
 impl Paged {
-    ghost use Rattle.rv_memory.specs.HeldPages.{held_pages, pages_in};
+    ghost use Rattle.rv_memory.specs.HeldPages.{held_pages, pages_in, stack_in};
 
     /// The memory of an image, with the stack.
     pub fn new(alloc: Global, image: Image) -> Result<Self, AllocError>
         ensures { IfOk result (λ paged. held_pages paged ≡ mem_of (image_of image)) }
     {
-        let flat = Flat::in_order(alloc, image)?;
+        let flat = Flat::in_order(alloc, image, MADE_FROM)?;
         let pages = pages_of(alloc, &flat.segments)?;
-        let top = flat.position_in_order(STACK_START).unwrap_or(0);
+        let room = Vec::with_capacity(alloc, STACK_BYTES)?;
+        let top = flat.stack_index(MADE_FROM);
         let below = top.wrapping_sub(1);
         let code = near_of(&flat, 0, (Right::Execute, Right::Execute));
         let code_bytes = bytes_before_end(&flat, code.start, code.room_1);
@@ -112,11 +135,112 @@ impl Paged {
             stack,
             data,
             written,
+            base: MADE_FROM,
+            room,
         })
     }
 
-    /// The segment of an address, and its rights: its page tells both, or that several segments are to be searched.
+    /// Whether an address lies where the stack is not made yet.
+    #[inline]
+    fn is_unmade(&self, address: u64) -> bool
+        ensures { result ≡ lies_unmade self.now.base address }
+    {
+        STACK_START <= address && address < self.base
+    }
+
+    /// How many bytes from an address on have the right, where the stack is not made yet.
+    fn run_unmade(&self, address: u64, right: Right) -> u64
+        requires { lies_unmade self.now.base address ≡ true }
+        ensures all { may (held_pages self.now) address result (right_of right) ≡ true }
+        ensures none { result ≡ 0 →
+            (held_pages self.now).has address (right_of right) ≡ false }
+    {
+        match right {
+            Right::Execute => 0,
+            Right::Read => self.base - address,
+            Right::Write => self.base - address,
+        }
+    }
+
+    /// Makes all of the stack: its segment begins where the stack does.
+    #[cold]
+    #[inline(never)]
+    fn deepen(&mut self)
+        requires { stack_start < self.old.base }
+        ensures made { self.new.base ≡ stack_start }
+        ensures memory { held_pages self.new ≡ held_pages self.old }
+    {
+        let top = self.stack.segment;
+        let alloc = *self.room.allocator();
+        let room = mem::replace(&mut self.room, Vec::new(alloc));
+        self.flat.deepen(top, STACK_START, room);
+        let below = top.wrapping_sub(1);
+        let code = near_of(&self.flat, 0, (Right::Execute, Right::Execute));
+        let code_bytes = bytes_before_end(&self.flat, code.start, code.room_1);
+        let stack = near_of(&self.flat, top, (Right::Read, Right::Write));
+        let data = near_of(&self.flat, below, (Right::Read, Right::Read));
+        let written = near_of(&self.flat, below, (Right::Write, Right::Write));
+        self.code = code;
+        self.code_bytes = code_bytes;
+        self.stack = stack;
+        self.data = data;
+        self.written = written;
+        self.base = STACK_START;
+    }
+
+    /// Makes all of the stack, if an address lies where it is not made yet.
+    fn make(&mut self, address: u64)
+        ensures made { lies_unmade self.new.base address ≡ false }
+        ensures memory { held_pages self.new ≡ held_pages self.old }
+    {
+        if !self.is_unmade(address) {
+            return;
+        }
+        self.deepen();
+    }
+
+    /// The segment of an address in the stack that is made, and its rights.
+    fn find_stack(&self, address: u64) -> Option<Found>
+        ensures within { IfSome result
+            (λ found. found.segment < length self.now.flat.segments.items) }
+        ensures found { MatchOption result
+            (lies_in (stack_in self.now) address ≡ false)
+            (λ found. segment_at (pages_in self.now) address
+            ≡ slice_get (pages_in self.now) found.segment) }
+        ensures rights { IfSome result (λ found. (right : ARight) →
+            gives_right found.flags right
+            ≡ right_in (segment_at (pages_in self.now) address) right) }
+    {
+        let segment = &self.flat.segments[self.stack.segment];
+        if !is_held(segment, address) {
+            return None;
+        }
+        Some(Found {
+            segment: self.stack.segment,
+            flags: (segment.flags % 8) as u8,
+        })
+    }
+
+    /// The segment of an address, and its rights.
     fn find(&self, address: u64) -> Option<Found>
+        ensures within { IfSome result
+            (λ found. found.segment < length self.now.flat.segments.items) }
+        ensures found { MatchOption result (segment_at (pages_in self.now) address ≡ None)
+            (λ found. segment_at (pages_in self.now) address
+            ≡ slice_get (pages_in self.now) found.segment) }
+        ensures rights { IfSome result (λ found. (right : ARight) →
+            gives_right found.flags right
+            ≡ right_in (segment_at (pages_in self.now) address) right) }
+    {
+        match self.find_stack(address) {
+            Some(found) => Some(found),
+            None => self.find_listed(address),
+        }
+    }
+
+    /// The same, where the stack has not the address: its page tells both, or that several segments are to be searched.
+    fn find_listed(&self, address: u64) -> Option<Found>
+        requires { lies_in (stack_in self.now) address ≡ false }
         ensures within { IfSome result
             (λ found. found.segment < length self.now.flat.segments.items) }
         ensures found { MatchOption result (segment_at (pages_in self.now) address ≡ None)
@@ -155,6 +279,36 @@ impl Paged {
         }
     }
 
+    /// The number of bytes from an address on, where the stretch of the segment at the index holds it.
+    #[inline(always)]
+    fn near(&self, i: usize, stretch: Stretch, address: u64, bytes: u64, right: Right) -> Option<u64>
+        requires width { IsWidth bytes }
+        requires known { IsStretch (pages_in self.now) i stretch.start stretch.room bytes
+            (right_of right) }
+        ensures right { IfSome result
+            (λ _. may (held_pages self.now) address bytes (right_of right) ≡ true) }
+        ensures number { IfSome result
+            (λ number. number ≡ number_at (held_pages self.now) address bytes) }
+        ensures bytes { IfSome result
+            (λ _. (k : ℕ) → k < bytes → (held_pages self.now).byte ((address + k) % 2 ^ 64) < 256) }
+    {
+        self.flat.near(i, stretch, address, bytes, right)
+    }
+
+    /// The bytes from an address on, where the segment of the latest search holds them and gives the right.
+    #[inline(always)]
+    fn part(&self, address: u64, bytes: u64, right: Right) -> Option<&[u8]>
+        ensures right { IfSome result
+            (λ _. may (held_pages self.now) address bytes (right_of right) ≡ true) }
+        ensures length { IfSome result (λ part. length part.now ≡ bytes) }
+        ensures bytes { IfSome result
+            (λ part. bytes_at (held_pages self.now) address bytes ≡ part.now) }
+        ensures small { IfSome result (λ part. (k : ℕ) → slice_index part.now k < 256) }
+    {
+        self.flat
+            .part(self.flat.latest(right), address, bytes, right)
+    }
+
     /// The number of bytes that may be executed.
     #[inline(always)]
     fn fetch(&self, address: u64, bytes: u64) -> Option<u64>
@@ -168,7 +322,7 @@ impl Paged {
             (λ _. (k : ℕ) → k < bytes → (held_pages self.now).byte ((address + k) % 2 ^ 64) < 256) }
     {
         let stretch = self.code.stretch(bytes);
-        if let Some(number) = self.flat.near(0, stretch, address, bytes, Right::Execute) {
+        if let Some(number) = self.near(0, stretch, address, bytes, Right::Execute) {
             return Some(number);
         }
         self.fetch_elsewhere(address, bytes)
@@ -208,13 +362,10 @@ impl Paged {
     {
         if address < STACK_START {
             let stretch = self.data.stretch(bytes);
-            return self
-                .flat
-                .near(stretch.segment, stretch, address, bytes, Right::Read);
+            return self.near(stretch.segment, stretch, address, bytes, Right::Read);
         }
         let stretch = self.stack.stretch(bytes);
-        self.flat
-            .near(stretch.segment, stretch, address, bytes, Right::Read)
+        self.near(stretch.segment, stretch, address, bytes, Right::Read)
     }
 
     /// Puts bytes where the stretch on their side of the stack's start holds the address; whether it does.
@@ -288,10 +439,7 @@ impl Paged {
         ensures bytes { IfSome result
             (λ _. (k : ℕ) → k < bytes → (held_pages self.now).byte ((address + k) % 2 ^ 64) < 256) }
     {
-        if let Some(part) = self
-            .flat
-            .part(self.flat.latest(right), address, bytes, right)
-        {
+        if let Some(part) = self.part(address, bytes, right) {
             return Some(number(part));
         }
         // the number is taken out, so that no caller has to ask again where it was found
@@ -340,6 +488,9 @@ impl Pieces for Paged {
     ghost mem = { λ paged. held_pages paged };
 
     fn run(&self, address: u64, _most: u64, right: Right) -> u64 {
+        if self.is_unmade(address) {
+            return self.run_unmade(address, right);
+        }
         match self.find(address) {
             Some(found) => {
                 if give(u32::from(found.flags), right) {
@@ -353,6 +504,9 @@ impl Pieces for Paged {
     }
 
     fn rest(&self, address: u64) -> &[u8] {
+        if self.is_unmade(address) {
+            return &[0];
+        }
         match self.find(address) {
             Some(found) => self.flat.rest_from(found.segment, address),
             None => &[],
@@ -360,6 +514,7 @@ impl Pieces for Paged {
     }
 
     fn put_within(&mut self, address: u64, bytes: &[u8]) -> bool {
+        self.make(address);
         match self.find(address) {
             Some(found) => self.flat.put_from(found.segment, address, bytes),
             None => false,

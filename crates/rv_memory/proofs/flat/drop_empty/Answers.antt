@@ -20,3 +20,9 @@ returns-clause-memory c =
     let kept = filter_same _ (λ (s : DeclaredSegment). has_bytes (segment_of s)) _ (λ x b f' k. search rules) _ _ c.retain.ensures.filtered in
     let are = filled-kept (map segment_of c.args.segments.now.items) c.requires in
     rw (kept, filter-segments c.args.segments.now.items) are.memory
+
+pub returns-clause-found : goal.returns-clause-found
+returns-clause-found c =
+    let kept = filter_same _ (λ (s : DeclaredSegment). has_bytes (segment_of s)) _ (λ x b f' k. search rules) _ _ c.retain.ensures.filtered in
+    let are = filled-kept (map segment_of c.args.segments.now.items) c.requires in
+    rw (kept, filter-segments c.args.segments.now.items) are.found

@@ -23,3 +23,8 @@ returns-clause-ordered c =
     let key = λ (s : DeclaredSegment). s.address in
     let rises = IsNonDecreasingBy-from_sort key _ (c.sort_unstable_by_key.ensures.sorted key (answers_always _ _ _ (λ f a r g h. search rules))) in
     ordered-is _ rises (All-permutation (λ (s : DeclaredSegment). 0 < length s.bytes.items) _ _ c.sort_unstable_by_key.ensures.permutation c.requires.filled)
+
+pub returns-clause-found : goal.returns-clause-found
+returns-clause-found c =
+    let moved = IsPermutation-map segment_of _ _ c.sort_unstable_by_key.ensures.permutation in
+    (permuted-kept _ _ moved c.requires.apart).found

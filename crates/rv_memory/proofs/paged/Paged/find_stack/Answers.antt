@@ -1,0 +1,28 @@
+use Rattle.std.proofs.Common.{◌≡◌, ◌<◌, ◌∙◌, Option, Some, true, map, length, ap, sym, arith}
+use Rattle.std.proofs.lemmas.List.{length-map}
+use Rattle.rv_image.specs.Segment.{Segment, segment_of}
+use Rattle.rv_image.specs.Memory.{lies_in, right_in}
+use Rattle.rv_memory.proofs.FlatLemmas.{element, held-segment}
+use Rattle.rv_memory.proofs.PageLemmas.{gives-low}
+use Rattle.rv_memory.proofs.paged.Paged.find_stack.Goals as goal
+
+pub returns-clause-found : goal.returns-clause-found
+returns-clause-found c =
+    let xs = c.args.self.now.flat.segments.items in
+    let i = c.args.self.now.stack.segment in
+    let s = c.index-segment.result.now in
+    let within : i < length xs = omega (arith, c.args.self.now.unmade.within, length-map xs segment_of) in
+    let at = element xs i s within c.index-segment.ensures in
+    let held : lies_in (segment_of s) c.args.address ≡ true = cc in
+    held-segment (map segment_of xs) i c.args.address (segment_of s) c.args.self.now.flat.apart at held ∙ sym at
+
+pub returns-clause-rights : goal.returns-clause-rights
+returns-clause-rights c = λ r.
+    let xs = c.args.self.now.flat.segments.items in
+    let i = c.args.self.now.stack.segment in
+    let s = c.index-segment.result.now in
+    let within : i < length xs = omega (arith, c.args.self.now.unmade.within, length-map xs segment_of) in
+    let at = element xs i s within c.index-segment.ensures in
+    let held : lies_in (segment_of s) c.args.address ≡ true = cc in
+    let here = held-segment (map segment_of xs) i c.args.address (segment_of s) c.args.self.now.flat.apart at held in
+    gives-low s.flags r ∙ sym (ap (λ (o : Option Segment). right_in o r) here)
