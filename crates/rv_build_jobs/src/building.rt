@@ -6,9 +6,10 @@ use crate::refusing::{refused_objects, refused_sources};
 use rv_chain::{
     Built, Fault, LinkOptions, assemble_object, build, build_exe, link_objects, link_objects_exe,
 };
+use rv_job::default_options;
 use rv_system::{
-    GuestInput, JobError, Purpose, System, borrowed, default_options, file_bytes, files_bytes,
-    given_bytes, image_in, print, report_end, run_line, write,
+    GuestInput, JobError, Purpose, System, borrowed, file_bytes, files_bytes, given_bytes,
+    image_in, print, report_end, run_line, write,
 };
 use std::alloc::{AllocError, Global};
 

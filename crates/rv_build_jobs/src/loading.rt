@@ -4,8 +4,8 @@
 
 use crate::building::built;
 use rv_image::Image;
-use rv_job::Asked;
-use rv_system::{JobError, System, default_options, file_bytes, given_bytes, image_in, map_in};
+use rv_job::{Asked, default_options};
+use rv_system::{JobError, System, file_bytes, given_bytes, image_in, map_in};
 use rv_watched_jobs::Program;
 use std::alloc::Global;
 

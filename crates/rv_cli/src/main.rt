@@ -4,8 +4,7 @@
 #![tactic(auto)]
 
 use rv_host::Host;
-use rv_job_words::CliError;
-use rv_program::{exit_status, report};
+use rv_program::{CliError, exit_status, report};
 pub use rv_system::end_line;
 use std::alloc::Global;
 use std::env;

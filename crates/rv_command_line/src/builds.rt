@@ -1,84 +1,103 @@
 //! The words that build, assemble and link.
 
-use crate::table::{Entry, Form, Need, Word};
+use crate::assembler_options::{is_code_option, is_machine_option};
+use crate::numbers::{number, text_start};
+use crate::operands::{Flag, Operands, Refusal, Text, Texts};
+use crate::words::Help;
+use rv_job::{Job, TEXT_START};
+use rv_link::LinkOptions;
+use std::alloc::{AllocError, Global};
 
-const EXECUTABLE: Entry = Entry {
-    id: "output",
-    form: Form::Short {
-        letter: 'o',
-        value: "EXE",
-    },
-    need: Need::Required,
-    help: "The executable to write",
-};
-
-const WRITTEN_MAP: Entry = Entry {
-    id: "map",
-    form: Form::Long {
-        long: "map",
-        value: "F",
-    },
-    need: Need::Optional,
-    help: "Writes the map as well",
-};
-
-pub(crate) const TEXT_START: Entry = Entry {
-    id: "text-start",
-    form: Form::Long {
-        long: "text-start",
-        value: "N",
-    },
-    need: Need::Optional,
-    help: "The address of the text, decimal or 0x and hexadecimal [default: 0x10000]",
-};
-
-pub(crate) const NO_RELAX: Entry = Entry {
-    id: "no-relax",
-    form: Form::Flag { long: "no-relax" },
-    need: Need::Optional,
-    help: "Leaves every call its eight bytes",
-};
-
-pub(crate) const COLLECT: Entry = Entry {
-    id: "gc-sections",
-    form: Form::Flag {
-        long: "gc-sections",
-    },
-    need: Need::Optional,
-    help: "Leaves out sections to which nothing leads from the entry",
-};
-
-pub(crate) const EXPLAIN: Entry = Entry {
-    id: "explain",
-    form: Form::Flag { long: "explain" },
-    need: Need::Optional,
-    help: "Shows below a fault where it stands and why, as on a terminal",
-};
-
-pub(crate) const SOURCES: Entry = Entry {
-    id: "files",
-    form: Form::Several { value: "SRC" },
-    need: Need::Required,
-    help: "The sources, in the order of their sections",
-};
-
-const BUILD: Word = Word {
+pub(crate) const BUILD: Help = Help {
     name: "build",
     about: "Builds an executable from sources",
     after_help: "Example:
   rv build -o prog --map prog.map prog.s",
-    entries: &[
-        EXECUTABLE,
-        WRITTEN_MAP,
-        TEXT_START,
-        NO_RELAX,
-        COLLECT,
-        EXPLAIN,
-        SOURCES,
-    ],
 };
 
-const ASSEMBLE: Word = Word {
+pub(crate) fn build<'a>(operands: &mut Operands<'_, 'a>) -> Result<Job<'a>, Refusal> {
+    Ok(Job::Build {
+        exe: operands.required(executable())?,
+        map: operands.optional(written_map())?,
+        options: link_options(operands)?,
+        explains: operands.flag(explain())?,
+        sources: operands.all(sources())?,
+    })
+}
+
+pub(crate) const LINK: Help = Help {
+    name: "ld",
+    about: "Links objects to an executable",
+    after_help: "Example:
+  rv ld -o prog --map prog.map prog.o other.o",
+};
+
+pub(crate) fn link<'a>(operands: &mut Operands<'_, 'a>) -> Result<Job<'a>, Refusal> {
+    let objects = Texts::alone("OBJ", "The objects, in the order of their sections");
+    Ok(Job::Link {
+        exe: operands.required(executable())?,
+        map: operands.optional(written_map())?,
+        options: link_options(operands)?,
+        explains: operands.flag(explain())?,
+        objects: operands.all(objects)?,
+    })
+}
+
+pub(crate) const MAP: Help = Help {
+    name: "map",
+    about: "Prints the map of what the sources build",
+    after_help: "Example:
+  rv map --text-start 0x20000 prog.s",
+};
+
+pub(crate) fn map<'a>(operands: &mut Operands<'_, 'a>) -> Result<Job<'a>, Refusal> {
+    Ok(Job::Map {
+        options: link_options(operands)?,
+        explains: operands.flag(explain())?,
+        sources: operands.all(sources())?,
+    })
+}
+
+fn executable() -> Text {
+    Text::output("EXE", "The executable to write")
+}
+
+fn written_map() -> Text {
+    Text::long("map", "F", "Writes the map as well")
+}
+
+/// Whether a fault is explained.
+pub(crate) fn explain() -> Flag {
+    let help = "Shows below a fault where it stands and why, as on a terminal";
+    Flag::long("explain", help)
+}
+
+/// The sources of a word that takes several.
+pub(crate) fn sources() -> Texts {
+    Texts::alone("SRC", "The sources, in the order of their sections")
+}
+
+/// What one can choose of a link.
+pub(crate) fn link_options(operands: &mut Operands<'_, '_>) -> Result<LinkOptions, Refusal> {
+    let start = "The address of the text, decimal or 0x and hexadecimal [default: 0x10000]";
+    let start = operands.optional(Text::long("text-start", "N", start))?;
+    let whole = Flag::long("no-relax", "Leaves every call its eight bytes");
+    let relax = !operands.flag(whole)?;
+    let collects = "Leaves out sections to which nothing leads from the entry";
+    let gc = operands.flag(Flag::long("gc-sections", collects))?;
+    let wanted = "a text start is decimal, or 0x and hexadecimal, below 2^64";
+    let text_start = match start {
+        None => TEXT_START,
+        Some(text) => number(text_start(text), wanted)?,
+    };
+    Ok(LinkOptions {
+        text_start,
+        relax,
+        gc,
+    })
+}
+
+pub(crate) const ASSEMBLE: Help = Help {
     name: "as",
     about: "Assembles a source to an object",
     after_help: "Examples:
@@ -87,114 +106,86 @@ const ASSEMBLE: Word = Word {
 
 What GCC says of the code that it made is taken where it agrees with RV64IMAC and lp64.
 -mno-relax leaves every call its eight bytes.",
-    entries: &[
-        Entry {
-            id: "output",
-            form: Form::Short {
-                letter: 'o',
-                value: "OBJ",
-            },
-            need: Need::Required,
-            help: "The object to write",
-        },
-        EXPLAIN,
-        Entry {
-            id: "machine",
-            form: Form::Repeated {
-                letter: 'm',
-                value: "OPTION",
-            },
-            need: Need::Optional,
-            help: "As GCC says it: arch=rv64imac, abi=lp64, isa-spec=20191213, no-relax",
-        },
-        Entry {
-            id: "code",
-            form: Form::Repeated {
-                letter: 'f',
-                value: "OPTION",
-            },
-            need: Need::Optional,
-            help: "As GCC says it: no-pic",
-        },
-        Entry {
-            id: "include",
-            form: Form::Repeated {
-                letter: 'I',
-                value: "DIR",
-            },
-            need: Need::Optional,
-            help: "As GCC says it; no source includes a file",
-        },
-        Entry {
-            id: "traditional",
-            form: Form::Flag {
-                long: "traditional-format",
-            },
-            need: Need::Optional,
-            help: "As GCC says it; explains a fault, as --explain does",
-        },
-        Entry {
-            id: "warnings",
-            form: Form::Letter { letter: 'W' },
-            need: Need::Optional,
-            help: "As GCC says it; has no effect",
-        },
-        Entry {
-            id: "verbose",
-            form: Form::Letter { letter: 'v' },
-            need: Need::Optional,
-            help: "As GCC says it; has no effect",
-        },
-        Entry {
-            id: "source",
-            form: Form::Single { value: "SRC" },
-            need: Need::Required,
-            help: "The source",
-        },
-    ],
 };
 
-const LINK: Word = Word {
-    name: "ld",
-    about: "Links objects to an executable",
-    after_help: "Example:
-  rv ld -o prog --map prog.map prog.o other.o",
-    entries: &[
-        EXECUTABLE,
-        WRITTEN_MAP,
-        TEXT_START,
-        NO_RELAX,
-        COLLECT,
-        EXPLAIN,
-        Entry {
-            id: "files",
-            form: Form::Several { value: "OBJ" },
-            need: Need::Required,
-            help: "The objects, in the order of their sections",
-        },
-    ],
-};
-
-const MAP: Word = Word {
-    name: "map",
-    about: "Prints the map of what the sources build",
-    after_help: "Example:
-  rv map --text-start 0x20000 prog.s",
-    entries: &[TEXT_START, NO_RELAX, COLLECT, EXPLAIN, SOURCES],
-};
-
-pub(crate) fn build() -> Word {
-    BUILD
+pub(crate) fn assemble<'a>(operands: &mut Operands<'_, 'a>) -> Result<Job<'a>, Refusal> {
+    let object = operands.required(Text::output("OBJ", "The object to write"))?;
+    let asked = operands.flag(explain())?;
+    let relax = machine(operands)?;
+    code(operands)?;
+    let include = "As GCC says it; no source includes a file";
+    operands.all(Texts::letter("include", 'I', "DIR", include))?;
+    // GCC deletes the source behind its assembler, so the statement has to be shown while it is there
+    let traditional = "As GCC says it; explains a fault, as --explain does";
+    let by_gcc = operands.flag(Flag::long("traditional-format", traditional))?;
+    let idle = "As GCC says it; has no effect";
+    operands.flag(Flag::letter("warnings", 'W', idle))?;
+    operands.flag(Flag::letter("verbose", 'v', idle))?;
+    Ok(Job::Assemble {
+        object,
+        source: operands.required(Text::alone("SRC", "The source"))?,
+        relax,
+        explains: asked || by_gcc,
+    })
 }
 
-pub(crate) fn assemble() -> Word {
-    ASSEMBLE
+/// Takes the options `-m`; whether calls may be shortened, by the last of them that says so.
+fn machine(operands: &mut Operands<'_, '_>) -> Result<bool, Refusal> {
+    let help = "As GCC says it: arch=rv64imac, abi=lp64, isa-spec=20191213, no-relax";
+    let mut relax = true;
+    let given = operands.all(Texts::letter("machine", 'm', "OPTION", help))?;
+    for option in &given {
+        if !is_machine_option(option) {
+            return Err(foreign(operands.alloc, "-m", option)?);
+        }
+        match *option {
+            "relax" => relax = true,
+            "no-relax" => relax = false,
+            _ => {}
+        }
+    }
+    Ok(relax)
 }
 
-pub(crate) fn link() -> Word {
-    LINK
+/// Takes the options `-f`.
+fn code(operands: &mut Operands<'_, '_>) -> Result<(), Refusal> {
+    let help = "As GCC says it: no-pic";
+    let given = operands.all(Texts::letter("code", 'f', "OPTION", help))?;
+    for option in &given {
+        if !is_code_option(option) {
+            return Err(foreign(operands.alloc, "-f", option)?);
+        }
+    }
+    Ok(())
 }
 
-pub(crate) fn map() -> Word {
-    MAP
+/// Refuses an option that does not agree with what is assembled.
+fn foreign(alloc: Global, letter: &str, option: &str) -> Result<Refusal, AllocError> {
+    Ok(Refusal::Wrong(format!(in alloc;
+        "{letter}{option} is not for RV64IMAC and lp64 at fixed addresses"
+    )?))
+}
+
+/// Refuses words for `as` that ask for debug information: all that `clap` can say of one is that it is a file's name behind
+/// `--`, which misleads.
+pub(crate) fn refuse_debug_information(alloc: Global, words: &[&str]) -> Result<(), Refusal> {
+    if words.get(1).copied() != Some("as") {
+        return Ok(());
+    }
+    for word in words {
+        if *word == "--" {
+            break;
+        }
+        if asks_for_debug_information(word) {
+            return Err(Refusal::Wrong(format!(in alloc;
+                "'{word}' asks for debug information, which is not written: leave out -g"
+            )?));
+        }
+    }
+    Ok(())
+}
+
+/// Whether a word asks for debug information, as GCC says it where it is given `-g`.
+fn asks_for_debug_information(word: &str) -> bool {
+    word == "-g" || word.starts_with("--gdwarf") || word.starts_with("-gdwarf")
 }

@@ -1,6 +1,7 @@
-//! The table as commands of `clap`, which takes the words apart and writes the help.
+//! The words as commands of `clap`, which takes them apart and writes the help.
 
-use crate::table::{Entry, Form, HELP, Need, WORDS, Word, word_at, word_of};
+use crate::operands::{Entry, Form, Need};
+use crate::words::{Help, WORDS, Word};
 use clap::{Arg, ArgAction, Command, Error};
 use std::alloc::{AllocError, Global};
 
@@ -8,15 +9,42 @@ use std::alloc::{AllocError, Global};
 /// was proved and of which commit it is.
 const VERSION: &str = "0.2.0 (not marked, commit not recorded)";
 
+/// What stands below the options in the help of the program.
+const HELP: &str = "Examples:
+  rv run prog.s                             builds a source and runs it
+  rv run --report prog.s                    says why a run ended
+  rv trace prog.s                           shows each instruction of a run
+  rv stats --lines prog.s                   counts what a run executes
+  rv build -o prog --map prog.map prog.s    writes the executable and its map
+  rv as -o prog.o prog.s                    writes the object of a source
+  rv ld -o prog prog.o other.o              links objects
+  rv map prog.s                             shows where each statement stands
+  rv objdump --map prog.map prog            shows the instructions of each statement
+  rv objdump --raw prog                     shows the text as a source that builds it again
+  rv dis prog.o                             shows the instructions of any file, with names
+  rv list prog.s                            shows each line with its address and bytes
+  rv dump prog                              shows the bytes of a file
+  rv size prog.o other.o                    shows the sizes of files
+  rv nm prog.o                              shows the names of a file
+  rv elf prog                               shows the headers and tables of a file
+  rv image --ihex -o prog.hex prog          writes an image for flash memory
+  rv check prog.s                           says what is wrong with a source, and where
+  rv explain E14                            says what a code means
+  rv completions bash                       writes what a shell completes words by
+
+Without words rv does the same as 'rv run -'.
+Exit status: 0 done; 1 refused, the fault stands on standard error; 2 wrong words.
+'rv run' exits with the guest's status, or with 125 where the guest did not exit.";
+
 /// The command of the program. Where `first` names a word, it has that one alone, which is all that the rest of the words
 /// speak to.
-pub fn command<'a>(alloc: Global, first: Option<&str>) -> Result<Command<'a>, Error> {
+pub(crate) fn command<'a>(alloc: Global, first: Option<&str>) -> Result<Command<'a>, Error> {
     let plain = Command::new(alloc, "rv")
         .version(VERSION)
         .about("Assembles, links and runs bare RISC-V programs (RV64IMAC).")
         .after_help(HELP);
-    match first.and_then(word_of) {
-        Some(word) => Ok(plain.subcommand(word_command(alloc, &word)?)?),
+    match first.and_then(Word::of) {
+        Some(word) => Ok(plain.subcommand(word_command(alloc, word)?)?),
         None => with_all(alloc, plain),
     }
 }
@@ -24,19 +52,23 @@ pub fn command<'a>(alloc: Global, first: Option<&str>) -> Result<Command<'a>, Er
 /// The command with all words.
 fn with_all<'a>(alloc: Global, plain: Command<'a>) -> Result<Command<'a>, Error> {
     let mut all = plain;
-    for place in 0..WORDS {
-        if let Some(word) = word_at(place) {
-            all = all.subcommand(word_command(alloc, &word)?)?;
-        }
+    for word in &WORDS {
+        all = all.subcommand(word_command(alloc, *word)?)?;
     }
     Ok(all)
 }
 
-fn word_command<'a>(alloc: Global, word: &Word) -> Result<Command<'a>, Error> {
-    let mut command = Command::new(alloc, word.name)
-        .about(word.about)
-        .after_help(word.after_help);
-    for entry in word.entries {
+fn word_command<'a>(alloc: Global, word: Word) -> Result<Command<'a>, Error> {
+    let entries = word.entries(alloc)?;
+    described(alloc, &word.help(), entries.as_slice())
+}
+
+/// The command of a word by what it says of itself and by its operands.
+fn described<'a>(alloc: Global, help: &Help, entries: &[Entry]) -> Result<Command<'a>, Error> {
+    let mut command = Command::new(alloc, help.name)
+        .about(help.about)
+        .after_help(help.after_help);
+    for entry in entries {
         command = command.arg(argument(alloc, entry)?)?;
     }
     Ok(command)
@@ -50,13 +82,13 @@ fn argument<'a>(alloc: Global, entry: &Entry) -> Result<Arg<'a>, AllocError> {
 /// The argument as it is written.
 fn written<'a>(arg: Arg<'a>, form: Form) -> Arg<'a> {
     match form {
-        Form::Flag { long } => flag(arg.long(long)),
-        Form::Letter { letter } => flag(arg.short(letter)),
-        Form::Long { long, value } => valued(arg.long(long), value),
-        Form::Short { letter, value } => valued(arg.short(letter), value),
-        Form::Repeated { letter, value } => repeated(arg.short(letter), value),
-        Form::Single { value } => valued(arg, value),
-        Form::Several { value } => several(arg, value),
+        Form::Flag(long) => flag(arg.long(long)),
+        Form::Letter(letter) => flag(arg.short(letter)),
+        Form::Long(long, value) => valued(arg.long(long), value),
+        Form::Short(letter, value) => valued(arg.short(letter), value),
+        Form::Repeated(letter, value) => repeated(arg.short(letter), value),
+        Form::Single(value) => valued(arg, value),
+        Form::Several(value) => several(arg, value),
     }
 }
 

@@ -1,24 +1,30 @@
-//! The words of the command line, as one table.
+//! What the words of a command line ask for, as a job, or why they ask for nothing.
 //!
-//! It takes nothing but the first word that was given, and gives the command by which `clap` takes words apart and writes the
-//! help ([`command`]), and what shells complete words by ([`completions`]). What the words mean is not known here.
+//! It takes the words and gives a [`Job`](rv_job::Job), or the usage, or want of memory, as an error of `clap`: [`parse_job`]. One
+//! table has the words, and a word is one function of its operands; the help and what shells complete words by
+//! ([`completions`]) are made of the same functions.
 //!
-//! No clause says what the help or the completions are: they are tested.
+//! What is read, printed and completed is tested. Which numbers its words write is said by the clauses of `decimal` and
+//! `text_start` (`specs/Numbers`); which options of an assembler it takes, by `specs/AssemblerOptions`. It must not know files,
+//! nor how a job is done.
 //!
 //! ```text
-//! let mut command = command(alloc, Some("build"))?;
-//! let matches = command.try_get_matches_from_mut(&["rv", "build", "-o", "a", "a.s"])?;
+//! let job = parse_job(alloc, &["rv", "dump", "prog"])?;   // Job::Dump { file: "prog" }
 //! ```
 #![tactic(auto)]
 
+mod assembler_options;
 mod builds;
 mod commands;
 mod files;
+mod numbers;
+mod operands;
+mod parsing;
 mod runs;
 mod shells;
 mod sources;
-mod table;
+mod words;
 
-pub use commands::command;
-pub use shells::{Shell, completions};
-pub use table::{Entry, Form, HELP, Need, WORDS, Word, word_at, word_of};
+pub use numbers::{decimal, text_start};
+pub use parsing::parse_job;
+pub use shells::completions;

@@ -1,29 +1,23 @@
 //! What shells complete the words by: a script for each shell, made from the table.
 
-use crate::table::{Entry, Form, WORDS, Word, word_at};
+use crate::operands::{Entry, Form};
+use crate::words::{Help, WORDS};
+use rv_job::Shell;
 use std::alloc::{AllocError, Global};
-
-/// A shell that completes words.
-#[derive(Clone, Copy, Debug, PartialEq, Eq, Drop)]
-pub enum Shell {
-    Bash,
-    Zsh,
-    Fish,
-}
 
 /// The script by which a shell completes the words of the program.
 pub fn completions(alloc: Global, shell: Shell) -> Result<String, AllocError> {
     let mut text = String::new(alloc);
     match shell {
-        Shell::Bash => put_bash(&mut text)?,
-        Shell::Zsh => put_zsh(&mut text)?,
-        Shell::Fish => put_fish(&mut text)?,
+        Shell::Bash => put_bash(alloc, &mut text)?,
+        Shell::Zsh => put_zsh(alloc, &mut text)?,
+        Shell::Fish => put_fish(alloc, &mut text)?,
     }
     Ok(text)
 }
 
 /// Adds the function of bash: the word first, then options, and else files.
-fn put_bash(text: &mut String) -> Result<(), AllocError> {
+fn put_bash(alloc: Global, text: &mut String) -> Result<(), AllocError> {
     text.push_str(
         "_rv() {
     local word=${COMP_WORDS[COMP_CWORD]} options=
@@ -38,7 +32,7 @@ fn put_bash(text: &mut String) -> Result<(), AllocError> {
     case ${COMP_WORDS[1]} in
 ",
     )?;
-    put_words(text, Shell::Bash)?;
+    put_words(alloc, text, Shell::Bash)?;
     text.push_str(
         "    esac
     case $word in
@@ -52,7 +46,7 @@ complete -o filenames -F _rv rv
 }
 
 /// Adds the function of zsh.
-fn put_zsh(text: &mut String) -> Result<(), AllocError> {
+fn put_zsh(alloc: Global, text: &mut String) -> Result<(), AllocError> {
     text.push_str(
         "#compdef rv
 _rv() {
@@ -72,7 +66,7 @@ _rv() {
     case $name in
 ",
     )?;
-    put_words(text, Shell::Zsh)?;
+    put_words(alloc, text, Shell::Zsh)?;
     text.push_str(
         "    esac
 }
@@ -82,61 +76,67 @@ _rv \"$@\"
 }
 
 /// Adds the lines of fish.
-fn put_fish(text: &mut String) -> Result<(), AllocError> {
-    put_words(text, Shell::Fish)
+fn put_fish(alloc: Global, text: &mut String) -> Result<(), AllocError> {
+    put_words(alloc, text, Shell::Fish)
 }
 
 /// Adds the names of all words, a blank behind each.
 fn put_names(text: &mut String) -> Result<(), AllocError> {
-    for place in 0..WORDS {
-        if let Some(word) = word_at(place) {
-            text.push_str(word.name)?;
-            text.push(' ')?;
-        }
+    for word in &WORDS {
+        text.push_str(word.help().name)?;
+        text.push(' ')?;
     }
     Ok(())
 }
 
 /// Adds what a shell has to know of each word.
-fn put_words(text: &mut String, shell: Shell) -> Result<(), AllocError> {
-    for place in 0..WORDS {
-        if let Some(word) = word_at(place) {
-            put_word(text, shell, &word)?;
-        }
+fn put_words(alloc: Global, text: &mut String, shell: Shell) -> Result<(), AllocError> {
+    for word in &WORDS {
+        put_word(text, shell, &word.help(), word.entries(alloc)?.as_slice())?;
     }
     Ok(())
 }
 
 /// Adds what a shell has to know of a word.
-fn put_word(text: &mut String, shell: Shell, word: &Word) -> Result<(), AllocError> {
+fn put_word(
+    text: &mut String,
+    shell: Shell,
+    help: &Help,
+    entries: &[Entry],
+) -> Result<(), AllocError> {
     match shell {
         Shell::Bash => {
-            put_all(text, &["        ", word.name, ") options='"])?;
-            put_entries(text, shell, word)?;
+            put_all(text, &["        ", help.name, ") options='"])?;
+            put_entries(text, shell, help.name, entries)?;
             text.push_str("' ;;\n")
         }
         Shell::Zsh => {
-            put_all(text, &["        ", word.name, ") _arguments"])?;
-            put_entries(text, shell, word)?;
+            put_all(text, &["        ", help.name, ") _arguments"])?;
+            put_entries(text, shell, help.name, entries)?;
             text.push_str(" ;;\n")
         }
         Shell::Fish => {
             let start = "complete -c rv -n __fish_use_subcommand -f -a ";
-            put_all(text, &[start, word.name, " -d '"])?;
-            put_quoted(text, shell, word.about)?;
+            put_all(text, &[start, help.name, " -d '"])?;
+            put_quoted(text, shell, help.about)?;
             text.push_str("'\n")?;
-            put_entries(text, shell, word)
+            put_entries(text, shell, help.name, entries)
         }
     }
 }
 
 /// Adds the options and files of a word.
-fn put_entries(text: &mut String, shell: Shell, word: &Word) -> Result<(), AllocError> {
-    for entry in word.entries {
+fn put_entries(
+    text: &mut String,
+    shell: Shell,
+    name: &str,
+    entries: &[Entry],
+) -> Result<(), AllocError> {
+    for entry in entries {
         match shell {
             Shell::Bash => put_bash_entry(text, entry)?,
             Shell::Zsh => put_zsh_entry(text, entry)?,
-            Shell::Fish => put_fish_entry(text, word.name, entry)?,
+            Shell::Fish => put_fish_entry(text, name, entry)?,
         }
     }
     Ok(())
@@ -144,7 +144,7 @@ fn put_entries(text: &mut String, shell: Shell, word: &Word) -> Result<(), Alloc
 
 /// Adds an option, a blank behind it; a file has no name.
 fn put_bash_entry(text: &mut String, entry: &Entry) -> Result<(), AllocError> {
-    if entry.form.is_file() {
+    if entry.is_file() {
         return Ok(());
     }
     put_option(text, entry.form)?;
@@ -155,25 +155,26 @@ fn put_bash_entry(text: &mut String, entry: &Entry) -> Result<(), AllocError> {
 fn put_zsh_entry(text: &mut String, entry: &Entry) -> Result<(), AllocError> {
     text.push_str(" '")?;
     match entry.form {
-        Form::Single { value } => return put_all(text, &[":", value, ":_files'"]),
-        Form::Several { value } => return put_all(text, &["*:", value, ":_files'"]),
+        Form::Single(value) => return put_all(text, &[":", value, ":_files'"]),
+        Form::Several(value) => return put_all(text, &["*:", value, ":_files'"]),
         _ => put_option(text, entry.form)?,
     }
     text.push('[')?;
     put_quoted(text, Shell::Zsh, entry.help)?;
     text.push(']')?;
     match entry.form {
-        Form::Flag { .. } | Form::Letter { .. } => text.push('\''),
-        Form::Long { value, .. } => put_all(text, &[":", value, ":_files'"]),
-        Form::Short { value, .. } => put_all(text, &[":", value, ":_files'"]),
-        Form::Repeated { value, .. } => put_all(text, &[":", value, ":_files'"]),
-        Form::Single { .. } | Form::Several { .. } => Ok(()),
+        Form::Flag(_) | Form::Letter(_) => text.push('\''),
+        Form::Long(_, value) => put_all(text, &[":", value, ":_files'"]),
+        Form::Short(_, value) | Form::Repeated(_, value) => {
+            put_all(text, &[":", value, ":_files'"])
+        }
+        Form::Single(_) | Form::Several(_) => Ok(()),
     }
 }
 
 /// Adds the line of an option; a file has none.
 fn put_fish_entry(text: &mut String, name: &str, entry: &Entry) -> Result<(), AllocError> {
-    if entry.form.is_file() {
+    if entry.is_file() {
         return Ok(());
     }
     put_all(
@@ -185,17 +186,17 @@ fn put_fish_entry(text: &mut String, name: &str, entry: &Entry) -> Result<(), Al
         ],
     )?;
     match entry.form {
-        Form::Flag { long } => put_all(text, &["-l ", long])?,
-        Form::Letter { letter } => {
+        Form::Flag(long) => put_all(text, &["-l ", long])?,
+        Form::Letter(letter) => {
             text.push_str("-s ")?;
             text.push(letter)?;
         }
-        Form::Long { long, .. } => put_all(text, &["-r -l ", long])?,
-        Form::Short { letter, .. } | Form::Repeated { letter, .. } => {
+        Form::Long(long, _) => put_all(text, &["-r -l ", long])?,
+        Form::Short(letter, _) | Form::Repeated(letter, _) => {
             text.push_str("-r -s ")?;
             text.push(letter)?;
         }
-        Form::Single { .. } | Form::Several { .. } => {}
+        Form::Single(_) | Form::Several(_) => {}
     }
     text.push_str(" -d '")?;
     put_quoted(text, Shell::Fish, entry.help)?;
@@ -205,12 +206,12 @@ fn put_fish_entry(text: &mut String, name: &str, entry: &Entry) -> Result<(), Al
 /// Adds an option as it is written.
 fn put_option(text: &mut String, form: Form) -> Result<(), AllocError> {
     match form {
-        Form::Flag { long } | Form::Long { long, .. } => put_all(text, &["--", long]),
-        Form::Letter { letter } | Form::Short { letter, .. } | Form::Repeated { letter, .. } => {
+        Form::Flag(long) | Form::Long(long, _) => put_all(text, &["--", long]),
+        Form::Letter(letter) | Form::Short(letter, _) | Form::Repeated(letter, _) => {
             text.push('-')?;
             text.push(letter)
         }
-        Form::Single { .. } | Form::Several { .. } => Ok(()),
+        Form::Single(_) | Form::Several(_) => Ok(()),
     }
 }
 

@@ -1,9 +1,12 @@
 //! The words that say something of sources, of codes, and of the words themselves.
 
-use crate::builds::{COLLECT, NO_RELAX, SOURCES, TEXT_START};
-use crate::table::{Entry, Form, Need, Word};
+use crate::builds::{link_options, sources};
+use crate::operands::{Flag, Operands, Refusal, Text};
+use crate::words::Help;
+use rv_fault_texts::explanation;
+use rv_job::{Job, ReportFormat, Shell};
 
-const CHECK: Word = Word {
+pub(crate) const CHECK: Help = Help {
     name: "check",
     about: "Says what is wrong with sources, and where, without writing anything",
     after_help: "Examples:
@@ -11,24 +14,30 @@ const CHECK: Word = Word {
   rv check --format=gcc prog.s
 
 Status 0 where the sources can be built, and 1 where they have a fault.",
-    entries: &[
-        Entry {
-            id: "format",
-            form: Form::Long {
-                long: "format",
-                value: "FORMAT",
-            },
-            need: Need::Optional,
-            help: "gcc: lines as compilers write them, for editors; json: an object a line",
-        },
-        TEXT_START,
-        NO_RELAX,
-        COLLECT,
-        SOURCES,
-    ],
 };
 
-const LIST: Word = Word {
+pub(crate) fn check<'a>(operands: &mut Operands<'_, 'a>) -> Result<Job<'a>, Refusal> {
+    let help = "gcc: lines as compilers write them, for editors; json: an object a line";
+    let format = operands.optional(Text::long("format", "FORMAT", help))?;
+    let options = link_options(operands)?;
+    Ok(Job::Check {
+        options,
+        format: report_format(format)?,
+        sources: operands.all(sources())?,
+    })
+}
+
+/// The format of a report by its name.
+fn report_format(name: Option<&str>) -> Result<ReportFormat, Refusal> {
+    match name {
+        None => Ok(ReportFormat::Text),
+        Some("gcc") => Ok(ReportFormat::Gcc),
+        Some("json") => Ok(ReportFormat::Json),
+        Some(_) => Err(Refusal::Wanted("a format is gcc or json")),
+    }
+}
+
+pub(crate) const LIST: Help = Help {
     name: "list",
     about: "Prints the lines of sources, each with its address and its bytes",
     after_help: "Examples:
@@ -36,62 +45,54 @@ const LIST: Word = Word {
   rv list --all prog.s other.s
 
 The columns are those of GNU's as -al; the addresses are those of the executable.",
-    entries: &[
-        Entry {
-            id: "all",
-            form: Form::Flag { long: "all" },
-            need: Need::Optional,
-            help: "Shows all bytes of a line, and not the first rows alone",
-        },
-        TEXT_START,
-        NO_RELAX,
-        COLLECT,
-        SOURCES,
-    ],
 };
 
-pub(crate) fn list() -> Word {
-    LIST
+pub(crate) fn list<'a>(operands: &mut Operands<'_, 'a>) -> Result<Job<'a>, Refusal> {
+    let help = "Shows all bytes of a line, and not the first rows alone";
+    Ok(Job::List {
+        all: operands.flag(Flag::long("all", help))?,
+        options: link_options(operands)?,
+        sources: operands.all(sources())?,
+    })
 }
 
-const EXPLAIN: Word = Word {
+pub(crate) const EXPLAIN: Help = Help {
     name: "explain",
     about: "Explains a code: its cause, an example and the cure",
     after_help: "Examples:
   rv explain E14
   rv explain FetchOutside
   rv explain",
-    entries: &[Entry {
-        id: "code",
-        form: Form::Single { value: "CODE" },
-        need: Need::Optional,
-        help: "A code as E14, or the name of an end of a run; without it all are listed",
-    }],
 };
 
-const COMPLETIONS: Word = Word {
+pub(crate) fn explain<'a>(operands: &mut Operands<'_, 'a>) -> Result<Job<'a>, Refusal> {
+    let help = "A code as E14, or the name of an end of a run; without it all are listed";
+    let Some(code) = operands.optional(Text::alone("CODE", help))? else {
+        return Ok(Job::Explain { entry: None });
+    };
+    match explanation(code) {
+        Some(entry) => Ok(Job::Explain { entry: Some(entry) }),
+        None => Err(Refusal::Wrong(format!(in operands.alloc;
+            "{code} is no code; 'rv explain' lists those that there are"
+        )?)),
+    }
+}
+
+pub(crate) const COMPLETIONS: Help = Help {
     name: "completions",
     about: "Prints what a shell completes the words of rv by",
     after_help: "Examples:
   rv completions bash > /usr/share/bash-completion/completions/rv
   rv completions zsh > /usr/share/zsh/site-functions/_rv
   rv completions fish > /usr/share/fish/vendor_completions.d/rv.fish",
-    entries: &[Entry {
-        id: "shell",
-        form: Form::Single { value: "SHELL" },
-        need: Need::Required,
-        help: "bash, zsh or fish",
-    }],
 };
 
-pub(crate) fn check() -> Word {
-    CHECK
-}
-
-pub(crate) fn explain() -> Word {
-    EXPLAIN
-}
-
-pub(crate) fn completions() -> Word {
-    COMPLETIONS
+pub(crate) fn completions<'a>(operands: &mut Operands<'_, 'a>) -> Result<Job<'a>, Refusal> {
+    let shell = match operands.required(Text::alone("SHELL", "bash, zsh or fish"))? {
+        "bash" => Shell::Bash,
+        "zsh" => Shell::Zsh,
+        "fish" => Shell::Fish,
+        _ => operands.refuse(Shell::Bash, "a shell is bash, zsh or fish")?,
+    };
+    Ok(Job::Completions { shell })
 }

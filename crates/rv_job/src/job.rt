@@ -2,7 +2,6 @@
 
 use crate::files::{AskedCode, AskedImage, ReportFormat};
 use crate::runs::{Asked, Coverage, Shown};
-use rv_command_line::Shell;
 use rv_link::LinkOptions;
 
 /// What the command line asks for.
@@ -106,4 +105,12 @@ pub enum Job<'a> {
     Completions {
         shell: Shell,
     },
+}
+
+/// A shell that completes words.
+#[derive(Clone, Copy, Debug, PartialEq, Eq, Drop)]
+pub enum Shell {
+    Bash,
+    Zsh,
+    Fish,
 }

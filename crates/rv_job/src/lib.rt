@@ -1,6 +1,6 @@
-//! What the program can be asked for: types, in which nothing runs.
+//! What the program can be asked for, and how it builds where nothing is said of it.
 //!
-//! A [`Job`] is what the words of a command line ask for. `rv_job_words` reads words as one, `rv_program` does it, and the crates
+//! A [`Job`] is what the words of a command line ask for. `rv_command_line` reads words as one, `rv_program` does it, and the crates
 //! of jobs take the parts of it that are theirs.
 //!
 //! It must not know words, nor how a job is done.
@@ -12,8 +12,10 @@
 
 mod files;
 mod job;
+mod options;
 mod runs;
 
 pub use files::{AskedCode, AskedImage, ImageFormat, ReportFormat, TextFormat};
-pub use job::Job;
+pub use job::{Job, Shell};
+pub use options::{TEXT_START, default_options};
 pub use runs::{Asked, Coverage, Shown};

@@ -4,8 +4,8 @@ use Rattle.std.specs.Prelude.{◌≡◌, ◌⊎◌, ℕ}
 use Rattle.clap.specs.Values.{kind_of}
 use Rattle.clap.specs.declared.error.kind.ErrorKind.{ErrorKind}
 use Rattle.clap.specs.declared.error.kind.ErrorKind.TheVariants.{DisplayHelp, DisplayVersion}
-use Rattle.rv_job_words.specs.declared.error.CliError.{CliError}
-use Rattle.rv_job_words.specs.declared.error.CliError.TheVariants.{Usage, NotText, Line, Closed, Memory}
+use Rattle.rv_program.specs.declared.error.CliError.{CliError}
+use Rattle.rv_program.specs.declared.error.CliError.TheVariants.{Usage, NotText, Line, Closed, Memory}
 
 -- what was asked is done
 abbrev pub done : ℕ

@@ -5,9 +5,9 @@
 //! pages of it.
 
 use rv_build_jobs::{assemble, build_files, link_files, load_program, print_map, run};
-use rv_command_line::{Shell, completions};
+use rv_command_line::completions;
 use rv_file_jobs::{code, dump, elf, names, objdump, raw, sizes, write_image};
-use rv_job::{Asked, Coverage, Job, Shown};
+use rv_job::{Asked, Coverage, Job, Shell, Shown};
 use rv_source_jobs::{check_files, explain, list};
 use rv_system::{JobError, System, print};
 use rv_watched_jobs::{run_with_report, stats, trace};

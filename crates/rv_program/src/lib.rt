@@ -4,7 +4,7 @@
 //! it has written what the words ask for, or one line that says why not.
 //!
 //! Main function: `exit_status`. What it prints, and when, is tested; the status of an error is said by `report`
-//! (`specs/Status`). What the words mean is known to `rv_job_words`, and what a job does to the crates of jobs. Of the
+//! (`specs/Status`). What the words mean is known to `rv_command_line`, and what a job does to the crates of jobs. Of the
 //! system it knows only what [`System`] has: `rv_host` has the real one, and a test stands in for it.
 //!
 //! ```text
@@ -16,7 +16,9 @@
 //! ```
 #![tactic(auto)]
 
+mod error;
 mod jobs;
 mod status;
 
+pub use error::CliError;
 pub use status::{exit_status, report};

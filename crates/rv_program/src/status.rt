@@ -4,8 +4,9 @@ ghost use Rattle.std.specs.Prelude.{◌≡◌, ◌⊎◌};
 ghost use Rattle.clap.specs.Values.{kind_of};
 ghost use Rattle.rv_program.specs.Status.{IsErrorStatus, refused, usage_status};
 
+use crate::error::CliError;
 use crate::jobs::run_job;
-use rv_job_words::{CliError, parse_job};
+use rv_command_line::parse_job;
 use rv_system::System;
 use std::alloc::Global;
 use std::io::ErrorKind;

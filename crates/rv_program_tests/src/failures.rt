@@ -1,8 +1,7 @@
 //! Streams, files and memory that fail.
 
 use super::fake::{Fake, Reader, Scene};
-use rv_job_words::CliError;
-use rv_program::report;
+use rv_program::{CliError, report};
 use rv_streams::{ReadFault, read_whole};
 use rv_system::Purpose;
 use std::alloc::{AllocError, Global};

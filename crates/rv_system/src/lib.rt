@@ -19,7 +19,6 @@ mod ends;
 mod error;
 mod files;
 mod messages;
-mod options;
 mod shown;
 mod system;
 
@@ -30,5 +29,4 @@ pub use files::{
     print_parts, write,
 };
 pub use messages::{end_line, fault_line, run_line};
-pub use options::{TEXT_START, default_options};
 pub use system::{FILE_LIMIT, GuestInput, Purpose, System};

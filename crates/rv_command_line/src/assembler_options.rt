@@ -6,7 +6,7 @@
 
 ghost use Rattle.std.specs.Prelude.{◌≡◌, bytes_eq};
 ghost use Rattle.std.specs.List.{list_any};
-ghost use Rattle.rv_job_words.specs.AssemblerOptions.{machine_options, code_options};
+ghost use Rattle.rv_command_line.specs.AssemblerOptions.{machine_options, code_options};
 
 /// Whether `-m` and this ask for code of RV64IMAC with the ABI lp64, little-endian.
 ///

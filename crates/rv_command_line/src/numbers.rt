@@ -1,0 +1,58 @@
+//! Numbers as words write them; their bounds and digits are promised.
+
+ghost use Rattle.std.specs.Prelude.{◌≤◌, ℕ, IfSome, IfNone};
+ghost use Rattle.rv_command_line.specs.Numbers.{IsRadixNumber, IsStart};
+
+use crate::operands::{Operands, Refusal, Text};
+
+/// The number of an operand in digits alone, or a default; `wanted` says what it should be.
+pub(crate) fn count(
+    operands: &mut Operands<'_, '_>,
+    text: Text,
+    default: u64,
+    wanted: &'static str,
+) -> Result<u64, Refusal> {
+    match operands.optional(text)? {
+        None => Ok(default),
+        Some(text) => number(decimal(text), wanted),
+    }
+}
+
+/// The number, or that it is wanted.
+pub(crate) fn number(read: Option<u64>, wanted: &'static str) -> Result<u64, Refusal> {
+    match read {
+        Some(number) => Ok(number),
+        None => Err(Refusal::Wanted(wanted)),
+    }
+}
+
+/// A number below 2^64 in digits of a radix alone, one at least.
+fn in_radix(text: &str, radix: u32) -> Option<u64>
+    requires { (2 ≤ radix) × (radix ≤ 36) }
+    ensures some { IfSome result (λ n. IsRadixNumber radix text.now n) }
+    ensures none { IfNone result ((n : ℕ) → IsRadixNumber radix text.now n → ⊥) }
+{
+    if text.starts_with('+') {
+        return None;
+    }
+    u64::from_str_radix(text, radix).ok()
+}
+
+/// A decimal number below 2^64: digits alone, one at least.
+pub fn decimal(text: &str) -> Option<u64>
+    ensures some { IfSome result (λ n. IsRadixNumber 10 text.now n) }
+    ensures none { IfNone result ((n : ℕ) → IsRadixNumber 10 text.now n → ⊥) }
+{
+    in_radix(text, 10)
+}
+
+/// A number below 2^64, decimal or `0x` with hexadecimal digits of either case.
+pub fn text_start(text: &str) -> Option<u64>
+    ensures some { IfSome result (λ n. IsStart text.now n) }
+    ensures none { IfNone result ((n : ℕ) → IsStart text.now n → ⊥) }
+{
+    match text.strip_prefix("0x") {
+        Some(digits) => in_radix(digits, 16),
+        None => decimal(text),
+    }
+}

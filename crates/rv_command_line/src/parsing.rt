@@ -1,0 +1,49 @@
+//! What the words of a command line ask for.
+
+use crate::builds::refuse_debug_information;
+use crate::commands::command;
+use crate::operands::{Operands, Refusal};
+use crate::runs::LIMIT;
+use crate::words::Word;
+use clap::error::ErrorKind;
+use clap::{Command, Error};
+use rv_job::Job;
+use std::alloc::{AllocError, Global};
+
+/// What the words ask for; the first word is the program's own name.
+pub fn parse_job<'a>(alloc: Global, words: &'a [&'a str]) -> Result<Job<'a>, Error> {
+    let mut command = command(alloc, words.get(1).copied())?;
+    match refuse_debug_information(alloc, words) {
+        Ok(()) => {}
+        Err(refusal) => return Err(usage(&mut command, refusal)?),
+    }
+    let matches = command.try_get_matches_from_mut(words)?;
+    let Some((name, found)) = matches.subcommand() else {
+        return Ok(Job::Run {
+            file: "-",
+            limit: LIMIT,
+            explains: false,
+        });
+    };
+    match job_of(name, &mut Operands::of(alloc, found)) {
+        Ok(job) => Ok(job),
+        Err(refusal) => Err(usage(&mut command, refusal)?),
+    }
+}
+
+/// The job of a word by its name; `clap` finds no name but those of its words.
+fn job_of<'a>(name: &str, operands: &mut Operands<'_, 'a>) -> Result<Job<'a>, Refusal> {
+    match Word::of(name) {
+        Some(word) => word.job(operands),
+        None => Err(Refusal::Wanted("no such word")),
+    }
+}
+
+/// The fault of words that are wrong, with the usage of the program below.
+fn usage(command: &mut Command<'_>, refusal: Refusal) -> Result<Error, AllocError> {
+    match refusal {
+        Refusal::Wanted(wanted) => command.error(ErrorKind::ValueValidation, wanted),
+        Refusal::Wrong(said) => command.error(ErrorKind::ValueValidation, said.as_str()),
+        Refusal::Memory => Err(AllocError),
+    }
+}
