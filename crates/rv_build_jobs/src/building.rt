@@ -6,10 +6,11 @@ use crate::refusing::{refused_objects, refused_sources};
 use rv_chain::{
     Built, Fault, LinkOptions, assemble_object, build, build_exe, link_objects, link_objects_exe,
 };
+use rv_guests::{GuestInput, Guests, report_end, run_line};
 use rv_job::default_options;
 use rv_system::{
-    GuestInput, JobError, Purpose, System, borrowed, file_bytes, files_bytes, given_bytes,
-    image_in, print, report_end, run_line, write,
+    JobError, Purpose, System, borrowed, file_bytes, files_bytes, given_bytes, image_in, print,
+    write,
 };
 use std::alloc::{AllocError, Global};
 
@@ -18,7 +19,7 @@ use std::alloc::{AllocError, Global};
 /// Each has a function of its own, so that what a small guest needs stands together in the program, and not among what
 /// a source needs: that is 0.2 MiB of pages.
 #[inline(never)]
-pub fn run<S: System>(
+pub fn run<S: Guests>(
     system: &mut S,
     name: &str,
     limit: u64,
@@ -33,7 +34,7 @@ pub fn run<S: System>(
 
 /// Builds a source and runs it; the exit status.
 #[inline(never)]
-fn run_source<S: System>(
+fn run_source<S: Guests>(
     system: &mut S,
     name: &str,
     source: &[u8],
@@ -46,7 +47,7 @@ fn run_source<S: System>(
 
 /// Runs an executable; the exit status.
 #[inline(never)]
-fn run_executable<S: System>(
+fn run_executable<S: Guests>(
     system: &mut S,
     name: &str,
     exe: &[u8],
@@ -176,7 +177,10 @@ fn object_of(alloc: Global, source: &[u8], relax: bool) -> Result<Vec<u8>, Fault
     assemble_object(alloc, source.as_slice())
 }
 
-/// A source that leaves each of its calls its eight bytes; its lines stay.
+/// A source that leaves each of its calls its eight bytes.
+///
+/// The option goes in front of the first line, so that lines keep their numbers, and no linker shortens the object; its rows
+/// count one statement more.
 fn without_relaxation(alloc: Global, text: &[u8]) -> Result<Vec<u8>, AllocError> {
     let mut option = Vec::from_slice(alloc, b".option norelax; ")?;
     option.extend_from_slice(text)?;

@@ -3,9 +3,9 @@
 //! All but the start of the process is in `rv_program`. The line of a run that does not exit ([`end_line`]) is given on.
 #![tactic(auto)]
 
+pub use rv_guests::end_line;
 use rv_host::Host;
 use rv_program::{CliError, exit_status, report};
-pub use rv_system::end_line;
 use std::alloc::Global;
 use std::env;
 use std::io::ErrorKind;

@@ -1,11 +1,12 @@
 //! The files of the disk and the standard streams of the process.
 
+use rv_guests::{GuestInput, Guests};
 use rv_image::Image;
 use rv_machine::{End, Io, RunFault, WatchFault, Watched, Watcher, run_io, run_watched};
 use rv_memory::Paged;
 use rv_paint::painted;
 use rv_streams::{ReadFault, read_whole};
-use rv_system::{FILE_LIMIT, GuestInput, Purpose, System};
+use rv_system::{FILE_LIMIT, Purpose, System};
 use std::alloc::Global;
 use std::env::{Env, FillError};
 use std::fs::File;
@@ -84,6 +85,23 @@ impl System for Host<'_> {
         self.rt.stdout().write_all(bytes)
     }
 
+    fn lines(&mut self, name: Option<&str>) -> io::Result<HostLines> {
+        match name {
+            Some(name) => Ok(HostLines::File(File::create(self.rt, name)?)),
+            None => Ok(errors_of(self.rt)),
+        }
+    }
+
+    fn show(&mut self, text: &str) {
+        let _ = eprint!(self.rt; "{text}");
+    }
+
+    fn tell(&mut self, line: &str) {
+        let _ = eprintln!(self.rt; "rv: {line}");
+    }
+}
+
+impl Guests for Host<'_> {
     fn run(&mut self, image: Image, input: GuestInput, limit: u64) -> Result<End, RunFault> {
         let alloc = self.rt.alloc();
         let mut output = Io::new(self.rt.stdout());
@@ -117,21 +135,6 @@ impl System for Host<'_> {
                 run_watched(machine, &mut input, &mut output, watcher, limit)
             }
         }
-    }
-
-    fn lines(&mut self, name: Option<&str>) -> io::Result<HostLines> {
-        match name {
-            Some(name) => Ok(HostLines::File(File::create(self.rt, name)?)),
-            None => Ok(errors_of(self.rt)),
-        }
-    }
-
-    fn show(&mut self, text: &str) {
-        let _ = eprint!(self.rt; "{text}");
-    }
-
-    fn tell(&mut self, line: &str) {
-        let _ = eprintln!(self.rt; "rv: {line}");
     }
 }
 

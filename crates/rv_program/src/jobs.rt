@@ -1,19 +1,20 @@
 //! What the program does: each job is done by the crate of its group.
 //!
-//! Files and streams are reached through [`System`] alone, so that a test sees each exit status and each line without starting
-//! a process. Each job is a function of its own in the program (`inline(never)`), so that to run a small guest takes few
-//! pages of it.
+//! Files, streams and guests are reached through [`System`] and [`Guests`] alone, so that a test sees each exit status and
+//! each line without starting a process. Each job is a function of its own in the program (`inline(never)`), so that to run
+//! a small guest takes few pages of it.
 
 use rv_build_jobs::{assemble, build_files, link_files, load_program, print_map, run};
 use rv_command_line::completions;
 use rv_file_jobs::{code, dump, elf, names, objdump, raw, sizes, write_image};
+use rv_guests::Guests;
 use rv_job::{Asked, Coverage, Job, Shell, Shown};
 use rv_source_jobs::{check_files, explain, list};
 use rv_system::{JobError, System, print};
 use rv_watched_jobs::{run_with_report, stats, trace};
 
 /// Does a job; the exit status.
-pub(crate) fn run_job<S: System>(system: &mut S, job: &Job<'_>) -> Result<u8, JobError> {
+pub(crate) fn run_job<S: Guests>(system: &mut S, job: &Job<'_>) -> Result<u8, JobError> {
     match job {
         Job::Run {
             file,
@@ -76,13 +77,13 @@ pub(crate) fn run_job<S: System>(system: &mut S, job: &Job<'_>) -> Result<u8, Jo
 }
 
 /// Runs, and says why the run ended where the guest did not exit; the exit status.
-fn look_back<S: System>(system: &mut S, asked: &Asked<'_>) -> Result<u8, JobError> {
+fn look_back<S: Guests>(system: &mut S, asked: &Asked<'_>) -> Result<u8, JobError> {
     let (program, image) = load_program(system, asked)?;
     run_with_report(system, asked, program, image)
 }
 
 /// Runs, and writes a line for each instruction; the exit status.
-fn show_steps<S: System>(
+fn show_steps<S: Guests>(
     system: &mut S,
     asked: &Asked<'_>,
     shown: &Shown<'_>,
@@ -92,7 +93,7 @@ fn show_steps<S: System>(
 }
 
 /// Runs, and counts what is executed; the exit status.
-fn count<S: System>(
+fn count<S: Guests>(
     system: &mut S,
     asked: &Asked<'_>,
     coverage: &Coverage<'_>,

@@ -7,6 +7,7 @@ ghost use Rattle.rv_program.specs.Status.{IsErrorStatus, refused, usage_status};
 use crate::error::CliError;
 use crate::jobs::run_job;
 use rv_command_line::parse_job;
+use rv_guests::Guests;
 use rv_system::System;
 use std::alloc::Global;
 use std::io::ErrorKind;
@@ -17,7 +18,7 @@ const REFUSED: u8 = 1;
 const USAGE: u8 = 2;
 
 /// Does what the words ask for, or says why not; the exit status.
-pub fn exit_status<S: System>(system: &mut S, words: &[String]) -> u8 {
+pub fn exit_status<S: Guests>(system: &mut S, words: &[String]) -> u8 {
     match work(system, words) {
         Ok(status) => status,
         Err(error) => report(system, error),
@@ -25,7 +26,7 @@ pub fn exit_status<S: System>(system: &mut S, words: &[String]) -> u8 {
 }
 
 /// Reads the words and does their job; the exit status.
-fn work<S: System>(system: &mut S, words: &[String]) -> Result<u8, CliError> {
+fn work<S: Guests>(system: &mut S, words: &[String]) -> Result<u8, CliError> {
     let alloc: Global = system.alloc();
     let mut given: Vec<&str> = Vec::new(alloc);
     for word in words {

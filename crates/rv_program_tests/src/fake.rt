@@ -1,11 +1,12 @@
 //! A system that stands in for the real one, and fails where it is told to.
 
+use rv_guests::{GuestInput, Guests};
 use rv_image::Image;
 use rv_machine::{End, Io, RunFault, WatchFault, Watched, Watcher, run_io, run_watched};
 use rv_memory::Paged;
 use rv_program::exit_status;
 use rv_streams::ReadFault;
-use rv_system::{GuestInput, Purpose, System};
+use rv_system::{Purpose, System};
 use std::alloc::{AllocError, Global};
 use std::io::{self, ErrorKind, Read, Write};
 
@@ -158,6 +159,25 @@ impl System for Fake<'_> {
         Ok(())
     }
 
+    fn lines(&mut self, _: Option<&str>) -> io::Result<Output> {
+        Ok(Output {
+            bytes: Vec::new(self.alloc),
+            closed: self.scene.closed,
+        })
+    }
+
+    fn show(&mut self, text: &str) {
+        let _ = self.errors.push_str(text);
+    }
+
+    fn tell(&mut self, line: &str) {
+        let _ = self.errors.push_str("rv: ");
+        let _ = self.errors.push_str(line);
+        let _ = self.errors.push_str("\n");
+    }
+}
+
+impl Guests for Fake<'_> {
     fn run(&mut self, image: Image, input: GuestInput, limit: u64) -> Result<End, RunFault> {
         let bytes = match input {
             GuestInput::Standard => self.scene.input,
@@ -200,22 +220,5 @@ impl System for Fake<'_> {
         });
         let mut writer = Io::new(&mut output);
         run_watched(machine, &mut reader, &mut writer, watcher, limit)
-    }
-
-    fn lines(&mut self, _: Option<&str>) -> io::Result<Output> {
-        Ok(Output {
-            bytes: Vec::new(self.alloc),
-            closed: self.scene.closed,
-        })
-    }
-
-    fn show(&mut self, text: &str) {
-        let _ = self.errors.push_str(text);
-    }
-
-    fn tell(&mut self, line: &str) {
-        let _ = self.errors.push_str("rv: ");
-        let _ = self.errors.push_str(line);
-        let _ = self.errors.push_str("\n");
     }
 }

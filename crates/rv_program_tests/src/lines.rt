@@ -1,8 +1,9 @@
 //! Lines of faults and of ends.
 
 use rv_chain::{End, Fault, FileFault, LinkFault, SourceCode, SourceFault};
+use rv_guests::{end_line, run_line};
 use rv_machine::RunFault;
-use rv_system::{JobError, end_line, fault_line, run_line};
+use rv_system::{JobError, fault_line};
 use std::alloc::{AllocError, Global};
 
 /// Whether this is what is told of a fault of files `a.s` and `b.s`; want of memory has no line.

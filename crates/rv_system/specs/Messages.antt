@@ -1,8 +1,8 @@
--- The lines that say why something is refused and how a run ended (this program's own).
+-- The lines that say why something is refused (this program's own).
 
-use Rattle.std.specs.Prelude.{◌≡◌, ℕ, ◌-◌, ◌==◌, false, ⊤, if◌then◌else◌, List, [], ◌∷◌, ◌++◌, Option, Some, None, option_map, codes, flat_map, string_bytes}
+use Rattle.std.specs.Prelude.{◌≡◌, ℕ, ◌-◌, ◌==◌, ⊤, if◌then◌else◌, List, [], ◌∷◌, ◌++◌, Option, Some, None, option_map, codes, flat_map, string_bytes}
 use Rattle.std.specs.Borrow.{Bor}
-use Rattle.std.specs.Fmt.{decimal, digits}
+use Rattle.std.specs.Fmt.{decimal}
 use Rattle.std.specs.List.{slice_get}
 use Rattle.std.specs.Option.{option_map_or}
 use Rattle.hex.specs.Hex.{encode_lower}
@@ -13,10 +13,6 @@ use Rattle.rv_lexer.specs.Fault as sources
 use Rattle.rv_elf.specs.declared.fault.FileFault.{FileFault}
 use Rattle.rv_elf.specs.declared.fault.FileFault.TheVariants.{UnsupportedRelocation, UnsupportedSection}
 use Rattle.rv_elf.specs.Fault as files
-use Rattle.rv_machine.specs.declared.end.End.{End}
-use Rattle.rv_machine.specs.End as ends
-use Rattle.rv_machine.specs.declared.running.RunFault.{RunFault}
-use Rattle.rv_machine.specs.declared.running.RunFault.TheVariants as runs
 use Rattle.rv_reloc.specs.declared.fault.LinkFault.{LinkFault}
 use Rattle.rv_reloc.specs.declared.fault.LinkFault.TheVariants.{Undefined, Duplicate}
 use Rattle.rv_reloc.specs.Fault as links
@@ -92,19 +88,8 @@ fault_text names (File file fault) = file_text (file_name names file) fault
 fault_text names (Link fault) = link_text fault
 fault_text names Memory = None
 
--- the line of a stream that failed in a run; want of memory has none
-abbrev pub run_text : RunFault → Option (List ℕ)
-run_text runs.InputFault = Some (codes "X1 InputFault")
-run_text runs.OutputFault = Some (codes "X2 OutputFault")
-run_text runs.OutOfMemory = None
-
 -- an error with this line, or that of want of memory
 abbrev pub Tells : JobError → Option (List ℕ) → Type 0
 Tells (errors.Line line) (Some text) = string_bytes line ≡ text
 Tells errors.Memory None = ⊤
 Tells _ _ = ⊥
-
--- `Limit`, `FetchOutside 8`: an address is hexadecimal, in lower case
-abbrev pub end_text : End → List ℕ
-end_text e =
-    with_word (ends.end_name e) (option_map (λ a. digits 16 false a) (ends.address_in_end e))

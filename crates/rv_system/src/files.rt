@@ -110,6 +110,9 @@ pub fn print_listing<S: System>(system: &mut S, text: &[u8]) -> Result<(), JobEr
 
 /// Writes a text to standard output as it comes, in colours where they are asked for and it shows them. `next` adds the
 /// next part of the text, which ends with a line; it answers false where none is left.
+///
+/// A text that may be longer than the files that it is made of is written so: all faults are found before it begins, and
+/// its parts share one buffer.
 pub fn print_parts<S: System, F: FnMut(&mut Vec<u8>) -> Result<bool, AllocError>>(
     system: &mut S,
     in_colours: bool,

@@ -1,22 +1,15 @@
 //! The lines that the program writes to standard error, without `rv: ` before them.
 
 ghost use Rattle.std.specs.Prelude.{◌≡◌, IfOk, option_map};
-ghost use Rattle.rv_system.specs.Messages.{Tells, end_text, fault_text, file_name, file_text, kind_in, link_text, name_in, run_text, source_text};
+ghost use Rattle.rv_system.specs.Messages.{Tells, fault_text, file_name, file_text, kind_in, link_text, name_in, source_text};
 
 use crate::error::JobError;
 use crate::shown::shown_name;
-use arrayvec::ArrayString;
 use rv_elf::FileFault;
 use rv_fault::Fault;
 use rv_lexer::SourceFault;
-use rv_link::LinkFault;
-use rv_machine::{End, RunFault};
-use rv_map::write_hexadecimal;
+use rv_reloc::LinkFault;
 use std::alloc::{AllocError, Global};
-use std::str::from_utf8;
-
-/// The most bytes of the line of an end: the longest name, a blank and 16 digits.
-const LINE_BYTES: usize = 33;
 
 /// The line of a fault; `names` are the files in their order.
 pub fn fault_line(alloc: Global, fault: &Fault, names: &[&str]) -> Result<JobError, AllocError>
@@ -111,35 +104,5 @@ fn name_in(fault: &LinkFault) -> Option<&[u8]>
         LinkFault::Undefined(name) => Some(name.as_slice()),
         LinkFault::Duplicate(name) => Some(name.as_slice()),
         _ => None,
-    }
-}
-
-/// As `FetchOutside 8`; an address is hexadecimal, in lower case. It takes no memory, as the guest has run by then.
-pub fn end_line(end: &End) -> ArrayString<LINE_BYTES>
-    ensures { result.bytes ≡ end_text end.now }
-{
-    let mut line = ArrayString::new();
-    line.push_str(end.name());
-    let Some(address) = end.address() else {
-        return line;
-    };
-    line.push_str(" ");
-    let mut digits = [0; 16];
-    let start = write_hexadecimal(&mut digits, address);
-    // Digits are ASCII.
-    if let Ok(digits) = from_utf8(&digits[start..]) {
-        line.push_str(digits);
-    }
-    line
-}
-
-/// As `X1 InputFault`.
-pub fn run_line(alloc: Global, fault: &RunFault) -> Result<JobError, AllocError>
-    ensures { IfOk result (λ error. Tells error (run_text fault.now)) }
-{
-    match fault {
-        RunFault::InputFault => Ok(JobError::Line("X1 InputFault".to_string(alloc)?)),
-        RunFault::OutputFault => Ok(JobError::Line("X2 OutputFault".to_string(alloc)?)),
-        RunFault::OutOfMemory => Ok(JobError::Memory),
     }
 }

@@ -1,11 +1,8 @@
-//! What the program asks of the system: files, and the standard streams, whole or as a guest asks.
+//! What the program asks of the system: files, and the standard streams.
 //!
 //! Files and streams go through one trait, so that tests see each status and each line without starting a process. It
 //! has no ghost state, so what a command line gives and takes is tested and not proved.
 
-use rv_image::Image;
-use rv_machine::{End, RunFault, WatchFault, Watched, Watcher};
-use rv_memory::Paged;
 use rv_streams::ReadFault;
 use std::alloc::Global;
 use std::io::{self, Write};
@@ -18,13 +15,6 @@ pub const FILE_LIMIT: usize = 1 << 30;
 pub enum Purpose {
     ToRun,
     ToRead,
-}
-
-/// Where a guest's input comes from.
-#[derive(Clone, Copy, PartialEq, Eq)]
-pub enum GuestInput {
-    Standard,
-    Empty,
 }
 
 /// The system that the program runs on; a test stands in for it.
@@ -51,18 +41,6 @@ pub trait System {
 
     /// Writes to standard output.
     fn print(&mut self, bytes: &[u8]) -> io::Result<()>;
-
-    /// Runs an image, at most `limit` instructions: it reads and writes the standard streams as the guest asks.
-    fn run(&mut self, image: Image, input: GuestInput, limit: u64) -> Result<End, RunFault>;
-
-    /// Runs a machine as `run` does, and has a watcher look at each step.
-    fn watch<T: Watcher<Paged>>(
-        &mut self,
-        machine: &mut Watched<Paged>,
-        input: GuestInput,
-        watcher: &mut T,
-        limit: u64,
-    ) -> Result<End, WatchFault>;
 
     /// A file that is written anew, or standard error where none is named.
     fn lines(&mut self, name: Option<&str>) -> io::Result<Self::Lines>;

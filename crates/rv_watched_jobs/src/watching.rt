@@ -4,14 +4,13 @@
 //! an executable those of the map that the words name for it, if any.
 
 use rv_fault::Fault;
+use rv_guests::{GuestInput, Guests, report_end, run_line};
 use rv_image::Image;
 use rv_job::{Asked, Coverage, Shown};
 use rv_machine::{End, ShowFault, WatchFault, Watched, Watcher};
 use rv_map::Map;
 use rv_memory::Paged;
-use rv_system::{
-    GuestInput, JobError, Purpose, System, cannot, fault_line, report_end, run_line, write,
-};
+use rv_system::{JobError, Purpose, System, cannot, fault_line, write};
 use rv_trace::{
     Counts, Latest, Places, Segments, Source, Trace, counts_text, lcov_text, lines_text,
     report_text,
@@ -47,7 +46,7 @@ impl Program {
 
 /// Runs a program, and says why the run ended where the guest did not exit; the exit status.
 #[inline(never)]
-pub fn run_with_report<S: System>(
+pub fn run_with_report<S: Guests>(
     system: &mut S,
     asked: &Asked<'_>,
     program: Program,
@@ -71,7 +70,7 @@ pub fn run_with_report<S: System>(
 
 /// Runs a program and counts what it executes; the exit status.
 #[inline(never)]
-pub fn stats<S: System>(
+pub fn stats<S: Guests>(
     system: &mut S,
     asked: &Asked<'_>,
     coverage: &Coverage<'_>,
@@ -112,7 +111,7 @@ fn tracefile(
 
 /// Runs a program and writes a line for each instruction; the exit status.
 #[inline(never)]
-pub fn trace<S: System>(
+pub fn trace<S: Guests>(
     system: &mut S,
     asked: &Asked<'_>,
     shown: &Shown<'_>,
@@ -125,7 +124,7 @@ pub fn trace<S: System>(
 }
 
 /// Runs an image and writes a line for each instruction, with what is known of its addresses; the exit status.
-fn trace_by<S: System>(
+fn trace_by<S: Guests>(
     system: &mut S,
     asked: &Asked<'_>,
     shown: &Shown<'_>,
@@ -179,7 +178,7 @@ fn machine_of(alloc: Global, image: Image) -> Result<Watched<Paged>, AllocError>
 }
 
 /// Runs a machine over the guest's streams.
-fn watch<S: System, T: Watcher<Paged>>(
+fn watch<S: Guests, T: Watcher<Paged>>(
     system: &mut S,
     machine: &mut Watched<Paged>,
     asked: &Asked<'_>,

@@ -1,11 +1,11 @@
 //! How a run of a guest ended, as an exit status.
 
 ghost use Rattle.std.specs.Prelude.{◌≡◌};
-ghost use Rattle.rv_system.specs.Status.{run_status};
+ghost use Rattle.rv_guests.specs.Status.{run_status};
 
 use crate::messages::end_line;
-use crate::system::System;
 use rv_machine::End;
+use rv_system::System;
 
 /// The exit status of a run that the guest did not end by an exit.
 const NOT_EXITED: u8 = 125;

@@ -5,7 +5,7 @@ use Rattle.std.specs.Fmt.{digits}
 use Rattle.std.specs.Str.{IsAscii}
 use Rattle.rv_map.proofs.HexadecimalLemmas.{ascii_hexadecimal}
 use Rattle.rv_machine.specs.End.{end_name, address_in_end}
-use Rattle.rv_system.proofs.messages.end_line.Goals as goal
+use Rattle.rv_guests.proofs.messages.end_line.Goals as goal
 
 pub returns-in-Ok : goal.returns-in-Ok
 returns-in-Ok c =

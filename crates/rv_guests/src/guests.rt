@@ -1,0 +1,28 @@
+//! What the program asks of a system that runs guests.
+
+use rv_image::Image;
+use rv_machine::{End, RunFault, WatchFault, Watched, Watcher};
+use rv_memory::Paged;
+use rv_system::System;
+
+/// Where a guest's input comes from.
+#[derive(Clone, Copy, PartialEq, Eq)]
+pub enum GuestInput {
+    Standard,
+    Empty,
+}
+
+/// A system that runs guests, which read and write its standard streams as they ask.
+pub trait Guests: System {
+    /// Runs an image, at most `limit` instructions.
+    fn run(&mut self, image: Image, input: GuestInput, limit: u64) -> Result<End, RunFault>;
+
+    /// Runs a machine as `run` does, and has a watcher look at each step.
+    fn watch<T: Watcher<Paged>>(
+        &mut self,
+        machine: &mut Watched<Paged>,
+        input: GuestInput,
+        watcher: &mut T,
+        limit: u64,
+    ) -> Result<End, WatchFault>;
+}
