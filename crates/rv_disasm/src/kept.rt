@@ -29,6 +29,8 @@ struct KeptLine {
 }
 
 /// Lines, each in the place that its address tells.
+///
+/// They are kept where rows lie over each other, since a small map can ask for the same lines millions of times.
 #[derive(Drop)]
 pub(crate) struct KeptLines {
     lines: Vec<Option<KeptLine>>,

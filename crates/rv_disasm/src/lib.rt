@@ -42,4 +42,5 @@ pub use dump::hex_dump;
 pub use instruction::{Targets, put_instruction};
 pub use law::{one_listing, one_raw_listing};
 pub use listed::{ListedRows, listing};
+pub use parcel::put_parcel;
 pub use raw::raw_listing;

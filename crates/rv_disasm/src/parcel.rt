@@ -15,7 +15,7 @@ use rv_isa::Reg;
 use std::alloc::AllocError;
 
 /// Adds the text of a parcel of this form.
-pub(crate) fn put_parcel(text: &mut Vec<u8>, form: &Compressed) -> Result<(), AllocError>
+pub fn put_parcel(text: &mut Vec<u8>, form: &Compressed) -> Result<(), AllocError>
     ensures { OnOk result (text.new.items ≡ text.old.items ++ parcel_text form.now) }
 {
     put(text, form.operation().name())?;

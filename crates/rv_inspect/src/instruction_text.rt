@@ -3,7 +3,8 @@
 use crate::columns::Column::{Hexadecimal, Signed, Text};
 use crate::columns::{put, put_columns};
 use crate::scope::{Scope, put_address};
-use rv_isa::{Atomic, Fence, Format, Inst, Reg, Reserve};
+use rv_disasm::Targets;
+use rv_isa::{Fence, Format, Inst, Reg};
 use std::alloc::AllocError;
 
 /// The sets of accesses of a fence, by their bits.
@@ -12,7 +13,8 @@ const SETS: [&[u8]; 16] = [
     b"iow", b"ior", b"iorw",
 ];
 
-/// Adds the text of the instruction at an address.
+/// Adds the text of the instruction at an address. It is that of a listing but for a tab, numbers of shifts in hexadecimal,
+/// the names of targets, and fences with an empty set.
 pub(crate) fn put_instruction(
     text: &mut Vec<u8>,
     scope: &Scope<'_>,
@@ -20,33 +22,33 @@ pub(crate) fn put_instruction(
     inst: &Inst,
 ) -> Result<(), AllocError> {
     match (*inst).format() {
-        Format::Registers(operation, x) => {
-            put_registers(text, operation.name(), &[x.rd, x.rs1, x.rs2])
-        }
-        Format::Immediate(operation, x) => {
-            put_sum(text, operation.name(), &[x.rd, x.rs1], x.immediate)
-        }
         Format::Shift(operation, x) => {
             put_amount(text, operation.name(), &[x.rd, x.rs1], u64::from(x.amount))
-        }
-        Format::Upper(operation, x) => {
-            put_amount(text, operation.name(), &[x.rd], u64::from(x.immediate))
-        }
-        Format::Load(operation, x) => put_access(text, operation.name(), x.rd, x.immediate, x.rs1),
-        Format::Store(operation, x) => {
-            put_access(text, operation.name(), x.rs2, x.immediate, x.rs1)
         }
         Format::Branch(operation, x) => {
             let target = target_of(address, x.offset);
             put_target(text, scope, operation.name(), &[x.rs1, x.rs2], target)
         }
         Format::Jal(x) => put_target(text, scope, "jal", &[x.rd], target_of(address, x.offset)),
-        Format::Jalr(x) => put_access(text, "jalr", x.rd, x.immediate, x.rs1),
-        Format::LoadReserved(double, x) => put_load_reserved(text, double, &x),
-        Format::Atomic(operation, double, x) => put_atomic(text, operation.name(double), &x),
         Format::Fence(x) => put_fence(text, &x),
-        Format::Ecall => put(text, b"ecall"),
-        Format::Ebreak => put(text, b"ebreak"),
+        _ => {
+            let start = text.len();
+            rv_disasm::put_instruction(text, Targets::Distances, *inst)?;
+            set_tab(text, start);
+            Ok(())
+        }
+    }
+}
+
+/// Puts a tab in the place of the blank before the operands of what is added to a text from here on.
+pub(crate) fn set_tab(text: &mut Vec<u8>, start: usize) {
+    for place in start..text.len() {
+        if let Some(byte) = text.get_mut(place) {
+            if *byte == b' ' {
+                *byte = b'\t';
+                return;
+            }
+        }
     }
 }
 
@@ -134,48 +136,6 @@ pub(crate) fn put_target(
     put_registers(text, name, registers)?;
     put(text, if registers.is_empty() { b"\t" } else { b"," })?;
     put_address(text, scope, target)
-}
-
-fn put_load_reserved(text: &mut Vec<u8>, double: bool, x: &Reserve) -> Result<(), AllocError> {
-    put_columns(
-        text,
-        &[
-            Text(if double { b"lr.d" } else { b"lr.w" }),
-            Text(order_of(x.acquire, x.release)),
-            Text(b"\t"),
-            Text(x.rd.abi_name().as_bytes()),
-            Text(b",("),
-            Text(x.rs1.abi_name().as_bytes()),
-            Text(b")"),
-        ],
-    )
-}
-
-fn put_atomic(text: &mut Vec<u8>, name: &str, x: &Atomic) -> Result<(), AllocError> {
-    put_columns(
-        text,
-        &[
-            Text(name.as_bytes()),
-            Text(order_of(x.acquire, x.release)),
-            Text(b"\t"),
-            Text(x.rd.abi_name().as_bytes()),
-            Text(b","),
-            Text(x.rs2.abi_name().as_bytes()),
-            Text(b",("),
-            Text(x.rs1.abi_name().as_bytes()),
-            Text(b")"),
-        ],
-    )
-}
-
-/// The bits of an atomic operation.
-fn order_of(acquire: bool, release: bool) -> &'static [u8] {
-    match (acquire, release) {
-        (false, false) => b"",
-        (true, false) => b".aq",
-        (false, true) => b".rl",
-        (true, true) => b".aqrl",
-    }
 }
 
 /// Whether the text of a fence has all of its fields.

@@ -96,7 +96,8 @@ fn named<'a>(
     target(view, strings, &symbol)
 }
 
-/// The name of a symbol; where it has none, its section and where it stands there.
+/// The name of a symbol; where it has none, its section and where it stands there, which GNU's `objdump` does not say. All
+/// other lines of the code of a file are those that it prints.
 fn target<'a>(
     view: &ElfView<'a>,
     strings: &'a [u8],
