@@ -1,19 +1,17 @@
 -- What a section keeps where calls are cut out of it.
 
-use Rattle.std.proofs.Common.{◌≡◌, ℕ, ◌+◌, ◌%◌, inl, Bool, true, false, cond, ◌||◌, nat_le, List, [], ◌∷◌, length, map, refl, sym, ap, ◌∙◌, arith}
-use Rattle.std.specs.Prelude.{◌==◌}
+use Rattle.std.proofs.Common.{◌≡◌, ℕ, ◌+◌, inl, Bool, true, false, cond, nat_le, List, [], ◌∷◌, length, map, refl, sym, ap, ◌∙◌, arith}
 use Rattle.std.specs.List.{list_all}
-use Rattle.std.proofs.lemmas.List.{length-map}
-use Rattle.std.proofs.lemmas.Bool.{leb-true, le-leb, eqb-true, eq-eqb, and_parts, and_from}
+use Rattle.std.proofs.lemmas.Bool.{leb-true, le-leb, eqb-true, and_parts, and_from}
 use Rattle.rv_isa.specs.Kinds.{width_of}
 use Rattle.rv_object_types.specs.Object.{Contents, Progbits, Note, Nobits, Relocation, Section, size_of}
-use Rattle.rv_object_types.specs.Valid.{keeps_name, is_even, is_loaded_alone, fits_inside, fit_inside, is_padding, are_all_apart, are_paddings}
+use Rattle.rv_object_types.specs.Valid.{fits_inside, fit_inside, is_padding, are_all_apart, are_paddings}
 use Rattle.rv_object_laws.specs.Moves.{Move, new_offset, kept}
 use Rattle.rv_object_laws.specs.CallSites.{is_call}
 use Rattle.rv_object_laws.specs.Shortened.{shortened_contents}
 use Rattle.rv_cut_laws.specs.Cutting.{are_cuts, IsClear, AreCuts, cut_kind, cut_relocation, cut_section}
 use Rattle.rv_cut_laws.proofs.CallKindsLemmas.{call_width}
-use Rattle.rv_cut_laws.proofs.ShiftsLemmas.{rising, stays_even, length_kept}
+use Rattle.rv_cut_laws.proofs.ShiftsLemmas.{rising, length_kept}
 use Rattle.rv_cut_laws.proofs.FieldsLemmas.{all_in, all_mapped, field_stays}
 use Rattle.rv_cut_laws.proofs.PaddingsLemmas.{held_stays, all_stay_apart, padding_stays}
 
@@ -69,21 +67,6 @@ pub size_left : (s : Section) (ms : List Move) → fit_inside s.contents s.reloc
 size_left s ms fit cuts = size_by s.contents s ms refl fit cuts
 
 -- ---- each fact
-
-pub name_stays : (ms : List Move) (c : Contents) (name : List ℕ) → keeps_name c name ≡ true → keeps_name (shortened_contents ms c) name ≡ true
-name_stays ms (Progbits bytes) name h = h
-name_stays ms (Note bytes) name h = h
-name_stays ms (Nobits size) name h = h
-
-pub even_stays : (s : Section) (ms : List Move) (e : Bool) → fit_inside s.contents s.relocations ≡ true → AreCuts s ms → is_even e s.contents ≡ true → is_even e (shortened_contents ms s.contents) ≡ true
-even_stays s ms false fit cuts h = refl
-even_stays s ms true fit cuts h =
-    let size = size_left s ms fit cuts in
-    let even = stays_even 0 (size_of s.contents) (size_of s.contents) ms cuts.order (eqb-true (size_of s.contents % 2) 0 h) in
-    eq-eqb (size_of (shortened_contents ms s.contents) % 2) 0 (ap (λ n. n % 2) size ∙ even)
-
-pub alone_stays : (loaded : Bool) (ms : List Move) (rs : List Relocation) → is_loaded_alone loaded rs ≡ true → is_loaded_alone loaded (map (cut_relocation ms) rs) ≡ true
-alone_stays loaded ms rs h = ap (λ n. loaded || (n == 0)) (length-map rs (cut_relocation ms)) ∙ h
 
 fit_one : (size left : ℕ) (ms : List Move) (r : Relocation) → are_cuts 0 size ms ≡ true → IsClear ms r → left ≡ new_offset ms size → nat_le (r.place + width_of r.kind) size ≡ true → nat_le (new_offset ms r.place + width_of (cut_kind ms r)) left ≡ true
 fit_one size left ms r order clear is h =

@@ -1,57 +1,21 @@
 -- What an object keeps where calls are cut out of its sections.
 
-use Rattle.std.proofs.Common.{◌≡◌, ℕ, zero, suc, ◌+◌, ◌-◌, Bool, true, nat_le, nat_lt, List, [], ◌∷◌, Some, length, map, refl, sym, ap, ◌∙◌, arith}
+use Rattle.std.proofs.Common.{◌≡◌, ℕ, zero, suc, ◌+◌, ◌-◌, Bool, true, nat_le, List, [], ◌∷◌, Some, map, refl, arith}
 use Rattle.std.specs.List.{list_all, slice_get}
-use Rattle.std.proofs.lemmas.List.{length-map}
 use Rattle.std.proofs.lemmas.Bool.{leb-true, le-leb, and_parts, and_from}
-use Rattle.rv_object_types.specs.declared.symbol.Definition.{Definition}
-use Rattle.rv_object_types.specs.declared.symbol.Definition.TheVariants as definitions
 use Rattle.rv_object_types.specs.declared.row.Row.{Row}
 use Rattle.rv_object_types.specs.declared.section.Section.{Section as DeclaredSection}
-use Rattle.rv_object_types.specs.Object.{Section, Symbol, size_of}
+use Rattle.rv_object_types.specs.Object.{Section, size_of}
 use Rattle.rv_object_types.specs.Sections.{section_of}
-use Rattle.rv_object_types.specs.Valid.{fit_inside, is_below, are_indexed, is_defined_in, are_defined, is_row_in, are_rows}
+use Rattle.rv_object_types.specs.Valid.{fit_inside, is_row_in, are_rows}
 use Rattle.rv_object_laws.specs.Moves.{Move, new_offset}
 use Rattle.rv_object_laws.specs.Shortened.{shortened_contents}
-use Rattle.rv_cut_laws.specs.Cutting.{AreCuts, AllCut, cut_relocation, cut_section, cut_sections, moves_at, cut_definition, cut_symbol, cut_row}
+use Rattle.rv_cut_laws.specs.Cutting.{AreCuts, AllCut, cut_section, cut_sections, moves_at, cut_row}
 use Rattle.rv_cut_laws.proofs.ShiftsLemmas.{rising}
 use Rattle.rv_cut_laws.proofs.FieldsLemmas.{all_mapped}
 use Rattle.rv_cut_laws.proofs.ShortLemmas.{size_left}
 
 -- ---- what the object keeps
-
-pub as_many : (ss : List Section) (mss : List (List Move)) → AllCut ss mss → length (cut_sections mss ss) ≡ length ss
-as_many [] [] cuts = refl
-as_many [] (ms ∷ mss) cuts = elim cuts [ ]
-as_many (s ∷ ss) [] cuts = elim cuts [ ]
-as_many (s ∷ ss) (ms ∷ mss) cuts = ap suc (as_many ss mss cuts.1)
-
-abbrev index_test : ℕ → Section → Bool
-index_test n s = list_all (λ r. is_below n r.symbol) s.relocations
-
-indexed_by : (n m : ℕ) (ss : List Section) (mss : List (List Move)) → n ≡ m → AllCut ss mss → list_all (index_test n) ss ≡ true → list_all (index_test m) (cut_sections mss ss) ≡ true
-indexed_by n m [] [] is cuts h = refl
-indexed_by n m [] (ms ∷ mss) is cuts h = elim cuts [ ]
-indexed_by n m (s ∷ ss) [] is cuts h = elim cuts [ ]
-indexed_by n m (s ∷ ss) (ms ∷ mss) is cuts h =
-    let both = and_parts (index_test n s) (list_all (index_test n) ss) h in
-    and_from (index_test m (cut_section ms s)) (list_all (index_test m) (cut_sections mss ss))
-    (all_mapped (λ r. is_below n r.symbol) (λ r. is_below m r.symbol) (cut_relocation ms) s.relocations (λ r i one. sym (ap (λ k. is_below k r.symbol) is) ∙ one) both.0)
-    (indexed_by n m ss mss is cuts.1 both.1)
-
-pub indexed_stays : (symbols : List Symbol) (ss : List Section) (mss : List (List Move)) → AllCut ss mss → are_indexed symbols ss ≡ true → are_indexed (map (cut_symbol mss) symbols) (cut_sections mss ss) ≡ true
-indexed_stays symbols ss mss cuts h = indexed_by (length symbols) (length (map (cut_symbol mss) symbols)) ss mss (sym (length-map symbols (cut_symbol mss))) cuts h
-
-defined_one : (n m : ℕ) (mss : List (List Move)) (d : Definition) → n ≡ m → is_defined_in n d ≡ true → is_defined_in m (cut_definition mss d) ≡ true
-defined_one n m mss (definitions.InSection section offset) is h = sym (ap (nat_lt section) is) ∙ h
-defined_one n m mss definitions.Undefined is h = refl
-defined_one n m mss (definitions.Absolute k) is h = refl
-defined_one n m mss (definitions.Skipped k) is h = refl
-
-pub defined_stays : (ss : List Section) (symbols : List Symbol) (mss : List (List Move)) → AllCut ss mss → are_defined ss symbols ≡ true → are_defined (cut_sections mss ss) (map (cut_symbol mss) symbols) ≡ true
-defined_stays ss symbols mss cuts h =
-    all_mapped (λ s. is_defined_in (length ss) s.definition) (λ s. is_defined_in (length (cut_sections mss ss)) s.definition) (cut_symbol mss) symbols
-    (λ s i one. defined_one (length ss) (length (cut_sections mss ss)) mss s.definition (sym (as_many ss mss cuts)) one) h
 
 -- fields fit in each section
 abbrev pub all_fit : List Section → Bool

@@ -1,7 +1,7 @@
 -- Regions grow section by section.
 
 use Rattle.std.proofs.Common.{◌≡◌, ℕ, zero, suc, ◌+◌, ◌-◌, ◌*◌, ◌/◌, ◌%◌, ◌<◌, ◌≤◌, max, Bool, true, false, if◌then◌else◌, List, [], ◌∷◌, ◌++◌, length, take, drop, min, refl, sym, ap, ◌∙◌, subst, arith, add-one, add-zero, append_assoc}
-use Rattle.std.proofs.lemmas.List.{append-nil, length-append, length-take, length-drop, length-replicate}
+use Rattle.std.proofs.lemmas.List.{length-append, length-take, length-drop, length-replicate}
 use Rattle.std.specs.Prelude.{ℤ, IsTrue, Option, Some, None}
 use Rattle.std.specs.List.{AllByRecursion, list_all, slice_get}
 use Rattle.rv_layout_laws.specs.Alignment.{aligned}
@@ -65,10 +65,6 @@ grown_first bytes starts region place whole (begins, stand, ends) =
       ends = ap (λ n. sections_end starts n whole) place' ∙ sym ends;
       holds = ap (λ n. contents bytes starts n whole) at;
     }
-
-pub grown_last : (bytes : InputSection → List ℕ) (starts : Starts) (region : Region) (whole : List InputSection) (out : List ℕ) → IsGrown bytes starts region whole [] out
-    → (out ≡ contents bytes starts region.start whole) × (region.start + length out ≡ region.end)
-grown_last bytes starts region whole out is = (sym (append-nil out) ∙ is.holds, is.ends)
 
 pub grown_next : (bytes : InputSection → List ℕ) (starts : Starts) (region : Region) (whole : List InputSection) (from : List InputSection) (i : InputSection) (left : List InputSection) (out new : List ℕ)
     → IsGrown bytes starts region whole from out → from ≡ i ∷ left → length (bytes i) ≡ size starts i

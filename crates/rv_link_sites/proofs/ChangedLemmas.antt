@@ -100,9 +100,6 @@ module _ (os : List Object) (i : InputSection) (r : Relocation) where
   by_target false true e n t is none = refl
   by_target false false e n t is none = refl
 
-  pub no_words : are_call_words (stored i.section.contents) r.place ≡ false → None ≡ told
-  no_words e = sym (ap (λ b. if b && is_text_place os (target_place os i r) && not (is_entered i.object i.index r.place) then Some (call_of os i r) else None) e)
-
   -- its target, if it has one
   abbrev aim : Target
   aim = record { offset = text_offset os (target_place os i r); past_end = excess os (target_place os i r) }

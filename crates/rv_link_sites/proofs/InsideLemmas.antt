@@ -105,9 +105,6 @@ offsets_more index symbols i x old now next inside is first more =
     ∙ ap (λ l. old ++ (offsets_in index (map symbol_of (take i symbols)) ++ l)) (sym (append-nil (offset_in index x.definition)))
     ∙ sym (ap (λ l. old ++ l) (ap (offsets_in index) taken ∙ offsets_append index (map symbol_of (take i symbols)) (symbol_of x ∷ [])))
 
-pub offsets_none : (index : ℕ) (symbols : List Declared) (old : List ℕ) → old ≡ old ++ offsets_in index (map symbol_of (take 0 symbols))
-offsets_none index symbols old = sym (append-nil old)
-
 pub set_same : (lists : List (Vec ℕ)) (i : ℕ) (v : Vec ℕ) → i < length lists → list_at (set lists i v) i ≡ v.items
 set_same [] i v inside = absurd (omega (arith, inside))
 set_same (w ∷ lists) zero v inside = refl

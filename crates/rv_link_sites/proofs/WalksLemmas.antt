@@ -73,12 +73,6 @@ module _ (stop i : ℕ) (ss : List Section) (s : Section) (at : slice_get ss i �
         (ap (λ n. old ++ (section_sites os stop (input file o i s) ++ object_sites os file o n end (drop (i + 1) ss))) index
         ∙ ap (λ n. old ++ (section_sites os stop (input file o i s) ++ object_sites os file o (suc i) n (drop (i + 1) ss))) ends ∙ ap (λ l. old ++ l) here ∙ h)
 
-pub sections_done : (os : List Object) (file i stop : ℕ) (o : Object) (ss : List Section) (new all : List Site) → length ss ≤ i → new ++ object_sites os file o i stop (drop i ss) ≡ all → new ≡ all
-sections_done os file i stop o ss new all past h = sym (append-nil new) ∙ ap (λ l. new ++ object_sites os file o i stop l) (sym (drop_all i ss past)) ∙ h
-
-pub ended_done : (i stop whole : ℕ) (ss : List Section) → length ss ≤ i → ended stop (drop i ss) ≡ whole → stop ≡ whole
-ended_done i stop whole ss past h = ap (ended stop) (sym (drop_all i ss past)) ∙ h
-
 module _ (stop i : ℕ) (os : List Object) (o : Object) (at : slice_get os i ≡ Some o) where
   pub object_low : (limit whole : ℕ) → whole ≤ limit → ended_files stop (drop i os) ≡ whole → ended stop o.sections ≤ limit
   object_low limit whole low h =

@@ -47,14 +47,6 @@ data_far os stop first second middle limit is ends then far a b c h =
     let y = bss_up os stop a b c h in
     omega arith
 
-pub bss_far : (os : List Object) (stop first second third middle later limit : ℕ) → first ≡ aligned 4096 stop → middle ≡ ended_files (goes Rodata) first os → second ≡ aligned 4096 middle
-    → later ≡ ended_files (goes Data) second os → third ≡ aligned (greatest_of (goes Bss) os) later → limit < ended_files (goes Bss) third os → (a b c : Region) → AreBehind os stop a b c → limit < c.end
-bss_far os stop first second third middle later limit is ends then more last far a b c h =
-    let e : a.end ≡ middle = h.rodata_end ∙ ap (λ n. ended_files (goes Rodata) n os) (h.rodata_start ∙ sym is) ∙ sym ends in
-    let f : b.end ≡ later = h.data_end ∙ ap (λ n. ended_files (goes Data) n os) (h.data_start ∙ ap (aligned 4096) e ∙ sym then) ∙ sym more in
-    let g : c.end ≡ ended_files (goes Bss) third os = h.bss_end ∙ ap (λ n. ended_files (goes Bss) n os) (h.bss_start ∙ ap (aligned (greatest_of (goes Bss) os)) f ∙ sym last) in
-    omega arith
-
 -- ---- lengths
 
 pub length-files : (to : Section → Bool) (stop : ℕ) (fs : List (List PlacedSection)) (os : List Object) → map length (started_files to stop fs os) ≡ map length fs

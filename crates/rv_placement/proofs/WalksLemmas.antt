@@ -50,9 +50,6 @@ file_far to limit stop whole sections i x inside is far h =
 
 -- ---- the files
 
-lengths_of : List (List PlacedSection) → List ℕ
-lengths_of fs = map length fs
-
 pub each_file : (fs : List (Vec PlacedSection)) (objects : List ShortObject) (i : ℕ) (f : Vec PlacedSection) (o : ShortObject) → map length (lists_of fs) ≡ map (λ o. length o.sections) (map short_object_of objects)
     → i < length fs → i < length objects → f ≡ get_or fs i f → o ≡ get_or objects i o → length f.items ≡ length o.sections.items
 each_file [] objects i f o each inside within is at = absurd (omega arith)

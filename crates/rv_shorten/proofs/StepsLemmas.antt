@@ -7,14 +7,14 @@ use Rattle.std.proofs.lemmas.Bool.{le-leb, lt-ltb, eq-eqb, and_from}
 use Rattle.rv_isa_laws.specs.Bytes.{little_endian}
 use Rattle.rv_layout_laws.specs.declared.site.Site.{Site}
 use Rattle.rv_layout_laws.specs.declared.site.SiteKind.TheVariants.{Call}
-use Rattle.rv_object_types.specs.Object.{Contents, Progbits, Note, Nobits, Section, Object, size_of, stored}
+use Rattle.rv_object_types.specs.Object.{Contents, Progbits, Note, Nobits, Section, size_of, stored}
 use Rattle.rv_object_types.specs.Valid.{fit_inside}
 use Rattle.rv_object_laws.specs.Moves.{Move, kept}
 use Rattle.rv_object_laws.specs.CallSites.{link_register}
 use Rattle.rv_object_laws.specs.Shortened.{empty_jump, empty_jal, short_call, shortened_contents}
 use Rattle.rv_shorten.specs.Cut.{Cut, cut_left, move_of, is_next, are_in_order}
-use Rattle.rv_cut_laws.specs.Cutting.{are_cuts, AreCuts, cut_section, cut_sections, cut_object}
-use Rattle.rv_cut_laws.specs.Walk.{moves_of, passed, passed_all, section_moves, object_moves, walked}
+use Rattle.rv_cut_laws.specs.Cutting.{are_cuts, AreCuts, cut_section, cut_sections}
+use Rattle.rv_cut_laws.specs.Walk.{moves_of, passed, section_moves, object_moves}
 use Rattle.rv_shorten.specs.SiteCuts.{cut_of, is_cut_site, cuts_of, gone_of}
 use Rattle.rv_cut_laws.proofs.ShiftsLemmas.{first_cut, other_cuts}
 use Rattle.rv_cut_laws.proofs.ShortLemmas.{none_in_zeros}
@@ -149,14 +149,6 @@ one_left s rest ys ks n new made whole is now h =
     append_assoc made (new ∷ []) (cut_sections (object_moves rest (drop n ys) (drop n ks)) rest)
     ∙ ap (λ l. made ++ (l ∷ cut_sections (object_moves rest (drop n ys) (drop n ks)) rest)) now
     ∙ ap (λ m. made ++ (cut_section (section_moves s ys ks) s ∷ cut_sections (object_moves rest (drop m ys) (drop m ks)) rest)) is
-    ∙ h
-
-pub one_walked : (o : Object) (rest : List Object) (ys : List Site) (ks : List ℕ) (n : ℕ) (new : Object) (made whole : List Object) → n ≡ passed_all o.sections ys → new ≡ cut_object (object_moves o.sections ys ks) o
-    → made ++ walked (o ∷ rest) ys ks ≡ whole → (made ++ new ∷ []) ++ walked rest (drop n ys) (drop n ks) ≡ whole
-one_walked o rest ys ks n new made whole is now h =
-    append_assoc made (new ∷ []) (walked rest (drop n ys) (drop n ks))
-    ∙ ap (λ l. made ++ (l ∷ walked rest (drop n ys) (drop n ks))) now
-    ∙ ap (λ m. made ++ (cut_object (object_moves o.sections ys ks) o ∷ walked rest (drop m ys) (drop m ks))) is
     ∙ h
 
 -- ---- a section's own bytes
