@@ -31,7 +31,7 @@ use Rattle.rv_assemble_laws.specs.FirstFault.{IsFirstFault}
 use Rattle.rv_reloc.specs.declared.fault.LinkFault.{LinkFault}
 use Rattle.rv_reloc.specs.declared.fault.LinkFault.TheVariants as links
 use Rattle.rv_object_laws.specs.TextStart.{IsTextStart}
-use Rattle.rv_link.specs.Refusals.{ArePast, HasNoProgram}
+use Rattle.rv_object_laws.specs.Refusals.{ArePast, HasNoProgram}
 use Rattle.rv_raw_link_laws.specs.Listed.{IsShortListing, listed, HaveNoFault, HaveAProgram}
 use Rattle.rv_fault.specs.declared.fault.Fault.{Fault}
 use Rattle.rv_fault.specs.declared.fault.Fault.TheVariants.{Source, File, Link, Memory}

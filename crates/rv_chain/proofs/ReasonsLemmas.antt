@@ -8,15 +8,15 @@ use Rattle.rv_object_types.specs.Object.{Object}
 use Rattle.rv_object_laws.specs.IsLinkOf.{most_files}
 use Rattle.rv_object_laws.specs.IsProgramOf.{Leaves, IsProgramOf}
 use Rattle.rv_object_laws.specs.Without.{without}
+use Rattle.rv_object_laws.specs.Refusals.{ArePast, HasNoProgram, name_in, IsSameFault}
 use Rattle.rv_object_laws.proofs.WithoutLemmas.{as_many_objects}
 use Rattle.rv_reloc.specs.declared.fault.LinkFault.{LinkFault}
 use Rattle.rv_reloc.specs.declared.fault.LinkFault.TheVariants as links
 use Rattle.rv_reloc.specs.Fault.{link_fault_number}
 use Rattle.rv_object_laws.specs.TextStart.{AreWithin}
-use Rattle.rv_link.specs.Refusals.{ArePast, HasNoProgram}
 use Rattle.rv_link.proofs.LeftLemmas.{alike, past_unlinked}
 use Rattle.rv_unique_link_laws.specs.Asked.{IsSound}
-use Rattle.rv_unique_link_laws.specs.Same.{OneProgram, RefusedForMemory, name_in, IsSameFault, RefusedForOne, RowsArePlaced, RunsBeginEven}
+use Rattle.rv_unique_link_laws.specs.Same.{OneProgram, RefusedForMemory, RefusedForOne, RowsArePlaced, RunsBeginEven}
 use Rattle.rv_fault.specs.declared.fault.Fault.TheVariants.{Link}
 use Rattle.rv_fault.specs.Fault.{IsNamed}
 

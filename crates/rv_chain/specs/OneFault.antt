@@ -2,10 +2,10 @@
 
 use Rattle.std.specs.Prelude.{◌≡◌, ◌⊎◌, ℕ, Bool, ⊤, List}
 use Rattle.rv_image.specs.Linked.{Linked}
-use Rattle.rv_unique_link_laws.specs.Same.{IsSameFault}
 use Rattle.rv_fault.specs.declared.fault.Fault.{Fault}
 use Rattle.rv_fault.specs.declared.fault.Fault.TheVariants.{Source, File, Link, Memory}
 use Rattle.rv_chain_laws.specs.Linking.{IsProgramOfObjectsFrom, AreLinked}
+use Rattle.rv_object_laws.specs.Refusals.{IsSameFault}
 use Rattle.rv_chain.specs.Refusals.{IsRefusedFor}
 use Rattle.rv_chain.specs.LinkRefusals.{AreUnlinkable}
 

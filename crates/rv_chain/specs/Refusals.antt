@@ -8,10 +8,10 @@ use Rattle.rv_object_types.specs.declared.object.Object.{Object as DeclaredObjec
 use Rattle.rv_object_types.specs.Object.{Object}
 use Rattle.rv_object_types.specs.View.{object_of}
 use Rattle.rv_object_laws.specs.Without.{without}
+use Rattle.rv_object_laws.specs.Refusals.{ArePast, HasNoProgram}
 use Rattle.rv_assemble_laws.specs.FirstFault.{IsFirstFault}
 use Rattle.rv_reloc.specs.declared.fault.LinkFault.{LinkFault}
 use Rattle.rv_object_laws.specs.TextStart.{AreWithin}
-use Rattle.rv_link.specs.Refusals.{ArePast, HasNoProgram}
 use Rattle.rv_chain_laws.specs.Headline.{AllRead}
 use Rattle.rv_reach_laws.specs.Reach.{ShortFormsReach}
 use Rattle.rv_fault.specs.declared.fault.Fault.{Fault}

@@ -11,10 +11,12 @@ use Rattle.rv_object_laws.specs.Moves.{Move, moves, new_offset, kept, has_room, 
 use Rattle.rv_object_laws.specs.Inputs.{Starts, InputSection, goes_to_text, inputs_from, inputs_of, raised, begins_at, start_of, size, Stand, sections_end, Holds, contents}
 use Rattle.rv_object_laws.specs.Names.{object_at}
 use Rattle.rv_object_laws.specs.Values.{patched_at, applied, initial_bytes}
+use Rattle.rv_object_laws.specs.Layout.{section_in, object_section}
+use Rattle.rv_object_laws.specs.Untaken.{worth}
 use Rattle.rv_shorten.specs.Sections.{short_section_of}
 use Rattle.rv_relax.specs.Kept.{moves_of}
 use Rattle.rv_placement.specs.declared.placement.Placement.{Placement}
-use Rattle.rv_placement.specs.Placement.{starts_of, section_in, object_section}
+use Rattle.rv_placement.specs.Placement.{starts_of, layout_of}
 use Rattle.rv_isa.specs.declared.kind.Kind.{Kind}
 use Rattle.rv_isa.specs.Kinds.{width_of}
 use Rattle.rv_isa_laws.specs.Bytes.{little_endian, zeros}
@@ -23,7 +25,7 @@ use Rattle.rv_object_laws.proofs.ListsLemmas.{found_at}
 use Rattle.rv_link.specs.declared.fixed.Input.{Input}
 use Rattle.rv_link_values.specs.Values.{IsInputAt}
 use Rattle.rv_link.proofs.StepsLemmas.{all_inside, kept_long}
-use Rattle.rv_link.specs.Filled.{IsPlacedInput, IsInside, input_at, linked_in, worth}
+use Rattle.rv_link.specs.Filled.{IsPlacedInput, IsInside, input_at, linked_in}
 use Rattle.rv_link.specs.Regions.{left_from, IsGrown}
 
 -- ---- starts
@@ -183,4 +185,4 @@ linked_long os p x is =
     let same : moves_of x.placed.now.plan.now ≡ ms = is.planned ∙ ap (λ n. moves n s) (sym is.start) in
     let room : IsTrue (list_all has_room ms) = subst (λ m. IsTrue (list_all has_room m)) same is.room in
     let inside : AllByRecursion (IsInside ms (length (kept 0 ms (initial_bytes s.contents)))) s.relocations = all_inside s base ms (kept 0 ms (initial_bytes s.contents)) refl room x.section.now.paddings x.section.now.inside refl in
-    applied_length ms (worth os p i) s.relocations (kept 0 ms (initial_bytes s.contents)) inside ∙ kept_long s base ms refl room x.section.now.paddings
+    applied_length ms (worth os (layout_of p) i) s.relocations (kept 0 ms (initial_bytes s.contents)) inside ∙ kept_long s base ms refl room x.section.now.paddings

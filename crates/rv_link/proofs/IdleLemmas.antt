@@ -15,12 +15,12 @@ use Rattle.rv_object_types.specs.Parts.{relocation_of}
 use Rattle.rv_object_types.specs.declared.relocation.Relocation.{Relocation as Declared}
 use Rattle.rv_object_laws.specs.CallSites.{is_call}
 use Rattle.rv_object_laws.specs.Moves.{Move}
+use Rattle.rv_object_laws.specs.Layout.{outer_in}
 use Rattle.rv_cut_laws.specs.Cutting.{cut_at, cut_relocation, kind_left}
 use Rattle.rv_object_laws.specs.Inputs.{InputSection, start_of}
 use Rattle.rv_object_laws.specs.Values.{value, own_value, paired, patched_at}
 use Rattle.rv_placement.specs.declared.placement.Placement.{Placement}
-use Rattle.rv_placement.specs.Placement.{starts_of}
-use Rattle.rv_resolve.specs.Shown.{outer_in}
+use Rattle.rv_placement.specs.Placement.{starts_of, layout_of}
 use Rattle.rv_link.specs.Idle.{is_idle}
 use Rattle.rv_link.proofs.StepsLemmas.{IsPatched, get_or-map, next_of, patched_step}
 
@@ -91,7 +91,7 @@ idle_step : (os : List Object) (p : Placement) (i : InputSection) (ms : List Mov
     → is_idle r.kind ≡ true → IsPatched os p i ms all old left bytes
 idle_step os p i ms all old from r left bytes is front h =
     let k = idles r.kind h in
-    let outer = outer_in os p in
+    let outer = outer_in os (layout_of p) in
     let starts = starts_of p in
     let found : value outer starts os i r ≡ Some (pos 0) =
     ap (λ b. if b then paired outer starts os i.file i.object r.symbol else Some (own_value outer (starts i.file) i.object (start_of starts i) i.section r)) k.low

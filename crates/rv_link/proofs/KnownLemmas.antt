@@ -37,8 +37,8 @@ gaps_low starts stop (i ∷ is) h low =
 module _ (os : List Object) (start : ℕ) (p : Placement) (placed : IsPlacement os start p) where
   pub regions_known : IsRegion p.text × IsRegion p.rodata × IsRegion p.data × IsRegion p.bss
   regions_known =
-      let (a, b, c, d, e, f, g) = placed.ordered in
-      let low : p.bss.end ≤ 0x3ff0_0000 = placed.below in (
+      let (a, b, c, d, e, f, g) = placed.laid.ordered in
+      let low : p.bss.end ≤ 0x3ff0_0000 = placed.laid.below in (
         (omega (arith, a, b, c, d, e, f, g, low), omega (arith, a, b, c, d, e, f, g, low)),
         (omega (arith, a, b, c, d, e, f, g, low), omega (arith, a, b, c, d, e, f, g, low)),
         (omega (arith, a, b, c, d, e, f, g, low), omega (arith, a, b, c, d, e, f, g, low)),
@@ -48,6 +48,6 @@ module _ (os : List Object) (start : ℕ) (p : Placement) (placed : IsPlacement 
   pub gaps_known : AllByRecursion IsRegion p.gaps.items
   gaps_known =
       let low = regions_known.0.1 in
-      let end = placed.text.2 in
-      subst (AllByRecursion IsRegion) (sym placed.gaps)
-      (gaps_low (starts_of p) start (inputs goes_to_text os) placed.text.1 (subst (λ n. n < 2 ^ 64) end low))
+      let end = placed.laid.text.2 in
+      subst (AllByRecursion IsRegion) (sym placed.laid.gaps)
+      (gaps_low (starts_of p) start (inputs goes_to_text os) placed.laid.text.1 (subst (λ n. n < 2 ^ 64) end low))

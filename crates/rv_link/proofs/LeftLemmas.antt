@@ -17,6 +17,7 @@ use Rattle.rv_object_laws.specs.Collects.{Collects, graph_of}
 use Rattle.rv_object_laws.specs.IsProgramOf.{Leaves, IsProgramOf}
 use Rattle.rv_object_laws.specs.Without.{without}
 use Rattle.rv_object_laws.specs.Shortened.{Sizes, shortened_symbol, shortened_from, shortened, Relaxes}
+use Rattle.rv_object_laws.specs.Refusals.{ArePast, AreDoubled, IsUnlinked, HasNoProgram}
 use Rattle.rv_object_laws.proofs.TextLineLemmas.{sites_text, whole_text}
 use Rattle.rv_object_laws.proofs.WholeLemmas.{are_whole, whole_left}
 use Rattle.rv_object_laws.proofs.WithoutLemmas.{without_none, as_many_from as many_left_from}
@@ -27,7 +28,6 @@ use Rattle.rv_reloc.specs.declared.fault.LinkFault.{LinkFault}
 use Rattle.rv_reloc.specs.declared.fault.LinkFault.TheVariants.{Overflow, OddTarget, DanglingPcrel, AlignmentShort, Undefined, Duplicate, EntryMissing, ImageTooLarge, BadTextStart, TooManyFiles, OutOfMemory}
 use Rattle.rv_link.specs.Left.{HasNoLink, IsLinkOfLeft}
 use Rattle.rv_object_laws.specs.Details.{IsProgramWith}
-use Rattle.rv_link.specs.Refusals.{ArePast, AreDoubled, IsUnlinked, HasNoProgram}
 use Rattle.rv_object_laws.specs.TextStart.{AreWithin}
 
 -- ---- names

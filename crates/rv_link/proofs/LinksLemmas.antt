@@ -13,18 +13,17 @@ use Rattle.rv_object_laws.specs.Moves.{moves, has_room}
 use Rattle.rv_object_laws.specs.Inputs.{InputSection, goes_to_text, inputs_from, inputs_of, inputs, start_of}
 use Rattle.rv_object_laws.specs.Names.{entry_of}
 use Rattle.rv_object_laws.specs.IsLinkOf.{most_files, IsLinkOf, is_loaded}
+use Rattle.rv_object_laws.specs.Layout.{section_in, object_section, shown_globals, regions_of}
+use Rattle.rv_object_laws.specs.Untaken.{IsTaken, AreTaken}
 use Rattle.rv_object_laws.proofs.TextInputsLemmas.{all_append}
 use Rattle.rv_isa_laws.specs.Platform.{stack_start}
 use Rattle.rv_object_laws.proofs.ListsLemmas.{all_both}
 use Rattle.rv_relax.specs.Kept.{moves_of}
 use Rattle.rv_placement.specs.declared.placement.PlacedSection.{PlacedSection}
 use Rattle.rv_placement.specs.declared.placement.Placement.{Placement}
-use Rattle.rv_placement.specs.Placement.{starts_of, start_in, placed_in, placed_at, section_in, object_section, are_roomy_in, are_roomy, IsPlacement}
+use Rattle.rv_placement.specs.Placement.{starts_of, start_in, placed_in, placed_at, are_roomy_in, are_roomy, IsPlacement, layout_of}
 use Rattle.rv_resolve.specs.declared.names.Names.{Names}
-use Rattle.rv_resolve.specs.Shown.{shown_globals, regions_of}
 use Rattle.rv_link.specs.declared.regions.Regions.{Regions}
-use Rattle.rv_link.specs.Filled.{IsTaken}
-use Rattle.rv_link.specs.Untaken.{AreTaken}
 use Rattle.rv_link.specs.Regions.{AreGrown, HasLinkNames}
 use Rattle.rv_link.specs.Made.{made}
 use Rattle.rv_link.proofs.StandingLemmas.{all_at}
@@ -92,19 +91,19 @@ has_its_room os start p placed roomy file o index s at there =
 pub is_link : (drops : List SectionId) (os : List Object) (start : ℕ) (names : Names) (p : Placement) (entry : ℕ) (r : Regions) → length os ≤ most_files → start % 4096 ≡ 0 → start < stack_start → HasLinkNames os names → IsPlacement os start p → are_roomy p ≡ true
     → entry_of (starts_of p) os ≡ Some entry → entry % 2 ≡ 0 → AreGrown os p (λ goes. []) r → IsMap (made drops os p entry r).map → IsLinkOf os start (made drops os p entry r)
 is_link drops os start names p entry r few page low named placed roomy begins even grown readable =
-    let resolved = named.resolved (starts_of p) (record (regions_of p) { globals = shown_globals os p }) refl in
+    let resolved = named.resolved (starts_of p) (record (regions_of (layout_of p)) { globals = shown_globals os (layout_of p) }) refl in
     record {
       few = few;
       page = page;
       low = low;
       starts = starts_of p;
-      text = placed.text;
-      gaps = placed.gaps;
-      rodata = placed.rodata;
-      «data» = placed.data;
-      bss = placed.bss;
-      below = placed.below;
-      memory = placed.memory;
+      text = placed.laid.text;
+      gaps = placed.laid.gaps;
+      rodata = placed.laid.rodata;
+      «data» = placed.laid.data;
+      bss = placed.laid.bss;
+      below = placed.laid.below;
+      memory = placed.laid.memory;
       room = all_inputs os goes_to_text (λ i. IsTrue (list_all has_room (moves (start_of (starts_of p) i) i.section))) (has_its_room os start p placed roomy);
       once = named.once;
       globals = refl;
@@ -113,7 +112,7 @@ is_link drops os start names p entry r few page low named placed roomy begins ev
       rows = refl;
       readable = readable;
       relocated =
-          all_both (λ i. AreTaken os p i) _ _ (λ i taken. all_both (IsTaken os p i) _ _ (λ q has known. record { resolved = known; found = has.found; alone = has.alone; takes = has.takes }) i.section.relocations taken)
+          all_both (λ i. AreTaken os (layout_of p) i) _ _ (λ i taken. all_both (IsTaken os (layout_of p) i) _ _ (λ q has known. record { resolved = known; found = has.found; alone = has.alone; takes = has.takes }) i.section.relocations taken)
           (inputs is_loaded os) (grown.taken tt) resolved;
       text_bytes = sym (append-nil r.text.items) ∙ grown.text.holds;
       rodata_bytes = sym (append-nil r.rodata.items) ∙ grown.rodata.holds;

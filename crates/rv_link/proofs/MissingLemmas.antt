@@ -22,6 +22,7 @@ use Rattle.rv_object_laws.specs.IsLinkOf.{is_loaded}
 use Rattle.rv_object_laws.specs.Names.{Export, exports_in, exports_from, exports_where, candidates, is_export, global_names, is_in_text, can_begin}
 use Rattle.rv_object_laws.specs.Shortened.{Sizes, shortened_text, shortened_section, shortened_sections, shortened_from, Relaxes}
 use Rattle.rv_object_laws.specs.Without.{without}
+use Rattle.rv_object_laws.specs.Refusals.{HasNoProgram}
 use Rattle.rv_object_laws.proofs.DanglingLemmas.{nothing_left}
 use Rattle.rv_object_laws.proofs.TextInputsLemmas.{all_append}
 use Rattle.rv_object_laws.specs.Entry.{is_entry, has_entry}
@@ -29,7 +30,6 @@ use Rattle.rv_object_laws.specs.Undefined.{undefined_name, first_some, undefined
 use Rattle.rv_resolve.proofs.AlikeLemmas.{same_names}
 use Rattle.rv_reloc.specs.declared.fault.LinkFault.TheVariants.{Undefined, EntryMissing}
 use Rattle.rv_object_laws.specs.TextStart.{AreWithin}
-use Rattle.rv_link.specs.Refusals.{HasNoProgram}
 use Rattle.rv_link.proofs.LeftLemmas.{some_leaves}
 
 -- ---- objects of which nothing has an address

@@ -19,13 +19,13 @@ use Rattle.rv_object_types.specs.Valid.{is_shown, has_64_bits}
 use Rattle.rv_object_laws.specs.Inputs.{Starts}
 use Rattle.rv_object_laws.specs.Moves.{Move, moves, new_offset}
 use Rattle.rv_object_laws.specs.Names.{Export, chosen, is_defined, is_export, exports_in, exports_from, exports_where, is_chosen, chosen_exports, offset_address, defined_address, export_address, globals_of, shown_linker_symbols}
+use Rattle.rv_object_laws.specs.Layout.{regions_of, shown_globals}
 use Rattle.rv_object_laws.proofs.TextInputsLemmas.{all_append}
 use Rattle.rv_shorten.specs.declared.object.ShortObject.{ShortObject}
 use Rattle.rv_cut_laws.specs.Cutting.{cut_definition, cut_symbol}
 use Rattle.rv_shorten.specs.View.{short_object_of, moves_by_section}
 use Rattle.rv_placement.specs.declared.placement.Placement.{Placement}
-use Rattle.rv_placement.specs.Placement.{starts_of, IsPlacement}
-use Rattle.rv_resolve.specs.Shown.{regions_of, shown_globals}
+use Rattle.rv_placement.specs.Placement.{starts_of, IsPlacement, layout_of}
 
 -- ---- symbols
 
@@ -109,10 +109,10 @@ shown_known starts (e ∷ es) all =
 
 -- ---- the linker's names
 
-linkers_known : (os : List Object) (start : ℕ) (p : Placement) → IsPlacement os start p → AllByRecursion IsGlobal (linker_symbols (regions_of p))
+linkers_known : (os : List Object) (start : ℕ) (p : Placement) → IsPlacement os start p → AllByRecursion IsGlobal (linker_symbols (regions_of (layout_of p)))
 linkers_known os start p placed =
-    let (a, b, c, d, e, f, g) = placed.ordered in
-    let low : p.bss.end ≤ 0x3ff0_0000 = placed.below in
+    let (a, b, c, d, e, f, g) = placed.laid.ordered in
+    let low : p.bss.end ≤ 0x3ff0_0000 = placed.laid.below in
     let text : p.text.end < 2 ^ 64 = omega (arith, b, c, d, e, f, g, low) in
     let zeros : p.bss.start < 2 ^ 64 = omega (arith, g, low) in
     let variables : p.data.end < 2 ^ 64 = omega (arith, f, g, low) in
@@ -121,9 +121,9 @@ linkers_known os start p placed =
     ((refl, text), ((refl, zeros), ((refl, variables), ((refl, end), ((refl, pointer), tt)))))
 
 pub globals_known : (objects : List ShortObject) (start : ℕ) (p : Placement) → IsPlacement (map short_object_of objects) start p
-    → AllByRecursion IsGlobal (shown_globals (map short_object_of objects) p)
+    → AllByRecursion IsGlobal (shown_globals (map short_object_of objects) (layout_of p))
 globals_known objects start p placed =
     let os = map short_object_of objects in
-    all_append IsGlobal (globals_of (starts_of p) os) (shown_linker_symbols os (regions_of p))
+    all_append IsGlobal (globals_of (starts_of p) os) (shown_linker_symbols os (regions_of (layout_of p)))
     (shown_known (starts_of p) (chosen_exports os) (all_filtered IsShowable (is_chosen os) (exports_where is_shared os) (showable_from 1 os (can_show objects))))
-    (all_filtered IsGlobal (λ g. not (is_some (chosen os g.name))) (linker_symbols (regions_of p)) (linkers_known os start p placed))
+    (all_filtered IsGlobal (λ g. not (is_some (chosen os g.name))) (linker_symbols (regions_of (layout_of p))) (linkers_known os start p placed))

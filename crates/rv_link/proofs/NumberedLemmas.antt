@@ -11,6 +11,7 @@ use Rattle.rv_object_types.specs.Valid.{is_row_in, is_counted, are_counted}
 use Rattle.rv_object_types.proofs.CountedLemmas.{counted_widths}
 use Rattle.rv_object_laws.specs.IsLinkOf.{inserted_row, by_ordinal, map_row, moves_at, row_in, rows_of, most_files}
 use Rattle.rv_object_laws.specs.Moves.{Move, moves, new_offset}
+use Rattle.rv_object_laws.specs.Layout.{object_section}
 use Rattle.rv_object_laws.proofs.TextInputsLemmas.{all_append}
 use Rattle.rv_shorten.specs.declared.object.ShortObject.{ShortObject}
 use Rattle.rv_cut_laws.specs.Cutting.{cut_row_of}
@@ -18,7 +19,7 @@ use Rattle.rv_shorten.specs.View.{short_object_of, moves_by_section as cuts_of}
 use Rattle.rv_relax.specs.Kept.{moves_of}
 use Rattle.rv_relax.proofs.RisingLemmas.{plan_rises}
 use Rattle.rv_placement.specs.declared.placement.Placement.{Placement}
-use Rattle.rv_placement.specs.Placement.{starts_of, object_section, IsPlacement}
+use Rattle.rv_placement.specs.Placement.{starts_of, IsPlacement}
 use Rattle.rv_placement.proofs.FoundLemmas.{in_object, is_placed, start_is}
 use Rattle.rv_placement.proofs.MapRowsLemmas.{row_stands}
 
@@ -68,7 +69,7 @@ module _ (os : List Object) (start : ℕ) (p : Placement) (is : IsPlacement os s
       let (s, there, within) = row_stands r (slice_get o.sections r.section) lies in
       let stands : object_section os file r.section ≡ Some s = in_object os file r.section o at ∙ there in
       let (q, found) = is_placed os start p is file r.section s stands in
-      let low = is.low file r.section s q stands found in
+      let low = is.laid.low file r.section s stands in
       let planned : moves_of q.plan.now ≡ moves q.start s = is.planned file r.section s q stands found in
       let same : file + 1 ≡ suc file = omega arith in
       let begins : q.start ≡ starts_of p (suc file) r.section = sym (start_is p file r.section q (sym found)) ∙ ap (λ n. starts_of p n r.section) same in
@@ -80,7 +81,7 @@ module _ (os : List Object) (start : ℕ) (p : Placement) (is : IsPlacement os s
       let new = new_offset (moves_of q.plan.now) in
       let first : new r.offset ≤ new size = plan_rises q.plan.now r.offset size (omega (arith, within)) in
       let last : new (r.offset + r.bytes) ≤ new size = plan_rises q.plan.now (r.offset + r.bytes) size within in
-      let ends : q.start + new size < 2 ^ 64 = subst (λ ms. q.start + new_offset ms size < 2 ^ 64) (sym planned) low.1 in
+      let ends : q.start + new size < 2 ^ 64 = subst (λ ms. q.start + new_offset ms size < 2 ^ 64) (sym planned) (subst (λ n. n + new_offset (moves n s) size < 2 ^ 64) (start_is p file r.section q (sym found)) low.1) in
       let many : file < 1024 = few in
       let known : IsRow (map_row (suc file) q.start (moves_of q.plan.now) r) = (
         omega (arith, many),

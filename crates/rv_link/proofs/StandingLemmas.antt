@@ -8,13 +8,14 @@ use Rattle.std.specs.List.{list_all, slice_get}
 use Rattle.rv_object_types.specs.Object.{Object}
 use Rattle.rv_object_laws.specs.Moves.{has_room}
 use Rattle.rv_object_laws.specs.Names.{object_at, no_object}
+use Rattle.rv_object_laws.specs.Layout.{section_in, object_section}
 use Rattle.rv_shorten.specs.declared.object.ShortObject.{ShortObject}
 use Rattle.rv_shorten.specs.Sections.{short_section_of}
 use Rattle.rv_shorten.specs.View.{short_object_of}
 use Rattle.rv_relax.specs.Kept.{moves_of}
 use Rattle.rv_placement.specs.declared.placement.PlacedSection.{PlacedSection}
 use Rattle.rv_placement.specs.declared.placement.Placement.{Placement}
-use Rattle.rv_placement.specs.Placement.{starts_of, start_in, placed_in, placed_at, section_in, object_section, are_roomy_in, are_roomy, IsPlacement}
+use Rattle.rv_placement.specs.Placement.{starts_of, start_in, placed_in, placed_at, are_roomy_in, are_roomy, IsPlacement}
 use Rattle.rv_link.specs.declared.fixed.Input.{Input}
 use Rattle.rv_link.specs.Filled.{IsPlacedInput}
 use Rattle.rv_object_laws.proofs.ListsLemmas.{found_at}

@@ -14,14 +14,14 @@ use Rattle.rv_object_types.specs.declared.relocation.Relocation.{Relocation as D
 use Rattle.rv_object_laws.specs.Moves.{Move, moves, new_offset, kept, has_room}
 use Rattle.rv_object_laws.specs.Inputs.{InputSection, has_no_bytes}
 use Rattle.rv_object_laws.specs.Values.{applied, patched_at, value, initial_bytes}
+use Rattle.rv_object_laws.specs.Layout.{outer_in}
+use Rattle.rv_object_laws.specs.Untaken.{IsTaken, worth, IsFirst, IsUntaken}
 use Rattle.rv_cut_laws.specs.Cutting.{cut_relocation}
 use Rattle.rv_placement.specs.declared.placement.Placement.{Placement}
-use Rattle.rv_placement.specs.Placement.{starts_of}
-use Rattle.rv_resolve.specs.Shown.{outer_in}
+use Rattle.rv_placement.specs.Placement.{starts_of, layout_of}
 use Rattle.rv_reloc.specs.declared.fault.LinkFault.{LinkFault}
 use Rattle.rv_reloc.specs.declared.fault.LinkFault.TheVariants.{Overflow, OddTarget, DanglingPcrel, AlignmentShort, Undefined, Duplicate, EntryMissing, ImageTooLarge, BadTextStart, TooManyFiles, OutOfMemory}
-use Rattle.rv_link.specs.Filled.{IsInside, IsTaken, worth}
-use Rattle.rv_link.specs.Untaken.{IsFirst, IsUntaken}
+use Rattle.rv_link.specs.Filled.{IsInside}
 use Rattle.rv_cut_laws.proofs.FollowingLemmas.{Follow, kept_size}
 use Rattle.rv_cut_laws.proofs.OrderedLemmas.{section_follows, fields_inside}
 
@@ -43,36 +43,36 @@ next_of f xs i x h e =
 pub record IsPatched (os : List Object) (p : Placement) (i : InputSection) (ms : List Move) (all : List Relocation) (old : List ℕ)
     (left : List Relocation) (bytes : List ℕ) : Type 0 where
   pub inside : AllByRecursion (IsInside ms (length bytes)) left
-  pub same : applied (new_offset ms) (worth os p i) left bytes ≡ applied (new_offset ms) (worth os p i) all old
-  pub taken : AllByRecursion (IsTaken os p i) left → AllByRecursion (IsTaken os p i) all
-  pub first : (fault : LinkFault) → IsFirst (IsTaken os p i) (IsUntaken os p i fault) left → IsFirst (IsTaken os p i) (IsUntaken os p i fault) all
+  pub same : applied (new_offset ms) (worth os (layout_of p) i) left bytes ≡ applied (new_offset ms) (worth os (layout_of p) i) all old
+  pub taken : AllByRecursion (IsTaken os (layout_of p) i) left → AllByRecursion (IsTaken os (layout_of p) i) all
+  pub first : (fault : LinkFault) → IsFirst (IsTaken os (layout_of p) i) (IsUntaken os (layout_of p) i fault) left → IsFirst (IsTaken os (layout_of p) i) (IsUntaken os (layout_of p) i fault) all
 
 pub patched_step : (os : List Object) (p : Placement) (i : InputSection) (ms : List Move) (all : List Relocation) (old : List ℕ)
     (from : List Relocation) (r : Relocation) (left : List Relocation) (bytes new : List ℕ) (v : ℤ) → IsPatched os p i ms all old from bytes → from ≡ r ∷ left
-    → value (outer_in os p) (starts_of p) os i r ≡ Some v → (is_low_part r.kind ≡ true → r.addend ≡ pos 0) → Takes r.kind v
+    → value (outer_in os (layout_of p)) (starts_of p) os i r ≡ Some v → (is_low_part r.kind ≡ true → r.addend ≡ pos 0) → Takes r.kind v
     → new ≡ patched_at (new_offset ms r.place) r.kind v bytes → length new ≡ length bytes → IsPatched os p i ms all old left new
 patched_step os p i ms all old from r left bytes new v is front found alone takes writes keeps =
-    let here : worth os p i r ≡ v = ap (λ x. unwrap_or x (pos 0)) found in
+    let here : worth os (layout_of p) i r ≡ v = ap (λ x. unwrap_or x (pos 0)) found in
     let both : AllByRecursion (IsInside ms (length bytes)) (r ∷ left) = subst (λ l. AllByRecursion (IsInside ms (length bytes)) l) front is.inside in
-    let one : IsTaken os p i r = record { found = ap is_some found; alone = alone; takes = subst (λ x. Takes r.kind x) (sym here) takes } in
+    let one : IsTaken os (layout_of p) i r = record { found = ap is_some found; alone = alone; takes = subst (λ x. Takes r.kind x) (sym here) takes } in
     record {
       inside = subst (λ n. AllByRecursion (IsInside ms n) left) (sym keeps) both.1;
       same =
-          ap (λ l. applied (new_offset ms) (worth os p i) left l) (writes ∙ ap (λ x. patched_at (new_offset ms r.place) r.kind x bytes) (sym here))
-          ∙ ap (λ l. applied (new_offset ms) (worth os p i) l bytes) (sym front) ∙ is.same;
-      taken = λ h. is.taken (subst (λ l. AllByRecursion (IsTaken os p i) l) (sym front) (one, h));
-      first = λ fault h. is.first fault (subst (λ l. IsFirst (IsTaken os p i) (IsUntaken os p i fault) l) (sym front) (inr (one, h)));
+          ap (λ l. applied (new_offset ms) (worth os (layout_of p) i) left l) (writes ∙ ap (λ x. patched_at (new_offset ms r.place) r.kind x bytes) (sym here))
+          ∙ ap (λ l. applied (new_offset ms) (worth os (layout_of p) i) l bytes) (sym front) ∙ is.same;
+      taken = λ h. is.taken (subst (λ l. AllByRecursion (IsTaken os (layout_of p) i) l) (sym front) (one, h));
+      first = λ fault h. is.first fault (subst (λ l. IsFirst (IsTaken os (layout_of p) i) (IsUntaken os (layout_of p) i fault) l) (sym front) (inr (one, h)));
     }
 
 -- the next one fails
 pub patched_failed : (os : List Object) (p : Placement) (i : InputSection) (ms : List Move) (all : List Relocation) (old : List ℕ)
     (from : List Relocation) (r : Relocation) (left : List Relocation) (bytes : List ℕ) (fault : LinkFault) → IsPatched os p i ms all old from bytes → from ≡ r ∷ left
-    → IsUntaken os p i fault r → IsFirst (IsTaken os p i) (IsUntaken os p i fault) all
-patched_failed os p i ms all old from r left bytes fault is front h = is.first fault (subst (λ l. IsFirst (IsTaken os p i) (IsUntaken os p i fault) l) (sym front) (inl h))
+    → IsUntaken os (layout_of p) i fault r → IsFirst (IsTaken os (layout_of p) i) (IsUntaken os (layout_of p) i fault) all
+patched_failed os p i ms all old from r left bytes fault is front h = is.first fault (subst (λ l. IsFirst (IsTaken os (layout_of p) i) (IsUntaken os (layout_of p) i fault) l) (sym front) (inl h))
 
 -- a field that does not take its value
-pub untaken_by : (os : List Object) (p : Placement) (i : InputSection) (r : Relocation) (v : ℤ) (fault : LinkFault) → value (outer_in os p) (starts_of p) os i r ≡ Some v → (is_low_part r.kind ≡ true → r.addend ≡ pos 0)
-    → Refuses r.kind v fault → IsUntaken os p i fault r
+pub untaken_by : (os : List Object) (p : Placement) (i : InputSection) (r : Relocation) (v : ℤ) (fault : LinkFault) → value (outer_in os (layout_of p)) (starts_of p) os i r ≡ Some v → (is_low_part r.kind ≡ true → r.addend ≡ pos 0)
+    → Refuses r.kind v fault → IsUntaken os (layout_of p) i fault r
 untaken_by os p i r v Overflow found alone h = (v, (found, alone), h)
 untaken_by os p i r v OddTarget found alone h = (v, (found, alone), h)
 untaken_by os p i r v DanglingPcrel found alone h = absurd h

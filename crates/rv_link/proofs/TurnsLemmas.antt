@@ -8,17 +8,18 @@ use Rattle.rv_map.specs.declared.map.Region.{Region}
 use Rattle.rv_object_types.specs.Object.{Section, Object}
 use Rattle.rv_object_laws.specs.Inputs.{InputSection, has_no_bytes, goes_to_text, goes_to_rodata, goes_to_data, inputs_from, inputs_of, inputs, Stand}
 use Rattle.rv_object_laws.specs.Names.{object_at, no_object}
+use Rattle.rv_object_laws.specs.Untaken.{AreTaken, AreUntaken, IsFirstUntaken}
 use Rattle.std.proofs.lemmas.List.{drop_more, drop_all}
 use Rattle.rv_isa_laws.specs.Bytes.{zeros}
 use Rattle.rv_object_laws.specs.IsLinkOf.{is_loaded}
 use Rattle.rv_shorten.specs.Sections.{short_section_of}
 use Rattle.rv_placement.specs.declared.placement.Placement.{Placement}
-use Rattle.rv_placement.specs.Placement.{starts_of, IsPlacement}
+use Rattle.rv_placement.specs.Placement.{starts_of, IsPlacement, layout_of}
 use Rattle.rv_link.specs.declared.fixed.Input.{Input}
 use Rattle.rv_link.specs.declared.regions.Regions.{Regions}
 use Rattle.rv_link.specs.Filled.{IsPlacedInput, input_at, linked_in}
 use Rattle.rv_reloc.specs.declared.fault.LinkFault.{LinkFault}
-use Rattle.rv_link.specs.Untaken.{AreTaken, AreUntaken, IsFirstUntaken, OrMemory, AreUnfilled}
+use Rattle.rv_link.specs.Untaken.{OrMemory, AreUnfilled}
 use Rattle.rv_link.specs.Regions.{left_from, left_files, IsGrown, AreGrown}
 use Rattle.rv_link.proofs.GrowingLemmas.{later, grown_first, grown_next, grown_same, left_takes, left_skips, linked_long}
 
@@ -40,16 +41,16 @@ module _ (os : List Object) (p : Placement) (x : Input) (is : IsPlacedInput os p
   other goes region out e grown =
       grown_same (linked_in os p) (starts_of p) region (inputs goes os) (left_from os x.file x.index goes) (left_from os x.file (x.index + 1) goes) out (left_skips os x.file x.index (short_section_of x.section.now) goes is.stands e) grown
 
-  judged : AreTaken os p (input_at os x.file x.index (short_section_of x.section.now)) → (short_section_of x.section.now).loaded ≡ true
-      → (AllByRecursion (AreTaken os p) (left_from os x.file x.index is_loaded) → AllByRecursion (AreTaken os p) (inputs is_loaded os))
-      → AllByRecursion (AreTaken os p) (left_from os x.file (x.index + 1) is_loaded) → AllByRecursion (AreTaken os p) (inputs is_loaded os)
-  judged here e so h = so (subst (λ l. AllByRecursion (AreTaken os p) l) (sym (left_takes os x.file x.index (short_section_of x.section.now) is_loaded is.stands e)) (here, h))
+  judged : AreTaken os (layout_of p) (input_at os x.file x.index (short_section_of x.section.now)) → (short_section_of x.section.now).loaded ≡ true
+      → (AllByRecursion (AreTaken os (layout_of p)) (left_from os x.file x.index is_loaded) → AllByRecursion (AreTaken os (layout_of p)) (inputs is_loaded os))
+      → AllByRecursion (AreTaken os (layout_of p)) (left_from os x.file (x.index + 1) is_loaded) → AllByRecursion (AreTaken os (layout_of p)) (inputs is_loaded os)
+  judged here e so h = so (subst (λ l. AllByRecursion (AreTaken os (layout_of p)) l) (sym (left_takes os x.file x.index (short_section_of x.section.now) is_loaded is.stands e)) (here, h))
 
   -- the first that fails of those behind it
-  past : AreTaken os p (input_at os x.file x.index (short_section_of x.section.now)) → (short_section_of x.section.now).loaded ≡ true
-      → (fault : LinkFault) → (IsFirstUntaken os p fault (left_from os x.file x.index is_loaded) → IsFirstUntaken os p fault (inputs is_loaded os))
-      → IsFirstUntaken os p fault (left_from os x.file (x.index + 1) is_loaded) → IsFirstUntaken os p fault (inputs is_loaded os)
-  past here e fault so h = so (subst (λ l. IsFirstUntaken os p fault l) (sym (left_takes os x.file x.index (short_section_of x.section.now) is_loaded is.stands e)) (inr (here, h)))
+  past : AreTaken os (layout_of p) (input_at os x.file x.index (short_section_of x.section.now)) → (short_section_of x.section.now).loaded ≡ true
+      → (fault : LinkFault) → (IsFirstUntaken os (layout_of p) fault (left_from os x.file x.index is_loaded) → IsFirstUntaken os (layout_of p) fault (inputs is_loaded os))
+      → IsFirstUntaken os (layout_of p) fault (left_from os x.file (x.index + 1) is_loaded) → IsFirstUntaken os (layout_of p) fault (inputs is_loaded os)
+  past here e fault so h = so (subst (λ l. IsFirstUntaken os (layout_of p) fault l) (sym (left_takes os x.file x.index (short_section_of x.section.now) is_loaded is.stands e)) (inr (here, h)))
 
   -- where a region's section starts
   pub starts_later : (goes : Section → Bool) (region : Region) (out : List ℕ) → goes (short_section_of x.section.now) ≡ true
@@ -67,15 +68,15 @@ module _ (os : List Object) (p : Placement) (x : Input) (is : IsPlacedInput os p
       text = other goes_to_text p.text r.text.items (ap (λ b. b && x.section.now.whole.now.executable) e) grown.text;
       rodata = other goes_to_rodata p.rodata r.rodata.items (ap (λ b. b && not x.section.now.whole.now.executable && not (has_no_bytes (short_section_of x.section.now).contents) && not x.section.now.whole.now.writable) e) grown.rodata;
       «data» = other goes_to_data p.data r.data.items (ap (λ b. b && not x.section.now.whole.now.executable && not (has_no_bytes (short_section_of x.section.now).contents) && x.section.now.whole.now.writable) e) grown.data;
-      taken = λ h. grown.taken (subst (λ l. AllByRecursion (AreTaken os p) l) (sym (left_skips os x.file x.index (short_section_of x.section.now) is_loaded is.stands e)) h);
-      first = λ fault h. grown.first fault (subst (λ l. IsFirstUntaken os p fault l) (sym (left_skips os x.file x.index (short_section_of x.section.now) is_loaded is.stands e)) h);
+      taken = λ h. grown.taken (subst (λ l. AllByRecursion (AreTaken os (layout_of p)) l) (sym (left_skips os x.file x.index (short_section_of x.section.now) is_loaded is.stands e)) h);
+      first = λ fault h. grown.first fault (subst (λ l. IsFirstUntaken os (layout_of p) fault l) (sym (left_skips os x.file x.index (short_section_of x.section.now) is_loaded is.stands e)) h);
     }
 
     -- it fails itself
-    pub failed : x.section.now.whole.now.loaded ≡ true → (fault : LinkFault) → AreUntaken os p fault (input_at os x.file x.index (short_section_of x.section.now)) → IsFirstUntaken os p fault (inputs is_loaded os)
-    failed e fault h = grown.first fault (subst (λ l. IsFirstUntaken os p fault l) (sym (left_takes os x.file x.index (short_section_of x.section.now) is_loaded is.stands e)) (inl h))
+    pub failed : x.section.now.whole.now.loaded ≡ true → (fault : LinkFault) → AreUntaken os (layout_of p) fault (input_at os x.file x.index (short_section_of x.section.now)) → IsFirstUntaken os (layout_of p) fault (inputs is_loaded os)
+    failed e fault h = grown.first fault (subst (λ l. IsFirstUntaken os (layout_of p) fault l) (sym (left_takes os x.file x.index (short_section_of x.section.now) is_loaded is.stands e)) (inl h))
 
-    pub failed_or : x.section.now.whole.now.loaded ≡ true → (fault : LinkFault) → OrMemory (λ f. AreUntaken os p f (input_at os x.file x.index (short_section_of x.section.now))) fault → AreUnfilled os p fault
+    pub failed_or : x.section.now.whole.now.loaded ≡ true → (fault : LinkFault) → OrMemory (λ f. AreUntaken os (layout_of p) f (input_at os x.file x.index (short_section_of x.section.now))) fault → AreUnfilled os p fault
     failed_or e fault (inl h) = inl h
     failed_or e fault (inr h) = inr (failed e fault h)
 
@@ -96,11 +97,11 @@ module _ (os : List Object) (p : Placement) (x : Input) (is : IsPlacedInput os p
         ∙ ap (λ l. a && not l && not (has_no_bytes (short_section_of x.section.now).contents) && x.section.now.whole.now.writable) f
         ∙ ap (λ l. a && not b && not l && x.section.now.whole.now.writable) g ∙ ap (λ l. a && not b && not n && l) h
 
-    module _ (loaded : x.section.now.whole.now.loaded ≡ true) (here : AreTaken os p (input_at os x.file x.index (short_section_of x.section.now))) where
-      so : AllByRecursion (AreTaken os p) (left_from os x.file (x.index + 1) is_loaded) → AllByRecursion (AreTaken os p) (inputs is_loaded os)
+    module _ (loaded : x.section.now.whole.now.loaded ≡ true) (here : AreTaken os (layout_of p) (input_at os x.file x.index (short_section_of x.section.now))) where
+      so : AllByRecursion (AreTaken os (layout_of p)) (left_from os x.file (x.index + 1) is_loaded) → AllByRecursion (AreTaken os (layout_of p)) (inputs is_loaded os)
       so = judged here loaded grown.taken
 
-      behind : (fault : LinkFault) → IsFirstUntaken os p fault (left_from os x.file (x.index + 1) is_loaded) → IsFirstUntaken os p fault (inputs is_loaded os)
+      behind : (fault : LinkFault) → IsFirstUntaken os (layout_of p) fault (left_from os x.file (x.index + 1) is_loaded) → IsFirstUntaken os (layout_of p) fault (inputs is_loaded os)
       behind fault = past here loaded fault (grown.first fault)
 
       module _ (out : Vec ℕ) where
@@ -154,8 +155,8 @@ grown_along os p left next r same grown = record {
   text = grown_same _ _ p.text _ _ _ r.text.items (same goes_to_text) grown.text;
   rodata = grown_same _ _ p.rodata _ _ _ r.rodata.items (same goes_to_rodata) grown.rodata;
   «data» = grown_same _ _ p.data _ _ _ r.data.items (same goes_to_data) grown.data;
-  taken = λ h. grown.taken (subst (λ l. AllByRecursion (AreTaken os p) l) (sym (same is_loaded)) h);
-  first = λ fault h. grown.first fault (subst (λ l. IsFirstUntaken os p fault l) (sym (same is_loaded)) h);
+  taken = λ h. grown.taken (subst (λ l. AllByRecursion (AreTaken os (layout_of p)) l) (sym (same is_loaded)) h);
+  first = λ fault h. grown.first fault (subst (λ l. IsFirstUntaken os (layout_of p) fault l) (sym (same is_loaded)) h);
 }
 
 pub file_opens : (os : List Object) (file : ℕ) → file < length os → (goes : Section → Bool) → left_files os file goes ≡ left_from os file 0 goes
@@ -177,9 +178,9 @@ files_close os goes = ap (λ l. inputs_of goes (length os + 1) l) (drop_all (len
 pub opens : (os : List Object) (p : Placement) (start : ℕ) (r : Regions) → IsPlacement os start p → r.text.items ≡ [] → r.rodata.items ≡ [] → r.data.items ≡ []
     → AreGrown os p (left_files os 0) r
 opens os p start r placed e f g = record {
-  text = subst (λ l. IsGrown (linked_in os p) (starts_of p) p.text (inputs goes_to_text os) (inputs goes_to_text os) l) (sym e) (grown_first (linked_in os p) (starts_of p) p.text _ _ placed.text);
-  rodata = subst (λ l. IsGrown (linked_in os p) (starts_of p) p.rodata (inputs goes_to_rodata os) (inputs goes_to_rodata os) l) (sym f) (grown_first (linked_in os p) (starts_of p) p.rodata _ _ placed.rodata);
-  «data» = subst (λ l. IsGrown (linked_in os p) (starts_of p) p.data (inputs goes_to_data os) (inputs goes_to_data os) l) (sym g) (grown_first (linked_in os p) (starts_of p) p.data _ _ placed.data);
+  text = subst (λ l. IsGrown (linked_in os p) (starts_of p) p.text (inputs goes_to_text os) (inputs goes_to_text os) l) (sym e) (grown_first (linked_in os p) (starts_of p) p.text _ _ placed.laid.text);
+  rodata = subst (λ l. IsGrown (linked_in os p) (starts_of p) p.rodata (inputs goes_to_rodata os) (inputs goes_to_rodata os) l) (sym f) (grown_first (linked_in os p) (starts_of p) p.rodata _ _ placed.laid.rodata);
+  «data» = subst (λ l. IsGrown (linked_in os p) (starts_of p) p.data (inputs goes_to_data os) (inputs goes_to_data os) l) (sym g) (grown_first (linked_in os p) (starts_of p) p.data _ _ placed.laid.data);
   taken = λ h. h;
   first = λ fault h. h;
 }

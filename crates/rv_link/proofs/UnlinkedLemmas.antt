@@ -1,19 +1,21 @@
 -- Why a link ends: what each pass says of it.
 
-use Rattle.std.proofs.Common.{◌≡◌, ℕ, List, [], ◌∷◌, length, true, inl, inr, subst, sym}
+use Rattle.std.proofs.Common.{◌≡◌, ℕ, List, [], ◌∷◌, length, true, inl, inr, refl, subst, sym}
 use Rattle.rv_object_types.specs.Object.{Relocation, Object}
 use Rattle.rv_object_laws.specs.Inputs.{InputSection, inputs}
 use Rattle.rv_object_laws.specs.IsLinkOf.{is_loaded}
+use Rattle.rv_object_laws.specs.Layout.{AreRoomy}
+use Rattle.rv_object_laws.specs.Untaken.{IsTaken, IsFirst, IsUntaken, AreTaken, AreUntaken, IsFirstUntaken}
+use Rattle.rv_object_laws.specs.Refusals.{AreUnnamed, AreUnplaced, ComesToPlaces, IsUnlinked}
 use Rattle.rv_placement.specs.declared.fault.PlacementFault.{PlacementFault}
 use Rattle.rv_placement.specs.declared.fault.PlacementFault.TheVariants as placements
 use Rattle.rv_placement.specs.declared.placement.Placement.{Placement}
-use Rattle.rv_placement.specs.Placement.{are_roomy, IsPlacement, IsUnplaced}
+use Rattle.rv_placement.specs.Placement.{starts_of, are_roomy, IsPlacement, IsUnplaced, layout_of}
 use Rattle.rv_reloc.specs.declared.fault.LinkFault.{LinkFault}
 use Rattle.rv_reloc.specs.declared.fault.LinkFault.TheVariants.{Overflow, OddTarget, DanglingPcrel, AlignmentShort, Undefined, Duplicate, EntryMissing, ImageTooLarge, BadTextStart, TooManyFiles, OutOfMemory}
 use Rattle.rv_placement.specs.Fault.{of_placement}
-use Rattle.rv_link.specs.Filled.{IsTaken}
-use Rattle.rv_link.specs.Untaken.{IsFirst, IsUntaken, AreTaken, AreUntaken, IsFirstUntaken, AreUnfilled}
-use Rattle.rv_link.specs.Refusals.{AreUnnamed, AreUnplaced, ComesToPlaces, IsUnlinked}
+use Rattle.rv_placement.proofs.RoomsLemmas.{are_rooms}
+use Rattle.rv_link.specs.Untaken.{AreUnfilled}
 use Rattle.rv_object_laws.specs.TextStart.{AreWithin}
 
 -- why sections cannot be placed
@@ -55,15 +57,18 @@ none_first Passes Fails none (x ∷ xs) (inl h) = none x h
 none_first Passes Fails none (x ∷ xs) (inr h) = none_first Passes Fails none xs h.1
 
 module _ (os : List Object) (start : ℕ) (p : Placement) (so : ComesToPlaces os start) (placed : IsPlacement os start p) (roomy : are_roomy p ≡ true) where
-  -- no relocation is refused for another reason
-  never : {A : Type 0} (fault : LinkFault) → ((i : InputSection) (r : Relocation) → IsUntaken os p i fault r → ⊥) → IsFirstUntaken os p fault (inputs is_loaded os) → A
-  never fault none h =
-      absurd (none_first (AreTaken os p) (AreUntaken os p fault) (λ i. none_first (IsTaken os p i) (IsUntaken os p i fault) (none i) i.section.relocations) (inputs is_loaded os) h)
+  rooms : AreRoomy os (starts_of p)
+  rooms = (are_rooms os start p placed (are_roomy p) refl).0 roomy
 
-  told : (fault : LinkFault) → IsFirstUntaken os p fault (inputs is_loaded os) → IsUnlinked os start fault
-  told Overflow h = (so, (p, placed, roomy, h))
-  told OddTarget h = (so, (p, placed, roomy, h))
-  told DanglingPcrel h = (so, (p, placed, roomy, h))
+  -- no relocation is refused for another reason
+  never : {A : Type 0} (fault : LinkFault) → ((i : InputSection) (r : Relocation) → IsUntaken os (layout_of p) i fault r → ⊥) → IsFirstUntaken os (layout_of p) fault (inputs is_loaded os) → A
+  never fault none h =
+      absurd (none_first (AreTaken os (layout_of p)) (AreUntaken os (layout_of p) fault) (λ i. none_first (IsTaken os (layout_of p) i) (IsUntaken os (layout_of p) i fault) (none i) i.section.relocations) (inputs is_loaded os) h)
+
+  told : (fault : LinkFault) → IsFirstUntaken os (layout_of p) fault (inputs is_loaded os) → IsUnlinked os start fault
+  told Overflow h = (so, (layout_of p, placed.laid, rooms, h))
+  told OddTarget h = (so, (layout_of p, placed.laid, rooms, h))
+  told DanglingPcrel h = (so, (layout_of p, placed.laid, rooms, h))
   told AlignmentShort h = never AlignmentShort (λ i r n. n) h
   told (Undefined name) h = never (Undefined name) (λ i r n. n) h
   told (Duplicate name) h = never (Duplicate name) (λ i r n. n) h

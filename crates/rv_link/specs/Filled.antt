@@ -1,22 +1,22 @@
 -- What regions hold, section by section (gABI, "Relocation").
 
-use Rattle.std.specs.Prelude.{◌≡◌, ℕ, ◌+◌, ◌<◌, ◌≤◌, ℤ, pos, true, IsTrue, List, map, Some, is_some, unwrap_or}
+use Rattle.std.specs.Prelude.{◌≡◌, ℕ, ◌+◌, ◌<◌, ◌≤◌, IsTrue, List, map, Some}
 use Rattle.std.specs.List.{AllByRecursion, list_all}
-use Rattle.rv_isa.specs.Kinds.{width_of, is_low_part}
-use Rattle.rv_reloc.specs.Ranges.{Takes}
+use Rattle.rv_isa.specs.Kinds.{width_of}
 use Rattle.rv_object_types.specs.Object.{Relocation, Section, Object}
 use Rattle.rv_object_laws.specs.Moves.{Move, moves, new_offset, has_room}
 use Rattle.rv_object_laws.specs.Inputs.{InputSection}
 use Rattle.rv_object_laws.specs.Names.{object_at}
-use Rattle.rv_object_laws.specs.Values.{value, linked_bytes}
+use Rattle.rv_object_laws.specs.Values.{linked_bytes}
+use Rattle.rv_object_laws.specs.Layout.{object_section, outer_in}
+use Rattle.rv_object_laws.specs.Untaken.{IsTaken}
 use Rattle.rv_shorten.specs.Sections.{short_section_of}
 use Rattle.rv_shorten.specs.View.{short_object_of}
 use Rattle.rv_relax.specs.Kept.{moves_of}
 use Rattle.rv_placement.specs.declared.placement.Placement.{Placement}
-use Rattle.rv_placement.specs.Placement.{starts_of, object_section}
+use Rattle.rv_placement.specs.Placement.{starts_of, layout_of}
 use Rattle.rv_link.specs.declared.fixed.Input.{Input}
 use Rattle.rv_link.specs.declared.fixed.Fixed.{Fixed}
-use Rattle.rv_resolve.specs.Shown.{outer_in}
 
 abbrev pub objects_of : Fixed → List Object
 objects_of f = map short_object_of f.objects.now
@@ -41,24 +41,13 @@ pub record IsPlacedInput (os : List Object) (p : Placement) (x : Input) : Type 0
 abbrev pub IsInputOf : Fixed → Input → Type 0
 IsInputOf f x = IsPlacedInput (objects_of f) f.placement.now x
 
--- the value of a relocation where objects stand so
-abbrev pub worth : List Object → Placement → InputSection → Relocation → ℤ
-worth os p i r = unwrap_or (value (outer_in os p) (starts_of p) os i r) (pos 0)
-
--- a relocation has a value, and its field takes it
-pub record IsTaken (os : List Object) (p : Placement)
-    (i : InputSection) (r : Relocation) : Type 0 where
-  pub found : IsTrue (is_some (value (outer_in os p) (starts_of p) os i r))
-  pub alone : is_low_part r.kind ≡ true → r.addend ≡ pos 0
-  pub takes : Takes r.kind (worth os p i r)
-
 -- a relocation's field lies in so many bytes that are kept
 abbrev pub IsInside : List Move → ℕ → Relocation → Type 0
 IsInside ms size r = 0 < width_of r.kind → new_offset ms r.place + width_of r.kind ≤ size
 
 -- the bytes of a section in the program
 abbrev pub linked_in : List Object → Placement → InputSection → List ℕ
-linked_in os p i = linked_bytes (outer_in os p) (starts_of p) os i
+linked_in os p i = linked_bytes (outer_in os (layout_of p)) (starts_of p) os i
 
 abbrev pub input_bytes : Fixed → Input → List ℕ
 input_bytes f x = linked_in (objects_of f) f.placement.now (input_of f x)
@@ -66,5 +55,5 @@ input_bytes f x = linked_in (objects_of f) f.placement.now (input_of f x)
 -- the fields of a section take their values
 abbrev pub AreTakenOf : Fixed → Input → Type 0
 AreTakenOf f x =
-    AllByRecursion (IsTaken (objects_of f) f.placement.now (input_of f x))
+    AllByRecursion (IsTaken (objects_of f) (layout_of f.placement.now) (input_of f x))
     (short_section_of x.section.now).relocations

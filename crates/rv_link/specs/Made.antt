@@ -6,9 +6,9 @@ use Rattle.rv_image.specs.Linked.{Linked}
 use Rattle.rv_map.specs.declared.map.SectionId.{SectionId}
 use Rattle.rv_object_types.specs.Object.{Object}
 use Rattle.rv_object_laws.specs.IsLinkOf.{rows_of}
+use Rattle.rv_object_laws.specs.Layout.{shown_globals}
 use Rattle.rv_placement.specs.declared.placement.Placement.{Placement}
-use Rattle.rv_placement.specs.Placement.{starts_of}
-use Rattle.rv_resolve.specs.Shown.{shown_globals}
+use Rattle.rv_placement.specs.Placement.{starts_of, layout_of}
 use Rattle.rv_link.specs.declared.regions.Regions.{Regions}
 
 -- with these regions, the names that they show and the rows of their statements
@@ -24,7 +24,7 @@ made drops os p entry r = record {
     bss = p.bss;
     entry = entry;
     gaps = p.gaps.items;
-    globals = shown_globals os p;
+    globals = shown_globals os (layout_of p);
     drops = drops;
     rows = rows_of (starts_of p) 1 os;
   };

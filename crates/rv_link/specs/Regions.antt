@@ -6,6 +6,7 @@ use Rattle.rv_map.specs.Globals.{AreDistinct}
 use Rattle.rv_map.specs.declared.map.Region.{Region}
 use Rattle.rv_object_types.specs.Object.{Section, Object}
 use Rattle.rv_object_laws.specs.Inputs.{Starts, InputSection, goes_to_text, goes_to_rodata, goes_to_data, inputs_from, inputs_of, inputs, Stand, sections_end, contents}
+use Rattle.rv_object_laws.specs.Untaken.{AreTaken, IsFirstUntaken}
 use Rattle.rv_map.specs.Map.{Map}
 use Rattle.rv_object_laws.specs.Names.{object_at, outer_address, globals_of, global_names, shown_linker_symbols}
 use Rattle.rv_resolve.specs.declared.names.Names.{Names}
@@ -14,13 +15,12 @@ use Rattle.rv_resolve.specs.Resolved.{AreResolved}
 use Rattle.rv_object_laws.specs.Undefined.{first_undefined}
 use Rattle.rv_object_laws.specs.IsLinkOf.{is_loaded}
 use Rattle.rv_placement.specs.declared.placement.Placement.{Placement}
-use Rattle.rv_placement.specs.Placement.{starts_of, are_roomy, IsPlacement}
+use Rattle.rv_placement.specs.Placement.{starts_of, are_roomy, IsPlacement, layout_of}
 use Rattle.rv_link_values.specs.Values.{IsValues}
 use Rattle.rv_link.specs.declared.fixed.Fixed.{Fixed}
 use Rattle.rv_link.specs.declared.regions.Regions.{Regions}
 use Rattle.rv_reloc.specs.declared.fault.LinkFault.{LinkFault}
 use Rattle.rv_link.specs.Filled.{objects_of, linked_in}
-use Rattle.rv_link.specs.Untaken.{AreTaken, IsFirstUntaken}
 
 -- where the sections of objects stand, with room for their paddings, and what their relocations are
 -- worth
@@ -59,11 +59,11 @@ pub record AreGrown (os : List Object) (p : Placement)
       (left goes_to_rodata) r.rodata.items
   pub «data» : IsGrown (linked_in os p) (starts_of p) p.data (inputs goes_to_data os)
       (left goes_to_data) r.data.items
-  pub taken : AllByRecursion (AreTaken os p) (left is_loaded)
-      → AllByRecursion (AreTaken os p) (inputs is_loaded os)
+  pub taken : AllByRecursion (AreTaken os (layout_of p)) (left is_loaded)
+      → AllByRecursion (AreTaken os (layout_of p)) (inputs is_loaded os)
   -- so the first that fails of those that are left is the first of all
-  pub first : (fault : LinkFault) → IsFirstUntaken os p fault (left is_loaded)
-      → IsFirstUntaken os p fault (inputs is_loaded os)
+  pub first : (fault : LinkFault) → IsFirstUntaken os (layout_of p) fault (left is_loaded)
+      → IsFirstUntaken os (layout_of p) fault (inputs is_loaded os)
 
 -- ---- passes
 

@@ -6,10 +6,10 @@
 ghost use Rattle.std.specs.Prelude.{◌≡◌, IfOk, map, ℕ};
 ghost use Rattle.rv_map.specs.Map.{global_of};
 ghost use Rattle.rv_object_laws.specs.IsLinkOf.{rows_of};
+ghost use Rattle.rv_object_laws.specs.Layout.{shown_globals};
 ghost use Rattle.rv_shorten.specs.View.{short_object_of};
-ghost use Rattle.rv_placement.specs.Placement.{starts_of, IsPlacement};
+ghost use Rattle.rv_placement.specs.Placement.{starts_of, IsPlacement, layout_of};
 ghost use Rattle.rv_resolve.specs.Names.{IsNames};
-ghost use Rattle.rv_resolve.specs.Shown.{shown_globals};
 ghost use Rattle.rv_object_laws.specs.Details.{if_wanted};
 
 use rv_map::{Global as MapGlobal, Row as MapRow};
@@ -29,7 +29,8 @@ pub(crate) fn globals(
     ensures { (start : ℕ) → IsNames (map short_object_of objects.now) names.now
         → IsPlacement (map short_object_of objects.now) start placement.now
         → IfOk result (λ globals. map global_of globals.items
-        ≡ if_wanted wanted (shown_globals (map short_object_of objects.now) placement.now)) }
+        ≡ if_wanted wanted
+        (shown_globals (map short_object_of objects.now) (layout_of placement.now))) }
 {
     if wanted {
         return names.globals(alloc, objects, placement);

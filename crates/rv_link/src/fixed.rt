@@ -12,22 +12,15 @@ ghost use Rattle.rv_object_laws.specs.Inputs.{has_no_bytes};
 ghost use Rattle.rv_object_laws.specs.Moves.{kept, new_offset};
 ghost use Rattle.rv_object_laws.specs.Values.{applied, initial_bytes, value};
 ghost use Rattle.rv_object_laws.specs.Names.{object_at};
+ghost use Rattle.rv_object_laws.specs.Untaken.{IsUntaken, worth};
+ghost use Rattle.rv_object_laws.specs.Layout.{outer_in};
 ghost use Rattle.rv_shorten.specs.Sections.{short_section_of};
 ghost use Rattle.rv_relax.specs.Kept.{moves_of};
-ghost use Rattle.rv_placement.specs.Placement.{starts_of};
+ghost use Rattle.rv_placement.specs.Placement.{starts_of, layout_of};
 ghost use Rattle.rv_link.specs.Idle.{is_idle};
 ghost use Rattle.rv_link.specs.Regions.{IsFixed};
-ghost use Rattle.rv_link.specs.Untaken.{IsUntaken, AreUntakenOf, OrMemory};
-ghost use Rattle.rv_resolve.specs.Shown.{outer_in};
-ghost use Rattle.rv_link.specs.Filled.{
-  AreTakenOf,
-  IsInside,
-  IsInputOf,
-  input_bytes,
-  input_of,
-  objects_of,
-  worth,
-};
+ghost use Rattle.rv_link.specs.Untaken.{AreUntakenOf, OrMemory};
+ghost use Rattle.rv_link.specs.Filled.{AreTakenOf, IsInside, IsInputOf, input_bytes, input_of, objects_of};
 
 use crate::fields::apply;
 use rv_isa::Kind;
@@ -79,13 +72,13 @@ impl<'p, 'o, 'a, 'n> Fixed<'p, 'o, 'a, 'n> {
         requires fixed { IsFixed self.now }
         requires input { IsInputOf self.now input.now }
         ensures found { IfOk result
-            (λ v. value (outer_in (objects_of self.now) (self.now).placement.now)
+            (λ v. value (outer_in (objects_of self.now) (layout_of (self.now).placement.now))
             (starts_of (self.now).placement.now) (objects_of self.now)
             (input_of self.now input.now) (relocation_of relocation.now) ≡ Some v) }
         ensures alone { IfOk result
             (λ v. is_low_part (relocation.now).kind ≡ true → (relocation.now).addend ≡ pos 0) }
         ensures refuses { IfErr result (λ fault. IsUntaken (objects_of self.now)
-            (self.now).placement.now (input_of self.now input.now) fault
+            (layout_of (self.now).placement.now) (input_of self.now input.now) fault
             (relocation_of relocation.now)) }
     {
         let value = self.values.value(input.file, input.index, relocation)?;
@@ -105,7 +98,8 @@ impl<'p, 'o, 'a, 'n> Fixed<'p, 'o, 'a, 'n> {
             (short_section_of (input.now).section.now).relocations }
         ensures applied { OnOk result
             (bytes.new ≡ applied (new_offset (moves_of (input.now).placed.now.plan.now))
-            (worth (objects_of self.now) (self.now).placement.now (input_of self.now input.now))
+            (worth (objects_of self.now) (layout_of (self.now).placement.now)
+            (input_of self.now input.now))
             (short_section_of (input.now).section.now).relocations bytes.old) }
         // each of its relocations has a value, which its field takes
         ensures taken { OnOk result (AreTakenOf self.now input.now) }

@@ -11,9 +11,9 @@ ghost use Rattle.rv_object_laws.specs.Collects.{Collects, entry_place};
 ghost use Rattle.rv_object_laws.specs.Names.{global_names};
 ghost use Rattle.rv_object_laws.specs.Without.{without};
 ghost use Rattle.rv_object_laws.specs.Undefined.{first_undefined};
+ghost use Rattle.rv_object_laws.specs.Refusals.{HasNoProgram};
 ghost use Rattle.rv_reloc.specs.declared.fault.LinkFault.TheVariants.{EntryMissing, Undefined};
 ghost use Rattle.rv_object_laws.specs.TextStart.{AreWithin};
-ghost use Rattle.rv_link.specs.Refusals.{HasNoProgram};
 
 /// Where no run can begin, collection leaves no reference to a name without a meaning. So a link with collection is not refused for
 /// such a name, but for the missing entry, where the files, the text's start and the global definitions can be linked.

@@ -12,9 +12,10 @@ ghost use Rattle.rv_object_types.specs.Object.{Object as SaidObject};
 ghost use Rattle.rv_object_types.specs.View.{object_of};
 ghost use Rattle.rv_object_laws.specs.IsLinkOf.{most_files};
 ghost use Rattle.rv_object_laws.specs.Names.{global_names, entry_of};
+ghost use Rattle.rv_object_laws.specs.Refusals.{AreDoubled, ArePast, AreUnnamed, AreUnplaced, IsOddEntry, IsUnlinked};
 ghost use Rattle.rv_shorten.specs.View.{short_object_of};
 ghost use Rattle.rv_relax.specs.Plan.{are_roomy_objects, planned_objects};
-ghost use Rattle.rv_placement.specs.Placement.{IsPlacement, are_roomy, starts_of};
+ghost use Rattle.rv_placement.specs.Placement.{IsPlacement, are_roomy, starts_of, layout_of};
 ghost use Rattle.rv_map.specs.Limits.{IsDrop, IsMap};
 ghost use Rattle.rv_link.specs.Made.{made};
 ghost use Rattle.rv_link.specs.Left.{IsLinkWith};
@@ -24,7 +25,6 @@ ghost use Rattle.rv_object_laws.specs.Exports.{first_duplicate};
 ghost use Rattle.rv_object_laws.specs.Undefined.{first_undefined};
 ghost use Rattle.rv_reloc.specs.declared.fault.LinkFault.TheVariants.{EntryMissing, OutOfMemory};
 ghost use Rattle.rv_link.specs.Untaken.{AreUnfilled};
-ghost use Rattle.rv_link.specs.Refusals.{AreDoubled, ArePast, AreUnnamed, AreUnplaced, IsOddEntry, IsUnlinked};
 ghost use Rattle.rv_object_laws.specs.TextStart.{AreWithin};
 ghost use Rattle.rv_link.specs.Regions.{AreGrown, HasLinkNames, IsReady, IsPlaced};
 
@@ -169,7 +169,7 @@ fn entry(
         (λ a. entry_of (starts_of placement.now) (map short_object_of objects.now) ≡ Some a) }
     ensures even { IfOk result (λ a. a % 2 ≡ 0) }
     ensures refuses { IfErr result (λ fault. (fault ≡ EntryMissing)
-        × IsOddEntry (map short_object_of objects.now) placement.now) }
+        × IsOddEntry (map short_object_of objects.now) (layout_of placement.now)) }
 {
     match names.entry(objects, placement) {
         Some(entry) => {

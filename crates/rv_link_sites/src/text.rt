@@ -8,7 +8,7 @@ ghost use Rattle.rv_object_types.specs.View.{object_of};
 ghost use Rattle.rv_object_laws.specs.Inputs.{InputSection};
 ghost use Rattle.rv_object_laws.specs.CallSites.{base, target_place};
 ghost use Rattle.rv_object_laws.specs.Names as laws;
-ghost use Rattle.rv_placement.specs.Placement.{object_section};
+ghost use Rattle.rv_object_laws.specs.Layout.{object_section};
 ghost use Rattle.rv_resolve.specs.Names.{IsNames, place_of};
 ghost use Rattle.rv_link_sites.specs.Text.{IsLaidText, objects_of, text_target};
 

@@ -9,10 +9,11 @@ use Rattle.rv_object_laws.specs.Moves.{moves, new_offset}
 use Rattle.rv_object_laws.specs.Inputs.{InputSection}
 use Rattle.rv_object_laws.specs.Names.{Outer, object_at, no_object}
 use Rattle.rv_object_laws.specs.Values.{own_value, high_at, value_at, value_in}
+use Rattle.rv_object_laws.specs.Layout.{section_in, object_section}
 use Rattle.rv_relax.specs.Kept.{moves_of}
 use Rattle.rv_placement.specs.declared.placement.PlacedSection.{PlacedSection}
 use Rattle.rv_placement.specs.declared.placement.Placement.{Placement}
-use Rattle.rv_placement.specs.Placement.{starts_of, start_in, placed_at, section_in, object_section, IsPlacement}
+use Rattle.rv_placement.specs.Placement.{starts_of, start_in, placed_at, IsPlacement}
 use Rattle.rv_resolve.specs.Names.{place_of}
 use Rattle.rv_link_values.specs.Highs.{high_in, high_of}
 use Rattle.rv_link_values.specs.Values.{IsInputAt}

@@ -5,10 +5,11 @@ use Rattle.rv_object_types.specs.Object.{Section, Object}
 use Rattle.rv_object_laws.specs.Moves.{new_offset}
 use Rattle.rv_object_laws.specs.Inputs.{InputSection}
 use Rattle.rv_object_laws.specs.Values.{moved}
+use Rattle.rv_object_laws.specs.Layout.{section_in, object_section}
 use Rattle.rv_relax.specs.Kept.{moves_of}
 use Rattle.rv_placement.specs.declared.placement.PlacedSection.{PlacedSection}
 use Rattle.rv_placement.specs.declared.placement.Placement.{Placement}
-use Rattle.rv_placement.specs.Placement.{starts_of, start_in, placed_at, section_in, object_section, IsPlacement}
+use Rattle.rv_placement.specs.Placement.{starts_of, start_in, placed_at, IsPlacement}
 use Rattle.rv_link_values.specs.Values.{IsInputAt}
 use Rattle.rv_placement.proofs.FoundLemmas.{each_at}
 

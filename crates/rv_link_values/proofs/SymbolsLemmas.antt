@@ -5,11 +5,11 @@ use Rattle.std.specs.Prelude.{option_map, option_and_then, map}
 use Rattle.std.specs.List.{slice_get}
 use Rattle.rv_object_types.specs.Object.{Object}
 use Rattle.rv_object_laws.specs.Names.{symbol_address, symbol_place}
+use Rattle.rv_object_laws.specs.Layout.{outer_in}
 use Rattle.rv_shorten.specs.View.{short_object_of}
 use Rattle.rv_placement.specs.declared.placement.Placement.{Placement}
-use Rattle.rv_placement.specs.Placement.{starts_of, IsPlacement}
+use Rattle.rv_placement.specs.Placement.{starts_of, IsPlacement, layout_of}
 use Rattle.rv_resolve.specs.Names.{IsNames, place_of}
-use Rattle.rv_resolve.specs.Shown.{outer_in}
 use Rattle.rv_link_values.specs.declared.values.Values.{Values}
 use Rattle.rv_link_values.specs.Values.{IsValues}
 
@@ -17,11 +17,11 @@ use Rattle.rv_link_values.specs.Values.{IsValues}
 abbrev AddressIs : Option ℕ → ℕ → ℕ → Values → List Object → Placement → Type 0
 AddressIs address file index v os p =
     (start : ℕ) (o : Object) → IsNames os v.names.now → IsPlacement os start p → slice_get os file ≡ Some o
-    → address ≡ option_and_then (symbol_address (outer_in os p) (starts_of p (file + 1)) o) (slice_get o.symbols index)
+    → address ≡ option_and_then (symbol_address (outer_in os (layout_of p)) (starts_of p (file + 1)) o) (slice_get o.symbols index)
 
 pub address_is : (address : Option ℕ) (file index : ℕ) (v : Values) (os : List Object) (p : Placement) (o : Object) → IsValues os p v → slice_get os file ≡ Some o
     → AddressIs address file index v (map short_object_of v.objects.now) v.placement.now
-    → address ≡ option_and_then (symbol_address (outer_in os p) (starts_of p (file + 1)) o) (slice_get o.symbols index)
+    → address ≡ option_and_then (symbol_address (outer_in os (layout_of p)) (starts_of p (file + 1)) o) (slice_get o.symbols index)
 address_is address file index v os p o h at claim =
     let by_objects : AddressIs address file index v os v.placement.now = subst (λ x. AddressIs address file index v x v.placement.now) h.objects claim in
     let both : AddressIs address file index v os p = subst (AddressIs address file index v os) h.placement by_objects in

@@ -8,8 +8,8 @@ use Rattle.rv_object_types.specs.Object.{Relocation, Object}
 use Rattle.rv_object_laws.specs.Inputs.{Starts, InputSection, start_of}
 use Rattle.rv_object_laws.specs.Names.{Outer}
 use Rattle.rv_object_laws.specs.Values.{own_value, paired}
+use Rattle.rv_object_laws.specs.Untaken.{IsValueOf, IsDangling}
 use Rattle.rv_link_values.specs.declared.fault.ValueFault.{ValueFault}
-use Rattle.rv_link_values.specs.Values.{IsValueOf, IsDangling}
 
 module _ (outer : Outer) (starts : Starts) (os : List Object) (i : InputSection) (r : Relocation) where
   abbrev own : ℤ

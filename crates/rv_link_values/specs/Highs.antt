@@ -10,10 +10,11 @@ use Rattle.rv_object_types.specs.Object.{Relocation, Section, Object}
 use Rattle.rv_object_types.specs.Parts.{relocation_of}
 use Rattle.rv_object_laws.specs.Moves.{new_offset}
 use Rattle.rv_object_laws.specs.Values.{is_high}
+use Rattle.rv_object_laws.specs.Layout.{object_section}
 use Rattle.rv_relax.specs.Kept.{moves_of}
 use Rattle.rv_placement.specs.declared.placement.PlacedSection.{PlacedSection}
 use Rattle.rv_placement.specs.declared.placement.Placement.{Placement}
-use Rattle.rv_placement.specs.Placement.{placed_at, object_section}
+use Rattle.rv_placement.specs.Placement.{placed_at}
 use Rattle.rv_link_values.specs.declared.high.HighPlace.{HighPlace}
 use Rattle.rv_link_values.specs.declared.high.Highs.{Highs}
 

@@ -1,13 +1,10 @@
 -- What the values of placed objects answer (`rv_object_laws`, specs/Values), and which relocations
 -- have none (RISC-V ELF psABI, "PC-Relative Symbol Addresses").
 
-use Rattle.std.specs.Prelude.{◌≡◌, ◌⊎◌, ℕ, ◌+◌, ℤ, pos, true, List, map, Some, None}
+use Rattle.std.specs.Prelude.{◌≡◌, ℕ, ◌+◌, List, map, Some}
 use Rattle.std.specs.List.{slice_get}
-use Rattle.rv_isa.specs.Kinds.{is_low_part}
-use Rattle.rv_object_types.specs.Object.{Relocation, Object}
-use Rattle.rv_object_laws.specs.Inputs.{Starts, InputSection}
-use Rattle.rv_object_laws.specs.Names.{Outer}
-use Rattle.rv_object_laws.specs.Values.{value}
+use Rattle.rv_object_types.specs.Object.{Object}
+use Rattle.rv_object_laws.specs.Inputs.{InputSection}
 use Rattle.rv_shorten.specs.View.{short_object_of}
 use Rattle.rv_placement.specs.declared.placement.Placement.{Placement}
 use Rattle.rv_placement.specs.Placement.{IsPlacement}
@@ -21,17 +18,6 @@ pub record IsInputAt (os : List Object) (file index : ℕ) (i : InputSection) : 
   pub at : slice_get os file ≡ Some i.object
   pub indexed : i.index ≡ index
   pub there : slice_get i.object.sections index ≡ Some i.section
-
--- the value of a relocation; a low part has no addend
-abbrev pub IsValueOf : Outer → Starts → List Object → InputSection → Relocation → ℤ → Type 0
-IsValueOf outer starts os i r v =
-    (value outer starts os i r ≡ Some v) × (is_low_part r.kind ≡ true → r.addend ≡ pos 0)
-
--- a low part without its high part, or with an addend
-abbrev pub IsDangling : Outer → Starts → List Object → InputSection → Relocation → Type 0
-IsDangling outer starts os i r =
-    (is_low_part r.kind ≡ true)
-    × ((value outer starts os i r ≡ None) ⊎ (r.addend ≡ pos 0 → ⊥))
 
 -- these are the values of objects that are placed so
 pub record IsValues (os : List Object) (p : Placement) (v : Values) : Type 0 where

@@ -7,12 +7,13 @@ ghost use Rattle.rv_object_types.specs.Object.{Object as PlainObject};
 ghost use Rattle.rv_object_types.specs.Parts.{relocation_of};
 ghost use Rattle.rv_object_laws.specs.Inputs.{InputSection};
 ghost use Rattle.rv_object_laws.specs.Values as laws;
+ghost use Rattle.rv_object_laws.specs.Layout.{outer_in};
+ghost use Rattle.rv_object_laws.specs.Untaken.{IsValueOf, IsDangling};
 ghost use Rattle.rv_shorten.specs.View.{short_object_of};
 ghost use Rattle.rv_placement.specs.declared.placement.Placement.{Placement as Placed};
-ghost use Rattle.rv_placement.specs.Placement.{placed_at, starts_of, IsPlacement};
+ghost use Rattle.rv_placement.specs.Placement.{placed_at, starts_of, IsPlacement, layout_of};
 ghost use Rattle.rv_resolve.specs.Names.{IsNames, place_of};
-ghost use Rattle.rv_resolve.specs.Shown.{outer_in};
-ghost use Rattle.rv_link_values.specs.Values.{IsInputAt, IsValueOf, IsDangling, IsValues};
+ghost use Rattle.rv_link_values.specs.Values.{IsInputAt, IsValues};
 
 use crate::fault::ValueFault;
 use crate::high::Highs;
@@ -85,10 +86,10 @@ impl<'p, 'o, 'a, 'n> Values<'p, 'o, 'a, 'n> {
     ) -> Result<i64, ValueFault>
         ensures value { (os : List PlainObject) (p : Placed) (i : InputSection)
             → IsValues os p self.now → IsInputAt os file index i → IfOk result
-            (IsValueOf (outer_in os p) (starts_of p) os i (relocation_of relocation.now)) }
+            (IsValueOf (outer_in os (layout_of p)) (starts_of p) os i (relocation_of relocation.now)) }
         ensures refuses { (os : List PlainObject) (p : Placed) (i : InputSection)
             → IsValues os p self.now → IsInputAt os file index i → IfErr result (λ _.
-            IsDangling (outer_in os p) (starts_of p) os i (relocation_of relocation.now)) }
+            IsDangling (outer_in os (layout_of p)) (starts_of p) os i (relocation_of relocation.now)) }
     {
         if !is_low_part(relocation.kind) {
             return Ok(self.own_value(file, index, relocation));
@@ -104,7 +105,7 @@ impl<'p, 'o, 'a, 'n> Values<'p, 'o, 'a, 'n> {
     fn own_value(&self, file: usize, index: usize, relocation: &Relocation) -> i64
         ensures { (os : List PlainObject) (p : Placed) (i : InputSection) → IsValues os p self.now
             → IsInputAt os file index i → result
-            ≡ laws.own_value (outer_in os p) (starts_of p i.file) i.object
+            ≡ laws.own_value (outer_in os (layout_of p)) (starts_of p i.file) i.object
             (starts_of p i.file i.index) i.section (relocation_of relocation.now) }
     {
         let symbol = self.target(file, relocation.symbol);
@@ -116,7 +117,7 @@ impl<'p, 'o, 'a, 'n> Values<'p, 'o, 'a, 'n> {
     fn target(&self, file: usize, symbol: Option<u32>) -> u64
         ensures { (os : List PlainObject) (p : Placed) (o : PlainObject) → IsValues os p self.now
             → slice_get os file ≡ Some o → result
-            ≡ unwrap_or (laws.target (outer_in os p) (starts_of p (file + 1)) o symbol) 0 }
+            ≡ unwrap_or (laws.target (outer_in os (layout_of p)) (starts_of p (file + 1)) o symbol) 0 }
     {
         match symbol {
             Some(index) => self
@@ -143,7 +144,7 @@ impl<'p, 'o, 'a, 'n> Values<'p, 'o, 'a, 'n> {
     fn paired(&self, file: usize, symbol: Option<u32>) -> Option<i64>
         ensures { (os : List PlainObject) (p : Placed) (o : PlainObject) → IsValues os p self.now
             → slice_get os file ≡ Some o
-            → result ≡ laws.paired (outer_in os p) (starts_of p) os (file + 1) o symbol }
+            → result ≡ laws.paired (outer_in os (layout_of p)) (starts_of p) os (file + 1) o symbol }
     {
         let index = symbol?;
         let (file, section, offset) = self.names.place(self.objects, file, index)?;
@@ -153,7 +154,7 @@ impl<'p, 'o, 'a, 'n> Values<'p, 'o, 'a, 'n> {
     /// The value of the high part at an old offset of a section.
     fn value_at(&self, file: usize, section: u32, offset: u64) -> Option<i64>
         ensures { (os : List PlainObject) (p : Placed) → IsValues os p self.now → result
-            ≡ laws.value_at (outer_in os p) (starts_of p) os
+            ≡ laws.value_at (outer_in os (layout_of p)) (starts_of p) os
             (Some (place_of (file, section, offset))) }
     {
         let section = section as usize;

@@ -18,3 +18,6 @@ pub mod Exports
 pub mod Undefined
 pub mod TextStart
 pub mod Details
+pub mod Layout
+pub mod Untaken
+pub mod Refusals

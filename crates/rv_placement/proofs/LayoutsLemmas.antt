@@ -8,8 +8,9 @@ use Rattle.rv_map.specs.declared.map.Region.{Region}
 use Rattle.rv_object_types.specs.Object.{Section, Object, size_of}
 use Rattle.rv_object_laws.specs.Moves.{moves, new_offset}
 use Rattle.rv_object_laws.specs.Inputs.{Starts, InputSection, has_no_bytes, goes_to_text, goes_to_bss, inputs, inputs_from, inputs_of, Stand, greatest}
+use Rattle.rv_object_laws.specs.Layout.{object_section}
 use Rattle.rv_placement.specs.declared.destination.Destination.TheVariants.{Rodata, Data, Bss}
-use Rattle.rv_placement.specs.Placement.{object_section, HasLayout}
+use Rattle.rv_placement.specs.Placement.{HasLayout}
 use Rattle.rv_placement.specs.Walk.{goes, start_behind, end_behind, next, ended, ended_files}
 use Rattle.rv_placement.proofs.PlacedLemmas.{holds, rodata_text, data_text, bss_text}
 

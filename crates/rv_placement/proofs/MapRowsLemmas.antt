@@ -10,6 +10,7 @@ use Rattle.rv_object_types.specs.Object.{Section, Object, size_of}
 use Rattle.rv_object_types.specs.Valid.{is_row_in, are_rows}
 use Rattle.rv_object_laws.specs.IsLinkOf.{by_ordinal, map_row, moves_at, row_in, rows_of}
 use Rattle.rv_object_laws.specs.Moves.{new_offset, moves}
+use Rattle.rv_object_laws.specs.Layout.{object_section}
 use Rattle.rv_shorten.specs.declared.object.ShortObject.{ShortObject}
 use Rattle.rv_shorten.specs.View.{short_object_of}
 use Rattle.rv_relax.specs.Kept.{moves_of}
@@ -17,7 +18,7 @@ use Rattle.rv_relax.proofs.RisingLemmas.{plan_rises}
 use Rattle.rv_placement.specs.declared.placement.PlacedSection.{PlacedSection}
 use Rattle.rv_placement.specs.declared.placement.Placement.{Placement}
 use Rattle.rv_placement.specs.Moved.{moved_row, moved_rows}
-use Rattle.rv_placement.specs.Placement.{starts_of, placed_at, object_section, IsPlacement}
+use Rattle.rv_placement.specs.Placement.{starts_of, placed_at, IsPlacement}
 use Rattle.rv_object_laws.proofs.ListsLemmas.{left}
 use Rattle.rv_placement.proofs.FoundLemmas.{in_object, not_placed, start_is}
 
@@ -57,11 +58,12 @@ module _ (os : List Object) (start : ℕ) (p : Placement) (is : IsPlacement os s
   row_low : (q : PlacedSection) → Some q ≡ placed_at p file r.section → IsLow q moved
   row_low q found =
       let s = stands.0 in
-      let low = is.low file r.section s q there (sym found) in
+      let low = is.laid.low file r.section s there in
+      let begins = subst (λ n. n + new_offset (moves n s) (size_of s.contents) < 2 ^ 64) (start_is p file r.section q found) low.1 in
       let within = stands.2 in
       let before = plan_rises q.plan.now moved.offset (size_of s.contents) (omega (arith, within)) in
       let same : new_offset (moves_of q.plan.now) (size_of s.contents) ≡ new_offset (moves q.start s) (size_of s.contents) = ap (λ ms. new_offset ms (size_of s.contents)) (is.planned file r.section s q there (sym found)) in
-      (omega (arith, low.0, within), omega (arith, low.1, before, same))
+      (omega (arith, low.0, within), omega (arith, begins, before, same))
 
   row_is : (q : PlacedSection) → Some q ≡ placed_at p file r.section → map_row (file + 1) q.start (moves_of q.plan.now) moved ≡ row_in (starts_of p) (file + 1) (short_object_of o) moved
   row_is q found =

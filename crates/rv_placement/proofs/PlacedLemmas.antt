@@ -1,6 +1,6 @@
 -- Passes over all sections place them as the layout says, or they are too large.
 
-use Rattle.std.proofs.Common.{zero, suc, ◌≡◌, ◌<◌, ◌≤◌, ◌+◌, ◌-◌, ℕ, Bool, true, false, Option, Some, None, List, [], ◌∷◌, length, map, refl, sym, ap, subst, ◌∙◌, arith, inl, inr}
+use Rattle.std.proofs.Common.{zero, suc, ◌≡◌, ◌<◌, ◌≤◌, ◌+◌, ◌-◌, ◌^◌, ℕ, Bool, true, false, Option, Some, None, List, [], ◌∷◌, length, map, refl, sym, ap, subst, ◌∙◌, arith, inl, inr}
 use Rattle.std.specs.Prelude.{not, ◌&&◌, option_map}
 use Rattle.std.specs.Global.{Vec}
 use Rattle.std.specs.List.{AllZip, slice_get}
@@ -9,13 +9,16 @@ use Rattle.std.proofs.lemmas.Slice.Zip.{AllZip-long}
 use Rattle.rv_layout_laws.specs.Alignment.{aligned}
 use Rattle.rv_isa_laws.specs.Platform.{stack_start, memory_limit}
 use Rattle.rv_map.specs.declared.map.Region.{Region}
-use Rattle.rv_object_types.specs.Object.{Section, Object}
+use Rattle.rv_object_types.specs.Object.{Section, Object, size_of}
+use Rattle.rv_object_laws.specs.Moves.{moves, new_offset}
 use Rattle.rv_object_laws.specs.Inputs.{Starts, has_no_bytes, goes_to_text, goes_to_rodata, goes_to_data, goes_to_bss, inputs, inputs_of, Stand, Holds, sections_end, greatest}
+use Rattle.rv_object_laws.specs.Layout.{memory_of, section_in, object_section, IsLayout, IsTooLarge}
 use Rattle.rv_placement.specs.declared.destination.Destination.TheVariants.{Rodata, Data, Bss}
 use Rattle.rv_placement.specs.declared.placement.PlacedSection.{PlacedSection}
 use Rattle.rv_placement.specs.declared.placement.Placement.{Placement}
-use Rattle.rv_placement.specs.Placement.{starts_of, start_in, placed_in, placed_at, section_in, memory_of, IsPlacement, IsTooLarge}
+use Rattle.rv_placement.specs.Placement.{starts_of, start_in, placed_in, placed_at, layout_of, IsPlacement}
 use Rattle.rv_placement.specs.Walk.{goes, ended_files, started_files, text_files, gapped_files, greatest_of, lists_of, behind_files, IsKept, AreKept, AreBehind, AreFar}
+use Rattle.rv_placement.proofs.FoundLemmas.{each_at, start_is}
 use Rattle.rv_placement.proofs.WalksLemmas.{grows_files}
 use Rattle.rv_placement.proofs.BehindLemmas.{rodata_up, data_up, bss_up}
 use Rattle.rv_placement.proofs.StandingLemmas.{start_at, ChosenFiles, files_text, files_started, files_still, files_kept, stand_files, stand_ends, stand_gaps, greatest_is}
@@ -125,7 +128,7 @@ holds starts to region place os e st ends = (
 )
 
 module _ (os : List Object) (start : ℕ) (p : Placement) (fs : List (List PlacedSection)) (begins : p.text.start ≡ start) (ends : p.text.end ≡ ended_files goes_to_text start os)
-    (behind : AreBehind os p.text.end p.rodata p.data p.bss) (low : p.bss.end ≤ stack_start) (text : map (λ f. map (λ q. q.start) f) fs ≡ text_files start os) (kept : AllZip AreKept os fs)
+    (behind : AreBehind os p.text.end p.rodata p.data p.bss) (ends_low : p.bss.end ≤ stack_start) (text : map (λ f. map (λ q. q.start) f) fs ≡ text_files start os) (kept : AllZip AreKept os fs)
     (lists : lists_of p.files.items ≡ behind_files fs p.rodata p.data p.bss os) (gaps : p.gaps.items ≡ gapped_files start os)
     (memory : memory_of p.text p.rodata p.data p.bss ≤ memory_limit) where
   abbrev after_rodata : List (List PlacedSection)
@@ -158,7 +161,7 @@ module _ (os : List Object) (start : ℕ) (p : Placement) (fs : List (List Place
 
   kept_bss : AllZip AreKept os after_bss
   kept_bss =
-      files_kept (goes Bss) p.bss.start 0x3ff0_0000 after_data os (λ s. bss_text s.loaded s.executable (has_no_bytes s.contents) s.writable) (omega arith) (subst (λ n. n ≤ 0x3ff0_0000) behind.bss_end low) kept_data
+      files_kept (goes Bss) p.bss.start 0x3ff0_0000 after_data os (λ s. bss_text s.loaded s.executable (has_no_bytes s.contents) s.writable) (omega arith) (subst (λ n. n ≤ 0x3ff0_0000) behind.bss_end ends_low) kept_data
 
   chosen_text : ChosenFiles goes_to_text start after_bss os
   chosen_text =
@@ -188,11 +191,16 @@ module _ (os : List Object) (start : ℕ) (p : Placement) (fs : List (List Place
   text_up : p.text.start ≤ p.text.end
   text_up = let h = grows_files goes_to_text start os in let more : start ≤ p.text.end = subst (λ n. start ≤ n) (sym ends) h in omega arith
 
-  pub is_placement : IsPlacement os start p
-  is_placement = record {
-    each = each_kept p.files.items os all_kept;
-    planned = λ file index s q at there. (kept_at p.files.items os all_kept file index s q at there).0;
-    low = λ file index s q at there. let kept = kept_at p.files.items os all_kept file index s q at there in (kept.1, kept.2);
+  low : (file index : ℕ) (s : Section) → object_section os file index ≡ Some s
+      → (size_of s.contents < 2 ^ 64) × (starts_of p (file + 1) index + new_offset (moves (starts_of p (file + 1) index) s) (size_of s.contents) < 2 ^ 64)
+  low file index s at =
+      let (q, there) = each_at p.files.items os (each_kept p.files.items os all_kept) file index s at in
+      let kept = kept_at p.files.items os all_kept file index s q at there in
+      (kept.1, subst (λ n. n + new_offset (moves n s) (size_of s.contents) < 2 ^ 64) (sym (start_is p file index q (sym there))) kept.2)
+
+  is_laid : IsLayout os start (layout_of p)
+  is_laid = record {
+    low = low;
     text = (begins, stand goes_to_text start chosen_text, ends ∙ sym (stand_ends goes_to_text (starts_of p) start os (stand goes_to_text start chosen_text)));
     gaps = gaps ∙ sym (stand_gaps (starts_of p) start os (stand goes_to_text start chosen_text));
     rodata = holds (starts_of p) (goes Rodata) p.rodata (aligned 4096 p.text.end) os behind.rodata_start (stand (goes Rodata) p.rodata.start chosen_rodata) behind.rodata_end;
@@ -200,8 +208,15 @@ module _ (os : List Object) (start : ℕ) (p : Placement) (fs : List (List Place
     bss = holds (starts_of p) (goes Bss) p.bss (aligned (greatest (inputs goes_to_bss os)) p.data.end) os (behind.bss_start ∙ ap (λ n. aligned n p.data.end) (sym (greatest_is (goes Bss) 1 os))) (stand (goes Bss) p.bss.start chosen_bss)
         behind.bss_end;
     ordered = let u = ups in (text_up, u.0, u.1, u.2, u.3, u.4, u.5);
-    below = low;
+    below = ends_low;
     memory = memory;
+  }
+
+  pub is_placement : IsPlacement os start p
+  is_placement = record {
+    each = each_kept p.files.items os all_kept;
+    planned = λ file index s q at there. (kept_at p.files.items os all_kept file index s q at there).0;
+    laid = is_laid;
   }
 
 -- ---- too large

@@ -7,10 +7,11 @@ use Rattle.std.specs.List.{AllByRecursion, list_all, slice_get}
 use Rattle.rv_object_types.specs.Object.{Section, Object}
 use Rattle.rv_object_laws.specs.Moves.{moves, has_room}
 use Rattle.rv_object_laws.specs.Inputs.{Starts, InputSection, goes_to_text, inputs, inputs_from, inputs_of, start_of}
+use Rattle.rv_object_laws.specs.Layout.{section_in, AreRoomy}
 use Rattle.rv_relax.specs.Kept.{moves_of}
 use Rattle.rv_placement.specs.declared.placement.PlacedSection.{PlacedSection}
 use Rattle.rv_placement.specs.declared.placement.Placement.{Placement}
-use Rattle.rv_placement.specs.Placement.{starts_of, start_in, placed_in, placed_at, section_in, are_roomy_in, are_roomy, IsPlacement, AreRoomy}
+use Rattle.rv_placement.specs.Placement.{starts_of, start_in, placed_in, placed_at, are_roomy_in, are_roomy, IsPlacement}
 use Rattle.rv_placement.proofs.StandingLemmas.{moves_other}
 
 abbrev pub room : Starts → InputSection → Bool

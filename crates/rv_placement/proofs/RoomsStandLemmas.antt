@@ -7,13 +7,14 @@ use Rattle.rv_object_types.specs.Object.{Section, Object}
 use Rattle.rv_object_types.specs.Valid.{is_section_alignment}
 use Rattle.rv_object_laws.specs.Moves.{moves, has_room}
 use Rattle.rv_object_laws.specs.Inputs.{Starts, InputSection, goes_to_text, inputs, inputs_from, inputs_of, size, Stand}
+use Rattle.rv_object_laws.specs.Layout.{AreRoomy, HasRoom}
 use Rattle.rv_shorten.specs.declared.section.ShortSection.{ShortSection}
 use Rattle.rv_shorten.specs.declared.object.ShortObject.{ShortObject}
 use Rattle.rv_shorten.specs.Sections.{short_section_of}
 use Rattle.rv_shorten.specs.View.{short_object_of}
 use Rattle.rv_relax.specs.Plan.{are_roomy_objects, is_roomy}
 use Rattle.rv_placement.specs.declared.placement.Placement.{Placement}
-use Rattle.rv_placement.specs.Placement.{starts_of, are_roomy, IsPlacement, AreRoomy, HasRoom}
+use Rattle.rv_placement.specs.Placement.{starts_of, are_roomy, IsPlacement}
 use Rattle.rv_placement.proofs.AlignedLemmas.{moves_still}
 use Rattle.rv_placement.proofs.RoomsLemmas.{room, and_assoc, all_true, true_all, are_rooms}
 use Rattle.rv_placement.proofs.StandingLemmas.{moves_other}
@@ -80,4 +81,4 @@ module _ (objects : List ShortObject) (start : ℕ) where
       absurd (cc)
 
   pub placed_roomy : are_roomy_objects os ≡ true → (p : Placement) → IsPlacement os start p → are_roomy p ≡ true
-  placed_roomy e p is = (are_rooms os start p is (are_roomy p) refl).1 (has_room_anywhere e (starts_of p) is.text.1)
+  placed_roomy e p is = (are_rooms os start p is (are_roomy p) refl).1 (has_room_anywhere e (starts_of p) is.laid.text.1)

@@ -8,7 +8,7 @@ ghost use Rattle.rv_object_laws.specs.Names.{offset_address};
 ghost use Rattle.rv_shorten.specs.Sections.{short_section_of};
 ghost use Rattle.rv_shorten.specs.View.{short_object_of};
 ghost use Rattle.rv_relax.specs.Plan.{are_roomy_objects, planned_objects};
-ghost use Rattle.rv_placement.specs.Placement as laws;
+ghost use Rattle.rv_object_laws.specs.Layout as laws;
 ghost use Rattle.rv_placement.specs.Placement.{starts_of, placed_at, are_roomy, IsPlacement, IsUnplaced};
 
 use crate::fault::PlacementFault;

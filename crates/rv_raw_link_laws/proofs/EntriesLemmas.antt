@@ -5,10 +5,9 @@ use Rattle.std.specs.Prelude.{if◌then◌else◌, option_and_then}
 use Rattle.rv_object_types.specs.Object.{Object}
 use Rattle.rv_object_laws.specs.Inputs.{Starts}
 use Rattle.rv_object_laws.specs.Names.{begins_run, run_start, export_address, entry_of}
-use Rattle.rv_placement.specs.declared.placement.Placement.{Placement}
-use Rattle.rv_placement.specs.Placement.{starts_of, IsPlacement}
 use Rattle.rv_object_laws.specs.Entry.{is_entry, has_entry}
-use Rattle.rv_link.specs.Refusals.{IsOddEntry, LacksEntry}
+use Rattle.rv_object_laws.specs.Refusals.{IsOddEntry, LacksEntry}
+use Rattle.rv_object_laws.specs.Layout.{Layout, IsLayout}
 use Rattle.rv_raw_link_laws.proofs.LeavesLemmas.{begins}
 use Rattle.rv_raw_link_laws.proofs.PlacesLemmas.{IsSimple, text, stands, address_in}
 use Rattle.rv_raw_link_laws.proofs.SymbolsLemmas.{entry_at}
@@ -26,12 +25,12 @@ module _ (o : Object) (start : ℕ) (h : IsSimple o start) where
       ∙ ap (λ b. if b then export_address starts (entry_at o h.entered.index h.entered.offset) else None) runs
       ∙ address_in o start h (starts 1) h.entered.offset
 
-  not_odd : (p : Placement) → IsPlacement (o ∷ []) start p → IsOddEntry (o ∷ []) p → ⊥
+  not_odd : (p : Layout) → IsLayout (o ∷ []) start p → IsOddEntry (o ∷ []) p → ⊥
   not_odd p placed odd =
-      let at = stands o start h (starts_of p) placed.text.1 in
+      let at = stands o start h p.starts placed.text.1 in
       let page = h.begins.0 in
       let even = h.entered.even in
-      odd ((starts_of p 1 0 + h.entered.offset) % 2 ^ 64) (entry_address (starts_of p)) (omega (arith, at, page, even))
+      odd ((p.starts 1 0 + h.entered.offset) % 2 ^ 64) (entry_address p.starts) (omega (arith, at, page, even))
 
   pub has_it : LacksEntry (o ∷ []) start → ⊥
   has_it (inl none) = absurd (let clash : true ≡ false = sym some_entry ∙ none in cc)

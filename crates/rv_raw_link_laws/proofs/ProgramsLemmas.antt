@@ -14,7 +14,7 @@ use Rattle.rv_assemble_laws.proofs.FilledLemmas.{filled}
 use Rattle.rv_reloc.specs.declared.fault.LinkFault.{LinkFault}
 use Rattle.rv_reloc.specs.declared.fault.LinkFault.TheVariants.{Overflow, OddTarget, DanglingPcrel, AlignmentShort, Undefined, Duplicate, EntryMissing, ImageTooLarge, BadTextStart, TooManyFiles, OutOfMemory}
 use Rattle.rv_object_laws.specs.TextStart.{IsTextStart}
-use Rattle.rv_link.specs.Refusals.{IsUnlinked, HasNoProgram}
+use Rattle.rv_object_laws.specs.Refusals.{IsUnlinked, HasNoProgram}
 use Rattle.rv_raw_link_laws.specs.Listed.{listed, IsShortListing, FitsAt}
 use Rattle.rv_raw_link_laws.proofs.EntriesLemmas.{has_it}
 use Rattle.rv_raw_link_laws.proofs.FieldsLemmas.{all_lead}

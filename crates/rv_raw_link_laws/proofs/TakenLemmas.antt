@@ -12,13 +12,10 @@ use Rattle.rv_object_laws.specs.Inputs.{InputSection, inputs}
 use Rattle.rv_object_laws.specs.IsLinkOf.{is_loaded}
 use Rattle.rv_object_laws.specs.Names.{symbol_address}
 use Rattle.rv_object_laws.specs.Values.{target, moved, own_value, paired, value}
-use Rattle.rv_placement.specs.declared.placement.Placement.{Placement}
-use Rattle.rv_placement.specs.Placement.{starts_of, IsPlacement}
-use Rattle.rv_resolve.specs.Shown.{outer_in}
+use Rattle.rv_object_laws.specs.Layout.{Layout, IsLayout, outer_in}
+use Rattle.rv_object_laws.specs.Untaken.{IsTaken, IsFirst, IsUntaken, IsFirstUntaken}
 use Rattle.rv_reloc.specs.declared.fault.LinkFault.{LinkFault}
 use Rattle.rv_reloc.specs.declared.fault.LinkFault.TheVariants.{Overflow, OddTarget, DanglingPcrel}
-use Rattle.rv_link.specs.Filled.{IsTaken}
-use Rattle.rv_link.specs.Untaken.{IsFirst, IsUntaken, IsFirstUntaken}
 use Rattle.rv_raw_link_laws.proofs.CodesLemmas.{leads}
 use Rattle.rv_raw_link_laws.proofs.FieldsLemmas.{IsLeading, never_low}
 use Rattle.rv_raw_link_laws.proofs.LeavesLemmas.{input}
@@ -38,35 +35,35 @@ none_fails P Q Good never [] h f = f
 none_fails P Q Good never (x ∷ xs) (one, h) (inl fails) = never x one fails
 none_fails P Q Good never (x ∷ xs) (one, h) (inr (passes, f)) = none_fails P Q Good never xs h f
 
-module _ (o : Object) (start : ℕ) (h : IsSimple o start) (p : Placement) (placed : IsPlacement (o ∷ []) start p) where
+module _ (o : Object) (start : ℕ) (h : IsSimple o start) (p : Layout) (placed : IsLayout (o ∷ []) start p) where
   abbrev i : InputSection
   i = input o h.section h.alone
 
-  at : starts_of p 1 0 ≡ start
-  at = stands o start h (starts_of p) placed.text.1
+  at : p.starts 1 0 ≡ start
+  at = stands o start h p.starts placed.text.1
 
   module _ (r : Relocation) (l : IsLeading o.symbols r) where
-    target_is : target (outer_in (o ∷ []) p) (starts_of p 1) o r.symbol ≡ Some ((starts_of p 1 0 + r.place) % 2 ^ 64)
+    target_is : target (outer_in (o ∷ []) p) (p.starts 1) o r.symbol ≡ Some ((p.starts 1 0 + r.place) % 2 ^ 64)
     target_is =
-        ap (target (outer_in (o ∷ []) p) (starts_of p 1) o) l.symbol ∙ ap (option_and_then (symbol_address (outer_in (o ∷ []) p) (starts_of p 1) o)) l.there
-        ∙ address_of o start h (outer_in (o ∷ []) p) (starts_of p 1) r l
+        ap (target (outer_in (o ∷ []) p) (p.starts 1) o) l.symbol ∙ ap (option_and_then (symbol_address (outer_in (o ∷ []) p) (p.starts 1) o)) l.there
+        ∙ address_of o start h (outer_in (o ∷ []) p) (p.starts 1) r l
 
-    below : starts_of p 1 0 + r.place < 2 ^ 64
+    below : p.starts 1 0 + r.place < 2 ^ 64
     below = let e = at in let low = h.begins.1 in let small = l.low in omega (arith, e, low, small)
 
-    own_is : own_value (outer_in (o ∷ []) p) (starts_of p 1) o (starts_of p 1 0) h.section r ≡ r.addend
+    own_is : own_value (outer_in (o ∷ []) p) (p.starts 1) o (p.starts 1 0) h.section r ≡ r.addend
     own_is =
-        ap (λ t. value_of r.kind (unwrap_or t 0) r.addend (moved (starts_of p 1 0) h.section r.place)) target_is
-        ∙ ap (λ n. value_of r.kind ((starts_of p 1 0 + r.place) % 2 ^ 64) r.addend (starts_of p 1 0 + n)) (stays o start h (starts_of p 1 0) r.place)
-        ∙ back_to_it (starts_of p 1 0 + r.place) r.addend (calculation r.kind ((starts_of p 1 0 + r.place) % 2 ^ 64) r.addend (starts_of p 1 0 + r.place)) l.small below
-        (calculated r.kind l.leads_there ((starts_of p 1 0 + r.place) % 2 ^ 64) r.addend (starts_of p 1 0 + r.place))
+        ap (λ t. value_of r.kind (unwrap_or t 0) r.addend (moved (p.starts 1 0) h.section r.place)) target_is
+        ∙ ap (λ n. value_of r.kind ((p.starts 1 0 + r.place) % 2 ^ 64) r.addend (p.starts 1 0 + n)) (stays o start h (p.starts 1 0) r.place)
+        ∙ back_to_it (p.starts 1 0 + r.place) r.addend (calculation r.kind ((p.starts 1 0 + r.place) % 2 ^ 64) r.addend (p.starts 1 0 + r.place)) l.small below
+        (calculated r.kind l.leads_there ((p.starts 1 0 + r.place) % 2 ^ 64) r.addend (p.starts 1 0 + r.place))
 
-    value_is : value (outer_in (o ∷ []) p) (starts_of p) (o ∷ []) i r ≡ Some r.addend
+    value_is : value (outer_in (o ∷ []) p) p.starts (o ∷ []) i r ≡ Some r.addend
     value_is =
-        ap (λ b. if b then paired (outer_in (o ∷ []) p) (starts_of p) (o ∷ []) 1 o r.symbol else Some (own_value (outer_in (o ∷ []) p) (starts_of p 1) o (starts_of p 1 0) h.section r)) (never_low r.kind l.leads_there)
+        ap (λ b. if b then paired (outer_in (o ∷ []) p) p.starts (o ∷ []) 1 o r.symbol else Some (own_value (outer_in (o ∷ []) p) (p.starts 1) o (p.starts 1 0) h.section r)) (never_low r.kind l.leads_there)
         ∙ ap (λ v. Some v) own_is
 
-    same : (v : ℤ) → value (outer_in (o ∷ []) p) (starts_of p) (o ∷ []) i r ≡ Some v → r.addend ≡ v
+    same : (v : ℤ) → value (outer_in (o ∷ []) p) p.starts (o ∷ []) i r ≡ Some v → r.addend ≡ v
     same v e = let both : Some r.addend ≡ Some v = sym value_is ∙ e in cc
 
     never : (fault : LinkFault) → IsUntaken (o ∷ []) p i fault r → ⊥

@@ -16,7 +16,7 @@ use Rattle.rv_assemble_laws.specs.IsObjectOf.{IsObjectOf}
 use Rattle.rv_reloc.specs.declared.fault.LinkFault.{LinkFault}
 use Rattle.rv_reloc.specs.declared.fault.LinkFault.TheVariants.{OutOfMemory}
 use Rattle.rv_object_laws.specs.TextStart.{IsTextStart}
-use Rattle.rv_link.specs.Refusals.{HasNoProgram}
+use Rattle.rv_object_laws.specs.Refusals.{HasNoProgram}
 
 -- the statements of a raw listing
 abbrev pub listed : (before after : List Code) → List Statement

@@ -23,6 +23,8 @@ use Rattle.rv_object_types.specs.Object.{Relocation, Section, Symbol, Object, si
 use Rattle.rv_object_types.specs.View.{object_of}
 use Rattle.rv_object_laws.specs.Moves.{Move, moves, new_offset}
 use Rattle.rv_object_laws.specs.Inputs.{InputSection, goes_to_text, inputs}
+use Rattle.rv_object_laws.specs.Layout.{Layout, IsLayout, outer_in}
+use Rattle.rv_object_laws.specs.Untaken.{IsTaken}
 use Rattle.rv_object_types.specs.Bindings.{is_weak}
 use Rattle.rv_object_laws.specs.Names.{offset_address, defined_address, symbol_address}
 use Rattle.rv_object_laws.specs.Values.{target}
@@ -34,11 +36,7 @@ use Rattle.rv_object_laws.specs.Without.{without}
 use Rattle.rv_object_laws.proofs.TextInputsLemmas.{IsTextInput, whole_inputs}
 use Rattle.rv_object_laws.proofs.InputsLeftLemmas.{text_is, inputs_left}
 use Rattle.rv_object_laws.proofs.WholeLemmas.{are_whole, whole_left}
-use Rattle.rv_placement.specs.declared.placement.Placement.{Placement}
-use Rattle.rv_placement.specs.Placement.{starts_of, IsPlacement}
-use Rattle.rv_resolve.specs.Shown.{outer_in}
 use Rattle.rv_object_laws.specs.TextStart.{IsTextStart}
-use Rattle.rv_link.specs.Filled.{IsTaken}
 use Rattle.rv_assemble_laws.specs.LaidStatements.{LaidStatement, expression_value, parts, laid_in, end_of, HasSize}
 use Rattle.rv_assemble_laws.specs.IsObjectOf.{Numbering, row_of, relocations_from, IsSectionOf, IsObjectOf}
 use Rattle.rv_source_laws.proofs.HomesLemmas.{all_filter}
@@ -342,8 +340,8 @@ all_near_left sources drops us h = subst (AllByRecursion (HasNear sources)) (sym
 
 -- ---- where calls are shortened
 
-relaxed_one : (os : List Object) (whole : AllByRecursion IsWhole os) (kept : List ℕ) (greatest : IsGreatestClosed (sites_of os) kept) (start : ℕ) (p : Placement) (begins : IsTextStart start)
-    (placed : IsPlacement (shortened kept os) start p) (k : ℕ) (i : InputSection) → slice_get (inputs goes_to_text os) k ≡ Some i → (q : Relocation) → IsNearIn i q → is_short_branch q.kind ≡ true
+relaxed_one : (os : List Object) (whole : AllByRecursion IsWhole os) (kept : List ℕ) (greatest : IsGreatestClosed (sites_of os) kept) (start : ℕ) (p : Layout) (begins : IsTextStart start)
+    (placed : IsLayout (shortened kept os) start p) (k : ℕ) (i : InputSection) → slice_get (inputs goes_to_text os) k ≡ Some i → (q : Relocation) → IsNearIn i q → is_short_branch q.kind ≡ true
     → IsTaken (shortened kept os) p (left_input os kept i)
     (shortened_relocation (sizes_by os kept i.file i.index) (cuts (sizes_by os kept i.file i.index) i.section) q)
 relaxed_one os whole kept greatest start p begins placed k i there q it short =
@@ -358,7 +356,7 @@ relaxed_one os whole kept greatest start p begins placed k i there q it short =
     left = shortened kept os
 
     starts : ℕ → ℕ → ℕ
-    starts = starts_of p
+    starts = p.starts
 
     ms : List Move
     ms = cuts (sizes_by os kept i.file i.index) i.section
@@ -375,30 +373,30 @@ relaxed_one os whole kept greatest start p begins placed k i there q it short =
     kind_is : shortened_kind (sizes_by os kept i.file i.index) q ≡ q.kind
     kind_is = ap (λ b. if b && nat_lt (sizes_by os kept i.file i.index q.place) 8 then (if sizes_by os kept i.file i.index q.place == 2 then kinds.RvcJump else kinds.Jal) else q.kind) (no_call q.kind short)
 
-    target_is : target (outer_in left p) (starts_of p i.file) (left_input os kept i).object q.symbol ≡ Some (address os kept start starts i it.to % 2 ^ 64)
+    target_is : target (outer_in left p) (p.starts i.file) (left_input os kept i).object q.symbol ≡ Some (address os kept start starts i it.to % 2 ^ 64)
     target_is =
-        ap (target (outer_in left p) (starts_of p i.file) (left_input os kept i).object) it.symbol_is
-        ∙ ap (option_and_then (symbol_address (outer_in left p) (starts_of p i.file) (left_input os kept i).object))
+        ap (target (outer_in left p) (p.starts i.file) (left_input os kept i).object) it.symbol_is
+        ∙ ap (option_and_then (symbol_address (outer_in left p) (p.starts i.file) (left_input os kept i).object))
         (slice_get-map (shortened_symbol (sizes_by os kept i.file) i.object) i.object.symbols it.symbol ∙ ap (option_map (shortened_symbol (sizes_by os kept i.file) i.object)) it.there)
-        ∙ ap (λ d. symbol_address (outer_in left p) (starts_of p i.file) (left_input os kept i).object (shortened_symbol (sizes_by os kept i.file) i.object (record { name = it.x.name; binding = it.x.binding; definition = d }))) it.at
+        ∙ ap (λ d. symbol_address (outer_in left p) (p.starts i.file) (left_input os kept i).object (shortened_symbol (sizes_by os kept i.file) i.object (record { name = it.x.name; binding = it.x.binding; definition = d }))) it.at
         ∙ here
       where
-        here : symbol_address (outer_in left p) (starts_of p i.file) (left_input os kept i).object
+        here : symbol_address (outer_in left p) (p.starts i.file) (left_input os kept i).object
             (shortened_symbol (sizes_by os kept i.file) i.object (record { name = it.x.name; binding = it.x.binding; definition = definitions.InSection i.index it.to })) ≡ Some (address os kept start starts i it.to % 2 ^ 64)
         here =
-            ap (λ b. if not b then defined_address (starts_of p i.file) (left_input os kept i).object (shortened_definition (sizes_by os kept i.file) i.object (definitions.InSection i.index it.to))
+            ap (λ b. if not b then defined_address (p.starts i.file) (left_input os kept i).object (shortened_definition (sizes_by os kept i.file) i.object (definitions.InSection i.index it.to))
             else outer_in left p (shortened_symbol (sizes_by os kept i.file) i.object (record { name = it.x.name; binding = it.x.binding; definition = definitions.InSection i.index it.to }))) it.strong
-            ∙ subst (λ (u : Object). defined_address (starts_of p i.file) (shortened_object (sizes_by os kept i.file) u) (shortened_definition (sizes_by os kept i.file) u (definitions.InSection i.index it.to)) ≡ Some (address os kept start starts i it.to % 2 ^ 64)) input.at
+            ∙ subst (λ (u : Object). defined_address (p.starts i.file) (shortened_object (sizes_by os kept i.file) u) (shortened_definition (sizes_by os kept i.file) u (definitions.InSection i.index it.to)) ≡ Some (address os kept start starts i it.to % 2 ^ 64)) input.at
             (defined_at os kept starts i.file i.index it.to i.section (subst (λ (u : Object). slice_get u.sections i.index ≡ Some i.section) (sym input.at) input.there) input.text)
 
-abbrev Reaching : List (List Statement) → List Object → Placement → (before now : Relocation) → (of to : InputSection) → Type 0
+abbrev Reaching : List (List Statement) → List Object → Layout → (before now : Relocation) → (of to : InputSection) → Type 0
 Reaching sources left p before now i j = is_chosen_branch sources i before ≡ true → IsTaken left p j now
 
 short_of : (sources : List (List Statement)) (i : InputSection) (q : Relocation) → is_chosen_branch sources i q ≡ true → is_short_branch q.kind ≡ true
 short_of sources i q chosen = (and_parts (is_short_branch q.kind) (not (is_of_parcel sources i q)) chosen).0
 
-short_reach : (sources : List (List Statement)) (os : List Object) → AllByRecursion IsWhole os → AllByRecursion (HasNear sources) (inputs goes_to_text os) → (kept : List ℕ) → IsGreatestClosed (sites_of os) kept → (start : ℕ) (p : Placement) → IsTextStart start
-    → IsPlacement (shortened kept os) start p → ForEachLeft os (shortened kept os) (Reaching sources (shortened kept os) p)
+short_reach : (sources : List (List Statement)) (os : List Object) → AllByRecursion IsWhole os → AllByRecursion (HasNear sources) (inputs goes_to_text os) → (kept : List ℕ) → IsGreatestClosed (sites_of os) kept → (start : ℕ) (p : Layout) → IsTextStart start
+    → IsLayout (shortened kept os) start p → ForEachLeft os (shortened kept os) (Reaching sources (shortened kept os) p)
 short_reach sources os whole nears kept greatest start p begins placed section place i j before now at_i at_j at_before at_now short =
     let sizes = sizes_by os kept i.file i.index in
     let ms = cuts sizes i.section in
@@ -416,7 +414,7 @@ short_reach sources os whole nears kept greatest start p begins placed section p
 
 -- ---- where they are not
 
-whole_one : (os : List Object) → AllByRecursion IsWhole os → (start : ℕ) (p : Placement) → IsPlacement os start p → (k : ℕ) (i : InputSection) → slice_get (inputs goes_to_text os) k ≡ Some i → (q : Relocation) → IsNearIn i q
+whole_one : (os : List Object) → AllByRecursion IsWhole os → (start : ℕ) (p : Layout) → IsLayout os start p → (k : ℕ) (i : InputSection) → slice_get (inputs goes_to_text os) k ≡ Some i → (q : Relocation) → IsNearIn i q
     → is_short_branch q.kind ≡ true → IsTaken os p i q
 whole_one os whole start p placed k i there q it short =
     taken_by os p i q.place q.symbol q.addend (stands it.to) (stands it.from) low_to target_is (ap stands it.place_is) q.kind short
@@ -426,10 +424,10 @@ whole_one os whole start p placed k i there q it short =
     (closer (size_of i.section.contents) [] refl i.section padded s0 it.from it.to it.even_from it.even_to))) it.reaches)
   where
     s0 : ℕ
-    s0 = starts_of p i.file i.index
+    s0 = p.starts i.file i.index
 
     stands : ℕ → ℕ
-    stands n = starts_of p i.file i.index + new_offset (moves (starts_of p i.file i.index) i.section) n
+    stands n = p.starts i.file i.index + new_offset (moves (p.starts i.file i.index) i.section) n
 
     input : IsTextInput os i
     input = all_at (IsTextInput os) (inputs goes_to_text os) k i (whole_inputs os whole) there
@@ -449,20 +447,20 @@ whole_one os whole start p placed k i there q it short =
         let before = rises s0 it.to (size_of i.section.contents) i.section padded it.low_to in
         omega (arith, most, before)
 
-    target_is : target (outer_in os p) (starts_of p i.file) i.object q.symbol ≡ Some (stands it.to % 2 ^ 64)
+    target_is : target (outer_in os p) (p.starts i.file) i.object q.symbol ≡ Some (stands it.to % 2 ^ 64)
     target_is =
-        ap (target (outer_in os p) (starts_of p i.file) i.object) it.symbol_is
-        ∙ ap (option_and_then (symbol_address (outer_in os p) (starts_of p i.file) i.object)) it.there
-        ∙ ap (λ d. symbol_address (outer_in os p) (starts_of p i.file) i.object (record { name = it.x.name; binding = it.x.binding; definition = d })) it.at
-        ∙ ap (λ b. if not b then offset_address (starts_of p i.file i.index) it.to (slice_get i.object.sections i.index) else outer_in os p (record { name = it.x.name; binding = it.x.binding; definition = definitions.InSection i.index it.to })) it.strong
-        ∙ ap (offset_address (starts_of p i.file i.index) it.to) input.there
+        ap (target (outer_in os p) (p.starts i.file) i.object) it.symbol_is
+        ∙ ap (option_and_then (symbol_address (outer_in os p) (p.starts i.file) i.object)) it.there
+        ∙ ap (λ d. symbol_address (outer_in os p) (p.starts i.file) i.object (record { name = it.x.name; binding = it.x.binding; definition = d })) it.at
+        ∙ ap (λ b. if not b then offset_address (p.starts i.file i.index) it.to (slice_get i.object.sections i.index) else outer_in os p (record { name = it.x.name; binding = it.x.binding; definition = definitions.InSection i.index it.to })) it.strong
+        ∙ ap (offset_address (p.starts i.file i.index) it.to) input.there
         ∙ ap (λ b. if b then Some (stands it.to % 2 ^ 64) else None) (and_parts i.section.loaded i.section.executable input.text).0
 
-same_reach : (sources : List (List Statement)) (os us : List Object) (start : ℕ) (p : Placement) → AllByRecursion IsWhole os → AllByRecursion (HasNear sources) (inputs goes_to_text os) → us ≡ os → IsPlacement us start p
+same_reach : (sources : List (List Statement)) (os us : List Object) (start : ℕ) (p : Layout) → AllByRecursion IsWhole os → AllByRecursion (HasNear sources) (inputs goes_to_text os) → us ≡ os → IsLayout us start p
     → ForEachLeft os us (Reaching sources us p)
-same_reach sources os us start p whole nears same placed = subst (λ u. IsPlacement u start p → ForEachLeft os u (Reaching sources u p)) (sym same) go placed
+same_reach sources os us start p whole nears same placed = subst (λ u. IsLayout u start p → ForEachLeft os u (Reaching sources u p)) (sym same) go placed
   where
-    go : IsPlacement os start p → ForEachLeft os os (Reaching sources os p)
+    go : IsLayout os start p → ForEachLeft os os (Reaching sources os p)
     go placed section place i j before now at_i at_j at_before at_now short =
         let both : ◌≡◌ {A = Option InputSection} (Some i) (Some j) = sym at_i ∙ at_j in
         let here : i ≡ j = cc in
@@ -477,5 +475,5 @@ short_branches_reach sources ds drops us start false p h same begins placed =
     same_reach sources (without drops (map object_of ds)) us start p (whole_left drops (map object_of ds) (are_whole ds)) (all_near_left sources drops (map object_of ds) h) same placed
 short_branches_reach sources ds drops us start true p h (kept, greatest, same) begins placed =
     let os = without drops (map object_of ds) in
-    subst (λ u. IsPlacement u start p → ForEachLeft os u (Reaching sources u p)) (sym same)
+    subst (λ u. IsLayout u start p → ForEachLeft os u (Reaching sources u p)) (sym same)
     (short_reach sources os (whole_left drops (map object_of ds) (are_whole ds)) (all_near_left sources drops (map object_of ds) h) kept greatest start p begins) placed

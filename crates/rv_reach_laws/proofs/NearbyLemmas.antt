@@ -14,10 +14,8 @@ use Rattle.rv_object_types.specs.Object.{Relocation, Section, Object}
 use Rattle.rv_object_laws.specs.Moves.{Move, moves, new_offset}
 use Rattle.rv_object_laws.specs.Inputs.{InputSection, start_of}
 use Rattle.rv_object_laws.specs.Values.{target, moved}
-use Rattle.rv_placement.specs.declared.placement.Placement.{Placement}
-use Rattle.rv_placement.specs.Placement.{starts_of}
-use Rattle.rv_resolve.specs.Shown.{outer_in}
-use Rattle.rv_link.specs.Filled.{IsTaken}
+use Rattle.rv_object_laws.specs.Untaken.{IsTaken}
+use Rattle.rv_object_laws.specs.Layout.{Layout, outer_in}
 use Rattle.rv_cut_laws.specs.Cutting.{are_cuts}
 use Rattle.rv_cut_laws.proofs.ShiftsLemmas as cut
 use Rattle.rv_reach_laws.specs.Reach.{is_short_branch}
@@ -88,8 +86,8 @@ short_range (pos n) h = let even : n % 2 ≡ 0 = h.even in let high = h.high in 
 short_range (negsuc n) h = let low = h.low in (omega (arith, ints, low), omega (arith, ints))
 
 -- a branch to a place that has an address, and that it reaches from its own
-module _ (us : List Object) (p : Placement) (i : InputSection) (place : ℕ) (symbol : Option ℕ) (addend : ℤ) (to from : ℕ) (low : to < 2 ^ 64)
-    (target_is : target (outer_in us p) (starts_of p i.file) i.object symbol ≡ Some (to % 2 ^ 64)) (from_is : moved (start_of (starts_of p) i) i.section place ≡ from) where
+module _ (us : List Object) (p : Layout) (i : InputSection) (place : ℕ) (symbol : Option ℕ) (addend : ℤ) (to from : ℕ) (low : to < 2 ^ 64)
+    (target_is : target (outer_in us p) (p.starts i.file) i.object symbol ≡ Some (to % 2 ^ 64)) (from_is : moved (start_of p.starts i) i.section place ≡ from) where
   abbrev it : Kind → Relocation
   it kind = record { place = place; kind = kind; symbol = symbol; addend = addend }
 
@@ -97,10 +95,10 @@ module _ (us : List Object) (p : Placement) (i : InputSection) (place : ℕ) (sy
   away = (pos to -ℤ pos from) +ℤ addend
 
   worth_is : (half : ℕ) → half ≤ 2 ^ 20 → IsImmediate half away
-      → int_wrap w64 ((pos (unwrap_or (target (outer_in us p) (starts_of p i.file) i.object symbol) 0) +ℤ addend) -ℤ pos (moved (start_of (starts_of p) i) i.section place)) ≡ away
+      → int_wrap w64 ((pos (unwrap_or (target (outer_in us p) (p.starts i.file) i.object symbol) 0) +ℤ addend) -ℤ pos (moved (start_of p.starts i) i.section place)) ≡ away
   worth_is half most h =
-      ap (λ n. int_wrap w64 ((pos (unwrap_or (target (outer_in us p) (starts_of p i.file) i.object symbol) 0) +ℤ addend) -ℤ pos n)) from_is
-      ∙ value_is to (unwrap_or (target (outer_in us p) (starts_of p i.file) i.object symbol) 0) from addend half most h low (ap (λ o. unwrap_or o 0) target_is)
+      ap (λ n. int_wrap w64 ((pos (unwrap_or (target (outer_in us p) (p.starts i.file) i.object symbol) 0) +ℤ addend) -ℤ pos n)) from_is
+      ∙ value_is to (unwrap_or (target (outer_in us p) (p.starts i.file) i.object symbol) 0) from addend half most h low (ap (λ o. unwrap_or o 0) target_is)
 
   pub taken_by : (kind : Kind) → is_short_branch kind ≡ true → Reaches (half_of kind) addend (pos to -ℤ pos from) → IsTaken us p i (it kind)
   taken_by kinds.Branch short r = record {

@@ -28,16 +28,14 @@ use Rattle.rv_object_laws.specs.CallSites.{is_call, start_padding, base, home, m
 use Rattle.rv_object_laws.specs.Shortened.{Sizes, sizes_by, is_shortened, cuts, shortened_kind, shortened_relocation, shortened_text, shortened}
 use Rattle.rv_object_laws.specs.Whole.{IsWhole}
 use Rattle.rv_object_laws.specs.Without.{without}
+use Rattle.rv_object_laws.specs.Layout.{Layout, IsLayout, regions_of, outer_in}
+use Rattle.rv_object_laws.specs.Untaken.{IsTaken}
 use Rattle.rv_object_laws.proofs.ChangesLemmas as permitted
 use Rattle.rv_object_laws.proofs.TextInputsLemmas.{IsTextInput, whole_inputs}
 use Rattle.rv_object_laws.proofs.TextLineLemmas.{site_call, whole_text}
 use Rattle.rv_object_laws.proofs.WholeLemmas.{are_whole, whole_left}
 use Rattle.rv_object_laws.proofs.TextPlacesLemmas.{target_named}
-use Rattle.rv_placement.specs.declared.placement.Placement.{Placement}
-use Rattle.rv_placement.specs.Placement.{starts_of, IsPlacement}
-use Rattle.rv_resolve.specs.Shown.{regions_of, outer_in}
 use Rattle.rv_object_laws.specs.TextStart.{IsTextStart}
-use Rattle.rv_link.specs.Filled.{IsTaken}
 use Rattle.rv_object_laws.specs.Lists.{In}
 use Rattle.rv_cut_laws.specs.Cutting.{are_cuts}
 use Rattle.rv_cut_laws.proofs.ChangesLemmas as changed
@@ -138,13 +136,13 @@ frame_at os kept at gone (x ∷ is) (one, h) (suc k) i e =
 
 -- ---- what is left of objects
 
-module _ (os : List Object) (whole : AllByRecursion IsWhole os) (kept : List ℕ) (greatest : IsGreatestClosed (sites_of os) kept) (start : ℕ) (p : Placement) (begins : IsTextStart start)
-    (placed : IsPlacement (shortened kept os) start p) where
+module _ (os : List Object) (whole : AllByRecursion IsWhole os) (kept : List ℕ) (greatest : IsGreatestClosed (sites_of os) kept) (start : ℕ) (p : Layout) (begins : IsTextStart start)
+    (placed : IsLayout (shortened kept os) start p) where
   abbrev left : List Object
   left = shortened kept os
 
   abbrev starts : Starts
-  starts = starts_of p
+  starts = p.starts
 
   abbrev is : List InputSection
   is = inputs goes_to_text os
@@ -439,7 +437,7 @@ module _ (os : List Object) (whole : AllByRecursion IsWhole os) (kept : List ℕ
     now kind = record { place = new_offset (cuts (its i) i.section) q.place; kind = kind; symbol = q.symbol; addend = q.addend }
 
     abbrev away : ℤ
-    away = (pos leads.to -ℤ pos (address os kept start (starts_of p) i q.place)) +ℤ constant os i q
+    away = (pos leads.to -ℤ pos (address os kept start p.starts i q.place)) +ℤ constant os i q
 
     worth_is : int_wrap w64 ((pos (unwrap_or (target (outer_in left p) (starts i.file) (left_input os kept i).object q.symbol) 0) +ℤ q.addend) -ℤ pos (address os kept start starts i q.place)) ≡ away
     worth_is =
@@ -485,10 +483,10 @@ was_shortened sizes q h = by (is_shortened sizes q) refl h
     by true e k = e
     by false e k = e ∙ never (is_call q.kind) k
 
-abbrev Reaches_in : List Object → Placement → (before now : Relocation) → (of to : InputSection) → Type 0
+abbrev Reaches_in : List Object → Layout → (before now : Relocation) → (of to : InputSection) → Type 0
 Reaches_in left p before now i j = is_short_call before.kind now.kind ≡ true → IsTaken left p j now
 
-same_reach : (os left : List Object) (p : Placement) → left ≡ os → ForEachLeft os left (Reaches_in left p)
+same_reach : (os left : List Object) (p : Layout) → left ≡ os → ForEachLeft os left (Reaches_in left p)
 same_reach os left p same section place i j before now at_i at_j at_before at_now short =
     let both : ◌≡◌ {A = Option InputSection} (Some i) (Some j) = sym at_i ∙ ap (λ u. slice_get (inputs goes_to_text u) section) (sym same) ∙ at_j in
     let here : i ≡ j = cc in
@@ -500,7 +498,7 @@ same_reach os left p same section place i j before now at_i at_j at_before at_no
     never true e = absurd (cc)
     never false e = absurd (cc)
 
-short_reach : (os : List Object) → AllByRecursion IsWhole os → (kept : List ℕ) → IsGreatestClosed (sites_of os) kept → (start : ℕ) (p : Placement) → IsTextStart start → IsPlacement (shortened kept os) start p
+short_reach : (os : List Object) → AllByRecursion IsWhole os → (kept : List ℕ) → IsGreatestClosed (sites_of os) kept → (start : ℕ) (p : Layout) → IsTextStart start → IsLayout (shortened kept os) start p
     → ForEachLeft os (shortened kept os) (Reaches_in (shortened kept os) p)
 short_reach os whole kept greatest start p begins placed section place i j before now at_i at_j at_before at_now short =
     let sizes = sizes_by os kept i.file i.index in
@@ -521,4 +519,4 @@ pub short_calls_reach : ShortCallsReach
 short_calls_reach ds drops us start false p same begins placed = same_reach (without drops (map object_of ds)) us p same
 short_calls_reach ds drops us start true p (kept, greatest, same) begins placed =
     let os = without drops (map object_of ds) in
-    subst (λ u. IsPlacement u start p → ForEachLeft os u (Reaches_in u p)) (sym same) (short_reach os (whole_left drops (map object_of ds) (are_whole ds)) kept greatest start p begins) placed
+    subst (λ u. IsLayout u start p → ForEachLeft os u (Reaches_in u p)) (sym same) (short_reach os (whole_left drops (map object_of ds) (are_whole ds)) kept greatest start p begins) placed

@@ -1,9 +1,8 @@
 -- Each call that relaxation shortens reaches where its text is placed.
 
-use Rattle.std.proofs.Common.{◌≡◌, ℕ, zero, suc, ◌+◌, ◌-◌, ◌%◌, ◌^◌, ◌<◌, ◌≤◌, ◌⊎◌, inl, inr, Bool, true, false, cond, List, [], ◌∷◌, ◌++◌, length, map, Some, slice_index, refl, sym, ap, subst, ◌∙◌, arith}
+use Rattle.std.proofs.Common.{◌≡◌, ℕ, zero, suc, ◌+◌, ◌%◌, ◌^◌, ◌<◌, ◌≤◌, ◌⊎◌, inl, inr, Bool, true, false, cond, List, [], ◌∷◌, ◌++◌, length, Some, slice_index, refl, ap, subst, ◌∙◌, arith}
 use Rattle.std.specs.Prelude.{◌==◌, IsTrue, if◌then◌else◌}
 use Rattle.std.specs.List.{AllByRecursion, slice_get}
-use Rattle.std.specs.Global.{Vec}
 use Rattle.std.proofs.lemmas.Bool.{and_parts, and_from, eq-eqb, eqb-true, ne_eqb}
 use Rattle.rv_layout_laws.specs.Sites.{size_at}
 use Rattle.rv_layout_laws.specs.declared.site.Site.{Site}
@@ -16,10 +15,8 @@ use Rattle.rv_object_types.specs.Valid.{is_even, is_section_alignment, are_paddi
 use Rattle.rv_object_laws.specs.Inputs.{InputSection, goes_to_text, inputs_from, inputs_of, inputs}
 use Rattle.rv_object_laws.specs.Moves.{moves, new_offset}
 use Rattle.rv_object_laws.specs.Whole.{IsWholeSection, IsWhole}
-use Rattle.rv_placement.specs.declared.placement.PlacedSection.{PlacedSection}
-use Rattle.rv_placement.specs.declared.placement.Placement.{Placement}
-use Rattle.rv_placement.specs.Placement.{placed_in, start_in, starts_of, section_in, object_section, IsPlacement}
 use Rattle.rv_object_laws.specs.Lists.{In}
+use Rattle.rv_object_laws.specs.Layout.{Layout, IsLayout, section_in, object_section}
 use Rattle.rv_cut_laws.proofs.ChangesLemmas as changed
 use Rattle.rv_cut_laws.proofs.LineLemmas.{Later}
 use Rattle.rv_unique_link_laws.specs.Asked.{IsSound}
@@ -155,36 +152,15 @@ kept_here from (s ∷ ss) (n ∷ ks) order many (suc k) less call =
 
 -- ---- bytes have addresses
 
-same_long : {X Y : Type 0} (xs : List X) (ys : List Y) (k : ℕ) (y : Y) → length xs ≡ length ys → slice_get ys k ≡ Some y → (x : X) × (slice_get xs k ≡ Some x)
-same_long [] [] k y same e = absurd (cc)
-same_long [] (z ∷ ys) k y same e = absurd (omega (arith, same))
-same_long (x ∷ xs) [] k y same e = absurd (cc)
-same_long (x ∷ xs) (z ∷ ys) zero y same e = (x, refl)
-same_long (x ∷ xs) (z ∷ ys) (suc k) y same e = same_long xs ys k y (omega (arith, same)) e
-
-place_of : (fs : List (Vec PlacedSection)) (us : List Object) → map (λ (f : Vec PlacedSection). length f.items) fs ≡ map (λ (o : Object). length o.sections) us
-    → (file index : ℕ) (s : Section) → section_in (slice_get us file) index ≡ Some s → (q : PlacedSection) × (placed_in (slice_get fs file) index ≡ Some q)
-place_of [] [] each file index s e = absurd (cc)
-place_of [] (o ∷ us) each file index s e = absurd (cc)
-place_of (f ∷ fs) [] each file index s e = absurd (cc)
-place_of (f ∷ fs) (o ∷ us) each zero index s e = same_long f.items o.sections index s (let same : length f.items ≡ length o.sections = cc in same) e
-place_of (f ∷ fs) (o ∷ us) each (suc file) index s e =
-    place_of fs us (let rest : map (λ (f : Vec PlacedSection). length f.items) fs ≡ map (λ (o : Object). length o.sections) us = cc in rest) file index s e
-
 abbrev IsLowAt : ℕ → Section → Type 0
 IsLowAt start s = (size_of s.contents < 2 ^ 64) × (start + new_offset (moves start s) (size_of s.contents) < 2 ^ 64)
 
-abbrev pub IsLow : Placement → InputSection → Type 0
-IsLow p i = IsLowAt (starts_of p i.file i.index) i.section
+abbrev pub IsLow : Layout → InputSection → Type 0
+IsLow p i = IsLowAt (p.starts i.file i.index) i.section
 
-module _ (left : List Object) (start : ℕ) (p : Placement) (placed : IsPlacement left start p) where
-  low_at : (file index : ℕ) (s : Section) → object_section left file index ≡ Some s → IsLowAt (starts_of p (suc file) index) s
-  low_at file index s there =
-      let found = place_of p.files.items left placed.each file index s there in
-      let low = placed.low file index s found.0 there found.1 in
-      let same : suc file - 1 ≡ file = omega arith in
-      subst (λ n. IsLowAt n s)
-      (sym (ap (λ k. start_in (placed_in (slice_get p.files.items k) index)) same ∙ ap start_in found.1)) low
+module _ (left : List Object) (start : ℕ) (p : Layout) (placed : IsLayout left start p) where
+  low_at : (file index : ℕ) (s : Section) → object_section left file index ≡ Some s → IsLowAt (p.starts (suc file) index) s
+  low_at file index s there = subst (λ n. IsLowAt n s) (ap (λ k. p.starts k index) (let same : file + 1 ≡ suc file = omega arith in same)) (placed.low file index s there)
 
   lows_from : (file : ℕ) (us : List Object) → ((k : ℕ) → slice_get left (file + k) ≡ slice_get us k) → EachOf goes_to_text (IsLow p) (suc file) us
   lows_from file [] there = tt

@@ -18,10 +18,9 @@ use Rattle.rv_object_laws.specs.Inputs.{InputSection, goes_to_text, inputs}
 use Rattle.rv_object_laws.specs.CallSites.{is_call}
 use Rattle.rv_object_laws.specs.Shortened.{Relaxes}
 use Rattle.rv_object_laws.specs.Without.{without}
-use Rattle.rv_placement.specs.declared.placement.Placement.{Placement}
-use Rattle.rv_placement.specs.Placement.{IsPlacement}
 use Rattle.rv_object_laws.specs.TextStart.{IsTextStart}
-use Rattle.rv_link.specs.Filled.{IsTaken}
+use Rattle.rv_object_laws.specs.Untaken.{IsTaken}
+use Rattle.rv_object_laws.specs.Layout.{Layout, IsLayout}
 use Rattle.rv_sources_link_laws.specs.Joins.{AreObjectsOf}
 
 -- the field of a call, of which `jal` or `c.j` is left
@@ -77,30 +76,30 @@ ForEachLeft os left P =
 abbrev pub ShortCallsReach : Type 0
 ShortCallsReach =
     (objects : List DeclaredObject) (drops : List SectionId) (left : List Object) (start : ℕ)
-    (relax : Bool) (p : Placement)
+    (relax : Bool) (l : Layout)
     → Relaxes relax (without drops (map object_of objects)) left
-    → IsTextStart start → IsPlacement left start p
+    → IsTextStart start → IsLayout left start l
     → ForEachLeft (without drops (map object_of objects)) left
-    (λ before now i j. is_short_call before.kind now.kind ≡ true → IsTaken left p j now)
+    (λ before now i j. is_short_call before.kind now.kind ≡ true → IsTaken left l j now)
 
 -- and so does the field of each branch and jump of sources that has a form below its largest,
 -- unless its statement names it
 abbrev pub ShortBranchesReach : Type 0
 ShortBranchesReach =
     (sources : List (List Statement)) (objects : List DeclaredObject) (drops : List SectionId)
-    (left : List Object) (start : ℕ) (relax : Bool) (p : Placement)
+    (left : List Object) (start : ℕ) (relax : Bool) (l : Layout)
     → AreObjectsOf sources (map object_of objects)
     → Relaxes relax (without drops (map object_of objects)) left
-    → IsTextStart start → IsPlacement left start p
+    → IsTextStart start → IsLayout left start l
     → ForEachLeft (without drops (map object_of objects)) left
-    (λ before now i j. is_chosen_branch sources i before ≡ true → IsTaken left p j now)
+    (λ before now i j. is_chosen_branch sources i before ≡ true → IsTaken left l j now)
 
 -- both, where what relaxation leaves of objects of sources is placed: a build has no fault at such
 -- a field
 abbrev pub ShortFormsReach : List (List Statement) → List Object → List Object → ℕ → Type 0
 ShortFormsReach sources os left start =
-    (p : Placement) → IsPlacement left start p
+    (l : Layout) → IsLayout left start l
     → ForEachLeft os left
     (λ before now i j.
     (is_short_call before.kind now.kind || is_chosen_branch sources i before) ≡ true
-    → IsTaken left p j now)
+    → IsTaken left l j now)

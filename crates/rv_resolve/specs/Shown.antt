@@ -1,36 +1,14 @@
 -- The names that a map shows, by where the sections of objects stand (GNU ld, "Symbols").
 
-use Rattle.std.specs.Prelude.{ℕ, ◌+◌, Bool, ◌&&◌, List, [], ◌∷◌, ◌++◌, Option, Some, None, filter, flat_map}
+use Rattle.std.specs.Prelude.{ℕ, ◌+◌, Bool, ◌&&◌, List, [], ◌∷◌, Option, Some, None, filter, flat_map}
 use Rattle.std.specs.Borrow.{Bor}
 use Rattle.rv_map.specs.Globals.{global, shown}
-use Rattle.rv_map.specs.Map.{Map, Global}
+use Rattle.rv_map.specs.Map.{Global}
 use Rattle.rv_object_types.specs.Object.{Symbol, Object}
 use Rattle.rv_object_types.specs.Bindings.{is_shared}
-use Rattle.rv_object_laws.specs.Names.{Export, Outer, outer_address, globals_of, shown_linker_symbols, export_address, exports_in, is_export, is_chosen}
+use Rattle.rv_object_laws.specs.Names.{Export, export_address, exports_in, is_export, is_chosen}
 use Rattle.rv_placement.specs.declared.placement.Placement.{Placement}
 use Rattle.rv_placement.specs.Placement.{starts_of}
-
--- a map with these regions, of which the linker's names have their addresses
-abbrev pub regions_of : Placement → Map
-regions_of p = record {
-  text = p.text;
-  rodata = p.rodata;
-  «data» = p.data;
-  bss = p.bss;
-  entry = 0;
-  gaps = [];
-  globals = [];
-  drops = [];
-  rows = [];
-}
-
--- the definitions that names mean, with addresses, then the linker's names that nobody defines
-abbrev pub shown_globals : List Object → Placement → List Global
-shown_globals os p = globals_of (starts_of p) os ++ shown_linker_symbols os (regions_of p)
-
--- what symbols mean that their own objects don't surely define
-abbrev pub outer_in : List Object → Placement → Outer
-outer_in os p = outer_address os (shown_globals os p)
 
 -- the definitions with addresses among some
 abbrev pub shown_exports : Placement → List Export → List Global

@@ -12,10 +12,10 @@ ghost use Rattle.rv_object_types.specs.View.{object_of};
 ghost use Rattle.rv_object_types.specs.Bindings as bindings;
 ghost use Rattle.rv_object_laws.specs.Collects.{entry_place, run_place};
 ghost use Rattle.rv_object_laws.specs.Names as laws;
-ghost use Rattle.rv_placement.specs.Placement.{starts_of, IsPlacement};
+ghost use Rattle.rv_object_laws.specs.Layout.{outer_in, regions_of};
+ghost use Rattle.rv_placement.specs.Placement.{starts_of, IsPlacement, layout_of};
 ghost use Rattle.rv_object_laws.specs.Entry.{has_entry};
 ghost use Rattle.rv_resolve.specs.Names.{IsAt, IsNames, place_of};
-ghost use Rattle.rv_resolve.specs.Shown.{outer_in, regions_of};
 ghost use Rattle.rv_shorten.specs.View.{short_object_of};
 
 use crate::definitions::Exported;
@@ -39,7 +39,7 @@ impl<'o> Names<'o> {
             → IsPlacement (map short_object_of objects.now) start placement.now
             → slice_get (map short_object_of objects.now) file ≡ Some o
             → result ≡ option_and_then
-            (laws.symbol_address (outer_in (map short_object_of objects.now) placement.now)
+            (laws.symbol_address (outer_in (map short_object_of objects.now) (layout_of placement.now))
             (starts_of placement.now (file + 1)) o)
             (slice_get o.symbols index) }
     {
@@ -238,7 +238,7 @@ fn goes_to_text(objects: &[ShortObject<'_, '_>], file: usize, section: u32) -> b
 /// The address of a name that no object defines: what the linker gives; where it gives none, 0 for a weak symbol.
 fn undefined_address(placement: &Placement<'_>, binding: Binding, name: &[u8]) -> Option<u64>
     ensures { (os : List SaidObject) (start : ℕ) → IsPlacement os start placement.now
-        → result ≡ option_or (global_address (linker_symbols (regions_of placement.now)) name.now)
+        → result ≡ option_or (global_address (linker_symbols (regions_of (layout_of placement.now))) name.now)
         (if bindings.is_weak binding then Some 0 else None) }
 {
     match linker_address(placement, name) {
@@ -250,7 +250,7 @@ fn undefined_address(placement: &Placement<'_>, binding: Binding, name: &[u8]) -
 /// The address of a name that the linker gives.
 fn linker_address(placement: &Placement<'_>, name: &[u8]) -> Option<u64>
     ensures { (os : List SaidObject) (start : ℕ) → IsPlacement os start placement.now
-        → result ≡ global_address (linker_symbols (regions_of placement.now)) name.now }
+        → result ≡ global_address (linker_symbols (regions_of (layout_of placement.now))) name.now }
 {
     if name == b"_etext".as_slice() {
         Some(placement.text.end)

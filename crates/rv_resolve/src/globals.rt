@@ -9,12 +9,13 @@ ghost use Rattle.rv_map.specs.Name.{is_name};
 ghost use Rattle.rv_object_types.specs.Object.{Object as SaidObject, Symbol as SaidSymbol};
 ghost use Rattle.rv_object_types.specs.Parts.{symbol_of};
 ghost use Rattle.rv_object_laws.specs.Moves.{Move};
+ghost use Rattle.rv_object_laws.specs.Layout.{shown_globals, regions_of};
 ghost use Rattle.rv_object_types.specs.Bindings as bindings;
 ghost use Rattle.rv_object_laws.specs.Names as laws;
-ghost use Rattle.rv_placement.specs.Placement.{IsPlacement};
+ghost use Rattle.rv_placement.specs.Placement.{IsPlacement, layout_of};
 ghost use Rattle.rv_resolve.specs.Chosen.{definer};
 ghost use Rattle.rv_resolve.specs.Names.{IsNames, exported_of, is_kept};
-ghost use Rattle.rv_resolve.specs.Shown.{shown_globals, regions_of, shown_in, is_chosen_at, listed};
+ghost use Rattle.rv_resolve.specs.Shown.{shown_in, is_chosen_at, listed};
 ghost use Rattle.rv_cut_laws.specs.Cutting.{cut_symbol};
 ghost use Rattle.rv_shorten.specs.View.{short_object_of};
 
@@ -40,7 +41,7 @@ impl<'o> Names<'o> {
         ensures shown { (start : ℕ) → IsNames (map short_object_of objects.now) self.now
             → IsPlacement (map short_object_of objects.now) start placement.now
             → IfOk result (λ globals. map global_of globals.items
-            ≡ shown_globals (map short_object_of objects.now) placement.now) }
+            ≡ shown_globals (map short_object_of objects.now) (layout_of placement.now)) }
     {
         let mut globals = Vec::new(alloc);
         for file in 0..objects.len() {
@@ -69,7 +70,7 @@ impl<'o> Names<'o> {
         ensures added { OnOk result ((os : List SaidObject) (start : ℕ) → IsNames os self.now
             → IsPlacement os start placement.now
             → map global_of globals.new.items ≡ map global_of globals.old.items
-            ++ laws.shown_linker_symbols os (regions_of placement.now)) }
+            ++ laws.shown_linker_symbols os (regions_of (layout_of placement.now))) }
     {
         self.put_linker_symbol(alloc, globals, b"_etext", placement.text.end)?;
         self.put_linker_symbol(alloc, globals, b"__bss_start", placement.bss.start)?;

@@ -9,8 +9,8 @@ use Rattle.rv_object_types.specs.Object.{Relocation}
 use Rattle.rv_reloc.specs.declared.fault.LinkFault.{LinkFault}
 use Rattle.rv_reloc.specs.declared.fault.LinkFault.TheVariants.{Overflow, OddTarget, DanglingPcrel, AlignmentShort, Undefined, Duplicate, EntryMissing, ImageTooLarge, BadTextStart, TooManyFiles, OutOfMemory}
 use Rattle.rv_reloc.specs.Fault.{link_fault_number}
-use Rattle.rv_link.specs.Untaken.{IsFirst}
-use Rattle.rv_unique_link_laws.specs.Same.{name_in, IsSameFault}
+use Rattle.rv_object_laws.specs.Refusals.{name_in, IsSameFault}
+use Rattle.rv_object_laws.specs.Untaken.{IsFirst}
 
 -- ---- the first of a list
 

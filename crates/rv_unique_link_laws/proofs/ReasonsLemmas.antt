@@ -7,8 +7,9 @@ use Rattle.rv_object_types.specs.Object.{Object}
 use Rattle.rv_object_laws.specs.Inputs.{inputs}
 use Rattle.rv_object_laws.specs.Names.{global_names}
 use Rattle.rv_object_laws.specs.IsLinkOf.{most_files, is_loaded}
-use Rattle.rv_placement.specs.declared.placement.Placement.{Placement}
-use Rattle.rv_placement.specs.Placement.{starts_of, memory_of, IsPlacement, IsTooLarge, HasRoom}
+use Rattle.rv_object_laws.specs.Layout.{Layout, IsLayout, memory_of, IsTooLarge, HasRoom}
+use Rattle.rv_object_laws.specs.Untaken.{IsFirstUntaken}
+use Rattle.rv_object_laws.specs.Refusals.{LacksRoom, LacksEntry, ComesToEntry, ComesToPlaces, IsUnapplied, IsUnlinked, name_in, IsSameFault}
 use Rattle.rv_isa_laws.specs.Platform.{stack_start, memory_limit}
 use Rattle.rv_object_laws.specs.Entry.{has_entry}
 use Rattle.rv_object_laws.specs.Exports.{first_duplicate}
@@ -16,15 +17,12 @@ use Rattle.rv_object_laws.specs.Undefined.{first_undefined}
 use Rattle.rv_reloc.specs.declared.fault.LinkFault.{LinkFault}
 use Rattle.rv_reloc.specs.declared.fault.LinkFault.TheVariants.{Overflow, OddTarget, DanglingPcrel, AlignmentShort, Undefined, Duplicate, EntryMissing, ImageTooLarge, BadTextStart, TooManyFiles, OutOfMemory}
 use Rattle.rv_reloc.specs.Fault.{link_fault_number}
-use Rattle.rv_link.specs.Untaken.{IsFirstUntaken}
 use Rattle.rv_object_laws.specs.TextStart.{IsTextStart, AreWithin}
-use Rattle.rv_link.specs.Refusals.{LacksRoom, LacksEntry, ComesToEntry, ComesToPlaces, IsUnapplied, IsUnlinked}
 use Rattle.rv_unique_link_laws.specs.Asked.{BeginsEven}
-use Rattle.rv_unique_link_laws.specs.Same.{name_in, IsSameFault}
 use Rattle.rv_unique_link_laws.proofs.DistinctLemmas.{no_duplicate}
 use Rattle.rv_unique_link_laws.proofs.EnteredLemmas.{entry_there}
 use Rattle.rv_unique_link_laws.proofs.RefusedLemmas.{none_some}
-use Rattle.rv_unique_link_laws.proofs.UntakenLemmas.{roomy_same, placed_roomy, first_once}
+use Rattle.rv_unique_link_laws.proofs.UntakenLemmas.{roomy_same, first_once}
 
 -- ---- tests one after another
 
@@ -54,10 +52,10 @@ module _ (os : List Object) (start : ℕ) where
   -- ---- the tests of a link
 
   abbrev IsPlaced : Type 0
-  IsPlaced = (p : Placement) × IsPlacement os start p
+  IsPlaced = (p : Layout) × IsLayout os start p
 
   abbrev Applies : LinkFault → Type 0
-  Applies f = (first_undefined os ≡ None) × ((p : Placement) × IsPlacement os start p × IsFirstUntaken os p f (inputs is_loaded os))
+  Applies f = (first_undefined os ≡ None) × ((p : Layout) × IsLayout os start p × IsFirstUntaken os p f (inputs is_loaded os))
 
   abbrev Fits : LinkFault → Type 0
   Fits = Stage (IsTooLarge os start) IsPlaced (Tells 8 (Some [])) Applies
@@ -83,7 +81,7 @@ module _ (os : List Object) (start : ℕ) where
   -- ---- each fails for one reason
 
   too_large : IsTooLarge os start → IsPlaced → ⊥
-  too_large large (p, placed) = by (large (starts_of p) p.text p.rodata p.data p.bss placed.text placed.rodata placed.data placed.bss)
+  too_large large (p, placed) = by (large p.starts p.text p.rodata p.data p.bss placed.text placed.rodata placed.data placed.bss)
     where
       by : (stack_start < p.bss.end) ⊎ (memory_limit < memory_of p.text p.rodata p.data p.bss) → ⊥
       by (inl high) = let low = placed.below in absurd (omega (arith, high, low))
@@ -142,13 +140,13 @@ module _ (os : List Object) (start : ℕ) where
         by : (b : Bool) → has_entry os ≡ b → b ≡ false
         by false e = refl
         by true e =
-            let (a, is) = entry_there (starts_of p) os e in
-            absurd (odd a is (even (starts_of p) placed.text.1 a is))
+            let (a, is) = entry_there p.starts os e in
+            absurd (odd a is (even p.starts placed.text.1 a is))
 
     unapplied : (f : LinkFault) → IsUnapplied os start f → Counts f
     unapplied f (come, (p, placed, roomy, first)) =
         past_entry f come
-        (inr ((λ starts stand. roomy_same (starts_of p) starts os start placed.text.1 stand (placed_roomy os start p placed roomy)), inr ((p, placed), (come.0.1.1, (p, placed, first)))))
+        (inr ((λ starts stand. roomy_same p.starts starts os start placed.text.1 stand roomy), inr ((p, placed), (come.0.1.1, (p, placed, first)))))
 
     stands : (f : LinkFault) → IsUnlinked os start f → (f ≡ OutOfMemory → ⊥) → Counts f
     stands TooManyFiles u known = inl (u, (refl, refl))

@@ -5,14 +5,14 @@ use Rattle.std.specs.Prelude.{◌⊎◌, is_some}
 use Rattle.rv_image.specs.Linked.{Linked}
 use Rattle.rv_object_types.specs.Object.{Object}
 use Rattle.rv_object_laws.specs.IsLinkOf.{IsLinkOf}
+use Rattle.rv_object_laws.specs.Layout.{memory_of, IsTooLarge}
+use Rattle.rv_object_laws.specs.Refusals.{LacksRoom, LacksEntry, IsUnapplied, IsUnlinked}
 use Rattle.rv_isa_laws.specs.Platform.{stack_start, memory_limit}
-use Rattle.rv_placement.specs.Placement.{starts_of, memory_of, IsTooLarge}
 use Rattle.rv_object_laws.specs.Exports.{first_duplicate}
 use Rattle.rv_object_laws.specs.Undefined.{first_undefined}
 use Rattle.rv_object_laws.proofs.EntryLemmas.{entry_some}
 use Rattle.rv_reloc.specs.declared.fault.LinkFault.{LinkFault}
 use Rattle.rv_reloc.specs.declared.fault.LinkFault.TheVariants.{Overflow, OddTarget, DanglingPcrel, AlignmentShort, Undefined, Duplicate, EntryMissing, ImageTooLarge, BadTextStart, TooManyFiles, OutOfMemory}
-use Rattle.rv_link.specs.Refusals.{LacksRoom, LacksEntry, IsUnapplied, IsUnlinked}
 use Rattle.rv_unique_link_laws.proofs.AddressesLemmas.{all_entries}
 use Rattle.rv_unique_link_laws.proofs.DistinctLemmas.{no_duplicate}
 use Rattle.rv_unique_link_laws.proofs.ProgramLemmas.{linked_meant}
@@ -25,7 +25,7 @@ module _ (os : List Object) (start : ℕ) (l : Linked) (h : IsLinkOf os start l)
   has_its_entry : LacksEntry os start → ⊥
   has_its_entry (inl none) = let t : false ≡ true = sym none ∙ sym (entry_some h.starts os) ∙ ap is_some h.entry in absurd (cc)
   has_its_entry (inr (p, placed, odd)) =
-      odd l.map.entry (sym (all_entries h.starts (starts_of p) os (linked_one os start l p OutOfMemory h placed).agreed) ∙ h.entry) h.even
+      odd l.map.entry (sym (all_entries h.starts p.starts os (linked_one os start l p OutOfMemory h placed).agreed) ∙ h.entry) h.even
 
   has_its_room : LacksRoom os start → ⊥
   has_its_room (starts, stand, cramped) = cramped (roomy_same h.starts starts os start h.text.1 stand h.room)

@@ -1,6 +1,6 @@
 -- Relocations that are refused, where sections stand as they do in a program.
 
-use Rattle.std.proofs.Common.{◌≡◌, ℕ, ℤ, true, List, refl, sym, ap, ◌∙◌, subst, Option, None}
+use Rattle.std.proofs.Common.{◌≡◌, ℕ, ℤ, List, sym, ap, ◌∙◌, subst, Option, None}
 use Rattle.std.specs.Prelude.{IsTrue}
 use Rattle.std.specs.List.{AllByRecursion, list_all}
 use Rattle.rv_image.specs.Linked.{Linked}
@@ -10,17 +10,13 @@ use Rattle.rv_object_laws.specs.Inputs.{Starts, InputSection, goes_to_text, inpu
 use Rattle.rv_object_laws.specs.Names.{outer_address}
 use Rattle.rv_object_laws.specs.Values.{value, IsRelocated}
 use Rattle.rv_object_laws.specs.IsLinkOf.{IsLinkOf, outer_of, is_loaded}
-use Rattle.rv_placement.specs.declared.placement.Placement.{Placement}
-use Rattle.rv_placement.specs.Placement.{starts_of, are_roomy, IsPlacement, AreRoomy}
-use Rattle.rv_placement.proofs.RoomsLemmas.{are_rooms}
-use Rattle.rv_resolve.specs.Shown.{regions_of, outer_in}
 use Rattle.rv_object_laws.specs.Undefined.{first_undefined}
+use Rattle.rv_object_laws.specs.Layout.{Layout, IsLayout, AreRoomy, regions_of, outer_in}
+use Rattle.rv_object_laws.specs.Untaken.{IsTaken, IsUntaken, AreTaken, AreUntaken, IsFirstUntaken}
+use Rattle.rv_object_laws.specs.Refusals.{IsSameFault}
 use Rattle.rv_reloc.specs.declared.fault.LinkFault.{LinkFault}
 use Rattle.rv_reloc.specs.declared.fault.LinkFault.TheVariants.{Overflow, OddTarget, DanglingPcrel, AlignmentShort, Undefined, Duplicate, EntryMissing, ImageTooLarge, BadTextStart, TooManyFiles, OutOfMemory}
-use Rattle.rv_link.specs.Filled.{IsTaken}
-use Rattle.rv_link.specs.Untaken.{IsUntaken, AreTaken, AreUntaken, IsFirstUntaken}
 use Rattle.rv_object_laws.proofs.ListsLemmas.{all_both}
-use Rattle.rv_unique_link_laws.specs.Same.{IsSameFault}
 use Rattle.rv_unique_link_laws.proofs.AgreedLemmas.{StartsSame, stand_same, AreLaid, AreOne, laid_same}
 use Rattle.rv_unique_link_laws.proofs.ProgramLemmas.{every_same, values_between, linked_laid, linked_meant}
 use Rattle.rv_unique_link_laws.proofs.JudgedLemmas.{all_first, one_first, IsHeld, IsRefusedFor, refused_once, held_apart}
@@ -33,16 +29,13 @@ roomy_same s t os start h k roomy =
     all_both (StartsSame s t) (λ i. IsTrue (list_all has_room (moves (start_of s i) i.section))) (λ i. IsTrue (list_all has_room (moves (start_of t i) i.section)))
     (λ i same room. subst (λ n. IsTrue (list_all has_room (moves n i.section))) same room) (inputs goes_to_text os) (stand_same s t start (inputs goes_to_text os) h k).0 roomy
 
-module _ (os : List Object) (start : ℕ) (p : Placement) (placed : IsPlacement os start p) where
-  pub placed_laid : AreLaid os start (starts_of p) p.text p.rodata p.data p.bss
+module _ (os : List Object) (start : ℕ) (p : Layout) (placed : IsLayout os start p) where
+  pub placed_laid : AreLaid os start p.starts p.text p.rodata p.data p.bss
   placed_laid = record { in_text = placed.text; in_rodata = placed.rodata; in_data = placed.data; in_bss = placed.bss }
-
-  pub placed_roomy : are_roomy p ≡ true → AreRoomy os (starts_of p)
-  placed_roomy roomy = (are_rooms os start p placed (are_roomy p) refl).0 roomy
 
 -- ---- relocations
 
-refused_by : (os : List Object) (p : Placement) (i : InputSection) (f : LinkFault) (r : Relocation) → IsUntaken os p i f r → IsRefusedFor f (value (outer_in os p) (starts_of p) os i r) r
+refused_by : (os : List Object) (p : Layout) (i : InputSection) (f : LinkFault) (r : Relocation) → IsUntaken os p i f r → IsRefusedFor f (value (outer_in os p) p.starts os i r) r
 refused_by os p i Overflow r h = h
 refused_by os p i OddTarget r h = h
 refused_by os p i DanglingPcrel r h = h
@@ -55,21 +48,21 @@ refused_by os p i BadTextStart r h = h
 refused_by os p i TooManyFiles r h = h
 refused_by os p i OutOfMemory r h = h
 
-held_by : (os : List Object) (p : Placement) (i : InputSection) (r : Relocation) → IsTaken os p i r → IsHeld (value (outer_in os p) (starts_of p) os i r) r
+held_by : (os : List Object) (p : Layout) (i : InputSection) (r : Relocation) → IsTaken os p i r → IsHeld (value (outer_in os p) p.starts os i r) r
 held_by os p i r h = record { found = h.found; alone = h.alone; takes = h.takes }
 
-module _ (os : List Object) (start : ℕ) (l : Linked) (p : Placement) (f : LinkFault) (h : IsLinkOf os start l) (placed : IsPlacement os start p) where
-  pub linked_one : AreOne os h.starts (starts_of p) l.map.text p.text l.map.rodata p.rodata l.map.data p.data l.map.bss p.bss
-  linked_one = laid_same os start h.starts (starts_of p) l.map.text p.text l.map.rodata p.rodata l.map.data p.data l.map.bss p.bss (linked_laid os start l h) (placed_laid os start p placed)
+module _ (os : List Object) (start : ℕ) (l : Linked) (p : Layout) (f : LinkFault) (h : IsLinkOf os start l) (placed : IsLayout os start p) where
+  pub linked_one : AreOne os h.starts p.starts l.map.text p.text l.map.rodata p.rodata l.map.data p.data l.map.bss p.bss
+  linked_one = laid_same os start h.starts p.starts l.map.text p.text l.map.rodata p.rodata l.map.data p.data l.map.bss p.bss (linked_laid os start l h) (placed_laid os start p placed)
 
   same_names : outer_of os l ≡ outer_in os p
-  same_names = ap (outer_address os) (h.globals ∙ every_same h.starts (starts_of p) os linked_one.agreed l.map (regions_of p) linked_one.same_text linked_one.same_data linked_one.same_bss)
+  same_names = ap (outer_address os) (h.globals ∙ every_same h.starts p.starts os linked_one.agreed l.map (regions_of p) linked_one.same_text linked_one.same_data linked_one.same_bss)
 
   abbrev here : InputSection → Relocation → Option ℤ
   here i r = value (outer_of os l) h.starts os i r
 
   abbrev there : InputSection → Relocation → Option ℤ
-  there i r = value (outer_in os p) (starts_of p) os i r
+  there i r = value (outer_in os p) p.starts os i r
 
   apart_at : (i : InputSection) (r : Relocation) → here i r ≡ there i r → IsRelocated (outer_of os l) h.starts os i r → IsUntaken os p i f r → ⊥
   apart_at i r same is un =
@@ -80,20 +73,20 @@ module _ (os : List Object) (start : ℕ) (l : Linked) (p : Placement) (f : Link
   linked_taken first =
       all_first ⊥ (λ i. AllByRecursion (λ r. here i r ≡ there i r) i.section.relocations) (λ i. AllByRecursion (IsRelocated (outer_of os l) h.starts os i) i.section.relocations) (AreTaken os p) (AreUntaken os p f)
       (λ i. all_first ⊥ (λ r. here i r ≡ there i r) (IsRelocated (outer_of os l) h.starts os i) (IsTaken os p i) (IsUntaken os p i f) (apart_at i) i.section.relocations)
-      (inputs is_loaded os) (values_between h.starts (starts_of p) (outer_of os l) (outer_in os p) os linked_one.agreed same_names (linked_meant os start l h)) h.relocated first
+      (inputs is_loaded os) (values_between h.starts p.starts (outer_of os l) (outer_in os p) os linked_one.agreed same_names (linked_meant os start l h)) h.relocated first
 
-module _ (os : List Object) (start : ℕ) (p q : Placement) (f g : LinkFault) (placed : IsPlacement os start p) (again : IsPlacement os start q) where
-  two : AreOne os (starts_of p) (starts_of q) p.text q.text p.rodata q.rodata p.data q.data p.bss q.bss
-  two = laid_same os start (starts_of p) (starts_of q) p.text q.text p.rodata q.rodata p.data q.data p.bss q.bss (placed_laid os start p placed) (placed_laid os start q again)
+module _ (os : List Object) (start : ℕ) (p q : Layout) (f g : LinkFault) (placed : IsLayout os start p) (again : IsLayout os start q) where
+  two : AreOne os p.starts q.starts p.text q.text p.rodata q.rodata p.data q.data p.bss q.bss
+  two = laid_same os start p.starts q.starts p.text q.text p.rodata q.rodata p.data q.data p.bss q.bss (placed_laid os start p placed) (placed_laid os start q again)
 
   both_names : outer_in os p ≡ outer_in os q
-  both_names = ap (outer_address os) (every_same (starts_of p) (starts_of q) os two.agreed (regions_of p) (regions_of q) two.same_text two.same_data two.same_bss)
+  both_names = ap (outer_address os) (every_same p.starts q.starts os two.agreed (regions_of p) (regions_of q) two.same_text two.same_data two.same_bss)
 
   abbrev one : InputSection → Relocation → Option ℤ
-  one i r = value (outer_in os p) (starts_of p) os i r
+  one i r = value (outer_in os p) p.starts os i r
 
   abbrev other : InputSection → Relocation → Option ℤ
-  other i r = value (outer_in os q) (starts_of q) os i r
+  other i r = value (outer_in os q) q.starts os i r
 
   abbrev Alike : InputSection → Relocation → Type 0
   Alike i r = one i r ≡ other i r
@@ -124,4 +117,4 @@ module _ (os : List Object) (start : ℕ) (p q : Placement) (f g : LinkFault) (p
   pub first_once : first_undefined os ≡ None → IsFirstUntaken os p f (inputs is_loaded os) → IsFirstUntaken os q g (inputs is_loaded os) → IsSameFault f g
   first_once none =
       one_first (IsSameFault f g) AllAlike (AreTaken os p) (AreTaken os q) (AreUntaken os p f) (AreUntaken os q g) both_in left_in (λ i same h k. right_in i same k h) (inputs is_loaded os)
-      (values_between (starts_of p) (starts_of q) (outer_in os p) (outer_in os q) os two.agreed both_names none)
+      (values_between p.starts q.starts (outer_in os p) (outer_in os q) os two.agreed both_names none)

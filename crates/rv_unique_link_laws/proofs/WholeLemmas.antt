@@ -6,11 +6,10 @@ use Rattle.rv_object_types.specs.Object.{Object}
 use Rattle.rv_object_laws.specs.IsLinkOf.{IsLinkOf}
 use Rattle.rv_object_laws.specs.Without.{without}
 use Rattle.rv_object_laws.specs.IsProgramOf.{IsProgramOf}
+use Rattle.rv_object_laws.specs.Refusals.{IsUnlinked, HasNoProgram, IsSameFault}
 use Rattle.rv_reloc.specs.declared.fault.LinkFault.{LinkFault}
 use Rattle.rv_reloc.specs.declared.fault.LinkFault.TheVariants.{OutOfMemory}
-use Rattle.rv_link.specs.Refusals.{IsUnlinked, HasNoProgram}
 use Rattle.rv_unique_link_laws.specs.Asked.{HavePlacedRows, LeavesEven}
-use Rattle.rv_unique_link_laws.specs.Same.{IsSameFault}
 use Rattle.rv_unique_link_laws.proofs.LeftLemmas.{left_placed}
 use Rattle.rv_unique_link_laws.proofs.WithoutLemmas.{one_leaves, without_placed}
 use Rattle.rv_unique_link_laws.proofs.ProgramLemmas.{same_program}

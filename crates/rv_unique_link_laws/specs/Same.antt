@@ -1,14 +1,13 @@
 -- That objects have one program, and one reason to be refused.
 
-use Rattle.std.specs.Prelude.{◌≡◌, ℕ, Bool, List, []}
+use Rattle.std.specs.Prelude.{◌≡◌, ℕ, Bool, List}
 use Rattle.std.specs.List.{AllByRecursion}
 use Rattle.rv_image.specs.Linked.{Linked}
 use Rattle.rv_object_types.specs.Object.{Object}
 use Rattle.rv_object_laws.specs.IsProgramOf.{IsProgramOf}
+use Rattle.rv_object_laws.specs.Refusals.{HasNoProgram, IsSameFault}
 use Rattle.rv_reloc.specs.declared.fault.LinkFault.{LinkFault}
-use Rattle.rv_reloc.specs.declared.fault.LinkFault.TheVariants.{Undefined, Duplicate, OutOfMemory}
-use Rattle.rv_reloc.specs.Fault.{link_fault_number}
-use Rattle.rv_link.specs.Refusals.{HasNoProgram}
+use Rattle.rv_reloc.specs.declared.fault.LinkFault.TheVariants.{OutOfMemory}
 use Rattle.rv_unique_link_laws.specs.Asked.{HavePlacedRows, LeavesEven, IsSound}
 
 -- two programs of the same objects are equal
@@ -23,16 +22,6 @@ abbrev pub RefusedForMemory : Type 0
 RefusedForMemory =
     (os : List Object) (start : ℕ) (relax gc : Bool) (l : Linked) (fault : LinkFault)
     → IsProgramOf os start relax gc l → HasNoProgram os start relax gc fault → fault ≡ OutOfMemory
-
--- the name that a fault tells
-abbrev pub name_in : LinkFault → List ℕ
-name_in (Undefined name) = name.items
-name_in (Duplicate name) = name.items
-name_in _ = []
-
--- two faults are the same: they have one number and tell one name
-abbrev pub IsSameFault : LinkFault → LinkFault → Type 0
-IsSameFault f g = (link_fault_number f ≡ link_fault_number g) × (name_in f ≡ name_in g)
 
 -- but for want of memory, objects are refused for one reason
 abbrev pub RefusedForOne : Type 0

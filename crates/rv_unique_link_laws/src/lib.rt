@@ -1,9 +1,9 @@
 //! That objects have one program, and one reason to be refused.
 //!
-//! It takes what a program of objects is (`rv_object_laws`) and why objects have none (`rv_link`), and gives the laws that
-//! neither leaves a choice: collection and relaxation leave one list of objects, two programs of the same objects are equal, no
-//! objects are both linked and refused, and two faults for which they are refused are the same one. Want of memory is no reason
-//! that objects have. Nothing here runs.
+//! It takes what a program of objects is and why objects have none (`rv_object_laws`), and gives the laws that neither leaves a
+//! choice: collection and relaxation leave one list of objects, two programs of the same objects are equal, no objects are both
+//! linked and refused, and two faults for which they are refused are the same one. Want of memory is no reason that objects
+//! have. Nothing here runs.
 //!
 //! Source: System V gABI, "Sections", "Symbol Table", "Relocation"; RISC-V ELF psABI, "Relocations".
 #![tactic(auto)]

@@ -6,16 +6,16 @@ use Rattle.rv_shorten.specs.declared.object.ShortObject.{ShortObject}
 use Rattle.rv_shorten.specs.View.{short_object_of}
 use Rattle.rv_resolve.specs.declared.names.Names.{Names}
 use Rattle.rv_object_laws.specs.Entry.{has_entry}
+use Rattle.rv_object_laws.specs.Refusals.{ComesToPlaces, IsUnlinked}
 use Rattle.rv_resolve.specs.Names.{IsNames}
 use Rattle.rv_placement.specs.declared.placement.Placement.{Placement}
-use Rattle.rv_placement.specs.Placement.{IsPlacement}
+use Rattle.rv_placement.specs.Placement.{layout_of, IsPlacement}
 use Rattle.rv_placement.proofs.LayoutsLemmas.{has_layout}
 use Rattle.rv_placement.proofs.RoomsStandLemmas.{lacks_room_anywhere}
 use Rattle.rv_reloc.specs.declared.fault.LinkFault.{LinkFault}
 use Rattle.rv_reloc.specs.declared.fault.LinkFault.TheVariants.{EntryMissing}
 use Rattle.rv_link.specs.Left.{IsLinkWith}
 use Rattle.rv_object_laws.specs.TextStart.{AreWithin}
-use Rattle.rv_link.specs.Refusals.{ComesToPlaces, IsUnlinked}
 use Rattle.rv_link.specs.Regions.{HasLinkNames}
 use Rattle.rv_link.specs.Made.{made}
 use Rattle.rv_link.proofs.UnlinkedLemmas.{not_placed, unfilled, unnamed}
@@ -139,7 +139,7 @@ returns-in_err-entry-clause-refuses c =
     let odd = c.in_err-entry.ensures.refuses in
     rw (found.1, found.2)
     (over_same c.args.start _ _ _ same
-    (subst (IsUnlinked os c.args.start) (sym odd.0) (so.0, inr (p, placed_of c.args.start p _ _ same c.in_ok-placement.ensures.placed, odd.1))))
+    (subst (IsUnlinked os c.args.start) (sym odd.0) (so.0, inr (layout_of p, (placed_of c.args.start p _ _ same c.in_ok-placement.ensures.placed).laid, odd.1))))
 
 pub returns-in_err-regions-clause-refuses : goal.returns-in_err-regions-clause-refuses
 returns-in_err-regions-clause-refuses c =

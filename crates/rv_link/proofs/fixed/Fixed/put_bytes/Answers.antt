@@ -5,8 +5,10 @@ use borrow.Rule.Slice.PartMut.{post_of}
 use Rattle.rv_shorten.specs.Sections.{short_section_of}
 use Rattle.rv_object_laws.specs.Moves.{Move, moves, kept, new_offset}
 use Rattle.rv_object_laws.specs.Values.{applied, initial_bytes}
+use Rattle.rv_object_laws.specs.Untaken.{worth}
 use Rattle.rv_relax.specs.Kept.{moves_of}
-use Rattle.rv_link.specs.Filled.{IsInside, objects_of, input_of, worth, linked_in}
+use Rattle.rv_link.specs.Filled.{IsInside, objects_of, input_of, linked_in}
+use Rattle.rv_placement.specs.Placement.{layout_of}
 use Rattle.rv_link.proofs.StepsLemmas.{part_is, part_new, all_inside}
 use Rattle.rv_link.proofs.fixed.Fixed.put_bytes.Goals as goal
 
@@ -32,7 +34,7 @@ returns-clause-bytes c =
     let all = c.deref_mut.result.now in
     let n = c.len-from.result in
     let new = c.relocate.new.bytes in
-    let w = worth (objects_of c.args.self.now) c.args.self.now.placement.now (input_of c.args.self.now x) in
+    let w = worth (objects_of c.args.self.now) (layout_of c.args.self.now.placement.now) (input_of c.args.self.now x) in
     let from : n ≡ length old = search rules in
     let whole : all ≡ old ++ k = c.deref_mut.ensures.value ∙ c.in_ok-put_contents.ensures in
     let part : take (length all - n) (drop n all) ≡ k = part_is old k all n whole from in

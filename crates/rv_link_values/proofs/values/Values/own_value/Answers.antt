@@ -3,8 +3,8 @@ use Rattle.std.specs.Prelude.{unwrap_or}
 use Rattle.std.proofs.lemmas.Int.{to_z-of_z}
 use Rattle.rv_reloc.specs.Values.{value_of}
 use Rattle.rv_object_laws.specs.Values as laws
-use Rattle.rv_placement.specs.Placement.{starts_of}
-use Rattle.rv_resolve.specs.Shown.{outer_in}
+use Rattle.rv_object_laws.specs.Layout.{outer_in}
+use Rattle.rv_placement.specs.Placement.{starts_of, layout_of}
 use Rattle.rv_link_values.proofs.CalculatedLemmas.{place_wraps}
 use Rattle.rv_link_values.proofs.values.Values.own_value.Goals as goal
 
@@ -20,4 +20,4 @@ returns c = λ os p i h at.
     ∙ ap (λ n. value_of r.kind symbol r.addend n) (c.moved-place.ensures os p i h at)
     ∙ place_wraps r.kind symbol r.addend moved
     ∙ ap (λ n. value_of r.kind n r.addend moved) (c.target-symbol.ensures os p i.object h at.at)
-    ∙ ap (λ f. value_of r.kind (unwrap_or (laws.target (outer_in os p) (starts_of p f) i.object r.symbol) 0) r.addend moved) (sym at.numbered)
+    ∙ ap (λ f. value_of r.kind (unwrap_or (laws.target (outer_in os (layout_of p)) (starts_of p f) i.object r.symbol) 0) r.addend moved) (sym at.numbered)

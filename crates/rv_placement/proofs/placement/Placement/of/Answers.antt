@@ -2,12 +2,13 @@ use Rattle.std.proofs.Common.{◌≡◌, ◌∙◌, ◌≤◌, ◌<◌, ◌++◌
 use Rattle.std.specs.Vec.{with_items}
 use Rattle.std.proofs.lemmas.List.{with_items_is}
 use Rattle.rv_isa_laws.specs.Platform.{memory_limit}
+use Rattle.rv_object_laws.specs.Layout.{HasRoom, IsTooLarge}
 use Rattle.rv_shorten.specs.declared.object.ShortObject.{ShortObject}
 use Rattle.rv_shorten.specs.View.{short_object_of}
 use Rattle.rv_relax.specs.Kept.{kept_in}
 use Rattle.rv_relax.specs.Plan.{are_roomy_objects}
 use Rattle.rv_placement.specs.declared.placement.Placement.{Placement}
-use Rattle.rv_placement.specs.Placement.{HasRoom, IsPlacement, IsTooLarge}
+use Rattle.rv_placement.specs.Placement.{IsPlacement}
 use Rattle.rv_placement.specs.Walk.{lists_of, behind_files, gapped_files}
 use Rattle.rv_placement.proofs.BehindLemmas.{data_up, bss_up}
 use Rattle.rv_placement.proofs.TextsLemmas.{told, told_none}

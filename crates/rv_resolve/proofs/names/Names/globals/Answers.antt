@@ -2,9 +2,9 @@ use Rattle.std.proofs.Common.{◌≡◌, ◌<◌, ◌≤◌, ◌++◌, ◌∙◌
 use Rattle.std.proofs.lemmas.List.{length-map, at_drop_all}
 use Rattle.rv_map.specs.Map.{global_of}
 use Rattle.rv_object_laws.specs.Names.{globals_of, shown_linker_symbols}
-use Rattle.rv_placement.specs.Placement.{starts_of}
+use Rattle.rv_object_laws.specs.Layout.{regions_of}
+use Rattle.rv_placement.specs.Placement.{starts_of, layout_of}
 use Rattle.rv_shorten.specs.View.{short_object_of}
-use Rattle.rv_resolve.specs.Shown.{regions_of}
 use Rattle.rv_resolve.proofs.AddingLemmas.{files_shown, file_more}
 use Rattle.rv_object_laws.proofs.StepsLemmas.{viewed, there}
 use Rattle.rv_resolve.proofs.names.Names.globals.Goals as goal
@@ -37,4 +37,4 @@ returns-clause-shown c = λ start h stands.
     let past : length os ≤ n = subst (λ k. k ≤ n) (sym (length-map xs short_object_of)) (search rules) in
     let old = map global_of c.loop-file.globals.items in
     let all : old ≡ globals_of (starts_of p) os = sym (append-nil old) ∙ sym (at_drop_all (λ l. old ++ files_shown os p n l) os n past) ∙ c.loop-file.invariant.shown start h stands in
-    c.in_ok-put_linker_symbols.ensures.added os start h stands ∙ ap (λ l. l ++ shown_linker_symbols os (regions_of p)) all
+    c.in_ok-put_linker_symbols.ensures.added os start h stands ∙ ap (λ l. l ++ shown_linker_symbols os (regions_of (layout_of p))) all

@@ -1,7 +1,7 @@
 -- Why objects cannot be linked, in the order in which that is tested (this project's linker; GNU
 -- ld's diagnostics are of the same kinds).
 
-use Rattle.std.specs.Prelude.{◌≡◌, ◌⊎◌, ⊤, ℕ, ◌%◌, ◌<◌, ◌≤◌, Bool, true, false, List, length, Some, None}
+use Rattle.std.specs.Prelude.{◌≡◌, ◌⊎◌, ⊤, ℕ, ◌%◌, ◌<◌, ◌≤◌, Bool, true, false, List, length, Some, None, []}
 use Rattle.rv_map.specs.Globals.{AreDistinct}
 use Rattle.rv_map.specs.declared.map.SectionId.{SectionId}
 use Rattle.rv_object_types.specs.Object.{Object}
@@ -9,15 +9,15 @@ use Rattle.rv_object_laws.specs.Inputs.{Starts, goes_to_text, inputs, Stand}
 use Rattle.rv_object_laws.specs.Names.{global_names, entry_of}
 use Rattle.rv_object_laws.specs.IsLinkOf.{most_files, is_loaded}
 use Rattle.rv_object_laws.specs.IsProgramOf.{Leaves}
-use Rattle.rv_placement.specs.declared.placement.Placement.{Placement}
-use Rattle.rv_placement.specs.Placement.{starts_of, are_roomy, IsPlacement, AreRoomy, IsTooLarge, HasRoom}
+use Rattle.rv_object_laws.specs.Layout.{Layout, IsLayout, AreRoomy, IsTooLarge, HasRoom}
 use Rattle.rv_object_laws.specs.Entry.{has_entry}
 use Rattle.rv_object_laws.specs.Exports.{first_duplicate}
 use Rattle.rv_object_laws.specs.Undefined.{first_undefined}
 use Rattle.rv_reloc.specs.declared.fault.LinkFault.{LinkFault}
 use Rattle.rv_reloc.specs.declared.fault.LinkFault.TheVariants.{Overflow, OddTarget, DanglingPcrel, AlignmentShort, Undefined, Duplicate, EntryMissing, ImageTooLarge, BadTextStart, TooManyFiles, OutOfMemory}
 use Rattle.rv_object_laws.specs.TextStart.{IsTextStart, AreWithin}
-use Rattle.rv_link.specs.Untaken.{IsFirstUntaken}
+use Rattle.rv_object_laws.specs.Untaken.{IsFirstUntaken}
+use Rattle.rv_reloc.specs.Fault.{link_fault_number}
 
 -- ---- limits
 
@@ -61,13 +61,13 @@ AreUnplaced os start OutOfMemory = ⊤
 AreUnplaced os start _ = ⊥
 
 -- where sections stand, the entry has no even address
-abbrev pub IsOddEntry : List Object → Placement → Type 0
-IsOddEntry os p = (a : ℕ) → entry_of (starts_of p) os ≡ Some a → a % 2 ≡ 0 → ⊥
+abbrev pub IsOddEntry : List Object → Layout → Type 0
+IsOddEntry os l = (a : ℕ) → entry_of l.starts os ≡ Some a → a % 2 ≡ 0 → ⊥
 
 -- `_start` means no even place of a section of text
 abbrev pub LacksEntry : List Object → ℕ → Type 0
 LacksEntry os start =
-    (has_entry os ≡ false) ⊎ ((p : Placement) × IsPlacement os start p × IsOddEntry os p)
+    (has_entry os ≡ false) ⊎ ((l : Layout) × IsLayout os start l × IsOddEntry os l)
 
 -- ---- the whole
 
@@ -82,8 +82,8 @@ ComesToPlaces os start = ComesToEntry os start × (has_entry os ≡ true)
 abbrev pub IsUnapplied : List Object → ℕ → LinkFault → Type 0
 IsUnapplied os start fault =
     ComesToPlaces os start
-    × ((p : Placement) × IsPlacement os start p × (are_roomy p ≡ true)
-    × IsFirstUntaken os p fault (inputs is_loaded os))
+    × ((l : Layout) × IsLayout os start l × AreRoomy os l.starts
+    × IsFirstUntaken os l fault (inputs is_loaded os))
 
 abbrev pub IsUnlinked : List Object → ℕ → LinkFault → Type 0
 IsUnlinked os start TooManyFiles = ArePast (length os) start TooManyFiles
@@ -110,3 +110,15 @@ pub record HasNoProgram (os : List Object) (start : ℕ) (relax gc : Bool) (faul
   pub left : List Object
   pub leaves : Leaves os relax gc drops left
   pub unlinked : IsUnlinked left start fault
+
+-- ---- one fault
+
+-- the name that a fault tells
+abbrev pub name_in : LinkFault → List ℕ
+name_in (Undefined name) = name.items
+name_in (Duplicate name) = name.items
+name_in _ = []
+
+-- two faults are the same: they have one number and tell one name
+abbrev pub IsSameFault : LinkFault → LinkFault → Type 0
+IsSameFault f g = (link_fault_number f ≡ link_fault_number g) × (name_in f ≡ name_in g)
