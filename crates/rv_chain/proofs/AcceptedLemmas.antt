@@ -21,8 +21,8 @@ use Rattle.rv_image.specs.FirstFault.{first_fault, load_tests, programs_tests, w
 use Rattle.rv_image.proofs.ApartLemmas.{loaded_apart}
 use Rattle.rv_elf.specs.FirstTrue.{no_fault_parts}
 use Rattle.rv_elf.specs.Sections.{program_headers, is_load}
-use Rattle.rv_disasm.specs.declared.code.Code.{Code}
-use Rattle.rv_disasm.specs.Raw.{IsSourced, IsRawListing, raw_bytes, is_executable, lines_text, raw_lines}
+use Rattle.rv_listing_laws.specs.declared.code.Code.{Code}
+use Rattle.rv_listing_laws.specs.Raw.{IsSourced, IsRawListing, raw_bytes, is_executable, lines_text, raw_lines}
 use Rattle.rv_object_types.specs.Object.{Object}
 use Rattle.rv_object_types.specs.View.{object_of}
 use Rattle.rv_assemble_laws.specs.Refusals.{statements_fault, IsStatementsFault, IsTooLong}

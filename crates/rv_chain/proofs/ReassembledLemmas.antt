@@ -10,9 +10,9 @@ use Rattle.rv_image.specs.ImageOf.{ImageOf}
 use Rattle.rv_image.specs.Linked.{Linked, IsLaidOut}
 use Rattle.rv_image.specs.Executable.{Part, segment_of_part, has_memory, exe_of, linked_image}
 use Rattle.rv_image.proofs.LoadedAgainLemmas.{reload_image}
-use Rattle.rv_disasm.specs.declared.code.Code.{Code}
-use Rattle.rv_disasm.specs.declared.code.Code.TheVariants.{Word, Parcel}
-use Rattle.rv_disasm.specs.Raw.{raw_bytes, is_executable}
+use Rattle.rv_listing_laws.specs.declared.code.Code.{Code}
+use Rattle.rv_listing_laws.specs.declared.code.Code.TheVariants.{Word, Parcel}
+use Rattle.rv_listing_laws.specs.Raw.{raw_bytes, is_executable}
 use Rattle.rv_chain_laws.specs.Headline.{AllRead}
 use Rattle.rv_reassembly_laws.specs.Reassembles.{RawListingsReassemble}
 use Rattle.rv_chain_laws.specs.Building.{IsProgramFrom}

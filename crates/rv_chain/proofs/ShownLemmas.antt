@@ -15,7 +15,7 @@ use Rattle.rv_image.specs.Executable.{exe_of, linked_image}
 use Rattle.rv_image.specs.ImageOf.{ImageOf}
 use Rattle.rv_image.proofs.LoadedAgainLemmas.{reload_image}
 use Rattle.rv_source_laws.specs.Program.{program}
-use Rattle.rv_disasm.specs.Listing.{IsListing}
+use Rattle.rv_listing_laws.specs.Listing.{IsListing}
 use Rattle.rv_chain_laws.specs.SourceListing.{IsSourceListing}
 use Rattle.rv_runs_laws.proofs.ListedLemmas.{listed_is}
 use Rattle.rv_chain_laws.specs.Building.{IsProgramFrom}

@@ -9,7 +9,7 @@ use Rattle.rv_image.specs.Segment.{Segment}
 use Rattle.rv_image.specs.Image.{Image}
 use Rattle.rv_image.specs.ImageOf.{ImageOf}
 use Rattle.rv_image.specs.FirstFault.{first_fault}
-use Rattle.rv_disasm.specs.Raw.{IsRawListing, is_executable}
+use Rattle.rv_listing_laws.specs.Raw.{IsRawListing, is_executable}
 use Rattle.rv_fault.specs.declared.fault.Fault.{Fault}
 use Rattle.rv_fault.specs.declared.fault.Fault.TheVariants.{Source, Memory}
 use Rattle.rv_chain.specs.Refusals.{IsRefusedFor}

@@ -11,7 +11,7 @@ use Rattle.rv_map.specs.Limits.{IsMap}
 use Rattle.rv_image.specs.Image.{Image}
 use Rattle.rv_image.specs.ImageOf.{ImageOf}
 use Rattle.rv_source_laws.specs.Program.{program}
-use Rattle.rv_disasm.specs.Listing.{IsListing}
+use Rattle.rv_listing_laws.specs.Listing.{IsListing}
 use Rattle.rv_chain_laws.specs.Headline.{AllRead}
 use Rattle.rv_chain_laws.specs.SourceListing.{IsSourceListing}
 

@@ -4,7 +4,7 @@ use Rattle.std.specs.Prelude.{◌≡◌, ◌⊎◌, ℕ, List, [], ◌∷◌, �
 use Rattle.rv_isa.specs.declared.instruction.Format.{Format}
 use Rattle.rv_parse_laws.specs.Words.{mnemonic_named}
 use Rattle.rv_parse_laws.specs.Names.{mnemonic_of}
-use Rattle.rv_disasm.specs.Instruction.{text_of}
+use Rattle.rv_listing_laws.specs.Instruction.{text_of}
 
 -- a text that begins with a word, alone or before a blank
 pub record BeginsWith (word text : List ℕ) : Type 0 where

@@ -10,9 +10,9 @@ use Rattle.rv_map.specs.Text.{hexadecimal}
 use Rattle.rv_pseudo_laws.specs.Code.{Part}
 use Rattle.rv_source_laws.specs.Program.{Mapped, Program}
 use Rattle.rv_source_laws.specs.Lines.{Line, AreLines, parts, form_at}
-use Rattle.rv_disasm.specs.Instruction.{text_of}
-use Rattle.rv_disasm.specs.Listing.{statement}
-use Rattle.rv_disasm.specs.Order.{compared}
+use Rattle.rv_listing_laws.specs.Instruction.{text_of}
+use Rattle.rv_listing_laws.specs.Listing.{statement}
+use Rattle.rv_listing_laws.specs.Order.{compared}
 use Rattle.rv_chain_laws.specs.Contents.{HasSizes}
 
 -- ---- which statements, and in which order

@@ -12,9 +12,9 @@ use Rattle.rv_encode.proofs.ReaderLemmas.{word_read-exact}
 use Rattle.rv_compress.specs.declared.form.Compressed.{Compressed}
 use Rattle.rv_compress.specs.Parcel.{parcel, IsLine, IsNoHint, SpellsForm}
 use Rattle.rv_compress.specs.Front.{front_parcel, front_word}
-use Rattle.rv_disasm.specs.declared.code.Code.{Code}
-use Rattle.rv_disasm.specs.declared.code.Code.TheVariants.{Word, Parcel}
-use Rattle.rv_disasm.specs.Raw.{raw_bytes, has_source, IsSourced}
+use Rattle.rv_listing_laws.specs.declared.code.Code.{Code}
+use Rattle.rv_listing_laws.specs.declared.code.Code.TheVariants.{Word, Parcel}
+use Rattle.rv_listing_laws.specs.Raw.{raw_bytes, has_source, IsSourced}
 use Rattle.rv_disasm.specs.RawParts.{IsFront}
 use Rattle.rv_disasm.proofs.OneFormLemmas.{one_form}
 

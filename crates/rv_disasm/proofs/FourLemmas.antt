@@ -8,8 +8,8 @@ use Rattle.rv_isa.specs.declared.instruction.Inst.{Inst}
 use Rattle.rv_isa_laws.specs.Reader.{Reader}
 use Rattle.rv_encode.specs.Word.{Spells}
 use Rattle.rv_compress.specs.Parcel.{StandsFor}
-use Rattle.rv_disasm.specs.Lines.{read_whole, front}
-use Rattle.rv_disasm.proofs.FrontsLemmas.{le_true}
+use Rattle.rv_listing_laws.specs.Lines.{read_whole, front}
+use Rattle.rv_listing_laws.proofs.FrontsLemmas.{le_true}
 
 whole_four : (count : ℕ) (four bytes : List ℕ) (found : Option Inst) → count ≤ length four → count ≤ length bytes → read_whole count four found ≡ read_whole count bytes found
 whole_four count four bytes found few many =

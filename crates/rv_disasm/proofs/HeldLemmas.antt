@@ -7,7 +7,7 @@ use Rattle.rv_isa_laws.specs.Memory.{Execute}
 use Rattle.rv_map.specs.declared.map.Row.{Row}
 use Rattle.rv_image.specs.Segment.{Segment}
 use Rattle.rv_image.specs.Memory.{gives_right}
-use Rattle.rv_disasm.specs.Listing.{holds}
+use Rattle.rv_listing_laws.specs.Listing.{holds}
 
 -- where a row that a segment holds begins and ends
 pub held_parts : (row : Row) (s : Segment) → holds row s ≡ true → (s.address ≤ row.address) × (row.address + row.bytes ≤ s.address + length s.bytes)

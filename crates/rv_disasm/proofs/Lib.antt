@@ -1,10 +1,7 @@
 pub mod CodesLemmas
 pub mod DumpLinesLemmas
 pub mod FourLemmas
-pub mod FrontsLemmas
 pub mod HeldLemmas
-pub mod LinesOnLemmas
 pub mod OneFormLemmas
-pub mod OrderedLemmas
 pub mod RawLemmas
 pub mod RegistersLemmas

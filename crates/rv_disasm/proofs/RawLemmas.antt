@@ -13,9 +13,9 @@ use Rattle.std.proofs.Math.Seq.{drop-append_seam, take-append_seam}
 use Rattle.rv_image.specs.declared.segment.Segment.{Segment as DeclaredSegment}
 use Rattle.rv_image.specs.Segment.{Segment, segment_of}
 use Rattle.rv_image.specs.Image.{Image}
-use Rattle.rv_disasm.specs.declared.code.Code.{Code}
-use Rattle.rv_disasm.specs.declared.code.Code.TheVariants.{Word, Parcel}
-use Rattle.rv_disasm.specs.Raw.{raw_bytes, IsSourced, code_text, lines_text, raw_lines, is_executable, IsRawListing}
+use Rattle.rv_listing_laws.specs.declared.code.Code.{Code}
+use Rattle.rv_listing_laws.specs.declared.code.Code.TheVariants.{Word, Parcel}
+use Rattle.rv_listing_laws.specs.Raw.{raw_bytes, IsSourced, code_text, lines_text, raw_lines, is_executable, IsRawListing}
 use Rattle.rv_disasm.specs.RawParts.{IsFront, AreCodes, AreAdded, IsCut}
 use Rattle.rv_disasm.proofs.CodesLemmas.{one_code, same_rest}
 

@@ -1,11 +1,4 @@
 pub mod Dump
-pub mod Instruction
 pub mod KeptLine
 pub mod ListingLeft
-pub mod Lines
-pub mod Listing
-pub mod Numbers
-pub mod Order
-pub mod Parcels
-pub mod Raw
 pub mod RawParts

@@ -6,7 +6,7 @@ use Rattle.rv_encode.specs.Word.{Spells}
 use Rattle.rv_compress.specs.Parcel.{StandsFor}
 use Rattle.rv_image.specs.Segment.{segment_of}
 use Rattle.rv_disasm.specs.declared.listed.ListedRows.{ListedRows}
-use Rattle.rv_disasm.specs.Listing.{row_text}
+use Rattle.rv_listing_laws.specs.Listing.{row_text}
 
 -- the text of the rows that have not been added
 abbrev pub listing_left : Reader Spells StandsFor → ListedRows → List ℕ

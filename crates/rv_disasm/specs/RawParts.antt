@@ -5,8 +5,8 @@ use Rattle.std.specs.Prelude.{◌≡◌, ◌↔◌, ℕ, ◌+◌, ◌%◌, ◌<�
 use Rattle.std.specs.List.{AllByRecursion}
 use Rattle.rv_isa_laws.specs.Platform.{stack_start}
 use Rattle.rv_image.specs.Segment.{Segment}
-use Rattle.rv_disasm.specs.declared.code.Code.{Code}
-use Rattle.rv_disasm.specs.Raw.{raw_bytes, IsSourced, code_text, lines_text}
+use Rattle.rv_listing_laws.specs.declared.code.Code.{Code}
+use Rattle.rv_listing_laws.specs.Raw.{raw_bytes, IsSourced, code_text, lines_text}
 
 -- what is found is the instruction with which the bytes begin, where a source can write it: none
 -- exactly where there is no such

@@ -6,34 +6,24 @@ ghost use Rattle.std.specs.Prelude.{◌≡◌, ◌≢◌, ◌≤◌, ◌%◌, �
 ghost use Rattle.std.specs.Int.{to_le_bytes, w32};
 ghost use Rattle.rv_isa.specs.Operations.{format_of};
 ghost use Rattle.rv_compress.specs.Front.{front_parcel, front_word};
-ghost use Rattle.rv_disasm.specs.Raw.{raw_bytes, code_text, has_source};
+ghost use Rattle.rv_listing_laws.specs.Raw.{raw_bytes, code_text, has_source};
 ghost use Rattle.rv_disasm.specs.RawParts.{IsFront};
 
-use crate::instruction::{Targets, is_between, is_tso, put_instruction};
+use crate::instruction::{is_between, is_tso, put_instruction};
 use crate::parcel::put_parcel;
-use rv_compress::{Compressed, read};
+use rv_compress::read;
 use rv_encode::decode;
 use rv_isa::{Format, Inst};
+use rv_listing_laws::{Code, Targets};
 use std::alloc::AllocError;
 
-/// An instruction as it lies in memory.
-#[derive(Clone, Copy, Drop)]
-pub enum Code {
-    /// In four bytes.
-    Word(Inst),
-    /// In two, as a parcel of this form.
-    Parcel(Compressed),
-}
-
-impl Code {
-    /// How many bytes it has.
-    pub(crate) fn bytes(&self) -> usize
-        ensures { result ≡ length (raw_bytes self.now) }
-    {
-        match self {
-            Code::Word(_) => 4,
-            Code::Parcel(_) => 2,
-        }
+/// How many bytes an instruction has.
+pub(crate) fn size(code: &Code) -> usize
+    ensures { result ≡ length (raw_bytes code.now) }
+{
+    match code {
+        Code::Word(_) => 4,
+        Code::Parcel(_) => 2,
     }
 }
 

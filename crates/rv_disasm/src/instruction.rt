@@ -7,21 +7,13 @@ ghost use Rattle.std.specs.Fmt.{signed_decimal};
 ghost use Rattle.rv_isa.specs.Operations.{format_of};
 ghost use Rattle.rv_isa.specs.Mnemonics.{ordering as order};
 ghost use Rattle.rv_isa_laws.specs.Arithmetic.{wrapped, sum_of};
-ghost use Rattle.rv_disasm.specs.Numbers.{prefixed};
-ghost use Rattle.rv_disasm.specs.Instruction as shows;
+ghost use Rattle.rv_listing_laws.specs.Numbers.{prefixed};
+ghost use Rattle.rv_listing_laws.specs.Instruction as shows;
 
 use crate::numbers::{put_decimal, put_distance, put_prefixed, put_signed};
 use rv_isa::{Atomic, BType, Fence, Format, IType, Inst, JType, RType, Reg, Reserve, Shift, UType};
+use rv_listing_laws::Targets;
 use std::alloc::AllocError;
-
-/// How the targets of branches and jumps are shown.
-#[derive(Clone, Copy, Drop)]
-pub enum Targets {
-    /// By their addresses, from that of the instruction: `0x10004`.
-    Addresses(u64),
-    /// By how far they are from the instruction: `.+4`.
-    Distances,
-}
 
 /// Adds the text of an instruction.
 pub fn put_instruction(text: &mut Vec<u8>, targets: Targets, inst: Inst) -> Result<(), AllocError>

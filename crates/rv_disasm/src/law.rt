@@ -6,8 +6,8 @@ ghost use Rattle.rv_compress.specs.Parcel.{StandsFor};
 ghost use Rattle.rv_isa_laws.specs.Reader.{Reader};
 ghost use Rattle.rv_map.specs.Map.{Map};
 ghost use Rattle.rv_image.specs.Image.{Image};
-ghost use Rattle.rv_disasm.specs.Listing.{IsListing};
-ghost use Rattle.rv_disasm.specs.Raw.{IsRawListing};
+ghost use Rattle.rv_listing_laws.specs.Listing.{IsListing};
+ghost use Rattle.rv_listing_laws.specs.Raw.{IsRawListing};
 
 /// An image with a map has one listing.
 pub fn one_listing()

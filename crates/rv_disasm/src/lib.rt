@@ -9,8 +9,8 @@
 //! none exactly where it has none, and there is one at most (`one_raw_listing`); `hex_dump` gives `dump_of` the bytes.
 //! `ListedRows` gives the same listing as `listing`, a row at a time: what is there, with what is `listing_left`, stays the
 //! listing. What rows that lie over each other show is made once.
-//! One table says how an instruction of each format is shown (`text_with`), another the parcels of a raw listing
-//! (`parcel_text`).
+//! What a listing is, `rv_listing_laws` says, with a table of how an instruction of each format is shown (`text_with`) and
+//! one of the parcels of a raw listing (`parcel_text`).
 //! It must not know how a map comes about, what instructions do, or how sources are read.
 //!
 //! ```text
@@ -37,10 +37,10 @@ mod parcel;
 mod raw;
 mod rows;
 
-pub use code::Code;
 pub use dump::hex_dump;
-pub use instruction::{Targets, put_instruction};
+pub use instruction::put_instruction;
 pub use law::{one_listing, one_raw_listing};
 pub use listed::{ListedRows, listing};
 pub use parcel::put_parcel;
 pub use raw::raw_listing;
+pub use rv_listing_laws::{Code, Targets};

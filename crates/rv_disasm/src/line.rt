@@ -6,12 +6,13 @@ ghost use Rattle.std.specs.Prelude.{◌≡◌, ◌+◌, ◌<◌, ◌≤◌, ◌^
 ghost use Rattle.rv_encode.specs.Word.{Spells};
 ghost use Rattle.rv_compress.specs.Parcel.{StandsFor};
 ghost use Rattle.rv_isa_laws.specs.Reader.{Reader};
-ghost use Rattle.rv_disasm.specs.Lines.{front, shown, length_read, line, lines};
+ghost use Rattle.rv_listing_laws.specs.Lines.{front, shown, length_read, line, lines};
 
 use crate::code::first_word;
-use crate::instruction::{Targets, put_instruction};
+use crate::instruction::put_instruction;
 use crate::kept::KeptLines;
 use rv_compress::next_inst;
+use rv_listing_laws::Targets;
 use rv_map::put_hexadecimal;
 use std::alloc::AllocError;
 

@@ -2,8 +2,8 @@
 
 ghost use Rattle.std.specs.Prelude.{◌≡◌, ◌++◌, ◌∷◌, OnOk, decimal};
 ghost use Rattle.std.specs.Fmt.{signed_decimal};
-ghost use Rattle.rv_disasm.specs.Instruction.{distant};
-ghost use Rattle.rv_disasm.specs.Numbers.{prefixed};
+ghost use Rattle.rv_listing_laws.specs.Instruction.{distant};
+ghost use Rattle.rv_listing_laws.specs.Numbers.{prefixed};
 
 use itoa::Buffer;
 use rv_map::put_hexadecimal;

@@ -4,7 +4,7 @@
 //! sort's contract. That it leaves one listing is the law `one_listing`.
 
 ghost use Rattle.std.specs.Prelude.{IfOk};
-ghost use Rattle.rv_disasm.specs.Order.{IsInOrder};
+ghost use Rattle.rv_listing_laws.specs.Order.{IsInOrder};
 
 use rv_map::Row;
 use std::alloc::{AllocError, Global};

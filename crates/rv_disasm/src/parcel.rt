@@ -4,9 +4,9 @@
 
 ghost use Rattle.std.specs.Prelude.{◌≡◌, ◌++◌, ◌∷◌, [], OnOk, pos, decimal};
 ghost use Rattle.std.specs.Fmt.{signed_decimal};
-ghost use Rattle.rv_disasm.specs.Instruction as shows;
-ghost use Rattle.rv_disasm.specs.Numbers.{prefixed};
-ghost use Rattle.rv_disasm.specs.Parcels.{parcel_text};
+ghost use Rattle.rv_listing_laws.specs.Instruction as shows;
+ghost use Rattle.rv_listing_laws.specs.Numbers.{prefixed};
+ghost use Rattle.rv_listing_laws.specs.Parcels.{parcel_text};
 
 use crate::instruction::{put, put_in_parentheses, put_register};
 use crate::numbers::{put_decimal, put_distance, put_prefixed, put_signed};

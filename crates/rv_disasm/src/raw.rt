@@ -6,11 +6,11 @@
 ghost use Rattle.std.specs.Prelude.{◌≡◌, ◌∷◌, [], false, true, ℕ, List, IfOk, IfSome, IfNone, filter, map};
 ghost use Rattle.rv_image.specs.Segment.{Segment as PlainSegment, segment_of};
 ghost use Rattle.rv_image.specs.Image.{image_of};
-ghost use Rattle.rv_disasm.specs.declared.code.Code.{Code};
-ghost use Rattle.rv_disasm.specs.Raw.{IsRawListing, is_executable};
+ghost use Rattle.rv_listing_laws.specs.declared.code.Code.{Code};
+ghost use Rattle.rv_listing_laws.specs.Raw.{IsRawListing, is_executable};
 ghost use Rattle.rv_disasm.specs.RawParts.{AreAdded, AreCodes, IsCut};
 
-use crate::code::{front, put_code};
+use crate::code::{front, put_code, size};
 use rv_image::{Image, STACK_START, Segment};
 use std::alloc::{AllocError, Global};
 
@@ -94,7 +94,7 @@ fn put_codes(text: &mut Vec<u8>, bytes: &[u8]) -> Result<bool, AllocError>
         match front(&bytes[offset..]) {
             Some(code) => {
                 put_code(text, &code)?;
-                offset += code.bytes();
+                offset += size(&code);
             }
             None => return Ok(false),
         }

@@ -5,7 +5,7 @@ ghost use Rattle.rv_encode.specs.Word.{Spells};
 ghost use Rattle.rv_compress.specs.Parcel.{StandsFor};
 ghost use Rattle.rv_isa_laws.specs.Reader.{Reader};
 ghost use Rattle.rv_image.specs.Segment.{segment_of};
-ghost use Rattle.rv_disasm.specs.Listing as shows;
+ghost use Rattle.rv_listing_laws.specs.Listing as shows;
 
 use crate::kept::KeptLines;
 use crate::line::put_lines;
@@ -15,7 +15,7 @@ use rv_map::Row;
 use std::alloc::AllocError;
 
 /// Adds the text of a row.
-#[tactic(auto, using(crate::proofs::LinesOnLemmas::entry_none, crate::proofs::LinesOnLemmas::entry_some))]
+#[tactic(auto, using(rv_listing_laws::proofs::LinesOnLemmas::entry_none, rv_listing_laws::proofs::LinesOnLemmas::entry_some))]
 pub(crate) fn put_row(
     text: &mut Vec<u8>,
     kept: &mut KeptLines,

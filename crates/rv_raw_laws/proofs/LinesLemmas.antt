@@ -15,7 +15,7 @@ use Rattle.rv_statement.specs.Statement.{StatementKind, Label, Numbered, Instruc
 use Rattle.rv_parse_laws.specs.Syntax.{SourcePart, Ends, Says, StopsPart, is_end}
 use Rattle.rv_parse_laws.specs.Opening.{OpenWell}
 use Rattle.rv_parse_laws.specs.Reading.{longest_source, longest_line, IsPastLine, statements_of_parts, AreParts, Reads}
-use Rattle.rv_disasm.specs.Raw.{lines_text}
+use Rattle.rv_listing_laws.specs.Raw.{lines_text}
 use Rattle.rv_raw_laws.specs.Statements.{on_lines}
 use Rattle.rv_raw_laws.proofs.LexemesLemmas.{Lexeme, word, line_feed, texts-append, each-append, tokens-append, newlines-append, no_newlines, line_stops}
 use Rattle.rv_raw_laws.proofs.WordsLemmas.{IsLineOf}

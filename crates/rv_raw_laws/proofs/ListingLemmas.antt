@@ -4,9 +4,9 @@ use Rattle.std.proofs.Common.{ℕ, List, [], ◌∷◌, ◌++◌, map}
 use Rattle.std.specs.List.{AllByRecursion}
 use Rattle.rv_isa.specs.Operations.{format_of}
 use Rattle.rv_statement.specs.Statement.{StatementKind}
-use Rattle.rv_disasm.specs.declared.code.Code.{Code}
-use Rattle.rv_disasm.specs.declared.code.Code.TheVariants.{Word, Parcel}
-use Rattle.rv_disasm.specs.Raw.{IsSourced, code_text, raw_lines}
+use Rattle.rv_listing_laws.specs.declared.code.Code.{Code}
+use Rattle.rv_listing_laws.specs.declared.code.Code.TheVariants.{Word, Parcel}
+use Rattle.rv_listing_laws.specs.Raw.{IsSourced, code_text, raw_lines}
 use Rattle.rv_raw_laws.specs.Statements.{code_statement, raw_statements}
 use Rattle.rv_raw_laws.proofs.WordsLemmas.{IsLineOf, word_is}
 use Rattle.rv_raw_laws.proofs.ParcelsLemmas.{parcel_is}

@@ -22,10 +22,10 @@ use Rattle.rv_reloc.specs.Operands.{with_value}
 use Rattle.rv_pseudo_laws.specs.Code.{Part, Closed, Open, Constants, jal}
 use Rattle.rv_pseudo_laws.specs.Filled.{FieldValue, filled_part}
 use Rattle.rv_source_laws.specs.Lines.{parts_by_size, form_in}
-use Rattle.rv_disasm.specs.Instruction.{is_tso, is_between}
-use Rattle.rv_disasm.specs.declared.code.Code.{Code}
-use Rattle.rv_disasm.specs.declared.code.Code.TheVariants.{Word, Parcel}
-use Rattle.rv_disasm.specs.Raw.{IsSourced, has_source}
+use Rattle.rv_listing_laws.specs.Instruction.{is_tso, is_between}
+use Rattle.rv_listing_laws.specs.declared.code.Code.{Code}
+use Rattle.rv_listing_laws.specs.declared.code.Code.TheVariants.{Word, Parcel}
+use Rattle.rv_listing_laws.specs.Raw.{IsSourced, has_source}
 use Rattle.rv_raw_laws.specs.Statements.{IsSmall, access_set, fence_statement, word_statement, parcel_statement, code_statement}
 use Rattle.rv_raw_laws.specs.Meaning.{KnowsNumbers, Leads, code_width, instruction_at, word_part, parcel_part, part_of, named_by}
 use Rattle.rv_raw_laws.proofs.WordsLemmas.{small_12}

@@ -19,7 +19,7 @@ use Rattle.rv_statement.specs.declared.mnemonic.Mnemonic.{Mnemonic}
 use Rattle.rv_statement.specs.declared.mnemonic.Mnemonic.TheVariants as words
 use Rattle.rv_parse_laws.specs.declared.beginning.Beginning.TheVariants as beginnings
 use Rattle.rv_parse_laws.specs.Words.{beginning, register_names, register, mnemonic_named, directive_named, instruction_words, atomic_operations, atomic_forms, directive_words, form_with}
-use Rattle.rv_disasm.specs.Instruction.{abi_register as abi, load_reserved_name}
+use Rattle.rv_listing_laws.specs.Instruction.{abi_register as abi, load_reserved_name}
 use Rattle.rv_raw_laws.proofs.LexemesLemmas.{is_name}
 
 -- ---- registers

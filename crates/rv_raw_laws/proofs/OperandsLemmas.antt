@@ -22,7 +22,7 @@ use Rattle.rv_statement.specs.Statement.{Operand, Register, Value, Target, Acces
 use Rattle.rv_parse_laws.specs.declared.role.Role.{Role}
 use Rattle.rv_parse_laws.specs.declared.role.Role.TheVariants as roles
 use Rattle.rv_parse_laws.specs.Syntax.{Slot, A_register, A_register_of, A_value, An_address, An_address_by, kept_in, A_comma, A_target, Some_accesses, access_sets, Slots, Stops as Ends_here, Takes, Chooses, Locates, atomic_address, jump_target, IsValue, IsValueIn, IsOperand, IsBase, IsOffset, AreOperands, targets, is_refused, front_begins, colon_next, is_register}
-use Rattle.rv_disasm.specs.Instruction.{abi_register as abi, in_parentheses, based, distant, accesses}
+use Rattle.rv_listing_laws.specs.Instruction.{abi_register as abi, in_parentheses, based, distant, accesses}
 use Rattle.rv_raw_laws.specs.Statements.{IsSmall, constant_expression, from_dot, access_set}
 use Rattle.rv_raw_laws.proofs.LexemesLemmas.{Lexeme, lexeme, word, comma, opening, closing, plus, minus, Breaks, Stand, texts-append, each-append, tokens-append, in_line-append, is_name, name_spells, name_stops, name_in_line, name_some, number_stops, comma_stops, opening_stops, closing_stops, plus_stops, minus_stops}
 use Rattle.rv_raw_laws.proofs.NumbersLemmas.{IsNumeral, decimal_numeral}

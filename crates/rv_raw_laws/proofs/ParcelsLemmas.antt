@@ -16,9 +16,9 @@ use Rattle.rv_statement.specs.Statement.{Operand, Register, Instruction}
 use Rattle.rv_parse_laws.specs.declared.role.Role.TheVariants as roles
 use Rattle.rv_parse_laws.specs.Words.{beginning, mnemonic_named, directive_named, instruction_words, atomic_operations, atomic_forms, directive_words}
 use Rattle.rv_parse_laws.specs.Syntax.{A_register_of, An_address_by, A_value, A_target, Slots, last, and_then, slots}
-use Rattle.rv_disasm.specs.Instruction.{abi_register as abi, based, distant, operands}
-use Rattle.rv_disasm.specs.Numbers.{prefixed}
-use Rattle.rv_disasm.specs.Parcels.{parcel_text}
+use Rattle.rv_listing_laws.specs.Instruction.{abi_register as abi, based, distant, operands}
+use Rattle.rv_listing_laws.specs.Numbers.{prefixed}
+use Rattle.rv_listing_laws.specs.Parcels.{parcel_text}
 use Rattle.rv_raw_laws.specs.Statements.{IsSmall, with_number, with_address, with_source, with_target, parcel_statement}
 use Rattle.rv_raw_laws.proofs.NumbersLemmas.{bounded, prefixed_numeral}
 use Rattle.rv_raw_laws.proofs.NamesLemmas.{Begins}

@@ -27,10 +27,9 @@ use Rattle.rv_isa.specs.declared.operation.UpperOperation.TheVariants.{Lui, Auip
 use Rattle.rv_parse_laws.specs.declared.role.Role.TheVariants as roles
 use Rattle.rv_parse_laws.specs.Syntax.{A_register, A_value, Some_accesses, Slots, Stops as Ends_here, Takes, A_comma, slots, source, with_constant, last, upper_role, targets, IsStatement, AreOperands, colon_next}
 use Rattle.rv_parse_laws.specs.Opening.{opens_well}
-use Rattle.rv_disasm.specs.Instruction.{abi_register as abi, operands, accesses, fence_text, is_tso, is_between}
-use Rattle.rv_disasm.specs.Numbers.{prefixed}
-use Rattle.rv_disasm.specs.Instruction.{distant, text_with}
-use Rattle.rv_disasm.specs.Raw.{has_source}
+use Rattle.rv_listing_laws.specs.Instruction.{abi_register as abi, operands, accesses, fence_text, is_tso, is_between, distant, text_with}
+use Rattle.rv_listing_laws.specs.Numbers.{prefixed}
+use Rattle.rv_listing_laws.specs.Raw.{has_source}
 use Rattle.rv_raw_laws.specs.Statements.{IsSmall, access_set, fence_statement, word_statement}
 use Rattle.rv_raw_laws.proofs.LexemesLemmas.{Lexeme, word, blank, Breaks, in_line-append, is_name, name_spells, name_stops, name_in_line, blank_stops}
 use Rattle.rv_raw_laws.proofs.NumbersLemmas.{bounded, decimal_numeral, prefixed_numeral}

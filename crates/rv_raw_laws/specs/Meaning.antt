@@ -18,8 +18,8 @@ use Rattle.rv_layout_laws.specs.declared.item.Item.{Item}
 use Rattle.rv_layout_laws.specs.Offsets.{IsImmediate}
 use Rattle.rv_pseudo_laws.specs.Code.{Part, Closed, Open, Constants, b_type, jal}
 use Rattle.rv_pseudo_laws.specs.Filled.{FieldValue}
-use Rattle.rv_disasm.specs.declared.code.Code.{Code}
-use Rattle.rv_disasm.specs.declared.code.Code.TheVariants.{Word, Parcel}
+use Rattle.rv_listing_laws.specs.declared.code.Code.{Code}
+use Rattle.rv_listing_laws.specs.declared.code.Code.TheVariants.{Word, Parcel}
 use Rattle.rv_raw_laws.specs.Statements.{constant_expression, IsSmall}
 
 -- by these constants numbers stand for themselves

@@ -19,9 +19,9 @@ use Rattle.rv_statement.specs.declared.mnemonic.Mnemonic.TheVariants as words
 use Rattle.rv_statement.specs.Statement.{Expression, Operand, Register, Value, Target, Accesses, Binds, Chooses, StatementKind, Label, Instruction, Directs, Statement}
 use Rattle.rv_parse_laws.specs.Words.{form_with}
 use Rattle.rv_parse_laws.specs.Syntax.{accesses}
-use Rattle.rv_disasm.specs.Instruction.{is_tso}
-use Rattle.rv_disasm.specs.declared.code.Code.{Code}
-use Rattle.rv_disasm.specs.declared.code.Code.TheVariants.{Word, Parcel}
+use Rattle.rv_listing_laws.specs.Instruction.{is_tso}
+use Rattle.rv_listing_laws.specs.declared.code.Code.{Code}
+use Rattle.rv_listing_laws.specs.declared.code.Code.TheVariants.{Word, Parcel}
 
 -- ---- numbers and targets as expressions
 

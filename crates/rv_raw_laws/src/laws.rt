@@ -13,8 +13,8 @@ ghost use Rattle.rv_parse_laws.specs.Reading.{Reads, longest_source};
 ghost use Rattle.rv_pseudo_laws.specs.Code.{Constants};
 ghost use Rattle.rv_pseudo_laws.specs.Filled.{FieldValue, filled_part};
 ghost use Rattle.rv_source_laws.specs.Lines.{constant_of, distance as distance_to, form_in, parts_by_size};
-ghost use Rattle.rv_disasm.specs.declared.code.Code.{Code};
-ghost use Rattle.rv_disasm.specs.Raw.{IsSourced, lines_text, raw_lines};
+ghost use Rattle.rv_listing_laws.specs.declared.code.Code.{Code};
+ghost use Rattle.rv_listing_laws.specs.Raw.{IsSourced, lines_text, raw_lines};
 ghost use Rattle.rv_raw_laws.specs.Statements.{IsSmall, code_statement, from_dot, constant_expression, on_lines, raw_statements};
 ghost use Rattle.rv_raw_laws.specs.Meaning.{KnowsNumbers, Leads, LeadsFromItself, code_width, instruction_at, named_by, part_of};
 

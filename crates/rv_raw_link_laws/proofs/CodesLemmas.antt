@@ -31,10 +31,10 @@ use Rattle.rv_pseudo_laws.specs.Code.{Part, Closed, Open, Joined, Constants, b_t
 use Rattle.rv_pseudo_laws.specs.InstructionFaults.{Worth, Number, Address, number_faults, faults, else_unplaced, own_faults, range_faults}
 use Rattle.rv_pseudo_laws.specs.Valid.{is_amount, is_upper_20, takes}
 use Rattle.rv_source_laws.specs.Lines.{operand_of, parts_by_size, form_in}
-use Rattle.rv_disasm.specs.declared.code.Code.{Code}
-use Rattle.rv_disasm.specs.declared.code.Code.TheVariants.{Word, Parcel}
-use Rattle.rv_disasm.specs.Instruction.{is_tso}
-use Rattle.rv_disasm.specs.Raw.{has_source, IsSourced}
+use Rattle.rv_listing_laws.specs.declared.code.Code.{Code}
+use Rattle.rv_listing_laws.specs.declared.code.Code.TheVariants.{Word, Parcel}
+use Rattle.rv_listing_laws.specs.Instruction.{is_tso}
+use Rattle.rv_listing_laws.specs.Raw.{has_source, IsSourced}
 use Rattle.rv_raw_laws.specs.Meaning.{KnowsNumbers, word_part, parcel_part, named_in_parcel}
 use Rattle.rv_raw_laws.specs.Statements.{IsSmall, constant_expression, from_dot, access_set, operands_of, word_statement, parcel_statement, code_statement}
 use Rattle.rv_raw_laws.proofs.FormsLemmas.{named}

@@ -15,8 +15,8 @@ use Rattle.rv_unit_laws.specs.Tables.{Tables, Labelled, at_start, after, tables,
 use Rattle.rv_unit_laws.specs.Faults.{StatementFault, at_line, faults, first_fault_from, first_unit_fault, past_most}
 use Rattle.rv_source_laws.specs.Located.{Located, located_from, located}
 use Rattle.rv_source_laws.specs.Program.{place_of}
-use Rattle.rv_disasm.specs.declared.code.Code.{Code}
-use Rattle.rv_disasm.specs.Raw.{lines_text, raw_lines}
+use Rattle.rv_listing_laws.specs.declared.code.Code.{Code}
+use Rattle.rv_listing_laws.specs.Raw.{lines_text, raw_lines}
 use Rattle.rv_raw_laws.specs.Statements.{code_statement, raw_statements, on_lines}
 use Rattle.rv_raw_laws.proofs.LinesLemmas.{lines_read}
 use Rattle.rv_raw_laws.proofs.ListingLemmas.{listing_is}

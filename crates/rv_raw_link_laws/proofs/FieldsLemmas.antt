@@ -22,9 +22,9 @@ use Rattle.rv_unit_laws.specs.Tables.{Tables, Labelled, meaning, longest_section
 use Rattle.rv_source_laws.specs.Lines.{operand_of, parts_by_size as code_of_kind}
 use Rattle.rv_source_laws.specs.Program.{place_of}
 use Rattle.rv_source_laws.proofs.HomesLemmas.{all_join}
-use Rattle.rv_disasm.specs.declared.code.Code.{Code}
-use Rattle.rv_disasm.specs.declared.code.Code.TheVariants.{Word, Parcel}
-use Rattle.rv_disasm.specs.Raw.{IsSourced}
+use Rattle.rv_listing_laws.specs.declared.code.Code.{Code}
+use Rattle.rv_listing_laws.specs.declared.code.Code.TheVariants.{Word, Parcel}
+use Rattle.rv_listing_laws.specs.Raw.{IsSourced}
 use Rattle.rv_raw_laws.specs.Statements.{IsSmall, from_dot, word_statement, parcel_statement, code_statement}
 use Rattle.rv_object_types.specs.declared.symbol.Definition.TheVariants as definitions
 use Rattle.rv_object_types.specs.Bindings.{is_weak}

@@ -30,10 +30,10 @@ use Rattle.rv_source_laws.specs.Located.{Located, located_from}
 use Rattle.rv_source_laws.specs.Program.{place_of}
 use Rattle.rv_source_laws.specs.Sizes.{Near, near_forms, jump_forms, near_at, near_value, settled, branch_item, item_by, item_by_kind}
 use Rattle.rv_source_laws.proofs.HomesLemmas.{all_map}
-use Rattle.rv_disasm.specs.declared.code.Code.{Code}
-use Rattle.rv_disasm.specs.declared.code.Code.TheVariants.{Word, Parcel}
-use Rattle.rv_disasm.specs.Instruction.{is_tso}
-use Rattle.rv_disasm.specs.Raw.{IsSourced}
+use Rattle.rv_listing_laws.specs.declared.code.Code.{Code}
+use Rattle.rv_listing_laws.specs.declared.code.Code.TheVariants.{Word, Parcel}
+use Rattle.rv_listing_laws.specs.Instruction.{is_tso}
+use Rattle.rv_listing_laws.specs.Raw.{IsSourced}
 use Rattle.rv_raw_laws.specs.Statements.{IsSmall, from_dot, access_set, word_statement, parcel_statement, code_statement}
 use Rattle.rv_assemble_laws.specs.Coded.{constants}
 use Rattle.rv_raw_laws.specs.Meaning.{LeadsFromItself}

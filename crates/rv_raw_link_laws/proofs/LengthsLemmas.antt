@@ -20,10 +20,10 @@ use Rattle.rv_pseudo_laws.specs.Code.{Part, Closed, Open, Joined, Constants}
 use Rattle.rv_pseudo_laws.specs.Filled.{are_closed}
 use Rattle.rv_source_laws.specs.Lines.{parts_by_size, form_in}
 use Rattle.rv_source_laws.specs.Sizes.{near_forms}
-use Rattle.rv_disasm.specs.declared.code.Code.{Code}
-use Rattle.rv_disasm.specs.declared.code.Code.TheVariants.{Word, Parcel}
-use Rattle.rv_disasm.specs.Instruction.{is_tso}
-use Rattle.rv_disasm.specs.Raw.{raw_bytes}
+use Rattle.rv_listing_laws.specs.declared.code.Code.{Code}
+use Rattle.rv_listing_laws.specs.declared.code.Code.TheVariants.{Word, Parcel}
+use Rattle.rv_listing_laws.specs.Instruction.{is_tso}
+use Rattle.rv_listing_laws.specs.Raw.{raw_bytes}
 use Rattle.rv_raw_laws.specs.Statements.{access_set, word_statement, code_statement}
 use Rattle.rv_assemble_laws.specs.Coded.{constants, IsCodedPart, AreCodedParts, joined, IsCode}
 use Rattle.rv_assemble_laws.specs.LaidStatements.{LaidStatement, HasSize}

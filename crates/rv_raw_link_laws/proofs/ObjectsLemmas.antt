@@ -14,8 +14,8 @@ use Rattle.rv_source_laws.specs.Located.{Located, located_from}
 use Rattle.rv_source_laws.specs.Program.{place_of}
 use Rattle.rv_source_laws.specs.Sizes.{item_by_kind, items_of, AreLeast}
 use Rattle.rv_source_laws.proofs.HomesLemmas.{all_map}
-use Rattle.rv_disasm.specs.declared.code.Code.{Code}
-use Rattle.rv_disasm.specs.Raw.{raw_bytes}
+use Rattle.rv_listing_laws.specs.declared.code.Code.{Code}
+use Rattle.rv_listing_laws.specs.Raw.{raw_bytes}
 use Rattle.rv_raw_laws.specs.Statements.{code_statement, raw_statements, on_lines}
 use Rattle.rv_object_types.specs.Object.{Section, Symbol, Object}
 use Rattle.rv_assemble_laws.specs.Coded.{constants}

@@ -4,8 +4,8 @@ use Rattle.std.proofs.Common.{◌≡◌, ℕ, ◌≤◌, Bool, List, [], ◌∷�
 use Rattle.std.specs.Prelude.{flat_map}
 use Rattle.rv_unit_laws.specs.Bindings.{Bindings, bindings_of}
 use Rattle.rv_unit_laws.specs.Tables.{Labelled, longest_section}
-use Rattle.rv_disasm.specs.declared.code.Code.{Code}
-use Rattle.rv_disasm.specs.Raw.{raw_bytes}
+use Rattle.rv_listing_laws.specs.declared.code.Code.{Code}
+use Rattle.rv_listing_laws.specs.Raw.{raw_bytes}
 use Rattle.rv_raw_laws.specs.Statements.{raw_statements}
 use Rattle.rv_object_types.specs.Object.{Object, size_of}
 use Rattle.rv_assemble_laws.specs.LaidStatements.{part_bytes, parts, end_of}

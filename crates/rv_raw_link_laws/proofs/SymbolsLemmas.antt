@@ -12,7 +12,7 @@ use Rattle.rv_unit_laws.specs.Bindings.{Bindings}
 use Rattle.rv_unit_laws.specs.Tables.{Tables, Labelled, longest_section}
 use Rattle.rv_source_laws.specs.Exports.{defined_name, names_where}
 use Rattle.rv_source_laws.proofs.HomesLemmas.{all_filter, all_join}
-use Rattle.rv_disasm.specs.declared.code.Code.{Code}
+use Rattle.rv_listing_laws.specs.declared.code.Code.{Code}
 use Rattle.rv_raw_laws.specs.Statements.{code_statement, raw_statements}
 use Rattle.rv_object_types.specs.declared.symbol.Binding.TheVariants.{Local, Global}
 use Rattle.rv_object_types.specs.declared.symbol.Definition.{Definition}

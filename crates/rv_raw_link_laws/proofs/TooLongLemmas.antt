@@ -21,9 +21,9 @@ use Rattle.rv_unit_laws.specs.Faults.{StatementFault, at_line}
 use Rattle.rv_source_laws.specs.Lines.{parts_by_size}
 use Rattle.rv_source_laws.specs.Located.{Located, located_from, located}
 use Rattle.rv_source_laws.specs.Program.{place_of}
-use Rattle.rv_disasm.specs.declared.code.Code.{Code}
-use Rattle.rv_disasm.specs.declared.code.Code.TheVariants.{Word, Parcel}
-use Rattle.rv_disasm.specs.Raw.{IsSourced}
+use Rattle.rv_listing_laws.specs.declared.code.Code.{Code}
+use Rattle.rv_listing_laws.specs.declared.code.Code.TheVariants.{Word, Parcel}
+use Rattle.rv_listing_laws.specs.Raw.{IsSourced}
 use Rattle.rv_raw_laws.specs.Statements.{word_statement, parcel_statement, code_statement}
 use Rattle.rv_assemble_laws.specs.Coded.{constants}
 use Rattle.rv_assemble_laws.specs.Refusals.{HasCodeSize, HasSizeAt, AreCodeSizes, grown, size_fault_from, IsTooLong}

@@ -7,8 +7,8 @@ use Rattle.rv_isa_laws.specs.Platform.{stack_start}
 use Rattle.rv_statement.specs.Statement.{Statement}
 use Rattle.rv_parse_laws.specs.Reading.{longest_source}
 use Rattle.rv_unit_laws.specs.Faults.{StatementFault}
-use Rattle.rv_disasm.specs.declared.code.Code.{Code}
-use Rattle.rv_disasm.specs.Raw.{IsSourced, raw_bytes, lines_text, raw_lines}
+use Rattle.rv_listing_laws.specs.declared.code.Code.{Code}
+use Rattle.rv_listing_laws.specs.Raw.{IsSourced, raw_bytes, lines_text, raw_lines}
 use Rattle.rv_raw_laws.specs.Statements.{on_lines, raw_statements}
 use Rattle.rv_object_types.specs.Object.{Object}
 use Rattle.rv_assemble_laws.specs.Refusals.{statements_fault, IsTooLong}

@@ -24,14 +24,13 @@ use Rattle.rv_unit_laws.specs.Bindings.{Bindings}
 use Rattle.rv_unit_laws.specs.Options.{first_options}
 use Rattle.rv_unit_laws.specs.Sections.{text_section}
 use Rattle.rv_unit_laws.specs.Tables.{Labelled, meaning, value_by_tables}
-use Rattle.rv_disasm.specs.Instruction.{is_tso}
-use Rattle.rv_disasm.specs.declared.code.Code.TheVariants.{Word, Parcel}
+use Rattle.rv_listing_laws.specs.Instruction.{is_tso}
+use Rattle.rv_listing_laws.specs.declared.code.Code.TheVariants.{Word, Parcel}
 use Rattle.rv_source_laws.specs.Located.{Located}
 use Rattle.rv_source_laws.specs.Program.{Program, form}
 use Rattle.rv_source_laws.specs.Sizes.{near_value, branch_item, item_by, item_by_kind, items_of}
 use Rattle.rv_source_laws.specs.Sized.{HaveSizes, statement_size}
-use Rattle.rv_raw_laws.specs.Statements.{from_dot, access_set, word_statement}
-use Rattle.rv_raw_laws.specs.Statements.{IsSmall}
+use Rattle.rv_raw_laws.specs.Statements.{from_dot, access_set, word_statement, IsSmall}
 use Rattle.rv_raw_laws.proofs.ValuesLemmas.{distance_value, addend_is}
 use Rattle.rv_raw_laws.specs.Meaning.{LeadsFromItself}
 use Rattle.rv_raw_laws.proofs.SizesLemmas.{sizes_are}

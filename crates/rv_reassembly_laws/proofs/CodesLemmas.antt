@@ -25,10 +25,10 @@ use Rattle.rv_pseudo_laws.specs.Code.{Part, Open, Constants, b_type, jal, jump}
 use Rattle.rv_pseudo_laws.specs.Filled.{filled_part}
 use Rattle.rv_source_laws.specs.Program.{Mapped, Program, number as number_in}
 use Rattle.rv_source_laws.specs.Lines.{constants, parts_by_size, parts, form_in, operand_of, operand_value, field_value, distance as distance_to}
-use Rattle.rv_disasm.specs.Instruction.{is_tso}
-use Rattle.rv_disasm.specs.declared.code.Code.{Code}
-use Rattle.rv_disasm.specs.declared.code.Code.TheVariants.{Word, Parcel}
-use Rattle.rv_disasm.specs.Raw.{IsSourced, raw_bytes}
+use Rattle.rv_listing_laws.specs.Instruction.{is_tso}
+use Rattle.rv_listing_laws.specs.declared.code.Code.{Code}
+use Rattle.rv_listing_laws.specs.declared.code.Code.TheVariants.{Word, Parcel}
+use Rattle.rv_listing_laws.specs.Raw.{IsSourced, raw_bytes}
 use Rattle.rv_chain_laws.specs.Contents.{IsWritten}
 use Rattle.rv_raw_laws.specs.Statements.{IsSmall, access_set, code_statement, from_dot, constant_expression, operands_of, parcel_statement, word_statement}
 use Rattle.rv_raw_laws.specs.Meaning.{Leads, code_width, instruction_at, named_by, named_in_parcel, parcel_part, part_of, word_part}

@@ -9,8 +9,8 @@ use Rattle.rv_statement.specs.Statement.{Label, Statement}
 use Rattle.rv_parse_laws.specs.Reading.{Reads, longest_source}
 use Rattle.rv_image.specs.Image.{Image}
 use Rattle.rv_image.specs.Linked.{Linked}
-use Rattle.rv_disasm.specs.declared.code.Code.{Code}
-use Rattle.rv_disasm.specs.Raw.{IsRawListing, IsSourced, raw_bytes, lines_text, raw_lines}
+use Rattle.rv_listing_laws.specs.declared.code.Code.{Code}
+use Rattle.rv_listing_laws.specs.Raw.{IsRawListing, IsSourced, raw_bytes, lines_text, raw_lines}
 use Rattle.rv_chain_laws.specs.Contents.{IsLinked}
 use Rattle.rv_chain_laws.specs.Headline.{AllRead}
 use Rattle.rv_raw_laws.specs.Statements.{code_statement, on_lines, raw_statements}

@@ -15,8 +15,8 @@ use Rattle.rv_unit_laws.specs.Bindings.{bindings_of}
 use Rattle.rv_unit_laws.specs.Tables.{opened_of, stands, meaning, tables}
 use Rattle.rv_source_laws.specs.Program.{MaybeMapped, Program, program, address_of, address_at, address, tables_in, resolved, form as form_in_file, place_of}
 use Rattle.rv_source_laws.specs.Lines.{Line, form_at}
-use Rattle.rv_disasm.specs.declared.code.Code.{Code}
-use Rattle.rv_disasm.specs.Raw.{IsSourced, raw_bytes}
+use Rattle.rv_listing_laws.specs.declared.code.Code.{Code}
+use Rattle.rv_listing_laws.specs.Raw.{IsSourced, raw_bytes}
 use Rattle.rv_chain_laws.specs.Contents.{HasSizes, AreEncoded, IsWritten}
 use Rattle.rv_raw_laws.specs.Statements.{code_statement, from_dot}
 use Rattle.rv_raw_laws.proofs.ValuesLemmas.{number_constant, distance_value}

@@ -12,9 +12,9 @@ use Rattle.rv_compress.specs.declared.form.Compressed.{Compressed}
 use Rattle.rv_compress.specs.Parcel.{StandsFor}
 use Rattle.rv_compress.specs.Front.{FrontSpells}
 use Rattle.rv_source_laws.specs.Lines.{Line, Lie}
-use Rattle.rv_disasm.specs.Lines.{front, length_read, line, lines}
-use Rattle.rv_disasm.proofs.FrontsLemmas.{spelled_front}
-use Rattle.rv_disasm.proofs.LinesOnLemmas.{lines_step, lines_end}
+use Rattle.rv_listing_laws.specs.Lines.{front, length_read, line, lines}
+use Rattle.rv_listing_laws.proofs.FrontsLemmas.{spelled_front}
+use Rattle.rv_listing_laws.proofs.LinesOnLemmas.{lines_step, lines_end}
 use Rattle.rv_chain_laws.specs.Contents.{AreEncoded}
 use Rattle.rv_runs_laws.proofs.WideLemmas.{valid_wide}
 use Rattle.rv_runs_laws.proofs.NarrowLemmas.{narrow}

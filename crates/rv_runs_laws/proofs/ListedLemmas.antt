@@ -23,10 +23,10 @@ use Rattle.rv_source_laws.specs.Program.{Mapped, Program, program}
 use Rattle.rv_source_laws.specs.Lines.{form_at}
 use Rattle.rv_source_laws.specs.Fits.{IsRowOf, identity_of, identity_of_row}
 use Rattle.rv_source_laws.proofs.HomesLemmas.{all_map}
-use Rattle.rv_disasm.specs.Listing.{IsListing, row_text, row_bytes, entry, statement}
-use Rattle.rv_disasm.specs.Order.{compared}
-use Rattle.rv_disasm.proofs.LinesOnLemmas.{entry_some}
-use Rattle.rv_disasm.proofs.OrderedLemmas.{compared_total, one_listing}
+use Rattle.rv_listing_laws.specs.Listing.{IsListing, row_text, row_bytes, entry, statement}
+use Rattle.rv_listing_laws.specs.Order.{compared}
+use Rattle.rv_listing_laws.proofs.LinesOnLemmas.{entry_some}
+use Rattle.rv_listing_laws.proofs.OrderedLemmas.{compared_total, one_listing}
 use Rattle.rv_chain_laws.specs.Contents.{IsLinked}
 use Rattle.rv_runs_laws.proofs.ContentsLemmas.{lines_length, are_regions, StandsInText, code_stands, data_stands}
 use Rattle.rv_runs_laws.proofs.LaidOutLemmas.{text_held}

@@ -9,8 +9,8 @@ use Rattle.rv_isa.specs.declared.instruction.Format.{Format}
 use Rattle.rv_isa.specs.declared.instruction.Format.TheVariants.{Registers, Immediate, Shift, Upper, Load, Store, Branch, Jal, Jalr, LoadReserved, Atomic, Fence, Ecall, Ebreak}
 use Rattle.rv_parse_laws.specs.Names.{word_of}
 use Rattle.rv_parse_laws.proofs.NamesLemmas.{means}
-use Rattle.rv_disasm.specs.Instruction.{abi_register, in_parentheses, based, target_text, operands, accesses, is_tso, is_between, text_of}
-use Rattle.rv_disasm.specs.Numbers.{prefixed}
+use Rattle.rv_listing_laws.specs.Instruction.{abi_register, in_parentheses, based, target_text, operands, accesses, is_tso, is_between, text_of}
+use Rattle.rv_listing_laws.specs.Numbers.{prefixed}
 use Rattle.rv_chain_laws.specs.Named.{IsNamedAlike, ListingsNameAlike}
 
 abbrev IsNamedIn : ℕ → Format → Type 0

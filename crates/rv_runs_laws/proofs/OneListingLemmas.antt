@@ -10,8 +10,8 @@ use Rattle.rv_statement.specs.Statement.{StatementKind, Label, Numbered, Instruc
 use Rattle.rv_pseudo_laws.specs.Code.{Part, Closed, Open, Joined}
 use Rattle.rv_source_laws.specs.Program.{Mapped, Program}
 use Rattle.rv_source_laws.specs.Lines.{form_at, Line, Lie}
-use Rattle.rv_disasm.specs.Listing.{statement}
-use Rattle.rv_disasm.proofs.OrderedLemmas.{one_order, compared_total}
+use Rattle.rv_listing_laws.specs.Listing.{statement}
+use Rattle.rv_listing_laws.proofs.OrderedLemmas.{one_order, compared_total}
 use Rattle.rv_chain_laws.specs.Contents.{AreSized, ArePadding, HasSizes}
 use Rattle.rv_chain_laws.specs.SourceListing.{is_listed, by_row, line_text, IsEntry, AreEntries, IsSourceListing}
 use Rattle.rv_runs_laws.proofs.ContentsLemmas.{instructions_of as instructions}

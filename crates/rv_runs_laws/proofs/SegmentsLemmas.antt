@@ -12,7 +12,7 @@ use Rattle.rv_elf.specs.Numbers.{pf_x}
 use Rattle.rv_image.specs.Linked.{Linked}
 use Rattle.rv_image.specs.Segment.{Segment}
 use Rattle.rv_image.specs.Executable.{Part, all_parts, has_memory, segment_of_part, linked_image}
-use Rattle.rv_disasm.specs.Listing.{holds, bytes_in, row_bytes}
+use Rattle.rv_listing_laws.specs.Listing.{holds, bytes_in, row_bytes}
 use Rattle.rv_runs_laws.proofs.WordsLemmas.{HasBytes}
 
 -- ---- the segment that holds a row

@@ -9,7 +9,7 @@ ghost use Rattle.rv_statement.specs.Statement.{Statement};
 ghost use Rattle.rv_image.specs.Linked.{Linked};
 ghost use Rattle.rv_image.specs.Executable.{linked_image};
 ghost use Rattle.rv_source_laws.specs.Program.{Program, program};
-ghost use Rattle.rv_disasm.specs.Listing.{IsListing};
+ghost use Rattle.rv_listing_laws.specs.Listing.{IsListing};
 ghost use Rattle.rv_chain_laws.specs.Contents.{IsLinked};
 ghost use Rattle.rv_chain_laws.specs.Named.{ListingsNameAlike};
 ghost use Rattle.rv_chain_laws.specs.SourceListing.{IsSourceListing};

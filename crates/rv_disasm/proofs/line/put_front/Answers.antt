@@ -1,6 +1,6 @@
 use Rattle.std.proofs.Common.{◌++◌, Some, None, refl, sym, ap, ◌∙◌}
-use Rattle.rv_disasm.specs.Lines.{shown, length_read}
-use Rattle.rv_disasm.proofs.FrontsLemmas.{front_is, front_count}
+use Rattle.rv_listing_laws.specs.Lines.{shown, length_read}
+use Rattle.rv_listing_laws.proofs.FrontsLemmas.{front_is, front_count}
 use Rattle.rv_disasm.proofs.line.put_front.Goals as goal
 
 pub returns-in_ok-put_instruction-in-Some-clause-text : goal.returns-in_ok-put_instruction-in-Some-clause-text

@@ -1,5 +1,5 @@
 use Rattle.std.proofs.Common.{rules, ◌≡◌, length, sym, ap, ◌∙◌, arith}
-use Rattle.rv_disasm.specs.Lines.{front, length_read, line}
+use Rattle.rv_listing_laws.specs.Lines.{front, length_read, line}
 use Rattle.rv_disasm.proofs.FourLemmas.{front_four, added_line}
 use Rattle.rv_disasm.proofs.line.put_kept_line.Goals as goal
 

@@ -1,7 +1,7 @@
 use Rattle.std.proofs.Common.{◌++◌, arith}
 use Rattle.std.proofs.lemmas.List.{take_rest}
-use Rattle.rv_disasm.specs.Lines.{lines}
-use Rattle.rv_disasm.proofs.LinesOnLemmas.{lines_more, lines_done}
+use Rattle.rv_listing_laws.specs.Lines.{lines}
+use Rattle.rv_listing_laws.proofs.LinesOnLemmas.{lines_more, lines_done}
 use Rattle.rv_disasm.proofs.line.put_lines.Goals as goal
 
 pub loop-offset-preserved : goal.loop-offset-preserved

@@ -1,6 +1,6 @@
 use Rattle.std.proofs.Common.{◌≡◌, drop, map}
 use Rattle.rv_image.specs.Segment.{segment_of}
-use Rattle.rv_disasm.specs.Listing as shows
+use Rattle.rv_listing_laws.specs.Listing as shows
 use Rattle.rv_disasm.proofs.rows.row_bytes.Given as goal
 
 abbrev pub invariant-loop-segment : goal.invariant-loop-segment

@@ -1,4 +1,4 @@
-use Rattle.rv_disasm.specs.Raw.{raw_lines}
+use Rattle.rv_listing_laws.specs.Raw.{raw_lines}
 use Rattle.rv_raw_laws.specs.Statements.{raw_statements}
 use Rattle.rv_raw_laws.proofs.LinesLemmas.{lines_read}
 use Rattle.rv_raw_laws.proofs.ListingLemmas.{listing_is}

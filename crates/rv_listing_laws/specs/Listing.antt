@@ -12,8 +12,8 @@ use Rattle.rv_map.specs.Map.{Map}
 use Rattle.rv_image.specs.Segment.{Segment}
 use Rattle.rv_image.specs.Image.{Image}
 use Rattle.rv_image.specs.Memory.{gives_right}
-use Rattle.rv_disasm.specs.Lines.{lines}
-use Rattle.rv_disasm.specs.Order.{IsInOrder}
+use Rattle.rv_listing_laws.specs.Lines.{lines}
+use Rattle.rv_listing_laws.specs.Order.{IsInOrder}
 
 -- whether the segment can be executed and has all bytes of the row
 abbrev pub holds : Row → Segment → Bool

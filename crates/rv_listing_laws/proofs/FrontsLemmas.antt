@@ -10,7 +10,7 @@ use Rattle.rv_isa_laws.specs.Reader.{Reader}
 use Rattle.rv_encode.specs.Word.{Spells}
 use Rattle.rv_compress.specs.Parcel.{StandsFor}
 use Rattle.rv_compress.specs.Front.{FrontSpells, front_word, front_parcel}
-use Rattle.rv_disasm.specs.Lines.{read_whole, front}
+use Rattle.rv_listing_laws.specs.Lines.{read_whole, front}
 
 begins_word : (b : ℕ) → b % 4 ≡ 3 → (b % 4 == 3) ≡ true
 begins_word b h = grind (arith, nat_tests)

@@ -5,8 +5,8 @@ use Rattle.std.specs.Fmt.{signed_decimal}
 use Rattle.rv_compress.specs.declared.form.Compressed.{Compressed}
 use Rattle.rv_compress.specs.declared.form.Compressed.TheVariants.{Addi4spn, Lw, Ld, Sw, Sd, Nop, Addi, Addiw, Li, Addi16sp, Lui, Srli, Srai, Andi, Sub, Xor, Or, And, Subw, Addw, J, Beqz, Bnez, Slli, Lwsp, Ldsp, Jr, Mv, Ebreak, Jalr, Add, Swsp, Sdsp}
 use Rattle.rv_compress.specs.Mnemonics.{parcel_name, operation_of}
-use Rattle.rv_disasm.specs.Instruction.{abi_register, based, distant, operands}
-use Rattle.rv_disasm.specs.Numbers.{prefixed}
+use Rattle.rv_listing_laws.specs.Instruction.{abi_register, based, distant, operands}
+use Rattle.rv_listing_laws.specs.Numbers.{prefixed}
 
 -- the operands of each form; x2 is sp
 abbrev pub parcel_operands : Compressed → List (List ℕ)

@@ -9,7 +9,7 @@ use Rattle.rv_encode.specs.Word.{Spells}
 use Rattle.rv_compress.specs.Parcel.{StandsFor}
 use Rattle.rv_compress.specs.Front.{front_parcel, front_word}
 use Rattle.rv_map.specs.Text.{hexadecimal}
-use Rattle.rv_disasm.specs.Instruction.{text_of}
+use Rattle.rv_listing_laws.specs.Instruction.{text_of}
 
 -- what is read, with its length, where the bytes are enough
 abbrev pub read_whole : ℕ → List ℕ → Option Inst → Option (Inst × ℕ)

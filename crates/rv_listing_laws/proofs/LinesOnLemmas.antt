@@ -6,8 +6,8 @@ use Rattle.rv_isa_laws.specs.Reader.{Reader}
 use Rattle.rv_encode.specs.Word.{Spells}
 use Rattle.rv_compress.specs.Parcel.{StandsFor}
 use Rattle.rv_map.specs.declared.map.Row.{Row}
-use Rattle.rv_disasm.specs.Lines.{front, length_read, line, lines}
-use Rattle.rv_disasm.specs.Listing.{statement, entry}
+use Rattle.rv_listing_laws.specs.Lines.{front, length_read, line, lines}
+use Rattle.rv_listing_laws.specs.Listing.{statement, entry}
 
 -- the bytes of the line before are passed over
 passed : (reader : Reader Spells StandsFor) (k address : ℕ) (bytes : List ℕ) → lines reader k address bytes ≡ lines reader 0 (address + k) (drop k bytes)

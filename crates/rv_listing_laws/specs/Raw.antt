@@ -15,10 +15,10 @@ use Rattle.rv_compress.specs.Parcel.{parcel, IsLine, IsNoHint}
 use Rattle.rv_image.specs.Segment.{Segment}
 use Rattle.rv_image.specs.Image.{Image}
 use Rattle.rv_image.specs.Memory.{gives_right}
-use Rattle.rv_disasm.specs.declared.code.Code.{Code}
-use Rattle.rv_disasm.specs.declared.code.Code.TheVariants.{Word, Parcel}
-use Rattle.rv_disasm.specs.Instruction.{is_tso, is_between, distant, text_with}
-use Rattle.rv_disasm.specs.Parcels.{parcel_text}
+use Rattle.rv_listing_laws.specs.declared.code.Code.{Code}
+use Rattle.rv_listing_laws.specs.declared.code.Code.TheVariants.{Word, Parcel}
+use Rattle.rv_listing_laws.specs.Instruction.{is_tso, is_between, distant, text_with}
+use Rattle.rv_listing_laws.specs.Parcels.{parcel_text}
 
 -- ---- instructions as they lie in memory
 

@@ -12,8 +12,8 @@ use Rattle.rv_compress.specs.Parcel.{StandsFor}
 use Rattle.rv_map.specs.declared.map.Row.{Row}
 use Rattle.rv_map.specs.Map.{Map}
 use Rattle.rv_image.specs.Image.{Image}
-use Rattle.rv_disasm.specs.Order.{compared, IsInOrder}
-use Rattle.rv_disasm.specs.Listing.{row_text, IsListing}
+use Rattle.rv_listing_laws.specs.Order.{compared, IsInOrder}
+use Rattle.rv_listing_laws.specs.Listing.{row_text, IsListing}
 
 module _ {X : Type 0} (lt : X → X → Bool) (o : IsStrictWeakOrder lt) where
   -- nothing is less than itself

@@ -11,9 +11,9 @@ use Rattle.rv_isa.specs.Mnemonics.{ordering}
 use Rattle.rv_isa.specs.Operations.{register_name, immediate_name, shift_name, upper_name, load_name, store_name, branch_name, atomic_name}
 use Rattle.rv_isa.specs.RegisterNames.{abi_names}
 use Rattle.rv_isa_laws.specs.Arithmetic.{wrapped, sum_of}
-use Rattle.rv_disasm.specs.declared.instruction.Targets.{Targets}
-use Rattle.rv_disasm.specs.declared.instruction.Targets.TheVariants.{Addresses, Distances}
-use Rattle.rv_disasm.specs.Numbers.{prefixed}
+use Rattle.rv_listing_laws.specs.declared.targets.Targets.{Targets}
+use Rattle.rv_listing_laws.specs.declared.targets.Targets.TheVariants.{Addresses, Distances}
+use Rattle.rv_listing_laws.specs.Numbers.{prefixed}
 
 -- ---- operands
 

@@ -1,0 +1,3 @@
+pub mod FrontsLemmas
+pub mod LinesOnLemmas
+pub mod OrderedLemmas
