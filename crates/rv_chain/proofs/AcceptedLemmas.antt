@@ -13,11 +13,11 @@ use Rattle.rv_statement.specs.Statement.{Statement}
 use Rattle.rv_parse_laws.specs.Reading.{longest_source, Reads}
 use Rattle.rv_parse_laws.specs.Refusals.{SyntaxFault, Refuses}
 use Rattle.rv_unit_laws.specs.Faults.{StatementFault}
-use Rattle.rv_image.specs.Segment.{Segment, meets_stack, are_apart, meets_segment}
-use Rattle.rv_image.specs.Image.{Image}
-use Rattle.rv_image.specs.ImageOf.{ImageOf, segment_in}
+use Rattle.rv_image_laws.specs.Segment.{Segment, meets_stack, are_apart, meets_segment}
+use Rattle.rv_image_laws.specs.Image.{Image}
+use Rattle.rv_image_laws.specs.ImageOf.{ImageOf, segment_in}
 use Rattle.rv_elf.specs.FirstFault.{header_tests, table_tests, type_tests}
-use Rattle.rv_image.specs.FirstFault.{first_fault, load_tests, programs_tests, whole_tests}
+use Rattle.rv_image_laws.specs.FirstFault.{first_fault, load_tests, programs_tests, whole_tests}
 use Rattle.rv_image.proofs.ApartLemmas.{loaded_apart}
 use Rattle.rv_elf.specs.FirstTrue.{no_fault_parts}
 use Rattle.rv_elf.specs.Sections.{program_headers, is_load}

@@ -4,7 +4,7 @@ use Rattle.std.proofs.Common.{◌≡◌, ℕ, Bool, ◌<◌, ◌^◌, inl, inr, 
 use Rattle.rv_statement.specs.Statement.{Statement}
 use Rattle.rv_parse_laws.specs.Reading.{Reads}
 use Rattle.rv_map.specs.Text.{map_text}
-use Rattle.rv_image.specs.Executable.{exe_of}
+use Rattle.rv_image_laws.specs.Executable.{exe_of}
 use Rattle.rv_object_types.specs.Object.{Object}
 use Rattle.rv_object_file_laws.specs.FirstFault.{first_fault}
 use Rattle.rv_object_file_laws.specs.Known.{IsObject}

@@ -3,11 +3,11 @@
 use Rattle.std.proofs.Common.{◌≡◌, ℕ, Bool, List, refl, ap, subst, sym, ◌∙◌}
 use Rattle.rv_map.specs.Limits.{IsMap}
 use Rattle.rv_map.specs.Text.{map_text}
-use Rattle.rv_image.specs.Linked.{Linked, IsLaidOut}
-use Rattle.rv_image.specs.Executable.{exe_of, linked_image}
+use Rattle.rv_image_laws.specs.Linked.{Linked, IsLaidOut}
+use Rattle.rv_image_laws.specs.Executable.{exe_of, linked_image}
 use Rattle.rv_elf.specs.Fields.{number_in, e_flags}
-use Rattle.rv_image.specs.ImageOf.{ImageOf}
-use Rattle.rv_image.specs.FirstFault.{first_fault}
+use Rattle.rv_image_laws.specs.ImageOf.{ImageOf}
+use Rattle.rv_image_laws.specs.FirstFault.{first_fault}
 use Rattle.rv_image.proofs.LoadedAgainLemmas.{reads, reload_image, reload_fault}
 use Rattle.rv_chain_laws.specs.Headline.{TheHeadline, rvc_flag}
 use Rattle.rv_runs_laws.proofs.ContentsLemmas.{linked_agrees}

@@ -5,10 +5,10 @@ use Rattle.std.specs.Prelude.{◌==◌, not, filter, flat_map}
 use Rattle.std.specs.List.{AllByRecursion}
 use Rattle.std.proofs.lemmas.Bool.{ne_eqb}
 use Rattle.std.proofs.lemmas.List.{append-nil}
-use Rattle.rv_image.specs.Segment.{Segment}
-use Rattle.rv_image.specs.ImageOf.{ImageOf}
-use Rattle.rv_image.specs.Linked.{Linked, IsLaidOut}
-use Rattle.rv_image.specs.Executable.{Part, segment_of_part, has_memory, exe_of, linked_image}
+use Rattle.rv_image_laws.specs.Segment.{Segment}
+use Rattle.rv_image_laws.specs.ImageOf.{ImageOf}
+use Rattle.rv_image_laws.specs.Linked.{Linked, IsLaidOut}
+use Rattle.rv_image_laws.specs.Executable.{Part, segment_of_part, has_memory, exe_of, linked_image}
 use Rattle.rv_image.proofs.LoadedAgainLemmas.{reload_image}
 use Rattle.rv_listing_laws.specs.declared.code.Code.{Code}
 use Rattle.rv_listing_laws.specs.declared.code.Code.TheVariants.{Word, Parcel}

@@ -9,10 +9,10 @@ use Rattle.rv_map.specs.Map.{Map}
 use Rattle.rv_map.specs.Limits.{IsMap}
 use Rattle.rv_map.specs.Text.{map_text}
 use Rattle.rv_map.proofs.WholeLemmas.{one_text}
-use Rattle.rv_image.specs.Linked.{Linked, IsLaidOut}
-use Rattle.rv_image.specs.Image.{Image}
-use Rattle.rv_image.specs.Executable.{exe_of, linked_image}
-use Rattle.rv_image.specs.ImageOf.{ImageOf}
+use Rattle.rv_image_laws.specs.Linked.{Linked, IsLaidOut}
+use Rattle.rv_image_laws.specs.Image.{Image}
+use Rattle.rv_image_laws.specs.Executable.{exe_of, linked_image}
+use Rattle.rv_image_laws.specs.ImageOf.{ImageOf}
 use Rattle.rv_image.proofs.LoadedAgainLemmas.{reload_image}
 use Rattle.rv_source_laws.specs.Program.{program}
 use Rattle.rv_listing_laws.specs.Listing.{IsListing}

@@ -4,10 +4,11 @@ use Rattle.std.proofs.Common.{◌≡◌, ℕ, ◌<◌, ◌^◌, Bool, true, List
 use Rattle.rv_map.specs.Limits.{IsMap}
 use Rattle.rv_map.specs.Text.{map_text}
 use Rattle.rv_image.specs.declared.linked.Linked.{Linked as DeclaredLinked}
-use Rattle.rv_image.specs.Linked.{Linked, linked_of, IsLaidOut}
-use Rattle.rv_image.specs.Executable.{exe_of, linked_image}
-use Rattle.rv_image.specs.ImageOf.{ImageOf}
-use Rattle.rv_image.specs.FirstFault.{first_fault}
+use Rattle.rv_image_laws.specs.Linked.{Linked, IsLaidOut}
+use Rattle.rv_image.specs.Views.{linked_of}
+use Rattle.rv_image_laws.specs.Executable.{exe_of, linked_image}
+use Rattle.rv_image_laws.specs.ImageOf.{ImageOf}
+use Rattle.rv_image_laws.specs.FirstFault.{first_fault}
 use Rattle.rv_image.proofs.LoadedAgainLemmas.{laid_out, reload_image, reload_fault}
 use Rattle.rv_object_types.specs.Object.{Object}
 use Rattle.rv_object_laws.specs.IsProgramOf.{IsProgramOf}

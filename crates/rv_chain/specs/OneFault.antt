@@ -1,7 +1,7 @@
 -- That sources, and files, are refused for want of memory or for one fault.
 
 use Rattle.std.specs.Prelude.{◌≡◌, ◌⊎◌, ℕ, Bool, ⊤, List}
-use Rattle.rv_image.specs.Linked.{Linked}
+use Rattle.rv_image_laws.specs.Linked.{Linked}
 use Rattle.rv_fault.specs.declared.fault.Fault.{Fault}
 use Rattle.rv_fault.specs.declared.fault.Fault.TheVariants.{Source, File, Link, Memory}
 use Rattle.rv_chain_laws.specs.Linking.{IsProgramOfObjectsFrom, AreLinked}

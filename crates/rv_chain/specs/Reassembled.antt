@@ -5,10 +5,10 @@ use Rattle.rv_text_laws.specs.Codes.{limit}
 use Rattle.rv_lexer.specs.declared.fault.SourceFault.TheVariants.{At}
 use Rattle.rv_lexer.specs.Fault.{source_fault_number}
 use Rattle.rv_parse_laws.specs.Reading.{longest_source}
-use Rattle.rv_image.specs.Segment.{Segment}
-use Rattle.rv_image.specs.Image.{Image}
-use Rattle.rv_image.specs.ImageOf.{ImageOf}
-use Rattle.rv_image.specs.FirstFault.{first_fault}
+use Rattle.rv_image_laws.specs.Segment.{Segment}
+use Rattle.rv_image_laws.specs.Image.{Image}
+use Rattle.rv_image_laws.specs.ImageOf.{ImageOf}
+use Rattle.rv_image_laws.specs.FirstFault.{first_fault}
 use Rattle.rv_listing_laws.specs.Raw.{IsRawListing, is_executable}
 use Rattle.rv_fault.specs.declared.fault.Fault.{Fault}
 use Rattle.rv_fault.specs.declared.fault.Fault.TheVariants.{Source, Memory}

@@ -2,8 +2,8 @@
 
 ghost use Rattle.std.specs.Prelude.{◌≡◌, IfOk, IfErr};
 ghost use Rattle.rv_map.specs.Text.{map_text};
-ghost use Rattle.rv_image.specs.Executable.{exe_of};
-ghost use Rattle.rv_image.specs.Linked.{linked_of};
+ghost use Rattle.rv_image_laws.specs.Executable.{exe_of};
+ghost use Rattle.rv_image.specs.Views.{linked_of};
 ghost use Rattle.rv_fault.specs.declared.fault.Fault.TheVariants.{Memory};
 
 use rv_fault::Fault;

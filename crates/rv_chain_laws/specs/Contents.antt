@@ -12,7 +12,7 @@ use Rattle.rv_compress.specs.Encoded.{IsLeastAs, IsEncodedAs}
 use Rattle.rv_statement.specs.Statement.{Statement, StatementKind, Directs}
 use Rattle.rv_pseudo_laws.specs.Code.{Part, Closed, Open, Joined}
 use Rattle.rv_pseudo_laws.specs.Filled.{are_closed}
-use Rattle.rv_image.specs.Linked.{Linked}
+use Rattle.rv_image_laws.specs.Linked.{Linked}
 use Rattle.rv_unit_laws.specs.Sections.{goes_to_text, goes_to_rodata, goes_to_data}
 use Rattle.rv_source_laws.specs.Program.{Mapped, Program, program}
 use Rattle.rv_source_laws.specs.Lines.{parts, form_at, Line, AreLines}

@@ -8,15 +8,15 @@ use Rattle.rv_parse_laws.specs.Reading.{Reads}
 use Rattle.rv_map.specs.Map.{Map}
 use Rattle.rv_map.specs.Text.{map_text}
 use Rattle.rv_map.specs.Limits.{IsMap}
-use Rattle.rv_image.specs.Image.{Image}
-use Rattle.rv_image.specs.ImageOf.{ImageOf}
-use Rattle.rv_image.specs.FirstFault.{first_fault}
+use Rattle.rv_image_laws.specs.Image.{Image}
+use Rattle.rv_image_laws.specs.ImageOf.{ImageOf}
+use Rattle.rv_image_laws.specs.FirstFault.{first_fault}
 use Rattle.rv_elf.specs.Fields.{number_in, e_flags}
 use Rattle.rv_encode.specs.Word.{Spells}
 use Rattle.rv_compress.specs.Parcel.{StandsFor}
 use Rattle.rv_isa_laws.specs.Reader.{Reader}
 use Rattle.rv_isa_laws.specs.Run.{machine_run}
-use Rattle.rv_image.specs.Memory.{mem_of}
+use Rattle.rv_image_laws.specs.Memory.{mem_of}
 use Rattle.rv_source_laws.specs.Compressed.{is_compressed}
 use Rattle.rv_source_laws.specs.Program.{Mapped, program}
 use Rattle.rv_source_laws.specs.SourceRun.{source_run}

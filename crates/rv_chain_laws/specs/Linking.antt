@@ -2,10 +2,10 @@
 
 use Rattle.std.specs.Prelude.{◌≡◌, ℕ, Bool, List, length, None}
 use Rattle.rv_map.specs.Text.{map_text}
-use Rattle.rv_image.specs.Linked.{Linked}
-use Rattle.rv_image.specs.Executable.{exe_of, linked_image}
-use Rattle.rv_image.specs.ImageOf.{ImageOf}
-use Rattle.rv_image.specs.FirstFault.{first_fault}
+use Rattle.rv_image_laws.specs.Linked.{Linked}
+use Rattle.rv_image_laws.specs.Executable.{exe_of, linked_image}
+use Rattle.rv_image_laws.specs.ImageOf.{ImageOf}
+use Rattle.rv_image_laws.specs.FirstFault.{first_fault}
 use Rattle.rv_object_types.specs.Object.{Object}
 use Rattle.rv_object_laws.specs.IsProgramOf.{IsProgramOf}
 use Rattle.rv_object_laws.specs.TextStart.{AreWithin}

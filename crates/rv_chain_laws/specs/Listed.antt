@@ -8,8 +8,8 @@ use Rattle.rv_statement.specs.Statement.{Statement}
 use Rattle.rv_map.specs.Map.{Map}
 use Rattle.rv_map.specs.Text.{map_text}
 use Rattle.rv_map.specs.Limits.{IsMap}
-use Rattle.rv_image.specs.Image.{Image}
-use Rattle.rv_image.specs.ImageOf.{ImageOf}
+use Rattle.rv_image_laws.specs.Image.{Image}
+use Rattle.rv_image_laws.specs.ImageOf.{ImageOf}
 use Rattle.rv_source_laws.specs.Program.{program}
 use Rattle.rv_listing_laws.specs.Listing.{IsListing}
 use Rattle.rv_chain_laws.specs.Headline.{AllRead}

@@ -4,10 +4,10 @@ use Rattle.std.specs.Prelude.{◌≡◌, ℕ, List, None, Some}
 use Rattle.rv_encode.specs.Word.{Spells}
 use Rattle.rv_compress.specs.Parcel.{StandsFor}
 use Rattle.rv_isa_laws.specs.Hart.{Outcome}
-use Rattle.rv_image.specs.Image.{Image}
-use Rattle.rv_image.specs.ImageOf.{ImageOf}
-use Rattle.rv_image.specs.FirstFault.{first_fault}
-use Rattle.rv_image.specs.Memory.{mem_of}
+use Rattle.rv_image_laws.specs.Image.{Image}
+use Rattle.rv_image_laws.specs.ImageOf.{ImageOf}
+use Rattle.rv_image_laws.specs.FirstFault.{first_fault}
+use Rattle.rv_image_laws.specs.Memory.{mem_of}
 use Rattle.rv_isa_laws.specs.Reader.{Reader}
 use Rattle.rv_isa_laws.specs.Run.{machine_run}
 use Rattle.rv_fault.specs.declared.fault.Fault.{Fault}

@@ -1,11 +1,12 @@
 //! The headline: when an executable does what its sources say, statement by statement, at the addresses of a map; and all
 //! that a build or a link promises beside it.
 //!
-//! It takes what sources mean (`rv_source_laws`), what a linked program and an image are (`rv_image`) and what the machine
-//! does (`rv_isa_laws`). It gives the definition that `build` promises (`specs/Headline`), what a linked program owes to it
-//! (`Contents`) and what memory owes to it (`Realizes`); what the instructions of a statement come to (`Walks`); the listing of
-//! sources, in which no byte occurs (`SourceListing`); and what is said of files of objects (`Objects`), of links and builds
-//! (`Linking`, `Building`), of their listings (`Listed`) and of runs (`Running`). `rv_runs_laws` has the law.
+//! It takes what sources mean (`rv_source_laws`), what a linked program and an image are (`rv_image_laws`) and what the
+//! machine does (`rv_isa_laws`). It gives the definition that `build` promises (`specs/Headline`), what a linked
+//! program owes to it (`Contents`) and what memory owes to it (`Realizes`); what the instructions of a statement come
+//! to (`Walks`); the listing of sources, in which no byte occurs (`SourceListing`); and what is said of files of
+//! objects (`Objects`), of links and builds (`Linking`, `Building`), of their listings (`Listed`) and of runs
+//! (`Running`). `rv_runs_laws` has the law.
 //!
 //! Nothing here runs.
 //!

@@ -11,8 +11,9 @@ use Rattle.std.proofs.lemmas.Grind.{flat_map-append}
 use Rattle.std.proofs.lemmas.Option.{none-some}
 use Rattle.std.proofs.Math.Seq.{drop-append_seam, take-append_seam}
 use Rattle.rv_image.specs.declared.segment.Segment.{Segment as DeclaredSegment}
-use Rattle.rv_image.specs.Segment.{Segment, segment_of}
-use Rattle.rv_image.specs.Image.{Image}
+use Rattle.rv_image_laws.specs.Segment.{Segment}
+use Rattle.rv_image.specs.SegmentView.{segment_of}
+use Rattle.rv_image_laws.specs.Image.{Image}
 use Rattle.rv_listing_laws.specs.declared.code.Code.{Code}
 use Rattle.rv_listing_laws.specs.declared.code.Code.TheVariants.{Word, Parcel}
 use Rattle.rv_listing_laws.specs.Raw.{raw_bytes, IsSourced, code_text, lines_text, raw_lines, is_executable, IsRawListing}

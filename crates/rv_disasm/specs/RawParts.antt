@@ -4,7 +4,7 @@
 use Rattle.std.specs.Prelude.{◌≡◌, ◌↔◌, ℕ, ◌+◌, ◌%◌, ◌<◌, List, ◌++◌, length, map, flat_map, Option, Some}
 use Rattle.std.specs.List.{AllByRecursion}
 use Rattle.rv_isa_laws.specs.Platform.{stack_start}
-use Rattle.rv_image.specs.Segment.{Segment}
+use Rattle.rv_image_laws.specs.Segment.{Segment}
 use Rattle.rv_listing_laws.specs.declared.code.Code.{Code}
 use Rattle.rv_listing_laws.specs.Raw.{raw_bytes, IsSourced, code_text, lines_text}
 

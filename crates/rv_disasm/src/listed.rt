@@ -5,7 +5,7 @@ ghost use Rattle.rv_encode.specs.Word.{Spells};
 ghost use Rattle.rv_compress.specs.Parcel.{StandsFor};
 ghost use Rattle.rv_isa_laws.specs.Reader.{Reader};
 ghost use Rattle.rv_map.specs.Map.{map_of};
-ghost use Rattle.rv_image.specs.Image.{image_of};
+ghost use Rattle.rv_image.specs.Views.{image_of};
 ghost use Rattle.rv_listing_laws.specs.Listing.{IsListing};
 
 use crate::kept::KeptLines;

@@ -4,8 +4,9 @@
 //! parcels have their `c.` mnemonics, and targets are distances, so that no name has to be found.
 
 ghost use Rattle.std.specs.Prelude.{◌≡◌, ◌∷◌, [], false, true, ℕ, List, IfOk, IfSome, IfNone, filter, map};
-ghost use Rattle.rv_image.specs.Segment.{Segment as PlainSegment, segment_of};
-ghost use Rattle.rv_image.specs.Image.{image_of};
+ghost use Rattle.rv_image_laws.specs.Segment.{Segment as PlainSegment};
+ghost use Rattle.rv_image.specs.SegmentView.{segment_of};
+ghost use Rattle.rv_image.specs.Views.{image_of};
 ghost use Rattle.rv_listing_laws.specs.declared.code.Code.{Code};
 ghost use Rattle.rv_listing_laws.specs.Raw.{IsRawListing, is_executable};
 ghost use Rattle.rv_disasm.specs.RawParts.{AreAdded, AreCodes, IsCut};

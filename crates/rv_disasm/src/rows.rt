@@ -4,7 +4,7 @@ ghost use Rattle.std.specs.Prelude.{◌≡◌, ◌+◌, ◌-◌, ◌≤◌, ◌^
 ghost use Rattle.rv_encode.specs.Word.{Spells};
 ghost use Rattle.rv_compress.specs.Parcel.{StandsFor};
 ghost use Rattle.rv_isa_laws.specs.Reader.{Reader};
-ghost use Rattle.rv_image.specs.Segment.{segment_of};
+ghost use Rattle.rv_image.specs.SegmentView.{segment_of};
 ghost use Rattle.rv_listing_laws.specs.Listing as shows;
 
 use crate::kept::KeptLines;

@@ -11,7 +11,7 @@ use Rattle.rv_isa_laws.specs.Bytes.{little_endian}
 use Rattle.rv_isa_laws.specs.Hart.{Exited, Astray}
 use Rattle.rv_encode.specs.Word.{Spells, form, word}
 use Rattle.rv_compress.specs.Parcel.{StandsFor}
-use Rattle.rv_image.specs.Memory.{mem_of}
+use Rattle.rv_image_laws.specs.Memory.{mem_of}
 use Rattle.rv_isa_laws.specs.Reader.{Reader}
 use Rattle.rv_isa_laws.specs.Run.{machine_run}
 use Rattle.rv_examples.specs.Exit7.{exit7, exit7_map, exits}

@@ -2,8 +2,8 @@
 -- Header").
 
 use Rattle.std.specs.Prelude.{ℕ, List, [], ◌∷◌, ◌++◌, false, replicate}
-use Rattle.rv_image.specs.Image.{Image}
-use Rattle.rv_image.specs.Linked.{Linked}
+use Rattle.rv_image_laws.specs.Image.{Image}
+use Rattle.rv_image_laws.specs.Linked.{Linked}
 use Rattle.rv_examples.specs.Exit7.{exit7_map}
 
 -- addi a0, zero, 7; addi a7, zero, 93; ecall

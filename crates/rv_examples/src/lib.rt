@@ -1,10 +1,10 @@
 //! Worked programs, and worked sources that are refused: what the definitions say of them.
 //!
-//! It takes the definitions of what sources mean (`rv_source_laws`), of why they are refused (`rv_assemble_laws`), of the
-//! headline (`rv_chain_laws`) and of executables (`rv_image`), and shows of whole sources (`specs/Exit7`, `Data`,
-//! `CodeAlignment`, `Parcels`, `Refused`) and of code (`KnownCode`, `OpenCode`, `BranchSizes`) what they come to: runs, maps, bytes, faults. Each contract is closed,
-//! so that the check computes it; a definition that said something else would fail here. Nothing here runs, and no other crate
-//! stands on this one.
+//! It takes the definitions of what sources mean (`rv_source_laws`), of why they are refused (`rv_assemble_laws`), of
+//! the headline (`rv_chain_laws`) and of executables (`rv_image_laws`), and shows of whole sources (`specs/Exit7`,
+//! `Data`, `CodeAlignment`, `Parcels`, `Refused`) and of code (`KnownCode`, `OpenCode`, `BranchSizes`) what they come
+//! to: runs, maps, bytes, faults. Each contract is closed, so that the check computes it; a definition that said
+//! something else would fail here. Nothing here runs, and no other crate stands on this one.
 //!
 //! Its main contract is `exit7_executes`: the machine's run over the executable of the program `exit7` exits with 7.
 //!

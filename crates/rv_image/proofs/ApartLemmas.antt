@@ -9,13 +9,12 @@ use Rattle.std.proofs.lemmas.List.{length-append, length-replicate, length-take-
 use Rattle.std.proofs.lemmas.List.Folds.{list_any-append}
 use Rattle.std.proofs.lemmas.List.Sums.{sum_by-cons}
 use Rattle.rv_elf.specs.declared.program_header.ProgramHeader.{ProgramHeader}
-use Rattle.rv_elf.specs.Sections.{is_load}
-use Rattle.rv_image.specs.Segment.{do_meet, meets_segment, meets_stack, are_apart, memory_size}
+use Rattle.rv_elf.specs.Sections.{is_load, is_past}
+use Rattle.rv_image_laws.specs.Segment.{do_meet, meets_segment, meets_stack, are_apart, memory_size}
 use Rattle.rv_isa_laws.specs.Platform.{stack_start, stack_end}
-use Rattle.rv_image.specs.ImageOf.{segment_in}
+use Rattle.rv_image_laws.specs.ImageOf.{segment_in}
 use Rattle.rv_elf.specs.FirstFault.{first_true}
-use Rattle.rv_elf.specs.Sections.{is_past}
-use Rattle.rv_image.specs.FirstFault.{do_overlap, programs_tests, program_tests, segment_tests, IsLoadable, loaded_size}
+use Rattle.rv_image_laws.specs.FirstFault.{do_overlap, programs_tests, program_tests, segment_tests, IsLoadable, loaded_size}
 use Rattle.rv_elf.specs.FirstTrue.{no_fault_parts}
 use Rattle.rv_image.proofs.LoadedLemmas.{program_loadable, program_fits}
 

@@ -9,11 +9,10 @@ use Rattle.rv_elf.specs.declared.fault.FileFault.TheVariants.{Truncated, Dynamic
 use Rattle.std.proofs.lemmas.List.Sums.{sum_by-cons}
 use Rattle.rv_elf.specs.declared.program_header.ProgramHeader.{ProgramHeader}
 use Rattle.rv_elf.specs.Records.{program_header_at}
-use Rattle.rv_elf.specs.Sections.{is_load}
-use Rattle.rv_image.specs.ImageOf.{segment_in}
+use Rattle.rv_elf.specs.Sections.{is_load, is_past}
+use Rattle.rv_image_laws.specs.ImageOf.{segment_in}
 use Rattle.rv_elf.specs.FirstFault.{first_true}
-use Rattle.rv_elf.specs.Sections.{is_past}
-use Rattle.rv_image.specs.FirstFault.{is_dynamic, programs_tests, program_tests, segment_tests, IsLoadable, loaded_size, programs_from}
+use Rattle.rv_image_laws.specs.FirstFault.{is_dynamic, programs_tests, program_tests, segment_tests, IsLoadable, loaded_size, programs_from}
 use Rattle.rv_image.proofs.ProgramsLemmas.{programs_from_cut}
 use Rattle.rv_elf.specs.FirstTrue.{no_fault_parts}
 

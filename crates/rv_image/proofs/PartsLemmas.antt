@@ -4,8 +4,8 @@ use Rattle.std.proofs.Common.{◌≡◌, ℕ, ◌+◌, ◌*◌, List, [], ◌∷
 use Rattle.std.proofs.lemmas.List.{drop-drop}
 use Rattle.rv_elf.specs.Records.{program_header_bytes}
 use Rattle.rv_elf.specs.ReadBack.{FitsProgramHeader, program_header_there}
-use Rattle.rv_image.specs.FirstFault.{programs_from}
-use Rattle.rv_image.specs.Executable.{Part, program_of, program_bytes}
+use Rattle.rv_image_laws.specs.FirstFault.{programs_from}
+use Rattle.rv_image_laws.specs.Executable.{Part, program_of, program_bytes}
 
 next_read : (start : ℕ) (part : Part) (rest : List ℕ) → drop 56 (program_bytes start part ++ rest) ≡ rest
 unfolding program_header_bytes

@@ -10,7 +10,7 @@ use Rattle.std.proofs.lemmas.Bool.Decides.{nat_tests}
 use Rattle.rv_elf.specs.declared.program_header.ProgramHeader.{ProgramHeader}
 use Rattle.rv_elf.specs.Records.{program_header_at}
 use Rattle.rv_elf.specs.FirstFault.{first_true}
-use Rattle.rv_image.specs.FirstFault.{do_overlap, ends_by, programs_tests, program_tests, programs_from}
+use Rattle.rv_image_laws.specs.FirstFault.{do_overlap, ends_by, programs_tests, program_tests, programs_from}
 
 pub programs_from_more : (i place : ℕ) (file : List ℕ) → programs_from (suc i) place file ≡ programs_from i place file ++ program_header_at (place + 56 * i) file ∷ []
 programs_from_more zero place file = let same : place + 56 * 0 ≡ place = omega arith in rw same refl

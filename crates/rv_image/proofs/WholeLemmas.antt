@@ -7,7 +7,7 @@ use Rattle.rv_elf.specs.Sections.{program_headers}
 use Rattle.rv_elf.specs.Fields.{number_in, ei_magic, ei_class, ei_data, ei_version, e_type, e_machine, e_entry}
 use Rattle.rv_elf.specs.Numbers.{elfmag, elfclass64, elfdata2lsb, ev_current, et_exec, em_riscv}
 use Rattle.rv_elf.specs.FirstFault.{first_true, header_tests, table_tests, type_tests}
-use Rattle.rv_image.specs.FirstFault.{load_tests, programs_tests, whole_tests, loaded_size}
+use Rattle.rv_image_laws.specs.FirstFault.{load_tests, programs_tests, whole_tests, loaded_size}
 use Rattle.rv_elf.specs.FirstTrue.{no_fault_parts}
 
 pub record HeaderSays (file : List ℕ) : Type 0 where

@@ -1,13 +1,8 @@
-pub mod Segment
-pub mod Image
-pub mod Linked
-pub mod ImageOf
-pub mod FirstFault
-pub mod Executable
 pub use Rattle.rv_map.specs.Map
 pub use Rattle.rv_map.specs.Text
-pub mod Memory
 pub use Rattle.rv_elf.specs.Fields
 pub use Rattle.rv_elf.specs.Numbers
 pub use Rattle.rv_elf.specs.Records
 pub use Rattle.rv_elf.specs.Sections
+pub mod SegmentView
+pub mod Views

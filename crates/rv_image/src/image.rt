@@ -2,7 +2,8 @@
 
 ghost use Rattle.std.specs.Prelude.{◌≡◌, ◌%◌, ◌≤◌, IsTrue, map};
 ghost use Rattle.rv_isa_laws.specs.Platform.{memory_limit};
-ghost use Rattle.rv_image.specs.Segment.{segment_of, are_apart, memory_size};
+ghost use Rattle.rv_image.specs.SegmentView.{segment_of};
+ghost use Rattle.rv_image_laws.specs.Segment.{are_apart, memory_size};
 
 use crate::segment::Segment;
 

@@ -3,9 +3,10 @@
 //! It takes a [`Linked`] program and gives the bytes of its executable, and takes the bytes of any file and gives
 //! the [`Image`] that they load, or the first fault that they have.
 //!
-//! Main contracts: `load` answers an image just of a file without a fault, with the segments that its headers name,
-//! and otherwise the fault that stands first (`first_fault`); `write_exec` gives the bytes `exe_of` of the program;
-//! and `reload` that these load as that program. It knows neither statements nor instructions: contents are bytes.
+//! Main contracts: `load` answers an image just of a file without a fault, with the segments that its headers name, and
+//! otherwise the fault that stands first (`first_fault`); `write_exec` gives the bytes `exe_of` of the program; and
+//! `reload` that these load as that program. What images and executables are, `rv_image_laws` says. It knows neither
+//! statements nor instructions: contents are bytes.
 //!
 //! ```text
 //! let file = write_exec(alloc, &linked)?;

@@ -7,10 +7,10 @@ ghost use Rattle.rv_elf.specs.FirstFault.{Finds};
 ghost use Rattle.rv_elf.specs.Numbers.{pt_load};
 ghost use Rattle.rv_elf.specs.Records.{program_header_at};
 ghost use Rattle.rv_elf.specs.Sections.{program_headers, program_count, is_load, is_past};
-ghost use Rattle.rv_image.specs.FirstFault.{load_tests, first_fault, IsLoadable};
-ghost use Rattle.rv_image.specs.Image.{image_of};
-ghost use Rattle.rv_image.specs.ImageOf.{ImageOf, segment_in};
-ghost use Rattle.rv_image.specs.Segment.{segment_of};
+ghost use Rattle.rv_image_laws.specs.FirstFault.{load_tests, first_fault, IsLoadable};
+ghost use Rattle.rv_image.specs.Views.{image_of};
+ghost use Rattle.rv_image_laws.specs.ImageOf.{ImageOf, segment_in};
+ghost use Rattle.rv_image.specs.SegmentView.{segment_of};
 
 use crate::image::Image;
 use crate::segment::Segment;
@@ -34,7 +34,7 @@ pub fn load(alloc: Global, file: &[u8]) -> Result<Image, FileFault>
 }
 
 /// A view of a file without a fault, or its first fault.
-#[tactic(auto, using(rv_elf::specs::FirstTrue::first_true_some, rv_elf::specs::FirstTrue::first_true_none), unfolding(crate::specs::FirstFault::load_tests, rv_elf::specs::FirstFault::type_tests))]
+#[tactic(auto, using(rv_elf::specs::FirstTrue::first_true_some, rv_elf::specs::FirstTrue::first_true_none), unfolding(rv_image_laws::specs::FirstFault::load_tests, rv_elf::specs::FirstFault::type_tests))]
 fn check(file: &[u8]) -> Result<ElfView<'_>, FileFault>
     ensures faults { Finds (load_tests file.now) result }
     ensures file { IfOk result (λ view. view.file.now ≡ file.now) }

@@ -2,9 +2,8 @@
 
 ghost use Rattle.std.specs.Prelude.{◌≡◌, MatchResult};
 ghost use Rattle.rv_elf.specs.declared.fault.FileFault.TheVariants.{OutOfMemory};
-ghost use Rattle.rv_image.specs.Executable.{linked_image};
-ghost use Rattle.rv_image.specs.Image.{image_of};
-ghost use Rattle.rv_image.specs.Linked.{linked_of};
+ghost use Rattle.rv_image_laws.specs.Executable.{linked_image};
+ghost use Rattle.rv_image.specs.Views.{image_of, linked_of};
 
 use crate::image::Image;
 use crate::linked::Linked;

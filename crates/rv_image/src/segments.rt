@@ -5,8 +5,8 @@ ghost use Rattle.std.specs.List.{list_any, list_all};
 ghost use Rattle.rv_isa_laws.specs.Platform.{memory_limit};
 ghost use Rattle.rv_elf.specs.FirstFault.{Finds};
 ghost use Rattle.rv_elf.specs.Sections.{program_count, program_headers};
-ghost use Rattle.rv_image.specs.FirstFault.{programs_tests, program_tests, segment_tests, do_overlap, ends_by, whole_tests, loaded_size, programs_before};
-ghost use Rattle.rv_image.specs.Segment.{do_meet};
+ghost use Rattle.rv_image_laws.specs.FirstFault.{programs_tests, program_tests, segment_tests, do_overlap, ends_by, whole_tests, loaded_size, programs_before};
+ghost use Rattle.rv_image_laws.specs.Segment.{do_meet};
 
 use crate::segment::{MEMORY_LIMIT, STACK_BYTES, STACK_START};
 use rv_elf::{
@@ -45,7 +45,7 @@ fn raised(highest: u128, program: ProgramHeader) -> u128
 
 /// Looks at a program header with `earlier` others before it in the table, all of which end at
 /// `highest` or before.
-#[tactic(auto, unfolding(crate::specs::FirstFault::program_tests))]
+#[tactic(auto, unfolding(rv_image_laws::specs::FirstFault::program_tests))]
 fn check_program(
     view: &ElfView<'_>,
     earlier: u16,
@@ -71,7 +71,7 @@ fn check_program(
 }
 
 /// Looks at what is loaded.
-#[tactic(auto, unfolding(crate::specs::FirstFault::segment_tests), using(crate::proofs::ProgramsLemmas::none_meets))]
+#[tactic(auto, unfolding(rv_image_laws::specs::FirstFault::segment_tests), using(crate::proofs::ProgramsLemmas::none_meets))]
 fn check_segment(
     view: &ElfView<'_>,
     earlier: u16,
@@ -132,7 +132,7 @@ fn overlap(program: ProgramHeader, other: ProgramHeader) -> bool
 }
 
 /// Looks at the entry and at the memory of all segments.
-#[tactic(auto, unfolding(crate::specs::FirstFault::whole_tests))]
+#[tactic(auto, unfolding(rv_image_laws::specs::FirstFault::whole_tests))]
 pub(crate) fn check_whole(view: &ElfView<'_>) -> Result<(), FileFault>
     ensures { Finds (whole_tests view.now.file.now) result }
 {

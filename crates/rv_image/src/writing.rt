@@ -2,8 +2,8 @@
 
 ghost use Rattle.std.specs.Prelude.{◌≡◌, ◌<◌, ◌≤◌, ◌+◌, ◌^◌, length, filter, flat_map, [], ◌∷◌, ◌++◌, IfOk, OnOk, ◌-◌};
 ghost use Rattle.rv_elf.specs.Numbers.{pf_x, pf_w, pf_r};
-ghost use Rattle.rv_image.specs.Executable.{exe_of, parts_with_memory, has_memory, header_of, program_of, program_bytes, with_contents, with_parts, all_parts, offset_of, segment_part, memory_size_of};
-ghost use Rattle.rv_image.specs.Linked.{linked_of};
+ghost use Rattle.rv_image_laws.specs.Executable.{exe_of, parts_with_memory, has_memory, header_of, program_of, program_bytes, with_contents, with_parts, all_parts, offset_of, memory_size_of};
+ghost use Rattle.rv_image.specs.Views.{segment_part, linked_of};
 
 use crate::linked::Linked;
 use rv_elf::{

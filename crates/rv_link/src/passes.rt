@@ -7,7 +7,7 @@ ghost use Rattle.std.specs.Prelude.{◌≡◌, ◌%◌, ◌<◌, ◌≤◌, [], 
 ghost use Rattle.std.specs.List.{list_any};
 ghost use Rattle.rv_map.specs.Globals.{AreDistinct};
 ghost use Rattle.rv_isa_laws.specs.Platform.{stack_start};
-ghost use Rattle.rv_image.specs.Linked.{linked_of};
+ghost use Rattle.rv_image.specs.Views.{linked_of};
 ghost use Rattle.rv_object_types.specs.Object.{Object as SaidObject};
 ghost use Rattle.rv_object_types.specs.View.{object_of};
 ghost use Rattle.rv_object_laws.specs.IsLinkOf.{most_files};

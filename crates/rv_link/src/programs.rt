@@ -1,7 +1,7 @@
 //! The program that objects become.
 
 ghost use Rattle.std.specs.Prelude.{All, length, true, map, IfOk, IfErr};
-ghost use Rattle.rv_image.specs.Linked.{linked_of};
+ghost use Rattle.rv_image.specs.Views.{linked_of};
 ghost use Rattle.rv_map.specs.Limits.{IsDrop};
 ghost use Rattle.rv_object_types.specs.View.{object_of};
 ghost use Rattle.rv_object_laws.specs.IsProgramOf.{IsProgramOf};

@@ -11,7 +11,7 @@ use Rattle.rv_encode.specs.Word.{Spells}
 use Rattle.rv_compress.specs.Parcel.{StandsFor}
 use Rattle.rv_map.specs.declared.map.Row.{Row}
 use Rattle.rv_map.specs.Map.{Map}
-use Rattle.rv_image.specs.Image.{Image}
+use Rattle.rv_image_laws.specs.Image.{Image}
 use Rattle.rv_listing_laws.specs.Order.{compared, IsInOrder}
 use Rattle.rv_listing_laws.specs.Listing.{row_text, IsListing}
 

@@ -9,9 +9,9 @@ use Rattle.rv_encode.specs.Word.{Spells}
 use Rattle.rv_compress.specs.Parcel.{StandsFor}
 use Rattle.rv_map.specs.declared.map.Row.{Row}
 use Rattle.rv_map.specs.Map.{Map}
-use Rattle.rv_image.specs.Segment.{Segment}
-use Rattle.rv_image.specs.Image.{Image}
-use Rattle.rv_image.specs.Memory.{gives_right}
+use Rattle.rv_image_laws.specs.Segment.{Segment}
+use Rattle.rv_image_laws.specs.Image.{Image}
+use Rattle.rv_image_laws.specs.Memory.{gives_right}
 use Rattle.rv_listing_laws.specs.Lines.{lines}
 use Rattle.rv_listing_laws.specs.Order.{IsInOrder}
 

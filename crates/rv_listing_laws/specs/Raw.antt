@@ -12,9 +12,9 @@ use Rattle.rv_isa_laws.specs.Memory.{Execute}
 use Rattle.rv_isa_laws.specs.Platform.{stack_start}
 use Rattle.rv_encode.specs.Word.{form, word}
 use Rattle.rv_compress.specs.Parcel.{parcel, IsLine, IsNoHint}
-use Rattle.rv_image.specs.Segment.{Segment}
-use Rattle.rv_image.specs.Image.{Image}
-use Rattle.rv_image.specs.Memory.{gives_right}
+use Rattle.rv_image_laws.specs.Segment.{Segment}
+use Rattle.rv_image_laws.specs.Image.{Image}
+use Rattle.rv_image_laws.specs.Memory.{gives_right}
 use Rattle.rv_listing_laws.specs.declared.code.Code.{Code}
 use Rattle.rv_listing_laws.specs.declared.code.Code.TheVariants.{Word, Parcel}
 use Rattle.rv_listing_laws.specs.Instruction.{is_tso, is_between, distant, text_with}

@@ -5,16 +5,16 @@ use Rattle.std.proofs.Math.ListN.{get_or-append}
 use Rattle.std.proofs.lemmas.Bool.{cases_order}
 use Rattle.std.proofs.lemmas.Bool.Decides.{nat_tests}
 use Rattle.std.proofs.lemmas.Grind.{common_steps}
-use Rattle.std.proofs.lemmas.List.{get_or-take, get_or-drop, get_or-append-add, map-set}
+use Rattle.std.proofs.lemmas.List.{get_or-take, get_or-drop, get_or-append-add, map-set, get_or-map, length-map}
 use Rattle.std.proofs.Math.Path.{fun_ext}
 use Rattle.std.proofs.Math.Seq.{take-length}
 use Rattle.rv_isa_laws.specs.Memory.{Mem, Right, may, bytes_at, with_bytes}
-use Rattle.rv_image.specs.Segment.{Segment, segment_of}
+use Rattle.rv_image_laws.specs.Segment.{Segment}
+use Rattle.rv_image.specs.SegmentView.{segment_of}
 use Rattle.rv_image.specs.declared.segment.Segment.{Segment as DeclaredSegment}
 use Rattle.std.proofs.lemmas.Option.{slice_get-get_or}
-use Rattle.std.proofs.lemmas.List.{get_or-map, length-map}
 use Rattle.rv_memory.specs.Flat.{memory_of, AreDisjoint, with_part, no_segment}
-use Rattle.rv_image.specs.Memory.{lies_in, segment_at, gives_right, byte_in, right_in}
+use Rattle.rv_image_laws.specs.Memory.{lies_in, segment_at, gives_right, byte_in, right_in}
 use Rattle.rv_memory.proofs.MemoryLemmas.{byte-below, byte-above, byte-inside, has-with_bytes}
 
 -- an address that a segment holds lies in its range, and one in its range is held

@@ -2,8 +2,8 @@
 
 use Rattle.std.proofs.Common.{◌≡◌, ℕ, suc, ◌*◌, Bool, true, false, cond, List, [], ◌∷◌, Option, Some, None, length, get_or, refl, ap, sym, ◌∙◌, arith}
 use Rattle.rv_isa_laws.specs.Memory.{Right, Execute}
-use Rattle.rv_image.specs.Segment.{Segment, do_meet}
-use Rattle.rv_image.specs.Memory.{lies_in, segment_at, gives_right, right_in}
+use Rattle.rv_image_laws.specs.Segment.{Segment, do_meet}
+use Rattle.rv_image_laws.specs.Memory.{lies_in, segment_at, gives_right, right_in}
 use Rattle.rv_memory.specs.Rights.{IsWidth}
 use Rattle.rv_memory.specs.Stretches.{IsStretch, AreAlike}
 use Rattle.rv_memory.specs.Pages.{AreOrdered, AreListed, HoldsPage, has_byte_on}

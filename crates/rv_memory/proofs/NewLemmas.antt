@@ -6,10 +6,10 @@ use Rattle.std.proofs.lemmas.Bool.{and_parts, cases_lt}
 use Rattle.std.proofs.lemmas.Bool.Decides.{nat_tests}
 use Rattle.std.proofs.Math.Path.{fun_ext}
 use Rattle.rv_isa_laws.specs.Memory.{Mem, Right, Read, Write, Execute}
-use Rattle.rv_image.specs.Segment.{Segment, meets_segment, meets_stack, are_apart}
+use Rattle.rv_image_laws.specs.Segment.{Segment, meets_segment, meets_stack, are_apart}
 use Rattle.rv_isa_laws.specs.Platform.{stack_start, stack_end}
-use Rattle.rv_image.specs.Image.{Image}
-use Rattle.rv_image.specs.Memory.{lies_in, segment_at, byte_in, right_in, gives_right, in_stack, mem_of}
+use Rattle.rv_image_laws.specs.Image.{Image}
+use Rattle.rv_image_laws.specs.Memory.{lies_in, segment_at, byte_in, right_in, gives_right, in_stack, mem_of}
 use Rattle.rv_memory.specs.Flat.{memory_of, AreDisjoint}
 use Rattle.rv_memory.specs.Unmade.{lies_unmade, in_unmade, with_unmade, IsFree, IsTop, HasTop}
 use Rattle.rv_memory.proofs.FlatLemmas.{range-holds, same-memory}

@@ -14,9 +14,10 @@ use Rattle.std.proofs.lemmas.List.{get_or-map, length-map}
 use Rattle.std.proofs.lemmas.Option.{slice_get_within, slice_get-get_or, slice_get_read, get_or_from_slice_get}
 use Rattle.std.proofs.Math.Path.{fun_ext}
 use Rattle.rv_isa_laws.specs.Memory.{Right}
-use Rattle.rv_image.specs.Segment.{Segment, segment_of}
+use Rattle.rv_image_laws.specs.Segment.{Segment}
+use Rattle.rv_image.specs.SegmentView.{segment_of}
 use Rattle.rv_image.specs.declared.segment.Segment.{Segment as DeclaredSegment}
-use Rattle.rv_image.specs.Memory.{lies_in, segment_at, byte_in, right_in}
+use Rattle.rv_image_laws.specs.Memory.{lies_in, segment_at, byte_in, right_in}
 use Rattle.rv_memory.specs.Flat.{memory_of, AreDisjoint, no_segment}
 use Rattle.rv_memory.specs.Pages.{AreOrdered, IsLastBegun}
 use Rattle.rv_memory.proofs.FlatLemmas.{disjoint-rest, segment-held, held-segment, holds-range, range-holds, same-memory}

@@ -12,9 +12,9 @@ use Rattle.std.proofs.lemmas.List.{get_or-take, get_or_default, get_or-append-ad
 use Rattle.std.proofs.lemmas.List.Folds.{Any-from_list_any, list_any_none, list_any-append, list_any_at, list_any_more}
 use Rattle.std.proofs.lemmas.List.Sorted.{IsNonDecreasingBy-from_default}
 use Rattle.std.proofs.lemmas.Option.{slice_get_within, slice_get-get_or, get_or_from_slice_get}
-use Rattle.rv_image.specs.Segment.{Segment}
+use Rattle.rv_image_laws.specs.Segment.{Segment}
 use Rattle.rv_isa_laws.specs.Memory.{Right, Read, Write, Execute}
-use Rattle.rv_image.specs.Memory.{lies_in, segment_at, gives_right, right_in}
+use Rattle.rv_image_laws.specs.Memory.{lies_in, segment_at, gives_right, right_in}
 use Rattle.rv_memory.specs.Flat.{AreDisjoint, no_segment}
 use Rattle.rv_memory.specs.Pages.{AreOrdered, has_byte_on, is_listed, is_reached, with_page, no_page, AreAscending, HoldsPage, IsRight, ArePages, AreListed}
 use Rattle.rv_memory.specs.declared.page.Page.{Page}

@@ -2,9 +2,10 @@
 
 use Rattle.std.proofs.Common.{◌≡◌, ℕ, zero, suc, ◌+◌, ◌-◌, ◌%◌, ◌^◌, ◌≤◌, ◌<◌, true, subst, List, [], ◌∷◌, length, map, take, get_or, refl, ap, sym, ◌∙◌, arith}
 use Rattle.rv_isa_laws.specs.Memory.{Right}
-use Rattle.rv_image.specs.Segment.{Segment, segment_of}
+use Rattle.rv_image_laws.specs.Segment.{Segment}
+use Rattle.rv_image.specs.SegmentView.{segment_of}
 use Rattle.rv_image.specs.declared.segment.Segment.{Segment as DeclaredSegment}
-use Rattle.rv_image.specs.Memory.{gives_right}
+use Rattle.rv_image_laws.specs.Memory.{gives_right}
 use Rattle.std.specs.Prelude.{set}
 use Rattle.rv_memory.specs.Flat.{no_segment, with_part}
 use Rattle.rv_memory.specs.Stretches.{IsStretch, AreAlike}

@@ -8,9 +8,10 @@ use Rattle.std.proofs.lemmas.Option.{slice_get-get_or, get_or_from_slice_get}
 use Rattle.std.proofs.Math.Path.{fun_ext}
 use Rattle.rv_isa_laws.specs.Memory.{Mem, Right, Read, Write, Execute, may, bytes_at, number_at, with_byte, with_bytes}
 use Rattle.rv_isa_laws.specs.Platform.{stack_start, stack_end}
-use Rattle.rv_image.specs.Segment.{Segment, segment_of}
+use Rattle.rv_image_laws.specs.Segment.{Segment}
+use Rattle.rv_image.specs.SegmentView.{segment_of}
 use Rattle.rv_image.specs.declared.segment.Segment.{Segment as DeclaredSegment}
-use Rattle.rv_image.specs.Memory.{lies_in, segment_at, byte_in, right_in, gives_right}
+use Rattle.rv_image_laws.specs.Memory.{lies_in, segment_at, byte_in, right_in, gives_right}
 use Rattle.rv_memory.specs.Flat.{memory_of, AreDisjoint, no_segment}
 use Rattle.rv_memory.specs.Pages.{AreOrdered, AreListed, HoldsPage, has_byte_on}
 use Rattle.rv_memory.specs.Unmade.{lies_unmade, in_unmade, with_unmade, IsUnmade, deeper}
@@ -184,13 +185,13 @@ deep-apart ss i start gap j k x u v at_j at_k held_u held_v =
     let t : Segment = deeper start (get_or ss i no_segment) in
     elim (cases_eq j i) [
       | inl j_is ↦ elim (cases_eq k i) [
-          | inl k_is ↦ j_is ∙ sym k_is
-          | inr k_not ↦ absurd (mixed ss i start j k x u v gap j_is k_not at_j at_k held_u held_v)
-        ]
+        | inl k_is ↦ j_is ∙ sym k_is
+        | inr k_not ↦ absurd (mixed ss i start j k x u v gap j_is k_not at_j at_k held_u held_v)
+      ]
       | inr j_not ↦ elim (cases_eq k i) [
-          | inl k_is ↦ absurd (mixed ss i start k j x v u gap k_is j_not at_k at_j held_v held_u)
-          | inr k_not ↦ gap.apart j k x u v (sym (set-other ss i j t j_not) ∙ at_j) (sym (set-other ss i k t k_not) ∙ at_k) held_u held_v
-        ]
+        | inl k_is ↦ absurd (mixed ss i start k j x v u gap k_is j_not at_k at_j held_v held_u)
+        | inr k_not ↦ gap.apart j k x u v (sym (set-other ss i j t j_not) ∙ at_j) (sym (set-other ss i k t k_not) ∙ at_k) held_u held_v
+      ]
     ]
 
 -- an address that neither holds has the segment that it had
@@ -349,19 +350,19 @@ deep-ordered ss i start gap ordered = record {
       let in_k : k < length ss = omega (arith, within, count ss i start) in
       elim (cases_eq j i) [
         | inl j_is ↦ elim (cases_eq k i) [
-            | inl k_is ↦ omega (arith, address-at ss i start j gap.within j_is, address-at ss i start k gap.within k_is)
-            | inr k_not ↦
-                let rise = ordered.rises i k (omega (arith, low, j_is)) in_k in
-                omega (arith, address-at ss i start j gap.within j_is, address-other ss i start k k_not, rise, gap.low)
-          ]
+          | inl k_is ↦ omega (arith, address-at ss i start j gap.within j_is, address-at ss i start k gap.within k_is)
+          | inr k_not ↦
+              let rise = ordered.rises i k (omega (arith, low, j_is)) in_k in
+              omega (arith, address-at ss i start j gap.within j_is, address-other ss i start k k_not, rise, gap.low)
+        ]
         | inr j_not ↦ elim (cases_eq k i) [
-            | inl k_is ↦
-                let under = below-gap ss i start j gap ordered j_not (omega (arith, low, k_is)) in
-                omega (arith, address-other ss i start j j_not, address-at ss i start k gap.within k_is, under)
-            | inr k_not ↦
-                let rise = ordered.rises j k low in_k in
-                omega (arith, address-other ss i start j j_not, address-other ss i start k k_not, rise)
-          ]
+          | inl k_is ↦
+              let under = below-gap ss i start j gap ordered j_not (omega (arith, low, k_is)) in
+              omega (arith, address-other ss i start j j_not, address-at ss i start k gap.within k_is, under)
+          | inr k_not ↦
+              let rise = ordered.rises j k low in_k in
+              omega (arith, address-other ss i start j j_not, address-other ss i start k k_not, rise)
+        ]
       ];
   filled = λ j within.
       let in_j : j < length ss = omega (arith, within, count ss i start) in

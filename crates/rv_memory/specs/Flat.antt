@@ -2,8 +2,8 @@
 
 use Rattle.std.specs.Prelude.{◌≡◌, ℕ, ◌+◌, true, List, ◌++◌, Some, length, take, drop, slice_get, []}
 use Rattle.rv_isa_laws.specs.Memory.{Mem}
-use Rattle.rv_image.specs.Segment.{Segment}
-use Rattle.rv_image.specs.Memory.{lies_in, segment_at, byte_in, right_in}
+use Rattle.rv_image_laws.specs.Segment.{Segment}
+use Rattle.rv_image_laws.specs.Memory.{lies_in, segment_at, byte_in, right_in}
 
 -- the memory of segments: each address has the byte and the rights that its segment gives it
 abbrev pub memory_of : List Segment → Mem

@@ -2,7 +2,8 @@
 
 use Rattle.std.specs.Prelude.{List, map}
 use Rattle.rv_isa_laws.specs.Memory.{Mem}
-use Rattle.rv_image.specs.Segment.{Segment, segment_of}
+use Rattle.rv_image_laws.specs.Segment.{Segment}
+use Rattle.rv_image.specs.SegmentView.{segment_of}
 use Rattle.rv_memory.specs.Flat.{memory_of}
 use Rattle.rv_memory.specs.declared.flat.Flat.{Flat}
 

@@ -2,7 +2,7 @@
 
 use Rattle.std.specs.Prelude.{List, slice_index_or}
 use Rattle.rv_isa_laws.specs.Memory.{Mem}
-use Rattle.rv_image.specs.Segment.{Segment}
+use Rattle.rv_image_laws.specs.Segment.{Segment}
 use Rattle.rv_memory.specs.Held.{held, pieces}
 use Rattle.rv_memory.specs.Flat.{no_segment}
 use Rattle.rv_memory.specs.Unmade.{with_unmade}

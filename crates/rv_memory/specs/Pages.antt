@@ -2,7 +2,7 @@
 
 use Rattle.std.specs.Prelude.{◌≡◌, ℕ, ◌+◌, ◌*◌, ◌%◌, ◌<◌, ◌≤◌, ◌==◌, nat_le, Bool, if◌then◌else◌, List, [], ◌∷◌, ◌++◌, length, slice_index_or, true}
 use Rattle.std.specs.List.{list_any}
-use Rattle.rv_image.specs.Segment.{Segment, do_meet}
+use Rattle.rv_image_laws.specs.Segment.{Segment, do_meet}
 use Rattle.rv_memory.specs.Flat.{no_segment}
 use Rattle.rv_memory.specs.declared.page.Page.{Page}
 use Rattle.rv_memory.specs.declared.page.PageRights.{PageRights}

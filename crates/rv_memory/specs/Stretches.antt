@@ -2,8 +2,8 @@
 
 use Rattle.std.specs.Prelude.{◌≡◌, ℕ, ◌+◌, ◌<◌, ◌≤◌, true, List, length, slice_index_or}
 use Rattle.rv_isa_laws.specs.Memory.{Right}
-use Rattle.rv_image.specs.Segment.{Segment}
-use Rattle.rv_image.specs.Memory.{gives_right}
+use Rattle.rv_image_laws.specs.Segment.{Segment}
+use Rattle.rv_image_laws.specs.Memory.{gives_right}
 use Rattle.rv_memory.specs.Flat.{no_segment}
 
 -- the segment at index i begins at an address, has so many bytes and gives the right

@@ -3,8 +3,8 @@
 use Rattle.std.specs.Prelude.{◌≡◌, ℕ, ◌+◌, ◌-◌, ◌<◌, ◌≤◌, nat_le, nat_lt, Bool, false, ◌&&◌, ◌||◌, List, ◌++◌, [], length, replicate, slice_index_or, Option, None, MatchOption}
 use Rattle.rv_isa_laws.specs.Memory.{Mem, Right, Read, Write, Execute}
 use Rattle.rv_isa_laws.specs.Platform.{stack_start, stack_end}
-use Rattle.rv_image.specs.Segment.{Segment}
-use Rattle.rv_image.specs.Memory.{segment_at}
+use Rattle.rv_image_laws.specs.Segment.{Segment}
+use Rattle.rv_image_laws.specs.Memory.{segment_at}
 use Rattle.rv_memory.specs.Flat.{no_segment}
 
 -- an address of the stack below base, from which on a segment has its bytes

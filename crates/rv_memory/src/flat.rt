@@ -43,16 +43,16 @@ ghost use Rattle.rv_isa_laws.specs.Memory.{
   Right as ARight,
   Write as ToWrite,
 };
-ghost use Rattle.rv_image.specs.Segment.{segment_of};
+ghost use Rattle.rv_image.specs.SegmentView.{segment_of};
 ghost use Rattle.rv_memory.specs.Rights.{right_of, IsWidth, IsToLoad, MayLoad};
 ghost use Rattle.rv_memory.specs.Flat.{memory_of, AreDisjoint, no_segment, with_part};
 ghost use Rattle.rv_memory.specs.Stretches.{AreAlike, IsStretch};
 ghost use Rattle.rv_memory.specs.Pages.{AreOrdered, IsLastBegun};
 ghost use Rattle.rv_memory.specs.Unmade.{HasTop, IsFree, IsTop, deeper, with_unmade};
 ghost use Rattle.rv_isa_laws.specs.Platform.{stack_end, stack_start};
-ghost use Rattle.rv_image.specs.Memory.{lies_in, gives_right, right_in, segment_at, mem_of};
+ghost use Rattle.rv_image_laws.specs.Memory.{lies_in, gives_right, right_in, segment_at, mem_of};
 ghost use Rattle.std.specs.List.{All};
-ghost use Rattle.rv_image.specs.Image.{image_of};
+ghost use Rattle.rv_image.specs.Views.{image_of};
 
 use crate::memory::{Memory, Right};
 use crate::pieces::{Pieces, have_right, load_number, number, store_number};
@@ -240,7 +240,7 @@ impl Flat {
     /// their addresses.
     pub(crate) fn in_order(alloc: Global, image: Image, from: u64) -> Result<Self, AllocError>
         requires low { stack_start ≤ from }
-    requires high { from < stack_end }
+        requires high { from < stack_end }
         ensures ordered { IfOk result (λ flat. AreOrdered (pieces flat)) }
         ensures memory { IfOk result
             (λ flat. with_unmade from (held flat) ≡ mem_of (image_of image)) }

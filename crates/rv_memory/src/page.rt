@@ -27,7 +27,7 @@ ghost use Rattle.std.specs.Prelude.{
   MatchOption,
 };
 ghost use Rattle.std.specs.List.{list_any};
-ghost use Rattle.rv_image.specs.Segment.{segment_of};
+ghost use Rattle.rv_image.specs.SegmentView.{segment_of};
 ghost use Rattle.rv_memory.specs.Flat.{AreDisjoint, no_segment};
 ghost use Rattle.rv_memory.specs.Pages.{
   AreAscending,

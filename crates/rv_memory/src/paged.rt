@@ -43,8 +43,8 @@ ghost use Rattle.rv_isa_laws.specs.Memory.{
   Execute as ToExecute,
   Right as ARight,
 };
-ghost use Rattle.rv_image.specs.Image.{image_of};
-ghost use Rattle.rv_image.specs.Memory.{mem_of, lies_in, segment_at, gives_right, right_in};
+ghost use Rattle.rv_image.specs.Views.{image_of};
+ghost use Rattle.rv_image_laws.specs.Memory.{mem_of, lies_in, segment_at, gives_right, right_in};
 ghost use Rattle.rv_memory.specs.Held.{pieces};
 ghost use Rattle.rv_memory.specs.Quick.{AreKnown, IsEnd};
 ghost use Rattle.rv_memory.specs.Rights.{right_of, IsWidth, IsToLoad};
@@ -281,7 +281,14 @@ impl Paged {
 
     /// The number of bytes from an address on, where the stretch of the segment at the index holds it.
     #[inline(always)]
-    fn near(&self, i: usize, stretch: Stretch, address: u64, bytes: u64, right: Right) -> Option<u64>
+    fn near(
+        &self,
+        i: usize,
+        stretch: Stretch,
+        address: u64,
+        bytes: u64,
+        right: Right,
+    ) -> Option<u64>
         requires width { IsWidth bytes }
         requires known { IsStretch (pages_in self.now) i stretch.start stretch.room bytes
             (right_of right) }

@@ -2,7 +2,7 @@
 -- (GNU ld, "--gc-sections"; RISC-V ELF psABI, "Linker Relaxation").
 
 use Rattle.std.specs.Prelude.{ℕ, Bool, List}
-use Rattle.rv_image.specs.Linked.{Linked}
+use Rattle.rv_image_laws.specs.Linked.{Linked}
 use Rattle.rv_map.specs.declared.map.SectionId.{SectionId}
 use Rattle.rv_object_types.specs.Object.{Object}
 use Rattle.rv_object_laws.specs.Collects.{Collects}

@@ -7,8 +7,8 @@ use Rattle.std.proofs.lemmas.List.{map-append}
 use Rattle.std.proofs.lemmas.Grind.{flat_map-append}
 use Rattle.rv_statement.specs.Statement.{Label, Statement}
 use Rattle.rv_parse_laws.specs.Reading.{Reads, longest_source}
-use Rattle.rv_image.specs.Image.{Image}
-use Rattle.rv_image.specs.Linked.{Linked}
+use Rattle.rv_image_laws.specs.Image.{Image}
+use Rattle.rv_image_laws.specs.Linked.{Linked}
 use Rattle.rv_listing_laws.specs.declared.code.Code.{Code}
 use Rattle.rv_listing_laws.specs.Raw.{IsRawListing, IsSourced, raw_bytes, lines_text, raw_lines}
 use Rattle.rv_chain_laws.specs.Contents.{IsLinked}

@@ -13,7 +13,7 @@ use Rattle.rv_statement.specs.Statement.{StatementKind, Statement}
 use Rattle.rv_unit_laws.specs.Bindings.{bindings_of}
 use Rattle.rv_unit_laws.specs.Sections.{Section, goes_to_text, text_section}
 use Rattle.rv_unit_laws.specs.Tables.{Tables, opened_of, tables}
-use Rattle.rv_image.specs.Linked.{Linked}
+use Rattle.rv_image_laws.specs.Linked.{Linked}
 use Rattle.rv_source_laws.specs.Located.{without_address, left, has_row}
 use Rattle.rv_source_laws.specs.Program.{MaybeMapped, Mapped, Program, Export, program, mapped_statements, mapped_of, address_of, candidates, chosen}
 use Rattle.rv_source_laws.specs.Lines.{form_at}

@@ -3,8 +3,8 @@
 
 use Rattle.std.specs.Prelude.{◌≡◌, ℕ, Bool, List, [], ◌∷◌}
 use Rattle.rv_statement.specs.Statement.{Statement}
-use Rattle.rv_image.specs.Image.{Image}
-use Rattle.rv_image.specs.Linked.{Linked}
+use Rattle.rv_image_laws.specs.Image.{Image}
+use Rattle.rv_image_laws.specs.Linked.{Linked}
 use Rattle.rv_listing_laws.specs.Raw.{IsRawListing}
 use Rattle.rv_chain_laws.specs.Contents.{IsLinked}
 use Rattle.rv_chain_laws.specs.Headline.{AllRead}

@@ -30,10 +30,10 @@ use Rattle.rv_map.specs.declared.map.Row.{Row}
 use Rattle.rv_map.specs.declared.map.Region.{Region}
 use Rattle.rv_map.specs.declared.map.SectionId.{SectionId}
 use Rattle.rv_collect_laws.specs.Graph.{is_dropped}
-use Rattle.rv_image.specs.Linked.{Linked}
-use Rattle.rv_image.specs.Executable.{linked_image}
+use Rattle.rv_image_laws.specs.Linked.{Linked}
+use Rattle.rv_image_laws.specs.Executable.{linked_image}
 use Rattle.rv_isa_laws.specs.Platform.{stack_start, stack_end}
-use Rattle.rv_image.specs.Memory.{mem_of}
+use Rattle.rv_image_laws.specs.Memory.{mem_of}
 use Rattle.rv_source_laws.specs.Located.{located, left, without_address}
 use Rattle.rv_source_laws.specs.Exports.{names_where}
 use Rattle.rv_source_laws.specs.Program.{MaybeMapped, Mapped, Program, Export, export, exports_at, exports_where, candidates, chosen, program, number, seated, mapped_of, address_of, tables_in}

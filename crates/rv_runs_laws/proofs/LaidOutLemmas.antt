@@ -8,11 +8,11 @@ use Rattle.std.proofs.Math.Seq.{get_or-append_seam}
 use Rattle.std.specs.Prelude.{◌&&◌, ◌||◌, ◌==◌, not, nat_le, nat_lt, if◌then◌else◌, filter, slice_index}
 use Rattle.rv_isa_laws.specs.Bytes.{zeros}
 use Rattle.rv_isa_laws.specs.Memory.{Mem, Right, Read, Write, Execute}
-use Rattle.rv_image.specs.Linked.{Linked}
-use Rattle.rv_image.specs.Executable.{Part, memory_size_of, all_parts, has_memory, segment_of_part, linked_image}
-use Rattle.rv_image.specs.Segment.{Segment}
+use Rattle.rv_image_laws.specs.Linked.{Linked}
+use Rattle.rv_image_laws.specs.Executable.{Part, memory_size_of, all_parts, has_memory, segment_of_part, linked_image}
+use Rattle.rv_image_laws.specs.Segment.{Segment}
 use Rattle.rv_isa_laws.specs.Platform.{stack_start, stack_end}
-use Rattle.rv_image.specs.Memory.{mem_of, lies_in, segment_at, byte_in, right_in}
+use Rattle.rv_image_laws.specs.Memory.{mem_of, lies_in, segment_at, byte_in, right_in}
 use Rattle.rv_source_laws.specs.Start.{is_within, is_in, right_at}
 use Rattle.rv_runs_laws.proofs.WordsLemmas.{HasBytes, bytes_behind}
 use Rattle.rv_runs_laws.proofs.RegionsLemmas.{bytes_front}

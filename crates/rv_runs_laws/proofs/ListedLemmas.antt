@@ -15,9 +15,9 @@ use Rattle.rv_isa_laws.specs.Memory.{Mem}
 use Rattle.rv_isa_laws.specs.Reader.{Reader}
 use Rattle.rv_statement.specs.Statement.{Statement}
 use Rattle.rv_map.specs.declared.map.Row.{Row}
-use Rattle.rv_image.specs.Linked.{Linked}
-use Rattle.rv_image.specs.Executable.{linked_image}
-use Rattle.rv_image.specs.Memory.{mem_of}
+use Rattle.rv_image_laws.specs.Linked.{Linked}
+use Rattle.rv_image_laws.specs.Executable.{linked_image}
+use Rattle.rv_image_laws.specs.Memory.{mem_of}
 use Rattle.rv_source_laws.specs.Located.{left, has_row}
 use Rattle.rv_source_laws.specs.Program.{Mapped, Program, program}
 use Rattle.rv_source_laws.specs.Lines.{form_at}

@@ -9,9 +9,9 @@ use Rattle.std.specs.List.{AllByRecursion, find}
 use Rattle.rv_isa_laws.specs.Memory.{Mem}
 use Rattle.rv_map.specs.declared.map.Row.{Row}
 use Rattle.rv_elf.specs.Numbers.{pf_x}
-use Rattle.rv_image.specs.Linked.{Linked}
-use Rattle.rv_image.specs.Segment.{Segment}
-use Rattle.rv_image.specs.Executable.{Part, all_parts, has_memory, segment_of_part, linked_image}
+use Rattle.rv_image_laws.specs.Linked.{Linked}
+use Rattle.rv_image_laws.specs.Segment.{Segment}
+use Rattle.rv_image_laws.specs.Executable.{Part, all_parts, has_memory, segment_of_part, linked_image}
 use Rattle.rv_listing_laws.specs.Listing.{holds, bytes_in, row_bytes}
 use Rattle.rv_runs_laws.proofs.WordsLemmas.{HasBytes}
 

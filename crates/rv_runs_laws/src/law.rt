@@ -16,8 +16,8 @@ ghost use Rattle.rv_source_laws.specs.Program.{program};
 ghost use Rattle.rv_source_laws.specs.SourceRun.{source_run};
 ghost use Rattle.rv_chain_laws.specs.Headline.{RunsAgree};
 ghost use Rattle.rv_chain_laws.specs.Contents.{IsLinked};
-ghost use Rattle.rv_image.specs.Linked.{Linked};
-ghost use Rattle.rv_image.specs.Executable.{linked_image};
+ghost use Rattle.rv_image_laws.specs.Linked.{Linked};
+ghost use Rattle.rv_image_laws.specs.Executable.{linked_image};
 
 /// A reading of code exists: for each word and each parcel it answers the one instruction that is
 /// spelled there, or none. So what holds for every reader is never said of nothing.

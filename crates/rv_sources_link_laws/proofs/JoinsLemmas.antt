@@ -4,7 +4,7 @@ use Rattle.std.proofs.Common.{ℕ, Bool, List}
 use Rattle.rv_statement.specs.Statement.{Statement}
 use Rattle.rv_collect_laws.specs.Graph.{AreDrops}
 use Rattle.rv_source_laws.specs.Collected.{graph_of}
-use Rattle.rv_image.specs.Linked.{Linked}
+use Rattle.rv_image_laws.specs.Linked.{Linked}
 use Rattle.rv_chain_laws.specs.Contents.{IsLinked}
 use Rattle.rv_object_types.specs.Object.{Object}
 use Rattle.rv_object_laws.specs.IsLinkOf.{IsLinkOf}

@@ -26,7 +26,7 @@ use Rattle.rv_source_laws.specs.Sized.{Sized}
 use Rattle.rv_source_laws.specs.Shortened.{Shortened}
 use Rattle.rv_source_laws.specs.Start.{spelled}
 use Rattle.rv_source_laws.proofs.HomesLemmas.{all_map}
-use Rattle.rv_image.specs.Linked.{Linked}
+use Rattle.rv_image_laws.specs.Linked.{Linked}
 use Rattle.rv_chain_laws.specs.Contents.{IsWritten, IsLinked, contents as source_contents}
 use Rattle.rv_runs_laws.proofs.HomesLemmas.{IsAtHome, homes, from_blocks, sections_in}
 use Rattle.rv_object_types.specs.Object.{Section, Object}

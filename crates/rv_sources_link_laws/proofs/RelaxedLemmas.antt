@@ -8,7 +8,7 @@ use Rattle.rv_unit_laws.specs.Sections.{goes_to_text as source_text}
 use Rattle.rv_unit_laws.specs.Tables.{tables, at_start}
 use Rattle.rv_source_laws.specs.Program.{Program, program}
 use Rattle.rv_source_laws.specs.Fits as source
-use Rattle.rv_image.specs.Linked.{Linked}
+use Rattle.rv_image_laws.specs.Linked.{Linked}
 use Rattle.rv_collect_laws.specs.Graph.{AreDrops}
 use Rattle.rv_source_laws.specs.Collected.{graph_of}
 use Rattle.rv_source_laws.specs.Sized.{Sized}

@@ -18,7 +18,7 @@ use Rattle.rv_source_laws.specs.Located.{Located, has_row}
 use Rattle.rv_source_laws.specs.Compressed.{is_compressed_code}
 use Rattle.rv_source_laws.specs.Program.{MaybeMapped, Program, program}
 use Rattle.rv_source_laws.specs.Fits as source
-use Rattle.rv_image.specs.Linked.{Linked}
+use Rattle.rv_image_laws.specs.Linked.{Linked}
 use Rattle.rv_source_laws.specs.Shortened as line
 use Rattle.rv_source_laws.specs.Shortened.{Placed, HaveBytes, text_of, full_length, placed_from, sites_at, has_compressed, aim_of}
 use Rattle.rv_source_laws.proofs.HomesLemmas.{all_filter}

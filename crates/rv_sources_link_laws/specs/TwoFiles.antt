@@ -16,7 +16,7 @@ use Rattle.rv_source_laws.specs.Located.{Located, located_from}
 use Rattle.rv_map.specs.Map.{Map, Global as Shown}
 use Rattle.rv_map.specs.declared.map.Row.{Row as MapRow}
 use Rattle.rv_map.specs.declared.map.Region.{Region}
-use Rattle.rv_image.specs.Linked.{Linked}
+use Rattle.rv_image_laws.specs.Linked.{Linked}
 use Rattle.rv_object_types.specs.declared.row.Row.{Row}
 use Rattle.rv_object_types.specs.declared.symbol.Binding.{Binding}
 use Rattle.rv_object_types.specs.declared.symbol.Binding.TheVariants.{Local, Global}

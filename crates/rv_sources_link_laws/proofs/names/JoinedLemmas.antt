@@ -9,7 +9,7 @@ use Rattle.rv_statement.specs.Statement.{Statement}
 use Rattle.rv_source_laws.specs.Program as source
 use Rattle.rv_source_laws.specs.Program.{Program, program}
 use Rattle.rv_source_laws.specs.Resolves.{Resolves, definitions, shown_symbols, export_address, run_start}
-use Rattle.rv_image.specs.Linked.{Linked}
+use Rattle.rv_image_laws.specs.Linked.{Linked}
 use Rattle.rv_object_types.specs.Object.{Object}
 use Rattle.rv_object_laws.specs.Names as objects
 use Rattle.rv_object_laws.specs.IsLinkOf.{IsLinkOf}

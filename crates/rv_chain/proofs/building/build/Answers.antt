@@ -1,6 +1,6 @@
 use Rattle.std.proofs.Common.{true, map, sym, subst}
 use Rattle.rv_statement.specs.View.{now_of}
-use Rattle.rv_image.specs.Linked.{linked_of}
+use Rattle.rv_image.specs.Views.{linked_of}
 use Rattle.rv_chain_laws.specs.Headline.{TheHeadline}
 use Rattle.rv_chain.proofs.HeadlinedLemmas.{headlined}
 use Rattle.rv_chain.proofs.ReassembledLemmas.{built_again}

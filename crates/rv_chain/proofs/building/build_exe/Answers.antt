@@ -1,7 +1,7 @@
 use Rattle.std.proofs.Common.{false, map, refl}
 use Rattle.rv_statement.specs.View.{now_of}
 use Rattle.rv_map.specs.Text.{map_text}
-use Rattle.rv_image.specs.Linked.{linked_of}
+use Rattle.rv_image.specs.Views.{linked_of}
 use Rattle.rv_chain.proofs.HeadlinedLemmas.{headlined}
 use Rattle.rv_chain.proofs.ReassembledLemmas.{built_again}
 use Rattle.rv_chain.proofs.ShownLemmas.{listed_as}

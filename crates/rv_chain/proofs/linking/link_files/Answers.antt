@@ -1,7 +1,7 @@
 use Rattle.std.proofs.Common.{◌≡◌, length, map, sym, subst}
 use Rattle.std.proofs.lemmas.List.{length-map}
 use Rattle.rv_statement.specs.View.{now_of}
-use Rattle.rv_image.specs.Linked.{linked_of}
+use Rattle.rv_image.specs.Views.{linked_of}
 use Rattle.rv_object_types.specs.View.{object_of}
 use Rattle.rv_object_laws.specs.TextStart.{AreWithin}
 use Rattle.rv_object_laws.specs.Details.{IsProgramWith}

@@ -1,5 +1,5 @@
 use Rattle.std.proofs.Common.{true}
-use Rattle.rv_image.specs.Linked.{linked_of}
+use Rattle.rv_image.specs.Views.{linked_of}
 use Rattle.rv_chain.proofs.WrittenLemmas.{built_of, whole_laid_out, whole_map, whole_written}
 use Rattle.rv_chain.proofs.linking.link_objects.Goals as goal
 

@@ -3,7 +3,7 @@ use Rattle.rv_encode.specs.Word.{Spells}
 use Rattle.rv_compress.specs.Parcel.{StandsFor}
 use Rattle.rv_isa_laws.specs.Reader.{Reader}
 use Rattle.rv_map.specs.Map.{map_of}
-use Rattle.rv_image.specs.Image.{image_of}
+use Rattle.rv_image.specs.Views.{image_of}
 use Rattle.rv_listing_laws.specs.Listing.{IsListing}
 use Rattle.rv_disasm.specs.ListingLeft.{listing_left, rows_left}
 use Rattle.rv_disasm.proofs.listed.listing.Given as goal

@@ -1,5 +1,5 @@
 use Rattle.std.proofs.Common.{◌%◌, eq-eqb, sym, ap, ◌∙◌}
-use Rattle.rv_image.specs.Segment.{segment_of}
+use Rattle.rv_image.specs.SegmentView.{segment_of}
 use Rattle.rv_disasm.proofs.RawLemmas.{second_found}
 use Rattle.rv_disasm.proofs.raw.executable.Goals as goal
 

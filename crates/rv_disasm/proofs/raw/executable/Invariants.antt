@@ -1,7 +1,7 @@
 use Rattle.std.proofs.Common.{◌≡◌, map, take}
 use Rattle.std.specs.Prelude.{filter, option_map}
 use Rattle.std.specs.Option.{option_to_list}
-use Rattle.rv_image.specs.Segment.{segment_of}
+use Rattle.rv_image.specs.SegmentView.{segment_of}
 use Rattle.rv_listing_laws.specs.Raw.{is_executable}
 use Rattle.rv_disasm.proofs.raw.executable.Given as goal
 

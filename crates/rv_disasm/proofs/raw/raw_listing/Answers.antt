@@ -1,5 +1,5 @@
 use Rattle.std.proofs.Common.{◌++◌, ap, ◌∙◌}
-use Rattle.rv_image.specs.Image.{image_of}
+use Rattle.rv_image.specs.Views.{image_of}
 use Rattle.rv_disasm.proofs.RawLemmas.{alone_in, heading, listed, no_after, no_before, shown}
 use Rattle.rv_disasm.proofs.raw.raw_listing.Goals as goal
 

@@ -1,5 +1,5 @@
 use Rattle.std.proofs.Common.{◌≡◌, drop, map}
-use Rattle.rv_image.specs.Segment.{segment_of}
+use Rattle.rv_image.specs.SegmentView.{segment_of}
 use Rattle.rv_listing_laws.specs.Listing as shows
 use Rattle.rv_disasm.proofs.rows.row_bytes.Given as goal
 

@@ -2,9 +2,9 @@ use Rattle.std.proofs.Common.{◌≡◌, ◌∙◌, ◌+◌, ◌*◌, ◌-◌, �
 use Rattle.rv_elf.specs.Fields.{number_in, e_phoff}
 use Rattle.rv_elf.specs.Records.{program_header_at}
 use Rattle.rv_elf.specs.Sections.{is_load}
-use Rattle.rv_image.specs.FirstFault.{programs_from}
-use Rattle.rv_image.specs.ImageOf.{segment_in}
-use Rattle.rv_image.specs.Segment.{segment_of}
+use Rattle.rv_image_laws.specs.FirstFault.{programs_from}
+use Rattle.rv_image_laws.specs.ImageOf.{segment_in}
+use Rattle.rv_image.specs.SegmentView.{segment_of}
 use Rattle.rv_image.proofs.LoadedLemmas.{segments_step}
 use Rattle.rv_image.proofs.loading.segments.Goals as goal
 

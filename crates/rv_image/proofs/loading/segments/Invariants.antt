@@ -1,9 +1,9 @@
 use Rattle.std.proofs.Common.{◌≡◌, ◌+◌, ◌*◌, ◌-◌, ◌++◌, map, filter}
 use Rattle.rv_elf.specs.Fields.{number_in, e_phoff}
 use Rattle.rv_elf.specs.Sections.{is_load}
-use Rattle.rv_image.specs.FirstFault.{programs_from}
-use Rattle.rv_image.specs.ImageOf.{segment_in}
-use Rattle.rv_image.specs.Segment.{segment_of}
+use Rattle.rv_image_laws.specs.FirstFault.{programs_from}
+use Rattle.rv_image_laws.specs.ImageOf.{segment_in}
+use Rattle.rv_image.specs.SegmentView.{segment_of}
 use Rattle.rv_image.proofs.loading.segments.Given as goal
 
 abbrev pub invariant-loop-index : goal.invariant-loop-index

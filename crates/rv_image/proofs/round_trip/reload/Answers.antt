@@ -1,11 +1,10 @@
 use Rattle.std.proofs.Common.{◌≡◌, ◌∙◌, ◌<◌, ◌^◌, Option, Some, None, ap, sym, subst, inl, inr}
 use Rattle.std.proofs.lemmas.Result.{err_from_is_err_and}
 use Rattle.rv_elf.specs.declared.fault.FileFault.{FileFault}
-use Rattle.rv_image.specs.ImageOf.{ImageOf}
-use Rattle.rv_image.specs.FirstFault.{first_fault}
-use Rattle.rv_image.specs.Image.{image_of}
-use Rattle.rv_image.specs.Linked.{linked_of}
-use Rattle.rv_image.specs.Executable.{exe_of, linked_image}
+use Rattle.rv_image_laws.specs.ImageOf.{ImageOf}
+use Rattle.rv_image_laws.specs.FirstFault.{first_fault}
+use Rattle.rv_image.specs.Views.{image_of, linked_of}
+use Rattle.rv_image_laws.specs.Executable.{exe_of, linked_image}
 use Rattle.rv_image.proofs.LoadedAgainLemmas.{laid_out, reload_fault, reload_image, one_image}
 use Rattle.rv_image.proofs.round_trip.reload.Goals as goal
 

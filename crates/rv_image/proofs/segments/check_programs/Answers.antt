@@ -3,7 +3,7 @@ use Rattle.std.proofs.lemmas.Result.{err_from_is_err_and}
 use Rattle.rv_elf.specs.Fields.{number_in, e_phoff}
 use Rattle.rv_elf.specs.FirstFault.{first_true}
 use Rattle.rv_elf.specs.Sections.{program_count}
-use Rattle.rv_image.specs.FirstFault.{program_tests, programs_tests, ends_by, programs_from}
+use Rattle.rv_image_laws.specs.FirstFault.{program_tests, programs_tests, ends_by, programs_from}
 use Rattle.rv_image.proofs.ProgramsLemmas.{tests_step, tests_stop, all_step, all_end_later}
 use Rattle.rv_image.proofs.segments.check_programs.Goals as goal
 

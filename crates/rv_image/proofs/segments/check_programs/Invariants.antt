@@ -2,7 +2,7 @@ use Rattle.std.proofs.Common.{◌≡◌, ◌≤◌, ◌+◌, ◌*◌, ◌-◌, �
 use Rattle.std.specs.List.{list_all}
 use Rattle.rv_elf.specs.Fields.{number_in, e_phoff}
 use Rattle.rv_elf.specs.FirstFault.{first_true}
-use Rattle.rv_image.specs.FirstFault.{programs_tests, ends_by, programs_from}
+use Rattle.rv_image_laws.specs.FirstFault.{programs_tests, ends_by, programs_from}
 use Rattle.rv_image.proofs.segments.check_programs.Given as goal
 
 abbrev pub invariant-loop-index : goal.invariant-loop-index

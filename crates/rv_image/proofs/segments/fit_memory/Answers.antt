@@ -3,7 +3,7 @@ use Rattle.std.proofs.lemmas.Bool.{lt-ltb}
 use Rattle.rv_elf.specs.Fields.{number_in, e_phoff}
 use Rattle.rv_elf.specs.Records.{program_header_at}
 use Rattle.rv_elf.specs.Sections.{program_count}
-use Rattle.rv_image.specs.FirstFault.{loaded_size, programs_from}
+use Rattle.rv_image_laws.specs.FirstFault.{loaded_size, programs_from}
 use Rattle.rv_image.proofs.LoadedLemmas.{loaded_step}
 use Rattle.rv_image.proofs.segments.fit_memory.Goals as goal
 

@@ -1,6 +1,6 @@
 use Rattle.std.proofs.Common.{◌≡◌, ◌≤◌, ◌+◌, ◌*◌, ◌-◌, ◌^◌}
 use Rattle.rv_elf.specs.Fields.{number_in, e_phoff}
-use Rattle.rv_image.specs.FirstFault.{loaded_size, programs_from}
+use Rattle.rv_image_laws.specs.FirstFault.{loaded_size, programs_from}
 use Rattle.rv_image.proofs.segments.fit_memory.Given as goal
 
 abbrev pub invariant-loop-index : goal.invariant-loop-index

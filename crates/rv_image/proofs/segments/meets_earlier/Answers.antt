@@ -1,6 +1,6 @@
 use Rattle.std.proofs.Common.{◌≡◌, ◌∙◌, sym, subst, false}
 use Rattle.rv_elf.specs.Fields.{number_in, e_phoff}
-use Rattle.rv_image.specs.FirstFault.{do_overlap}
+use Rattle.rv_image_laws.specs.FirstFault.{do_overlap}
 use Rattle.rv_image.proofs.ProgramsLemmas.{any_step}
 use Rattle.rv_image.proofs.segments.meets_earlier.Goals as goal
 

@@ -1,4 +1,4 @@
-use Rattle.rv_image.specs.Linked.{linked_of}
+use Rattle.rv_image.specs.Views.{linked_of}
 use Rattle.rv_image.proofs.LoadedAgainLemmas.{short}
 use Rattle.rv_image.proofs.writing.write_exec.Goals as goal
 

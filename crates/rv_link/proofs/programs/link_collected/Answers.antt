@@ -1,7 +1,7 @@
 use Rattle.std.proofs.Common.{◌≡◌, ◌∙◌, length, true, map, sym, ap, subst}
 use Rattle.std.proofs.lemmas.List.{length-map}
 use Rattle.std.proofs.lemmas.Result.{err_from_is_err_and, IfOk-weaker, IfErr-weaker}
-use Rattle.rv_image.specs.Linked.{linked_of}
+use Rattle.rv_image.specs.Views.{linked_of}
 use Rattle.rv_object_types.specs.View.{object_of}
 use Rattle.rv_object_laws.specs.Without.{without}
 use Rattle.rv_collect.specs.Marks.{drops_of}

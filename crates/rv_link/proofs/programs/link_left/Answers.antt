@@ -2,7 +2,7 @@ use Rattle.std.proofs.Common.{◌≡◌, length, map, sym, subst, ◌∙◌}
 use Rattle.std.proofs.lemmas.List.{length-map}
 use Rattle.std.proofs.lemmas.Result.{err_from_is_err_and, IfOk-weaker, IfErr-weaker}
 use Rattle.rv_object_types.specs.View.{object_of}
-use Rattle.rv_image.specs.Linked.{linked_of}
+use Rattle.rv_image.specs.Views.{linked_of}
 use Rattle.rv_relax.specs.Plan.{planned_objects}
 use Rattle.rv_resolve.proofs.AlikeLemmas.{still_names}
 use Rattle.rv_link.specs.Left.{HasNoLink, IsLinkOfLeft, IsLinkWith}

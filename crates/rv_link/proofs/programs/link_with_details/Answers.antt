@@ -1,7 +1,7 @@
 use Rattle.std.proofs.Common.{Bool, map, sym, subst}
 use Rattle.std.proofs.lemmas.Result.{err_from_is_err_and, IfOk-weaker, IfErr-weaker}
 use Rattle.std.specs.Prelude.{IfOk, IfErr}
-use Rattle.rv_image.specs.Linked.{linked_of}
+use Rattle.rv_image.specs.Views.{linked_of}
 use Rattle.rv_object_types.specs.View.{object_of}
 use Rattle.rv_link.specs.Left.{HasNoLink, IsLinkOfLeft}
 use Rattle.rv_object_laws.specs.Details.{IsProgramWith}

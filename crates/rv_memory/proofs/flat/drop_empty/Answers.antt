@@ -1,7 +1,7 @@
 use Rattle.std.proofs.Common.{◌<◌, rules, map, length}
 use Rattle.std.proofs.lemmas.Fn.{filter_same, All-from_retain}
 use Rattle.std.proofs.lemmas.Bool.Decides.{nat_tests}
-use Rattle.rv_image.specs.Segment.{segment_of}
+use Rattle.rv_image.specs.SegmentView.{segment_of}
 use Rattle.rv_image.specs.declared.segment.Segment.{Segment as DeclaredSegment}
 use Rattle.rv_memory.proofs.OrderLemmas.{has_bytes, filled-kept, filter-segments}
 use Rattle.rv_memory.proofs.flat.drop_empty.Goals as goal

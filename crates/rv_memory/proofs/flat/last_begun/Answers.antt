@@ -1,7 +1,7 @@
 use Rattle.std.proofs.Common.{Ok, Err, ◌-◌, map, length, rules, arith}
 use Rattle.std.proofs.lemmas.List.{length-map}
 use Rattle.std.proofs.lemmas.List.Sorted.{answers_always}
-use Rattle.rv_image.specs.Segment.{segment_of}
+use Rattle.rv_image.specs.SegmentView.{segment_of}
 use Rattle.rv_image.specs.declared.segment.Segment.{Segment as DeclaredSegment}
 use Rattle.rv_memory.proofs.OrderLemmas.{begun, begun-before}
 use Rattle.rv_memory.proofs.flat.last_begun.Goals as goal

@@ -2,7 +2,8 @@ use Rattle.std.proofs.Common.{◌≡◌, ◌≤◌, ◌<◌, ◌∙◌, ℕ, Lis
 use Rattle.std.specs.List.Sorted.{IsNonDecreasingBy}
 use Rattle.std.proofs.lemmas.List.{length-map, get_or-map}
 use Rattle.std.proofs.lemmas.List.Sorted.{All-permutation, IsPermutation-map, IsNonDecreasingBy-from_sort, answers_always}
-use Rattle.rv_image.specs.Segment.{Segment, segment_of}
+use Rattle.rv_image_laws.specs.Segment.{Segment}
+use Rattle.rv_image.specs.SegmentView.{segment_of}
 use Rattle.rv_image.specs.declared.segment.Segment.{Segment as DeclaredSegment}
 use Rattle.rv_memory.specs.Flat.{no_segment}
 use Rattle.rv_memory.proofs.OrderLemmas.{permuted-kept, ordered-is}

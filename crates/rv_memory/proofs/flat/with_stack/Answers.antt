@@ -1,7 +1,8 @@
 use Rattle.std.proofs.Common.{◌≡◌, map, true, refl, rules, arith}
 use Rattle.std.proofs.lemmas.List.{map-append}
-use Rattle.rv_image.specs.Segment.{Segment, segment_of, are_apart}
-use Rattle.rv_image.specs.Image.{image_of}
+use Rattle.rv_image_laws.specs.Segment.{Segment, are_apart}
+use Rattle.rv_image.specs.SegmentView.{segment_of}
+use Rattle.rv_image.specs.Views.{image_of}
 use Rattle.rv_memory.proofs.NewLemmas.{IsStack, disjoint-with-stack, memory-with-stack, free-below, has-top}
 use Rattle.rv_memory.proofs.flat.with_stack.Goals as goal
 

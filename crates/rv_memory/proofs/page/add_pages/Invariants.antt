@@ -1,5 +1,5 @@
 use Rattle.std.proofs.Common.{◌+◌, map, take}
-use Rattle.rv_image.specs.Segment.{segment_of}
+use Rattle.rv_image.specs.SegmentView.{segment_of}
 use Rattle.rv_memory.proofs.PageLemmas.{AreMore}
 use Rattle.rv_memory.proofs.page.add_pages.Given as goal
 

@@ -1,6 +1,7 @@
 use Rattle.std.proofs.Common.{◌≡◌, ◌<◌, List, map, length, sym, subst, arith}
 use Rattle.std.proofs.lemmas.List.{length-map}
-use Rattle.rv_image.specs.Segment.{Segment, segment_of}
+use Rattle.rv_image_laws.specs.Segment.{Segment}
+use Rattle.rv_image.specs.SegmentView.{segment_of}
 use Rattle.rv_memory.specs.Flat.{AreDisjoint}
 use Rattle.rv_memory.proofs.UnmadeLemmas.{IsGap, deep-apart, deeper-is, segments-deep}
 use Rattle.rv_memory.proofs.flat.Flat.deepen.Goals as goal

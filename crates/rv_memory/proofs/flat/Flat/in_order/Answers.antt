@@ -1,6 +1,6 @@
 use Rattle.std.proofs.Common.{ap, sym, subst, ◌∙◌, Option, MatchOption}
 use Rattle.rv_isa_laws.specs.Memory.{Mem}
-use Rattle.rv_image.specs.Segment.{Segment}
+use Rattle.rv_image_laws.specs.Segment.{Segment}
 use Rattle.rv_memory.specs.Unmade.{with_unmade, IsTop}
 use Rattle.rv_memory.proofs.flat.Flat.in_order.Goals as goal
 

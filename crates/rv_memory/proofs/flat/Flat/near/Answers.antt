@@ -1,7 +1,7 @@
 use Rattle.std.proofs.Common.{◌≡◌, ◌<◌, ◌+◌, ◌-◌, ◌%◌, ◌^◌, ◌∙◌, sym, ap, refl, ℕ, List, get_or, take, drop, length, map, arith}
 use Rattle.std.proofs.lemmas.List.{length-map}
 use Rattle.rv_isa_laws.specs.Memory.{Mem}
-use Rattle.rv_image.specs.Segment.{segment_of}
+use Rattle.rv_image.specs.SegmentView.{segment_of}
 use Rattle.rv_memory.specs.Flat.{memory_of}
 use Rattle.rv_memory.specs.Rights.{right_of}
 use Rattle.rv_memory.proofs.FlatLemmas.{element, element-or, may-within, bytes-within}

@@ -1,6 +1,6 @@
 use Rattle.std.proofs.Common.{◌≡◌, ◌<◌, ◌+◌, ◌-◌, ◌%◌, ◌^◌, ℕ, zero, suc, true, List, [], ◌∷◌, get_or, take, map, arith}
-use Rattle.rv_image.specs.Segment.{segment_of}
-use Rattle.rv_image.specs.Memory.{gives_right}
+use Rattle.rv_image.specs.SegmentView.{segment_of}
+use Rattle.rv_image_laws.specs.Memory.{gives_right}
 use Rattle.rv_memory.specs.Rights.{right_of}
 use Rattle.rv_memory.proofs.FlatLemmas.{element, may-within, bytes-within}
 use Rattle.rv_memory.proofs.flat.Flat.part.Goals as goal

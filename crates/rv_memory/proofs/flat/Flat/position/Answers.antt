@@ -1,7 +1,7 @@
 use Rattle.std.proofs.Common.{◌≡◌, ℕ, suc, ◌<◌, true, List, ◌∷◌, Some, map, length, get_or, drop, drop-cons, slice_get, arith}
-use Rattle.rv_image.specs.Segment.{segment_of}
+use Rattle.rv_image.specs.SegmentView.{segment_of}
 use Rattle.rv_image.specs.declared.segment.Segment.{Segment as DeclaredSegment}
-use Rattle.rv_image.specs.Memory.{segment_at, lies_in}
+use Rattle.rv_image_laws.specs.Memory.{segment_at, lies_in}
 use Rattle.rv_memory.proofs.FlatLemmas.{element}
 use Rattle.rv_memory.proofs.flat.Flat.position.Goals as goal
 

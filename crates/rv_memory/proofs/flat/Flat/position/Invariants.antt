@@ -1,6 +1,6 @@
 use Rattle.std.proofs.Common.{◌≡◌, map, drop}
-use Rattle.rv_image.specs.Segment.{segment_of}
-use Rattle.rv_image.specs.Memory.{segment_at}
+use Rattle.rv_image.specs.SegmentView.{segment_of}
+use Rattle.rv_image_laws.specs.Memory.{segment_at}
 use Rattle.rv_memory.proofs.flat.Flat.position.Given as goal
 
 -- the segments before do not hold the address

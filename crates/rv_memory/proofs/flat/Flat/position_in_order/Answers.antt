@@ -1,8 +1,8 @@
 use Rattle.std.proofs.Common.{◌≡◌, ◌<◌, ◌∙◌, ℕ, true, false, List, map, length, get_or, sym, subst, arith}
 use Rattle.std.proofs.lemmas.List.{length-map}
-use Rattle.rv_image.specs.Segment.{segment_of}
+use Rattle.rv_image.specs.SegmentView.{segment_of}
 use Rattle.rv_image.specs.declared.segment.Segment.{Segment as DeclaredSegment}
-use Rattle.rv_image.specs.Memory.{lies_in}
+use Rattle.rv_image_laws.specs.Memory.{lies_in}
 use Rattle.rv_memory.specs.Flat.{no_segment}
 use Rattle.rv_memory.specs.Pages.{IsLastBegun}
 use Rattle.rv_memory.proofs.FlatLemmas.{element, element-or, held-segment}

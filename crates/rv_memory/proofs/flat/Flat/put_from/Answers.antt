@@ -1,5 +1,5 @@
 use Rattle.std.proofs.Common.{◌-◌, map, arith}
-use Rattle.rv_image.specs.Segment.{segment_of}
+use Rattle.rv_image.specs.SegmentView.{segment_of}
 use Rattle.rv_memory.proofs.FlatLemmas.{placed, element-or, with-part-is}
 use Rattle.rv_memory.proofs.flat.Flat.put_from.Goals as goal
 

@@ -1,7 +1,7 @@
 use Rattle.std.proofs.Common.{◌≡◌, ◌+◌, ◌-◌, ◌%◌, ◌^◌, true, length, map, arith}
 use Rattle.rv_isa_laws.specs.Memory.{Write}
-use Rattle.rv_image.specs.Segment.{segment_of}
-use Rattle.rv_image.specs.Memory.{gives_right}
+use Rattle.rv_image.specs.SegmentView.{segment_of}
+use Rattle.rv_image_laws.specs.Memory.{gives_right}
 use Rattle.rv_memory.proofs.FlatLemmas.{element, element-or, may-within, with-part-is}
 use Rattle.rv_memory.proofs.flat.Flat.put_part.Goals as goal
 

@@ -1,5 +1,5 @@
 use Rattle.std.proofs.Common.{length, ap, arith}
-use Rattle.rv_image.specs.Segment.{segment_of}
+use Rattle.rv_image.specs.SegmentView.{segment_of}
 use Rattle.rv_memory.proofs.FlatLemmas.{placed, bytes-rest}
 use Rattle.rv_memory.proofs.flat.Flat.rest_from.Goals as goal
 

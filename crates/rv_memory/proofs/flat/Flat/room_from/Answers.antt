@@ -1,6 +1,6 @@
 use Rattle.std.proofs.Common.{◌≡◌, true, arith}
-use Rattle.rv_image.specs.Segment.{segment_of}
-use Rattle.rv_image.specs.Memory.{gives_right}
+use Rattle.rv_image.specs.SegmentView.{segment_of}
+use Rattle.rv_image_laws.specs.Memory.{gives_right}
 use Rattle.rv_memory.proofs.FlatLemmas.{placed, may-within}
 use Rattle.rv_memory.proofs.flat.Flat.room_from.Goals as goal
 

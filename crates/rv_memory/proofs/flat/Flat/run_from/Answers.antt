@@ -1,6 +1,6 @@
 use Rattle.std.proofs.Common.{◌≡◌, true, false, arith}
 use Rattle.rv_memory.specs.Rights.{right_of}
-use Rattle.rv_image.specs.Memory.{gives_right}
+use Rattle.rv_image_laws.specs.Memory.{gives_right}
 use Rattle.rv_memory.proofs.FlatLemmas.{placed}
 use Rattle.rv_memory.proofs.flat.Flat.run_from.Goals as goal
 

@@ -1,7 +1,8 @@
 use Rattle.std.proofs.Common.{◌≡◌, ◌≤◌, ◌+◌, ◌++◌, ◌∙◌, ap, sym, subst, map, length, take, drop, List, ℕ, arith}
 use Rattle.std.proofs.Math.Seq.{take-append_seam}
 use Rattle.std.specs.Vec.{vec_len}
-use Rattle.rv_image.specs.Segment.{Segment, segment_of}
+use Rattle.rv_image_laws.specs.Segment.{Segment}
+use Rattle.rv_image.specs.SegmentView.{segment_of}
 use Rattle.rv_memory.specs.Flat.{with_part}
 use Rattle.rv_memory.proofs.FlatLemmas.{disjoint-written, segments-written, element-or, length-with_part}
 use Rattle.rv_memory.specs.Stretches.{AreAlike}

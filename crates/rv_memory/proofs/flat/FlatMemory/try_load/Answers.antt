@@ -1,6 +1,6 @@
 use Rattle.std.proofs.Common.{◌≡◌, ◌+◌, ◌%◌, ◌^◌, sym, ◌∙◌, ap, get_or, map, arith, List, ℕ}
 use Rattle.rv_isa_laws.specs.Memory.{Mem}
-use Rattle.rv_image.specs.Segment.{segment_of}
+use Rattle.rv_image.specs.SegmentView.{segment_of}
 use Rattle.rv_memory.specs.Flat.{memory_of}
 use Rattle.rv_memory.proofs.MemoryLemmas.{byte-of-bytes}
 use Rattle.rv_memory.proofs.flat.FlatMemory.try_load.Goals as goal

@@ -1,7 +1,8 @@
 use Rattle.std.proofs.Common.{ℕ, ◌∙◌, ap, sym, subst, List, map, arith}
 use Rattle.rv_isa_laws.specs.Memory.{Read, Write}
 use Rattle.rv_isa_laws.specs.Platform.{stack_start}
-use Rattle.rv_image.specs.Segment.{Segment, segment_of}
+use Rattle.rv_image_laws.specs.Segment.{Segment}
+use Rattle.rv_image.specs.SegmentView.{segment_of}
 use Rattle.rv_memory.specs.Held.{pieces}
 use Rattle.rv_memory.specs.Flat.{memory_of}
 use Rattle.rv_memory.specs.Pages.{AreOrdered, AreListed}

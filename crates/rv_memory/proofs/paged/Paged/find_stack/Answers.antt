@@ -1,7 +1,8 @@
 use Rattle.std.proofs.Common.{◌≡◌, ◌<◌, ◌∙◌, Option, Some, true, map, length, ap, sym, arith}
 use Rattle.std.proofs.lemmas.List.{length-map}
-use Rattle.rv_image.specs.Segment.{Segment, segment_of}
-use Rattle.rv_image.specs.Memory.{lies_in, right_in}
+use Rattle.rv_image_laws.specs.Segment.{Segment}
+use Rattle.rv_image.specs.SegmentView.{segment_of}
+use Rattle.rv_image_laws.specs.Memory.{lies_in, right_in}
 use Rattle.rv_memory.proofs.FlatLemmas.{element, held-segment}
 use Rattle.rv_memory.proofs.PageLemmas.{gives-low}
 use Rattle.rv_memory.proofs.paged.Paged.find_stack.Goals as goal

@@ -1,6 +1,6 @@
 use Rattle.std.proofs.Common.{ℕ, sym, subst, List, map, arith}
 use Rattle.rv_isa_laws.specs.Memory.{Read, Write}
-use Rattle.rv_image.specs.Segment.{segment_of}
+use Rattle.rv_image.specs.SegmentView.{segment_of}
 use Rattle.rv_image.specs.declared.segment.Segment.{Segment}
 use Rattle.rv_memory.specs.Held.{pieces}
 use Rattle.rv_memory.specs.Pages.{ArePages}

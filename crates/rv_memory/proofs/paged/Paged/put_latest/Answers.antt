@@ -1,5 +1,5 @@
 use Rattle.std.proofs.Common.{map}
-use Rattle.rv_image.specs.Segment.{segment_of}
+use Rattle.rv_image.specs.SegmentView.{segment_of}
 use Rattle.rv_memory.proofs.UnmadeLemmas.{put-lifts}
 use Rattle.rv_memory.proofs.KnownLemmas.{known-still, unmade-still}
 use Rattle.rv_memory.proofs.paged.Paged.put_latest.Goals as goal

@@ -1,6 +1,6 @@
 use Rattle.std.proofs.Common.{◌-◌, map, arith}
 use Rattle.rv_isa_laws.specs.Memory.{Read, Write}
-use Rattle.rv_image.specs.Segment.{segment_of}
+use Rattle.rv_image.specs.SegmentView.{segment_of}
 use Rattle.rv_memory.specs.Flat.{memory_of}
 use Rattle.rv_memory.proofs.UnmadeLemmas.{run-unmade, unmade-range}
 use Rattle.rv_memory.proofs.paged.Paged.run_unmade.Goals as goal

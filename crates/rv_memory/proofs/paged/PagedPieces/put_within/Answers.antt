@@ -1,6 +1,6 @@
 use Rattle.std.proofs.Common.{◌≡◌, ◌%◌, ◌^◌, ◌∙◌, ℕ, true, false, map, ap, sym, subst, MatchBool, arith}
 use Rattle.rv_isa_laws.specs.Memory.{Mem, Write, may, with_bytes}
-use Rattle.rv_image.specs.Segment.{segment_of}
+use Rattle.rv_image.specs.SegmentView.{segment_of}
 use Rattle.rv_memory.specs.Flat.{memory_of}
 use Rattle.rv_memory.specs.Unmade.{with_unmade}
 use Rattle.rv_memory.specs.HeldPages.{held_pages}

@@ -1,6 +1,6 @@
 use Rattle.std.proofs.Common.{◌≡◌, ◌∙◌, true, map, sym}
-use Rattle.rv_image.specs.Segment.{segment_of}
-use Rattle.rv_image.specs.Memory.{gives_right}
+use Rattle.rv_image.specs.SegmentView.{segment_of}
+use Rattle.rv_image_laws.specs.Memory.{gives_right}
 use Rattle.rv_memory.specs.Flat.{memory_of}
 use Rattle.rv_memory.specs.Rights.{right_of}
 use Rattle.rv_memory.proofs.UnmadeLemmas.{may-unmade}

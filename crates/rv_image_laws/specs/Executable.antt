@@ -6,10 +6,9 @@ use Rattle.rv_elf.specs.declared.program_header.ProgramHeader.{ProgramHeader}
 use Rattle.rv_elf.specs.Fields.{file_header_size, program_header_size}
 use Rattle.rv_elf.specs.Numbers.{et_exec, em_riscv, ev_current, ef_riscv_rvc, pt_load, pf_x, pf_w, pf_r}
 use Rattle.rv_elf.specs.Records.{file_header_bytes, program_header_bytes}
-use Rattle.rv_image.specs.declared.writing.Part.{Part as DeclaredPart}
-use Rattle.rv_image.specs.Segment.{Segment}
-use Rattle.rv_image.specs.Image.{Image}
-use Rattle.rv_image.specs.Linked.{Linked}
+use Rattle.rv_image_laws.specs.Segment.{Segment}
+use Rattle.rv_image_laws.specs.Image.{Image}
+use Rattle.rv_image_laws.specs.Linked.{Linked}
 
 -- what the file has of a segment, and the zeros that follow it in memory
 pub record Part : Type 0 where
@@ -17,15 +16,6 @@ pub record Part : Type 0 where
   pub stored : List ℕ
   pub zeros : ℕ
   pub flags : ℕ
-
-abbrev pub segment_part : DeclaredPart → Part
-segment_part part =
-    record {
-      address = part.address;
-      stored = part.stored.now;
-      zeros = part.zeros;
-      flags = part.flags;
-    }
 
 abbrev pub memory_size_of : Part → ℕ
 memory_size_of part = length part.stored + part.zeros

@@ -10,7 +10,7 @@ use Rattle.rv_elf.specs.FirstFault.{first_true, header_tests, type_tests, table_
 use Rattle.rv_elf.specs.Numbers.{pt_load, pt_dynamic, pt_interp, pt_tls}
 use Rattle.rv_elf.specs.Records.{program_header_at}
 use Rattle.rv_elf.specs.Sections.{is_past, is_load, records, program_headers}
-use Rattle.rv_image.specs.Segment.{do_meet}
+use Rattle.rv_image_laws.specs.Segment.{do_meet}
 use Rattle.rv_isa_laws.specs.Platform.{stack_start, stack_end, memory_limit}
 
 -- PT_DYNAMIC, PT_INTERP, PT_TLS

@@ -4,8 +4,8 @@
 use Rattle.std.specs.Prelude.{ℕ, ◌+◌, ◌-◌, ◌%◌, ◌/◌, Bool, false, ◌&&◌, ◌||◌, ◌==◌, nat_le, nat_lt, List, length, slice_index, Option, Some, None}
 use Rattle.std.specs.List.{find}
 use Rattle.rv_isa_laws.specs.Memory.{Mem, Right, Read, Write, Execute}
-use Rattle.rv_image.specs.Image.{Image}
-use Rattle.rv_image.specs.Segment.{Segment}
+use Rattle.rv_image_laws.specs.Image.{Image}
+use Rattle.rv_image_laws.specs.Segment.{Segment}
 use Rattle.rv_isa_laws.specs.Platform.{stack_start, stack_end}
 
 -- the segment of an address

@@ -2,8 +2,7 @@
 
 use Rattle.std.specs.Prelude.{◌≡◌, ℕ, ◌+◌, ◌-◌, ◌%◌, ◌^◌, ◌≤◌, ◌<◌, Bool, List, length}
 use Rattle.rv_isa_laws.specs.Platform.{stack_start, memory_limit}
-use Rattle.rv_map.specs.Map.{Map, map_of}
-use Rattle.rv_image.specs.declared.linked.Linked.{Linked as DeclaredLinked}
+use Rattle.rv_map.specs.Map.{Map}
 
 -- the stored bytes of the regions, the map with their bounds, and whether there is compressed code
 pub record Linked : Type 0 where
@@ -12,16 +11,6 @@ pub record Linked : Type 0 where
   pub «data» : List ℕ
   pub map : Map
   pub rvc : Bool
-
-abbrev pub linked_of : DeclaredLinked → Linked
-linked_of l =
-    record {
-      text = l.text.items;
-      rodata = l.rodata.items;
-      «data» = l.data.items;
-      map = map_of l.map;
-      rvc = l.rvc;
-    }
 
 -- how the linker lays a program out: each region has its bytes, one after the other, bss after the
 -- data, all below the stack, 256 MiB at most; the entry is even

@@ -3,16 +3,12 @@
 use Rattle.rv_isa_laws.specs.Platform.{stack_start, stack_end}
 use Rattle.std.specs.Prelude.{ℕ, ◌+◌, ◌-◌, min, max, nat_lt, Bool, true, not, ◌&&◌, List, [], ◌∷◌, length, sum_by}
 use Rattle.std.specs.List.{list_all}
-use Rattle.rv_image.specs.declared.segment.Segment.{Segment as DeclaredSegment}
 
 -- bytes that stand in memory from an address on, with rights: 1 to execute, 2 to write, 4 to read
 pub record Segment : Type 0 where
   pub address : ℕ
   pub bytes : List ℕ
   pub flags : ℕ
-
-abbrev pub segment_of : DeclaredSegment → Segment
-segment_of s = record { address = s.address; bytes = s.bytes.items; flags = s.flags }
 
 -- whether an address is both among the size from start on and among those from start' on
 abbrev pub do_meet : ℕ → ℕ → ℕ → ℕ → Bool
