@@ -12,7 +12,7 @@ use Rattle.rv_unit_laws.specs.Contributions.{AlignmentForm, As_power, As_bytes, 
 use Rattle.rv_unit_laws.specs.Tables.{Tables, Assignment, at_start, here, value_by_tables, is_power, greatest_alignment, alignment_as, or_none, contributed, changed_at, is_defined, may_set, with_assignment, with_section, with_data, with_contribution, with_choice, with_chosen, assigned_by, choice_in, after, after_directive, after_all, tables, alignments_of}
 use Rattle.rv_unit_laws.proofs.EnteringLemmas.{entering}
 use Rattle.rv_unit_laws.proofs.GrownLemmas.{IsPower, alignment_new, data_alignments, grown_all}
-use Rattle.rv_object_types.specs.Valid.{is_section_alignment}
+use Rattle.rv_object_laws.specs.Valid.{is_section_alignment}
 
 -- ---- no alignment is greater
 

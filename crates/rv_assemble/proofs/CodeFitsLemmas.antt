@@ -27,7 +27,7 @@ use Rattle.rv_unit_laws.specs.Sections.{Section}
 use Rattle.rv_unit_laws.specs.Tables.{Tables, Definition, definition}
 use Rattle.rv_source_laws.specs.Located.{Located}
 use Rattle.rv_source_laws.specs.Lines.{operand_of}
-use Rattle.rv_object_types.specs.Valid.{is_align}
+use Rattle.rv_object_laws.specs.Valid.{is_align}
 use Rattle.rv_assemble_laws.specs.CodeFields.{symbol_field, low_field, low_field_at, label_field, field_of, relax_fields, part_fields}
 use Rattle.rv_assemble_laws.specs.Coded.{constants, IsCodedPart, AreCodedParts}
 use Rattle.rv_assemble_laws.specs.Templates.{Template, Datum, Open, absolute_kind, add_kind, subtract_kind, value_bytes, value_fields, template_fields, IsWide, IsWidth, HasField, IsTemplate, align_field, padding_templates, contribution_templates}

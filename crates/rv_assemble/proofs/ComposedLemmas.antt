@@ -17,9 +17,9 @@ use Rattle.rv_unit_tables.specs.declared.section.Extent.{Extent}
 use Rattle.rv_unit_tables.specs.Sections.{extent_section}
 use Rattle.rv_source_laws.specs.Located.{Located, located_now, located_from, has_row}
 use Rattle.rv_object_types.specs.declared.relocation.Relocation.{Relocation as DeclaredRelocation}
-use Rattle.rv_object_types.specs.declared.row.Row.{Row}
-use Rattle.rv_object_types.specs.Object.{Contents, Relocation, Section, Symbol, size_of}
-use Rattle.rv_object_types.specs.Valid.{are_paddings, is_below, is_even, is_loaded_alone, fit_inside, are_indexed, are_defined, is_row_in, are_rows, is_section_alignment}
+use Rattle.rv_object_laws.specs.declared.row.Row.{Row}
+use Rattle.rv_object_laws.specs.Object.{Contents, Relocation, Section, Symbol, size_of}
+use Rattle.rv_object_laws.specs.Valid.{are_paddings, is_below, is_even, is_loaded_alone, fit_inside, are_indexed, are_defined, is_row_in, are_rows, is_section_alignment}
 use Rattle.rv_assemble_laws.specs.Refusals.{statements_fault}
 use Rattle.rv_assemble_laws.proofs.FaultlessLemmas.{no_first_fault}
 use Rattle.rv_assemble_laws.specs.LaidStatements.{LaidStatement, expression_value, HasSize, part_bytes, parts, laid_in, end_of}

@@ -10,7 +10,7 @@ use Rattle.std.specs.Prelude.{◌==◌, if◌then◌else◌, filter, flat_map, o
 use Rattle.std.specs.List.{AllByRecursion}
 use Rattle.rv_unit_laws.specs.Sections.{Section}
 use Rattle.rv_unit_laws.specs.Tables.{Tables}
-use Rattle.rv_object_types.specs.Object.{Relocation, Symbol}
+use Rattle.rv_object_laws.specs.Object.{Relocation, Symbol}
 use Rattle.rv_assemble_laws.specs.Templates.{Open, template_fields}
 use Rattle.rv_assemble_laws.specs.LaidStatements.{LaidStatement, LaidPart, parts_of, parts, part_bytes, laid_in, Tile}
 use Rattle.rv_assemble_laws.specs.Symbols.{SymbolUse, use_of, references_in, references_of, references}

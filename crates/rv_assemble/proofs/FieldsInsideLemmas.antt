@@ -12,8 +12,8 @@ use Rattle.rv_statement.specs.Statement.{StatementKind, Label, Numbered, Instruc
 use Rattle.rv_unit_laws.specs.Contributions.{Contribution, Nothing, Bytes, Zero_bytes, Alignment, contribution}
 use Rattle.rv_unit_laws.specs.Sections.{Section, is_nobits}
 use Rattle.rv_unit_laws.specs.Tables.{Tables}
-use Rattle.rv_object_types.specs.Object.{Contents, Relocation, size_of}
-use Rattle.rv_object_types.specs.Valid.{is_align, is_padding, is_padding_of, padding_of, held, are_apart, are_all_apart, are_paddings}
+use Rattle.rv_object_laws.specs.Object.{Contents, Relocation, size_of}
+use Rattle.rv_object_laws.specs.Valid.{is_align, is_padding, is_padding_of, padding_of, held, are_apart, are_all_apart, are_paddings}
 use Rattle.rv_assemble_laws.specs.Templates.{Open, template_fields, padding_templates, contribution_templates}
 use Rattle.rv_assemble_laws.specs.LaidStatements.{LaidStatement, LaidPart, expression_value, templates, laid_part, part_bytes, parts_of, parts, Tile}
 use Rattle.rv_assemble_laws.specs.IsObjectOf.{Numbering, relocation_at, relocations_from}

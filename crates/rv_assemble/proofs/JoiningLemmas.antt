@@ -13,10 +13,10 @@ use Rattle.rv_unit_tables.proofs.LookupsLemmas.{sections_are, alignments_are}
 use Rattle.rv_unit.specs.declared.unit.Unit.{Unit as SourceUnit}
 use Rattle.rv_unit.specs.Unit.{said, IsFilled}
 use Rattle.rv_object_types.specs.declared.relocation.Relocation.{Relocation as DeclaredRelocation}
-use Rattle.rv_object_types.specs.declared.row.Row.{Row}
-use Rattle.rv_object_types.specs.Object.{Section}
+use Rattle.rv_object_laws.specs.declared.row.Row.{Row}
+use Rattle.rv_object_laws.specs.Object.{Section}
 use Rattle.rv_object_types.specs.Parts.{symbol_of}
-use Rattle.rv_object_types.specs.Valid.{are_indexed, are_defined, are_rows}
+use Rattle.rv_object_laws.specs.Valid.{are_indexed, are_defined, are_rows}
 use Rattle.rv_assemble_laws.specs.Refusals.{statements_fault}
 use Rattle.rv_assemble_laws.proofs.FaultlessLemmas.{no_first_fault}
 use Rattle.rv_assemble_laws.specs.Symbols.{use_of as field_use, references, symbols_of}

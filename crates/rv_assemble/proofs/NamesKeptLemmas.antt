@@ -12,8 +12,8 @@ use Rattle.rv_unit_laws.specs.Sections.{Section, Opened, entered_by}
 use Rattle.rv_unit_laws.specs.Tables.{Tables, at_start, with_section, after, after_all, tables, opened_of}
 use Rattle.rv_unit_laws.proofs.EnteringLemmas.{sections_more, entering}
 use Rattle.rv_unit_laws.proofs.OpenedLemmas.{entered_in, after_opened}
-use Rattle.rv_object_types.specs.Object.{Contents, Progbits, Note, Nobits}
-use Rattle.rv_object_types.specs.Valid.{is_kept_name, keeps_name}
+use Rattle.rv_object_laws.specs.Object.{Contents, Progbits, Note, Nobits}
+use Rattle.rv_object_laws.specs.Valid.{is_kept_name, keeps_name}
 use Rattle.rv_assemble.specs.KeptNames.{opens_kept, OpenOthers}
 
 abbrev all_kept : List Section → Bool

@@ -15,7 +15,7 @@ use Rattle.rv_statement.specs.Statement.{Operand, Value, Word, Quoted, Directive
 use Rattle.rv_parse_laws.specs.Words.{named_in, choices}
 use Rattle.rv_parse_laws.specs.Syntax.{is_section_name, operand_slots, option_directive, directed, AreOperands, SourcePart, Ends, Says, IsPart, StopsPart, IsStatement}
 use Rattle.rv_parse_laws.specs.Reading.{told, statements_of_parts, Reads}
-use Rattle.rv_object_types.specs.Valid.{is_kept_name}
+use Rattle.rv_object_laws.specs.Valid.{is_kept_name}
 use Rattle.rv_assemble.specs.KeptNames.{opens_kept, OpenOthers}
 
 kept_name : (name : List ℕ) → is_section_name name ≡ true → is_kept_name name ≡ true

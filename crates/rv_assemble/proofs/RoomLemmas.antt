@@ -9,7 +9,7 @@ use Rattle.rv_statement.specs.Statement.{Expression, Directive, Enters, Opens, B
 use Rattle.rv_unit_laws.specs.Contributions.{Contribution, Nothing, Bytes, Zero_bytes, Alignment, contribution}
 use Rattle.rv_unit_laws.specs.Tables.{alignment_of, contribution_alignment, or_none}
 use Rattle.rv_unit_laws.proofs.GrownLemmas.{AlignsToPower, directive_aligned}
-use Rattle.rv_object_types.specs.Padding.{four_each, no_operations}
+use Rattle.rv_object_laws.specs.Padding.{four_each, no_operations}
 use Rattle.rv_source_laws.specs.Sizes.{code_padding}
 use Rattle.rv_assemble_laws.specs.LaidStatements.{LaidStatement, IsPaddedIn, DirectiveSize}
 use Rattle.rv_assemble.proofs.AlignmentsLemmas.{form_low}

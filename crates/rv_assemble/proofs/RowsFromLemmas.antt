@@ -4,9 +4,9 @@ use Rattle.std.proofs.Common.{append_assoc, append-nil, ◌≡◌, ℕ, ◌+◌,
 use Rattle.std.proofs.lemmas.Bool.{and_parts}
 use Rattle.std.proofs.lemmas.List.{reverse-append}
 use Rattle.rv_unit.specs.declared.item.Item.{Item}
-use Rattle.rv_object_types.specs.declared.row.Row.{Row}
-use Rattle.rv_object_types.specs.Valid.{is_counted, are_counted}
-use Rattle.rv_object_types.proofs.CountedLemmas.{counted_next}
+use Rattle.rv_object_laws.specs.declared.row.Row.{Row}
+use Rattle.rv_object_laws.specs.Valid.{is_counted, are_counted}
+use Rattle.rv_object_laws.proofs.CountedLemmas.{counted_next}
 use Rattle.rv_assemble.specs.Making.{item_row, item_rows, rows_from}
 
 -- those of one more item

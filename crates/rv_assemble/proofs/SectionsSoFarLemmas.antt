@@ -9,7 +9,7 @@ use Rattle.rv_unit_tables.specs.declared.section.Extent.{Extent}
 use Rattle.rv_unit_tables.specs.Sections.{extent_section}
 use Rattle.rv_object_types.specs.declared.relocation.Relocation.{Relocation as DeclaredRelocation}
 use Rattle.rv_object_types.specs.declared.section.Section.{Section as DeclaredSection}
-use Rattle.rv_object_types.specs.Object.{Section}
+use Rattle.rv_object_laws.specs.Object.{Section}
 use Rattle.rv_object_types.specs.Sections.{section_of}
 use Rattle.rv_assemble.specs.Making.{list_of, section_by, IsMakeable, sections_by, AreEach}
 use Rattle.rv_assemble.proofs.ListsSoFarLemmas.{left}

@@ -3,7 +3,7 @@
 use Rattle.std.specs.Prelude.{◌≡◌, ◌==◌, ℕ, List, [], ◌∷◌, ◌++◌, length, Option, Some, None, slice_get, if◌then◌else◌}
 use Rattle.std.specs.Global.{Vec}
 use Rattle.rv_object_types.specs.declared.relocation.Relocation.{Relocation as DeclaredRelocation}
-use Rattle.rv_object_types.specs.Object.{Relocation}
+use Rattle.rv_object_laws.specs.Object.{Relocation}
 use Rattle.rv_assemble_laws.specs.Fields.{Field}
 use Rattle.rv_assemble.specs.Making.{list_of, field_relocation}
 

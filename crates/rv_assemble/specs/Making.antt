@@ -7,11 +7,11 @@ use Rattle.rv_text_laws.specs.Expression.{Primary}
 use Rattle.rv_unit_laws.specs.Sections.{Section as SourceSection}
 use Rattle.rv_unit_tables.specs.declared.section.Extent.{Extent}
 use Rattle.rv_unit_tables.specs.Sections.{extent_section}
-use Rattle.rv_object_types.specs.declared.row.Row.{Row}
+use Rattle.rv_object_laws.specs.declared.row.Row.{Row}
 use Rattle.rv_object_types.specs.declared.relocation.Relocation.{Relocation as DeclaredRelocation}
-use Rattle.rv_object_types.specs.Object.{Relocation, Section}
+use Rattle.rv_object_laws.specs.Object.{Relocation, Section}
 use Rattle.rv_object_types.specs.Parts.{relocation_of}
-use Rattle.rv_object_types.specs.Valid.{is_section_alignment, is_string, keeps_name, is_even, is_loaded_alone, fit_inside, are_paddings}
+use Rattle.rv_object_laws.specs.Valid.{is_section_alignment, is_string, keeps_name, is_even, is_loaded_alone, fit_inside, are_paddings}
 use Rattle.rv_assemble_laws.specs.Fields.{Field}
 use Rattle.rv_assemble_laws.specs.IsObjectOf.{contents_of}
 use Rattle.rv_unit.specs.declared.item.Item.{Item}

@@ -3,7 +3,7 @@
 //! A source may have 4 million statements, so that items and rows are not both kept whole.
 
 ghost use Rattle.std.specs.Prelude.{◌≡◌, ◌++◌, ◌^◌, ◌<◌, true, IfOk, OnOk, length};
-ghost use Rattle.rv_object_types.specs.Valid.{is_counted, are_counted};
+ghost use Rattle.rv_object_laws.specs.Valid.{is_counted, are_counted};
 ghost use Rattle.rv_assemble.specs.Making.{item_row, item_rows, rows_from};
 
 use rv_object_types::Row;

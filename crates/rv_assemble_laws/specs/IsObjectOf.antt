@@ -11,8 +11,8 @@ use Rattle.rv_unit_laws.specs.Sections.{Section as SourceSection, is_nobits, goe
 use Rattle.rv_unit_laws.specs.Tables.{Tables, Assignment, at_start, tables, is_location, opened_of, alignment_at, longest_section}
 use Rattle.rv_source_laws.specs.Located.{located_from, has_row}
 use Rattle.rv_source_laws.specs.Compressed.{is_compressed_code}
-use Rattle.rv_object_types.specs.declared.row.Row.{Row}
-use Rattle.rv_object_types.specs.Object.{Contents, Progbits, Note, Nobits, Relocation, Section, Symbol, Object}
+use Rattle.rv_object_laws.specs.declared.row.Row.{Row}
+use Rattle.rv_object_laws.specs.Object.{Contents, Progbits, Note, Nobits, Relocation, Section, Symbol, Object}
 use Rattle.rv_assemble_laws.specs.Refusals.{statements_fault}
 use Rattle.rv_assemble_laws.specs.Templates.{Open, template_fields, IsTemplate}
 use Rattle.rv_assemble_laws.specs.LaidStatements.{LaidStatement, LaidPart, expression_value, part_bytes, parts, laid_in, Tile, end_of, HasSize}

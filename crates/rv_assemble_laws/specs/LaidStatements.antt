@@ -6,7 +6,7 @@ use Rattle.rv_text_laws.specs.Values.{Value, Constant}
 use Rattle.rv_statement.specs.Statement.{StatementKind, Label, Numbered, Instruction, Directs, Expression, Directive, Aligns_to_power, Aligns_to_bytes, Values, Strings, Zeros}
 use Rattle.rv_unit_laws.specs.Tables.{Tables, value_by_tables, alignment_of, padding, string_bytes}
 use Rattle.rv_unit_laws.specs.Contributions.{contribution}
-use Rattle.rv_object_types.specs.Padding.{operations_in}
+use Rattle.rv_object_laws.specs.Padding.{operations_in}
 use Rattle.rv_pseudo_laws.specs.Code.{Part as CodePart, code}
 use Rattle.rv_source_laws.specs.Located.{Located}
 use Rattle.rv_source_laws.specs.Program.{place_of}

@@ -12,12 +12,12 @@ use Rattle.rv_statement.specs.declared.directive.Binding.TheVariants as source
 use Rattle.rv_unit_laws.specs.Bindings.{is_shared}
 use Rattle.rv_unit_laws.specs.Tables.{Tables, Definition, Assignment, definition, gives_way, assigned_ever}
 use Rattle.rv_source_laws.specs.Exports.{names_where}
-use Rattle.rv_object_types.specs.Bindings.{is_weak}
-use Rattle.rv_object_types.specs.declared.symbol.Binding.{Binding}
-use Rattle.rv_object_types.specs.declared.symbol.Binding.TheVariants.{Local, Global, Weak}
-use Rattle.rv_object_types.specs.declared.symbol.Definition.{Definition as Defined}
-use Rattle.rv_object_types.specs.declared.symbol.Definition.TheVariants.{Undefined, Absolute, InSection, Skipped}
-use Rattle.rv_object_types.specs.Object.{Symbol}
+use Rattle.rv_object_laws.specs.Bindings.{is_weak}
+use Rattle.rv_object_laws.specs.declared.symbol.Binding.{Binding}
+use Rattle.rv_object_laws.specs.declared.symbol.Binding.TheVariants.{Local, Global, Weak}
+use Rattle.rv_object_laws.specs.declared.symbol.Definition.{Definition as Defined}
+use Rattle.rv_object_laws.specs.declared.symbol.Definition.TheVariants.{Undefined, Absolute, InSection, Skipped}
+use Rattle.rv_object_laws.specs.Object.{Symbol}
 use Rattle.rv_assemble_laws.specs.Templates.{template_fields}
 use Rattle.rv_assemble_laws.specs.LaidStatements.{LaidStatement, LaidPart, parts_of}
 

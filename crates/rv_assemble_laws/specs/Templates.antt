@@ -11,7 +11,7 @@ use Rattle.rv_text_laws.specs.Values.{Value, Constant, Symbolic, Difference, Fau
 use Rattle.rv_statement.specs.Statement.{Expression}
 use Rattle.rv_unit_laws.specs.Contributions.{Contents, Numbers, Texts, Contribution, Nothing, Bytes, Zero_bytes, Alignment}
 use Rattle.rv_unit_laws.specs.Tables.{string_bytes}
-use Rattle.rv_object_types.specs.Padding.{no_operations}
+use Rattle.rv_object_laws.specs.Padding.{no_operations}
 
 -- ---- open fields
 

@@ -1,8 +1,9 @@
 //! What assembling is: when an object is that of a source.
 //!
-//! It takes the statements of a source with their tables (`rv_unit_laws`, `rv_source_laws`) and objects (`rv_object_types`), all as
-//! plain data. It gives the definition `IsObjectOf statements object` (`specs/IsObjectOf`): sections with their flags, alignment
-//! and bytes, with zeros in open fields (`Templates`, `LaidStatements`), relocations, symbols (`Symbols`) and rows.
+//! It takes the statements of a source with their tables (`rv_unit_laws`, `rv_source_laws`) and objects
+//! (`rv_object_laws`), all as plain data. It gives the definition `IsObjectOf statements object` (`specs/IsObjectOf`):
+//! sections with their flags, alignment and bytes, with zeros in open fields (`Templates`, `LaidStatements`),
+//! relocations, symbols (`Symbols`) and rows.
 //!
 //! Nothing here runs, and nothing here knows of addresses.
 //!

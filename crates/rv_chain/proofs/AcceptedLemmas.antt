@@ -23,15 +23,15 @@ use Rattle.rv_elf.specs.FirstTrue.{no_fault_parts}
 use Rattle.rv_elf.specs.Sections.{program_headers, is_load}
 use Rattle.rv_listing_laws.specs.declared.code.Code.{Code}
 use Rattle.rv_listing_laws.specs.Raw.{IsSourced, IsRawListing, raw_bytes, is_executable, lines_text, raw_lines}
-use Rattle.rv_object_types.specs.Object.{Object}
+use Rattle.rv_object_laws.specs.Object.{Object}
 use Rattle.rv_object_types.specs.View.{object_of}
 use Rattle.rv_assemble_laws.specs.Refusals.{statements_fault, IsStatementsFault, IsTooLong}
 use Rattle.rv_assemble_laws.specs.IsObjectOf.{IsObjectOf}
 use Rattle.rv_assemble_laws.specs.FirstFault.{IsFirstFault}
 use Rattle.rv_reloc.specs.declared.fault.LinkFault.{LinkFault}
 use Rattle.rv_reloc.specs.declared.fault.LinkFault.TheVariants as links
-use Rattle.rv_object_laws.specs.TextStart.{IsTextStart}
-use Rattle.rv_object_laws.specs.Refusals.{ArePast, HasNoProgram}
+use Rattle.rv_link_laws.specs.TextStart.{IsTextStart}
+use Rattle.rv_link_laws.specs.Refusals.{ArePast, HasNoProgram}
 use Rattle.rv_raw_link_laws.specs.Listed.{IsShortListing, listed, HaveNoFault, HaveAProgram}
 use Rattle.rv_fault.specs.declared.fault.Fault.{Fault}
 use Rattle.rv_fault.specs.declared.fault.Fault.TheVariants.{Source, File, Link, Memory}

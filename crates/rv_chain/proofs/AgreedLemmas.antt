@@ -5,7 +5,7 @@ use Rattle.rv_statement.specs.Statement.{Statement}
 use Rattle.rv_parse_laws.specs.Reading.{Reads}
 use Rattle.rv_map.specs.Text.{map_text}
 use Rattle.rv_image_laws.specs.Executable.{exe_of}
-use Rattle.rv_object_types.specs.Object.{Object}
+use Rattle.rv_object_laws.specs.Object.{Object}
 use Rattle.rv_object_file_laws.specs.FirstFault.{first_fault}
 use Rattle.rv_object_file_laws.specs.Known.{IsObject}
 use Rattle.rv_object_file_laws.specs.ObjectOf.{ObjectOf}

@@ -5,8 +5,8 @@ use Rattle.std.specs.Prelude.{IsTrue}
 use Rattle.std.specs.List.{AllByRecursion}
 use Rattle.rv_elf.specs.declared.fault.FileFault.{FileFault}
 use Rattle.rv_elf.specs.Sections.{section_count}
-use Rattle.rv_object_types.specs.Object.{Section, Object}
-use Rattle.rv_object_types.specs.Valid.{is_section_alignment, fit_inside, are_paddings, are_rows}
+use Rattle.rv_object_laws.specs.Object.{Section, Object}
+use Rattle.rv_object_laws.specs.Valid.{is_section_alignment, fit_inside, are_paddings, are_rows}
 use Rattle.rv_object_file_laws.specs.Parts.{is_kept, kept, row_records}
 use Rattle.rv_object_file_laws.specs.FirstFault.{first_fault}
 use Rattle.rv_object_file_laws.specs.ObjectOf.{ObjectOf, section_in, row_in}
@@ -15,8 +15,8 @@ use Rattle.rv_object_reader.proofs.WalkLemmas.{sections_are}
 use Rattle.rv_object_reader.proofs.ValidSectionsLemmas.{IsValid, section_valid}
 use Rattle.rv_object_reader.proofs.ValidSymbolsLemmas.{object_rows}
 use Rattle.rv_reloc.specs.declared.fault.LinkFault.{LinkFault}
-use Rattle.rv_object_laws.specs.TextStart.{AreWithin}
-use Rattle.rv_object_laws.specs.Refusals.{ArePast, HasNoProgram, IsSameFault}
+use Rattle.rv_link_laws.specs.TextStart.{AreWithin}
+use Rattle.rv_link_laws.specs.Refusals.{ArePast, HasNoProgram, IsSameFault}
 use Rattle.rv_unique_link_laws.specs.Asked.{IsSound}
 use Rattle.rv_fault.specs.declared.fault.Fault.TheVariants.{Source, File, Link, Memory}
 use Rattle.rv_fault.specs.Fault.{IsNamed}

@@ -12,10 +12,10 @@ use Rattle.rv_fault.specs.declared.fault.Fault.TheVariants as cases
 use Rattle.rv_lexer.specs.declared.fault.SourceFault.{SourceFault}
 use Rattle.rv_statement.specs.Statement.{Statement}
 use Rattle.rv_object_types.specs.declared.object.Object.{Object as DeclaredObject}
-use Rattle.rv_object_types.specs.Object.{Object}
+use Rattle.rv_object_laws.specs.Object.{Object}
 use Rattle.rv_object_types.specs.View.{object_of}
-use Rattle.rv_object_laws.specs.Shortened.{Relaxes}
-use Rattle.rv_object_laws.specs.Without.{without}
+use Rattle.rv_link_laws.specs.Shortened.{Relaxes}
+use Rattle.rv_link_laws.specs.Without.{without}
 use Rattle.rv_chain_laws.specs.Headline.{AllRead}
 use Rattle.rv_sources_link_laws.specs.Joins.{AreObjectsOf}
 use Rattle.rv_assemble_laws.specs.FirstFault.{IsFirstFault}
@@ -23,7 +23,7 @@ use Rattle.rv_chain_laws.specs.Objects.{AreEach, AreObjectsFrom}
 use Rattle.rv_reloc.specs.declared.fault.LinkFault.{LinkFault}
 use Rattle.rv_reloc.specs.declared.fault.LinkFault.TheVariants as faults
 use Rattle.rv_fault.specs.Fault.{of_link}
-use Rattle.rv_object_laws.specs.TextStart.{IsTextStart}
+use Rattle.rv_link_laws.specs.TextStart.{IsTextStart}
 use Rattle.rv_reach_laws.specs.Reach.{is_short_call, is_chosen_branch, ShortCallsReach, ShortBranchesReach, ShortFormsReach}
 use Rattle.rv_chain.specs.Refusals.{IsRefusedAt, IsFirstRefused, IsRefusedIn, AreUnlinked, IsRefusedFor}
 

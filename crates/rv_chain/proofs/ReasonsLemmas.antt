@@ -4,16 +4,16 @@ use Rattle.std.proofs.Common.{◌≡◌, ℕ, Bool, ◌<◌, ◌≤◌, ◌⊎�
 use Rattle.std.specs.List.{AllByRecursion}
 use Rattle.rv_map.specs.declared.map.SectionId.{SectionId}
 use Rattle.rv_image_laws.specs.Linked.{Linked}
-use Rattle.rv_object_types.specs.Object.{Object}
-use Rattle.rv_object_laws.specs.IsLinkOf.{most_files}
-use Rattle.rv_object_laws.specs.IsProgramOf.{Leaves, IsProgramOf}
-use Rattle.rv_object_laws.specs.Without.{without}
-use Rattle.rv_object_laws.specs.Refusals.{ArePast, HasNoProgram, name_in, IsSameFault}
-use Rattle.rv_object_laws.proofs.WithoutLemmas.{as_many_objects}
+use Rattle.rv_object_laws.specs.Object.{Object}
+use Rattle.rv_link_laws.specs.IsLinkOf.{most_files}
+use Rattle.rv_link_laws.specs.IsProgramOf.{Leaves, IsProgramOf}
+use Rattle.rv_link_laws.specs.Without.{without}
+use Rattle.rv_link_laws.specs.Refusals.{ArePast, HasNoProgram, name_in, IsSameFault}
+use Rattle.rv_link_laws.proofs.WithoutLemmas.{as_many_objects}
 use Rattle.rv_reloc.specs.declared.fault.LinkFault.{LinkFault}
 use Rattle.rv_reloc.specs.declared.fault.LinkFault.TheVariants as links
 use Rattle.rv_reloc.specs.Fault.{link_fault_number}
-use Rattle.rv_object_laws.specs.TextStart.{AreWithin}
+use Rattle.rv_link_laws.specs.TextStart.{AreWithin}
 use Rattle.rv_link.proofs.LeftLemmas.{alike, past_unlinked}
 use Rattle.rv_unique_link_laws.specs.Asked.{IsSound}
 use Rattle.rv_unique_link_laws.specs.Same.{OneProgram, RefusedForMemory, RefusedForOne, RowsArePlaced, RunsBeginEven}

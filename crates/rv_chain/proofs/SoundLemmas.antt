@@ -11,9 +11,9 @@ use Rattle.rv_unit_laws.specs.declared.section_type.SectionType.TheVariants as t
 use Rattle.rv_unit_laws.specs.Sections.{Section as SourceSection, is_nobits_type}
 use Rattle.rv_unit_laws.specs.Tables.{Tables, tables, opened_of}
 use Rattle.rv_source_laws.specs.Located.{has_row}
-use Rattle.rv_object_types.specs.declared.row.Row.{Row}
-use Rattle.rv_object_types.specs.Object.{Relocation, Section, Symbol, Object, size_of}
-use Rattle.rv_object_types.specs.Valid.{is_section_alignment, fit_inside, are_paddings, is_row_in, are_rows}
+use Rattle.rv_object_laws.specs.declared.row.Row.{Row}
+use Rattle.rv_object_laws.specs.Object.{Relocation, Section, Symbol, Object, size_of}
+use Rattle.rv_object_laws.specs.Valid.{is_section_alignment, fit_inside, are_paddings, is_row_in, are_rows}
 use Rattle.rv_assemble_laws.specs.LaidStatements.{LaidStatement, part_bytes, parts, laid_in, end_of}
 use Rattle.rv_assemble_laws.specs.IsObjectOf.{Numbering, relocations_from, IsSectionOf, AreSectionsOf, row_of, rows_at, IsObjectOf}
 use Rattle.rv_assemble_laws.proofs.FaultlessLemmas.{no_first_fault}

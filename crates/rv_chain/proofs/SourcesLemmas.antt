@@ -12,15 +12,15 @@ use Rattle.rv_statement.specs.Statement.{Statement}
 use Rattle.rv_parse_laws.specs.Reading.{Reads}
 use Rattle.rv_parse_laws.specs.Refusals.{SyntaxFault as TextFault, Refuses}
 use Rattle.rv_unit_laws.specs.Faults.{StatementFault as StatementsFault}
-use Rattle.rv_object_types.specs.Object.{Object}
+use Rattle.rv_object_laws.specs.Object.{Object}
 use Rattle.rv_object_types.specs.View.{object_of}
 use Rattle.rv_assemble_laws.specs.Refusals.{statements_fault, IsTooLong, IsStatementsFault}
 use Rattle.rv_assemble_laws.specs.ShownNames.{HasNames}
 use Rattle.rv_assemble_laws.specs.IsObjectOf.{IsObjectOf}
 use Rattle.rv_assemble_laws.specs.FirstFault.{IsFirstFault}
 use Rattle.rv_reloc.specs.declared.fault.LinkFault.{LinkFault}
-use Rattle.rv_object_laws.specs.TextStart.{AreWithin}
-use Rattle.rv_object_laws.specs.Refusals.{ArePast, HasNoProgram, IsSameFault}
+use Rattle.rv_link_laws.specs.TextStart.{AreWithin}
+use Rattle.rv_link_laws.specs.Refusals.{ArePast, HasNoProgram, IsSameFault}
 use Rattle.rv_unique_link_laws.specs.Asked.{IsSound}
 use Rattle.rv_fault.specs.declared.fault.Fault.TheVariants.{Source, File, Link, Memory}
 use Rattle.rv_fault.specs.Fault.{IsNamed}

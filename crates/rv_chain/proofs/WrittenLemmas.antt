@@ -10,9 +10,9 @@ use Rattle.rv_image_laws.specs.Executable.{exe_of, linked_image}
 use Rattle.rv_image_laws.specs.ImageOf.{ImageOf}
 use Rattle.rv_image_laws.specs.FirstFault.{first_fault}
 use Rattle.rv_image.proofs.LoadedAgainLemmas.{laid_out, reload_image, reload_fault}
-use Rattle.rv_object_types.specs.Object.{Object}
-use Rattle.rv_object_laws.specs.IsProgramOf.{IsProgramOf}
-use Rattle.rv_object_laws.specs.Details.{with_details}
+use Rattle.rv_object_laws.specs.Object.{Object}
+use Rattle.rv_link_laws.specs.IsProgramOf.{IsProgramOf}
+use Rattle.rv_link_laws.specs.Details.{with_details}
 use Rattle.rv_chain_laws.specs.Linking.{IsBuiltOf}
 
 -- the names and the rows of a map are no part of its layout, nor of its executable

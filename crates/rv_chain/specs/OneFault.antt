@@ -5,7 +5,7 @@ use Rattle.rv_image_laws.specs.Linked.{Linked}
 use Rattle.rv_fault.specs.declared.fault.Fault.{Fault}
 use Rattle.rv_fault.specs.declared.fault.Fault.TheVariants.{Source, File, Link, Memory}
 use Rattle.rv_chain_laws.specs.Linking.{IsProgramOfObjectsFrom, AreLinked}
-use Rattle.rv_object_laws.specs.Refusals.{IsSameFault}
+use Rattle.rv_link_laws.specs.Refusals.{IsSameFault}
 use Rattle.rv_chain.specs.Refusals.{IsRefusedFor}
 use Rattle.rv_chain.specs.LinkRefusals.{AreUnlinkable}
 

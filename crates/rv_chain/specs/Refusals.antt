@@ -5,13 +5,13 @@ use Rattle.std.specs.Prelude.{◌≡◌, ℕ, ◌+◌, Bool, ⊤, ◌⊎◌, Lis
 use Rattle.rv_lexer.specs.declared.fault.SourceFault.{SourceFault}
 use Rattle.rv_statement.specs.Statement.{Statement}
 use Rattle.rv_object_types.specs.declared.object.Object.{Object as DeclaredObject}
-use Rattle.rv_object_types.specs.Object.{Object}
+use Rattle.rv_object_laws.specs.Object.{Object}
 use Rattle.rv_object_types.specs.View.{object_of}
-use Rattle.rv_object_laws.specs.Without.{without}
-use Rattle.rv_object_laws.specs.Refusals.{ArePast, HasNoProgram}
+use Rattle.rv_link_laws.specs.Without.{without}
+use Rattle.rv_link_laws.specs.Refusals.{ArePast, HasNoProgram}
 use Rattle.rv_assemble_laws.specs.FirstFault.{IsFirstFault}
 use Rattle.rv_reloc.specs.declared.fault.LinkFault.{LinkFault}
-use Rattle.rv_object_laws.specs.TextStart.{AreWithin}
+use Rattle.rv_link_laws.specs.TextStart.{AreWithin}
 use Rattle.rv_chain_laws.specs.Headline.{AllRead}
 use Rattle.rv_reach_laws.specs.Reach.{ShortFormsReach}
 use Rattle.rv_fault.specs.declared.fault.Fault.{Fault}

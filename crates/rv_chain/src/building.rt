@@ -4,7 +4,7 @@ ghost use Rattle.std.specs.Prelude.{◌<◌, ◌≤◌, ◌+◌, map, length, If
 ghost use Rattle.rv_statement.specs.View.{now_of};
 ghost use Rattle.rv_image.specs.Views.{linked_of};
 ghost use Rattle.rv_object_types.specs.View.{object_of};
-ghost use Rattle.rv_object_laws.specs.IsLinkOf.{most_files};
+ghost use Rattle.rv_link_laws.specs.IsLinkOf.{most_files};
 ghost use Rattle.rv_chain_laws.specs.Headline.{TheHeadline};
 ghost use Rattle.rv_chain_laws.specs.Building.{IsProgramWithFrom, IsExecutableOf};
 ghost use Rattle.rv_chain_laws.specs.Linking.{AreBuilt};

@@ -4,9 +4,9 @@ ghost use Rattle.std.specs.Prelude.{◌<◌, ◌≤◌, ◌+◌, map, length, If
 ghost use Rattle.rv_statement.specs.View.{now_of};
 ghost use Rattle.rv_image.specs.Views.{linked_of};
 ghost use Rattle.rv_object_types.specs.View.{object_of};
-ghost use Rattle.rv_object_laws.specs.IsLinkOf.{most_files};
-ghost use Rattle.rv_object_laws.specs.Details.{IsProgramWith};
-ghost use Rattle.rv_object_laws.specs.Refusals.{HasNoProgram};
+ghost use Rattle.rv_link_laws.specs.IsLinkOf.{most_files};
+ghost use Rattle.rv_link_laws.specs.Details.{IsProgramWith};
+ghost use Rattle.rv_link_laws.specs.Refusals.{HasNoProgram};
 ghost use Rattle.rv_chain_laws.specs.Linking.{AreLinked, IsLinkedAs, IsProgramWithOf};
 ghost use Rattle.rv_chain.specs.LinkRefusals.{IsUnreadAt, AreUnread, AreUnlinkable};
 ghost use Rattle.rv_chain_laws.specs.Objects.{IsObjectIn, AreObjectsIn};

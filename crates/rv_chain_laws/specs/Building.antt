@@ -5,7 +5,7 @@ use Rattle.rv_statement.specs.Statement.{Statement}
 use Rattle.rv_image_laws.specs.Linked.{Linked}
 use Rattle.rv_source_laws.specs.Compressed.{is_compressed}
 use Rattle.rv_chain_laws.specs.Contents.{IsLinked}
-use Rattle.rv_object_laws.specs.Details.{with_details}
+use Rattle.rv_link_laws.specs.Details.{with_details}
 use Rattle.rv_chain_laws.specs.Headline.{AllRead, TheHeadline}
 use Rattle.rv_chain_laws.specs.Linking.{IsProgramOfObjectsFrom, AreBuilt}
 use Rattle.rv_chain_laws.specs.Listed.{IsListedAs}

@@ -6,10 +6,10 @@ use Rattle.rv_image_laws.specs.Linked.{Linked}
 use Rattle.rv_image_laws.specs.Executable.{exe_of, linked_image}
 use Rattle.rv_image_laws.specs.ImageOf.{ImageOf}
 use Rattle.rv_image_laws.specs.FirstFault.{first_fault}
-use Rattle.rv_object_types.specs.Object.{Object}
-use Rattle.rv_object_laws.specs.IsProgramOf.{IsProgramOf}
-use Rattle.rv_object_laws.specs.TextStart.{AreWithin}
-use Rattle.rv_object_laws.specs.Details.{IsProgramWith}
+use Rattle.rv_object_laws.specs.Object.{Object}
+use Rattle.rv_link_laws.specs.IsProgramOf.{IsProgramOf}
+use Rattle.rv_link_laws.specs.TextStart.{AreWithin}
+use Rattle.rv_link_laws.specs.Details.{IsProgramWith}
 use Rattle.rv_chain_laws.specs.Objects.{AreObjectsFrom, AreObjectsIn}
 
 -- the bytes of the executable of the program of these objects, relaxed or not, and the text of its

@@ -8,13 +8,13 @@ use Rattle.std.proofs.lemmas.List.Elements.{filter-append}
 use Rattle.rv_map.specs.declared.map.SectionId.{SectionId}
 use Rattle.rv_object_types.specs.declared.object.Object.{Object as DeclaredObject}
 use Rattle.rv_object_types.specs.declared.section.Section.{Section as DeclaredSection}
-use Rattle.rv_object_types.specs.Object.{Section, Object}
+use Rattle.rv_object_laws.specs.Object.{Section, Object}
 use Rattle.rv_object_types.specs.Sections.{section_of}
 use Rattle.rv_object_types.specs.View.{object_of}
-use Rattle.rv_object_laws.specs.Collects.{id_of, loaded_sections}
-use Rattle.rv_object_laws.specs.Inputs.{InputSection, inputs_from, inputs_of}
-use Rattle.rv_object_laws.specs.IsLinkOf.{is_loaded}
-use Rattle.rv_object_laws.specs.Undefined.{is_loaded_at}
+use Rattle.rv_link_laws.specs.Collects.{id_of, loaded_sections}
+use Rattle.rv_link_laws.specs.Inputs.{InputSection, inputs_from, inputs_of}
+use Rattle.rv_link_laws.specs.IsLinkOf.{is_loaded}
+use Rattle.rv_link_laws.specs.Undefined.{is_loaded_at}
 use Rattle.rv_collect_laws.specs.Graph.{is_dropped, outside}
 use Rattle.rv_collect_laws.proofs.SectionsLemmas.{in_outside}
 use Rattle.rv_collect.specs.declared.collection.Collection.{Collection}

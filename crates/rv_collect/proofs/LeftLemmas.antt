@@ -10,13 +10,13 @@ use Rattle.std.proofs.lemmas.Bool.{and_parts, and_from, true≢false}
 use Rattle.rv_map.specs.declared.map.SectionId.{SectionId}
 use Rattle.rv_collect_laws.specs.Graph.{is_dropped}
 use Rattle.rv_object_types.specs.declared.object.Object.{Object as DeclaredObject}
-use Rattle.rv_object_types.specs.declared.row.Row.{Row}
+use Rattle.rv_object_laws.specs.declared.row.Row.{Row}
 use Rattle.rv_object_types.specs.declared.section.Section.{Section as DeclaredSection}
 use Rattle.rv_object_types.specs.Sections.{section_of}
-use Rattle.rv_object_types.specs.Valid.{is_counted, are_counted}
+use Rattle.rv_object_laws.specs.Valid.{is_counted, are_counted}
 use Rattle.rv_object_types.specs.View.{object_of}
-use Rattle.rv_object_laws.specs.Without.{without_section, without_sections, without_object, without_from}
-pub use Rattle.rv_object_laws.proofs.StepsLemmas.{left}
+use Rattle.rv_link_laws.specs.Without.{without_section, without_sections, without_object, without_from}
+pub use Rattle.rv_link_laws.proofs.StepsLemmas.{left}
 
 -- an element more, as a function of what is left gives it
 pub one_more : {X : Type 0} (out new : List X) (x : X) (rest all whole : List X) → new ≡ out ++ x ∷ [] → all ≡ x ∷ rest → out ++ all ≡ whole → new ++ rest ≡ whole

@@ -11,15 +11,15 @@ use Rattle.std.proofs.lemmas.Option.{slice_get_within}
 use Rattle.rv_map.specs.declared.map.SectionId.{SectionId}
 use Rattle.rv_object_types.specs.declared.object.Object.{Object as DeclaredObject}
 use Rattle.rv_object_types.specs.declared.section.Section.{Section as DeclaredSection}
-use Rattle.rv_object_types.specs.Object.{Section, Object}
+use Rattle.rv_object_laws.specs.Object.{Section, Object}
 use Rattle.rv_object_types.specs.Parts.{relocation_of}
 use Rattle.rv_object_types.specs.Sections.{section_of}
 use Rattle.rv_object_types.specs.View.{object_of}
 use Rattle.rv_collect.proofs.LeftLemmas.{viewed_at}
-use Rattle.rv_object_laws.specs.Collects.{id_of, loaded_sections, leads_to, is_at, refers, graph_of}
-use Rattle.rv_object_laws.specs.Inputs.{InputSection, inputs_from, inputs_of, inputs}
-use Rattle.rv_object_laws.specs.IsLinkOf.{is_loaded}
-use Rattle.rv_object_laws.specs.Undefined.{is_loaded_at}
+use Rattle.rv_link_laws.specs.Collects.{id_of, loaded_sections, leads_to, is_at, refers, graph_of}
+use Rattle.rv_link_laws.specs.Inputs.{InputSection, inputs_from, inputs_of, inputs}
+use Rattle.rv_link_laws.specs.IsLinkOf.{is_loaded}
+use Rattle.rv_link_laws.specs.Undefined.{is_loaded_at}
 use Rattle.rv_collect_laws.specs.Graph.{is_one_of, Has}
 use Rattle.rv_collect.specs.Drops.{id_at}
 use Rattle.rv_collect.specs.Targets.{leads_in}

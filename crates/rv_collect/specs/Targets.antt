@@ -3,9 +3,9 @@
 use Rattle.std.specs.Prelude.{ℕ, suc, Bool, List, Option, option_and_then}
 use Rattle.std.specs.List.{list_any, slice_get}
 use Rattle.rv_map.specs.declared.map.SectionId.{SectionId}
-use Rattle.rv_object_types.specs.Object.{Relocation, Object}
-use Rattle.rv_object_laws.specs.Collects.{lies_in}
-use Rattle.rv_object_laws.specs.Names.{Place, symbol_place}
+use Rattle.rv_object_laws.specs.Object.{Relocation, Object}
+use Rattle.rv_link_laws.specs.Collects.{lies_in}
+use Rattle.rv_link_laws.specs.Names.{Place, symbol_place}
 
 -- where the symbol of a relocation stands, of an object that is a file, from 0
 abbrev pub target_in : List Object → ℕ → Object → Relocation → Option Place

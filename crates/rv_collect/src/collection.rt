@@ -4,8 +4,8 @@ ghost use Rattle.std.specs.Prelude.{◌≡◌, ◌++◌, ◌+◌, ◌^◌, ◌<�
 ghost use Rattle.rv_map.specs.Limits.{IsDrop};
 ghost use Rattle.rv_object_types.specs.Sections.{section_of};
 ghost use Rattle.rv_object_types.specs.View.{object_of};
-ghost use Rattle.rv_object_laws.specs.Collects.{Collects};
-ghost use Rattle.rv_object_laws.specs.Without.{without};
+ghost use Rattle.rv_link_laws.specs.Collects.{Collects};
+ghost use Rattle.rv_link_laws.specs.Without.{without};
 ghost use Rattle.rv_resolve.specs.Names.{IsNames};
 ghost use Rattle.rv_collect.specs.Drops.{drops_in, dropped_from, id_at};
 

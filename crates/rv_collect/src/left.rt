@@ -7,7 +7,7 @@ ghost use Rattle.std.specs.Prelude.{◌≡◌, ◌++◌, [], ◌∷◌, true, no
 ghost use Rattle.rv_object_types.specs.Parts.{symbol_of};
 ghost use Rattle.rv_object_types.specs.Sections.{section_of};
 ghost use Rattle.rv_object_types.specs.View.{object_of};
-ghost use Rattle.rv_object_laws.specs.Without.{without_object, without_section, without_sections};
+ghost use Rattle.rv_link_laws.specs.Without.{without_object, without_section, without_sections};
 ghost use Rattle.rv_collect.specs.Drops.{drops_in};
 
 use crate::marks::mark_in;

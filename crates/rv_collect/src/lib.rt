@@ -5,7 +5,7 @@
 //! its relocations stand, whatever the relocations are ([`Collection::of`]). Then [`Collection::drops`] lists the others, for
 //! the map, and [`Collection::left`] makes the objects without them, that a link goes on with.
 //!
-//! What stays is said as the least set that is closed (`rv_object_laws`, `Collects`; `rv_collect_laws`), not as a walk.
+//! What stays is said as the least set that is closed (`rv_link_laws`, `Collects`; `rv_collect_laws`), not as a walk.
 //! The code marks each section at most once and looks at each relocation of a marked one once, so the work is linear.
 //!
 //! Collection comes before relaxation and knows nothing of it. It makes objects and hands no list of drops on to the passes

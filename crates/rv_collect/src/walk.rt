@@ -6,12 +6,12 @@
 ghost use Rattle.std.specs.Prelude.{◌≡◌, ◌+◌, Some, true, map, option_map, option_and_then, OnOk, IfOk};
 ghost use Rattle.std.specs.List.{slice_get};
 ghost use Rattle.rv_map.specs.declared.map.SectionId.{SectionId};
-ghost use Rattle.rv_object_types.specs.Object.{Object as SaidObject};
+ghost use Rattle.rv_object_laws.specs.Object.{Object as SaidObject};
 ghost use Rattle.rv_object_types.specs.Parts.{relocation_of};
 ghost use Rattle.rv_object_types.specs.View.{object_of};
-ghost use Rattle.rv_object_laws.specs.Collects.{entry_place, graph_of, lies_in};
+ghost use Rattle.rv_link_laws.specs.Collects.{entry_place, graph_of, lies_in};
 ghost use Rattle.rv_resolve.specs.Names.{IsNames, place_of};
-ghost use Rattle.rv_object_laws.specs.Undefined.{is_loaded_at};
+ghost use Rattle.rv_link_laws.specs.Undefined.{is_loaded_at};
 ghost use Rattle.rv_collect.specs.Drops.{id_at};
 ghost use Rattle.rv_collect.specs.Targets.{leads_in, target_in};
 ghost use Rattle.rv_collect_laws.specs.Graph.{Has};

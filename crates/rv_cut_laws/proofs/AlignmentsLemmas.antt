@@ -2,8 +2,8 @@
 
 use Rattle.std.proofs.Common.{◌≡◌, ℕ, ◌+◌, ◌^◌, ◌<◌, ◌≤◌, true, ◌&&◌, nat_lt, nat_le, List, ◌∷◌}
 use Rattle.std.proofs.lemmas.Bool.{ltb-true, leb-true, le-leb, lt-ltb, and_parts, and_from}
-use Rattle.rv_object_types.specs.Object.{Relocation}
-use Rattle.rv_object_laws.specs.Moves.{full_padding}
+use Rattle.rv_object_laws.specs.Object.{Relocation}
+use Rattle.rv_link_laws.specs.Moves.{full_padding}
 use Rattle.rv_cut_laws.specs.Alignments.{is_next_alignment, are_alignments}
 
 -- an alignment that stands behind others

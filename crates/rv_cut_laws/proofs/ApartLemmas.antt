@@ -4,13 +4,13 @@ use Rattle.std.proofs.Common.{◌≡◌, ℕ, ◌+◌, ◌%◌, ◌^◌, ◌<◌
 use Rattle.std.specs.Prelude.{◌==◌, unwrap_or}
 use Rattle.std.specs.List.{list_all, filter}
 use Rattle.std.proofs.lemmas.Bool.{leb-true, ltb-true, le-leb, and_parts, and_from, or_left, or_right}
-use Rattle.rv_object_types.specs.Object.{Relocation, Contents, size_of}
-use Rattle.rv_object_types.specs.Valid.{is_align, is_padding, is_padding_of, padding_of, held, are_apart, are_all_apart, are_paddings}
-use Rattle.rv_object_laws.specs.Moves.{full_padding, has_padding, inserted, by_place}
+use Rattle.rv_object_laws.specs.Object.{Relocation, Contents, size_of}
+use Rattle.rv_object_laws.specs.Valid.{is_align, is_padding, is_padding_of, padding_of, held, are_apart, are_all_apart, are_paddings}
+use Rattle.rv_link_laws.specs.Moves.{full_padding, has_padding, inserted, by_place}
 use Rattle.rv_cut_laws.specs.Alignments.{are_alignments}
 use Rattle.rv_cut_laws.proofs.AlignmentsLemmas.{IsNextAlignment, next_alignment, other_alignments, next_is}
 use Rattle.rv_cut_laws.proofs.PaddingsLemmas.{three}
-use Rattle.rv_object_laws.proofs.ChangesLemmas.{held_full, either}
+use Rattle.rv_link_laws.proofs.ChangesLemmas.{held_full, either}
 
 -- ---- an alignment alone
 

@@ -5,9 +5,9 @@ use Rattle.std.specs.Prelude.{◌==◌}
 use Rattle.rv_isa.specs.declared.kind.Kind.{Kind}
 use Rattle.rv_isa.specs.declared.kind.Kind.TheVariants as kinds
 use Rattle.rv_isa.specs.Kinds.{width_of}
-use Rattle.rv_object_types.specs.Valid.{is_align}
-use Rattle.rv_object_laws.specs.Moves.{Move}
-use Rattle.rv_object_laws.specs.CallSites.{is_call}
+use Rattle.rv_object_laws.specs.Valid.{is_align}
+use Rattle.rv_link_laws.specs.Moves.{Move}
+use Rattle.rv_link_laws.specs.CallSites.{is_call}
 use Rattle.rv_cut_laws.specs.Cutting.{kind_left}
 
 pub call_width : (k : Kind) → is_call k ≡ true → width_of k ≡ 8

@@ -9,13 +9,13 @@ use Rattle.rv_isa.specs.Kinds.{width_of}
 use Rattle.rv_isa_laws.specs.Bytes.{little_endian}
 use Rattle.rv_layout_laws.specs.declared.site.Site.{Site}
 use Rattle.rv_layout_laws.specs.Calls.{InOrder, bytes_of, is_call as is_call_site}
-use Rattle.rv_object_types.specs.Object.{Contents, Progbits, Note, Nobits, Relocation, Section, Object, size_of, stored}
-use Rattle.rv_object_types.specs.Valid.{fits_inside, fit_inside, is_align, padding_of, is_padding_of, is_padding, are_all_apart, are_paddings}
-use Rattle.rv_object_laws.specs.Moves.{Move, full_padding, has_padding, alignment_of}
-use Rattle.rv_object_laws.specs.Inputs.{InputSection, goes_to_text}
-use Rattle.rv_object_laws.specs.CallSites.{is_call, meets, has_relax, are_call_words, is_auipc, is_jalr, rs1, rd, word_at, is_text_place, target_place, is_entered, is_permitted, may_change, call_site, site_of, link_register}
-use Rattle.rv_object_laws.specs.Shortened.{Sizes, empty_jump, empty_jal, short_call, is_shortened, cut}
-use Rattle.rv_object_laws.specs.Lists.{In}
+use Rattle.rv_object_laws.specs.Object.{Contents, Progbits, Note, Nobits, Relocation, Section, Object, size_of, stored}
+use Rattle.rv_object_laws.specs.Valid.{fits_inside, fit_inside, is_align, padding_of, is_padding_of, is_padding, are_all_apart, are_paddings}
+use Rattle.rv_link_laws.specs.Moves.{Move, full_padding, has_padding, alignment_of}
+use Rattle.rv_link_laws.specs.Inputs.{InputSection, goes_to_text}
+use Rattle.rv_link_laws.specs.CallSites.{is_call, meets, has_relax, are_call_words, is_auipc, is_jalr, rs1, rd, word_at, is_text_place, target_place, is_entered, is_permitted, may_change, call_site, site_of, link_register}
+use Rattle.rv_link_laws.specs.Shortened.{Sizes, empty_jump, empty_jal, short_call, is_shortened, cut}
+use Rattle.rv_link_laws.specs.Lists.{In}
 use Rattle.rv_cut_laws.specs.Cutting.{is_cut, are_cuts}
 use Rattle.rv_cut_laws.specs.Walk.{moves_of}
 use Rattle.rv_cut_laws.proofs.CallKindsLemmas.{call_width, call_no_align}

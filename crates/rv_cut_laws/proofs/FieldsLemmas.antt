@@ -5,10 +5,10 @@ use Rattle.std.specs.Prelude.{◌==◌, IsTrue}
 use Rattle.std.specs.List.{list_all}
 use Rattle.std.proofs.lemmas.Bool.{ltb-true, ltb-false, eqb-true, eqb-false, and_parts, and_from}
 use Rattle.rv_isa.specs.Kinds.{width_of}
-use Rattle.rv_object_types.specs.Object.{Relocation}
-use Rattle.rv_object_laws.specs.Moves.{Move, new_offset}
-use Rattle.rv_object_laws.specs.CallSites.{is_call, meets}
-use Rattle.rv_object_laws.specs.Lists.{In}
+use Rattle.rv_object_laws.specs.Object.{Relocation}
+use Rattle.rv_link_laws.specs.Moves.{Move, new_offset}
+use Rattle.rv_link_laws.specs.CallSites.{is_call, meets}
+use Rattle.rv_link_laws.specs.Lists.{In}
 use Rattle.rv_cut_laws.specs.Cutting.{are_cuts, IsClear, cut_at, kind_left, cut_kind}
 use Rattle.rv_cut_laws.proofs.CallKindsLemmas.{call_width, left_width}
 use Rattle.rv_cut_laws.proofs.ShiftsLemmas.{rising, stays, left_stays, length_of_left}

@@ -3,7 +3,7 @@
 use Rattle.std.proofs.Common.{◌≡◌, ◌⊎◌, inl, inr, ℕ, ◌+◌, ◌-◌, ◌≤◌, List, [], ◌∷◌, ◌++◌, length, take, drop, min, arith, refl}
 use Rattle.std.proofs.lemmas.List.{length-append, length-take, length-drop}
 use Rattle.std.specs.List.{AllByRecursion}
-use Rattle.rv_object_laws.specs.Moves.{Move, dropped, new_offset, kept}
+use Rattle.rv_link_laws.specs.Moves.{Move, dropped, new_offset, kept}
 
 -- moves one after another, from an offset up to a size, each with room for what is left of it
 abbrev pub Follow : ℕ → List Move → ℕ → Type 0

@@ -5,13 +5,13 @@ use Rattle.std.specs.List.{slice_get}
 use Rattle.std.proofs.lemmas.List.{drop-drop}
 use Rattle.rv_layout_laws.specs.declared.site.Site.{Site}
 use Rattle.rv_layout_laws.specs.Calls.{IsText}
-use Rattle.rv_object_types.specs.declared.symbol.Definition.{Definition}
-use Rattle.rv_object_types.specs.declared.symbol.Definition.TheVariants as definitions
-use Rattle.rv_object_types.specs.Object.{Section, Object, size_of, stored}
-use Rattle.rv_object_laws.specs.Moves.{Move, new_offset}
-use Rattle.rv_object_laws.specs.Inputs.{InputSection, goes_to_text, inputs_from, inputs_of}
-use Rattle.rv_object_laws.specs.CallSites.{sites_from, sites_of}
-use Rattle.rv_object_laws.specs.Shortened.{Sizes, sizes_by, cuts, cuts_at, cuts_in, shortened_section, shortened_text, shortened_sections, shortened_definition, shortened_symbol, shortened_row, shortened_object, shortened_from}
+use Rattle.rv_object_laws.specs.declared.symbol.Definition.{Definition}
+use Rattle.rv_object_laws.specs.declared.symbol.Definition.TheVariants as definitions
+use Rattle.rv_object_laws.specs.Object.{Section, Object, size_of, stored}
+use Rattle.rv_link_laws.specs.Moves.{Move, new_offset}
+use Rattle.rv_link_laws.specs.Inputs.{InputSection, goes_to_text, inputs_from, inputs_of}
+use Rattle.rv_link_laws.specs.CallSites.{sites_from, sites_of}
+use Rattle.rv_link_laws.specs.Shortened.{Sizes, sizes_by, cuts, cuts_at, cuts_in, shortened_section, shortened_text, shortened_sections, shortened_definition, shortened_symbol, shortened_row, shortened_object, shortened_from}
 use Rattle.rv_cut_laws.specs.Cutting.{AreCuts, AllCut, cut_section, cut_sections, moves_at, cut_definition, cut_symbol, cut_row, cut_object}
 use Rattle.rv_cut_laws.specs.Walk.{own_moves, passed, passed_at, object_moves, passed_all, walked, AreWalked}
 use Rattle.rv_cut_laws.proofs.ShortLemmas.{nothing_cut}

@@ -10,13 +10,13 @@ use Rattle.rv_layout_laws.specs.declared.site.Site.{Site}
 use Rattle.rv_layout_laws.specs.Calls.{InOrder}
 use Rattle.rv_object_types.specs.declared.object.Object.{Object as DeclaredObject}
 use Rattle.rv_object_types.specs.declared.section.Section.{Section as DeclaredSection}
-use Rattle.rv_object_types.specs.Object.{Relocation, Section, Object, size_of, stored}
+use Rattle.rv_object_laws.specs.Object.{Relocation, Section, Object, size_of, stored}
 use Rattle.rv_object_types.specs.Sections.{section_of}
 use Rattle.rv_object_types.specs.View.{object_of}
-use Rattle.rv_object_laws.specs.Inputs.{InputSection, goes_to_text, begins_at}
-use Rattle.rv_object_laws.specs.CallSites.{changes, site_of, sites_from, sites_of, start_padding, base, base_in}
-use Rattle.rv_object_laws.specs.Shortened.{Sizes, sizes_by, cut, cuts}
-use Rattle.rv_object_laws.specs.Lists.{In}
+use Rattle.rv_link_laws.specs.Inputs.{InputSection, goes_to_text, begins_at}
+use Rattle.rv_link_laws.specs.CallSites.{changes, site_of, sites_from, sites_of, start_padding, base, base_in}
+use Rattle.rv_link_laws.specs.Shortened.{Sizes, sizes_by, cut, cuts}
+use Rattle.rv_link_laws.specs.Lists.{In}
 use Rattle.rv_cut_laws.specs.Cutting.{AreCuts}
 use Rattle.rv_cut_laws.specs.Walk.{count_within, moves_of, own_moves, passed, section_moves}
 use Rattle.rv_cut_laws.proofs.ChangesLemmas.{IsSound, Matches, change_inside, site_offset, passed_by, order_behind, changes_match, moves_match}

@@ -4,11 +4,11 @@ use Rattle.std.proofs.Common.{◌≡◌, ◌+◌, ◌<◌, ◌≤◌, inl, inr, 
 use Rattle.std.specs.Prelude.{filter, count_by, ⊤}
 use Rattle.std.proofs.lemmas.List.Sums.{sum_by-cons}
 use Rattle.std.proofs.lemmas.Bool.{leb-true, le-leb, true≢false}
-use Rattle.rv_object_types.specs.Object.{Relocation}
-use Rattle.rv_object_types.specs.Valid.{held}
-use Rattle.rv_object_laws.specs.CallSites.{inserted_change, in_order}
-use Rattle.rv_object_laws.specs.Lists.{In}
-use Rattle.rv_object_laws.proofs.ChangesLemmas.{one_if as tally}
+use Rattle.rv_object_laws.specs.Object.{Relocation}
+use Rattle.rv_object_laws.specs.Valid.{held}
+use Rattle.rv_link_laws.specs.CallSites.{inserted_change, in_order}
+use Rattle.rv_link_laws.specs.Lists.{In}
+use Rattle.rv_link_laws.proofs.ChangesLemmas.{one_if as tally}
 
 -- ---- in a filtered list, in a mapped one, in an ordered one
 

@@ -9,10 +9,10 @@ use Rattle.rv_layout_laws.specs.Alignment.{aligned}
 use Rattle.rv_isa.specs.declared.kind.Kind.{Kind}
 use Rattle.rv_isa.specs.declared.kind.Kind.TheVariants as kinds
 use Rattle.rv_isa.specs.Kinds.{width_of}
-use Rattle.rv_object_types.specs.Object.{Contents, Progbits, Note, Nobits, Relocation, Section, size_of}
-use Rattle.rv_object_types.specs.Valid.{is_align, padding_of, is_padding, is_padding_of, held, are_apart, are_all_apart, are_paddings, fits_inside, fit_inside}
-use Rattle.rv_object_types.specs.Padding.{no_operations}
-use Rattle.rv_object_laws.specs.Moves.{full_padding, has_padding, alignment_of, inserted, by_place, plan, moves, new_offset, has_room}
+use Rattle.rv_object_laws.specs.Object.{Contents, Progbits, Note, Nobits, Relocation, Section, size_of}
+use Rattle.rv_object_laws.specs.Valid.{is_align, padding_of, is_padding, is_padding_of, held, are_apart, are_all_apart, are_paddings, fits_inside, fit_inside}
+use Rattle.rv_object_laws.specs.Padding.{no_operations}
+use Rattle.rv_link_laws.specs.Moves.{full_padding, has_padding, alignment_of, inserted, by_place, plan, moves, new_offset, has_room}
 use Rattle.rv_cut_laws.proofs.FollowingLemmas.{Follow, Clears, field_inside}
 use Rattle.rv_cut_laws.proofs.ApartLemmas.{padded}
 

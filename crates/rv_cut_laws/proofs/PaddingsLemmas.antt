@@ -5,11 +5,11 @@ use Rattle.std.specs.Prelude.{◌==◌, unwrap_or}
 use Rattle.std.specs.List.{list_all}
 use Rattle.std.proofs.lemmas.Bool.{leb-true, leb-false, le-leb, eqb-true, eq-eqb, and_parts, and_from, or_left, or_right, ltb-true, ltb-false}
 use Rattle.rv_isa.specs.Kinds.{width_of}
-use Rattle.rv_object_types.specs.Object.{Contents, Relocation, Section, size_of}
-use Rattle.rv_object_types.specs.Valid.{is_align, padding_of, is_padding_of, is_padding, held, are_apart, are_all_apart}
-use Rattle.rv_object_laws.specs.Moves.{Move, new_offset}
-use Rattle.rv_object_laws.specs.CallSites.{is_call}
-use Rattle.rv_object_laws.specs.Lists.{In}
+use Rattle.rv_object_laws.specs.Object.{Contents, Relocation, Section, size_of}
+use Rattle.rv_object_laws.specs.Valid.{is_align, padding_of, is_padding_of, is_padding, held, are_apart, are_all_apart}
+use Rattle.rv_link_laws.specs.Moves.{Move, new_offset}
+use Rattle.rv_link_laws.specs.CallSites.{is_call}
+use Rattle.rv_link_laws.specs.Lists.{In}
 use Rattle.rv_cut_laws.specs.Cutting.{are_cuts, AreCuts, cut_kind, cut_relocation}
 use Rattle.rv_cut_laws.proofs.CallKindsLemmas.{call_width, call_no_align, left_no_align}
 use Rattle.rv_cut_laws.proofs.ShiftsLemmas.{rising, stays, stays_even}

@@ -10,12 +10,12 @@ use Rattle.rv_isa.specs.Kinds.{width_of}
 use Rattle.rv_isa_laws.specs.Bytes.{little_endian}
 use Rattle.rv_layout_laws.specs.declared.site.Site.{Site}
 use Rattle.rv_layout_laws.specs.Calls.{InOrder, is_call as is_call_site}
-use Rattle.rv_object_types.specs.Object.{Relocation, Section, Object, size_of, stored}
-use Rattle.rv_object_laws.specs.Moves.{Move, new_offset, has_padding}
-use Rattle.rv_object_laws.specs.Inputs.{InputSection, goes_to_text}
-use Rattle.rv_object_laws.specs.CallSites.{is_call, meets, link_register, is_permitted, may_change, in_order, changes, site_of}
-use Rattle.rv_object_laws.specs.Shortened.{Sizes, empty_jump, empty_jal, short_call, is_shortened, cut, cuts, shortened_kind, shortened_relocation, shortened_contents, shortened_text}
-use Rattle.rv_object_laws.specs.Lists.{In}
+use Rattle.rv_object_laws.specs.Object.{Relocation, Section, Object, size_of, stored}
+use Rattle.rv_link_laws.specs.Moves.{Move, new_offset, has_padding}
+use Rattle.rv_link_laws.specs.Inputs.{InputSection, goes_to_text}
+use Rattle.rv_link_laws.specs.CallSites.{is_call, meets, link_register, is_permitted, may_change, in_order, changes, site_of}
+use Rattle.rv_link_laws.specs.Shortened.{Sizes, empty_jump, empty_jal, short_call, is_shortened, cut, cuts, shortened_kind, shortened_relocation, shortened_contents, shortened_text}
+use Rattle.rv_link_laws.specs.Lists.{In}
 use Rattle.rv_cut_laws.specs.Cutting.{are_cuts, AreCuts, kind_left, cut_kind, cut_relocation, cut_section}
 use Rattle.rv_cut_laws.specs.Walk.{count_within, moves_of}
 use Rattle.rv_cut_laws.proofs.CallKindsLemmas.{call_width}

@@ -4,8 +4,8 @@ use Rattle.std.proofs.Common.{◌≡◌, ℕ, ◌+◌, ◌-◌, ◌%◌, ◌^◌
 use Rattle.std.specs.Prelude.{◌==◌}
 use Rattle.std.proofs.lemmas.Bool.{leb-true, leb-false, eqb-true, and_parts, or_cases}
 use Rattle.std.proofs.lemmas.List.{length-append, length-take, length-drop}
-use Rattle.rv_object_laws.specs.Moves.{Move, dropped, new_offset, kept}
-use Rattle.rv_object_laws.specs.Lists.{In}
+use Rattle.rv_link_laws.specs.Moves.{Move, dropped, new_offset, kept}
+use Rattle.rv_link_laws.specs.Lists.{In}
 use Rattle.rv_cut_laws.specs.Cutting.{is_cut, are_cuts}
 
 pub record IsCut (stop size : ℕ) (m : Move) : Type 0 where

@@ -4,11 +4,11 @@ use Rattle.std.proofs.Common.{◌≡◌, ℕ, ◌+◌, inl, Bool, true, false, c
 use Rattle.std.specs.List.{list_all}
 use Rattle.std.proofs.lemmas.Bool.{leb-true, le-leb, eqb-true, and_parts, and_from}
 use Rattle.rv_isa.specs.Kinds.{width_of}
-use Rattle.rv_object_types.specs.Object.{Contents, Progbits, Note, Nobits, Relocation, Section, size_of}
-use Rattle.rv_object_types.specs.Valid.{fits_inside, fit_inside, is_padding, are_all_apart, are_paddings}
-use Rattle.rv_object_laws.specs.Moves.{Move, new_offset, kept}
-use Rattle.rv_object_laws.specs.CallSites.{is_call}
-use Rattle.rv_object_laws.specs.Shortened.{shortened_contents}
+use Rattle.rv_object_laws.specs.Object.{Contents, Progbits, Note, Nobits, Relocation, Section, size_of}
+use Rattle.rv_object_laws.specs.Valid.{fits_inside, fit_inside, is_padding, are_all_apart, are_paddings}
+use Rattle.rv_link_laws.specs.Moves.{Move, new_offset, kept}
+use Rattle.rv_link_laws.specs.CallSites.{is_call}
+use Rattle.rv_link_laws.specs.Shortened.{shortened_contents}
 use Rattle.rv_cut_laws.specs.Cutting.{are_cuts, IsClear, AreCuts, cut_kind, cut_relocation, cut_section}
 use Rattle.rv_cut_laws.proofs.CallKindsLemmas.{call_width}
 use Rattle.rv_cut_laws.proofs.ShiftsLemmas.{rising, length_kept}

@@ -3,13 +3,13 @@
 use Rattle.std.proofs.Common.{◌≡◌, ℕ, zero, suc, ◌+◌, ◌-◌, Bool, true, nat_le, List, [], ◌∷◌, Some, map, refl, arith}
 use Rattle.std.specs.List.{list_all, slice_get}
 use Rattle.std.proofs.lemmas.Bool.{leb-true, le-leb, and_parts, and_from}
-use Rattle.rv_object_types.specs.declared.row.Row.{Row}
+use Rattle.rv_object_laws.specs.declared.row.Row.{Row}
 use Rattle.rv_object_types.specs.declared.section.Section.{Section as DeclaredSection}
-use Rattle.rv_object_types.specs.Object.{Section, size_of}
+use Rattle.rv_object_laws.specs.Object.{Section, size_of}
 use Rattle.rv_object_types.specs.Sections.{section_of}
-use Rattle.rv_object_types.specs.Valid.{fit_inside, is_row_in, are_rows}
-use Rattle.rv_object_laws.specs.Moves.{Move, new_offset}
-use Rattle.rv_object_laws.specs.Shortened.{shortened_contents}
+use Rattle.rv_object_laws.specs.Valid.{fit_inside, is_row_in, are_rows}
+use Rattle.rv_link_laws.specs.Moves.{Move, new_offset}
+use Rattle.rv_link_laws.specs.Shortened.{shortened_contents}
 use Rattle.rv_cut_laws.specs.Cutting.{AreCuts, AllCut, cut_section, cut_sections, moves_at, cut_row}
 use Rattle.rv_cut_laws.proofs.ShiftsLemmas.{rising}
 use Rattle.rv_cut_laws.proofs.FieldsLemmas.{all_mapped}

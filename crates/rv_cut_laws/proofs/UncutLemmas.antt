@@ -1,11 +1,11 @@
 -- Objects of which nothing is cut are as they were.
 
 use Rattle.std.proofs.Common.{◌≡◌, ℕ, zero, suc, ◌+◌, ◌-◌, List, [], ◌∷◌, map, refl, sym, ap, ◌∙◌, arith}
-use Rattle.rv_object_types.specs.declared.symbol.Definition.{Definition}
-use Rattle.rv_object_types.specs.declared.symbol.Definition.TheVariants as definitions
-use Rattle.rv_object_types.specs.declared.row.Row.{Row}
-use Rattle.rv_object_types.specs.Object.{Section, Symbol, Object}
-use Rattle.rv_object_laws.specs.Moves.{Move, new_offset}
+use Rattle.rv_object_laws.specs.declared.symbol.Definition.{Definition}
+use Rattle.rv_object_laws.specs.declared.symbol.Definition.TheVariants as definitions
+use Rattle.rv_object_laws.specs.declared.row.Row.{Row}
+use Rattle.rv_object_laws.specs.Object.{Section, Symbol, Object}
+use Rattle.rv_link_laws.specs.Moves.{Move, new_offset}
 use Rattle.rv_cut_laws.specs.Cutting.{AllCut, cut_sections, moves_at, cut_definition, cut_symbol, cut_row, cut_row_of, cut_object}
 use Rattle.rv_cut_laws.proofs.ShortLemmas.{nothing_cut}
 pub use Rattle.rv_cut_laws.proofs.LaidLemmas.{none_cut as no_cuts}

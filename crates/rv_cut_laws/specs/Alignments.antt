@@ -1,8 +1,8 @@
 -- Alignments in the order of their places.
 
 use Rattle.std.specs.Prelude.{ℕ, ◌+◌, ◌^◌, Bool, true, ◌&&◌, nat_le, nat_lt, List, [], ◌∷◌}
-use Rattle.rv_object_types.specs.Object.{Relocation}
-use Rattle.rv_object_laws.specs.Moves.{full_padding}
+use Rattle.rv_object_laws.specs.Object.{Relocation}
+use Rattle.rv_link_laws.specs.Moves.{full_padding}
 
 -- behind paddings that end at an offset, alignments whose paddings lie one behind the other, in a
 -- section of less than 2 ^ 64 bytes

@@ -4,15 +4,15 @@ use Rattle.std.specs.Prelude.{◌≡◌, ◌⊎◌, ⊤, ℕ, ◌+◌, ◌-◌, 
 use Rattle.std.specs.List.{find, slice_get}
 use Rattle.rv_isa.specs.declared.kind.Kind.{Kind}
 use Rattle.rv_isa.specs.declared.kind.Kind.TheVariants as kinds
-use Rattle.rv_object_types.specs.declared.symbol.Definition.{Definition}
-use Rattle.rv_object_types.specs.declared.symbol.Definition.TheVariants as definitions
-use Rattle.rv_object_types.specs.declared.row.Row.{Row}
-use Rattle.rv_object_types.specs.Object.{Relocation, Section, Symbol, Object, size_of}
-use Rattle.rv_object_types.specs.Valid.{fit_inside, are_paddings}
-use Rattle.rv_object_laws.specs.Moves.{Move, new_offset, lost}
-use Rattle.rv_object_laws.specs.CallSites.{is_call, meets}
-use Rattle.rv_object_laws.specs.Shortened.{shortened_contents}
-use Rattle.rv_object_laws.specs.Lists.{In}
+use Rattle.rv_object_laws.specs.declared.symbol.Definition.{Definition}
+use Rattle.rv_object_laws.specs.declared.symbol.Definition.TheVariants as definitions
+use Rattle.rv_object_laws.specs.declared.row.Row.{Row}
+use Rattle.rv_object_laws.specs.Object.{Relocation, Section, Symbol, Object, size_of}
+use Rattle.rv_object_laws.specs.Valid.{fit_inside, are_paddings}
+use Rattle.rv_link_laws.specs.Moves.{Move, new_offset, lost}
+use Rattle.rv_link_laws.specs.CallSites.{is_call, meets}
+use Rattle.rv_link_laws.specs.Shortened.{shortened_contents}
+use Rattle.rv_link_laws.specs.Lists.{In}
 
 -- ---- the cuts of a section
 

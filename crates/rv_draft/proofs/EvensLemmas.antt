@@ -8,13 +8,13 @@ use Rattle.rv_statement.specs.Statement.{StatementKind, Label, Numbered, Instruc
 use Rattle.rv_unit_laws.specs.Tables.{Tables, alignment_of}
 use Rattle.rv_unit_laws.proofs.GrownLemmas.{AlignsToPower, directive_aligned}
 use Rattle.rv_source_laws.specs.Located.{Located}
-use Rattle.rv_object_types.specs.Padding.{no_operations}
+use Rattle.rv_object_laws.specs.Padding.{no_operations}
 use Rattle.rv_source_laws.specs.Sizes.{code_padding}
 use Rattle.rv_assemble_laws.specs.LaidStatements.{expression_value}
 use Rattle.rv_instruction.specs.declared.encoded.Coded.{Coded}
 use Rattle.rv_layout.specs.Code.{statement_padding, padding_at, bytes_coded}
 use Rattle.rv_draft.specs.Code.{code_bytes}
-use Rattle.rv_object_types.proofs.NopsLemmas.{length_even}
+use Rattle.rv_object_laws.proofs.NopsLemmas.{length_even}
 
 -- ---- and powers of two
 

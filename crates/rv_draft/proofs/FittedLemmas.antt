@@ -17,7 +17,7 @@ use Rattle.rv_text_laws.specs.Codes.{faulty_if}
 use Rattle.rv_unit_laws.specs.Faults.{value_faults, power_faults, bytes_faults, code_alignment_faults, alignment_faults, past_section, directive_faults, faults, first_unit_fault}
 use Rattle.rv_unit_laws.proofs.OpenedLemmas.{after_opened}
 use Rattle.rv_unit.proofs.ConstantsLemmas.{constant_whole}
-use Rattle.rv_object_types.specs.Padding.{no_operations, operations_in}
+use Rattle.rv_object_laws.specs.Padding.{no_operations, operations_in}
 use Rattle.rv_pseudo_laws.specs.Code.{Part as CodePart, named_form, code}
 use Rattle.rv_pseudo_laws.specs.Filled.{are_closed}
 use Rattle.rv_source_laws.specs.Located.{Located, located_now, located_from, contributes, is_placed}
@@ -40,7 +40,7 @@ use Rattle.rv_draft.specs.Seated.{laid_of, laid_from}
 use Rattle.rv_draft.specs.Sized.{IsItemPadded, IsSized, AreSized}
 use Rattle.rv_draft.proofs.FieldsSoFarLemmas.{value_long}
 use Rattle.rv_draft.proofs.EvensLemmas.{none_more, padding_of_even}
-use Rattle.rv_object_types.proofs.NopsLemmas.{length_even}
+use Rattle.rv_object_laws.proofs.NopsLemmas.{length_even}
 use Rattle.rv_draft.proofs.RoomyLemmas.{a_power, a_multiple}
 use Rattle.rv_draft.proofs.SoundLemmas.{AreSound, sound}
 

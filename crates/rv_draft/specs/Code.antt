@@ -5,7 +5,7 @@ use Rattle.std.specs.Global.{Vec}
 use Rattle.rv_text_laws.specs.Codes.{limit}
 use Rattle.rv_unit_laws.specs.Faults.{StatementFault, at_line}
 use Rattle.rv_unit_laws.specs.Tables.{Tables, longest_section}
-use Rattle.rv_object_types.specs.Padding.{no_operations, operations_in}
+use Rattle.rv_object_laws.specs.Padding.{no_operations, operations_in}
 use Rattle.rv_source_laws.specs.Located.{Located}
 use Rattle.rv_instruction.specs.declared.encoded.Coded.{Coded}
 use Rattle.rv_instruction.specs.Code.{instructions_of}

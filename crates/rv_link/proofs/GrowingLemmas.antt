@@ -6,13 +6,13 @@ use Rattle.std.specs.Prelude.{ℤ, IsTrue, Option, Some, None}
 use Rattle.std.specs.List.{AllByRecursion, list_all, slice_get}
 use Rattle.rv_layout_laws.specs.Alignment.{aligned}
 use Rattle.rv_map.specs.declared.map.Region.{Region}
-use Rattle.rv_object_types.specs.Object.{Relocation, Section, Object}
-use Rattle.rv_object_laws.specs.Moves.{Move, moves, new_offset, kept, has_room, alignments_of}
-use Rattle.rv_object_laws.specs.Inputs.{Starts, InputSection, goes_to_text, inputs_from, inputs_of, raised, begins_at, start_of, size, Stand, sections_end, Holds, contents}
-use Rattle.rv_object_laws.specs.Names.{object_at}
-use Rattle.rv_object_laws.specs.Values.{patched_at, applied, initial_bytes}
-use Rattle.rv_object_laws.specs.Layout.{section_in, object_section}
-use Rattle.rv_object_laws.specs.Untaken.{worth}
+use Rattle.rv_object_laws.specs.Object.{Relocation, Section, Object}
+use Rattle.rv_link_laws.specs.Moves.{Move, moves, new_offset, kept, has_room, alignments_of}
+use Rattle.rv_link_laws.specs.Inputs.{Starts, InputSection, goes_to_text, inputs_from, inputs_of, raised, begins_at, start_of, size, Stand, sections_end, Holds, contents}
+use Rattle.rv_link_laws.specs.Names.{object_at}
+use Rattle.rv_link_laws.specs.Values.{patched_at, applied, initial_bytes}
+use Rattle.rv_link_laws.specs.Layout.{section_in, object_section}
+use Rattle.rv_link_laws.specs.Untaken.{worth}
 use Rattle.rv_shorten.specs.Sections.{short_section_of}
 use Rattle.rv_relax.specs.Kept.{moves_of}
 use Rattle.rv_placement.specs.declared.placement.Placement.{Placement}
@@ -21,7 +21,7 @@ use Rattle.rv_isa.specs.declared.kind.Kind.{Kind}
 use Rattle.rv_isa.specs.Kinds.{width_of}
 use Rattle.rv_isa_laws.specs.Bytes.{little_endian, zeros}
 use Rattle.rv_reloc.specs.Fields.{patched}
-use Rattle.rv_object_laws.proofs.ListsLemmas.{found_at}
+use Rattle.rv_link_laws.proofs.ListsLemmas.{found_at}
 use Rattle.rv_link.specs.declared.fixed.Input.{Input}
 use Rattle.rv_link_values.specs.Values.{IsInputAt}
 use Rattle.rv_link.proofs.StepsLemmas.{all_inside, kept_long}

@@ -10,15 +10,15 @@ use Rattle.rv_isa.specs.declared.kind.Kind.{Kind}
 use Rattle.rv_isa.specs.declared.kind.Kind.TheVariants as kinds
 use Rattle.rv_reloc.specs.Values.{value_of}
 use Rattle.rv_reloc.specs.Ranges.{Takes}
-use Rattle.rv_object_types.specs.Object.{Relocation, Object}
+use Rattle.rv_object_laws.specs.Object.{Relocation, Object}
 use Rattle.rv_object_types.specs.Parts.{relocation_of}
 use Rattle.rv_object_types.specs.declared.relocation.Relocation.{Relocation as Declared}
-use Rattle.rv_object_laws.specs.CallSites.{is_call}
-use Rattle.rv_object_laws.specs.Moves.{Move}
-use Rattle.rv_object_laws.specs.Layout.{outer_in}
+use Rattle.rv_link_laws.specs.CallSites.{is_call}
+use Rattle.rv_link_laws.specs.Moves.{Move}
+use Rattle.rv_link_laws.specs.Layout.{outer_in}
 use Rattle.rv_cut_laws.specs.Cutting.{cut_at, cut_relocation, kind_left}
-use Rattle.rv_object_laws.specs.Inputs.{InputSection, start_of}
-use Rattle.rv_object_laws.specs.Values.{value, own_value, paired, patched_at}
+use Rattle.rv_link_laws.specs.Inputs.{InputSection, start_of}
+use Rattle.rv_link_laws.specs.Values.{value, own_value, paired, patched_at}
 use Rattle.rv_placement.specs.declared.placement.Placement.{Placement}
 use Rattle.rv_placement.specs.Placement.{starts_of, layout_of}
 use Rattle.rv_link.specs.Idle.{is_idle}

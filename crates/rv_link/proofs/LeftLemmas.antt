@@ -8,27 +8,27 @@ use Rattle.rv_layout_laws.specs.Calls.{IsText}
 use Rattle.rv_layout_laws.proofs.ShorteningLemmas.{greatest_closed_exists}
 use Rattle.rv_collect_laws.proofs.MarksLemmas.{some_drops}
 use Rattle.rv_object_types.specs.declared.object.Object.{Object as DeclaredObject}
-use Rattle.rv_object_types.specs.declared.symbol.Definition.{Definition}
-use Rattle.rv_object_types.specs.declared.symbol.Definition.TheVariants as definitions
-use Rattle.rv_object_types.specs.Object.{Symbol, Object}
+use Rattle.rv_object_laws.specs.declared.symbol.Definition.{Definition}
+use Rattle.rv_object_laws.specs.declared.symbol.Definition.TheVariants as definitions
+use Rattle.rv_object_laws.specs.Object.{Symbol, Object}
 use Rattle.rv_object_types.specs.View.{object_of}
-use Rattle.rv_object_laws.specs.CallSites.{sites_of}
-use Rattle.rv_object_laws.specs.Collects.{Collects, graph_of}
-use Rattle.rv_object_laws.specs.IsProgramOf.{Leaves, IsProgramOf}
-use Rattle.rv_object_laws.specs.Without.{without}
-use Rattle.rv_object_laws.specs.Shortened.{Sizes, shortened_symbol, shortened_from, shortened, Relaxes}
-use Rattle.rv_object_laws.specs.Refusals.{ArePast, AreDoubled, IsUnlinked, HasNoProgram}
-use Rattle.rv_object_laws.proofs.TextLineLemmas.{sites_text, whole_text}
-use Rattle.rv_object_laws.proofs.WholeLemmas.{are_whole, whole_left}
-use Rattle.rv_object_laws.proofs.WithoutLemmas.{without_none, as_many_from as many_left_from}
+use Rattle.rv_link_laws.specs.CallSites.{sites_of}
+use Rattle.rv_link_laws.specs.Collects.{Collects, graph_of}
+use Rattle.rv_link_laws.specs.IsProgramOf.{Leaves, IsProgramOf}
+use Rattle.rv_link_laws.specs.Without.{without}
+use Rattle.rv_link_laws.specs.Shortened.{Sizes, shortened_symbol, shortened_from, shortened, Relaxes}
+use Rattle.rv_link_laws.specs.Refusals.{ArePast, AreDoubled, IsUnlinked, HasNoProgram}
+use Rattle.rv_link_laws.proofs.TextLineLemmas.{sites_text, whole_text}
+use Rattle.rv_link_laws.proofs.WholeLemmas.{are_whole, whole_left}
+use Rattle.rv_link_laws.proofs.WithoutLemmas.{without_none, as_many_from as many_left_from}
 use Rattle.rv_resolve.specs.Chosen.{seen, seen_of}
-use Rattle.rv_object_laws.specs.Exports.{first_again}
+use Rattle.rv_link_laws.specs.Exports.{first_again}
 use Rattle.rv_resolve.proofs.AlikeLemmas.{same_names, seen_left}
 use Rattle.rv_reloc.specs.declared.fault.LinkFault.{LinkFault}
 use Rattle.rv_reloc.specs.declared.fault.LinkFault.TheVariants.{Overflow, OddTarget, DanglingPcrel, AlignmentShort, Undefined, Duplicate, EntryMissing, ImageTooLarge, BadTextStart, TooManyFiles, OutOfMemory}
 use Rattle.rv_link.specs.Left.{HasNoLink, IsLinkOfLeft}
-use Rattle.rv_object_laws.specs.Details.{IsProgramWith}
-use Rattle.rv_object_laws.specs.TextStart.{AreWithin}
+use Rattle.rv_link_laws.specs.Details.{IsProgramWith}
+use Rattle.rv_link_laws.specs.TextStart.{AreWithin}
 
 -- ---- names
 

@@ -8,16 +8,16 @@ use Rattle.std.specs.List.{AllByRecursion, list_all, slice_get}
 use Rattle.std.proofs.lemmas.Option.{slice_get_within}
 use Rattle.rv_map.specs.declared.map.SectionId.{SectionId}
 use Rattle.rv_map.specs.Limits.{IsMap}
-use Rattle.rv_object_types.specs.Object.{Section, Object}
-use Rattle.rv_object_laws.specs.Moves.{moves, has_room}
-use Rattle.rv_object_laws.specs.Inputs.{InputSection, goes_to_text, inputs_from, inputs_of, inputs, start_of}
-use Rattle.rv_object_laws.specs.Names.{entry_of}
-use Rattle.rv_object_laws.specs.IsLinkOf.{most_files, IsLinkOf, is_loaded}
-use Rattle.rv_object_laws.specs.Layout.{section_in, object_section, shown_globals, regions_of}
-use Rattle.rv_object_laws.specs.Untaken.{IsTaken, AreTaken}
-use Rattle.rv_object_laws.proofs.TextInputsLemmas.{all_append}
+use Rattle.rv_object_laws.specs.Object.{Section, Object}
+use Rattle.rv_link_laws.specs.Moves.{moves, has_room}
+use Rattle.rv_link_laws.specs.Inputs.{InputSection, goes_to_text, inputs_from, inputs_of, inputs, start_of}
+use Rattle.rv_link_laws.specs.Names.{entry_of}
+use Rattle.rv_link_laws.specs.IsLinkOf.{most_files, IsLinkOf, is_loaded}
+use Rattle.rv_link_laws.specs.Layout.{section_in, object_section, shown_globals, regions_of}
+use Rattle.rv_link_laws.specs.Untaken.{IsTaken, AreTaken}
+use Rattle.rv_link_laws.proofs.TextInputsLemmas.{all_append}
 use Rattle.rv_isa_laws.specs.Platform.{stack_start}
-use Rattle.rv_object_laws.proofs.ListsLemmas.{all_both}
+use Rattle.rv_link_laws.proofs.ListsLemmas.{all_both}
 use Rattle.rv_relax.specs.Kept.{moves_of}
 use Rattle.rv_placement.specs.declared.placement.PlacedSection.{PlacedSection}
 use Rattle.rv_placement.specs.declared.placement.Placement.{Placement}

@@ -10,26 +10,26 @@ use Rattle.rv_map.specs.Globals.{AreDistinct}
 use Rattle.rv_map.specs.Regions.{is_text}
 use Rattle.rv_map.specs.declared.map.SectionId.{SectionId}
 use Rattle.rv_object_types.specs.declared.object.Object.{Object as DeclaredObject}
-use Rattle.rv_object_types.specs.declared.symbol.Binding.{Binding}
-use Rattle.rv_object_types.specs.declared.symbol.Definition.{Definition}
-use Rattle.rv_object_types.specs.declared.symbol.Definition.TheVariants as definitions
-use Rattle.rv_object_types.specs.Bindings.{is_global, is_weak}
-use Rattle.rv_object_types.specs.Object.{Section, Symbol, Object}
+use Rattle.rv_object_laws.specs.declared.symbol.Binding.{Binding}
+use Rattle.rv_object_laws.specs.declared.symbol.Definition.{Definition}
+use Rattle.rv_object_laws.specs.declared.symbol.Definition.TheVariants as definitions
+use Rattle.rv_object_laws.specs.Bindings.{is_global, is_weak}
+use Rattle.rv_object_laws.specs.Object.{Section, Symbol, Object}
 use Rattle.rv_object_types.specs.View.{object_of}
-use Rattle.rv_object_laws.specs.Collects.{entry_place, Collects}
-use Rattle.rv_object_laws.specs.Inputs.{InputSection, goes_to_text, inputs_from, inputs_of}
-use Rattle.rv_object_laws.specs.IsLinkOf.{is_loaded}
-use Rattle.rv_object_laws.specs.Names.{Export, exports_in, exports_from, exports_where, candidates, is_export, global_names, is_in_text, can_begin}
-use Rattle.rv_object_laws.specs.Shortened.{Sizes, shortened_text, shortened_section, shortened_sections, shortened_from, Relaxes}
-use Rattle.rv_object_laws.specs.Without.{without}
-use Rattle.rv_object_laws.specs.Refusals.{HasNoProgram}
-use Rattle.rv_object_laws.proofs.DanglingLemmas.{nothing_left}
-use Rattle.rv_object_laws.proofs.TextInputsLemmas.{all_append}
-use Rattle.rv_object_laws.specs.Entry.{is_entry, has_entry}
-use Rattle.rv_object_laws.specs.Undefined.{undefined_name, first_some, undefined_in, first_undefined}
+use Rattle.rv_link_laws.specs.Collects.{entry_place, Collects}
+use Rattle.rv_link_laws.specs.Inputs.{InputSection, goes_to_text, inputs_from, inputs_of}
+use Rattle.rv_link_laws.specs.IsLinkOf.{is_loaded}
+use Rattle.rv_link_laws.specs.Names.{Export, exports_in, exports_from, exports_where, candidates, is_export, global_names, is_in_text, can_begin}
+use Rattle.rv_link_laws.specs.Shortened.{Sizes, shortened_text, shortened_section, shortened_sections, shortened_from, Relaxes}
+use Rattle.rv_link_laws.specs.Without.{without}
+use Rattle.rv_link_laws.specs.Refusals.{HasNoProgram}
+use Rattle.rv_link_laws.proofs.DanglingLemmas.{nothing_left}
+use Rattle.rv_link_laws.proofs.TextInputsLemmas.{all_append}
+use Rattle.rv_link_laws.specs.Entry.{is_entry, has_entry}
+use Rattle.rv_link_laws.specs.Undefined.{undefined_name, first_some, undefined_in, first_undefined}
 use Rattle.rv_resolve.proofs.AlikeLemmas.{same_names}
 use Rattle.rv_reloc.specs.declared.fault.LinkFault.TheVariants.{Undefined, EntryMissing}
-use Rattle.rv_object_laws.specs.TextStart.{AreWithin}
+use Rattle.rv_link_laws.specs.TextStart.{AreWithin}
 use Rattle.rv_link.proofs.LeftLemmas.{some_leaves}
 
 -- ---- objects of which nothing has an address

@@ -7,20 +7,20 @@ use Rattle.std.proofs.lemmas.Bool.{and_parts, ltb-true}
 use Rattle.rv_map.specs.Globals.{shown, linker_symbols}
 use Rattle.rv_map.specs.Limits.{IsGlobal}
 use Rattle.rv_map.specs.Name.{is_name}
-use Rattle.rv_object_types.specs.declared.symbol.Binding.{Binding}
-use Rattle.rv_object_types.specs.declared.symbol.Binding.TheVariants as bindings
-use Rattle.rv_object_types.specs.declared.symbol.Definition.{Definition}
-use Rattle.rv_object_types.specs.declared.symbol.Definition.TheVariants as definitions
+use Rattle.rv_object_laws.specs.declared.symbol.Binding.{Binding}
+use Rattle.rv_object_laws.specs.declared.symbol.Binding.TheVariants as bindings
+use Rattle.rv_object_laws.specs.declared.symbol.Definition.{Definition}
+use Rattle.rv_object_laws.specs.declared.symbol.Definition.TheVariants as definitions
 use Rattle.rv_object_types.specs.declared.symbol.Symbol.{Symbol as DeclaredSymbol}
-use Rattle.rv_object_types.specs.Bindings.{is_shared}
-use Rattle.rv_object_types.specs.Object.{Section, Symbol, Object}
+use Rattle.rv_object_laws.specs.Bindings.{is_shared}
+use Rattle.rv_object_laws.specs.Object.{Section, Symbol, Object}
 use Rattle.rv_object_types.specs.Parts.{symbol_of}
-use Rattle.rv_object_types.specs.Valid.{is_shown, has_64_bits}
-use Rattle.rv_object_laws.specs.Inputs.{Starts}
-use Rattle.rv_object_laws.specs.Moves.{Move, moves, new_offset}
-use Rattle.rv_object_laws.specs.Names.{Export, chosen, is_defined, is_export, exports_in, exports_from, exports_where, is_chosen, chosen_exports, offset_address, defined_address, export_address, globals_of, shown_linker_symbols}
-use Rattle.rv_object_laws.specs.Layout.{regions_of, shown_globals}
-use Rattle.rv_object_laws.proofs.TextInputsLemmas.{all_append}
+use Rattle.rv_object_laws.specs.Valid.{is_shown, has_64_bits}
+use Rattle.rv_link_laws.specs.Inputs.{Starts}
+use Rattle.rv_link_laws.specs.Moves.{Move, moves, new_offset}
+use Rattle.rv_link_laws.specs.Names.{Export, chosen, is_defined, is_export, exports_in, exports_from, exports_where, is_chosen, chosen_exports, offset_address, defined_address, export_address, globals_of, shown_linker_symbols}
+use Rattle.rv_link_laws.specs.Layout.{regions_of, shown_globals}
+use Rattle.rv_link_laws.proofs.TextInputsLemmas.{all_append}
 use Rattle.rv_shorten.specs.declared.object.ShortObject.{ShortObject}
 use Rattle.rv_cut_laws.specs.Cutting.{cut_definition, cut_symbol}
 use Rattle.rv_shorten.specs.View.{short_object_of, moves_by_section}

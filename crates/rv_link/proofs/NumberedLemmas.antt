@@ -5,14 +5,14 @@ use Rattle.std.specs.List.{AllByRecursion, list_all, slice_get}
 use Rattle.std.proofs.lemmas.Bool.{and_parts}
 use Rattle.std.proofs.lemmas.Option.{slice_get_within}
 use Rattle.rv_map.specs.Limits.{IsRow}
-use Rattle.rv_object_types.specs.declared.row.Row.{Row}
-use Rattle.rv_object_types.specs.Object.{Object, size_of}
-use Rattle.rv_object_types.specs.Valid.{is_row_in, is_counted, are_counted}
-use Rattle.rv_object_types.proofs.CountedLemmas.{counted_widths}
-use Rattle.rv_object_laws.specs.IsLinkOf.{inserted_row, by_ordinal, map_row, moves_at, row_in, rows_of, most_files}
-use Rattle.rv_object_laws.specs.Moves.{Move, moves, new_offset}
-use Rattle.rv_object_laws.specs.Layout.{object_section}
-use Rattle.rv_object_laws.proofs.TextInputsLemmas.{all_append}
+use Rattle.rv_object_laws.specs.declared.row.Row.{Row}
+use Rattle.rv_object_laws.specs.Object.{Object, size_of}
+use Rattle.rv_object_laws.specs.Valid.{is_row_in, is_counted, are_counted}
+use Rattle.rv_object_laws.proofs.CountedLemmas.{counted_widths}
+use Rattle.rv_link_laws.specs.IsLinkOf.{inserted_row, by_ordinal, map_row, moves_at, row_in, rows_of, most_files}
+use Rattle.rv_link_laws.specs.Moves.{Move, moves, new_offset}
+use Rattle.rv_link_laws.specs.Layout.{object_section}
+use Rattle.rv_link_laws.proofs.TextInputsLemmas.{all_append}
 use Rattle.rv_shorten.specs.declared.object.ShortObject.{ShortObject}
 use Rattle.rv_cut_laws.specs.Cutting.{cut_row_of}
 use Rattle.rv_shorten.specs.View.{short_object_of, moves_by_section as cuts_of}

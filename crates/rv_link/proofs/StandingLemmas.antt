@@ -5,10 +5,10 @@ use Rattle.std.proofs.lemmas.Bool.{and_parts}
 use Rattle.std.proofs.lemmas.List.{length-map}
 use Rattle.std.specs.Global.{Vec}
 use Rattle.std.specs.List.{list_all, slice_get}
-use Rattle.rv_object_types.specs.Object.{Object}
-use Rattle.rv_object_laws.specs.Moves.{has_room}
-use Rattle.rv_object_laws.specs.Names.{object_at, no_object}
-use Rattle.rv_object_laws.specs.Layout.{section_in, object_section}
+use Rattle.rv_object_laws.specs.Object.{Object}
+use Rattle.rv_link_laws.specs.Moves.{has_room}
+use Rattle.rv_link_laws.specs.Names.{object_at, no_object}
+use Rattle.rv_link_laws.specs.Layout.{section_in, object_section}
 use Rattle.rv_shorten.specs.declared.object.ShortObject.{ShortObject}
 use Rattle.rv_shorten.specs.Sections.{short_section_of}
 use Rattle.rv_shorten.specs.View.{short_object_of}
@@ -18,7 +18,7 @@ use Rattle.rv_placement.specs.declared.placement.Placement.{Placement}
 use Rattle.rv_placement.specs.Placement.{starts_of, start_in, placed_in, placed_at, are_roomy_in, are_roomy, IsPlacement}
 use Rattle.rv_link.specs.declared.fixed.Input.{Input}
 use Rattle.rv_link.specs.Filled.{IsPlacedInput}
-use Rattle.rv_object_laws.proofs.ListsLemmas.{found_at}
+use Rattle.rv_link_laws.proofs.ListsLemmas.{found_at}
 
 pub read : {A B : Type 0} (f : A → B) (xs : List A) (i : ℕ) (x : A) → i < length xs → x ≡ get_or xs i x → slice_get (map f xs) i ≡ Some (f x)
 read f [] i x h e = absurd (omega arith)

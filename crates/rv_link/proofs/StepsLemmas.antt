@@ -7,15 +7,15 @@ use Rattle.std.specs.Prelude.{◌==◌, is_some, unwrap_or, ℤ, pos, IsTrue, tr
 use Rattle.std.specs.List.{AllByRecursion, list_all}
 use Rattle.rv_isa.specs.Kinds.{width_of, is_low_part}
 use Rattle.rv_reloc.specs.Ranges.{Takes, Refuses}
-use Rattle.rv_object_types.specs.Object.{Contents, Progbits, Note, Nobits, Relocation, Section, Object, size_of}
-use Rattle.rv_object_types.specs.Valid.{are_paddings, fit_inside}
+use Rattle.rv_object_laws.specs.Object.{Contents, Progbits, Note, Nobits, Relocation, Section, Object, size_of}
+use Rattle.rv_object_laws.specs.Valid.{are_paddings, fit_inside}
 use Rattle.rv_object_types.specs.Parts.{relocation_of}
 use Rattle.rv_object_types.specs.declared.relocation.Relocation.{Relocation as Declared}
-use Rattle.rv_object_laws.specs.Moves.{Move, moves, new_offset, kept, has_room}
-use Rattle.rv_object_laws.specs.Inputs.{InputSection, has_no_bytes}
-use Rattle.rv_object_laws.specs.Values.{applied, patched_at, value, initial_bytes}
-use Rattle.rv_object_laws.specs.Layout.{outer_in}
-use Rattle.rv_object_laws.specs.Untaken.{IsTaken, worth, IsFirst, IsUntaken}
+use Rattle.rv_link_laws.specs.Moves.{Move, moves, new_offset, kept, has_room}
+use Rattle.rv_link_laws.specs.Inputs.{InputSection, has_no_bytes}
+use Rattle.rv_link_laws.specs.Values.{applied, patched_at, value, initial_bytes}
+use Rattle.rv_link_laws.specs.Layout.{outer_in}
+use Rattle.rv_link_laws.specs.Untaken.{IsTaken, worth, IsFirst, IsUntaken}
 use Rattle.rv_cut_laws.specs.Cutting.{cut_relocation}
 use Rattle.rv_placement.specs.declared.placement.Placement.{Placement}
 use Rattle.rv_placement.specs.Placement.{starts_of, layout_of}

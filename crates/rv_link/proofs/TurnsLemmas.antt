@@ -5,13 +5,13 @@ use Rattle.std.specs.Prelude.{◌&&◌, not}
 use Rattle.std.specs.Global.{Vec}
 use Rattle.std.specs.List.{AllByRecursion}
 use Rattle.rv_map.specs.declared.map.Region.{Region}
-use Rattle.rv_object_types.specs.Object.{Section, Object}
-use Rattle.rv_object_laws.specs.Inputs.{InputSection, has_no_bytes, goes_to_text, goes_to_rodata, goes_to_data, inputs_from, inputs_of, inputs, Stand}
-use Rattle.rv_object_laws.specs.Names.{object_at, no_object}
-use Rattle.rv_object_laws.specs.Untaken.{AreTaken, AreUntaken, IsFirstUntaken}
+use Rattle.rv_object_laws.specs.Object.{Section, Object}
+use Rattle.rv_link_laws.specs.Inputs.{InputSection, has_no_bytes, goes_to_text, goes_to_rodata, goes_to_data, inputs_from, inputs_of, inputs, Stand}
+use Rattle.rv_link_laws.specs.Names.{object_at, no_object}
+use Rattle.rv_link_laws.specs.Untaken.{AreTaken, AreUntaken, IsFirstUntaken}
 use Rattle.std.proofs.lemmas.List.{drop_more, drop_all}
 use Rattle.rv_isa_laws.specs.Bytes.{zeros}
-use Rattle.rv_object_laws.specs.IsLinkOf.{is_loaded}
+use Rattle.rv_link_laws.specs.IsLinkOf.{is_loaded}
 use Rattle.rv_shorten.specs.Sections.{short_section_of}
 use Rattle.rv_placement.specs.declared.placement.Placement.{Placement}
 use Rattle.rv_placement.specs.Placement.{starts_of, IsPlacement, layout_of}

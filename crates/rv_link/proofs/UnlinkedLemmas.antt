@@ -1,12 +1,12 @@
 -- Why a link ends: what each pass says of it.
 
 use Rattle.std.proofs.Common.{◌≡◌, ℕ, List, [], ◌∷◌, length, true, inl, inr, refl, subst, sym}
-use Rattle.rv_object_types.specs.Object.{Relocation, Object}
-use Rattle.rv_object_laws.specs.Inputs.{InputSection, inputs}
-use Rattle.rv_object_laws.specs.IsLinkOf.{is_loaded}
-use Rattle.rv_object_laws.specs.Layout.{AreRoomy}
-use Rattle.rv_object_laws.specs.Untaken.{IsTaken, IsFirst, IsUntaken, AreTaken, AreUntaken, IsFirstUntaken}
-use Rattle.rv_object_laws.specs.Refusals.{AreUnnamed, AreUnplaced, ComesToPlaces, IsUnlinked}
+use Rattle.rv_object_laws.specs.Object.{Relocation, Object}
+use Rattle.rv_link_laws.specs.Inputs.{InputSection, inputs}
+use Rattle.rv_link_laws.specs.IsLinkOf.{is_loaded}
+use Rattle.rv_link_laws.specs.Layout.{AreRoomy}
+use Rattle.rv_link_laws.specs.Untaken.{IsTaken, IsFirst, IsUntaken, AreTaken, AreUntaken, IsFirstUntaken}
+use Rattle.rv_link_laws.specs.Refusals.{AreUnnamed, AreUnplaced, ComesToPlaces, IsUnlinked}
 use Rattle.rv_placement.specs.declared.fault.PlacementFault.{PlacementFault}
 use Rattle.rv_placement.specs.declared.fault.PlacementFault.TheVariants as placements
 use Rattle.rv_placement.specs.declared.placement.Placement.{Placement}
@@ -16,7 +16,7 @@ use Rattle.rv_reloc.specs.declared.fault.LinkFault.TheVariants.{Overflow, OddTar
 use Rattle.rv_placement.specs.Fault.{of_placement}
 use Rattle.rv_placement.proofs.RoomsLemmas.{are_rooms}
 use Rattle.rv_link.specs.Untaken.{AreUnfilled}
-use Rattle.rv_object_laws.specs.TextStart.{AreWithin}
+use Rattle.rv_link_laws.specs.TextStart.{AreWithin}
 
 -- why sections cannot be placed
 pub unplaced : (os : List Object) (start : ℕ) (fault : PlacementFault) → IsUnplaced os start fault → AreUnplaced os start (of_placement fault)

@@ -3,13 +3,13 @@
 use Rattle.std.specs.Prelude.{◌≡◌, ℕ, ◌+◌, ◌<◌, ◌≤◌, IsTrue, List, map, Some}
 use Rattle.std.specs.List.{AllByRecursion, list_all}
 use Rattle.rv_isa.specs.Kinds.{width_of}
-use Rattle.rv_object_types.specs.Object.{Relocation, Section, Object}
-use Rattle.rv_object_laws.specs.Moves.{Move, moves, new_offset, has_room}
-use Rattle.rv_object_laws.specs.Inputs.{InputSection}
-use Rattle.rv_object_laws.specs.Names.{object_at}
-use Rattle.rv_object_laws.specs.Values.{linked_bytes}
-use Rattle.rv_object_laws.specs.Layout.{object_section, outer_in}
-use Rattle.rv_object_laws.specs.Untaken.{IsTaken}
+use Rattle.rv_object_laws.specs.Object.{Relocation, Section, Object}
+use Rattle.rv_link_laws.specs.Moves.{Move, moves, new_offset, has_room}
+use Rattle.rv_link_laws.specs.Inputs.{InputSection}
+use Rattle.rv_link_laws.specs.Names.{object_at}
+use Rattle.rv_link_laws.specs.Values.{linked_bytes}
+use Rattle.rv_link_laws.specs.Layout.{object_section, outer_in}
+use Rattle.rv_link_laws.specs.Untaken.{IsTaken}
 use Rattle.rv_shorten.specs.Sections.{short_section_of}
 use Rattle.rv_shorten.specs.View.{short_object_of}
 use Rattle.rv_relax.specs.Kept.{moves_of}

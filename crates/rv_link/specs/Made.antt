@@ -4,9 +4,9 @@ use Rattle.std.specs.Prelude.{ℕ, List}
 use Rattle.std.specs.List.{list_any}
 use Rattle.rv_image_laws.specs.Linked.{Linked}
 use Rattle.rv_map.specs.declared.map.SectionId.{SectionId}
-use Rattle.rv_object_types.specs.Object.{Object}
-use Rattle.rv_object_laws.specs.IsLinkOf.{rows_of}
-use Rattle.rv_object_laws.specs.Layout.{shown_globals}
+use Rattle.rv_object_laws.specs.Object.{Object}
+use Rattle.rv_link_laws.specs.IsLinkOf.{rows_of}
+use Rattle.rv_link_laws.specs.Layout.{shown_globals}
 use Rattle.rv_placement.specs.declared.placement.Placement.{Placement}
 use Rattle.rv_placement.specs.Placement.{starts_of, layout_of}
 use Rattle.rv_link.specs.declared.regions.Regions.{Regions}

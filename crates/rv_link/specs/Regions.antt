@@ -4,16 +4,16 @@ use Rattle.std.specs.Prelude.{◌≡◌, ℕ, suc, ◌+◌, Bool, true, List, �
 use Rattle.std.specs.List.{AllByRecursion}
 use Rattle.rv_map.specs.Globals.{AreDistinct}
 use Rattle.rv_map.specs.declared.map.Region.{Region}
-use Rattle.rv_object_types.specs.Object.{Section, Object}
-use Rattle.rv_object_laws.specs.Inputs.{Starts, InputSection, goes_to_text, goes_to_rodata, goes_to_data, inputs_from, inputs_of, inputs, Stand, sections_end, contents}
-use Rattle.rv_object_laws.specs.Untaken.{AreTaken, IsFirstUntaken}
+use Rattle.rv_object_laws.specs.Object.{Section, Object}
+use Rattle.rv_link_laws.specs.Inputs.{Starts, InputSection, goes_to_text, goes_to_rodata, goes_to_data, inputs_from, inputs_of, inputs, Stand, sections_end, contents}
+use Rattle.rv_link_laws.specs.Untaken.{AreTaken, IsFirstUntaken}
 use Rattle.rv_map.specs.Map.{Map}
-use Rattle.rv_object_laws.specs.Names.{object_at, outer_address, globals_of, global_names, shown_linker_symbols}
+use Rattle.rv_link_laws.specs.Names.{object_at, outer_address, globals_of, global_names, shown_linker_symbols}
 use Rattle.rv_resolve.specs.declared.names.Names.{Names}
 use Rattle.rv_resolve.specs.Names.{IsNames}
 use Rattle.rv_resolve.specs.Resolved.{AreResolved}
-use Rattle.rv_object_laws.specs.Undefined.{first_undefined}
-use Rattle.rv_object_laws.specs.IsLinkOf.{is_loaded}
+use Rattle.rv_link_laws.specs.Undefined.{first_undefined}
+use Rattle.rv_link_laws.specs.IsLinkOf.{is_loaded}
 use Rattle.rv_placement.specs.declared.placement.Placement.{Placement}
 use Rattle.rv_placement.specs.Placement.{starts_of, are_roomy, IsPlacement, layout_of}
 use Rattle.rv_link_values.specs.Values.{IsValues}

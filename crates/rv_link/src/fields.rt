@@ -2,7 +2,7 @@
 
 ghost use Rattle.std.specs.Prelude.{◌≡◌, ◌+◌, ◌<◌, ◌≤◌, IfErr, OnOk, length};
 ghost use Rattle.rv_isa.specs.Kinds.{width_of};
-ghost use Rattle.rv_object_laws.specs.Values.{patched_at};
+ghost use Rattle.rv_link_laws.specs.Values.{patched_at};
 ghost use Rattle.rv_reloc.specs.Ranges.{Takes, Refuses};
 
 use rv_isa::Kind;

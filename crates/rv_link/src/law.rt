@@ -4,16 +4,16 @@ ghost use Rattle.std.specs.Prelude.{◌≡◌, ℕ, Bool, List, None, length, ma
 ghost use Rattle.std.specs.Global.{Vec as SaidVec};
 ghost use Rattle.rv_map.specs.Globals.{AreDistinct};
 ghost use Rattle.rv_map.specs.declared.map.SectionId.{SectionId};
-ghost use Rattle.rv_object_types.specs.Object.{Object};
+ghost use Rattle.rv_object_laws.specs.Object.{Object};
 ghost use Rattle.rv_object_types.specs.View.{object_of};
 ghost use Rattle.rv_object_types.specs.declared.object.Object.{Object as AnyObject};
-ghost use Rattle.rv_object_laws.specs.Collects.{Collects, entry_place};
-ghost use Rattle.rv_object_laws.specs.Names.{global_names};
-ghost use Rattle.rv_object_laws.specs.Without.{without};
-ghost use Rattle.rv_object_laws.specs.Undefined.{first_undefined};
-ghost use Rattle.rv_object_laws.specs.Refusals.{HasNoProgram};
+ghost use Rattle.rv_link_laws.specs.Collects.{Collects, entry_place};
+ghost use Rattle.rv_link_laws.specs.Names.{global_names};
+ghost use Rattle.rv_link_laws.specs.Without.{without};
+ghost use Rattle.rv_link_laws.specs.Undefined.{first_undefined};
+ghost use Rattle.rv_link_laws.specs.Refusals.{HasNoProgram};
 ghost use Rattle.rv_reloc.specs.declared.fault.LinkFault.TheVariants.{EntryMissing, Undefined};
-ghost use Rattle.rv_object_laws.specs.TextStart.{AreWithin};
+ghost use Rattle.rv_link_laws.specs.TextStart.{AreWithin};
 
 /// Where no run can begin, collection leaves no reference to a name without a meaning. So a link with collection is not refused for
 /// such a name, but for the missing entry, where the files, the text's start and the global definitions can be linked.

@@ -4,12 +4,12 @@ ghost use Rattle.std.specs.Prelude.{All, length, true, map, IfOk, IfErr};
 ghost use Rattle.rv_image.specs.Views.{linked_of};
 ghost use Rattle.rv_map.specs.Limits.{IsDrop};
 ghost use Rattle.rv_object_types.specs.View.{object_of};
-ghost use Rattle.rv_object_laws.specs.IsProgramOf.{IsProgramOf};
-ghost use Rattle.rv_object_laws.specs.Refusals.{HasNoProgram};
+ghost use Rattle.rv_link_laws.specs.IsProgramOf.{IsProgramOf};
+ghost use Rattle.rv_link_laws.specs.Refusals.{HasNoProgram};
 ghost use Rattle.rv_resolve.specs.Names.{IsNames};
 ghost use Rattle.rv_link.specs.Left.{HasNoLink, IsLinkOfLeft};
-ghost use Rattle.rv_object_laws.specs.TextStart.{AreWithin};
-ghost use Rattle.rv_object_laws.specs.Details.{IsProgramWith, IsProgramWithoutDetails};
+ghost use Rattle.rv_link_laws.specs.TextStart.{AreWithin};
+ghost use Rattle.rv_link_laws.specs.Details.{IsProgramWith, IsProgramWithoutDetails};
 
 use crate::options::LinkOptions;
 use crate::passes::{link_by_plan, named, within_limits};

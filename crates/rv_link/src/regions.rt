@@ -1,7 +1,7 @@
 //! The bytes of the regions.
 
 ghost use Rattle.std.specs.Prelude.{◌+◌, ◌<◌, [], length, IfOk, IfErr, OnOk};
-ghost use Rattle.rv_object_laws.specs.Names.{object_at};
+ghost use Rattle.rv_link_laws.specs.Names.{object_at};
 ghost use Rattle.rv_link.specs.Filled.{IsInputOf, objects_of};
 ghost use Rattle.rv_link.specs.Untaken.{AreUnfilled};
 ghost use Rattle.rv_link.specs.Regions.{AreGrown, IsFixed, left_files, left_from};

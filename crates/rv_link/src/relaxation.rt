@@ -2,7 +2,7 @@
 
 ghost use Rattle.std.specs.Prelude.{◌≡◌, map, IfOk, IfErr};
 ghost use Rattle.rv_object_types.specs.View.{object_of};
-ghost use Rattle.rv_object_laws.specs.Shortened.{Relaxes};
+ghost use Rattle.rv_link_laws.specs.Shortened.{Relaxes};
 ghost use Rattle.rv_relax.specs.Plan.{planned_objects};
 ghost use Rattle.rv_resolve.specs.Names.{IsNames};
 ghost use Rattle.rv_reloc.specs.declared.fault.LinkFault.TheVariants.{OutOfMemory};

@@ -8,9 +8,9 @@ use Rattle.std.proofs.lemmas.List.Sums.{sum_by-append}
 use Rattle.std.proofs.lemmas.List.Folds.{list_any-append}
 use Rattle.rv_isa.specs.declared.kind.Kind.{Kind}
 use Rattle.rv_isa.specs.Kinds.{width_of}
-use Rattle.rv_object_types.specs.Object.{Relocation}
-use Rattle.rv_object_laws.specs.CallSites.{is_call, is_relax, has_relax, meets}
-use Rattle.rv_object_laws.proofs.ChangesLemmas.{call_width, one_if, counted, meets_itself}
+use Rattle.rv_object_laws.specs.Object.{Relocation}
+use Rattle.rv_link_laws.specs.CallSites.{is_call, is_relax, has_relax, meets}
+use Rattle.rv_link_laws.proofs.ChangesLemmas.{call_width, one_if, counted, meets_itself}
 use Rattle.rv_link_sites.specs.declared.between.Before.{Before}
 use Rattle.rv_link_sites.specs.Between.{Rise, field_end, greatest_end, later, last_relax, IsBefore, has_field, next_field}
 

@@ -4,9 +4,9 @@ use Rattle.std.proofs.Common.{◌≡◌, ℕ, zero, suc, ◌+◌, ◌*◌, Bool,
 use Rattle.std.specs.Prelude.{◌==◌, if◌then◌else◌}
 use Rattle.std.specs.List.{slice_get}
 use Rattle.std.proofs.lemmas.Bool.{eq-eqb, ne_eqb, and_from, and_left, and_right}
-use Rattle.rv_object_types.specs.Object.{Section, Object, size_of}
-use Rattle.rv_object_laws.specs.Inputs.{InputSection, goes_to_text, inputs_from, inputs_of, inputs}
-use Rattle.rv_object_laws.specs.CallSites.{start_padding, base_in, base, sites_from, sites_of, length_of}
+use Rattle.rv_object_laws.specs.Object.{Section, Object, size_of}
+use Rattle.rv_link_laws.specs.Inputs.{InputSection, goes_to_text, inputs_from, inputs_of, inputs}
+use Rattle.rv_link_laws.specs.CallSites.{start_padding, base_in, base, sites_from, sites_of, length_of}
 use Rattle.rv_link_sites.specs.Line.{end_from, next, ended, ended_files, first_behind, places, places_files, entries, text_sites, input, object_sites, files_sites}
 use Rattle.rv_link_sites.proofs.StepsLemmas.{many_places}
 

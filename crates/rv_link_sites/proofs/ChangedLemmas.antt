@@ -15,15 +15,15 @@ use Rattle.rv_layout_laws.specs.declared.site.Site.{Site}
 use Rattle.rv_layout_laws.specs.declared.site.Call.{Call}
 use Rattle.rv_object_types.specs.declared.relocation.Relocation.{Relocation as Declared}
 use Rattle.rv_object_types.specs.declared.section.Section.{Section as DeclaredSection}
-use Rattle.rv_object_types.specs.Object as objects
-use Rattle.rv_object_types.specs.Object.{Relocation, Section, Object, Contents, stored, size_of}
+use Rattle.rv_object_laws.specs.Object as objects
+use Rattle.rv_object_laws.specs.Object.{Relocation, Section, Object, Contents, stored, size_of}
 use Rattle.rv_object_types.specs.Parts.{relocation_of}
 use Rattle.rv_object_types.specs.Sections.{section_of}
-use Rattle.rv_object_types.specs.Valid.{is_align, padding_of, is_padding, is_padding_of, fits_inside, are_all_apart}
-use Rattle.rv_object_laws.specs.Moves.{has_padding, full_padding, alignment_of}
-use Rattle.rv_object_laws.specs.Inputs.{InputSection, goes_to_text}
-use Rattle.rv_object_laws.specs.CallSites.{is_call, has_relax, are_call_words, is_text_place, target_place, text_offset, excess, constant, is_entered, meets, is_permitted, may_change, call_site, site_of, is_compressible}
-use Rattle.rv_object_laws.proofs.ChangesLemmas.{call_width, one_if}
+use Rattle.rv_object_laws.specs.Valid.{is_align, padding_of, is_padding, is_padding_of, fits_inside, are_all_apart}
+use Rattle.rv_link_laws.specs.Moves.{has_padding, full_padding, alignment_of}
+use Rattle.rv_link_laws.specs.Inputs.{InputSection, goes_to_text}
+use Rattle.rv_link_laws.specs.CallSites.{is_call, has_relax, are_call_words, is_text_place, target_place, text_offset, excess, constant, is_entered, meets, is_permitted, may_change, call_site, site_of, is_compressible}
+use Rattle.rv_link_laws.proofs.ChangesLemmas.{call_width, one_if}
 use Rattle.rv_link_sites.specs.Between.{is_allowed}
 use Rattle.rv_link_sites.specs.declared.text.Target.{Target}
 use Rattle.rv_link_sites.specs.Text.{IsLying, can_shorten, call_of, text_target}

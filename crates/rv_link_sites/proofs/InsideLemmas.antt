@@ -9,12 +9,12 @@ use Rattle.std.proofs.lemmas.Bool.{cases_lt, cases_eq, lt-ltb, le-ltb, and_from,
 use Rattle.std.proofs.lemmas.List.{take_more, map-append}
 use Rattle.std.proofs.lemmas.List.Folds.{list_any-append}
 use Rattle.std.proofs.lemmas.List.Sorted.{list_any-IsPermutation}
-use Rattle.rv_object_types.specs.declared.symbol.Definition.{Definition}
-use Rattle.rv_object_types.specs.declared.symbol.Definition.TheVariants as definitions
+use Rattle.rv_object_laws.specs.declared.symbol.Definition.{Definition}
+use Rattle.rv_object_laws.specs.declared.symbol.Definition.TheVariants as definitions
 use Rattle.rv_object_types.specs.declared.symbol.Symbol.{Symbol as Declared}
-use Rattle.rv_object_types.specs.Object.{Symbol, Object}
+use Rattle.rv_object_laws.specs.Object.{Symbol, Object}
 use Rattle.rv_object_types.specs.Parts.{symbol_of}
-use Rattle.rv_object_laws.specs.CallSites.{is_inside, is_entered}
+use Rattle.rv_link_laws.specs.CallSites.{is_inside, is_entered}
 use Rattle.rv_link_sites.specs.declared.entries.Entries.{Entries}
 use Rattle.rv_link_sites.specs.Entries.{offset_in, offsets_in, list_at, is_within_call, AreEntries}
 

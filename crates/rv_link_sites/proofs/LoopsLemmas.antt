@@ -15,9 +15,9 @@ use Rattle.std.proofs.Math.Bool.{and-true}
 use Rattle.rv_isa.specs.declared.kind.Kind.TheVariants as kinds
 use Rattle.rv_isa.specs.Kinds.{width_of}
 use Rattle.rv_object_types.specs.declared.relocation.Relocation.{Relocation as Declared}
-use Rattle.rv_object_types.specs.Object.{Relocation}
+use Rattle.rv_object_laws.specs.Object.{Relocation}
 use Rattle.rv_object_types.specs.Parts.{relocation_of}
-use Rattle.rv_object_laws.specs.CallSites.{is_relax, has_relax}
+use Rattle.rv_link_laws.specs.CallSites.{is_relax, has_relax}
 use Rattle.rv_link_sites.specs.Between.{Rise, has_field, next_field}
 use Rattle.rv_link_sites.proofs.SortedLemmas.{place_of}
 use Rattle.rv_link_sites.proofs.AloneLemmas.{rise_lower, no_relax}

@@ -8,7 +8,7 @@ use Rattle.rv_isa.specs.declared.instruction.Inst.{Inst}
 use Rattle.rv_isa.specs.declared.instruction.Inst.TheVariants as isa
 use Rattle.rv_isa.specs.Ranges.{IsSigned12}
 use Rattle.rv_encode.specs.Word.{field, Spells, IsSpelled}
-use Rattle.rv_object_laws.specs.CallSites as laws
+use Rattle.rv_link_laws.specs.CallSites as laws
 use Rattle.rv_link_sites.specs.Spelled.{is_auipc, is_jalr, spells_one}
 
 -- a test of words that holds exactly where a word spells one of certain instructions

@@ -5,10 +5,10 @@ use Rattle.std.specs.Prelude.{if◌then◌else◌}
 use Rattle.std.proofs.lemmas.List.{drop_all, length-append}
 use Rattle.rv_object_types.specs.declared.object.Object.{Object as DeclaredObject}
 use Rattle.rv_object_types.specs.declared.section.Section.{Section as DeclaredSection}
-use Rattle.rv_object_types.specs.Object.{Section, Object}
+use Rattle.rv_object_laws.specs.Object.{Section, Object}
 use Rattle.rv_object_types.specs.Sections.{section_of}
 use Rattle.rv_object_types.specs.View.{object_of}
-use Rattle.rv_object_laws.specs.Inputs.{goes_to_text}
+use Rattle.rv_link_laws.specs.Inputs.{goes_to_text}
 use Rattle.rv_link_sites.specs.Line.{end_from, next, ended, ended_files, first_behind, places, places_files, entries}
 use Rattle.rv_link_sites.proofs.LoopsLemmas.{left}
 pub use Rattle.rv_relax.proofs.SpreadLemmas.{grown}

@@ -8,14 +8,14 @@ use Rattle.rv_layout_laws.specs.declared.site.SiteKind.{SiteKind}
 use Rattle.rv_layout_laws.specs.declared.site.SiteKind.TheVariants.{Call, Padding}
 use Rattle.rv_layout_laws.specs.Calls.{IsText, site_at}
 use Rattle.rv_object_types.specs.declared.object.Object.{Object as DeclaredObject}
-use Rattle.rv_object_types.specs.Object.{Section, Relocation, Object, size_of}
+use Rattle.rv_object_laws.specs.Object.{Section, Relocation, Object, size_of}
 use Rattle.rv_object_types.specs.View.{object_of}
-use Rattle.rv_object_laws.specs.Inputs.{InputSection, goes_to_text, inputs}
-use Rattle.rv_object_laws.specs.Names.{Place, no_object, object_at, symbol_place, is_in_text}
-use Rattle.rv_object_laws.specs.CallSites.{start_padding, home, moving, past_end, target_place, base, text_offset, excess, sites_of, length_of}
-use Rattle.rv_object_laws.specs.Within.{LeadsWithin, IsWithin}
-use Rattle.rv_object_laws.specs.Layout.{section_in, object_section}
-use Rattle.rv_object_laws.proofs.TextLineLemmas.{sites_text, sites_within}
+use Rattle.rv_link_laws.specs.Inputs.{InputSection, goes_to_text, inputs}
+use Rattle.rv_link_laws.specs.Names.{Place, no_object, object_at, symbol_place, is_in_text}
+use Rattle.rv_link_laws.specs.CallSites.{start_padding, home, moving, past_end, target_place, base, text_offset, excess, sites_of, length_of}
+use Rattle.rv_link_laws.specs.Within.{LeadsWithin, IsWithin}
+use Rattle.rv_link_laws.specs.Layout.{section_in, object_section}
+use Rattle.rv_link_laws.proofs.TextLineLemmas.{sites_text, sites_within}
 use Rattle.rv_resolve.specs.Names.{place_of}
 use Rattle.rv_link_sites.specs.declared.line.Line.{Line}
 use Rattle.rv_link_sites.specs.Line.{end_from, next, ended, ended_files, IsLine}

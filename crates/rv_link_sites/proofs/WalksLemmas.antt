@@ -5,9 +5,9 @@ use Rattle.std.specs.Prelude.{if◌then◌else◌}
 use Rattle.std.specs.List.{slice_get}
 use Rattle.std.proofs.lemmas.List.{drop_all}
 use Rattle.rv_layout_laws.specs.declared.site.Site.{Site}
-use Rattle.rv_object_types.specs.Object.{Section, Object}
-use Rattle.rv_object_laws.specs.Inputs.{InputSection, goes_to_text}
-use Rattle.rv_object_laws.specs.CallSites.{sites_of}
+use Rattle.rv_object_laws.specs.Object.{Section, Object}
+use Rattle.rv_link_laws.specs.Inputs.{InputSection, goes_to_text}
+use Rattle.rv_link_laws.specs.CallSites.{sites_of}
 use Rattle.rv_link_sites.specs.Line.{end_from, next, ended, ended_files, section_sites, text_sites, input, object_sites, files_sites}
 use Rattle.rv_link_sites.proofs.StepsLemmas.{grows, grows_files, grown}
 use Rattle.rv_link_sites.proofs.AlongLemmas.{sites_are}

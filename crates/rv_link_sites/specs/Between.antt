@@ -4,8 +4,8 @@
 use Rattle.std.specs.Prelude.{◌≡◌, ℕ, ◌+◌, ◌≤◌, ◌==◌, Bool, ◌&&◌, nat_lt, max, ⊤, List, [], ◌∷◌, Option, Some, None, count_by, option_map, if◌then◌else◌}
 use Rattle.std.specs.List.{find}
 use Rattle.rv_isa.specs.Kinds.{width_of}
-use Rattle.rv_object_types.specs.Object.{Relocation}
-use Rattle.rv_object_laws.specs.CallSites.{is_call, is_relax, has_relax, meets}
+use Rattle.rv_object_laws.specs.Object.{Relocation}
+use Rattle.rv_link_laws.specs.CallSites.{is_call, is_relax, has_relax, meets}
 use Rattle.rv_link_sites.specs.declared.between.Before.{Before}
 
 -- no place is below the one before it, nor the first below this

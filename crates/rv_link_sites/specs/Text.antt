@@ -3,13 +3,13 @@
 use Rattle.std.specs.Prelude.{◌≡◌, ◌+◌, ◌*◌, ◌≤◌, ◌^◌, Bool, not, ◌&&◌, true, List, length, map, Option, Some, None, if◌then◌else◌}
 use Rattle.std.specs.List.{slice_get}
 use Rattle.rv_layout_laws.specs.declared.site.Call.{Call}
-use Rattle.rv_object_types.specs.Object.{Relocation, Section, Object, stored, size_of}
+use Rattle.rv_object_laws.specs.Object.{Relocation, Section, Object, stored, size_of}
 use Rattle.rv_object_types.specs.Sections.{section_of}
 use Rattle.rv_object_types.specs.View.{object_of}
-use Rattle.rv_object_laws.specs.Moves.{full_padding, has_padding}
-use Rattle.rv_object_laws.specs.Inputs.{InputSection, goes_to_text}
-use Rattle.rv_object_laws.specs.Names.{Place}
-use Rattle.rv_object_laws.specs.CallSites.{is_call, are_call_words, is_entered, is_text_place, target_place, text_offset, excess, constant, is_compressible}
+use Rattle.rv_link_laws.specs.Moves.{full_padding, has_padding}
+use Rattle.rv_link_laws.specs.Inputs.{InputSection, goes_to_text}
+use Rattle.rv_link_laws.specs.Names.{Place}
+use Rattle.rv_link_laws.specs.CallSites.{is_call, are_call_words, is_entered, is_text_place, target_place, text_offset, excess, constant, is_compressible}
 use Rattle.rv_resolve.specs.Names.{IsNames}
 use Rattle.rv_link_sites.specs.declared.text.Target.{Target}
 use Rattle.rv_link_sites.specs.declared.text.Text.{Text}

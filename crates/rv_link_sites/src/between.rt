@@ -3,9 +3,9 @@
 ghost use Rattle.std.specs.Prelude.{◌≡◌, ◌<◌, ◌+◌, ◌^◌, ◌++◌, ◌∷◌, [], List, map, ◌==◌, count_by, true};
 ghost use Rattle.std.specs.Bool.{OnTrue};
 ghost use Rattle.rv_isa.specs.Kinds.{width_of};
-ghost use Rattle.rv_object_types.specs.Object.{Relocation as SaidRelocation};
+ghost use Rattle.rv_object_laws.specs.Object.{Relocation as SaidRelocation};
 ghost use Rattle.rv_object_types.specs.Parts.{relocation_of};
-ghost use Rattle.rv_object_laws.specs.CallSites as laws;
+ghost use Rattle.rv_link_laws.specs.CallSites as laws;
 ghost use Rattle.rv_link_sites.specs.Between.{IsBefore, Rise, field_end as end_of, is_allowed as allows, later as later_of, next_field as next_of};
 
 use rv_isa::Kind;

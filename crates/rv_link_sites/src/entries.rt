@@ -3,11 +3,11 @@
 ghost use Rattle.std.specs.Prelude.{◌≡◌, ◌++◌, ◌<◌, ◌≤◌, ℕ, [], map, nat_le, length, IfOk, OnOk};
 ghost use Rattle.std.specs.List.{list_any};
 ghost use Rattle.std.specs.List.Sorted.{IsNonDecreasing, IsPartitionPoint, IsPermutation};
-ghost use Rattle.rv_object_types.specs.declared.symbol.Definition.TheVariants.{InSection};
-ghost use Rattle.rv_object_types.specs.Object.{Object as SaidObject};
+ghost use Rattle.rv_object_laws.specs.declared.symbol.Definition.TheVariants.{InSection};
+ghost use Rattle.rv_object_laws.specs.Object.{Object as SaidObject};
 ghost use Rattle.rv_object_types.specs.Parts.{symbol_of};
 ghost use Rattle.rv_object_types.specs.View.{object_of};
-ghost use Rattle.rv_object_laws.specs.CallSites as laws;
+ghost use Rattle.rv_link_laws.specs.CallSites as laws;
 ghost use Rattle.rv_link_sites.specs.Entries.{AreEntries, is_within_call, list_at, offset_in, offsets_in};
 
 use rv_object_types::{Definition, Object, Symbol};

@@ -3,7 +3,7 @@
 //! It takes objects (`rv_object_types`) and what their names mean (`rv_resolve`). It gives the text (`rv_relax`, `Placed`) by
 //! whose sites calls are shortened: all sections of text in one line, as long as they are before anything is taken out.
 //!
-//! Main contract: [`placed`] gives the objects with their sites, `sites_of` them (`rv_object_laws`, specs/CallSites), in which
+//! Main contract: [`placed`] gives the objects with their sites, `sites_of` them (`rv_link_laws`, specs/CallSites), in which
 //! each offset is at most 9 * 2^123. It must not know addresses, nor which calls come to be shortened.
 //!
 //! ```text

@@ -2,13 +2,13 @@
 
 ghost use Rattle.std.specs.Prelude.{◌≡◌, ◌+◌, ◌*◌, ◌≤◌, ◌^◌, Some, map, option_map, option_and_then, true, IfOk};
 ghost use Rattle.std.specs.List.{slice_get};
-ghost use Rattle.rv_object_types.specs.Object.{Object as SaidObject, Section, size_of};
+ghost use Rattle.rv_object_laws.specs.Object.{Object as SaidObject, Section, size_of};
 ghost use Rattle.rv_object_types.specs.Parts.{relocation_of};
 ghost use Rattle.rv_object_types.specs.View.{object_of};
-ghost use Rattle.rv_object_laws.specs.Inputs.{InputSection};
-ghost use Rattle.rv_object_laws.specs.CallSites.{base, target_place};
-ghost use Rattle.rv_object_laws.specs.Names as laws;
-ghost use Rattle.rv_object_laws.specs.Layout.{object_section};
+ghost use Rattle.rv_link_laws.specs.Inputs.{InputSection};
+ghost use Rattle.rv_link_laws.specs.CallSites.{base, target_place};
+ghost use Rattle.rv_link_laws.specs.Names as laws;
+ghost use Rattle.rv_link_laws.specs.Layout.{object_section};
 ghost use Rattle.rv_resolve.specs.Names.{IsNames, place_of};
 ghost use Rattle.rv_link_sites.specs.Text.{IsLaidText, objects_of, text_target};
 

@@ -2,9 +2,9 @@
 
 ghost use Rattle.std.specs.Prelude.{◌≡◌, ◌+◌, ◌*◌, ◌≤◌, ◌^◌, ◌++◌, ◌<◌, Some, map, length, IfOk, OnOk};
 ghost use Rattle.std.specs.List.{slice_get};
-ghost use Rattle.rv_object_types.specs.Object.{Section};
+ghost use Rattle.rv_object_laws.specs.Object.{Section};
 ghost use Rattle.rv_object_types.specs.View.{object_of};
-ghost use Rattle.rv_object_laws.specs.CallSites.{sites_of};
+ghost use Rattle.rv_link_laws.specs.CallSites.{sites_of};
 ghost use Rattle.rv_relax.specs.Plan.{placed_objects};
 ghost use Rattle.rv_resolve.specs.Names.{IsNames};
 ghost use Rattle.rv_link_sites.specs.Entries.{AreEntries};

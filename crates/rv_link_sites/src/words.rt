@@ -1,7 +1,7 @@
 //! The words of a call.
 
 ghost use Rattle.std.specs.Prelude.{◌≡◌, ◌+◌, ◌≤◌, length};
-ghost use Rattle.rv_object_laws.specs.CallSites as laws;
+ghost use Rattle.rv_link_laws.specs.CallSites as laws;
 ghost use Rattle.rv_link_sites.specs.Spelled as spelled;
 
 use rv_encode::decode;

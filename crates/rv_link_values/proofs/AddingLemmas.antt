@@ -10,11 +10,11 @@ use Rattle.std.proofs.lemmas.List.{take_more, take_all}
 use Rattle.rv_isa.specs.declared.kind.Kind.{Kind}
 use Rattle.rv_isa.specs.declared.kind.Kind.TheVariants as kinds
 use Rattle.rv_object_types.specs.declared.relocation.Relocation.{Relocation as DeclaredRelocation}
-use Rattle.rv_object_types.specs.Object.{Relocation}
+use Rattle.rv_object_laws.specs.Object.{Relocation}
 use Rattle.rv_object_types.specs.Parts.{relocation_of}
-use Rattle.rv_object_laws.specs.CallSites.{is_call}
-use Rattle.rv_object_laws.specs.Moves.{Move}
-use Rattle.rv_object_laws.specs.Values.{is_high}
+use Rattle.rv_link_laws.specs.CallSites.{is_call}
+use Rattle.rv_link_laws.specs.Moves.{Move}
+use Rattle.rv_link_laws.specs.Values.{is_high}
 use Rattle.rv_cut_laws.specs.Cutting.{cut_at, cut_kind, kind_left}
 use Rattle.rv_link_values.specs.declared.high.HighPlace.{HighPlace}
 use Rattle.rv_link_values.specs.Highs.{else_found, high_to, place_cmp}

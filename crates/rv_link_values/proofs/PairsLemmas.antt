@@ -4,12 +4,12 @@ use Rattle.std.proofs.Common.{◌≡◌, ◌⊎◌, ℕ, ℤ, ◌+◌, ◌-◌, 
 use Rattle.std.specs.Prelude.{slice_index_or}
 use Rattle.std.specs.List.{slice_get}
 use Rattle.std.proofs.lemmas.Option.{unwrap_or-slice_get}
-use Rattle.rv_object_types.specs.Object.{Relocation, Section, Object}
-use Rattle.rv_object_laws.specs.Moves.{moves, new_offset}
-use Rattle.rv_object_laws.specs.Inputs.{InputSection}
-use Rattle.rv_object_laws.specs.Names.{Outer, object_at, no_object}
-use Rattle.rv_object_laws.specs.Values.{own_value, high_at, value_at, value_in}
-use Rattle.rv_object_laws.specs.Layout.{section_in, object_section}
+use Rattle.rv_object_laws.specs.Object.{Relocation, Section, Object}
+use Rattle.rv_link_laws.specs.Moves.{moves, new_offset}
+use Rattle.rv_link_laws.specs.Inputs.{InputSection}
+use Rattle.rv_link_laws.specs.Names.{Outer, object_at, no_object}
+use Rattle.rv_link_laws.specs.Values.{own_value, high_at, value_at, value_in}
+use Rattle.rv_link_laws.specs.Layout.{section_in, object_section}
 use Rattle.rv_relax.specs.Kept.{moves_of}
 use Rattle.rv_placement.specs.declared.placement.PlacedSection.{PlacedSection}
 use Rattle.rv_placement.specs.declared.placement.Placement.{Placement}

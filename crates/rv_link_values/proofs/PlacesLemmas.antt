@@ -1,11 +1,11 @@
 -- Where sections stand, and what their offsets become.
 
 use Rattle.std.proofs.Common.{◌≡◌, ◌+◌, ◌-◌, ℕ, Some, None, List, sym, ap, ◌∙◌, arith}
-use Rattle.rv_object_types.specs.Object.{Section, Object}
-use Rattle.rv_object_laws.specs.Moves.{new_offset}
-use Rattle.rv_object_laws.specs.Inputs.{InputSection}
-use Rattle.rv_object_laws.specs.Values.{moved}
-use Rattle.rv_object_laws.specs.Layout.{section_in, object_section}
+use Rattle.rv_object_laws.specs.Object.{Section, Object}
+use Rattle.rv_link_laws.specs.Moves.{new_offset}
+use Rattle.rv_link_laws.specs.Inputs.{InputSection}
+use Rattle.rv_link_laws.specs.Values.{moved}
+use Rattle.rv_link_laws.specs.Layout.{section_in, object_section}
 use Rattle.rv_relax.specs.Kept.{moves_of}
 use Rattle.rv_placement.specs.declared.placement.PlacedSection.{PlacedSection}
 use Rattle.rv_placement.specs.declared.placement.Placement.{Placement}

@@ -3,9 +3,9 @@
 use Rattle.std.proofs.Common.{◌≡◌, ℕ, ◌+◌, List, Option, Some, subst}
 use Rattle.std.specs.Prelude.{option_map, option_and_then, map}
 use Rattle.std.specs.List.{slice_get}
-use Rattle.rv_object_types.specs.Object.{Object}
-use Rattle.rv_object_laws.specs.Names.{symbol_address, symbol_place}
-use Rattle.rv_object_laws.specs.Layout.{outer_in}
+use Rattle.rv_object_laws.specs.Object.{Object}
+use Rattle.rv_link_laws.specs.Names.{symbol_address, symbol_place}
+use Rattle.rv_link_laws.specs.Layout.{outer_in}
 use Rattle.rv_shorten.specs.View.{short_object_of}
 use Rattle.rv_placement.specs.declared.placement.Placement.{Placement}
 use Rattle.rv_placement.specs.Placement.{starts_of, IsPlacement, layout_of}

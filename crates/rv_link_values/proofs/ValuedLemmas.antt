@@ -4,11 +4,11 @@ use Rattle.std.proofs.Common.{◌≡◌, ℤ, pos, true, false, List, Option, So
 use Rattle.std.specs.Prelude.{IfOk, IfErr, if◌then◌else◌}
 use Rattle.std.specs.Option.{ok_or}
 use Rattle.rv_isa.specs.Kinds.{is_low_part}
-use Rattle.rv_object_types.specs.Object.{Relocation, Object}
-use Rattle.rv_object_laws.specs.Inputs.{Starts, InputSection, start_of}
-use Rattle.rv_object_laws.specs.Names.{Outer}
-use Rattle.rv_object_laws.specs.Values.{own_value, paired}
-use Rattle.rv_object_laws.specs.Untaken.{IsValueOf, IsDangling}
+use Rattle.rv_object_laws.specs.Object.{Relocation, Object}
+use Rattle.rv_link_laws.specs.Inputs.{Starts, InputSection, start_of}
+use Rattle.rv_link_laws.specs.Names.{Outer}
+use Rattle.rv_link_laws.specs.Values.{own_value, paired}
+use Rattle.rv_link_laws.specs.Untaken.{IsValueOf, IsDangling}
 use Rattle.rv_link_values.specs.declared.fault.ValueFault.{ValueFault}
 
 module _ (outer : Outer) (starts : Starts) (os : List Object) (i : InputSection) (r : Relocation) where

@@ -6,11 +6,11 @@ use Rattle.std.specs.List.{find}
 use Rattle.std.specs.BTreeMap.{get}
 use Rattle.std.specs.Ordering.{nat_cmp, ordering_then}
 use Rattle.std.specs.declared.cmp.Ordering.{Ordering}
-use Rattle.rv_object_types.specs.Object.{Relocation, Section, Object}
+use Rattle.rv_object_laws.specs.Object.{Relocation, Section, Object}
 use Rattle.rv_object_types.specs.Parts.{relocation_of}
-use Rattle.rv_object_laws.specs.Moves.{new_offset}
-use Rattle.rv_object_laws.specs.Values.{is_high}
-use Rattle.rv_object_laws.specs.Layout.{object_section}
+use Rattle.rv_link_laws.specs.Moves.{new_offset}
+use Rattle.rv_link_laws.specs.Values.{is_high}
+use Rattle.rv_link_laws.specs.Layout.{object_section}
 use Rattle.rv_relax.specs.Kept.{moves_of}
 use Rattle.rv_placement.specs.declared.placement.PlacedSection.{PlacedSection}
 use Rattle.rv_placement.specs.declared.placement.Placement.{Placement}

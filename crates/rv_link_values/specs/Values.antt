@@ -1,10 +1,10 @@
--- What the values of placed objects answer (`rv_object_laws`, specs/Values), and which relocations
+-- What the values of placed objects answer (`rv_link_laws`, specs/Values), and which relocations
 -- have none (RISC-V ELF psABI, "PC-Relative Symbol Addresses").
 
 use Rattle.std.specs.Prelude.{◌≡◌, ℕ, ◌+◌, List, map, Some}
 use Rattle.std.specs.List.{slice_get}
-use Rattle.rv_object_types.specs.Object.{Object}
-use Rattle.rv_object_laws.specs.Inputs.{InputSection}
+use Rattle.rv_object_laws.specs.Object.{Object}
+use Rattle.rv_link_laws.specs.Inputs.{InputSection}
 use Rattle.rv_shorten.specs.View.{short_object_of}
 use Rattle.rv_placement.specs.declared.placement.Placement.{Placement}
 use Rattle.rv_placement.specs.Placement.{IsPlacement}

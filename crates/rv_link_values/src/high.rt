@@ -6,8 +6,8 @@
 ghost use Rattle.std.specs.Prelude.{◌≡◌, ℕ, [], ◌∷◌, Some, map, option_map, IfOk, OnOk};
 ghost use Rattle.std.specs.List.{slice_get};
 ghost use Rattle.rv_object_types.specs.Parts.{relocation_of};
-ghost use Rattle.rv_object_laws.specs.Moves.{new_offset};
-ghost use Rattle.rv_object_laws.specs.Values.{is_high};
+ghost use Rattle.rv_link_laws.specs.Moves.{new_offset};
+ghost use Rattle.rv_link_laws.specs.Values.{is_high};
 ghost use Rattle.rv_cut_laws.specs.Cutting.{cut_relocation};
 ghost use Rattle.rv_shorten.specs.Sections.{moves_in, short_section_of};
 ghost use Rattle.rv_shorten.specs.View.{short_object_of};

@@ -4,7 +4,7 @@
 //! names mean (`rv_resolve`), and gives the [`Values`] of their relocations: that of the psABI's calculation (`rv_reloc`), and for
 //! the low part of a distance that of the high part to which its symbol points.
 //!
-//! Main contract: `Values::value` answers the value that `rv_object_laws` defines (`specs/Values`, `value`), or refuses exactly a
+//! Main contract: `Values::value` answers the value that `rv_link_laws` defines (`specs/Values`, `value`), or refuses exactly a
 //! low part that has no high part, or an addend (`IsDangling`). It must not know whether a field takes its value, what bytes
 //! become, nor statements.
 //!

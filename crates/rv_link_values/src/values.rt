@@ -3,12 +3,12 @@
 ghost use Rattle.std.specs.Prelude.{◌≡◌, ◌+◌, ◌%◌, ◌^◌, ℕ, List, map, option_map, unwrap_or, Some, IfOk, IfErr};
 ghost use Rattle.std.specs.List.{slice_get};
 ghost use Rattle.rv_isa.specs.Kinds.{is_low_part};
-ghost use Rattle.rv_object_types.specs.Object.{Object as PlainObject};
+ghost use Rattle.rv_object_laws.specs.Object.{Object as PlainObject};
 ghost use Rattle.rv_object_types.specs.Parts.{relocation_of};
-ghost use Rattle.rv_object_laws.specs.Inputs.{InputSection};
-ghost use Rattle.rv_object_laws.specs.Values as laws;
-ghost use Rattle.rv_object_laws.specs.Layout.{outer_in};
-ghost use Rattle.rv_object_laws.specs.Untaken.{IsValueOf, IsDangling};
+ghost use Rattle.rv_link_laws.specs.Inputs.{InputSection};
+ghost use Rattle.rv_link_laws.specs.Values as laws;
+ghost use Rattle.rv_link_laws.specs.Layout.{outer_in};
+ghost use Rattle.rv_link_laws.specs.Untaken.{IsValueOf, IsDangling};
 ghost use Rattle.rv_shorten.specs.View.{short_object_of};
 ghost use Rattle.rv_placement.specs.declared.placement.Placement.{Placement as Placed};
 ghost use Rattle.rv_placement.specs.Placement.{placed_at, starts_of, IsPlacement, layout_of};

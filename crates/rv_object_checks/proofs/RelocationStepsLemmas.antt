@@ -16,8 +16,8 @@ use Rattle.rv_elf.specs.Numbers.{sht_nobits}
 use Rattle.rv_elf.specs.FirstFault.{first_true}
 use Rattle.rv_elf.specs.Records.{rela_at}
 use Rattle.rv_elf.specs.Sections.{records}
-use Rattle.rv_object_types.specs.Object.{Relocation, Contents, Nobits, Progbits, size_of}
-use Rattle.rv_object_types.specs.Valid.{is_align, held, fits_inside, is_padding, is_padding_of, padding_of}
+use Rattle.rv_object_laws.specs.Object.{Relocation, Contents, Nobits, Progbits, size_of}
+use Rattle.rv_object_laws.specs.Valid.{is_align, held, fits_inside, is_padding, is_padding_of, padding_of}
 use Rattle.rv_object_file_laws.specs.FirstFault.{relocations_tests, relocation_tests}
 use Rattle.rv_object_file_laws.specs.Parts.{relocation_in, relocations_in, extent_of}
 use Rattle.rv_object_checks.specs.Stretches.{HoldsCode}

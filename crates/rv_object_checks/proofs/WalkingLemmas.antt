@@ -16,7 +16,7 @@ use Rattle.rv_elf.specs.declared.fault.FileFault.TheVariants.{OutOfMemory}
 use Rattle.rv_elf.specs.declared.section_header.SectionHeader.{SectionHeader}
 use Rattle.rv_elf.specs.FirstFault.{first_true}
 use Rattle.rv_elf.specs.Sections.{section_count, section_header_of, file_contents, relas_in}
-use Rattle.rv_object_types.specs.Object.{Relocation}
+use Rattle.rv_object_laws.specs.Object.{Relocation}
 use Rattle.rv_object_file_laws.specs.FirstFault.{section_tests, records_tests, rela_tests, relocations_tests, sections_tests, symbol_count}
 use Rattle.rv_object_file_laws.specs.Parts.{FileSection, is_symbol_table, is_rela, is_rows, is_loaded, relocates, relas_of, relocation_in, relocations_in}
 use Rattle.rv_object_checks.specs.declared.places.Places.{Places}

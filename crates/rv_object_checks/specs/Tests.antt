@@ -6,7 +6,7 @@ use Rattle.rv_elf.specs.declared.fault.FileFault.TheVariants.{Truncated, BadTabl
 use Rattle.rv_elf.specs.declared.section_header.SectionHeader.{SectionHeader}
 use Rattle.rv_elf.specs.Numbers.{sht_nobits}
 use Rattle.rv_elf.specs.Sections.{is_past}
-use Rattle.rv_object_types.specs.Valid.{is_section_alignment}
+use Rattle.rv_object_laws.specs.Valid.{is_section_alignment}
 use Rattle.rv_object_file_laws.specs.FirstFault.{is_none, record_size, is_linked, is_unsupported}
 use Rattle.rv_object_file_laws.specs.Parts.{name_of, is_executable, is_symbol_table, is_rows}
 

@@ -1,7 +1,7 @@
 //! What headers of sections say.
 
 ghost use Rattle.std.specs.Prelude.{◌≡◌, ◌==◌, ◌||◌};
-ghost use Rattle.rv_object_types.specs.Valid.{is_section_alignment};
+ghost use Rattle.rv_object_laws.specs.Valid.{is_section_alignment};
 ghost use Rattle.rv_object_file_laws.specs.FirstFault.{is_unsupported};
 ghost use Rattle.rv_object_file_laws.specs.Parts.{is_loaded, is_executable, is_symbol_table, is_rela};
 

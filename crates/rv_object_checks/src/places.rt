@@ -2,8 +2,8 @@
 
 ghost use Rattle.std.specs.Prelude.{◌≡◌, ◌<◌, ◌≤◌, ◌+◌, true, false, not, [], ◌∷◌, ◌++◌, List, IfOk, MatchBool};
 ghost use Rattle.std.specs.List.{list_any};
-ghost use Rattle.rv_object_types.specs.Object.{Relocation};
-ghost use Rattle.rv_object_types.specs.Valid.{held, is_align, are_apart};
+ghost use Rattle.rv_object_laws.specs.Object.{Relocation};
+ghost use Rattle.rv_object_laws.specs.Valid.{held, is_align, are_apart};
 ghost use Rattle.rv_object_checks.specs.Held.{fields_of};
 ghost use Rattle.rv_object_checks.specs.Stretches.{AreHeld, placed};
 

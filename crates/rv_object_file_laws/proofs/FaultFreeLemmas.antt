@@ -11,9 +11,9 @@ use Rattle.rv_elf.specs.declared.section_header.SectionHeader.{SectionHeader}
 use Rattle.rv_elf.specs.Fields.{number_in, e_type}
 use Rattle.rv_elf.specs.FirstFault.{first_true, header_tests, table_tests}
 use Rattle.rv_elf.specs.Sections.{is_past, section_count, section_header_of, indexed_contents, file_contents, symbols_in, relas_in}
-use Rattle.rv_object_types.specs.declared.row.Row.{Row}
-use Rattle.rv_object_types.specs.Object.{Contents, Progbits, Note, Nobits, Section, Object, size_of, stored}
-use Rattle.rv_object_types.specs.Valid.{is_section_alignment, is_row_in}
+use Rattle.rv_object_laws.specs.declared.row.Row.{Row}
+use Rattle.rv_object_laws.specs.Object.{Contents, Progbits, Note, Nobits, Section, Object, size_of, stored}
+use Rattle.rv_object_laws.specs.Valid.{is_section_alignment, is_row_in}
 use Rattle.rv_object_file_laws.specs.Rows.{rows_in, rows_name, row_bytes}
 use Rattle.rv_object_file_laws.specs.Parts.{FileSection, name_of, sections, is_section, is_loaded, is_executable, is_symbol_table, is_rela, is_rows, symbols_of, relocates, relas_of, relocations_in}
 use Rattle.rv_object_file_laws.specs.ObjectOf.{names_of}

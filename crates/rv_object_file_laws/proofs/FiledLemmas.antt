@@ -8,7 +8,7 @@ use Rattle.rv_elf.specs.declared.section_header.SectionHeader.{SectionHeader}
 use Rattle.rv_elf.specs.Fields.{number_in, e_shoff}
 use Rattle.rv_elf.specs.Records.{file_header_bytes, section_header_bytes}
 use Rattle.rv_elf.specs.Sections.{names_section, indexed_contents, section_count}
-use Rattle.rv_object_types.specs.Object.{Object}
+use Rattle.rv_object_laws.specs.Object.{Object}
 use Rattle.rv_object_file_laws.specs.Parts.{sections}
 use Rattle.rv_object_file_laws.specs.Known.{IsSection, IsObject}
 use Rattle.rv_object_file_laws.specs.Written.{UnplacedSection, table_of, contents_from, headers_offset, headers_from, section_piece, row_pieces, symtab_index, last_index, first_pieces, pieces, section_names, symbol_names, symbols_bytes, locals, file_header_of, file_of, HasFile}

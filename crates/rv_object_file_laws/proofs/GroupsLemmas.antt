@@ -3,9 +3,9 @@
 use Rattle.std.proofs.Common.{◌≡◌, ℕ, suc, ◌+◌, ◌-◌, ◌<◌, ◌≤◌, ◌==◌, nat_lt, Bool, true, false, not, ◌&&◌, ◌||◌, List, [], ◌∷◌, length, map, filter, Some, None, refl, ap, sym, ◌∙◌, arith, inl, inr, bytes_eq}
 use Rattle.std.specs.List.{AllByRecursion, find}
 use Rattle.std.proofs.lemmas.Bool.{eqb-true, eqb-false, ltb-true, ltb-false, cases_Bool, cond-true, cond-false, not-true, ne_eqb}
-use Rattle.rv_object_types.specs.Object.{Contents, Progbits, Note, Nobits, Section}
-use Rattle.rv_object_types.specs.Valid.{keeps_name}
-use Rattle.rv_object_types.specs.declared.row.Row.{Row}
+use Rattle.rv_object_laws.specs.Object.{Contents, Progbits, Note, Nobits, Section}
+use Rattle.rv_object_laws.specs.Valid.{keeps_name}
+use Rattle.rv_object_laws.specs.declared.row.Row.{Row}
 use Rattle.rv_object_file_laws.specs.Rows.{rows_name}
 use Rattle.rv_object_file_laws.specs.Parts.{FileSection, is_named, is_rows, is_kept, is_index}
 use Rattle.rv_object_file_laws.specs.Known.{IsSection}

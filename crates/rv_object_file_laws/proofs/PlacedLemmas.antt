@@ -8,9 +8,9 @@ use Rattle.std.proofs.lemmas.List.{length-append, length-map}
 use Rattle.rv_elf.specs.declared.section_header.SectionHeader.{SectionHeader}
 use Rattle.rv_elf.specs.Records.{section_header_bytes}
 use Rattle.rv_elf.specs.Sections.{is_past, names_section, indexed_contents, file_contents}
-use Rattle.rv_object_types.specs.Object.{Contents, Progbits, Note, Nobits, Section, Symbol, Object, stored, size_of}
-use Rattle.rv_object_types.specs.Valid.{is_section_alignment, is_string}
-use Rattle.rv_object_types.specs.declared.row.Row.{Row}
+use Rattle.rv_object_laws.specs.Object.{Contents, Progbits, Note, Nobits, Section, Symbol, Object, stored, size_of}
+use Rattle.rv_object_laws.specs.Valid.{is_section_alignment, is_string}
+use Rattle.rv_object_laws.specs.declared.row.Row.{Row}
 use Rattle.rv_object_file_laws.specs.Known.{IsSection}
 use Rattle.rv_object_file_laws.specs.Parts.{name_at}
 use Rattle.rv_layout_laws.specs.Alignment.{aligned}

@@ -7,9 +7,9 @@ use Rattle.std.proofs.lemmas.List.Elements.{filter-append}
 use Rattle.std.proofs.lemmas.Option.{slice_get_within}
 use Rattle.rv_elf.specs.Records.{symbol_at}
 use Rattle.rv_elf.specs.Sections.{indexed_contents, file_contents, symbols_in}
-use Rattle.rv_object_types.specs.declared.row.Row.{Row}
-use Rattle.rv_object_types.specs.Object.{Relocation, Section, Symbol, Object}
-use Rattle.rv_object_types.specs.Valid.{is_below, is_defined_in, is_row_in}
+use Rattle.rv_object_laws.specs.declared.row.Row.{Row}
+use Rattle.rv_object_laws.specs.Object.{Relocation, Section, Symbol, Object}
+use Rattle.rv_object_laws.specs.Valid.{is_below, is_defined_in, is_row_in}
 use Rattle.rv_object_file_laws.specs.Rows.{rows_in}
 use Rattle.rv_object_file_laws.specs.Parts.{FileSection, sections, is_kept, is_rows, is_symbol_table, is_rela, symbol_table, symbols_of, symbol_records, row_records_of, row_records, relocates, relas_of}
 use Rattle.rv_object_file_laws.specs.ObjectOf.{ObjectOf, section_in, names_of, symbol_in, row_in}

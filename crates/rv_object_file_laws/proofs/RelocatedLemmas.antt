@@ -12,7 +12,7 @@ use Rattle.rv_elf.specs.Fields.{rela_size}
 use Rattle.rv_elf.specs.ReadBack.{FitsRela, rela_there}
 use Rattle.rv_elf.specs.Records.{rela_at, rela_bytes}
 use Rattle.rv_elf.specs.Sections.{records, relas_in}
-use Rattle.rv_object_types.specs.Object.{Relocation, Section}
+use Rattle.rv_object_laws.specs.Object.{Relocation, Section}
 use Rattle.rv_object_file_laws.specs.Parts.{FileSection, kind_numbered, symbol_index, relocation_by, relocation_in, relocations_in, relocates, relas_of}
 use Rattle.rv_object_file_laws.specs.Known.{IsRelocation}
 use Rattle.rv_layout_laws.specs.Alignment.{aligned}

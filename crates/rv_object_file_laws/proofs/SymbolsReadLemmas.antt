@@ -12,13 +12,13 @@ use Rattle.rv_elf.specs.Fields.{symbol_size}
 use Rattle.rv_elf.specs.ReadBack.{FitsSymbol, symbol_there}
 use Rattle.rv_elf.specs.Records.{symbol_at, symbol_bytes}
 use Rattle.rv_elf.specs.Sections.{records, symbols_in}
-use Rattle.rv_object_types.specs.declared.symbol.Binding.{Binding}
-use Rattle.rv_object_types.specs.declared.symbol.Binding.TheVariants.{Local, Global, Weak}
-use Rattle.rv_object_types.specs.declared.symbol.Definition.{Definition}
-use Rattle.rv_object_types.specs.declared.symbol.Definition.TheVariants.{Undefined, Absolute, InSection, Skipped}
-use Rattle.rv_object_types.specs.declared.row.Row.{Row}
-use Rattle.rv_object_types.specs.Object.{Section, Symbol, Object}
-use Rattle.rv_object_types.specs.Valid.{is_string, is_shown, is_defined_in}
+use Rattle.rv_object_laws.specs.declared.symbol.Binding.{Binding}
+use Rattle.rv_object_laws.specs.declared.symbol.Binding.TheVariants.{Local, Global, Weak}
+use Rattle.rv_object_laws.specs.declared.symbol.Definition.{Definition}
+use Rattle.rv_object_laws.specs.declared.symbol.Definition.TheVariants.{Undefined, Absolute, InSection, Skipped}
+use Rattle.rv_object_laws.specs.declared.row.Row.{Row}
+use Rattle.rv_object_laws.specs.Object.{Section, Symbol, Object}
+use Rattle.rv_object_laws.specs.Valid.{is_string, is_shown, is_defined_in}
 use Rattle.rv_object_file_laws.specs.Rows.{row_size, row_at, row_bytes, rows_in}
 use Rattle.rv_object_file_laws.specs.Parts.{kept, kept_at, kept_before, is_index, name_at, symbol_table}
 use Rattle.rv_object_file_laws.specs.ObjectOf.{names_of, binding_numbered, definition_in, definition_by, symbol_in, row_in}

@@ -12,13 +12,13 @@ use Rattle.rv_elf.specs.declared.fault.FileFault.TheVariants.{BadTable, BadStrin
 use Rattle.rv_elf.specs.declared.section_header.SectionHeader.{SectionHeader}
 use Rattle.rv_elf.specs.FirstFault.{first_true}
 use Rattle.rv_elf.specs.Sections.{section_count}
-use Rattle.rv_object_types.specs.declared.symbol.Binding.{Binding}
-use Rattle.rv_object_types.specs.declared.symbol.Binding.TheVariants.{Local, Global, Weak}
-use Rattle.rv_object_types.specs.declared.symbol.Definition.{Definition}
-use Rattle.rv_object_types.specs.declared.symbol.Definition.TheVariants.{Undefined, Absolute, InSection, Skipped}
-use Rattle.rv_object_types.specs.declared.row.Row.{Row}
-use Rattle.rv_object_types.specs.Object.{Contents, Progbits, Note, Nobits, Relocation, Symbol, size_of}
-use Rattle.rv_object_types.specs.Valid.{fits_inside, fit_inside, is_padding, is_padding_of, padding_of, is_align, are_apart, are_all_apart, are_paddings, is_shown, is_defined_in}
+use Rattle.rv_object_laws.specs.declared.symbol.Binding.{Binding}
+use Rattle.rv_object_laws.specs.declared.symbol.Binding.TheVariants.{Local, Global, Weak}
+use Rattle.rv_object_laws.specs.declared.symbol.Definition.{Definition}
+use Rattle.rv_object_laws.specs.declared.symbol.Definition.TheVariants.{Undefined, Absolute, InSection, Skipped}
+use Rattle.rv_object_laws.specs.declared.row.Row.{Row}
+use Rattle.rv_object_laws.specs.Object.{Contents, Progbits, Note, Nobits, Relocation, Symbol, size_of}
+use Rattle.rv_object_laws.specs.Valid.{fits_inside, fit_inside, is_padding, is_padding_of, padding_of, is_align, are_apart, are_all_apart, are_paddings, is_shown, is_defined_in}
 use Rattle.rv_object_file_laws.specs.Parts.{FileSection, name_at, extent_of, is_executable, is_loaded, kind_numbered, relocation_in, relocations_in, kept_at}
 use Rattle.rv_object_file_laws.specs.FirstFault.{is_none, is_misplaced, relocation_tests, relocations_tests, is_bad_name, has_binding, has_home, symbol_tests, is_row_of, row_tests}
 use Rattle.rv_object_file_laws.specs.Written.{kind_of, symbol_number, rela_of, name_offset, table_of, binding_number, section_index_of, symbol_record, row_record}

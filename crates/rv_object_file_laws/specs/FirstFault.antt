@@ -13,8 +13,8 @@ use Rattle.rv_elf.specs.Fields.{number_in, e_type, symbol_size, rela_size}
 use Rattle.rv_elf.specs.FirstFault.{first_true, header_tests, table_tests}
 use Rattle.rv_elf.specs.Numbers.{et_rel, sht_progbits, sht_note, sht_nobits, sht_group, shn_undef, shn_abs, stb_local, stb_global, stb_weak}
 use Rattle.rv_elf.specs.Sections.{is_past, section_count, section_header_of, indexed_contents, file_contents, symbols_in, relas_in}
-use Rattle.rv_object_types.specs.Object.{Relocation}
-use Rattle.rv_object_types.specs.Valid.{is_section_alignment, fits_inside, is_padding, are_apart}
+use Rattle.rv_object_laws.specs.Object.{Relocation}
+use Rattle.rv_object_laws.specs.Valid.{is_section_alignment, fits_inside, is_padding, are_apart}
 use Rattle.rv_object_file_laws.specs.Parts.{FileSection, sections, is_section, is_loaded, is_executable, name_at, name_of, is_symbol_table, is_rela, is_rows, kept_at, extent_of, relocates, relas_of, kind_numbered, relocation_in, relocations_in}
 use Rattle.rv_object_file_laws.specs.Rows.{RowRecord, row_size, rows_in}
 

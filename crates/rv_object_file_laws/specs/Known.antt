@@ -4,9 +4,9 @@ use Rattle.std.specs.Prelude.{◌<◌, ◌^◌, IsTrue}
 use Rattle.std.specs.List.{AllByRecursion}
 use Rattle.std.specs.Int.{w64}
 use Rattle.std.specs.Int.RustNames.{FitsSigned}
-use Rattle.rv_object_types.specs.declared.row.Row.{Row}
-use Rattle.rv_object_types.specs.Object.{Relocation, Section, Symbol, Object, size_of}
-use Rattle.rv_object_types.specs.Valid.{is_section_alignment, is_string, keeps_name, is_even, is_loaded_alone, fit_inside, are_paddings, is_shown, are_indexed, are_defined, are_rows}
+use Rattle.rv_object_laws.specs.declared.row.Row.{Row}
+use Rattle.rv_object_laws.specs.Object.{Relocation, Section, Symbol, Object, size_of}
+use Rattle.rv_object_laws.specs.Valid.{is_section_alignment, is_string, keeps_name, is_even, is_loaded_alone, fit_inside, are_paddings, is_shown, are_indexed, are_defined, are_rows}
 use Rattle.rv_object_file_laws.specs.Written.{definition_value}
 
 pub record IsRelocation (r : Relocation) : Type 0 where

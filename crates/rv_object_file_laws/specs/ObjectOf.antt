@@ -6,12 +6,12 @@ use Rattle.rv_elf.specs.declared.symbol.Symbol.{Symbol as SymbolRecord}
 use Rattle.rv_elf.specs.Fields.{number_in, ei_magic, ei_class, ei_data, ei_version, e_type, e_machine, e_flags}
 use Rattle.rv_elf.specs.Numbers.{elfmag, et_rel, em_riscv, shn_undef, shn_abs, stb_local, stb_weak}
 use Rattle.rv_elf.specs.Sections.{indexed_contents}
-use Rattle.rv_object_types.specs.declared.symbol.Binding.{Binding}
-use Rattle.rv_object_types.specs.declared.symbol.Binding.TheVariants.{Local, Global, Weak}
-use Rattle.rv_object_types.specs.declared.symbol.Definition.{Definition}
-use Rattle.rv_object_types.specs.declared.symbol.Definition.TheVariants.{Undefined, Absolute, InSection, Skipped}
-use Rattle.rv_object_types.specs.declared.row.Row.{Row}
-use Rattle.rv_object_types.specs.Object.{Section, Symbol, Object}
+use Rattle.rv_object_laws.specs.declared.symbol.Binding.{Binding}
+use Rattle.rv_object_laws.specs.declared.symbol.Binding.TheVariants.{Local, Global, Weak}
+use Rattle.rv_object_laws.specs.declared.symbol.Definition.{Definition}
+use Rattle.rv_object_laws.specs.declared.symbol.Definition.TheVariants.{Undefined, Absolute, InSection, Skipped}
+use Rattle.rv_object_laws.specs.declared.row.Row.{Row}
+use Rattle.rv_object_laws.specs.Object.{Section, Symbol, Object}
 use Rattle.rv_object_file_laws.specs.Parts.{FileSection, sections, kept, kept_at, kept_before, name_at, name_of, contents_in, is_loaded, is_executable, is_writable, symbol_table, symbol_records, row_records, relocates, relas_of, relocations_in}
 use Rattle.rv_object_file_laws.specs.Rows.{RowRecord}
 

@@ -11,7 +11,7 @@ use Rattle.rv_elf.specs.declared.symbol.Symbol.{Symbol as SymbolRecord}
 use Rattle.rv_elf.specs.declared.rela.Rela.{Rela}
 use Rattle.rv_elf.specs.Numbers.{sht_progbits, sht_symtab, sht_rela, sht_note, sht_nobits, shf_write, shf_alloc, shf_execinstr}
 use Rattle.rv_elf.specs.Sections.{section_headers, indexed_contents, section_count, names_section, file_contents, string_at, symbols_in, relas_in}
-use Rattle.rv_object_types.specs.Object.{Contents, Progbits, Note, Nobits, Relocation}
+use Rattle.rv_object_laws.specs.Object.{Contents, Progbits, Note, Nobits, Relocation}
 use Rattle.rv_object_file_laws.specs.Rows.{RowRecord, rows_name, rows_in}
 
 -- a section of a file: its index and its header

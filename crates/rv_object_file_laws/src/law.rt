@@ -1,7 +1,7 @@
 //! What is written is read again.
 
 ghost use Rattle.std.specs.Prelude.{◌≡◌, ℕ, ◌<◌, ◌^◌, List, length, None};
-ghost use Rattle.rv_object_types.specs.Object.{Object};
+ghost use Rattle.rv_object_laws.specs.Object.{Object};
 ghost use Rattle.rv_object_file_laws.specs.FirstFault.{first_fault};
 ghost use Rattle.rv_object_file_laws.specs.Known.{IsObject};
 ghost use Rattle.rv_object_file_laws.specs.ObjectOf.{ObjectOf};

@@ -1,10 +1,9 @@
--- What every object keeps, said of a plain value: what a reader of files tests of it (`Valid` of
--- rv_object_types).
+-- What every object keeps, said of a plain value: what a reader of files tests of it (`Valid`).
 
 use Rattle.std.specs.Prelude.{IsTrue}
 use Rattle.std.specs.List.{AllByRecursion}
-use Rattle.rv_object_types.specs.Object.{Section, Object}
-use Rattle.rv_object_types.specs.Valid.{is_section_alignment, is_string, keeps_name, is_even, is_loaded_alone, fit_inside, are_paddings, are_indexed, are_defined, are_rows}
+use Rattle.rv_object_laws.specs.Object.{Section, Object}
+use Rattle.rv_object_laws.specs.Valid.{is_section_alignment, is_string, keeps_name, is_even, is_loaded_alone, fit_inside, are_paddings, are_indexed, are_defined, are_rows}
 
 pub record IsWholeSection (s : Section) : Type 0 where
   pub named : IsTrue (is_string s.name)

@@ -1,22 +1,29 @@
-//! What linking is: when a program is that of a list of objects.
+//! What an object is, as plain data: what the assembler makes of a source, and what the linker takes.
 //!
-//! It takes objects (`rv_object_types`), the values and fields of relocations (`rv_reloc`) and a linked program
-//! (`rv_image_laws`), all as plain data. It gives the definition `IsLinkOf objects start linked` (`specs/IsLinkOf`)
-//! over objects alone, whoever made them: where their sections start (`Inputs`), which bytes are dropped (`Moves`),
-//! what names mean across files (`Names`), and the bytes of a section with its relocations applied (`Values`).
+//! It gives sections, symbols, relocations and rows ([`Object`]), who may name a symbol ([`Bindings`]), the instructions of
+//! paddings ([`Padding`]), and what every object keeps, whoever made it ([`Valid`], and [`Whole`] of all of it): what a reader
+//! of files tests.
 //!
-//! With `--gc-sections` objects are linked without the sections to which nothing leads from the entry's (`Collects`). What is
-//! left of them is objects again (`Without`), that keep what every object keeps (`Whole`): [`what_is_left`], [`names_stay`] and
-//! [`nothing_dangles`] say what stays as it was.
+//! [`Row`], [`Binding`] and [`Definition`] are types that definitions and code share. It knows neither files nor addresses, nor
+//! what becomes of objects (`rv_link_laws`).
 //!
-//! Nothing here runs, and nothing here knows of statements.
+//! Nothing here runs.
 //!
-//! Source: System V gABI, "Sections", "Symbol Table", "Relocation"; RISC-V ELF psABI, "Relocations", "Linker Relaxation"; GNU ld.
+//! ```text
+//! Undefined, Absolute n, InSection index offset, Skipped n        what a symbol is
+//! ```
+//!
+//! [`Bindings`]: ../specs/Bindings.antt
+//! [`Object`]: ../specs/Object.antt
+//! [`Padding`]: ../specs/Padding.antt
+//! [`Valid`]: ../specs/Valid.antt
+//! [`Whole`]: ../specs/Whole.antt
+//!
+//! Source: System V gABI, "Sections", "Symbol Table", "Relocation"; RISC-V ELF psABI, "Relocations".
 #![tactic(auto)]
 
-mod law;
+mod row;
+mod symbol;
 
-pub use law::{
-    names_stay, nothing_begins, nothing_dangles, nothing_moves, one_collection, rows_in_order_stay,
-    sites_make_a_text, sites_of_whole_objects, what_is_left, without_nothing,
-};
+pub use row::Row;
+pub use symbol::{Binding, Definition};

@@ -13,8 +13,8 @@ use Rattle.rv_elf.specs.declared.section_header.SectionHeader.{SectionHeader}
 use Rattle.rv_elf.specs.declared.rela.Rela.{Rela}
 use Rattle.rv_elf.specs.FirstFault.{first_true}
 use Rattle.rv_elf.specs.Sections.{section_header_of, file_contents, relas_in}
-use Rattle.rv_object_types.specs.Object.{Relocation}
-use Rattle.rv_object_types.specs.Valid.{fits_inside, is_padding, are_apart, are_all_apart, is_below}
+use Rattle.rv_object_laws.specs.Object.{Relocation}
+use Rattle.rv_object_laws.specs.Valid.{fits_inside, is_padding, are_apart, are_all_apart, is_below}
 use Rattle.rv_object_file_laws.specs.Parts.{FileSection, sections, is_loaded, is_executable, is_symbol_table, is_rela, extent_of, symbol_records, relocates, relas_of, kind_numbered, symbol_index, relocation_by, relocation_in, relocations_in}
 use Rattle.rv_object_file_laws.specs.FirstFault.{is_none, is_misplaced, relocation_tests, relocations_tests, records_tests, symbol_count, first_fault}
 use Rattle.rv_elf.specs.FirstTrue.{no_fault_parts}

@@ -7,7 +7,7 @@ use Rattle.std.proofs.lemmas.List.{append_assoc, map-append}
 use Rattle.rv_elf.specs.declared.symbol.Symbol.{Symbol as SymbolRecord}
 use Rattle.rv_elf.specs.FirstFault.{first_true}
 use Rattle.rv_elf.specs.Sections.{section_count}
-use Rattle.rv_object_types.specs.declared.row.Row.{Row}
+use Rattle.rv_object_laws.specs.declared.row.Row.{Row}
 use Rattle.rv_object_checks.specs.Found.{section_at, sections_from, place_among_kept, place_at}
 use Rattle.rv_object_file_laws.specs.FirstFault.{has_binding, has_home, symbol_tests, is_row_of, row_tests, first_fault}
 use Rattle.rv_object_file_laws.specs.Parts.{FileSection, sections, is_kept, is_index, kept_at, kept_before, row_records}

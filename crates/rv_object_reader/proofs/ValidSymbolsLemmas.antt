@@ -10,10 +10,10 @@ use Rattle.rv_map.specs.Name.{is_name}
 use Rattle.rv_elf.specs.declared.symbol.Symbol.{Symbol as SymbolRecord}
 use Rattle.rv_elf.specs.FirstFault.{first_true}
 use Rattle.rv_elf.specs.Sections.{indexed_contents, file_contents, symbols_in}
-use Rattle.rv_object_types.specs.declared.symbol.Binding.TheVariants.{Local, Global, Weak}
-use Rattle.rv_object_types.specs.declared.symbol.Definition.TheVariants.{Undefined, Absolute}
-use Rattle.rv_object_types.specs.Object.{Section, Symbol}
-use Rattle.rv_object_types.specs.Valid.{is_string, is_shown, is_defined_in, is_row_in, are_indexed, are_defined, are_rows}
+use Rattle.rv_object_laws.specs.declared.symbol.Binding.TheVariants.{Local, Global, Weak}
+use Rattle.rv_object_laws.specs.declared.symbol.Definition.TheVariants.{Undefined, Absolute}
+use Rattle.rv_object_laws.specs.Object.{Section, Symbol}
+use Rattle.rv_object_laws.specs.Valid.{is_string, is_shown, is_defined_in, is_row_in, are_indexed, are_defined, are_rows}
 use Rattle.rv_object_file_laws.specs.Parts.{FileSection, sections, kept, is_kept, is_index, is_loaded, is_symbol_table, is_rela, is_rows, kept_at, kept_before, name_at, symbol_table, symbols_of, symbol_records, row_records_of, row_records}
 use Rattle.rv_object_file_laws.specs.Rows.{RowRecord, rows_in}
 use Rattle.rv_object_file_laws.specs.FirstFault.{is_shared_record, is_bad_name, has_binding, has_home, symbol_tests, is_row_of, row_tests, first_fault}

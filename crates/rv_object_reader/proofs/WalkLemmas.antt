@@ -8,7 +8,7 @@ use Rattle.rv_elf.specs.FirstFault.{first_true, header_tests, table_tests}
 use Rattle.rv_elf.specs.Numbers.{et_rel, sht_nobits}
 use Rattle.rv_elf.specs.Records.{section_header_at}
 use Rattle.rv_elf.specs.Sections.{records, section_count, is_past}
-use Rattle.rv_object_types.specs.Valid.{is_section_alignment}
+use Rattle.rv_object_laws.specs.Valid.{is_section_alignment}
 use Rattle.rv_object_file_laws.specs.Parts.{FileSection, numbered, sections, is_executable, name_of}
 use Rattle.rv_object_file_laws.specs.FirstFault.{is_none, is_linked, section_tests, records_tests, sections_tests, object_tests, first_fault}
 use Rattle.rv_object_checks.specs.Found.{section_at, sections_from}

@@ -3,7 +3,7 @@
 use Rattle.std.specs.Prelude.{ℕ, List, [], map, filter, if◌then◌else◌}
 use Rattle.std.specs.Global.{Vec}
 use Rattle.rv_object_types.specs.declared.relocation.Relocation.{Relocation as DeclaredRelocation}
-use Rattle.rv_object_types.specs.Object.{Relocation}
+use Rattle.rv_object_laws.specs.Object.{Relocation}
 use Rattle.rv_object_types.specs.Parts.{relocation_of}
 use Rattle.rv_object_file_laws.specs.Parts.{FileSection, sections, kept, is_loaded, relocates, relas_of, relocations_in}
 

@@ -2,7 +2,7 @@
 
 ghost use Rattle.std.specs.Prelude.{◌≡◌, true, IfOk, map};
 ghost use Rattle.std.specs.List.{AllByRecursion};
-ghost use Rattle.rv_object_types.specs.Valid.{is_counted, are_counted};
+ghost use Rattle.rv_object_laws.specs.Valid.{is_counted, are_counted};
 ghost use Rattle.rv_object_checks.specs.Rows.{record_of};
 ghost use Rattle.rv_object_file_laws.specs.FirstFault.{is_row_of};
 ghost use Rattle.rv_object_file_laws.specs.ObjectOf.{row_in as row_of};

@@ -1,2 +1,0 @@
-pub mod CountedLemmas
-pub mod NopsLemmas

@@ -5,7 +5,7 @@ use Rattle.rv_object_types.specs.declared.contents.Contents.{Contents as Declare
 use Rattle.rv_object_types.specs.declared.contents.Contents.TheVariants as contents
 use Rattle.rv_object_types.specs.declared.symbol.Symbol.{Symbol as DeclaredSymbol}
 use Rattle.rv_object_types.specs.declared.relocation.Relocation.{Relocation as DeclaredRelocation}
-use Rattle.rv_object_types.specs.Object.{Contents, Progbits, Note, Nobits, Relocation, Symbol}
+use Rattle.rv_object_laws.specs.Object.{Contents, Progbits, Note, Nobits, Relocation, Symbol}
 
 abbrev pub contents_of : DeclaredContents → Contents
 contents_of (contents.Progbits bytes) = Progbits (cow_slice_items bytes)

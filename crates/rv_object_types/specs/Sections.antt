@@ -2,7 +2,7 @@
 
 use Rattle.std.specs.Prelude.{map}
 use Rattle.rv_object_types.specs.declared.section.Section.{Section as DeclaredSection}
-use Rattle.rv_object_types.specs.Object.{Section}
+use Rattle.rv_object_laws.specs.Object.{Section}
 use Rattle.rv_object_types.specs.Parts.{contents_of, relocation_of}
 
 abbrev pub section_of : DeclaredSection → Section

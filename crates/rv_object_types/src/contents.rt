@@ -3,7 +3,7 @@
 //! Their bytes are lent by the file that a reader has, or are the assembler's own.
 
 ghost use Rattle.std.specs.Prelude.{◌≡◌};
-ghost use Rattle.rv_object_types.specs.Object as said;
+ghost use Rattle.rv_object_laws.specs.Object as said;
 ghost use Rattle.rv_object_types.specs.Parts.{contents_of};
 
 use std::borrow::CowSlice;

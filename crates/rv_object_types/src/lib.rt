@@ -1,8 +1,9 @@
 //! Objects: what the assembler makes of a source, and what the linker takes.
 //!
-//! It gives the types [`Object`], [`Section`], [`Symbol`], [`Relocation`] and [`Row`], and in `specs/Object` the same as
-//! plain data, of which the contracts of the assembler and the linker speak. What a reader of files tests, each value of
-//! these types keeps (`specs/Valid`): powers of two as alignments, fields inside their sections, indices below counts.
+//! It gives the types [`Object`], [`Section`], [`Symbol`], [`Relocation`] and [`Row`], and in `specs/View` what an
+//! object stands for as plain data (`rv_object_laws`), of which the contracts of the assembler and the linker speak.
+//! What a reader of files tests, each value of these types keeps (`rv_object_laws/specs/Valid`): powers of two as
+//! alignments, fields inside their sections, indices below counts.
 //!
 //! Padding in code is written and counted here, as the assembler and the linker both do it.
 //!
@@ -20,7 +21,6 @@ mod contents;
 mod object;
 mod padding;
 mod relocation;
-mod row;
 mod section;
 mod symbol;
 
@@ -28,6 +28,6 @@ pub use contents::Contents;
 pub use object::Object;
 pub use padding::{operations, put_no_operations};
 pub use relocation::Relocation;
-pub use row::Row;
+pub use rv_object_laws::{Binding, Definition, Row};
 pub use section::Section;
-pub use symbol::{Binding, Definition, Symbol};
+pub use symbol::Symbol;

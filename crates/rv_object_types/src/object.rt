@@ -3,11 +3,11 @@
 ghost use Rattle.std.specs.Prelude.{IsTrue, map};
 ghost use Rattle.rv_object_types.specs.Parts.{symbol_of};
 ghost use Rattle.rv_object_types.specs.Sections.{section_of};
-ghost use Rattle.rv_object_types.specs.Valid.{are_indexed, are_defined, are_rows, are_counted};
+ghost use Rattle.rv_object_laws.specs.Valid.{are_indexed, are_defined, are_rows, are_counted};
 
-use crate::row::Row;
 use crate::section::Section;
 use crate::symbol::Symbol;
+use rv_object_laws::Row;
 
 /// What the assembler makes of one source, and what the linker takes. It lends names and bytes from the source or the file.
 #[derive(Debug, PartialEq, Eq, Drop)]

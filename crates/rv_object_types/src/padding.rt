@@ -3,7 +3,7 @@
 //! Source: RISC-V ELF psABI, "Linker Relaxation"; Unprivileged ISA, "NOP Instruction" and "C.NOP".
 
 ghost use Rattle.std.specs.Prelude.{◌≡◌, ◌++◌, OnOk};
-ghost use Rattle.rv_object_types.specs.Padding.{no_operations, operations_in};
+ghost use Rattle.rv_object_laws.specs.Padding.{no_operations, operations_in};
 
 use std::alloc::AllocError;
 

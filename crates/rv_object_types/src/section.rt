@@ -2,7 +2,7 @@
 
 ghost use Rattle.std.specs.Prelude.{IsTrue, map};
 ghost use Rattle.rv_object_types.specs.Parts.{relocation_of, contents_of};
-ghost use Rattle.rv_object_types.specs.Valid.{is_section_alignment, is_string, keeps_name, is_even, is_loaded_alone, fit_inside, are_paddings};
+ghost use Rattle.rv_object_laws.specs.Valid.{is_section_alignment, is_string, keeps_name, is_even, is_loaded_alone, fit_inside, are_paddings};
 
 use crate::contents::Contents;
 use crate::relocation::Relocation;

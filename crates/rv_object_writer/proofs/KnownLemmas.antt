@@ -7,12 +7,12 @@ use Rattle.std.proofs.lemmas.List.Elements.{All-map, All-same, recursion_from_Al
 use Rattle.std.specs.List.{AllByRecursion}
 use Rattle.rv_object_types.specs.declared.object.Object.{Object}
 use Rattle.rv_object_types.specs.declared.section.Section.{Section}
-use Rattle.rv_object_types.specs.declared.row.Row.{Row}
-use Rattle.rv_object_types.specs.Object.{size_of}
+use Rattle.rv_object_laws.specs.declared.row.Row.{Row}
+use Rattle.rv_object_laws.specs.Object.{size_of}
 use Rattle.rv_object_types.specs.Sections.{section_of}
-use Rattle.rv_object_types.specs.Valid.{is_counted, are_counted}
+use Rattle.rv_object_laws.specs.Valid.{is_counted, are_counted}
 use Rattle.rv_object_types.specs.View.{object_of}
-use Rattle.rv_object_types.proofs.CountedLemmas.{counted_widths}
+use Rattle.rv_object_laws.proofs.CountedLemmas.{counted_widths}
 use Rattle.rv_object_file_laws.specs.Known.{IsRelocation, IsSection, IsRow, IsObject}
 use Rattle.rv_object_writer.specs.Pieces.{HaveKnownNumbers}
 

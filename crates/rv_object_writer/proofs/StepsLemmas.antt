@@ -7,9 +7,9 @@ use Rattle.std.proofs.Math.Seq.{drop-append_seam}
 use mir.Val.{bool_byte}
 use Rattle.rv_elf.specs.declared.file_header.FileHeader.{FileHeader}
 use Rattle.rv_elf.specs.Records.{file_header_bytes, section_header_bytes}
-use Rattle.rv_object_types.specs.declared.row.Row.{Row}
+use Rattle.rv_object_laws.specs.declared.row.Row.{Row}
 use Rattle.rv_object_types.specs.declared.section.Section.{Section as DeclaredSection}
-use Rattle.rv_object_types.specs.Object.{Section, Symbol}
+use Rattle.rv_object_laws.specs.Object.{Section, Symbol}
 use Rattle.rv_object_types.specs.Sections.{section_of}
 use Rattle.rv_layout_laws.specs.Alignment.{aligned}
 use Rattle.rv_object_writer.specs.declared.piece.Piece.{Piece as DeclaredPiece}

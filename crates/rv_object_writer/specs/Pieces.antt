@@ -5,12 +5,12 @@ use Rattle.std.specs.List.{AllByRecursion}
 use Rattle.rv_elf.specs.declared.file_header.FileHeader.{FileHeader}
 use Rattle.rv_elf.specs.Fields.{rela_size, file_header_size, section_header_size}
 use Rattle.rv_elf.specs.Numbers.{sht_rela, et_rel, em_riscv}
-use Rattle.rv_object_types.specs.Object.{Object}
+use Rattle.rv_object_laws.specs.Object.{Object}
 use Rattle.rv_object_file_laws.specs.Known.{IsRelocation, IsSymbol}
 use Rattle.rv_object_file_laws.specs.Rows.{row_bytes}
 use Rattle.rv_object_file_laws.specs.Written.{UnplacedSection, table_piece, rela_pieces, row_record, symtab_index, last_index, headers_offset, symbols_bytes, symbol_names, table_of}
 use Rattle.rv_object_writer.specs.declared.pieces.Tables.{Tables}
-use Rattle.rv_object_types.specs.declared.row.Row.{Row}
+use Rattle.rv_object_laws.specs.declared.row.Row.{Row}
 use Rattle.rv_object_writer.specs.declared.piece.Body.{Body}
 use Rattle.rv_object_writer.specs.declared.piece.Body.TheVariants.{Bytes, Rows}
 use Rattle.rv_object_writer.specs.declared.piece.Piece.{Piece as DeclaredPiece}

@@ -2,7 +2,7 @@
 
 ghost use Rattle.std.specs.Prelude.{[], ◌∷◌, ◌++◌, map, codes, IfOk};
 ghost use Rattle.rv_object_types.specs.Parts.{symbol_of};
-ghost use Rattle.rv_object_types.specs.Object.{Symbol as SaidSymbol};
+ghost use Rattle.rv_object_laws.specs.Object.{Symbol as SaidSymbol};
 ghost use Rattle.rv_object_file_laws.specs.Written.{strings_of, UnplacedSection as SaidPiece};
 ghost use Rattle.rv_object_writer.specs.Pieces.{piece_of};
 ghost use Rattle.rv_object_writer.specs.Strings.{IsStringTable};

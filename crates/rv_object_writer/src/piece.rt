@@ -1,7 +1,7 @@
 //! Sections as the file has them.
 
 ghost use Rattle.std.specs.Prelude.{◌≡◌, ◌<◌, ◌^◌};
-ghost use Rattle.rv_object_types.specs.Object.{size_of};
+ghost use Rattle.rv_object_laws.specs.Object.{size_of};
 ghost use Rattle.rv_object_types.specs.Parts.{contents_of};
 ghost use Rattle.rv_object_types.specs.Sections.{section_of};
 ghost use Rattle.rv_object_file_laws.specs.Written.{kind_of, flags_of};

@@ -4,7 +4,7 @@ ghost use Rattle.std.specs.Prelude.{◌≡◌, ◌+◌, ◌++◌, ◌∷◌, [],
 ghost use Rattle.std.specs.List.{AllByRecursion};
 ghost use Rattle.rv_elf.specs.Fields.{symbol_size};
 ghost use Rattle.rv_elf.specs.Numbers.{sht_strtab, sht_symtab};
-ghost use Rattle.rv_object_types.specs.Object.{size_of};
+ghost use Rattle.rv_object_laws.specs.Object.{size_of};
 ghost use Rattle.rv_object_types.specs.Sections.{section_of};
 ghost use Rattle.rv_object_types.specs.View.{object_of};
 ghost use Rattle.rv_object_file_laws.specs.Written.{section_piece, table_piece, row_pieces, symtab_index, first_pieces, symbol_names, rela_pieces, locals};

@@ -7,7 +7,7 @@ ghost use Rattle.std.specs.Prelude.{◌≡◌, ◌+◌, ◌++◌, ◌^◌, ◌<�
 ghost use Rattle.std.specs.List.{AllByRecursion};
 ghost use Rattle.rv_elf.specs.Fields.{file_header_size, section_header_size};
 ghost use Rattle.rv_elf.specs.Records.{file_header_bytes, section_header_bytes};
-ghost use Rattle.rv_object_types.specs.Object.{size_of};
+ghost use Rattle.rv_object_laws.specs.Object.{size_of};
 ghost use Rattle.rv_object_types.specs.View.{object_of};
 ghost use Rattle.rv_object_file_laws.specs.FirstFault.{first_fault};
 ghost use Rattle.rv_object_file_laws.specs.Known.{IsObject};

@@ -7,11 +7,11 @@ use Rattle.std.proofs.Math.Nat.{mul_assoc, mul-mod_left}
 use Rattle.std.proofs.lemmas.Bool.{leb-true, leb-false}
 use Rattle.std.proofs.lemmas.Nat.{div-add-mod', pow-add, pow_below}
 use Rattle.rv_layout_laws.specs.Alignment.{aligned}
-use Rattle.rv_object_types.specs.Object.{Relocation, Section}
-use Rattle.rv_object_types.specs.Padding.{no_operations}
-use Rattle.rv_object_types.specs.Valid.{is_section_alignment}
-use Rattle.rv_object_laws.specs.Moves.{full_padding, alignment_of, alignments_of, moves, plan}
-use Rattle.rv_object_laws.specs.Inputs.{goes_to_text, raised, begins_at}
+use Rattle.rv_object_laws.specs.Object.{Relocation, Section}
+use Rattle.rv_object_laws.specs.Padding.{no_operations}
+use Rattle.rv_object_laws.specs.Valid.{is_section_alignment}
+use Rattle.rv_link_laws.specs.Moves.{full_padding, alignment_of, alignments_of, moves, plan}
+use Rattle.rv_link_laws.specs.Inputs.{goes_to_text, raised, begins_at}
 use Rattle.rv_cut_laws.proofs.PowersLemmas.{any_power}
 pub use Rattle.rv_cut_laws.proofs.AlignedLemmas.{one_of}
 

@@ -3,11 +3,11 @@
 use Rattle.std.proofs.Common.{◌≡◌, ◌<◌, ◌≤◌, ◌+◌, ℕ, Bool, true, false, List, [], ◌∷◌, length, drop, get_or, map, max, nat_le, refl, sym, ap, ◌∙◌, arith}
 use Rattle.std.specs.Prelude.{filter, ◌&&◌, nat_lt, if◌then◌else◌}
 use Rattle.std.proofs.lemmas.List.{drop_more}
-use Rattle.rv_object_types.specs.Object.{Relocation, Section, Object}
+use Rattle.rv_object_laws.specs.Object.{Relocation, Section, Object}
 use Rattle.rv_object_types.specs.declared.relocation.Relocation.{Relocation as Declared}
 use Rattle.rv_object_types.specs.Parts.{relocation_of}
-use Rattle.rv_object_laws.specs.Moves.{Move, has_padding, alignment_of, alignments_of, inserted, by_place, full_padding}
-use Rattle.rv_object_laws.specs.Inputs.{raised, begins_at, goes_to_text}
+use Rattle.rv_link_laws.specs.Moves.{Move, has_padding, alignment_of, alignments_of, inserted, by_place, full_padding}
+use Rattle.rv_link_laws.specs.Inputs.{raised, begins_at, goes_to_text}
 use Rattle.rv_cut_laws.specs.Cutting.{cut_relocation, cut_section}
 use Rattle.rv_cut_laws.proofs.PaddingsLemmas.{align_stays}
 use Rattle.rv_placement.specs.Alignments.{asked, raised_by}

@@ -3,11 +3,11 @@
 use Rattle.std.proofs.Common.{◌≡◌, ◌<◌, ◌≤◌, ℕ, List, [], ◌∷◌, length, map, refl, sym, ap, subst, ◌∙◌, arith, Bool}
 use Rattle.rv_layout_laws.specs.Alignment.{aligned}
 use Rattle.rv_map.specs.declared.map.Region.{Region}
-use Rattle.rv_object_types.specs.Object.{Section, Object}
+use Rattle.rv_object_laws.specs.Object.{Section, Object}
 use Rattle.rv_placement.specs.declared.destination.Destination.TheVariants.{Rodata, Data, Bss}
 use Rattle.rv_placement.specs.declared.placement.PlacedSection.{PlacedSection}
 use Rattle.rv_placement.specs.Walk.{goes, ended, ended_files, started_files, greatest_of, AreBehind}
-use Rattle.rv_object_laws.proofs.ListsLemmas.{above}
+use Rattle.rv_link_laws.proofs.ListsLemmas.{above}
 use Rattle.rv_placement.proofs.WalksLemmas.{grows_files, length-started}
 use Rattle.rv_placement.proofs.AlignmentsLemmas.{greatest_some_of as greatest_some}
 

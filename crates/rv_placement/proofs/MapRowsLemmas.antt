@@ -5,12 +5,12 @@ use Rattle.std.specs.List.{list_all, slice_get}
 use Rattle.std.proofs.lemmas.Bool.{leb-true, and_parts}
 use Rattle.std.proofs.lemmas.List.{get_or_default}
 use Rattle.rv_map.specs.declared.map.Row.{Row as MapRow}
-use Rattle.rv_object_types.specs.declared.row.Row.{Row}
-use Rattle.rv_object_types.specs.Object.{Section, Object, size_of}
-use Rattle.rv_object_types.specs.Valid.{is_row_in, are_rows}
-use Rattle.rv_object_laws.specs.IsLinkOf.{by_ordinal, map_row, moves_at, row_in, rows_of}
-use Rattle.rv_object_laws.specs.Moves.{new_offset, moves}
-use Rattle.rv_object_laws.specs.Layout.{object_section}
+use Rattle.rv_object_laws.specs.declared.row.Row.{Row}
+use Rattle.rv_object_laws.specs.Object.{Section, Object, size_of}
+use Rattle.rv_object_laws.specs.Valid.{is_row_in, are_rows}
+use Rattle.rv_link_laws.specs.IsLinkOf.{by_ordinal, map_row, moves_at, row_in, rows_of}
+use Rattle.rv_link_laws.specs.Moves.{new_offset, moves}
+use Rattle.rv_link_laws.specs.Layout.{object_section}
 use Rattle.rv_shorten.specs.declared.object.ShortObject.{ShortObject}
 use Rattle.rv_shorten.specs.View.{short_object_of}
 use Rattle.rv_relax.specs.Kept.{moves_of}
@@ -19,7 +19,7 @@ use Rattle.rv_placement.specs.declared.placement.PlacedSection.{PlacedSection}
 use Rattle.rv_placement.specs.declared.placement.Placement.{Placement}
 use Rattle.rv_placement.specs.Moved.{moved_row, moved_rows}
 use Rattle.rv_placement.specs.Placement.{starts_of, placed_at, IsPlacement}
-use Rattle.rv_object_laws.proofs.ListsLemmas.{left}
+use Rattle.rv_link_laws.proofs.ListsLemmas.{left}
 use Rattle.rv_placement.proofs.FoundLemmas.{in_object, not_placed, start_is}
 
 all_moved : {A B : Type 0} (p : B → Bool) (f : A → B) (xs : List A) (i : ℕ) (x : A) → list_all p (map f xs) ≡ true → i < length xs → x ≡ get_or xs i x → p (f x) ≡ true

@@ -4,10 +4,10 @@ use Rattle.std.proofs.Common.{suc, ◌≡◌, ◌+◌, ◌-◌, ℕ, Bool, true,
 use Rattle.std.specs.Prelude.{if◌then◌else◌, ◌&&◌, ◌↔◌, IsTrue}
 use Rattle.std.specs.Global.{Vec}
 use Rattle.std.specs.List.{AllByRecursion, list_all, slice_get}
-use Rattle.rv_object_types.specs.Object.{Section, Object}
-use Rattle.rv_object_laws.specs.Moves.{moves, has_room}
-use Rattle.rv_object_laws.specs.Inputs.{Starts, InputSection, goes_to_text, inputs, inputs_from, inputs_of, start_of}
-use Rattle.rv_object_laws.specs.Layout.{section_in, AreRoomy}
+use Rattle.rv_object_laws.specs.Object.{Section, Object}
+use Rattle.rv_link_laws.specs.Moves.{moves, has_room}
+use Rattle.rv_link_laws.specs.Inputs.{Starts, InputSection, goes_to_text, inputs, inputs_from, inputs_of, start_of}
+use Rattle.rv_link_laws.specs.Layout.{section_in, AreRoomy}
 use Rattle.rv_relax.specs.Kept.{moves_of}
 use Rattle.rv_placement.specs.declared.placement.PlacedSection.{PlacedSection}
 use Rattle.rv_placement.specs.declared.placement.Placement.{Placement}

@@ -3,11 +3,11 @@
 use Rattle.std.proofs.Common.{suc, ◌≡◌, ◌+◌, ℕ, Bool, true, false, List, [], ◌∷◌, ◌++◌, map, refl, sym, ap, ◌∙◌}
 use Rattle.std.specs.Prelude.{if◌then◌else◌, ◌&&◌}
 use Rattle.std.specs.List.{AllByRecursion, list_all}
-use Rattle.rv_object_types.specs.Object.{Section, Object}
-use Rattle.rv_object_types.specs.Valid.{is_section_alignment}
-use Rattle.rv_object_laws.specs.Moves.{moves, has_room}
-use Rattle.rv_object_laws.specs.Inputs.{Starts, InputSection, goes_to_text, inputs, inputs_from, inputs_of, size, Stand}
-use Rattle.rv_object_laws.specs.Layout.{AreRoomy, HasRoom}
+use Rattle.rv_object_laws.specs.Object.{Section, Object}
+use Rattle.rv_object_laws.specs.Valid.{is_section_alignment}
+use Rattle.rv_link_laws.specs.Moves.{moves, has_room}
+use Rattle.rv_link_laws.specs.Inputs.{Starts, InputSection, goes_to_text, inputs, inputs_from, inputs_of, size, Stand}
+use Rattle.rv_link_laws.specs.Layout.{AreRoomy, HasRoom}
 use Rattle.rv_shorten.specs.declared.section.ShortSection.{ShortSection}
 use Rattle.rv_shorten.specs.declared.object.ShortObject.{ShortObject}
 use Rattle.rv_shorten.specs.Sections.{short_section_of}

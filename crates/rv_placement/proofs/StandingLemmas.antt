@@ -4,9 +4,9 @@ use Rattle.std.proofs.Common.{suc, ◌≡◌, ◌<◌, ◌≤◌, ◌+◌, ◌-�
 use Rattle.std.specs.Prelude.{if◌then◌else◌, ⊤, filter}
 use Rattle.std.specs.List.{AllZip, slice_get}
 use Rattle.rv_map.specs.declared.map.Region.{Region}
-use Rattle.rv_object_types.specs.Object.{Section, Object, size_of}
-use Rattle.rv_object_laws.specs.Moves.{has_padding, plan, by_place, moves, new_offset}
-use Rattle.rv_object_laws.specs.Inputs.{Starts, InputSection, goes_to_text, begins_at, inputs_from, inputs_of, start_of, size, Stand, sections_end, gaps_of, greatest}
+use Rattle.rv_object_laws.specs.Object.{Section, Object, size_of}
+use Rattle.rv_link_laws.specs.Moves.{has_padding, plan, by_place, moves, new_offset}
+use Rattle.rv_link_laws.specs.Inputs.{Starts, InputSection, goes_to_text, begins_at, inputs_from, inputs_of, start_of, size, Stand, sections_end, gaps_of, greatest}
 use Rattle.rv_placement.specs.declared.placement.PlacedSection.{PlacedSection}
 use Rattle.rv_placement.specs.Placement.{start_in}
 use Rattle.rv_placement.specs.Walk.{start_behind, end_from, end_behind, next, ended, ended_files, start_from, started, started_files, text_starts, text_files, gap_between, gapped, gapped_files, greatest_in, greatest_of, IsKept, AreKept}

@@ -7,16 +7,16 @@ use Rattle.std.specs.List.{AllZip}
 use Rattle.std.proofs.lemmas.List.{take_more, map-append}
 use Rattle.std.proofs.lemmas.Slice.Zip.{all_zipped_more}
 use Rattle.rv_map.specs.declared.map.Region.{Region}
-use Rattle.rv_object_types.specs.Object.{Section, Object, size_of}
-use Rattle.rv_object_laws.specs.Moves.{Move, moves, new_offset}
-use Rattle.rv_object_laws.specs.Inputs.{goes_to_text}
+use Rattle.rv_object_laws.specs.Object.{Section, Object, size_of}
+use Rattle.rv_link_laws.specs.Moves.{Move, moves, new_offset}
+use Rattle.rv_link_laws.specs.Inputs.{goes_to_text}
 use Rattle.rv_shorten.specs.declared.section.ShortSection.{ShortSection}
 use Rattle.rv_shorten.specs.declared.object.ShortObject.{ShortObject}
 use Rattle.rv_shorten.specs.Sections.{short_section_of}
 use Rattle.rv_shorten.specs.View.{short_object_of}
 use Rattle.rv_placement.specs.declared.placement.PlacedSection.{PlacedSection}
 use Rattle.rv_placement.specs.Walk.{start_behind, end_behind, next, ended, ended_files, start_from, text_starts, text_files, gap_between, gap_behind, gapped, gapped_files, lists_of, IsKept, AreKept, IsPut}
-use Rattle.rv_object_laws.proofs.ListsLemmas.{left}
+use Rattle.rv_link_laws.proofs.ListsLemmas.{left}
 use Rattle.rv_relax.proofs.SpreadLemmas.{grown}
 
 -- what is said of the value that an option has

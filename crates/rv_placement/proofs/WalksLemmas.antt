@@ -5,9 +5,9 @@ use Rattle.std.specs.Prelude.{if◌then◌else◌, IfNone}
 use Rattle.std.specs.Global.{Vec}
 use Rattle.std.proofs.lemmas.List.{drop_more, take_more_set, drop-set-lt, map-set, length-map}
 use Rattle.std.specs.List.{drop-map}
-use Rattle.rv_object_types.specs.Object.{Section, Object}
-use Rattle.rv_object_laws.specs.Inputs.{begins_at}
-use Rattle.rv_object_laws.proofs.ListsLemmas.{above, left}
+use Rattle.rv_object_laws.specs.Object.{Section, Object}
+use Rattle.rv_link_laws.specs.Inputs.{begins_at}
+use Rattle.rv_link_laws.proofs.ListsLemmas.{above, left}
 use Rattle.rv_shorten.specs.declared.section.ShortSection.{ShortSection}
 use Rattle.rv_shorten.specs.declared.object.ShortObject.{ShortObject}
 use Rattle.rv_shorten.specs.Sections.{short_section_of}

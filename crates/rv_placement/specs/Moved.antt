@@ -1,7 +1,7 @@
 -- Rows of an object, less what is cut of its calls.
 
 use Rattle.std.specs.Prelude.{List, map}
-use Rattle.rv_object_types.specs.declared.row.Row.{Row}
+use Rattle.rv_object_laws.specs.declared.row.Row.{Row}
 use Rattle.rv_shorten.specs.declared.object.ShortObject.{ShortObject}
 use Rattle.rv_cut_laws.specs.Cutting.{cut_row_of}
 use Rattle.rv_shorten.specs.View.{moves_by_section}

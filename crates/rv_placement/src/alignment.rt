@@ -4,8 +4,8 @@ ghost use Rattle.std.specs.Prelude.{◌≡◌, ◌<◌, ◌≤◌, ◌^◌, map,
 ghost use Rattle.rv_layout_laws.specs.Alignment.{aligned};
 ghost use Rattle.rv_object_types.specs.Parts.{relocation_of};
 ghost use Rattle.rv_object_types.specs.Sections.{section_of};
-ghost use Rattle.rv_object_laws.specs.Moves as moves;
-ghost use Rattle.rv_object_laws.specs.Inputs as inputs;
+ghost use Rattle.rv_link_laws.specs.Moves as moves;
+ghost use Rattle.rv_link_laws.specs.Inputs as inputs;
 ghost use Rattle.rv_shorten.specs.Sections.{short_section_of};
 ghost use Rattle.rv_shorten.specs.View.{short_object_of};
 ghost use Rattle.rv_placement.specs.Alignments as laws;

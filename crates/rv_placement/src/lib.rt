@@ -3,7 +3,7 @@
 //! It takes the plan of objects (`rv_relax`), in which each padding has room, and the address at which the text begins, and
 //! gives the [`Placement`]: where each section starts, what the plan keeps of it, the regions, and the gaps of the text.
 //!
-//! Main contracts: of `Placement::of`, that the sections of all files stand as `rv_object_laws` says (`IsLayout`, of
+//! Main contracts: of `Placement::of`, that the sections of all files stand as `rv_link_laws` says (`IsLayout`, of
 //! `layout_of`), or that these are too large for memory wherever they stand so (`IsTooLarge`; by `sections_stand` they stand so
 //! somewhere); of `rows` and `address`, that they are those of the definitions at these starts. It must not know symbols, values
 //! of relocations, nor statements.

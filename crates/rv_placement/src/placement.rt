@@ -3,12 +3,12 @@
 ghost use Rattle.std.specs.Prelude.{◌≡◌, ◌+◌, ◌%◌, ◌<◌, ◌≤◌, ℕ, true, IfOk, IfErr, Some, map, option_map};
 ghost use Rattle.std.specs.List.{slice_get};
 ghost use Rattle.rv_isa_laws.specs.Platform.{stack_start};
-ghost use Rattle.rv_object_types.specs.Object.{Object as PlainObject};
-ghost use Rattle.rv_object_laws.specs.Names.{offset_address};
+ghost use Rattle.rv_object_laws.specs.Object.{Object as PlainObject};
+ghost use Rattle.rv_link_laws.specs.Names.{offset_address};
 ghost use Rattle.rv_shorten.specs.Sections.{short_section_of};
 ghost use Rattle.rv_shorten.specs.View.{short_object_of};
 ghost use Rattle.rv_relax.specs.Plan.{are_roomy_objects, planned_objects};
-ghost use Rattle.rv_object_laws.specs.Layout as laws;
+ghost use Rattle.rv_link_laws.specs.Layout as laws;
 ghost use Rattle.rv_placement.specs.Placement.{starts_of, placed_at, are_roomy, IsPlacement, IsUnplaced};
 
 use crate::fault::PlacementFault;

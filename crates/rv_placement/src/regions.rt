@@ -5,11 +5,10 @@
 
 ghost use Rattle.std.specs.Prelude.{◌≡◌, ◌+◌, ◌<◌, ◌≤◌, map, length, IfSome, IfNone};
 ghost use Rattle.rv_isa_laws.specs.Platform.{stack_start};
-ghost use Rattle.rv_object_types.specs.Object.{size_of};
+ghost use Rattle.rv_object_laws.specs.Object.{size_of};
 ghost use Rattle.rv_shorten.specs.Sections.{short_section_of};
 ghost use Rattle.rv_shorten.specs.View.{short_object_of};
-ghost use Rattle.rv_placement.specs.Walk.{goes, next, ended, ended_files, start_behind, moved_to, started, started_files};
-ghost use Rattle.rv_placement.specs.Walk.{lists_of, AreBehind, behind_files, AreFar};
+ghost use Rattle.rv_placement.specs.Walk.{goes, next, ended, ended_files, start_behind, moved_to, started, started_files, lists_of, AreBehind, behind_files, AreFar};
 
 use crate::alignment::{greatest_of, multiple_of, next_multiple};
 use crate::destination::{Destination, goes_to};

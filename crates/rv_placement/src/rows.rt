@@ -7,10 +7,10 @@ ghost use Rattle.std.specs.Prelude.{◌≡◌, ◌+◌, ◌<◌, ◌++◌, ◌^�
 ghost use Rattle.std.specs.Bool.{OnTrue};
 ghost use Rattle.std.specs.List.{slice_get};
 ghost use Rattle.rv_map.specs.Limits.{IsRow};
-ghost use Rattle.rv_object_types.specs.Object.{Object as PlainObject};
-ghost use Rattle.rv_object_types.specs.Valid.{are_rows};
-ghost use Rattle.rv_object_laws.specs.IsLinkOf as laws;
-ghost use Rattle.rv_object_laws.specs.Moves.{new_offset};
+ghost use Rattle.rv_object_laws.specs.Object.{Object as PlainObject};
+ghost use Rattle.rv_object_laws.specs.Valid.{are_rows};
+ghost use Rattle.rv_link_laws.specs.IsLinkOf as laws;
+ghost use Rattle.rv_link_laws.specs.Moves.{new_offset};
 ghost use Rattle.rv_shorten.specs.View.{short_object_of};
 ghost use Rattle.rv_relax.specs.Kept.{moves_of};
 ghost use Rattle.rv_placement.specs.Moved.{moved_rows};

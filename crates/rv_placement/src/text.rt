@@ -5,8 +5,8 @@
 ghost use Rattle.std.specs.Prelude.{◌≡◌, ◌+◌, ◌++◌, ◌<◌, ◌≤◌, [], map, IfOk, IfSome, IfNone};
 ghost use Rattle.std.specs.List.{AllZip};
 ghost use Rattle.rv_isa_laws.specs.Platform.{stack_start};
-ghost use Rattle.rv_object_laws.specs.Inputs.{goes_to_text};
-ghost use Rattle.rv_object_laws.specs.Moves.{moves};
+ghost use Rattle.rv_link_laws.specs.Inputs.{goes_to_text};
+ghost use Rattle.rv_link_laws.specs.Moves.{moves};
 ghost use Rattle.rv_relax.specs.Kept.{kept_in, moves_of};
 ghost use Rattle.rv_shorten.specs.Sections.{short_section_of};
 ghost use Rattle.rv_shorten.specs.View.{short_object_of};

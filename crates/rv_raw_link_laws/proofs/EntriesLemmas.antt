@@ -2,12 +2,12 @@
 
 use Rattle.std.proofs.Common.{◌≡◌, ℕ, ◌+◌, ◌%◌, ◌^◌, true, false, [], ◌∷◌, Some, None, sym, ◌∙◌, ap, arith, inl, inr}
 use Rattle.std.specs.Prelude.{if◌then◌else◌, option_and_then}
-use Rattle.rv_object_types.specs.Object.{Object}
-use Rattle.rv_object_laws.specs.Inputs.{Starts}
-use Rattle.rv_object_laws.specs.Names.{begins_run, run_start, export_address, entry_of}
-use Rattle.rv_object_laws.specs.Entry.{is_entry, has_entry}
-use Rattle.rv_object_laws.specs.Refusals.{IsOddEntry, LacksEntry}
-use Rattle.rv_object_laws.specs.Layout.{Layout, IsLayout}
+use Rattle.rv_object_laws.specs.Object.{Object}
+use Rattle.rv_link_laws.specs.Inputs.{Starts}
+use Rattle.rv_link_laws.specs.Names.{begins_run, run_start, export_address, entry_of}
+use Rattle.rv_link_laws.specs.Entry.{is_entry, has_entry}
+use Rattle.rv_link_laws.specs.Refusals.{IsOddEntry, LacksEntry}
+use Rattle.rv_link_laws.specs.Layout.{Layout, IsLayout}
 use Rattle.rv_raw_link_laws.proofs.LeavesLemmas.{begins}
 use Rattle.rv_raw_link_laws.proofs.PlacesLemmas.{IsSimple, text, stands, address_in}
 use Rattle.rv_raw_link_laws.proofs.SymbolsLemmas.{entry_at}

@@ -26,9 +26,9 @@ use Rattle.rv_listing_laws.specs.declared.code.Code.{Code}
 use Rattle.rv_listing_laws.specs.declared.code.Code.TheVariants.{Word, Parcel}
 use Rattle.rv_listing_laws.specs.Raw.{IsSourced}
 use Rattle.rv_raw_laws.specs.Statements.{IsSmall, from_dot, word_statement, parcel_statement, code_statement}
-use Rattle.rv_object_types.specs.declared.symbol.Definition.TheVariants as definitions
-use Rattle.rv_object_types.specs.Bindings.{is_weak}
-use Rattle.rv_object_types.specs.Object.{Relocation, Symbol, Object}
+use Rattle.rv_object_laws.specs.declared.symbol.Definition.TheVariants as definitions
+use Rattle.rv_object_laws.specs.Bindings.{is_weak}
+use Rattle.rv_object_laws.specs.Object.{Relocation, Symbol, Object}
 use Rattle.rv_assemble_laws.specs.CodeFields.{symbol_field, low_field, field_of, part_fields}
 use Rattle.rv_assemble_laws.specs.Coded.{constants}
 use Rattle.rv_assemble_laws.specs.LaidStatements.{LaidStatement, LaidPart, expression_value, laid_part, coded_templates, templates, parts_of, part_bytes, parts, Tile, end_of}

@@ -8,20 +8,20 @@ use Rattle.rv_isa.specs.declared.kind.Kind.{Kind}
 use Rattle.rv_isa.specs.declared.kind.Kind.TheVariants as kinds
 use Rattle.rv_map.specs.declared.map.SectionId.{SectionId}
 use Rattle.rv_collect_laws.specs.Graph.{outside, is_one_of}
-use Rattle.rv_object_types.specs.declared.symbol.Definition.{Definition}
-use Rattle.rv_object_types.specs.declared.symbol.Definition.TheVariants as definitions
-use Rattle.rv_object_types.specs.declared.row.Row.{Row}
-use Rattle.rv_object_types.specs.Object.{Contents, Progbits, Note, Nobits, Relocation, Section, Symbol, Object}
-use Rattle.rv_object_laws.specs.CallSites.{is_call, in_order}
-use Rattle.rv_object_laws.specs.Collects.{Collects, entry_place, run_place, lies_in, loaded_sections, id_of}
-use Rattle.rv_object_laws.specs.Inputs.{InputSection, goes_to_text, inputs_from, inputs}
-use Rattle.rv_object_laws.specs.IsLinkOf.{is_loaded}
-use Rattle.rv_object_laws.specs.IsProgramOf.{Leaves}
-use Rattle.rv_object_laws.specs.Moves.{Move, new_offset, lost}
-use Rattle.rv_object_laws.specs.Names.{is_in_text, begins_run}
-use Rattle.rv_object_laws.specs.Shortened.{Sizes, sizes_by, is_shortened, cut, cuts, shortened_kind, shortened_relocation, shortened_contents, shortened_text, shortened_section, shortened_sections, cuts_at, cuts_in, shortened_definition, shortened_symbol, shortened_row, shortened_object, Relaxes}
-use Rattle.rv_object_laws.specs.Without.{without}
-use Rattle.rv_object_laws.proofs.WithoutLemmas.{without_none}
+use Rattle.rv_object_laws.specs.declared.symbol.Definition.{Definition}
+use Rattle.rv_object_laws.specs.declared.symbol.Definition.TheVariants as definitions
+use Rattle.rv_object_laws.specs.declared.row.Row.{Row}
+use Rattle.rv_object_laws.specs.Object.{Contents, Progbits, Note, Nobits, Relocation, Section, Symbol, Object}
+use Rattle.rv_link_laws.specs.CallSites.{is_call, in_order}
+use Rattle.rv_link_laws.specs.Collects.{Collects, entry_place, run_place, lies_in, loaded_sections, id_of}
+use Rattle.rv_link_laws.specs.Inputs.{InputSection, goes_to_text, inputs_from, inputs}
+use Rattle.rv_link_laws.specs.IsLinkOf.{is_loaded}
+use Rattle.rv_link_laws.specs.IsProgramOf.{Leaves}
+use Rattle.rv_link_laws.specs.Moves.{Move, new_offset, lost}
+use Rattle.rv_link_laws.specs.Names.{is_in_text, begins_run}
+use Rattle.rv_link_laws.specs.Shortened.{Sizes, sizes_by, is_shortened, cut, cuts, shortened_kind, shortened_relocation, shortened_contents, shortened_text, shortened_section, shortened_sections, cuts_at, cuts_in, shortened_definition, shortened_symbol, shortened_row, shortened_object, Relaxes}
+use Rattle.rv_link_laws.specs.Without.{without}
+use Rattle.rv_link_laws.proofs.WithoutLemmas.{without_none}
 use Rattle.rv_raw_link_laws.proofs.CodesLemmas.{leads}
 use Rattle.rv_raw_link_laws.proofs.FieldsLemmas.{IsLeading}
 use Rattle.rv_raw_link_laws.proofs.SymbolsLemmas.{entry_at, IsEntered}

@@ -4,10 +4,10 @@ use Rattle.std.proofs.Common.{◌≡◌, ℕ, true, List, [], ◌∷◌, Some, N
 use Rattle.std.specs.Prelude.{if◌then◌else◌}
 use Rattle.std.specs.List.{AllByRecursion, slice_get}
 use Rattle.std.specs.Option.{option_or}
-use Rattle.rv_object_types.specs.Object.{Relocation, Object}
-use Rattle.rv_object_laws.specs.Names.{chosen}
-use Rattle.rv_object_laws.specs.Exports.{first_again, first_duplicate}
-use Rattle.rv_object_laws.specs.Undefined.{is_loaded_at, has_address, is_known, is_resolved, undefined_symbol, undefined_name, first_some, undefined_in, first_undefined}
+use Rattle.rv_object_laws.specs.Object.{Relocation, Object}
+use Rattle.rv_link_laws.specs.Names.{chosen}
+use Rattle.rv_link_laws.specs.Exports.{first_again, first_duplicate}
+use Rattle.rv_link_laws.specs.Undefined.{is_loaded_at, has_address, is_known, is_resolved, undefined_symbol, undefined_name, first_some, undefined_in, first_undefined}
 use Rattle.rv_raw_link_laws.proofs.FieldsLemmas.{IsLeading}
 use Rattle.rv_raw_link_laws.proofs.PlacesLemmas.{IsSimple, sure_to}
 

@@ -17,7 +17,7 @@ use Rattle.rv_source_laws.proofs.HomesLemmas.{all_map}
 use Rattle.rv_listing_laws.specs.declared.code.Code.{Code}
 use Rattle.rv_listing_laws.specs.Raw.{raw_bytes}
 use Rattle.rv_raw_laws.specs.Statements.{code_statement, raw_statements, on_lines}
-use Rattle.rv_object_types.specs.Object.{Section, Symbol, Object}
+use Rattle.rv_object_laws.specs.Object.{Section, Symbol, Object}
 use Rattle.rv_assemble_laws.specs.Coded.{constants}
 use Rattle.rv_assemble_laws.specs.LaidStatements.{LaidStatement, expression_value, laid_part, templates, parts_of, part_bytes, laid_in, Tile, end_of, HasSize}
 use Rattle.rv_assemble_laws.specs.Symbols.{laid_at, symbols_of}

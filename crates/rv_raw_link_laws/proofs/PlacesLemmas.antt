@@ -6,13 +6,13 @@ use Rattle.std.specs.List.{AllByRecursion, slice_get}
 use Rattle.rv_isa.specs.declared.kind.Kind.{Kind}
 use Rattle.rv_isa_laws.specs.Platform.{stack_start, memory_limit}
 use Rattle.rv_layout_laws.specs.Alignment.{aligned}
-use Rattle.rv_object_types.specs.Object.{Relocation, Section, Symbol, Object, size_of}
-use Rattle.rv_object_types.specs.Valid.{is_align}
-use Rattle.rv_object_laws.specs.Inputs.{Starts, goes_to_text, raised, begins_at, inputs, Stand}
-use Rattle.rv_object_laws.specs.IsLinkOf.{is_loaded}
-use Rattle.rv_object_laws.specs.Moves.{full_padding, has_padding, by_place, alignments_of, plan, moves, new_offset}
-use Rattle.rv_object_laws.specs.Names.{Outer, is_sure, is_sure_by, offset_address, defined_address, symbol_address}
-use Rattle.rv_object_laws.specs.TextStart.{IsTextStart}
+use Rattle.rv_object_laws.specs.Object.{Relocation, Section, Symbol, Object, size_of}
+use Rattle.rv_object_laws.specs.Valid.{is_align}
+use Rattle.rv_link_laws.specs.Inputs.{Starts, goes_to_text, raised, begins_at, inputs, Stand}
+use Rattle.rv_link_laws.specs.IsLinkOf.{is_loaded}
+use Rattle.rv_link_laws.specs.Moves.{full_padding, has_padding, by_place, alignments_of, plan, moves, new_offset}
+use Rattle.rv_link_laws.specs.Names.{Outer, is_sure, is_sure_by, offset_address, defined_address, symbol_address}
+use Rattle.rv_link_laws.specs.TextStart.{IsTextStart}
 use Rattle.rv_raw_link_laws.proofs.CodesLemmas.{leads}
 use Rattle.rv_raw_link_laws.proofs.FieldsLemmas.{IsLeading}
 use Rattle.rv_raw_link_laws.proofs.LeavesLemmas.{input, inputs_one}

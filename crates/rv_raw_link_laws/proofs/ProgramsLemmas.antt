@@ -7,14 +7,14 @@ use Rattle.rv_unit_laws.specs.Tables.{Labelled, longest_section}
 use Rattle.rv_listing_laws.specs.declared.code.Code.{Code}
 use Rattle.rv_listing_laws.specs.Raw.{raw_bytes}
 use Rattle.rv_raw_laws.specs.Statements.{raw_statements}
-use Rattle.rv_object_types.specs.Object.{Object, size_of}
+use Rattle.rv_object_laws.specs.Object.{Object, size_of}
 use Rattle.rv_assemble_laws.specs.LaidStatements.{part_bytes, parts, end_of}
 use Rattle.rv_assemble_laws.specs.IsObjectOf.{IsObjectOf}
 use Rattle.rv_assemble_laws.proofs.FilledLemmas.{filled}
 use Rattle.rv_reloc.specs.declared.fault.LinkFault.{LinkFault}
 use Rattle.rv_reloc.specs.declared.fault.LinkFault.TheVariants.{Overflow, OddTarget, DanglingPcrel, AlignmentShort, Undefined, Duplicate, EntryMissing, ImageTooLarge, BadTextStart, TooManyFiles, OutOfMemory}
-use Rattle.rv_object_laws.specs.TextStart.{IsTextStart}
-use Rattle.rv_object_laws.specs.Refusals.{IsUnlinked, HasNoProgram}
+use Rattle.rv_link_laws.specs.TextStart.{IsTextStart}
+use Rattle.rv_link_laws.specs.Refusals.{IsUnlinked, HasNoProgram}
 use Rattle.rv_raw_link_laws.specs.Listed.{listed, IsShortListing, FitsAt}
 use Rattle.rv_raw_link_laws.proofs.EntriesLemmas.{has_it}
 use Rattle.rv_raw_link_laws.proofs.FieldsLemmas.{all_lead}

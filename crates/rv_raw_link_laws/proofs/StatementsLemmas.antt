@@ -27,7 +27,7 @@ use Rattle.rv_listing_laws.specs.Instruction.{is_tso}
 use Rattle.rv_listing_laws.specs.Raw.{IsSourced}
 use Rattle.rv_raw_laws.specs.Statements.{access_set, word_statement, code_statement, on_lines}
 use Rattle.rv_raw_link_laws.specs.Listed.{listed}
-pub use Rattle.rv_object_laws.proofs.EntryLemmas.{start_name}
+pub use Rattle.rv_link_laws.proofs.EntryLemmas.{start_name}
 
 -- ---- instructions
 

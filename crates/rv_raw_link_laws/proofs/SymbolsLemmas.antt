@@ -14,12 +14,12 @@ use Rattle.rv_source_laws.specs.Exports.{defined_name, names_where}
 use Rattle.rv_source_laws.proofs.HomesLemmas.{all_filter, all_join}
 use Rattle.rv_listing_laws.specs.declared.code.Code.{Code}
 use Rattle.rv_raw_laws.specs.Statements.{code_statement, raw_statements}
-use Rattle.rv_object_types.specs.declared.symbol.Binding.TheVariants.{Local, Global}
-use Rattle.rv_object_types.specs.declared.symbol.Definition.{Definition}
-use Rattle.rv_object_types.specs.declared.symbol.Definition.TheVariants.{Undefined, InSection}
-use Rattle.rv_object_types.specs.Bindings.{is_global, is_weak}
-use Rattle.rv_object_types.specs.Object.{Symbol, Object}
-use Rattle.rv_object_laws.specs.Names.{Export, is_defined, exports_in, exports_where, chosen, global_names}
+use Rattle.rv_object_laws.specs.declared.symbol.Binding.TheVariants.{Local, Global}
+use Rattle.rv_object_laws.specs.declared.symbol.Definition.{Definition}
+use Rattle.rv_object_laws.specs.declared.symbol.Definition.TheVariants.{Undefined, InSection}
+use Rattle.rv_object_laws.specs.Bindings.{is_global, is_weak}
+use Rattle.rv_object_laws.specs.Object.{Symbol, Object}
+use Rattle.rv_link_laws.specs.Names.{Export, is_defined, exports_in, exports_where, chosen, global_names}
 use Rattle.rv_assemble_laws.specs.LaidStatements.{LaidStatement, Tile, end_of}
 use Rattle.rv_assemble_laws.specs.Symbols.{SymbolUse, outer_binding, statement_definition, local_symbol, shared_symbol, is_absolute, references, is_meant, are_together, unnamed_symbols, named_symbols, local_symbols, exports_of, exports, undefined_symbols, missing_name, distinct_from}
 use Rattle.rv_raw_link_laws.proofs.FieldsLemmas.{end_above}

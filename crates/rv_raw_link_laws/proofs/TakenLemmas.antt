@@ -7,13 +7,13 @@ use Rattle.rv_isa.specs.declared.kind.Kind.{Kind}
 use Rattle.rv_isa.specs.declared.kind.Kind.TheVariants as kinds
 use Rattle.rv_reloc.specs.Ranges.{Refuses}
 use Rattle.rv_reloc.specs.Values.{relative, calculation, value_of}
-use Rattle.rv_object_types.specs.Object.{Relocation, Object}
-use Rattle.rv_object_laws.specs.Inputs.{InputSection, inputs}
-use Rattle.rv_object_laws.specs.IsLinkOf.{is_loaded}
-use Rattle.rv_object_laws.specs.Names.{symbol_address}
-use Rattle.rv_object_laws.specs.Values.{target, moved, own_value, paired, value}
-use Rattle.rv_object_laws.specs.Layout.{Layout, IsLayout, outer_in}
-use Rattle.rv_object_laws.specs.Untaken.{IsTaken, IsFirst, IsUntaken, IsFirstUntaken}
+use Rattle.rv_object_laws.specs.Object.{Relocation, Object}
+use Rattle.rv_link_laws.specs.Inputs.{InputSection, inputs}
+use Rattle.rv_link_laws.specs.IsLinkOf.{is_loaded}
+use Rattle.rv_link_laws.specs.Names.{symbol_address}
+use Rattle.rv_link_laws.specs.Values.{target, moved, own_value, paired, value}
+use Rattle.rv_link_laws.specs.Layout.{Layout, IsLayout, outer_in}
+use Rattle.rv_link_laws.specs.Untaken.{IsTaken, IsFirst, IsUntaken, IsFirstUntaken}
 use Rattle.rv_reloc.specs.declared.fault.LinkFault.{LinkFault}
 use Rattle.rv_reloc.specs.declared.fault.LinkFault.TheVariants.{Overflow, OddTarget, DanglingPcrel}
 use Rattle.rv_raw_link_laws.proofs.CodesLemmas.{leads}

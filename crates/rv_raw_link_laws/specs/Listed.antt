@@ -10,13 +10,13 @@ use Rattle.rv_unit_laws.specs.Faults.{StatementFault}
 use Rattle.rv_listing_laws.specs.declared.code.Code.{Code}
 use Rattle.rv_listing_laws.specs.Raw.{IsSourced, raw_bytes, lines_text, raw_lines}
 use Rattle.rv_raw_laws.specs.Statements.{on_lines, raw_statements}
-use Rattle.rv_object_types.specs.Object.{Object}
+use Rattle.rv_object_laws.specs.Object.{Object}
 use Rattle.rv_assemble_laws.specs.Refusals.{statements_fault, IsTooLong}
 use Rattle.rv_assemble_laws.specs.IsObjectOf.{IsObjectOf}
 use Rattle.rv_reloc.specs.declared.fault.LinkFault.{LinkFault}
 use Rattle.rv_reloc.specs.declared.fault.LinkFault.TheVariants.{OutOfMemory}
-use Rattle.rv_object_laws.specs.TextStart.{IsTextStart}
-use Rattle.rv_object_laws.specs.Refusals.{HasNoProgram}
+use Rattle.rv_link_laws.specs.TextStart.{IsTextStart}
+use Rattle.rv_link_laws.specs.Refusals.{HasNoProgram}
 
 -- the statements of a raw listing
 abbrev pub listed : (before after : List Code) → List Statement

@@ -17,26 +17,26 @@ use Rattle.rv_layout_laws.specs.Calls.{IsGreatestClosed}
 use Rattle.rv_layout_laws.proofs.ReachingLemmas.{Nearer, reaches_nearer}
 use Rattle.rv_unit_laws.specs.Sections.{Section as SourceSection}
 use Rattle.rv_unit_laws.specs.Tables.{Tables, tables, opened_of, longest_section}
-use Rattle.rv_object_types.specs.declared.symbol.Definition.TheVariants as definitions
-use Rattle.rv_object_types.specs.declared.row.Row.{Row}
-use Rattle.rv_object_types.specs.Object.{Relocation, Section, Symbol, Object, size_of}
+use Rattle.rv_object_laws.specs.declared.symbol.Definition.TheVariants as definitions
+use Rattle.rv_object_laws.specs.declared.row.Row.{Row}
+use Rattle.rv_object_laws.specs.Object.{Relocation, Section, Symbol, Object, size_of}
 use Rattle.rv_object_types.specs.View.{object_of}
-use Rattle.rv_object_laws.specs.Moves.{Move, moves, new_offset}
-use Rattle.rv_object_laws.specs.Inputs.{InputSection, goes_to_text, inputs}
-use Rattle.rv_object_laws.specs.Layout.{Layout, IsLayout, outer_in}
-use Rattle.rv_object_laws.specs.Untaken.{IsTaken}
-use Rattle.rv_object_types.specs.Bindings.{is_weak}
-use Rattle.rv_object_laws.specs.Names.{offset_address, defined_address, symbol_address}
-use Rattle.rv_object_laws.specs.Values.{target}
-use Rattle.rv_object_laws.specs.CallSites.{is_call, sites_of}
-use Rattle.rv_object_laws.specs.Shortened.{sizes_by, cuts, shortened_kind, shortened_definition, shortened_symbol, shortened_relocation, shortened_object, shortened}
-use Rattle.rv_object_laws.specs.Left.{is_left, left_of}
+use Rattle.rv_link_laws.specs.Moves.{Move, moves, new_offset}
+use Rattle.rv_link_laws.specs.Inputs.{InputSection, goes_to_text, inputs}
+use Rattle.rv_link_laws.specs.Layout.{Layout, IsLayout, outer_in}
+use Rattle.rv_link_laws.specs.Untaken.{IsTaken}
+use Rattle.rv_object_laws.specs.Bindings.{is_weak}
+use Rattle.rv_link_laws.specs.Names.{offset_address, defined_address, symbol_address}
+use Rattle.rv_link_laws.specs.Values.{target}
+use Rattle.rv_link_laws.specs.CallSites.{is_call, sites_of}
+use Rattle.rv_link_laws.specs.Shortened.{sizes_by, cuts, shortened_kind, shortened_definition, shortened_symbol, shortened_relocation, shortened_object, shortened}
+use Rattle.rv_link_laws.specs.Left.{is_left, left_of}
 use Rattle.rv_object_laws.specs.Whole.{IsWhole}
-use Rattle.rv_object_laws.specs.Without.{without}
-use Rattle.rv_object_laws.proofs.TextInputsLemmas.{IsTextInput, whole_inputs}
-use Rattle.rv_object_laws.proofs.InputsLeftLemmas.{text_is, inputs_left}
-use Rattle.rv_object_laws.proofs.WholeLemmas.{are_whole, whole_left}
-use Rattle.rv_object_laws.specs.TextStart.{IsTextStart}
+use Rattle.rv_link_laws.specs.Without.{without}
+use Rattle.rv_link_laws.proofs.TextInputsLemmas.{IsTextInput, whole_inputs}
+use Rattle.rv_link_laws.proofs.InputsLeftLemmas.{text_is, inputs_left}
+use Rattle.rv_link_laws.proofs.WholeLemmas.{are_whole, whole_left}
+use Rattle.rv_link_laws.specs.TextStart.{IsTextStart}
 use Rattle.rv_assemble_laws.specs.LaidStatements.{LaidStatement, expression_value, parts, laid_in, end_of, HasSize}
 use Rattle.rv_assemble_laws.specs.IsObjectOf.{Numbering, row_of, relocations_from, IsSectionOf, IsObjectOf}
 use Rattle.rv_source_laws.proofs.HomesLemmas.{all_filter}
@@ -48,7 +48,7 @@ use Rattle.rv_sources_link_laws.proofs.moves.PiecesOfLemmas.{size_is}
 use Rattle.rv_sources_link_laws.proofs.fields.RangesLemmas.{even_bytes}
 use Rattle.rv_sources_link_laws.proofs.statements.SettledLemmas.{IsInstructed, IsSettled, settled as settled_all, IsLaidIn, laid_are_in}
 use Rattle.rv_sources_link_laws.proofs.calls.UncutLemmas.{IsUncut, uncut, sections_same}
-use Rattle.rv_object_laws.specs.Lists.{In}
+use Rattle.rv_link_laws.specs.Lists.{In}
 use Rattle.rv_unique_link_laws.proofs.FoundLemmas.{EachOf, all_of}
 use Rattle.rv_reach_laws.specs.Reach.{is_short_branch, is_parcel_statement, is_in_row, is_of_parcel, is_chosen_branch, ForEachLeft, ShortBranchesReach}
 use Rattle.rv_reach_laws.proofs.MovingLemmas.{IsPaddedText, rises}

@@ -20,7 +20,7 @@ use Rattle.rv_source_laws.specs.Located.{Located}
 use Rattle.rv_source_laws.specs.Lines.{operand_of}
 use Rattle.rv_source_laws.specs.Compressed.{names_parcel}
 use Rattle.rv_source_laws.specs.Shortened.{is_call_statement}
-use Rattle.rv_object_types.specs.Object.{Relocation, Symbol}
+use Rattle.rv_object_laws.specs.Object.{Relocation, Symbol}
 use Rattle.rv_assemble_laws.specs.CodeFields.{symbol_field, low_field, low_field_at, label_field, field_of, relax_fields, part_fields}
 use Rattle.rv_compress.specs.declared.form.Compressed.{Compressed}
 use Rattle.rv_assemble_laws.specs.Coded.{constants, AreCodedParts, joined, IsCode}
@@ -32,7 +32,7 @@ use Rattle.rv_sources_link_laws.proofs.moves.WalkLemmas.{relocations_join}
 use Rattle.rv_sources_link_laws.proofs.sections.SectionsLemmas.{split}
 use Rattle.rv_assemble_laws.proofs.ListsLemmas.{join}
 use Rattle.rv_sources_link_laws.proofs.calls.UncutLemmas.{IsUncut}
-use Rattle.rv_object_laws.specs.Lists.{In}
+use Rattle.rv_link_laws.specs.Lists.{In}
 use Rattle.rv_reach_laws.specs.Reach.{is_short_branch}
 use Rattle.rv_reach_laws.proofs.BranchingLemmas.{IsUnshort, IsBranching, IsParcelled, Sorted, sorted}
 

@@ -11,13 +11,13 @@ use Rattle.rv_layout_laws.specs.declared.site.SiteKind.{SiteKind}
 use Rattle.rv_layout_laws.specs.declared.site.SiteKind.TheVariants as kinds
 use Rattle.rv_layout_laws.specs.Calls as layout
 use Rattle.rv_layout_laws.specs.Calls.{Offers, bytes_of, site_at, dropped_of, InOrder, is_call as is_call_site}
-use Rattle.rv_object_types.specs.Object.{Relocation, Section, Object, size_of, stored}
-use Rattle.rv_object_laws.specs.Moves.{Move, dropped}
-use Rattle.rv_object_laws.specs.Inputs.{InputSection, begins_at}
-use Rattle.rv_object_laws.specs.CallSites.{changes, site_of, sites_from, sites_of, start_padding, base, base_in, link_register}
-use Rattle.rv_object_laws.specs.Shortened.{Sizes, sizes_by, short_call, cut, cuts}
-use Rattle.rv_object_laws.proofs.TextInputsLemmas.{IsTextInput}
-use Rattle.rv_object_laws.specs.Lists.{In}
+use Rattle.rv_object_laws.specs.Object.{Relocation, Section, Object, size_of, stored}
+use Rattle.rv_link_laws.specs.Moves.{Move, dropped}
+use Rattle.rv_link_laws.specs.Inputs.{InputSection, begins_at}
+use Rattle.rv_link_laws.specs.CallSites.{changes, site_of, sites_from, sites_of, start_padding, base, base_in, link_register}
+use Rattle.rv_link_laws.specs.Shortened.{Sizes, sizes_by, short_call, cut, cuts}
+use Rattle.rv_link_laws.proofs.TextInputsLemmas.{IsTextInput}
+use Rattle.rv_link_laws.specs.Lists.{In}
 use Rattle.rv_cut_laws.specs.Cutting.{are_cuts, AreCuts}
 use Rattle.rv_cut_laws.specs.Walk.{moves_of}
 use Rattle.rv_cut_laws.proofs.ShiftsLemmas.{first_cut, other_cuts}

@@ -5,11 +5,11 @@ use Rattle.std.specs.Prelude.{filter, if◌then◌else◌}
 use Rattle.std.specs.List.{list_all}
 use Rattle.std.proofs.lemmas.Bool.{and_parts}
 use Rattle.rv_layout_laws.specs.Alignment.{aligned}
-use Rattle.rv_object_types.specs.Object.{Relocation, Section, size_of}
-use Rattle.rv_object_types.specs.Padding.{no_operations}
-use Rattle.rv_object_types.specs.Valid.{is_padding, are_all_apart, are_paddings}
-use Rattle.rv_object_laws.specs.Moves.{Move, dropped, new_offset, full_padding, has_padding, alignment_of, by_place, alignments_of, plan, moves}
-use Rattle.rv_object_laws.specs.Inputs.{goes_to_text}
+use Rattle.rv_object_laws.specs.Object.{Relocation, Section, size_of}
+use Rattle.rv_object_laws.specs.Padding.{no_operations}
+use Rattle.rv_object_laws.specs.Valid.{is_padding, are_all_apart, are_paddings}
+use Rattle.rv_link_laws.specs.Moves.{Move, dropped, new_offset, full_padding, has_padding, alignment_of, by_place, alignments_of, plan, moves}
+use Rattle.rv_link_laws.specs.Inputs.{goes_to_text}
 use Rattle.rv_cut_laws.specs.Alignments.{are_alignments}
 use Rattle.rv_cut_laws.proofs.AlignmentsLemmas.{next_alignment, other_alignments}
 use Rattle.rv_cut_laws.proofs.ApartLemmas.{of_section}

@@ -10,12 +10,12 @@ use Rattle.rv_isa.specs.declared.kind.Kind.TheVariants as kinds
 use Rattle.rv_layout_laws.specs.Offsets.{IsImmediate, Reaches}
 use Rattle.rv_layout_laws.proofs.ReachingLemmas.{Nearer, Ahead, Behind}
 use Rattle.rv_reloc.specs.Ranges.{IsInRange, Takes}
-use Rattle.rv_object_types.specs.Object.{Relocation, Section, Object}
-use Rattle.rv_object_laws.specs.Moves.{Move, moves, new_offset}
-use Rattle.rv_object_laws.specs.Inputs.{InputSection, start_of}
-use Rattle.rv_object_laws.specs.Values.{target, moved}
-use Rattle.rv_object_laws.specs.Untaken.{IsTaken}
-use Rattle.rv_object_laws.specs.Layout.{Layout, outer_in}
+use Rattle.rv_object_laws.specs.Object.{Relocation, Section, Object}
+use Rattle.rv_link_laws.specs.Moves.{Move, moves, new_offset}
+use Rattle.rv_link_laws.specs.Inputs.{InputSection, start_of}
+use Rattle.rv_link_laws.specs.Values.{target, moved}
+use Rattle.rv_link_laws.specs.Untaken.{IsTaken}
+use Rattle.rv_link_laws.specs.Layout.{Layout, outer_in}
 use Rattle.rv_cut_laws.specs.Cutting.{are_cuts}
 use Rattle.rv_cut_laws.proofs.ShiftsLemmas as cut
 use Rattle.rv_reach_laws.specs.Reach.{is_short_branch}

@@ -20,15 +20,15 @@ use Rattle.rv_unit_laws.specs.Sections.{Section as SourceSection}
 use Rattle.rv_unit_laws.specs.Tables.{Tables, Definition, tables, at_start, after, definition, gives_way, sure_definition, opened_of, longest_section}
 use Rattle.rv_source_laws.specs.Located.{Located, located_now, located_from}
 use Rattle.rv_source_laws.specs.Sizes.{Near, near_forms, near_at, near_value, near_target, branch_item, item_by, item_by_kind, items_of}
-use Rattle.rv_object_types.specs.declared.symbol.Definition.TheVariants as definitions
-use Rattle.rv_object_types.specs.Object.{Relocation, Symbol, Object}
-use Rattle.rv_object_types.specs.Bindings.{is_weak}
+use Rattle.rv_object_laws.specs.declared.symbol.Definition.TheVariants as definitions
+use Rattle.rv_object_laws.specs.Object.{Relocation, Symbol, Object}
+use Rattle.rv_object_laws.specs.Bindings.{is_weak}
 use Rattle.rv_assemble_laws.specs.LaidStatements.{LaidStatement, expression_value, laid_in, Tile}
 use Rattle.rv_assemble_laws.specs.Symbols.{laid_at, after_statement, IsOwn, IsDefinedBy, StandsFor}
 use Rattle.rv_assemble_laws.specs.IsObjectOf.{IsObjectOf}
 use Rattle.rv_sources_link_laws.proofs.moves.MovedLemmas.{AddsInData, adds}
 use Rattle.rv_sources_link_laws.proofs.statements.SettledLemmas.{IsSettled}
-use Rattle.rv_object_laws.specs.Lists.{In}
+use Rattle.rv_link_laws.specs.Lists.{In}
 use Rattle.rv_reach_laws.proofs.BranchingLemmas.{IsBranchForm, HasForms}
 use Rattle.rv_reach_laws.proofs.FieldingLemmas.{IsBranchOf}
 

@@ -6,12 +6,12 @@ use Rattle.std.specs.List.{slice_get, list_any}
 use Rattle.std.proofs.lemmas.Bool.{and_from, or_right, eq-eqb, le-leb}
 use Rattle.rv_statement.specs.Statement.{Statement}
 use Rattle.rv_unit_laws.specs.Tables.{Tables, after, at_start}
-use Rattle.rv_object_types.specs.declared.row.Row.{Row}
+use Rattle.rv_object_laws.specs.declared.row.Row.{Row}
 use Rattle.rv_source_laws.specs.Located.{Located, located_from, has_row}
 use Rattle.rv_source_laws.specs.Compressed.{names_parcel}
 use Rattle.rv_assemble_laws.specs.LaidStatements.{LaidStatement, laid_in}
 use Rattle.rv_assemble_laws.specs.IsObjectOf.{row_of, rows_at}
-use Rattle.rv_object_laws.specs.Lists.{In}
+use Rattle.rv_link_laws.specs.Lists.{In}
 use Rattle.rv_reach_laws.specs.Reach.{is_parcel_statement, is_in_row}
 
 -- ---- the statement of an ordinal

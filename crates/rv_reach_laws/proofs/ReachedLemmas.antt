@@ -17,26 +17,26 @@ use Rattle.rv_layout_laws.specs.Calls as layout
 use Rattle.rv_layout_laws.specs.Calls.{Offers, half, site_at, bytes_of, InOrder, IsText, IsFamily, IsGreatestClosed, ReachesFrom, is_call as is_call_site}
 use Rattle.rv_layout_laws.proofs.ReachingLemmas.{Nearer, reaches_nearer}
 use Rattle.rv_layout_laws.proofs.ShorteningLemmas.{greatest_reaching}
-use Rattle.rv_object_types.specs.Object.{Relocation, Section, Object, size_of}
-use Rattle.rv_object_types.specs.Valid.{are_paddings}
+use Rattle.rv_object_laws.specs.Object.{Relocation, Section, Object, size_of}
+use Rattle.rv_object_laws.specs.Valid.{are_paddings}
 use Rattle.rv_object_types.specs.View.{object_of}
-use Rattle.rv_object_laws.specs.Moves.{Move, dropped, moves, new_offset, has_padding}
-use Rattle.rv_object_laws.specs.Inputs.{Starts, InputSection, goes_to_text, inputs, Stand}
-use Rattle.rv_object_laws.specs.Names.{Place}
-use Rattle.rv_object_laws.specs.Values.{target}
-use Rattle.rv_object_laws.specs.CallSites.{is_call, start_padding, base, home, moving, past_end, text_offset, excess, constant, target_place, is_text_place, is_permitted, may_change, changes, call_site, site_of, sites_of}
-use Rattle.rv_object_laws.specs.Shortened.{Sizes, sizes_by, is_shortened, cuts, shortened_kind, shortened_relocation, shortened_text, shortened}
+use Rattle.rv_link_laws.specs.Moves.{Move, dropped, moves, new_offset, has_padding}
+use Rattle.rv_link_laws.specs.Inputs.{Starts, InputSection, goes_to_text, inputs, Stand}
+use Rattle.rv_link_laws.specs.Names.{Place}
+use Rattle.rv_link_laws.specs.Values.{target}
+use Rattle.rv_link_laws.specs.CallSites.{is_call, start_padding, base, home, moving, past_end, text_offset, excess, constant, target_place, is_text_place, is_permitted, may_change, changes, call_site, site_of, sites_of}
+use Rattle.rv_link_laws.specs.Shortened.{Sizes, sizes_by, is_shortened, cuts, shortened_kind, shortened_relocation, shortened_text, shortened}
 use Rattle.rv_object_laws.specs.Whole.{IsWhole}
-use Rattle.rv_object_laws.specs.Without.{without}
-use Rattle.rv_object_laws.specs.Layout.{Layout, IsLayout, regions_of, outer_in}
-use Rattle.rv_object_laws.specs.Untaken.{IsTaken}
-use Rattle.rv_object_laws.proofs.ChangesLemmas as permitted
-use Rattle.rv_object_laws.proofs.TextInputsLemmas.{IsTextInput, whole_inputs}
-use Rattle.rv_object_laws.proofs.TextLineLemmas.{site_call, whole_text}
-use Rattle.rv_object_laws.proofs.WholeLemmas.{are_whole, whole_left}
-use Rattle.rv_object_laws.proofs.TextPlacesLemmas.{target_named}
-use Rattle.rv_object_laws.specs.TextStart.{IsTextStart}
-use Rattle.rv_object_laws.specs.Lists.{In}
+use Rattle.rv_link_laws.specs.Without.{without}
+use Rattle.rv_link_laws.specs.Layout.{Layout, IsLayout, regions_of, outer_in}
+use Rattle.rv_link_laws.specs.Untaken.{IsTaken}
+use Rattle.rv_link_laws.proofs.ChangesLemmas as permitted
+use Rattle.rv_link_laws.proofs.TextInputsLemmas.{IsTextInput, whole_inputs}
+use Rattle.rv_link_laws.proofs.TextLineLemmas.{site_call, whole_text}
+use Rattle.rv_link_laws.proofs.WholeLemmas.{are_whole, whole_left}
+use Rattle.rv_link_laws.proofs.TextPlacesLemmas.{target_named}
+use Rattle.rv_link_laws.specs.TextStart.{IsTextStart}
+use Rattle.rv_link_laws.specs.Lists.{In}
 use Rattle.rv_cut_laws.specs.Cutting.{are_cuts}
 use Rattle.rv_cut_laws.proofs.ChangesLemmas as changed
 use Rattle.rv_cut_laws.proofs.ListsLemmas.{filter_in, ordered_in}

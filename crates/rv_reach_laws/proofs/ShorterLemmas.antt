@@ -10,13 +10,13 @@ use Rattle.rv_layout_laws.specs.declared.site.SiteKind.{SiteKind}
 use Rattle.rv_layout_laws.specs.declared.site.SiteKind.TheVariants.{Call, Padding}
 use Rattle.rv_layout_laws.specs.Calls.{site_at, bytes_of, InOrder, is_call as is_call_site}
 use Rattle.rv_layout_laws.proofs.ShorteningLemmas.{before_all}
-use Rattle.rv_object_types.specs.Object.{Section, Object, size_of}
-use Rattle.rv_object_types.specs.Valid.{is_even, is_section_alignment, are_paddings, fit_inside}
-use Rattle.rv_object_laws.specs.Inputs.{InputSection, goes_to_text, inputs_from, inputs_of, inputs}
-use Rattle.rv_object_laws.specs.Moves.{moves, new_offset}
+use Rattle.rv_object_laws.specs.Object.{Section, Object, size_of}
+use Rattle.rv_object_laws.specs.Valid.{is_even, is_section_alignment, are_paddings, fit_inside}
+use Rattle.rv_link_laws.specs.Inputs.{InputSection, goes_to_text, inputs_from, inputs_of, inputs}
+use Rattle.rv_link_laws.specs.Moves.{moves, new_offset}
 use Rattle.rv_object_laws.specs.Whole.{IsWholeSection, IsWhole}
-use Rattle.rv_object_laws.specs.Lists.{In}
-use Rattle.rv_object_laws.specs.Layout.{Layout, IsLayout, section_in, object_section}
+use Rattle.rv_link_laws.specs.Lists.{In}
+use Rattle.rv_link_laws.specs.Layout.{Layout, IsLayout, section_in, object_section}
 use Rattle.rv_cut_laws.proofs.ChangesLemmas as changed
 use Rattle.rv_cut_laws.proofs.LineLemmas.{Later}
 use Rattle.rv_unique_link_laws.specs.Asked.{IsSound}

@@ -12,13 +12,13 @@ use Rattle.rv_layout_laws.specs.Calls as layout
 use Rattle.rv_layout_laws.specs.Calls.{InOrder}
 use Rattle.rv_layout_laws.proofs.ReachingLemmas.{Nearer, Ahead, Behind}
 use Rattle.rv_layout_laws.proofs.DroppingLemmas.{dropped_most}
-use Rattle.rv_object_types.specs.Object.{Relocation, Section, Object, size_of}
-use Rattle.rv_object_types.specs.Valid.{is_align}
-use Rattle.rv_object_laws.specs.Moves.{Move, dropped, new_offset, full_padding, has_padding, alignment_of, inserted, by_place, alignments_of, moves}
-use Rattle.rv_object_laws.specs.Inputs.{Starts, InputSection, goes_to_text, inputs_from, inputs_of, raised, begins_at, start_of, size, Stand}
-use Rattle.rv_object_laws.specs.CallSites.{is_call, start_padding, base, sites_of}
-use Rattle.rv_object_laws.specs.Shortened.{Sizes, sizes_by, is_shortened, cuts, shortened_kind, shortened_relocation, shortened_text, shortened_section, shortened_sections, shortened_object, shortened_from}
-use Rattle.rv_object_laws.proofs.ListsLemmas.{above}
+use Rattle.rv_object_laws.specs.Object.{Relocation, Section, Object, size_of}
+use Rattle.rv_object_laws.specs.Valid.{is_align}
+use Rattle.rv_link_laws.specs.Moves.{Move, dropped, new_offset, full_padding, has_padding, alignment_of, inserted, by_place, alignments_of, moves}
+use Rattle.rv_link_laws.specs.Inputs.{Starts, InputSection, goes_to_text, inputs_from, inputs_of, raised, begins_at, start_of, size, Stand}
+use Rattle.rv_link_laws.specs.CallSites.{is_call, start_padding, base, sites_of}
+use Rattle.rv_link_laws.specs.Shortened.{Sizes, sizes_by, is_shortened, cuts, shortened_kind, shortened_relocation, shortened_text, shortened_section, shortened_sections, shortened_object, shortened_from}
+use Rattle.rv_link_laws.proofs.ListsLemmas.{above}
 use Rattle.rv_cut_laws.proofs.CallKindsLemmas.{call_no_align}
 use Rattle.rv_cut_laws.proofs.ShiftsLemmas as cut
 use Rattle.rv_unique_link_laws.proofs.MultiplesLemmas.{aligned_even, aligned_near}

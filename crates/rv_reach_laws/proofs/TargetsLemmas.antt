@@ -8,19 +8,19 @@ use Rattle.std.proofs.lemmas.Bool.{and_parts}
 use Rattle.std.proofs.lemmas.List.{map-append}
 use Rattle.std.proofs.lemmas.Option.{slice_get-map, unwrap_or-slice_get}
 use Rattle.rv_map.specs.Map.{Map}
-use Rattle.rv_object_types.specs.declared.symbol.Binding.{Binding}
-use Rattle.rv_object_types.specs.declared.symbol.Definition.{Definition}
-use Rattle.rv_object_types.specs.declared.symbol.Definition.TheVariants as definitions
-use Rattle.rv_object_types.specs.Object.{Relocation, Section, Symbol, Object}
-use Rattle.rv_object_laws.specs.Moves.{moves, new_offset}
-use Rattle.rv_object_laws.specs.Inputs.{Starts, InputSection, goes_to_text, inputs_from, inputs_of, inputs}
-use Rattle.rv_object_types.specs.Bindings.{is_global, is_weak}
-use Rattle.rv_object_laws.specs.Names.{offset_address, defined_address, is_defined, is_sure_by, is_sure, Export, is_export, exports_in, exports_from, exports_where, candidates, chosen, export_address, globals_of, shown_linker_symbols, unshown_address, Outer, outer_address, symbol_address, Place, place_in, shared_place, symbol_place, no_object, object_at, is_in_text}
-use Rattle.rv_object_laws.specs.Values.{target}
-use Rattle.rv_object_laws.specs.CallSites.{target_place, is_text_place}
-use Rattle.rv_object_laws.specs.Shortened.{Sizes, sizes_by, cuts, cuts_at, cuts_in, shortened_text, shortened_section, shortened_sections, shortened_definition, shortened_symbol, shortened_object, shortened_from}
-use Rattle.rv_object_laws.proofs.ChosenLemmas.{chosen_held}
-use Rattle.rv_object_laws.proofs.ShownLemmas.{meaning, means}
+use Rattle.rv_object_laws.specs.declared.symbol.Binding.{Binding}
+use Rattle.rv_object_laws.specs.declared.symbol.Definition.{Definition}
+use Rattle.rv_object_laws.specs.declared.symbol.Definition.TheVariants as definitions
+use Rattle.rv_object_laws.specs.Object.{Relocation, Section, Symbol, Object}
+use Rattle.rv_link_laws.specs.Moves.{moves, new_offset}
+use Rattle.rv_link_laws.specs.Inputs.{Starts, InputSection, goes_to_text, inputs_from, inputs_of, inputs}
+use Rattle.rv_object_laws.specs.Bindings.{is_global, is_weak}
+use Rattle.rv_link_laws.specs.Names.{offset_address, defined_address, is_defined, is_sure_by, is_sure, Export, is_export, exports_in, exports_from, exports_where, candidates, chosen, export_address, globals_of, shown_linker_symbols, unshown_address, Outer, outer_address, symbol_address, Place, place_in, shared_place, symbol_place, no_object, object_at, is_in_text}
+use Rattle.rv_link_laws.specs.Values.{target}
+use Rattle.rv_link_laws.specs.CallSites.{target_place, is_text_place}
+use Rattle.rv_link_laws.specs.Shortened.{Sizes, sizes_by, cuts, cuts_at, cuts_in, shortened_text, shortened_section, shortened_sections, shortened_definition, shortened_symbol, shortened_object, shortened_from}
+use Rattle.rv_link_laws.proofs.ChosenLemmas.{chosen_held}
+use Rattle.rv_link_laws.proofs.ShownLemmas.{meaning, means}
 
 -- ---- which section of the text a place is in
 

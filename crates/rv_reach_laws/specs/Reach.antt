@@ -10,17 +10,17 @@ use Rattle.rv_isa.specs.declared.kind.Kind.TheVariants as kinds
 use Rattle.rv_map.specs.declared.map.SectionId.{SectionId}
 use Rattle.rv_statement.specs.Statement.{Statement}
 use Rattle.rv_object_types.specs.declared.object.Object.{Object as DeclaredObject}
-use Rattle.rv_object_types.specs.declared.row.Row.{Row}
-use Rattle.rv_object_types.specs.Object.{Relocation, Object}
+use Rattle.rv_object_laws.specs.declared.row.Row.{Row}
+use Rattle.rv_object_laws.specs.Object.{Relocation, Object}
 use Rattle.rv_object_types.specs.View.{object_of}
 use Rattle.rv_source_laws.specs.Compressed.{names_parcel}
-use Rattle.rv_object_laws.specs.Inputs.{InputSection, goes_to_text, inputs}
-use Rattle.rv_object_laws.specs.CallSites.{is_call}
-use Rattle.rv_object_laws.specs.Shortened.{Relaxes}
-use Rattle.rv_object_laws.specs.Without.{without}
-use Rattle.rv_object_laws.specs.TextStart.{IsTextStart}
-use Rattle.rv_object_laws.specs.Untaken.{IsTaken}
-use Rattle.rv_object_laws.specs.Layout.{Layout, IsLayout}
+use Rattle.rv_link_laws.specs.Inputs.{InputSection, goes_to_text, inputs}
+use Rattle.rv_link_laws.specs.CallSites.{is_call}
+use Rattle.rv_link_laws.specs.Shortened.{Relaxes}
+use Rattle.rv_link_laws.specs.Without.{without}
+use Rattle.rv_link_laws.specs.TextStart.{IsTextStart}
+use Rattle.rv_link_laws.specs.Untaken.{IsTaken}
+use Rattle.rv_link_laws.specs.Layout.{Layout, IsLayout}
 use Rattle.rv_sources_link_laws.specs.Joins.{AreObjectsOf}
 
 -- the field of a call, of which `jal` or `c.j` is left

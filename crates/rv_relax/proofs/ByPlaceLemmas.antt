@@ -5,10 +5,10 @@ use Rattle.std.specs.List.{list_all, filter}
 use Rattle.std.proofs.lemmas.Bool.{cases_Bool, leb-true, ltb-true, le-leb, and_parts, and_from}
 use Rattle.std.proofs.lemmas.Bool.Decides.{nat_tests}
 use Rattle.rv_object_types.specs.declared.relocation.Relocation.{Relocation as DeclaredRelocation}
-use Rattle.rv_object_types.specs.Object.{Relocation}
+use Rattle.rv_object_laws.specs.Object.{Relocation}
 use Rattle.rv_object_types.specs.Parts.{relocation_of}
-use Rattle.rv_object_types.specs.Valid.{is_align, are_apart, are_all_apart}
-use Rattle.rv_object_laws.specs.Moves.{full_padding, has_padding, inserted, by_place}
+use Rattle.rv_object_laws.specs.Valid.{is_align, are_apart, are_all_apart}
+use Rattle.rv_link_laws.specs.Moves.{full_padding, has_padding, inserted, by_place}
 use Rattle.rv_cut_laws.proofs.ApartLemmas.{are_clear, clear, all_by_place}
 use Rattle.rv_relax.proofs.StableLemmas.{inserted_by, ordered_by}
 

@@ -10,11 +10,11 @@ use Rattle.rv_layout_laws.specs.declared.site.SiteKind.{SiteKind}
 use Rattle.rv_layout_laws.specs.declared.site.SiteKind.TheVariants.{Call, Padding}
 use Rattle.rv_layout_laws.specs.Calls.{Offers, site_at, IsGreatestClosed, is_call as is_call_site}
 use Rattle.rv_layout_laws.specs.Sites.{size_at}
-use Rattle.rv_object_types.specs.Object.{Relocation, Section, Object}
-use Rattle.rv_object_laws.specs.Moves.{Move}
-use Rattle.rv_object_laws.specs.Inputs.{goes_to_text}
-use Rattle.rv_object_laws.specs.CallSites.{is_call, base, sites_of}
-use Rattle.rv_object_laws.specs.Shortened.{Sizes, sizes_by, cuts, shortened_kind, shortened_relocation, shortened_text, shortened_section, shortened_sections, shortened_object, shortened_from, shortened}
+use Rattle.rv_object_laws.specs.Object.{Relocation, Section, Object}
+use Rattle.rv_link_laws.specs.Moves.{Move}
+use Rattle.rv_link_laws.specs.Inputs.{goes_to_text}
+use Rattle.rv_link_laws.specs.CallSites.{is_call, base, sites_of}
+use Rattle.rv_link_laws.specs.Shortened.{Sizes, sizes_by, cuts, shortened_kind, shortened_relocation, shortened_text, shortened_section, shortened_sections, shortened_object, shortened_from, shortened}
 use Rattle.rv_shorten.specs.declared.section.ShortSection.{ShortSection}
 use Rattle.rv_shorten.specs.declared.object.ShortObject.{ShortObject}
 use Rattle.rv_cut_laws.specs.Cutting.{cut_kind, cut_relocation}

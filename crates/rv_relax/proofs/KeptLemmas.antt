@@ -2,8 +2,8 @@
 
 use Rattle.std.proofs.Common.{◌≡◌, ℕ, ◌+◌, ◌-◌, ◌≤◌, List, ◌∷◌, ◌++◌, take, drop, ap, ◌∙◌, arith}
 use Rattle.std.proofs.lemmas.List.{append_assoc, drop-drop}
-use Rattle.rv_object_types.specs.Padding.{no_operations}
-use Rattle.rv_object_laws.specs.Moves.{Move, kept}
+use Rattle.rv_object_laws.specs.Padding.{no_operations}
+use Rattle.rv_link_laws.specs.Moves.{Move, kept}
 use Rattle.rv_relax.specs.Pieces.{Piece}
 use Rattle.rv_relax.specs.Paddings.{move_of}
 

@@ -6,7 +6,7 @@ use Rattle.std.proofs.lemmas.Bool.{leb-true, le-leb}
 use Rattle.rv_layout_laws.specs.declared.site.Site.{Site}
 use Rattle.rv_layout_laws.specs.Calls.{bytes_of, InOrder}
 use Rattle.rv_cut_laws.specs.Walk.{site_end}
-pub use Rattle.rv_object_laws.proofs.TextLineLemmas.{nowhere as no_site}
+pub use Rattle.rv_link_laws.proofs.TextLineLemmas.{nowhere as no_site}
 
 pub rising : (sites : List Site) → InOrder 0 sites → (i j : ℕ) (d : Site) → i ≤ j → j < length sites → site_end (slice_index_or sites i d) ≤ site_end (slice_index_or sites j d)
 rising sites order i j d le within = rises sites 0 order i j d le within

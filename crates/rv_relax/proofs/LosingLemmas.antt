@@ -5,11 +5,11 @@ use Rattle.std.specs.List.{AllWithin}
 use Rattle.std.proofs.lemmas.Bool.{lt-leb, le-leb, and_left, and_right, and_from}
 use Rattle.std.proofs.lemmas.List.{append_assoc, drop_more}
 use Rattle.std.proofs.lemmas.List.Sums.{sum_by-cons}
-use Rattle.rv_object_types.specs.Padding.{operations_in, no_operations}
-use Rattle.rv_object_laws.specs.Moves.{lost, lost_in}
+use Rattle.rv_object_laws.specs.Padding.{operations_in, no_operations}
+use Rattle.rv_link_laws.specs.Moves.{lost, lost_in}
 use Rattle.rv_relax.specs.Pieces.{Piece}
 use Rattle.rv_relax.specs.Paddings.{move_of, are_in_order, loses, lost_sums, sum_of_first}
-use Rattle.rv_object_types.proofs.NopsLemmas.{length_even}
+use Rattle.rv_object_laws.proofs.NopsLemmas.{length_even}
 use Rattle.rv_relax.proofs.OrderLemmas.{first, rest}
 use Rattle.rv_relax.proofs.PiecedLemmas.{no_piece}
 

@@ -4,9 +4,9 @@ use Rattle.std.proofs.Common.{◌≡◌, ℕ, ◌+◌, ◌<◌, Bool, true, fals
 use Rattle.std.specs.List.{filter}
 use Rattle.std.proofs.lemmas.List.{append_assoc, drop_more}
 use Rattle.rv_object_types.specs.declared.relocation.Relocation.{Relocation as DeclaredRelocation}
-use Rattle.rv_object_types.specs.Object.{Relocation}
+use Rattle.rv_object_laws.specs.Object.{Relocation}
 use Rattle.rv_object_types.specs.Parts.{relocation_of}
-use Rattle.rv_object_laws.specs.Moves.{Move, full_padding, has_padding}
+use Rattle.rv_link_laws.specs.Moves.{Move, full_padding, has_padding}
 use Rattle.rv_cut_laws.specs.Cutting.{cut_relocation}
 use Rattle.rv_cut_laws.proofs.PaddingsLemmas.{align_stays}
 use Rattle.rv_relax.proofs.SortingLemmas.{nothing}

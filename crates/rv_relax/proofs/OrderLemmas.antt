@@ -4,11 +4,11 @@ use Rattle.std.proofs.Common.{◌≡◌, ℕ, zero, suc, ◌+◌, ◌-◌, ◌%�
 use Rattle.std.specs.Prelude.{◌==◌}
 use Rattle.std.specs.List.{list_all}
 use Rattle.std.proofs.lemmas.Bool.{ltb-true, leb-true, le-leb, eqb-true, eq-eqb, and_parts, and_from}
-use Rattle.rv_object_laws.specs.Moves.{dropped, has_room}
+use Rattle.rv_link_laws.specs.Moves.{dropped, has_room}
 use Rattle.rv_relax.specs.Paddings.{move_of, is_next, are_in_order}
 use Rattle.rv_shorten.specs.Pieces.{is_next_piece, are_pieces, pieces_dropped}
 use Rattle.rv_relax.specs.Pieces.{Piece}
-use Rattle.rv_object_types.proofs.NopsLemmas.{length_even}
+use Rattle.rv_object_laws.proofs.NopsLemmas.{length_even}
 use Rattle.rv_relax.proofs.PiecedLemmas.{fits}
 
 -- a padding that stands behind others

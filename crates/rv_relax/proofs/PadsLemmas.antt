@@ -4,8 +4,8 @@ use Rattle.std.proofs.Common.{◌≡◌, ℕ, zero, suc, ◌+◌, ◌-◌, ◌<�
 use Rattle.std.specs.Prelude.{◌==◌}
 use Rattle.std.specs.List.{AllWithin, find}
 use Rattle.std.proofs.lemmas.Bool.{eq-eqb, ne_eqb, ltb-true, ltb-false}
-use Rattle.rv_object_laws.specs.Moves.{Move}
-use Rattle.rv_object_types.proofs.NopsLemmas.{length_even}
+use Rattle.rv_link_laws.specs.Moves.{Move}
+use Rattle.rv_object_laws.proofs.NopsLemmas.{length_even}
 use Rattle.rv_shorten.proofs.PiecedLemmas.{rising}
 use Rattle.rv_relax.specs.Kept.{kept_bytes}
 use Rattle.rv_relax.specs.Paddings.{move_of, are_in_order}

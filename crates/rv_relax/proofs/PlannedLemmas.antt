@@ -5,15 +5,15 @@ use Rattle.std.specs.Prelude.{◌==◌}
 use Rattle.std.proofs.lemmas.Bool.{le-leb, lt-ltb, eq-eqb, and_from}
 use Rattle.std.proofs.lemmas.List.{append_assoc, map_push}
 use Rattle.rv_layout_laws.specs.Alignment.{aligned}
-use Rattle.rv_object_types.specs.Object.{Relocation}
-use Rattle.rv_object_types.specs.Padding.{no_operations}
-use Rattle.rv_object_laws.specs.Moves.{Move, alignment_of, full_padding, plan}
+use Rattle.rv_object_laws.specs.Object.{Relocation}
+use Rattle.rv_object_laws.specs.Padding.{no_operations}
+use Rattle.rv_link_laws.specs.Moves.{Move, alignment_of, full_padding, plan}
 use Rattle.rv_relax.specs.Pieces.{Piece}
 use Rattle.rv_relax.specs.Paddings.{move_of, is_next, are_in_order}
 use Rattle.rv_cut_laws.specs.Alignments.{are_alignments}
 use Rattle.rv_object_types.specs.declared.relocation.Relocation.{Relocation as DeclaredRelocation}
 use Rattle.rv_object_types.specs.Parts.{relocation_of}
-use Rattle.rv_object_types.proofs.NopsLemmas.{same_even}
+use Rattle.rv_object_laws.proofs.NopsLemmas.{same_even}
 use Rattle.rv_cut_laws.proofs.AlignmentsLemmas.{IsNextAlignment}
 use Rattle.rv_relax.proofs.SortingLemmas.{nothing, backwards, last_first}
 

@@ -1,8 +1,8 @@
 -- A byte that stands before another one stands before it afterwards.
 
 use Rattle.std.proofs.Common.{◌≡◌, ℕ, ◌+◌, ◌-◌, ◌≤◌, min, max, true, List, [], ◌∷◌, length, map, refl, arith}
-use Rattle.rv_object_types.specs.Padding.{no_operations}
-use Rattle.rv_object_laws.specs.Moves.{Move, dropped, new_offset}
+use Rattle.rv_object_laws.specs.Padding.{no_operations}
+use Rattle.rv_link_laws.specs.Moves.{Move, dropped, new_offset}
 use Rattle.rv_relax.specs.Pieces.{Piece}
 use Rattle.rv_relax.specs.declared.section_paddings.SectionPaddings.{SectionPaddings}
 use Rattle.rv_relax.specs.Paddings.{move_of, are_in_order}

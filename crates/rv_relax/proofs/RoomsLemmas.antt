@@ -4,7 +4,7 @@ use Rattle.std.proofs.Common.{◌≡◌, ◌<◌, ℕ, ◌+◌, Bool, ◌&&◌, 
 use Rattle.std.specs.Global.{Vec}
 use Rattle.std.specs.List.{list_all}
 use Rattle.std.proofs.lemmas.List.{drop_more, map_push, append_assoc}
-use Rattle.rv_object_laws.specs.Moves.{Move, has_room}
+use Rattle.rv_link_laws.specs.Moves.{Move, has_room}
 use Rattle.rv_shorten.specs.declared.section.ShortSection.{ShortSection}
 use Rattle.rv_shorten.specs.declared.object.ShortObject.{ShortObject}
 use Rattle.rv_shorten.specs.Sections.{short_section_of}

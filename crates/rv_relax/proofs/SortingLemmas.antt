@@ -5,7 +5,7 @@ use Rattle.std.specs.Prelude.{reverse, None, pos}
 use Rattle.std.proofs.lemmas.List.{map_push, reverse-append, take_more}
 use Rattle.rv_object_types.specs.declared.relocation.Relocation.{Relocation as DeclaredRelocation}
 use Rattle.rv_isa.specs.declared.kind.Kind.TheVariants as kinds
-use Rattle.rv_object_types.specs.Object.{Relocation}
+use Rattle.rv_object_laws.specs.Object.{Relocation}
 use Rattle.rv_object_types.specs.Parts.{relocation_of}
 
 -- what a slice has past its end

@@ -4,10 +4,10 @@
 use Rattle.std.specs.Prelude.{◌≡◌, ℕ, suc, Bool, true, false, List, [], ◌∷◌, ◌++◌, if◌then◌else◌}
 use Rattle.std.specs.List.{flat_map}
 use Rattle.rv_layout_laws.specs.Calls.{IsGreatestClosed}
-use Rattle.rv_object_types.specs.Object.{Relocation, Section, Object}
-use Rattle.rv_object_laws.specs.Inputs.{goes_to_text}
-use Rattle.rv_object_laws.specs.CallSites.{is_call, sites_of}
-use Rattle.rv_object_laws.specs.Shortened.{Sizes, sizes_by}
+use Rattle.rv_object_laws.specs.Object.{Relocation, Section, Object}
+use Rattle.rv_link_laws.specs.Inputs.{goes_to_text}
+use Rattle.rv_link_laws.specs.CallSites.{is_call, sites_of}
+use Rattle.rv_link_laws.specs.Shortened.{Sizes, sizes_by}
 
 -- by the bytes of the call at each place: those of a section of text, of sections, and of objects
 abbrev pub call_bytes : Sizes → Relocation → List ℕ

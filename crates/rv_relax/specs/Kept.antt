@@ -2,7 +2,7 @@
 
 use Rattle.std.specs.Prelude.{ℕ, ◌==◌, List, length, map, Option, Some, None}
 use Rattle.std.specs.List.{find}
-use Rattle.rv_object_laws.specs.Moves.{Move, moves}
+use Rattle.rv_link_laws.specs.Moves.{Move, moves}
 use Rattle.rv_shorten.specs.declared.section.ShortSection.{ShortSection}
 use Rattle.rv_shorten.specs.Sections.{short_section_of}
 use Rattle.rv_relax.specs.declared.section_paddings.SectionPaddings.{SectionPaddings}

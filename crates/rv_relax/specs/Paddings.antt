@@ -2,8 +2,8 @@
 
 use Rattle.std.specs.Prelude.{ℕ, zero, suc, ◌+◌, ◌-◌, ◌%◌, ◌^◌, Bool, true, ◌&&◌, ◌==◌, nat_le, nat_lt, List, [], ◌∷◌, slice_index}
 use Rattle.rv_relax.specs.Pieces.{Piece}
-use Rattle.rv_object_types.specs.Padding.{no_operations, operations_in}
-use Rattle.rv_object_laws.specs.Moves.{Move}
+use Rattle.rv_object_laws.specs.Padding.{no_operations, operations_in}
+use Rattle.rv_link_laws.specs.Moves.{Move}
 
 -- what is kept of a padding
 abbrev pub move_of : Piece → Move

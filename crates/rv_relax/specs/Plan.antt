@@ -2,10 +2,10 @@
 
 use Rattle.std.specs.Prelude.{◌≡◌, ⊤, ℕ, Bool, false, List, map}
 use Rattle.std.specs.List.{list_all}
-use Rattle.rv_object_types.specs.Object.{Section, Object}
+use Rattle.rv_object_laws.specs.Object.{Section, Object}
 use Rattle.rv_object_types.specs.View.{object_of}
-use Rattle.rv_object_laws.specs.Moves.{has_room, moves}
-use Rattle.rv_object_laws.specs.Shortened.{Relaxes}
+use Rattle.rv_link_laws.specs.Moves.{has_room, moves}
+use Rattle.rv_link_laws.specs.Shortened.{Relaxes}
 use Rattle.rv_reloc.specs.declared.fault.LinkFault.{LinkFault}
 use Rattle.rv_reloc.specs.declared.fault.LinkFault.TheVariants.{AlignmentShort, OutOfMemory}
 use Rattle.rv_shorten.specs.View.{short_object_of, whole_object_of}

@@ -6,12 +6,12 @@ use Rattle.std.specs.Prelude.{◌≡◌, ℕ, ◌+◌, ◌-◌, nat_le, List, []
 use Rattle.std.specs.List.{flat_map, slice_get}
 use Rattle.rv_isa.specs.declared.kind.Kind.{Kind}
 use Rattle.rv_isa.specs.declared.kind.Kind.TheVariants as kinds
-use Rattle.rv_object_types.specs.Object.{Relocation, size_of}
+use Rattle.rv_object_laws.specs.Object.{Relocation, size_of}
 use Rattle.rv_object_types.specs.Sections.{section_of}
-use Rattle.rv_object_types.specs.Valid.{is_align}
-use Rattle.rv_object_laws.specs.Moves.{Move, has_padding, new_offset}
-use Rattle.rv_object_laws.specs.Inputs.{goes_to_text}
-use Rattle.rv_object_laws.specs.CallSites.{is_call}
+use Rattle.rv_object_laws.specs.Valid.{is_align}
+use Rattle.rv_link_laws.specs.Moves.{Move, has_padding, new_offset}
+use Rattle.rv_link_laws.specs.Inputs.{goes_to_text}
+use Rattle.rv_link_laws.specs.CallSites.{is_call}
 use Rattle.rv_shorten.specs.declared.section.ShortSection.{ShortSection}
 use Rattle.rv_shorten.specs.declared.object.ShortObject.{ShortObject}
 use Rattle.rv_cut_laws.specs.Cutting.{cut_kind}

@@ -5,9 +5,9 @@ use Rattle.rv_layout_laws.specs.Sites.{padding_site}
 use Rattle.rv_isa.specs.declared.kind.Kind.TheVariants as kinds
 use Rattle.rv_layout_laws.specs.declared.site.Site.{Site}
 use Rattle.rv_layout_laws.specs.declared.site.SiteKind.TheVariants as sites
-use Rattle.rv_object_types.specs.Object.{Relocation, Section, Progbits}
-use Rattle.rv_object_types.specs.Padding.{no_operations}
-use Rattle.rv_object_laws.specs.Moves.{Move}
+use Rattle.rv_object_laws.specs.Object.{Relocation, Section, Progbits}
+use Rattle.rv_object_laws.specs.Padding.{no_operations}
+use Rattle.rv_link_laws.specs.Moves.{Move}
 
 -- an alignment with its bytes of padding at a place
 abbrev pub align_at : ℕ → ℕ → Relocation

@@ -4,8 +4,8 @@ ghost use Rattle.std.specs.Prelude.{◌≡◌, ◌-◌, ◌<◌, ◌≤◌, ◌+
 ghost use Rattle.std.specs.List.{filter};
 ghost use Rattle.rv_layout_laws.specs.Alignment.{aligned};
 ghost use Rattle.rv_object_types.specs.Parts.{relocation_of};
-ghost use Rattle.rv_object_types.specs.Valid.{are_all_apart};
-ghost use Rattle.rv_object_laws.specs.Moves.{alignment_of, by_place, full_padding as full_padding_of, has_padding as has_padding_of};
+ghost use Rattle.rv_object_laws.specs.Valid.{are_all_apart};
+ghost use Rattle.rv_link_laws.specs.Moves.{alignment_of, by_place, full_padding as full_padding_of, has_padding as has_padding_of};
 ghost use Rattle.rv_cut_laws.specs.Cutting.{cut_relocation};
 ghost use Rattle.rv_shorten.specs.Sections.{moves_in, short_section_of};
 

@@ -1,7 +1,7 @@
 //! The bytes that are kept of a section.
 
 ghost use Rattle.std.specs.Prelude.{◌≡◌, ◌++◌, true, map, OnOk};
-ghost use Rattle.rv_object_laws.specs.Moves.{kept};
+ghost use Rattle.rv_link_laws.specs.Moves.{kept};
 ghost use Rattle.rv_relax.specs.Paddings.{are_in_order, move_of};
 ghost use Rattle.rv_shorten.specs.Bytes.{left_bytes};
 

@@ -3,7 +3,7 @@
 ghost use Rattle.std.specs.Prelude.{◌≡◌, [], ◌∷◌, true, false};
 ghost use Rattle.std.specs.List.{list_all};
 ghost use Rattle.rv_layout_laws.specs.Calls.{IsGreatestClosed};
-ghost use Rattle.rv_object_laws.specs.Moves.{has_room, kept, lost, moves, new_offset};
+ghost use Rattle.rv_link_laws.specs.Moves.{has_room, kept, lost, moves, new_offset};
 ghost use Rattle.rv_relax.specs.Worked.{align_at, calls_to_f, code_with, kept_of};
 
 /// Two bytes of code, and then an alignment to 8 with 6 bytes of padding. In a section that starts at a multiple of 8 all of

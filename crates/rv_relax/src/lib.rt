@@ -11,7 +11,7 @@
 //! begins at a multiple of all its alignments, so its paddings are the same wherever it stands: they are found before it has
 //! an address.
 //!
-//! Main contract: `Plan::of` gives the plan of what relaxation leaves of objects (`Relaxes`, `rv_object_laws`), in which the
+//! Main contract: `Plan::of` gives the plan of what relaxation leaves of objects (`Relaxes`, `rv_link_laws`), in which the
 //! paddings of each section are its `moves`, or `AlignmentShort` where one lacks bytes. A plan has no byte of the text. It
 //! lends its objects, less what is cut of their calls (`rv_shorten`), and what is kept of the paddings of each of their
 //! sections ([`SectionPaddings`]): new offsets, the bytes that are kept, which go straight to where they are wanted, and the

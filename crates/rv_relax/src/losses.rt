@@ -4,8 +4,8 @@
 //! 160,000 overlapping rows took 34 seconds.
 
 ghost use Rattle.std.specs.Prelude.{◌≡◌, ◌-◌, ◌≤◌, true, length, map, IfOk};
-ghost use Rattle.rv_object_types.specs.Padding.{operations_in};
-ghost use Rattle.rv_object_laws.specs.Moves.{lost as lost_of};
+ghost use Rattle.rv_object_laws.specs.Padding.{operations_in};
+ghost use Rattle.rv_link_laws.specs.Moves.{lost as lost_of};
 ghost use Rattle.rv_relax.specs.Paddings.{are_in_order, lost_sums, move_of, sum_of_first};
 
 use crate::pieces::count_ended;

@@ -2,7 +2,7 @@
 
 ghost use Rattle.std.specs.Prelude.{◌≡◌, true, map, reverse, IfOk};
 ghost use Rattle.rv_object_types.specs.Parts.{relocation_of};
-ghost use Rattle.rv_object_laws.specs.Moves.{plan};
+ghost use Rattle.rv_link_laws.specs.Moves.{plan};
 ghost use Rattle.rv_cut_laws.specs.Alignments.{are_alignments};
 ghost use Rattle.rv_relax.specs.Paddings.{are_in_order, move_of};
 

@@ -8,9 +8,9 @@ ghost use Rattle.std.specs.Prelude.{◌≡◌, ◌+◌, ◌*◌, ◌≤◌, true
 ghost use Rattle.std.specs.List.{list_all};
 ghost use Rattle.rv_layout_laws.specs.Calls.{calls};
 ghost use Rattle.rv_object_types.specs.View.{object_of};
-ghost use Rattle.rv_object_laws.specs.CallSites.{sites_of};
-ghost use Rattle.rv_object_laws.specs.Moves.{has_room};
-ghost use Rattle.rv_object_laws.specs.Shortened.{Relaxes};
+ghost use Rattle.rv_link_laws.specs.CallSites.{sites_of};
+ghost use Rattle.rv_link_laws.specs.Moves.{has_room};
+ghost use Rattle.rv_link_laws.specs.Shortened.{Relaxes};
 ghost use Rattle.rv_shorten.specs.View.{short_object_of, whole_object_of};
 ghost use Rattle.rv_relax.specs.CallSizes.{AreCallSizes};
 ghost use Rattle.rv_relax.specs.Kept.{kept_in, moves_of};

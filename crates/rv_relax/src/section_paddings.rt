@@ -2,7 +2,7 @@
 
 ghost use Rattle.std.specs.Prelude.{◌≡◌, ◌++◌, IsTrue, IfOk, OnOk};
 ghost use Rattle.std.specs.List.{list_all};
-ghost use Rattle.rv_object_laws.specs.Moves.{has_room, kept, lost as lost_of, new_offset as offset_of};
+ghost use Rattle.rv_link_laws.specs.Moves.{has_room, kept, lost as lost_of, new_offset as offset_of};
 ghost use Rattle.rv_relax.specs.Paddings.{are_in_order, lost_sums};
 ghost use Rattle.rv_shorten.specs.Bytes.{left_bytes};
 

@@ -12,9 +12,9 @@ use Rattle.std.specs.Cmp.Lexicographic.{slice_cmp}
 use Rattle.std.specs.Ordering.{nat_cmp}
 use Rattle.rv_map.specs.Globals.{shown}
 use Rattle.rv_map.specs.Map.{Global}
-use Rattle.rv_object_types.specs.Object.{Symbol, Object}
-use Rattle.rv_object_types.specs.Bindings.{is_shared}
-use Rattle.rv_object_laws.specs.Names.{Export, defined_address, export_address, is_export, exports_in, exports_from, chosen, is_chosen}
+use Rattle.rv_object_laws.specs.Object.{Symbol, Object}
+use Rattle.rv_object_laws.specs.Bindings.{is_shared}
+use Rattle.rv_link_laws.specs.Names.{Export, defined_address, export_address, is_export, exports_in, exports_from, chosen, is_chosen}
 use Rattle.rv_placement.specs.declared.placement.Placement.{Placement}
 use Rattle.rv_placement.specs.Placement.{starts_of}
 use Rattle.rv_resolve.specs.declared.definitions.Exported.{Exported}
@@ -22,7 +22,7 @@ use Rattle.rv_resolve.specs.declared.names.Names.{Names}
 use Rattle.rv_resolve.specs.Names.{IsNames}
 use Rattle.rv_resolve.specs.Shown.{shown_exports, export_at, is_chosen_at, shown_in}
 use Rattle.rv_resolve.proofs.ChosenLemmas.{kept_some}
-use Rattle.rv_object_laws.proofs.StepsLemmas.{left, left_at}
+use Rattle.rv_link_laws.proofs.StepsLemmas.{left, left_at}
 use Rattle.rv_resolve.proofs.TableLemmas.{copied_some}
 
 -- ---- the linker's

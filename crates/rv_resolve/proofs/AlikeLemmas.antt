@@ -3,10 +3,10 @@
 use Rattle.std.proofs.Common.{◌≡◌, ℕ, suc, List, [], ◌∷◌, map, refl, subst, sym, ap, ◌∙◌}
 use Rattle.rv_map.specs.Globals.{AreDistinct}
 use Rattle.rv_map.specs.declared.map.SectionId.{SectionId}
-use Rattle.rv_object_types.specs.Object.{Object}
-use Rattle.rv_object_types.specs.Bindings.{is_global}
-use Rattle.rv_object_laws.specs.Names.{global_names}
-use Rattle.rv_object_laws.specs.Without.{without, without_from}
+use Rattle.rv_object_laws.specs.Object.{Object}
+use Rattle.rv_object_laws.specs.Bindings.{is_global}
+use Rattle.rv_link_laws.specs.Names.{global_names}
+use Rattle.rv_link_laws.specs.Without.{without, without_from}
 use Rattle.rv_resolve.specs.declared.names.Names.{Names}
 use Rattle.rv_resolve.specs.Chosen.{seen, seen_of, definers_from, definers_of, names_in}
 use Rattle.rv_resolve.specs.Names.{AnswersFirst, outside, IsNames}

@@ -4,14 +4,14 @@ use Rattle.std.proofs.Common.{◌≡◌, ◌-◌, ℕ, suc, Bool, true, false, c
 use Rattle.std.specs.Prelude.{bytes_eq, if◌then◌else◌}
 use Rattle.std.specs.List.{find}
 use Rattle.std.proofs.lemmas.List.{map-append}
-use Rattle.rv_object_types.specs.declared.symbol.Binding.{Binding}
-use Rattle.rv_object_types.specs.Object.{Symbol, Object}
-use Rattle.rv_object_types.specs.Bindings.{is_global, is_weak}
-use Rattle.rv_object_laws.specs.Names.{Export, is_export, exports_in, exports_from, exports_where, names_of, candidates, chosen, global_names}
+use Rattle.rv_object_laws.specs.declared.symbol.Binding.{Binding}
+use Rattle.rv_object_laws.specs.Object.{Symbol, Object}
+use Rattle.rv_object_laws.specs.Bindings.{is_global, is_weak}
+use Rattle.rv_link_laws.specs.Names.{Export, is_export, exports_in, exports_from, exports_where, names_of, candidates, chosen, global_names}
 use Rattle.rv_resolve.specs.declared.definitions.Exported.{Exported}
 use Rattle.rv_resolve.specs.Chosen.{seen, seen_of, Definer, definers_in, definers_from, definitions, names_in, first_named, definer}
 use Rattle.rv_resolve.specs.Names.{exported_of, IsAt}
-use Rattle.rv_object_laws.proofs.ChosenLemmas.{chosen_held}
+use Rattle.rv_link_laws.proofs.ChosenLemmas.{chosen_held}
 use Rattle.rv_resolve.proofs.TableLemmas.{still_some, still_none}
 
 -- ---- one by one they are the definitions of the laws

@@ -4,18 +4,18 @@ use Rattle.std.proofs.Common.{◌≡◌, ◌<◌, ◌≤◌, ℕ, Option, Some, 
 use Rattle.std.specs.Option.{option_or}
 use Rattle.std.proofs.lemmas.List.{length-map}
 use Rattle.std.proofs.lemmas.Option.{slice_get-map, slice_get_past, slice_get_read}
-use Rattle.rv_object_types.specs.declared.symbol.Definition.{Definition}
-use Rattle.rv_object_types.specs.declared.symbol.Definition.TheVariants as definitions
+use Rattle.rv_object_laws.specs.declared.symbol.Definition.{Definition}
+use Rattle.rv_object_laws.specs.declared.symbol.Definition.TheVariants as definitions
 use Rattle.rv_object_types.specs.declared.symbol.Symbol.{Symbol as DeclaredSymbol}
-use Rattle.rv_object_types.specs.Object.{Relocation, Symbol, Object}
+use Rattle.rv_object_laws.specs.Object.{Relocation, Symbol, Object}
 use Rattle.rv_object_types.specs.Parts.{symbol_of}
-use Rattle.rv_object_laws.specs.Moves.{Move}
-use Rattle.rv_object_laws.specs.Names.{is_defined}
+use Rattle.rv_link_laws.specs.Moves.{Move}
+use Rattle.rv_link_laws.specs.Names.{is_defined}
 use Rattle.rv_shorten.specs.declared.object.ShortObject.{ShortObject}
 use Rattle.rv_cut_laws.specs.Cutting.{cut_definition, cut_relocation, cut_symbol}
 use Rattle.rv_shorten.specs.View.{moves_by_section, short_object_of}
 use Rattle.rv_resolve.specs.Moved.{moved_in, short_symbols}
-use Rattle.rv_object_laws.specs.Undefined.{first_some, has_address}
+use Rattle.rv_link_laws.specs.Undefined.{first_some, has_address}
 
 -- ---- the symbols that it has
 

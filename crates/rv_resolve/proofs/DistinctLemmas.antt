@@ -6,8 +6,8 @@ use Rattle.std.specs.Prelude.{◌||◌, if◌then◌else◌, bytes_eq}
 use Rattle.std.proofs.lemmas.List.Folds.{list_any-append}
 use Rattle.std.proofs.lemmas.Slice.Eq.{bytes_eq-Decides}
 use Rattle.rv_map.specs.Globals.{is_one_of, AreDistinct}
-use Rattle.rv_object_laws.specs.Exports.{first_again}
-use Rattle.rv_object_laws.proofs.ChosenLemmas.{same_bytes}
+use Rattle.rv_link_laws.specs.Exports.{first_again}
+use Rattle.rv_link_laws.proofs.ChosenLemmas.{same_bytes}
 
 -- where none stands before it, none of the others is among them
 others_apart : (others names : List (List ℕ)) → first_again others names ≡ None → (other : List ℕ) → is_one_of others other ≡ true → is_one_of names other ≡ false

@@ -2,10 +2,10 @@
 
 use Rattle.std.proofs.Common.{◌≡◌, ◌+◌, None, List, sym, ap, ◌∙◌}
 use Rattle.std.specs.Prelude.{option_and_then, if◌then◌else◌}
-use Rattle.rv_object_types.specs.Object.{Object}
-use Rattle.rv_object_laws.specs.Inputs.{Starts}
-use Rattle.rv_object_laws.specs.Names.{defined_address, can_begin, run_start, entry_of}
-use Rattle.rv_object_laws.proofs.EntryLemmas.{start_name}
+use Rattle.rv_object_laws.specs.Object.{Object}
+use Rattle.rv_link_laws.specs.Inputs.{Starts}
+use Rattle.rv_link_laws.specs.Names.{defined_address, can_begin, run_start, entry_of}
+use Rattle.rv_link_laws.proofs.EntryLemmas.{start_name}
 use Rattle.rv_resolve.specs.declared.names.Meant.{Meant}
 use Rattle.rv_resolve.proofs.MeantLemmas.{IsKept}
 

@@ -4,19 +4,19 @@ use Rattle.std.proofs.Common.{◌≡◌, ◌+◌, ◌-◌, ℕ, Bool, true, fals
 use Rattle.std.specs.Prelude.{◌&&◌, ◌==◌}
 use Rattle.std.proofs.lemmas.Bool.{and_parts, and_from, eqb-true, eq-eqb}
 use Rattle.rv_map.specs.Globals.{AreDistinct}
-use Rattle.rv_object_types.specs.declared.symbol.Binding.{Binding}
-use Rattle.rv_object_types.specs.declared.symbol.Binding.TheVariants as bindings
-use Rattle.rv_object_types.specs.Object.{Symbol, Object}
-use Rattle.rv_object_types.specs.Bindings.{is_global, is_shared}
-use Rattle.rv_object_laws.specs.Names.{Export, is_defined, is_export, chosen, is_this, is_chosen, global_names}
+use Rattle.rv_object_laws.specs.declared.symbol.Binding.{Binding}
+use Rattle.rv_object_laws.specs.declared.symbol.Binding.TheVariants as bindings
+use Rattle.rv_object_laws.specs.Object.{Symbol, Object}
+use Rattle.rv_object_laws.specs.Bindings.{is_global, is_shared}
+use Rattle.rv_link_laws.specs.Names.{Export, is_defined, is_export, chosen, is_this, is_chosen, global_names}
 use Rattle.rv_resolve.specs.Chosen.{definer}
 use Rattle.rv_resolve.specs.Names.{exported_of, is_kept}
 use Rattle.rv_resolve.specs.Shown.{export_at, is_chosen_at}
 use Rattle.rv_resolve.proofs.ChosenLemmas.{kept, kept_is}
-use Rattle.rv_object_laws.proofs.ChosenLemmas.{chosen_held}
-use Rattle.rv_object_laws.proofs.HeldLemmas.{IsHeld, held_one}
-use Rattle.rv_object_laws.proofs.LinkerNamesLemmas.{same_tests}
-use Rattle.rv_object_laws.proofs.ShownLemmas.{chosen_kept, global_chosen}
+use Rattle.rv_link_laws.proofs.ChosenLemmas.{chosen_held}
+use Rattle.rv_link_laws.proofs.HeldLemmas.{IsHeld, held_one}
+use Rattle.rv_link_laws.proofs.LinkerNamesLemmas.{same_tests}
+use Rattle.rv_link_laws.proofs.ShownLemmas.{chosen_kept, global_chosen}
 
 -- the numbers of a file and of an index there, from 0, tell a definition
 same_place : (file index : ℕ) (e f : Export) → e.file ≡ file + 1 → e.index ≡ index → f.file - 1 + 1 ≡ f.file → is_kept file index (Some (kept f)) ≡ is_this e (Some f)

@@ -3,21 +3,21 @@
 use Rattle.std.proofs.Common.{◌≡◌, ◌<◌, ◌+◌, ℕ, suc, Bool, List, [], ◌++◌, length, map, drop, get_or, sym, ap, subst, ◌∙◌, append_assoc, append-nil, arith}
 use Rattle.rv_map.specs.Globals.{AreDistinct}
 use Rattle.rv_object_types.specs.declared.object.Object.{Object as DeclaredObject}
-use Rattle.rv_object_types.specs.declared.symbol.Binding.{Binding}
+use Rattle.rv_object_laws.specs.declared.symbol.Binding.{Binding}
 use Rattle.rv_object_types.specs.declared.symbol.Symbol.{Symbol as DeclaredSymbol}
-use Rattle.rv_object_types.specs.Object.{Object}
+use Rattle.rv_object_laws.specs.Object.{Object}
 use Rattle.rv_object_types.specs.Parts.{symbol_of}
 use Rattle.rv_object_types.specs.View.{object_of}
-use Rattle.rv_object_types.specs.Bindings.{is_global}
-use Rattle.rv_object_laws.specs.Names.{global_names}
+use Rattle.rv_object_laws.specs.Bindings.{is_global}
+use Rattle.rv_link_laws.specs.Names.{global_names}
 use Rattle.rv_resolve.specs.declared.definitions.Definitions.{Definitions}
 use Rattle.rv_resolve.specs.declared.fault.ResolveFault.{ResolveFault}
 use Rattle.rv_resolve.specs.Chosen.{Seen, seen, seen_of, Definer, definers_at, definers_in, definers_from, names_in}
-use Rattle.rv_object_laws.specs.Exports.{first_again, first_duplicate}
+use Rattle.rv_link_laws.specs.Exports.{first_again, first_duplicate}
 use Rattle.rv_resolve.specs.Names.{IsDefinitionTable, IsDuplicate, IsRefused}
 use Rattle.rv_resolve.proofs.ChosenLemmas.{global_names_are}
 use Rattle.rv_resolve.proofs.DistinctLemmas.{all_apart}
-use Rattle.rv_object_laws.proofs.StepsLemmas.{left}
+use Rattle.rv_link_laws.proofs.StepsLemmas.{left}
 
 -- ---- what is left
 

@@ -5,16 +5,16 @@ use Rattle.std.specs.Prelude.{option_and_then, if◌then◌else◌}
 use Rattle.std.specs.Option.{option_or}
 use Rattle.rv_map.specs.Globals.{global_address, linker_symbols}
 use Rattle.rv_map.specs.Map.{Map}
-use Rattle.rv_object_types.specs.Object.{Symbol, Object}
-use Rattle.rv_object_laws.specs.Inputs.{Starts}
-use Rattle.rv_object_types.specs.Bindings.{is_weak}
-use Rattle.rv_object_laws.specs.Names.{Export, is_sure, chosen, defined_address, outer_address, symbol_address, Place, place_in, shared_place, symbol_place}
+use Rattle.rv_object_laws.specs.Object.{Symbol, Object}
+use Rattle.rv_link_laws.specs.Inputs.{Starts}
+use Rattle.rv_object_laws.specs.Bindings.{is_weak}
+use Rattle.rv_link_laws.specs.Names.{Export, is_sure, chosen, defined_address, outer_address, symbol_address, Place, place_in, shared_place, symbol_place}
 use Rattle.rv_resolve.specs.declared.names.Meant.{Meant}
 use Rattle.rv_resolve.specs.Names.{meant_of, meant_by}
-use Rattle.rv_object_laws.specs.Undefined.{has_address, is_known, is_resolved}
-use Rattle.rv_object_laws.proofs.ChosenLemmas.{chosen_held}
+use Rattle.rv_link_laws.specs.Undefined.{has_address, is_known, is_resolved}
+use Rattle.rv_link_laws.proofs.ChosenLemmas.{chosen_held}
 use Rattle.rv_resolve.proofs.TableLemmas.{still_none}
-use Rattle.rv_object_laws.proofs.ShownLemmas.{every, outer_some, outer_none}
+use Rattle.rv_link_laws.proofs.ShownLemmas.{every, outer_some, outer_none}
 
 -- ---- places
 

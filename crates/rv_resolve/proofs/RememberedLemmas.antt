@@ -4,8 +4,8 @@ use Rattle.std.proofs.Common.{◌≡◌, ℕ, zero, suc, false, Option, Some, No
 use Rattle.std.specs.Global.{Vec}
 use Rattle.std.specs.Prelude.{if◌then◌else◌}
 use Rattle.std.proofs.lemmas.Option.{slice_get-map}
-use Rattle.rv_object_types.specs.Object.{Symbol, Object}
-use Rattle.rv_object_laws.specs.Names.{is_sure}
+use Rattle.rv_object_laws.specs.Object.{Symbol, Object}
+use Rattle.rv_link_laws.specs.Names.{is_sure}
 use Rattle.rv_resolve.specs.declared.definitions.Exported.{Exported}
 use Rattle.rv_resolve.specs.Chosen.{Definer, Seen, seen, seen_of, first_named}
 use Rattle.rv_resolve.specs.Names.{exported_of, outside, AreRows}

@@ -6,20 +6,20 @@ use Rattle.std.specs.List.{AllByRecursion}
 use Rattle.std.specs.Option.{option_or}
 use Rattle.rv_map.specs.Globals.{global_address, is_one_of, linker_symbols}
 use Rattle.rv_map.specs.Map.{Map}
-use Rattle.rv_object_types.specs.declared.symbol.Definition.{Definition}
-use Rattle.rv_object_types.specs.declared.symbol.Definition.TheVariants as definitions
-use Rattle.rv_object_types.specs.Object.{Relocation, Section, Symbol, Object}
-use Rattle.rv_object_laws.specs.Inputs.{Starts, InputSection, inputs_from, inputs_of}
-use Rattle.rv_object_laws.specs.IsLinkOf.{is_loaded}
-use Rattle.rv_object_types.specs.Bindings.{is_weak}
-use Rattle.rv_object_laws.specs.Names.{Export, Outer, is_sure, chosen, defined_address, offset_address, outer_address, symbol_address}
-use Rattle.rv_object_laws.specs.Values.{target}
-use Rattle.rv_object_laws.proofs.TextInputsLemmas.{all_append}
-use Rattle.rv_object_laws.specs.Undefined.{has_address, is_loaded_at, is_known, is_resolved, linker_names, undefined_symbol, undefined_name, undefined_in, first_some, first_undefined}
+use Rattle.rv_object_laws.specs.declared.symbol.Definition.{Definition}
+use Rattle.rv_object_laws.specs.declared.symbol.Definition.TheVariants as definitions
+use Rattle.rv_object_laws.specs.Object.{Relocation, Section, Symbol, Object}
+use Rattle.rv_link_laws.specs.Inputs.{Starts, InputSection, inputs_from, inputs_of}
+use Rattle.rv_link_laws.specs.IsLinkOf.{is_loaded}
+use Rattle.rv_object_laws.specs.Bindings.{is_weak}
+use Rattle.rv_link_laws.specs.Names.{Export, Outer, is_sure, chosen, defined_address, offset_address, outer_address, symbol_address}
+use Rattle.rv_link_laws.specs.Values.{target}
+use Rattle.rv_link_laws.proofs.TextInputsLemmas.{all_append}
+use Rattle.rv_link_laws.specs.Undefined.{has_address, is_loaded_at, is_known, is_resolved, linker_names, undefined_symbol, undefined_name, undefined_in, first_some, first_undefined}
 use Rattle.rv_resolve.specs.Resolved.{AreResolved}
-use Rattle.rv_object_laws.proofs.FirstSomeLemmas.{each_none}
-use Rattle.rv_object_laws.proofs.LinkerNamesLemmas.{some_address}
-use Rattle.rv_object_laws.proofs.ShownLemmas.{every, outer_some, outer_none}
+use Rattle.rv_link_laws.proofs.FirstSomeLemmas.{each_none}
+use Rattle.rv_link_laws.proofs.LinkerNamesLemmas.{some_address}
+use Rattle.rv_link_laws.proofs.ShownLemmas.{every, outer_some, outer_none}
 
 some_if : (b : Bool) (n : ℕ) → b ≡ true → is_some (if b then Some n else None) ≡ true
 some_if b n e = ap (λ c. is_some (if c then Some n else None)) e

@@ -4,8 +4,8 @@ use Rattle.std.proofs.Common.{◌≡◌, false, Option, Some, None, option_map, 
 use Rattle.std.specs.Global.{Vec}
 use Rattle.std.specs.Prelude.{ℕ, option_and_then, if◌then◌else◌}
 use Rattle.std.proofs.lemmas.Option.{slice_get-map}
-use Rattle.rv_object_types.specs.Object.{Symbol, Object}
-use Rattle.rv_object_laws.specs.Names.{is_sure}
+use Rattle.rv_object_laws.specs.Object.{Symbol, Object}
+use Rattle.rv_link_laws.specs.Names.{is_sure}
 use Rattle.rv_resolve.specs.declared.definitions.Exported.{Exported}
 use Rattle.rv_resolve.specs.declared.meanings.Meanings.{Meanings}
 use Rattle.rv_resolve.specs.Chosen.{Seen, seen, seen_of, definitions, definer}

@@ -8,12 +8,12 @@ use Rattle.std.specs.Option.{option_or, option_copied}
 use Rattle.std.proofs.lemmas.List.{map-append}
 use Rattle.std.proofs.lemmas.List.Folds.{find-append}
 use Rattle.rv_map.specs.Globals.{is_one_of}
-use Rattle.rv_object_types.specs.declared.symbol.Binding.{Binding}
-use Rattle.rv_object_laws.proofs.ChosenLemmas.{same_bytes}
+use Rattle.rv_object_laws.specs.declared.symbol.Binding.{Binding}
+use Rattle.rv_link_laws.proofs.ChosenLemmas.{same_bytes}
 use Rattle.rv_resolve.specs.declared.definitions.Definitions.{Definitions}
 use Rattle.rv_resolve.specs.declared.definitions.Exported.{Exported}
 use Rattle.rv_resolve.specs.Chosen.{Seen, Definer, definers_at, names_in, first_named}
-use Rattle.rv_object_laws.specs.Exports.{first_again}
+use Rattle.rv_link_laws.specs.Exports.{first_again}
 use Rattle.rv_resolve.specs.Names.{exported_of, IsDefinitionTable}
 
 -- a name is that of an element where one is found by it

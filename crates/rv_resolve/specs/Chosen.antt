@@ -2,10 +2,10 @@
 
 use Rattle.std.specs.Prelude.{ℕ, suc, Bool, ◌&&◌, List, [], ◌∷◌, ◌++◌, map, Option, bytes_eq, if◌then◌else◌}
 use Rattle.std.specs.List.{find}
-use Rattle.rv_object_types.specs.declared.symbol.Binding.{Binding}
-use Rattle.rv_object_types.specs.Object.{Symbol, Object}
-use Rattle.rv_object_types.specs.Bindings.{is_global, is_weak}
-use Rattle.rv_object_laws.specs.Names.{is_defined, is_sure}
+use Rattle.rv_object_laws.specs.declared.symbol.Binding.{Binding}
+use Rattle.rv_object_laws.specs.Object.{Symbol, Object}
+use Rattle.rv_object_laws.specs.Bindings.{is_global, is_weak}
+use Rattle.rv_link_laws.specs.Names.{is_defined, is_sure}
 
 -- what names depend on of a symbol: all but where its definition stands
 pub record Seen : Type 0 where

@@ -2,9 +2,9 @@
 
 use Rattle.std.specs.Prelude.{List, map}
 use Rattle.std.specs.Borrow.{Bor}
-use Rattle.rv_object_types.specs.declared.symbol.Definition.{Definition}
+use Rattle.rv_object_laws.specs.declared.symbol.Definition.{Definition}
 use Rattle.rv_object_types.specs.declared.symbol.Symbol.{Symbol as DeclaredSymbol}
-use Rattle.rv_object_types.specs.Object.{Symbol}
+use Rattle.rv_object_laws.specs.Object.{Symbol}
 use Rattle.rv_object_types.specs.Parts.{symbol_of}
 use Rattle.rv_shorten.specs.declared.object.ShortObject.{ShortObject}
 use Rattle.rv_cut_laws.specs.Cutting.{cut_symbol}

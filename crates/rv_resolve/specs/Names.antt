@@ -8,8 +8,8 @@ use Rattle.std.specs.Global.{Vec}
 use Rattle.std.specs.List.{slice_get}
 use Rattle.std.specs.Ordering.{nat_cmp}
 use Rattle.rv_map.specs.Globals.{AreDistinct}
-use Rattle.rv_object_types.specs.Object.{Symbol, Object}
-use Rattle.rv_object_laws.specs.Names.{Export, chosen, global_names, is_sure, Place}
+use Rattle.rv_object_laws.specs.Object.{Symbol, Object}
+use Rattle.rv_link_laws.specs.Names.{Export, chosen, global_names, is_sure, Place}
 use Rattle.rv_resolve.specs.declared.fault.ResolveFault.{ResolveFault}
 use Rattle.rv_resolve.specs.declared.fault.ResolveFault.TheVariants.{Duplicate, OutOfMemory}
 use Rattle.rv_resolve.specs.declared.definitions.Exported.{Exported}
@@ -18,7 +18,7 @@ use Rattle.rv_resolve.specs.declared.meanings.Meanings.{Meanings}
 use Rattle.rv_resolve.specs.declared.names.Meant.{Meant}
 use Rattle.rv_resolve.specs.declared.names.Names.{Names}
 use Rattle.rv_resolve.specs.Chosen.{Definer, Seen, seen_of, definitions, names_in, first_named}
-use Rattle.rv_object_laws.specs.Exports.{first_again}
+use Rattle.rv_link_laws.specs.Exports.{first_again}
 
 -- what is kept of a symbol that defines a name for all files
 abbrev pub exported_of : Definer → Exported

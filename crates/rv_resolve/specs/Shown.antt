@@ -4,9 +4,9 @@ use Rattle.std.specs.Prelude.{ℕ, ◌+◌, Bool, ◌&&◌, List, [], ◌∷◌,
 use Rattle.std.specs.Borrow.{Bor}
 use Rattle.rv_map.specs.Globals.{global, shown}
 use Rattle.rv_map.specs.Map.{Global}
-use Rattle.rv_object_types.specs.Object.{Symbol, Object}
-use Rattle.rv_object_types.specs.Bindings.{is_shared}
-use Rattle.rv_object_laws.specs.Names.{Export, export_address, exports_in, is_export, is_chosen}
+use Rattle.rv_object_laws.specs.Object.{Symbol, Object}
+use Rattle.rv_object_laws.specs.Bindings.{is_shared}
+use Rattle.rv_link_laws.specs.Names.{Export, export_address, exports_in, is_export, is_chosen}
 use Rattle.rv_placement.specs.declared.placement.Placement.{Placement}
 use Rattle.rv_placement.specs.Placement.{starts_of}
 

@@ -7,14 +7,14 @@ ghost use Rattle.std.specs.Prelude.{◌≡◌, ◌+◌, ℕ, List, Some, None, m
 ghost use Rattle.std.specs.List.{slice_get};
 ghost use Rattle.std.specs.Option.{option_or};
 ghost use Rattle.rv_map.specs.Globals.{global_address, linker_symbols};
-ghost use Rattle.rv_object_types.specs.Object.{Object as SaidObject, Symbol as SaidSymbol};
+ghost use Rattle.rv_object_laws.specs.Object.{Object as SaidObject, Symbol as SaidSymbol};
 ghost use Rattle.rv_object_types.specs.View.{object_of};
-ghost use Rattle.rv_object_types.specs.Bindings as bindings;
-ghost use Rattle.rv_object_laws.specs.Collects.{entry_place, run_place};
-ghost use Rattle.rv_object_laws.specs.Names as laws;
-ghost use Rattle.rv_object_laws.specs.Layout.{outer_in, regions_of};
+ghost use Rattle.rv_object_laws.specs.Bindings as bindings;
+ghost use Rattle.rv_link_laws.specs.Collects.{entry_place, run_place};
+ghost use Rattle.rv_link_laws.specs.Names as laws;
+ghost use Rattle.rv_link_laws.specs.Layout.{outer_in, regions_of};
 ghost use Rattle.rv_placement.specs.Placement.{starts_of, IsPlacement, layout_of};
-ghost use Rattle.rv_object_laws.specs.Entry.{has_entry};
+ghost use Rattle.rv_link_laws.specs.Entry.{has_entry};
 ghost use Rattle.rv_resolve.specs.Names.{IsAt, IsNames, place_of};
 ghost use Rattle.rv_shorten.specs.View.{short_object_of};
 

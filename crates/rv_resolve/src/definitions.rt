@@ -4,10 +4,10 @@ ghost use Rattle.std.specs.Prelude.{List, ◌++◌, map, IfOk, IfErr, OnOk};
 ghost use Rattle.rv_map.specs.Globals.{AreDistinct};
 ghost use Rattle.rv_object_types.specs.Parts.{symbol_of};
 ghost use Rattle.rv_object_types.specs.View.{object_of};
-ghost use Rattle.rv_object_types.specs.Bindings.{is_global, is_weak};
-ghost use Rattle.rv_object_laws.specs.Names.{global_names};
+ghost use Rattle.rv_object_laws.specs.Bindings.{is_global, is_weak};
+ghost use Rattle.rv_link_laws.specs.Names.{global_names};
 ghost use Rattle.rv_resolve.specs.Chosen.{Definer, seen, seen_of, definers_at, definers_in, definers_from, definitions};
-ghost use Rattle.rv_object_laws.specs.Exports.{first_duplicate};
+ghost use Rattle.rv_link_laws.specs.Exports.{first_duplicate};
 ghost use Rattle.rv_resolve.specs.Names.{AnswersFirst, IsDefinitionTable, IsRefused, IsDuplicate};
 
 use crate::fault::ResolveFault;

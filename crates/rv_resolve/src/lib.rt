@@ -5,7 +5,7 @@
 //! two global definitions, and looks each symbol's name up once, in the order of names. It names a definition by its file and
 //! its symbol there, so it holds for what relaxation leaves too (`proofs/AlikeLemmas`), of which each other function is asked.
 //! [`Names::undefined`] finds the first reference without a meaning. The main contract is that of [`Names::address`]: the address
-//! of a symbol is the one that `rv_object_laws` defines (`specs/Names`, `symbol_address`) by the names of [`Names::globals`].
+//! of a symbol is the one that `rv_link_laws` defines (`specs/Names`, `symbol_address`) by the names of [`Names::globals`].
 //!
 //! A name means its global definition, and the first weak one where it has none; a weak symbol's own place does not come before
 //! these, so it may mean another's. A weak symbol whose name no object defines, nor the linker, is 0; one that means a

@@ -10,10 +10,10 @@
 ghost use Rattle.std.specs.Prelude.{◌≡◌, false, Some, map, option_map, codes, IfOk, IfErr};
 ghost use Rattle.std.specs.List.{slice_get};
 ghost use Rattle.rv_map.specs.Globals.{AreDistinct};
-ghost use Rattle.rv_object_types.specs.Object.{Object as SaidObject, Symbol as SaidSymbol};
+ghost use Rattle.rv_object_laws.specs.Object.{Object as SaidObject, Symbol as SaidSymbol};
 ghost use Rattle.rv_object_types.specs.View.{object_of};
-ghost use Rattle.rv_object_laws.specs.Names.{Export, chosen, global_names, is_sure as means_own};
-ghost use Rattle.rv_object_laws.specs.Exports.{first_duplicate};
+ghost use Rattle.rv_link_laws.specs.Names.{Export, chosen, global_names, is_sure as means_own};
+ghost use Rattle.rv_link_laws.specs.Exports.{first_duplicate};
 ghost use Rattle.rv_resolve.specs.Moved.{with_definition};
 ghost use Rattle.rv_resolve.specs.Names.{IsAt, IsNames, IsDuplicate, meant_by, meant_of};
 ghost use Rattle.rv_shorten.specs.View.{short_object_of};

@@ -2,9 +2,9 @@
 
 ghost use Rattle.std.specs.Prelude.{◌≡◌, List};
 ghost use Rattle.rv_object_types.specs.Parts.{symbol_of};
-ghost use Rattle.rv_object_laws.specs.Moves.{Move};
-ghost use Rattle.rv_object_types.specs.Bindings as bindings;
-ghost use Rattle.rv_object_laws.specs.Names as laws;
+ghost use Rattle.rv_link_laws.specs.Moves.{Move};
+ghost use Rattle.rv_object_laws.specs.Bindings as bindings;
+ghost use Rattle.rv_link_laws.specs.Names as laws;
 ghost use Rattle.rv_cut_laws.specs.Cutting.{cut_definition};
 
 use rv_object_types::{Binding, Definition, Symbol};

@@ -7,14 +7,14 @@ ghost use Rattle.std.specs.Prelude.{◌≡◌, ◌++◌, Some, None, false, List
 ghost use Rattle.std.specs.List.{slice_get};
 ghost use Rattle.rv_map.specs.Globals.{is_one_of};
 ghost use Rattle.rv_map.specs.Map.{Map};
-ghost use Rattle.rv_object_types.specs.Object.{Object as SaidObject, Symbol as SaidSymbol};
+ghost use Rattle.rv_object_laws.specs.Object.{Object as SaidObject, Symbol as SaidSymbol};
 ghost use Rattle.rv_object_types.specs.Parts.{relocation_of, symbol_of};
-ghost use Rattle.rv_object_laws.specs.Inputs.{Starts};
-ghost use Rattle.rv_object_laws.specs.Moves.{Move};
-ghost use Rattle.rv_object_laws.specs.Names.{chosen, globals_of, is_sure as means_own, outer_address, shown_linker_symbols};
+ghost use Rattle.rv_link_laws.specs.Inputs.{Starts};
+ghost use Rattle.rv_link_laws.specs.Moves.{Move};
+ghost use Rattle.rv_link_laws.specs.Names.{chosen, globals_of, is_sure as means_own, outer_address, shown_linker_symbols};
 ghost use Rattle.rv_resolve.specs.Names.{IsNames, name_bytes};
 ghost use Rattle.rv_resolve.specs.Resolved.{AreResolved};
-ghost use Rattle.rv_object_laws.specs.Undefined as laws;
+ghost use Rattle.rv_link_laws.specs.Undefined as laws;
 ghost use Rattle.rv_cut_laws.specs.Cutting.{cut_symbol};
 ghost use Rattle.rv_shorten.specs.View.{short_object_of};
 

@@ -6,7 +6,7 @@ use Rattle.std.specs.List.{AllWithin}
 use Rattle.std.proofs.lemmas.Bool.{eq-eqb, ne_eqb, ltb-true, ltb-false, eqb-true}
 use Rattle.rv_isa.specs.declared.kind.Kind.{Kind}
 use Rattle.rv_isa.specs.declared.kind.Kind.TheVariants as kinds
-use Rattle.rv_object_laws.specs.Moves.{Move}
+use Rattle.rv_link_laws.specs.Moves.{Move}
 use Rattle.rv_shorten.specs.Cut.{Cut, move_of, are_in_order}
 use Rattle.rv_cut_laws.specs.Cutting.{cut_at, kind_left}
 use Rattle.rv_shorten.proofs.OrderLemmas.{length_left, as_pieces}

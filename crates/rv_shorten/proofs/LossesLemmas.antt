@@ -5,9 +5,9 @@ use Rattle.std.specs.Prelude.{◌==◌}
 use Rattle.std.specs.List.{AllWithin}
 use Rattle.std.proofs.lemmas.Bool.{lt-leb, le-leb, and_left, and_right, and_from}
 use Rattle.std.proofs.lemmas.List.Sums.{sum_by-cons}
-use Rattle.rv_object_types.specs.Padding.{operations_in}
-use Rattle.rv_object_laws.specs.Moves.{lost, lost_in}
-use Rattle.rv_object_laws.specs.Shortened.{short_call}
+use Rattle.rv_object_laws.specs.Padding.{operations_in}
+use Rattle.rv_link_laws.specs.Moves.{lost, lost_in}
+use Rattle.rv_link_laws.specs.Shortened.{short_call}
 use Rattle.rv_shorten.specs.Cut.{Cut, move_of}
 use Rattle.rv_shorten.proofs.OrderLemmas.{length_left}
 

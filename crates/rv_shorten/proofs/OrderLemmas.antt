@@ -4,8 +4,8 @@ use Rattle.std.proofs.Common.{◌≡◌, ℕ, zero, suc, ◌+◌, ◌-◌, ◌%�
 use Rattle.std.specs.Prelude.{◌==◌}
 use Rattle.std.proofs.lemmas.Bool.{ltb-true, leb-true, eqb-true, le-leb, eq-eqb, and_parts, and_from}
 use Rattle.rv_isa_laws.specs.Bytes.{little_endian}
-use Rattle.rv_object_laws.specs.Moves.{dropped}
-use Rattle.rv_object_laws.specs.Shortened.{empty_jump, empty_jal, short_call}
+use Rattle.rv_link_laws.specs.Moves.{dropped}
+use Rattle.rv_link_laws.specs.Shortened.{empty_jump, empty_jal, short_call}
 use Rattle.rv_shorten.specs.Cut.{Cut, cut_left, move_of, is_next, are_in_order}
 use Rattle.rv_cut_laws.specs.Cutting.{is_cut, are_cuts}
 use Rattle.rv_shorten.specs.Pieces.{is_next_piece, are_pieces, pieces_dropped}

@@ -7,8 +7,8 @@ use Rattle.std.proofs.Math.Seq.{take-add, take-append-add, drop-append-add}
 use Rattle.std.proofs.lemmas.Nat.{shr-shr}
 use Rattle.std.proofs.lemmas.List.{append_assoc, append-nil, take-append-drop, take_at, drop-drop, length-append, nil_from_length}
 use Rattle.rv_isa_laws.specs.Bytes.{little_endian}
-use Rattle.rv_object_laws.specs.Moves.{kept}
-use Rattle.rv_object_laws.specs.Shortened.{short_call}
+use Rattle.rv_link_laws.specs.Moves.{kept}
+use Rattle.rv_link_laws.specs.Shortened.{short_call}
 use Rattle.rv_shorten.specs.Cut.{Cut, cut_left, move_of}
 use Rattle.rv_cut_laws.specs.Cutting.{are_cuts}
 use Rattle.rv_shorten.specs.Bytes.{room_before}

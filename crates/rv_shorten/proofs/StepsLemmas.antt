@@ -7,11 +7,11 @@ use Rattle.std.proofs.lemmas.Bool.{le-leb, lt-ltb, eq-eqb, and_from}
 use Rattle.rv_isa_laws.specs.Bytes.{little_endian}
 use Rattle.rv_layout_laws.specs.declared.site.Site.{Site}
 use Rattle.rv_layout_laws.specs.declared.site.SiteKind.TheVariants.{Call}
-use Rattle.rv_object_types.specs.Object.{Contents, Progbits, Note, Nobits, Section, size_of, stored}
-use Rattle.rv_object_types.specs.Valid.{fit_inside}
-use Rattle.rv_object_laws.specs.Moves.{Move, kept}
-use Rattle.rv_object_laws.specs.CallSites.{link_register}
-use Rattle.rv_object_laws.specs.Shortened.{empty_jump, empty_jal, short_call, shortened_contents}
+use Rattle.rv_object_laws.specs.Object.{Contents, Progbits, Note, Nobits, Section, size_of, stored}
+use Rattle.rv_object_laws.specs.Valid.{fit_inside}
+use Rattle.rv_link_laws.specs.Moves.{Move, kept}
+use Rattle.rv_link_laws.specs.CallSites.{link_register}
+use Rattle.rv_link_laws.specs.Shortened.{empty_jump, empty_jal, short_call, shortened_contents}
 use Rattle.rv_shorten.specs.Cut.{Cut, cut_left, move_of, is_next, are_in_order}
 use Rattle.rv_cut_laws.specs.Cutting.{are_cuts, AreCuts, cut_section, cut_sections}
 use Rattle.rv_cut_laws.specs.Walk.{moves_of, passed, section_moves, object_moves}

@@ -2,7 +2,7 @@
 
 use Rattle.std.specs.Prelude.{ℕ, ◌-◌, List, [], ◌∷◌, ◌++◌, length, map}
 use Rattle.rv_isa_laws.specs.Bytes.{little_endian}
-use Rattle.rv_object_laws.specs.Moves.{kept}
+use Rattle.rv_link_laws.specs.Moves.{kept}
 use Rattle.rv_shorten.specs.declared.bytes.LeftBytes.{LeftBytes}
 use Rattle.rv_shorten.specs.declared.bytes.Run.{Run}
 use Rattle.rv_shorten.specs.Cut.{Cut, move_of}

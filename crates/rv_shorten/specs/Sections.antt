@@ -1,9 +1,9 @@
 -- What a section stands for of which calls are cut short.
 
 use Rattle.std.specs.Prelude.{List, map}
-use Rattle.rv_object_types.specs.Object.{Section}
+use Rattle.rv_object_laws.specs.Object.{Section}
 use Rattle.rv_object_types.specs.Sections.{section_of}
-use Rattle.rv_object_laws.specs.Moves.{Move}
+use Rattle.rv_link_laws.specs.Moves.{Move}
 use Rattle.rv_shorten.specs.declared.section.ShortSection.{ShortSection}
 use Rattle.rv_shorten.specs.Cut.{move_of}
 use Rattle.rv_cut_laws.specs.Cutting.{cut_section}

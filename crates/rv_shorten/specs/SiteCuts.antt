@@ -3,8 +3,8 @@
 use Rattle.std.specs.Prelude.{ℕ, ◌-◌, ◌==◌, Bool, ◌&&◌, nat_lt, List, [], ◌∷◌, if◌then◌else◌}
 use Rattle.rv_layout_laws.specs.declared.site.Site.{Site}
 use Rattle.rv_layout_laws.specs.Calls.{is_call}
-use Rattle.rv_object_types.specs.Object.{stored}
-use Rattle.rv_object_laws.specs.CallSites.{link_register}
+use Rattle.rv_object_laws.specs.Object.{stored}
+use Rattle.rv_link_laws.specs.CallSites.{link_register}
 use Rattle.rv_shorten.specs.Cut.{Cut}
 
 abbrev pub cut_of : (place gone : ℕ) → List ℕ → ℕ → Cut

@@ -1,9 +1,9 @@
 -- What an object stands for of which calls are cut short.
 
 use Rattle.std.specs.Prelude.{List, map}
-use Rattle.rv_object_types.specs.Object.{Object}
+use Rattle.rv_object_laws.specs.Object.{Object}
 use Rattle.rv_object_types.specs.Parts.{symbol_of}
-use Rattle.rv_object_laws.specs.Moves.{Move}
+use Rattle.rv_link_laws.specs.Moves.{Move}
 use Rattle.rv_shorten.specs.declared.object.ShortObject.{ShortObject}
 use Rattle.rv_cut_laws.specs.Cutting.{cut_symbol, cut_row_of}
 use Rattle.rv_shorten.specs.Sections.{moves_in_all, short_section_of, whole_section_of}

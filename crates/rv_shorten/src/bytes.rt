@@ -5,8 +5,8 @@
 
 ghost use Rattle.std.specs.Prelude.{◌≡◌, ◌+◌, ◌^◌, ◌≤◌, ◌<◌, ◌++◌, ◌⊎◌, [], true, map, length, take, drop, IsTrue, IfNone, IfSome, OnOk};
 ghost use Rattle.rv_isa_laws.specs.Bytes.{little_endian};
-ghost use Rattle.rv_object_laws.specs.Moves.{kept};
-ghost use Rattle.rv_object_laws.specs.Shortened.{short_call};
+ghost use Rattle.rv_link_laws.specs.Moves.{kept};
+ghost use Rattle.rv_link_laws.specs.Shortened.{short_call};
 ghost use Rattle.rv_shorten.specs.Cut.{cut_left, move_of};
 ghost use Rattle.rv_cut_laws.specs.Cutting.{are_cuts};
 

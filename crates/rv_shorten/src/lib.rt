@@ -1,7 +1,7 @@
 //! Objects with their calls shortened.
 //!
-//! It takes objects, the sites of their text (`rv_object_laws/specs/CallSites`) and what a family keeps of each, and gives the
-//! objects that are left (`rv_object_laws/specs/Shortened`): a call of which fewer than 8 bytes are kept is `jal`, or `c.j`
+//! It takes objects, the sites of their text (`rv_link_laws/specs/CallSites`) and what a family keeps of each, and gives the
+//! objects that are left (`rv_link_laws/specs/Shortened`): a call of which fewer than 8 bytes are kept is `jal`, or `c.j`
 //! where 2 are, with an empty field that the link fills in.
 //!
 //! The objects are lent, and nothing of them is copied: [`ShortObject`] and [`ShortSection`] tell what becomes of a relocation,

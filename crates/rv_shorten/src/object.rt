@@ -4,7 +4,7 @@
 //! it represents is `short_object_of`; nothing of it is made.
 
 ghost use Rattle.std.specs.Prelude.{◌≡◌, true, IsTrue, map};
-ghost use Rattle.rv_object_types.specs.Valid.{are_rows};
+ghost use Rattle.rv_object_laws.specs.Valid.{are_rows};
 ghost use Rattle.rv_object_types.specs.View.{object_of};
 ghost use Rattle.rv_shorten.specs.Cut.{are_in_order, move_of};
 ghost use Rattle.rv_cut_laws.specs.Cutting as cutting;

@@ -3,8 +3,8 @@
 ghost use Rattle.std.specs.Prelude.{◌≡◌, length, map, IfOk};
 ghost use Rattle.rv_layout_laws.specs.Calls.{IsText};
 ghost use Rattle.rv_object_types.specs.View.{object_of};
-ghost use Rattle.rv_object_laws.specs.CallSites.{sites_of};
-ghost use Rattle.rv_object_laws.specs.Shortened.{shortened};
+ghost use Rattle.rv_link_laws.specs.CallSites.{sites_of};
+ghost use Rattle.rv_link_laws.specs.Shortened.{shortened};
 ghost use Rattle.rv_shorten.specs.View.{short_object_of, whole_object_of};
 ghost use Rattle.rv_cut_laws.specs.Walk.{AreWalked, walked};
 

@@ -3,7 +3,7 @@
 //! Rows may overlap, so what each loses is the difference of two running sums, found by halves.
 
 ghost use Rattle.std.specs.Prelude.{◌≡◌, true, map};
-ghost use Rattle.rv_object_laws.specs.Moves.{lost as lost_of, new_offset as offset_of};
+ghost use Rattle.rv_link_laws.specs.Moves.{lost as lost_of, new_offset as offset_of};
 ghost use Rattle.rv_shorten.specs.Cut.{are_in_order, move_of};
 
 use crate::cut::Cut;

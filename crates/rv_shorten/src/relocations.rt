@@ -2,7 +2,7 @@
 
 ghost use Rattle.std.specs.Prelude.{◌≡◌, true, map};
 ghost use Rattle.rv_object_types.specs.Parts.{relocation_of};
-ghost use Rattle.rv_object_laws.specs.CallSites.{is_call as is_call_kind};
+ghost use Rattle.rv_link_laws.specs.CallSites.{is_call as is_call_kind};
 ghost use Rattle.rv_shorten.specs.Cut.{are_in_order, move_of};
 ghost use Rattle.rv_cut_laws.specs.Cutting.{cut_kind, cut_relocation};
 

@@ -1,11 +1,11 @@
 //! A section of which calls are cut short.
 
 ghost use Rattle.std.specs.Prelude.{◌≡◌, true, IsTrue, length, map};
-ghost use Rattle.rv_object_types.specs.Object.{size_of, stored};
+ghost use Rattle.rv_object_laws.specs.Object.{size_of, stored};
 ghost use Rattle.rv_object_types.specs.Parts.{relocation_of};
 ghost use Rattle.rv_object_types.specs.Sections.{section_of};
-ghost use Rattle.rv_object_laws.specs.Inputs as inputs;
-ghost use Rattle.rv_object_laws.specs.Moves.{new_offset as offset_of};
+ghost use Rattle.rv_link_laws.specs.Inputs as inputs;
+ghost use Rattle.rv_link_laws.specs.Moves.{new_offset as offset_of};
 ghost use Rattle.rv_shorten.specs.Cut.{are_in_order, move_of};
 ghost use Rattle.rv_cut_laws.specs.Cutting.{AreCuts, are_cuts, cut_relocation, cut_section, fits, keeps_paddings};
 

@@ -4,9 +4,9 @@
 //! come after that: one walk over sections and sites finds which belong together.
 
 ghost use Rattle.std.specs.Prelude.{◌≡◌, ◌+◌, ◌-◌, ◌≤◌, ◌++◌, [], true, length, map, IfOk, OnOk};
-ghost use Rattle.rv_object_types.specs.Object as said;
+ghost use Rattle.rv_object_laws.specs.Object as said;
 ghost use Rattle.rv_object_types.specs.Sections.{section_of};
-ghost use Rattle.rv_object_laws.specs.Inputs.{goes_to_text};
+ghost use Rattle.rv_link_laws.specs.Inputs.{goes_to_text};
 ghost use Rattle.rv_layout_laws.specs.Calls as calls;
 ghost use Rattle.rv_shorten.specs.Cut.{are_in_order, move_of};
 ghost use Rattle.rv_cut_laws.specs.Cutting.{AllCut, are_cuts, cut_sections};

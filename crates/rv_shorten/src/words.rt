@@ -1,7 +1,7 @@
 //! The words of a call.
 
 ghost use Rattle.std.specs.Prelude.{◌≡◌, ◌+◌, ◌<◌, ◌≤◌, length};
-ghost use Rattle.rv_object_laws.specs.CallSites as laws;
+ghost use Rattle.rv_link_laws.specs.CallSites as laws;
 
 /// The four bytes at a place, as a word.
 pub fn word_at(bytes: &[u8], place: usize) -> u32

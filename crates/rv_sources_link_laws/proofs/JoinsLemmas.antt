@@ -6,10 +6,10 @@ use Rattle.rv_collect_laws.specs.Graph.{AreDrops}
 use Rattle.rv_source_laws.specs.Collected.{graph_of}
 use Rattle.rv_image_laws.specs.Linked.{Linked}
 use Rattle.rv_chain_laws.specs.Contents.{IsLinked}
-use Rattle.rv_object_types.specs.Object.{Object}
-use Rattle.rv_object_laws.specs.IsLinkOf.{IsLinkOf}
-use Rattle.rv_object_laws.specs.Shortened.{Relaxes}
-use Rattle.rv_object_laws.specs.Without.{without}
+use Rattle.rv_object_laws.specs.Object.{Object}
+use Rattle.rv_link_laws.specs.IsLinkOf.{IsLinkOf}
+use Rattle.rv_link_laws.specs.Shortened.{Relaxes}
+use Rattle.rv_link_laws.specs.Without.{without}
 use Rattle.rv_sources_link_laws.specs.Joins.{AreObjectsOf}
 use Rattle.rv_sources_link_laws.proofs.sections.KeepingLemmas.{all_kept, all_masks}
 use Rattle.rv_sources_link_laws.proofs.ShortensLemmas.{kept_link}

@@ -29,11 +29,11 @@ use Rattle.rv_source_laws.proofs.HomesLemmas.{all_map}
 use Rattle.rv_image_laws.specs.Linked.{Linked}
 use Rattle.rv_chain_laws.specs.Contents.{IsWritten, IsLinked, contents as source_contents}
 use Rattle.rv_runs_laws.proofs.HomesLemmas.{IsAtHome, homes, from_blocks, sections_in}
-use Rattle.rv_object_types.specs.Object.{Section, Object}
-use Rattle.rv_object_laws.specs.Inputs as objects
-use Rattle.rv_object_laws.specs.Inputs.{Starts, InputSection, inputs_from, inputs_of, inputs, contents, Holds}
-use Rattle.rv_object_laws.specs.Values.{initial_bytes, linked_bytes, IsRelocated}
-use Rattle.rv_object_laws.specs.IsLinkOf.{IsLinkOf, is_loaded, outer_of}
+use Rattle.rv_object_laws.specs.Object.{Section, Object}
+use Rattle.rv_link_laws.specs.Inputs as objects
+use Rattle.rv_link_laws.specs.Inputs.{Starts, InputSection, inputs_from, inputs_of, inputs, contents, Holds}
+use Rattle.rv_link_laws.specs.Values.{initial_bytes, linked_bytes, IsRelocated}
+use Rattle.rv_link_laws.specs.IsLinkOf.{IsLinkOf, is_loaded, outer_of}
 use Rattle.rv_assemble_laws.proofs.FaultlessLemmas.{no_first_fault}
 use Rattle.rv_assemble_laws.specs.Templates.{Open}
 use Rattle.rv_assemble_laws.specs.LaidStatements.{LaidStatement, part_bytes, laid_in, end_of as laid_end}

@@ -14,11 +14,11 @@ use Rattle.rv_source_laws.specs.Collected.{graph_of}
 use Rattle.rv_source_laws.specs.Sized.{Sized}
 use Rattle.rv_source_laws.specs.Shortened.{Shortened, HaveBytes, text_of}
 use Rattle.rv_chain_laws.specs.Contents.{IsLinked}
-use Rattle.rv_object_types.specs.Object.{Object}
-use Rattle.rv_object_laws.specs.CallSites.{base_in}
-use Rattle.rv_object_laws.specs.Inputs.{Starts, InputSection, goes_to_text, inputs}
-use Rattle.rv_object_laws.specs.IsLinkOf.{IsLinkOf}
-use Rattle.rv_object_laws.specs.Shortened.{Sizes}
+use Rattle.rv_object_laws.specs.Object.{Object}
+use Rattle.rv_link_laws.specs.CallSites.{base_in}
+use Rattle.rv_link_laws.specs.Inputs.{Starts, InputSection, goes_to_text, inputs}
+use Rattle.rv_link_laws.specs.IsLinkOf.{IsLinkOf}
+use Rattle.rv_link_laws.specs.Shortened.{Sizes}
 use Rattle.rv_assemble_laws.specs.LaidStatements.{LaidStatement}
 use Rattle.rv_sources_link_laws.proofs.sections.KeptLemmas.{AreKept, AreMasked}
 use Rattle.rv_sources_link_laws.proofs.sections.AssembledLemmas.{AreAssembled}

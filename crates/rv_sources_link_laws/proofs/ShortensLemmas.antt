@@ -23,12 +23,12 @@ use Rattle.rv_source_laws.specs.Shortened as line
 use Rattle.rv_source_laws.specs.Shortened.{Placed, HaveBytes, text_of, full_length, placed_from, sites_at, has_compressed, aim_of}
 use Rattle.rv_source_laws.proofs.HomesLemmas.{all_filter}
 use Rattle.rv_chain_laws.specs.Contents.{IsLinked}
-use Rattle.rv_object_types.specs.Object.{Section, Symbol, Object, size_of, stored}
-use Rattle.rv_object_laws.specs.CallSites.{base_in, start_padding, changes, site_of, sites_from, sites_of, is_entered}
-use Rattle.rv_object_laws.specs.Inputs.{Starts, InputSection, goes_to_text, inputs_from, inputs_of, inputs, begins_at}
-use Rattle.rv_object_laws.specs.IsLinkOf.{IsLinkOf}
-use Rattle.rv_object_laws.specs.Names.{symbol_place}
-use Rattle.rv_object_laws.specs.Shortened.{Sizes, sizes_by, shortened_object, shortened_from, shortened, Relaxes}
+use Rattle.rv_object_laws.specs.Object.{Section, Symbol, Object, size_of, stored}
+use Rattle.rv_link_laws.specs.CallSites.{base_in, start_padding, changes, site_of, sites_from, sites_of, is_entered}
+use Rattle.rv_link_laws.specs.Inputs.{Starts, InputSection, goes_to_text, inputs_from, inputs_of, inputs, begins_at}
+use Rattle.rv_link_laws.specs.IsLinkOf.{IsLinkOf}
+use Rattle.rv_link_laws.specs.Names.{symbol_place}
+use Rattle.rv_link_laws.specs.Shortened.{Sizes, sizes_by, shortened_object, shortened_from, shortened, Relaxes}
 use Rattle.rv_assemble_laws.specs.LaidStatements.{LaidStatement, part_bytes, laid_in}
 use Rattle.rv_assemble_laws.specs.Symbols.{laid_at, StandsFor}
 use Rattle.rv_assemble_laws.specs.IsObjectOf.{relocations_from}

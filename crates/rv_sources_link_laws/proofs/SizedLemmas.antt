@@ -11,9 +11,9 @@ use Rattle.rv_map.specs.declared.map.Row.{Row as MapRow}
 use Rattle.rv_source_laws.specs.Located.{Located, has_row}
 use Rattle.rv_source_laws.specs.Program.{MaybeMapped, Program, tables_in}
 use Rattle.rv_source_laws.specs.Sized.{statement_size, HasSizeBy, HaveSizes, statements_in, AreFilesSized}
-use Rattle.rv_object_types.specs.Object.{Object}
-use Rattle.rv_object_laws.specs.Inputs.{Starts}
-use Rattle.rv_object_laws.specs.Shortened.{Sizes}
+use Rattle.rv_object_laws.specs.Object.{Object}
+use Rattle.rv_link_laws.specs.Inputs.{Starts}
+use Rattle.rv_link_laws.specs.Shortened.{Sizes}
 use Rattle.rv_assemble_laws.specs.LaidStatements.{LaidStatement, expression_value}
 use Rattle.rv_sources_link_laws.proofs.sections.KeptLemmas.{AreKept}
 use Rattle.rv_sources_link_laws.proofs.calls.FinalsLemmas.{IsFinal, AreFinal}

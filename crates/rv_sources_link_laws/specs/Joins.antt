@@ -5,9 +5,9 @@ use Rattle.rv_statement.specs.Statement.{Statement}
 use Rattle.rv_source_laws.specs.Compressed.{is_compressed}
 use Rattle.rv_image_laws.specs.Linked.{Linked}
 use Rattle.rv_chain_laws.specs.Contents.{IsLinked}
-use Rattle.rv_object_types.specs.Object.{Object}
+use Rattle.rv_object_laws.specs.Object.{Object}
 use Rattle.rv_assemble_laws.specs.IsObjectOf.{IsObjectOf}
-use Rattle.rv_object_laws.specs.IsProgramOf.{IsProgramOf}
+use Rattle.rv_link_laws.specs.IsProgramOf.{IsProgramOf}
 
 -- each object is that of its source
 abbrev pub AreObjectsOf : List (List Statement) → List Object → Type 0

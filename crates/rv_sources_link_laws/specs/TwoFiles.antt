@@ -17,12 +17,12 @@ use Rattle.rv_map.specs.Map.{Map, Global as Shown}
 use Rattle.rv_map.specs.declared.map.Row.{Row as MapRow}
 use Rattle.rv_map.specs.declared.map.Region.{Region}
 use Rattle.rv_image_laws.specs.Linked.{Linked}
-use Rattle.rv_object_types.specs.declared.row.Row.{Row}
-use Rattle.rv_object_types.specs.declared.symbol.Binding.{Binding}
-use Rattle.rv_object_types.specs.declared.symbol.Binding.TheVariants.{Local, Global}
-use Rattle.rv_object_types.specs.declared.symbol.Definition.{Definition}
-use Rattle.rv_object_types.specs.declared.symbol.Definition.TheVariants.{Undefined, Absolute, InSection}
-use Rattle.rv_object_types.specs.Object.{Progbits, Note, Relocation, Section, Symbol, Object}
+use Rattle.rv_object_laws.specs.declared.row.Row.{Row}
+use Rattle.rv_object_laws.specs.declared.symbol.Binding.{Binding}
+use Rattle.rv_object_laws.specs.declared.symbol.Binding.TheVariants.{Local, Global}
+use Rattle.rv_object_laws.specs.declared.symbol.Definition.{Definition}
+use Rattle.rv_object_laws.specs.declared.symbol.Definition.TheVariants.{Undefined, Absolute, InSection}
+use Rattle.rv_object_laws.specs.Object.{Progbits, Note, Relocation, Section, Symbol, Object}
 use Rattle.rv_assemble_laws.specs.LaidStatements.{LaidStatement}
 
 abbrev on_line : ℕ → StatementKind → Statement

@@ -5,8 +5,8 @@ ghost use Rattle.rv_map.specs.declared.map.SectionId.{SectionId};
 ghost use Rattle.rv_collect_laws.specs.Graph.{AreDrops};
 ghost use Rattle.rv_statement.specs.Statement.{Statement};
 ghost use Rattle.rv_source_laws.specs.Collected.{graph_of};
-ghost use Rattle.rv_object_types.specs.Object.{Object};
-ghost use Rattle.rv_object_laws.specs.Collects.{Collects};
+ghost use Rattle.rv_object_laws.specs.Object.{Object};
+ghost use Rattle.rv_link_laws.specs.Collects.{Collects};
 ghost use Rattle.rv_sources_link_laws.specs.Joins.{AreObjectsOf, Joins, IsFlagged};
 
 /// The objects of these sources, linked so, are the linked program of the sources: its map fits them with the least

@@ -1,6 +1,6 @@
 //! What joins assembling and linking.
 //!
-//! It takes what an object of a source is (`rv_assemble_laws`) and what linking objects is (`rv_object_laws`), and gives the
+//! It takes what an object of a source is (`rv_assemble_laws`) and what linking objects is (`rv_link_laws`), and gives the
 //! law that the objects of sources, linked so, are the linked program of the sources; and two files on which the checker
 //! computes both definitions. Nothing here runs.
 //!

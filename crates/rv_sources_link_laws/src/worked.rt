@@ -2,7 +2,7 @@
 
 ghost use Rattle.std.specs.Prelude.{[], ◌∷◌};
 ghost use Rattle.rv_assemble_laws.specs.IsObjectOf.{IsObjectOf};
-ghost use Rattle.rv_object_laws.specs.IsLinkOf.{IsLinkOf};
+ghost use Rattle.rv_link_laws.specs.IsLinkOf.{IsLinkOf};
 ghost use Rattle.rv_sources_link_laws.specs.TwoFiles.{first_source, second_source, first_object, second_object, two_files};
 
 /// The objects of two files, byte by byte: open values are zeros under relocations.

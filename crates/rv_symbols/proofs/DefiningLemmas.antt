@@ -17,8 +17,8 @@ use Rattle.rv_unit_laws.proofs.FoundLemmas.{same_bytes, bytes_same, and_both}
 use Rattle.rv_unit_laws.proofs.BeforeLemmas.{before_start}
 use Rattle.rv_source_laws.specs.Located.{located_from}
 use Rattle.rv_source_laws.specs.Exports.{sets_first, defined_name}
-use Rattle.rv_object_types.specs.declared.symbol.Definition.{Definition as Defined}
-use Rattle.rv_object_types.specs.declared.symbol.Definition.TheVariants.{Absolute, InSection, Skipped}
+use Rattle.rv_object_laws.specs.declared.symbol.Definition.{Definition as Defined}
+use Rattle.rv_object_laws.specs.declared.symbol.Definition.TheVariants.{Absolute, InSection, Skipped}
 use Rattle.rv_assemble_laws.specs.LaidStatements.{LaidStatement}
 use Rattle.rv_assemble_laws.specs.Symbols.{laid_at, after_statement, after_found, assigned_definition, statement_definition, local_symbol, is_absolute, symbols_of, StandsFor}
 use Rattle.rv_symbols.specs.Numbers.{numbering_in}

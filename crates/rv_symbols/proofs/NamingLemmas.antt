@@ -9,10 +9,10 @@ use Rattle.rv_statement.specs.Statement.{StatementKind, Label, Directs, Sets}
 use Rattle.rv_map.specs.Name.{is_name, is_name_byte}
 use Rattle.rv_source_laws.specs.Exports.{sets_first, defined_name}
 use Rattle.rv_unit_laws.specs.Tables.{Tables}
-use Rattle.rv_object_types.specs.declared.symbol.Definition.{Definition as Defined}
-use Rattle.rv_object_types.specs.declared.symbol.Definition.TheVariants.{Undefined, Absolute, InSection, Skipped}
-use Rattle.rv_object_types.specs.Object.{Symbol}
-use Rattle.rv_object_types.specs.Valid.{is_string}
+use Rattle.rv_object_laws.specs.declared.symbol.Definition.{Definition as Defined}
+use Rattle.rv_object_laws.specs.declared.symbol.Definition.TheVariants.{Undefined, Absolute, InSection, Skipped}
+use Rattle.rv_object_laws.specs.Object.{Symbol}
+use Rattle.rv_object_laws.specs.Valid.{is_string}
 use Rattle.rv_assemble_laws.specs.LaidStatements.{LaidStatement}
 use Rattle.rv_assemble_laws.specs.Symbols.{SymbolUse, local_symbol, shared_symbol, is_absolute, references, is_meant, unnamed_symbols, named_symbols, local_symbols}
 use Rattle.rv_assemble_laws.specs.ShownNames.{tree_names, said_names, are_shown}

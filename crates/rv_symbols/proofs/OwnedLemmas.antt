@@ -15,11 +15,11 @@ use Rattle.rv_unit_laws.specs.Tables as laws
 use Rattle.rv_unit_laws.specs.Tables.{Tables}
 use Rattle.rv_unit_laws.proofs.FoundLemmas.{same_bytes}
 use Rattle.rv_source_laws.specs.Exports.{defined_name}
-use Rattle.rv_object_types.specs.declared.symbol.Definition.{Definition as Defined}
-use Rattle.rv_object_types.specs.declared.symbol.Definition.TheVariants.{InSection}
-use Rattle.rv_object_types.specs.Object.{Symbol}
+use Rattle.rv_object_laws.specs.declared.symbol.Definition.{Definition as Defined}
+use Rattle.rv_object_laws.specs.declared.symbol.Definition.TheVariants.{InSection}
+use Rattle.rv_object_laws.specs.Object.{Symbol}
 use Rattle.rv_assemble_laws.specs.LaidStatements.{LaidStatement}
-use Rattle.rv_object_types.specs.Bindings.{is_weak}
+use Rattle.rv_object_laws.specs.Bindings.{is_weak}
 use Rattle.rv_assemble_laws.specs.Symbols.{references, statement_definition, local_symbol, outer_binding, shared_symbol, is_absolute, unnamed_symbols, named_symbols, local_symbols, exports_of, exports, symbols_of, IsOwn, IsDefinedBy, StandsFor, is_named}
 use Rattle.rv_symbols.specs.Numbers.{last_index, own_symbols, missing_names, number_by, numbering_in}
 use Rattle.rv_symbols.proofs.NumberedLemmas.{any_front, any_behind, got_last, got_front, shared_weak, whole}

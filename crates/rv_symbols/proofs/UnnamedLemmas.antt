@@ -11,11 +11,11 @@ use Rattle.rv_text_laws.specs.Values.{add}
 use Rattle.rv_unit_laws.specs.Tables as laws
 use Rattle.rv_unit_laws.specs.Tables.{Tables, gives_way}
 use Rattle.rv_unit_laws.proofs.FoundLemmas.{same_bytes}
-use Rattle.rv_object_types.specs.declared.symbol.Definition.{Definition as Defined}
-use Rattle.rv_object_types.specs.declared.symbol.Definition.TheVariants.{Undefined, Absolute, InSection, Skipped}
-use Rattle.rv_object_types.specs.Object.{Symbol}
+use Rattle.rv_object_laws.specs.declared.symbol.Definition.{Definition as Defined}
+use Rattle.rv_object_laws.specs.declared.symbol.Definition.TheVariants.{Undefined, Absolute, InSection, Skipped}
+use Rattle.rv_object_laws.specs.Object.{Symbol}
 use Rattle.rv_assemble_laws.specs.LaidStatements.{LaidStatement}
-use Rattle.rv_object_types.specs.Bindings.{is_weak}
+use Rattle.rv_object_laws.specs.Bindings.{is_weak}
 use Rattle.rv_assemble_laws.specs.Symbols.{SymbolUse, references, laid_at, local_symbol, is_unnamed, is_defined_at, is_meant, unnamed_symbols, named_symbols, local_symbols, exports, symbols_of, IsNamed, IsDefinedBy, StandsFor, stands_in}
 use Rattle.rv_symbols.specs.Numbers.{last_index, is_at_place, own_symbols, missing_names, own_number, place_number, number_by, numbering_in}
 use Rattle.rv_assemble_laws.proofs.DefinedNamesLemmas.{AreSome}

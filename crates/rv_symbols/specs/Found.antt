@@ -6,8 +6,8 @@ use Rattle.rv_map.specs.Globals.{is_one_of}
 use Rattle.rv_text_laws.specs.Expression.{Primary, Symbol as Named, Here}
 use Rattle.rv_unit_laws.specs.Tables.{Tables, definition}
 use Rattle.rv_unit_laws.specs.Tables as laws
-use Rattle.rv_object_types.specs.declared.symbol.Definition.{Definition as Defined}
-use Rattle.rv_object_types.specs.declared.symbol.Definition.TheVariants.{Absolute}
+use Rattle.rv_object_laws.specs.declared.symbol.Definition.{Definition as Defined}
+use Rattle.rv_object_laws.specs.declared.symbol.Definition.TheVariants.{Absolute}
 use Rattle.rv_assemble_laws.specs.LaidStatements.{LaidStatement}
 use Rattle.rv_assemble_laws.specs.Symbols.{SymbolUse, is_unnamed, is_defined_at, is_meant}
 

@@ -2,7 +2,7 @@
 
 use Rattle.std.specs.Prelude.{◌≡◌, ◌+◌, ◌^◌, ◌<◌, ℕ, List, length, map}
 use Rattle.rv_statement.specs.View.{now_of}
-use Rattle.rv_object_types.specs.Object.{Symbol}
+use Rattle.rv_object_laws.specs.Object.{Symbol}
 use Rattle.rv_symbols.specs.Indices.{AreNameIndices, ArePlaceIndices}
 use Rattle.rv_symbols.specs.declared.numbers.Indices.{Indices}
 

@@ -5,7 +5,7 @@ use Rattle.std.specs.Borrow.{Bor}
 use Rattle.std.specs.HashMap.{HashMap, get, get_by}
 use Rattle.std.specs.declared.hash.FoldHasher.{FoldHasher}
 use Rattle.std.specs.declared.hash.BuildHasherDefault.{BuildHasherDefault}
-use Rattle.rv_object_types.specs.Object.{Symbol}
+use Rattle.rv_object_laws.specs.Object.{Symbol}
 use Rattle.rv_symbols.specs.Numbers.{last_index, is_at_place}
 use Rattle.rv_assemble_laws.specs.Symbols.{is_named}
 use Rattle.rv_symbols.specs.Found.{same_place}

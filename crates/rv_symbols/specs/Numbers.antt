@@ -4,7 +4,7 @@ use Rattle.std.specs.Prelude.{ℕ, suc, ◌+◌, Bool, ◌&&◌, List, [], ◌�
 use Rattle.rv_text_laws.specs.Expression.{Primary, Symbol as Named}
 use Rattle.rv_unit_laws.specs.Tables.{Tables, definition}
 use Rattle.rv_unit_laws.specs.Tables as laws
-use Rattle.rv_object_types.specs.Object.{Symbol}
+use Rattle.rv_object_laws.specs.Object.{Symbol}
 use Rattle.rv_assemble_laws.specs.LaidStatements.{LaidStatement}
 use Rattle.rv_assemble_laws.specs.Symbols.{SymbolUse, references, laid_at, local_symbols, exports, missing_name, distinct_from, is_named, stands_in}
 use Rattle.rv_assemble_laws.specs.IsObjectOf.{Numbering}

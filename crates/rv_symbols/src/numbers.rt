@@ -8,7 +8,7 @@ ghost use Rattle.rv_text.specs.Nodes.{symbol_of};
 ghost use Rattle.rv_statement.specs.View.{now_of};
 ghost use Rattle.rv_unit_laws.specs.Tables.{Tables};
 ghost use Rattle.rv_unit.specs.Unit.{definition_of};
-ghost use Rattle.rv_object_types.specs.Object.{Symbol as SaidSymbol};
+ghost use Rattle.rv_object_laws.specs.Object.{Symbol as SaidSymbol};
 ghost use Rattle.rv_object_types.specs.Parts.{symbol_of as object_symbol};
 ghost use Rattle.rv_assemble_laws.specs.LaidStatements.{LaidStatement};
 ghost use Rattle.rv_assemble_laws.specs.Symbols.{laid_at};

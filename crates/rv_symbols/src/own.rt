@@ -6,8 +6,8 @@ ghost use Rattle.std.specs.Prelude.{◌≡◌, ◌<◌, ◌≤◌, ◌+◌, ◌*
 ghost use Rattle.std.specs.HashSet.{contains};
 ghost use Rattle.rv_statement.specs.View.{statement_of};
 ghost use Rattle.rv_unit.specs.Unit.{said};
-ghost use Rattle.rv_object_types.specs.declared.symbol.Binding.TheVariants.{Local};
-ghost use Rattle.rv_object_types.specs.declared.symbol.Definition.TheVariants.{InSection};
+ghost use Rattle.rv_object_laws.specs.declared.symbol.Binding.TheVariants.{Local};
+ghost use Rattle.rv_object_laws.specs.declared.symbol.Definition.TheVariants.{InSection};
 ghost use Rattle.rv_object_types.specs.Parts.{symbol_of};
 ghost use Rattle.rv_assemble_laws.specs.LaidStatements.{LaidStatement};
 ghost use Rattle.rv_assemble_laws.specs.Symbols.{local_symbol, named_symbols, exports_of, references};

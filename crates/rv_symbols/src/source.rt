@@ -7,7 +7,7 @@ ghost use Rattle.rv_unit_laws.specs.Tables.{tables, assigned_ever};
 ghost use Rattle.rv_unit_tables.specs.Tables.{assignment_of};
 ghost use Rattle.rv_unit.specs.Unit.{said, IsFilled};
 ghost use Rattle.rv_map.specs.Name.{is_name};
-ghost use Rattle.rv_object_types.specs.Valid.{is_shown};
+ghost use Rattle.rv_object_laws.specs.Valid.{is_shown};
 ghost use Rattle.rv_source_laws.specs.Exports.{sets_first, defined_name};
 ghost use Rattle.rv_assemble_laws.specs.LaidStatements.{LaidStatement};
 ghost use Rattle.rv_assemble_laws.specs.Symbols.{laid_at, after_found, assigned_definition, statement_definition, outer_binding};

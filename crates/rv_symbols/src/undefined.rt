@@ -2,7 +2,7 @@
 
 ghost use Rattle.std.specs.Prelude.{◌≡◌, ◌++◌, List, true, map, OnOk};
 ghost use Rattle.rv_statement.specs.View.{now_of};
-ghost use Rattle.rv_object_types.specs.declared.symbol.Definition.TheVariants.{Undefined};
+ghost use Rattle.rv_object_laws.specs.declared.symbol.Definition.TheVariants.{Undefined};
 ghost use Rattle.rv_object_types.specs.Parts.{symbol_of};
 ghost use Rattle.rv_assemble_laws.specs.LaidStatements.{LaidStatement};
 ghost use Rattle.rv_assemble_laws.specs.Symbols.{shared_symbol};

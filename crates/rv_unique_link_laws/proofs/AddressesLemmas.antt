@@ -4,15 +4,15 @@ use Rattle.std.proofs.Common.{◌≡◌, ℕ, suc, ◌+◌, ◌%◌, ◌^◌, Bo
 use Rattle.std.specs.Prelude.{option_and_then, flat_map, nat_le, codes, if◌then◌else◌}
 use Rattle.std.specs.List.{AllByRecursion, slice_get}
 use Rattle.rv_map.specs.Globals.{shown}
-use Rattle.rv_object_types.specs.declared.row.Row.{Row}
-use Rattle.rv_object_types.specs.declared.symbol.Definition.{Definition}
-use Rattle.rv_object_types.specs.declared.symbol.Definition.TheVariants as definitions
-use Rattle.rv_object_types.specs.Object.{Section, Object}
-use Rattle.rv_object_laws.specs.Moves.{moves, new_offset}
-use Rattle.rv_object_laws.specs.Inputs.{Starts}
-use Rattle.rv_object_laws.specs.Names.{Export, offset_address, defined_address, chosen, chosen_exports, export_address, globals_of, begins_run, run_start, entry_of}
-use Rattle.rv_object_laws.specs.IsLinkOf.{moves_at, map_row, row_in, inserted_row, by_ordinal, rows_of}
-use Rattle.rv_object_laws.specs.Undefined.{is_loaded_at}
+use Rattle.rv_object_laws.specs.declared.row.Row.{Row}
+use Rattle.rv_object_laws.specs.declared.symbol.Definition.{Definition}
+use Rattle.rv_object_laws.specs.declared.symbol.Definition.TheVariants as definitions
+use Rattle.rv_object_laws.specs.Object.{Section, Object}
+use Rattle.rv_link_laws.specs.Moves.{moves, new_offset}
+use Rattle.rv_link_laws.specs.Inputs.{Starts}
+use Rattle.rv_link_laws.specs.Names.{Export, offset_address, defined_address, chosen, chosen_exports, export_address, globals_of, begins_run, run_start, entry_of}
+use Rattle.rv_link_laws.specs.IsLinkOf.{moves_at, map_row, row_in, inserted_row, by_ordinal, rows_of}
+use Rattle.rv_link_laws.specs.Undefined.{is_loaded_at}
 use Rattle.rv_unique_link_laws.specs.Asked.{HavePlacedRows}
 use Rattle.rv_unique_link_laws.proofs.ExportsLemmas.{OfExport, of_chosen, all_chosen}
 use Rattle.rv_unique_link_laws.proofs.AgreedLemmas.{IsAgreed, AreAgreed}

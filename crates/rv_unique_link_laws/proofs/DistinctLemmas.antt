@@ -6,9 +6,9 @@ use Rattle.std.specs.List.{AllByRecursion}
 use Rattle.std.proofs.lemmas.List.Folds.{list_any-append}
 use Rattle.std.proofs.lemmas.Slice.Eq.{bytes_eq-Decides}
 use Rattle.rv_map.specs.Globals.{is_one_of, AreDistinct}
-use Rattle.rv_object_types.specs.Object.{Object}
-use Rattle.rv_object_laws.specs.Names.{global_names}
-use Rattle.rv_object_laws.specs.Exports.{first_again, first_duplicate}
+use Rattle.rv_object_laws.specs.Object.{Object}
+use Rattle.rv_link_laws.specs.Names.{global_names}
+use Rattle.rv_link_laws.specs.Exports.{first_again, first_duplicate}
 
 -- none of these names is among others
 abbrev AreNew : List (List ℕ) → List (List ℕ) → Type 0

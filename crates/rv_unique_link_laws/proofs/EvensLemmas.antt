@@ -6,14 +6,14 @@ use Rattle.std.specs.List.{AllByRecursion, list_all, slice_get}
 use Rattle.std.proofs.lemmas.Bool.{and_parts, eqb-true}
 use Rattle.std.proofs.lemmas.List.{length-append}
 use Rattle.rv_layout_laws.specs.Alignment.{aligned}
-use Rattle.rv_object_types.specs.declared.symbol.Definition.{Definition}
-use Rattle.rv_object_types.specs.declared.symbol.Definition.TheVariants as definitions
-use Rattle.rv_object_types.specs.Object.{Contents, Relocation, Section, Object, size_of}
-use Rattle.rv_object_types.specs.Padding.{four_each, no_operations}
-use Rattle.rv_object_types.specs.Valid.{is_align, padding_of, is_padding, is_padding_of, are_all_apart, are_paddings}
-use Rattle.rv_object_laws.specs.Moves.{dropped, new_offset, full_padding, has_padding, alignment_of, inserted, by_place, alignments_of, plan, moves}
-use Rattle.rv_object_laws.specs.Inputs.{Starts, InputSection, goes_to_text, inputs_from, inputs_of, inputs, begins_at, start_of, size, Stand}
-use Rattle.rv_object_laws.specs.Names.{Export, offset_address, defined_address, chosen, export_address, is_in_text, can_begin, begins_run, run_start, entry_of}
+use Rattle.rv_object_laws.specs.declared.symbol.Definition.{Definition}
+use Rattle.rv_object_laws.specs.declared.symbol.Definition.TheVariants as definitions
+use Rattle.rv_object_laws.specs.Object.{Contents, Relocation, Section, Object, size_of}
+use Rattle.rv_object_laws.specs.Padding.{four_each, no_operations}
+use Rattle.rv_object_laws.specs.Valid.{is_align, padding_of, is_padding, is_padding_of, are_all_apart, are_paddings}
+use Rattle.rv_link_laws.specs.Moves.{dropped, new_offset, full_padding, has_padding, alignment_of, inserted, by_place, alignments_of, plan, moves}
+use Rattle.rv_link_laws.specs.Inputs.{Starts, InputSection, goes_to_text, inputs_from, inputs_of, inputs, begins_at, start_of, size, Stand}
+use Rattle.rv_link_laws.specs.Names.{Export, offset_address, defined_address, chosen, export_address, is_in_text, can_begin, begins_run, run_start, entry_of}
 use Rattle.rv_unique_link_laws.specs.Asked.{BeginsEven, IsSound}
 use Rattle.rv_unique_link_laws.proofs.FoundLemmas.{all_left, all_right, found_in}
 use Rattle.rv_unique_link_laws.proofs.ExportsLemmas.{OfFiles, of_chosen}

@@ -3,12 +3,12 @@
 use Rattle.std.proofs.Common.{◌≡◌, ℕ, suc, Bool, true, false, cond, Some, List, [], ◌∷◌}
 use Rattle.std.specs.Prelude.{⊤, filter, bytes_eq, if◌then◌else◌}
 use Rattle.std.specs.List.{AllByRecursion}
-use Rattle.rv_object_types.specs.declared.symbol.Binding.{Binding}
-use Rattle.rv_object_types.specs.Object.{Symbol, Object}
-use Rattle.rv_object_types.specs.Bindings.{is_global, is_weak, is_shared}
-use Rattle.rv_object_laws.specs.Names.{Export, is_export, exports_in, exports_from, exports_where, is_chosen, chosen_exports, candidates, chosen}
-use Rattle.rv_object_laws.proofs.TextInputsLemmas.{all_append}
-use Rattle.rv_object_laws.proofs.HeldLemmas.{all_found}
+use Rattle.rv_object_laws.specs.declared.symbol.Binding.{Binding}
+use Rattle.rv_object_laws.specs.Object.{Symbol, Object}
+use Rattle.rv_object_laws.specs.Bindings.{is_global, is_weak, is_shared}
+use Rattle.rv_link_laws.specs.Names.{Export, is_export, exports_in, exports_from, exports_where, is_chosen, chosen_exports, candidates, chosen}
+use Rattle.rv_link_laws.proofs.TextInputsLemmas.{all_append}
+use Rattle.rv_link_laws.proofs.HeldLemmas.{all_found}
 
 module _ (P : ℕ → Object → Type 0) where
   -- files from a number on

@@ -3,9 +3,9 @@
 use Rattle.std.proofs.Common.{◌≡◌, ℕ, zero, suc, ◌+◌, Bool, true, false, List, [], ◌∷◌, ◌++◌, refl, ap, ◌∙◌, subst, arith, Some}
 use Rattle.std.specs.Prelude.{⊤, if◌then◌else◌}
 use Rattle.std.specs.List.{AllByRecursion, slice_get}
-use Rattle.rv_object_types.specs.Object.{Section, Object}
-use Rattle.rv_object_laws.specs.Inputs.{InputSection, inputs_from, inputs_of}
-use Rattle.rv_object_laws.proofs.TextInputsLemmas.{all_append}
+use Rattle.rv_object_laws.specs.Object.{Section, Object}
+use Rattle.rv_link_laws.specs.Inputs.{InputSection, inputs_from, inputs_of}
+use Rattle.rv_link_laws.proofs.TextInputsLemmas.{all_append}
 
 -- a section of an object
 abbrev pub input : ℕ → Object → ℕ → Section → InputSection

@@ -5,12 +5,12 @@ use Rattle.std.specs.Prelude.{◌⊎◌, IsTrue, is_some, unwrap_or}
 use Rattle.std.specs.List.{AllByRecursion}
 use Rattle.rv_isa.specs.Kinds.{is_low_part}
 use Rattle.rv_reloc.specs.Ranges.{IsInRange, IsOdd, Takes, Refuses}
-use Rattle.rv_object_types.specs.Object.{Relocation}
+use Rattle.rv_object_laws.specs.Object.{Relocation}
 use Rattle.rv_reloc.specs.declared.fault.LinkFault.{LinkFault}
 use Rattle.rv_reloc.specs.declared.fault.LinkFault.TheVariants.{Overflow, OddTarget, DanglingPcrel, AlignmentShort, Undefined, Duplicate, EntryMissing, ImageTooLarge, BadTextStart, TooManyFiles, OutOfMemory}
 use Rattle.rv_reloc.specs.Fault.{link_fault_number}
-use Rattle.rv_object_laws.specs.Refusals.{name_in, IsSameFault}
-use Rattle.rv_object_laws.specs.Untaken.{IsFirst}
+use Rattle.rv_link_laws.specs.Refusals.{name_in, IsSameFault}
+use Rattle.rv_link_laws.specs.Untaken.{IsFirst}
 
 -- ---- the first of a list
 

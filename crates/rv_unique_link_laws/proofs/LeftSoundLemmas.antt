@@ -6,23 +6,23 @@ use Rattle.std.specs.List.{AllByRecursion}
 use Rattle.std.proofs.lemmas.Bool.{and_from}
 use Rattle.rv_layout_laws.specs.declared.site.Site.{Site}
 use Rattle.rv_layout_laws.specs.Calls.{IsText}
-use Rattle.rv_object_types.specs.Object.{Section, Object}
-use Rattle.rv_object_types.specs.Valid.{is_section_alignment, fit_inside, are_paddings}
-use Rattle.rv_object_laws.specs.Moves.{Move}
-use Rattle.rv_object_laws.specs.Inputs.{goes_to_text}
-use Rattle.rv_object_laws.specs.Names.{no_object, object_at}
-use Rattle.rv_object_laws.specs.CallSites.{sites_of}
-use Rattle.rv_object_laws.specs.Shortened.{Relaxes}
-use Rattle.rv_object_laws.specs.Without.{without}
-use Rattle.rv_object_laws.proofs.TextInputsLemmas.{IsTextInput}
-use Rattle.rv_object_laws.proofs.TextLineLemmas.{text}
+use Rattle.rv_object_laws.specs.Object.{Section, Object}
+use Rattle.rv_object_laws.specs.Valid.{is_section_alignment, fit_inside, are_paddings}
+use Rattle.rv_link_laws.specs.Moves.{Move}
+use Rattle.rv_link_laws.specs.Inputs.{goes_to_text}
+use Rattle.rv_link_laws.specs.Names.{no_object, object_at}
+use Rattle.rv_link_laws.specs.CallSites.{sites_of}
+use Rattle.rv_link_laws.specs.Shortened.{Relaxes}
+use Rattle.rv_link_laws.specs.Without.{without}
+use Rattle.rv_link_laws.proofs.TextInputsLemmas.{IsTextInput}
+use Rattle.rv_link_laws.proofs.TextLineLemmas.{text}
 use Rattle.rv_cut_laws.specs.Cutting.{AreCuts, AllCut, cut_section, cut_sections, cut_object}
 use Rattle.rv_cut_laws.specs.Walk.{AreWalked, walked, object_moves, passed_all}
 use Rattle.rv_cut_laws.proofs.ShortLemmas.{fit_stays, paddings_stay}
 use Rattle.rv_cut_laws.proofs.StaysLemmas.{all_fit, rows_stay}
 use Rattle.rv_cut_laws.proofs.LineLemmas.{AreSound, AllSound}
 use Rattle.rv_cut_laws.proofs.LaidLemmas.{walk_is}
-use Rattle.rv_object_laws.proofs.ListsLemmas.{all_both}
+use Rattle.rv_link_laws.proofs.ListsLemmas.{all_both}
 use Rattle.rv_unique_link_laws.specs.Asked.{LeavesEven, IsSound}
 use Rattle.rv_unique_link_laws.proofs.FoundLemmas.{EachOf, all_of}
 use Rattle.rv_unique_link_laws.proofs.ValuesLemmas.{all_at}

@@ -6,18 +6,18 @@ use Rattle.std.specs.List.{AllByRecursion, slice_get}
 use Rattle.std.specs.Option.{option_or}
 use Rattle.rv_map.specs.Globals.{global_address, linker_symbols}
 use Rattle.rv_map.specs.Map.{Map}
-use Rattle.rv_object_types.specs.declared.symbol.Definition.{Definition}
-use Rattle.rv_object_types.specs.declared.symbol.Definition.TheVariants as definitions
-use Rattle.rv_object_types.specs.Object.{Relocation, Section, Symbol, Object}
-use Rattle.rv_object_laws.specs.Moves.{moves, new_offset}
-use Rattle.rv_object_laws.specs.Inputs.{Starts, InputSection, inputs_from, inputs_of, inputs}
-use Rattle.rv_object_laws.specs.IsLinkOf.{is_loaded}
-use Rattle.rv_object_types.specs.Bindings.{is_weak}
-use Rattle.rv_object_laws.specs.Names.{Export, Outer, is_sure, chosen, offset_address, defined_address, globals_of, shown_linker_symbols, outer_address, symbol_address}
-use Rattle.rv_object_laws.specs.Values.{target}
-use Rattle.rv_object_laws.specs.Undefined.{has_address, is_loaded_at, is_known, is_resolved, undefined_symbol, undefined_name, undefined_in, first_some, first_undefined}
-use Rattle.rv_object_laws.proofs.LinkerNamesLemmas.{some_address}
-use Rattle.rv_object_laws.proofs.ShownLemmas.{outer_some, outer_none}
+use Rattle.rv_object_laws.specs.declared.symbol.Definition.{Definition}
+use Rattle.rv_object_laws.specs.declared.symbol.Definition.TheVariants as definitions
+use Rattle.rv_object_laws.specs.Object.{Relocation, Section, Symbol, Object}
+use Rattle.rv_link_laws.specs.Moves.{moves, new_offset}
+use Rattle.rv_link_laws.specs.Inputs.{Starts, InputSection, inputs_from, inputs_of, inputs}
+use Rattle.rv_link_laws.specs.IsLinkOf.{is_loaded}
+use Rattle.rv_object_laws.specs.Bindings.{is_weak}
+use Rattle.rv_link_laws.specs.Names.{Export, Outer, is_sure, chosen, offset_address, defined_address, globals_of, shown_linker_symbols, outer_address, symbol_address}
+use Rattle.rv_link_laws.specs.Values.{target}
+use Rattle.rv_link_laws.specs.Undefined.{has_address, is_loaded_at, is_known, is_resolved, undefined_symbol, undefined_name, undefined_in, first_some, first_undefined}
+use Rattle.rv_link_laws.proofs.LinkerNamesLemmas.{some_address}
+use Rattle.rv_link_laws.proofs.ShownLemmas.{outer_some, outer_none}
 use Rattle.rv_unique_link_laws.proofs.FoundLemmas.{input, all_left, all_right}
 
 some_by : (b : Bool) (n : ℕ) → is_some (if b then Some n else None) ≡ true → b ≡ true

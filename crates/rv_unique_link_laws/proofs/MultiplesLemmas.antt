@@ -5,10 +5,10 @@ use Rattle.std.specs.Prelude.{IsTrue, if◌then◌else◌}
 use Rattle.std.specs.List.{AllByRecursion}
 use Rattle.std.proofs.Math.Nat.{div-mul-le_self}
 use Rattle.rv_layout_laws.specs.Alignment.{aligned}
-use Rattle.rv_object_types.specs.Object.{Relocation, Section, Object}
-use Rattle.rv_object_types.specs.Valid.{is_section_alignment}
-use Rattle.rv_object_laws.specs.Moves.{full_padding, alignment_of, alignments_of}
-use Rattle.rv_object_laws.specs.Inputs.{InputSection, goes_to_text, inputs, raised, begins_at}
+use Rattle.rv_object_laws.specs.Object.{Relocation, Section, Object}
+use Rattle.rv_object_laws.specs.Valid.{is_section_alignment}
+use Rattle.rv_link_laws.specs.Moves.{full_padding, alignment_of, alignments_of}
+use Rattle.rv_link_laws.specs.Inputs.{InputSection, goes_to_text, inputs, raised, begins_at}
 use Rattle.rv_cut_laws.proofs.AlignedLemmas.{alignments, one_of}
 use Rattle.rv_cut_laws.proofs.PowersLemmas.{any_power}
 use Rattle.rv_unique_link_laws.specs.Asked.{IsSound}

@@ -3,10 +3,10 @@
 use Rattle.std.proofs.Common.{◌≡◌, ◌+◌, true, nat_le, List, [], ◌∷◌, Option, Some, None}
 use Rattle.std.specs.List.{AllByRecursion, list_all, slice_get}
 use Rattle.std.proofs.lemmas.Bool.{and_parts}
-use Rattle.rv_object_types.specs.declared.row.Row.{Row}
-use Rattle.rv_object_types.specs.Object.{Section, Object, size_of}
-use Rattle.rv_object_types.specs.Valid.{is_row_in, are_rows}
-use Rattle.rv_object_laws.specs.Undefined.{is_loaded_at}
+use Rattle.rv_object_laws.specs.declared.row.Row.{Row}
+use Rattle.rv_object_laws.specs.Object.{Section, Object, size_of}
+use Rattle.rv_object_laws.specs.Valid.{is_row_in, are_rows}
+use Rattle.rv_link_laws.specs.Undefined.{is_loaded_at}
 use Rattle.rv_unique_link_laws.specs.Asked.{HasPlacedRows, HavePlacedRows, IsSound}
 use Rattle.rv_unique_link_laws.proofs.FoundLemmas.{all_map}
 

@@ -7,13 +7,13 @@ use Rattle.std.proofs.lemmas.Bool.{and_parts}
 use Rattle.rv_map.specs.Map.{Map}
 use Rattle.rv_map.specs.declared.map.Region.{Region}
 use Rattle.rv_image_laws.specs.Linked.{Linked}
-use Rattle.rv_object_types.specs.Object.{Section, Object}
-use Rattle.rv_object_laws.specs.Inputs.{Starts, has_no_bytes, goes_to_text, goes_to_rodata, goes_to_data, inputs, contents}
-use Rattle.rv_object_laws.specs.Names.{Outer, outer_address, globals_of, shown_linker_symbols}
-use Rattle.rv_object_laws.specs.Values.{target, value, IsRelocated, linked_bytes}
-use Rattle.rv_object_laws.specs.IsLinkOf.{is_loaded, outer_of, IsLinkOf}
-use Rattle.rv_object_laws.specs.Undefined.{first_undefined}
-use Rattle.rv_object_laws.proofs.ListsLemmas.{all_both}
+use Rattle.rv_object_laws.specs.Object.{Section, Object}
+use Rattle.rv_link_laws.specs.Inputs.{Starts, has_no_bytes, goes_to_text, goes_to_rodata, goes_to_data, inputs, contents}
+use Rattle.rv_link_laws.specs.Names.{Outer, outer_address, globals_of, shown_linker_symbols}
+use Rattle.rv_link_laws.specs.Values.{target, value, IsRelocated, linked_bytes}
+use Rattle.rv_link_laws.specs.IsLinkOf.{is_loaded, outer_of, IsLinkOf}
+use Rattle.rv_link_laws.specs.Undefined.{first_undefined}
+use Rattle.rv_link_laws.proofs.ListsLemmas.{all_both}
 use Rattle.rv_unique_link_laws.specs.Asked.{HavePlacedRows}
 use Rattle.rv_unique_link_laws.proofs.FoundLemmas.{all_map}
 use Rattle.rv_unique_link_laws.proofs.AgreedLemmas.{StartsSame, AreAgreed, AreLaid, AreOne, gaps_same, contents_same, laid_same}

@@ -3,21 +3,21 @@
 use Rattle.std.proofs.Common.{◌≡◌, ℕ, ◌<◌, ◌≤◌, Bool, true, false, refl, sym, ◌∙◌, arith, Option, Some, None, List, [], length, inl, inr}
 use Rattle.std.specs.Prelude.{◌⊎◌}
 use Rattle.rv_map.specs.Globals.{AreDistinct}
-use Rattle.rv_object_types.specs.Object.{Object}
-use Rattle.rv_object_laws.specs.Inputs.{inputs}
-use Rattle.rv_object_laws.specs.Names.{global_names}
-use Rattle.rv_object_laws.specs.IsLinkOf.{most_files, is_loaded}
-use Rattle.rv_object_laws.specs.Layout.{Layout, IsLayout, memory_of, IsTooLarge, HasRoom}
-use Rattle.rv_object_laws.specs.Untaken.{IsFirstUntaken}
-use Rattle.rv_object_laws.specs.Refusals.{LacksRoom, LacksEntry, ComesToEntry, ComesToPlaces, IsUnapplied, IsUnlinked, name_in, IsSameFault}
+use Rattle.rv_object_laws.specs.Object.{Object}
+use Rattle.rv_link_laws.specs.Inputs.{inputs}
+use Rattle.rv_link_laws.specs.Names.{global_names}
+use Rattle.rv_link_laws.specs.IsLinkOf.{most_files, is_loaded}
+use Rattle.rv_link_laws.specs.Layout.{Layout, IsLayout, memory_of, IsTooLarge, HasRoom}
+use Rattle.rv_link_laws.specs.Untaken.{IsFirstUntaken}
+use Rattle.rv_link_laws.specs.Refusals.{LacksRoom, LacksEntry, ComesToEntry, ComesToPlaces, IsUnapplied, IsUnlinked, name_in, IsSameFault}
 use Rattle.rv_isa_laws.specs.Platform.{stack_start, memory_limit}
-use Rattle.rv_object_laws.specs.Entry.{has_entry}
-use Rattle.rv_object_laws.specs.Exports.{first_duplicate}
-use Rattle.rv_object_laws.specs.Undefined.{first_undefined}
+use Rattle.rv_link_laws.specs.Entry.{has_entry}
+use Rattle.rv_link_laws.specs.Exports.{first_duplicate}
+use Rattle.rv_link_laws.specs.Undefined.{first_undefined}
 use Rattle.rv_reloc.specs.declared.fault.LinkFault.{LinkFault}
 use Rattle.rv_reloc.specs.declared.fault.LinkFault.TheVariants.{Overflow, OddTarget, DanglingPcrel, AlignmentShort, Undefined, Duplicate, EntryMissing, ImageTooLarge, BadTextStart, TooManyFiles, OutOfMemory}
 use Rattle.rv_reloc.specs.Fault.{link_fault_number}
-use Rattle.rv_object_laws.specs.TextStart.{IsTextStart, AreWithin}
+use Rattle.rv_link_laws.specs.TextStart.{IsTextStart, AreWithin}
 use Rattle.rv_unique_link_laws.specs.Asked.{BeginsEven}
 use Rattle.rv_unique_link_laws.proofs.DistinctLemmas.{no_duplicate}
 use Rattle.rv_unique_link_laws.proofs.EnteredLemmas.{entry_there}

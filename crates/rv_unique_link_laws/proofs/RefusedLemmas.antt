@@ -3,14 +3,14 @@
 use Rattle.std.proofs.Common.{◌≡◌, ℕ, ◌<◌, true, false, refl, sym, ap, ◌∙◌, arith, Option, Some, None, List, inl, inr}
 use Rattle.std.specs.Prelude.{◌⊎◌, is_some}
 use Rattle.rv_image_laws.specs.Linked.{Linked}
-use Rattle.rv_object_types.specs.Object.{Object}
-use Rattle.rv_object_laws.specs.IsLinkOf.{IsLinkOf}
-use Rattle.rv_object_laws.specs.Layout.{memory_of, IsTooLarge}
-use Rattle.rv_object_laws.specs.Refusals.{LacksRoom, LacksEntry, IsUnapplied, IsUnlinked}
+use Rattle.rv_object_laws.specs.Object.{Object}
+use Rattle.rv_link_laws.specs.IsLinkOf.{IsLinkOf}
+use Rattle.rv_link_laws.specs.Layout.{memory_of, IsTooLarge}
+use Rattle.rv_link_laws.specs.Refusals.{LacksRoom, LacksEntry, IsUnapplied, IsUnlinked}
 use Rattle.rv_isa_laws.specs.Platform.{stack_start, memory_limit}
-use Rattle.rv_object_laws.specs.Exports.{first_duplicate}
-use Rattle.rv_object_laws.specs.Undefined.{first_undefined}
-use Rattle.rv_object_laws.proofs.EntryLemmas.{entry_some}
+use Rattle.rv_link_laws.specs.Exports.{first_duplicate}
+use Rattle.rv_link_laws.specs.Undefined.{first_undefined}
+use Rattle.rv_link_laws.proofs.EntryLemmas.{entry_some}
 use Rattle.rv_reloc.specs.declared.fault.LinkFault.{LinkFault}
 use Rattle.rv_reloc.specs.declared.fault.LinkFault.TheVariants.{Overflow, OddTarget, DanglingPcrel, AlignmentShort, Undefined, Duplicate, EntryMissing, ImageTooLarge, BadTextStart, TooManyFiles, OutOfMemory}
 use Rattle.rv_unique_link_laws.proofs.AddressesLemmas.{all_entries}

@@ -4,19 +4,19 @@ use Rattle.std.proofs.Common.{◌≡◌, ℕ, ℤ, List, sym, ap, ◌∙◌, sub
 use Rattle.std.specs.Prelude.{IsTrue}
 use Rattle.std.specs.List.{AllByRecursion, list_all}
 use Rattle.rv_image_laws.specs.Linked.{Linked}
-use Rattle.rv_object_types.specs.Object.{Relocation, Object}
-use Rattle.rv_object_laws.specs.Moves.{moves, has_room}
-use Rattle.rv_object_laws.specs.Inputs.{Starts, InputSection, goes_to_text, inputs, start_of, Stand}
-use Rattle.rv_object_laws.specs.Names.{outer_address}
-use Rattle.rv_object_laws.specs.Values.{value, IsRelocated}
-use Rattle.rv_object_laws.specs.IsLinkOf.{IsLinkOf, outer_of, is_loaded}
-use Rattle.rv_object_laws.specs.Undefined.{first_undefined}
-use Rattle.rv_object_laws.specs.Layout.{Layout, IsLayout, AreRoomy, regions_of, outer_in}
-use Rattle.rv_object_laws.specs.Untaken.{IsTaken, IsUntaken, AreTaken, AreUntaken, IsFirstUntaken}
-use Rattle.rv_object_laws.specs.Refusals.{IsSameFault}
+use Rattle.rv_object_laws.specs.Object.{Relocation, Object}
+use Rattle.rv_link_laws.specs.Moves.{moves, has_room}
+use Rattle.rv_link_laws.specs.Inputs.{Starts, InputSection, goes_to_text, inputs, start_of, Stand}
+use Rattle.rv_link_laws.specs.Names.{outer_address}
+use Rattle.rv_link_laws.specs.Values.{value, IsRelocated}
+use Rattle.rv_link_laws.specs.IsLinkOf.{IsLinkOf, outer_of, is_loaded}
+use Rattle.rv_link_laws.specs.Undefined.{first_undefined}
+use Rattle.rv_link_laws.specs.Layout.{Layout, IsLayout, AreRoomy, regions_of, outer_in}
+use Rattle.rv_link_laws.specs.Untaken.{IsTaken, IsUntaken, AreTaken, AreUntaken, IsFirstUntaken}
+use Rattle.rv_link_laws.specs.Refusals.{IsSameFault}
 use Rattle.rv_reloc.specs.declared.fault.LinkFault.{LinkFault}
 use Rattle.rv_reloc.specs.declared.fault.LinkFault.TheVariants.{Overflow, OddTarget, DanglingPcrel, AlignmentShort, Undefined, Duplicate, EntryMissing, ImageTooLarge, BadTextStart, TooManyFiles, OutOfMemory}
-use Rattle.rv_object_laws.proofs.ListsLemmas.{all_both}
+use Rattle.rv_link_laws.proofs.ListsLemmas.{all_both}
 use Rattle.rv_unique_link_laws.proofs.AgreedLemmas.{StartsSame, stand_same, AreLaid, AreOne, laid_same}
 use Rattle.rv_unique_link_laws.proofs.ProgramLemmas.{every_same, values_between, linked_laid, linked_meant}
 use Rattle.rv_unique_link_laws.proofs.JudgedLemmas.{all_first, one_first, IsHeld, IsRefusedFor, refused_once, held_apart}

@@ -5,16 +5,16 @@ use Rattle.std.specs.Prelude.{option_and_then, unwrap_or, if◌then◌else◌}
 use Rattle.std.specs.List.{AllByRecursion, slice_get}
 use Rattle.rv_isa.specs.Kinds.{is_low_part}
 use Rattle.rv_reloc.specs.Values.{value_of}
-use Rattle.rv_object_types.specs.declared.symbol.Definition.{Definition}
-use Rattle.rv_object_types.specs.declared.symbol.Definition.TheVariants as definitions
-use Rattle.rv_object_types.specs.Object.{Relocation, Section, Symbol, Object}
-use Rattle.rv_object_laws.specs.Moves.{moves, new_offset, kept}
-use Rattle.rv_object_laws.specs.Inputs.{Starts, InputSection, start_of, inputs}
-use Rattle.rv_object_laws.specs.Names.{Export, Outer, is_sure, chosen, symbol_address, place_in, shared_place, symbol_place, object_at}
-use Rattle.rv_object_laws.specs.Values.{target, moved, own_value, high_at, value_in, value_at, paired, value, patched_at, applied, initial_bytes, linked_bytes}
-use Rattle.rv_object_laws.specs.Undefined.{is_loaded_at, has_address, is_known, is_resolved, undefined_symbol, undefined_name, first_some, undefined_in, first_undefined}
-use Rattle.rv_object_laws.proofs.FirstSomeLemmas.{each_none}
-use Rattle.rv_object_laws.proofs.ListsLemmas.{found_at}
+use Rattle.rv_object_laws.specs.declared.symbol.Definition.{Definition}
+use Rattle.rv_object_laws.specs.declared.symbol.Definition.TheVariants as definitions
+use Rattle.rv_object_laws.specs.Object.{Relocation, Section, Symbol, Object}
+use Rattle.rv_link_laws.specs.Moves.{moves, new_offset, kept}
+use Rattle.rv_link_laws.specs.Inputs.{Starts, InputSection, start_of, inputs}
+use Rattle.rv_link_laws.specs.Names.{Export, Outer, is_sure, chosen, symbol_address, place_in, shared_place, symbol_place, object_at}
+use Rattle.rv_link_laws.specs.Values.{target, moved, own_value, high_at, value_in, value_at, paired, value, patched_at, applied, initial_bytes, linked_bytes}
+use Rattle.rv_link_laws.specs.Undefined.{is_loaded_at, has_address, is_known, is_resolved, undefined_symbol, undefined_name, first_some, undefined_in, first_undefined}
+use Rattle.rv_link_laws.proofs.FirstSomeLemmas.{each_none}
+use Rattle.rv_link_laws.proofs.ListsLemmas.{found_at}
 use Rattle.rv_unique_link_laws.proofs.FoundLemmas.{input, Each, EachOf, all_of}
 use Rattle.rv_unique_link_laws.proofs.ExportsLemmas.{OfFiles, of_chosen}
 use Rattle.rv_unique_link_laws.proofs.AgreedLemmas.{StartsSame, IsAgreed, AreAgreed}

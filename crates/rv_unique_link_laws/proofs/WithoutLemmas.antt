@@ -7,18 +7,18 @@ use Rattle.std.proofs.lemmas.Bool.{and_parts, and_from}
 use Rattle.rv_map.specs.declared.map.SectionId.{SectionId}
 use Rattle.rv_collect_laws.specs.Graph.{is_dropped}
 use Rattle.rv_collect_laws.proofs.MarksLemmas.{same_drops}
-use Rattle.rv_object_types.specs.declared.row.Row.{Row}
-use Rattle.rv_object_types.specs.Object.{Section, Object}
-use Rattle.rv_object_types.specs.Valid.{is_section_alignment, fit_inside, are_paddings, is_row_in, are_rows}
-use Rattle.rv_object_laws.specs.Collects.{graph_of}
-use Rattle.rv_object_laws.specs.IsProgramOf.{Leaves}
-use Rattle.rv_object_laws.specs.Shortened.{Relaxes}
-use Rattle.rv_object_laws.specs.Without.{without_section, without_sections, without_object, without_from, without}
-use Rattle.rv_object_laws.proofs.WithoutLemmas.{section_left}
-use Rattle.rv_object_laws.specs.Undefined.{is_loaded_at}
+use Rattle.rv_object_laws.specs.declared.row.Row.{Row}
+use Rattle.rv_object_laws.specs.Object.{Section, Object}
+use Rattle.rv_object_laws.specs.Valid.{is_section_alignment, fit_inside, are_paddings, is_row_in, are_rows}
+use Rattle.rv_link_laws.specs.Collects.{graph_of}
+use Rattle.rv_link_laws.specs.IsProgramOf.{Leaves}
+use Rattle.rv_link_laws.specs.Shortened.{Relaxes}
+use Rattle.rv_link_laws.specs.Without.{without_section, without_sections, without_object, without_from, without}
+use Rattle.rv_link_laws.proofs.WithoutLemmas.{section_left}
+use Rattle.rv_link_laws.specs.Undefined.{is_loaded_at}
 use Rattle.rv_unique_link_laws.specs.Asked.{HasPlacedRows, HavePlacedRows, IsSound}
 use Rattle.rv_unique_link_laws.proofs.LeftLemmas.{one_left}
-use Rattle.rv_object_laws.proofs.WholeLemmas.{by_paddings as no_paddings, by_fits as nothing_inside}
+use Rattle.rv_link_laws.proofs.WholeLemmas.{by_paddings as no_paddings, by_fits as nothing_inside}
 
 -- ---- one list
 

@@ -3,12 +3,12 @@
 use Rattle.std.specs.Prelude.{◌≡◌, ℕ, ◌%◌, Bool, true, IsTrue, List, Some}
 use Rattle.std.specs.List.{AllByRecursion, slice_get}
 use Rattle.rv_map.specs.declared.map.SectionId.{SectionId}
-use Rattle.rv_object_types.specs.Object.{Object}
-use Rattle.rv_object_types.specs.Valid.{is_section_alignment, fit_inside, are_paddings, are_rows}
-use Rattle.rv_object_laws.specs.Inputs.{Starts, goes_to_text, inputs, Stand}
-use Rattle.rv_object_laws.specs.Names.{entry_of}
-use Rattle.rv_object_laws.specs.IsProgramOf.{Leaves}
-use Rattle.rv_object_laws.specs.Undefined.{is_loaded_at}
+use Rattle.rv_object_laws.specs.Object.{Object}
+use Rattle.rv_object_laws.specs.Valid.{is_section_alignment, fit_inside, are_paddings, are_rows}
+use Rattle.rv_link_laws.specs.Inputs.{Starts, goes_to_text, inputs, Stand}
+use Rattle.rv_link_laws.specs.Names.{entry_of}
+use Rattle.rv_link_laws.specs.IsProgramOf.{Leaves}
+use Rattle.rv_link_laws.specs.Undefined.{is_loaded_at}
 
 -- ---- what each law needs
 

@@ -1,6 +1,6 @@
 //! That objects have one program, and one reason to be refused.
 //!
-//! It takes what a program of objects is and why objects have none (`rv_object_laws`), and gives the laws that neither leaves a
+//! It takes what a program of objects is and why objects have none (`rv_link_laws`), and gives the laws that neither leaves a
 //! choice: collection and relaxation leave one list of objects, two programs of the same objects are equal, no objects are both
 //! linked and refused, and two faults for which they are refused are the same one. Want of memory is no reason that objects
 //! have. Nothing here runs.

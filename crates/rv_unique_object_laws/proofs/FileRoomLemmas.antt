@@ -14,8 +14,8 @@ use Rattle.rv_unit_laws.proofs.EnteringLemmas.{sections_more, entering}
 use Rattle.rv_unit_laws.proofs.OpenedLemmas.{entered_in, after_opened}
 use Rattle.rv_elf.specs.Fields.{symbol_size, rela_size}
 use Rattle.rv_elf.specs.Numbers.{sht_symtab, sht_strtab, sht_rela}
-use Rattle.rv_object_types.specs.declared.row.Row.{Row}
-use Rattle.rv_object_types.specs.Object.{Section, Symbol, Object}
+use Rattle.rv_object_laws.specs.declared.row.Row.{Row}
+use Rattle.rv_object_laws.specs.Object.{Section, Symbol, Object}
 use Rattle.rv_object_file_laws.specs.Written.{unseen, strings_of, table_of, UnplacedSection, section_piece, table_piece, relocations_bytes, rela_pieces, row_pieces, symbol_names, symbols_bytes, locals, symtab_index, last_index, first_pieces, section_names, HasFile}
 use Rattle.rv_assemble_laws.specs.ShownNames.{said_names}
 use Rattle.rv_assemble_laws.specs.LaidStatements.{LaidStatement}

@@ -14,9 +14,9 @@ use Rattle.rv_unit_laws.specs.Bindings.{is_shared}
 use Rattle.rv_unit_laws.specs.Tables.{Tables, Assignment, assigned_ever}
 use Rattle.rv_unit_laws.proofs.FoundLemmas.{same_bytes}
 use Rattle.rv_source_laws.specs.Exports.{defined_name}
-use Rattle.rv_object_types.specs.declared.symbol.Definition.{Definition as Defined}
-use Rattle.rv_object_types.specs.declared.symbol.Definition.TheVariants.{Undefined, Absolute, InSection, Skipped}
-use Rattle.rv_object_types.specs.Object.{Symbol}
+use Rattle.rv_object_laws.specs.declared.symbol.Definition.{Definition as Defined}
+use Rattle.rv_object_laws.specs.declared.symbol.Definition.TheVariants.{Undefined, Absolute, InSection, Skipped}
+use Rattle.rv_object_laws.specs.Object.{Symbol}
 use Rattle.rv_assemble_laws.specs.LaidStatements.{LaidStatement}
 use Rattle.rv_unique_object_laws.proofs.CountsLemmas.{one_if, count, count_append, one_most, one_is, one_none, count_less, count_none, count_map, count_kept, count_dropped}
 use Rattle.rv_source_laws.proofs.HomesLemmas.{all_filter as kept}

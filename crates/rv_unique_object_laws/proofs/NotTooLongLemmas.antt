@@ -12,7 +12,7 @@ use Rattle.rv_unit_laws.specs.Faults.{StatementFault, at_line}
 use Rattle.rv_source_laws.specs.Located.{located_from, located}
 use Rattle.rv_source_laws.specs.Sizes.{AreLeast}
 use Rattle.rv_source_laws.proofs.HomesLemmas.{all_map}
-use Rattle.rv_object_types.specs.Object.{Object}
+use Rattle.rv_object_laws.specs.Object.{Object}
 use Rattle.rv_assemble_laws.specs.Refusals.{AreCodeSizes, grown, size_fault_from, IsTooLong}
 use Rattle.rv_assemble_laws.specs.LaidStatements.{LaidStatement, laid_in, end_of}
 use Rattle.rv_assemble_laws.specs.IsObjectOf.{IsObjectOf}

@@ -14,8 +14,8 @@ use Rattle.rv_unit_laws.specs.Tables.{Tables, at_start, tables, definition}
 use Rattle.rv_unit_laws.specs.Faults.{first_unit_fault}
 use Rattle.rv_unit_laws.proofs.FoundLemmas.{bytes_same}
 use Rattle.rv_source_laws.specs.Located.{located_from}
-use Rattle.rv_object_types.specs.declared.symbol.Definition.TheVariants.{Undefined, InSection}
-use Rattle.rv_object_types.specs.Object.{Symbol}
+use Rattle.rv_object_laws.specs.declared.symbol.Definition.TheVariants.{Undefined, InSection}
+use Rattle.rv_object_laws.specs.Object.{Symbol}
 use Rattle.rv_assemble_laws.specs.Templates.{Open, template_fields}
 use Rattle.rv_assemble_laws.specs.LaidStatements.{LaidStatement, LaidPart, part_bytes}
 use Rattle.rv_assemble_laws.specs.ShownNames.{HasNames}

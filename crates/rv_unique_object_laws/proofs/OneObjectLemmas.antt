@@ -8,7 +8,7 @@ use Rattle.rv_unit_laws.specs.Sections.{Section as SourceSection}
 use Rattle.rv_unit_laws.specs.Tables.{Tables, at_start, tables, opened_of}
 use Rattle.rv_unit_laws.specs.Faults.{first_unit_fault}
 use Rattle.rv_source_laws.specs.Located.{Located, located_from}
-use Rattle.rv_object_types.specs.Object.{Contents, Relocation, Section, Object}
+use Rattle.rv_object_laws.specs.Object.{Contents, Relocation, Section, Object}
 use Rattle.rv_assemble_laws.specs.LaidStatements.{LaidStatement, part_bytes, parts, laid_in, end_of}
 use Rattle.rv_assemble_laws.specs.Symbols.{symbols_of}
 use Rattle.rv_assemble_laws.specs.ShownNames.{HasNames}

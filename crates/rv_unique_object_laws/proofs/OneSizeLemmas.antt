@@ -7,7 +7,7 @@ use Rattle.rv_text_laws.specs.Values.{Value, Constant}
 use Rattle.rv_statement.specs.Statement.{StatementKind, Label, Numbered, Instruction, Directs, Expression, Directive, Values, Strings, Zeros, Aligns_to_power, Aligns_to_bytes}
 use Rattle.rv_unit_laws.specs.Sections.{Section}
 use Rattle.rv_unit_laws.specs.Tables.{Tables, alignment_of, padding}
-use Rattle.rv_object_types.specs.Padding.{operations_in}
+use Rattle.rv_object_laws.specs.Padding.{operations_in}
 use Rattle.rv_source_laws.specs.Located.{Located}
 use Rattle.rv_source_laws.proofs.HeldLemmas.{IsHeld}
 use Rattle.rv_assemble_laws.specs.LaidStatements.{LaidStatement, expression_value, Tile, IsPaddedIn, DirectiveSize, HasSize}

@@ -8,8 +8,8 @@ use Rattle.rv_statement.specs.Statement.{StatementKind, Directs, Sets}
 use Rattle.rv_unit_laws.specs.Bindings.{is_shared}
 use Rattle.rv_unit_laws.specs.Tables.{Tables, Assignment, assigned_ever}
 use Rattle.rv_source_laws.specs.Exports.{defined_name, names_where}
-use Rattle.rv_object_types.specs.declared.symbol.Definition.{Definition as Defined}
-use Rattle.rv_object_types.specs.declared.symbol.Definition.TheVariants.{Undefined, Absolute, InSection, Skipped}
+use Rattle.rv_object_laws.specs.declared.symbol.Definition.{Definition as Defined}
+use Rattle.rv_object_laws.specs.declared.symbol.Definition.TheVariants.{Undefined, Absolute, InSection, Skipped}
 use Rattle.rv_assemble_laws.specs.LaidStatements.{LaidStatement, LaidPart}
 use Rattle.rv_assemble_laws.specs.Symbols.{SymbolUse, laid_at, after_found, assigned_definition, statement_definition, local_symbol, shared_symbol, references_in, references_of, references, is_meant, are_together, unnamed_symbols, is_absolute, named_symbols, local_symbols, exports_of, exports, missing_name, distinct_from, symbols_of}
 use Rattle.rv_unique_object_laws.proofs.RecodedLemmas.{recode, IsAlike, Recoded, Ended, More}

@@ -6,7 +6,7 @@ use Rattle.std.specs.List.{list_any}
 use Rattle.rv_statement.specs.Statement.{StatementKind, Label, Numbered, Instruction, Directs}
 use Rattle.rv_unit_laws.specs.Tables.{Tables}
 use Rattle.rv_pseudo_laws.specs.Code.{code}
-use Rattle.rv_object_types.specs.declared.row.Row.{Row}
+use Rattle.rv_object_laws.specs.declared.row.Row.{Row}
 use Rattle.rv_source_laws.specs.Located.{Located}
 use Rattle.rv_source_laws.specs.Compressed.{is_compressed_code}
 use Rattle.rv_assemble_laws.specs.CodeFields.{part_fields}

@@ -11,7 +11,7 @@ use Rattle.rv_source_laws.specs.Located.{Located, located_from, is_placed}
 use Rattle.rv_source_laws.specs.Sizes.{code_padding, AreLeast}
 use Rattle.rv_source_laws.proofs.HeldLemmas.{IsHeld, Held, all_held}
 use Rattle.rv_source_laws.proofs.HomesLemmas.{all_map, homes_from}
-use Rattle.rv_object_types.specs.Object.{Section, Symbol, Object}
+use Rattle.rv_object_laws.specs.Object.{Section, Symbol, Object}
 use Rattle.rv_assemble_laws.specs.Coded.{IsCode}
 use Rattle.rv_assemble_laws.specs.LaidStatements.{LaidStatement, expression_value, templates, laid_part, parts_of, part_bytes, laid_in, Tile, IsPaddedIn, DirectiveSize, HasSize}
 use Rattle.rv_assemble_laws.specs.Refusals.{HasCodeSize, HasSizeAt, AreCodeSizes}

@@ -11,7 +11,7 @@ use Rattle.rv_unit_laws.specs.Sections.{Section as SourceSection, Opened, most_s
 use Rattle.rv_unit_laws.specs.Tables.{Tables, at_start, with_section, after, after_all, tables, opened_of, longest_section}
 use Rattle.rv_unit_laws.proofs.EnteringLemmas.{sections_more, sections_count, entering}
 use Rattle.rv_unit_laws.proofs.OpenedLemmas.{entered_in, after_opened}
-use Rattle.rv_object_types.specs.Object.{Section, Symbol, Object, size_of}
+use Rattle.rv_object_laws.specs.Object.{Section, Symbol, Object, size_of}
 use Rattle.rv_assemble_laws.specs.LaidStatements.{LaidStatement, end_of, part_bytes, parts, laid_in}
 use Rattle.rv_assemble_laws.specs.IsObjectOf.{Numbering, contents_of, IsSectionOf, AreSectionsOf, IsObjectOf}
 use Rattle.rv_assemble_laws.proofs.FilledLemmas.{filled}

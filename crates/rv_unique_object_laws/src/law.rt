@@ -7,7 +7,7 @@ ghost use Rattle.rv_parse_laws.specs.Reading.{Reads};
 ghost use Rattle.rv_unit_laws.specs.Sections.{most_sections};
 ghost use Rattle.rv_unit_laws.specs.Tables.{longest_section};
 ghost use Rattle.rv_unit_laws.specs.Faults.{StatementFault};
-ghost use Rattle.rv_object_types.specs.Object.{Object, size_of};
+ghost use Rattle.rv_object_laws.specs.Object.{Object, size_of};
 ghost use Rattle.rv_object_file_laws.specs.Written.{HasFile};
 ghost use Rattle.rv_assemble_laws.specs.Refusals.{IsTooLong, IsStatementsFault};
 ghost use Rattle.rv_assemble_laws.specs.ShownNames.{HasNames};

@@ -18,8 +18,8 @@ use Rattle.rv_statement.specs.declared.mnemonic.Mnemonic.TheVariants.{Registers,
 use Rattle.rv_statement.specs.Statement.{Operand, Register, Target, Expression}
 use Rattle.rv_pseudo_laws.specs.Code.{Part, Closed, Open, Joined, Constants, b_type, jal, inverted, branch, jump, far, named_form, code}
 use Rattle.rv_pseudo_laws.specs.Valid.{IsOpen}
-use Rattle.rv_object_laws.specs.CallSites as objects
-use Rattle.rv_object_laws.specs.Shortened.{empty_jump, short_call}
+use Rattle.rv_link_laws.specs.CallSites as objects
+use Rattle.rv_link_laws.specs.Shortened.{empty_jump, short_call}
 use Rattle.rv_assemble_laws.specs.Coded.{IsCodedPart}
 use Rattle.rv_source_laws.specs.Lines.{other_operand}
 use Rattle.rv_source_laws.specs.Sizes.{target_in}

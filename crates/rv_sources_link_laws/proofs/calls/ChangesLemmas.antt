@@ -24,14 +24,14 @@ use Rattle.rv_source_laws.specs.Program.{Program, tables_in, form as program_for
 use Rattle.rv_source_laws.specs.Sizes.{target_in}
 use Rattle.rv_source_laws.specs.Sized.{is_call_mnemonic}
 use Rattle.rv_source_laws.specs.Shortened.{link_register, Placed, aim_of, aim_offset, sites_by, alignment_sites, call_sites, shortenable, has_compressed, is_compressible}
-use Rattle.rv_object_types.specs.Object.{Relocation, Section, Symbol, Object, stored}
-use Rattle.rv_object_types.specs.Padding.{no_operations}
-use Rattle.rv_object_types.specs.Valid.{is_align, held}
-use Rattle.rv_object_laws.specs.CallSites as objects
-use Rattle.rv_object_laws.specs.CallSites.{word_at, are_call_words, link_register as linked_by, has_relax, meets, is_entered, target_place, is_text_place, text_offset, constant, is_permitted, may_change, site_of}
-use Rattle.rv_object_laws.specs.Inputs.{Starts, InputSection}
-use Rattle.rv_object_laws.specs.Moves.{full_padding, alignment_of}
-use Rattle.rv_object_laws.specs.Names.{Place, symbol_place}
+use Rattle.rv_object_laws.specs.Object.{Relocation, Section, Symbol, Object, stored}
+use Rattle.rv_object_laws.specs.Padding.{no_operations}
+use Rattle.rv_object_laws.specs.Valid.{is_align, held}
+use Rattle.rv_link_laws.specs.CallSites as objects
+use Rattle.rv_link_laws.specs.CallSites.{word_at, are_call_words, link_register as linked_by, has_relax, meets, is_entered, target_place, is_text_place, text_offset, constant, is_permitted, may_change, site_of}
+use Rattle.rv_link_laws.specs.Inputs.{Starts, InputSection}
+use Rattle.rv_link_laws.specs.Moves.{full_padding, alignment_of}
+use Rattle.rv_link_laws.specs.Names.{Place, symbol_place}
 use Rattle.rv_assemble_laws.specs.CodeFields.{relax_fields}
 use Rattle.rv_assemble_laws.specs.Templates.{Template, Coded, Open, template_fields, align_field, padding_templates}
 use Rattle.rv_assemble_laws.specs.LaidStatements.{LaidStatement, expression_value, laid_part, part_bytes, IsPaddedIn}

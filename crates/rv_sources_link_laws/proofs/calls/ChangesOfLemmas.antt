@@ -19,11 +19,11 @@ use Rattle.rv_source_laws.specs.Sizes.{target_in}
 use Rattle.rv_source_laws.specs.Sized.{is_call_mnemonic}
 use Rattle.rv_source_laws.specs.Shortened.{is_call_statement, link_register, Placed, aim_of, sites_by, sites_at, call_sites, is_compressible, has_compressed}
 use Rattle.rv_source_laws.proofs.HeldLemmas.{IsHeld}
-use Rattle.rv_object_types.specs.Object.{Relocation, Section, Symbol, Object, stored}
-use Rattle.rv_object_types.specs.Valid.{held}
-use Rattle.rv_object_laws.specs.CallSites.{link_register as linked_by, are_call_words, is_relax, has_relax, meets, is_entered, inserted_change, in_order, changes, site_of}
-use Rattle.rv_object_laws.specs.Inputs.{Starts, InputSection}
-use Rattle.rv_object_laws.specs.Names.{symbol_place}
+use Rattle.rv_object_laws.specs.Object.{Relocation, Section, Symbol, Object, stored}
+use Rattle.rv_object_laws.specs.Valid.{held}
+use Rattle.rv_link_laws.specs.CallSites.{link_register as linked_by, are_call_words, is_relax, has_relax, meets, is_entered, inserted_change, in_order, changes, site_of}
+use Rattle.rv_link_laws.specs.Inputs.{Starts, InputSection}
+use Rattle.rv_link_laws.specs.Names.{symbol_place}
 use Rattle.rv_assemble_laws.specs.CodeFields.{relax_fields}
 use Rattle.rv_assemble_laws.specs.Coded.{constants}
 use Rattle.rv_assemble_laws.specs.LaidStatements.{LaidStatement, expression_value, laid_part, part_bytes, coded_templates, HasSize}

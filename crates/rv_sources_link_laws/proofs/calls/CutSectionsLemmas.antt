@@ -16,12 +16,12 @@ use Rattle.rv_unit_laws.specs.declared.section_type.SectionType.{SectionType}
 use Rattle.rv_unit_laws.specs.declared.section_type.SectionType.TheVariants as types
 use Rattle.rv_unit_laws.specs.Sections.{Section as SourceSection, is_nobits_type, is_nobits, goes_to_text as source_text}
 use Rattle.rv_unit_laws.specs.Tables.{Tables, longest_section}
-use Rattle.rv_object_types.specs.Object.{Progbits, Note, Nobits, Relocation, Section, Symbol, stored}
-use Rattle.rv_object_types.specs.Valid.{held}
-use Rattle.rv_object_laws.specs.CallSites.{word_at, link_register as linked_by, inserted_change, in_order}
-use Rattle.rv_object_laws.specs.Inputs.{goes_to_text}
-use Rattle.rv_object_laws.specs.Moves.{Move, dropped, new_offset, kept, lost}
-use Rattle.rv_object_laws.specs.Shortened.{Sizes, short_call, is_shortened, cut, cuts, shortened_relocation, shortened_contents, shortened_text}
+use Rattle.rv_object_laws.specs.Object.{Progbits, Note, Nobits, Relocation, Section, Symbol, stored}
+use Rattle.rv_object_laws.specs.Valid.{held}
+use Rattle.rv_link_laws.specs.CallSites.{word_at, link_register as linked_by, inserted_change, in_order}
+use Rattle.rv_link_laws.specs.Inputs.{goes_to_text}
+use Rattle.rv_link_laws.specs.Moves.{Move, dropped, new_offset, kept, lost}
+use Rattle.rv_link_laws.specs.Shortened.{Sizes, short_call, is_shortened, cut, cuts, shortened_relocation, shortened_contents, shortened_text}
 use Rattle.rv_source_laws.specs.Shortened.{link_register}
 use Rattle.rv_assemble_laws.specs.LaidStatements.{LaidStatement, LaidPart, part_bytes, end_of}
 use Rattle.rv_assemble_laws.specs.Symbols.{references_in}

@@ -9,10 +9,10 @@ use Rattle.std.specs.List.{AllByRecursion}
 use Rattle.rv_isa.specs.declared.kind.Kind.{Kind}
 use Rattle.rv_isa.specs.declared.kind.Kind.TheVariants as kinds
 use Rattle.rv_unit_laws.specs.Tables.{Tables}
-use Rattle.rv_object_types.specs.Object.{Relocation}
-use Rattle.rv_object_types.specs.Padding.{operations_in}
-use Rattle.rv_object_laws.specs.Moves.{Move, dropped, new_offset, kept, lost, lost_in}
-use Rattle.rv_object_laws.specs.Shortened.{Sizes, short_call, is_shortened, shortened_kind, shortened_relocation}
+use Rattle.rv_object_laws.specs.Object.{Relocation}
+use Rattle.rv_object_laws.specs.Padding.{operations_in}
+use Rattle.rv_link_laws.specs.Moves.{Move, dropped, new_offset, kept, lost, lost_in}
+use Rattle.rv_link_laws.specs.Shortened.{Sizes, short_call, is_shortened, shortened_kind, shortened_relocation}
 use Rattle.rv_source_laws.specs.Shortened.{is_call_statement, link_register}
 use Rattle.rv_assemble_laws.specs.CodeFields.{relax_fields}
 use Rattle.rv_assemble_laws.specs.Templates.{Open, Coded, template_fields}

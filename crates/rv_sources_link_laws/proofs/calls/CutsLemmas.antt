@@ -14,9 +14,9 @@ use Rattle.rv_unit_laws.specs.Sections.{Section as SourceSection}
 use Rattle.rv_unit_laws.specs.Tables.{Tables, alignment_of}
 use Rattle.rv_source_laws.specs.Sized.{is_call_mnemonic}
 use Rattle.rv_source_laws.specs.Shortened.{is_call_statement, link_register}
-use Rattle.rv_object_types.specs.Object.{Relocation}
-use Rattle.rv_object_laws.specs.CallSites as objects
-use Rattle.rv_object_laws.specs.Shortened.{Sizes, is_shortened}
+use Rattle.rv_object_laws.specs.Object.{Relocation}
+use Rattle.rv_link_laws.specs.CallSites as objects
+use Rattle.rv_link_laws.specs.Shortened.{Sizes, is_shortened}
 use Rattle.rv_assemble_laws.specs.CodeFields.{relax_fields}
 use Rattle.rv_assemble_laws.specs.Coded.{constants}
 use Rattle.rv_assemble_laws.specs.Templates.{Template, Fixed, Datum, Coded, Open, value_fields, template_fields, absolute_kind, add_kind, subtract_kind, padding_templates}

@@ -10,10 +10,10 @@ use Rattle.rv_unit_laws.specs.Sections.{Section as SourceSection, goes_to_text a
 use Rattle.rv_unit_laws.specs.Tables.{Tables, tables}
 use Rattle.rv_source_laws.specs.Located.{Located}
 use Rattle.rv_map.specs.declared.map.SectionId.{SectionId}
-use Rattle.rv_object_types.specs.Object.{Object}
-use Rattle.rv_object_laws.specs.Inputs.{Starts, inputs_from, inputs_of, goes_to_text}
-use Rattle.rv_object_laws.specs.Moves.{Move}
-use Rattle.rv_object_laws.specs.Shortened.{Sizes}
+use Rattle.rv_object_laws.specs.Object.{Object}
+use Rattle.rv_link_laws.specs.Inputs.{Starts, inputs_from, inputs_of, goes_to_text}
+use Rattle.rv_link_laws.specs.Moves.{Move}
+use Rattle.rv_link_laws.specs.Shortened.{Sizes}
 use Rattle.rv_source_laws.specs.Sized.{statement_size}
 use Rattle.rv_source_laws.specs.Shortened.{is_call_statement}
 use Rattle.rv_assemble_laws.specs.LaidStatements.{LaidStatement, expression_value}

@@ -16,14 +16,14 @@ use Rattle.rv_layout_laws.specs.Calls.{Offers, site_at as spot_at, is_call as is
 use Rattle.rv_source_laws.specs.Sized.{is_call_mnemonic}
 use Rattle.rv_source_laws.specs.Shortened.{is_call_statement, link_register}
 use Rattle.rv_source_laws.proofs.HomesLemmas.{all_filter}
-use Rattle.rv_object_types.specs.Object.{Relocation, Section, Object, stored, size_of}
-use Rattle.rv_object_types.specs.Valid.{held}
-use Rattle.rv_object_laws.specs.CallSites as objects
-use Rattle.rv_object_laws.specs.CallSites.{link_register as linked_by, is_compressible, base_in, start_padding, inserted_change, in_order, changes, may_change, site_of, sites_from, sites_of}
-use Rattle.rv_object_laws.specs.Inputs.{InputSection, goes_to_text, inputs_from, inputs_of, inputs, begins_at}
-use Rattle.rv_object_laws.specs.Moves.{full_padding, has_padding, alignment_of}
-use Rattle.rv_object_laws.specs.Names.{object_at}
-use Rattle.rv_object_laws.specs.Shortened.{sizes_by}
+use Rattle.rv_object_laws.specs.Object.{Relocation, Section, Object, stored, size_of}
+use Rattle.rv_object_laws.specs.Valid.{held}
+use Rattle.rv_link_laws.specs.CallSites as objects
+use Rattle.rv_link_laws.specs.CallSites.{link_register as linked_by, is_compressible, base_in, start_padding, inserted_change, in_order, changes, may_change, site_of, sites_from, sites_of}
+use Rattle.rv_link_laws.specs.Inputs.{InputSection, goes_to_text, inputs_from, inputs_of, inputs, begins_at}
+use Rattle.rv_link_laws.specs.Moves.{full_padding, has_padding, alignment_of}
+use Rattle.rv_link_laws.specs.Names.{object_at}
+use Rattle.rv_link_laws.specs.Shortened.{sizes_by}
 use Rattle.rv_assemble_laws.specs.LaidStatements.{LaidStatement, expression_value, laid_part, part_bytes, laid_in, end_of, HasSize}
 use Rattle.rv_assemble_laws.specs.IsObjectOf.{Numbering, relocations_from}
 use Rattle.rv_assemble_laws.proofs.FilledLemmas.{bytes_append}

@@ -21,7 +21,7 @@ use Rattle.rv_source_laws.specs.Lines.{operand_of}
 use Rattle.rv_source_laws.specs.Sized.{is_call_mnemonic}
 use Rattle.rv_source_laws.specs.Shortened.{is_call_statement, link_register}
 use Rattle.rv_source_laws.proofs.HeldLemmas.{none_left}
-use Rattle.rv_object_laws.specs.Shortened.{short_call}
+use Rattle.rv_link_laws.specs.Shortened.{short_call}
 use Rattle.rv_assemble_laws.specs.CodeFields.{symbol_field, low_field, field_of, relax_fields}
 use Rattle.rv_assemble_laws.specs.Coded.{constants, AreCodedParts, joined, instructions_in}
 use Rattle.rv_pseudo_laws.specs.InstructionFaults.{operand_faults, scratch_faults, own_faults, has_row as has_operands_row}

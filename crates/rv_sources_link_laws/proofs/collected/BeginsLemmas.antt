@@ -13,11 +13,11 @@ use Rattle.rv_source_laws.specs.Exports.{defined_name}
 use Rattle.rv_source_laws.specs.Program as source
 use Rattle.rv_source_laws.specs.Resolves.{is_label}
 use Rattle.rv_source_laws.specs.Collected.{home_of, entry_home, is_in}
-use Rattle.rv_object_types.specs.declared.symbol.Definition.TheVariants.{InSection}
-use Rattle.rv_object_types.specs.Object.{Section, Object}
-use Rattle.rv_object_laws.specs.Names as objects
-use Rattle.rv_object_laws.specs.Names.{Place, is_in_text, can_begin, place_in}
-use Rattle.rv_object_laws.specs.Collects.{run_place, lies_in}
+use Rattle.rv_object_laws.specs.declared.symbol.Definition.TheVariants.{InSection}
+use Rattle.rv_object_laws.specs.Object.{Section, Object}
+use Rattle.rv_link_laws.specs.Names as objects
+use Rattle.rv_link_laws.specs.Names.{Place, is_in_text, can_begin, place_in}
+use Rattle.rv_link_laws.specs.Collects.{run_place, lies_in}
 use Rattle.rv_assemble_laws.specs.LaidStatements.{LaidStatement, expression_value, laid_in, HasSize}
 use Rattle.rv_assemble_laws.specs.Symbols.{laid_at, after_found, assigned_definition, statement_definition}
 use Rattle.rv_assemble_laws.specs.IsObjectOf.{IsInData, StandsInData, IsObjectOf}

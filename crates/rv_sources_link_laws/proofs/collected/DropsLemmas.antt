@@ -9,9 +9,9 @@ use Rattle.rv_statement.specs.Statement.{Statement}
 use Rattle.rv_source_laws.specs.Program as source
 use Rattle.rv_source_laws.specs.Program.{Program, chosen}
 use Rattle.rv_source_laws.specs.Collected.{unplaced, graph_of as sources_graph}
-use Rattle.rv_object_types.specs.Object.{Object}
-use Rattle.rv_object_laws.specs.Names as objects
-use Rattle.rv_object_laws.specs.Collects.{Collects, graph_of as objects_graph}
+use Rattle.rv_object_laws.specs.Object.{Object}
+use Rattle.rv_link_laws.specs.Names as objects
+use Rattle.rv_link_laws.specs.Collects.{Collects, graph_of as objects_graph}
 use Rattle.rv_sources_link_laws.specs.Joins.{AreObjectsOf}
 use Rattle.rv_sources_link_laws.proofs.collected.LoadedLemmas.{loaded_alike}
 use Rattle.rv_sources_link_laws.proofs.collected.HereLemmas.{AreHere, all_here, PairsOf, all_made}

@@ -13,8 +13,8 @@ use Rattle.rv_source_laws.specs.Program as source
 use Rattle.rv_source_laws.specs.Program.{MaybeMapped, Program, tables_in}
 use Rattle.rv_source_laws.specs.Shortened.{aim}
 use Rattle.rv_source_laws.specs.Collected.{unplaced, home_of, home_at}
-use Rattle.rv_object_types.specs.Object.{Object}
-use Rattle.rv_object_laws.specs.Names as objects
+use Rattle.rv_object_laws.specs.Object.{Object}
+use Rattle.rv_link_laws.specs.Names as objects
 use Rattle.rv_assemble_laws.specs.LaidStatements.{LaidStatement}
 use Rattle.rv_assemble_laws.specs.Symbols.{laid_at}
 use Rattle.rv_assemble_laws.specs.IsObjectOf.{IsObjectOf}

@@ -8,10 +8,10 @@ use Rattle.rv_statement.specs.Statement.{Statement}
 use Rattle.rv_unit_laws.specs.Sections.{Section as SourceSection}
 use Rattle.rv_unit_laws.specs.Tables.{Tables, tables, opened_of}
 use Rattle.rv_source_laws.specs.Collected.{loaded_from, loaded_of}
-use Rattle.rv_object_types.specs.Object.{Section, Symbol, Object}
-use Rattle.rv_object_laws.specs.Inputs.{InputSection, inputs_from, inputs_of}
-use Rattle.rv_object_laws.specs.IsLinkOf.{is_loaded}
-use Rattle.rv_object_laws.specs.Collects.{id_of, loaded_sections}
+use Rattle.rv_object_laws.specs.Object.{Section, Symbol, Object}
+use Rattle.rv_link_laws.specs.Inputs.{InputSection, inputs_from, inputs_of}
+use Rattle.rv_link_laws.specs.IsLinkOf.{is_loaded}
+use Rattle.rv_link_laws.specs.Collects.{id_of, loaded_sections}
 use Rattle.rv_assemble_laws.specs.LaidStatements.{LaidStatement}
 use Rattle.rv_assemble_laws.specs.IsObjectOf.{Numbering, AreSectionsOf}
 use Rattle.rv_sources_link_laws.specs.Joins.{AreObjectsOf}

@@ -13,10 +13,10 @@ use Rattle.rv_source_laws.specs.Program as source
 use Rattle.rv_source_laws.specs.Program.{Program, chosen}
 use Rattle.rv_source_laws.specs.Shortened.{Aim, aim, assigned_aim, defined_aim, export_aim, shared_aim, aim_by}
 use Rattle.rv_source_laws.specs.Collected.{home_at}
-use Rattle.rv_object_types.specs.Object.{Symbol, Object}
-use Rattle.rv_object_types.specs.Bindings.{is_weak}
-use Rattle.rv_object_laws.specs.Names as objects
-use Rattle.rv_object_laws.specs.Names.{Place, is_sure, is_sure_by, place_in, shared_place, symbol_place}
+use Rattle.rv_object_laws.specs.Object.{Symbol, Object}
+use Rattle.rv_object_laws.specs.Bindings.{is_weak}
+use Rattle.rv_link_laws.specs.Names as objects
+use Rattle.rv_link_laws.specs.Names.{Place, is_sure, is_sure_by, place_in, shared_place, symbol_place}
 use Rattle.rv_assemble_laws.specs.LaidStatements.{LaidStatement}
 use Rattle.rv_assemble_laws.specs.Symbols.{laid_at, after_found, assigned_definition, statement_definition, IsNamed, IsOwn, IsOuter, IsDefinedBy, StandsFor}
 use Rattle.rv_assemble_laws.specs.IsObjectOf.{IsObjectOf}

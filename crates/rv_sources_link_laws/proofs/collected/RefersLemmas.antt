@@ -15,10 +15,10 @@ use Rattle.rv_unit_laws.specs.Tables.{Tables, tables, at_start, after, opened_of
 use Rattle.rv_source_laws.specs.Located.{located_now, located_from, located_of}
 use Rattle.rv_source_laws.specs.Program.{MaybeMapped, Program}
 use Rattle.rv_source_laws.specs.Collected.{is_at as stands_at, statement_refers, refers as sources_refer}
-use Rattle.rv_object_types.specs.Object.{Section, Object}
-use Rattle.rv_object_laws.specs.Inputs.{InputSection, inputs_from, inputs_of, inputs}
-use Rattle.rv_object_laws.specs.IsLinkOf.{is_loaded}
-use Rattle.rv_object_laws.specs.Collects.{id_of, loaded_sections, leads_to, is_at, refers as objects_refer}
+use Rattle.rv_object_laws.specs.Object.{Section, Object}
+use Rattle.rv_link_laws.specs.Inputs.{InputSection, inputs_from, inputs_of, inputs}
+use Rattle.rv_link_laws.specs.IsLinkOf.{is_loaded}
+use Rattle.rv_link_laws.specs.Collects.{id_of, loaded_sections, leads_to, is_at, refers as objects_refer}
 use Rattle.rv_assemble_laws.specs.LaidStatements.{LaidStatement, laid_in}
 use Rattle.rv_assemble_laws.specs.IsObjectOf.{AreSectionsOf, IsObjectOf}
 use Rattle.rv_sources_link_laws.specs.Joins.{AreObjectsOf}

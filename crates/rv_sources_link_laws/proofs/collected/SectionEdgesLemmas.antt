@@ -14,10 +14,10 @@ use Rattle.rv_unit_laws.specs.Tables.{Tables, tables, opened_of, sure_definition
 use Rattle.rv_source_laws.specs.Program.{Program}
 use Rattle.rv_source_laws.specs.Shortened.{aim_by}
 use Rattle.rv_source_laws.specs.Collected.{home_at, is_in, statement_refers}
-use Rattle.rv_object_types.specs.Object.{Symbol, Object}
-use Rattle.rv_object_laws.specs.Inputs.{InputSection}
-use Rattle.rv_object_laws.specs.Names.{symbol_place}
-use Rattle.rv_object_laws.specs.Collects.{lies_in, leads_to}
+use Rattle.rv_object_laws.specs.Object.{Symbol, Object}
+use Rattle.rv_link_laws.specs.Inputs.{InputSection}
+use Rattle.rv_link_laws.specs.Names.{symbol_place}
+use Rattle.rv_link_laws.specs.Collects.{lies_in, leads_to}
 use Rattle.rv_assemble_laws.specs.Templates.{Open as Field, template_fields}
 use Rattle.rv_assemble_laws.specs.LaidStatements.{LaidStatement, LaidPart, expression_value, part_bytes, templates, parts_of, parts, laid_in, HasSize}
 use Rattle.rv_assemble_laws.specs.Symbols.{SymbolUse, use_of, StandsFor}

@@ -9,10 +9,10 @@ use Rattle.rv_source_laws.specs.Located.{Located, has_row}
 use Rattle.rv_source_laws.specs.Program.{Program}
 use Rattle.rv_source_laws.specs.Fits as source
 use Rattle.rv_source_laws.specs.Shortened.{Placed}
-use Rattle.rv_object_types.specs.Object.{size_of}
-use Rattle.rv_object_laws.specs.CallSites.{start_padding, base_in}
-use Rattle.rv_object_laws.specs.Inputs.{Starts, InputSection}
-use Rattle.rv_object_laws.specs.Shortened.{Sizes}
+use Rattle.rv_object_laws.specs.Object.{size_of}
+use Rattle.rv_link_laws.specs.CallSites.{start_padding, base_in}
+use Rattle.rv_link_laws.specs.Inputs.{Starts, InputSection}
+use Rattle.rv_link_laws.specs.Shortened.{Sizes}
 use Rattle.rv_assemble_laws.specs.LaidStatements.{LaidStatement, laid_in}
 use Rattle.rv_assemble_laws.specs.Symbols.{laid_at}
 use Rattle.rv_sources_link_laws.proofs.names.KnownLemmas.{all_found}

@@ -12,10 +12,10 @@ use Rattle.rv_unit_laws.specs.Tables.{Tables}
 use Rattle.rv_map.specs.Limits.{IsGlobal}
 use Rattle.rv_source_laws.specs.Program.{Program, tables_in, address_at}
 use Rattle.rv_source_laws.proofs.HomesLemmas.{all_filter}
-use Rattle.rv_object_types.specs.Object.{Relocation, Section, Object}
-use Rattle.rv_object_laws.specs.Moves.{alignments_of, moves, new_offset}
-use Rattle.rv_object_laws.specs.Inputs.{Starts, InputSection}
-use Rattle.rv_object_laws.specs.Values.{target, value, IsRelocated}
+use Rattle.rv_object_laws.specs.Object.{Relocation, Section, Object}
+use Rattle.rv_link_laws.specs.Moves.{alignments_of, moves, new_offset}
+use Rattle.rv_link_laws.specs.Inputs.{Starts, InputSection}
+use Rattle.rv_link_laws.specs.Values.{target, value, IsRelocated}
 use Rattle.rv_assemble_laws.specs.Templates.{Open, template_fields}
 use Rattle.rv_assemble_laws.specs.LaidStatements.{LaidStatement, LaidPart, expression_value, part_bytes, laid_in}
 use Rattle.rv_assemble_laws.specs.Symbols.{use_of, references_in, laid_at}

@@ -26,10 +26,10 @@ use Rattle.rv_source_laws.specs.Located.{has_row}
 use Rattle.rv_source_laws.specs.Program.{Mapped, Program, tables_in, address_at, home_address, own_address, own_value as own_value_in_map, in_operand, have_values, has_value, has_values, address as address_in, number as number_of, value as value_in_map}
 use Rattle.rv_source_laws.specs.Fits.{IsPaired}
 use Rattle.rv_source_laws.specs.Lines.{other_operand, operand_of, operand_number, operand_value, field_value, distance, pair_of, pair_distance, label_section, upper_at, statement_section}
-use Rattle.rv_object_types.specs.Object.{Section, Object}
-use Rattle.rv_object_laws.specs.Moves.{alignments_of}
-use Rattle.rv_object_laws.specs.Inputs.{Starts}
-use Rattle.rv_object_laws.specs.Values.{value, IsRelocated}
+use Rattle.rv_object_laws.specs.Object.{Section, Object}
+use Rattle.rv_link_laws.specs.Moves.{alignments_of}
+use Rattle.rv_link_laws.specs.Inputs.{Starts}
+use Rattle.rv_link_laws.specs.Values.{value, IsRelocated}
 use Rattle.rv_assemble_laws.specs.CodeFields.{symbol_field, low_field, low_field_at, label_field, field_of, relax_fields}
 use Rattle.rv_sources_link_laws.proofs.statements.BeginningsLemmas.{is_upper_part}
 use Rattle.rv_sources_link_laws.proofs.statements.MarkedLemmas.{marks, is_marked, part_fields, relaxes, marks_relax, marked_one, low_marked}

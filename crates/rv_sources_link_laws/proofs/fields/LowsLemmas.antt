@@ -15,12 +15,12 @@ use Rattle.rv_source_laws.specs.Located.{has_row}
 use Rattle.rv_source_laws.specs.Program.{Mapped, Program, tables_in, address_at, home_address}
 use Rattle.rv_source_laws.specs.Fits.{mapped_in}
 use Rattle.rv_source_laws.specs.Lines.{target as target_in, distance, takes_upper, is_upper_at, upper_at, statement_section}
-use Rattle.rv_object_types.specs.declared.symbol.Definition.{Definition as Defined}
-use Rattle.rv_object_types.specs.Object.{Relocation, Section, Symbol, Object}
-use Rattle.rv_object_laws.specs.Moves.{alignments_of, moves}
-use Rattle.rv_object_laws.specs.Inputs.{Starts}
-use Rattle.rv_object_laws.specs.Names.{is_sure_by, place_in, shared_place, symbol_place}
-use Rattle.rv_object_laws.specs.Values.{value, value_at, value_in, paired, own_value, high_at, is_high, IsRelocated}
+use Rattle.rv_object_laws.specs.declared.symbol.Definition.{Definition as Defined}
+use Rattle.rv_object_laws.specs.Object.{Relocation, Section, Symbol, Object}
+use Rattle.rv_link_laws.specs.Moves.{alignments_of, moves}
+use Rattle.rv_link_laws.specs.Inputs.{Starts}
+use Rattle.rv_link_laws.specs.Names.{is_sure_by, place_in, shared_place, symbol_place}
+use Rattle.rv_link_laws.specs.Values.{value, value_at, value_in, paired, own_value, high_at, is_high, IsRelocated}
 use Rattle.rv_assemble_laws.specs.Templates.{Open, open_at}
 use Rattle.rv_assemble_laws.specs.LaidStatements.{LaidStatement, laid_in}
 use Rattle.rv_assemble_laws.specs.Symbols.{laid_at, after_statement, StandsFor}

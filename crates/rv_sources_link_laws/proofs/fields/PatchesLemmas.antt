@@ -12,12 +12,12 @@ use Rattle.rv_isa_laws.specs.Bytes.{little_endian, number_in, zeros}
 use Rattle.rv_reloc.specs.Fields.{patched, written as field_written}
 use Rattle.rv_text_laws.specs.Expression.{Primary}
 use Rattle.rv_text_laws.specs.Values.{Meaning, Constant, Symbolic, Difference, Faulty, add, subtract}
-use Rattle.rv_object_types.specs.Object.{Relocation}
+use Rattle.rv_object_laws.specs.Object.{Relocation}
 use Rattle.rv_source_laws.specs.Program.{resolved}
 use Rattle.rv_assemble_laws.specs.Templates.{Template, Fixed, Datum, Coded, Open, opened, template_fields, IsTemplate, IsWide, IsWidth}
 use Rattle.rv_assemble_laws.specs.LaidStatements.{LaidPart, laid_part, part_bytes}
 use Rattle.rv_assemble_laws.specs.IsObjectOf.{Numbering, relocation_at, relocations_from}
-use Rattle.rv_object_laws.specs.Values.{patched_at, applied}
+use Rattle.rv_link_laws.specs.Values.{patched_at, applied}
 use Rattle.rv_sources_link_laws.proofs.fields.NumbersLemmas.{worth, address_32, address_64, difference_8, difference_16, difference_32, difference_64}
 pub use Rattle.rv_filling_laws.proofs.AllLemmas.{little_long}
 

@@ -13,8 +13,8 @@ use Rattle.rv_pseudo_laws.specs.Filled.{are_closed}
 use Rattle.rv_unit_laws.specs.Sections.{Section as SourceSection}
 use Rattle.rv_unit_laws.specs.Tables.{Tables}
 use Rattle.rv_source_laws.proofs.HeldLemmas.{IsHeld}
-use Rattle.rv_object_types.specs.Object.{Relocation}
-use Rattle.rv_object_types.specs.Padding.{no_operations}
+use Rattle.rv_object_laws.specs.Object.{Relocation}
+use Rattle.rv_object_laws.specs.Padding.{no_operations}
 use Rattle.rv_compress.specs.declared.form.Compressed.{Compressed}
 use Rattle.rv_assemble_laws.specs.Coded.{IsCodedPart, AreCodedParts}
 use Rattle.rv_assemble_laws.specs.Templates.{Template, Fixed, Datum, Coded, Open, template_fields, padding_templates}

@@ -16,13 +16,13 @@ use Rattle.rv_source_laws.specs.Program.{MaybeMapped, Program, tables_in, chosen
 use Rattle.rv_source_laws.specs.Fits as fits
 use Rattle.rv_source_laws.specs.Exports.{defined_name}
 use Rattle.rv_source_laws.specs.Shortened.{Placed, aim, assigned_aim, defined_aim, export_aim, shared_aim, aim_by, aim_of}
-use Rattle.rv_object_types.specs.Object.{Section, Symbol, Object, size_of}
-use Rattle.rv_object_laws.specs.CallSites.{base, home, moving, past_end, is_text_place, excess}
-use Rattle.rv_object_laws.specs.Inputs.{Starts, InputSection, goes_to_text, inputs_from, inputs_of, inputs}
-use Rattle.rv_object_laws.specs.Names as objects
-use Rattle.rv_object_types.specs.Bindings.{is_weak}
-use Rattle.rv_object_laws.specs.Names.{Place, is_sure, is_sure_by, place_in, shared_place, symbol_place, no_object, object_at, is_in_text}
-use Rattle.rv_object_laws.specs.Shortened.{Sizes}
+use Rattle.rv_object_laws.specs.Object.{Section, Symbol, Object, size_of}
+use Rattle.rv_link_laws.specs.CallSites.{base, home, moving, past_end, is_text_place, excess}
+use Rattle.rv_link_laws.specs.Inputs.{Starts, InputSection, goes_to_text, inputs_from, inputs_of, inputs}
+use Rattle.rv_link_laws.specs.Names as objects
+use Rattle.rv_object_laws.specs.Bindings.{is_weak}
+use Rattle.rv_link_laws.specs.Names.{Place, is_sure, is_sure_by, place_in, shared_place, symbol_place, no_object, object_at, is_in_text}
+use Rattle.rv_link_laws.specs.Shortened.{Sizes}
 use Rattle.rv_assemble_laws.specs.LaidStatements.{LaidStatement, laid_in, end_of}
 use Rattle.rv_assemble_laws.specs.Symbols.{laid_at, after_found, assigned_definition, statement_definition, IsNamed, IsOwn, IsOuter, IsDefinedBy, StandsFor}
 use Rattle.rv_assemble_laws.specs.IsObjectOf.{IsInData, StandsInData}

@@ -3,9 +3,9 @@
 use Rattle.std.proofs.Common.{◌≡◌, ℕ, Bool, true, false, Option, Some, None, option_map, List, refl, ap, ◌∙◌}
 use Rattle.std.specs.Prelude.{if◌then◌else◌, option_and_then}
 use Rattle.rv_source_laws.specs.Shortened.{Placed, Aim, aim_offset}
-use Rattle.rv_object_laws.specs.CallSites.{is_text_place, text_offset, excess}
-use Rattle.rv_object_laws.specs.Names.{Place}
-use Rattle.rv_object_types.specs.Object.{Object}
+use Rattle.rv_link_laws.specs.CallSites.{is_text_place, text_offset, excess}
+use Rattle.rv_link_laws.specs.Names.{Place}
+use Rattle.rv_object_laws.specs.Object.{Object}
 
 abbrev pub stands_in : List Object → Option Place → Option (ℕ × ℕ)
 stands_in os place = if is_text_place os place then Some (text_offset os place, excess os place) else None

@@ -24,10 +24,10 @@ use Rattle.rv_source_laws.specs.Program.{Mapped, Program, tables_in, address_at,
 use Rattle.rv_source_laws.specs.Lines.{other_operand, operand_of, operand_number, target as target_in, distance, takes_upper, is_upper_at}
 use Rattle.rv_source_laws.proofs.HeldLemmas.{none_left}
 use Rattle.rv_source_laws.proofs.HomesLemmas.{all_map}
-use Rattle.rv_object_types.specs.Object.{Relocation, Section, Object}
-use Rattle.rv_object_laws.specs.Moves.{alignments_of}
-use Rattle.rv_object_laws.specs.Inputs.{Starts}
-use Rattle.rv_object_laws.specs.Values.{is_high, own_value, IsRelocated}
+use Rattle.rv_object_laws.specs.Object.{Relocation, Section, Object}
+use Rattle.rv_link_laws.specs.Moves.{alignments_of}
+use Rattle.rv_link_laws.specs.Inputs.{Starts}
+use Rattle.rv_link_laws.specs.Values.{is_high, own_value, IsRelocated}
 use Rattle.rv_assemble_laws.specs.CodeFields.{symbol_field, field_of}
 use Rattle.rv_sources_link_laws.proofs.statements.MarkedLemmas.{part_fields}
 use Rattle.rv_assemble_laws.specs.Coded.{constants, AreCodedParts, IsCode, part_instructions, instructions_in}

@@ -13,10 +13,10 @@ use Rattle.rv_source_laws.specs.Program.{Program, tables_in}
 use Rattle.rv_source_laws.specs.Lines.{statement_section}
 use Rattle.rv_source_laws.specs.Fits.{mapped_in}
 use Rattle.rv_source_laws.proofs.HeldLemmas.{no_lowest, no_fault}
-use Rattle.rv_object_types.specs.Object.{Progbits, Section, Object}
-use Rattle.rv_object_laws.specs.Inputs.{Starts, InputSection, inputs_from}
-use Rattle.rv_object_laws.specs.Names.{Outer, object_at, no_object}
-use Rattle.rv_object_laws.specs.Values.{value, IsRelocated}
+use Rattle.rv_object_laws.specs.Object.{Progbits, Section, Object}
+use Rattle.rv_link_laws.specs.Inputs.{Starts, InputSection, inputs_from}
+use Rattle.rv_link_laws.specs.Names.{Outer, object_at, no_object}
+use Rattle.rv_link_laws.specs.Values.{value, IsRelocated}
 use Rattle.rv_assemble_laws.specs.Templates.{Open}
 use Rattle.rv_assemble_laws.specs.LaidStatements.{LaidStatement, laid_in}
 use Rattle.rv_assemble_laws.specs.Symbols.{laid_at}

@@ -11,12 +11,12 @@ use Rattle.rv_statement.specs.Statement.{StatementKind, Label, Numbered, Instruc
 use Rattle.rv_unit_laws.specs.Tables.{Tables, NumericLabel, Labelled, Assignment, Definition, definition, definition_at, is_location, assigned_before, assigned_ever, assigned_definition as defined_by, labelled_definition, first_definition, numeric_definition, label_of, numeric_label_before, numeric_label_after, longest_section}
 use Rattle.rv_unit_laws.specs.Bindings.{is_shared as is_shared_name}
 use Rattle.rv_source_laws.specs.Exports.{names_where}
-use Rattle.rv_object_types.specs.declared.symbol.Definition.{Definition as Defined}
-use Rattle.rv_object_types.specs.declared.symbol.Definition.TheVariants.{Undefined, Absolute, InSection, Skipped}
-use Rattle.rv_object_types.specs.Object.{Symbol}
-use Rattle.rv_object_laws.specs.Moves.{Move, dropped, new_offset}
-use Rattle.rv_object_types.specs.Bindings.{is_shared}
-use Rattle.rv_object_laws.specs.Names.{is_defined}
+use Rattle.rv_object_laws.specs.declared.symbol.Definition.{Definition as Defined}
+use Rattle.rv_object_laws.specs.declared.symbol.Definition.TheVariants.{Undefined, Absolute, InSection, Skipped}
+use Rattle.rv_object_laws.specs.Object.{Symbol}
+use Rattle.rv_link_laws.specs.Moves.{Move, dropped, new_offset}
+use Rattle.rv_object_laws.specs.Bindings.{is_shared}
+use Rattle.rv_link_laws.specs.Names.{is_defined}
 use Rattle.rv_assemble_laws.specs.LaidStatements.{LaidStatement, LaidPart}
 use Rattle.rv_assemble_laws.specs.Symbols.{SymbolUse, references_in, laid_at, after_found, assigned_definition, statement_definition, shared_symbol, exports_of, IsNamed, IsOwn, IsOuter, IsDefinedBy, StandsFor}
 use Rattle.rv_assemble_laws.specs.IsObjectOf.{Numbering, IsNumbered, IsInData, StandsInData}

@@ -13,10 +13,10 @@ use Rattle.rv_source_laws.specs.Fits as source
 use Rattle.rv_source_laws.specs.Sized.{statement_size}
 use Rattle.rv_source_laws.specs.Shortened as line
 use Rattle.rv_source_laws.specs.Shortened.{is_call_statement, Placed, full_size, full_length, placed_from, text_from, HaveBytes}
-use Rattle.rv_object_types.specs.Object.{size_of}
-use Rattle.rv_object_laws.specs.CallSites.{start_padding, base_in}
-use Rattle.rv_object_laws.specs.Inputs.{Starts, InputSection, begins_at}
-use Rattle.rv_object_laws.specs.Shortened.{Sizes}
+use Rattle.rv_object_laws.specs.Object.{size_of}
+use Rattle.rv_link_laws.specs.CallSites.{start_padding, base_in}
+use Rattle.rv_link_laws.specs.Inputs.{Starts, InputSection, begins_at}
+use Rattle.rv_link_laws.specs.Shortened.{Sizes}
 use Rattle.rv_assemble_laws.specs.LaidStatements.{LaidStatement, expression_value, laid_in, end_of}
 use Rattle.rv_sources_link_laws.proofs.sections.AssembledLemmas.{Tile}
 use Rattle.rv_sources_link_laws.proofs.calls.FinalsLemmas.{IsFinal}

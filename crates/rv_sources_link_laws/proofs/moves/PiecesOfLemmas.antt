@@ -16,9 +16,9 @@ use Rattle.rv_source_laws.specs.Fits as source
 use Rattle.rv_source_laws.proofs.HomesLemmas.{all_filter}
 use Rattle.rv_map.specs.declared.map.SectionId.{SectionId}
 use Rattle.rv_collect_laws.specs.Graph.{is_dropped}
-use Rattle.rv_object_types.specs.Object.{Section, Object, size_of}
-use Rattle.rv_object_laws.specs.Inputs.{Starts, InputSection, goes_to_text, inputs_from, inputs_of, begins_at}
-use Rattle.rv_object_laws.specs.Shortened.{Sizes}
+use Rattle.rv_object_laws.specs.Object.{Section, Object, size_of}
+use Rattle.rv_link_laws.specs.Inputs.{Starts, InputSection, goes_to_text, inputs_from, inputs_of, begins_at}
+use Rattle.rv_link_laws.specs.Shortened.{Sizes}
 use Rattle.rv_assemble_laws.specs.LaidStatements.{LaidStatement, part_bytes, laid_in, end_of}
 use Rattle.rv_assemble_laws.specs.IsObjectOf.{Numbering, contents_of}
 use Rattle.rv_sources_link_laws.proofs.sections.MaskedLemmas.{masked_sections, source_sections, stays}

@@ -10,18 +10,18 @@ use Rattle.rv_isa.specs.declared.kind.Kind.{Kind}
 use Rattle.rv_isa.specs.declared.kind.Kind.TheVariants as kinds
 use Rattle.rv_reloc.specs.Values.{value_of}
 use Rattle.rv_reloc.specs.Ranges.{Takes}
-use Rattle.rv_object_types.specs.declared.symbol.Binding.{Binding}
-use Rattle.rv_object_types.specs.declared.symbol.Definition.{Definition}
-use Rattle.rv_object_types.specs.declared.symbol.Definition.TheVariants.{Undefined, Absolute, InSection, Skipped}
-use Rattle.rv_object_types.specs.declared.row.Row.{Row}
-use Rattle.rv_object_types.specs.Object.{Contents, Progbits, Note, Nobits, Relocation, Section, Symbol, Object}
-use Rattle.rv_object_types.specs.Valid.{is_align}
-use Rattle.rv_object_laws.specs.Moves.{Move, alignments_of, by_place, has_padding, plan, moves, new_offset, kept, lost}
-use Rattle.rv_object_laws.specs.Inputs.{Starts, InputSection, start_of}
-use Rattle.rv_object_types.specs.Bindings.{is_shared, is_global, is_weak}
-use Rattle.rv_object_laws.specs.Names.{Export, Outer, Place, is_export, is_sure_by, is_sure, exports_in, exports_from, exports_where, candidates, chosen, defined_address, offset_address, symbol_address, is_defined, place_in, shared_place, symbol_place, no_object, object_at}
-use Rattle.rv_object_laws.specs.Values.{target, own_value, is_high, high_at, value_in, value_at, paired, value, IsRelocated, patched_at, applied, initial_bytes, linked_bytes}
-use Rattle.rv_object_laws.specs.IsLinkOf.{moves_at}
+use Rattle.rv_object_laws.specs.declared.symbol.Binding.{Binding}
+use Rattle.rv_object_laws.specs.declared.symbol.Definition.{Definition}
+use Rattle.rv_object_laws.specs.declared.symbol.Definition.TheVariants.{Undefined, Absolute, InSection, Skipped}
+use Rattle.rv_object_laws.specs.declared.row.Row.{Row}
+use Rattle.rv_object_laws.specs.Object.{Contents, Progbits, Note, Nobits, Relocation, Section, Symbol, Object}
+use Rattle.rv_object_laws.specs.Valid.{is_align}
+use Rattle.rv_link_laws.specs.Moves.{Move, alignments_of, by_place, has_padding, plan, moves, new_offset, kept, lost}
+use Rattle.rv_link_laws.specs.Inputs.{Starts, InputSection, start_of}
+use Rattle.rv_object_laws.specs.Bindings.{is_shared, is_global, is_weak}
+use Rattle.rv_link_laws.specs.Names.{Export, Outer, Place, is_export, is_sure_by, is_sure, exports_in, exports_from, exports_where, candidates, chosen, defined_address, offset_address, symbol_address, is_defined, place_in, shared_place, symbol_place, no_object, object_at}
+use Rattle.rv_link_laws.specs.Values.{target, own_value, is_high, high_at, value_in, value_at, paired, value, IsRelocated, patched_at, applied, initial_bytes, linked_bytes}
+use Rattle.rv_link_laws.specs.IsLinkOf.{moves_at}
 use Rattle.rv_sources_link_laws.proofs.fields.PatchesLemmas.{take_drop}
 use Rattle.rv_sources_link_laws.proofs.names.ExportedLemmas.{is_exported, exported}
 use Rattle.rv_sources_link_laws.proofs.names.KnownLemmas.{still, all_found}

@@ -12,14 +12,14 @@ use Rattle.rv_unit_laws.specs.Sections.{Section as SourceSection, goes_to_text a
 use Rattle.rv_unit_laws.specs.Tables.{Tables, Assignment, tables, is_location, assigned_ever}
 use Rattle.rv_source_laws.specs.Located.{has_row}
 use Rattle.rv_source_laws.specs.Exports.{names_where}
-use Rattle.rv_object_types.specs.declared.symbol.Definition.{Definition as Defined}
-use Rattle.rv_object_types.specs.declared.symbol.Definition.TheVariants.{InSection}
-use Rattle.rv_object_types.specs.declared.row.Row.{Row}
-use Rattle.rv_object_types.specs.Object.{Section, Object}
-use Rattle.rv_object_laws.specs.Moves.{by_place, has_padding, new_offset, plan, moves}
-use Rattle.rv_object_laws.specs.Inputs.{Starts, InputSection, goes_to_text, begins_at, inputs_from, inputs_of, start_of, size, Stand}
-use Rattle.rv_object_laws.specs.Names.{is_in_text, can_begin}
-use Rattle.rv_object_laws.specs.IsLinkOf.{moves_at}
+use Rattle.rv_object_laws.specs.declared.symbol.Definition.{Definition as Defined}
+use Rattle.rv_object_laws.specs.declared.symbol.Definition.TheVariants.{InSection}
+use Rattle.rv_object_laws.specs.declared.row.Row.{Row}
+use Rattle.rv_object_laws.specs.Object.{Section, Object}
+use Rattle.rv_link_laws.specs.Moves.{by_place, has_padding, new_offset, plan, moves}
+use Rattle.rv_link_laws.specs.Inputs.{Starts, InputSection, goes_to_text, begins_at, inputs_from, inputs_of, start_of, size, Stand}
+use Rattle.rv_link_laws.specs.Names.{is_in_text, can_begin}
+use Rattle.rv_link_laws.specs.IsLinkOf.{moves_at}
 use Rattle.rv_assemble_laws.specs.LaidStatements.{LaidStatement, LaidPart, laid_in}
 use Rattle.rv_assemble_laws.specs.Symbols.{references_in, laid_at, after_found, assigned_definition, statement_definition, shared_symbol, exports_of}
 use Rattle.rv_assemble_laws.specs.IsObjectOf.{IsNumbered, row_of, rows_at, IsInData, StandsInData}

@@ -12,9 +12,9 @@ use Rattle.rv_unit_laws.specs.Tables.{Tables, at_start, tables, alignment_of, al
 use Rattle.rv_pseudo_laws.specs.Code.{code}
 use Rattle.rv_source_laws.specs.Located.{located_from, masked}
 use Rattle.rv_source_laws.specs.Fits.{needs_no_padding}
-use Rattle.rv_object_types.specs.Object.{Section, Symbol, Object}
-use Rattle.rv_object_types.specs.Padding.{no_operations, operations_in}
-use Rattle.rv_object_laws.specs.Moves.{alignments_of}
+use Rattle.rv_object_laws.specs.Object.{Section, Symbol, Object}
+use Rattle.rv_object_laws.specs.Padding.{no_operations, operations_in}
+use Rattle.rv_link_laws.specs.Moves.{alignments_of}
 use Rattle.rv_sources_link_laws.proofs.names.ExportedLemmas.{exported}
 use Rattle.rv_assemble_laws.specs.Coded.{is_constant, constants, IsCode}
 use Rattle.rv_assemble_laws.specs.Refusals.{statements_fault}

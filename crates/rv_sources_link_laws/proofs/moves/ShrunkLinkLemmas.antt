@@ -13,16 +13,16 @@ use Rattle.rv_map.specs.Map.{Global}
 use Rattle.rv_map.specs.declared.map.Region.{Region}
 use Rattle.rv_map.specs.declared.map.Row.{Row as MapRow}
 use Rattle.rv_image_laws.specs.Linked.{Linked}
-use Rattle.rv_object_types.specs.declared.row.Row.{Row}
-use Rattle.rv_object_types.specs.declared.symbol.Binding.{Binding}
-use Rattle.rv_object_types.specs.declared.symbol.Binding.TheVariants as bindings
-use Rattle.rv_object_types.specs.Object.{Contents, Progbits, Note, Nobits, Section, Symbol, Object, size_of}
-use Rattle.rv_object_laws.specs.Moves.{Move, alignments_of, plan, moves, new_offset, kept, has_room, lost}
-use Rattle.rv_object_laws.specs.Inputs.{Starts, InputSection, has_no_bytes, goes_to_text, goes_to_rodata, goes_to_data, goes_to_bss, inputs_from, inputs_of, inputs, raised, begins_at, start_of, size, Stand, sections_end, Holds, gaps_of, greatest, contents}
-use Rattle.rv_object_types.specs.Bindings.{is_shared, is_global, is_weak}
-use Rattle.rv_object_laws.specs.Names.{Export, Outer, is_defined, is_export, exports_in, exports_from, exports_where, names_of, candidates, chosen, is_this, is_chosen, chosen_exports, export_address, globals_of, global_names, shown_linker_symbols, can_begin, begins_run, run_start, entry_of, object_at}
-use Rattle.rv_object_laws.specs.Values.{initial_bytes, linked_bytes, IsRelocated}
-use Rattle.rv_object_laws.specs.IsLinkOf.{moves_at, map_row, row_in, inserted_row, by_ordinal, rows_of, is_loaded, outer_of, IsLinkOf}
+use Rattle.rv_object_laws.specs.declared.row.Row.{Row}
+use Rattle.rv_object_laws.specs.declared.symbol.Binding.{Binding}
+use Rattle.rv_object_laws.specs.declared.symbol.Binding.TheVariants as bindings
+use Rattle.rv_object_laws.specs.Object.{Contents, Progbits, Note, Nobits, Section, Symbol, Object, size_of}
+use Rattle.rv_link_laws.specs.Moves.{Move, alignments_of, plan, moves, new_offset, kept, has_room, lost}
+use Rattle.rv_link_laws.specs.Inputs.{Starts, InputSection, has_no_bytes, goes_to_text, goes_to_rodata, goes_to_data, goes_to_bss, inputs_from, inputs_of, inputs, raised, begins_at, start_of, size, Stand, sections_end, Holds, gaps_of, greatest, contents}
+use Rattle.rv_object_laws.specs.Bindings.{is_shared, is_global, is_weak}
+use Rattle.rv_link_laws.specs.Names.{Export, Outer, is_defined, is_export, exports_in, exports_from, exports_where, names_of, candidates, chosen, is_this, is_chosen, chosen_exports, export_address, globals_of, global_names, shown_linker_symbols, can_begin, begins_run, run_start, entry_of, object_at}
+use Rattle.rv_link_laws.specs.Values.{initial_bytes, linked_bytes, IsRelocated}
+use Rattle.rv_link_laws.specs.IsLinkOf.{moves_at, map_row, row_in, inserted_row, by_ordinal, rows_of, is_loaded, outer_of, IsLinkOf}
 use Rattle.rv_sources_link_laws.proofs.names.ExportedLemmas.{is_exported, exported}
 use Rattle.rv_sources_link_laws.proofs.names.KnownLemmas.{all_found}
 use Rattle.rv_assemble_laws.proofs.ListsLemmas.{join}

@@ -11,11 +11,11 @@ use Rattle.rv_unit_laws.specs.declared.section_type.SectionType.{SectionType}
 use Rattle.rv_unit_laws.specs.declared.section_type.SectionType.TheVariants as types
 use Rattle.rv_unit_laws.specs.Sections.{Section as SourceSection, is_nobits_type, goes_to_text as source_text}
 use Rattle.rv_unit_laws.specs.Tables.{Tables}
-use Rattle.rv_object_types.specs.Object.{Contents, Progbits, Note, Nobits, Section, Symbol, size_of}
-use Rattle.rv_object_types.specs.Padding.{no_operations}
-use Rattle.rv_object_laws.specs.Moves.{Move, alignments_of, by_place, dropped, new_offset, kept, has_padding, plan, moves, lost}
-use Rattle.rv_object_laws.specs.Inputs.{goes_to_text, raised, begins_at}
-use Rattle.rv_object_laws.specs.Values.{initial_bytes}
+use Rattle.rv_object_laws.specs.Object.{Contents, Progbits, Note, Nobits, Section, Symbol, size_of}
+use Rattle.rv_object_laws.specs.Padding.{no_operations}
+use Rattle.rv_link_laws.specs.Moves.{Move, alignments_of, by_place, dropped, new_offset, kept, has_padding, plan, moves, lost}
+use Rattle.rv_link_laws.specs.Inputs.{goes_to_text, raised, begins_at}
+use Rattle.rv_link_laws.specs.Values.{initial_bytes}
 use Rattle.rv_assemble_laws.specs.Templates.{Template, Fixed, Coded, Open, IsTemplate, padding_templates}
 use Rattle.rv_assemble_laws.specs.LaidStatements.{LaidStatement, LaidPart, expression_value, laid_part, part_bytes, laid_in, end_of, HasSize}
 use Rattle.rv_assemble_laws.specs.Symbols.{references_in}

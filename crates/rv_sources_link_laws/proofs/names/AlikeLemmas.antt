@@ -9,12 +9,12 @@ use Rattle.rv_unit_laws.specs.Bindings.{is_shared, is_global, is_weak}
 use Rattle.rv_source_laws.specs.Exports.{defined_name}
 use Rattle.rv_source_laws.specs.Program as source
 use Rattle.rv_source_laws.specs.Program.{MaybeMapped, Program, export, tables_in, exports_at}
-use Rattle.rv_object_types.specs.declared.symbol.Binding.{Binding}
-use Rattle.rv_object_types.specs.declared.symbol.Binding.TheVariants.{Local, Global, Weak}
-use Rattle.rv_object_types.specs.Object.{Symbol, Object}
-use Rattle.rv_object_types.specs.Bindings as symbols
-use Rattle.rv_object_laws.specs.Names as objects
-use Rattle.rv_object_laws.specs.Names.{is_defined, exports_in, exports_from}
+use Rattle.rv_object_laws.specs.declared.symbol.Binding.{Binding}
+use Rattle.rv_object_laws.specs.declared.symbol.Binding.TheVariants.{Local, Global, Weak}
+use Rattle.rv_object_laws.specs.Object.{Symbol, Object}
+use Rattle.rv_object_laws.specs.Bindings as symbols
+use Rattle.rv_link_laws.specs.Names as objects
+use Rattle.rv_link_laws.specs.Names.{is_defined, exports_in, exports_from}
 use Rattle.rv_sources_link_laws.proofs.names.PairLemmas.{ArePaired, IsAlike, AreMade, AreChosenAlike, AreGiven}
 use Rattle.rv_sources_link_laws.proofs.names.PairedLemmas.{map_pairs, both_pairs, join_pairs, keep_pairs, find_pair, same_maps, alike_by, some_alike, all_agree}
 use Rattle.rv_sources_link_laws.proofs.names.MatchedLemmas.{binding_of, IsMatched, AreMatched, matched_pairs, are_same, are_one, all_apart, self_same, all_matched}

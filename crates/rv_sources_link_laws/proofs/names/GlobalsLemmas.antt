@@ -14,11 +14,11 @@ use Rattle.rv_source_laws.specs.Program as source
 use Rattle.rv_source_laws.specs.Program.{Program, tables_in, address_of, home_address}
 use Rattle.rv_source_laws.specs.Resolves as resolves
 use Rattle.rv_source_laws.specs.Resolves.{set_address, export_address}
-use Rattle.rv_object_types.specs.declared.symbol.Definition.TheVariants.{InSection}
-use Rattle.rv_object_types.specs.Object.{Object}
-use Rattle.rv_object_laws.specs.Inputs.{Starts}
-use Rattle.rv_object_laws.specs.Names as objects
-use Rattle.rv_object_laws.specs.Names.{defined_address, offset_address}
+use Rattle.rv_object_laws.specs.declared.symbol.Definition.TheVariants.{InSection}
+use Rattle.rv_object_laws.specs.Object.{Object}
+use Rattle.rv_link_laws.specs.Inputs.{Starts}
+use Rattle.rv_link_laws.specs.Names as objects
+use Rattle.rv_link_laws.specs.Names.{defined_address, offset_address}
 use Rattle.rv_assemble_laws.specs.LaidStatements.{LaidStatement}
 use Rattle.rv_assemble_laws.specs.Symbols.{laid_at, after_found, assigned_definition, statement_definition}
 use Rattle.rv_assemble_laws.specs.IsObjectOf.{IsInData, StandsInData}

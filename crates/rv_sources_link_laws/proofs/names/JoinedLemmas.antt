@@ -10,9 +10,9 @@ use Rattle.rv_source_laws.specs.Program as source
 use Rattle.rv_source_laws.specs.Program.{Program, program}
 use Rattle.rv_source_laws.specs.Resolves.{Resolves, definitions, shown_symbols, export_address, run_start}
 use Rattle.rv_image_laws.specs.Linked.{Linked}
-use Rattle.rv_object_types.specs.Object.{Object}
-use Rattle.rv_object_laws.specs.Names as objects
-use Rattle.rv_object_laws.specs.IsLinkOf.{IsLinkOf}
+use Rattle.rv_object_laws.specs.Object.{Object}
+use Rattle.rv_link_laws.specs.Names as objects
+use Rattle.rv_link_laws.specs.IsLinkOf.{IsLinkOf}
 use Rattle.rv_sources_link_laws.proofs.sections.FilesLemmas.{files, rows_ours, statements_ours}
 use Rattle.rv_sources_link_laws.proofs.names.PairLemmas.{AreMade, AreChosenAlike, AreGiven}
 use Rattle.rv_sources_link_laws.proofs.names.PairedLemmas.{same_flat}

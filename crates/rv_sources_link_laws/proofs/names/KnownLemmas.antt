@@ -13,14 +13,14 @@ use Rattle.rv_unit_laws.specs.Tables.{Tables, Definition, definition, gives_way,
 use Rattle.rv_map.specs.Map.{Global as MapGlobal}
 use Rattle.rv_map.specs.Limits.{IsGlobal}
 use Rattle.rv_source_laws.specs.Program.{MaybeMapped, Program, tables_in, chosen, address_at, address_by, home_address, unshown_address, outer_address as outer_address_in}
-use Rattle.rv_object_types.specs.Object.{Section, Symbol, Object}
-use Rattle.rv_object_laws.specs.Moves.{alignments_of, moves, plan, new_offset}
-use Rattle.rv_object_laws.specs.Inputs.{Starts}
-use Rattle.rv_object_laws.specs.Names as objects
-use Rattle.rv_object_laws.specs.Names.{Outer, outer_address, is_sure, is_sure_by, symbol_address, defined_address, offset_address}
-use Rattle.rv_object_laws.specs.Values.{target}
+use Rattle.rv_object_laws.specs.Object.{Section, Symbol, Object}
+use Rattle.rv_link_laws.specs.Moves.{alignments_of, moves, plan, new_offset}
+use Rattle.rv_link_laws.specs.Inputs.{Starts}
+use Rattle.rv_link_laws.specs.Names as objects
+use Rattle.rv_link_laws.specs.Names.{Outer, outer_address, is_sure, is_sure_by, symbol_address, defined_address, offset_address}
+use Rattle.rv_link_laws.specs.Values.{target}
 use Rattle.rv_assemble_laws.specs.LaidStatements.{LaidStatement}
-use Rattle.rv_object_types.specs.Bindings.{is_weak}
+use Rattle.rv_object_laws.specs.Bindings.{is_weak}
 use Rattle.rv_assemble_laws.specs.Symbols.{laid_at, after_statement, IsOwn, IsOuter, IsDefinedBy, IsNamed, StandsFor}
 use Rattle.rv_assemble_laws.specs.IsObjectOf.{Numbering}
 use Rattle.rv_sources_link_laws.proofs.names.PairLemmas.{AreGiven}

@@ -14,10 +14,10 @@ use Rattle.rv_source_laws.specs.Exports.{defined_name, sets_first, names_where}
 use Rattle.rv_source_laws.specs.Located.{Located}
 use Rattle.rv_source_laws.specs.Program as source
 use Rattle.rv_source_laws.specs.Program.{MaybeMapped, Program, export, tables_in, exports_at}
-use Rattle.rv_object_types.specs.Object.{Symbol, Object}
-use Rattle.rv_object_types.specs.Bindings as symbols
-use Rattle.rv_object_laws.specs.Names as objects
-use Rattle.rv_object_laws.specs.Names.{exports_in, exports_from}
+use Rattle.rv_object_laws.specs.Object.{Symbol, Object}
+use Rattle.rv_object_laws.specs.Bindings as symbols
+use Rattle.rv_link_laws.specs.Names as objects
+use Rattle.rv_link_laws.specs.Names.{exports_in, exports_from}
 use Rattle.rv_assemble_laws.specs.LaidStatements.{LaidStatement}
 use Rattle.rv_assemble_laws.specs.Symbols.{outer_binding, shared_symbol, statement_definition, exports_of, exports}
 use Rattle.rv_sources_link_laws.proofs.names.ExportedLemmas.{is_exported}

@@ -8,10 +8,10 @@ use Rattle.rv_unit_laws.specs.Tables.{Tables}
 use Rattle.rv_source_laws.specs.Exports.{defined_name}
 use Rattle.rv_source_laws.specs.Program as source
 use Rattle.rv_source_laws.specs.Program.{MaybeMapped, Program, export, tables_in}
-use Rattle.rv_object_types.specs.Object.{Object}
-use Rattle.rv_object_types.specs.Bindings as symbols
-use Rattle.rv_object_laws.specs.Names as objects
-use Rattle.rv_object_laws.specs.Names.{names_of}
+use Rattle.rv_object_laws.specs.Object.{Object}
+use Rattle.rv_object_laws.specs.Bindings as symbols
+use Rattle.rv_link_laws.specs.Names as objects
+use Rattle.rv_link_laws.specs.Names.{names_of}
 use Rattle.rv_assemble_laws.specs.LaidStatements.{LaidStatement}
 use Rattle.rv_assemble_laws.specs.Symbols.{shared_symbol, statement_definition, exports}
 use Rattle.rv_sources_link_laws.proofs.names.ExportedLemmas.{exported}

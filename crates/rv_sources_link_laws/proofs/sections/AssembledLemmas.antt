@@ -10,7 +10,7 @@ use Rattle.rv_unit_laws.specs.Tables.{Tables, at_start, tables, alignment_at, lo
 use Rattle.rv_pseudo_laws.specs.Code.{code}
 use Rattle.rv_source_laws.specs.Located.{located_from, masked}
 use Rattle.rv_source_laws.specs.Compressed.{is_compressed_code}
-use Rattle.rv_object_types.specs.Object.{Section, Symbol, Object}
+use Rattle.rv_object_laws.specs.Object.{Section, Symbol, Object}
 use Rattle.rv_sources_link_laws.proofs.names.ExportedLemmas.{exported}
 use Rattle.rv_assemble_laws.specs.Coded.{constants}
 use Rattle.rv_assemble_laws.specs.Refusals.{statements_fault}

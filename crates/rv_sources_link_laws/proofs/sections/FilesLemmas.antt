@@ -12,12 +12,12 @@ use Rattle.rv_source_laws.specs.Located.{has_row, left, masked, located_now, loc
 use Rattle.rv_source_laws.specs.Program.{Program, program, tables_in, address_at, mapped_of, mapped_statements}
 use Rattle.rv_source_laws.specs.Lines.{statement_section}
 use Rattle.rv_source_laws.specs.Fits.{mapped_in}
-use Rattle.rv_object_types.specs.Object.{Section, Symbol, Object}
-use Rattle.rv_object_laws.specs.Moves.{alignments_of, plan}
-use Rattle.rv_object_laws.specs.Inputs.{Starts}
-use Rattle.rv_object_laws.specs.Rising.{Rise}
-use Rattle.rv_object_laws.proofs.OrdinalsLemmas.{rows_stay}
-use Rattle.rv_object_laws.specs.IsLinkOf.{by_ordinal, moves_at, map_row, row_in as linked_row, rows_of as linked_rows}
+use Rattle.rv_object_laws.specs.Object.{Section, Symbol, Object}
+use Rattle.rv_link_laws.specs.Moves.{alignments_of, plan}
+use Rattle.rv_link_laws.specs.Inputs.{Starts}
+use Rattle.rv_link_laws.specs.Rising.{Rise}
+use Rattle.rv_link_laws.proofs.OrdinalsLemmas.{rows_stay}
+use Rattle.rv_link_laws.specs.IsLinkOf.{by_ordinal, moves_at, map_row, row_in as linked_row, rows_of as linked_rows}
 use Rattle.rv_assemble_laws.specs.LaidStatements.{LaidStatement, laid_in}
 use Rattle.rv_assemble_laws.specs.Symbols.{laid_at}
 use Rattle.rv_assemble_laws.specs.IsObjectOf.{Numbering, row_of, rows_at}

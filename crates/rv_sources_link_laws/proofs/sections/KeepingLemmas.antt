@@ -18,11 +18,11 @@ use Rattle.rv_source_laws.specs.Compressed.{is_code, names_parcel, is_compressed
 use Rattle.rv_source_laws.specs.Sizes.{AreLeast}
 use Rattle.rv_source_laws.specs.Exports.{names_where}
 use Rattle.rv_source_laws.proofs.LeftLemmas.{text_left}
-use Rattle.rv_object_types.specs.declared.row.Row.{Row}
-use Rattle.rv_object_types.specs.declared.symbol.Definition.{Definition as Defined}
-use Rattle.rv_object_types.specs.declared.symbol.Definition.TheVariants.{Undefined, Absolute, InSection, Skipped}
-use Rattle.rv_object_types.specs.Object.{Section, Symbol, Object}
-use Rattle.rv_object_laws.specs.Without.{without_section, without_sections, without_object, without_from}
+use Rattle.rv_object_laws.specs.declared.row.Row.{Row}
+use Rattle.rv_object_laws.specs.declared.symbol.Definition.{Definition as Defined}
+use Rattle.rv_object_laws.specs.declared.symbol.Definition.TheVariants.{Undefined, Absolute, InSection, Skipped}
+use Rattle.rv_object_laws.specs.Object.{Section, Symbol, Object}
+use Rattle.rv_link_laws.specs.Without.{without_section, without_sections, without_object, without_from}
 use Rattle.rv_assemble_laws.specs.CodeFields.{part_fields}
 use Rattle.rv_assemble_laws.specs.Coded.{constants}
 use Rattle.rv_assemble_laws.specs.Templates.{Open, Coded, IsTemplate, contribution_templates}

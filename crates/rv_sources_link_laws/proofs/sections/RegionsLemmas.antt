@@ -18,11 +18,11 @@ use Rattle.rv_source_laws.specs.Program.{Mapped, Program, tables_in, address_at}
 use Rattle.rv_source_laws.specs.Fits as source
 use Rattle.rv_chain_laws.specs.Contents.{contents as source_contents}
 use Rattle.rv_runs_laws.proofs.RegionsLemmas.{AllIn}
-use Rattle.rv_object_types.specs.Object.{Section, Object, size_of}
-use Rattle.rv_object_laws.specs.Moves.{alignments_of}
-use Rattle.rv_object_laws.specs.Inputs.{Starts, InputSection, inputs_from, begins_at, start_of, size, Stand, sections_end, gaps_of, raised, greatest, contents, goes_to_text}
-use Rattle.rv_object_laws.specs.Values.{initial_bytes, linked_bytes, IsRelocated}
-use Rattle.rv_object_laws.specs.IsLinkOf.{is_loaded}
+use Rattle.rv_object_laws.specs.Object.{Section, Object, size_of}
+use Rattle.rv_link_laws.specs.Moves.{alignments_of}
+use Rattle.rv_link_laws.specs.Inputs.{Starts, InputSection, inputs_from, begins_at, start_of, size, Stand, sections_end, gaps_of, raised, greatest, contents, goes_to_text}
+use Rattle.rv_link_laws.specs.Values.{initial_bytes, linked_bytes, IsRelocated}
+use Rattle.rv_link_laws.specs.IsLinkOf.{is_loaded}
 use Rattle.rv_assemble_laws.specs.Templates.{Open}
 use Rattle.rv_assemble_laws.specs.LaidStatements.{LaidStatement, part_bytes, laid_in, end_of as laid_end}
 use Rattle.rv_assemble_laws.specs.Symbols.{laid_at}

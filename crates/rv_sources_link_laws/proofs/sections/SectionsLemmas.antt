@@ -1,8 +1,7 @@
 -- A section of an object in the program: its bytes, its rows, and the sizes of its statements.
 
-use Rattle.std.proofs.Common.{◌≡◌, ℕ, zero, suc, ◌+◌, ◌-◌, ◌*◌, ◌/◌, ◌%◌, ◌<◌, ◌≤◌, Bool, true, false, List, [], ◌∷◌, ◌++◌, length, length-append, refl, sym, ap, ◌∙◌, subst, arith, map, Option, Some, None}
+use Rattle.std.proofs.Common.{◌≡◌, ℕ, zero, suc, ◌+◌, ◌-◌, ◌*◌, ◌/◌, ◌%◌, ◌<◌, ◌≤◌, Bool, true, false, List, [], ◌∷◌, ◌++◌, length, length-append, refl, sym, ap, ◌∙◌, subst, arith, map, Option, Some, None, add-zero, mod-eq_of_lt}
 use Rattle.std.proofs.lemmas.List.{append-nil}
-use Rattle.std.proofs.Common.{add-zero, mod-eq_of_lt}
 use Rattle.std.proofs.Math.Nat.{add-mul-mod_self_right}
 use Rattle.std.proofs.lemmas.Nat.{div-add-mod'}
 use Rattle.std.specs.Prelude.{⊤, ℤ, ◌&&◌, max, if◌then◌else◌, flat_map, is_some, unwrap_or, option_map, option_and_then}
@@ -18,8 +17,8 @@ use Rattle.rv_map.specs.declared.map.Row.{Row as MapRow}
 use Rattle.rv_source_laws.specs.Program.{Mapped, Program, tables_in, address_by, resolved, number as number_of}
 use Rattle.rv_source_laws.specs.Start.{spelled_said}
 use Rattle.rv_source_laws.proofs.HeldLemmas.{IsHeld}
-use Rattle.rv_object_types.specs.Object.{Relocation}
-use Rattle.rv_object_laws.specs.Inputs.{Starts}
+use Rattle.rv_object_laws.specs.Object.{Relocation}
+use Rattle.rv_link_laws.specs.Inputs.{Starts}
 use Rattle.rv_sources_link_laws.proofs.statements.MarkedLemmas.{part_fields}
 use Rattle.rv_assemble_laws.specs.Templates.{Datum, Open, IsTemplate, HasField, template_fields, value_fields}
 use Rattle.rv_assemble_laws.specs.Coded.{constants}
@@ -30,7 +29,7 @@ use Rattle.rv_sources_link_laws.proofs.statements.CodingLemmas.{coded_bytes}
 use Rattle.rv_sources_link_laws.proofs.statements.StatementsLemmas.{mapped_at}
 use Rattle.rv_sources_link_laws.proofs.statements.SettledLemmas.{IsPlacedKind}
 use Rattle.rv_sources_link_laws.proofs.statements.SuitsLemmas as suits
-use Rattle.rv_object_types.specs.Padding.{no_operations, operations_in}
+use Rattle.rv_object_laws.specs.Padding.{no_operations, operations_in}
 use Rattle.rv_sources_link_laws.proofs.moves.ShrunkLemmas.{padding_templates, IsPaddedIn, parts_of, parts, Tile, shrunk_templates, HasShrunkSize}
 
 -- ---- lists

@@ -9,8 +9,8 @@ use Rattle.rv_unit_laws.specs.Tables.{Tables, at_start, after}
 use Rattle.rv_source_laws.specs.Located.{masked, located_now, located_from}
 use Rattle.rv_source_laws.specs.Program.{Mapped}
 use Rattle.rv_source_laws.proofs.HomesLemmas.{all_map}
-use Rattle.rv_object_types.specs.Object.{Object}
-use Rattle.rv_object_laws.specs.Inputs.{Starts}
+use Rattle.rv_object_laws.specs.Object.{Object}
+use Rattle.rv_link_laws.specs.Inputs.{Starts}
 use Rattle.rv_assemble_laws.specs.LaidStatements.{LaidStatement}
 use Rattle.rv_assemble_laws.specs.Symbols.{laid_at}
 use Rattle.rv_sources_link_laws.proofs.sections.MaskedLemmas.{none_masked}

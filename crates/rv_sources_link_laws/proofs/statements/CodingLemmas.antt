@@ -23,7 +23,7 @@ use Rattle.rv_pseudo_laws.specs.Filled.{FieldValue, filled, are_closed, part_byt
 use Rattle.rv_pseudo_laws.proofs.FillingLemmas.{filling_valid}
 use Rattle.rv_source_laws.specs.Lines.{Line, Lie}
 use Rattle.rv_chain_laws.specs.Contents.{AreSized, AreEncoded}
-use Rattle.rv_object_laws.specs.Values.{patched_at}
+use Rattle.rv_link_laws.specs.Values.{patched_at}
 use Rattle.rv_assemble_laws.specs.Coded.{IsCodedPart, AreCodedParts, joined, part_instructions, instructions_in}
 use Rattle.rv_assemble_laws.specs.Templates.{Open as OpenField}
 use Rattle.rv_filling_laws.specs.Parts.{fills_call_pair}

@@ -11,9 +11,9 @@ use Rattle.rv_unit_laws.specs.Sections.{Section as SourceSection}
 use Rattle.rv_unit_laws.specs.Tables.{Tables, alignment_of}
 use Rattle.rv_source_laws.specs.Sizes.{code_padding}
 use Rattle.rv_source_laws.specs.Sized.{directive_size}
-use Rattle.rv_object_laws.specs.Moves.{Move, new_offset}
+use Rattle.rv_link_laws.specs.Moves.{Move, new_offset}
 use Rattle.rv_assemble_laws.specs.Templates.{Coded, align_field, padding_templates}
-use Rattle.rv_object_types.specs.Padding.{no_operations}
+use Rattle.rv_object_laws.specs.Padding.{no_operations}
 use Rattle.rv_assemble_laws.specs.LaidStatements.{LaidStatement, expression_value, laid_part, part_bytes, HasSize, IsPaddedIn}
 use Rattle.rv_sources_link_laws.proofs.sections.AssembledLemmas.{parts_of, assembled_templates, Tile}
 use Rattle.rv_assemble_laws.specs.IsObjectOf.{Numbering}

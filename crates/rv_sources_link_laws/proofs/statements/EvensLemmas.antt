@@ -10,7 +10,7 @@ use Rattle.rv_pseudo_laws.specs.Filled.{are_closed}
 use Rattle.rv_unit_laws.specs.Sections.{Section as SourceSection, goes_to_text}
 use Rattle.rv_unit_laws.specs.Tables.{Tables, tables, alignment_of}
 use Rattle.rv_source_laws.proofs.HeldLemmas.{IsHeld}
-use Rattle.rv_object_types.specs.Object.{Object}
+use Rattle.rv_object_laws.specs.Object.{Object}
 use Rattle.rv_assemble_laws.specs.LaidStatements.{LaidStatement, expression_value, laid_part, part_bytes, laid_in}
 use Rattle.rv_sources_link_laws.proofs.sections.MaskedLemmas.{source_sections}
 use Rattle.rv_sources_link_laws.proofs.statements.SettledLemmas.{IsSettled, settled_left, of_sections, IsLaidIn, laid_are_in}

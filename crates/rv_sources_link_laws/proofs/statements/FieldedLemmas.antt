@@ -21,7 +21,7 @@ use Rattle.rv_unit_laws.specs.Contributions.{Numbers, Texts, Contribution, Nothi
 use Rattle.rv_unit_laws.specs.Tables.{Tables, Definition, definition}
 use Rattle.rv_source_laws.specs.Located.{Located}
 use Rattle.rv_source_laws.specs.Lines.{operand_of}
-use Rattle.rv_object_types.specs.Valid.{is_align}
+use Rattle.rv_object_laws.specs.Valid.{is_align}
 use Rattle.rv_assemble_laws.specs.CodeFields.{symbol_field, low_field_at, label_field, field_of, relax_fields}
 use Rattle.rv_sources_link_laws.proofs.statements.MarkedLemmas.{is_marked, part_fields, marked_all}
 use Rattle.rv_assemble_laws.specs.Coded.{constants, IsCodedPart, AreCodedParts}

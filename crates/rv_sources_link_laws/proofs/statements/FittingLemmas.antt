@@ -1,8 +1,7 @@
 -- A row that suits its statement fits it.
 
-use Rattle.std.proofs.Common.{◌≡◌, ℕ, suc, ◌+◌, ◌-◌, ◌*◌, ◌/◌, ◌%◌, ◌<◌, Bool, true, false, List, [], ◌∷◌, length, refl, sym, ap, ◌∙◌, subst, arith, Option, Some, None, ◌⊎◌, inl, inr, length-append}
+use Rattle.std.proofs.Common.{◌≡◌, ℕ, suc, ◌+◌, ◌-◌, ◌*◌, ◌/◌, ◌%◌, ◌<◌, Bool, true, false, List, [], ◌∷◌, length, refl, sym, ap, ◌∙◌, subst, arith, Option, Some, None, ◌⊎◌, inl, inr, length-append, add-zero}
 use Rattle.std.proofs.lemmas.Bool.{and_from}
-use Rattle.std.proofs.Common.{add-zero}
 use Rattle.std.proofs.Math.Nat.{mul-add-div_right, add-mul}
 use Rattle.std.proofs.lemmas.Nat.{div-add-mod'}
 use Rattle.std.proofs.lemmas.List.{length-replicate}
@@ -26,14 +25,13 @@ use Rattle.rv_unit_laws.specs.Tables.{alignment_of, padding}
 use Rattle.rv_map.specs.declared.map.Row.{Row}
 use Rattle.rv_source_laws.specs.Program.{Mapped, Program, form, address, resolved, number, has_values, expressions}
 use Rattle.rv_source_laws.specs.Lines.{Line, parts, form_at, padding_parts, field_value, expansion, other_operand}
-use Rattle.rv_source_laws.specs.Fits.{SizeFits, CodeFits, IsRowOf, IsPaddingIn, IsPaired}
+use Rattle.rv_source_laws.specs.Fits.{SizeFits, CodeFits, IsRowOf, IsPaddingIn, IsPaired, needs_no_padding}
 use Rattle.rv_chain_laws.specs.Contents.{HasSizes, IsWritten}
 use Rattle.rv_assemble_laws.specs.Coded.{is_constant, constants, AreCodedParts, IsCode}
 use Rattle.rv_assemble_laws.specs.Templates.{Open as OpenField}
 use Rattle.rv_sources_link_laws.proofs.statements.CodingLemmas.{coded_bytes, AreFilledParts, all_few, lines_of, lines_lie, lines_sized, lines_encoded, lines_say, closed_say, lines_valid, lines_counted, lines_taken, closed_taken, lines_whole}
-use Rattle.rv_source_laws.specs.Fits.{needs_no_padding}
 use Rattle.rv_source_laws.proofs.HeldLemmas.{IsHeld, DirectiveHeld}
-use Rattle.rv_object_types.specs.Padding.{no_operations}
+use Rattle.rv_object_laws.specs.Padding.{no_operations}
 use Rattle.rv_sources_link_laws.proofs.statements.QuietLemmas.{formed}
 use Rattle.rv_sources_link_laws.proofs.statements.NopsLemmas.{padding_row, padding_lines, padding_said, padding_lies, padding_sized, padding_encoded}
 use Rattle.rv_sources_link_laws.proofs.statements.SuitsLemmas.{IsMultiple, SuitsPadding, SuitsDirective, Suits, directive_said, code_said}

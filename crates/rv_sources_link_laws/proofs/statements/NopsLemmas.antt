@@ -17,7 +17,7 @@ use Rattle.rv_map.specs.declared.map.Row.{Row}
 use Rattle.rv_source_laws.specs.Lines.{Line, Lie, no_operation, padding_parts}
 use Rattle.rv_source_laws.specs.Fits.{IsRowOf}
 use Rattle.rv_chain_laws.specs.Contents.{ArePadding, AreEncoded}
-use Rattle.rv_object_types.specs.Padding.{four_each, no_operations, operations_in}
+use Rattle.rv_object_laws.specs.Padding.{four_each, no_operations, operations_in}
 use Rattle.rv_isa_laws.specs.Arithmetic.{one_if as one_of}
 
 -- ---- one of them

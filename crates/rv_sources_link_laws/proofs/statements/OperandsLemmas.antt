@@ -16,11 +16,11 @@ use Rattle.rv_reloc.specs.Values.{value_of}
 use Rattle.rv_source_laws.specs.Lines.{constant_of, other_operand, distance}
 use Rattle.rv_source_laws.specs.Program.{resolved}
 use Rattle.rv_source_laws.proofs.HeldLemmas.{none_left, no_test}
-use Rattle.rv_object_types.specs.Object.{Section, Object}
-use Rattle.rv_object_laws.specs.Moves.{alignments_of, moves, new_offset}
-use Rattle.rv_object_laws.specs.Inputs.{Starts}
-use Rattle.rv_object_laws.specs.Names.{Outer}
-use Rattle.rv_object_laws.specs.Values.{target, value, is_high, own_value, paired}
+use Rattle.rv_object_laws.specs.Object.{Section, Object}
+use Rattle.rv_link_laws.specs.Moves.{alignments_of, moves, new_offset}
+use Rattle.rv_link_laws.specs.Inputs.{Starts}
+use Rattle.rv_link_laws.specs.Names.{Outer}
+use Rattle.rv_link_laws.specs.Values.{target, value, is_high, own_value, paired}
 use Rattle.rv_pseudo_laws.specs.InstructionFaults.{Worth, target_faults, upper_faults, low_faults, is_labelled, distance_faults, operand_faults}
 use Rattle.rv_assemble_laws.specs.InstructionFaults.{worth}
 use Rattle.rv_assemble_laws.specs.Templates.{Open, open_at}

@@ -12,7 +12,7 @@ use Rattle.rv_unit_laws.specs.Sections.{Section as SourceSection}
 use Rattle.rv_unit_laws.specs.Tables.{Tables, is_power_below, power_alignment, byte_alignment, alignment_of, padding}
 use Rattle.rv_source_laws.specs.Fits.{needs_no_padding}
 use Rattle.rv_source_laws.proofs.HeldLemmas.{IsHeld}
-use Rattle.rv_object_types.specs.Padding.{no_operations, operations_in}
+use Rattle.rv_object_laws.specs.Padding.{no_operations, operations_in}
 use Rattle.rv_assemble_laws.specs.Templates.{Fixed, Coded, align_field, padding_templates}
 use Rattle.rv_assemble_laws.specs.LaidStatements.{LaidStatement, expression_value, laid_part, part_bytes, IsMultiple, IsPaddedIn, HasSize}
 use Rattle.rv_sources_link_laws.proofs.sections.AssembledLemmas.{assembled_templates, parts_of}

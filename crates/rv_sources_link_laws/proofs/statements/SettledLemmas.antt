@@ -20,7 +20,7 @@ use Rattle.rv_map.specs.declared.map.Row.{Row as MapRow}
 use Rattle.rv_assemble_laws.specs.Refusals.{statements_fault}
 use Rattle.rv_assemble_laws.specs.LaidStatements.{LaidStatement, LaidPart, part_bytes, laid_in, end_of}
 use Rattle.rv_assemble_laws.proofs.FaultlessLemmas.{no_first_fault}
-use Rattle.rv_object_laws.specs.Inputs.{Starts}
+use Rattle.rv_link_laws.specs.Inputs.{Starts}
 use Rattle.rv_sources_link_laws.proofs.fields.PatchesLemmas.{written_from}
 use Rattle.rv_sources_link_laws.proofs.statements.StatementsLemmas.{row_in, mapped_at, mapped_from}
 use Rattle.rv_sources_link_laws.proofs.sections.MaskedLemmas.{source_sections, no_section_masked, masked_at, all_masked, none_masked}

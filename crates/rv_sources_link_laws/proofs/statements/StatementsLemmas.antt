@@ -13,8 +13,8 @@ use Rattle.rv_unit_laws.specs.Tables.{Tables, at_start, after}
 use Rattle.rv_source_laws.specs.Located.{Located, located_now, located_from, located_of, masked, left_of, has_row}
 use Rattle.rv_source_laws.specs.Program.{MaybeMapped, Mapped, first_of, mapped_statements, mapped_of, address_of, address_at}
 use Rattle.rv_source_laws.specs.Fits.{mapped_in}
-use Rattle.rv_object_types.specs.Object.{Object}
-use Rattle.rv_object_laws.specs.Inputs.{Starts}
+use Rattle.rv_object_laws.specs.Object.{Object}
+use Rattle.rv_link_laws.specs.Inputs.{Starts}
 pub use Rattle.rv_sources_link_laws.proofs.moves.ShrunkLemmas.{AreObjectsOf, AreMasked}
 use Rattle.rv_assemble_laws.specs.LaidStatements.{LaidStatement, laid_in}
 use Rattle.rv_assemble_laws.specs.Symbols.{laid_at}

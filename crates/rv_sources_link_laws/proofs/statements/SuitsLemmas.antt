@@ -7,7 +7,7 @@ use Rattle.rv_unit_laws.specs.Sections.{Section}
 use Rattle.rv_unit_laws.specs.Tables.{alignment_of, padding, string_bytes}
 use Rattle.rv_map.specs.declared.map.Row.{Row}
 use Rattle.rv_source_laws.specs.Fits.{needs_no_padding}
-use Rattle.rv_object_types.specs.Padding.{no_operations, operations_in}
+use Rattle.rv_object_laws.specs.Padding.{no_operations, operations_in}
 use Rattle.rv_pseudo_laws.specs.Code.{Part, code}
 use Rattle.rv_assemble_laws.specs.Coded.{is_constant, constants, IsCode}
 use Rattle.rv_assemble_laws.specs.Templates.{Open}

@@ -2,7 +2,7 @@
 
 use Rattle.std.proofs.Common.{[], ◌∷◌, refl, arith}
 use Rattle.std.specs.Int.{int_wrap}
-use Rattle.rv_object_laws.specs.IsLinkOf.{IsLinkOf}
+use Rattle.rv_link_laws.specs.IsLinkOf.{IsLinkOf}
 use Rattle.rv_sources_link_laws.specs.TwoFiles.{first_object, second_object, two_files, starts}
 
 pub linked : IsLinkOf (first_object ∷ second_object ∷ []) 0x10000 two_files

@@ -1,4 +1,4 @@
-use Rattle.rv_object_types.proofs.CountedLemmas.{counted_next}
+use Rattle.rv_object_laws.proofs.CountedLemmas.{counted_next}
 use Rattle.rv_assemble.proofs.rows.put_row.Goals as goal
 
 pub returns-clause-counted : goal.returns-clause-counted

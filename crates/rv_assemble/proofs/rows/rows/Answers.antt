@@ -1,5 +1,5 @@
 use Rattle.std.proofs.Common.{◌≡◌, ◌++◌, ◌+◌, ◌∙◌, ◌∷◌, [], ap, sym, length, arith}
-use Rattle.rv_object_types.specs.Valid.{are_counted}
+use Rattle.rv_object_laws.specs.Valid.{are_counted}
 use Rattle.rv_unit.specs.declared.item.Item.{Item}
 use Rattle.rv_assemble.proofs.RowsFromLemmas.{rows_back, counted_reversed}
 use Rattle.rv_assemble.proofs.rows.rows.Goals as goal

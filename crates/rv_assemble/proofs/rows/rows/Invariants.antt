@@ -1,5 +1,5 @@
 use Rattle.std.proofs.Common.{◌≡◌, ◌++◌, ◌<◌, ◌^◌, true, length, reverse, vec_len}
-use Rattle.rv_object_types.specs.Valid.{are_counted}
+use Rattle.rv_object_laws.specs.Valid.{are_counted}
 use Rattle.rv_assemble.specs.Making.{rows_from}
 use Rattle.rv_assemble.proofs.rows.rows.Given as goal
 

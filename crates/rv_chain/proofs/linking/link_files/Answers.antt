@@ -3,9 +3,9 @@ use Rattle.std.proofs.lemmas.List.{length-map}
 use Rattle.rv_statement.specs.View.{now_of}
 use Rattle.rv_image.specs.Views.{linked_of}
 use Rattle.rv_object_types.specs.View.{object_of}
-use Rattle.rv_object_laws.specs.TextStart.{AreWithin}
-use Rattle.rv_object_laws.specs.Details.{IsProgramWith}
-use Rattle.rv_object_laws.specs.Refusals.{HasNoProgram}
+use Rattle.rv_link_laws.specs.TextStart.{AreWithin}
+use Rattle.rv_link_laws.specs.Details.{IsProgramWith}
+use Rattle.rv_link_laws.specs.Refusals.{HasNoProgram}
 use Rattle.rv_chain.specs.LinkRefusals.{AreUnlinkable}
 use Rattle.rv_chain.proofs.GatheredLemmas.{err_given}
 use Rattle.rv_chain.proofs.UnreadLemmas.{link_unlinkable}

@@ -3,7 +3,7 @@ use Rattle.std.proofs.lemmas.Result.{IfOk-weaker}
 use Rattle.std.specs.Prelude.{IfOk}
 use Rattle.rv_image.specs.Views.{linked_of}
 use Rattle.rv_object_types.specs.View.{object_of}
-use Rattle.rv_object_laws.specs.Details.{IsProgramWith}
+use Rattle.rv_link_laws.specs.Details.{IsProgramWith}
 use Rattle.rv_chain.proofs.linking.program.Goals as goal
 
 pub returns-then-details-clause-links : goal.returns-then-details-clause-links

@@ -1,7 +1,7 @@
 use Rattle.std.proofs.Common.{◌<◌, ◌∷◌, ◌+◌, [], Bool, not, length, map, filter, drop, get_or}
 use Rattle.std.proofs.lemmas.List.{get_or_default}
 use Rattle.std.specs.Prelude.{if◌then◌else◌}
-use Rattle.rv_object_types.specs.declared.row.Row.{Row}
+use Rattle.rv_object_laws.specs.declared.row.Row.{Row}
 use Rattle.rv_object_types.specs.Sections.{section_of}
 use Rattle.rv_collect.specs.Drops.{drops_in}
 use Rattle.rv_collect.proofs.LeftLemmas.{some_more, rows_left}

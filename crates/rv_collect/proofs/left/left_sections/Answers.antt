@@ -1,7 +1,7 @@
 use Rattle.std.proofs.Common.{◌≡◌, ◌<◌, ◌≤◌, ◌++◌, ◌∷◌, ◌+◌, ◌∙◌, ℕ, [], Bool, length, map, drop, rules, ap, sym, append-nil}
 use Rattle.std.proofs.lemmas.List.{at_drop_all, map_push}
 use Rattle.rv_object_types.specs.Sections.{section_of}
-use Rattle.rv_object_laws.specs.Without.{without_section, without_sections}
+use Rattle.rv_link_laws.specs.Without.{without_section, without_sections}
 use Rattle.rv_collect.specs.Drops.{drops_in}
 use Rattle.rv_collect.proofs.LeftLemmas.{one_more, sections_left}
 use Rattle.rv_collect.proofs.left.left_sections.Goals as goal

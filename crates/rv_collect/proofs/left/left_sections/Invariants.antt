@@ -1,7 +1,7 @@
 -- What is left so far, with what comes, is all that is left.
 use Rattle.std.proofs.Common.{◌≡◌, ◌++◌, map, drop}
 use Rattle.rv_object_types.specs.Sections.{section_of}
-use Rattle.rv_object_laws.specs.Without.{without_sections}
+use Rattle.rv_link_laws.specs.Without.{without_sections}
 use Rattle.rv_collect.specs.Drops.{drops_in}
 use Rattle.rv_collect.proofs.left.left_sections.Given as goal
 

@@ -4,7 +4,7 @@ use Rattle.std.specs.List.{slice_get}
 use Rattle.std.proofs.lemmas.Option.{slice_get-map, slice_get_read}
 use Rattle.rv_object_types.specs.Parts.{symbol_of}
 use Rattle.rv_object_types.specs.View.{object_of}
-use Rattle.rv_object_laws.specs.Names.{symbol_place}
+use Rattle.rv_link_laws.specs.Names.{symbol_place}
 use Rattle.rv_collect.proofs.walk.target.Goals as goal
 
 pub returns : goal.returns

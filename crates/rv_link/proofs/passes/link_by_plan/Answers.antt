@@ -5,8 +5,8 @@ use Rattle.rv_image.specs.Views.{linked_of}
 use Rattle.rv_shorten.specs.declared.object.ShortObject.{ShortObject}
 use Rattle.rv_shorten.specs.View.{short_object_of}
 use Rattle.rv_resolve.specs.declared.names.Names.{Names}
-use Rattle.rv_object_laws.specs.Entry.{has_entry}
-use Rattle.rv_object_laws.specs.Refusals.{ComesToPlaces, IsUnlinked}
+use Rattle.rv_link_laws.specs.Entry.{has_entry}
+use Rattle.rv_link_laws.specs.Refusals.{ComesToPlaces, IsUnlinked}
 use Rattle.rv_resolve.specs.Names.{IsNames}
 use Rattle.rv_placement.specs.declared.placement.Placement.{Placement}
 use Rattle.rv_placement.specs.Placement.{layout_of, IsPlacement}
@@ -15,7 +15,7 @@ use Rattle.rv_placement.proofs.RoomsStandLemmas.{lacks_room_anywhere}
 use Rattle.rv_reloc.specs.declared.fault.LinkFault.{LinkFault}
 use Rattle.rv_reloc.specs.declared.fault.LinkFault.TheVariants.{EntryMissing}
 use Rattle.rv_link.specs.Left.{IsLinkWith}
-use Rattle.rv_object_laws.specs.TextStart.{AreWithin}
+use Rattle.rv_link_laws.specs.TextStart.{AreWithin}
 use Rattle.rv_link.specs.Regions.{HasLinkNames}
 use Rattle.rv_link.specs.Made.{made}
 use Rattle.rv_link.proofs.UnlinkedLemmas.{not_placed, unfilled, unnamed}

@@ -3,13 +3,13 @@ use Rattle.std.proofs.lemmas.List.{length-map}
 use Rattle.std.proofs.lemmas.Result.{err_from_is_err_and, IfOk-weaker, IfErr-weaker}
 use Rattle.rv_image.specs.Views.{linked_of}
 use Rattle.rv_object_types.specs.View.{object_of}
-use Rattle.rv_object_laws.specs.Without.{without}
+use Rattle.rv_link_laws.specs.Without.{without}
 use Rattle.rv_collect.specs.Marks.{drops_of}
 use Rattle.rv_resolve.specs.Names.{IsNames}
 use Rattle.rv_resolve.proofs.AlikeLemmas.{names_left}
 use Rattle.rv_reloc.specs.declared.fault.LinkFault.TheVariants.{OutOfMemory}
 use Rattle.rv_link.specs.Left.{HasNoLink, IsLinkOfLeft}
-use Rattle.rv_object_laws.specs.TextStart.{AreWithin}
+use Rattle.rv_link_laws.specs.TextStart.{AreWithin}
 use Rattle.rv_link.proofs.LeftLemmas.{doubled, many_left, some_dropped, some_unlinked}
 use Rattle.rv_link.proofs.programs.link_collected.Goals as goal
 

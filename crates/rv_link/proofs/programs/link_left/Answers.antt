@@ -6,8 +6,8 @@ use Rattle.rv_image.specs.Views.{linked_of}
 use Rattle.rv_relax.specs.Plan.{planned_objects}
 use Rattle.rv_resolve.proofs.AlikeLemmas.{still_names}
 use Rattle.rv_link.specs.Left.{HasNoLink, IsLinkOfLeft, IsLinkWith}
-use Rattle.rv_object_laws.specs.TextStart.{AreWithin}
-use Rattle.rv_object_laws.specs.Refusals.{IsUnlinked}
+use Rattle.rv_link_laws.specs.TextStart.{AreWithin}
+use Rattle.rv_link_laws.specs.Refusals.{IsUnlinked}
 use Rattle.rv_link.proofs.LeftLemmas.{alike, out_of_memory}
 use Rattle.rv_link.proofs.programs.link_left.Goals as goal
 

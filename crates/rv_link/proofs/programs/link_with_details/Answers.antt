@@ -4,8 +4,8 @@ use Rattle.std.specs.Prelude.{IfOk, IfErr}
 use Rattle.rv_image.specs.Views.{linked_of}
 use Rattle.rv_object_types.specs.View.{object_of}
 use Rattle.rv_link.specs.Left.{HasNoLink, IsLinkOfLeft}
-use Rattle.rv_object_laws.specs.Details.{IsProgramWith}
-use Rattle.rv_object_laws.specs.Refusals.{HasNoProgram}
+use Rattle.rv_link_laws.specs.Details.{IsProgramWith}
+use Rattle.rv_link_laws.specs.Refusals.{HasNoProgram}
 use Rattle.rv_link.proofs.LeftLemmas.{past, doubled, none_dropped, none_unlinked}
 use Rattle.rv_link.proofs.programs.link_with_details.Goals as goal
 

@@ -1,7 +1,7 @@
 use Rattle.std.proofs.Common.{nat_le, ◌∙◌, rules, tests}
 use Rattle.std.proofs.lemmas.Iterator.{YieldsList-from_slice}
 use Rattle.std.proofs.lemmas.Iterator.Search.{any_from_yields_List, YieldsList-from_take_while}
-use Rattle.rv_object_laws.specs.CallSites as laws
+use Rattle.rv_link_laws.specs.CallSites as laws
 use Rattle.rv_link_sites.proofs.LoopsLemmas.{relax_in_front}
 use Rattle.rv_link_sites.proofs.between.begin_with_relax.Goals as goal
 

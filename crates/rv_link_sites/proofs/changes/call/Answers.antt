@@ -3,11 +3,11 @@ use Rattle.std.specs.Prelude.{◌==◌}
 use Rattle.std.specs.Int.{w64, int_wrap}
 use Rattle.std.proofs.lemmas.Int.{to_z-of_z, SFits-int_wrap}
 use Rattle.std.proofs.lemmas.Option.{slice_get_within}
-use Rattle.rv_object_types.specs.Object.{stored}
+use Rattle.rv_object_laws.specs.Object.{stored}
 use Rattle.rv_object_types.specs.Parts.{relocation_of}
 use Rattle.rv_object_types.specs.Sections.{section_of}
 use Rattle.rv_object_types.specs.View.{object_of}
-use Rattle.rv_object_laws.specs.CallSites as laws
+use Rattle.rv_link_laws.specs.CallSites as laws
 use Rattle.rv_link_sites.specs.Text.{objects_of, input_of}
 use Rattle.rv_link_sites.proofs.ChangedLemmas.{one_call}
 use Rattle.rv_link_sites.proofs.changes.call.Goals as goal

@@ -4,7 +4,7 @@ use Rattle.std.proofs.lemmas.List.{take_all}
 use Rattle.std.proofs.lemmas.List.Sorted.{IsPermutation-map}
 use Rattle.rv_object_types.specs.Parts.{relocation_of}
 use Rattle.rv_object_types.specs.Sections.{section_of}
-use Rattle.rv_object_laws.specs.CallSites as laws
+use Rattle.rv_link_laws.specs.CallSites as laws
 use Rattle.rv_link_sites.specs.Between.{Rise, IsBefore}
 use Rattle.rv_link_sites.specs.Text.{objects_of, input_of}
 use Rattle.rv_link_sites.proofs.SortedLemmas.{rise_sorted, sorted_changes}

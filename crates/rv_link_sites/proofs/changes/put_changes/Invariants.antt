@@ -1,7 +1,7 @@
 use Rattle.std.proofs.Common.{◌≡◌, ◌++◌, map, take}
 use Rattle.std.specs.Prelude.{filter}
 use Rattle.rv_object_types.specs.Parts.{relocation_of}
-use Rattle.rv_object_laws.specs.CallSites as laws
+use Rattle.rv_link_laws.specs.CallSites as laws
 use Rattle.rv_link_sites.specs.Between.{IsBefore}
 use Rattle.rv_link_sites.specs.Text.{objects_of, input_of}
 use Rattle.rv_link_sites.proofs.changes.put_changes.Given as goal

@@ -3,10 +3,10 @@ use Rattle.rv_layout_laws.specs.declared.site.Site.{Site}
 use Rattle.rv_layout_laws.specs.declared.site.SiteKind.{SiteKind}
 use Rattle.rv_layout_laws.specs.declared.site.SiteKind.TheVariants.{Call, Padding}
 use Rattle.rv_layout_laws.specs.Calls.{IsText, site_at}
-use Rattle.rv_object_types.specs.Object.{Object}
+use Rattle.rv_object_laws.specs.Object.{Object}
 use Rattle.rv_object_types.specs.View.{object_of}
-use Rattle.rv_object_laws.specs.CallSites.{sites_of}
-use Rattle.rv_object_laws.specs.Within.{IsWithin, LeadsWithin}
+use Rattle.rv_link_laws.specs.CallSites.{sites_of}
+use Rattle.rv_link_laws.specs.Within.{IsWithin, LeadsWithin}
 use Rattle.rv_relax.specs.Passes.{IsInput, LeadsLow}
 use Rattle.rv_link_sites.specs.Line.{ended_files}
 use Rattle.rv_link_sites.specs.Text.{objects_of}

@@ -1,8 +1,8 @@
 use Rattle.std.proofs.Common.{◌+◌, ◌*◌, ◌++◌, ◌≤◌, ◌^◌, sym, ap, subst, ◌∙◌}
-use Rattle.rv_object_types.specs.Object.{Section}
+use Rattle.rv_object_laws.specs.Object.{Section}
 use Rattle.rv_object_types.specs.Sections.{section_of}
 use Rattle.rv_object_types.specs.View.{object_of}
-use Rattle.rv_object_laws.specs.Inputs.{InputSection, goes_to_text}
+use Rattle.rv_link_laws.specs.Inputs.{InputSection, goes_to_text}
 use Rattle.rv_link_sites.specs.Line.{next, input, section_sites}
 use Rattle.rv_link_sites.specs.Text.{objects_of}
 use Rattle.rv_link_sites.proofs.WalksLemmas.{mapped_there, one_there, next_text, sites_other, sites_text}

@@ -1,5 +1,5 @@
 use Rattle.std.proofs.Common.{sym, ap, ◌∙◌}
-use Rattle.rv_object_types.specs.Valid.{is_padding}
+use Rattle.rv_object_laws.specs.Valid.{is_padding}
 use Rattle.rv_object_file_laws.specs.Parts.{extent_of}
 use Rattle.rv_object_checks.specs.Stretches.{placed}
 use Rattle.rv_object_checks.proofs.RelocationStepsLemmas.{held_inside}

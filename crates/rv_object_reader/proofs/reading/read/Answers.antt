@@ -1,7 +1,7 @@
 use Rattle.std.proofs.Common.{map, ap, ◌∙◌}
 use Rattle.rv_object_types.specs.Parts.{symbol_of}
 use Rattle.rv_object_types.specs.Sections.{section_of}
-use Rattle.rv_object_types.specs.Valid.{are_indexed, are_defined, are_rows}
+use Rattle.rv_object_laws.specs.Valid.{are_indexed, are_defined, are_rows}
 use Rattle.rv_object_reader.proofs.ValidSymbolsLemmas.{sections_in, symbols_made, object_indexed, object_defined, object_rows}
 use Rattle.rv_object_reader.proofs.WholeLemmas.{collected_is}
 use Rattle.rv_object_reader.proofs.reading.read.Goals as goal

@@ -2,7 +2,7 @@ use Rattle.std.proofs.Common.{◌+◌, ◌*◌, ◌-◌, ◌/◌, length, subst,
 use Rattle.rv_elf.specs.Sections.{records}
 use Rattle.rv_object_file_laws.specs.ObjectOf.{row_in}
 use Rattle.rv_object_file_laws.specs.Rows.{row_at, rows_in}
-use Rattle.rv_object_types.proofs.CountedLemmas.{counted_next}
+use Rattle.rv_object_laws.proofs.CountedLemmas.{counted_next}
 use Rattle.rv_object_reader.proofs.MadeLemmas.{IsHome, records_next, first_good, so_far_next}
 use Rattle.rv_object_reader.proofs.rows.rows_in.Goals as goal
 

@@ -1,6 +1,6 @@
 use Rattle.std.proofs.Common.{◌+◌, ◌-◌, ◌/◌, ◌++◌, ap, ◌∙◌}
-use Rattle.rv_object_types.specs.Padding.{four_each}
-use Rattle.rv_object_types.proofs.NopsLemmas.{four_more, whole, and_half}
+use Rattle.rv_object_laws.specs.Padding.{four_each}
+use Rattle.rv_object_laws.proofs.NopsLemmas.{four_more, whole, and_half}
 use Rattle.rv_object_types.proofs.padding.put_no_operations.Goals as goal
 
 pub loop-preserved : goal.loop-preserved

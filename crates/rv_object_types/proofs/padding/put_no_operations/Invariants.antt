@@ -1,5 +1,5 @@
 use Rattle.std.proofs.Common.{◌≡◌, ◌-◌, ◌/◌, ◌++◌}
-use Rattle.rv_object_types.specs.Padding.{four_each}
+use Rattle.rv_object_laws.specs.Padding.{four_each}
 use Rattle.rv_object_types.proofs.padding.put_no_operations.Given as goal
 
 -- what is there so far, and what is left, make up the whole

@@ -1,7 +1,7 @@
 use Rattle.std.proofs.Common.{◌<◌, ◌^◌, ◌∙◌, ◌++◌, List, [], ◌∷◌, map, ap, refl, subst}
 use Rattle.std.proofs.lemmas.List.{map_push}
 use Rattle.std.proofs.lemmas.List.Elements.{All-more}
-use Rattle.rv_object_types.specs.Object.{Section as PlainSection, size_of}
+use Rattle.rv_object_laws.specs.Object.{Section as PlainSection, size_of}
 use Rattle.rv_object_types.specs.declared.section.Section.{Section}
 use Rattle.rv_object_types.specs.Sections.{section_of}
 use Rattle.rv_object_file_laws.specs.Written.{section_piece, UnplacedSection as PlainPiece}

@@ -1,5 +1,5 @@
 use Rattle.std.proofs.Common.{◌≡◌, ◌++◌, ◌<◌, ◌^◌, map, drop, take, All}
-use Rattle.rv_object_types.specs.Object.{size_of}
+use Rattle.rv_object_laws.specs.Object.{size_of}
 use Rattle.rv_object_types.specs.Sections.{section_of}
 use Rattle.rv_object_file_laws.specs.Written.{section_piece}
 use Rattle.rv_object_writer.specs.Pieces.{piece_of}

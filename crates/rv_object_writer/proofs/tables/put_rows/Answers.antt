@@ -1,5 +1,5 @@
 use Rattle.std.proofs.Common.{ℕ, List, refl}
-use Rattle.rv_object_types.specs.declared.row.Row.{Row}
+use Rattle.rv_object_laws.specs.declared.row.Row.{Row}
 use Rattle.rv_object_file_laws.specs.Rows.{row_bytes}
 use Rattle.rv_object_file_laws.specs.Written.{row_record}
 use Rattle.rv_object_writer.specs.Pieces.{rows_bytes}

@@ -1,7 +1,7 @@
 use Rattle.std.proofs.Common.{List, subst}
 use Rattle.std.proofs.lemmas.List.Elements.{All-more}
 use Rattle.std.specs.List.{AllByRecursion}
-use Rattle.rv_object_types.specs.Object.{Section as PlainSection}
+use Rattle.rv_object_laws.specs.Object.{Section as PlainSection}
 use Rattle.rv_object_types.specs.declared.section.Section.{Section}
 use Rattle.rv_object_types.specs.Sections.{section_of}
 use Rattle.rv_object_file_laws.specs.Known.{IsRelocation}

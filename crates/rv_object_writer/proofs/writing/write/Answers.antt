@@ -1,6 +1,6 @@
 use Rattle.std.proofs.Common.{◌≡◌, ◌^◌, ◌<◌, None, length, arith, subst, sym}
 use Rattle.rv_object_types.specs.View.{object_of}
-use Rattle.rv_object_types.specs.Object.{Object}
+use Rattle.rv_object_laws.specs.Object.{Object}
 use Rattle.rv_object_file_laws.specs.FirstFault.{first_fault}
 use Rattle.rv_object_file_laws.specs.ObjectOf.{ObjectOf}
 use Rattle.rv_object_file_laws.specs.Written.{file_of}

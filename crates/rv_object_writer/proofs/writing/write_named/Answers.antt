@@ -2,10 +2,9 @@ use Rattle.std.proofs.Common.{◌≡◌, ◌+◌, ◌++◌, ◌∷◌, [], ◌�
 use Rattle.rv_elf.specs.Fields.{file_header_size, section_header_size}
 use Rattle.rv_elf.specs.Numbers.{sht_strtab}
 use Rattle.rv_elf.specs.Records.{file_header_bytes, section_header_bytes}
-use Rattle.rv_object_types.specs.Object.{Object}
+use Rattle.rv_object_laws.specs.Object.{Object}
 use Rattle.rv_object_types.specs.View.{object_of}
-use Rattle.rv_object_file_laws.specs.Written.{contents_from, headers_from, strings_of, last_index, first_pieces, table_piece, section_names}
-use Rattle.rv_object_file_laws.specs.Written.{pieces as file_pieces}
+use Rattle.rv_object_file_laws.specs.Written.{contents_from, headers_from, strings_of, last_index, first_pieces, table_piece, section_names, pieces as file_pieces}
 use Rattle.rv_object_writer.specs.Pieces.{piece_of, header_by}
 use Rattle.rv_object_writer.proofs.writing.write_named.Goals as goal
 

@@ -1,7 +1,7 @@
 use Rattle.std.proofs.Common.{rules, ◌≡◌, ◌∙◌, map, sym, ap, true}
 use Rattle.rv_object_types.specs.Parts.{relocation_of}
 use Rattle.rv_object_types.specs.Sections.{section_of}
-use Rattle.rv_object_laws.specs.Inputs.{goes_to_text}
+use Rattle.rv_link_laws.specs.Inputs.{goes_to_text}
 use Rattle.rv_placement.specs.Alignments.{raised_by}
 use Rattle.rv_placement.proofs.AlignmentsLemmas.{begins_text}
 use Rattle.rv_placement.proofs.alignment.begins_at.Goals as goal

@@ -1,6 +1,6 @@
 use Rattle.std.proofs.Common.{◌∙◌, ap, rules}
 use Rattle.std.proofs.lemmas.List.Sorted.{answers_always, IsNonDecreasingBy-from_sort}
-use Rattle.rv_object_laws.specs.IsLinkOf as laws
+use Rattle.rv_link_laws.specs.IsLinkOf as laws
 use Rattle.rv_placement.proofs.SortedLemmas.{ordinal, sorted_rows}
 use Rattle.rv_placement.proofs.rows.by_ordinal.Goals as goal
 

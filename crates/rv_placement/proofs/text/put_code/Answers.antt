@@ -1,7 +1,7 @@
 use Rattle.std.proofs.Common.{rules, arith, ◌≡◌, ◌≤◌, ◌<◌, ◌^◌, refl}
 use Rattle.rv_isa_laws.specs.Platform.{stack_start}
-use Rattle.rv_object_types.specs.Object.{size_of}
-use Rattle.rv_object_laws.specs.Moves.{moves}
+use Rattle.rv_object_laws.specs.Object.{size_of}
+use Rattle.rv_link_laws.specs.Moves.{moves}
 use Rattle.rv_shorten.specs.Sections.{short_section_of}
 use Rattle.rv_relax.specs.Kept.{moves_of}
 use Rattle.rv_placement.specs.Walk.{end_from}

@@ -1,6 +1,6 @@
 use Rattle.std.proofs.Common.{◌≡◌, ◌++◌, ◌≤◌, take, drop, map}
 use Rattle.std.specs.List.{AllZip}
-use Rattle.rv_object_laws.specs.Inputs.{goes_to_text}
+use Rattle.rv_link_laws.specs.Inputs.{goes_to_text}
 use Rattle.rv_shorten.specs.Sections.{short_section_of}
 use Rattle.rv_placement.specs.Walk.{ended, text_starts, gapped, IsKept}
 use Rattle.rv_placement.proofs.text.put_file.Given as goal

@@ -1,6 +1,6 @@
 use Rattle.std.proofs.Common.{◌≡◌, ◌++◌, ◌≤◌, take, drop, map}
 use Rattle.std.specs.List.{AllZip}
-use Rattle.rv_object_laws.specs.Inputs.{goes_to_text}
+use Rattle.rv_link_laws.specs.Inputs.{goes_to_text}
 use Rattle.rv_shorten.specs.View.{short_object_of}
 use Rattle.rv_placement.specs.Walk.{ended_files, text_files, gapped_files, lists_of, AreKept}
 use Rattle.rv_placement.proofs.text.put_files.Given as goal

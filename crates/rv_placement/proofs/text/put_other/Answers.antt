@@ -1,5 +1,5 @@
 use Rattle.std.proofs.Common.{rules, arith, refl, ◌<◌, ◌^◌}
-use Rattle.rv_object_types.specs.Object.{size_of}
+use Rattle.rv_object_laws.specs.Object.{size_of}
 use Rattle.rv_shorten.specs.Sections.{short_section_of}
 use Rattle.rv_placement.specs.Walk.{end_from}
 use Rattle.rv_placement.proofs.text.put_other.Goals as goal

@@ -1,7 +1,7 @@
 use Rattle.std.proofs.Common.{◌∙◌, map, ap, rules, subst, sym}
 use Rattle.std.proofs.lemmas.List.Sorted.{answers_always, IsNonDecreasingBy-from_sort}
 use Rattle.rv_object_types.specs.Parts.{relocation_of}
-use Rattle.rv_object_laws.specs.Moves.{by_place}
+use Rattle.rv_link_laws.specs.Moves.{by_place}
 use Rattle.rv_shorten.specs.Sections.{short_section_of}
 use Rattle.rv_relax.proofs.ByPlaceLemmas.{place_of, AreTold, all_told, map_ordered}
 use Rattle.rv_relax.proofs.SortingLemmas.{backwards, backwards_back}

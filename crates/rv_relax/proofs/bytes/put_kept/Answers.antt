@@ -1,7 +1,7 @@
 use Rattle.std.proofs.Common.{◌≡◌, ◌+◌, ◌-◌, ◌<◌, ◌++◌, ◌∷◌, true, length, map, take, drop, slice_index_or, sym, ap, ◌∙◌, subst}
 use Rattle.std.proofs.lemmas.List.{drop_more}
-use Rattle.rv_object_types.specs.Padding.{no_operations}
-use Rattle.rv_object_laws.specs.Moves.{kept}
+use Rattle.rv_object_laws.specs.Padding.{no_operations}
+use Rattle.rv_link_laws.specs.Moves.{kept}
 use Rattle.rv_shorten.specs.Bytes.{left_bytes}
 use Rattle.rv_relax.specs.Paddings.{are_in_order, move_of}
 use Rattle.rv_relax.proofs.OrderLemmas.{first, rest, ends_low}

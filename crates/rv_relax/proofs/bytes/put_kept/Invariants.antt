@@ -1,5 +1,5 @@
 use Rattle.std.proofs.Common.{◌≡◌, ℕ, ◌++◌, true, map, drop}
-use Rattle.rv_object_laws.specs.Moves.{kept}
+use Rattle.rv_link_laws.specs.Moves.{kept}
 use Rattle.rv_relax.specs.Paddings.{are_in_order, move_of}
 use Rattle.rv_shorten.specs.Bytes.{left_bytes}
 use Rattle.rv_relax.proofs.bytes.put_kept.Given as goal

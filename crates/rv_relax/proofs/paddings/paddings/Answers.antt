@@ -1,7 +1,7 @@
 use Rattle.std.proofs.Common.{◌≡◌, ◌+◌, ◌-◌, ◌%◌, ◌<◌, ◌∷◌, [], ◌++◌, length, map, take, slice_index_or, refl, sym, ap, ◌∙◌, arith, append-nil}
 use Rattle.rv_layout_laws.specs.Alignment.{aligned}
 use Rattle.rv_object_types.specs.Parts.{relocation_of}
-use Rattle.rv_object_laws.specs.Moves.{alignment_of, full_padding, plan}
+use Rattle.rv_link_laws.specs.Moves.{alignment_of, full_padding, plan}
 use Rattle.rv_relax.specs.Paddings.{are_in_order, move_of}
 use Rattle.rv_relax.proofs.SortingLemmas.{nothing, backwards}
 use Rattle.rv_cut_laws.proofs.AlignmentsLemmas.{next_alignment, other_alignments}

@@ -1,5 +1,5 @@
 use Rattle.std.proofs.Common.{◌≡◌, ℕ, ◌≤◌, ◌++◌, true, length, map, take, List}
-use Rattle.rv_object_laws.specs.Moves.{plan}
+use Rattle.rv_link_laws.specs.Moves.{plan}
 use Rattle.rv_relax.specs.Pieces.{Piece}
 use Rattle.rv_cut_laws.specs.Alignments.{are_alignments}
 use Rattle.rv_relax.specs.Paddings.{are_in_order, move_of}

@@ -2,7 +2,7 @@ use Rattle.std.proofs.Common.{◌≡◌, ◌<◌, ◌≤◌, ◌++◌, true, len
 use Rattle.std.specs.List.{slice_get}
 use Rattle.rv_object_types.specs.Parts.{relocation_of}
 use Rattle.rv_object_types.specs.Sections.{section_of}
-use Rattle.rv_object_laws.specs.Inputs.{goes_to_text}
+use Rattle.rv_link_laws.specs.Inputs.{goes_to_text}
 use Rattle.rv_shorten.specs.Sections.{moves_in}
 use Rattle.rv_relax.specs.Kept.{kept_in}
 use Rattle.rv_relax.specs.Told.{as_list, told_at}

@@ -1,6 +1,6 @@
 use Rattle.std.proofs.Common.{List, map, sym, ap, ◌∙◌}
 use Rattle.std.specs.Global.{Vec}
-use Rattle.rv_object_laws.specs.Moves.{Move}
+use Rattle.rv_link_laws.specs.Moves.{Move}
 use Rattle.rv_shorten.specs.declared.object.ShortObject.{ShortObject}
 use Rattle.rv_relax.specs.declared.section_paddings.SectionPaddings.{SectionPaddings}
 use Rattle.rv_relax.specs.Kept.{kept_in, moves_of}

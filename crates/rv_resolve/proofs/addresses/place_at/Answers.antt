@@ -1,10 +1,10 @@
 use Rattle.std.proofs.Common.{◌≡◌, Some, length, map, Option, option_map, refl, ap, sym, ◌∙◌}
 use Rattle.std.specs.List.{slice_get}
 use Rattle.std.proofs.lemmas.Option.{slice_get-map, slice_get_read}
-use Rattle.rv_object_types.specs.Object.{Symbol, Object}
+use Rattle.rv_object_laws.specs.Object.{Symbol, Object}
 use Rattle.rv_object_types.specs.Parts.{symbol_of}
 use Rattle.rv_object_types.specs.View.{object_of}
-use Rattle.rv_object_laws.specs.Names.{place_in}
+use Rattle.rv_link_laws.specs.Names.{place_in}
 use Rattle.rv_resolve.proofs.addresses.place_at.Goals as goal
 
 pub returns : goal.returns

@@ -5,7 +5,7 @@ use Rattle.rv_resolve.specs.Chosen.{seen}
 use Rattle.rv_resolve.specs.Names.{outside}
 use Rattle.rv_resolve.proofs.LoadingLemmas.{seen_symbols}
 use Rattle.rv_resolve.proofs.RowsLemmas.{one_pushed}
-use Rattle.rv_object_laws.proofs.StepsLemmas.{left}
+use Rattle.rv_link_laws.proofs.StepsLemmas.{left}
 use Rattle.rv_resolve.proofs.meanings.file_meanings.Goals as goal
 
 pub loop-index-init : goal.loop-index-init

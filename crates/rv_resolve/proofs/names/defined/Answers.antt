@@ -1,5 +1,5 @@
 use Rattle.std.proofs.Common.{◌≡◌, ◌-◌, Some, None, Option, option_map, ap, ◌∙◌, arith}
-use Rattle.rv_object_types.specs.Object.{Symbol}
+use Rattle.rv_object_laws.specs.Object.{Symbol}
 use Rattle.rv_resolve.specs.declared.names.Meant.{Meant}
 use Rattle.rv_resolve.specs.Moved.{with_definition}
 use Rattle.rv_resolve.proofs.names.defined.Goals as goal

@@ -1,6 +1,6 @@
 use Rattle.std.proofs.Common.{◌≡◌, true, false, [], ◌∷◌, List, ℕ, refl, sym, ◌∙◌}
 use Rattle.std.specs.Prelude.{codes}
-use Rattle.rv_object_laws.proofs.LinkerNamesLemmas.{tested, other, only}
+use Rattle.rv_link_laws.proofs.LinkerNamesLemmas.{tested, other, only}
 use Rattle.rv_resolve.proofs.undefined.is_linker_name.Goals as goal
 use Rattle.rv_resolve.proofs.undefined.is_linker_name.Goals.{then-eq, else-eq, then-eq-2, else-eq-2, then-eq-3, else-eq-3}
 

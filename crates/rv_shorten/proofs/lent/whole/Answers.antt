@@ -2,7 +2,7 @@ use Rattle.std.proofs.Common.{◌≡◌, ◌++◌, ◌∷◌, ◌+◌, List, [],
 use Rattle.std.proofs.lemmas.List.{drop_more, map_push, append_assoc}
 use Rattle.rv_object_types.specs.Sections.{section_of}
 use Rattle.rv_object_types.specs.View.{object_of}
-use Rattle.rv_object_laws.specs.Moves.{Move}
+use Rattle.rv_link_laws.specs.Moves.{Move}
 use Rattle.rv_cut_laws.specs.Cutting.{AllCut, cut_sections, cut_object}
 use Rattle.rv_shorten.specs.Sections.{moves_in_all}
 use Rattle.rv_shorten.specs.View.{short_object_of, whole_object_of}

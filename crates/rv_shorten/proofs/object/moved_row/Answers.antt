@@ -1,5 +1,5 @@
 use Rattle.std.proofs.Common.{◌≡◌, ◌-◌, ◌+◌, ◌^◌, map, min, arith, ap, ◌∙◌}
-use Rattle.rv_object_laws.specs.Moves.{new_offset, lost}
+use Rattle.rv_link_laws.specs.Moves.{new_offset, lost}
 use Rattle.rv_shorten.specs.Cut.{move_of}
 use Rattle.rv_shorten.proofs.OrderLemmas.{as_cuts, as_pieces, moves_dropped}
 use Rattle.rv_cut_laws.proofs.ShiftsLemmas.{dropped_within}

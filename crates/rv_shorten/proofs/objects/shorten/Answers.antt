@@ -3,7 +3,7 @@ use Rattle.std.proofs.lemmas.Result.{IfOk-weaker}
 use Rattle.rv_layout_laws.specs.declared.site.Site.{Site}
 use Rattle.rv_layout_laws.specs.Calls.{IsText}
 use Rattle.rv_object_types.specs.View.{object_of}
-use Rattle.rv_object_laws.specs.Shortened.{shortened}
+use Rattle.rv_link_laws.specs.Shortened.{shortened}
 use Rattle.rv_shorten.specs.View.{short_object_of}
 use Rattle.rv_cut_laws.specs.Walk.{AreWalked, walked}
 use Rattle.rv_cut_laws.proofs.LineLemmas.{sound_objects}

@@ -1,6 +1,6 @@
 use Rattle.std.proofs.Common.{◌<◌, ◌≢◌, inr, cond, length, map, slice_index_or, sym, ap, ◌∙◌, arith}
 use Rattle.std.proofs.lemmas.Bool.{eq-eqb, ne_eqb}
-use Rattle.rv_object_laws.specs.CallSites.{is_call}
+use Rattle.rv_link_laws.specs.CallSites.{is_call}
 use Rattle.rv_isa.specs.declared.kind.Kind.TheVariants as kinds
 use Rattle.rv_shorten.specs.Cut.{move_of}
 use Rattle.rv_cut_laws.specs.Cutting.{cut_at}

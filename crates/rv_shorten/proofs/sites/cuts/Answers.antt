@@ -1,5 +1,5 @@
 use Rattle.std.proofs.Common.{◌≡◌, ℕ, ◌∷◌, ◌+◌, ◌-◌, ◌^◌, ◌<◌, ◌≤◌, ◌++◌, List, length, map, drop, slice_index_or, sym, ap, subst, ◌∙◌, rules}
-use Rattle.rv_object_laws.specs.Moves.{Move}
+use Rattle.rv_link_laws.specs.Moves.{Move}
 use Rattle.rv_shorten.specs.Cut.{Cut, move_of}
 use Rattle.rv_cut_laws.specs.Walk.{moves_of, site_end}
 use Rattle.rv_shorten.specs.SiteCuts.{cuts_of}

@@ -1,8 +1,8 @@
 use Rattle.std.proofs.Common.{◌≡◌, ℕ, List, [], ◌∷◌, ◌++◌, map, ap, ◌∙◌, append_assoc, arith}
 use Rattle.std.specs.Prelude.{◌&&◌, ◌||◌, not, if◌then◌else◌}
 use Rattle.std.specs.HashSet.{contains}
-use Rattle.rv_object_types.specs.declared.symbol.Definition.TheVariants.{InSection}
-use Rattle.rv_object_types.specs.Object.{Symbol}
+use Rattle.rv_object_laws.specs.declared.symbol.Definition.TheVariants.{InSection}
+use Rattle.rv_object_laws.specs.Object.{Symbol}
 use Rattle.rv_object_types.specs.Parts.{symbol_of}
 use Rattle.rv_assemble_laws.specs.Symbols.{local_symbol, named_symbols}
 use Rattle.rv_symbols.specs.Source.{tables_of}

@@ -8,8 +8,8 @@ use Rattle.rv_unit_laws.specs.Tables.{Tables, at_start, tables}
 use Rattle.rv_unit.specs.Unit.{said, definition_of, IsFilled}
 use Rattle.rv_unit.specs.Items.{offsets_of}
 use Rattle.rv_source_laws.specs.Located.{located_from}
-use Rattle.rv_object_types.specs.declared.symbol.Definition.TheVariants.{Undefined}
-use Rattle.rv_object_types.specs.Object.{Symbol}
+use Rattle.rv_object_laws.specs.declared.symbol.Definition.TheVariants.{Undefined}
+use Rattle.rv_object_laws.specs.Object.{Symbol}
 use Rattle.rv_object_types.specs.Parts.{symbol_of}
 use Rattle.rv_assemble_laws.specs.Symbols.{SymbolUse, references, local_symbols, exports, shared_symbol, symbols_of}
 use Rattle.rv_symbols.specs.Settings.{AreFirsts}

@@ -1,6 +1,6 @@
 use Rattle.std.proofs.Common.{◌+◌, [], ◌∷◌, ◌++◌, map, drop, get_or, refl, sym, ap, ◌∙◌, append_assoc}
 use Rattle.std.proofs.lemmas.List.{map-append}
-use Rattle.rv_object_types.specs.declared.symbol.Definition.TheVariants.{Undefined}
+use Rattle.rv_object_laws.specs.declared.symbol.Definition.TheVariants.{Undefined}
 use Rattle.rv_object_types.specs.Parts.{symbol_of}
 use Rattle.rv_assemble_laws.specs.Symbols.{shared_symbol}
 use Rattle.rv_symbols.specs.Source.{tables_of}

@@ -1,6 +1,6 @@
 use Rattle.std.proofs.Common.{◌≡◌, ◌++◌, List, map, drop}
 use Rattle.rv_statement.specs.View.{now_of}
-use Rattle.rv_object_types.specs.declared.symbol.Definition.TheVariants.{Undefined}
+use Rattle.rv_object_laws.specs.declared.symbol.Definition.TheVariants.{Undefined}
 use Rattle.rv_object_types.specs.Parts.{symbol_of}
 use Rattle.rv_assemble_laws.specs.LaidStatements.{LaidStatement}
 use Rattle.rv_assemble_laws.specs.Symbols.{shared_symbol}

@@ -2,7 +2,7 @@ use Rattle.std.proofs.Common.{◌≡◌, ◌<◌, ◌++◌, ◌∷◌, ◌+◌, 
 use Rattle.std.proofs.lemmas.List.{map_push}
 use Rattle.rv_collect_laws.specs.Graph.{is_dropped}
 use Rattle.rv_object_types.specs.View.{object_of}
-use Rattle.rv_object_laws.specs.Without.{without_object, without_from, without}
+use Rattle.rv_link_laws.specs.Without.{without_object, without_from, without}
 use Rattle.rv_collect.specs.Drops.{drops_in}
 use Rattle.rv_collect.specs.Marks.{row_of, drops_of}
 use Rattle.rv_collect.proofs.DropsLemmas.{dropped_at}

@@ -1,7 +1,7 @@
 -- What is left so far, with what comes, is all that is left.
 use Rattle.std.proofs.Common.{◌≡◌, ◌++◌, suc, map, drop}
 use Rattle.rv_object_types.specs.View.{object_of}
-use Rattle.rv_object_laws.specs.Without.{without_from, without}
+use Rattle.rv_link_laws.specs.Without.{without_from, without}
 use Rattle.rv_collect.specs.Marks.{drops_of}
 use Rattle.rv_collect.proofs.collection.Collection.left.Given as goal
 

@@ -1,7 +1,7 @@
 -- All that the sections before the next one refer to is marked.
 use Rattle.std.proofs.Common.{◌-◌, ◌≤◌, length, map}
 use Rattle.rv_object_types.specs.View.{object_of}
-use Rattle.rv_object_laws.specs.Collects.{graph_of, entry_place}
+use Rattle.rv_link_laws.specs.Collects.{graph_of, entry_place}
 use Rattle.rv_collect_laws.specs.Graph.{Graph}
 use Rattle.rv_collect.specs.Walk.{IsWalk, IsPlaceMarked, AreFollowedTo}
 use Rattle.rv_collect.proofs.walk.Walk.follow.Given as goal

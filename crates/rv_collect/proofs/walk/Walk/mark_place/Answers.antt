@@ -1,6 +1,6 @@
 use Rattle.std.proofs.Common.{◌∙◌, map, option_map, ap, sym, subst}
 use Rattle.rv_object_types.specs.View.{object_of}
-use Rattle.rv_object_laws.specs.Collects.{lies_in}
+use Rattle.rv_link_laws.specs.Collects.{lies_in}
 use Rattle.rv_resolve.specs.Names.{place_of}
 use Rattle.rv_collect.specs.Drops.{id_at}
 use Rattle.rv_collect.specs.Walk.{IsMarked}

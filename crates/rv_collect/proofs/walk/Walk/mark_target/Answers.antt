@@ -1,5 +1,5 @@
 use Rattle.std.proofs.Common.{◌∙◌, ap, sym}
-use Rattle.rv_object_laws.specs.Collects.{lies_in}
+use Rattle.rv_link_laws.specs.Collects.{lies_in}
 use Rattle.rv_collect.proofs.walk.Walk.mark_target.Goals as goal
 
 pub mark_place-requires-clause-reached : goal.mark_place-requires-clause-reached

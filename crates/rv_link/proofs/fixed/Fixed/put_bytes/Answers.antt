@@ -3,9 +3,9 @@ use Rattle.std.proofs.lemmas.List.{drop_all, length-drop}
 use Rattle.std.specs.List.{AllByRecursion}
 use borrow.Rule.Slice.PartMut.{post_of}
 use Rattle.rv_shorten.specs.Sections.{short_section_of}
-use Rattle.rv_object_laws.specs.Moves.{Move, moves, kept, new_offset}
-use Rattle.rv_object_laws.specs.Values.{applied, initial_bytes}
-use Rattle.rv_object_laws.specs.Untaken.{worth}
+use Rattle.rv_link_laws.specs.Moves.{Move, moves, kept, new_offset}
+use Rattle.rv_link_laws.specs.Values.{applied, initial_bytes}
+use Rattle.rv_link_laws.specs.Untaken.{worth}
 use Rattle.rv_relax.specs.Kept.{moves_of}
 use Rattle.rv_link.specs.Filled.{IsInside, objects_of, input_of, linked_in}
 use Rattle.rv_placement.specs.Placement.{layout_of}

@@ -2,8 +2,8 @@ use Rattle.std.proofs.Common.{rules, ◌≡◌, pos, None, subst, sym, ap, ◌�
 use Rattle.std.proofs.lemmas.Int.{to_z-of_z}
 use Rattle.std.proofs.lemmas.Result.{err_from_is_err_and}
 use Rattle.rv_reloc.specs.Ranges.{Takes, Refuses}
-use Rattle.rv_object_laws.specs.Moves.{new_offset}
-use Rattle.rv_object_laws.specs.Values.{patched_at}
+use Rattle.rv_link_laws.specs.Moves.{new_offset}
+use Rattle.rv_link_laws.specs.Values.{patched_at}
 use Rattle.rv_isa.specs.declared.kind.Kind.TheVariants as kinds
 use Rattle.rv_object_types.specs.declared.relocation.Relocation.{Relocation}
 use Rattle.rv_object_types.specs.Parts.{relocation_of}

@@ -4,8 +4,8 @@ use Rattle.std.proofs.lemmas.Result.{err_from_is_err_and}
 use Rattle.rv_object_types.specs.Parts.{relocation_of}
 use Rattle.rv_shorten.specs.Sections.{short_section_of}
 use Rattle.rv_placement.specs.Placement.{starts_of, layout_of}
-use Rattle.rv_object_laws.specs.Untaken.{IsValueOf}
-use Rattle.rv_object_laws.specs.Layout.{outer_in}
+use Rattle.rv_link_laws.specs.Untaken.{IsValueOf}
+use Rattle.rv_link_laws.specs.Layout.{outer_in}
 use Rattle.rv_link.specs.Filled.{objects_of, input_of}
 use Rattle.rv_link.proofs.GrowingLemmas.{found_section}
 use Rattle.rv_link.proofs.fixed.Fixed.value.Goals as goal

@@ -1,6 +1,6 @@
 use Rattle.std.proofs.Common.{false, true, rules, inr}
 use Rattle.std.proofs.lemmas.Result.{err_from_is_err_and}
-use Rattle.rv_object_laws.specs.Inputs.{goes_to_text, goes_to_rodata, goes_to_data}
+use Rattle.rv_link_laws.specs.Inputs.{goes_to_text, goes_to_rodata, goes_to_data}
 use Rattle.rv_link.specs.Filled.{objects_of}
 use Rattle.rv_link.proofs.TurnsLemmas.{starts_later, text_is, rodata_is, data_is, not_loaded, in_text, in_rodata, in_data, in_bss, failed, failed_or}
 use Rattle.rv_link.proofs.regions.Regions.put.Goals as goal

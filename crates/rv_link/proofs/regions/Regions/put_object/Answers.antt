@@ -2,10 +2,10 @@ use Rattle.std.proofs.Common.{◌≡◌, ◌<◌, ◌+◌, length, sym, vec_len,
 use Rattle.std.proofs.lemmas.List.{length-map}
 use Rattle.rv_shorten.specs.View.{short_object_of}
 use Rattle.rv_shorten.specs.Sections.{short_section_of}
-use Rattle.rv_object_laws.specs.Names.{object_at}
+use Rattle.rv_link_laws.specs.Names.{object_at}
 use Rattle.rv_link.specs.Filled.{objects_of}
 use Rattle.rv_link.specs.Regions.{left_from, left_files, AreGrown}
-use Rattle.rv_object_laws.proofs.ListsLemmas.{found_at}
+use Rattle.rv_link_laws.proofs.ListsLemmas.{found_at}
 use Rattle.rv_link.proofs.StandingLemmas.{read}
 use Rattle.rv_link.proofs.TurnsLemmas.{grown_along, file_opens, file_closes}
 use Rattle.rv_link.proofs.regions.Regions.put_object.Goals as goal

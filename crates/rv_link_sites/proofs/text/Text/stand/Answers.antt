@@ -1,8 +1,8 @@
 use Rattle.std.proofs.Common.{◌≡◌, suc, ◌+◌, ◌*◌, ◌<◌, Some, length, ap, sym, ◌∙◌, arith, rules}
 use Rattle.std.specs.List.{slice_get}
 use Rattle.std.proofs.lemmas.Option.{slice_get_within, get_or_from_slice_get}
-use Rattle.rv_object_types.specs.Object.{Section, size_of}
-use Rattle.rv_object_laws.specs.CallSites.{base}
+use Rattle.rv_object_laws.specs.Object.{Section, size_of}
+use Rattle.rv_link_laws.specs.CallSites.{base}
 use Rattle.rv_link_sites.specs.Text.{objects_of}
 use Rattle.rv_link_sites.proofs.TargetsLemmas.{stands}
 use Rattle.rv_link_sites.proofs.text.Text.stand.Goals as goal

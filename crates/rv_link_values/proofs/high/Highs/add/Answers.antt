@@ -2,8 +2,8 @@ use Rattle.std.proofs.Common.{rules, ◌≡◌, ◌∙◌, ap, sym, Some, None, 
 use Rattle.std.specs.Prelude.{if◌then◌else◌}
 use Rattle.std.specs.BTreeMap.{get}
 use Rattle.rv_object_types.specs.Parts.{relocation_of}
-use Rattle.rv_object_laws.specs.Moves.{new_offset}
-use Rattle.rv_object_laws.specs.Values.{is_high}
+use Rattle.rv_link_laws.specs.Moves.{new_offset}
+use Rattle.rv_link_laws.specs.Values.{is_high}
 use Rattle.rv_cut_laws.specs.Cutting.{cut_relocation}
 use Rattle.rv_shorten.specs.Sections.{moves_in}
 use Rattle.rv_relax.specs.Kept.{moves_of}

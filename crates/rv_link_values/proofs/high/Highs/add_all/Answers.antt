@@ -3,7 +3,7 @@ use Rattle.std.specs.Prelude.{if◌then◌else◌}
 use Rattle.rv_isa.specs.declared.kind.Kind.TheVariants as kinds
 use Rattle.rv_object_types.specs.declared.relocation.Relocation.{Relocation as DeclaredRelocation}
 use Rattle.rv_object_types.specs.Parts.{relocation_of}
-use Rattle.rv_object_laws.specs.Moves.{new_offset}
+use Rattle.rv_link_laws.specs.Moves.{new_offset}
 use Rattle.rv_cut_laws.specs.Cutting.{cut_relocation}
 use Rattle.rv_shorten.specs.Sections.{moves_in}
 use Rattle.rv_relax.specs.Kept.{moves_of}

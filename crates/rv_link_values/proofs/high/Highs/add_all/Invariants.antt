@@ -2,7 +2,7 @@
 use Rattle.std.proofs.Common.{◌≡◌, ◌++◌, List, map, length}
 use Rattle.rv_object_types.specs.declared.relocation.Relocation.{Relocation as DeclaredRelocation}
 use Rattle.rv_object_types.specs.Parts.{relocation_of}
-use Rattle.rv_object_laws.specs.Moves.{new_offset}
+use Rattle.rv_link_laws.specs.Moves.{new_offset}
 use Rattle.rv_cut_laws.specs.Cutting.{cut_relocation}
 use Rattle.rv_shorten.specs.Sections.{moves_in}
 use Rattle.rv_relax.specs.Kept.{moves_of}

@@ -1,6 +1,6 @@
 use Rattle.std.proofs.Common.{◌≡◌, ◌∙◌, ◌+◌, ap, sym, rules, Some, None}
-use Rattle.rv_object_laws.specs.Values.{paired, value_at}
-use Rattle.rv_object_laws.specs.Layout.{outer_in}
+use Rattle.rv_link_laws.specs.Values.{paired, value_at}
+use Rattle.rv_link_laws.specs.Layout.{outer_in}
 use Rattle.rv_placement.specs.Placement.{starts_of, layout_of}
 use Rattle.rv_link_values.proofs.SymbolsLemmas.{place_is}
 use Rattle.rv_link_values.proofs.values.Values.paired.Goals as goal

@@ -1,7 +1,7 @@
 use Rattle.std.proofs.Common.{◌∙◌, ◌+◌, ap, sym}
 use Rattle.std.specs.Prelude.{unwrap_or}
-use Rattle.rv_object_laws.specs.Values.{target}
-use Rattle.rv_object_laws.specs.Layout.{outer_in}
+use Rattle.rv_link_laws.specs.Values.{target}
+use Rattle.rv_link_laws.specs.Layout.{outer_in}
 use Rattle.rv_placement.specs.Placement.{starts_of, layout_of}
 use Rattle.rv_link_values.proofs.SymbolsLemmas.{address_is}
 use Rattle.rv_link_values.proofs.values.Values.target.Goals as goal

@@ -3,9 +3,9 @@ use Rattle.std.specs.Prelude.{IfOk, IfErr}
 use Rattle.std.proofs.lemmas.Int.{to_z-of_z}
 use Rattle.rv_isa.specs.Kinds.{is_low_part}
 use Rattle.rv_object_types.specs.Parts.{relocation_of}
-use Rattle.rv_object_laws.specs.Values.{paired}
-use Rattle.rv_object_laws.specs.Layout.{outer_in}
-use Rattle.rv_object_laws.specs.Untaken.{IsValueOf, IsDangling}
+use Rattle.rv_link_laws.specs.Values.{paired}
+use Rattle.rv_link_laws.specs.Layout.{outer_in}
+use Rattle.rv_link_laws.specs.Untaken.{IsValueOf, IsDangling}
 use Rattle.rv_placement.specs.Placement.{starts_of, layout_of}
 use Rattle.rv_link_values.specs.declared.fault.ValueFault.TheVariants.{Dangling}
 use Rattle.rv_link_values.proofs.ValuedLemmas.{own_is, low_is, dangles}

@@ -1,8 +1,8 @@
 use Rattle.std.proofs.Common.{◌≡◌, ◌∙◌, ap, sym, rules, w64, Some, None}
 use Rattle.std.proofs.lemmas.Int.{to_z-of_z}
 use Rattle.rv_object_types.specs.Parts.{relocation_of}
-use Rattle.rv_object_laws.specs.Moves.{new_offset}
-use Rattle.rv_object_laws.specs.Layout.{outer_in}
+use Rattle.rv_link_laws.specs.Moves.{new_offset}
+use Rattle.rv_link_laws.specs.Layout.{outer_in}
 use Rattle.rv_relax.specs.Kept.{moves_of}
 use Rattle.rv_placement.specs.Placement.{placed_at, layout_of}
 use Rattle.rv_link_values.specs.Highs.{high_of}

@@ -2,7 +2,7 @@ use Rattle.std.proofs.Common.{◌≡◌, ◌+◌, ◌∙◌, ◌++◌, replicate
 use Rattle.std.specs.List.{AllByRecursion}
 use Rattle.rv_elf.specs.Fields.{symbol_size}
 use Rattle.rv_elf.specs.Records.{symbol_bytes}
-use Rattle.rv_object_types.specs.Object.{Object, Symbol}
+use Rattle.rv_object_laws.specs.Object.{Object, Symbol}
 use Rattle.rv_object_types.specs.Parts.{symbol_of}
 use Rattle.rv_object_types.specs.Sections.{section_of}
 use Rattle.rv_object_types.specs.View.{object_of}

@@ -2,7 +2,7 @@ use Rattle.std.proofs.Common.{◌≡◌, ◌∙◌, ◌≤◌, ◌<◌, ◌++◌
 use Rattle.std.specs.Vec.{with_items}
 use Rattle.std.proofs.lemmas.List.{with_items_is}
 use Rattle.rv_isa_laws.specs.Platform.{memory_limit}
-use Rattle.rv_object_laws.specs.Layout.{HasRoom, IsTooLarge}
+use Rattle.rv_link_laws.specs.Layout.{HasRoom, IsTooLarge}
 use Rattle.rv_shorten.specs.declared.object.ShortObject.{ShortObject}
 use Rattle.rv_shorten.specs.View.{short_object_of}
 use Rattle.rv_relax.specs.Kept.{kept_in}

@@ -1,8 +1,8 @@
 use Rattle.std.proofs.Common.{◌≡◌, ◌∙◌, ◌+◌, ◌++◌, ap, sym, subst, map}
 use Rattle.std.specs.Prelude.{IfOk}
 use Rattle.std.specs.List.{slice_get}
-use Rattle.rv_object_types.specs.Valid.{is_row_in, are_rows}
-use Rattle.rv_object_laws.specs.IsLinkOf.{by_ordinal, row_in}
+use Rattle.rv_object_laws.specs.Valid.{is_row_in, are_rows}
+use Rattle.rv_link_laws.specs.IsLinkOf.{by_ordinal, row_in}
 use Rattle.rv_shorten.specs.Sections.{short_section_of}
 use Rattle.rv_shorten.specs.View.{short_object_of}
 use Rattle.rv_placement.specs.Moved.{moved_rows}

@@ -1,8 +1,8 @@
 use Rattle.std.proofs.Common.{◌≡◌, ◌++◌, ◌+◌, ℕ, List, All, Some, map, drop}
 use Rattle.std.specs.List.{slice_get}
 use Rattle.rv_map.specs.Limits.{IsRow}
-use Rattle.rv_object_types.specs.Object.{Object}
-use Rattle.rv_object_laws.specs.IsLinkOf.{row_in}
+use Rattle.rv_object_laws.specs.Object.{Object}
+use Rattle.rv_link_laws.specs.IsLinkOf.{row_in}
 use Rattle.rv_shorten.specs.View.{short_object_of}
 use Rattle.rv_placement.specs.Moved.{moved_rows}
 use Rattle.rv_placement.specs.Placement.{starts_of, IsPlacement}

@@ -3,7 +3,7 @@ use Rattle.rv_layout_laws.specs.declared.site.Site.{Site}
 use Rattle.rv_layout_laws.specs.Calls.{IsGreatestClosed}
 use Rattle.rv_object_types.specs.View.{object_of}
 use Rattle.rv_shorten.specs.View.{short_object_of}
-use Rattle.rv_object_laws.specs.Shortened.{shortened}
+use Rattle.rv_link_laws.specs.Shortened.{shortened}
 use Rattle.rv_relax.specs.Plan.{placed_objects}
 use Rattle.rv_relax.proofs.CallSizesLemmas.{told_shortened}
 use Rattle.rv_relax.proofs.plan.Cut.of.Goals as goal

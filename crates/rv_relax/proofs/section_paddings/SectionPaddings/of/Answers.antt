@@ -2,9 +2,9 @@ use Rattle.std.proofs.Common.{◌≡◌, ◌<◌, ◌^◌, rules, ◌&&◌, true
 use Rattle.std.specs.Prelude.{reverse}
 use Rattle.std.specs.List.{filter}
 use Rattle.std.proofs.lemmas.Bool.{and_left, and_right, and_from}
-use Rattle.rv_object_types.specs.Object.{size_of}
+use Rattle.rv_object_laws.specs.Object.{size_of}
 use Rattle.rv_object_types.specs.Parts.{relocation_of}
-use Rattle.rv_object_laws.specs.Moves.{has_padding, by_place, plan}
+use Rattle.rv_link_laws.specs.Moves.{has_padding, by_place, plan}
 use Rattle.rv_shorten.specs.Sections.{short_section_of}
 use Rattle.rv_relax.specs.Kept.{moves_of}
 use Rattle.rv_relax.specs.Paddings.{move_of}

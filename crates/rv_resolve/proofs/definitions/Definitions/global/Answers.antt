@@ -8,7 +8,7 @@ use Rattle.std.proofs.lemmas.List.{at_drop_all}
 use Rattle.std.proofs.lemmas.Result.{err_from_is_err_and}
 use Rattle.rv_object_types.specs.declared.object.Object.{Object as DeclaredObject}
 use Rattle.rv_object_types.specs.View.{object_of}
-use Rattle.rv_object_types.specs.Bindings.{is_global}
+use Rattle.rv_object_laws.specs.Bindings.{is_global}
 use Rattle.rv_resolve.specs.Chosen.{Definer, seen_of, definers_in, definers_from}
 use Rattle.rv_resolve.specs.Names.{IsDefinitionTable, IsRefused}
 use Rattle.rv_resolve.proofs.LoadingLemmas.{seen_symbols, files_left, HasBut, all_had, one_more, one_refused, global_definers, table_distinct, first_refused}

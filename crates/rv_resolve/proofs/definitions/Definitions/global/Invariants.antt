@@ -1,7 +1,7 @@
 -- The table has all files but for those that are left.
 use Rattle.std.proofs.Common.{map, drop}
 use Rattle.rv_object_types.specs.View.{object_of}
-use Rattle.rv_object_types.specs.Bindings.{is_global}
+use Rattle.rv_object_laws.specs.Bindings.{is_global}
 use Rattle.rv_resolve.specs.Chosen.{seen_of, definers_from}
 use Rattle.rv_resolve.specs.Names.{IsDefinitionTable}
 use Rattle.rv_resolve.proofs.LoadingLemmas.{HasBut, global_definers}

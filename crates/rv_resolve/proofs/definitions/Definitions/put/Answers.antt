@@ -1,8 +1,8 @@
 use Rattle.std.proofs.Common.{◌≡◌, true, false, Some, None, option_map, is_some, sym, subst, ap, ◌∙◌}
 use Rattle.std.proofs.lemmas.Map.Text.{btree_map_updates_str}
 use Rattle.rv_object_types.specs.Parts.{symbol_of}
-use Rattle.rv_object_types.specs.Bindings.{is_global}
-use Rattle.rv_object_laws.specs.Names.{is_export}
+use Rattle.rv_object_laws.specs.Bindings.{is_global}
+use Rattle.rv_link_laws.specs.Names.{is_export}
 use Rattle.rv_resolve.specs.Chosen.{seen, first_named}
 use Rattle.rv_resolve.specs.Names.{exported_of, IsDefinitionTable}
 use Rattle.rv_resolve.proofs.TableLemmas.{none_more, again, apart, answers_more, still_some, still_none}

@@ -2,7 +2,7 @@ use Rattle.std.proofs.Common.{◌<◌, ◌≤◌, ◌++◌, ◌+◌, length, dro
 use Rattle.std.proofs.lemmas.List.{at_drop_all}
 use Rattle.std.proofs.lemmas.Result.{err_from_is_err_and}
 use Rattle.rv_object_types.specs.Parts.{symbol_of}
-use Rattle.rv_object_types.specs.Bindings.{is_global}
+use Rattle.rv_object_laws.specs.Bindings.{is_global}
 use Rattle.rv_resolve.specs.Chosen.{seen, definers_at, definers_in}
 use Rattle.rv_resolve.specs.Names.{IsDefinitionTable}
 use Rattle.rv_resolve.proofs.LoadingLemmas.{seen_symbols, symbols_left, HasBut, all_had, one_more, one_refused}

@@ -2,7 +2,7 @@ use Rattle.std.proofs.Common.{◌<◌, ◌≤◌, ◌++◌, ◌+◌, List, lengt
 use Rattle.std.proofs.lemmas.List.{at_drop_all}
 use Rattle.rv_object_types.specs.declared.object.Object.{Object as DeclaredObject}
 use Rattle.rv_object_types.specs.View.{object_of}
-use Rattle.rv_object_types.specs.Bindings.{is_weak}
+use Rattle.rv_object_laws.specs.Bindings.{is_weak}
 use Rattle.rv_resolve.specs.Chosen.{Definer, seen_of, definers_in, definers_from}
 use Rattle.rv_resolve.specs.Names.{AnswersFirst}
 use Rattle.rv_resolve.proofs.LoadingLemmas.{seen_symbols, files_left, HasBut, all_had, one_more}

@@ -1,7 +1,7 @@
 -- The table has all files but for those that are left.
 use Rattle.std.proofs.Common.{◌++◌, List, map, drop}
 use Rattle.rv_object_types.specs.View.{object_of}
-use Rattle.rv_object_types.specs.Bindings.{is_weak}
+use Rattle.rv_object_laws.specs.Bindings.{is_weak}
 use Rattle.rv_resolve.specs.Chosen.{Definer, seen_of, definers_from}
 use Rattle.rv_resolve.specs.Names.{AnswersFirst}
 use Rattle.rv_resolve.proofs.LoadingLemmas.{HasBut}

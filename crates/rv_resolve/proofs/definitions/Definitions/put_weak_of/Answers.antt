@@ -1,7 +1,7 @@
 use Rattle.std.proofs.Common.{◌<◌, ◌≤◌, ◌++◌, ◌+◌, length, drop, rules, refl, subst}
 use Rattle.std.proofs.lemmas.List.{at_drop_all}
 use Rattle.rv_object_types.specs.Parts.{symbol_of}
-use Rattle.rv_object_types.specs.Bindings.{is_weak}
+use Rattle.rv_object_laws.specs.Bindings.{is_weak}
 use Rattle.rv_resolve.specs.Chosen.{seen, definers_at, definers_in}
 use Rattle.rv_resolve.specs.Names.{AnswersFirst}
 use Rattle.rv_resolve.proofs.LoadingLemmas.{seen_symbols, symbols_left, HasBut, all_had, one_more}

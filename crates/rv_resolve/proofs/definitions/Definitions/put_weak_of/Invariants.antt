@@ -1,6 +1,6 @@
 -- The table has all symbols of the file but for those that are left.
 use Rattle.std.proofs.Common.{◌++◌, List, drop}
-use Rattle.rv_object_types.specs.Bindings.{is_weak}
+use Rattle.rv_object_laws.specs.Bindings.{is_weak}
 use Rattle.rv_resolve.specs.Chosen.{Definer, definers_in}
 use Rattle.rv_resolve.specs.Names.{AnswersFirst}
 use Rattle.rv_resolve.proofs.LoadingLemmas.{seen_symbols, HasBut}

@@ -1,8 +1,8 @@
 use Rattle.std.proofs.Common.{◌≡◌, true, false, option_map, is_some, sym, subst, ap, ◌∙◌}
 use Rattle.std.proofs.lemmas.Map.Text.{btree_map_updates_str}
 use Rattle.rv_object_types.specs.Parts.{symbol_of}
-use Rattle.rv_object_types.specs.Bindings.{is_weak}
-use Rattle.rv_object_laws.specs.Names.{is_export}
+use Rattle.rv_object_laws.specs.Bindings.{is_weak}
+use Rattle.rv_link_laws.specs.Names.{is_export}
 use Rattle.rv_resolve.specs.Chosen.{seen, first_named}
 use Rattle.rv_resolve.specs.Names.{exported_of, AnswersFirst}
 use Rattle.rv_resolve.proofs.TableLemmas.{none_more, known_more, answers_more, copied_some, still_some, is_none}

@@ -8,7 +8,7 @@ use Rattle.rv_resolve.specs.Chosen.{Seen, seen_of, definitions}
 use Rattle.rv_resolve.specs.Names.{outside}
 use Rattle.rv_resolve.proofs.LoadingLemmas.{seen_symbols}
 use Rattle.rv_resolve.proofs.RowsLemmas.{one_pushed}
-use Rattle.rv_object_laws.proofs.StepsLemmas.{left}
+use Rattle.rv_link_laws.proofs.StepsLemmas.{left}
 use Rattle.rv_resolve.proofs.meanings.Meanings.of.Goals as goal
 
 abbrev rows_of : List (Vec (Option Exported)) → List (List (Option Exported))

@@ -1,8 +1,8 @@
 use Rattle.std.proofs.Common.{◌≡◌, ◌+◌, Some, map, refl, ap, sym, ◌∙◌}
 use Rattle.std.specs.Prelude.{option_and_then}
 use Rattle.std.specs.List.{slice_get}
-use Rattle.rv_object_laws.specs.Names.{symbol_address}
-use Rattle.rv_object_laws.specs.Layout.{outer_in, regions_of}
+use Rattle.rv_link_laws.specs.Names.{symbol_address}
+use Rattle.rv_link_laws.specs.Layout.{outer_in, regions_of}
 use Rattle.rv_placement.specs.Placement.{starts_of, layout_of}
 use Rattle.rv_shorten.specs.View.{short_object_of}
 use Rattle.rv_resolve.specs.Moved.{with_definition}

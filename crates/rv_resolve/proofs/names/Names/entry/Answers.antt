@@ -1,10 +1,10 @@
 use Rattle.std.proofs.Common.{◌≡◌, ◌+◌, ◌∙◌, None, option_map, map, ap, sym}
 use Rattle.std.specs.Prelude.{option_and_then, if◌then◌else◌}
-use Rattle.rv_object_laws.specs.Names.{chosen, defined_address, run_start}
+use Rattle.rv_link_laws.specs.Names.{chosen, defined_address, run_start}
 use Rattle.rv_placement.specs.Placement.{starts_of}
 use Rattle.rv_shorten.specs.View.{short_object_of}
 use Rattle.rv_resolve.specs.Names.{meant_of}
-use Rattle.rv_object_laws.proofs.EntryLemmas.{start_name}
+use Rattle.rv_link_laws.proofs.EntryLemmas.{start_name}
 use Rattle.rv_resolve.proofs.EntryLemmas.{start_kept}
 use Rattle.rv_resolve.proofs.MeantLemmas.{kept_held}
 use Rattle.rv_resolve.proofs.TableLemmas.{still_none}

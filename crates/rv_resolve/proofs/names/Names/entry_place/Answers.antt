@@ -1,11 +1,11 @@
 use Rattle.std.proofs.Common.{◌≡◌, ◌∙◌, Some, None, option_map, map, ap, sym}
 use Rattle.std.specs.Prelude.{option_and_then}
 use Rattle.rv_object_types.specs.View.{object_of}
-use Rattle.rv_object_laws.specs.Collects.{run_place}
+use Rattle.rv_link_laws.specs.Collects.{run_place}
 use Rattle.rv_resolve.specs.Chosen.{definer}
 use Rattle.rv_resolve.specs.Names.{exported_of}
 use Rattle.rv_resolve.proofs.ChosenLemmas.{chosen_at, chosen_none}
-use Rattle.rv_object_laws.proofs.EntryLemmas.{start_name}
+use Rattle.rv_link_laws.proofs.EntryLemmas.{start_name}
 use Rattle.rv_resolve.proofs.names.Names.entry_place.Goals as goal
 
 pub returns-in-Some : goal.returns-in-Some

@@ -1,12 +1,12 @@
 use Rattle.std.proofs.Common.{◌≡◌, ◌<◌, ◌≤◌, ◌++◌, ◌∙◌, length, map, get_or, rules, ap, sym, subst, append-nil}
 use Rattle.std.proofs.lemmas.List.{length-map, at_drop_all}
 use Rattle.rv_map.specs.Map.{global_of}
-use Rattle.rv_object_laws.specs.Names.{globals_of, shown_linker_symbols}
-use Rattle.rv_object_laws.specs.Layout.{regions_of}
+use Rattle.rv_link_laws.specs.Names.{globals_of, shown_linker_symbols}
+use Rattle.rv_link_laws.specs.Layout.{regions_of}
 use Rattle.rv_placement.specs.Placement.{starts_of, layout_of}
 use Rattle.rv_shorten.specs.View.{short_object_of}
 use Rattle.rv_resolve.proofs.AddingLemmas.{files_shown, file_more}
-use Rattle.rv_object_laws.proofs.StepsLemmas.{viewed, there}
+use Rattle.rv_link_laws.proofs.StepsLemmas.{viewed, there}
 use Rattle.rv_resolve.proofs.names.Names.globals.Goals as goal
 
 pub loop-file-preserved : goal.loop-file-preserved

@@ -2,7 +2,7 @@
 use Rattle.std.proofs.Common.{◌≡◌, ◌++◌, ℕ, All, map, drop}
 use Rattle.rv_map.specs.Limits.{IsGlobal}
 use Rattle.rv_map.specs.Map.{global_of}
-use Rattle.rv_object_laws.specs.Names.{globals_of}
+use Rattle.rv_link_laws.specs.Names.{globals_of}
 use Rattle.rv_placement.specs.Placement.{starts_of, IsPlacement}
 use Rattle.rv_shorten.specs.View.{short_object_of}
 use Rattle.rv_resolve.specs.Names.{IsNames}

@@ -1,10 +1,10 @@
 use Rattle.std.proofs.Common.{◌≡◌, ◌∙◌, None, option_map, map, ap, sym}
-use Rattle.rv_object_laws.specs.Names.{chosen, can_begin}
+use Rattle.rv_link_laws.specs.Names.{chosen, can_begin}
 use Rattle.rv_shorten.specs.View.{short_object_of}
 use Rattle.rv_resolve.specs.declared.names.Meant.{Meant}
-use Rattle.rv_object_laws.specs.Entry.{is_entry}
+use Rattle.rv_link_laws.specs.Entry.{is_entry}
 use Rattle.rv_resolve.specs.Names.{meant_of}
-use Rattle.rv_object_laws.proofs.EntryLemmas.{start_name}
+use Rattle.rv_link_laws.proofs.EntryLemmas.{start_name}
 use Rattle.rv_resolve.proofs.MeantLemmas.{kept_held}
 use Rattle.rv_resolve.proofs.TableLemmas.{still_none}
 use Rattle.rv_resolve.proofs.names.Names.has_entry.Goals as goal

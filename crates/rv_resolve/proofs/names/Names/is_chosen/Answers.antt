@@ -1,7 +1,7 @@
 use Rattle.std.proofs.Common.{◌≡◌, true, sym, ap, ◌∙◌}
 use Rattle.std.specs.Prelude.{◌&&◌, option_map}
 use Rattle.rv_object_types.specs.Parts.{symbol_of}
-use Rattle.rv_object_laws.specs.Names.{is_defined}
+use Rattle.rv_link_laws.specs.Names.{is_defined}
 use Rattle.rv_cut_laws.specs.Cutting.{cut_symbol}
 use Rattle.rv_resolve.specs.Chosen.{definer}
 use Rattle.rv_resolve.specs.Names.{exported_of, is_kept}

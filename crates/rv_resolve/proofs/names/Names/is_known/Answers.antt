@@ -2,12 +2,12 @@ use Rattle.std.proofs.Common.{◌≡◌, None, map, option_map, ap, sym, ◌∙�
 use Rattle.std.specs.Prelude.{◌||◌}
 use Rattle.rv_map.specs.Globals.{is_one_of}
 use Rattle.rv_object_types.specs.Parts.{symbol_of}
-use Rattle.rv_object_types.specs.Bindings.{is_weak}
-use Rattle.rv_object_laws.specs.Names.{chosen}
+use Rattle.rv_object_laws.specs.Bindings.{is_weak}
+use Rattle.rv_link_laws.specs.Names.{chosen}
 use Rattle.rv_shorten.specs.View.{short_object_of}
 use Rattle.rv_resolve.specs.declared.names.Meant.{Meant}
 use Rattle.rv_resolve.specs.Names.{meant_of}
-use Rattle.rv_object_laws.specs.Undefined.{has_address, is_known, linker_names}
+use Rattle.rv_link_laws.specs.Undefined.{has_address, is_known, linker_names}
 use Rattle.rv_resolve.proofs.MeantLemmas.{kept_held}
 use Rattle.rv_resolve.proofs.TableLemmas.{still_none}
 use Rattle.rv_resolve.proofs.names.Names.is_known.Goals as goal

@@ -1,10 +1,10 @@
 use Rattle.std.proofs.Common.{◌≡◌, true, false, map, refl, ap, sym, ◌∙◌}
 use Rattle.std.specs.Prelude.{if◌then◌else◌}
 use Rattle.rv_object_types.specs.Parts.{symbol_of}
-use Rattle.rv_object_laws.specs.Names.{is_sure, chosen}
+use Rattle.rv_link_laws.specs.Names.{is_sure, chosen}
 use Rattle.rv_cut_laws.specs.Cutting.{cut_symbol}
 use Rattle.rv_shorten.specs.View.{short_object_of}
-use Rattle.rv_object_laws.specs.Undefined.{has_address, is_known}
+use Rattle.rv_link_laws.specs.Undefined.{has_address, is_known}
 use Rattle.rv_resolve.proofs.CutsLemmas.{address_cut}
 use Rattle.rv_resolve.proofs.MeantLemmas.{known_resolved}
 use Rattle.rv_resolve.proofs.names.Names.is_resolved.Goals as goal

@@ -1,6 +1,6 @@
 use Rattle.std.proofs.Common.{◌≡◌, true, false, map, ap, sym, ◌∙◌}
 use Rattle.std.specs.Prelude.{Some, if◌then◌else◌, option_map}
-use Rattle.rv_object_laws.specs.Names.{is_sure, is_sure_by, chosen}
+use Rattle.rv_link_laws.specs.Names.{is_sure, is_sure_by, chosen}
 use Rattle.rv_shorten.specs.View.{short_object_of}
 use Rattle.rv_resolve.specs.Names.{meant_of}
 use Rattle.rv_resolve.proofs.names.Names.meant.Goals as goal

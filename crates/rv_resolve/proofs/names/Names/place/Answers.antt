@@ -1,7 +1,7 @@
 use Rattle.std.proofs.Common.{◌≡◌, ◌+◌, Some, map, option_map, refl, ap, sym, ◌∙◌}
 use Rattle.std.specs.Prelude.{option_and_then}
 use Rattle.std.specs.List.{slice_get}
-use Rattle.rv_object_laws.specs.Names.{symbol_place}
+use Rattle.rv_link_laws.specs.Names.{symbol_place}
 use Rattle.rv_shorten.specs.View.{short_object_of}
 use Rattle.rv_resolve.specs.Moved.{with_definition}
 use Rattle.rv_resolve.specs.Names.{place_of}

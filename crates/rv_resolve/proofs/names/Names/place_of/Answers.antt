@@ -1,7 +1,7 @@
 use Rattle.std.proofs.Common.{◌≡◌, ◌+◌, true, false, Some, None, map, option_map, ap, sym, ◌∙◌}
 use Rattle.std.specs.Prelude.{option_and_then, if◌then◌else◌}
 use Rattle.rv_object_types.specs.View.{object_of}
-use Rattle.rv_object_laws.specs.Names.{Export, is_sure, is_sure_by, place_in, shared_place}
+use Rattle.rv_link_laws.specs.Names.{Export, is_sure, is_sure_by, place_in, shared_place}
 use Rattle.rv_resolve.specs.Chosen.{definer}
 use Rattle.rv_resolve.specs.Names.{exported_of}
 use Rattle.rv_resolve.proofs.ChosenLemmas.{chosen_at, chosen_none}

@@ -3,7 +3,7 @@ use Rattle.rv_shorten.specs.View.{short_object_of}
 use Rattle.rv_resolve.specs.Chosen.{definer}
 use Rattle.rv_resolve.specs.Names.{exported_of, meant_of}
 use Rattle.rv_resolve.proofs.ChosenLemmas.{chosen_at, chosen_none}
-use Rattle.rv_object_laws.proofs.EntryLemmas.{start_name}
+use Rattle.rv_link_laws.proofs.EntryLemmas.{start_name}
 use Rattle.rv_resolve.proofs.names.Names.start.Goals as goal
 
 pub returns-in-Some : goal.returns-in-Some

@@ -1,14 +1,14 @@
 use Rattle.std.proofs.Common.{◌≡◌, ◌<◌, ◌≤◌, ◌∙◌, None, length, map, option_map, rules, ap, sym, subst}
 use Rattle.std.proofs.lemmas.List.{at_drop_all}
-use Rattle.rv_object_types.specs.Object.{Object}
-use Rattle.rv_object_laws.specs.Names.{outer_address}
+use Rattle.rv_object_laws.specs.Object.{Object}
+use Rattle.rv_link_laws.specs.Names.{outer_address}
 use Rattle.rv_shorten.specs.View.{short_object_of}
 use Rattle.rv_resolve.specs.Names.{name_bytes}
-use Rattle.rv_object_laws.specs.Undefined.{first_some, undefined_in, first_undefined}
+use Rattle.rv_link_laws.specs.Undefined.{first_some, undefined_in, first_undefined}
 use Rattle.rv_resolve.specs.Resolved.{AreResolved}
-use Rattle.rv_object_laws.proofs.FirstSomeLemmas.{none_here, one_here}
+use Rattle.rv_link_laws.proofs.FirstSomeLemmas.{none_here, one_here}
 use Rattle.rv_resolve.proofs.ResolvedLemmas.{all_resolved}
-use Rattle.rv_object_laws.proofs.StepsLemmas.{there}
+use Rattle.rv_link_laws.proofs.StepsLemmas.{there}
 use Rattle.rv_resolve.proofs.names.Names.undefined.Goals as goal
 
 pub loop-file-preserved : goal.loop-file-preserved

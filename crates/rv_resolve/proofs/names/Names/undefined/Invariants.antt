@@ -2,7 +2,7 @@
 use Rattle.std.proofs.Common.{◌≡◌, map, drop}
 use Rattle.rv_shorten.specs.View.{short_object_of}
 use Rattle.rv_resolve.specs.Names.{IsNames}
-use Rattle.rv_object_laws.specs.Undefined.{first_some, undefined_in, first_undefined}
+use Rattle.rv_link_laws.specs.Undefined.{first_some, undefined_in, first_undefined}
 use Rattle.rv_resolve.proofs.names.Names.undefined.Given as goal
 
 abbrev pub invariant-loop-file : goal.invariant-loop-file

@@ -2,12 +2,12 @@ use Rattle.std.proofs.Common.{◌<◌, None, length, map, option_map, get_or, ru
 use Rattle.std.proofs.lemmas.List.{get_or_default}
 use Rattle.rv_isa.specs.declared.kind.Kind.TheVariants as kinds
 use Rattle.rv_object_types.specs.declared.relocation.Relocation.{Relocation as DeclaredRelocation}
-use Rattle.rv_object_types.specs.Object.{Relocation}
+use Rattle.rv_object_laws.specs.Object.{Relocation}
 use Rattle.rv_object_types.specs.Parts.{relocation_of}
 use Rattle.rv_shorten.specs.View.{short_object_of}
 use Rattle.rv_resolve.specs.Names.{name_bytes}
-use Rattle.rv_object_laws.specs.Undefined.{undefined_name}
-use Rattle.rv_object_laws.proofs.FirstSomeLemmas.{none_here, one_here}
+use Rattle.rv_link_laws.specs.Undefined.{undefined_name}
+use Rattle.rv_link_laws.proofs.FirstSomeLemmas.{none_here, one_here}
 use Rattle.rv_resolve.proofs.names.Names.undefined_among.Goals as goal
 
 abbrev no_relocation : DeclaredRelocation

@@ -4,7 +4,7 @@ use Rattle.std.specs.List.{slice_get}
 use Rattle.rv_object_types.specs.Parts.{relocation_of}
 use Rattle.rv_shorten.specs.View.{short_object_of}
 use Rattle.rv_resolve.specs.Names.{IsNames}
-use Rattle.rv_object_laws.specs.Undefined.{first_some, undefined_name}
+use Rattle.rv_link_laws.specs.Undefined.{first_some, undefined_name}
 use Rattle.rv_resolve.proofs.names.Names.undefined_among.Given as goal
 
 abbrev pub invariant-loop-relocation : goal.invariant-loop-relocation

@@ -1,13 +1,13 @@
 use Rattle.std.proofs.Common.{◌≡◌, ◌<◌, ◌∙◌, Option, Some, None, List, ℕ, length, map, option_map, get_or, rules, ap, sym, subst}
 use Rattle.std.specs.Prelude.{if◌then◌else◌}
-use Rattle.rv_object_types.specs.Object.{Relocation}
+use Rattle.rv_object_laws.specs.Object.{Relocation}
 use Rattle.rv_object_types.specs.Parts.{relocation_of}
 use Rattle.rv_shorten.specs.Sections.{moves_in, short_section_of}
 use Rattle.rv_shorten.specs.View.{short_object_of}
 use Rattle.rv_resolve.specs.Names.{name_bytes}
-use Rattle.rv_object_laws.specs.Undefined.{first_some, undefined_in, undefined_name}
+use Rattle.rv_link_laws.specs.Undefined.{first_some, undefined_in, undefined_name}
 use Rattle.rv_resolve.proofs.CutsLemmas.{same_symbols}
-use Rattle.rv_object_laws.proofs.FirstSomeLemmas.{none_here, one_here}
+use Rattle.rv_link_laws.proofs.FirstSomeLemmas.{none_here, one_here}
 use Rattle.rv_resolve.proofs.names.Names.undefined_in.Goals as goal
 
 pub loop-section-preserved : goal.loop-section-preserved

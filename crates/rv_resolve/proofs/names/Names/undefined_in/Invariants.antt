@@ -4,7 +4,7 @@ use Rattle.std.specs.List.{slice_get}
 use Rattle.rv_shorten.specs.Sections.{short_section_of}
 use Rattle.rv_shorten.specs.View.{short_object_of}
 use Rattle.rv_resolve.specs.Names.{IsNames}
-use Rattle.rv_object_laws.specs.Undefined.{first_some, undefined_in}
+use Rattle.rv_link_laws.specs.Undefined.{first_some, undefined_in}
 use Rattle.rv_resolve.proofs.names.Names.undefined_in.Given as goal
 
 abbrev pub invariant-loop-section : goal.invariant-loop-section

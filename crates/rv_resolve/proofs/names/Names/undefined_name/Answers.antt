@@ -3,7 +3,7 @@ use Rattle.std.specs.Prelude.{if◌then◌else◌}
 use Rattle.std.specs.List.{slice_get}
 use Rattle.rv_shorten.specs.View.{moves_by_section, short_object_of}
 use Rattle.rv_resolve.specs.Moved.{moved_in}
-use Rattle.rv_object_laws.specs.Undefined.{is_resolved, undefined_name, undefined_symbol}
+use Rattle.rv_link_laws.specs.Undefined.{is_resolved, undefined_name, undefined_symbol}
 use Rattle.rv_resolve.proofs.CutsLemmas.{symbol_there, symbol_past}
 use Rattle.rv_resolve.proofs.names.Names.undefined_name.Goals as goal
 

@@ -1,7 +1,7 @@
 use Rattle.std.proofs.Common.{map, ap, ◌∙◌}
 use Rattle.rv_object_types.specs.Parts.{symbol_of}
 use Rattle.rv_object_types.specs.Sections.{section_of}
-use Rattle.rv_object_types.specs.Valid.{are_rows}
+use Rattle.rv_object_laws.specs.Valid.{are_rows}
 use Rattle.rv_cut_laws.specs.Cutting.{cut_symbol, cut_row_of}
 use Rattle.rv_shorten.specs.Sections.{moves_in_all}
 use Rattle.rv_cut_laws.proofs.StaysLemmas.{all_fitting, rows_stay}

@@ -1,6 +1,6 @@
 use Rattle.std.proofs.Common.{map, ap, ◌∙◌}
 use Rattle.rv_object_types.specs.Sections.{section_of}
-use Rattle.rv_object_laws.specs.Moves.{kept}
+use Rattle.rv_link_laws.specs.Moves.{kept}
 use Rattle.rv_shorten.specs.Cut.{move_of}
 use Rattle.rv_shorten.proofs.StepsLemmas.{stored_left}
 use Rattle.rv_shorten.proofs.section.ShortSection.bytes.Goals as goal

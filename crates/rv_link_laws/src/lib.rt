@@ -1,0 +1,22 @@
+//! What linking is: when a program is that of a list of objects.
+//!
+//! It takes objects (`rv_object_laws`), the values and fields of relocations (`rv_reloc`) and a linked program
+//! (`rv_image_laws`), all as plain data. It gives the definition `IsLinkOf objects start linked` (`specs/IsLinkOf`)
+//! over objects alone, whoever made them: where their sections start (`Inputs`), which bytes are dropped (`Moves`),
+//! what names mean across files (`Names`), and the bytes of a section with its relocations applied (`Values`).
+//!
+//! With `--gc-sections` objects are linked without the sections to which nothing leads from the entry's (`Collects`). What is
+//! left of them is objects again (`Without`), that keep what every object keeps (`Whole`): [`what_is_left`], [`names_stay`] and
+//! [`nothing_dangles`] say what stays as it was.
+//!
+//! Nothing here runs, and nothing here knows of statements.
+//!
+//! Source: System V gABI, "Sections", "Symbol Table", "Relocation"; RISC-V ELF psABI, "Relocations", "Linker Relaxation"; GNU ld.
+#![tactic(auto)]
+
+mod law;
+
+pub use law::{
+    names_stay, nothing_begins, nothing_dangles, nothing_moves, one_collection, rows_in_order_stay,
+    sites_make_a_text, sites_of_whole_objects, what_is_left, without_nothing,
+};

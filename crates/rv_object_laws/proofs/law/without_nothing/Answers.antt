@@ -1,5 +1,0 @@
-use Rattle.rv_object_laws.proofs.WithoutLemmas.{without_none}
-use Rattle.rv_object_laws.proofs.law.without_nothing.Goals as goal
-
-pub returns : goal.returns
-returns c = without_none
