@@ -28,8 +28,8 @@ use Rattle.rv_object_types.specs.View.{object_of}
 use Rattle.rv_assemble_laws.specs.Refusals.{statements_fault, IsStatementsFault, IsTooLong}
 use Rattle.rv_assemble_laws.specs.IsObjectOf.{IsObjectOf}
 use Rattle.rv_assemble_laws.specs.FirstFault.{IsFirstFault}
-use Rattle.rv_reloc.specs.declared.fault.LinkFault.{LinkFault}
-use Rattle.rv_reloc.specs.declared.fault.LinkFault.TheVariants as links
+use Rattle.rv_fault.specs.declared.link_fault.LinkFault.{LinkFault}
+use Rattle.rv_fault.specs.declared.link_fault.LinkFault.TheVariants as links
 use Rattle.rv_link_laws.specs.TextStart.{IsTextStart}
 use Rattle.rv_link_laws.specs.Refusals.{ArePast, HasNoProgram}
 use Rattle.rv_raw_link_laws.specs.Listed.{IsShortListing, listed, HaveNoFault, HaveAProgram}

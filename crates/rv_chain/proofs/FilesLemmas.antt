@@ -14,7 +14,7 @@ use Rattle.rv_object_checks.specs.Found.{section_at, sections_from}
 use Rattle.rv_object_reader.proofs.WalkLemmas.{sections_are}
 use Rattle.rv_object_reader.proofs.ValidSectionsLemmas.{IsValid, section_valid}
 use Rattle.rv_object_reader.proofs.ValidSymbolsLemmas.{object_rows}
-use Rattle.rv_reloc.specs.declared.fault.LinkFault.{LinkFault}
+use Rattle.rv_fault.specs.declared.link_fault.LinkFault.{LinkFault}
 use Rattle.rv_link_laws.specs.TextStart.{AreWithin}
 use Rattle.rv_link_laws.specs.Refusals.{ArePast, HasNoProgram, IsSameFault}
 use Rattle.rv_unique_link_laws.specs.Asked.{IsSound}

@@ -20,8 +20,8 @@ use Rattle.rv_chain_laws.specs.Headline.{AllRead}
 use Rattle.rv_sources_link_laws.specs.Joins.{AreObjectsOf}
 use Rattle.rv_assemble_laws.specs.FirstFault.{IsFirstFault}
 use Rattle.rv_chain_laws.specs.Objects.{AreEach, AreObjectsFrom}
-use Rattle.rv_reloc.specs.declared.fault.LinkFault.{LinkFault}
-use Rattle.rv_reloc.specs.declared.fault.LinkFault.TheVariants as faults
+use Rattle.rv_fault.specs.declared.link_fault.LinkFault.{LinkFault}
+use Rattle.rv_fault.specs.declared.link_fault.LinkFault.TheVariants as faults
 use Rattle.rv_fault.specs.Fault.{of_link}
 use Rattle.rv_link_laws.specs.TextStart.{IsTextStart}
 use Rattle.rv_reach_laws.specs.Reach.{is_short_call, is_chosen_branch, ShortCallsReach, ShortBranchesReach, ShortFormsReach}

@@ -10,9 +10,9 @@ use Rattle.rv_link_laws.specs.IsProgramOf.{Leaves, IsProgramOf}
 use Rattle.rv_link_laws.specs.Without.{without}
 use Rattle.rv_link_laws.specs.Refusals.{ArePast, HasNoProgram, name_in, IsSameFault}
 use Rattle.rv_link_laws.proofs.WithoutLemmas.{as_many_objects}
-use Rattle.rv_reloc.specs.declared.fault.LinkFault.{LinkFault}
-use Rattle.rv_reloc.specs.declared.fault.LinkFault.TheVariants as links
-use Rattle.rv_reloc.specs.Fault.{link_fault_number}
+use Rattle.rv_fault.specs.declared.link_fault.LinkFault.{LinkFault}
+use Rattle.rv_fault.specs.declared.link_fault.LinkFault.TheVariants as links
+use Rattle.rv_fault.specs.LinkFault.{link_fault_number}
 use Rattle.rv_link_laws.specs.TextStart.{AreWithin}
 use Rattle.rv_link.proofs.LeftLemmas.{alike, past_unlinked}
 use Rattle.rv_unique_link_laws.specs.Asked.{IsSound}

@@ -18,7 +18,7 @@ use Rattle.rv_assemble_laws.specs.Refusals.{statements_fault, IsTooLong, IsState
 use Rattle.rv_assemble_laws.specs.ShownNames.{HasNames}
 use Rattle.rv_assemble_laws.specs.IsObjectOf.{IsObjectOf}
 use Rattle.rv_assemble_laws.specs.FirstFault.{IsFirstFault}
-use Rattle.rv_reloc.specs.declared.fault.LinkFault.{LinkFault}
+use Rattle.rv_fault.specs.declared.link_fault.LinkFault.{LinkFault}
 use Rattle.rv_link_laws.specs.TextStart.{AreWithin}
 use Rattle.rv_link_laws.specs.Refusals.{ArePast, HasNoProgram, IsSameFault}
 use Rattle.rv_unique_link_laws.specs.Asked.{IsSound}

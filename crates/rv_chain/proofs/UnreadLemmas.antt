@@ -5,8 +5,8 @@ use Rattle.std.specs.List.{AllByRecursion}
 use Rattle.rv_elf.specs.declared.fault.FileFault.{FileFault}
 use Rattle.rv_object_laws.specs.Object.{Object}
 use Rattle.rv_object_file_laws.specs.FirstFault.{first_fault}
-use Rattle.rv_reloc.specs.declared.fault.LinkFault.{LinkFault}
-use Rattle.rv_reloc.specs.declared.fault.LinkFault.TheVariants as faults
+use Rattle.rv_fault.specs.declared.link_fault.LinkFault.{LinkFault}
+use Rattle.rv_fault.specs.declared.link_fault.LinkFault.TheVariants as faults
 use Rattle.rv_fault.specs.declared.fault.Fault.{Fault}
 use Rattle.rv_fault.specs.declared.fault.Fault.TheVariants as cases
 use Rattle.rv_fault.specs.Fault.{of_link}

@@ -10,7 +10,7 @@ use Rattle.rv_object_types.specs.View.{object_of}
 use Rattle.rv_link_laws.specs.Without.{without}
 use Rattle.rv_link_laws.specs.Refusals.{ArePast, HasNoProgram}
 use Rattle.rv_assemble_laws.specs.FirstFault.{IsFirstFault}
-use Rattle.rv_reloc.specs.declared.fault.LinkFault.{LinkFault}
+use Rattle.rv_fault.specs.declared.link_fault.LinkFault.{LinkFault}
 use Rattle.rv_link_laws.specs.TextStart.{AreWithin}
 use Rattle.rv_chain_laws.specs.Headline.{AllRead}
 use Rattle.rv_reach_laws.specs.Reach.{ShortFormsReach}

@@ -2,9 +2,9 @@
 
 ghost use Rattle.std.specs.Prelude.{◌≡◌};
 
+use crate::link_fault::LinkFault;
 use rv_elf::FileFault;
 use rv_lexer::SourceFault;
-use rv_reloc::LinkFault;
 use std::alloc::{AllocError, AllocFailed};
 use thiserror::Error;
 

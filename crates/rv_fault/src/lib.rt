@@ -3,8 +3,10 @@
 //! It takes the fault of a layer, of a source, of a file or of the link, and gives it as one of all layers, with the file's
 //! number.
 //!
-//! Main contract: want of memory is `Fault::Memory` alone, whichever layer wanted it (`of_link`), so any other fault names
-//! its cause (`IsNamed` in `specs/Fault`). It must not know who finds a fault, nor how one is told.
+//! Main contract: want of memory is `Fault::Memory` alone, whichever layer wanted it (`of_link`), so any other fault
+//! names its cause (`IsNamed` in `specs/Fault`). [`LinkFault`] has the faults of all passes of a link, with their
+//! numbers and names; the crates of the passes say which of them their faults are. It must not know who finds a fault,
+//! nor how one is told.
 //!
 //! ```text
 //! Fault::from(LinkFault::EntryMissing)   // Fault::Link(LinkFault::EntryMissing)
@@ -13,5 +15,7 @@
 #![tactic(auto)]
 
 mod fault;
+mod link_fault;
 
 pub use fault::Fault;
+pub use link_fault::LinkFault;

@@ -1,6 +1,6 @@
 //! What is said of a fault of the link.
 
-use rv_reloc::LinkFault;
+use rv_fault::LinkFault;
 
 /// What is said of a fault whatever the sources are.
 pub fn link_words(fault: &LinkFault) -> &'static str {

@@ -22,9 +22,9 @@ use Rattle.rv_encode.specs.Word.{Form, Immediate, Upper, form}
 use Rattle.rv_compress.specs.declared.form.Compressed.{Compressed}
 use Rattle.rv_compress.specs.declared.form.Compressed.TheVariants.{J, Beqz, Bnez}
 use Rattle.rv_compress.specs.Parcel.{IsBranch, IsJump, IsLine, IsShortOf, expansion, parcel}
-use Rattle.rv_reloc.specs.Fields.{patched}
-use Rattle.rv_reloc.specs.Operands.{branch_to, jump_to, immediate_of, store_of, upper_of, format_with, with_value}
-use Rattle.rv_reloc.specs.Ranges.{Takes}
+use Rattle.rv_reloc_laws.specs.Fields.{patched}
+use Rattle.rv_reloc_laws.specs.Operands.{branch_to, jump_to, immediate_of, store_of, upper_of, format_with, with_value}
+use Rattle.rv_reloc_laws.specs.Ranges.{Takes}
 use Rattle.rv_compress.specs.Encoded.{IsEncodedIn}
 use Rattle.rv_filling_laws.specs.Formats.{word_bytes, Fills, IsUpperKind, IsLowerKind, IsStoreKind, IsCallKind}
 use Rattle.rv_filling_laws.proofs.FormatsLemmas.{branches, jumps, uppers, immediates, stores, calls, zero, nonzero, short_jumps}

@@ -4,7 +4,7 @@ use Rattle.std.proofs.lemmas.Int.{ints}
 use Rattle.rv_isa_laws.specs.Bytes.{little_endian, number_in}
 use Rattle.rv_encode.specs.Word.{field}
 use Rattle.rv_compress.specs.Parcel.{branch_offset, jump_offset}
-use Rattle.rv_reloc.specs.Fields.{modulo, with_immediate, cb_type, cj_type}
+use Rattle.rv_reloc_laws.specs.Fields.{modulo, with_immediate, cb_type, cj_type}
 
 -- in range, two's complement is the number modulo the field's width
 pub field_9 : (v : ℤ) → negsuc 255 ≤ℤ v → v ≤ℤ pos 254 → modulo 9 v ≡ field 9 v

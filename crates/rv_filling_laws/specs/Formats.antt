@@ -15,9 +15,9 @@ use Rattle.rv_encode.specs.Word.{Form, Immediate, Store, Branch, Upper, Jump, wo
 use Rattle.rv_compress.specs.declared.form.Compressed.{Compressed}
 use Rattle.rv_compress.specs.declared.form.Compressed.TheVariants.{J}
 use Rattle.rv_compress.specs.Parcel.{IsLine, parcel}
-use Rattle.rv_reloc.specs.Fields.{patched}
-use Rattle.rv_reloc.specs.Operands.{branch_to, jump_to, immediate_of, store_of, upper_of}
-use Rattle.rv_reloc.specs.Ranges.{Takes}
+use Rattle.rv_reloc_laws.specs.Fields.{patched}
+use Rattle.rv_reloc_laws.specs.Operands.{branch_to, jump_to, immediate_of, store_of, upper_of}
+use Rattle.rv_reloc_laws.specs.Ranges.{Takes}
 
 -- the bytes of a word and of a parcel
 abbrev pub word_bytes : Form → List ℕ

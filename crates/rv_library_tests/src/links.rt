@@ -1,9 +1,10 @@
 //! The value of a relocation, its field, and how long calls and paddings are.
 
 use rv_assemble::assemble;
+use rv_fault::LinkFault;
 use rv_link_sites::placed;
 use rv_relax::Plan;
-use rv_reloc::{Kind, LinkFault, patch, value};
+use rv_reloc::{Kind, patch, value};
 use rv_resolve::Names;
 use std::test::Fail;
 

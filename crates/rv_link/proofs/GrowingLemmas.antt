@@ -20,7 +20,7 @@ use Rattle.rv_placement.specs.Placement.{starts_of, layout_of}
 use Rattle.rv_isa.specs.declared.kind.Kind.{Kind}
 use Rattle.rv_isa.specs.Kinds.{width_of}
 use Rattle.rv_isa_laws.specs.Bytes.{little_endian, zeros}
-use Rattle.rv_reloc.specs.Fields.{patched}
+use Rattle.rv_reloc_laws.specs.Fields.{patched}
 use Rattle.rv_link_laws.proofs.ListsLemmas.{found_at}
 use Rattle.rv_link.specs.declared.fixed.Input.{Input}
 use Rattle.rv_link_values.specs.Values.{IsInputAt}

@@ -8,8 +8,8 @@ use Rattle.std.specs.Prelude.{ℤ, pos, drop, if◌then◌else◌}
 use Rattle.rv_isa.specs.Kinds.{is_low_part}
 use Rattle.rv_isa.specs.declared.kind.Kind.{Kind}
 use Rattle.rv_isa.specs.declared.kind.Kind.TheVariants as kinds
-use Rattle.rv_reloc.specs.Values.{value_of}
-use Rattle.rv_reloc.specs.Ranges.{Takes}
+use Rattle.rv_reloc_laws.specs.Values.{value_of}
+use Rattle.rv_reloc_laws.specs.Ranges.{Takes}
 use Rattle.rv_object_laws.specs.Object.{Relocation, Object}
 use Rattle.rv_object_types.specs.Parts.{relocation_of}
 use Rattle.rv_object_types.specs.declared.relocation.Relocation.{Relocation as Declared}

@@ -24,8 +24,8 @@ use Rattle.rv_link_laws.proofs.WithoutLemmas.{without_none, as_many_from as many
 use Rattle.rv_resolve.specs.Chosen.{seen, seen_of}
 use Rattle.rv_link_laws.specs.Exports.{first_again}
 use Rattle.rv_resolve.proofs.AlikeLemmas.{same_names, seen_left}
-use Rattle.rv_reloc.specs.declared.fault.LinkFault.{LinkFault}
-use Rattle.rv_reloc.specs.declared.fault.LinkFault.TheVariants.{Overflow, OddTarget, DanglingPcrel, AlignmentShort, Undefined, Duplicate, EntryMissing, ImageTooLarge, BadTextStart, TooManyFiles, OutOfMemory}
+use Rattle.rv_fault.specs.declared.link_fault.LinkFault.{LinkFault}
+use Rattle.rv_fault.specs.declared.link_fault.LinkFault.TheVariants.{Overflow, OddTarget, DanglingPcrel, AlignmentShort, Undefined, Duplicate, EntryMissing, ImageTooLarge, BadTextStart, TooManyFiles, OutOfMemory}
 use Rattle.rv_link.specs.Left.{HasNoLink, IsLinkOfLeft}
 use Rattle.rv_link_laws.specs.Details.{IsProgramWith}
 use Rattle.rv_link_laws.specs.TextStart.{AreWithin}

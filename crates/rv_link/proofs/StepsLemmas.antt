@@ -6,7 +6,7 @@ use Rattle.std.proofs.lemmas.Bool.{and_parts, eqb-true}
 use Rattle.std.specs.Prelude.{◌==◌, is_some, unwrap_or, ℤ, pos, IsTrue, true}
 use Rattle.std.specs.List.{AllByRecursion, list_all}
 use Rattle.rv_isa.specs.Kinds.{width_of, is_low_part}
-use Rattle.rv_reloc.specs.Ranges.{Takes, Refuses}
+use Rattle.rv_reloc_laws.specs.Ranges.{Takes, Refuses}
 use Rattle.rv_object_laws.specs.Object.{Contents, Progbits, Note, Nobits, Relocation, Section, Object, size_of}
 use Rattle.rv_object_laws.specs.Valid.{are_paddings, fit_inside}
 use Rattle.rv_object_types.specs.Parts.{relocation_of}
@@ -19,8 +19,8 @@ use Rattle.rv_link_laws.specs.Untaken.{IsTaken, worth, IsFirst, IsUntaken}
 use Rattle.rv_cut_laws.specs.Cutting.{cut_relocation}
 use Rattle.rv_placement.specs.declared.placement.Placement.{Placement}
 use Rattle.rv_placement.specs.Placement.{starts_of, layout_of}
-use Rattle.rv_reloc.specs.declared.fault.LinkFault.{LinkFault}
-use Rattle.rv_reloc.specs.declared.fault.LinkFault.TheVariants.{Overflow, OddTarget, DanglingPcrel, AlignmentShort, Undefined, Duplicate, EntryMissing, ImageTooLarge, BadTextStart, TooManyFiles, OutOfMemory}
+use Rattle.rv_fault.specs.declared.link_fault.LinkFault.{LinkFault}
+use Rattle.rv_fault.specs.declared.link_fault.LinkFault.TheVariants.{Overflow, OddTarget, DanglingPcrel, AlignmentShort, Undefined, Duplicate, EntryMissing, ImageTooLarge, BadTextStart, TooManyFiles, OutOfMemory}
 use Rattle.rv_link.specs.Filled.{IsInside}
 use Rattle.rv_cut_laws.proofs.FollowingLemmas.{Follow, kept_size}
 use Rattle.rv_cut_laws.proofs.OrderedLemmas.{section_follows, fields_inside}

@@ -18,7 +18,7 @@ use Rattle.rv_placement.specs.Placement.{starts_of, IsPlacement, layout_of}
 use Rattle.rv_link.specs.declared.fixed.Input.{Input}
 use Rattle.rv_link.specs.declared.regions.Regions.{Regions}
 use Rattle.rv_link.specs.Filled.{IsPlacedInput, input_at, linked_in}
-use Rattle.rv_reloc.specs.declared.fault.LinkFault.{LinkFault}
+use Rattle.rv_fault.specs.declared.link_fault.LinkFault.{LinkFault}
 use Rattle.rv_link.specs.Untaken.{OrMemory, AreUnfilled}
 use Rattle.rv_link.specs.Regions.{left_from, left_files, IsGrown, AreGrown}
 use Rattle.rv_link.proofs.GrowingLemmas.{later, grown_first, grown_next, grown_same, left_takes, left_skips, linked_long}

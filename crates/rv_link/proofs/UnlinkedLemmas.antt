@@ -11,8 +11,8 @@ use Rattle.rv_placement.specs.declared.fault.PlacementFault.{PlacementFault}
 use Rattle.rv_placement.specs.declared.fault.PlacementFault.TheVariants as placements
 use Rattle.rv_placement.specs.declared.placement.Placement.{Placement}
 use Rattle.rv_placement.specs.Placement.{starts_of, are_roomy, IsPlacement, IsUnplaced, layout_of}
-use Rattle.rv_reloc.specs.declared.fault.LinkFault.{LinkFault}
-use Rattle.rv_reloc.specs.declared.fault.LinkFault.TheVariants.{Overflow, OddTarget, DanglingPcrel, AlignmentShort, Undefined, Duplicate, EntryMissing, ImageTooLarge, BadTextStart, TooManyFiles, OutOfMemory}
+use Rattle.rv_fault.specs.declared.link_fault.LinkFault.{LinkFault}
+use Rattle.rv_fault.specs.declared.link_fault.LinkFault.TheVariants.{Overflow, OddTarget, DanglingPcrel, AlignmentShort, Undefined, Duplicate, EntryMissing, ImageTooLarge, BadTextStart, TooManyFiles, OutOfMemory}
 use Rattle.rv_placement.specs.Fault.{of_placement}
 use Rattle.rv_placement.proofs.RoomsLemmas.{are_rooms}
 use Rattle.rv_link.specs.Untaken.{AreUnfilled}

@@ -7,7 +7,7 @@ use Rattle.rv_object_laws.specs.Object.{Object}
 use Rattle.rv_link_laws.specs.IsLinkOf.{IsLinkOf}
 use Rattle.rv_link_laws.specs.Shortened.{Relaxes}
 use Rattle.rv_link_laws.specs.Refusals.{IsUnlinked}
-use Rattle.rv_reloc.specs.declared.fault.LinkFault.{LinkFault}
+use Rattle.rv_fault.specs.declared.link_fault.LinkFault.{LinkFault}
 use Rattle.rv_link_laws.specs.Details.{with_details}
 
 -- objects are linked, to a map that says that these sections were dropped before, with its details

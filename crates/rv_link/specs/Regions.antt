@@ -19,7 +19,7 @@ use Rattle.rv_placement.specs.Placement.{starts_of, are_roomy, IsPlacement, layo
 use Rattle.rv_link_values.specs.Values.{IsValues}
 use Rattle.rv_link.specs.declared.fixed.Fixed.{Fixed}
 use Rattle.rv_link.specs.declared.regions.Regions.{Regions}
-use Rattle.rv_reloc.specs.declared.fault.LinkFault.{LinkFault}
+use Rattle.rv_fault.specs.declared.link_fault.LinkFault.{LinkFault}
 use Rattle.rv_link.specs.Filled.{objects_of, linked_in}
 
 -- where the sections of objects stand, with room for their paddings, and what their relocations are

@@ -2,8 +2,8 @@
 -- "Relocations").
 
 use Rattle.std.specs.Prelude.{◌≡◌, ◌⊎◌, List}
-use Rattle.rv_reloc.specs.declared.fault.LinkFault.{LinkFault}
-use Rattle.rv_reloc.specs.declared.fault.LinkFault.TheVariants.{OutOfMemory}
+use Rattle.rv_fault.specs.declared.link_fault.LinkFault.{LinkFault}
+use Rattle.rv_fault.specs.declared.link_fault.LinkFault.TheVariants.{OutOfMemory}
 use Rattle.rv_object_laws.specs.Object.{Object}
 use Rattle.rv_link_laws.specs.Inputs.{inputs}
 use Rattle.rv_link_laws.specs.IsLinkOf.{is_loaded}

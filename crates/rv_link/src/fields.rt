@@ -3,10 +3,11 @@
 ghost use Rattle.std.specs.Prelude.{◌≡◌, ◌+◌, ◌<◌, ◌≤◌, IfErr, OnOk, length};
 ghost use Rattle.rv_isa.specs.Kinds.{width_of};
 ghost use Rattle.rv_link_laws.specs.Values.{patched_at};
-ghost use Rattle.rv_reloc.specs.Ranges.{Takes, Refuses};
+ghost use Rattle.rv_reloc_laws.specs.Ranges.{Takes, Refuses};
 
+use rv_fault::LinkFault;
 use rv_isa::Kind;
-use rv_reloc::{LinkFault, patch};
+use rv_reloc::patch;
 
 /// Writes a value to the field at an offset of these bytes. Kinds without a field change nothing.
 ///

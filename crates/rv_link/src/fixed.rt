@@ -23,12 +23,12 @@ ghost use Rattle.rv_link.specs.Untaken.{AreUntakenOf, OrMemory};
 ghost use Rattle.rv_link.specs.Filled.{AreTakenOf, IsInside, IsInputOf, input_bytes, input_of, objects_of};
 
 use crate::fields::apply;
+use rv_fault::LinkFault;
 use rv_isa::Kind;
 use rv_link_values::Values;
 use rv_object_types::{Contents, Relocation};
 use rv_placement::{PlacedSection, Placement};
 use rv_relax::SectionPaddings;
-use rv_reloc::LinkFault;
 use rv_shorten::{LeftBytes, ShortObject, ShortSection};
 use std::alloc::{AllocError, Global};
 

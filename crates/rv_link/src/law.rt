@@ -12,7 +12,7 @@ ghost use Rattle.rv_link_laws.specs.Names.{global_names};
 ghost use Rattle.rv_link_laws.specs.Without.{without};
 ghost use Rattle.rv_link_laws.specs.Undefined.{first_undefined};
 ghost use Rattle.rv_link_laws.specs.Refusals.{HasNoProgram};
-ghost use Rattle.rv_reloc.specs.declared.fault.LinkFault.TheVariants.{EntryMissing, Undefined};
+ghost use Rattle.rv_fault.specs.declared.link_fault.LinkFault.TheVariants.{EntryMissing, Undefined};
 ghost use Rattle.rv_link_laws.specs.TextStart.{AreWithin};
 
 /// Where no run can begin, collection leaves no reference to a name without a meaning. So a link with collection is not refused for

@@ -39,5 +39,5 @@ pub use law::a_missing_entry_comes_first;
 pub use options::LinkOptions;
 pub use passes::{MOST_FILES, within_limits};
 pub use programs::{link, link_exe};
+pub use rv_fault::LinkFault;
 pub use rv_image::Linked;
-pub use rv_reloc::LinkFault;

@@ -15,10 +15,10 @@ use crate::options::LinkOptions;
 use crate::passes::{link_by_plan, named, within_limits};
 use crate::relaxation::relaxed;
 use rv_collect::Collection;
+use rv_fault::LinkFault;
 use rv_image::Linked;
 use rv_map::SectionId;
 use rv_object_types::Object;
-use rv_reloc::LinkFault;
 use rv_resolve::Names;
 use std::alloc::Global;
 

@@ -7,7 +7,7 @@ ghost use Rattle.rv_link.specs.Untaken.{AreUnfilled};
 ghost use Rattle.rv_link.specs.Regions.{AreGrown, IsFixed, left_files, left_from};
 
 use crate::fixed::{Fixed, Input};
-use rv_reloc::LinkFault;
+use rv_fault::LinkFault;
 use rv_shorten::ShortSection;
 use std::alloc::Global;
 

@@ -5,12 +5,12 @@ ghost use Rattle.rv_object_types.specs.View.{object_of};
 ghost use Rattle.rv_link_laws.specs.Shortened.{Relaxes};
 ghost use Rattle.rv_relax.specs.Plan.{planned_objects};
 ghost use Rattle.rv_resolve.specs.Names.{IsNames};
-ghost use Rattle.rv_reloc.specs.declared.fault.LinkFault.TheVariants.{OutOfMemory};
+ghost use Rattle.rv_fault.specs.declared.link_fault.LinkFault.TheVariants.{OutOfMemory};
 
+use rv_fault::LinkFault;
 use rv_link_sites::placed;
 use rv_object_types::Object;
 use rv_relax::Plan;
-use rv_reloc::LinkFault;
 use rv_resolve::Names;
 use std::alloc::Global;
 

@@ -13,11 +13,11 @@ use Rattle.rv_link_laws.specs.Layout.{Layout, IsLayout, AreRoomy, IsTooLarge, Ha
 use Rattle.rv_link_laws.specs.Entry.{has_entry}
 use Rattle.rv_link_laws.specs.Exports.{first_duplicate}
 use Rattle.rv_link_laws.specs.Undefined.{first_undefined}
-use Rattle.rv_reloc.specs.declared.fault.LinkFault.{LinkFault}
-use Rattle.rv_reloc.specs.declared.fault.LinkFault.TheVariants.{Overflow, OddTarget, DanglingPcrel, AlignmentShort, Undefined, Duplicate, EntryMissing, ImageTooLarge, BadTextStart, TooManyFiles, OutOfMemory}
+use Rattle.rv_fault.specs.declared.link_fault.LinkFault.{LinkFault}
+use Rattle.rv_fault.specs.declared.link_fault.LinkFault.TheVariants.{Overflow, OddTarget, DanglingPcrel, AlignmentShort, Undefined, Duplicate, EntryMissing, ImageTooLarge, BadTextStart, TooManyFiles, OutOfMemory}
 use Rattle.rv_link_laws.specs.TextStart.{IsTextStart, AreWithin}
 use Rattle.rv_link_laws.specs.Untaken.{IsFirstUntaken}
-use Rattle.rv_reloc.specs.Fault.{link_fault_number}
+use Rattle.rv_fault.specs.LinkFault.{link_fault_number}
 
 -- ---- limits
 

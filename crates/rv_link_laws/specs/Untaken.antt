@@ -4,9 +4,9 @@
 use Rattle.std.specs.Prelude.{◌≡◌, ◌⊎◌, ℤ, pos, true, IsTrue, List, [], ◌∷◌, Some, None, is_some, unwrap_or}
 use Rattle.std.specs.List.{AllByRecursion}
 use Rattle.rv_isa.specs.Kinds.{is_low_part}
-use Rattle.rv_reloc.specs.declared.fault.LinkFault.{LinkFault}
-use Rattle.rv_reloc.specs.declared.fault.LinkFault.TheVariants.{Overflow, OddTarget, DanglingPcrel}
-use Rattle.rv_reloc.specs.Ranges.{Takes, Refuses}
+use Rattle.rv_fault.specs.declared.link_fault.LinkFault.{LinkFault}
+use Rattle.rv_fault.specs.declared.link_fault.LinkFault.TheVariants.{Overflow, OddTarget, DanglingPcrel}
+use Rattle.rv_reloc_laws.specs.Ranges.{Takes, Refuses}
 use Rattle.rv_object_laws.specs.Object.{Relocation, Object}
 use Rattle.rv_link_laws.specs.Inputs.{Starts, InputSection}
 use Rattle.rv_link_laws.specs.Names.{Outer}

@@ -7,9 +7,9 @@ use Rattle.rv_isa_laws.specs.Bytes.{zeros}
 use Rattle.rv_isa.specs.declared.kind.Kind.{Kind}
 use Rattle.rv_isa.specs.declared.kind.Kind.TheVariants as kinds
 use Rattle.rv_isa.specs.Kinds.{width_of, is_low_part}
-use Rattle.rv_reloc.specs.Values.{value_of}
-use Rattle.rv_reloc.specs.Fields.{patched}
-use Rattle.rv_reloc.specs.Ranges.{Takes}
+use Rattle.rv_reloc_laws.specs.Values.{value_of}
+use Rattle.rv_reloc_laws.specs.Fields.{patched}
+use Rattle.rv_reloc_laws.specs.Ranges.{Takes}
 use Rattle.rv_object_laws.specs.Object.{Contents, Progbits, Note, Nobits, Relocation, Section, Object}
 use Rattle.rv_link_laws.specs.Moves.{Move, moves, new_offset, kept}
 use Rattle.rv_link_laws.specs.Inputs.{Starts, InputSection, start_of}

@@ -1,6 +1,6 @@
 //! What linking is: when a program is that of a list of objects.
 //!
-//! It takes objects (`rv_object_laws`), the values and fields of relocations (`rv_reloc`) and a linked program
+//! It takes objects (`rv_object_laws`), the values and fields of relocations (`rv_reloc_laws`) and a linked program
 //! (`rv_image_laws`), all as plain data. It gives the definition `IsLinkOf objects start linked` (`specs/IsLinkOf`)
 //! over objects alone, whoever made them: where their sections start (`Inputs`), which bytes are dropped (`Moves`),
 //! what names mean across files (`Names`), and the bytes of a section with its relocations applied (`Values`).

@@ -2,10 +2,10 @@
 //! `jal` reaches each target.
 
 use crate::files::{ALIGN, CALL_OF_FIRST, RELAX, file, place};
+use rv_fault::LinkFault;
 use rv_link_sites::placed;
 use rv_object::{Object, read};
 use rv_relax::{Placed, Plan};
-use rv_reloc::LinkFault;
 use rv_resolve::Names;
 use std::alloc::{AllocError, Global};
 use std::test::Fail;

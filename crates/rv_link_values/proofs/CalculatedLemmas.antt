@@ -5,7 +5,7 @@ use Rattle.std.specs.Int.{int_wrap}
 use Rattle.std.proofs.lemmas.Int.{int_wrap-sub_right}
 use Rattle.rv_isa.specs.declared.kind.Kind.{Kind}
 use Rattle.rv_isa.specs.declared.kind.Kind.TheVariants as kind
-use Rattle.rv_reloc.specs.Values.{absolute, relative, value_of}
+use Rattle.rv_reloc_laws.specs.Values.{absolute, relative, value_of}
 
 wraps : (p : ℕ) → int_wrap w64 (pos (p % 2 ^ 64)) ≡ int_wrap w64 (pos p)
 unfolding int_wrap

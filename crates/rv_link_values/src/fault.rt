@@ -2,7 +2,7 @@
 
 ghost use Rattle.std.specs.Prelude.{◌≡◌};
 
-use rv_reloc::LinkFault;
+use rv_fault::LinkFault;
 use thiserror::Error;
 
 /// Why a relocation has no value.
@@ -14,7 +14,7 @@ pub enum ValueFault {
 }
 
 impl From<ValueFault> for LinkFault {
-    ghost use Rattle.rv_reloc.specs.declared.fault.LinkFault.TheVariants.{DanglingPcrel};
+    ghost use Rattle.rv_fault.specs.declared.link_fault.LinkFault.TheVariants.{DanglingPcrel};
 
     ghost from_gives = { λ _ e. e ≡ DanglingPcrel };
 

@@ -2,7 +2,7 @@
 
 ghost use Rattle.std.specs.Prelude.{◌≡◌};
 
-use rv_reloc::LinkFault;
+use rv_fault::LinkFault;
 use std::alloc::AllocError;
 use thiserror::Error;
 

@@ -11,9 +11,9 @@ use Rattle.rv_isa.specs.declared.instruction.Inst.{Inst}
 use Rattle.rv_isa.specs.Operations.{format_of}
 use Rattle.rv_isa.specs.Ranges.{IsBranchOffset, IsJumpOffset, IsValidFormat, IsValid}
 use Rattle.rv_isa_laws.specs.Halves.{hi}
-use Rattle.rv_reloc.specs.Fields.{modulo}
-use Rattle.rv_reloc.specs.Operands.{format_with, with_value}
-use Rattle.rv_reloc.specs.Ranges.{Takes, IsOdd}
+use Rattle.rv_reloc_laws.specs.Fields.{modulo}
+use Rattle.rv_reloc_laws.specs.Operands.{format_with, with_value}
+use Rattle.rv_reloc_laws.specs.Ranges.{Takes, IsOdd}
 use Rattle.rv_pseudo_laws.specs.Code.{Part, Closed, Open, Joined}
 use Rattle.rv_pseudo_laws.specs.Filled.{FieldValue, AreTaken, filled, filled_part, part_bytes, IsTaken}
 use Rattle.rv_pseudo_laws.specs.Valid.{fills_branch, fills_jump, fills, IsOpen, IsValidPart}

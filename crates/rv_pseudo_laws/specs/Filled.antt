@@ -6,8 +6,8 @@ use Rattle.std.specs.List.{list_all}
 use Rattle.rv_isa.specs.declared.instruction.Inst.{Inst}
 use Rattle.rv_isa.specs.declared.kind.Kind.{Kind}
 use Rattle.rv_isa.specs.Kinds.{width_of}
-use Rattle.rv_reloc.specs.Operands.{with_value}
-use Rattle.rv_reloc.specs.Ranges.{Takes}
+use Rattle.rv_reloc_laws.specs.Operands.{with_value}
+use Rattle.rv_reloc_laws.specs.Ranges.{Takes}
 use Rattle.rv_pseudo_laws.specs.Code.{Part, Closed, Open, Joined}
 
 abbrev pub is_closed : Part → Bool

@@ -18,7 +18,7 @@ use Rattle.rv_isa.specs.Ranges.{IsValidFormat, shift_limit}
 use Rattle.rv_compress.specs.declared.form.Compressed.{Compressed}
 use Rattle.rv_compress.specs.declared.form.Compressed.TheVariants as forms
 use Rattle.rv_compress.specs.Parcel.{IsLine, IsNoHint, expansion}
-use Rattle.rv_reloc.specs.Operands.{with_value}
+use Rattle.rv_reloc_laws.specs.Operands.{with_value}
 use Rattle.rv_pseudo_laws.specs.Code.{Part, Closed, Open, Constants, jal}
 use Rattle.rv_pseudo_laws.specs.Filled.{FieldValue, filled_part}
 use Rattle.rv_source_laws.specs.Lines.{parts_by_size, form_in}

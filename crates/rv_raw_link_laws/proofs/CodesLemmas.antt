@@ -21,7 +21,7 @@ use Rattle.rv_compress.specs.declared.form.Compressed.TheVariants as forms
 use Rattle.rv_compress.specs.declared.parcel.ParcelOperation.{ParcelOperation}
 use Rattle.rv_compress.specs.Mnemonics.{are_in, register_sets, takes_number, form_with as form_by, form_of, operation_of}
 use Rattle.rv_compress.specs.Parcel.{IsLine, IsNoHint, IsUpper, IsBranch, IsJump, expansion}
-use Rattle.rv_reloc.specs.Ranges.{Takes, IsOdd}
+use Rattle.rv_reloc_laws.specs.Ranges.{Takes, IsOdd}
 use Rattle.rv_text_laws.specs.Codes.{immediate_range, faulty_if}
 use Rattle.rv_statement.specs.declared.mnemonic.Mnemonic.{Mnemonic}
 use Rattle.rv_statement.specs.declared.mnemonic.Mnemonic.TheVariants as words

@@ -12,7 +12,7 @@ use Rattle.rv_isa.specs.declared.kind.Kind.TheVariants as kinds
 use Rattle.rv_isa.specs.Operations.{format_of, of_branch}
 use Rattle.rv_isa.specs.Ranges.{IsValidFormat}
 use Rattle.rv_isa_laws.specs.Arithmetic.{wrapped}
-use Rattle.rv_reloc.specs.Ranges.{Takes}
+use Rattle.rv_reloc_laws.specs.Ranges.{Takes}
 use Rattle.rv_text_laws.specs.Expression.{Primary, Here}
 use Rattle.rv_text_laws.specs.Values.{Meaning, Open as Open_place, Symbolic, value_of, add}
 use Rattle.rv_statement.specs.Statement.{StatementKind}

@@ -11,8 +11,8 @@ use Rattle.rv_object_laws.specs.Object.{Object, size_of}
 use Rattle.rv_assemble_laws.specs.LaidStatements.{part_bytes, parts, end_of}
 use Rattle.rv_assemble_laws.specs.IsObjectOf.{IsObjectOf}
 use Rattle.rv_assemble_laws.proofs.FilledLemmas.{filled}
-use Rattle.rv_reloc.specs.declared.fault.LinkFault.{LinkFault}
-use Rattle.rv_reloc.specs.declared.fault.LinkFault.TheVariants.{Overflow, OddTarget, DanglingPcrel, AlignmentShort, Undefined, Duplicate, EntryMissing, ImageTooLarge, BadTextStart, TooManyFiles, OutOfMemory}
+use Rattle.rv_fault.specs.declared.link_fault.LinkFault.{LinkFault}
+use Rattle.rv_fault.specs.declared.link_fault.LinkFault.TheVariants.{Overflow, OddTarget, DanglingPcrel, AlignmentShort, Undefined, Duplicate, EntryMissing, ImageTooLarge, BadTextStart, TooManyFiles, OutOfMemory}
 use Rattle.rv_link_laws.specs.TextStart.{IsTextStart}
 use Rattle.rv_link_laws.specs.Refusals.{IsUnlinked, HasNoProgram}
 use Rattle.rv_raw_link_laws.specs.Listed.{listed, IsShortListing, FitsAt}

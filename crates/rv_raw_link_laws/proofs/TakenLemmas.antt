@@ -5,8 +5,8 @@ use Rattle.std.specs.Prelude.{if◌then◌else◌, unwrap_or, option_and_then}
 use Rattle.std.specs.List.{AllByRecursion}
 use Rattle.rv_isa.specs.declared.kind.Kind.{Kind}
 use Rattle.rv_isa.specs.declared.kind.Kind.TheVariants as kinds
-use Rattle.rv_reloc.specs.Ranges.{Refuses}
-use Rattle.rv_reloc.specs.Values.{relative, calculation, value_of}
+use Rattle.rv_reloc_laws.specs.Ranges.{Refuses}
+use Rattle.rv_reloc_laws.specs.Values.{relative, calculation, value_of}
 use Rattle.rv_object_laws.specs.Object.{Relocation, Object}
 use Rattle.rv_link_laws.specs.Inputs.{InputSection, inputs}
 use Rattle.rv_link_laws.specs.IsLinkOf.{is_loaded}
@@ -14,8 +14,8 @@ use Rattle.rv_link_laws.specs.Names.{symbol_address}
 use Rattle.rv_link_laws.specs.Values.{target, moved, own_value, paired, value}
 use Rattle.rv_link_laws.specs.Layout.{Layout, IsLayout, outer_in}
 use Rattle.rv_link_laws.specs.Untaken.{IsTaken, IsFirst, IsUntaken, IsFirstUntaken}
-use Rattle.rv_reloc.specs.declared.fault.LinkFault.{LinkFault}
-use Rattle.rv_reloc.specs.declared.fault.LinkFault.TheVariants.{Overflow, OddTarget, DanglingPcrel}
+use Rattle.rv_fault.specs.declared.link_fault.LinkFault.{LinkFault}
+use Rattle.rv_fault.specs.declared.link_fault.LinkFault.TheVariants.{Overflow, OddTarget, DanglingPcrel}
 use Rattle.rv_raw_link_laws.proofs.CodesLemmas.{leads}
 use Rattle.rv_raw_link_laws.proofs.FieldsLemmas.{IsLeading, never_low}
 use Rattle.rv_raw_link_laws.proofs.LeavesLemmas.{input}

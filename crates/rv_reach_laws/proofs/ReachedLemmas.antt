@@ -10,7 +10,7 @@ use Rattle.std.proofs.lemmas.Option.{slice_get-map}
 use Rattle.rv_layout_laws.specs.Sites.{size_at}
 use Rattle.rv_isa.specs.declared.kind.Kind.{Kind}
 use Rattle.rv_isa.specs.declared.kind.Kind.TheVariants as kinds
-use Rattle.rv_reloc.specs.Ranges.{IsInRange, IsOdd, Takes}
+use Rattle.rv_reloc_laws.specs.Ranges.{IsInRange, IsOdd, Takes}
 use Rattle.rv_layout_laws.specs.declared.site.Site.{Site}
 use Rattle.rv_layout_laws.specs.Offsets.{IsEven, IsImmediate, Reaches}
 use Rattle.rv_layout_laws.specs.Calls as layout

@@ -6,8 +6,8 @@ use Rattle.rv_object_laws.specs.Object.{Section, Object}
 use Rattle.rv_object_types.specs.View.{object_of}
 use Rattle.rv_link_laws.specs.Moves.{has_room, moves}
 use Rattle.rv_link_laws.specs.Shortened.{Relaxes}
-use Rattle.rv_reloc.specs.declared.fault.LinkFault.{LinkFault}
-use Rattle.rv_reloc.specs.declared.fault.LinkFault.TheVariants.{AlignmentShort, OutOfMemory}
+use Rattle.rv_fault.specs.declared.link_fault.LinkFault.{LinkFault}
+use Rattle.rv_fault.specs.declared.link_fault.LinkFault.TheVariants.{AlignmentShort, OutOfMemory}
 use Rattle.rv_shorten.specs.View.{short_object_of, whole_object_of}
 use Rattle.rv_relax.specs.declared.placed.Placed.{Placed}
 use Rattle.rv_relax.specs.declared.plan.Plan.{Plan}

@@ -20,8 +20,8 @@ ghost use Rattle.rv_relax.specs.declared.told.Counted.TheVariants.{Calls};
 use crate::placed::Placed;
 use crate::section_paddings::SectionPaddings;
 use crate::sizes::{Sizes, find_sizes};
+use rv_fault::LinkFault;
 use rv_object_types::Object;
-use rv_reloc::LinkFault;
 use rv_shorten::{ShortObject, ShortSection, shorten, whole};
 use std::alloc::{AllocError, Global};
 

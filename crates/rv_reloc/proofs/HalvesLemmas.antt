@@ -2,7 +2,7 @@
 use Rattle.std.proofs.Common.{◌≡◌, ℤ, pos, negsuc, ◌-ℤ◌, ◌*ℤ◌, refl, arith}
 use Rattle.std.proofs.lemmas.Int.{ints}
 use Rattle.rv_isa_laws.specs.Halves.{hi, lo}
-use Rattle.rv_reloc.specs.Fields.{modulo}
+use Rattle.rv_reloc_laws.specs.Fields.{modulo}
 
 -- a multiple of 1000h makes no difference to the low 12 bits
 less : (v q z : ℤ) → z ≡ v -ℤ pos 0x1000 *ℤ q → modulo 12 z ≡ modulo 12 v

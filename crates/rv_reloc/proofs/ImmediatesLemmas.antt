@@ -1,6 +1,6 @@
 -- Each format's immediate is held where it is set, and the rest of the field with it.
 use Rattle.std.proofs.Common.{◌≡◌, ℕ, ◌+◌, ◌*◌, ◌/◌, ◌%◌, ◌^◌, ◌<◌, sym, ap, ◌∙◌, arith}
-use Rattle.rv_reloc.specs.Fields.{IsHeld, immediate_at, rest_of, i_type, s_type, b_type, u_type, j_type, cb_type, cj_type, low_six}
+use Rattle.rv_reloc_laws.specs.Fields.{IsHeld, immediate_at, rest_of, i_type, s_type, b_type, u_type, j_type, cb_type, cj_type, low_six}
 
 pub i_held : IsHeld i_type 12 1
 i_held n f below even = record { immediate = omega arith; rest = omega arith }

@@ -2,7 +2,7 @@
 
 ghost use Rattle.std.specs.Prelude.{◌≡◌};
 ghost use Rattle.std.specs.Int.{w64, int_wrap};
-ghost use Rattle.rv_reloc.specs.Values as is;
+ghost use Rattle.rv_reloc_laws.specs.Values as is;
 
 use rv_isa::Kind;
 

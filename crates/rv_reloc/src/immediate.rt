@@ -4,7 +4,7 @@
 //! word. The code writes each format by shifts and masks, from the low field up, and is proved equal with no answer.
 
 ghost use Rattle.std.specs.Prelude.{◌≡◌, ◌<◌, ◌^◌};
-ghost use Rattle.rv_reloc.specs.Fields.{
+ghost use Rattle.rv_reloc_laws.specs.Fields.{
   with_immediate,
   i_type,
   s_type,
@@ -15,7 +15,7 @@ ghost use Rattle.rv_reloc.specs.Fields.{
   cj_type,
   low_six,
 };
-ghost use Rattle.rv_reloc.specs.Fields as is;
+ghost use Rattle.rv_reloc_laws.specs.Fields as is;
 
 use crate::number::{lower, upper};
 

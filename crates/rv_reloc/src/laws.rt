@@ -1,7 +1,7 @@
 //! What holds of the definitions of fields and ranges. Nothing here runs.
 
 ghost use Rattle.rv_isa.specs.declared.kind.Kind.{Kind};
-ghost use Rattle.rv_reloc.specs.Fields.{
+ghost use Rattle.rv_reloc_laws.specs.Fields.{
   IsHeld,
   i_type,
   s_type,
@@ -12,9 +12,9 @@ ghost use Rattle.rv_reloc.specs.Fields.{
   cj_type,
   low_six,
 };
-ghost use Rattle.rv_reloc.specs.Ranges.{Refuses, Takes};
-ghost use Rattle.rv_reloc.specs.declared.fault.LinkFault.{LinkFault};
-ghost use Rattle.rv_reloc.specs.declared.fault.LinkFault.TheVariants.{Overflow, OddTarget};
+ghost use Rattle.rv_reloc_laws.specs.Ranges.{Refuses, Takes};
+ghost use Rattle.rv_fault.specs.declared.link_fault.LinkFault.{LinkFault};
+ghost use Rattle.rv_fault.specs.declared.link_fault.LinkFault.TheVariants.{Overflow, OddTarget};
 ghost use Rattle.std.specs.Prelude.{ℤ};
 
 /// A field whose immediate is set to a number has that immediate, and every other bit as before.

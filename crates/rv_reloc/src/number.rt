@@ -3,7 +3,7 @@
 ghost use Rattle.std.specs.Prelude.{◌≡◌, ◌<◌, ◌*◌, ◌^◌, pos, ◌+ℤ◌, ◌-ℤ◌, length};
 ghost use Rattle.rv_isa_laws.specs.Bytes.{little_endian, number_in};
 ghost use Rattle.rv_isa_laws.specs.Halves.{hi, lo};
-ghost use Rattle.rv_reloc.specs.Fields.{modulo, IsFieldWidth};
+ghost use Rattle.rv_reloc_laws.specs.Fields.{modulo, IsFieldWidth};
 
 /// The number of a field's bytes, the lowest first.
 pub(crate) fn number(field: &[u8]) -> u64

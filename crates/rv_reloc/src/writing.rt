@@ -6,16 +6,16 @@
 ghost use Rattle.std.specs.Prelude.{◌≡◌, ◌<◌, ◌*◌, ◌^◌, ◌↔◌, IsTrue, OnOk, OnErr, IfErr, length};
 ghost use Rattle.rv_isa.specs.Kinds.{width_of};
 ghost use Rattle.rv_isa_laws.specs.Bytes.{little_endian};
-ghost use Rattle.rv_reloc.specs.Fields.{written, patched};
-ghost use Rattle.rv_reloc.specs.Ranges as is;
+ghost use Rattle.rv_reloc_laws.specs.Fields.{written, patched};
+ghost use Rattle.rv_reloc_laws.specs.Ranges as is;
 
-use crate::fault::LinkFault;
 use crate::immediate::{
     with_b, with_both, with_cb, with_cj, with_i, with_j, with_low_six, with_s, with_u,
 };
 use crate::number::{
     difference, low_6, low_9, low_12, low_13, low_21, low_64, lower, number, put, sum, upper,
 };
+use rv_fault::LinkFault;
 use rv_isa::Kind;
 
 /// Whether `lui` or `auipc` can take the upper half of a value.

@@ -1,6 +1,7 @@
 use crate::table::{ROWS, Row};
+use rv_fault::LinkFault;
 use rv_isa::{Kind, kind_of};
-use rv_reloc::{LinkFault, patch, value};
+use rv_reloc::{patch, value};
 use std::process::Abort;
 
 /// A value's answer, and the field afterwards, of a field that was the low bytes of `old`.

@@ -11,8 +11,8 @@ use Rattle.std.proofs.lemmas.Bool.Decides.{nat_tests}
 use Rattle.rv_isa_laws.specs.Arithmetic.{wrapped, floor, extended, sum_of, shifted_left, shifted_right, shifted_right_signed}
 use Rattle.rv_isa_laws.specs.Halves.{hi, lo}
 use Rattle.rv_isa_laws.specs.Meaning.{upper}
-use Rattle.rv_reloc.specs.Fields.{modulo}
-use Rattle.rv_reloc.specs.Ranges.{HasUpper, IsBetween, IsOdd}
+use Rattle.rv_reloc_laws.specs.Fields.{modulo}
+use Rattle.rv_reloc_laws.specs.Ranges.{HasUpper, IsBetween, IsOdd}
 use Rattle.rv_pseudo_laws.specs.Li.{is_signed}
 use Rattle.rv_pseudo_laws.proofs.ModuloLemmas.{wrapped_is, wrapped_add, wrapped_times, extended_word}
 use Rattle.rv_pseudo_laws.proofs.SequencesLemmas.{high, whole_sum}

@@ -20,9 +20,9 @@ use Rattle.rv_isa_laws.specs.Halves.{hi, lo}
 use Rattle.rv_isa_laws.specs.Hart.{Hart, register, with_register, advanced}
 use Rattle.rv_isa_laws.specs.Effect.{Goes, Loads, Stores}
 use Rattle.rv_isa_laws.specs.Meaning.{effect, jumps, loads, stores, with_result, load_width, load_result, store_width}
-use Rattle.rv_reloc.specs.Fields.{modulo}
-use Rattle.rv_reloc.specs.Operands.{with_value, immediate_of, store_of}
-use Rattle.rv_reloc.specs.Ranges.{Takes, HasUpper}
+use Rattle.rv_reloc_laws.specs.Fields.{modulo}
+use Rattle.rv_reloc_laws.specs.Operands.{with_value, immediate_of, store_of}
+use Rattle.rv_reloc_laws.specs.Ranges.{Takes, HasUpper}
 use Rattle.rv_pseudo_laws.specs.Li.{addi}
 use Rattle.rv_pseudo_laws.specs.Code.{Joined, i_type, s_type, u_type, jalr, auipc, near, far, jump}
 use Rattle.rv_pseudo_laws.specs.Filled.{FieldValue}

@@ -19,7 +19,7 @@ use Rattle.rv_isa_laws.specs.Hart.{Hart, register, with_register, advanced}
 use Rattle.rv_isa_laws.specs.Effect.{Goes}
 use Rattle.rv_isa_laws.specs.Kept.{InRange}
 use Rattle.rv_isa_laws.specs.Meaning.{effect, sets, branches, jumps, with_result, is_taken}
-use Rattle.rv_reloc.specs.Operands.{with_value, branch_to}
+use Rattle.rv_reloc_laws.specs.Operands.{with_value, branch_to}
 use Rattle.rv_statement.specs.declared.pseudo.UnaryOperation.{UnaryOperation}
 use Rattle.rv_statement.specs.declared.pseudo.UnaryOperation.TheVariants.{Mv, Not, Neg, Negw, SextB, SextH, SextW, ZextB, ZextH, ZextW, Seqz, Snez, Sltz, Sgtz}
 use Rattle.rv_statement.specs.declared.pseudo.CompareOperation.{CompareOperation}

@@ -25,7 +25,7 @@ use Rattle.rv_isa.specs.Operations.{of_immediate, of_shift, of_upper, of_load, o
 use Rattle.rv_isa.specs.Ranges.{IsValid}
 use Rattle.rv_isa_laws.specs.Arithmetic.{wrapped, signed}
 use Rattle.rv_isa_laws.specs.Halves.{hi, lo}
-use Rattle.rv_reloc.specs.Operands.{with_value, immediate_of, store_of, upper_of}
+use Rattle.rv_reloc_laws.specs.Operands.{with_value, immediate_of, store_of, upper_of}
 use Rattle.rv_compress.specs.declared.form.Compressed.{Compressed}
 use Rattle.rv_compress.specs.declared.parcel.ParcelOperation.{ParcelOperation}
 use Rattle.rv_compress.specs.declared.parcel.ParcelOperation.TheVariants as parcels

@@ -13,9 +13,9 @@ use Rattle.rv_lexer.specs.Fault as sources
 use Rattle.rv_elf.specs.declared.fault.FileFault.{FileFault}
 use Rattle.rv_elf.specs.declared.fault.FileFault.TheVariants.{UnsupportedRelocation, UnsupportedSection}
 use Rattle.rv_elf.specs.Fault as files
-use Rattle.rv_reloc.specs.declared.fault.LinkFault.{LinkFault}
-use Rattle.rv_reloc.specs.declared.fault.LinkFault.TheVariants.{Undefined, Duplicate}
-use Rattle.rv_reloc.specs.Fault as links
+use Rattle.rv_fault.specs.declared.link_fault.LinkFault.{LinkFault}
+use Rattle.rv_fault.specs.declared.link_fault.LinkFault.TheVariants.{Undefined, Duplicate}
+use Rattle.rv_fault.specs.LinkFault as links
 use Rattle.rv_fault.specs.declared.fault.Fault.{Fault}
 use Rattle.rv_fault.specs.declared.fault.Fault.TheVariants.{Source, File, Link, Memory}
 use Rattle.rv_system.specs.declared.error.JobError.{JobError}

@@ -6,9 +6,8 @@ ghost use Rattle.rv_system.specs.Messages.{Tells, fault_text, file_name, file_te
 use crate::error::JobError;
 use crate::shown::shown_name;
 use rv_elf::FileFault;
-use rv_fault::Fault;
+use rv_fault::{Fault, LinkFault};
 use rv_lexer::SourceFault;
-use rv_reloc::LinkFault;
 use std::alloc::{AllocError, Global};
 
 /// The line of a fault; `names` are the files in their order.

@@ -4,11 +4,11 @@ use Rattle.std.proofs.Common.{◌≡◌, ℕ, ℤ, pos, true, false, List, [], �
 use Rattle.std.specs.Prelude.{◌⊎◌, IsTrue, is_some, unwrap_or}
 use Rattle.std.specs.List.{AllByRecursion}
 use Rattle.rv_isa.specs.Kinds.{is_low_part}
-use Rattle.rv_reloc.specs.Ranges.{IsInRange, IsOdd, Takes, Refuses}
+use Rattle.rv_reloc_laws.specs.Ranges.{IsInRange, IsOdd, Takes, Refuses}
 use Rattle.rv_object_laws.specs.Object.{Relocation}
-use Rattle.rv_reloc.specs.declared.fault.LinkFault.{LinkFault}
-use Rattle.rv_reloc.specs.declared.fault.LinkFault.TheVariants.{Overflow, OddTarget, DanglingPcrel, AlignmentShort, Undefined, Duplicate, EntryMissing, ImageTooLarge, BadTextStart, TooManyFiles, OutOfMemory}
-use Rattle.rv_reloc.specs.Fault.{link_fault_number}
+use Rattle.rv_fault.specs.declared.link_fault.LinkFault.{LinkFault}
+use Rattle.rv_fault.specs.declared.link_fault.LinkFault.TheVariants.{Overflow, OddTarget, DanglingPcrel, AlignmentShort, Undefined, Duplicate, EntryMissing, ImageTooLarge, BadTextStart, TooManyFiles, OutOfMemory}
+use Rattle.rv_fault.specs.LinkFault.{link_fault_number}
 use Rattle.rv_link_laws.specs.Refusals.{name_in, IsSameFault}
 use Rattle.rv_link_laws.specs.Untaken.{IsFirst}
 

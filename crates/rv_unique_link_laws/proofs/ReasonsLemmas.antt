@@ -14,9 +14,9 @@ use Rattle.rv_isa_laws.specs.Platform.{stack_start, memory_limit}
 use Rattle.rv_link_laws.specs.Entry.{has_entry}
 use Rattle.rv_link_laws.specs.Exports.{first_duplicate}
 use Rattle.rv_link_laws.specs.Undefined.{first_undefined}
-use Rattle.rv_reloc.specs.declared.fault.LinkFault.{LinkFault}
-use Rattle.rv_reloc.specs.declared.fault.LinkFault.TheVariants.{Overflow, OddTarget, DanglingPcrel, AlignmentShort, Undefined, Duplicate, EntryMissing, ImageTooLarge, BadTextStart, TooManyFiles, OutOfMemory}
-use Rattle.rv_reloc.specs.Fault.{link_fault_number}
+use Rattle.rv_fault.specs.declared.link_fault.LinkFault.{LinkFault}
+use Rattle.rv_fault.specs.declared.link_fault.LinkFault.TheVariants.{Overflow, OddTarget, DanglingPcrel, AlignmentShort, Undefined, Duplicate, EntryMissing, ImageTooLarge, BadTextStart, TooManyFiles, OutOfMemory}
+use Rattle.rv_fault.specs.LinkFault.{link_fault_number}
 use Rattle.rv_link_laws.specs.TextStart.{IsTextStart, AreWithin}
 use Rattle.rv_unique_link_laws.specs.Asked.{BeginsEven}
 use Rattle.rv_unique_link_laws.proofs.DistinctLemmas.{no_duplicate}

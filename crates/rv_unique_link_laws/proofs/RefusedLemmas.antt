@@ -11,8 +11,8 @@ use Rattle.rv_isa_laws.specs.Platform.{stack_start, memory_limit}
 use Rattle.rv_link_laws.specs.Exports.{first_duplicate}
 use Rattle.rv_link_laws.specs.Undefined.{first_undefined}
 use Rattle.rv_link_laws.proofs.EntryLemmas.{entry_some}
-use Rattle.rv_reloc.specs.declared.fault.LinkFault.{LinkFault}
-use Rattle.rv_reloc.specs.declared.fault.LinkFault.TheVariants.{Overflow, OddTarget, DanglingPcrel, AlignmentShort, Undefined, Duplicate, EntryMissing, ImageTooLarge, BadTextStart, TooManyFiles, OutOfMemory}
+use Rattle.rv_fault.specs.declared.link_fault.LinkFault.{LinkFault}
+use Rattle.rv_fault.specs.declared.link_fault.LinkFault.TheVariants.{Overflow, OddTarget, DanglingPcrel, AlignmentShort, Undefined, Duplicate, EntryMissing, ImageTooLarge, BadTextStart, TooManyFiles, OutOfMemory}
 use Rattle.rv_unique_link_laws.proofs.AddressesLemmas.{all_entries}
 use Rattle.rv_unique_link_laws.proofs.DistinctLemmas.{no_duplicate}
 use Rattle.rv_unique_link_laws.proofs.ProgramLemmas.{linked_meant}

@@ -14,8 +14,8 @@ use Rattle.rv_link_laws.specs.Undefined.{first_undefined}
 use Rattle.rv_link_laws.specs.Layout.{Layout, IsLayout, AreRoomy, regions_of, outer_in}
 use Rattle.rv_link_laws.specs.Untaken.{IsTaken, IsUntaken, AreTaken, AreUntaken, IsFirstUntaken}
 use Rattle.rv_link_laws.specs.Refusals.{IsSameFault}
-use Rattle.rv_reloc.specs.declared.fault.LinkFault.{LinkFault}
-use Rattle.rv_reloc.specs.declared.fault.LinkFault.TheVariants.{Overflow, OddTarget, DanglingPcrel, AlignmentShort, Undefined, Duplicate, EntryMissing, ImageTooLarge, BadTextStart, TooManyFiles, OutOfMemory}
+use Rattle.rv_fault.specs.declared.link_fault.LinkFault.{LinkFault}
+use Rattle.rv_fault.specs.declared.link_fault.LinkFault.TheVariants.{Overflow, OddTarget, DanglingPcrel, AlignmentShort, Undefined, Duplicate, EntryMissing, ImageTooLarge, BadTextStart, TooManyFiles, OutOfMemory}
 use Rattle.rv_link_laws.proofs.ListsLemmas.{all_both}
 use Rattle.rv_unique_link_laws.proofs.AgreedLemmas.{StartsSame, stand_same, AreLaid, AreOne, laid_same}
 use Rattle.rv_unique_link_laws.proofs.ProgramLemmas.{every_same, values_between, linked_laid, linked_meant}

@@ -7,8 +7,8 @@ use Rattle.rv_link_laws.specs.IsLinkOf.{IsLinkOf}
 use Rattle.rv_link_laws.specs.Without.{without}
 use Rattle.rv_link_laws.specs.IsProgramOf.{IsProgramOf}
 use Rattle.rv_link_laws.specs.Refusals.{IsUnlinked, HasNoProgram, IsSameFault}
-use Rattle.rv_reloc.specs.declared.fault.LinkFault.{LinkFault}
-use Rattle.rv_reloc.specs.declared.fault.LinkFault.TheVariants.{OutOfMemory}
+use Rattle.rv_fault.specs.declared.link_fault.LinkFault.{LinkFault}
+use Rattle.rv_fault.specs.declared.link_fault.LinkFault.TheVariants.{OutOfMemory}
 use Rattle.rv_unique_link_laws.specs.Asked.{HavePlacedRows, LeavesEven}
 use Rattle.rv_unique_link_laws.proofs.LeftLemmas.{left_placed}
 use Rattle.rv_unique_link_laws.proofs.WithoutLemmas.{one_leaves, without_placed}

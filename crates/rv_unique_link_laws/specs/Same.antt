@@ -6,8 +6,8 @@ use Rattle.rv_image_laws.specs.Linked.{Linked}
 use Rattle.rv_object_laws.specs.Object.{Object}
 use Rattle.rv_link_laws.specs.IsProgramOf.{IsProgramOf}
 use Rattle.rv_link_laws.specs.Refusals.{HasNoProgram, IsSameFault}
-use Rattle.rv_reloc.specs.declared.fault.LinkFault.{LinkFault}
-use Rattle.rv_reloc.specs.declared.fault.LinkFault.TheVariants.{OutOfMemory}
+use Rattle.rv_fault.specs.declared.link_fault.LinkFault.{LinkFault}
+use Rattle.rv_fault.specs.declared.link_fault.LinkFault.TheVariants.{OutOfMemory}
 use Rattle.rv_unique_link_laws.specs.Asked.{HavePlacedRows, LeavesEven, IsSound}
 
 -- two programs of the same objects are equal

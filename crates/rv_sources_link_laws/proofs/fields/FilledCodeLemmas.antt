@@ -10,8 +10,8 @@ use Rattle.rv_isa.specs.declared.instruction.Inst.{Inst}
 use Rattle.rv_isa.specs.declared.kind.Kind.{Kind}
 use Rattle.rv_isa.specs.declared.kind.Kind.TheVariants as kind
 use Rattle.rv_isa_laws.specs.Arithmetic.{signed}
-use Rattle.rv_reloc.specs.Ranges.{Takes}
-use Rattle.rv_reloc.specs.Values.{value_of}
+use Rattle.rv_reloc_laws.specs.Ranges.{Takes}
+use Rattle.rv_reloc_laws.specs.Values.{value_of}
 use Rattle.rv_text_laws.specs.Expression.{Primary, Symbol as Named, Literal, Here, Reference}
 use Rattle.rv_text_laws.specs.Values.{Meaning, Value, Symbolic, add}
 use Rattle.rv_statement.specs.declared.mnemonic.Mnemonic.{Mnemonic}

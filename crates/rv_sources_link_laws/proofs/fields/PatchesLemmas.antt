@@ -9,7 +9,7 @@ use Rattle.rv_isa.specs.declared.kind.Kind.{Kind}
 use Rattle.rv_isa.specs.declared.kind.Kind.TheVariants.{Abs32, Abs64, Add8, Add16, Add32, Add64, Sub8, Sub16, Sub32, Sub64}
 use Rattle.rv_isa.specs.Kinds.{width_of}
 use Rattle.rv_isa_laws.specs.Bytes.{little_endian, number_in, zeros}
-use Rattle.rv_reloc.specs.Fields.{patched, written as field_written}
+use Rattle.rv_reloc_laws.specs.Fields.{patched, written as field_written}
 use Rattle.rv_text_laws.specs.Expression.{Primary}
 use Rattle.rv_text_laws.specs.Values.{Meaning, Constant, Symbolic, Difference, Faulty, add, subtract}
 use Rattle.rv_object_laws.specs.Object.{Relocation}

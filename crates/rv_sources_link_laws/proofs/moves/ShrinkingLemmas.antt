@@ -8,8 +8,8 @@ use Rattle.std.specs.List.{AllByRecursion, find, slice_get}
 use Rattle.rv_isa.specs.Kinds.{is_low_part}
 use Rattle.rv_isa.specs.declared.kind.Kind.{Kind}
 use Rattle.rv_isa.specs.declared.kind.Kind.TheVariants as kinds
-use Rattle.rv_reloc.specs.Values.{value_of}
-use Rattle.rv_reloc.specs.Ranges.{Takes}
+use Rattle.rv_reloc_laws.specs.Values.{value_of}
+use Rattle.rv_reloc_laws.specs.Ranges.{Takes}
 use Rattle.rv_object_laws.specs.declared.symbol.Binding.{Binding}
 use Rattle.rv_object_laws.specs.declared.symbol.Definition.{Definition}
 use Rattle.rv_object_laws.specs.declared.symbol.Definition.TheVariants.{Undefined, Absolute, InSection, Skipped}

@@ -12,9 +12,9 @@ use Rattle.rv_isa.specs.Kinds.{width_of}
 use Rattle.rv_isa.specs.Ranges.{IsValid}
 use Rattle.rv_isa.specs.Operations.{format_of}
 use Rattle.rv_encode.specs.Word.{form, word}
-use Rattle.rv_reloc.specs.Fields.{patched}
-use Rattle.rv_reloc.specs.Operands.{with_value}
-use Rattle.rv_reloc.specs.Ranges.{Takes}
+use Rattle.rv_reloc_laws.specs.Fields.{patched}
+use Rattle.rv_reloc_laws.specs.Operands.{with_value}
+use Rattle.rv_reloc_laws.specs.Ranges.{Takes}
 use Rattle.rv_compress.specs.Encoded.{IsLeast, IsEncodedIn, IsLeastAs, IsEncodedAs}
 use Rattle.rv_compress.specs.declared.form.Compressed.{Compressed}
 use Rattle.rv_compress.specs.Parcel.{parcel}

@@ -12,8 +12,8 @@ use Rattle.rv_placement.specs.declared.placement.Placement.{Placement}
 use Rattle.rv_placement.specs.Placement.{layout_of, IsPlacement}
 use Rattle.rv_placement.proofs.LayoutsLemmas.{has_layout}
 use Rattle.rv_placement.proofs.RoomsStandLemmas.{lacks_room_anywhere}
-use Rattle.rv_reloc.specs.declared.fault.LinkFault.{LinkFault}
-use Rattle.rv_reloc.specs.declared.fault.LinkFault.TheVariants.{EntryMissing}
+use Rattle.rv_fault.specs.declared.link_fault.LinkFault.{LinkFault}
+use Rattle.rv_fault.specs.declared.link_fault.LinkFault.TheVariants.{EntryMissing}
 use Rattle.rv_link.specs.Left.{IsLinkWith}
 use Rattle.rv_link_laws.specs.TextStart.{AreWithin}
 use Rattle.rv_link.specs.Regions.{HasLinkNames}

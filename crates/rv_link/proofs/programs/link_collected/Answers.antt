@@ -7,7 +7,7 @@ use Rattle.rv_link_laws.specs.Without.{without}
 use Rattle.rv_collect.specs.Marks.{drops_of}
 use Rattle.rv_resolve.specs.Names.{IsNames}
 use Rattle.rv_resolve.proofs.AlikeLemmas.{names_left}
-use Rattle.rv_reloc.specs.declared.fault.LinkFault.TheVariants.{OutOfMemory}
+use Rattle.rv_fault.specs.declared.link_fault.LinkFault.TheVariants.{OutOfMemory}
 use Rattle.rv_link.specs.Left.{HasNoLink, IsLinkOfLeft}
 use Rattle.rv_link_laws.specs.TextStart.{AreWithin}
 use Rattle.rv_link.proofs.LeftLemmas.{doubled, many_left, some_dropped, some_unlinked}

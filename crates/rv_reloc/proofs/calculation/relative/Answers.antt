@@ -1,7 +1,7 @@
 use Rattle.std.proofs.Common.{rules, ap, ◌∙◌, w64}
 use Rattle.std.specs.Int.{int_wrap}
 use Rattle.std.proofs.lemmas.Int.{to_z-of_z}
-use Rattle.rv_reloc.specs.Values as is
+use Rattle.rv_reloc_laws.specs.Values as is
 use Rattle.rv_reloc.proofs.WrappingLemmas.{subtracted}
 use Rattle.rv_reloc.proofs.calculation.relative.Goals as goal
 

@@ -5,7 +5,7 @@ use Rattle.rv_isa.specs.declared.kind.Kind.{Kind}
 use Rattle.rv_isa.specs.declared.kind.Kind.TheVariants as kind
 use Rattle.rv_isa.specs.Kinds.{width_of}
 use Rattle.rv_isa_laws.specs.Bytes.{little_endian}
-use Rattle.rv_reloc.specs.Fields.{written, with_halves}
+use Rattle.rv_reloc_laws.specs.Fields.{written, with_halves}
 use Rattle.rv_reloc.proofs.writing.rewritten.Goals as goal
 
 -- the two kinds of a call are written alike

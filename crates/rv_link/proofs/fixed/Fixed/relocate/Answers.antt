@@ -1,7 +1,7 @@
 use Rattle.std.proofs.Common.{rules, ◌≡◌, pos, None, subst, sym, ap, ◌∙◌, arith, w64, FitsSigned, to_z, of_z}
 use Rattle.std.proofs.lemmas.Int.{to_z-of_z}
 use Rattle.std.proofs.lemmas.Result.{err_from_is_err_and}
-use Rattle.rv_reloc.specs.Ranges.{Takes, Refuses}
+use Rattle.rv_reloc_laws.specs.Ranges.{Takes, Refuses}
 use Rattle.rv_link_laws.specs.Moves.{new_offset}
 use Rattle.rv_link_laws.specs.Values.{patched_at}
 use Rattle.rv_isa.specs.declared.kind.Kind.TheVariants as kinds

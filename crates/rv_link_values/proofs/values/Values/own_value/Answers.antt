@@ -1,7 +1,7 @@
 use Rattle.std.proofs.Common.{◌∙◌, ap, sym, rules, w64}
 use Rattle.std.specs.Prelude.{unwrap_or}
 use Rattle.std.proofs.lemmas.Int.{to_z-of_z}
-use Rattle.rv_reloc.specs.Values.{value_of}
+use Rattle.rv_reloc_laws.specs.Values.{value_of}
 use Rattle.rv_link_laws.specs.Values as laws
 use Rattle.rv_link_laws.specs.Layout.{outer_in}
 use Rattle.rv_placement.specs.Placement.{starts_of, layout_of}

@@ -1,7 +1,7 @@
 //! Why objects cannot be linked.
 
 ghost use Rattle.std.specs.Prelude.{◌≡◌};
-ghost use Rattle.rv_reloc.specs.Fault.{link_fault_number, link_fault_name};
+ghost use Rattle.rv_fault.specs.LinkFault.{link_fault_number, link_fault_name};
 
 use std::alloc::{AllocError, AllocFailed};
 use thiserror::Error;
@@ -84,7 +84,7 @@ impl LinkFault {
 }
 
 impl From<AllocError> for LinkFault {
-    ghost use Rattle.rv_reloc.specs.declared.fault.LinkFault.TheVariants.{OutOfMemory};
+    ghost use Rattle.rv_fault.specs.declared.link_fault.LinkFault.TheVariants.{OutOfMemory};
 
     ghost from_gives = { λ _ fault. fault ≡ OutOfMemory };
 
@@ -94,7 +94,7 @@ impl From<AllocError> for LinkFault {
 }
 
 impl<T: Drop> From<AllocFailed<T>> for LinkFault {
-    ghost use Rattle.rv_reloc.specs.declared.fault.LinkFault.TheVariants.{OutOfMemory};
+    ghost use Rattle.rv_fault.specs.declared.link_fault.LinkFault.TheVariants.{OutOfMemory};
 
     ghost from_gives = { λ _ fault. fault ≡ OutOfMemory };
 

@@ -13,7 +13,7 @@ use Rattle.rv_isa.specs.declared.instruction.Format.{Format}
 use Rattle.rv_isa.specs.declared.instruction.Format.TheVariants.{Immediate, Upper, Load, Store, Branch, Jal, Jalr}
 use Rattle.rv_isa.specs.Operations.{format_of, of_immediate, of_upper, of_load, of_store, of_branch}
 use Rattle.rv_isa_laws.specs.Halves.{hi, lo}
-use Rattle.rv_reloc.specs.Fields.{modulo}
+use Rattle.rv_reloc_laws.specs.Fields.{modulo}
 
 -- operands with another immediate: a branch's and a jump's offset, the lower half, the upper half
 abbrev pub branch_to : BType → ℤ → BType

@@ -1,0 +1,4 @@
+pub mod Fields
+pub mod Operands
+pub mod Ranges
+pub mod Values
