@@ -7,7 +7,7 @@ use Rattle.std.specs.Str.{bytes_eq}
 use Rattle.std.proofs.lemmas.Bool.{and_parts}
 use Rattle.rv_statement.specs.Statement.{StatementKind, Label, Directs, Statement, Sets}
 use Rattle.rv_unit_laws.specs.Tables.{Tables, after}
-use Rattle.rv_map.specs.Name.{is_name}
+use Rattle.rv_map_laws.specs.Name.{is_name}
 use Rattle.rv_source_laws.specs.Located.{Located, located_from}
 use Rattle.rv_source_laws.specs.Exports.{sets_first, defined_name}
 use Rattle.rv_assemble_laws.specs.LaidStatements.{LaidStatement}

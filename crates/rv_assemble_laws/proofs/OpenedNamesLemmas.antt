@@ -12,7 +12,7 @@ use Rattle.rv_unit_laws.specs.Sections.{Section, Opened, entered_by}
 use Rattle.rv_unit_laws.specs.Tables.{Tables, at_start, with_section, after, after_all, tables, opened_of}
 use Rattle.rv_unit_laws.proofs.EnteringLemmas.{sections_more, entering}
 use Rattle.rv_unit_laws.proofs.OpenedLemmas.{entered_in, after_opened}
-use Rattle.rv_map.specs.Name.{is_name}
+use Rattle.rv_map_laws.specs.Name.{is_name}
 use Rattle.rv_assemble_laws.specs.ShownNames.{said_names, are_shown, HasNames}
 
 abbrev all_named : List Section → Bool

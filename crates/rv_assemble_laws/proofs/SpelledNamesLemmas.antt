@@ -35,7 +35,7 @@ use Rattle.rv_parse_laws.specs.Syntax.{Slot, A_register_of, A_zero, Some_accesse
 use Rattle.rv_parse_laws.specs.Reading.{told, statements_of_parts, Reads}
 use Rattle.rv_source_laws.specs.Program.{in_operand}
 use Rattle.rv_text_laws.proofs.RunsLemmas.{pick}
-use Rattle.rv_map.specs.Name.{is_name, is_name_byte}
+use Rattle.rv_map_laws.specs.Name.{is_name, is_name_byte}
 use Rattle.rv_assemble_laws.specs.ShownNames.{primary_names, tree_names, said_names, are_shown, HasNames}
 use Rattle.rv_assemble_laws.proofs.WeightsLemmas.{punct_none}
 

@@ -5,7 +5,7 @@ use Rattle.std.specs.Prelude.{Result, Ok, Err, IfErr}
 use Rattle.std.proofs.lemmas.Bool.{or_cases}
 use Rattle.std.specs.Result.{IsErrAnd}
 use Rattle.std.specs.Borrow.{Bor}
-use Rattle.rv_map.specs.declared.map.SectionId.{SectionId}
+use Rattle.rv_map_laws.specs.declared.map.SectionId.{SectionId}
 use Rattle.rv_statement.specs.View.{now_of}
 use Rattle.rv_fault.specs.declared.fault.Fault.{Fault}
 use Rattle.rv_fault.specs.declared.fault.Fault.TheVariants as cases

@@ -1,8 +1,8 @@
 -- The executable of a linked program keeps the headline's promise.
 
 use Rattle.std.proofs.Common.{◌≡◌, ℕ, Bool, List, refl, ap, subst, sym, ◌∙◌}
-use Rattle.rv_map.specs.Limits.{IsMap}
-use Rattle.rv_map.specs.Text.{map_text}
+use Rattle.rv_map_laws.specs.Limits.{IsMap}
+use Rattle.rv_map_laws.specs.Text.{map_text}
 use Rattle.rv_image_laws.specs.Linked.{Linked, IsLaidOut}
 use Rattle.rv_image_laws.specs.Executable.{exe_of, linked_image}
 use Rattle.rv_elf.specs.Fields.{number_in, e_flags}

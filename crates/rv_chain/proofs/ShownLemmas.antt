@@ -5,9 +5,9 @@ use Rattle.std.specs.Prelude.{◌↔◌}
 use Rattle.rv_encode.specs.Word.{Spells}
 use Rattle.rv_compress.specs.Parcel.{StandsFor}
 use Rattle.rv_isa_laws.specs.Reader.{Reader}
-use Rattle.rv_map.specs.Map.{Map}
-use Rattle.rv_map.specs.Limits.{IsMap}
-use Rattle.rv_map.specs.Text.{map_text}
+use Rattle.rv_map_laws.specs.Map.{Map}
+use Rattle.rv_map_laws.specs.Limits.{IsMap}
+use Rattle.rv_map_laws.specs.Text.{map_text}
 use Rattle.rv_map.proofs.WholeLemmas.{one_text}
 use Rattle.rv_image_laws.specs.Linked.{Linked, IsLaidOut}
 use Rattle.rv_image_laws.specs.Image.{Image}

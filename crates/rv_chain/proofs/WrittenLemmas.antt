@@ -1,8 +1,8 @@
 -- What is written of a link, with the names and the rows of its map or without.
 
 use Rattle.std.proofs.Common.{◌≡◌, ℕ, ◌<◌, ◌^◌, Bool, true, List, ap, subst, sym, ◌∙◌}
-use Rattle.rv_map.specs.Limits.{IsMap}
-use Rattle.rv_map.specs.Text.{map_text}
+use Rattle.rv_map_laws.specs.Limits.{IsMap}
+use Rattle.rv_map_laws.specs.Text.{map_text}
 use Rattle.rv_image.specs.declared.linked.Linked.{Linked as DeclaredLinked}
 use Rattle.rv_image_laws.specs.Linked.{Linked, IsLaidOut}
 use Rattle.rv_image.specs.Views.{linked_of}

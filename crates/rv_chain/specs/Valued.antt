@@ -2,8 +2,8 @@
 
 use Rattle.std.specs.Prelude.{◌≡◌, ℕ, List}
 use Rattle.rv_statement.specs.Statement.{Statement}
-use Rattle.rv_map.specs.Map.{Map}
-use Rattle.rv_map.specs.Text.{map_text}
+use Rattle.rv_map_laws.specs.Map.{Map}
+use Rattle.rv_map_laws.specs.Text.{map_text}
 use Rattle.rv_source_laws.specs.Fits.{Fits}
 use Rattle.rv_source_laws.specs.Program.{program}
 use Rattle.rv_value_laws.specs.Sites.{ArePlain}

@@ -1,7 +1,7 @@
 //! What a build gives.
 
 ghost use Rattle.std.specs.Prelude.{◌≡◌, IfOk, IfErr};
-ghost use Rattle.rv_map.specs.Text.{map_text};
+ghost use Rattle.rv_map_laws.specs.Text.{map_text};
 ghost use Rattle.rv_image_laws.specs.Executable.{exe_of};
 ghost use Rattle.rv_image.specs.Views.{linked_of};
 ghost use Rattle.rv_fault.specs.declared.fault.Fault.TheVariants.{Memory};

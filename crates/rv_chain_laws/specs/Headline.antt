@@ -5,9 +5,9 @@ use Rattle.std.specs.Prelude.{◌≡◌, ℕ, ◌<◌, Bool, if◌then◌else◌
 use Rattle.std.specs.List.{AllByRecursion}
 use Rattle.rv_statement.specs.Statement.{Statement}
 use Rattle.rv_parse_laws.specs.Reading.{Reads}
-use Rattle.rv_map.specs.Map.{Map}
-use Rattle.rv_map.specs.Text.{map_text}
-use Rattle.rv_map.specs.Limits.{IsMap}
+use Rattle.rv_map_laws.specs.Map.{Map}
+use Rattle.rv_map_laws.specs.Text.{map_text}
+use Rattle.rv_map_laws.specs.Limits.{IsMap}
 use Rattle.rv_image_laws.specs.Image.{Image}
 use Rattle.rv_image_laws.specs.ImageOf.{ImageOf}
 use Rattle.rv_image_laws.specs.FirstFault.{first_fault}

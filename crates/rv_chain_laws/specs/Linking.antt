@@ -1,7 +1,7 @@
 -- What a link makes of objects, and of the files that hold them.
 
 use Rattle.std.specs.Prelude.{◌≡◌, ℕ, Bool, List, length, None}
-use Rattle.rv_map.specs.Text.{map_text}
+use Rattle.rv_map_laws.specs.Text.{map_text}
 use Rattle.rv_image_laws.specs.Linked.{Linked}
 use Rattle.rv_image_laws.specs.Executable.{exe_of, linked_image}
 use Rattle.rv_image_laws.specs.ImageOf.{ImageOf}

@@ -5,9 +5,9 @@ use Rattle.rv_encode.specs.Word.{Spells}
 use Rattle.rv_compress.specs.Parcel.{StandsFor}
 use Rattle.rv_isa_laws.specs.Reader.{Reader}
 use Rattle.rv_statement.specs.Statement.{Statement}
-use Rattle.rv_map.specs.Map.{Map}
-use Rattle.rv_map.specs.Text.{map_text}
-use Rattle.rv_map.specs.Limits.{IsMap}
+use Rattle.rv_map_laws.specs.Map.{Map}
+use Rattle.rv_map_laws.specs.Text.{map_text}
+use Rattle.rv_map_laws.specs.Limits.{IsMap}
 use Rattle.rv_image_laws.specs.Image.{Image}
 use Rattle.rv_image_laws.specs.ImageOf.{ImageOf}
 use Rattle.rv_source_laws.specs.Program.{program}

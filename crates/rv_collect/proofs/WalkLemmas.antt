@@ -8,7 +8,7 @@ use Rattle.std.proofs.lemmas.Option.{slice_get_within}
 use Rattle.std.proofs.lemmas.Bool.{and_from, and_parts, eqb-true, or_cases, or_left, or_right, true≢false}
 use Rattle.std.proofs.Math.Bool.{or-false}
 use Rattle.std.proofs.lemmas.List.Folds.{list_any-append}
-use Rattle.rv_map.specs.declared.map.SectionId.{SectionId}
+use Rattle.rv_map_laws.specs.declared.map.SectionId.{SectionId}
 use Rattle.rv_object_laws.specs.Object.{Relocation, Object}
 use Rattle.rv_link_laws.specs.Collects.{graph_of, entry_place, lies_in, refers}
 use Rattle.rv_collect_laws.specs.Graph.{is_same, is_one_of, Graph, Has, IsClosed, IsLeastClosed, Marking, Unmarked, Begins, Follows}

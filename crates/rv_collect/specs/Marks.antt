@@ -2,7 +2,7 @@
 
 use Rattle.std.specs.Prelude.{◌≡◌, ℕ, zero, suc, Bool, false, List, [], map, length, slice_index_or}
 use Rattle.std.specs.Global.{Vec}
-use Rattle.rv_map.specs.declared.map.SectionId.{SectionId}
+use Rattle.rv_map_laws.specs.declared.map.SectionId.{SectionId}
 use Rattle.rv_object_laws.specs.Object.{Object}
 use Rattle.rv_link_laws.specs.Collects.{loaded_sections}
 use Rattle.rv_collect.specs.declared.collection.Collection.{Collection}

@@ -2,7 +2,7 @@
 
 use Rattle.std.specs.Prelude.{ℕ, suc, Bool, List, Option, option_and_then}
 use Rattle.std.specs.List.{list_any, slice_get}
-use Rattle.rv_map.specs.declared.map.SectionId.{SectionId}
+use Rattle.rv_map_laws.specs.declared.map.SectionId.{SectionId}
 use Rattle.rv_object_laws.specs.Object.{Relocation, Object}
 use Rattle.rv_link_laws.specs.Collects.{lies_in}
 use Rattle.rv_link_laws.specs.Names.{Place, symbol_place}

@@ -1,7 +1,7 @@
 -- The walk from the entry to all that stays.
 
 use Rattle.std.specs.Prelude.{◌≡◌, ◌≤◌, ℕ, true, List, [], ◌∷◌, ◌++◌, length, take, Option}
-use Rattle.rv_map.specs.declared.map.SectionId.{SectionId}
+use Rattle.rv_map_laws.specs.declared.map.SectionId.{SectionId}
 use Rattle.rv_object_laws.specs.Object.{Object}
 use Rattle.rv_link_laws.specs.Collects.{graph_of, entry_place, lies_in, refers}
 use Rattle.rv_link_laws.specs.Names.{Place}

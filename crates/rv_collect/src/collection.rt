@@ -1,7 +1,7 @@
 //! What collection keeps, and what it drops.
 
 ghost use Rattle.std.specs.Prelude.{◌≡◌, ◌++◌, ◌+◌, ◌^◌, ◌<◌, [], ◌∷◌, All, true, map, if◌then◌else◌, OnOk, IfOk};
-ghost use Rattle.rv_map.specs.Limits.{IsDrop};
+ghost use Rattle.rv_map_laws.specs.Limits.{IsDrop};
 ghost use Rattle.rv_object_types.specs.Sections.{section_of};
 ghost use Rattle.rv_object_types.specs.View.{object_of};
 ghost use Rattle.rv_link_laws.specs.Collects.{Collects};
@@ -12,7 +12,7 @@ ghost use Rattle.rv_collect.specs.Drops.{drops_in, dropped_from, id_at};
 use crate::left::{is_dropped, left_object};
 use crate::marks::Marks;
 use crate::walk::Walk;
-use rv_map::SectionId;
+use rv_map_laws::SectionId;
 use rv_object_types::{Object, Section};
 use rv_resolve::Names;
 use std::alloc::{AllocError, Global};

@@ -5,7 +5,7 @@
 
 ghost use Rattle.std.specs.Prelude.{◌≡◌, ◌+◌, Some, true, map, option_map, option_and_then, OnOk, IfOk};
 ghost use Rattle.std.specs.List.{slice_get};
-ghost use Rattle.rv_map.specs.declared.map.SectionId.{SectionId};
+ghost use Rattle.rv_map_laws.specs.declared.map.SectionId.{SectionId};
 ghost use Rattle.rv_object_laws.specs.Object.{Object as SaidObject};
 ghost use Rattle.rv_object_types.specs.Parts.{relocation_of};
 ghost use Rattle.rv_object_types.specs.View.{object_of};

@@ -6,7 +6,7 @@ use Rattle.std.specs.Cmp.{both_ways}
 use Rattle.std.proofs.lemmas.Bool.{cases_Bool, and_parts, and_from, or_cases, true≢false, not-true}
 use Rattle.std.proofs.lemmas.List.Elements.{filter_agree}
 use Rattle.std.proofs.lemmas.Map.Made.{length-le_from_is_member}
-use Rattle.rv_map.specs.declared.map.SectionId.{SectionId}
+use Rattle.rv_map_laws.specs.declared.map.SectionId.{SectionId}
 use Rattle.rv_collect_laws.specs.Graph.{is_same, is_one_of, Graph, Marks, Has, IsClosed, IsLeastClosed, Marking, Unmarked, Begins, Follows, outside, AreDrops, staying, AreAlike}
 use Rattle.rv_collect_laws.proofs.SectionsLemmas.{same_is, same_laws, in_more, in_now, apart, some_or_none, filters_agree, in_outside}
 

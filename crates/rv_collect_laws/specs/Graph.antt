@@ -5,7 +5,7 @@
 
 use Rattle.std.specs.Prelude.{◌≡◌, ℕ, suc, Bool, true, false, not, ◌&&◌, ◌==◌, List, [], ◌∷◌, filter}
 use Rattle.std.specs.List.{list_any}
-use Rattle.rv_map.specs.declared.map.SectionId.{SectionId}
+use Rattle.rv_map_laws.specs.declared.map.SectionId.{SectionId}
 
 -- the same section of the same file
 abbrev pub is_same : SectionId → SectionId → Bool

@@ -1,7 +1,7 @@
 //! Laws of marking and of what is dropped, each the contract of a function with nothing to do.
 
 ghost use Rattle.std.specs.Prelude.{◌≡◌, ◌⊎◌, ◌≤◌, Bool, true, List, ◌∷◌, length};
-ghost use Rattle.rv_map.specs.declared.map.SectionId.{SectionId};
+ghost use Rattle.rv_map_laws.specs.declared.map.SectionId.{SectionId};
 ghost use Rattle.rv_collect_laws.specs.Graph.{AreAlike, AreDrops, Graph, Has, IsClosed, IsLeastClosed, Marking, is_one_of, staying};
 
 /// Marking, in any order, takes at most as many marks as there are sections. Where the marks are closed they are the least

@@ -14,7 +14,7 @@
 //!
 //! Main contracts: [`marking_ends`], that marks are few, and that where they end is the least closed set; [`one_drops`], that
 //! there is one list of what is dropped, the same for graphs that are alike. Must not know objects, statements, or what makes
-//! one section refer to another: a section is a `SectionId` of `rv_map`, of which only equality counts.
+//! one section refer to another: a section is a `SectionId` of `rv_map_laws`, of which only equality counts.
 //!
 //! Source: GNU ld, "Command-line Options", `--gc-sections`.
 #![tactic(auto)]

@@ -4,7 +4,7 @@ use Rattle.std.proofs.Common.{◌≡◌, ◌+◌, ◌≤◌, true, length}
 use Rattle.std.specs.Prelude.{◌&&◌, nat_le}
 use Rattle.std.proofs.lemmas.Bool.{and_parts, leb-true}
 use Rattle.rv_isa_laws.specs.Memory.{Execute}
-use Rattle.rv_map.specs.declared.map.Row.{Row}
+use Rattle.rv_map_laws.specs.declared.map.Row.{Row}
 use Rattle.rv_image_laws.specs.Segment.{Segment}
 use Rattle.rv_image_laws.specs.Memory.{gives_right}
 use Rattle.rv_listing_laws.specs.Listing.{holds}

@@ -2,7 +2,7 @@
 
 use Rattle.std.specs.Prelude.{ℕ, zero, suc, List, [], ◌∷◌, ◌++◌, take, codes}
 use Rattle.hex.specs.Hex.{encode_lower}
-use Rattle.rv_map.specs.Text.{padded}
+use Rattle.rv_map_laws.specs.Text.{padded}
 
 -- the offset in eight digits or more, and the bytes in two each
 abbrev pub dump_line : ℕ → List ℕ → List ℕ

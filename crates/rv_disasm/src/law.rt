@@ -4,7 +4,7 @@ ghost use Rattle.std.specs.Prelude.{◌≡◌, ℕ, List};
 ghost use Rattle.rv_encode.specs.Word.{Spells};
 ghost use Rattle.rv_compress.specs.Parcel.{StandsFor};
 ghost use Rattle.rv_isa_laws.specs.Reader.{Reader};
-ghost use Rattle.rv_map.specs.Map.{Map};
+ghost use Rattle.rv_map_laws.specs.Map.{Map};
 ghost use Rattle.rv_image_laws.specs.Image.{Image};
 ghost use Rattle.rv_listing_laws.specs.Listing.{IsListing};
 ghost use Rattle.rv_listing_laws.specs.Raw.{IsRawListing};

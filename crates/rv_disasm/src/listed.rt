@@ -4,7 +4,7 @@ ghost use Rattle.std.specs.Prelude.{◌≡◌, ◌<◌, ◌++◌, [], false, tru
 ghost use Rattle.rv_encode.specs.Word.{Spells};
 ghost use Rattle.rv_compress.specs.Parcel.{StandsFor};
 ghost use Rattle.rv_isa_laws.specs.Reader.{Reader};
-ghost use Rattle.rv_map.specs.Map.{map_of};
+ghost use Rattle.rv_map.specs.Views.{map_of};
 ghost use Rattle.rv_image.specs.Views.{image_of};
 ghost use Rattle.rv_listing_laws.specs.Listing.{IsListing};
 
@@ -12,7 +12,8 @@ use crate::kept::KeptLines;
 use crate::order::in_order;
 use crate::rows::put_row;
 use rv_image::{Image, Segment};
-use rv_map::{Map, Row};
+use rv_map::Map;
+use rv_map_laws::Row;
 use std::alloc::{AllocError, Global};
 
 /// The statements of the map that have code, and the instructions that stand there in the image.

@@ -6,7 +6,7 @@
 ghost use Rattle.std.specs.Prelude.{IfOk};
 ghost use Rattle.rv_listing_laws.specs.Order.{IsInOrder};
 
-use rv_map::Row;
+use rv_map_laws::Row;
 use std::alloc::{AllocError, Global};
 
 /// The rows by address, then by file and ordinal.

@@ -11,7 +11,7 @@ use crate::kept::KeptLines;
 use crate::line::put_lines;
 use crate::numbers::put_decimal;
 use rv_image::Segment;
-use rv_map::Row;
+use rv_map_laws::Row;
 use std::alloc::AllocError;
 
 /// Adds the text of a row.

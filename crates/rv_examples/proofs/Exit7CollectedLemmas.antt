@@ -3,7 +3,7 @@
 use Rattle.std.proofs.Common.{◌≡◌, Bool, true, false, [], ◌∷◌, refl, ap, ◌∙◌, inl, inr}
 use Rattle.std.proofs.lemmas.Bool.{and_parts, or_cases, eqb-true}
 use Rattle.std.specs.Prelude.{◌&&◌, ◌==◌}
-use Rattle.rv_map.specs.declared.map.SectionId.{SectionId}
+use Rattle.rv_map_laws.specs.declared.map.SectionId.{SectionId}
 use Rattle.rv_collect_laws.specs.Graph.{is_one_of, Graph, Marks, IsClosed, AreDrops}
 use Rattle.rv_source_laws.specs.Collected.{graph_of}
 use Rattle.rv_examples.specs.Exit7.{exit7}

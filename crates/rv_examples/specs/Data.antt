@@ -10,8 +10,8 @@ use Rattle.rv_statement.specs.declared.mnemonic.Mnemonic.TheVariants.{Upper, Eca
 use Rattle.rv_isa.specs.declared.operation.UpperOperation.TheVariants.{Lui}
 use Rattle.rv_statement.specs.declared.directive.Binding.TheVariants as bindings
 use Rattle.rv_statement.specs.Statement.{StatementKind, Label, Numbered, Instruction, Directs, Statement, Expression, Register, Value, Enters, Opens, Binds, Sets, Aligns_to_power, Aligns_to_bytes, Values, Strings, Zeros}
-use Rattle.rv_map.specs.Globals.{global}
-use Rattle.rv_map.specs.Map.{Map}
+use Rattle.rv_map_laws.specs.Globals.{global}
+use Rattle.rv_map_laws.specs.Map.{Map}
 use Rattle.rv_examples.specs.Exit7.{on_line, constant, norvc, globl, load, row, region}
 
 abbrev pub call : StatementKind

@@ -15,10 +15,10 @@ use Rattle.rv_statement.specs.declared.mnemonic.Mnemonic.TheVariants.{Immediate,
 use Rattle.rv_isa.specs.declared.operation.ImmediateOperation.TheVariants.{Addi}
 use Rattle.rv_statement.specs.declared.directive.Binding.TheVariants as bindings
 use Rattle.rv_statement.specs.Statement.{StatementKind, Label, Instruction, Directs, Statement, Expression, Register, Value, Binds, Chooses}
-use Rattle.rv_map.specs.Globals.{global}
-use Rattle.rv_map.specs.Map.{Map}
-use Rattle.rv_map.specs.declared.map.Row.{Row}
-use Rattle.rv_map.specs.declared.map.Region.{Region}
+use Rattle.rv_map_laws.specs.Globals.{global}
+use Rattle.rv_map_laws.specs.Map.{Map}
+use Rattle.rv_map_laws.specs.declared.map.Row.{Row}
+use Rattle.rv_map_laws.specs.declared.map.Region.{Region}
 
 abbrev pub on_line : ℕ → StatementKind → Statement
 on_line line says = record { line = line; kind = says }

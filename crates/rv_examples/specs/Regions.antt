@@ -6,7 +6,7 @@ use Rattle.rv_isa_laws.specs.Bytes.{little_endian}
 use Rattle.rv_encode.specs.Word.{form, word}
 use Rattle.rv_statement.specs.Statement.{Statement}
 use Rattle.rv_unit_laws.specs.Sections.{goes_to_text, goes_to_rodata, goes_to_data}
-use Rattle.rv_map.specs.Map.{Map}
+use Rattle.rv_map_laws.specs.Map.{Map}
 use Rattle.rv_source_laws.specs.Program.{Mapped, program}
 use Rattle.rv_source_laws.specs.Start.{spelled}
 use Rattle.rv_source_laws.specs.Fits.{InputSection, input_sections}

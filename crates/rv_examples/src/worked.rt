@@ -4,7 +4,7 @@ ghost use Rattle.std.specs.Prelude.{◌≡◌, Bool, true, false, [], ◌∷◌,
 ghost use Rattle.rv_isa_laws.specs.Hart.{Limit};
 ghost use Rattle.rv_examples.specs.Exit7.{exit7, exit7_map, exit7_text, exit7_listing, exit255, exit255_map, first_file, second_file, two_files_map, exits};
 ghost use Rattle.rv_examples.specs.Exit7Executable.{exit7_file, exit7_image, exit7_linked};
-ghost use Rattle.rv_map.specs.Text.{map_text};
+ghost use Rattle.rv_map_laws.specs.Text.{map_text};
 ghost use Rattle.rv_image_laws.specs.Executable.{exe_of};
 ghost use Rattle.rv_image_laws.specs.ImageOf.{ImageOf};
 ghost use Rattle.rv_image_laws.specs.FirstFault.{first_fault};

@@ -5,7 +5,8 @@ use crate::names::is_linker_symbol;
 use crate::remark::Remark;
 use crate::tokens::{LineToken, all_tokens, is_line_feed, part, place, text_of};
 use crate::warnings::{Doubt, Warning, warnings_of};
-use rv_map::{Map, Region, read};
+use rv_map::{Map, read};
+use rv_map_laws::Region;
 use std::alloc::{AllocError, Global};
 use std::collections::HashMap;
 

@@ -1,6 +1,7 @@
 //! A map's text, read and written again.
 
-use rv_map::{Map, Region, Row, read, reread, write};
+use rv_map::{Map, read, reread, write};
+use rv_map_laws::{Region, Row};
 use std::test::Fail;
 
 /// The map of the program that exits with 7.

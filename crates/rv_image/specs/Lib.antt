@@ -1,5 +1,5 @@
-pub use Rattle.rv_map.specs.Map
-pub use Rattle.rv_map.specs.Text
+pub use Rattle.rv_map_laws.specs.Map
+pub use Rattle.rv_map_laws.specs.Text
 pub use Rattle.rv_elf.specs.Fields
 pub use Rattle.rv_elf.specs.Numbers
 pub use Rattle.rv_elf.specs.Records

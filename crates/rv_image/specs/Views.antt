@@ -1,7 +1,7 @@
 -- What the code's own types of images and programs stand for.
 
 use Rattle.std.specs.Prelude.{map}
-use Rattle.rv_map.specs.Map.{map_of}
+use Rattle.rv_map.specs.Views.{map_of}
 use Rattle.rv_image.specs.declared.writing.Part.{Part as DeclaredPart}
 use Rattle.rv_image_laws.specs.Executable.{Part}
 use Rattle.rv_image.specs.SegmentView.{segment_of}

@@ -2,7 +2,7 @@
 
 use Rattle.std.specs.Prelude.{◌≡◌, ℕ, ◌+◌, ◌-◌, ◌%◌, ◌^◌, ◌≤◌, ◌<◌, Bool, List, length}
 use Rattle.rv_isa_laws.specs.Platform.{stack_start, memory_limit}
-use Rattle.rv_map.specs.Map.{Map}
+use Rattle.rv_map_laws.specs.Map.{Map}
 
 -- the stored bytes of the regions, the map with their bounds, and whether there is compressed code
 pub record Linked : Type 0 where

@@ -5,7 +5,8 @@ use crate::columns::put_columns;
 use crate::letter::letter_of;
 use crate::parts::{bytes_of, count_symbols, section_named, symbol_at, symbol_table};
 use rv_elf::{ElfView, FileFault, SHN_UNDEF, Symbol, string_in};
-use rv_map::{Global as MapGlobal, Map, Region};
+use rv_map::{Global as MapGlobal, Map};
+use rv_map_laws::Region;
 use std::alloc::{AllocError, Global};
 
 /// The lower half of `st_info`: the symbol stands for a section (gABI, STT_SECTION).

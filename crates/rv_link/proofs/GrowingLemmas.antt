@@ -5,7 +5,7 @@ use Rattle.std.proofs.lemmas.List.{length-append, length-take, length-drop, leng
 use Rattle.std.specs.Prelude.{ℤ, IsTrue, Option, Some, None}
 use Rattle.std.specs.List.{AllByRecursion, list_all, slice_get}
 use Rattle.rv_layout_laws.specs.Alignment.{aligned}
-use Rattle.rv_map.specs.declared.map.Region.{Region}
+use Rattle.rv_map_laws.specs.declared.map.Region.{Region}
 use Rattle.rv_object_laws.specs.Object.{Relocation, Section, Object}
 use Rattle.rv_link_laws.specs.Moves.{Move, moves, new_offset, kept, has_room, alignments_of}
 use Rattle.rv_link_laws.specs.Inputs.{Starts, InputSection, goes_to_text, inputs_from, inputs_of, raised, begins_at, start_of, size, Stand, sections_end, Holds, contents}

@@ -2,7 +2,7 @@
 
 use Rattle.std.proofs.Common.{◌≡◌, ℕ, suc, Bool, true, false, List, [], ◌∷◌, length, map, refl, ap, sym, ◌∙◌, subst, arith}
 use Rattle.std.proofs.lemmas.List.{length-map}
-use Rattle.rv_map.specs.declared.map.SectionId.{SectionId}
+use Rattle.rv_map_laws.specs.declared.map.SectionId.{SectionId}
 use Rattle.rv_image_laws.specs.Linked.{Linked}
 use Rattle.rv_layout_laws.specs.Calls.{IsText}
 use Rattle.rv_layout_laws.proofs.ShorteningLemmas.{greatest_closed_exists}

@@ -6,8 +6,8 @@ use Rattle.std.specs.Prelude.{IsTrue}
 use Rattle.std.specs.Global.{Vec}
 use Rattle.std.specs.List.{AllByRecursion, list_all, slice_get}
 use Rattle.std.proofs.lemmas.Option.{slice_get_within}
-use Rattle.rv_map.specs.declared.map.SectionId.{SectionId}
-use Rattle.rv_map.specs.Limits.{IsMap}
+use Rattle.rv_map_laws.specs.declared.map.SectionId.{SectionId}
+use Rattle.rv_map_laws.specs.Limits.{IsMap}
 use Rattle.rv_object_laws.specs.Object.{Section, Object}
 use Rattle.rv_link_laws.specs.Moves.{moves, has_room}
 use Rattle.rv_link_laws.specs.Inputs.{InputSection, goes_to_text, inputs_from, inputs_of, inputs, start_of}

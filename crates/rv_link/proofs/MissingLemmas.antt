@@ -6,9 +6,9 @@ use Rattle.std.specs.Prelude.{◌&&◌, ◌==◌, bytes_eq, codes, if◌then◌e
 use Rattle.std.specs.Global.{Vec}
 use Rattle.std.specs.List.{AllByRecursion, find, slice_get}
 use Rattle.std.specs.Option.{option_or}
-use Rattle.rv_map.specs.Globals.{AreDistinct}
-use Rattle.rv_map.specs.Regions.{is_text}
-use Rattle.rv_map.specs.declared.map.SectionId.{SectionId}
+use Rattle.rv_map_laws.specs.Globals.{AreDistinct}
+use Rattle.rv_map_laws.specs.Regions.{is_text}
+use Rattle.rv_map_laws.specs.declared.map.SectionId.{SectionId}
 use Rattle.rv_object_types.specs.declared.object.Object.{Object as DeclaredObject}
 use Rattle.rv_object_laws.specs.declared.symbol.Binding.{Binding}
 use Rattle.rv_object_laws.specs.declared.symbol.Definition.{Definition}

@@ -4,9 +4,9 @@ use Rattle.std.proofs.Common.{◌≡◌, ◌≤◌, ◌<◌, ◌+◌, ◌%◌, �
 use Rattle.std.specs.Prelude.{IsTrue, filter, flat_map, is_some, not}
 use Rattle.std.specs.List.{AllByRecursion, slice_get}
 use Rattle.std.proofs.lemmas.Bool.{and_parts, ltb-true}
-use Rattle.rv_map.specs.Globals.{shown, linker_symbols}
-use Rattle.rv_map.specs.Limits.{IsGlobal}
-use Rattle.rv_map.specs.Name.{is_name}
+use Rattle.rv_map_laws.specs.Globals.{shown, linker_symbols}
+use Rattle.rv_map_laws.specs.Limits.{IsGlobal}
+use Rattle.rv_map_laws.specs.Name.{is_name}
 use Rattle.rv_object_laws.specs.declared.symbol.Binding.{Binding}
 use Rattle.rv_object_laws.specs.declared.symbol.Binding.TheVariants as bindings
 use Rattle.rv_object_laws.specs.declared.symbol.Definition.{Definition}

@@ -4,7 +4,7 @@ use Rattle.std.proofs.Common.{◌≡◌, ℕ, suc, ◌+◌, ◌-◌, ◌<◌, �
 use Rattle.std.specs.Prelude.{◌&&◌, not}
 use Rattle.std.specs.Global.{Vec}
 use Rattle.std.specs.List.{AllByRecursion}
-use Rattle.rv_map.specs.declared.map.Region.{Region}
+use Rattle.rv_map_laws.specs.declared.map.Region.{Region}
 use Rattle.rv_object_laws.specs.Object.{Section, Object}
 use Rattle.rv_link_laws.specs.Inputs.{InputSection, has_no_bytes, goes_to_text, goes_to_rodata, goes_to_data, inputs_from, inputs_of, inputs, Stand}
 use Rattle.rv_link_laws.specs.Names.{object_at, no_object}

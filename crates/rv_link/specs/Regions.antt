@@ -2,12 +2,12 @@
 
 use Rattle.std.specs.Prelude.{◌≡◌, ℕ, suc, ◌+◌, Bool, true, List, ◌++◌, drop, length, None}
 use Rattle.std.specs.List.{AllByRecursion}
-use Rattle.rv_map.specs.Globals.{AreDistinct}
-use Rattle.rv_map.specs.declared.map.Region.{Region}
+use Rattle.rv_map_laws.specs.Globals.{AreDistinct}
+use Rattle.rv_map_laws.specs.declared.map.Region.{Region}
 use Rattle.rv_object_laws.specs.Object.{Section, Object}
 use Rattle.rv_link_laws.specs.Inputs.{Starts, InputSection, goes_to_text, goes_to_rodata, goes_to_data, inputs_from, inputs_of, inputs, Stand, sections_end, contents}
 use Rattle.rv_link_laws.specs.Untaken.{AreTaken, IsFirstUntaken}
-use Rattle.rv_map.specs.Map.{Map}
+use Rattle.rv_map_laws.specs.Map.{Map}
 use Rattle.rv_link_laws.specs.Names.{object_at, outer_address, globals_of, global_names, shown_linker_symbols}
 use Rattle.rv_resolve.specs.declared.names.Names.{Names}
 use Rattle.rv_resolve.specs.Names.{IsNames}

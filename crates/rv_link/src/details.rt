@@ -4,7 +4,7 @@
 //! them. That a text could show them, as it can every map, is known without them.
 
 ghost use Rattle.std.specs.Prelude.{◌≡◌, IfOk, map, ℕ};
-ghost use Rattle.rv_map.specs.Map.{global_of};
+ghost use Rattle.rv_map.specs.Views.{global_of};
 ghost use Rattle.rv_link_laws.specs.IsLinkOf.{rows_of};
 ghost use Rattle.rv_link_laws.specs.Layout.{shown_globals};
 ghost use Rattle.rv_shorten.specs.View.{short_object_of};
@@ -12,7 +12,8 @@ ghost use Rattle.rv_placement.specs.Placement.{starts_of, IsPlacement, layout_of
 ghost use Rattle.rv_resolve.specs.Names.{IsNames};
 ghost use Rattle.rv_link_laws.specs.Details.{if_wanted};
 
-use rv_map::{Global as MapGlobal, Row as MapRow};
+use rv_map::Global as MapGlobal;
+use rv_map_laws::Row as MapRow;
 use rv_placement::Placement;
 use rv_resolve::Names;
 use rv_shorten::ShortObject;

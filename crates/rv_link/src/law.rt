@@ -2,8 +2,8 @@
 
 ghost use Rattle.std.specs.Prelude.{◌≡◌, ℕ, Bool, List, None, length, map, true};
 ghost use Rattle.std.specs.Global.{Vec as SaidVec};
-ghost use Rattle.rv_map.specs.Globals.{AreDistinct};
-ghost use Rattle.rv_map.specs.declared.map.SectionId.{SectionId};
+ghost use Rattle.rv_map_laws.specs.Globals.{AreDistinct};
+ghost use Rattle.rv_map_laws.specs.declared.map.SectionId.{SectionId};
 ghost use Rattle.rv_object_laws.specs.Object.{Object};
 ghost use Rattle.rv_object_types.specs.View.{object_of};
 ghost use Rattle.rv_object_types.specs.declared.object.Object.{Object as AnyObject};

@@ -5,7 +5,7 @@
 
 ghost use Rattle.std.specs.Prelude.{◌≡◌, ◌%◌, ◌<◌, ◌≤◌, [], All, List, Some, length, map, true, IfOk, IfErr, OnOk};
 ghost use Rattle.std.specs.List.{list_any};
-ghost use Rattle.rv_map.specs.Globals.{AreDistinct};
+ghost use Rattle.rv_map_laws.specs.Globals.{AreDistinct};
 ghost use Rattle.rv_isa_laws.specs.Platform.{stack_start};
 ghost use Rattle.rv_image.specs.Views.{linked_of};
 ghost use Rattle.rv_object_laws.specs.Object.{Object as SaidObject};
@@ -16,7 +16,7 @@ ghost use Rattle.rv_link_laws.specs.Refusals.{AreDoubled, ArePast, AreUnnamed, A
 ghost use Rattle.rv_shorten.specs.View.{short_object_of};
 ghost use Rattle.rv_relax.specs.Plan.{are_roomy_objects, planned_objects};
 ghost use Rattle.rv_placement.specs.Placement.{IsPlacement, are_roomy, starts_of, layout_of};
-ghost use Rattle.rv_map.specs.Limits.{IsDrop, IsMap};
+ghost use Rattle.rv_map_laws.specs.Limits.{IsDrop, IsMap};
 ghost use Rattle.rv_link.specs.Made.{made};
 ghost use Rattle.rv_link.specs.Left.{IsLinkWith};
 ghost use Rattle.rv_link_laws.specs.Details.{with_details};
@@ -34,7 +34,8 @@ use crate::regions::Regions;
 use rv_fault::LinkFault;
 use rv_image::{Linked, STACK_START};
 use rv_link_values::Values;
-use rv_map::{Map, SectionId};
+use rv_map::Map;
+use rv_map_laws::SectionId;
 use rv_object_types::Object;
 use rv_placement::Placement;
 use rv_relax::Plan;

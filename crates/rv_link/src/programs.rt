@@ -2,7 +2,7 @@
 
 ghost use Rattle.std.specs.Prelude.{All, length, true, map, IfOk, IfErr};
 ghost use Rattle.rv_image.specs.Views.{linked_of};
-ghost use Rattle.rv_map.specs.Limits.{IsDrop};
+ghost use Rattle.rv_map_laws.specs.Limits.{IsDrop};
 ghost use Rattle.rv_object_types.specs.View.{object_of};
 ghost use Rattle.rv_link_laws.specs.IsProgramOf.{IsProgramOf};
 ghost use Rattle.rv_link_laws.specs.Refusals.{HasNoProgram};
@@ -17,7 +17,7 @@ use crate::relaxation::relaxed;
 use rv_collect::Collection;
 use rv_fault::LinkFault;
 use rv_image::Linked;
-use rv_map::SectionId;
+use rv_map_laws::SectionId;
 use rv_object_types::Object;
 use rv_resolve::Names;
 use std::alloc::Global;

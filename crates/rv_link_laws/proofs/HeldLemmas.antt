@@ -5,7 +5,7 @@ use Rattle.std.specs.Prelude.{filter, bytes_eq, if◌then◌else◌}
 use Rattle.std.specs.List.{AllByRecursion, find}
 use Rattle.std.proofs.lemmas.Bool.{and_parts, and_from, or_left, or_right}
 use Rattle.std.proofs.lemmas.Slice.Eq.{bytes_eq-Decides}
-use Rattle.rv_map.specs.Globals.{is_one_of}
+use Rattle.rv_map_laws.specs.Globals.{is_one_of}
 use Rattle.rv_object_laws.specs.declared.symbol.Binding.{Binding}
 use Rattle.rv_object_laws.specs.declared.symbol.Binding.TheVariants as bindings
 use Rattle.rv_object_laws.specs.Object.{Symbol, Object}

@@ -4,8 +4,8 @@ use Rattle.std.proofs.Common.{◌≡◌, ℕ, suc, Bool, true, false, not, List,
 use Rattle.std.specs.Prelude.{if◌then◌else◌}
 use Rattle.std.proofs.lemmas.List.{map-append}
 use Rattle.std.proofs.lemmas.List.Elements.{filter-append}
-use Rattle.rv_map.specs.declared.map.SectionId.{SectionId}
-use Rattle.rv_map.specs.Regions.{is_text, is_bss, is_data, is_rodata}
+use Rattle.rv_map_laws.specs.declared.map.SectionId.{SectionId}
+use Rattle.rv_map_laws.specs.Regions.{is_text, is_bss, is_data, is_rodata}
 use Rattle.rv_collect_laws.specs.Graph.{is_dropped}
 use Rattle.rv_object_laws.specs.Object.{Section, Object}
 use Rattle.rv_link_laws.specs.Inputs.{InputSection, has_no_bytes, goes_to_text, goes_to_bss, goes_to_data, goes_to_rodata, inputs_from, inputs_of, inputs}

@@ -4,8 +4,8 @@ use Rattle.std.proofs.Common.{◌≡◌, ℕ, Bool, true, false, cond, Some, opt
 use Rattle.std.specs.Prelude.{◌||◌, bytes_eq}
 use Rattle.std.specs.List.{find}
 use Rattle.std.proofs.lemmas.Slice.Eq.{bytes_eq-Decides}
-use Rattle.rv_map.specs.Globals.{global_address, is_one_of}
-use Rattle.rv_map.specs.Map.{Global}
+use Rattle.rv_map_laws.specs.Globals.{global_address, is_one_of}
+use Rattle.rv_map_laws.specs.Map.{Global}
 use Rattle.rv_link_laws.proofs.ChosenLemmas.{same_bytes}
 
 pub same_tests : (a b : Bool) → (a ≡ true → b ≡ true) → (b ≡ true → a ≡ true) → a ≡ b

@@ -5,7 +5,7 @@ use Rattle.std.specs.Prelude.{bytes_eq, is_some, option_and_then, if◌then◌el
 use Rattle.std.specs.List.{find, slice_get}
 use Rattle.std.specs.Option.{option_map}
 use Rattle.std.proofs.lemmas.List.{map-append}
-use Rattle.rv_map.specs.declared.map.SectionId.{SectionId}
+use Rattle.rv_map_laws.specs.declared.map.SectionId.{SectionId}
 use Rattle.rv_collect_laws.specs.Graph.{is_dropped}
 use Rattle.rv_object_laws.specs.Bindings.{is_global, is_shared, is_weak}
 use Rattle.rv_object_laws.specs.declared.symbol.Binding.{Binding}

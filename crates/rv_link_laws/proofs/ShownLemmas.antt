@@ -7,8 +7,8 @@ use Rattle.std.specs.Option.{option_or}
 use Rattle.std.proofs.lemmas.Bool.{and_parts, and_from, eqb-true, eq-eqb}
 use Rattle.std.proofs.lemmas.List.Folds.{find-append}
 use Rattle.std.proofs.lemmas.Slice.Eq.{bytes_eq-Decides}
-use Rattle.rv_map.specs.Globals.{global_address, is_one_of, AreDistinct, shown, linker_symbols}
-use Rattle.rv_map.specs.Map.{Map, Global}
+use Rattle.rv_map_laws.specs.Globals.{global_address, is_one_of, AreDistinct, shown, linker_symbols}
+use Rattle.rv_map_laws.specs.Map.{Map, Global}
 use Rattle.rv_object_laws.specs.Object.{Symbol, Object}
 use Rattle.rv_link_laws.specs.Inputs.{Starts}
 use Rattle.rv_object_laws.specs.Bindings.{is_shared, is_global, is_weak}

@@ -3,7 +3,7 @@
 
 use Rattle.std.specs.Prelude.{suc, Bool, false, ◌&&◌, ◌==◌, List, map, Option, Some, None, option_and_then, codes, if◌then◌else◌}
 use Rattle.std.specs.List.{list_any}
-use Rattle.rv_map.specs.declared.map.SectionId.{SectionId}
+use Rattle.rv_map_laws.specs.declared.map.SectionId.{SectionId}
 use Rattle.rv_collect_laws.specs.Graph.{Graph, AreDrops}
 use Rattle.rv_object_laws.specs.Object.{Relocation, Object}
 use Rattle.rv_link_laws.specs.Inputs.{InputSection, inputs}

@@ -1,7 +1,7 @@
 -- Names that objects define twice for all files (gABI, "Symbol Table", STB_GLOBAL).
 
 use Rattle.std.specs.Prelude.{ℕ, List, [], ◌∷◌, ◌++◌, Option, Some, None, if◌then◌else◌}
-use Rattle.rv_map.specs.Globals.{is_one_of}
+use Rattle.rv_map_laws.specs.Globals.{is_one_of}
 use Rattle.rv_object_laws.specs.Object.{Object}
 use Rattle.rv_link_laws.specs.Names.{global_names}
 

@@ -4,8 +4,8 @@
 use Rattle.std.specs.Prelude.{◌≡◌, ℕ, suc, ◌+◌, ◌-◌, Bool, true, false, nat_lt, ⊤, max, List, [], ◌∷◌, ◌++◌, if◌then◌else◌}
 use Rattle.rv_layout_laws.specs.Alignment.{aligned}
 use Rattle.rv_isa_laws.specs.Bytes.{zeros}
-use Rattle.rv_map.specs.declared.map.Region.{Region}
-use Rattle.rv_map.specs.Regions.{is_text, is_bss, is_data, is_rodata}
+use Rattle.rv_map_laws.specs.declared.map.Region.{Region}
+use Rattle.rv_map_laws.specs.Regions.{is_text, is_bss, is_data, is_rodata}
 use Rattle.rv_object_laws.specs.Object.{Contents, Progbits, Note, Nobits, Relocation, Section, Object, size_of}
 use Rattle.rv_link_laws.specs.Moves.{alignment_of, alignments_of, moves, new_offset}
 

@@ -3,8 +3,8 @@
 use Rattle.std.specs.Prelude.{ℕ, suc, ◌+◌, ◌-◌, ◌%◌, ◌^◌, ◌==◌, Bool, true, false, not, ◌&&◌, List, [], ◌∷◌, ◌++◌, filter, flat_map, map, Option, Some, None, is_some, option_and_then, slice_index_or, codes, bytes_eq, if◌then◌else◌}
 use Rattle.std.specs.List.{find, slice_get}
 use Rattle.std.specs.Option.{option_or}
-use Rattle.rv_map.specs.Globals.{global_address, shown, linker_symbols}
-use Rattle.rv_map.specs.Map.{Map, Global}
+use Rattle.rv_map_laws.specs.Globals.{global_address, shown, linker_symbols}
+use Rattle.rv_map_laws.specs.Map.{Map, Global}
 use Rattle.rv_object_laws.specs.declared.symbol.Binding.{Binding}
 use Rattle.rv_object_laws.specs.declared.symbol.Definition.{Definition}
 use Rattle.rv_object_laws.specs.declared.symbol.Definition.TheVariants as definitions

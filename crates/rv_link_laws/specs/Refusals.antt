@@ -2,8 +2,8 @@
 -- ld's diagnostics are of the same kinds).
 
 use Rattle.std.specs.Prelude.{◌≡◌, ◌⊎◌, ⊤, ℕ, ◌%◌, ◌<◌, ◌≤◌, Bool, true, false, List, length, Some, None, []}
-use Rattle.rv_map.specs.Globals.{AreDistinct}
-use Rattle.rv_map.specs.declared.map.SectionId.{SectionId}
+use Rattle.rv_map_laws.specs.Globals.{AreDistinct}
+use Rattle.rv_map_laws.specs.declared.map.SectionId.{SectionId}
 use Rattle.rv_object_laws.specs.Object.{Object}
 use Rattle.rv_link_laws.specs.Inputs.{Starts, goes_to_text, inputs, Stand}
 use Rattle.rv_link_laws.specs.Names.{global_names, entry_of}

@@ -3,7 +3,7 @@
 use Rattle.std.specs.Prelude.{ℕ, Bool, true, false, ◌||◌, List, [], ◌∷◌, Option, Some, None, codes, if◌then◌else◌}
 use Rattle.std.specs.List.{slice_get}
 use Rattle.std.specs.Option.{option_or}
-use Rattle.rv_map.specs.Globals.{is_one_of}
+use Rattle.rv_map_laws.specs.Globals.{is_one_of}
 use Rattle.rv_object_laws.specs.declared.symbol.Definition.{Definition}
 use Rattle.rv_object_laws.specs.declared.symbol.Definition.TheVariants as definitions
 use Rattle.rv_object_laws.specs.Object.{Section, Symbol, Object}

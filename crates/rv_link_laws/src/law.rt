@@ -3,7 +3,7 @@
 ghost use Rattle.std.specs.Prelude.{◌≡◌, ℕ, ◌≤◌, [], Bool, List, None, filter, is_some, length, map, true};
 ghost use Rattle.std.specs.List.{AllByRecursion};
 ghost use Rattle.std.specs.Option.{option_map};
-ghost use Rattle.rv_map.specs.declared.map.SectionId.{SectionId};
+ghost use Rattle.rv_map_laws.specs.declared.map.SectionId.{SectionId};
 ghost use Rattle.rv_collect_laws.specs.Graph.{is_dropped};
 ghost use Rattle.rv_layout_laws.specs.Calls.{IsText, site_at};
 ghost use Rattle.rv_object_laws.specs.Object.{Object, Relocation, Section, Symbol};

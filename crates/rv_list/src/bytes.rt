@@ -1,7 +1,7 @@
 //! The bytes of statements in an image.
 
 use rv_image::{Image, Segment};
-use rv_map::Row;
+use rv_map_laws::Row;
 use std::alloc::AllocError;
 
 /// Adds the bytes of statements one after the other, up to so many in all; answers the address of the first.

@@ -4,7 +4,8 @@ use crate::bytes::collect;
 use crate::columns::{put, put_blanks, put_bytes, put_right};
 use memchr::memchr;
 use rv_image::Image;
-use rv_map::{Map, Row, put_padded};
+use rv_map::{Map, put_padded};
+use rv_map_laws::Row;
 use std::alloc::{AllocError, Global};
 
 /// The bytes on a row.

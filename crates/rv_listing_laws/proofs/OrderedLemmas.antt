@@ -9,8 +9,8 @@ use Rattle.std.proofs.lemmas.List.Sorted.{ranks_by, sorted_far}
 use Rattle.rv_isa_laws.specs.Reader.{Reader}
 use Rattle.rv_encode.specs.Word.{Spells}
 use Rattle.rv_compress.specs.Parcel.{StandsFor}
-use Rattle.rv_map.specs.declared.map.Row.{Row}
-use Rattle.rv_map.specs.Map.{Map}
+use Rattle.rv_map_laws.specs.declared.map.Row.{Row}
+use Rattle.rv_map_laws.specs.Map.{Map}
 use Rattle.rv_image_laws.specs.Image.{Image}
 use Rattle.rv_listing_laws.specs.Order.{compared, IsInOrder}
 use Rattle.rv_listing_laws.specs.Listing.{row_text, IsListing}

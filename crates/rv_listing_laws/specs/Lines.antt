@@ -8,7 +8,7 @@ use Rattle.rv_isa_laws.specs.Reader.{Reader}
 use Rattle.rv_encode.specs.Word.{Spells}
 use Rattle.rv_compress.specs.Parcel.{StandsFor}
 use Rattle.rv_compress.specs.Front.{front_parcel, front_word}
-use Rattle.rv_map.specs.Text.{hexadecimal}
+use Rattle.rv_map_laws.specs.Text.{hexadecimal}
 use Rattle.rv_listing_laws.specs.Instruction.{text_of}
 
 -- what is read, with its length, where the bytes are enough

@@ -7,8 +7,8 @@ use Rattle.rv_isa_laws.specs.Memory.{Execute}
 use Rattle.rv_isa_laws.specs.Reader.{Reader}
 use Rattle.rv_encode.specs.Word.{Spells}
 use Rattle.rv_compress.specs.Parcel.{StandsFor}
-use Rattle.rv_map.specs.declared.map.Row.{Row}
-use Rattle.rv_map.specs.Map.{Map}
+use Rattle.rv_map_laws.specs.declared.map.Row.{Row}
+use Rattle.rv_map_laws.specs.Map.{Map}
 use Rattle.rv_image_laws.specs.Segment.{Segment}
 use Rattle.rv_image_laws.specs.Image.{Image}
 use Rattle.rv_image_laws.specs.Memory.{gives_right}

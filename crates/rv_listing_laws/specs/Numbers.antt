@@ -1,7 +1,7 @@
 -- Numbers as listings show them.
 
 use Rattle.std.specs.Prelude.{ℕ, List, ◌++◌, codes}
-use Rattle.rv_map.specs.Text.{hexadecimal}
+use Rattle.rv_map_laws.specs.Text.{hexadecimal}
 
 -- 0x and the digits, without zeros in front
 abbrev pub prefixed : ℕ → List ℕ

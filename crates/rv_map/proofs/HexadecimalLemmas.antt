@@ -7,7 +7,7 @@ use Rattle.std.proofs.lemmas.Str.Ascii.{IsAscii-nil, IsAscii-cons}
 use Rattle.std.specs.Fmt.{digits, digits_onto, digit_glyph}
 use Rattle.std.specs.Str.{IsAscii}
 use Rattle.std.proofs.lemmas.Fmt.{hex_one_digit}
-use Rattle.rv_map.specs.Text.{hexadecimal}
+use Rattle.rv_map_laws.specs.Text.{hexadecimal}
 
 abbrev spell : ℕ → ℕ → List ℕ → List ℕ
 spell k n acc = digits_onto k 16 false n acc

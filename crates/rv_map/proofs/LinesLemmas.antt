@@ -5,13 +5,13 @@ use Rattle.std.specs.List.{list_all, flat_map}
 use Rattle.std.specs.Fmt.{digits}
 use Rattle.std.proofs.lemmas.Bool.{and_parts, leb-true}
 use Rattle.std.proofs.lemmas.List.Sums.{AllPass-from_list_all}
-use Rattle.rv_map.specs.declared.map.Region.{Region}
-use Rattle.rv_map.specs.declared.map.Row.{Row}
-use Rattle.rv_map.specs.declared.map.SectionId.{SectionId}
-use Rattle.rv_map.specs.Map.{Map, Global}
-use Rattle.rv_map.specs.Name.{is_name, is_name_byte}
-use Rattle.rv_map.specs.Limits.{IsNumber, IsRegion, IsGlobal, IsDrop, IsRow, IsMap}
-use Rattle.rv_map.specs.Text.{hexadecimal, line_text, gap_line, global_line, drop_line, row_line, head_lines}
+use Rattle.rv_map_laws.specs.declared.map.Region.{Region}
+use Rattle.rv_map_laws.specs.declared.map.Row.{Row}
+use Rattle.rv_map_laws.specs.declared.map.SectionId.{SectionId}
+use Rattle.rv_map_laws.specs.Map.{Map, Global}
+use Rattle.rv_map_laws.specs.Name.{is_name, is_name_byte}
+use Rattle.rv_map_laws.specs.Limits.{IsNumber, IsRegion, IsGlobal, IsDrop, IsRow, IsMap}
+use Rattle.rv_map_laws.specs.Text.{hexadecimal, line_text, gap_line, global_line, drop_line, row_line, head_lines}
 use Rattle.rv_map.specs.Numeral.{IsBase, is_digit}
 use Rattle.rv_map.specs.Reading.{number_at, region_at, global_at, drop_at, row_at, head_at}
 use Rattle.rv_map.proofs.CuttingLemmas.{cut_again, behind_again}

@@ -4,7 +4,7 @@ use Rattle.std.proofs.Common.{◌≡◌, ◌≤◌, ◌<◌, ◌+◌, ◌++◌, 
 use Rattle.std.specs.List.{AllByRecursion}
 use Rattle.std.proofs.lemmas.List.{take_all, drop_more, drop_all}
 use Rattle.std.proofs.lemmas.List.Elements.{All-map, All-same, recursion_from_All}
-use Rattle.rv_map.specs.Text.{line_text}
+use Rattle.rv_map_laws.specs.Text.{line_text}
 
 -- the lines of some things
 abbrev pub texts : {A : Type 0} → (A → List (List ℕ)) → List A → List ℕ

@@ -5,14 +5,15 @@ use Rattle.std.specs.List.{flat_map, AllByRecursion}
 use Rattle.std.proofs.lemmas.List.{append-nil, length-append, map-append, nil_from_length}
 use Rattle.std.proofs.lemmas.Option.{some_pair_parts, none-some}
 use Rattle.std.proofs.lemmas.List.Concat.{flat_map-append}
-use Rattle.rv_map.specs.declared.map.Region.{Region}
-use Rattle.rv_map.specs.declared.map.Row.{Row}
-use Rattle.rv_map.specs.declared.map.SectionId.{SectionId}
+use Rattle.rv_map_laws.specs.declared.map.Region.{Region}
+use Rattle.rv_map_laws.specs.declared.map.Row.{Row}
+use Rattle.rv_map_laws.specs.declared.map.SectionId.{SectionId}
 use Rattle.rv_map.specs.declared.map.Global.{Global as DeclaredGlobal}
-use Rattle.rv_map.specs.Map.{Map, Global, global_of}
-use Rattle.rv_map.specs.Name.{is_name}
-use Rattle.rv_map.specs.Limits.{IsNumber, IsRegion, IsGlobal, IsDrop, IsRow, IsMap}
-use Rattle.rv_map.specs.Text.{line_text, gap_line, global_line, drop_line, row_line, head_lines, map_text}
+use Rattle.rv_map_laws.specs.Map.{Map, Global}
+use Rattle.rv_map.specs.Views.{global_of}
+use Rattle.rv_map_laws.specs.Name.{is_name}
+use Rattle.rv_map_laws.specs.Limits.{IsNumber, IsRegion, IsGlobal, IsDrop, IsRow, IsMap}
+use Rattle.rv_map_laws.specs.Text.{line_text, gap_line, global_line, drop_line, row_line, head_lines, map_text}
 use Rattle.rv_map.specs.Reading.{behind, region_at, global_at, drop_at, row_at, head_at}
 use Rattle.rv_map.proofs.StepsLemmas.{texts}
 use Rattle.rv_map.proofs.LinesLemmas.{gap_again, global_again, drop_again, row_again, head_again, only_head}

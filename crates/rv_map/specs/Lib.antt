@@ -1,9 +1,3 @@
-pub mod Name
-pub mod Map
-pub mod Text
-pub mod Limits
 pub mod Numeral
 pub mod Reading
-pub mod Lookup
-pub mod Globals
-pub mod Regions
+pub mod Views

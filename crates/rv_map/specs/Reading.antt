@@ -3,11 +3,11 @@
 use Rattle.std.specs.Prelude.{◌≡◌, ℕ, ◌==◌, nat_lt, List, [], ◌∷◌, ◌++◌, length, take, drop, codes, Option, Some, None, if◌then◌else◌}
 use Rattle.std.specs.List.{before_first, after_first, position_or_len}
 use Rattle.std.specs.Str.{bytes_eq}
-use Rattle.rv_map.specs.declared.map.Region.{Region}
-use Rattle.rv_map.specs.declared.map.Row.{Row}
-use Rattle.rv_map.specs.declared.map.SectionId.{SectionId}
-use Rattle.rv_map.specs.Map.{Map, Global}
-use Rattle.rv_map.specs.Name.{is_name}
+use Rattle.rv_map_laws.specs.declared.map.Region.{Region}
+use Rattle.rv_map_laws.specs.declared.map.Row.{Row}
+use Rattle.rv_map_laws.specs.declared.map.SectionId.{SectionId}
+use Rattle.rv_map_laws.specs.Map.{Map, Global}
+use Rattle.rv_map_laws.specs.Name.{is_name}
 use Rattle.rv_map.specs.Numeral.{number_of}
 
 infixl 10 ◌>>=◌

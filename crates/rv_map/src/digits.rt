@@ -2,7 +2,7 @@
 
 ghost use Rattle.std.specs.Prelude.{◌≡◌, ◌<◌, ◌++◌, OnOk, drop, replicate, false};
 ghost use Rattle.std.specs.Fmt.{digit_glyph};
-ghost use Rattle.rv_map.specs.Text.{hexadecimal, padded};
+ghost use Rattle.rv_map_laws.specs.Text.{hexadecimal, padded};
 
 use std::alloc::AllocError;
 

@@ -1,9 +1,10 @@
 //! What holds of maps and their texts.
 
 ghost use Rattle.std.specs.Prelude.{◌≡◌, IfOk, Some, option_map};
-ghost use Rattle.rv_map.specs.Map.{Map as PlainMap, map_of};
-ghost use Rattle.rv_map.specs.Limits.{IsMap};
-ghost use Rattle.rv_map.specs.Text.{map_text};
+ghost use Rattle.rv_map_laws.specs.Map.{Map as PlainMap};
+ghost use Rattle.rv_map.specs.Views.{map_of};
+ghost use Rattle.rv_map_laws.specs.Limits.{IsMap};
+ghost use Rattle.rv_map_laws.specs.Text.{map_text};
 
 use crate::map::Map;
 use crate::reading::read;

@@ -2,9 +2,10 @@
 
 ghost use Rattle.std.specs.Prelude.{◌≡◌, option_map};
 ghost use Rattle.std.specs.List.{find};
-ghost use Rattle.rv_map.specs.Lookup.{starts_at};
+ghost use Rattle.rv_map_laws.specs.Lookup.{starts_at};
 
-use crate::map::{Map, Row};
+use crate::map::Map;
+use rv_map_laws::Row;
 
 impl Map {
     /// The first row with more than 0 bytes that starts at the address.

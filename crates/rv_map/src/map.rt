@@ -1,16 +1,9 @@
 //! A map as the linker makes it.
 
 ghost use Rattle.std.specs.Prelude.{IsTrue};
-ghost use Rattle.rv_map.specs.Name.{is_name};
+ghost use Rattle.rv_map_laws.specs.Name.{is_name};
 
-/// The addresses from `start` on and below `end`.
-#[derive(Clone, Copy, Debug, PartialEq, Eq, Drop)]
-pub struct Region {
-    /// The address of its first byte.
-    pub start: u64,
-    /// The address after its last byte.
-    pub end: u64,
-}
+use rv_map_laws::{Region, Row, SectionId};
 
 /// A global name and its address.
 #[derive(Debug, PartialEq, Eq, Drop)]
@@ -21,32 +14,6 @@ pub struct Global {
     pub address: u64,
     /// A name has one byte or more, all of 21h to 7Eh.
     pub ghost named: { IsTrue (is_name name.items) },
-}
-
-/// A section of a file.
-#[derive(Clone, Copy, Debug, PartialEq, Eq, Drop)]
-pub struct SectionId {
-    /// Its file, from 1.
-    pub file: u64,
-    /// Its number among the sections of the file, from 1.
-    pub section: u64,
-}
-
-/// Where a statement stands, and what it became there.
-#[derive(Clone, Copy, Debug, PartialEq, Eq, Drop)]
-pub struct Row {
-    /// Its file, from 1.
-    pub file: u64,
-    /// Its line in the file, from 1.
-    pub line: u64,
-    /// Its number among the statements of the file, from 1.
-    pub ordinal: u64,
-    /// The address of its first byte.
-    pub address: u64,
-    /// How many bytes it has there.
-    pub bytes: u64,
-    /// How many instructions it has there.
-    pub instructions: u64,
 }
 
 /// The map of an executable.

@@ -3,7 +3,7 @@
 ghost use Rattle.std.specs.Prelude.{◌≡◌, ◌++◌, ◌∷◌, ◌<◌, false, true, MatchOption, IfSome};
 ghost use Rattle.std.specs.Char.{digit_value};
 ghost use Rattle.std.specs.Fmt.{digits};
-ghost use Rattle.rv_map.specs.Limits.{IsNumber};
+ghost use Rattle.rv_map_laws.specs.Limits.{IsNumber};
 ghost use Rattle.rv_map.specs.Numeral.{IsBase, begins_numeral, is_digit, number_of};
 ghost use Rattle.rv_map.specs.Reading.{Gives, cut_at, number_at};
 

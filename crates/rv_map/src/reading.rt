@@ -1,14 +1,16 @@
 //! Reads a map's text.
 
 ghost use Rattle.std.specs.Prelude.{◌≡◌, ◌++◌, ◌∷◌, [], Some, None, map, flat_map, codes, IfOk, IfSome, option_map, IsTrue};
-ghost use Rattle.rv_map.specs.Map.{Map as PlainMap, map_of, global_of};
+ghost use Rattle.rv_map_laws.specs.Map.{Map as PlainMap};
+ghost use Rattle.rv_map.specs.Views.{map_of, global_of};
 ghost use Rattle.std.specs.List.{AllByRecursion, list_all};
-ghost use Rattle.rv_map.specs.Name.{is_name, is_name_byte};
-ghost use Rattle.rv_map.specs.Limits.{IsNumber, IsRegion, IsGlobal, IsDrop, IsRow, IsMap};
-ghost use Rattle.rv_map.specs.Text.{hexadecimal, line_text, gap_line, global_line, drop_line, row_line, head_lines, map_text};
+ghost use Rattle.rv_map_laws.specs.Name.{is_name, is_name_byte};
+ghost use Rattle.rv_map_laws.specs.Limits.{IsNumber, IsRegion, IsGlobal, IsDrop, IsRow, IsMap};
+ghost use Rattle.rv_map_laws.specs.Text.{hexadecimal, line_text, gap_line, global_line, drop_line, row_line, head_lines, map_text};
 ghost use Rattle.rv_map.specs.Reading.{Gives, behind, region_at, global_at, drop_at, row_at, head_at};
 
-use crate::map::{Global, Map, Region, Row, SectionId};
+use crate::map::{Global, Map};
+use rv_map_laws::{Region, Row, SectionId};
 use crate::numeral::{cut, number_before};
 use std::alloc::{AllocError, Global as Allocator};
 

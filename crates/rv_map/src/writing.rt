@@ -1,13 +1,14 @@
 //! The text of a map.
 
 ghost use Rattle.std.specs.Prelude.{◌≡◌, ◌++◌, ◌∷◌, [], IfOk, OnOk, map, flat_map, codes, decimal};
-ghost use Rattle.rv_map.specs.Map.{map_of, global_of};
+ghost use Rattle.rv_map.specs.Views.{map_of, global_of};
 ghost use Rattle.std.specs.List.{AllByRecursion};
-ghost use Rattle.rv_map.specs.Limits.{IsNumber, IsRegion, IsGlobal, IsDrop, IsRow, IsMap, AreRegions};
-ghost use Rattle.rv_map.specs.Text.{hexadecimal, line_text, region_line, gap_line, global_line, drop_line, row_line, region_lines, head_lines, map_text};
+ghost use Rattle.rv_map_laws.specs.Limits.{IsNumber, IsRegion, IsGlobal, IsDrop, IsRow, IsMap, AreRegions};
+ghost use Rattle.rv_map_laws.specs.Text.{hexadecimal, line_text, region_line, gap_line, global_line, drop_line, row_line, region_lines, head_lines, map_text};
 
 use crate::digits::put_hexadecimal;
-use crate::map::{Global, Map, Region, Row, SectionId};
+use crate::map::{Global, Map};
+use rv_map_laws::{Region, Row, SectionId};
 use itoa::Buffer;
 use std::alloc::{AllocError, Global as Allocator};
 
@@ -26,7 +27,7 @@ pub fn write(alloc: Allocator, map: &Map) -> Result<Vec<u8>, AllocError>
     Ok(text)
 }
 
-#[tactic(auto, unfolding(crate::specs::Text::line_text, crate::specs::Text::head_lines))]
+#[tactic(auto, unfolding(rv_map_laws::specs::Text::line_text, rv_map_laws::specs::Text::head_lines))]
 fn put_head(text: &mut Vec<u8>, map: &Map) -> Result<(), AllocError>
     ensures written { OnOk result
         (text.new.items ≡ text.old.items ++ flat_map line_text (head_lines (map_of map.now))) }
@@ -51,7 +52,7 @@ fn put_regions(text: &mut Vec<u8>, map: &Map) -> Result<(), AllocError>
     Ok(())
 }
 
-#[tactic(auto, unfolding(crate::specs::Text::line_text))]
+#[tactic(auto, unfolding(rv_map_laws::specs::Text::line_text))]
 fn put_entry(text: &mut Vec<u8>, entry: u64) -> Result<(), AllocError>
     ensures written { OnOk result
         (text.new.items ≡ text.old.items ++ line_text (codes "entry" ∷ hexadecimal entry ∷ [])) }
@@ -107,7 +108,7 @@ fn put_rows(text: &mut Vec<u8>, rows: &[Row]) -> Result<(), AllocError>
     Ok(())
 }
 
-#[tactic(auto, unfolding(crate::specs::Text::line_text))]
+#[tactic(auto, unfolding(rv_map_laws::specs::Text::line_text))]
 fn put_region(text: &mut Vec<u8>, name: &[u8], region: Region) -> Result<(), AllocError>
     ensures written { OnOk result
         (text.new.items ≡ text.old.items ++ line_text (region_line name.now region)) }
@@ -120,7 +121,7 @@ fn put_region(text: &mut Vec<u8>, name: &[u8], region: Region) -> Result<(), All
     Ok(())
 }
 
-#[tactic(auto, unfolding(crate::specs::Text::line_text))]
+#[tactic(auto, unfolding(rv_map_laws::specs::Text::line_text))]
 fn put_global(text: &mut Vec<u8>, global: &Global) -> Result<(), AllocError>
     ensures written { OnOk result
         (text.new.items ≡ text.old.items ++ line_text (global_line (global_of global.now))) }
@@ -133,7 +134,7 @@ fn put_global(text: &mut Vec<u8>, global: &Global) -> Result<(), AllocError>
     Ok(())
 }
 
-#[tactic(auto, unfolding(crate::specs::Text::line_text))]
+#[tactic(auto, unfolding(rv_map_laws::specs::Text::line_text))]
 fn put_drop(text: &mut Vec<u8>, section: SectionId) -> Result<(), AllocError>
     ensures written { OnOk result
         (text.new.items ≡ text.old.items ++ line_text (drop_line section)) }
@@ -145,7 +146,7 @@ fn put_drop(text: &mut Vec<u8>, section: SectionId) -> Result<(), AllocError>
     Ok(())
 }
 
-#[tactic(auto, unfolding(crate::specs::Text::line_text))]
+#[tactic(auto, unfolding(rv_map_laws::specs::Text::line_text))]
 fn put_row(text: &mut Vec<u8>, row: Row) -> Result<(), AllocError>
     ensures written { OnOk result
         (text.new.items ≡ text.old.items ++ line_text (row_line row)) }

@@ -3,7 +3,7 @@
 
 use Rattle.std.specs.Prelude.{ℕ, suc, ◌^◌, ◌==◌, Bool, false, not, List, [], ◌∷◌, Option, None, Some, if◌then◌else◌}
 use Rattle.rv_elf.specs.Sections.{names_section, indexed_contents}
-use Rattle.rv_map.specs.Name.{is_name, is_name_byte}
+use Rattle.rv_map_laws.specs.Name.{is_name, is_name_byte}
 
 -- where the last string of a table ends: behind its last zero byte
 abbrev pub strings_end : List ℕ → ℕ

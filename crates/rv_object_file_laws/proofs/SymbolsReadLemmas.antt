@@ -6,7 +6,7 @@ use Rattle.std.proofs.lemmas.Bool.{cond-true, cond-false, and_parts, and_from, o
 use Rattle.std.proofs.lemmas.List.{length-append, length-replicate, drop_at, length-map}
 use Rattle.std.proofs.lemmas.List.Folds.{list_any-append}
 use Rattle.std.proofs.lemmas.Slice.Eq.{bytes_eq-Decides}
-use Rattle.rv_map.specs.Name.{is_name_byte}
+use Rattle.rv_map_laws.specs.Name.{is_name_byte}
 use Rattle.rv_elf.specs.declared.symbol.Symbol.{Symbol as SymbolRecord}
 use Rattle.rv_elf.specs.Fields.{symbol_size}
 use Rattle.rv_elf.specs.ReadBack.{FitsSymbol, symbol_there}

@@ -7,7 +7,7 @@ use Rattle.std.proofs.lemmas.Bool.{and_right, and_parts, and_from, or_from, or_r
 use Rattle.std.proofs.lemmas.List.{length-replicate}
 use Rattle.std.proofs.lemmas.List.Folds.{list_all-append}
 use Rattle.rv_isa.specs.Kinds.{number_of, width_of}
-use Rattle.rv_map.specs.Name.{is_name}
+use Rattle.rv_map_laws.specs.Name.{is_name}
 use Rattle.rv_elf.specs.declared.fault.FileFault.TheVariants.{BadTable, BadString, BadIndex, UnsupportedRelocation}
 use Rattle.rv_elf.specs.declared.section_header.SectionHeader.{SectionHeader}
 use Rattle.rv_elf.specs.FirstFault.{first_true}

@@ -5,7 +5,7 @@ use Rattle.std.specs.Prelude.{ℕ, ℤ, pos, negsuc, unwrap_or, ◌+◌, ◌%◌
 use Rattle.std.specs.List.{list_all, list_any, slice_get}
 use Rattle.rv_isa.specs.declared.kind.Kind.{Kind}
 use Rattle.rv_isa.specs.declared.kind.Kind.TheVariants as kinds
-use Rattle.rv_map.specs.Name.{is_name}
+use Rattle.rv_map_laws.specs.Name.{is_name}
 use Rattle.rv_object_laws.specs.declared.symbol.Binding.{Binding}
 use Rattle.rv_object_laws.specs.declared.symbol.Binding.TheVariants as bindings
 use Rattle.rv_object_laws.specs.declared.symbol.Definition.{Definition}

@@ -4,7 +4,7 @@ use Rattle.std.proofs.Common.{zero, suc, ◌≡◌, ◌+◌, ◌-◌, ℕ, Bool,
 use Rattle.std.specs.Prelude.{if◌then◌else◌, not, ◌&&◌}
 use Rattle.std.specs.List.{slice_get}
 use Rattle.rv_layout_laws.specs.Alignment.{aligned}
-use Rattle.rv_map.specs.declared.map.Region.{Region}
+use Rattle.rv_map_laws.specs.declared.map.Region.{Region}
 use Rattle.rv_object_laws.specs.Object.{Section, Object, size_of}
 use Rattle.rv_link_laws.specs.Moves.{moves, new_offset}
 use Rattle.rv_link_laws.specs.Inputs.{Starts, InputSection, has_no_bytes, goes_to_text, goes_to_bss, inputs, inputs_from, inputs_of, Stand, greatest}

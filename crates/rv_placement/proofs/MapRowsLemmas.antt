@@ -4,7 +4,7 @@ use Rattle.std.proofs.Common.{zero, suc, ◌≡◌, ◌<◌, ◌≤◌, ◌+◌,
 use Rattle.std.specs.List.{list_all, slice_get}
 use Rattle.std.proofs.lemmas.Bool.{leb-true, and_parts}
 use Rattle.std.proofs.lemmas.List.{get_or_default}
-use Rattle.rv_map.specs.declared.map.Row.{Row as MapRow}
+use Rattle.rv_map_laws.specs.declared.map.Row.{Row as MapRow}
 use Rattle.rv_object_laws.specs.declared.row.Row.{Row}
 use Rattle.rv_object_laws.specs.Object.{Section, Object, size_of}
 use Rattle.rv_object_laws.specs.Valid.{is_row_in, are_rows}

@@ -15,7 +15,7 @@ use crate::fault::PlacementFault;
 use crate::regions::{Regions, regions_behind};
 use crate::text::put_files;
 use rv_image::MEMORY_LIMIT;
-use rv_map::Region;
+use rv_map_laws::Region;
 use rv_relax::{Plan, SectionPaddings};
 use rv_shorten::{ShortObject, ShortSection};
 use std::alloc::Global;

@@ -14,7 +14,7 @@ use crate::alignment::{greatest_of, multiple_of, next_multiple};
 use crate::destination::{Destination, goes_to};
 use crate::placement::PlacedSection;
 use rv_image::STACK_START;
-use rv_map::Region;
+use rv_map_laws::Region;
 use rv_shorten::{ShortObject, ShortSection};
 
 /// Regions with different rights begin at multiples of this.

@@ -6,7 +6,7 @@
 ghost use Rattle.std.specs.Prelude.{◌≡◌, ◌+◌, ◌<◌, ◌++◌, ◌^◌, ℕ, Some, List, All, IfOk, OnOk, IsTrue, map};
 ghost use Rattle.std.specs.Bool.{OnTrue};
 ghost use Rattle.std.specs.List.{slice_get};
-ghost use Rattle.rv_map.specs.Limits.{IsRow};
+ghost use Rattle.rv_map_laws.specs.Limits.{IsRow};
 ghost use Rattle.rv_object_laws.specs.Object.{Object as PlainObject};
 ghost use Rattle.rv_object_laws.specs.Valid.{are_rows};
 ghost use Rattle.rv_link_laws.specs.IsLinkOf as laws;
@@ -17,7 +17,7 @@ ghost use Rattle.rv_placement.specs.Moved.{moved_rows};
 ghost use Rattle.rv_placement.specs.Placement.{starts_of, IsPlacement};
 
 use crate::placement::{PlacedSection, Placement};
-use rv_map::Row as MapRow;
+use rv_map_laws::Row as MapRow;
 use rv_object_types::Row;
 use rv_shorten::ShortObject;
 use std::alloc::{AllocError, Global};

@@ -15,7 +15,7 @@ ghost use Rattle.rv_placement.specs.Walk.{end_from, start_from, next, ended, end
 use crate::alignment::{multiple_of, next_multiple};
 use crate::placement::PlacedSection;
 use rv_image::STACK_START;
-use rv_map::Region;
+use rv_map_laws::Region;
 use rv_relax::SectionPaddings;
 use rv_shorten::{ShortObject, ShortSection, is_text};
 use std::alloc::{AllocError, Global};

@@ -13,7 +13,7 @@ use Rattle.std.specs.Fmt.{decimal, digits, digits_onto, digit_glyph}
 use Rattle.std.proofs.lemmas.Fmt.{decimal_digit, digits_is_IsNumeral, first_decimal}
 use Rattle.rv_text_laws.specs.Bytes.{digit, is_digit, digits_value as value, is_word, is_decimal, in_line}
 use Rattle.rv_text_laws.specs.Grammar.{Number, Spells, Decimal, Octal_digits, Hexadecimal_digits}
-use Rattle.rv_map.specs.Text.{hexadecimal}
+use Rattle.rv_map_laws.specs.Text.{hexadecimal}
 use Rattle.rv_listing_laws.specs.Numbers.{prefixed}
 use Rattle.rv_raw_laws.specs.Statements.{IsSmall}
 use Rattle.rv_raw_laws.proofs.LexemesLemmas.{decimal_class, words_in_line}

@@ -17,7 +17,7 @@ use Rattle.rv_layout_laws.specs.Branches.{smallest, item_at, IsLeastGood}
 use Rattle.rv_layout_laws.specs.Offsets.{IsImmediate}
 use Rattle.rv_text_laws.specs.Expression.{Here}
 use Rattle.rv_text_laws.specs.Values.{Value, Open, Symbolic}
-use Rattle.rv_map.specs.declared.map.Row.{Row}
+use Rattle.rv_map_laws.specs.declared.map.Row.{Row}
 use Rattle.rv_statement.specs.declared.mnemonic.Mnemonic.TheVariants as words
 use Rattle.rv_statement.specs.Statement.{StatementKind, Instruction, Operand, Register, Target, Accesses}
 use Rattle.rv_unit_laws.specs.Bindings.{Bindings}

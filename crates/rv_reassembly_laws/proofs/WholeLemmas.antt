@@ -7,7 +7,7 @@ use Rattle.std.proofs.lemmas.List.{append-nil, length-append}
 use Rattle.rv_isa_laws.specs.Bytes.{zeros}
 use Rattle.rv_layout_laws.specs.Alignment.{aligned}
 use Rattle.rv_layout_laws.specs.Branches.{IsLeastGood}
-use Rattle.rv_map.specs.declared.map.Row.{Row}
+use Rattle.rv_map_laws.specs.declared.map.Row.{Row}
 use Rattle.rv_collect_laws.specs.Graph.{is_dropped}
 use Rattle.rv_statement.specs.Statement.{StatementKind, Statement}
 use Rattle.rv_unit_laws.specs.Bindings.{bindings_of}

@@ -10,8 +10,8 @@ use Rattle.std.proofs.lemmas.Grind.{flat_map-append}
 use Rattle.std.specs.BTreeMap.{get_by}
 use Rattle.std.specs.Cmp.Lexicographic.{slice_cmp}
 use Rattle.std.specs.Ordering.{nat_cmp}
-use Rattle.rv_map.specs.Globals.{shown}
-use Rattle.rv_map.specs.Map.{Global}
+use Rattle.rv_map_laws.specs.Globals.{shown}
+use Rattle.rv_map_laws.specs.Map.{Global}
 use Rattle.rv_object_laws.specs.Object.{Symbol, Object}
 use Rattle.rv_object_laws.specs.Bindings.{is_shared}
 use Rattle.rv_link_laws.specs.Names.{Export, defined_address, export_address, is_export, exports_in, exports_from, chosen, is_chosen}

@@ -1,8 +1,8 @@
 -- What names mean does not depend on where definitions stand, nor on which sections are dropped.
 
 use Rattle.std.proofs.Common.{◌≡◌, ℕ, suc, List, [], ◌∷◌, map, refl, subst, sym, ap, ◌∙◌}
-use Rattle.rv_map.specs.Globals.{AreDistinct}
-use Rattle.rv_map.specs.declared.map.SectionId.{SectionId}
+use Rattle.rv_map_laws.specs.Globals.{AreDistinct}
+use Rattle.rv_map_laws.specs.declared.map.SectionId.{SectionId}
 use Rattle.rv_object_laws.specs.Object.{Object}
 use Rattle.rv_object_laws.specs.Bindings.{is_global}
 use Rattle.rv_link_laws.specs.Names.{global_names}

@@ -3,8 +3,8 @@
 use Rattle.std.proofs.Common.{◌≡◌, ◌<◌, ◌^◌, List, [], ◌∷◌, ◌++◌, All}
 use Rattle.std.proofs.lemmas.List.Elements.{All-same, All-push}
 use Rattle.rv_map.specs.declared.map.Global.{Global}
-use Rattle.rv_map.specs.Limits.{IsGlobal}
-use Rattle.rv_map.specs.Map.{global_of}
+use Rattle.rv_map_laws.specs.Limits.{IsGlobal}
+use Rattle.rv_map.specs.Views.{global_of}
 
 abbrev IsKnown : Global → Type 0
 IsKnown g = IsGlobal (global_of g)

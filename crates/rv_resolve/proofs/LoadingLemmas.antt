@@ -1,7 +1,7 @@
 -- The table while definitions come to it: one symbol more of a file, and one file more.
 
 use Rattle.std.proofs.Common.{◌≡◌, ◌<◌, ◌+◌, ℕ, suc, Bool, List, [], ◌++◌, length, map, drop, get_or, sym, ap, subst, ◌∙◌, append_assoc, append-nil, arith}
-use Rattle.rv_map.specs.Globals.{AreDistinct}
+use Rattle.rv_map_laws.specs.Globals.{AreDistinct}
 use Rattle.rv_object_types.specs.declared.object.Object.{Object as DeclaredObject}
 use Rattle.rv_object_laws.specs.declared.symbol.Binding.{Binding}
 use Rattle.rv_object_types.specs.declared.symbol.Symbol.{Symbol as DeclaredSymbol}

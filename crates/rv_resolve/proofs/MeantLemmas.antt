@@ -3,8 +3,8 @@
 use Rattle.std.proofs.Common.{◌≡◌, ◌+◌, ℕ, Bool, true, false, Option, Some, None, option_map, List, slice_get, refl, sym, ap, ◌∙◌}
 use Rattle.std.specs.Prelude.{option_and_then, if◌then◌else◌}
 use Rattle.std.specs.Option.{option_or}
-use Rattle.rv_map.specs.Globals.{global_address, linker_symbols}
-use Rattle.rv_map.specs.Map.{Map}
+use Rattle.rv_map_laws.specs.Globals.{global_address, linker_symbols}
+use Rattle.rv_map_laws.specs.Map.{Map}
 use Rattle.rv_object_laws.specs.Object.{Symbol, Object}
 use Rattle.rv_link_laws.specs.Inputs.{Starts}
 use Rattle.rv_object_laws.specs.Bindings.{is_weak}

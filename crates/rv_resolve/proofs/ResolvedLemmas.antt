@@ -4,8 +4,8 @@ use Rattle.std.proofs.Common.{◌≡◌, ℕ, suc, Bool, true, false, Option, So
 use Rattle.std.specs.Prelude.{IsTrue, ◌||◌, option_and_then, if◌then◌else◌}
 use Rattle.std.specs.List.{AllByRecursion}
 use Rattle.std.specs.Option.{option_or}
-use Rattle.rv_map.specs.Globals.{global_address, is_one_of, linker_symbols}
-use Rattle.rv_map.specs.Map.{Map}
+use Rattle.rv_map_laws.specs.Globals.{global_address, is_one_of, linker_symbols}
+use Rattle.rv_map_laws.specs.Map.{Map}
 use Rattle.rv_object_laws.specs.declared.symbol.Definition.{Definition}
 use Rattle.rv_object_laws.specs.declared.symbol.Definition.TheVariants as definitions
 use Rattle.rv_object_laws.specs.Object.{Relocation, Section, Symbol, Object}

@@ -7,7 +7,7 @@ use Rattle.std.specs.Cmp.Lexicographic.{slice_cmp}
 use Rattle.std.specs.Global.{Vec}
 use Rattle.std.specs.List.{slice_get}
 use Rattle.std.specs.Ordering.{nat_cmp}
-use Rattle.rv_map.specs.Globals.{AreDistinct}
+use Rattle.rv_map_laws.specs.Globals.{AreDistinct}
 use Rattle.rv_object_laws.specs.Object.{Symbol, Object}
 use Rattle.rv_link_laws.specs.Names.{Export, chosen, global_names, is_sure, Place}
 use Rattle.rv_resolve.specs.declared.fault.ResolveFault.{ResolveFault}

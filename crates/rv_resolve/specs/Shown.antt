@@ -2,8 +2,8 @@
 
 use Rattle.std.specs.Prelude.{ℕ, ◌+◌, Bool, ◌&&◌, List, [], ◌∷◌, Option, Some, None, filter, flat_map}
 use Rattle.std.specs.Borrow.{Bor}
-use Rattle.rv_map.specs.Globals.{global, shown}
-use Rattle.rv_map.specs.Map.{Global}
+use Rattle.rv_map_laws.specs.Globals.{global, shown}
+use Rattle.rv_map_laws.specs.Map.{Global}
 use Rattle.rv_object_laws.specs.Object.{Symbol, Object}
 use Rattle.rv_object_laws.specs.Bindings.{is_shared}
 use Rattle.rv_link_laws.specs.Names.{Export, export_address, exports_in, is_export, is_chosen}

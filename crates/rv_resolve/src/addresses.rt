@@ -6,7 +6,7 @@
 ghost use Rattle.std.specs.Prelude.{◌≡◌, ◌+◌, ℕ, List, Some, None, map, option_map, option_and_then, if◌then◌else◌};
 ghost use Rattle.std.specs.List.{slice_get};
 ghost use Rattle.std.specs.Option.{option_or};
-ghost use Rattle.rv_map.specs.Globals.{global_address, linker_symbols};
+ghost use Rattle.rv_map_laws.specs.Globals.{global_address, linker_symbols};
 ghost use Rattle.rv_object_laws.specs.Object.{Object as SaidObject, Symbol as SaidSymbol};
 ghost use Rattle.rv_object_types.specs.View.{object_of};
 ghost use Rattle.rv_object_laws.specs.Bindings as bindings;

@@ -1,7 +1,7 @@
 //! The definitions of objects that names mean in all files.
 
 ghost use Rattle.std.specs.Prelude.{List, ◌++◌, map, IfOk, IfErr, OnOk};
-ghost use Rattle.rv_map.specs.Globals.{AreDistinct};
+ghost use Rattle.rv_map_laws.specs.Globals.{AreDistinct};
 ghost use Rattle.rv_object_types.specs.Parts.{symbol_of};
 ghost use Rattle.rv_object_types.specs.View.{object_of};
 ghost use Rattle.rv_object_laws.specs.Bindings.{is_global, is_weak};

@@ -2,10 +2,10 @@
 
 ghost use Rattle.std.specs.Prelude.{◌≡◌, ◌++◌, ◌+◌, ◌<◌, ◌^◌, ℕ, IsTrue, List, [], ◌∷◌, Some, All, map, not, filter, is_some, option_map, IfOk, IfSome, OnOk};
 ghost use Rattle.std.specs.List.{slice_get};
-ghost use Rattle.rv_map.specs.Globals.{global};
-ghost use Rattle.rv_map.specs.Limits.{IsGlobal};
-ghost use Rattle.rv_map.specs.Map.{global_of};
-ghost use Rattle.rv_map.specs.Name.{is_name};
+ghost use Rattle.rv_map_laws.specs.Globals.{global};
+ghost use Rattle.rv_map_laws.specs.Limits.{IsGlobal};
+ghost use Rattle.rv_map.specs.Views.{global_of};
+ghost use Rattle.rv_map_laws.specs.Name.{is_name};
 ghost use Rattle.rv_object_laws.specs.Object.{Object as SaidObject, Symbol as SaidSymbol};
 ghost use Rattle.rv_object_types.specs.Parts.{symbol_of};
 ghost use Rattle.rv_link_laws.specs.Moves.{Move};

@@ -9,7 +9,7 @@
 
 ghost use Rattle.std.specs.Prelude.{◌≡◌, false, Some, map, option_map, codes, IfOk, IfErr};
 ghost use Rattle.std.specs.List.{slice_get};
-ghost use Rattle.rv_map.specs.Globals.{AreDistinct};
+ghost use Rattle.rv_map_laws.specs.Globals.{AreDistinct};
 ghost use Rattle.rv_object_laws.specs.Object.{Object as SaidObject, Symbol as SaidSymbol};
 ghost use Rattle.rv_object_types.specs.View.{object_of};
 ghost use Rattle.rv_link_laws.specs.Names.{Export, chosen, global_names, is_sure as means_own};

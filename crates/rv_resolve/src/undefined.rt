@@ -5,8 +5,8 @@
 
 ghost use Rattle.std.specs.Prelude.{◌≡◌, ◌++◌, Some, None, false, List, map, option_map, IfNone};
 ghost use Rattle.std.specs.List.{slice_get};
-ghost use Rattle.rv_map.specs.Globals.{is_one_of};
-ghost use Rattle.rv_map.specs.Map.{Map};
+ghost use Rattle.rv_map_laws.specs.Globals.{is_one_of};
+ghost use Rattle.rv_map_laws.specs.Map.{Map};
 ghost use Rattle.rv_object_laws.specs.Object.{Object as SaidObject, Symbol as SaidSymbol};
 ghost use Rattle.rv_object_types.specs.Parts.{relocation_of, symbol_of};
 ghost use Rattle.rv_link_laws.specs.Inputs.{Starts};

@@ -9,7 +9,7 @@ use Rattle.rv_statement.specs.Statement.{Statement}
 use Rattle.rv_unit_laws.specs.Sections.{Section, goes_to_text}
 use Rattle.rv_unit_laws.specs.Tables.{Tables, tables, alignment_at, alignments_of}
 use Rattle.rv_unit_laws.proofs.GrownLemmas.{IsPower, ArePowers, grown_all}
-use Rattle.rv_map.specs.declared.map.SectionId.{SectionId}
+use Rattle.rv_map_laws.specs.declared.map.SectionId.{SectionId}
 use Rattle.rv_collect_laws.specs.Graph.{is_dropped}
 use Rattle.rv_source_laws.specs.Located.{without_address}
 use Rattle.rv_source_laws.specs.Program.{Mapped}

@@ -14,7 +14,7 @@ use Rattle.rv_compress.specs.Parcel.{StandsFor}
 use Rattle.rv_isa_laws.specs.Memory.{Mem}
 use Rattle.rv_isa_laws.specs.Reader.{Reader}
 use Rattle.rv_statement.specs.Statement.{Statement}
-use Rattle.rv_map.specs.declared.map.Row.{Row}
+use Rattle.rv_map_laws.specs.declared.map.Row.{Row}
 use Rattle.rv_image_laws.specs.Linked.{Linked}
 use Rattle.rv_image_laws.specs.Executable.{linked_image}
 use Rattle.rv_image_laws.specs.Memory.{mem_of}

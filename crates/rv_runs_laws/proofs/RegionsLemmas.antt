@@ -12,8 +12,8 @@ use Rattle.std.specs.List.{AllByRecursion, list_any}
 use Rattle.rv_layout_laws.specs.Alignment.{aligned}
 use Rattle.rv_isa_laws.specs.Bytes.{zeros}
 use Rattle.rv_isa_laws.specs.Memory.{Mem}
-use Rattle.rv_map.specs.declared.map.Row.{Row}
-use Rattle.rv_map.specs.declared.map.Region.{Region}
+use Rattle.rv_map_laws.specs.declared.map.Row.{Row}
+use Rattle.rv_map_laws.specs.declared.map.Region.{Region}
 use Rattle.rv_source_laws.specs.Program.{Mapped}
 use Rattle.rv_source_laws.specs.Fits.{InputSection, rows_of, Follow, size, Stand, layout_end, gaps_of}
 use Rattle.rv_source_laws.specs.Start.{is_within, is_in}

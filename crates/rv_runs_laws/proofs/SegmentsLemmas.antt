@@ -7,7 +7,7 @@ use Rattle.std.proofs.lemmas.List.{append-nil}
 use Rattle.std.specs.Prelude.{◌&&◌, ◌==◌, not, nat_le, if◌then◌else◌}
 use Rattle.std.specs.List.{AllByRecursion, find}
 use Rattle.rv_isa_laws.specs.Memory.{Mem}
-use Rattle.rv_map.specs.declared.map.Row.{Row}
+use Rattle.rv_map_laws.specs.declared.map.Row.{Row}
 use Rattle.rv_elf.specs.Numbers.{pf_x}
 use Rattle.rv_image_laws.specs.Linked.{Linked}
 use Rattle.rv_image_laws.specs.Segment.{Segment}

@@ -13,10 +13,10 @@ use Rattle.rv_unit_laws.specs.Contributions.{Contribution, Nothing, Bytes, Zero_
 use Rattle.rv_unit_laws.specs.Sections.{Section, goes_to_text, goes_to_rodata, goes_to_data, goes_to_bss}
 use Rattle.rv_unit_laws.specs.Tables.{Tables, tables, alignment_of, padding, opened_of, alignment_at}
 use Rattle.rv_unit_laws.specs.Faults.{first_unit_fault}
-use Rattle.rv_map.specs.Map.{Map}
-use Rattle.rv_map.specs.declared.map.Row.{Row}
-use Rattle.rv_map.specs.declared.map.Region.{Region}
-use Rattle.rv_map.specs.declared.map.SectionId.{SectionId}
+use Rattle.rv_map_laws.specs.Map.{Map}
+use Rattle.rv_map_laws.specs.declared.map.Row.{Row}
+use Rattle.rv_map_laws.specs.declared.map.Region.{Region}
+use Rattle.rv_map_laws.specs.declared.map.SectionId.{SectionId}
 use Rattle.rv_collect_laws.specs.Graph.{is_dropped}
 use Rattle.rv_source_laws.specs.Located.{Located, left, has_row, without_address}
 use Rattle.rv_source_laws.specs.Program.{Mapped, Program, program, form, has_values}

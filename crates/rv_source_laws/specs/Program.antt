@@ -5,7 +5,7 @@
 use Rattle.std.specs.Prelude.{ℕ, ◌-◌, Bool, true, false, ◌&&◌, ◌==◌, if◌then◌else◌, List, [], ◌∷◌, ◌++◌, drop, filter, flat_map, map, Option, Some, None, is_some, option_map, option_and_then, unwrap_or, not, bytes_eq, slice_index_or}
 use Rattle.std.specs.List.{find, list_all}
 use Rattle.std.specs.Option.{option_or}
-use Rattle.rv_map.specs.Globals.{global_address}
+use Rattle.rv_map_laws.specs.Globals.{global_address}
 use Rattle.rv_text_laws.specs.Expression.{Primary, Symbol}
 use Rattle.rv_text_laws.specs.Values.{Value, Constant, Symbolic, Difference, Faulty, add, subtract}
 use Rattle.rv_statement.specs.Statement.{StatementKind, Label, Numbered, Instruction, Directs, Statement, Expression, Operand, Value as Of_value, Applied, Target}
@@ -14,8 +14,8 @@ use Rattle.rv_statement.specs.declared.directive.Binding.{Binding}
 use Rattle.rv_unit_laws.specs.Bindings.{is_shared, is_global, is_weak}
 use Rattle.rv_unit_laws.specs.Contributions.{Numbers, Contribution, Bytes, Zero_bytes, Alignment, contribution}
 use Rattle.rv_unit_laws.specs.Tables.{Tables, SectionOffset, Definition, tables, at_start, definition, sure_definition, value_by_tables as value_in_file}
-use Rattle.rv_map.specs.Map.{Map}
-use Rattle.rv_map.specs.declared.map.Row.{Row}
+use Rattle.rv_map_laws.specs.Map.{Map}
+use Rattle.rv_map_laws.specs.declared.map.Row.{Row}
 use Rattle.rv_source_laws.specs.Located.{Located, left, has_row}
 use Rattle.rv_source_laws.specs.Exports.{names_where}
 

@@ -2,13 +2,13 @@
 -- ".global" and ".weak").
 
 use Rattle.std.specs.Prelude.{◌≡◌, ℕ, ◌%◌, Bool, true, false, not, ◌&&◌, List, ◌++◌, filter, flat_map, map, Option, Some, None, is_some, option_and_then, codes, if◌then◌else◌}
-use Rattle.rv_map.specs.Globals.{AreDistinct, shown, linker_symbols}
+use Rattle.rv_map_laws.specs.Globals.{AreDistinct, shown, linker_symbols}
 use Rattle.rv_text_laws.specs.Values.{Known, InSection, Open, Refused}
 use Rattle.rv_statement.specs.Statement.{StatementKind, Label, Directs, Statement, Sets}
 use Rattle.rv_unit_laws.specs.Bindings.{is_global}
 use Rattle.rv_unit_laws.specs.Sections.{goes_to_text}
 use Rattle.rv_unit_laws.specs.Tables.{Tables, Assignment, assigned_ever}
-use Rattle.rv_map.specs.Map.{Map, Global}
+use Rattle.rv_map_laws.specs.Map.{Map, Global}
 use Rattle.rv_source_laws.specs.Program.{MaybeMapped, Program, Export, program, tables_in, exports_where, chosen, chosen_exports, address_of, home_address}
 
 -- ---- definitions

@@ -15,7 +15,7 @@ use Rattle.rv_unit_laws.specs.Tables.{Tables, Assignment, Definition, assigned_e
 use Rattle.rv_layout_laws.specs.declared.site.Site.{Site}
 use Rattle.rv_layout_laws.specs.declared.site.SiteKind.TheVariants as sites
 use Rattle.rv_layout_laws.specs.Calls.{IsGreatestClosed}
-use Rattle.rv_map.specs.Map.{Map}
+use Rattle.rv_map_laws.specs.Map.{Map}
 use Rattle.rv_source_laws.specs.Located.{Located}
 use Rattle.rv_source_laws.specs.Compressed.{is_compressed_code}
 use Rattle.rv_source_laws.specs.Program.{Mapped, Program, Export, program, tables_in, chosen, form}

@@ -9,8 +9,8 @@ use Rattle.rv_statement.specs.Statement.{StatementKind, Instruction, Directs, St
 use Rattle.rv_text_laws.specs.Values.{Value}
 use Rattle.rv_unit_laws.specs.Contributions.{Contribution, Alignment, contribution}
 use Rattle.rv_unit_laws.specs.Tables.{tables, at_start, alignment_of}
-use Rattle.rv_map.specs.Map.{Map}
-use Rattle.rv_map.specs.declared.map.Row.{Row}
+use Rattle.rv_map_laws.specs.Map.{Map}
+use Rattle.rv_map_laws.specs.declared.map.Row.{Row}
 use Rattle.rv_source_laws.specs.Located.{Located, located_from}
 use Rattle.rv_source_laws.specs.Program.{MaybeMapped, Program, program, form}
 use Rattle.rv_source_laws.specs.Sizes.{code_padding, AreLeast}

@@ -12,9 +12,9 @@ use Rattle.rv_unit_laws.specs.declared.section_type.SectionType.TheVariants as t
 use Rattle.rv_unit_laws.specs.Sections.{Section as SourceSection, is_nobits_type, is_nobits, goes_to_text, goes_to_rodata, goes_to_data, goes_to_bss}
 use Rattle.rv_unit_laws.specs.Tables.{Tables, tables, at_start, opened_of}
 use Rattle.rv_unit_laws.specs.Faults.{first_unit_fault}
-use Rattle.rv_map.specs.declared.map.Row.{Row as MapRow}
-use Rattle.rv_map.specs.declared.map.SectionId.{SectionId}
-use Rattle.rv_map.specs.Limits.{IsRow}
+use Rattle.rv_map_laws.specs.declared.map.Row.{Row as MapRow}
+use Rattle.rv_map_laws.specs.declared.map.SectionId.{SectionId}
+use Rattle.rv_map_laws.specs.Limits.{IsRow}
 use Rattle.rv_collect_laws.specs.Graph.{AreDrops}
 use Rattle.rv_source_laws.specs.Collected.{graph_of}
 use Rattle.rv_source_laws.specs.Located.{Located, has_row, left_of, located_of}

@@ -13,9 +13,9 @@ use Rattle.rv_statement.specs.declared.directive.Binding.TheVariants as bindings
 use Rattle.rv_statement.specs.Statement.{StatementKind, Label, Instruction, Directs, Statement, Expression, Enters, Opens, Binds, Sets, Aligns_to_bytes, Chooses, Values}
 use Rattle.rv_unit_laws.specs.Tables.{at_start}
 use Rattle.rv_source_laws.specs.Located.{Located, located_from}
-use Rattle.rv_map.specs.Map.{Map, Global as Shown}
-use Rattle.rv_map.specs.declared.map.Row.{Row as MapRow}
-use Rattle.rv_map.specs.declared.map.Region.{Region}
+use Rattle.rv_map_laws.specs.Map.{Map, Global as Shown}
+use Rattle.rv_map_laws.specs.declared.map.Row.{Row as MapRow}
+use Rattle.rv_map_laws.specs.declared.map.Region.{Region}
 use Rattle.rv_image_laws.specs.Linked.{Linked}
 use Rattle.rv_object_laws.specs.declared.row.Row.{Row}
 use Rattle.rv_object_laws.specs.declared.symbol.Binding.{Binding}

@@ -1,7 +1,7 @@
 //! The law that joins assembling and linking.
 
 ghost use Rattle.std.specs.Prelude.{Bool, List};
-ghost use Rattle.rv_map.specs.declared.map.SectionId.{SectionId};
+ghost use Rattle.rv_map_laws.specs.declared.map.SectionId.{SectionId};
 ghost use Rattle.rv_collect_laws.specs.Graph.{AreDrops};
 ghost use Rattle.rv_statement.specs.Statement.{Statement};
 ghost use Rattle.rv_source_laws.specs.Collected.{graph_of};

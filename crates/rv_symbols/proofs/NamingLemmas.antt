@@ -6,7 +6,7 @@ use Rattle.std.specs.List.{list_all}
 use Rattle.std.proofs.lemmas.Bool.{and_parts, and_from}
 use Rattle.std.proofs.lemmas.List.Folds.{list_any-append}
 use Rattle.rv_statement.specs.Statement.{StatementKind, Label, Directs, Sets}
-use Rattle.rv_map.specs.Name.{is_name, is_name_byte}
+use Rattle.rv_map_laws.specs.Name.{is_name, is_name_byte}
 use Rattle.rv_source_laws.specs.Exports.{sets_first, defined_name}
 use Rattle.rv_unit_laws.specs.Tables.{Tables}
 use Rattle.rv_object_laws.specs.declared.symbol.Definition.{Definition as Defined}

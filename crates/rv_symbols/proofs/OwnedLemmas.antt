@@ -5,7 +5,7 @@ use Rattle.std.proofs.lemmas.Bool.{or_right, or_left}
 use Rattle.std.specs.Prelude.{◌||◌, not, filter, flat_map, slice_get, unwrap_or, if◌then◌else◌}
 use Rattle.std.specs.List.{AllByRecursion, list_any}
 use Rattle.std.specs.Str.{bytes_eq}
-use Rattle.rv_map.specs.Globals.{is_one_of}
+use Rattle.rv_map_laws.specs.Globals.{is_one_of}
 use Rattle.rv_text_laws.specs.Expression.{Symbol as Named}
 use Rattle.rv_statement.specs.declared.directive.Binding.{Binding}
 use Rattle.rv_statement.specs.declared.directive.Binding.TheVariants.{Local, Global, Weak}

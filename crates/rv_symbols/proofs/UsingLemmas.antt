@@ -7,8 +7,8 @@ use Rattle.std.specs.Borrow.{Bor}
 use Rattle.std.specs.List.{list_any}
 use Rattle.std.specs.Str.{bytes_eq}
 use Rattle.std.proofs.lemmas.List.Folds.{list_any-append, list_all-append}
-use Rattle.rv_map.specs.Globals.{is_one_of}
-use Rattle.rv_map.specs.Name.{is_name}
+use Rattle.rv_map_laws.specs.Globals.{is_one_of}
+use Rattle.rv_map_laws.specs.Name.{is_name}
 use Rattle.rv_assemble_laws.specs.ShownNames.{primary_names, used_names, are_shown}
 use Rattle.rv_text_laws.specs.Expression.{Primary, Literal, Symbol as Named, Here, Reference}
 use Rattle.rv_statement.specs.View.{now_of}

@@ -6,7 +6,7 @@ ghost use Rattle.rv_unit_laws.specs.Bindings.{is_shared};
 ghost use Rattle.rv_unit_laws.specs.Tables.{tables, assigned_ever};
 ghost use Rattle.rv_unit_tables.specs.Tables.{assignment_of};
 ghost use Rattle.rv_unit.specs.Unit.{said, IsFilled};
-ghost use Rattle.rv_map.specs.Name.{is_name};
+ghost use Rattle.rv_map_laws.specs.Name.{is_name};
 ghost use Rattle.rv_object_laws.specs.Valid.{is_shown};
 ghost use Rattle.rv_source_laws.specs.Exports.{sets_first, defined_name};
 ghost use Rattle.rv_assemble_laws.specs.LaidStatements.{LaidStatement};

@@ -6,7 +6,7 @@ use Rattle.std.specs.Fmt.{decimal}
 use Rattle.std.specs.List.{slice_get}
 use Rattle.std.specs.Option.{option_map_or}
 use Rattle.hex.specs.Hex.{encode_lower}
-use Rattle.rv_map.specs.Name.{is_name_byte}
+use Rattle.rv_map_laws.specs.Name.{is_name_byte}
 use Rattle.rv_lexer.specs.declared.fault.SourceFault.{SourceFault}
 use Rattle.rv_lexer.specs.declared.fault.SourceFault.TheVariants.{At, OutOfMemory}
 use Rattle.rv_lexer.specs.Fault as sources

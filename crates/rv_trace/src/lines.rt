@@ -6,7 +6,7 @@ use crate::columns::{put, put_decimal};
 use crate::counts::Counts;
 use crate::places::Places;
 use crate::visited::VisitedInstruction;
-use rv_map::Row;
+use rv_map_laws::Row;
 use std::alloc::{AllocError, Global};
 
 /// An address and how often the instruction there was executed.

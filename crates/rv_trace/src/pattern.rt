@@ -240,7 +240,7 @@ fn put_rest(
 pub(crate) fn put_line(
     text: &mut Vec<u8>,
     places: &Places<'_>,
-    row: &rv_map::Row,
+    row: &rv_map_laws::Row,
 ) -> Result<(), AllocError> {
     crate::lines::put_file(text, places, row.file)?;
     text.push(b':')?;

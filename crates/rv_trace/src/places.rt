@@ -5,7 +5,8 @@
 //! statement after it.
 
 use rv_lexer::SourceFault;
-use rv_map::{Map, Region, Row};
+use rv_map::Map;
+use rv_map_laws::{Region, Row};
 use rv_parse::parse_compact;
 use rv_statement::{StatementKind, Statements};
 use std::alloc::{AllocError, Global};

@@ -5,7 +5,7 @@ use Rattle.std.specs.Prelude.{◌⊎◌, not, ◌&&◌, nat_lt, if◌then◌else
 use Rattle.std.specs.List.{AllByRecursion, slice_get}
 use Rattle.rv_layout_laws.specs.Alignment.{aligned}
 use Rattle.rv_isa_laws.specs.Bytes.{zeros}
-use Rattle.rv_map.specs.declared.map.Region.{Region}
+use Rattle.rv_map_laws.specs.declared.map.Region.{Region}
 use Rattle.rv_object_laws.specs.Object.{Section, Object, size_of}
 use Rattle.rv_link_laws.specs.Moves.{moves, new_offset}
 use Rattle.rv_link_laws.specs.Inputs.{Starts, InputSection, has_no_bytes, goes_to_text, goes_to_rodata, goes_to_data, goes_to_bss, inputs_from, inputs_of, inputs, start_of, size, Stand, sections_end, Holds, gaps_of, greatest, contents}

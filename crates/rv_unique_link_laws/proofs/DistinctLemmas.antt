@@ -5,7 +5,7 @@ use Rattle.std.specs.Prelude.{◌||◌, bytes_eq, if◌then◌else◌}
 use Rattle.std.specs.List.{AllByRecursion}
 use Rattle.std.proofs.lemmas.List.Folds.{list_any-append}
 use Rattle.std.proofs.lemmas.Slice.Eq.{bytes_eq-Decides}
-use Rattle.rv_map.specs.Globals.{is_one_of, AreDistinct}
+use Rattle.rv_map_laws.specs.Globals.{is_one_of, AreDistinct}
 use Rattle.rv_object_laws.specs.Object.{Object}
 use Rattle.rv_link_laws.specs.Names.{global_names}
 use Rattle.rv_link_laws.specs.Exports.{first_again, first_duplicate}

@@ -2,7 +2,7 @@
 
 use Rattle.std.proofs.Common.{◌≡◌, ℕ, ◌<◌, ◌≤◌, Bool, true, false, refl, sym, ◌∙◌, arith, Option, Some, None, List, [], length, inl, inr}
 use Rattle.std.specs.Prelude.{◌⊎◌}
-use Rattle.rv_map.specs.Globals.{AreDistinct}
+use Rattle.rv_map_laws.specs.Globals.{AreDistinct}
 use Rattle.rv_object_laws.specs.Object.{Object}
 use Rattle.rv_link_laws.specs.Inputs.{inputs}
 use Rattle.rv_link_laws.specs.Names.{global_names}

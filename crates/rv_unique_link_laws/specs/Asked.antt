@@ -2,7 +2,7 @@
 
 use Rattle.std.specs.Prelude.{◌≡◌, ℕ, ◌%◌, Bool, true, IsTrue, List, Some}
 use Rattle.std.specs.List.{AllByRecursion, slice_get}
-use Rattle.rv_map.specs.declared.map.SectionId.{SectionId}
+use Rattle.rv_map_laws.specs.declared.map.SectionId.{SectionId}
 use Rattle.rv_object_laws.specs.Object.{Object}
 use Rattle.rv_object_laws.specs.Valid.{is_section_alignment, fit_inside, are_paddings, are_rows}
 use Rattle.rv_link_laws.specs.Inputs.{Starts, goes_to_text, inputs, Stand}

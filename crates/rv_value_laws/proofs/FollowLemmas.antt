@@ -13,7 +13,7 @@ use Rattle.rv_text_laws.specs.Values.{Value, Constant}
 use Rattle.rv_statement.specs.Statement.{StatementKind, Label, Numbered, Instruction, Directs, Expression, Directive, Enters, Opens, Binds, Sets, Chooses, Ignored}
 use Rattle.rv_pseudo_laws.specs.Code.{Part}
 use Rattle.rv_pseudo_laws.specs.Filled.{FieldValue, filled}
-use Rattle.rv_map.specs.declared.map.Row.{Row}
+use Rattle.rv_map_laws.specs.declared.map.Row.{Row}
 use Rattle.rv_unit_laws.specs.Contributions.{Contents, Numbers, Texts, Contribution, Nothing, Bytes, Zero_bytes, Alignment, contribution}
 use Rattle.rv_unit_laws.specs.Tables.{padding, alignment_as, contribution_alignment, counted, or_none, contents_size}
 use Rattle.rv_unit_laws.proofs.GrownLemmas.{BeginsAt}

@@ -8,10 +8,10 @@ use Rattle.std.proofs.lemmas.Bool.{and_parts}
 use Rattle.rv_text_laws.specs.Bytes.{digits_value}
 use Rattle.rv_text_laws.specs.Expression.{Primary, Literal, Symbol, Here, Reference, Tree, Leaf, Unary, Paren, Binary}
 use Rattle.rv_text_laws.specs.Values.{Meaning, Known, InSection, Open, Refused, Value, Constant, Symbolic, Difference, Faulty, value_of, add, subtract}
-use Rattle.rv_map.specs.Map.{Map, Global}
-use Rattle.rv_map.specs.Limits.{IsMap}
-use Rattle.rv_map.specs.Globals.{global_address}
-use Rattle.rv_map.specs.declared.map.Row.{Row}
+use Rattle.rv_map_laws.specs.Map.{Map, Global}
+use Rattle.rv_map_laws.specs.Limits.{IsMap}
+use Rattle.rv_map_laws.specs.Globals.{global_address}
+use Rattle.rv_map_laws.specs.declared.map.Row.{Row}
 use Rattle.rv_statement.specs.Statement.{Statement, Expression}
 use Rattle.rv_statement.specs.declared.directive.Binding.{Binding}
 use Rattle.rv_unit_laws.specs.Bindings.{is_weak}

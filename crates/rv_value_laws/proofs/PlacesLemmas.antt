@@ -7,10 +7,10 @@ use Rattle.std.proofs.lemmas.Bool.{and_parts, both_ways, eq-eqb, eqb-true}
 use Rattle.std.proofs.lemmas.Nat.{pow_pos}
 use Rattle.rv_statement.specs.Statement.{Statement}
 use Rattle.rv_text_laws.specs.Values.{InSection, add}
-use Rattle.rv_map.specs.Map.{Map, Global}
-use Rattle.rv_map.specs.Limits.{IsMap, IsGlobal}
-use Rattle.rv_map.specs.declared.map.Row.{Row}
-use Rattle.rv_map.specs.declared.map.SectionId.{SectionId}
+use Rattle.rv_map_laws.specs.Map.{Map, Global}
+use Rattle.rv_map_laws.specs.Limits.{IsMap, IsGlobal}
+use Rattle.rv_map_laws.specs.declared.map.Row.{Row}
+use Rattle.rv_map_laws.specs.declared.map.SectionId.{SectionId}
 use Rattle.rv_collect_laws.specs.Graph.{is_dropped}
 use Rattle.rv_unit_laws.specs.Sections.{Section, Opened, text_section, section_at, goes_to_text, goes_to_rodata, goes_to_data, goes_to_bss, is_nobits}
 use Rattle.rv_unit_laws.specs.Tables.{Tables, SectionOffset, Definition, definition_at, Assignment, Labelled, NumericLabel, at_start, tables, opened_of, alignment_at, alignments_of, longest_section}

@@ -20,7 +20,7 @@ use Rattle.rv_compress.specs.declared.parcel.OperandShape.{OperandShape}
 use Rattle.rv_compress.specs.declared.parcel.OperandShape.TheVariants as shapes
 use Rattle.rv_compress.specs.declared.parcel.RegisterSet.TheVariants.{Short}
 use Rattle.rv_compress.specs.Mnemonics.{is_of_set as is_one_of, shape_of, form_of}
-use Rattle.rv_map.specs.declared.map.SectionId.{SectionId}
+use Rattle.rv_map_laws.specs.declared.map.SectionId.{SectionId}
 use Rattle.rv_text_laws.specs.Expression.{Primary, Here}
 use Rattle.rv_text_laws.specs.Values.{Value as AnyValue, Constant, Symbolic, Difference, Faulty}
 use Rattle.rv_statement.specs.declared.mnemonic.Mnemonic.{Mnemonic}

@@ -7,7 +7,7 @@ use Rattle.std.specs.List.{list_any}
 use Rattle.std.proofs.lemmas.Bool.{cases_eq, eq-eqb, ne_eqb, true≢false, and_right}
 use Rattle.std.proofs.lemmas.List.{map-append}
 use Rattle.std.proofs.lemmas.List.Folds.{list_any-append}
-use Rattle.rv_map.specs.declared.map.SectionId.{SectionId}
+use Rattle.rv_map_laws.specs.declared.map.SectionId.{SectionId}
 use Rattle.rv_collect_laws.specs.Graph.{is_same, is_one_of}
 use Rattle.rv_statement.specs.Statement.{Statement}
 use Rattle.rv_unit_laws.specs.Sections.{Section as SourceSection}

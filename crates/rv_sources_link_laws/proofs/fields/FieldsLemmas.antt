@@ -9,7 +9,7 @@ use Rattle.rv_isa.specs.declared.kind.Kind.TheVariants.{Abs32, Abs64, Add8, Add1
 use Rattle.rv_text_laws.specs.Expression.{Primary}
 use Rattle.rv_unit_laws.specs.Sections.{Section as SourceSection}
 use Rattle.rv_unit_laws.specs.Tables.{Tables}
-use Rattle.rv_map.specs.Limits.{IsGlobal}
+use Rattle.rv_map_laws.specs.Limits.{IsGlobal}
 use Rattle.rv_source_laws.specs.Program.{Program, tables_in, address_at}
 use Rattle.rv_source_laws.proofs.HomesLemmas.{all_filter}
 use Rattle.rv_object_laws.specs.Object.{Relocation, Section, Object}

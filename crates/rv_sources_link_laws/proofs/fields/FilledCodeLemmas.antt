@@ -21,7 +21,7 @@ use Rattle.rv_pseudo_laws.specs.Code.{Part as CodePart, Closed, Open as Open_par
 use Rattle.rv_pseudo_laws.specs.Filled.{FieldValue, are_closed}
 use Rattle.rv_unit_laws.specs.Sections.{Section as SourceSection}
 use Rattle.rv_unit_laws.specs.Tables.{Tables, Definition, definition, Labelled, label_of, first_definition, labelled_definition}
-use Rattle.rv_map.specs.Limits.{IsGlobal}
+use Rattle.rv_map_laws.specs.Limits.{IsGlobal}
 use Rattle.rv_source_laws.specs.Located.{has_row}
 use Rattle.rv_source_laws.specs.Program.{Mapped, Program, tables_in, address_at, home_address, own_address, own_value as own_value_in_map, in_operand, have_values, has_value, has_values, address as address_in, number as number_of, value as value_in_map}
 use Rattle.rv_source_laws.specs.Fits.{IsPaired}

@@ -10,7 +10,7 @@ use Rattle.rv_text_laws.specs.Expression.{Here}
 use Rattle.rv_text_laws.specs.Values.{add}
 use Rattle.rv_unit_laws.specs.Sections.{Section as SourceSection}
 use Rattle.rv_unit_laws.specs.Tables.{Tables, Definition}
-use Rattle.rv_map.specs.Limits.{IsGlobal}
+use Rattle.rv_map_laws.specs.Limits.{IsGlobal}
 use Rattle.rv_source_laws.specs.Located.{has_row}
 use Rattle.rv_source_laws.specs.Program.{Mapped, Program, tables_in, address_at, home_address}
 use Rattle.rv_source_laws.specs.Fits.{mapped_in}

@@ -14,7 +14,7 @@ use Rattle.rv_source_laws.specs.Located.{Located, without_address}
 use Rattle.rv_source_laws.specs.Program.{Program}
 use Rattle.rv_source_laws.specs.Fits as source
 use Rattle.rv_source_laws.proofs.HomesLemmas.{all_filter}
-use Rattle.rv_map.specs.declared.map.SectionId.{SectionId}
+use Rattle.rv_map_laws.specs.declared.map.SectionId.{SectionId}
 use Rattle.rv_collect_laws.specs.Graph.{is_dropped}
 use Rattle.rv_object_laws.specs.Object.{Section, Object, size_of}
 use Rattle.rv_link_laws.specs.Inputs.{Starts, InputSection, goes_to_text, inputs_from, inputs_of, begins_at}

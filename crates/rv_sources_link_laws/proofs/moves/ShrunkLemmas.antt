@@ -20,7 +20,7 @@ use Rattle.rv_assemble_laws.specs.Coded.{is_constant, constants, IsCode}
 use Rattle.rv_assemble_laws.specs.Refusals.{statements_fault}
 use Rattle.rv_assemble_laws.specs.Symbols.{exports}
 use Rattle.rv_assemble_laws.specs.Templates.{Template, Fixed, IsTemplate, contents_templates}
-use Rattle.rv_map.specs.declared.map.SectionId.{SectionId}
+use Rattle.rv_map_laws.specs.declared.map.SectionId.{SectionId}
 use Rattle.rv_collect_laws.specs.Graph.{is_dropped}
 use Rattle.rv_sources_link_laws.proofs.sections.MaskedLemmas.{source_sections}
 use Rattle.rv_sources_link_laws.proofs.statements.MarkedLemmas.{part_fields}

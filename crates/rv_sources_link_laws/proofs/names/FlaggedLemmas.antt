@@ -8,7 +8,7 @@ use Rattle.rv_statement.specs.Statement.{Statement}
 use Rattle.rv_unit_laws.specs.Tables.{at_start}
 use Rattle.rv_source_laws.specs.Located.{located_from, located_of}
 use Rattle.rv_source_laws.specs.Compressed.{is_compressed_code}
-use Rattle.rv_map.specs.declared.map.SectionId.{SectionId}
+use Rattle.rv_map_laws.specs.declared.map.SectionId.{SectionId}
 use Rattle.rv_object_laws.specs.Object.{Object}
 use Rattle.rv_link_laws.specs.Shortened.{Sizes, sizes_by, shortened_from, Relaxes}
 use Rattle.rv_link_laws.specs.Without.{without, without_from}

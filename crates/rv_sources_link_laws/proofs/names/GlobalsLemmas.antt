@@ -7,7 +7,7 @@ use Rattle.rv_text_laws.specs.Values.{Meaning, Known, InSection as InData, Open 
 use Rattle.rv_statement.specs.Statement.{StatementKind, Label, Numbered, Instruction, Directs, Statement, Enters, Sets}
 use Rattle.rv_unit_laws.specs.Sections.{Section as SourceSection}
 use Rattle.rv_unit_laws.specs.Tables.{Tables, Assignment, tables, assigned_ever, is_location}
-use Rattle.rv_map.specs.Limits.{IsRow}
+use Rattle.rv_map_laws.specs.Limits.{IsRow}
 use Rattle.rv_source_laws.specs.Located.{has_row}
 use Rattle.rv_source_laws.specs.Exports.{defined_name}
 use Rattle.rv_source_laws.specs.Program as source

@@ -3,8 +3,8 @@
 use Rattle.std.proofs.Common.{◌≡◌, ℕ, Bool, List, ◌++◌, sym, ap, ◌∙◌, subst, Some}
 use Rattle.std.specs.Prelude.{not, filter, codes, option_and_then}
 use Rattle.std.specs.List.{AllByRecursion}
-use Rattle.rv_map.specs.Globals.{AreDistinct, shown, linker_symbols}
-use Rattle.rv_map.specs.Limits.{IsRow}
+use Rattle.rv_map_laws.specs.Globals.{AreDistinct, shown, linker_symbols}
+use Rattle.rv_map_laws.specs.Limits.{IsRow}
 use Rattle.rv_statement.specs.Statement.{Statement}
 use Rattle.rv_source_laws.specs.Program as source
 use Rattle.rv_source_laws.specs.Program.{Program, program}

@@ -4,14 +4,14 @@ use Rattle.std.proofs.Common.{◌≡◌, ℕ, ◌+◌, ◌-◌, ◌%◌, ◌<◌
 use Rattle.std.specs.Prelude.{◌^◌, not, ◌&&◌, ◌==◌, if◌then◌else◌, is_some, unwrap_or, option_map, option_and_then, bytes_eq}
 use Rattle.std.specs.List.{AllByRecursion, find, slice_get}
 use Rattle.std.specs.Option.{option_or}
-use Rattle.rv_map.specs.Globals.{global_address}
+use Rattle.rv_map_laws.specs.Globals.{global_address}
 use Rattle.rv_text_laws.specs.Expression.{Primary, Symbol as Named, Literal, Here, Reference}
 use Rattle.rv_text_laws.specs.Values.{add}
 use Rattle.rv_unit_laws.specs.Sections.{Section as SourceSection}
 use Rattle.rv_unit_laws.specs.Bindings.{is_weak as is_weak_name}
 use Rattle.rv_unit_laws.specs.Tables.{Tables, Definition, definition, gives_way, sure_definition}
-use Rattle.rv_map.specs.Map.{Global as MapGlobal}
-use Rattle.rv_map.specs.Limits.{IsGlobal}
+use Rattle.rv_map_laws.specs.Map.{Global as MapGlobal}
+use Rattle.rv_map_laws.specs.Limits.{IsGlobal}
 use Rattle.rv_source_laws.specs.Program.{MaybeMapped, Program, tables_in, chosen, address_at, address_by, home_address, unshown_address, outer_address as outer_address_in}
 use Rattle.rv_object_laws.specs.Object.{Section, Symbol, Object}
 use Rattle.rv_link_laws.specs.Moves.{alignments_of, moves, plan, new_offset}

@@ -6,8 +6,8 @@ use Rattle.std.specs.List.{find, slice_get}
 use Rattle.rv_statement.specs.Statement.{Statement}
 use Rattle.rv_unit_laws.specs.Sections.{Section as SourceSection}
 use Rattle.rv_unit_laws.specs.Tables.{Tables, tables, at_start, after}
-use Rattle.rv_map.specs.Map.{Map}
-use Rattle.rv_map.specs.declared.map.Row.{Row as MapRow}
+use Rattle.rv_map_laws.specs.Map.{Map}
+use Rattle.rv_map_laws.specs.declared.map.Row.{Row as MapRow}
 use Rattle.rv_source_laws.specs.Located.{has_row, left, masked, located_now, located_from}
 use Rattle.rv_source_laws.specs.Program.{Program, program, tables_in, address_at, mapped_of, mapped_statements}
 use Rattle.rv_source_laws.specs.Lines.{statement_section}

@@ -9,9 +9,9 @@ use Rattle.rv_unit_laws.specs.declared.section_type.SectionType.{SectionType}
 use Rattle.rv_unit_laws.specs.declared.section_type.SectionType.TheVariants as types
 use Rattle.rv_unit_laws.specs.Sections.{Section as SourceSection}
 use Rattle.rv_unit_laws.specs.Tables.{Tables}
-use Rattle.rv_map.specs.declared.map.Region.{Region}
-use Rattle.rv_map.specs.declared.map.SectionId.{SectionId}
-use Rattle.rv_map.specs.Limits.{IsGlobal}
+use Rattle.rv_map_laws.specs.declared.map.Region.{Region}
+use Rattle.rv_map_laws.specs.declared.map.SectionId.{SectionId}
+use Rattle.rv_map_laws.specs.Limits.{IsGlobal}
 use Rattle.rv_collect_laws.specs.Graph.{is_dropped}
 use Rattle.rv_source_laws.specs.Located.{without_address, has_row}
 use Rattle.rv_source_laws.specs.Program.{Mapped, Program, tables_in, address_at}

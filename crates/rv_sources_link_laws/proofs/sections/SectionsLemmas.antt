@@ -13,7 +13,7 @@ use Rattle.rv_text_laws.specs.Values.{Value, Constant, Symbolic, Difference, Fau
 use Rattle.rv_statement.specs.Statement.{StatementKind, Label, Numbered, Instruction, Directs, Expression, Enters, Opens, Binds, Sets, Aligns_to_power, Aligns_to_bytes, Values, Strings, Zeros, Chooses, Ignored}
 use Rattle.rv_pseudo_laws.specs.Code.{Part as CodePart, code as code_parts}
 use Rattle.rv_unit_laws.specs.Tables.{Tables, alignment_of, sure_definition, string_bytes}
-use Rattle.rv_map.specs.declared.map.Row.{Row as MapRow}
+use Rattle.rv_map_laws.specs.declared.map.Row.{Row as MapRow}
 use Rattle.rv_source_laws.specs.Program.{Mapped, Program, tables_in, address_by, resolved, number as number_of}
 use Rattle.rv_source_laws.specs.Start.{spelled_said}
 use Rattle.rv_source_laws.proofs.HeldLemmas.{IsHeld}

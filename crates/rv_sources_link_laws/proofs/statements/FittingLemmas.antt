@@ -22,7 +22,7 @@ use Rattle.rv_pseudo_laws.specs.Filled.{FieldValue, filled, are_closed, AreTaken
 use Rattle.rv_unit_laws.specs.Options.{Options}
 use Rattle.rv_unit_laws.specs.Sections.{Section}
 use Rattle.rv_unit_laws.specs.Tables.{alignment_of, padding}
-use Rattle.rv_map.specs.declared.map.Row.{Row}
+use Rattle.rv_map_laws.specs.declared.map.Row.{Row}
 use Rattle.rv_source_laws.specs.Program.{Mapped, Program, form, address, resolved, number, has_values, expressions}
 use Rattle.rv_source_laws.specs.Lines.{Line, parts, form_at, padding_parts, field_value, expansion, other_operand}
 use Rattle.rv_source_laws.specs.Fits.{SizeFits, CodeFits, IsRowOf, IsPaddingIn, IsPaired, needs_no_padding}

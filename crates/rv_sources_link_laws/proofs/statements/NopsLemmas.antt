@@ -13,7 +13,7 @@ use Rattle.rv_compress.specs.Parcel.{IsShortOf}
 use Rattle.rv_pseudo_laws.specs.Code.{Closed}
 use Rattle.rv_pseudo_laws.specs.Filled.{FieldValue, filled}
 use Rattle.rv_compress.specs.Encoded.{IsEncodedIn}
-use Rattle.rv_map.specs.declared.map.Row.{Row}
+use Rattle.rv_map_laws.specs.declared.map.Row.{Row}
 use Rattle.rv_source_laws.specs.Lines.{Line, Lie, no_operation, padding_parts}
 use Rattle.rv_source_laws.specs.Fits.{IsRowOf}
 use Rattle.rv_chain_laws.specs.Contents.{ArePadding, AreEncoded}

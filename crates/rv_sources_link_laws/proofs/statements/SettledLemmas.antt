@@ -16,7 +16,7 @@ use Rattle.rv_source_laws.specs.Fits.{Follow, size}
 use Rattle.rv_source_laws.proofs.HeldLemmas.{IsHeld, Held, all_held}
 use Rattle.rv_source_laws.proofs.HomesLemmas.{IsHomeIn, homes_from}
 use Rattle.rv_source_laws.proofs.LeftLemmas.{is_held_left}
-use Rattle.rv_map.specs.declared.map.Row.{Row as MapRow}
+use Rattle.rv_map_laws.specs.declared.map.Row.{Row as MapRow}
 use Rattle.rv_assemble_laws.specs.Refusals.{statements_fault}
 use Rattle.rv_assemble_laws.specs.LaidStatements.{LaidStatement, LaidPart, part_bytes, laid_in, end_of}
 use Rattle.rv_assemble_laws.proofs.FaultlessLemmas.{no_first_fault}

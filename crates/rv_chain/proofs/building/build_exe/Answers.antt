@@ -1,6 +1,6 @@
 use Rattle.std.proofs.Common.{false, map, refl}
 use Rattle.rv_statement.specs.View.{now_of}
-use Rattle.rv_map.specs.Text.{map_text}
+use Rattle.rv_map_laws.specs.Text.{map_text}
 use Rattle.rv_image.specs.Views.{linked_of}
 use Rattle.rv_chain.proofs.HeadlinedLemmas.{headlined}
 use Rattle.rv_chain.proofs.ReassembledLemmas.{built_again}

@@ -1,5 +1,5 @@
 use Rattle.std.proofs.Common.{false, refl}
-use Rattle.rv_map.specs.Text.{map_text}
+use Rattle.rv_map_laws.specs.Text.{map_text}
 use Rattle.rv_image.specs.Views.{linked_of}
 use Rattle.rv_chain.proofs.WrittenLemmas.{built_of, whole_laid_out, whole_written}
 use Rattle.rv_chain.proofs.linking.link_objects_exe.Goals as goal

@@ -1,6 +1,6 @@
 -- What is dropped so far, with what comes, is all that is dropped.
 use Rattle.std.proofs.Common.{◌≡◌, ◌++◌, All, map, drop}
-use Rattle.rv_map.specs.Limits.{IsDrop}
+use Rattle.rv_map_laws.specs.Limits.{IsDrop}
 use Rattle.rv_object_types.specs.Sections.{section_of}
 use Rattle.rv_collect.specs.Drops.{drops_in, dropped_from}
 use Rattle.rv_collect.proofs.collection.put_drops.Given as goal

@@ -1,5 +1,5 @@
 use Rattle.std.proofs.Common.{◌++◌, subst, sym, ap, ◌∙◌, append-nil}
-use Rattle.rv_map.specs.Map.{map_of}
+use Rattle.rv_map.specs.Views.{map_of}
 use Rattle.rv_image.specs.Views.{image_of}
 use Rattle.rv_listing_laws.specs.Listing.{IsListing}
 use Rattle.rv_disasm.proofs.listed.listing.Goals as goal

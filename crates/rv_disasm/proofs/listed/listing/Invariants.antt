@@ -2,7 +2,7 @@ use Rattle.std.proofs.Common.{◌++◌}
 use Rattle.rv_encode.specs.Word.{Spells}
 use Rattle.rv_compress.specs.Parcel.{StandsFor}
 use Rattle.rv_isa_laws.specs.Reader.{Reader}
-use Rattle.rv_map.specs.Map.{map_of}
+use Rattle.rv_map.specs.Views.{map_of}
 use Rattle.rv_image.specs.Views.{image_of}
 use Rattle.rv_listing_laws.specs.Listing.{IsListing}
 use Rattle.rv_disasm.specs.ListingLeft.{listing_left, rows_left}

@@ -1,7 +1,7 @@
 use Rattle.std.proofs.Common.{ℕ, rules, subst}
 use Rattle.std.specs.List.Sorted.{IsStable}
 use Rattle.std.proofs.lemmas.List.Sorted.{answers_always}
-use Rattle.rv_map.specs.declared.map.Row.{Row}
+use Rattle.rv_map_laws.specs.declared.map.Row.{Row}
 use Rattle.rv_listing_laws.specs.Order.{compared}
 use Rattle.rv_disasm.proofs.order.in_order.Goals as goal
 

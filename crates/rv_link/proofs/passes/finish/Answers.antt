@@ -1,7 +1,7 @@
 use Rattle.std.proofs.Common.{arith, map}
 use Rattle.std.proofs.lemmas.List.Elements.{recursion_from_All}
 use Rattle.std.proofs.lemmas.List.{length-map}
-use Rattle.rv_map.specs.Limits.{IsDrop}
+use Rattle.rv_map_laws.specs.Limits.{IsDrop}
 use Rattle.rv_shorten.specs.View.{short_object_of}
 use Rattle.rv_link.proofs.KnownLemmas.{regions_known, gaps_known}
 use Rattle.rv_link.proofs.NamedLemmas.{globals_known}

@@ -1,5 +1,5 @@
 use Rattle.std.proofs.Common.{◌+◌, ◌≡◌, ◌<◌, ◌++◌, ◌^◌, suc, drop, length}
-use Rattle.rv_map.specs.Text.{hexadecimal}
+use Rattle.rv_map_laws.specs.Text.{hexadecimal}
 use Rattle.rv_map.proofs.digits.write_hexadecimal.Given as goal
 
 abbrev pub invariant-loop-rest : goal.invariant-loop-rest

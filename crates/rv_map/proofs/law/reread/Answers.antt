@@ -1,5 +1,5 @@
 use Rattle.std.proofs.Common.{◌∙◌}
-use Rattle.rv_map.specs.Map.{map_of}
+use Rattle.rv_map.specs.Views.{map_of}
 use Rattle.rv_map.proofs.law.reread.Goals as goal
 
 pub returns : goal.returns

@@ -1,5 +1,5 @@
-use Rattle.rv_map.specs.Limits.{IsDrop}
-use Rattle.rv_map.specs.Text.{drop_line}
+use Rattle.rv_map_laws.specs.Limits.{IsDrop}
+use Rattle.rv_map_laws.specs.Text.{drop_line}
 use Rattle.rv_map.proofs.WholeLemmas.{items_more, all_more, line_shorter}
 use Rattle.rv_map.proofs.reading.drops_of.Goals as goal
 

@@ -1,7 +1,7 @@
 use Rattle.std.proofs.Common.{◌≡◌, ◌++◌, length, map, flat_map}
 use Rattle.std.specs.List.{AllByRecursion}
-use Rattle.rv_map.specs.Limits.{IsDrop}
-use Rattle.rv_map.specs.Text.{line_text, drop_line}
+use Rattle.rv_map_laws.specs.Limits.{IsDrop}
+use Rattle.rv_map_laws.specs.Text.{line_text, drop_line}
 use Rattle.rv_map.proofs.reading.drops_of.Given as goal
 
 abbrev pub invariant-loop-section : goal.invariant-loop-section

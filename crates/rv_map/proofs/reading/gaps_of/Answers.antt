@@ -1,5 +1,5 @@
-use Rattle.rv_map.specs.Limits.{IsRegion}
-use Rattle.rv_map.specs.Text.{gap_line}
+use Rattle.rv_map_laws.specs.Limits.{IsRegion}
+use Rattle.rv_map_laws.specs.Text.{gap_line}
 use Rattle.rv_map.proofs.LinesLemmas.{gap_taken}
 use Rattle.rv_map.proofs.WholeLemmas.{items_more, all_more, line_shorter}
 use Rattle.rv_map.proofs.reading.gaps_of.Goals as goal

@@ -1,7 +1,7 @@
 use Rattle.std.proofs.Common.{◌≡◌, ◌++◌, length, map, flat_map}
 use Rattle.std.specs.List.{AllByRecursion}
-use Rattle.rv_map.specs.Limits.{IsRegion}
-use Rattle.rv_map.specs.Text.{line_text, gap_line}
+use Rattle.rv_map_laws.specs.Limits.{IsRegion}
+use Rattle.rv_map_laws.specs.Text.{line_text, gap_line}
 use Rattle.rv_map.proofs.reading.gaps_of.Given as goal
 
 abbrev pub invariant-loop-gap : goal.invariant-loop-gap

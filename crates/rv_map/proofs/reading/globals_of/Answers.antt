@@ -1,4 +1,4 @@
-use Rattle.rv_map.specs.Text.{global_line}
+use Rattle.rv_map_laws.specs.Text.{global_line}
 use Rattle.rv_map.proofs.WholeLemmas.{globals_more, globals_fit, line_shorter}
 use Rattle.rv_map.proofs.reading.globals_of.Goals as goal
 

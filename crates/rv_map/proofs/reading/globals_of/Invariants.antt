@@ -1,8 +1,8 @@
 use Rattle.std.proofs.Common.{◌≡◌, ◌++◌, length, map, flat_map}
 use Rattle.std.specs.List.{AllByRecursion}
-use Rattle.rv_map.specs.Map.{global_of}
-use Rattle.rv_map.specs.Limits.{IsGlobal}
-use Rattle.rv_map.specs.Text.{line_text, global_line}
+use Rattle.rv_map.specs.Views.{global_of}
+use Rattle.rv_map_laws.specs.Limits.{IsGlobal}
+use Rattle.rv_map_laws.specs.Text.{line_text, global_line}
 use Rattle.rv_map.proofs.reading.globals_of.Given as goal
 
 abbrev pub invariant-loop-name : goal.invariant-loop-name

@@ -1,6 +1,6 @@
 use Rattle.std.proofs.Common.{length, map, Some, sym, ap, ◌∙◌}
 use Rattle.std.proofs.lemmas.Bool.{eqb-true, eq-eqb, false≢true}
-use Rattle.rv_map.specs.Map.{map_of, global_of}
+use Rattle.rv_map.specs.Views.{map_of, global_of}
 use Rattle.rv_map.proofs.WholeLemmas.{Found, found_in, has_head, whole_text}
 use Rattle.rv_map.proofs.reading.read.Goals as goal
 

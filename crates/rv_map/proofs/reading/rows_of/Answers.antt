@@ -1,5 +1,5 @@
-use Rattle.rv_map.specs.Limits.{IsRow}
-use Rattle.rv_map.specs.Text.{row_line}
+use Rattle.rv_map_laws.specs.Limits.{IsRow}
+use Rattle.rv_map_laws.specs.Text.{row_line}
 use Rattle.rv_map.proofs.WholeLemmas.{items_more, all_more, line_shorter}
 use Rattle.rv_map.proofs.reading.rows_of.Goals as goal
 

@@ -1,9 +1,9 @@
 use Rattle.std.proofs.Common.{ℕ, List, map, flat_map, refl, subst}
 use Rattle.std.proofs.lemmas.List.Elements.{All-more}
 use Rattle.rv_map.specs.declared.map.Global.{Global}
-use Rattle.rv_map.specs.Limits.{IsGlobal}
-use Rattle.rv_map.specs.Map.{global_of}
-use Rattle.rv_map.specs.Text.{line_text, global_line}
+use Rattle.rv_map_laws.specs.Limits.{IsGlobal}
+use Rattle.rv_map.specs.Views.{global_of}
+use Rattle.rv_map_laws.specs.Text.{line_text, global_line}
 use Rattle.rv_map.proofs.StepsLemmas.{step, done, all_passed}
 use Rattle.rv_map.proofs.writing.put_globals.Goals as goal
 

@@ -1,7 +1,7 @@
 use Rattle.std.proofs.Common.{◌≡◌, ◌++◌, take, drop, map, flat_map, All}
-use Rattle.rv_map.specs.Limits.{IsGlobal}
-use Rattle.rv_map.specs.Map.{global_of}
-use Rattle.rv_map.specs.Text.{line_text, global_line}
+use Rattle.rv_map_laws.specs.Limits.{IsGlobal}
+use Rattle.rv_map.specs.Views.{global_of}
+use Rattle.rv_map_laws.specs.Text.{line_text, global_line}
 use Rattle.rv_map.proofs.writing.put_globals.Given as goal
 
 -- what is written, and the lines that are left, make up the whole

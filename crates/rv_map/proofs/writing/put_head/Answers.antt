@@ -1,5 +1,5 @@
 use Rattle.std.proofs.Common.{append_assoc, refl}
-use Rattle.rv_map.specs.Text.{line_text, head_lines}
+use Rattle.rv_map_laws.specs.Text.{line_text, head_lines}
 use Rattle.rv_map.proofs.writing.put_head.Goals as goal
 
 pub returns-clause-written : goal.returns-clause-written

@@ -1,6 +1,6 @@
 use Rattle.std.proofs.Common.{◌≡◌, ◌++◌, take, drop, map, flat_map, All}
-use Rattle.rv_map.specs.Limits.{IsRow}
-use Rattle.rv_map.specs.Text.{line_text, row_line}
+use Rattle.rv_map_laws.specs.Limits.{IsRow}
+use Rattle.rv_map_laws.specs.Text.{line_text, row_line}
 use Rattle.rv_map.proofs.writing.put_rows.Given as goal
 
 -- what is written, and the lines that are left, make up the whole

@@ -1,8 +1,8 @@
 use Rattle.std.proofs.Common.{List, map, subst}
 use Rattle.std.specs.List.{AllByRecursion}
 use Rattle.rv_map.specs.declared.map.Global.{Global}
-use Rattle.rv_map.specs.Map.{global_of}
-use Rattle.rv_map.specs.Limits.{IsRegion, IsGlobal, IsDrop, IsRow}
+use Rattle.rv_map.specs.Views.{global_of}
+use Rattle.rv_map_laws.specs.Limits.{IsRegion, IsGlobal, IsDrop, IsRow}
 use Rattle.rv_map.proofs.writing.write.Goals as goal
 
 pub returns-clause-readable : goal.returns-clause-readable

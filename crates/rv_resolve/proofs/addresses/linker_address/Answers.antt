@@ -1,7 +1,7 @@
 use Rattle.std.proofs.Common.{◌+◌, false, [], ◌∷◌, List, sym, ◌∙◌}
 use Rattle.std.specs.Prelude.{codes}
-use Rattle.rv_map.specs.Map.{Global}
-use Rattle.rv_map.specs.Globals.{global}
+use Rattle.rv_map_laws.specs.Map.{Global}
+use Rattle.rv_map_laws.specs.Globals.{global}
 use Rattle.rv_link_laws.proofs.LinkerNamesLemmas.{tested, passed_over}
 use Rattle.rv_resolve.proofs.addresses.linker_address.Goals as goal
 

@@ -5,7 +5,7 @@ use Rattle.rv_object_types.specs.Parts.{symbol_of}
 use Rattle.rv_assemble_laws.specs.Symbols.{shared_symbol}
 use Rattle.rv_symbols.specs.Source.{tables_of}
 use Rattle.std.specs.Prelude.{option_map}
-use Rattle.rv_map.specs.Name.{is_name}
+use Rattle.rv_map_laws.specs.Name.{is_name}
 use Rattle.rv_statement.specs.View.{now_of}
 use Rattle.rv_symbols.proofs.StandsLemmas.{got_map, some_at}
 use Rattle.rv_symbols.proofs.NamingLemmas.{all_got, drop_next}

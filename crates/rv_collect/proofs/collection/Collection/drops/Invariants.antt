@@ -1,6 +1,6 @@
 -- What is dropped so far, with what comes, is all that is dropped.
 use Rattle.std.proofs.Common.{◌≡◌, ◌++◌, All, suc, map, drop}
-use Rattle.rv_map.specs.Limits.{IsDrop}
+use Rattle.rv_map_laws.specs.Limits.{IsDrop}
 use Rattle.rv_object_types.specs.View.{object_of}
 use Rattle.rv_collect.proofs.DropsLemmas.{dropped_of}
 use Rattle.rv_collect.proofs.collection.Collection.drops.Given as goal

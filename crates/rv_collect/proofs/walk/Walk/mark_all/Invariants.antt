@@ -1,6 +1,6 @@
 -- All to which the relocations so far lead is marked.
 use Rattle.std.proofs.Common.{◌≡◌, true, map, take}
-use Rattle.rv_map.specs.declared.map.SectionId.{SectionId}
+use Rattle.rv_map_laws.specs.declared.map.SectionId.{SectionId}
 use Rattle.rv_object_types.specs.Parts.{relocation_of}
 use Rattle.rv_object_types.specs.View.{object_of}
 use Rattle.rv_collect.specs.Targets.{leads_in}

@@ -1,5 +1,5 @@
 use Rattle.std.proofs.lemmas.List.Elements.{All-same, All-push}
-use Rattle.rv_map.specs.Limits.{IsRow}
+use Rattle.rv_map_laws.specs.Limits.{IsRow}
 use Rattle.rv_object_laws.specs.declared.row.Row.{Row}
 use Rattle.rv_placement.proofs.MapRowsLemmas.{row_placed, row_more}
 use Rattle.rv_placement.proofs.placement.Placement.put_rows.Goals as goal

@@ -1,6 +1,6 @@
 use Rattle.std.proofs.Common.{◌≡◌, ◌++◌, ◌+◌, ℕ, List, All, Some, map, drop}
 use Rattle.std.specs.List.{slice_get}
-use Rattle.rv_map.specs.Limits.{IsRow}
+use Rattle.rv_map_laws.specs.Limits.{IsRow}
 use Rattle.rv_object_laws.specs.Object.{Object}
 use Rattle.rv_link_laws.specs.IsLinkOf.{row_in}
 use Rattle.rv_shorten.specs.View.{short_object_of}

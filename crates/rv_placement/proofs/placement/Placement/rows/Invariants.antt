@@ -1,5 +1,5 @@
 use Rattle.std.proofs.Common.{◌≡◌, ◌++◌, ◌+◌, ℕ, All, map, drop}
-use Rattle.rv_map.specs.Limits.{IsRow}
+use Rattle.rv_map_laws.specs.Limits.{IsRow}
 use Rattle.rv_link_laws.specs.IsLinkOf.{rows_of}
 use Rattle.rv_shorten.specs.View.{short_object_of}
 use Rattle.rv_placement.specs.Placement.{starts_of, IsPlacement}

@@ -1,6 +1,6 @@
 use Rattle.std.proofs.Common.{◌≡◌, ◌<◌, ◌≤◌, ◌++◌, ◌∙◌, length, map, get_or, rules, ap, sym, subst, append-nil}
 use Rattle.std.proofs.lemmas.List.{length-map, at_drop_all}
-use Rattle.rv_map.specs.Map.{global_of}
+use Rattle.rv_map.specs.Views.{global_of}
 use Rattle.rv_link_laws.specs.Names.{globals_of, shown_linker_symbols}
 use Rattle.rv_link_laws.specs.Layout.{regions_of}
 use Rattle.rv_placement.specs.Placement.{starts_of, layout_of}

@@ -1,7 +1,7 @@
 -- What is there so far, with what the files that are left show, is the whole.
 use Rattle.std.proofs.Common.{◌≡◌, ◌++◌, ℕ, All, map, drop}
-use Rattle.rv_map.specs.Limits.{IsGlobal}
-use Rattle.rv_map.specs.Map.{global_of}
+use Rattle.rv_map_laws.specs.Limits.{IsGlobal}
+use Rattle.rv_map.specs.Views.{global_of}
 use Rattle.rv_link_laws.specs.Names.{globals_of}
 use Rattle.rv_placement.specs.Placement.{starts_of, IsPlacement}
 use Rattle.rv_shorten.specs.View.{short_object_of}

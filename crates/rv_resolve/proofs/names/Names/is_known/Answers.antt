@@ -1,6 +1,6 @@
 use Rattle.std.proofs.Common.{◌≡◌, None, map, option_map, ap, sym, ◌∙◌}
 use Rattle.std.specs.Prelude.{◌||◌}
-use Rattle.rv_map.specs.Globals.{is_one_of}
+use Rattle.rv_map_laws.specs.Globals.{is_one_of}
 use Rattle.rv_object_types.specs.Parts.{symbol_of}
 use Rattle.rv_object_laws.specs.Bindings.{is_weak}
 use Rattle.rv_link_laws.specs.Names.{chosen}

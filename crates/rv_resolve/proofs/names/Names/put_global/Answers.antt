@@ -1,8 +1,8 @@
 use Rattle.std.proofs.Common.{◌++◌, ◌∷◌, ◌∙◌, ◌<◌, ◌^◌, [], map, ap, sym, subst, append-nil}
 use Rattle.std.specs.Prelude.{IfSome}
 use Rattle.std.proofs.lemmas.List.{map-append}
-use Rattle.rv_map.specs.Globals.{global}
-use Rattle.rv_map.specs.Map.{global_of}
+use Rattle.rv_map_laws.specs.Globals.{global}
+use Rattle.rv_map.specs.Views.{global_of}
 use Rattle.rv_resolve.specs.Shown.{listed}
 use Rattle.rv_resolve.proofs.KnownLemmas.{one_known}
 use Rattle.rv_resolve.proofs.names.Names.put_global.Goals as goal

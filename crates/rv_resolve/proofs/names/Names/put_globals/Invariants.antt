@@ -1,8 +1,8 @@
 -- What is there so far, with what the symbols that are left show, is the whole.
 use Rattle.std.proofs.Common.{◌≡◌, ◌++◌, ℕ, All, Some, map, drop}
 use Rattle.std.specs.List.{slice_get}
-use Rattle.rv_map.specs.Limits.{IsGlobal}
-use Rattle.rv_map.specs.Map.{global_of}
+use Rattle.rv_map_laws.specs.Limits.{IsGlobal}
+use Rattle.rv_map.specs.Views.{global_of}
 use Rattle.rv_placement.specs.Placement.{IsPlacement}
 use Rattle.rv_shorten.specs.View.{short_object_of}
 use Rattle.rv_resolve.specs.Names.{IsNames}

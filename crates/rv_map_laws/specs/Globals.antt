@@ -3,7 +3,7 @@
 
 use Rattle.std.specs.Prelude.{◌≡◌, ℕ, ◌+◌, Bool, false, ⊤, List, [], ◌∷◌, Option, Some, None, option_map, codes, bytes_eq}
 use Rattle.std.specs.List.{find, list_any}
-use Rattle.rv_map.specs.Map.{Map, Global}
+use Rattle.rv_map_laws.specs.Map.{Map, Global}
 
 abbrev pub global : List ℕ → ℕ → Global
 global name address = record { name = name; address = address }
