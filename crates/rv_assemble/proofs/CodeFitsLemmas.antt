@@ -13,7 +13,7 @@ use Rattle.rv_isa.specs.declared.kind.Kind.TheVariants.{Abs32, Abs64, Add8, Add1
 use Rattle.rv_isa.specs.Kinds.{width_of, is_low_part}
 use Rattle.rv_isa.specs.Operations.{format_of}
 use Rattle.rv_isa_laws.specs.Bytes.{zeros}
-use Rattle.rv_encode.specs.Word.{word, form}
+use Rattle.rv_isa_laws.specs.Word.{word, form}
 use Rattle.rv_text_laws.specs.Values.{Value, Constant, Symbolic, Difference, Faulty}
 use Rattle.rv_statement.specs.declared.pseudo.Function.TheVariants.{Hi, Lo, PcrelHi, PcrelLo}
 use Rattle.rv_statement.specs.Statement.{StatementKind, Label, Numbered, Instruction, Directs, Expression, Operand, Register, Value as Of_value, Applied, Target, Accesses, Word, Quoted}

@@ -1,7 +1,7 @@
 //! From an executable to the end of its run.
 
 ghost use Rattle.std.specs.Prelude.{IfErr, IfOk};
-ghost use Rattle.rv_encode.specs.Word.{Spells};
+ghost use Rattle.rv_isa_laws.specs.Word.{Spells};
 ghost use Rattle.rv_compress.specs.Parcel.{StandsFor};
 ghost use Rattle.rv_isa_laws.specs.Reader.{Reader};
 ghost use Rattle.rv_machine.specs.Outcome.{outcome_of};

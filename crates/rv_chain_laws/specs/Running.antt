@@ -1,7 +1,7 @@
 -- What running a file's bytes means, and why a file is not run.
 
 use Rattle.std.specs.Prelude.{◌≡◌, ℕ, List, None, Some}
-use Rattle.rv_encode.specs.Word.{Spells}
+use Rattle.rv_isa_laws.specs.Word.{Spells}
 use Rattle.rv_compress.specs.Parcel.{StandsFor}
 use Rattle.rv_isa_laws.specs.Hart.{Outcome}
 use Rattle.rv_image_laws.specs.Image.{Image}

@@ -3,7 +3,7 @@
 //! Each function is named by the field of the manual's tables 16.5 to 16.7 that it gathers.
 
 ghost use Rattle.std.specs.Prelude.{◌≡◌, ◌<◌, ◌^◌, ◌+◌, ◌≤ℤ◌, pos, negsuc, nat_lt, if◌then◌else◌};
-ghost use Rattle.rv_encode.specs.Word.{field};
+ghost use Rattle.rv_isa_laws.specs.Word.{field};
 ghost use Rattle.rv_compress.specs.Parcel.{bits_at};
 
 /// uimm[5:3] at 12:10, uimm[2|6] at 6:5.

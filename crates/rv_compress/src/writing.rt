@@ -1,7 +1,7 @@
 //! From a form to the parcel that spells it.
 
 ghost use Rattle.std.specs.Prelude.{◌≡◌, ◌<◌, ◌%◌, ◌^◌, ◌*◌, ◌+◌};
-ghost use Rattle.rv_encode.specs.Word.{field};
+ghost use Rattle.rv_isa_laws.specs.Word.{field};
 ghost use Rattle.rv_compress.specs.Parcel.{
   IsBranch,
   IsJump,

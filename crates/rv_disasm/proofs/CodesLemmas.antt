@@ -7,8 +7,8 @@ use Rattle.rv_isa.specs.declared.instruction.Inst.{Inst}
 use Rattle.rv_isa.specs.Operations.{format_of}
 use Rattle.rv_isa.specs.Ranges.{IsValid}
 use Rattle.rv_isa_laws.specs.Bytes.{little_endian}
-use Rattle.rv_encode.specs.Word.{form, word, Spells}
-use Rattle.rv_encode.proofs.ReaderLemmas.{word_read-exact}
+use Rattle.rv_isa_laws.specs.Word.{form, word, Spells}
+use Rattle.rv_isa_laws.proofs.ReaderLemmas.{word_read-exact}
 use Rattle.rv_compress.specs.declared.form.Compressed.{Compressed}
 use Rattle.rv_compress.specs.Parcel.{parcel, IsLine, IsNoHint, SpellsForm}
 use Rattle.rv_compress.specs.Front.{front_parcel, front_word}

@@ -1,7 +1,7 @@
 //! The text of a row.
 
 ghost use Rattle.std.specs.Prelude.{◌≡◌, ◌+◌, ◌-◌, ◌≤◌, ◌^◌, ◌++◌, OnOk, map, length, take, drop};
-ghost use Rattle.rv_encode.specs.Word.{Spells};
+ghost use Rattle.rv_isa_laws.specs.Word.{Spells};
 ghost use Rattle.rv_compress.specs.Parcel.{StandsFor};
 ghost use Rattle.rv_isa_laws.specs.Reader.{Reader};
 ghost use Rattle.rv_image.specs.SegmentView.{segment_of};

@@ -1,3 +1,2 @@
 pub use Rattle.rv_isa.specs.Ranges
-pub mod Word
 pub mod Selectors

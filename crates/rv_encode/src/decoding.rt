@@ -1,7 +1,7 @@
 //! Words into instructions, by opcode and then by the other selectors.
 
 ghost use Rattle.std.specs.Prelude.{◌≡◌, ◌/◌, ◌%◌, ◌^◌};
-ghost use Rattle.rv_encode.specs.Word.{IsSpelled};
+ghost use Rattle.rv_isa_laws.specs.Word.{IsSpelled};
 
 use crate::operands;
 use crate::operands::{funct3, funct5, funct6, funct7, opcode};

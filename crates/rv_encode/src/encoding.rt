@@ -15,7 +15,7 @@ ghost use Rattle.rv_isa.specs.Ranges.{
   IsFence,
   IsValid,
 };
-ghost use Rattle.rv_encode.specs.Word.{
+ghost use Rattle.rv_isa_laws.specs.Word.{
   form,
   word,
   Register,

@@ -18,7 +18,7 @@ ghost use Rattle.rv_isa.specs.Ranges.{
   IsReserve,
   IsFence,
 };
-ghost use Rattle.rv_encode.specs.Word.{
+ghost use Rattle.rv_isa_laws.specs.Word.{
   word,
   Register,
   Immediate,

@@ -2,7 +2,7 @@
 
 ghost use Rattle.std.specs.Prelude.{◌≡◌, ◌/◌, ◌^◌, ◌<◌, ◌≤◌, ◌%◌, ◌*◌, ◌⊎◌};
 ghost use Rattle.rv_isa.specs.Ranges.{IsSigned12, IsBranchOffset, IsJumpOffset};
-ghost use Rattle.rv_encode.specs.Word.{field};
+ghost use Rattle.rv_isa_laws.specs.Word.{field};
 
 /// An immediate's low 12 bits.
 #[inline]

@@ -3,7 +3,7 @@ use Rattle.std.proofs.Common.{◌≡◌, ℤ, pos, negsuc, arith}
 use Rattle.std.proofs.lemmas.Int.{ints}
 use Rattle.rv_isa.specs.Ranges.{IsSigned12}
 use Rattle.rv_isa_laws.specs.Halves.{lo}
-use Rattle.rv_encode.specs.Word.{field}
+use Rattle.rv_isa_laws.specs.Word.{field}
 use Rattle.rv_reloc_laws.specs.Fields.{modulo}
 use Rattle.rv_pseudo_laws.proofs.ModuloLemmas.{lo_range}
 

@@ -2,7 +2,7 @@
 use Rattle.std.proofs.Common.{◌≡◌, ℕ, ◌+◌, ◌*◌, ◌/◌, ◌%◌, ◌^◌, ◌<◌, ℤ, pos, negsuc, ◌≤ℤ◌, ap, ◌∙◌, arith}
 use Rattle.std.proofs.lemmas.Int.{ints}
 use Rattle.rv_isa_laws.specs.Bytes.{little_endian, number_in}
-use Rattle.rv_encode.specs.Word.{Branch, field, word}
+use Rattle.rv_isa_laws.specs.Word.{Branch, field, word}
 use Rattle.rv_compress.specs.declared.form.Compressed.TheVariants.{Beqz, Bnez}
 use Rattle.rv_reloc_laws.specs.Fields.{modulo, with_immediate, b_type}
 use Rattle.rv_filling_laws.specs.Formats.{BranchesFill, JumpsFill, UppersFill, ImmediatesFill, StoresFill, CallsFill, ShortBranchesFill, ShortJumpsFill}

@@ -18,7 +18,7 @@ use Rattle.rv_isa.specs.declared.operation.StoreOperation.TheVariants.{Sb, Sh, S
 use Rattle.rv_isa.specs.declared.operation.BranchOperation.{BranchOperation}
 use Rattle.rv_isa.specs.declared.operation.BranchOperation.TheVariants.{Beq, Bne, Blt, Bge, Bltu, Bgeu}
 use Rattle.rv_isa.specs.Operations.{format_of, instruction_of, of_immediate, of_upper, of_load, of_store, of_branch}
-use Rattle.rv_encode.specs.Word.{Immediate, Store, Branch, Upper, form}
+use Rattle.rv_isa_laws.specs.Word.{Immediate, Store, Branch, Upper, form}
 use Rattle.rv_filling_laws.specs.Formats.{AreSelectors}
 
 pub rebuilt : (i : Inst) → instruction_of (format_of i) ≡ i

@@ -18,7 +18,7 @@ use Rattle.rv_isa.specs.Kinds.{width_of}
 use Rattle.rv_isa.specs.Operations.{format_of, instruction_of, of_branch}
 use Rattle.rv_isa.specs.Ranges.{IsIType, IsValidFormat}
 use Rattle.rv_isa_laws.specs.Bytes.{little_endian}
-use Rattle.rv_encode.specs.Word.{Form, Immediate, Upper, form}
+use Rattle.rv_isa_laws.specs.Word.{Form, Immediate, Upper, form}
 use Rattle.rv_compress.specs.declared.form.Compressed.{Compressed}
 use Rattle.rv_compress.specs.declared.form.Compressed.TheVariants.{J, Beqz, Bnez}
 use Rattle.rv_compress.specs.Parcel.{IsBranch, IsJump, IsLine, IsShortOf, expansion, parcel}

@@ -11,7 +11,7 @@ use Rattle.rv_isa.specs.declared.instruction.SType.{SType}
 use Rattle.rv_isa.specs.declared.instruction.UType.{UType}
 use Rattle.rv_isa.specs.Ranges.{IsBType, IsIType, IsJType, IsSType, IsUType}
 use Rattle.rv_isa_laws.specs.Bytes.{little_endian}
-use Rattle.rv_encode.specs.Word.{Form, Immediate, Store, Branch, Upper, Jump, word}
+use Rattle.rv_isa_laws.specs.Word.{Form, Immediate, Store, Branch, Upper, Jump, word}
 use Rattle.rv_compress.specs.declared.form.Compressed.{Compressed}
 use Rattle.rv_compress.specs.declared.form.Compressed.TheVariants.{J}
 use Rattle.rv_compress.specs.Parcel.{IsLine, parcel}

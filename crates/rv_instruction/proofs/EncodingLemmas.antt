@@ -12,7 +12,7 @@ use Rattle.rv_isa.specs.Kinds.{width_of}
 use Rattle.rv_isa.specs.declared.instruction.Inst.{Inst}
 use Rattle.rv_isa.specs.Ranges.{IsValid}
 use Rattle.rv_isa_laws.specs.Bytes.{little_endian}
-use Rattle.rv_encode.specs.Word.{form, word}
+use Rattle.rv_isa_laws.specs.Word.{form, word}
 use Rattle.rv_compress.specs.declared.form.Compressed.{Compressed}
 use Rattle.rv_compress.specs.Parcel.{IsLine, IsShortOf, StandsFor, parcel, expansion}
 use Rattle.rv_compress.proofs.ReaderLemmas.{stands-valid}

@@ -1,3 +1,4 @@
 pub mod EffectLawsLemmas
 pub mod ConsoleLemmas
 pub mod ReadingsLemmas
+pub mod ReaderLemmas

@@ -10,3 +10,4 @@ pub mod Reader
 pub mod Run
 pub mod Platform
 pub mod Console
+pub mod Word

@@ -1,11 +1,11 @@
-//! What instructions mean: hart, memory with rights, environment calls, and the run of a machine over its memory.
+//! What instructions mean: their words, hart, memory with rights, environment calls, and the run of a machine over its memory.
 //!
-//! It takes the instructions of `rv_isa` and gives definitions: `effect`, what an instruction asks of hart and memory;
-//! `apply`, what comes of it; and `fetch`, `step` and `run`. Nothing here runs.
+//! It takes the instructions of `rv_isa` and gives definitions: `Spells`, which word an instruction has; `effect`, what an
+//! instruction asks of hart and memory; `apply`, what comes of it; and `fetch`, `step` and `run`. Nothing here runs.
 //!
 //! Main contract: `effect_keeps`, the law that whatever an instruction goes on with has input and console as before,
-//! registers in range, and a pc below 2^64. It must not know how words and parcels spell instructions (a `Reader` is
-//! its parameter), nor sources and files.
+//! registers in range, and a pc below 2^64. A run must not know how words and parcels spell instructions (a
+//! `Reader` is its parameter), and nothing here knows sources and files.
 //!
 //! ```text
 //! effect i bytes h                -- what instruction i of that many bytes asks at hart h
@@ -15,7 +15,7 @@
 //! machine_run reader m entry input n
 //! ```
 //!
-//! Source: RISC-V Unprivileged ISA 20191213, sections 1.5, 2.2 and 16.1, chapters 2, 5, 7 and 8.
+//! Source: RISC-V Unprivileged ISA 20191213, sections 1.5, 2.2 and 16.1, chapters 2, 5, 7, 8 and 24.
 #![tactic(auto)]
 
 mod edges;

@@ -5,7 +5,7 @@ use Rattle.std.specs.Prelude.{◌&&◌}
 use Rattle.rv_isa.specs.declared.instruction.Inst.{Inst}
 use Rattle.rv_isa.specs.Kinds.{width_of}
 use Rattle.rv_isa_laws.specs.Bytes.{little_endian}
-use Rattle.rv_encode.specs.Word.{word, form}
+use Rattle.rv_isa_laws.specs.Word.{word, form}
 use Rattle.rv_compress.specs.declared.form.Compressed.{Compressed}
 use Rattle.rv_compress.specs.Encoded.{IsLeastAs, IsEncodedIn}
 use Rattle.rv_text_laws.specs.Values.{Value}

@@ -9,7 +9,7 @@ use Rattle.rv_isa.specs.declared.kind.Kind.{Kind}
 use Rattle.rv_isa.specs.declared.kind.Kind.TheVariants as kinds
 use Rattle.rv_isa.specs.Kinds.{width_of}
 use Rattle.rv_isa.specs.declared.instruction.Inst.TheVariants as isa
-use Rattle.rv_encode.specs.Word.{form, word as word_of}
+use Rattle.rv_isa_laws.specs.Word.{form, word as word_of}
 use Rattle.rv_layout_laws.specs.declared.site.Site.{Site}
 use Rattle.rv_layout_laws.specs.declared.site.SiteKind.TheVariants as sites
 use Rattle.rv_object_laws.specs.declared.symbol.Definition.{Definition}

@@ -8,7 +8,7 @@ use Rattle.rv_isa.specs.declared.kind.Kind.{Kind}
 use Rattle.rv_isa.specs.declared.kind.Kind.TheVariants as kinds
 use Rattle.rv_isa.specs.declared.instruction.Inst.TheVariants as isa
 use Rattle.rv_isa_laws.specs.Bytes.{little_endian}
-use Rattle.rv_encode.specs.Word.{form, word}
+use Rattle.rv_isa_laws.specs.Word.{form, word}
 use Rattle.rv_compress.specs.declared.form.Compressed.TheVariants as compressed
 use Rattle.rv_compress.specs.Parcel.{parcel}
 use Rattle.rv_layout_laws.specs.Calls.{IsGreatestClosed}

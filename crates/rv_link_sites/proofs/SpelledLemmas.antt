@@ -7,7 +7,7 @@ use Rattle.std.proofs.lemmas.Bool.{eqb-true, eq-eqb, ltb-true, ltb-false, and_pa
 use Rattle.rv_isa.specs.declared.instruction.Inst.{Inst}
 use Rattle.rv_isa.specs.declared.instruction.Inst.TheVariants as isa
 use Rattle.rv_isa.specs.Ranges.{IsSigned12}
-use Rattle.rv_encode.specs.Word.{field, Spells, IsSpelled}
+use Rattle.rv_isa_laws.specs.Word.{field, Spells, IsSpelled}
 use Rattle.rv_link_laws.specs.CallSites as laws
 use Rattle.rv_link_sites.specs.Spelled.{is_auipc, is_jalr, spells_one}
 

@@ -3,7 +3,7 @@
 use Rattle.std.proofs.Common.{◌≡◌, ℕ, suc, zero, ◌+◌, ◌-◌, ◌<◌, ◌≤◌, List, [], ◌∷◌, ◌++◌, length, drop, append_assoc, refl, sym, ap, ◌∙◌, arith}
 use Rattle.std.proofs.lemmas.List.{append-nil, drop-drop, drop_all, length-drop}
 use Rattle.rv_isa_laws.specs.Reader.{Reader}
-use Rattle.rv_encode.specs.Word.{Spells}
+use Rattle.rv_isa_laws.specs.Word.{Spells}
 use Rattle.rv_compress.specs.Parcel.{StandsFor}
 use Rattle.rv_map_laws.specs.declared.map.Row.{Row}
 use Rattle.rv_listing_laws.specs.Lines.{front, length_read, line, lines}

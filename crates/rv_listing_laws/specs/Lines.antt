@@ -5,7 +5,7 @@ use Rattle.std.specs.Prelude.{ℕ, zero, suc, ◌-◌, ◌%◌, ◌==◌, nat_le
 use Rattle.rv_isa.specs.declared.instruction.Inst.{Inst}
 use Rattle.rv_isa.specs.Operations.{format_of}
 use Rattle.rv_isa_laws.specs.Reader.{Reader}
-use Rattle.rv_encode.specs.Word.{Spells}
+use Rattle.rv_isa_laws.specs.Word.{Spells}
 use Rattle.rv_compress.specs.Parcel.{StandsFor}
 use Rattle.rv_compress.specs.Front.{front_parcel, front_word}
 use Rattle.rv_map_laws.specs.Text.{hexadecimal}

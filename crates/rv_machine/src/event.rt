@@ -3,7 +3,7 @@
 //! What a step reads and writes is looked up before it is done, the register that it sets after it.
 
 ghost use Rattle.std.specs.Prelude.{◌≡◌, ℕ, List, ◌*◌, ◌%◌, ◌^◌, true, Some, None, if◌then◌else◌, ◌-◌, length, take, drop};
-ghost use Rattle.rv_encode.specs.Word.{Spells};
+ghost use Rattle.rv_isa_laws.specs.Word.{Spells};
 ghost use Rattle.rv_compress.specs.Parcel.{StandsFor};
 ghost use Rattle.rv_isa.specs.Operations.{format_of};
 ghost use Rattle.rv_isa_laws.specs.Arithmetic.{low};

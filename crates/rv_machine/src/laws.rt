@@ -2,7 +2,7 @@
 
 ghost use Rattle.std.specs.Prelude.{◌≡◌, ℕ};
 ghost use Rattle.rv_compress.specs.Parcel.{StandsFor};
-ghost use Rattle.rv_encode.specs.Word.{Spells};
+ghost use Rattle.rv_isa_laws.specs.Word.{Spells};
 ghost use Rattle.rv_isa_laws.specs.Hart.{Hart};
 ghost use Rattle.rv_isa_laws.specs.Memory.{Mem};
 ghost use Rattle.rv_isa_laws.specs.Reader.{Reader};

@@ -12,7 +12,7 @@ use Rattle.rv_isa_laws.specs.Bytes.{little_endian, zeros}
 use Rattle.rv_isa.specs.declared.instruction.Inst.{Inst}
 use Rattle.rv_isa.specs.Ranges.{IsValid}
 use Rattle.rv_isa_laws.specs.Memory.{Mem, Read, Write, Execute}
-use Rattle.rv_encode.specs.Word.{form, word, Spells}
+use Rattle.rv_isa_laws.specs.Word.{form, word, Spells}
 use Rattle.rv_compress.specs.declared.form.Compressed.{Compressed}
 use Rattle.rv_compress.specs.Parcel.{parcel, StandsFor}
 use Rattle.rv_isa_laws.specs.Reader.{Reader}

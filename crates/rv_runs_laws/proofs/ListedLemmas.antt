@@ -9,7 +9,7 @@ use Rattle.std.specs.Prelude.{◌&&◌, ◌↔◌, nat_lt}
 use Rattle.std.specs.Cmp.{IsStrictWeakOrder}
 use Rattle.std.specs.List.{AllByRecursion}
 use Rattle.std.specs.List.Sorted.{ties}
-use Rattle.rv_encode.specs.Word.{Spells}
+use Rattle.rv_isa_laws.specs.Word.{Spells}
 use Rattle.rv_compress.specs.Parcel.{StandsFor}
 use Rattle.rv_isa_laws.specs.Memory.{Mem}
 use Rattle.rv_isa_laws.specs.Reader.{Reader}

@@ -2,7 +2,7 @@
 //! sources do.
 
 ghost use Rattle.std.specs.Prelude.{◌≡◌, ◌↔◌, ℕ, Bool, List};
-ghost use Rattle.rv_encode.specs.Word.{Spells};
+ghost use Rattle.rv_isa_laws.specs.Word.{Spells};
 ghost use Rattle.rv_compress.specs.Parcel.{StandsFor};
 ghost use Rattle.rv_isa_laws.specs.Reader.{Reader};
 ghost use Rattle.rv_statement.specs.Statement.{Statement};

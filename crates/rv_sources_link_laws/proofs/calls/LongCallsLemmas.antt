@@ -8,7 +8,7 @@ use Rattle.rv_isa.specs.declared.instruction.Inst.{Inst}
 use Rattle.rv_isa.specs.declared.kind.Kind.{Kind}
 use Rattle.rv_isa.specs.declared.kind.Kind.TheVariants as kind
 use Rattle.rv_isa_laws.specs.Bytes.{little_endian}
-use Rattle.rv_encode.specs.Word.{form as form_of, word}
+use Rattle.rv_isa_laws.specs.Word.{form as form_of, word}
 use Rattle.rv_text_laws.specs.Expression.{Primary}
 use Rattle.rv_text_laws.specs.Values.{Value, Meaning, Symbolic}
 use Rattle.rv_statement.specs.declared.mnemonic.Mnemonic.{Mnemonic}

@@ -11,7 +11,7 @@ use Rattle.rv_isa.specs.declared.kind.Kind.TheVariants.{Relax}
 use Rattle.rv_isa.specs.Kinds.{width_of}
 use Rattle.rv_isa.specs.Ranges.{IsValid}
 use Rattle.rv_isa.specs.Operations.{format_of}
-use Rattle.rv_encode.specs.Word.{form, word}
+use Rattle.rv_isa_laws.specs.Word.{form, word}
 use Rattle.rv_reloc_laws.specs.Fields.{patched}
 use Rattle.rv_reloc_laws.specs.Operands.{with_value}
 use Rattle.rv_reloc_laws.specs.Ranges.{Takes}

@@ -1,5 +1,5 @@
 use Rattle.std.proofs.Common.{sym, subst, ◌∙◌, arith}
-use Rattle.rv_encode.specs.Word.{Spells}
+use Rattle.rv_isa_laws.specs.Word.{Spells}
 use Rattle.rv_disasm.proofs.CodesLemmas.{no_word, some_word}
 use Rattle.rv_disasm.proofs.code.word.Goals as goal
 

@@ -1,4 +1,4 @@
-use Rattle.rv_encode.proofs.ReaderLemmas.{word_read, word_read-exact}
+use Rattle.rv_isa_laws.proofs.ReaderLemmas.{word_read, word_read-exact}
 use Rattle.rv_encode.proofs.laws.reader_exists.Goals as goal
 
 pub returns : goal.returns

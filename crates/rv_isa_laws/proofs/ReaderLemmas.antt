@@ -103,7 +103,7 @@ use Rattle.rv_isa.specs.declared.instruction.Inst.TheVariants.{
   AmomaxuD,
 }
 use Rattle.rv_isa.specs.Ranges.{IsSigned12, IsBranchOffset, IsJumpOffset, IsRType, IsIType, IsShift, IsWordShift, IsSType, IsBType, IsUType, IsJType, IsAtomic, IsReserve, IsFence, IsValid}
-use Rattle.rv_encode.specs.Word.{Register, Immediate, ShiftBy, WordShift, Store, Branch, Upper, Jump, Memory, LoadReserved, Ordering, form, field, word, Spells}
+use Rattle.rv_isa_laws.specs.Word.{Register, Immediate, ShiftBy, WordShift, Store, Branch, Upper, Jump, Memory, LoadReserved, Ordering, form, field, word, Spells}
 
 -- the number of so many bits as two's complement
 abbrev signed : ℕ → ℕ → ℤ
