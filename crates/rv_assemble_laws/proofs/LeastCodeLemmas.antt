@@ -3,7 +3,7 @@
 use Rattle.std.specs.Prelude.{unwrap_or}
 use Rattle.std.proofs.Common.{◌≡◌, ℕ, Bool, true, false, List, [], Some, inl, inr, sym, ap, ◌∙◌}
 use Rattle.rv_isa.specs.declared.instruction.Inst.{Inst}
-use Rattle.rv_compress.specs.Encoded.{IsLeast}
+use Rattle.rv_parcel.specs.Encoded.{IsLeast}
 use Rattle.rv_pseudo_laws.specs.Code.{Part}
 
 pub least_one : (rvc : Bool) (i : Inst) (m n : ℕ) → IsLeast rvc i m → IsLeast rvc i n → m ≡ n

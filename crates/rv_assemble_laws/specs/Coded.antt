@@ -12,8 +12,8 @@ use Rattle.rv_pseudo_laws.specs.Code.{Part, Closed, Open, Joined, Constants, nam
 use Rattle.rv_pseudo_laws.specs.Filled.{are_closed}
 use Rattle.rv_pseudo_laws.specs.Valid.{IsOpen}
 use Rattle.rv_source_laws.specs.Lines.{constant_of}
-use Rattle.rv_compress.specs.declared.form.Compressed.{Compressed}
-use Rattle.rv_compress.specs.Encoded.{IsEncodedIn, IsLeastAs, IsEncodedAs}
+use Rattle.rv_parcel.specs.declared.form.Compressed.{Compressed}
+use Rattle.rv_parcel.specs.Encoded.{IsEncodedIn, IsLeastAs, IsEncodedAs}
 
 -- ---- constants
 

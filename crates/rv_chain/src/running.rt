@@ -2,7 +2,7 @@
 
 ghost use Rattle.std.specs.Prelude.{IfErr, IfOk};
 ghost use Rattle.rv_isa_laws.specs.Word.{Spells};
-ghost use Rattle.rv_compress.specs.Parcel.{StandsFor};
+ghost use Rattle.rv_parcel.specs.Parcel.{StandsFor};
 ghost use Rattle.rv_isa_laws.specs.Reader.{Reader};
 ghost use Rattle.rv_machine.specs.Outcome.{outcome_of};
 ghost use Rattle.rv_chain_laws.specs.Running.{RunsFile, RefusesFile};

@@ -2,7 +2,7 @@
 
 use Rattle.std.specs.Prelude.{◌≡◌, ℕ, List, None, Some}
 use Rattle.rv_isa_laws.specs.Word.{Spells}
-use Rattle.rv_compress.specs.Parcel.{StandsFor}
+use Rattle.rv_parcel.specs.Parcel.{StandsFor}
 use Rattle.rv_isa_laws.specs.Hart.{Outcome}
 use Rattle.rv_image_laws.specs.Image.{Image}
 use Rattle.rv_image_laws.specs.ImageOf.{ImageOf}

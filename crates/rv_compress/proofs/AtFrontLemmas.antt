@@ -2,7 +2,7 @@
 use Rattle.std.proofs.Common.{◌≡◌, ◌≢◌, ◌↔◌, ℕ, ◌%◌, List, slice_index, Option, Some, None, subst, sym, ap, ◌∙◌, inl, inr}
 use Rattle.std.proofs.lemmas.Option.{none-some, same_Some}
 use Rattle.rv_isa.specs.declared.instruction.Inst.{Inst}
-use Rattle.rv_compress.specs.Front.{FrontParcel, FrontSpells}
+use Rattle.rv_parcel.specs.Front.{FrontParcel, FrontSpells}
 
 -- what is found is the pair of `i` and `n`
 abbrev Finds : {A : Type 0} → Option (A × ℕ) → A → ℕ → Type 0

@@ -1,3 +1,1 @@
 pub mod AtFrontLemmas
-pub mod JumpLemmas
-pub mod ReaderLemmas

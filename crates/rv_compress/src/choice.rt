@@ -1,7 +1,7 @@
 //! From an instruction to the form that is chosen to stand for it.
 
 ghost use Rattle.std.specs.Prelude.{◌≡◌, ◌≢◌, ◌↔◌, ◌<◌, ℕ, pos, IsTrue, MatchOption};
-ghost use Rattle.rv_compress.specs.Parcel.{
+ghost use Rattle.rv_parcel.specs.Parcel.{
   IsBranch,
   IsFormOf,
   IsJump,
@@ -13,7 +13,7 @@ ghost use Rattle.rv_compress.specs.Parcel.{
   IsUpper,
 };
 
-use crate::form::Compressed;
+use rv_parcel::Compressed;
 use crate::writing::write;
 use rv_isa::{BType, IType, Inst, JType, RType, Reg, SType, Shift, UType};
 

@@ -2,9 +2,9 @@
 
 ghost use Rattle.std.specs.Prelude.{◌≡◌, ◌↔◌, IfSome};
 ghost use Rattle.rv_isa.specs.Ranges.{IsValid};
-ghost use Rattle.rv_compress.specs.Parcel.{IsLine, StandsFor, expansion};
+ghost use Rattle.rv_parcel.specs.Parcel.{IsLine, StandsFor, expansion};
 
-use crate::form::Compressed;
+use rv_parcel::Compressed;
 use crate::reading::read;
 use rv_isa::{BType, IType, Inst, JType, RType, Reg, SType, Shift, UType};
 

@@ -2,7 +2,7 @@
 
 ghost use Rattle.std.specs.Prelude.{◌≡◌, ◌↔◌, ◌%◌, ◌≤◌, ◌≢◌, ℕ, IfSome, length, slice_index};
 ghost use Rattle.rv_isa.specs.Ranges.{IsValid};
-ghost use Rattle.rv_compress.specs.Front.{FrontParcel, FrontSpells, FrontWord, front_parcel};
+ghost use Rattle.rv_parcel.specs.Front.{FrontParcel, FrontSpells, FrontWord, front_parcel};
 
 use crate::expansion::expand;
 use rv_encode::decode;

@@ -4,7 +4,7 @@
 
 ghost use Rattle.std.specs.Prelude.{◌≡◌, ◌<◌, ◌^◌, ◌+◌, ◌≤ℤ◌, pos, negsuc, nat_lt, if◌then◌else◌};
 ghost use Rattle.rv_isa_laws.specs.Word.{field};
-ghost use Rattle.rv_compress.specs.Parcel.{bits_at};
+ghost use Rattle.rv_parcel.specs.Parcel.{bits_at};
 
 /// uimm[5:3] at 12:10, uimm[2|6] at 6:5.
 #[inline]

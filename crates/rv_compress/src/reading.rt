@@ -1,9 +1,9 @@
 //! From a parcel to the form that it spells, by quadrant and funct3.
 
 ghost use Rattle.std.specs.Prelude.{◌≡◌, ◌≢◌, ◌*◌, ◌<◌, ◌/◌, ◌%◌, ◌^◌, ◌+◌};
-ghost use Rattle.rv_compress.specs.Parcel.{HasOpcode, IsForm, IsRead, bits_at};
+ghost use Rattle.rv_parcel.specs.Parcel.{HasOpcode, IsForm, IsRead, bits_at};
 
-use crate::form::Compressed;
+use rv_parcel::Compressed;
 use crate::immediate::{
     branch_offset, double_load, double_offset, double_store, jump_offset, signed_10, signed_12,
     signed_six, six, stack_address, stack_step, upper_20, word_load, word_offset, word_store,

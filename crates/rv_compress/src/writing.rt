@@ -2,7 +2,7 @@
 
 ghost use Rattle.std.specs.Prelude.{◌≡◌, ◌<◌, ◌%◌, ◌^◌, ◌*◌, ◌+◌};
 ghost use Rattle.rv_isa_laws.specs.Word.{field};
-ghost use Rattle.rv_compress.specs.Parcel.{
+ghost use Rattle.rv_parcel.specs.Parcel.{
   IsBranch,
   IsJump,
   IsLine,
@@ -25,7 +25,7 @@ ghost use Rattle.rv_compress.specs.Parcel.{
   word_store,
 };
 
-use crate::form::Compressed;
+use rv_parcel::Compressed;
 use rv_isa::Reg;
 
 /// The number of a register, for a field of five bits.

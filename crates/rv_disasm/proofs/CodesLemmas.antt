@@ -9,9 +9,9 @@ use Rattle.rv_isa.specs.Ranges.{IsValid}
 use Rattle.rv_isa_laws.specs.Bytes.{little_endian}
 use Rattle.rv_isa_laws.specs.Word.{form, word, Spells}
 use Rattle.rv_isa_laws.proofs.ReaderLemmas.{word_read-exact}
-use Rattle.rv_compress.specs.declared.form.Compressed.{Compressed}
-use Rattle.rv_compress.specs.Parcel.{parcel, IsLine, IsNoHint, SpellsForm}
-use Rattle.rv_compress.specs.Front.{front_parcel, front_word}
+use Rattle.rv_parcel.specs.declared.form.Compressed.{Compressed}
+use Rattle.rv_parcel.specs.Parcel.{parcel, IsLine, IsNoHint, SpellsForm}
+use Rattle.rv_parcel.specs.Front.{front_parcel, front_word}
 use Rattle.rv_listing_laws.specs.declared.code.Code.{Code}
 use Rattle.rv_listing_laws.specs.declared.code.Code.TheVariants.{Word, Parcel}
 use Rattle.rv_listing_laws.specs.Raw.{raw_bytes, has_source, IsSourced}

@@ -7,7 +7,7 @@ use Rattle.std.proofs.lemmas.List.{length-append, drop_at, take_all}
 use Rattle.rv_isa.specs.declared.instruction.Inst.{Inst}
 use Rattle.rv_isa_laws.specs.Reader.{Reader}
 use Rattle.rv_isa_laws.specs.Word.{Spells}
-use Rattle.rv_compress.specs.Parcel.{StandsFor}
+use Rattle.rv_parcel.specs.Parcel.{StandsFor}
 use Rattle.rv_listing_laws.specs.Lines.{read_whole, front}
 use Rattle.rv_listing_laws.proofs.FrontsLemmas.{le_true}
 

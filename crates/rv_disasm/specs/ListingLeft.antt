@@ -3,7 +3,7 @@
 use Rattle.std.specs.Prelude.{ℕ, ◌-◌, List, length, drop, flat_map, map}
 use Rattle.rv_isa_laws.specs.Reader.{Reader}
 use Rattle.rv_isa_laws.specs.Word.{Spells}
-use Rattle.rv_compress.specs.Parcel.{StandsFor}
+use Rattle.rv_parcel.specs.Parcel.{StandsFor}
 use Rattle.rv_image.specs.SegmentView.{segment_of}
 use Rattle.rv_disasm.specs.declared.listed.ListedRows.{ListedRows}
 use Rattle.rv_listing_laws.specs.Listing.{row_text}

@@ -5,7 +5,7 @@
 ghost use Rattle.std.specs.Prelude.{◌≡◌, ◌≢◌, ◌≤◌, ◌%◌, ◌++◌, ◌∷◌, [], OnOk, length, slice_index, take};
 ghost use Rattle.std.specs.Int.{to_le_bytes, w32};
 ghost use Rattle.rv_isa.specs.Operations.{format_of};
-ghost use Rattle.rv_compress.specs.Front.{front_parcel, front_word};
+ghost use Rattle.rv_parcel.specs.Front.{front_parcel, front_word};
 ghost use Rattle.rv_listing_laws.specs.Raw.{raw_bytes, code_text, has_source};
 ghost use Rattle.rv_disasm.specs.RawParts.{IsFront};
 

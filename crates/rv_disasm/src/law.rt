@@ -2,7 +2,7 @@
 
 ghost use Rattle.std.specs.Prelude.{◌≡◌, ℕ, List};
 ghost use Rattle.rv_isa_laws.specs.Word.{Spells};
-ghost use Rattle.rv_compress.specs.Parcel.{StandsFor};
+ghost use Rattle.rv_parcel.specs.Parcel.{StandsFor};
 ghost use Rattle.rv_isa_laws.specs.Reader.{Reader};
 ghost use Rattle.rv_map_laws.specs.Map.{Map};
 ghost use Rattle.rv_image_laws.specs.Image.{Image};

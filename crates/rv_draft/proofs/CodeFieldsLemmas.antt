@@ -5,7 +5,7 @@ use Rattle.std.specs.Prelude.{◌&&◌, unwrap_or, if◌then◌else◌}
 use Rattle.std.proofs.lemmas.List.{at_drop_all, map-append}
 use Rattle.rv_isa.specs.declared.instruction.Inst.{Inst}
 use Rattle.rv_isa.specs.declared.kind.Kind.{Kind}
-use Rattle.rv_compress.specs.declared.form.Compressed.{Compressed}
+use Rattle.rv_parcel.specs.declared.form.Compressed.{Compressed}
 use Rattle.rv_text_laws.specs.Values.{Value}
 use Rattle.rv_statement.specs.declared.mnemonic.Mnemonic.{Mnemonic}
 use Rattle.rv_statement.specs.Statement.{StatementKind, Label, Numbered, Instruction, Directs, Expression, Operand}

@@ -6,7 +6,7 @@ use Rattle.std.specs.Prelude.{flat_map, not, ◌&&◌, ◌||◌, nat_lt, nat_le,
 use Rattle.std.specs.List.{AllByRecursion}
 use Rattle.std.proofs.lemmas.Bool.{leb-true, both_ways}
 use Rattle.rv_isa_laws.specs.Bytes.{zeros}
-use Rattle.rv_compress.specs.declared.form.Compressed.{Compressed}
+use Rattle.rv_parcel.specs.declared.form.Compressed.{Compressed}
 use Rattle.rv_text_laws.specs.Values.{Value, Constant, Symbolic, Difference, Faulty}
 use Rattle.rv_statement.specs.declared.mnemonic.Mnemonic.{Mnemonic}
 use Rattle.rv_statement.specs.Statement.{StatementKind, Label, Numbered, Instruction, Directs, Statement, Operand, Expression, Directive, Enters, Sets, Aligns_to_power, Aligns_to_bytes, Values, Strings, Zeros}

@@ -10,7 +10,7 @@ use Rattle.rv_isa.specs.declared.instruction.Inst.TheVariants.{Ecall}
 use Rattle.rv_isa_laws.specs.Bytes.{little_endian}
 use Rattle.rv_isa_laws.specs.Hart.{Exited, Astray}
 use Rattle.rv_isa_laws.specs.Word.{Spells, form, word}
-use Rattle.rv_compress.specs.Parcel.{StandsFor}
+use Rattle.rv_parcel.specs.Parcel.{StandsFor}
 use Rattle.rv_image_laws.specs.Memory.{mem_of}
 use Rattle.rv_isa_laws.specs.Reader.{Reader}
 use Rattle.rv_isa_laws.specs.Run.{machine_run}

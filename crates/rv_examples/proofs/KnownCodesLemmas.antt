@@ -7,11 +7,11 @@ use Rattle.rv_isa.specs.Ranges.{IsValid}
 use Rattle.rv_isa.specs.declared.instruction.Inst.{Inst}
 use Rattle.rv_isa.specs.declared.instruction.Inst.TheVariants as isa
 use Rattle.rv_isa.specs.declared.operation.ImmediateOperation.TheVariants.{Addi as Of_addi}
-use Rattle.rv_compress.specs.declared.form.Compressed.{Compressed}
-use Rattle.rv_compress.specs.declared.form.Compressed.TheVariants.{Addi, Addiw, Lui}
-use Rattle.rv_compress.specs.declared.parcel.ParcelOperation.TheVariants as parcels
-use Rattle.rv_compress.specs.Parcel.{IsLine, IsShortOf, expansion}
-use Rattle.rv_compress.specs.Encoded.{HasShort}
+use Rattle.rv_parcel.specs.declared.form.Compressed.{Compressed}
+use Rattle.rv_parcel.specs.declared.form.Compressed.TheVariants.{Addi, Addiw, Lui}
+use Rattle.rv_parcel.specs.declared.parcel.ParcelOperation.TheVariants as parcels
+use Rattle.rv_parcel.specs.Parcel.{IsLine, IsShortOf, expansion}
+use Rattle.rv_parcel.specs.Encoded.{HasShort}
 use Rattle.rv_statement.specs.declared.mnemonic.Mnemonic.TheVariants.{Immediate, Li, Parcel}
 use Rattle.rv_pseudo_laws.specs.Li.{addi, addiw, lui}
 use Rattle.rv_pseudo_laws.specs.Code.{Closed}

@@ -6,9 +6,9 @@ use Rattle.rv_isa.specs.Ranges.{IsValid}
 use Rattle.rv_isa.specs.declared.instruction.Inst.{Inst}
 use Rattle.rv_isa.specs.declared.instruction.Inst.TheVariants.{Beq as Of_beq, Bne as Of_bne}
 use Rattle.rv_isa.specs.declared.kind.Kind.TheVariants as kind
-use Rattle.rv_compress.specs.declared.form.Compressed.TheVariants.{Beqz as Of_parcel}
-use Rattle.rv_compress.specs.declared.parcel.ParcelOperation.TheVariants as parcels
-use Rattle.rv_compress.specs.Parcel.{IsShortOf}
+use Rattle.rv_parcel.specs.declared.form.Compressed.TheVariants.{Beqz as Of_parcel}
+use Rattle.rv_parcel.specs.declared.parcel.ParcelOperation.TheVariants as parcels
+use Rattle.rv_parcel.specs.Parcel.{IsShortOf}
 use Rattle.rv_statement.specs.declared.mnemonic.Mnemonic.TheVariants.{Call, La, ZeroBranch, Parcel}
 use Rattle.rv_statement.specs.declared.pseudo.ZeroBranchOperation.TheVariants.{Beqz}
 use Rattle.rv_pseudo_laws.specs.Li.{addi}

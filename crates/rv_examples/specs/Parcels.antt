@@ -2,8 +2,8 @@
 -- code is off.
 
 use Rattle.std.specs.Prelude.{ℕ, List, [], ◌∷◌, codes}
-use Rattle.rv_compress.specs.declared.parcel.ParcelOperation.{ParcelOperation}
-use Rattle.rv_compress.specs.declared.parcel.ParcelOperation.TheVariants.{Lw, Li, J}
+use Rattle.rv_parcel.specs.declared.parcel.ParcelOperation.{ParcelOperation}
+use Rattle.rv_parcel.specs.declared.parcel.ParcelOperation.TheVariants.{Lw, Li, J}
 use Rattle.rv_statement.specs.declared.mnemonic.Mnemonic.TheVariants.{Ecall, Parcel}
 use Rattle.rv_statement.specs.declared.pseudo.Function.{Function}
 use Rattle.rv_statement.specs.Statement.{StatementKind, Label, Instruction, Statement, Operand, Expression, Register, Value, Applied, Target}

@@ -2,7 +2,7 @@
 
 ghost use Rattle.std.specs.Prelude.{true, false};
 ghost use Rattle.rv_isa.specs.declared.operation.ImmediateOperation.TheVariants.{Addi};
-ghost use Rattle.rv_compress.specs.declared.parcel.ParcelOperation.TheVariants as parcels;
+ghost use Rattle.rv_parcel.specs.declared.parcel.ParcelOperation.TheVariants as parcels;
 ghost use Rattle.rv_statement.specs.declared.mnemonic.Mnemonic.TheVariants.{Immediate, Li, Call, La, ZeroBranch, Parcel};
 ghost use Rattle.rv_statement.specs.declared.pseudo.ZeroBranchOperation.TheVariants.{Beqz};
 ghost use Rattle.rv_assemble_laws.specs.Coded.{IsCode};

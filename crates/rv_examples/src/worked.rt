@@ -10,7 +10,7 @@ ghost use Rattle.rv_image_laws.specs.ImageOf.{ImageOf};
 ghost use Rattle.rv_image_laws.specs.FirstFault.{first_fault};
 ghost use Rattle.rv_image_laws.specs.Memory.{mem_of};
 ghost use Rattle.rv_isa_laws.specs.Word.{Spells};
-ghost use Rattle.rv_compress.specs.Parcel.{StandsFor};
+ghost use Rattle.rv_parcel.specs.Parcel.{StandsFor};
 ghost use Rattle.rv_isa_laws.specs.Reader.{Reader};
 ghost use Rattle.rv_isa_laws.specs.Run.{machine_run};
 ghost use Rattle.rv_chain_laws.specs.Contents.{IsLinked};

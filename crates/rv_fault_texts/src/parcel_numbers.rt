@@ -1,6 +1,6 @@
 //! Which numbers a `c.` mnemonic takes, in words: the table of the short forms is asked for each.
 
-use rv_compress::{OperandShape, ParcelOperation};
+use rv_parcel::{OperandShape, ParcelOperation};
 use rv_parse_words::Beginning;
 use rv_parse_words::words::beginning_with;
 use rv_statement::Mnemonic;

@@ -13,8 +13,8 @@ use Rattle.rv_isa.specs.Operations.{format_of}
 use Rattle.rv_isa_laws.specs.Bytes.{little_endian}
 use Rattle.rv_reloc_laws.specs.Fields.{patched}
 use Rattle.rv_reloc_laws.specs.Operands.{with_value}
-use Rattle.rv_compress.specs.declared.form.Compressed.{Compressed}
-use Rattle.rv_compress.specs.Encoded.{IsEncodedIn, IsEncodedAs}
+use Rattle.rv_parcel.specs.declared.form.Compressed.{Compressed}
+use Rattle.rv_parcel.specs.Encoded.{IsEncodedIn, IsEncodedAs}
 use Rattle.rv_pseudo_laws.specs.Code.{Part, Closed, Open, Joined}
 use Rattle.rv_pseudo_laws.specs.Filled.{FieldValue, AreTaken, IsTaken, is_closed, filled, part_bytes}
 use Rattle.rv_pseudo_laws.specs.Runs.{Sized, instructions_of, sum_of_bytes}

@@ -3,7 +3,7 @@ use Rattle.std.proofs.Common.{◌≡◌, ℕ, ◌+◌, ◌*◌, ◌/◌, ◌%◌
 use Rattle.std.proofs.lemmas.Int.{ints}
 use Rattle.rv_isa_laws.specs.Bytes.{little_endian, number_in}
 use Rattle.rv_isa_laws.specs.Word.{Branch, field, word}
-use Rattle.rv_compress.specs.declared.form.Compressed.TheVariants.{Beqz, Bnez}
+use Rattle.rv_parcel.specs.declared.form.Compressed.TheVariants.{Beqz, Bnez}
 use Rattle.rv_reloc_laws.specs.Fields.{modulo, with_immediate, b_type}
 use Rattle.rv_filling_laws.specs.Formats.{BranchesFill, JumpsFill, UppersFill, ImmediatesFill, StoresFill, CallsFill, ShortBranchesFill, ShortJumpsFill}
 use Rattle.rv_filling_laws.proofs.FieldsLemmas.{lo_field}

@@ -19,13 +19,13 @@ use Rattle.rv_isa.specs.Operations.{format_of, instruction_of, of_branch}
 use Rattle.rv_isa.specs.Ranges.{IsIType, IsValidFormat}
 use Rattle.rv_isa_laws.specs.Bytes.{little_endian}
 use Rattle.rv_isa_laws.specs.Word.{Form, Immediate, Upper, form}
-use Rattle.rv_compress.specs.declared.form.Compressed.{Compressed}
-use Rattle.rv_compress.specs.declared.form.Compressed.TheVariants.{J, Beqz, Bnez}
-use Rattle.rv_compress.specs.Parcel.{IsBranch, IsJump, IsLine, IsShortOf, expansion, parcel}
+use Rattle.rv_parcel.specs.declared.form.Compressed.{Compressed}
+use Rattle.rv_parcel.specs.declared.form.Compressed.TheVariants.{J, Beqz, Bnez}
+use Rattle.rv_parcel.specs.Parcel.{IsBranch, IsJump, IsLine, IsShortOf, expansion, parcel}
 use Rattle.rv_reloc_laws.specs.Fields.{patched}
 use Rattle.rv_reloc_laws.specs.Operands.{branch_to, jump_to, immediate_of, store_of, upper_of, format_with, with_value}
 use Rattle.rv_reloc_laws.specs.Ranges.{Takes}
-use Rattle.rv_compress.specs.Encoded.{IsEncodedIn}
+use Rattle.rv_parcel.specs.Encoded.{IsEncodedIn}
 use Rattle.rv_filling_laws.specs.Formats.{word_bytes, Fills, IsUpperKind, IsLowerKind, IsStoreKind, IsCallKind}
 use Rattle.rv_filling_laws.proofs.FormatsLemmas.{branches, jumps, uppers, immediates, stores, calls, zero, nonzero, short_jumps}
 use Rattle.rv_pseudo_laws.specs.Code.{Joined}

@@ -3,7 +3,7 @@ use Rattle.std.proofs.Common.{◌≡◌, ℕ, ◌+◌, ◌*◌, ◌/◌, ◌%◌
 use Rattle.std.proofs.lemmas.Int.{ints}
 use Rattle.rv_isa_laws.specs.Bytes.{little_endian, number_in}
 use Rattle.rv_isa_laws.specs.Word.{field}
-use Rattle.rv_compress.specs.Parcel.{branch_offset, jump_offset}
+use Rattle.rv_parcel.specs.Parcel.{branch_offset, jump_offset}
 use Rattle.rv_reloc_laws.specs.Fields.{modulo, with_immediate, cb_type, cj_type}
 
 -- in range, two's complement is the number modulo the field's width

@@ -12,9 +12,9 @@ use Rattle.rv_isa.specs.declared.instruction.UType.{UType}
 use Rattle.rv_isa.specs.Ranges.{IsBType, IsIType, IsJType, IsSType, IsUType}
 use Rattle.rv_isa_laws.specs.Bytes.{little_endian}
 use Rattle.rv_isa_laws.specs.Word.{Form, Immediate, Store, Branch, Upper, Jump, word}
-use Rattle.rv_compress.specs.declared.form.Compressed.{Compressed}
-use Rattle.rv_compress.specs.declared.form.Compressed.TheVariants.{J}
-use Rattle.rv_compress.specs.Parcel.{IsLine, parcel}
+use Rattle.rv_parcel.specs.declared.form.Compressed.{Compressed}
+use Rattle.rv_parcel.specs.declared.form.Compressed.TheVariants.{J}
+use Rattle.rv_parcel.specs.Parcel.{IsLine, parcel}
 use Rattle.rv_reloc_laws.specs.Fields.{patched}
 use Rattle.rv_reloc_laws.specs.Operands.{branch_to, jump_to, immediate_of, store_of, upper_of}
 use Rattle.rv_reloc_laws.specs.Ranges.{Takes}

@@ -1,6 +1,6 @@
 //! The laws, a clause a format.
 
-ghost use Rattle.rv_compress.specs.declared.form.Compressed.TheVariants.{Beqz, Bnez};
+ghost use Rattle.rv_parcel.specs.declared.form.Compressed.TheVariants.{Beqz, Bnez};
 ghost use Rattle.rv_filling_laws.specs.Formats.{
   BranchesFill,
   CallsFill,

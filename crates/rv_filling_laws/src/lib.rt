@@ -2,7 +2,7 @@
 //! with its operands. Nothing here runs.
 //!
 //! It takes what the open parts of a statement's code are (`rv_pseudo_laws`), what `patch` writes (`rv_reloc_laws`) and
-//! what it makes of words and parcels (`rv_isa_laws`, `rv_compress`). It shows, format by format, that an instruction
+//! what it makes of words and parcels (`rv_isa_laws`, `rv_parcel`). It shows, format by format, that an instruction
 //! whose immediate is patched with a value is the same instruction with that value (`specs/Formats`), then the same
 //! part by part (`specs/Parts`): an open field that takes its value leaves the instruction with that value as its
 //! operand in the same bytes, and all parts of a statement leave its instructions one after another.

@@ -11,7 +11,7 @@ use crate::instruction_text::{
 };
 use crate::parcel_text::put_parcel;
 use crate::scope::Scope;
-use rv_compress::Compressed;
+use rv_parcel::Compressed;
 use rv_isa::{
     BType, BranchOperation, Fence, Format, IType, ImmediateOperation, Inst, JType, RType, Reg,
     RegisterOperation, Shift, ShiftOperation,

@@ -9,7 +9,8 @@ use crate::pairs::Pairs;
 use crate::parcel_text::put_parcel;
 use crate::relocations::{Relocation, put_relocation};
 use crate::scope::{Scope, put_address, put_place};
-use rv_compress::{Compressed, next_inst, read};
+use rv_compress::{next_inst, read};
+use rv_parcel::Compressed;
 use rv_isa::{Format, Inst};
 use std::alloc::AllocError;
 

@@ -1,7 +1,7 @@
 //! The addresses that two instructions make, as GNU's `objdump` tells them: the upper part of a `lui` or an `auipc` holds
 //! until an instruction adds to that register.
 
-use rv_compress::Compressed;
+use rv_parcel::Compressed;
 use rv_isa::{Format, IType, ImmediateOperation, Inst, Reg, UType, UpperOperation};
 
 /// The number of `gp`, whose value the linker knows.

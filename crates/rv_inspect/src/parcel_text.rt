@@ -3,7 +3,7 @@
 use crate::columns::put;
 use crate::instruction_text::{put_amount, put_registers, put_sum, put_target, set_tab, target_of};
 use crate::scope::Scope;
-use rv_compress::Compressed;
+use rv_parcel::Compressed;
 use rv_isa::Reg;
 use std::alloc::AllocError;
 

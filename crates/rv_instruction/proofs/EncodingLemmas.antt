@@ -13,10 +13,10 @@ use Rattle.rv_isa.specs.declared.instruction.Inst.{Inst}
 use Rattle.rv_isa.specs.Ranges.{IsValid}
 use Rattle.rv_isa_laws.specs.Bytes.{little_endian}
 use Rattle.rv_isa_laws.specs.Word.{form, word}
-use Rattle.rv_compress.specs.declared.form.Compressed.{Compressed}
-use Rattle.rv_compress.specs.Parcel.{IsLine, IsShortOf, StandsFor, parcel, expansion}
-use Rattle.rv_compress.proofs.ReaderLemmas.{stands-valid}
-use Rattle.rv_compress.specs.Encoded.{HasShort, IsEncodedIn}
+use Rattle.rv_parcel.specs.declared.form.Compressed.{Compressed}
+use Rattle.rv_parcel.specs.Parcel.{IsLine, IsShortOf, StandsFor, parcel, expansion}
+use Rattle.rv_parcel.proofs.ReaderLemmas.{stands-valid}
+use Rattle.rv_parcel.specs.Encoded.{HasShort, IsEncodedIn}
 use Rattle.rv_pseudo_laws.specs.Code.{Part, Closed, Open, Joined}
 use Rattle.rv_pseudo_laws.specs.Filled.{are_closed, part_bytes, code_bytes}
 use Rattle.rv_pseudo.specs.declared.template.Template.{Template}

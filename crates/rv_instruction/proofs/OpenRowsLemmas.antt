@@ -14,11 +14,11 @@ use Rattle.rv_isa.specs.declared.operation.BranchOperation.{BranchOperation}
 use Rattle.rv_isa.specs.declared.operation.BranchOperation.TheVariants.{Beq, Bne, Blt, Bge, Bltu, Bgeu}
 use Rattle.rv_isa.specs.Kinds.{width_of}
 use Rattle.rv_isa.specs.Operations.{of_immediate, of_upper, of_load, of_store, of_branch}
-use Rattle.rv_compress.specs.declared.parcel.ParcelOperation.TheVariants as parcels
-use Rattle.rv_compress.specs.declared.parcel.RegisterSet.TheVariants.{Short}
-use Rattle.rv_compress.specs.Mnemonics.{is_of_set}
-use Rattle.rv_compress.specs.Parcel.{parcel, IsShort, IsBranch, IsJump}
-use Rattle.rv_compress.specs.declared.form.Compressed.TheVariants as compressed
+use Rattle.rv_parcel.specs.declared.parcel.ParcelOperation.TheVariants as parcels
+use Rattle.rv_parcel.specs.declared.parcel.RegisterSet.TheVariants.{Short}
+use Rattle.rv_parcel.specs.Mnemonics.{is_of_set}
+use Rattle.rv_parcel.specs.Parcel.{parcel, IsShort, IsBranch, IsJump}
+use Rattle.rv_parcel.specs.declared.form.Compressed.TheVariants as compressed
 use Rattle.rv_statement.specs.declared.mnemonic.Mnemonic.{Mnemonic}
 use Rattle.rv_statement.specs.declared.mnemonic.Mnemonic.TheVariants as mnemonics
 use Rattle.rv_statement.specs.declared.pseudo.Function.{Function}
@@ -31,7 +31,7 @@ use Rattle.rv_statement.specs.Statement.{StatementKind, Instruction, Expression,
 use Rattle.rv_parse_laws.specs.Syntax.{with_constant}
 use Rattle.rv_layout_laws.specs.declared.item.Forms.{Forms}
 use Rattle.rv_layout_laws.specs.declared.item.Forms.TheVariants.{Settled}
-use Rattle.rv_compress.specs.Encoded.{HasShort}
+use Rattle.rv_parcel.specs.Encoded.{HasShort}
 use Rattle.rv_pseudo_laws.specs.Code.{Part, Closed, Open, Joined, Constants, i_type, s_type, b_type, u_type, jal, jalr, opened, by_part, signed_12, upper_20, by_constant, branch, inverted, jump, near, far, through, short_branch}
 use Rattle.rv_pseudo_laws.specs.Li.{addi}
 use Rattle.rv_pseudo_laws.specs.Filled.{are_closed, code_bytes}

@@ -24,7 +24,7 @@ use Rattle.rv_statement.specs.Statement.{StatementKind, Instruction, Operand, Ex
 use Rattle.rv_unit_laws.specs.Faults.{constant_faults}
 use Rattle.rv_layout_laws.specs.declared.item.Forms.{Forms}
 use Rattle.rv_layout_laws.specs.Branches.{Offers}
-use Rattle.rv_compress.specs.Encoded.{HasShort}
+use Rattle.rv_parcel.specs.Encoded.{HasShort}
 use Rattle.rv_pseudo_laws.specs.Code.{Part, Closed, Open, Joined, Constants, code}
 use Rattle.rv_pseudo_laws.specs.Filled.{are_closed, code_bytes}
 use Rattle.rv_pseudo_laws.specs.InstructionFaults.{Worth}

@@ -12,7 +12,7 @@ use Rattle.rv_unit_tables.specs.declared.section_offset.SectionOffset.{SectionOf
 use Rattle.rv_unit_tables.specs.Sections.{offset_of}
 use Rattle.rv_unit.specs.declared.scope.Scope.{Scope}
 use Rattle.rv_unit.specs.Unit.{said, passed, IsFilled, IsScope}
-use Rattle.rv_compress.specs.declared.form.Compressed.{Compressed}
+use Rattle.rv_parcel.specs.declared.form.Compressed.{Compressed}
 use Rattle.rv_source_laws.specs.Located.{is_placed}
 use Rattle.rv_source_laws.specs.Lines.{form_in}
 use Rattle.rv_assemble_laws.specs.Coded.{constants}

@@ -5,8 +5,8 @@
 
 ghost use Rattle.std.specs.Prelude.{◌≡◌, ◌≤◌, ◌&&◌, ◌∷◌, [], Bool, true, false, None, Some, MatchOption, length, map};
 ghost use Rattle.rv_isa.specs.Ranges.{IsValid};
-ghost use Rattle.rv_compress.specs.Parcel.{IsLine, IsShortOf, expansion};
-ghost use Rattle.rv_compress.specs.Encoded.{HasShort};
+ghost use Rattle.rv_parcel.specs.Parcel.{IsLine, IsShortOf, expansion};
+ghost use Rattle.rv_parcel.specs.Encoded.{HasShort};
 ghost use Rattle.rv_pseudo_laws.specs.Code.{Closed, Open};
 ghost use Rattle.rv_pseudo_laws.specs.Filled.{are_closed};
 ghost use Rattle.rv_assemble_laws.specs.Coded.{IsCodedPart, AreCodedParts};
@@ -14,7 +14,8 @@ ghost use Rattle.rv_instruction.specs.Code as laws;
 ghost use Rattle.rv_instruction.specs.Code.{encoded_bytes, encoded_instructions, coded_by, shape_in, shape_of, part_of, part_by, parts_in, IsCodable, AreCodable};
 
 use arrayvec::ArrayVec;
-use rv_compress::{Compressed, shrink, write};
+use rv_compress::{shrink, write};
+use rv_parcel::Compressed;
 use rv_encode::encode;
 use rv_isa::{Inst, Kind};
 use rv_pseudo::{Template, Templates};

@@ -3,7 +3,7 @@
 //! Source: RISC-V Unprivileged ISA 20191213, chapter 16.
 
 ghost use Rattle.std.specs.Prelude.{◌≡◌, IfSome};
-ghost use Rattle.rv_compress.specs.Parcel.{IsLine};
+ghost use Rattle.rv_parcel.specs.Parcel.{IsLine};
 ghost use Rattle.rv_text.specs.Expr.{tree_of_expr};
 ghost use Rattle.rv_statement.specs.View.{statement_kind};
 ghost use Rattle.rv_pseudo.specs.Faults.{worth_of, constant_in};
@@ -13,7 +13,7 @@ ghost use Rattle.rv_assemble_laws.specs.Coded.{constants};
 ghost use Rattle.rv_instruction.specs.Scoped.{values_at, named_at, AtNext};
 
 use crate::worth::worth;
-use rv_compress::Compressed;
+use rv_parcel::Compressed;
 use rv_pseudo::{Manner, Worth, named};
 use rv_statement::{Operation, Plain, Statement, StatementKind};
 use rv_text::Expr;

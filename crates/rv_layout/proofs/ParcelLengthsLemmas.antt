@@ -5,12 +5,12 @@ use Rattle.std.specs.Prelude.{⊤, ◌&&◌, if◌then◌else◌}
 use Rattle.rv_isa.specs.declared.operation.BranchOperation.{BranchOperation}
 use Rattle.rv_isa.specs.declared.operation.BranchOperation.TheVariants.{Beq, Bne}
 use Rattle.rv_isa.specs.Kinds.{width_of}
-use Rattle.rv_compress.specs.declared.form.Compressed.{Compressed}
-use Rattle.rv_compress.specs.declared.parcel.ParcelOperation.{ParcelOperation}
-use Rattle.rv_compress.specs.declared.parcel.ParcelOperation.TheVariants as parcels
-use Rattle.rv_compress.specs.declared.parcel.RegisterSet.TheVariants.{Short}
-use Rattle.rv_compress.specs.Mnemonics.{is_of_set, shape_of}
-use Rattle.rv_compress.specs.Parcel.{expansion}
+use Rattle.rv_parcel.specs.declared.form.Compressed.{Compressed}
+use Rattle.rv_parcel.specs.declared.parcel.ParcelOperation.{ParcelOperation}
+use Rattle.rv_parcel.specs.declared.parcel.ParcelOperation.TheVariants as parcels
+use Rattle.rv_parcel.specs.declared.parcel.RegisterSet.TheVariants.{Short}
+use Rattle.rv_parcel.specs.Mnemonics.{is_of_set, shape_of}
+use Rattle.rv_parcel.specs.Parcel.{expansion}
 use Rattle.rv_statement.specs.declared.mnemonic.Mnemonic.TheVariants.{Parcel}
 use Rattle.rv_statement.specs.declared.statement.Operation.{Operation}
 use Rattle.rv_statement.specs.declared.statement.Operation.TheVariants as operations

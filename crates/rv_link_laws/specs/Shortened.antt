@@ -9,8 +9,8 @@ use Rattle.rv_isa.specs.declared.kind.Kind.TheVariants as kinds
 use Rattle.rv_isa.specs.declared.instruction.Inst.TheVariants as isa
 use Rattle.rv_isa_laws.specs.Bytes.{little_endian}
 use Rattle.rv_isa_laws.specs.Word.{form, word}
-use Rattle.rv_compress.specs.declared.form.Compressed.TheVariants as compressed
-use Rattle.rv_compress.specs.Parcel.{parcel}
+use Rattle.rv_parcel.specs.declared.form.Compressed.TheVariants as compressed
+use Rattle.rv_parcel.specs.Parcel.{parcel}
 use Rattle.rv_layout_laws.specs.Calls.{IsGreatestClosed}
 use Rattle.rv_object_laws.specs.declared.symbol.Definition.{Definition}
 use Rattle.rv_object_laws.specs.declared.symbol.Definition.TheVariants as definitions

@@ -8,8 +8,8 @@ use Rattle.std.proofs.lemmas.Bool.Decides.{nat_tests}
 use Rattle.rv_isa.specs.declared.instruction.Inst.{Inst}
 use Rattle.rv_isa_laws.specs.Reader.{Reader}
 use Rattle.rv_isa_laws.specs.Word.{Spells}
-use Rattle.rv_compress.specs.Parcel.{StandsFor}
-use Rattle.rv_compress.specs.Front.{FrontSpells, front_word, front_parcel}
+use Rattle.rv_parcel.specs.Parcel.{StandsFor}
+use Rattle.rv_parcel.specs.Front.{FrontSpells, front_word, front_parcel}
 use Rattle.rv_listing_laws.specs.Lines.{read_whole, front}
 
 begins_word : (b : ℕ) → b % 4 ≡ 3 → (b % 4 == 3) ≡ true

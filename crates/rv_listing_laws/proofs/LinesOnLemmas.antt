@@ -4,7 +4,7 @@ use Rattle.std.proofs.Common.{◌≡◌, ℕ, suc, zero, ◌+◌, ◌-◌, ◌<�
 use Rattle.std.proofs.lemmas.List.{append-nil, drop-drop, drop_all, length-drop}
 use Rattle.rv_isa_laws.specs.Reader.{Reader}
 use Rattle.rv_isa_laws.specs.Word.{Spells}
-use Rattle.rv_compress.specs.Parcel.{StandsFor}
+use Rattle.rv_parcel.specs.Parcel.{StandsFor}
 use Rattle.rv_map_laws.specs.declared.map.Row.{Row}
 use Rattle.rv_listing_laws.specs.Lines.{front, length_read, line, lines}
 use Rattle.rv_listing_laws.specs.Listing.{statement, entry}

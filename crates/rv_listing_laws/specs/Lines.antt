@@ -6,8 +6,8 @@ use Rattle.rv_isa.specs.declared.instruction.Inst.{Inst}
 use Rattle.rv_isa.specs.Operations.{format_of}
 use Rattle.rv_isa_laws.specs.Reader.{Reader}
 use Rattle.rv_isa_laws.specs.Word.{Spells}
-use Rattle.rv_compress.specs.Parcel.{StandsFor}
-use Rattle.rv_compress.specs.Front.{front_parcel, front_word}
+use Rattle.rv_parcel.specs.Parcel.{StandsFor}
+use Rattle.rv_parcel.specs.Front.{front_parcel, front_word}
 use Rattle.rv_map_laws.specs.Text.{hexadecimal}
 use Rattle.rv_listing_laws.specs.Instruction.{text_of}
 

@@ -6,7 +6,7 @@ use Rattle.std.specs.List.{find}
 use Rattle.rv_isa_laws.specs.Memory.{Execute}
 use Rattle.rv_isa_laws.specs.Reader.{Reader}
 use Rattle.rv_isa_laws.specs.Word.{Spells}
-use Rattle.rv_compress.specs.Parcel.{StandsFor}
+use Rattle.rv_parcel.specs.Parcel.{StandsFor}
 use Rattle.rv_map_laws.specs.declared.map.Row.{Row}
 use Rattle.rv_map_laws.specs.Map.{Map}
 use Rattle.rv_image_laws.specs.Segment.{Segment}

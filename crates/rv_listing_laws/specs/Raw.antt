@@ -11,7 +11,7 @@ use Rattle.rv_isa_laws.specs.Bytes.{little_endian}
 use Rattle.rv_isa_laws.specs.Memory.{Execute}
 use Rattle.rv_isa_laws.specs.Platform.{stack_start}
 use Rattle.rv_isa_laws.specs.Word.{form, word}
-use Rattle.rv_compress.specs.Parcel.{parcel, IsLine, IsNoHint}
+use Rattle.rv_parcel.specs.Parcel.{parcel, IsLine, IsNoHint}
 use Rattle.rv_image_laws.specs.Segment.{Segment}
 use Rattle.rv_image_laws.specs.Image.{Image}
 use Rattle.rv_image_laws.specs.Memory.{gives_right}

@@ -1,6 +1,6 @@
 //! An instruction as it lies in memory.
 
-use rv_compress::Compressed;
+use rv_parcel::Compressed;
 use rv_isa::Inst;
 
 /// An instruction as it lies in memory.

@@ -4,7 +4,7 @@
 
 ghost use Rattle.std.specs.Prelude.{◌≡◌, ℕ, List, ◌*◌, ◌%◌, ◌^◌, true, Some, None, if◌then◌else◌, ◌-◌, length, take, drop};
 ghost use Rattle.rv_isa_laws.specs.Word.{Spells};
-ghost use Rattle.rv_compress.specs.Parcel.{StandsFor};
+ghost use Rattle.rv_parcel.specs.Parcel.{StandsFor};
 ghost use Rattle.rv_isa.specs.Operations.{format_of};
 ghost use Rattle.rv_isa_laws.specs.Arithmetic.{low};
 ghost use Rattle.rv_isa_laws.specs.Effect.{Updates, On, Over, apply};

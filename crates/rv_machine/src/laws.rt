@@ -1,7 +1,7 @@
 //! Laws of runs. Nothing here runs.
 
 ghost use Rattle.std.specs.Prelude.{◌≡◌, ℕ};
-ghost use Rattle.rv_compress.specs.Parcel.{StandsFor};
+ghost use Rattle.rv_parcel.specs.Parcel.{StandsFor};
 ghost use Rattle.rv_isa_laws.specs.Word.{Spells};
 ghost use Rattle.rv_isa_laws.specs.Hart.{Hart};
 ghost use Rattle.rv_isa_laws.specs.Memory.{Mem};

@@ -4,7 +4,7 @@ use Rattle.std.proofs.Common.{◌≡◌, ℕ, Bool, true, false, cond, List, [],
 use Rattle.rv_text_laws.specs.Lexing.{Token}
 use Rattle.rv_text_laws.specs.Codes.{unsupported_here}
 use Rattle.rv_text_laws.specs.SyntaxError.{SyntaxError, wrong, Read}
-use Rattle.rv_compress.specs.declared.parcel.RegisterSet.TheVariants.{Any}
+use Rattle.rv_parcel.specs.declared.parcel.RegisterSet.TheVariants.{Any}
 use Rattle.rv_statement.specs.declared.pseudo.Function.{Function}
 use Rattle.rv_statement.specs.declared.mnemonic.Mnemonic.{Mnemonic}
 use Rattle.rv_statement.specs.Statement.{Expression, Operand, Register, Value, Target, Instruction}

@@ -4,11 +4,11 @@ use Rattle.std.proofs.Common.{◌≡◌, ℕ, List, [], ◌∷◌, ◌++◌, app
 use Rattle.std.specs.Prelude.{slice_get, take}
 use Rattle.rv_text_laws.specs.Lexing.{Token}
 use Rattle.rv_text_laws.specs.SyntaxError.{SyntaxError, Read}
-use Rattle.rv_compress.specs.Mnemonics.{register_sets, shape_of}
-use Rattle.rv_compress.specs.declared.parcel.RegisterSet.{RegisterSet}
-use Rattle.rv_compress.specs.declared.parcel.ParcelOperation.{ParcelOperation}
-use Rattle.rv_compress.specs.declared.parcel.ParcelOperation.TheVariants as parcels
-use Rattle.rv_compress.specs.declared.parcel.OperandShape.TheVariants.{Number, Address, Target as ATarget}
+use Rattle.rv_parcel.specs.Mnemonics.{register_sets, shape_of}
+use Rattle.rv_parcel.specs.declared.parcel.RegisterSet.{RegisterSet}
+use Rattle.rv_parcel.specs.declared.parcel.ParcelOperation.{ParcelOperation}
+use Rattle.rv_parcel.specs.declared.parcel.ParcelOperation.TheVariants as parcels
+use Rattle.rv_parcel.specs.declared.parcel.OperandShape.TheVariants.{Number, Address, Target as ATarget}
 use Rattle.rv_statement.specs.declared.mnemonic.Mnemonic.TheVariants.{Parcel}
 use Rattle.rv_statement.specs.declared.statement.Operation.TheVariants as operations
 use Rattle.rv_statement.specs.Statement.{Expression, Operand, Register, Target, Instruction}

@@ -3,7 +3,7 @@
 use Rattle.std.specs.Prelude.{ℕ, Bool, true, false, List, [], ◌∷◌, ◌++◌, Option, Some, None, Ok, if◌then◌else◌}
 use Rattle.rv_text_laws.specs.Lexing.{Token}
 use Rattle.rv_text_laws.specs.SyntaxError.{Read}
-use Rattle.rv_compress.specs.declared.parcel.RegisterSet.{RegisterSet}
+use Rattle.rv_parcel.specs.declared.parcel.RegisterSet.{RegisterSet}
 use Rattle.rv_statement.specs.Statement.{Operand, Register}
 use Rattle.rv_parse_laws.specs.Syntax.{Slot, A_register_of, A_comma, A_value, A_target, An_address, Some_flags, At_sign, A_type, Slots, Takes, last, and_maybe}
 use Rattle.rv_parse_laws.specs.Parsing.{◌>>=◌, seen_as, operand_at, operands_at, ended_at, target_next, further, items_at}

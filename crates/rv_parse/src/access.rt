@@ -14,7 +14,7 @@ ghost use Rattle.rv_parse.specs.Left.{Gives, GivesInstruction, ReadsInstruction}
 use crate::operands::{given, with};
 use crate::value::Argument;
 use crate::{slot, value};
-use rv_compress::RegisterSet;
+use rv_parcel::RegisterSet;
 use rv_isa::{AtomicForm, AtomicOperation, LoadOperation, Reg, StoreOperation};
 use rv_parse_words::Role;
 use rv_parse_words::fault::Slot;

@@ -1,8 +1,8 @@
 //! The operands of the mnemonics of parcels, up to the statement's end.
 
 ghost use Rattle.std.specs.Prelude.{◌≡◌, ◌∷◌};
-ghost use Rattle.rv_compress.specs.Mnemonics.{register_sets, shape_of};
-ghost use Rattle.rv_compress.specs.declared.parcel.OperandShape.TheVariants.{Registers, Number, Address, Target};
+ghost use Rattle.rv_parcel.specs.Mnemonics.{register_sets, shape_of};
+ghost use Rattle.rv_parcel.specs.declared.parcel.OperandShape.TheVariants.{Registers, Number, Address, Target};
 ghost use Rattle.rv_statement.specs.declared.mnemonic.Mnemonic.TheVariants.{Parcel};
 ghost use Rattle.rv_statement.specs.Statement.{Instruction, Register};
 ghost use Rattle.rv_statement.specs.View.{parcel_registers, statement_kind};
@@ -14,7 +14,7 @@ ghost use Rattle.rv_parse.specs.Slots.{sets_in, own, leading_at, leading_of};
 
 use crate::operands::{self, given, with};
 use crate::{slot, value};
-use rv_compress::{OperandShape, ParcelOperation, RegisterSet};
+use rv_parcel::{OperandShape, ParcelOperation, RegisterSet};
 use rv_isa::Reg;
 use rv_parse_words::Role;
 use rv_parse_words::fault::Slot;

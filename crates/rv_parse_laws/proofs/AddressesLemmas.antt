@@ -11,7 +11,7 @@ use Rattle.rv_text_laws.specs.ExpressionAt.{Wants, read_from, expression_at}
 use Rattle.rv_text_laws.specs.declared.operator.Frame.TheVariants.{Parenthesis}
 use Rattle.rv_text_laws.proofs.ExpressionsLemmas.{fails, goes}
 use Rattle.rv_text_laws.proofs.ExpressionWrongLemmas.{ended_more}
-use Rattle.rv_compress.specs.declared.parcel.RegisterSet.{RegisterSet}
+use Rattle.rv_parcel.specs.declared.parcel.RegisterSet.{RegisterSet}
 use Rattle.rv_statement.specs.Statement.{Expression, Operand, Register, Value, Applied}
 use Rattle.rv_parse_laws.specs.Syntax.{is_register, register_of, kept_in, valued, is_refused, is_refused_by, function_in, is_percent, is_opening, is_colon, Slot, A_register_of, A_register, An_address_by, A_closing, An_opening, single, front_begins, IsValueIn, IsBase, IsOperand}
 use Rattle.rv_parse_laws.specs.Faults.{wrong_first}

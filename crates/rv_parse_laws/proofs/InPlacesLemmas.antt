@@ -6,11 +6,11 @@ use Rattle.rv_text_laws.specs.declared.punct.Punct.TheVariants.{Comma, Open}
 use Rattle.rv_text_laws.specs.Grammar.{Kind, Punctuation}
 use Rattle.rv_text_laws.specs.Lexing.{Token, is_ended}
 use Rattle.rv_text_laws.specs.SyntaxError.{SyntaxError, wrong}
-use Rattle.rv_compress.specs.declared.parcel.RegisterSet.{RegisterSet}
-use Rattle.rv_compress.specs.declared.parcel.RegisterSet.TheVariants.{Any}
-use Rattle.rv_compress.specs.declared.parcel.OperandShape.{OperandShape}
-use Rattle.rv_compress.specs.declared.parcel.OperandShape.TheVariants as shapes
-use Rattle.rv_compress.specs.Mnemonics.{register_sets, shape_of}
+use Rattle.rv_parcel.specs.declared.parcel.RegisterSet.{RegisterSet}
+use Rattle.rv_parcel.specs.declared.parcel.RegisterSet.TheVariants.{Any}
+use Rattle.rv_parcel.specs.declared.parcel.OperandShape.{OperandShape}
+use Rattle.rv_parcel.specs.declared.parcel.OperandShape.TheVariants as shapes
+use Rattle.rv_parcel.specs.Mnemonics.{register_sets, shape_of}
 use Rattle.rv_statement.specs.declared.mnemonic.Mnemonic.{Mnemonic}
 use Rattle.rv_statement.specs.declared.mnemonic.Mnemonic.TheVariants.{Registers, Parcel}
 use Rattle.rv_statement.specs.declared.directive.DirectiveWord.{DirectiveWord}

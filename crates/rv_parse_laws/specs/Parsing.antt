@@ -15,7 +15,7 @@ use Rattle.rv_parse_laws.specs.Syntax.{is_register, label_of, begins, is_comma, 
 pub use Rattle.rv_parse_laws.specs.Syntax.{base_next, plt_next}
 use Rattle.rv_parse_laws.specs.Faults.{may_call, wrong_function, wrong_symbol, wrong_first, wrong_after, wrong_any, wrong_start, wrong_label}
 use Rattle.rv_parse_laws.specs.WrongOpening.{flags_fault, type_fault, is_section}
-use Rattle.rv_compress.specs.declared.parcel.RegisterSet.{RegisterSet}
+use Rattle.rv_parcel.specs.declared.parcel.RegisterSet.{RegisterSet}
 use Rattle.rv_statement.specs.declared.pseudo.Function.{Function}
 use Rattle.rv_statement.specs.declared.pseudo.Function.TheVariants.{PcrelLo}
 use Rattle.rv_parse_laws.specs.declared.role.Role.{Role}

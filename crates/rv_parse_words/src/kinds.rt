@@ -17,7 +17,7 @@ ghost use Rattle.rv_parse_laws.specs.Parsing.{width};
 ghost use Rattle.rv_parse_words.specs.View.{choice_of, word_of, string_of};
 
 use crate::words::{accesses_named, beginning_with, choice_named, function_named, register_named};
-use rv_compress::RegisterSet;
+use rv_parcel::RegisterSet;
 use rv_isa::{AccessSet, Reg};
 use rv_parse_laws::{Beginning, Role};
 use rv_statement::{Choice, Function, StatementKind};

@@ -14,7 +14,7 @@ ghost use Rattle.rv_parse_laws.specs.Syntax.{access_sets, with_constant, is_flag
 ghost use Rattle.rv_parse_laws.specs.Faults.{is_known_flag};
 ghost use Rattle.rv_parse_words.specs.View.{named_of, second};
 
-use rv_compress::ParcelOperation;
+use rv_parcel::ParcelOperation;
 use rv_isa::{
     AccessSet, AtomicForm, AtomicOperation, BranchOperation, ImmediateOperation, LoadOperation,
     Reg, RegisterOperation, ShiftOperation, StoreOperation, UpperOperation, reg_named,

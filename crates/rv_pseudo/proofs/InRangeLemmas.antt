@@ -3,7 +3,7 @@
 use Rattle.std.proofs.Common.{◌≡◌, ℕ, Bool, true, false, List, [], ◌∷◌, ◌++◌, Option, Some, None, refl, sym, ap, ◌∙◌, ℤ, pos}
 use Rattle.std.specs.Prelude.{if◌then◌else◌, not, ◌&&◌}
 use Rattle.rv_isa_laws.specs.Halves.{hi, lo}
-use Rattle.rv_compress.specs.Mnemonics.{shape_of}
+use Rattle.rv_parcel.specs.Mnemonics.{shape_of}
 use Rattle.rv_text_laws.specs.Codes.{scratch_register, not_constant, immediate_range, faulty_if}
 use Rattle.rv_statement.specs.declared.mnemonic.Mnemonic.{Mnemonic}
 use Rattle.rv_statement.specs.declared.mnemonic.Mnemonic.TheVariants as mnemonics

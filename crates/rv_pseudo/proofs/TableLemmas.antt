@@ -6,8 +6,8 @@ use Rattle.arrayvec.specs.ArrayVec.{ArrayVec}
 use Rattle.rv_text_laws.specs.Codes.{unsupported_here, lowest}
 use Rattle.rv_lexer.specs.declared.fault.SourceCode.{SourceCode}
 use Rattle.rv_lexer.specs.Fault.{source_fault_number, IsLowest}
-use Rattle.rv_compress.specs.declared.parcel.ParcelOperation.{ParcelOperation}
-use Rattle.rv_compress.specs.Mnemonics.{shape_of}
+use Rattle.rv_parcel.specs.declared.parcel.ParcelOperation.{ParcelOperation}
+use Rattle.rv_parcel.specs.Mnemonics.{shape_of}
 use Rattle.rv_statement.specs.declared.mnemonic.Mnemonic.{Mnemonic}
 use Rattle.rv_statement.specs.declared.mnemonic.Mnemonic.TheVariants as mnemonics
 use Rattle.rv_statement.specs.declared.pseudo.Function.{Function}

@@ -5,9 +5,9 @@ use Rattle.std.specs.Prelude.{◌≡◌, ℕ, ℤ, pos, Bool, true, false, List,
 use Rattle.arrayvec.specs.ArrayVec.{ArrayVec}
 use Rattle.rv_isa.specs.declared.instruction.Inst.{Inst}
 use Rattle.rv_isa.specs.declared.kind.Kind.{Kind}
-use Rattle.rv_compress.specs.declared.form.Compressed.{Compressed}
-use Rattle.rv_compress.specs.declared.parcel.ParcelOperation.{ParcelOperation}
-use Rattle.rv_compress.specs.Mnemonics.{own_registers, shape_of, form_of}
+use Rattle.rv_parcel.specs.declared.form.Compressed.{Compressed}
+use Rattle.rv_parcel.specs.declared.parcel.ParcelOperation.{ParcelOperation}
+use Rattle.rv_parcel.specs.Mnemonics.{own_registers, shape_of, form_of}
 use Rattle.rv_text_laws.specs.Codes.{lowest}
 use Rattle.rv_lexer.specs.declared.fault.SourceCode.{SourceCode}
 use Rattle.rv_lexer.specs.declared.fault.SourceFault.{SourceFault}

@@ -17,7 +17,7 @@ use crate::li::is_short;
 use crate::number::{lower_part, upper_part};
 use crate::target::takes_target;
 use crate::template::Worth;
-use rv_compress::{OperandShape, ParcelOperation};
+use rv_parcel::{OperandShape, ParcelOperation};
 use rv_isa::{Reg, RegisterOperation, ShiftOperation};
 use rv_lexer::SourceCode;
 use rv_statement::{Function, Operation};

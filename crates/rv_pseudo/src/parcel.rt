@@ -6,8 +6,8 @@
 
 ghost use Rattle.std.specs.Prelude.{◌≡◌, ℕ, Bool, true, IfSome, Option};
 ghost use Rattle.rv_isa.specs.declared.kind.Kind.{Kind as SpecKind};
-ghost use Rattle.rv_compress.specs.Mnemonics.{shape_of};
-ghost use Rattle.rv_compress.specs.Parcel.{IsLine};
+ghost use Rattle.rv_parcel.specs.Mnemonics.{shape_of};
+ghost use Rattle.rv_parcel.specs.Parcel.{IsLine};
 ghost use Rattle.rv_statement.specs.declared.mnemonic.Mnemonic.TheVariants as mnemonics;
 ghost use Rattle.rv_statement.specs.declared.statement.Operation.TheVariants as operations;
 ghost use Rattle.rv_statement.specs.declared.statement.Plain.TheVariants as plains;
@@ -21,7 +21,8 @@ use crate::number::lower_part;
 use crate::target::{branch, jump};
 use crate::template::{Manner, Templates, Worth, constant, one, plain};
 use arrayvec::ArrayVec;
-use rv_compress::{Compressed, OperandShape, ParcelOperation, expanded};
+use rv_compress::expanded;
+use rv_parcel::{Compressed, OperandShape, ParcelOperation};
 use rv_isa::{BranchOperation, Reg};
 use rv_lexer::SourceCode;
 use rv_statement::{Function, Operation, Plain, StatementKind};

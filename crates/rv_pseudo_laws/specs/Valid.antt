@@ -12,7 +12,7 @@ use Rattle.rv_isa.specs.declared.operation.ShiftOperation.{ShiftOperation}
 use Rattle.rv_isa.specs.Operations.{format_of}
 use Rattle.rv_isa.specs.Ranges.{IsReg, IsValid, shift_limit}
 use Rattle.rv_isa_laws.specs.Halves.{hi, lo}
-use Rattle.rv_compress.specs.Mnemonics.{takes_number}
+use Rattle.rv_parcel.specs.Mnemonics.{takes_number}
 use Rattle.rv_statement.specs.declared.mnemonic.Mnemonic.{Mnemonic}
 use Rattle.rv_statement.specs.declared.mnemonic.Mnemonic.TheVariants.{Registers, Immediate, Shift, Upper, Li, Parcel}
 use Rattle.rv_statement.specs.declared.pseudo.Function.TheVariants.{Hi, Lo}

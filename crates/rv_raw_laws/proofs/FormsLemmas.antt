@@ -5,14 +5,14 @@ use Rattle.std.specs.Prelude.{◌≤ℤ◌, nat_le, nat_lt}
 use Rattle.std.proofs.lemmas.Bool.Decides.{nat_tests}
 use Rattle.std.proofs.lemmas.Int.{ints}
 use Rattle.rv_isa_laws.specs.Arithmetic.{wrapped}
-use Rattle.rv_compress.specs.declared.form.Compressed.{Compressed}
-use Rattle.rv_compress.specs.declared.form.Compressed.TheVariants as forms
-use Rattle.rv_compress.specs.declared.parcel.ParcelOperation.{ParcelOperation}
-use Rattle.rv_compress.specs.declared.parcel.ParcelOperation.TheVariants as parcels
-use Rattle.rv_compress.specs.declared.parcel.RegisterSet.{RegisterSet}
-use Rattle.rv_compress.specs.declared.parcel.RegisterSet.TheVariants.{Any, Nonzero, Short, Stack, Upper}
-use Rattle.rv_compress.specs.Mnemonics.{is_of_set, are_in, register_sets, is_multiple, is_between, is_zero, takes_number, form_with, form_of}
-use Rattle.rv_compress.specs.Parcel.{IsMultiple, IsSixBits, IsStackStep, IsUpper, IsLine, IsNoHint}
+use Rattle.rv_parcel.specs.declared.form.Compressed.{Compressed}
+use Rattle.rv_parcel.specs.declared.form.Compressed.TheVariants as forms
+use Rattle.rv_parcel.specs.declared.parcel.ParcelOperation.{ParcelOperation}
+use Rattle.rv_parcel.specs.declared.parcel.ParcelOperation.TheVariants as parcels
+use Rattle.rv_parcel.specs.declared.parcel.RegisterSet.{RegisterSet}
+use Rattle.rv_parcel.specs.declared.parcel.RegisterSet.TheVariants.{Any, Nonzero, Short, Stack, Upper}
+use Rattle.rv_parcel.specs.Mnemonics.{is_of_set, are_in, register_sets, is_multiple, is_between, is_zero, takes_number, form_with, form_of}
+use Rattle.rv_parcel.specs.Parcel.{IsMultiple, IsSixBits, IsStackStep, IsUpper, IsLine, IsNoHint}
 use Rattle.rv_pseudo_laws.specs.Code.{Constants, by_form}
 use Rattle.rv_source_laws.specs.Lines.{form_in}
 use Rattle.rv_raw_laws.specs.Statements.{IsSmall, constant_expression, parcel_statement}

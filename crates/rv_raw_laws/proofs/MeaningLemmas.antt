@@ -15,9 +15,9 @@ use Rattle.rv_isa.specs.declared.operation.ShiftOperation.{ShiftOperation}
 use Rattle.rv_isa.specs.declared.operation.ShiftOperation.TheVariants.{Slli, Srli, Srai, Slliw, Srliw, Sraiw}
 use Rattle.rv_isa.specs.Operations.{instruction_of, format_of, of_branch, access_bits, fence}
 use Rattle.rv_isa.specs.Ranges.{IsValidFormat, shift_limit}
-use Rattle.rv_compress.specs.declared.form.Compressed.{Compressed}
-use Rattle.rv_compress.specs.declared.form.Compressed.TheVariants as forms
-use Rattle.rv_compress.specs.Parcel.{IsLine, IsNoHint, expansion}
+use Rattle.rv_parcel.specs.declared.form.Compressed.{Compressed}
+use Rattle.rv_parcel.specs.declared.form.Compressed.TheVariants as forms
+use Rattle.rv_parcel.specs.Parcel.{IsLine, IsNoHint, expansion}
 use Rattle.rv_reloc_laws.specs.Operands.{with_value}
 use Rattle.rv_pseudo_laws.specs.Code.{Part, Closed, Open, Constants, jal}
 use Rattle.rv_pseudo_laws.specs.Filled.{FieldValue, filled_part}

@@ -3,14 +3,14 @@
 use Rattle.std.proofs.Common.{◌≡◌, ◌≢◌, ℕ, ℤ, pos, ◌^◌, ◌<◌, ◌≤◌, true, List, [], ◌∷◌, ◌++◌, length, refl, arith, inl, inr}
 use Rattle.std.specs.Fmt.{signed_decimal}
 use Rattle.std.proofs.lemmas.Bool.Decides.{nat_tests}
-use Rattle.rv_compress.specs.declared.form.Compressed.{Compressed}
-use Rattle.rv_compress.specs.declared.form.Compressed.TheVariants as forms
-use Rattle.rv_compress.specs.declared.parcel.ParcelOperation.{ParcelOperation}
-use Rattle.rv_compress.specs.declared.parcel.ParcelOperation.TheVariants as parcels
-use Rattle.rv_compress.specs.declared.parcel.RegisterSet.{RegisterSet}
-use Rattle.rv_compress.specs.declared.parcel.RegisterSet.TheVariants.{Any, Nonzero, Short, Stack, Upper}
-use Rattle.rv_compress.specs.Mnemonics.{is_of_set, parcel_name}
-use Rattle.rv_compress.specs.Parcel.{IsShort, IsSixBits, IsBranch, IsJump, IsStackStep, IsUpper, IsLine, IsNoHint}
+use Rattle.rv_parcel.specs.declared.form.Compressed.{Compressed}
+use Rattle.rv_parcel.specs.declared.form.Compressed.TheVariants as forms
+use Rattle.rv_parcel.specs.declared.parcel.ParcelOperation.{ParcelOperation}
+use Rattle.rv_parcel.specs.declared.parcel.ParcelOperation.TheVariants as parcels
+use Rattle.rv_parcel.specs.declared.parcel.RegisterSet.{RegisterSet}
+use Rattle.rv_parcel.specs.declared.parcel.RegisterSet.TheVariants.{Any, Nonzero, Short, Stack, Upper}
+use Rattle.rv_parcel.specs.Mnemonics.{is_of_set, parcel_name}
+use Rattle.rv_parcel.specs.Parcel.{IsShort, IsSixBits, IsBranch, IsJump, IsStackStep, IsUpper, IsLine, IsNoHint}
 use Rattle.rv_statement.specs.declared.mnemonic.Mnemonic.TheVariants as words
 use Rattle.rv_statement.specs.Statement.{Operand, Register, Instruction}
 use Rattle.rv_parse_laws.specs.declared.role.Role.TheVariants as roles

@@ -20,7 +20,7 @@ use Rattle.rv_isa.specs.declared.instruction.Format.{Format}
 use Rattle.rv_isa.specs.Ranges.{IsSigned12, IsBranchOffset, IsJumpOffset, shift_limit, IsValidFormat}
 use Rattle.rv_isa.specs.declared.operation.ShiftOperation.{ShiftOperation}
 use Rattle.rv_isa.specs.declared.operation.ShiftOperation.TheVariants.{Slli, Srli, Srai, Slliw, Srliw, Sraiw}
-use Rattle.rv_compress.specs.declared.parcel.RegisterSet.TheVariants.{Any}
+use Rattle.rv_parcel.specs.declared.parcel.RegisterSet.TheVariants.{Any}
 use Rattle.rv_isa.specs.declared.instruction.Format.TheVariants.{Registers, Immediate, Shift, Upper, Load, Store, Branch, Jal, Jalr, LoadReserved, Atomic, Fence, Ecall, Ebreak}
 use Rattle.rv_isa.specs.declared.operation.UpperOperation.{UpperOperation}
 use Rattle.rv_isa.specs.declared.operation.UpperOperation.TheVariants.{Lui, Auipc}

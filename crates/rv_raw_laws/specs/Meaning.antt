@@ -9,9 +9,9 @@ use Rattle.rv_isa.specs.declared.kind.Kind.{Kind}
 use Rattle.rv_isa.specs.declared.kind.Kind.TheVariants as kind
 use Rattle.rv_isa.specs.declared.operation.BranchOperation.TheVariants.{Beq, Bne}
 use Rattle.rv_isa.specs.Operations.{of_branch, format_of, instruction_of}
-use Rattle.rv_compress.specs.declared.form.Compressed.{Compressed}
-use Rattle.rv_compress.specs.declared.form.Compressed.TheVariants.{J, Beqz, Bnez}
-use Rattle.rv_compress.specs.Parcel.{expansion}
+use Rattle.rv_parcel.specs.declared.form.Compressed.{Compressed}
+use Rattle.rv_parcel.specs.declared.form.Compressed.TheVariants.{J, Beqz, Bnez}
+use Rattle.rv_parcel.specs.Parcel.{expansion}
 use Rattle.rv_layout_laws.specs.declared.item.Forms.{Forms}
 use Rattle.rv_layout_laws.specs.declared.item.Forms.TheVariants.{Settled, Branch as LongBranch}
 use Rattle.rv_layout_laws.specs.declared.item.Item.{Item}

@@ -16,11 +16,11 @@ use Rattle.rv_isa.specs.declared.kind.Kind.{Kind}
 use Rattle.rv_isa.specs.declared.kind.Kind.TheVariants as kinds
 use Rattle.rv_isa.specs.Operations.{format_of, instruction_of, of_branch}
 use Rattle.rv_isa.specs.Ranges.{IsSigned12, IsBranchOffset, IsJumpOffset, IsValidFormat, shift_limit}
-use Rattle.rv_compress.specs.declared.form.Compressed.{Compressed}
-use Rattle.rv_compress.specs.declared.form.Compressed.TheVariants as forms
-use Rattle.rv_compress.specs.declared.parcel.ParcelOperation.{ParcelOperation}
-use Rattle.rv_compress.specs.Mnemonics.{are_in, register_sets, takes_number, form_with as form_by, form_of, operation_of}
-use Rattle.rv_compress.specs.Parcel.{IsLine, IsNoHint, IsUpper, IsBranch, IsJump, expansion}
+use Rattle.rv_parcel.specs.declared.form.Compressed.{Compressed}
+use Rattle.rv_parcel.specs.declared.form.Compressed.TheVariants as forms
+use Rattle.rv_parcel.specs.declared.parcel.ParcelOperation.{ParcelOperation}
+use Rattle.rv_parcel.specs.Mnemonics.{are_in, register_sets, takes_number, form_with as form_by, form_of, operation_of}
+use Rattle.rv_parcel.specs.Parcel.{IsLine, IsNoHint, IsUpper, IsBranch, IsJump, expansion}
 use Rattle.rv_reloc_laws.specs.Ranges.{Takes, IsOdd}
 use Rattle.rv_text_laws.specs.Codes.{immediate_range, faulty_if}
 use Rattle.rv_statement.specs.declared.mnemonic.Mnemonic.{Mnemonic}

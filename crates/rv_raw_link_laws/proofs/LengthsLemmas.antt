@@ -10,7 +10,7 @@ use Rattle.rv_isa.specs.declared.instruction.Format.TheVariants.{Fence}
 use Rattle.rv_isa.specs.declared.kind.Kind.{Kind}
 use Rattle.rv_isa.specs.Kinds.{width_of}
 use Rattle.rv_isa.specs.Operations.{format_of}
-use Rattle.rv_compress.specs.declared.form.Compressed.{Compressed}
+use Rattle.rv_parcel.specs.declared.form.Compressed.{Compressed}
 use Rattle.rv_layout_laws.specs.declared.item.Forms.{Forms}
 use Rattle.rv_statement.specs.declared.mnemonic.Mnemonic.{Mnemonic}
 use Rattle.rv_statement.specs.declared.mnemonic.Mnemonic.TheVariants as words

@@ -22,7 +22,7 @@ use Rattle.rv_source_laws.specs.Compressed.{names_parcel}
 use Rattle.rv_source_laws.specs.Shortened.{is_call_statement}
 use Rattle.rv_object_laws.specs.Object.{Relocation, Symbol}
 use Rattle.rv_assemble_laws.specs.CodeFields.{symbol_field, low_field, low_field_at, label_field, field_of, relax_fields, part_fields}
-use Rattle.rv_compress.specs.declared.form.Compressed.{Compressed}
+use Rattle.rv_parcel.specs.declared.form.Compressed.{Compressed}
 use Rattle.rv_assemble_laws.specs.Coded.{constants, AreCodedParts, joined, IsCode}
 use Rattle.rv_assemble_laws.specs.Templates.{Template, Fixed, Datum, Coded, Open, open_at, value_fields, template_fields, absolute_kind, add_kind, subtract_kind, padding_templates, contribution_templates}
 use Rattle.rv_assemble_laws.specs.LaidStatements.{LaidStatement, LaidPart, expression_value, laid_part, part_bytes, coded_templates, templates, parts_of, parts, Tile}

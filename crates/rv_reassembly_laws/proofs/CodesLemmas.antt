@@ -13,10 +13,10 @@ use Rattle.rv_isa.specs.declared.kind.Kind.TheVariants as kind
 use Rattle.rv_isa.specs.Operations.{format_of}
 use Rattle.rv_isa.specs.Ranges.{IsValidFormat}
 use Rattle.rv_isa_laws.specs.Arithmetic.{wrapped}
-use Rattle.rv_compress.specs.declared.form.Compressed.{Compressed}
-use Rattle.rv_compress.specs.declared.form.Compressed.TheVariants as forms
-use Rattle.rv_compress.specs.Mnemonics.{operation_of}
-use Rattle.rv_compress.specs.Parcel.{IsLine, IsShortOf, parcel, expansion}
+use Rattle.rv_parcel.specs.declared.form.Compressed.{Compressed}
+use Rattle.rv_parcel.specs.declared.form.Compressed.TheVariants as forms
+use Rattle.rv_parcel.specs.Mnemonics.{operation_of}
+use Rattle.rv_parcel.specs.Parcel.{IsLine, IsShortOf, parcel, expansion}
 use Rattle.rv_statement.specs.declared.mnemonic.Mnemonic.{Mnemonic}
 use Rattle.rv_statement.specs.declared.mnemonic.Mnemonic.TheVariants as words
 use Rattle.rv_statement.specs.Statement.{StatementKind, Instruction, Operand, Target, Accesses}

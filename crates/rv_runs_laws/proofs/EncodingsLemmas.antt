@@ -8,9 +8,9 @@ use Rattle.rv_isa.specs.Ranges.{IsValid}
 use Rattle.rv_isa_laws.specs.Bytes.{little_endian}
 use Rattle.rv_isa_laws.specs.Reader.{Reader}
 use Rattle.rv_isa_laws.specs.Word.{form, word, Spells}
-use Rattle.rv_compress.specs.declared.form.Compressed.{Compressed}
-use Rattle.rv_compress.specs.Parcel.{StandsFor}
-use Rattle.rv_compress.specs.Front.{FrontSpells}
+use Rattle.rv_parcel.specs.declared.form.Compressed.{Compressed}
+use Rattle.rv_parcel.specs.Parcel.{StandsFor}
+use Rattle.rv_parcel.specs.Front.{FrontSpells}
 use Rattle.rv_source_laws.specs.Lines.{Line, Lie}
 use Rattle.rv_listing_laws.specs.Lines.{front, length_read, line, lines}
 use Rattle.rv_listing_laws.proofs.FrontsLemmas.{spelled_front}

@@ -10,7 +10,7 @@ use Rattle.std.specs.Cmp.{IsStrictWeakOrder}
 use Rattle.std.specs.List.{AllByRecursion}
 use Rattle.std.specs.List.Sorted.{ties}
 use Rattle.rv_isa_laws.specs.Word.{Spells}
-use Rattle.rv_compress.specs.Parcel.{StandsFor}
+use Rattle.rv_parcel.specs.Parcel.{StandsFor}
 use Rattle.rv_isa_laws.specs.Memory.{Mem}
 use Rattle.rv_isa_laws.specs.Reader.{Reader}
 use Rattle.rv_statement.specs.Statement.{Statement}

@@ -4,8 +4,8 @@ use Rattle.std.proofs.Common.{◌≡◌, ℕ, ◌+◌, Bool, true, false, List, 
 use Rattle.std.proofs.lemmas.List.Sorted.{ranks_by}
 use Rattle.std.specs.Cmp.{IsStrictWeakOrder}
 use Rattle.rv_isa.specs.declared.instruction.Inst.{Inst}
-use Rattle.rv_compress.specs.declared.form.Compressed.{Compressed}
-use Rattle.rv_compress.specs.Encoded.{IsLeast, IsLeastAs}
+use Rattle.rv_parcel.specs.declared.form.Compressed.{Compressed}
+use Rattle.rv_parcel.specs.Encoded.{IsLeast, IsLeastAs}
 use Rattle.rv_statement.specs.Statement.{StatementKind, Label, Numbered, Instruction, Directs}
 use Rattle.rv_pseudo_laws.specs.Code.{Part, Closed, Open, Joined}
 use Rattle.rv_source_laws.specs.Program.{Mapped, Program}

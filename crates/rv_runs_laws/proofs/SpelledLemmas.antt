@@ -26,14 +26,14 @@ use Rattle.rv_isa.specs.Ranges.{IsValid}
 use Rattle.rv_isa_laws.specs.Arithmetic.{wrapped, signed}
 use Rattle.rv_isa_laws.specs.Halves.{hi, lo}
 use Rattle.rv_reloc_laws.specs.Operands.{with_value, immediate_of, store_of, upper_of}
-use Rattle.rv_compress.specs.declared.form.Compressed.{Compressed}
-use Rattle.rv_compress.specs.declared.parcel.ParcelOperation.{ParcelOperation}
-use Rattle.rv_compress.specs.declared.parcel.ParcelOperation.TheVariants as parcels
-use Rattle.rv_compress.specs.declared.parcel.RegisterSet.TheVariants.{Short}
-use Rattle.rv_compress.specs.declared.parcel.OperandShape.{OperandShape}
-use Rattle.rv_compress.specs.declared.parcel.OperandShape.TheVariants as shapes
-use Rattle.rv_compress.specs.Mnemonics.{is_of_set, are_in, register_sets, shape_of, takes_number, form_with, form_of}
-use Rattle.rv_compress.specs.Parcel.{expansion}
+use Rattle.rv_parcel.specs.declared.form.Compressed.{Compressed}
+use Rattle.rv_parcel.specs.declared.parcel.ParcelOperation.{ParcelOperation}
+use Rattle.rv_parcel.specs.declared.parcel.ParcelOperation.TheVariants as parcels
+use Rattle.rv_parcel.specs.declared.parcel.RegisterSet.TheVariants.{Short}
+use Rattle.rv_parcel.specs.declared.parcel.OperandShape.{OperandShape}
+use Rattle.rv_parcel.specs.declared.parcel.OperandShape.TheVariants as shapes
+use Rattle.rv_parcel.specs.Mnemonics.{is_of_set, are_in, register_sets, shape_of, takes_number, form_with, form_of}
+use Rattle.rv_parcel.specs.Parcel.{expansion}
 use Rattle.rv_statement.specs.declared.mnemonic.Mnemonic.{Mnemonic}
 use Rattle.rv_statement.specs.declared.mnemonic.Mnemonic.TheVariants.{Registers, Immediate, Shift, Upper, Load, Store, Branch, Jal, Jalr, LoadReserved, Atomic, Fence, FenceTso, Ecall, Ebreak, Nop, Unary, Compare, ZeroBranch, SwappedBranch, J, Jr, Ret, La, Li, Call, Tail, Jump, Parcel}
 use Rattle.rv_statement.specs.declared.pseudo.Function.TheVariants.{Hi, Lo, PcrelHi, PcrelLo}

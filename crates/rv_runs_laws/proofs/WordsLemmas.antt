@@ -8,7 +8,7 @@ use Rattle.rv_isa.specs.Ranges.{IsValid}
 use Rattle.rv_isa_laws.specs.Bytes.{little_endian}
 use Rattle.rv_isa_laws.specs.Memory.{Mem, Execute, may, number_at}
 use Rattle.rv_isa_laws.specs.Word.{form, word, Spells}
-use Rattle.rv_compress.specs.Parcel.{StandsFor}
+use Rattle.rv_parcel.specs.Parcel.{StandsFor}
 use Rattle.rv_isa_laws.specs.Reader.{Reader}
 use Rattle.rv_isa_laws.specs.Run.{NoRight, NoInstruction, Got, spelled, length_at, fetch}
 use Rattle.rv_runs_laws.proofs.WideLemmas.{valid_wide}

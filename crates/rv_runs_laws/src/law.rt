@@ -6,7 +6,7 @@ ghost use Rattle.rv_isa_laws.specs.Memory.{Mem};
 ghost use Rattle.rv_statement.specs.Statement.{Statement};
 ghost use Rattle.rv_map_laws.specs.Map.{Map};
 ghost use Rattle.rv_isa_laws.specs.Word.{Spells};
-ghost use Rattle.rv_compress.specs.Parcel.{StandsFor};
+ghost use Rattle.rv_parcel.specs.Parcel.{StandsFor};
 ghost use Rattle.rv_isa_laws.specs.Reader.{Reader};
 ghost use Rattle.rv_isa_laws.specs.Run.{machine_run};
 ghost use Rattle.rv_chain_laws.specs.Agrees.{Agrees};

@@ -11,7 +11,8 @@ ghost use Rattle.rv_shorten.specs.Cut.{cut_left, move_of};
 ghost use Rattle.rv_cut_laws.specs.Cutting.{are_cuts};
 
 use crate::cut::Cut;
-use rv_compress::{Compressed, write};
+use rv_compress::write;
+use rv_parcel::Compressed;
 use rv_encode::encode;
 use rv_isa::{Inst, JType, Reg};
 use std::alloc::AllocError;

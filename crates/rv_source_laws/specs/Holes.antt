@@ -8,12 +8,12 @@ use Rattle.rv_isa.specs.declared.instruction.Inst.{Inst}
 use Rattle.rv_isa.specs.declared.instruction.Inst.TheVariants as inst
 use Rattle.rv_isa.specs.Operations.{of_registers, of_immediate, of_shift, of_upper, of_load, of_store, of_reserve, of_atomic, access_bits, fence}
 use Rattle.rv_isa_laws.specs.Arithmetic.{wrapped}
-use Rattle.rv_compress.specs.declared.parcel.ParcelOperation.{ParcelOperation}
-use Rattle.rv_compress.specs.declared.parcel.ParcelOperation.TheVariants as parcels
-use Rattle.rv_compress.specs.declared.parcel.OperandShape.{OperandShape}
-use Rattle.rv_compress.specs.declared.parcel.OperandShape.TheVariants as shapes
-use Rattle.rv_compress.specs.Mnemonics.{shape_of, form_with}
-use Rattle.rv_compress.specs.Parcel.{expansion}
+use Rattle.rv_parcel.specs.declared.parcel.ParcelOperation.{ParcelOperation}
+use Rattle.rv_parcel.specs.declared.parcel.ParcelOperation.TheVariants as parcels
+use Rattle.rv_parcel.specs.declared.parcel.OperandShape.{OperandShape}
+use Rattle.rv_parcel.specs.declared.parcel.OperandShape.TheVariants as shapes
+use Rattle.rv_parcel.specs.Mnemonics.{shape_of, form_with}
+use Rattle.rv_parcel.specs.Parcel.{expansion}
 use Rattle.rv_statement.specs.declared.mnemonic.Mnemonic.{Mnemonic}
 use Rattle.rv_statement.specs.declared.mnemonic.Mnemonic.TheVariants.{Registers, Immediate, Shift, Upper, Load, Store, Jal, Jalr, LoadReserved, Atomic, Fence, FenceTso, Ecall, Ebreak, Nop, J, Jr, Ret, Parcel}
 use Rattle.rv_statement.specs.Statement.{Operand, Register, Target, Accesses}

@@ -16,7 +16,7 @@ use Rattle.rv_statement.specs.declared.mnemonic.Mnemonic.TheVariants.{Upper, Loa
 use Rattle.rv_statement.specs.declared.pseudo.Function.TheVariants.{Hi, Lo, PcrelHi, PcrelLo}
 use Rattle.rv_statement.specs.Statement.{StatementKind, Label, Numbered, Instruction, Directs, Operand, Register, Value as Of_value, Applied, Target, Expression, Directive, Sets, Aligns_to_power, Aligns_to_bytes}
 use Rattle.rv_pseudo_laws.specs.Li.{addi}
-use Rattle.rv_compress.specs.declared.form.Compressed.{Compressed}
+use Rattle.rv_parcel.specs.declared.form.Compressed.{Compressed}
 use Rattle.rv_pseudo_laws.specs.Code.{Part, Closed, Constants, named_form, code}
 use Rattle.rv_pseudo_laws.specs.Filled.{FieldValue, filled}
 use Rattle.rv_unit_laws.specs.Tables.{definition}

@@ -5,7 +5,7 @@
 use crate::pseudo::{
     CompareOperation, SwappedBranchOperation, UnaryOperation, ZeroBranchOperation,
 };
-use rv_compress::ParcelOperation;
+use rv_parcel::ParcelOperation;
 use rv_isa::{
     AtomicForm, AtomicOperation, BranchOperation, ImmediateOperation, LoadOperation,
     RegisterOperation, ShiftOperation, StoreOperation, UpperOperation,

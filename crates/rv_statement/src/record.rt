@@ -11,7 +11,7 @@ ghost use Rattle.rv_statement.specs.Records.{part, plain_in, part_end, packed_ki
 
 use crate::pseudo::{CompareOperation, UnaryOperation};
 use crate::statement::{Plain, StatementKind};
-use rv_compress::ParcelOperation;
+use rv_parcel::ParcelOperation;
 use rv_isa::{LoadOperation, Reg, RegisterOperation, StoreOperation};
 
 /// An instruction of registers alone, as in `Plain`; those that order memory have more bytes.

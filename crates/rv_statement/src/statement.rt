@@ -7,7 +7,7 @@ use crate::directive::{Binding, Choice, Standard, Width};
 use crate::pseudo::{
     CompareOperation, Function, SwappedBranchOperation, UnaryOperation, ZeroBranchOperation,
 };
-use rv_compress::ParcelOperation;
+use rv_parcel::ParcelOperation;
 use rv_isa::{
     AccessSet, AtomicForm, AtomicOperation, BranchOperation, ImmediateOperation, LoadOperation,
     Reg, RegisterOperation, ShiftOperation, StoreOperation, UpperOperation,

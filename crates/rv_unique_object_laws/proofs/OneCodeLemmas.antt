@@ -10,8 +10,8 @@ use Rattle.rv_statement.specs.declared.mnemonic.Mnemonic.{Mnemonic}
 use Rattle.rv_statement.specs.Statement.{Operand, Expression}
 use Rattle.rv_pseudo_laws.specs.Code.{Part, Closed, Open, Joined, named_form, code}
 use Rattle.rv_pseudo_laws.specs.Filled.{are_closed}
-use Rattle.rv_compress.specs.declared.form.Compressed.{Compressed}
-use Rattle.rv_compress.specs.Encoded.{IsEncodedIn, IsLeastAs, IsEncodedAs}
+use Rattle.rv_parcel.specs.declared.form.Compressed.{Compressed}
+use Rattle.rv_parcel.specs.Encoded.{IsEncodedIn, IsLeastAs, IsEncodedAs}
 use Rattle.rv_assemble_laws.specs.Coded.{constants, IsCodedPart, AreCodedParts, joined, instructions_in, IsCode}
 use Rattle.rv_unique_object_laws.proofs.ParcelsLemmas.{one_parcel}
 use Rattle.rv_assemble_laws.proofs.LeastCodeLemmas.{least_one, some_parts}

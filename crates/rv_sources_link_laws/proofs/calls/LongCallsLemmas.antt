@@ -15,7 +15,7 @@ use Rattle.rv_statement.specs.declared.mnemonic.Mnemonic.{Mnemonic}
 use Rattle.rv_statement.specs.Statement.{Instruction, Operand, Target, Expression}
 use Rattle.rv_pseudo_laws.specs.Code.{Part as CodePart, Joined, auipc, jalr, named_form, code}
 use Rattle.rv_pseudo_laws.specs.Filled.{are_closed}
-use Rattle.rv_compress.specs.Encoded.{IsEncodedIn}
+use Rattle.rv_parcel.specs.Encoded.{IsEncodedIn}
 use Rattle.rv_unit_laws.specs.Tables.{Tables}
 use Rattle.rv_source_laws.specs.Lines.{operand_of}
 use Rattle.rv_source_laws.specs.Sized.{is_call_mnemonic}

@@ -13,13 +13,13 @@ use Rattle.rv_isa.specs.declared.operation.BranchOperation.TheVariants.{Beq, Bne
 use Rattle.rv_isa.specs.Operations.{of_immediate, of_shift, of_upper, of_load, of_store, of_branch}
 use Rattle.rv_isa_laws.specs.Arithmetic.{wrapped}
 use Rattle.rv_isa_laws.specs.Halves.{hi, lo}
-use Rattle.rv_compress.specs.declared.form.Compressed.{Compressed}
-use Rattle.rv_compress.specs.declared.parcel.ParcelOperation.{ParcelOperation}
-use Rattle.rv_compress.specs.declared.parcel.ParcelOperation.TheVariants as parcels
-use Rattle.rv_compress.specs.declared.parcel.OperandShape.{OperandShape}
-use Rattle.rv_compress.specs.declared.parcel.OperandShape.TheVariants as shapes
-use Rattle.rv_compress.specs.declared.parcel.RegisterSet.TheVariants.{Short}
-use Rattle.rv_compress.specs.Mnemonics.{is_of_set as is_one_of, shape_of, form_of}
+use Rattle.rv_parcel.specs.declared.form.Compressed.{Compressed}
+use Rattle.rv_parcel.specs.declared.parcel.ParcelOperation.{ParcelOperation}
+use Rattle.rv_parcel.specs.declared.parcel.ParcelOperation.TheVariants as parcels
+use Rattle.rv_parcel.specs.declared.parcel.OperandShape.{OperandShape}
+use Rattle.rv_parcel.specs.declared.parcel.OperandShape.TheVariants as shapes
+use Rattle.rv_parcel.specs.declared.parcel.RegisterSet.TheVariants.{Short}
+use Rattle.rv_parcel.specs.Mnemonics.{is_of_set as is_one_of, shape_of, form_of}
 use Rattle.rv_map_laws.specs.declared.map.SectionId.{SectionId}
 use Rattle.rv_text_laws.specs.Expression.{Primary, Here}
 use Rattle.rv_text_laws.specs.Values.{Value as AnyValue, Constant, Symbolic, Difference, Faulty}

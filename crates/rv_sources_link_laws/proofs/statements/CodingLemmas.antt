@@ -15,9 +15,9 @@ use Rattle.rv_isa_laws.specs.Word.{form, word}
 use Rattle.rv_reloc_laws.specs.Fields.{patched}
 use Rattle.rv_reloc_laws.specs.Operands.{with_value}
 use Rattle.rv_reloc_laws.specs.Ranges.{Takes}
-use Rattle.rv_compress.specs.Encoded.{IsLeast, IsEncodedIn, IsLeastAs, IsEncodedAs}
-use Rattle.rv_compress.specs.declared.form.Compressed.{Compressed}
-use Rattle.rv_compress.specs.Parcel.{parcel}
+use Rattle.rv_parcel.specs.Encoded.{IsLeast, IsEncodedIn, IsLeastAs, IsEncodedAs}
+use Rattle.rv_parcel.specs.declared.form.Compressed.{Compressed}
+use Rattle.rv_parcel.specs.Parcel.{parcel}
 use Rattle.rv_pseudo_laws.specs.Code.{Part, Closed, Open, Joined}
 use Rattle.rv_pseudo_laws.specs.Filled.{FieldValue, filled, are_closed, part_bytes, code_bytes, AreTaken}
 use Rattle.rv_pseudo_laws.proofs.FillingLemmas.{filling_valid}

@@ -8,11 +8,11 @@ use Rattle.std.specs.Prelude.{nat_le, replicate, if◌then◌else◌}
 use Rattle.std.specs.List.{AllByRecursion}
 use Rattle.rv_isa.specs.declared.instruction.Inst.{Inst}
 use Rattle.rv_isa.specs.Ranges.{IsValid}
-use Rattle.rv_compress.specs.declared.form.Compressed.TheVariants.{Nop}
-use Rattle.rv_compress.specs.Parcel.{IsShortOf}
+use Rattle.rv_parcel.specs.declared.form.Compressed.TheVariants.{Nop}
+use Rattle.rv_parcel.specs.Parcel.{IsShortOf}
 use Rattle.rv_pseudo_laws.specs.Code.{Closed}
 use Rattle.rv_pseudo_laws.specs.Filled.{FieldValue, filled}
-use Rattle.rv_compress.specs.Encoded.{IsEncodedIn}
+use Rattle.rv_parcel.specs.Encoded.{IsEncodedIn}
 use Rattle.rv_map_laws.specs.declared.map.Row.{Row}
 use Rattle.rv_source_laws.specs.Lines.{Line, Lie, no_operation, padding_parts}
 use Rattle.rv_source_laws.specs.Fits.{IsRowOf}

@@ -14,10 +14,10 @@ use Rattle.rv_isa_laws.specs.Arithmetic.{wrapped}
 use Rattle.rv_isa_laws.specs.Halves.{hi, lo}
 use Rattle.rv_statement.specs.declared.mnemonic.Mnemonic.{Mnemonic}
 use Rattle.rv_statement.specs.declared.mnemonic.Mnemonic.TheVariants.{Registers, Immediate, Shift, Upper, Load, Store, Branch, Jal, Jalr, LoadReserved, Atomic, Fence, FenceTso, Ecall, Ebreak, Nop, Unary, Compare, ZeroBranch, SwappedBranch, J, Jr, Ret, La, Li, Call, Tail, Jump, Parcel}
-use Rattle.rv_compress.specs.declared.parcel.RegisterSet.TheVariants.{Short}
-use Rattle.rv_compress.specs.Mnemonics.{is_of_set}
-use Rattle.rv_compress.specs.declared.form.Compressed.{Compressed}
-use Rattle.rv_compress.specs.Parcel.{expansion}
+use Rattle.rv_parcel.specs.declared.parcel.RegisterSet.TheVariants.{Short}
+use Rattle.rv_parcel.specs.Mnemonics.{is_of_set}
+use Rattle.rv_parcel.specs.declared.form.Compressed.{Compressed}
+use Rattle.rv_parcel.specs.Parcel.{expansion}
 use Rattle.rv_statement.specs.declared.pseudo.ZeroBranchOperation.{ZeroBranchOperation}
 use Rattle.rv_statement.specs.declared.pseudo.ZeroBranchOperation.TheVariants.{Beqz, Bnez, Bgez, Bltz, Blez, Bgtz}
 use Rattle.rv_statement.specs.declared.pseudo.SwappedBranchOperation.{SwappedBranchOperation}

@@ -1,6 +1,6 @@
 use Rattle.std.proofs.Common.{sym, subst, arith}
 use Rattle.std.proofs.lemmas.Grind.{common_steps}
-use Rattle.rv_compress.specs.Parcel.{StandsFor}
+use Rattle.rv_parcel.specs.Parcel.{StandsFor}
 use Rattle.rv_compress.proofs.front.parcel_inst.Goals as goal
 
 pub returns-else-bytes-lt2-clause-exact : goal.returns-else-bytes-lt2-clause-exact

@@ -1,5 +1,5 @@
 use Rattle.std.proofs.Common.{to_z-of_z, SFits, w32, ◌∙◌, rules}
-use Rattle.rv_compress.proofs.JumpLemmas.{jump-form}
+use Rattle.rv_parcel.proofs.JumpLemmas.{jump-form}
 use Rattle.rv_compress.proofs.reading.j.Goals as goal
 
 pub returns : goal.returns

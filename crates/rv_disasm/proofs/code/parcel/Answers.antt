@@ -1,5 +1,5 @@
 use Rattle.std.proofs.Common.{subst, arith}
-use Rattle.rv_compress.specs.Parcel.{SpellsForm}
+use Rattle.rv_parcel.specs.Parcel.{SpellsForm}
 use Rattle.rv_disasm.proofs.CodesLemmas.{some_parcel}
 use Rattle.rv_disasm.proofs.code.parcel.Goals as goal
 

@@ -1,7 +1,7 @@
 use Rattle.std.proofs.Common.{◌≡◌, ◌+◌, false, ℕ, List, [], ◌++◌}
 use Rattle.std.specs.Io.KnownBytes.{Appends}
 use Rattle.rv_isa_laws.specs.Word.{Spells}
-use Rattle.rv_compress.specs.Parcel.{StandsFor}
+use Rattle.rv_parcel.specs.Parcel.{StandsFor}
 use Rattle.rv_isa_laws.specs.Reader.{Reader}
 use Rattle.rv_isa_laws.specs.Run.{run}
 use Rattle.rv_machine.specs.Hart.{hart_of}

@@ -3,10 +3,10 @@
 use Rattle.std.proofs.Common.{◌≡◌, ℕ, zero, suc, Bool, true, ◌&&◌, nat_eq, ◌+◌, ◌*◌, ◌/◌, ◌%◌, ◌^◌, ◌<◌, ◌≤◌, ℤ, pos, negsuc, ◌≤ℤ◌, eqb-true, sym, refl, ap, subst, ◌∙◌, arith, inl, inr}
 use Rattle.std.proofs.lemmas.Bool.{and_parts, cases_lt}
 use Rattle.std.proofs.Math.Nat.{pow-suc}
-use Rattle.rv_compress.specs.declared.form.Compressed.{Compressed}
-use Rattle.rv_compress.specs.declared.form.Compressed.TheVariants.{J}
+use Rattle.rv_parcel.specs.declared.form.Compressed.{Compressed}
+use Rattle.rv_parcel.specs.declared.form.Compressed.TheVariants.{J}
 use Rattle.rv_isa_laws.specs.Word.{field}
-use Rattle.rv_compress.specs.Parcel.{bits_at, jump_offset, IsJump, SpellsForm, IsForm}
+use Rattle.rv_parcel.specs.Parcel.{bits_at, jump_offset, IsJump, SpellsForm, IsForm}
 
 -- a test holds of each of the 2 ^ k numbers from `first` on
 unfoldable all_from : (ℕ → Bool) → (k first : ℕ) → Bool

@@ -5,10 +5,10 @@ use Rattle.std.proofs.lemmas.Option.{none-some, same_Some}
 use Rattle.rv_isa.specs.declared.instruction.Inst.{Inst}
 use Rattle.rv_isa.specs.Ranges.{IsValid}
 use Rattle.rv_isa_laws.specs.Word.{field}
-use Rattle.rv_compress.specs.declared.form.Compressed.{Compressed}
-use Rattle.rv_compress.specs.declared.form.Compressed.TheVariants.{Addi4spn, Lw, Ld, Sw, Sd, Nop, Addi, Addiw, Li, Addi16sp, Lui, Srli, Srai, Andi, Sub, Xor, Or, And, Subw, Addw, J, Beqz, Bnez, Slli, Lwsp, Ldsp, Jr, Mv, Ebreak, Jalr, Add, Swsp, Sdsp}
-use Rattle.rv_compress.specs.Parcel.{bits_at, branch_offset, stack_step, jump_offset, parcel, expansion, IsLine, IsBranch, IsJump, IsStackStep, SpellsForm, StandsFor}
-use Rattle.rv_compress.proofs.JumpLemmas.{gathered, offset-gathered, field-below}
+use Rattle.rv_parcel.specs.declared.form.Compressed.{Compressed}
+use Rattle.rv_parcel.specs.declared.form.Compressed.TheVariants.{Addi4spn, Lw, Ld, Sw, Sd, Nop, Addi, Addiw, Li, Addi16sp, Lui, Srli, Srai, Andi, Sub, Xor, Or, And, Subw, Addw, J, Beqz, Bnez, Slli, Lwsp, Ldsp, Jr, Mv, Ebreak, Jalr, Add, Swsp, Sdsp}
+use Rattle.rv_parcel.specs.Parcel.{bits_at, branch_offset, stack_step, jump_offset, parcel, expansion, IsLine, IsBranch, IsJump, IsStackStep, SpellsForm, StandsFor}
+use Rattle.rv_parcel.proofs.JumpLemmas.{gathered, offset-gathered, field-below}
 
 -- the number with sign that a field of this many bits holds
 abbrev signed : (width value : ℕ) → ℤ

@@ -4,7 +4,7 @@
 use Rattle.std.specs.Prelude.{◌≡◌, ◌≢◌, ℕ, ◌+◌, ◌*◌, ◌%◌, ◌^◌, ◌≤◌, List, length, slice_index, ◌⊎◌}
 use Rattle.rv_isa.specs.declared.instruction.Inst.{Inst}
 use Rattle.rv_isa_laws.specs.Word.{Spells}
-use Rattle.rv_compress.specs.Parcel.{StandsFor}
+use Rattle.rv_parcel.specs.Parcel.{StandsFor}
 
 -- the number of the first two bytes and of the first four, the least byte first
 abbrev pub front_parcel : List ℕ → ℕ

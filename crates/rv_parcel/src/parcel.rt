@@ -6,8 +6,8 @@
 //! Source: RISC-V Unprivileged ISA 20191213, chapter 16, and its section 16.7 for the HINTs, which no mnemonic makes.
 
 ghost use Rattle.std.specs.Prelude.{◌≡◌, ◌↔◌, false, true, ℕ, pos, negsuc, ◌<ℤ◌, slice_get, option_map};
-ghost use Rattle.rv_compress.specs.Mnemonics as is;
-ghost use Rattle.rv_compress.specs.Parcel.{IsNoHint};
+ghost use Rattle.rv_parcel.specs.Mnemonics as is;
+ghost use Rattle.rv_parcel.specs.Parcel.{IsNoHint};
 
 use crate::form::Compressed;
 use rv_isa::Reg;

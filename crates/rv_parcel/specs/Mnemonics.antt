@@ -3,14 +3,14 @@
 
 use Rattle.std.specs.Prelude.{ℕ, ℤ, pos, negsuc, ◌%◌, Bool, true, false, not, ◌&&◌, ◌||◌, ◌==◌, nat_le, nat_lt, int_le, int_lt, unsigned_abs, if◌then◌else◌, List, [], ◌∷◌, length, take, codes, Option, Some, None, option_map}
 use Rattle.rv_isa_laws.specs.Arithmetic.{wrapped}
-use Rattle.rv_compress.specs.declared.form.Compressed.{Compressed}
-use Rattle.rv_compress.specs.declared.form.Compressed.TheVariants as forms
-use Rattle.rv_compress.specs.declared.parcel.ParcelOperation.{ParcelOperation}
-use Rattle.rv_compress.specs.declared.parcel.ParcelOperation.TheVariants.{Addi4spn, Lw, Ld, Sw, Sd, Nop, Addi, Addiw, Li, Addi16sp, Lui, Srli, Srai, Andi, Sub, Xor, Or, And, Subw, Addw, J, Beqz, Bnez, Slli, Lwsp, Ldsp, Jr, Mv, Ebreak, Jalr, Add, Swsp, Sdsp}
-use Rattle.rv_compress.specs.declared.parcel.RegisterSet.{RegisterSet}
-use Rattle.rv_compress.specs.declared.parcel.RegisterSet.TheVariants.{Any, Nonzero, Short, Stack, Upper}
-use Rattle.rv_compress.specs.declared.parcel.OperandShape.{OperandShape}
-use Rattle.rv_compress.specs.declared.parcel.OperandShape.TheVariants.{Registers, Number, Address, Target}
+use Rattle.rv_parcel.specs.declared.form.Compressed.{Compressed}
+use Rattle.rv_parcel.specs.declared.form.Compressed.TheVariants as forms
+use Rattle.rv_parcel.specs.declared.parcel.ParcelOperation.{ParcelOperation}
+use Rattle.rv_parcel.specs.declared.parcel.ParcelOperation.TheVariants.{Addi4spn, Lw, Ld, Sw, Sd, Nop, Addi, Addiw, Li, Addi16sp, Lui, Srli, Srai, Andi, Sub, Xor, Or, And, Subw, Addw, J, Beqz, Bnez, Slli, Lwsp, Ldsp, Jr, Mv, Ebreak, Jalr, Add, Swsp, Sdsp}
+use Rattle.rv_parcel.specs.declared.parcel.RegisterSet.{RegisterSet}
+use Rattle.rv_parcel.specs.declared.parcel.RegisterSet.TheVariants.{Any, Nonzero, Short, Stack, Upper}
+use Rattle.rv_parcel.specs.declared.parcel.OperandShape.{OperandShape}
+use Rattle.rv_parcel.specs.declared.parcel.OperandShape.TheVariants.{Registers, Number, Address, Target}
 
 -- ---- words
 

@@ -1,0 +1,2 @@
+pub mod JumpLemmas
+pub mod ReaderLemmas

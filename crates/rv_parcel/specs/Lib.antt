@@ -1,0 +1,4 @@
+pub mod Encoded
+pub mod Front
+pub mod Mnemonics
+pub mod Parcel
