@@ -15,8 +15,8 @@ use Rattle.rv_isa.specs.Operations.{format_of}
 use Rattle.rv_isa_laws.specs.Bytes.{zeros}
 use Rattle.rv_isa_laws.specs.Word.{word, form}
 use Rattle.rv_text_laws.specs.Values.{Value, Constant, Symbolic, Difference, Faulty}
-use Rattle.rv_statement.specs.declared.pseudo.Function.TheVariants.{Hi, Lo, PcrelHi, PcrelLo}
-use Rattle.rv_statement.specs.Statement.{StatementKind, Label, Numbered, Instruction, Directs, Expression, Operand, Register, Value as Of_value, Applied, Target, Accesses, Word, Quoted}
+use Rattle.rv_statement_laws.specs.declared.pseudo.Function.TheVariants.{Hi, Lo, PcrelHi, PcrelLo}
+use Rattle.rv_statement_laws.specs.Statement.{StatementKind, Label, Numbered, Instruction, Directs, Expression, Operand, Register, Value as Of_value, Applied, Target, Accesses, Word, Quoted}
 use Rattle.rv_pseudo_laws.specs.Code.{Part as CodePart, Closed, Open as OpenPart, Joined, named_form, code}
 use Rattle.rv_pseudo_laws.specs.Filled.{are_closed}
 use Rattle.rv_pseudo_laws.specs.Valid.{fills_branch, fills_jump, fills_call, fills_upper, fills_lower, fills_store, fills}

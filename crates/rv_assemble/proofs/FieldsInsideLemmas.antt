@@ -8,7 +8,7 @@ use Rattle.std.specs.Prelude.{not, if◌then◌else◌, flat_map, unwrap_or}
 use Rattle.std.specs.List.{AllByRecursion, list_all}
 use Rattle.rv_isa.specs.Kinds.{width_of}
 use Rattle.rv_text_laws.specs.Values.{Value}
-use Rattle.rv_statement.specs.Statement.{StatementKind, Label, Numbered, Instruction, Directs, Expression}
+use Rattle.rv_statement_laws.specs.Statement.{StatementKind, Label, Numbered, Instruction, Directs, Expression}
 use Rattle.rv_unit_laws.specs.Contributions.{Contribution, Nothing, Bytes, Zero_bytes, Alignment, contribution}
 use Rattle.rv_unit_laws.specs.Sections.{Section, is_nobits}
 use Rattle.rv_unit_laws.specs.Tables.{Tables}

@@ -8,10 +8,10 @@ use Rattle.std.proofs.lemmas.List.Folds.{list_all-append}
 use Rattle.rv_text_laws.specs.Cut.{Piece, Each}
 use Rattle.rv_text_laws.specs.Lexing.{Token}
 use Rattle.rv_text_laws.specs.SyntaxError.{longest_name}
-use Rattle.rv_statement.specs.declared.directive.DirectiveWord.{DirectiveWord}
-use Rattle.rv_statement.specs.declared.directive.DirectiveWord.TheVariants as words
-use Rattle.rv_statement.specs.declared.directive.Choice.{Choice}
-use Rattle.rv_statement.specs.Statement.{Operand, Value, Word, Quoted, Directive, StatementKind, Label, Numbered, Instruction, Directs, Statement}
+use Rattle.rv_statement_laws.specs.declared.directive.DirectiveWord.{DirectiveWord}
+use Rattle.rv_statement_laws.specs.declared.directive.DirectiveWord.TheVariants as words
+use Rattle.rv_statement_laws.specs.declared.directive.Choice.{Choice}
+use Rattle.rv_statement_laws.specs.Statement.{Operand, Value, Word, Quoted, Directive, StatementKind, Label, Numbered, Instruction, Directs, Statement}
 use Rattle.rv_parse_laws.specs.Words.{named_in, choices}
 use Rattle.rv_parse_laws.specs.Syntax.{is_section_name, operand_slots, option_directive, directed, AreOperands, SourcePart, Ends, Says, IsPart, StopsPart, IsStatement}
 use Rattle.rv_parse_laws.specs.Reading.{told, statements_of_parts, Reads}

@@ -5,7 +5,7 @@ use Rattle.std.proofs.Math.Nat.{pow-suc}
 use Rattle.std.proofs.lemmas.Bool.{leb-true, leb-false}
 use Rattle.std.specs.Prelude.{⊤, if◌then◌else◌}
 use Rattle.rv_text_laws.specs.Values.{Value}
-use Rattle.rv_statement.specs.Statement.{Expression, Directive, Enters, Opens, Binds, Sets, Aligns_to_power, Aligns_to_bytes, Values, Strings, Zeros, Chooses, Ignored}
+use Rattle.rv_statement_laws.specs.Statement.{Expression, Directive, Enters, Opens, Binds, Sets, Aligns_to_power, Aligns_to_bytes, Values, Strings, Zeros, Chooses, Ignored}
 use Rattle.rv_unit_laws.specs.Contributions.{Contribution, Nothing, Bytes, Zero_bytes, Alignment, contribution}
 use Rattle.rv_unit_laws.specs.Tables.{alignment_of, contribution_alignment, or_none}
 use Rattle.rv_unit_laws.proofs.GrownLemmas.{AlignsToPower, directive_aligned}

@@ -3,7 +3,7 @@
 
 use Rattle.std.specs.Prelude.{◌≡◌, Bool, true, List}
 use Rattle.std.specs.List.{list_all}
-use Rattle.rv_statement.specs.Statement.{StatementKind, Directs, Statement, Opens}
+use Rattle.rv_statement_laws.specs.Statement.{StatementKind, Directs, Statement, Opens}
 use Rattle.rv_object_laws.specs.Valid.{is_kept_name}
 use Rattle.rv_assemble_laws.specs.ShownNames.{HasNames}
 

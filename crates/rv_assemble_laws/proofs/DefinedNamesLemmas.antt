@@ -5,7 +5,7 @@ use Rattle.std.specs.Prelude.{if◌then◌else◌}
 use Rattle.std.specs.List.{AllByRecursion, list_all}
 use Rattle.std.specs.Str.{bytes_eq}
 use Rattle.std.proofs.lemmas.Bool.{and_parts}
-use Rattle.rv_statement.specs.Statement.{StatementKind, Label, Directs, Statement, Sets}
+use Rattle.rv_statement_laws.specs.Statement.{StatementKind, Label, Directs, Statement, Sets}
 use Rattle.rv_unit_laws.specs.Tables.{Tables, after}
 use Rattle.rv_map_laws.specs.Name.{is_name}
 use Rattle.rv_source_laws.specs.Located.{Located, located_from}

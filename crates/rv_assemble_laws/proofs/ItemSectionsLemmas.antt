@@ -3,7 +3,7 @@
 use Rattle.std.proofs.Common.{◌≡◌, ℕ, List, Option, Some, None, refl}
 use Rattle.rv_layout_laws.specs.declared.item.Forms.{Forms}
 use Rattle.rv_layout_laws.specs.declared.item.Forms.TheVariants.{Settled, CompressedBranch, Branch, CompressedJump}
-use Rattle.rv_statement.specs.Statement.{Operand}
+use Rattle.rv_statement_laws.specs.Statement.{Operand}
 use Rattle.rv_unit_laws.specs.Tables.{Tables}
 use Rattle.rv_source_laws.specs.Located.{Located}
 use Rattle.rv_source_laws.specs.Sizes.{Near, near_target, branch_item, item_by}

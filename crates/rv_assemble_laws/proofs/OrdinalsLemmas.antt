@@ -2,7 +2,7 @@
 
 use Rattle.std.specs.Prelude.{slice_get}
 use Rattle.std.proofs.Common.{◌≡◌, ℕ, zero, suc, ◌+◌, List, [], ◌∷◌, map, sym, ap, ◌∙◌, arith, Some}
-use Rattle.rv_statement.specs.Statement.{Statement}
+use Rattle.rv_statement_laws.specs.Statement.{Statement}
 use Rattle.rv_unit_laws.specs.Tables.{Tables, after}
 use Rattle.rv_source_laws.specs.Located.{Located, located_from}
 use Rattle.rv_assemble_laws.specs.LaidStatements.{LaidStatement}

@@ -18,12 +18,12 @@ use Rattle.rv_text_laws.specs.SyntaxError.{longest_name}
 use Rattle.rv_text_laws.specs.Expression.{Primary, Literal, Symbol, Here, Reference as Of_label, Tree, Leaf, Unary, Paren, Binary, A_primary, No_operand, begins, named_operand, punct_begins, SpellsTree, bare}
 use Rattle.rv_isa.specs.declared.operation.AccessSet.{AccessSet}
 use Rattle.rv_parcel.specs.declared.parcel.RegisterSet.{RegisterSet}
-use Rattle.rv_statement.specs.declared.pseudo.Function.{Function}
-use Rattle.rv_statement.specs.declared.pseudo.Function.TheVariants as functions
-use Rattle.rv_statement.specs.declared.directive.DirectiveWord.{DirectiveWord}
-use Rattle.rv_statement.specs.declared.directive.DirectiveWord.TheVariants as words
-use Rattle.rv_statement.specs.declared.directive.Choice.{Choice}
-use Rattle.rv_statement.specs.Statement.{Expression, Operand, Register, Value, Applied, Target, Accesses, Word, Quoted, StatementKind, Label, Numbered, Instruction, Directs, Statement}
+use Rattle.rv_statement_laws.specs.declared.pseudo.Function.{Function}
+use Rattle.rv_statement_laws.specs.declared.pseudo.Function.TheVariants as functions
+use Rattle.rv_statement_laws.specs.declared.directive.DirectiveWord.{DirectiveWord}
+use Rattle.rv_statement_laws.specs.declared.directive.DirectiveWord.TheVariants as words
+use Rattle.rv_statement_laws.specs.declared.directive.Choice.{Choice}
+use Rattle.rv_statement_laws.specs.Statement.{Expression, Operand, Register, Value, Applied, Target, Accesses, Word, Quoted, StatementKind, Label, Numbered, Instruction, Directs, Statement}
 use Rattle.rv_parse_laws.specs.declared.role.Role.{Role}
 use Rattle.rv_parse_laws.specs.declared.role.Role.TheVariants as roles
 use Rattle.rv_parse_laws.specs.Words.{named_in, choices}

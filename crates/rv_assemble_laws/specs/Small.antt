@@ -2,8 +2,8 @@
 -- limits).
 
 use Rattle.std.specs.Prelude.{ℕ, ◌+◌, ◌*◌, ◌≤◌, List, [], ◌∷◌, length}
-use Rattle.rv_statement.specs.Statement.{Statement}
-use Rattle.rv_statement.specs.Limits.{most_statements}
+use Rattle.rv_statement_laws.specs.Statement.{Statement}
+use Rattle.rv_statement_laws.specs.Limits.{most_statements}
 use Rattle.rv_parse_laws.specs.Reading.{longest_source}
 use Rattle.rv_assemble_laws.specs.ShownNames.{said_names}
 

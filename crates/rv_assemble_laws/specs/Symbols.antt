@@ -6,9 +6,9 @@ use Rattle.std.specs.List.{find, list_any}
 use Rattle.rv_map_laws.specs.Globals.{is_one_of}
 use Rattle.rv_text_laws.specs.Expression.{Primary, Symbol as Named, Literal, Here, Reference}
 use Rattle.rv_text_laws.specs.Values.{Known, InSection as InData, Open as OpenAddress, Refused, add}
-use Rattle.rv_statement.specs.Statement.{StatementKind, Directs, Sets}
-use Rattle.rv_statement.specs.declared.directive.Binding.{Binding as SourceBinding}
-use Rattle.rv_statement.specs.declared.directive.Binding.TheVariants as source
+use Rattle.rv_statement_laws.specs.Statement.{StatementKind, Directs, Sets}
+use Rattle.rv_statement_laws.specs.declared.directive.Binding.{Binding as SourceBinding}
+use Rattle.rv_statement_laws.specs.declared.directive.Binding.TheVariants as source
 use Rattle.rv_unit_laws.specs.Bindings.{is_shared}
 use Rattle.rv_unit_laws.specs.Tables.{Tables, Definition, Assignment, definition, gives_way, assigned_ever}
 use Rattle.rv_source_laws.specs.Exports.{names_where}

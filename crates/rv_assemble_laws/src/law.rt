@@ -3,7 +3,7 @@
 ghost use Rattle.std.specs.Prelude.{◌≡◌, ℕ, List, Some, true, length, flat_map};
 ghost use Rattle.std.specs.List.{slice_get};
 ghost use Rattle.rv_map_laws.specs.Name.{is_name};
-ghost use Rattle.rv_statement.specs.Statement.{Statement};
+ghost use Rattle.rv_statement_laws.specs.Statement.{Statement};
 ghost use Rattle.rv_parse_laws.specs.Reading.{Reads};
 ghost use Rattle.rv_unit_laws.specs.Sections.{Section};
 ghost use Rattle.rv_unit_laws.specs.Tables.{Tables, opened_of, tables};

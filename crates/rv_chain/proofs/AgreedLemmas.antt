@@ -1,7 +1,7 @@
 -- That texts are built as the files of their objects are linked: from the laws of each part.
 
 use Rattle.std.proofs.Common.{◌≡◌, ℕ, Bool, ◌<◌, ◌^◌, inl, inr, List, [], ◌∷◌, length, refl, sym, ap, subst, ◌∙◌, None}
-use Rattle.rv_statement.specs.Statement.{Statement}
+use Rattle.rv_statement_laws.specs.Statement.{Statement}
 use Rattle.rv_parse_laws.specs.Reading.{Reads}
 use Rattle.rv_map_laws.specs.Text.{map_text}
 use Rattle.rv_image_laws.specs.Executable.{exe_of}

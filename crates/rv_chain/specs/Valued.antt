@@ -1,7 +1,7 @@
 -- The values of the expressions of sources, at the map of their executable.
 
 use Rattle.std.specs.Prelude.{◌≡◌, ℕ, List}
-use Rattle.rv_statement.specs.Statement.{Statement}
+use Rattle.rv_statement_laws.specs.Statement.{Statement}
 use Rattle.rv_map_laws.specs.Map.{Map}
 use Rattle.rv_map_laws.specs.Text.{map_text}
 use Rattle.rv_source_laws.specs.Fits.{Fits}

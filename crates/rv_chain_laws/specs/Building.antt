@@ -1,7 +1,7 @@
 -- What a build makes of the texts of sources.
 
 use Rattle.std.specs.Prelude.{◌≡◌, ℕ, Bool, List}
-use Rattle.rv_statement.specs.Statement.{Statement}
+use Rattle.rv_statement_laws.specs.Statement.{Statement}
 use Rattle.rv_image_laws.specs.Linked.{Linked}
 use Rattle.rv_source_laws.specs.Compressed.{is_compressed}
 use Rattle.rv_chain_laws.specs.Contents.{IsLinked}

@@ -9,7 +9,7 @@ use Rattle.rv_isa.specs.Kinds.{width_of}
 use Rattle.rv_isa_laws.specs.Platform.{stack_start}
 use Rattle.rv_parcel.specs.declared.form.Compressed.{Compressed}
 use Rattle.rv_parcel.specs.Encoded.{IsLeastAs, IsEncodedAs}
-use Rattle.rv_statement.specs.Statement.{Statement, StatementKind, Directs}
+use Rattle.rv_statement_laws.specs.Statement.{Statement, StatementKind, Directs}
 use Rattle.rv_pseudo_laws.specs.Code.{Part, Closed, Open, Joined}
 use Rattle.rv_pseudo_laws.specs.Filled.{are_closed}
 use Rattle.rv_image_laws.specs.Linked.{Linked}

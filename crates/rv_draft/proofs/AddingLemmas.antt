@@ -7,7 +7,7 @@ use Rattle.rv_text_laws.specs.Expression.{Primary}
 use Rattle.rv_text_laws.specs.Values as values
 use Rattle.rv_lexer.specs.declared.fault.SourceFault.{SourceFault}
 use Rattle.rv_lexer.specs.declared.fault.SourceFault.TheVariants.{At, OutOfMemory}
-use Rattle.rv_statement.specs.Statement.{Expression, Statement}
+use Rattle.rv_statement_laws.specs.Statement.{Expression, Statement}
 use Rattle.rv_statement.specs.View.{statement_kind}
 use Rattle.rv_statement.specs.declared.statement.StatementKind.{StatementKind as SourceKind}
 use Rattle.rv_statement.specs.declared.statement.StatementKind.TheVariants as kinds

@@ -7,8 +7,8 @@ use Rattle.rv_isa.specs.declared.instruction.Inst.{Inst}
 use Rattle.rv_isa.specs.declared.kind.Kind.{Kind}
 use Rattle.rv_parcel.specs.declared.form.Compressed.{Compressed}
 use Rattle.rv_text_laws.specs.Values.{Value}
-use Rattle.rv_statement.specs.declared.mnemonic.Mnemonic.{Mnemonic}
-use Rattle.rv_statement.specs.Statement.{StatementKind, Label, Numbered, Instruction, Directs, Expression, Operand}
+use Rattle.rv_statement_laws.specs.declared.mnemonic.Mnemonic.{Mnemonic}
+use Rattle.rv_statement_laws.specs.Statement.{StatementKind, Label, Numbered, Instruction, Directs, Expression, Operand}
 use Rattle.rv_pseudo_laws.specs.Code.{Part as CodePart, Closed, Open as OpenPart, Joined, named_form, code}
 use Rattle.rv_pseudo_laws.specs.Filled.{are_closed}
 use Rattle.rv_unit_laws.specs.Tables.{Tables, tables, value_by_tables}

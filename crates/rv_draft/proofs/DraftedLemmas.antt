@@ -4,7 +4,7 @@ use Rattle.std.proofs.Common.{◌≡◌, ℕ, ◌≤◌, ◌<◌, ◌^◌, List,
 use Rattle.std.specs.Prelude.{flat_map, ◌||◌, slice_get, slice_index, if◌then◌else◌}
 use Rattle.std.specs.List.{AllByRecursion, list_any}
 use Rattle.std.specs.Global.{Vec}
-use Rattle.rv_statement.specs.Statement.{Statement}
+use Rattle.rv_statement_laws.specs.Statement.{Statement}
 use Rattle.rv_unit_laws.specs.Sections.{Section, text_section, is_nobits}
 use Rattle.rv_unit_laws.specs.Tables.{Tables, at_start, tables, longest_section, opened_of}
 use Rattle.rv_unit_laws.specs.Faults.{first_unit_fault}

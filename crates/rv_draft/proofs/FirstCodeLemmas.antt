@@ -3,10 +3,10 @@
 use Rattle.std.proofs.Common.{◌≡◌, ℕ, ◌+◌, Bool, true, false, List, [], ◌∷◌, drop, refl, sym, ap, ◌∙◌}
 use Rattle.std.specs.List.{list_any}
 use Rattle.std.specs.Prelude.{◌&&◌, ◌||◌}
-use Rattle.rv_statement.specs.Statement.{Statement, Operand, Expression}
+use Rattle.rv_statement_laws.specs.Statement.{Statement, Operand, Expression}
 use Rattle.rv_statement.specs.View.{statement_of, statement_kind, plain_of, with_operand, with_expression, with_function}
 use Rattle.rv_statement.specs.declared.statement.Statement.{Statement as SourceStatement}
-use Rattle.rv_statement.specs.declared.pseudo.Function.{Function}
+use Rattle.rv_statement_laws.specs.declared.pseudo.Function.{Function}
 use Rattle.rv_statement.specs.declared.statement.Operation.{Operation}
 use Rattle.rv_statement.specs.declared.statement.Operation.TheVariants as operations
 use Rattle.rv_statement.specs.declared.statement.Plain.{Plain}

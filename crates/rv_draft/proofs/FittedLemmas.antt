@@ -8,8 +8,8 @@ use Rattle.std.proofs.lemmas.Bool.{leb-true, both_ways}
 use Rattle.rv_isa_laws.specs.Bytes.{zeros}
 use Rattle.rv_parcel.specs.declared.form.Compressed.{Compressed}
 use Rattle.rv_text_laws.specs.Values.{Value, Constant, Symbolic, Difference, Faulty}
-use Rattle.rv_statement.specs.declared.mnemonic.Mnemonic.{Mnemonic}
-use Rattle.rv_statement.specs.Statement.{StatementKind, Label, Numbered, Instruction, Directs, Statement, Operand, Expression, Directive, Enters, Sets, Aligns_to_power, Aligns_to_bytes, Values, Strings, Zeros}
+use Rattle.rv_statement_laws.specs.declared.mnemonic.Mnemonic.{Mnemonic}
+use Rattle.rv_statement_laws.specs.Statement.{StatementKind, Label, Numbered, Instruction, Directs, Statement, Operand, Expression, Directive, Enters, Sets, Aligns_to_power, Aligns_to_bytes, Values, Strings, Zeros}
 use Rattle.rv_unit_laws.specs.Contributions.{contribution}
 use Rattle.rv_unit_laws.specs.Sections.{Section, is_nobits, section_at, current_section}
 use Rattle.rv_unit_laws.specs.Tables.{Tables, SectionOffset, at_start, here, value_by_tables, power_alignment, byte_alignment, alignment_of, padding, string_bytes, after, tables, stood, opened_of, alignments_of}

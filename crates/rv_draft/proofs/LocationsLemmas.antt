@@ -6,10 +6,10 @@ use Rattle.std.specs.List.{AllByRecursion, find}
 use Rattle.std.proofs.lemmas.Bool.{eq-eqb}
 use Rattle.rv_text_laws.specs.Expression.{Literal, Symbol, Here, Reference}
 use Rattle.rv_text_laws.specs.Values.{Known, InSection, Open, Refused, Value, Constant, Symbolic, Difference, Faulty}
-use Rattle.rv_statement.specs.Statement.{StatementKind, Label, Numbered, Instruction, Directs, Statement, Expression, Directive, Sets}
+use Rattle.rv_statement_laws.specs.Statement.{StatementKind, Label, Numbered, Instruction, Directs, Statement, Expression, Directive, Sets}
 use Rattle.rv_unit_laws.specs.Contributions.{Contribution, Nothing, contribution}
 use Rattle.rv_unit_laws.specs.Sections.{Section, Opened, section_at, current_section, entered_by}
-use Rattle.rv_statement.specs.declared.directive.Choice.{Choice}
+use Rattle.rv_statement_laws.specs.declared.directive.Choice.{Choice}
 use Rattle.rv_unit_laws.specs.Tables.{Tables, SectionOffset, Assignment, at_start, here, stands, meaning, value_by_tables, assigned, assigned_by, is_location, gives_location, is_defined, may_set, choice_in, with_assignment, with_section, with_chosen, with_contribution, after, after_directive, after_all, tables, opened_of}
 use Rattle.rv_unit_laws.proofs.EnteringLemmas.{entering}
 use Rattle.rv_unit_laws.proofs.MeantLemmas.{HasMeaning, value_meant}

@@ -9,15 +9,15 @@ use Rattle.rv_isa.specs.declared.operation.BranchOperation.{BranchOperation}
 use Rattle.rv_isa.specs.declared.operation.BranchOperation.TheVariants.{Beq, Bne, Blt, Bge, Bltu, Bgeu}
 use Rattle.rv_text.specs.Expr.{tree_of_expr}
 use Rattle.rv_text_laws.specs.Values.{Value}
-use Rattle.rv_statement.specs.declared.pseudo.ZeroBranchOperation.{ZeroBranchOperation}
-use Rattle.rv_statement.specs.declared.pseudo.ZeroBranchOperation.TheVariants.{Beqz, Bnez, Bgez, Bltz, Blez, Bgtz}
-use Rattle.rv_statement.specs.declared.pseudo.SwappedBranchOperation.{SwappedBranchOperation}
-use Rattle.rv_statement.specs.declared.pseudo.SwappedBranchOperation.TheVariants.{Bgt, Ble, Bgtu, Bleu}
+use Rattle.rv_statement_laws.specs.declared.pseudo.ZeroBranchOperation.{ZeroBranchOperation}
+use Rattle.rv_statement_laws.specs.declared.pseudo.ZeroBranchOperation.TheVariants.{Beqz, Bnez, Bgez, Bltz, Blez, Bgtz}
+use Rattle.rv_statement_laws.specs.declared.pseudo.SwappedBranchOperation.{SwappedBranchOperation}
+use Rattle.rv_statement_laws.specs.declared.pseudo.SwappedBranchOperation.TheVariants.{Bgt, Ble, Bgtu, Bleu}
 use Rattle.rv_statement.specs.declared.statement.Operation.{Operation}
 use Rattle.rv_statement.specs.declared.statement.Operation.TheVariants as operations
 use Rattle.rv_statement.specs.declared.statement.StatementKind.{StatementKind as SourceKind}
 use Rattle.rv_statement.specs.declared.statement.StatementKind.TheVariants.{With}
-use Rattle.rv_statement.specs.Statement.{StatementKind, Label, Numbered, Instruction, Directs, Expression}
+use Rattle.rv_statement_laws.specs.Statement.{StatementKind, Label, Numbered, Instruction, Directs, Expression}
 use Rattle.rv_statement.specs.View.{with_expression, statement_kind}
 use Rattle.rv_pseudo_laws.specs.Code.{Part, Open, code, jal, branch, zero_branch, swapped_branch, through}
 use Rattle.rv_unit_laws.specs.Tables.{tables, value_by_tables}

@@ -2,7 +2,7 @@
 
 use Rattle.std.proofs.Common.{◌≡◌, ℕ, suc, ◌+◌, true, List, [], ◌∷◌, ◌++◌, drop, refl, sym, subst, append-nil, append_assoc, arith}
 use Rattle.std.specs.Prelude.{slice_index_or}
-use Rattle.rv_statement.specs.Statement.{Statement}
+use Rattle.rv_statement_laws.specs.Statement.{Statement}
 use Rattle.rv_unit_laws.specs.Tables.{Tables, at_start, after, alignments_of}
 use Rattle.rv_unit.specs.Unit.{passed}
 use Rattle.rv_assemble_laws.specs.LaidStatements.{expression_value}

@@ -2,7 +2,7 @@
 
 use Rattle.std.proofs.Common.{◌≡◌, ℕ, zero, suc, ◌+◌, List, [], ◌∷◌, take, drop, None, subst, arith}
 use Rattle.std.specs.Prelude.{⊤}
-use Rattle.rv_statement.specs.Statement.{Statement}
+use Rattle.rv_statement_laws.specs.Statement.{Statement}
 use Rattle.rv_unit_laws.specs.Tables.{Tables, at_start, after, after_all, tables}
 use Rattle.rv_text_laws.specs.Codes.{lowest}
 use Rattle.rv_unit_laws.specs.Faults.{faults, first_fault_from, first_unit_fault}

@@ -8,7 +8,7 @@ use Rattle.rv_text_laws.specs.Values.{Value}
 use Rattle.rv_lexer.specs.declared.fault.SourceFault.{SourceFault}
 use Rattle.rv_lexer.specs.declared.fault.SourceFault.TheVariants.{At, OutOfMemory}
 use Rattle.rv_lexer.specs.Fault.{source_fault_number}
-use Rattle.rv_statement.specs.Statement.{Expression, Statement}
+use Rattle.rv_statement_laws.specs.Statement.{Expression, Statement}
 use Rattle.rv_text_laws.specs.Codes.{lowest}
 use Rattle.rv_unit_laws.specs.Faults.{StatementFault}
 use Rattle.rv_unit_laws.specs.Tables.{Tables, SectionOffset as Standing, at_start, tables, value_by_tables, stood}

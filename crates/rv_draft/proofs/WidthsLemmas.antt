@@ -4,12 +4,13 @@ use Rattle.std.proofs.Common.{◌≡◌, ℕ, zero, suc, inl, inr, List, [], ◌
 use Rattle.std.specs.List.{AllByRecursion}
 use Rattle.rv_isa_laws.specs.Bytes.{little_endian, zeros}
 use Rattle.rv_statement.specs.Records.{plain_in, statement_in, recorded}
-use Rattle.rv_statement.specs.Statement.{Expression, Directs, Ignored, Values, Statement as SpecStatement}
+use Rattle.rv_statement_laws.specs.Statement.{Expression, Directs, Ignored, Values, Statement as SpecStatement}
 use Rattle.rv_statement.specs.Statements.{statements_of}
-use Rattle.rv_statement.specs.View.{width_bytes, plain_of, with_expression, with_function, statement_kind, statement_of}
-use Rattle.rv_statement.specs.declared.directive.Width.{Width}
-use Rattle.rv_statement.specs.declared.directive.Width.TheVariants as widths
-use Rattle.rv_statement.specs.declared.pseudo.Function.{Function}
+use Rattle.rv_statement_laws.specs.Widths.{width_bytes}
+use Rattle.rv_statement.specs.View.{plain_of, with_expression, with_function, statement_kind, statement_of}
+use Rattle.rv_statement_laws.specs.declared.directive.Width.{Width}
+use Rattle.rv_statement_laws.specs.declared.directive.Width.TheVariants as widths
+use Rattle.rv_statement_laws.specs.declared.pseudo.Function.{Function}
 use Rattle.rv_statement.specs.declared.statement.Operation.{Operation}
 use Rattle.rv_statement.specs.declared.statement.Operation.TheVariants as operations
 use Rattle.rv_statement.specs.declared.statement.Plain.{Plain}

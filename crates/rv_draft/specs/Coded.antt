@@ -1,7 +1,7 @@
 -- The instructions of a source as its code has them.
 
 use Rattle.std.specs.Prelude.{◌≡◌, ℕ, ⊤, List, [], ◌∷◌, length}
-use Rattle.rv_statement.specs.Statement.{StatementKind, Instruction}
+use Rattle.rv_statement_laws.specs.Statement.{StatementKind, Instruction}
 use Rattle.rv_unit_laws.specs.Tables.{Tables}
 use Rattle.rv_source_laws.specs.Located.{Located}
 use Rattle.rv_assemble_laws.specs.LaidStatements.{expression_value}

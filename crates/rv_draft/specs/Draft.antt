@@ -7,7 +7,7 @@ use Rattle.rv_text.specs.Nodes.{symbol_of}
 use Rattle.rv_lexer.specs.declared.fault.SourceFault.{SourceFault}
 use Rattle.rv_lexer.specs.declared.fault.SourceFault.TheVariants.{At, OutOfMemory}
 use Rattle.rv_lexer.specs.Fault.{source_fault_number}
-use Rattle.rv_statement.specs.Statement.{Statement}
+use Rattle.rv_statement_laws.specs.Statement.{Statement}
 use Rattle.rv_unit_laws.specs.Sections.{Section, is_nobits, goes_to_text}
 use Rattle.rv_unit_laws.specs.Tables.{Tables, at_start, tables, longest_section, opened_of, alignment_at}
 use Rattle.rv_source_laws.specs.Located.{located_from, has_row}

@@ -1,7 +1,7 @@
 -- The statements of a source as items.
 
 use Rattle.std.specs.Prelude.{◌≡◌, ℕ, suc, false, List, [], ◌∷◌}
-use Rattle.rv_statement.specs.Statement.{Statement}
+use Rattle.rv_statement_laws.specs.Statement.{Statement}
 use Rattle.rv_unit_laws.specs.Tables.{Tables, after}
 use Rattle.rv_source_laws.specs.Located.{Located, located_now, has_row}
 use Rattle.rv_assemble_laws.specs.Refusals.{grown as grown_by}

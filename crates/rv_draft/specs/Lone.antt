@@ -3,7 +3,7 @@
 use Rattle.std.specs.Prelude.{◌≡◌, ℕ, ◌==◌, ◌&&◌, Bool, List, [], ◌∷◌, map, Option, Some, None, if◌then◌else◌}
 use Rattle.rv_isa.specs.declared.kind.Kind.{Kind}
 use Rattle.rv_isa.specs.declared.kind.Kind.TheVariants as fields
-use Rattle.rv_statement.specs.Statement.{StatementKind, Instruction}
+use Rattle.rv_statement_laws.specs.Statement.{StatementKind, Instruction}
 use Rattle.rv_statement.specs.declared.statement.Operation.{Operation}
 use Rattle.rv_statement.specs.declared.statement.Operation.TheVariants as operations
 use Rattle.rv_statement.specs.declared.statement.StatementKind.{StatementKind as SourceKind}

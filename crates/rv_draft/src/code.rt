@@ -8,7 +8,7 @@
 ghost use Rattle.std.specs.Prelude.{◌≡◌, ◌<◌, ◌≤◌, ℕ, ◌+◌, ◌++◌, Bool, true, List, [], length, is_some, IfOk, OnOk};
 ghost use Rattle.rv_isa_laws.specs.Bytes.{little_endian};
 ghost use Rattle.rv_text_laws.specs.Values as values;
-ghost use Rattle.rv_statement.specs.Statement.{Expression};
+ghost use Rattle.rv_statement_laws.specs.Statement.{Expression};
 ghost use Rattle.rv_statement.specs.View.{statement_of};
 ghost use Rattle.rv_unit_laws.specs.Tables.{Tables, at_start, tables};
 ghost use Rattle.rv_unit.specs.Unit.{said, IsFilled, IsScope};

@@ -7,7 +7,8 @@
 ghost use Rattle.std.specs.Prelude.{◌≡◌, ◌&&◌, ◌+◌, ◌*◌, ◌<◌, ◌≤◌, ℕ, true, false, [], ◌∷◌, ◌++◌, length, map, slice_index, slice_set, None, IfOk, IfErr};
 ghost use Rattle.rv_text_laws.specs.Values as values;
 ghost use Rattle.rv_lexer.specs.declared.fault.SourceFault.TheVariants.{OutOfMemory};
-ghost use Rattle.rv_statement.specs.View.{width_bytes, quoted, statement_kind};
+ghost use Rattle.rv_statement_laws.specs.Widths.{width_bytes};
+ghost use Rattle.rv_statement.specs.View.{quoted, statement_kind};
 ghost use Rattle.rv_unit_laws.specs.Faults.{first_unit_fault};
 ghost use Rattle.rv_unit_laws.specs.Tables as laws;
 ghost use Rattle.rv_unit.specs.Unit.{said};
@@ -22,7 +23,8 @@ ghost use Rattle.rv_draft.specs.Measured.{CanCount, PadsIn, CanPadIn, AlignsIn, 
 use crate::item::CodeSize;
 use rv_instruction::constant;
 use rv_layout::extent_at;
-use rv_statement::{Statement, StatementKind, Statements, Width};
+use rv_statement::{Statement, StatementKind, Statements};
+use rv_statement_laws::Width;
 use rv_text::{SourceCode, SourceFault, Value};
 use rv_unit::{
     Extent, Item, LONGEST_SECTION, Scope, Section, SectionOffset, Unit, byte_alignment, give_back,

@@ -12,7 +12,7 @@ use Rattle.rv_parcel.specs.declared.form.Compressed.TheVariants.{Addi, Addiw, Lu
 use Rattle.rv_parcel.specs.declared.parcel.ParcelOperation.TheVariants as parcels
 use Rattle.rv_parcel.specs.Parcel.{IsLine, IsShortOf, expansion}
 use Rattle.rv_parcel.specs.Encoded.{HasShort}
-use Rattle.rv_statement.specs.declared.mnemonic.Mnemonic.TheVariants.{Immediate, Li, Parcel}
+use Rattle.rv_statement_laws.specs.declared.mnemonic.Mnemonic.TheVariants.{Immediate, Li, Parcel}
 use Rattle.rv_pseudo_laws.specs.Li.{addi, addiw, lui}
 use Rattle.rv_pseudo_laws.specs.Code.{Closed}
 use Rattle.rv_assemble_laws.specs.Coded.{IsCode}

@@ -9,8 +9,8 @@ use Rattle.rv_isa.specs.declared.kind.Kind.TheVariants as kind
 use Rattle.rv_parcel.specs.declared.form.Compressed.TheVariants.{Beqz as Of_parcel}
 use Rattle.rv_parcel.specs.declared.parcel.ParcelOperation.TheVariants as parcels
 use Rattle.rv_parcel.specs.Parcel.{IsShortOf}
-use Rattle.rv_statement.specs.declared.mnemonic.Mnemonic.TheVariants.{Call, La, ZeroBranch, Parcel}
-use Rattle.rv_statement.specs.declared.pseudo.ZeroBranchOperation.TheVariants.{Beqz}
+use Rattle.rv_statement_laws.specs.declared.mnemonic.Mnemonic.TheVariants.{Call, La, ZeroBranch, Parcel}
+use Rattle.rv_statement_laws.specs.declared.pseudo.ZeroBranchOperation.TheVariants.{Beqz}
 use Rattle.rv_pseudo_laws.specs.Li.{addi}
 use Rattle.rv_pseudo_laws.specs.Code.{Closed, Open, Joined, b_type, auipc, jal, jalr}
 use Rattle.rv_assemble_laws.specs.Coded.{IsCode}

@@ -4,9 +4,9 @@
 use Rattle.std.specs.Prelude.{ℕ, List, [], ◌∷◌, codes}
 use Rattle.rv_text_laws.specs.declared.operator.BinaryOperator.TheVariants.{Add}
 use Rattle.rv_text_laws.specs.Expression.{Binary}
-use Rattle.rv_statement.specs.declared.mnemonic.Mnemonic.TheVariants.{ZeroBranch}
-use Rattle.rv_statement.specs.declared.pseudo.ZeroBranchOperation.TheVariants.{Beqz}
-use Rattle.rv_statement.specs.Statement.{StatementKind, Label, Instruction, Statement, Expression, Register, Target}
+use Rattle.rv_statement_laws.specs.declared.mnemonic.Mnemonic.TheVariants.{ZeroBranch}
+use Rattle.rv_statement_laws.specs.declared.pseudo.ZeroBranchOperation.TheVariants.{Beqz}
+use Rattle.rv_statement_laws.specs.Statement.{StatementKind, Label, Instruction, Statement, Expression, Register, Target}
 use Rattle.rv_unit_laws.specs.Tables.{tables}
 use Rattle.rv_source_laws.specs.Located.{located}
 use Rattle.rv_source_laws.specs.Sizes.{AreLeast}

@@ -6,7 +6,7 @@
 --     ecall
 
 use Rattle.std.specs.Prelude.{List, [], ◌∷◌, Some, None, codes}
-use Rattle.rv_statement.specs.Statement.{Directs, Statement, Opens, Aligns_to_power}
+use Rattle.rv_statement_laws.specs.Statement.{Directs, Statement, Opens, Aligns_to_power}
 use Rattle.rv_map_laws.specs.Map.{Map}
 use Rattle.rv_examples.specs.Exit7.{on_line, constant, row, region, exit7_map}
 use Rattle.rv_examples.specs.Data.{call}

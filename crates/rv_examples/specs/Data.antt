@@ -5,11 +5,11 @@ use Rattle.rv_isa_laws.specs.Hart.{Outcome, Exited}
 use Rattle.rv_text_laws.specs.declared.operator.UnaryOperator.TheVariants.{Negate}
 use Rattle.rv_text_laws.specs.declared.operator.BinaryOperator.TheVariants.{Add, Subtract, Or, Remainder, ShiftLeft}
 use Rattle.rv_text_laws.specs.Expression.{Symbol, Here, Reference, Leaf, Unary, Binary}
-use Rattle.rv_statement.specs.declared.directive.Standard.TheVariants.{Data, Bss}
-use Rattle.rv_statement.specs.declared.mnemonic.Mnemonic.TheVariants.{Upper, Ecall}
+use Rattle.rv_statement_laws.specs.declared.directive.Standard.TheVariants.{Data, Bss}
+use Rattle.rv_statement_laws.specs.declared.mnemonic.Mnemonic.TheVariants.{Upper, Ecall}
 use Rattle.rv_isa.specs.declared.operation.UpperOperation.TheVariants.{Lui}
-use Rattle.rv_statement.specs.declared.directive.Binding.TheVariants as bindings
-use Rattle.rv_statement.specs.Statement.{StatementKind, Label, Numbered, Instruction, Directs, Statement, Expression, Register, Value, Enters, Opens, Binds, Sets, Aligns_to_power, Aligns_to_bytes, Values, Strings, Zeros}
+use Rattle.rv_statement_laws.specs.declared.directive.Binding.TheVariants as bindings
+use Rattle.rv_statement_laws.specs.Statement.{StatementKind, Label, Numbered, Instruction, Directs, Statement, Expression, Register, Value, Enters, Opens, Binds, Sets, Aligns_to_power, Aligns_to_bytes, Values, Strings, Zeros}
 use Rattle.rv_map_laws.specs.Globals.{global}
 use Rattle.rv_map_laws.specs.Map.{Map}
 use Rattle.rv_examples.specs.Exit7.{on_line, constant, norvc, globl, load, row, region}

@@ -10,11 +10,11 @@ use Rattle.std.specs.Prelude.{ℕ, List, [], ◌∷◌, ◌++◌, codes}
 use Rattle.rv_isa_laws.specs.Hart.{Outcome, Exited}
 use Rattle.rv_text_laws.specs.declared.operator.UnaryOperator.TheVariants.{Negate}
 use Rattle.rv_text_laws.specs.Expression.{Literal, Leaf, Unary}
-use Rattle.rv_statement.specs.declared.directive.Choice.TheVariants.{Norvc}
-use Rattle.rv_statement.specs.declared.mnemonic.Mnemonic.TheVariants.{Immediate, Ecall, Li}
+use Rattle.rv_statement_laws.specs.declared.directive.Choice.TheVariants.{Norvc}
+use Rattle.rv_statement_laws.specs.declared.mnemonic.Mnemonic.TheVariants.{Immediate, Ecall, Li}
 use Rattle.rv_isa.specs.declared.operation.ImmediateOperation.TheVariants.{Addi}
-use Rattle.rv_statement.specs.declared.directive.Binding.TheVariants as bindings
-use Rattle.rv_statement.specs.Statement.{StatementKind, Label, Instruction, Directs, Statement, Expression, Register, Value, Binds, Chooses}
+use Rattle.rv_statement_laws.specs.declared.directive.Binding.TheVariants as bindings
+use Rattle.rv_statement_laws.specs.Statement.{StatementKind, Label, Instruction, Directs, Statement, Expression, Register, Value, Binds, Chooses}
 use Rattle.rv_map_laws.specs.Globals.{global}
 use Rattle.rv_map_laws.specs.Map.{Map}
 use Rattle.rv_map_laws.specs.declared.map.Row.{Row}

@@ -2,7 +2,7 @@
 
 use Rattle.std.specs.Prelude.{ℕ, List, [], ◌∷◌}
 use Rattle.rv_text_laws.specs.Values.{Value, Refused, value_of}
-use Rattle.rv_statement.specs.Statement.{Operand, Expression, Register, Value as Of_value}
+use Rattle.rv_statement_laws.specs.Statement.{Operand, Expression, Register, Value as Of_value}
 use Rattle.rv_examples.specs.Exit7.{constant}
 
 -- where no name means anything

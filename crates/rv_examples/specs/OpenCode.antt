@@ -3,7 +3,7 @@
 
 use Rattle.std.specs.Prelude.{ℕ, List, [], ◌∷◌}
 use Rattle.rv_text_laws.specs.Values.{Value, Open, value_of}
-use Rattle.rv_statement.specs.Statement.{Operand, Expression, Register, Target}
+use Rattle.rv_statement_laws.specs.Statement.{Operand, Expression, Register, Target}
 use Rattle.rv_examples.specs.Refused.{x}
 
 -- where the address of every name is not known yet

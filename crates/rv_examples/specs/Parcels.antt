@@ -4,9 +4,9 @@
 use Rattle.std.specs.Prelude.{ℕ, List, [], ◌∷◌, codes}
 use Rattle.rv_parcel.specs.declared.parcel.ParcelOperation.{ParcelOperation}
 use Rattle.rv_parcel.specs.declared.parcel.ParcelOperation.TheVariants.{Lw, Li, J}
-use Rattle.rv_statement.specs.declared.mnemonic.Mnemonic.TheVariants.{Ecall, Parcel}
-use Rattle.rv_statement.specs.declared.pseudo.Function.{Function}
-use Rattle.rv_statement.specs.Statement.{StatementKind, Label, Instruction, Statement, Operand, Expression, Register, Value, Applied, Target}
+use Rattle.rv_statement_laws.specs.declared.mnemonic.Mnemonic.TheVariants.{Ecall, Parcel}
+use Rattle.rv_statement_laws.specs.declared.pseudo.Function.{Function}
+use Rattle.rv_statement_laws.specs.Statement.{StatementKind, Label, Instruction, Statement, Operand, Expression, Register, Value, Applied, Target}
 use Rattle.rv_map_laws.specs.Globals.{global}
 use Rattle.rv_map_laws.specs.Map.{Map}
 use Rattle.rv_examples.specs.Exit7.{on_line, constant, norvc, globl, load, row, region, exit7_map}

@@ -4,19 +4,19 @@ use Rattle.std.specs.Prelude.{ℕ, List, [], ◌∷◌, Option, Some, codes}
 use Rattle.rv_text_laws.specs.declared.operator.UnaryOperator.TheVariants.{Negate}
 use Rattle.rv_text_laws.specs.declared.operator.BinaryOperator.TheVariants.{Subtract, Divide}
 use Rattle.rv_text_laws.specs.Expression.{Leaf, Here, Unary, Binary}
-use Rattle.rv_statement.specs.declared.directive.Choice.TheVariants.{Norvc, Push, Pop}
-use Rattle.rv_statement.specs.declared.directive.Standard.TheVariants.{Text, Data}
-use Rattle.rv_statement.specs.declared.mnemonic.Mnemonic.TheVariants.{Registers, Immediate, Shift, Upper, Load, Store, Unary as Of_one, J, Jr, La, Li, Call, Jump}
-use Rattle.rv_statement.specs.declared.pseudo.Function.{Function}
-use Rattle.rv_statement.specs.declared.pseudo.Function.TheVariants.{Hi, PcrelHi}
-use Rattle.rv_statement.specs.declared.pseudo.UnaryOperation.TheVariants.{Mv, SextB}
+use Rattle.rv_statement_laws.specs.declared.directive.Choice.TheVariants.{Norvc, Push, Pop}
+use Rattle.rv_statement_laws.specs.declared.directive.Standard.TheVariants.{Text, Data}
+use Rattle.rv_statement_laws.specs.declared.mnemonic.Mnemonic.TheVariants.{Registers, Immediate, Shift, Upper, Load, Store, Unary as Of_one, J, Jr, La, Li, Call, Jump}
+use Rattle.rv_statement_laws.specs.declared.pseudo.Function.{Function}
+use Rattle.rv_statement_laws.specs.declared.pseudo.Function.TheVariants.{Hi, PcrelHi}
+use Rattle.rv_statement_laws.specs.declared.pseudo.UnaryOperation.TheVariants.{Mv, SextB}
 use Rattle.rv_isa.specs.declared.operation.RegisterOperation.TheVariants.{And, Sllw}
 use Rattle.rv_isa.specs.declared.operation.ImmediateOperation.TheVariants.{Addi}
 use Rattle.rv_isa.specs.declared.operation.ShiftOperation.TheVariants.{Slli}
 use Rattle.rv_isa.specs.declared.operation.UpperOperation.TheVariants.{Lui, Auipc}
 use Rattle.rv_isa.specs.declared.operation.LoadOperation.TheVariants.{Ld}
 use Rattle.rv_isa.specs.declared.operation.StoreOperation.TheVariants.{Sd}
-use Rattle.rv_statement.specs.Statement.{StatementKind, Label, Instruction, Directs, Statement, Expression, Register, Value, Applied, Target, Enters, Opens, Sets, Aligns_to_power, Chooses}
+use Rattle.rv_statement_laws.specs.Statement.{StatementKind, Label, Instruction, Directs, Statement, Expression, Register, Value, Applied, Target, Enters, Opens, Sets, Aligns_to_power, Chooses}
 use Rattle.rv_unit_laws.specs.Faults.{StatementFault}
 use Rattle.rv_examples.specs.Exit7.{on_line, constant, norvc}
 use Rattle.rv_examples.specs.Data.{call, symbol}

@@ -3,8 +3,8 @@
 ghost use Rattle.std.specs.Prelude.{true, false};
 ghost use Rattle.rv_isa.specs.declared.operation.ImmediateOperation.TheVariants.{Addi};
 ghost use Rattle.rv_parcel.specs.declared.parcel.ParcelOperation.TheVariants as parcels;
-ghost use Rattle.rv_statement.specs.declared.mnemonic.Mnemonic.TheVariants.{Immediate, Li, Call, La, ZeroBranch, Parcel};
-ghost use Rattle.rv_statement.specs.declared.pseudo.ZeroBranchOperation.TheVariants.{Beqz};
+ghost use Rattle.rv_statement_laws.specs.declared.mnemonic.Mnemonic.TheVariants.{Immediate, Li, Call, La, ZeroBranch, Parcel};
+ghost use Rattle.rv_statement_laws.specs.declared.pseudo.ZeroBranchOperation.TheVariants.{Beqz};
 ghost use Rattle.rv_assemble_laws.specs.Coded.{IsCode};
 ghost use Rattle.rv_examples.specs.KnownCode.{without_names, own, number_operands, adds_word, adds_parcel, loads_words, loads_both};
 ghost use Rattle.rv_examples.specs.Refused.{jumps};

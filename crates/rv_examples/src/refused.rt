@@ -5,8 +5,8 @@ ghost use Rattle.rv_text_laws.specs.Codes.{immediate_range, not_constant, divisi
 ghost use Rattle.rv_text_laws.specs.declared.operator.BinaryOperator.TheVariants.{Divide};
 ghost use Rattle.rv_text_laws.specs.Expression.{Leaf, Binary, Reference};
 ghost use Rattle.rv_parcel.specs.declared.parcel.ParcelOperation.TheVariants.{Addi, Lui, Slli};
-ghost use Rattle.rv_statement.specs.declared.pseudo.Function.TheVariants.{Lo, PcrelLo};
-ghost use Rattle.rv_statement.specs.Statement.{Directs, Values};
+ghost use Rattle.rv_statement_laws.specs.declared.pseudo.Function.TheVariants.{Lo, PcrelLo};
+ghost use Rattle.rv_statement_laws.specs.Statement.{Directs, Values};
 ghost use Rattle.rv_examples.specs.Exit7.{exit7, load, constant};
 ghost use Rattle.rv_examples.specs.Data.{hello, figures, differences, symbol};
 ghost use Rattle.rv_examples.specs.Refused.{fault, lone, adds, minus, shifts, shifts_word, ands, uppers, loads, x, away, jumps, moves, extends, loads_address, loads_symbol, stores_symbol, calls, jumps_by, adds_part, shifts_part, li_part, upper_part, upper_distance, jumps_back, after_set, before_set, before_label, after_location, compressed, after_padding, padding_without_bytes, options, two_faults, directive_later};

@@ -19,7 +19,7 @@ ghost use Rattle.rv_examples.specs.Data.{hello, hello_map, says_hello, hello_tex
 ghost use Rattle.rv_examples.specs.Parcels.{parcel7, parcel7_map};
 ghost use Rattle.rv_examples.specs.CodeAlignment.{two_sections, with_gap, without_gap};
 ghost use Rattle.rv_examples.specs.Regions.{text_sections, text_bytes, rodata_bytes, example_data};
-ghost use Rattle.rv_statement.specs.declared.directive.Binding.TheVariants.{Local, Global};
+ghost use Rattle.rv_statement_laws.specs.declared.directive.Binding.TheVariants.{Local, Global};
 ghost use Rattle.rv_unit_laws.specs.declared.section_type.SectionType.TheVariants.{Progbits, Nobits, Note};
 ghost use Rattle.rv_unit_laws.specs.Sections.{section_with};
 ghost use Rattle.rv_unit_laws.specs.Bindings.{bindings_of};

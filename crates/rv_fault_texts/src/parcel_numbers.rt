@@ -3,7 +3,7 @@
 use rv_parcel::{OperandShape, ParcelOperation};
 use rv_parse_words::Beginning;
 use rv_parse_words::words::beginning_with;
-use rv_statement::Mnemonic;
+use rv_statement_laws::Mnemonic;
 use std::alloc::{AllocError, Global};
 
 /// No number of a parcel has more than eleven bits.

@@ -3,7 +3,7 @@
 use Rattle.std.proofs.Common.{◌≡◌, Bool, true, false, refl, ap, ◌∙◌, None}
 use Rattle.rv_statement.specs.declared.statement.Operation.{Operation}
 use Rattle.rv_statement.specs.declared.statement.Plain.{Plain}
-use Rattle.rv_statement.specs.Statement.{Expression, StatementKind}
+use Rattle.rv_statement_laws.specs.Statement.{Expression, StatementKind}
 use Rattle.rv_statement.specs.View.{plain_of, with_operand}
 use Rattle.rv_pseudo.specs.Faults.{takes_target}
 use Rattle.rv_pseudo.specs.Templates.{statement_with}

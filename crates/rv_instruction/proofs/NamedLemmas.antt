@@ -15,15 +15,15 @@ use Rattle.rv_parcel.specs.declared.parcel.OperandShape.{OperandShape}
 use Rattle.rv_parcel.specs.declared.parcel.OperandShape.TheVariants as shapes
 use Rattle.rv_parcel.specs.Mnemonics.{register_sets, shape_of, are_in, takes_number, form_with, form_of}
 use Rattle.rv_parcel.specs.Parcel.{expansion}
-use Rattle.rv_statement.specs.declared.mnemonic.Mnemonic.{Mnemonic}
-use Rattle.rv_statement.specs.declared.mnemonic.Mnemonic.TheVariants.{Parcel}
-use Rattle.rv_statement.specs.declared.pseudo.Function.{Function}
-use Rattle.rv_statement.specs.declared.pseudo.Function.TheVariants.{Hi, Lo, PcrelHi, PcrelLo}
+use Rattle.rv_statement_laws.specs.declared.mnemonic.Mnemonic.{Mnemonic}
+use Rattle.rv_statement_laws.specs.declared.mnemonic.Mnemonic.TheVariants.{Parcel}
+use Rattle.rv_statement_laws.specs.declared.pseudo.Function.{Function}
+use Rattle.rv_statement_laws.specs.declared.pseudo.Function.TheVariants.{Hi, Lo, PcrelHi, PcrelLo}
 use Rattle.rv_statement.specs.declared.statement.Operation.{Operation}
 use Rattle.rv_statement.specs.declared.statement.Operation.TheVariants as operations
 use Rattle.rv_statement.specs.declared.statement.Plain.{Plain}
 use Rattle.rv_statement.specs.declared.statement.Plain.TheVariants as plains
-use Rattle.rv_statement.specs.Statement.{Expression, Statement, StatementKind, Label, Numbered, Instruction, Directs, Operand, Register, Value, Applied, Target}
+use Rattle.rv_statement_laws.specs.Statement.{Expression, Statement, StatementKind, Label, Numbered, Instruction, Directs, Operand, Register, Value, Applied, Target}
 use Rattle.rv_statement.specs.View.{plain_of, parcel_registers, parcel_operands, shaped}
 use Rattle.rv_pseudo_laws.specs.Code.{Closed, Constants, constant_number, by_form, parcel_form, named_form, code}
 use Rattle.rv_pseudo_laws.specs.Filled.{are_closed}

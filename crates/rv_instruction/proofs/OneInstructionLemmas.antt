@@ -14,7 +14,7 @@ use Rattle.rv_text.specs.Eval.{value_told}
 use Rattle.rv_statement.specs.declared.statement.Operation.{Operation}
 use Rattle.rv_statement.specs.declared.statement.Plain.{Plain}
 use Rattle.rv_statement.specs.declared.statement.Plain.TheVariants as plains
-use Rattle.rv_statement.specs.Statement.{Operand, Expression, Statement, StatementKind}
+use Rattle.rv_statement_laws.specs.Statement.{Operand, Expression, Statement, StatementKind}
 use Rattle.rv_statement.specs.View.{plain_of, with_operand}
 use Rattle.rv_pseudo_laws.specs.Code.{Closed, Constants}
 use Rattle.rv_pseudo_laws.specs.Filled.{are_closed}

@@ -7,11 +7,11 @@ use Rattle.rv_parcel.specs.declared.parcel.ParcelOperation.{ParcelOperation}
 use Rattle.rv_parcel.specs.declared.parcel.OperandShape.{OperandShape}
 use Rattle.rv_parcel.specs.declared.parcel.OperandShape.TheVariants as shapes
 use Rattle.rv_parcel.specs.Mnemonics.{own_registers, shape_of}
-use Rattle.rv_statement.specs.declared.pseudo.Function.{Function}
-use Rattle.rv_statement.specs.declared.pseudo.Function.TheVariants.{Hi, Lo, PcrelHi, PcrelLo}
+use Rattle.rv_statement_laws.specs.declared.pseudo.Function.{Function}
+use Rattle.rv_statement_laws.specs.declared.pseudo.Function.TheVariants.{Hi, Lo, PcrelHi, PcrelLo}
 use Rattle.rv_statement.specs.declared.statement.Operation.{Operation}
 use Rattle.rv_statement.specs.declared.statement.Operation.TheVariants as operations
-use Rattle.rv_statement.specs.Statement.{StatementKind, Expression, Operand, Register, Applied}
+use Rattle.rv_statement_laws.specs.Statement.{StatementKind, Expression, Operand, Register, Applied}
 use Rattle.rv_statement.specs.View.{parcel_operands, shaped, with_expression, with_function}
 use Rattle.rv_pseudo.specs.Faults.{is_target, takes_target}
 use Rattle.rv_unit_laws.specs.Tables.{Tables}

@@ -6,28 +6,25 @@ use Rattle.std.specs.List.{AllByRecursion}
 use Rattle.arrayvec.specs.ArrayVec.{ArrayVec}
 use Rattle.rv_text_laws.specs.Expression.{Leaf, Here}
 use Rattle.rv_lexer.specs.declared.fault.SourceCode.{SourceCode}
-use Rattle.rv_statement.specs.declared.pseudo.Function.{Function}
-use Rattle.rv_statement.specs.declared.pseudo.Function.TheVariants.{Hi, Lo, PcrelHi, PcrelLo}
+use Rattle.rv_statement_laws.specs.declared.pseudo.Function.{Function}
+use Rattle.rv_statement_laws.specs.declared.pseudo.Function.TheVariants.{Hi, Lo, PcrelHi, PcrelLo}
 use Rattle.rv_statement.specs.declared.statement.Operation.{Operation}
 use Rattle.rv_statement.specs.declared.statement.Operation.TheVariants as operations
 use Rattle.rv_statement.specs.declared.statement.Plain.{Plain}
-use Rattle.rv_statement.specs.Statement.{Expression, StatementKind, Label, Numbered, Instruction, Directs, Operand}
+use Rattle.rv_statement_laws.specs.Statement.{Expression, StatementKind, Label, Numbered, Instruction, Directs, Operand}
 use Rattle.rv_statement.specs.View.{plain_of, with_operand}
-use Rattle.rv_pseudo_laws.specs.Code.{Constants}
+use Rattle.rv_pseudo_laws.specs.Code.{Constants, Part, Closed, Open, Joined}
 use Rattle.rv_pseudo_laws.specs.Valid.{IsOperandOf, IsValidPart}
 use Rattle.rv_pseudo_laws.proofs.PartsLemmas.{code_valid}
 use Rattle.rv_pseudo.specs.declared.template.Template.{Template}
 use Rattle.rv_pseudo.specs.declared.template.Worth.{Worth}
 use Rattle.rv_pseudo.specs.Faults.{worth_of, constant_in, mnemonic_of, with_part, known_as, takes_target, is_upper}
-use Rattle.rv_pseudo.specs.Templates.{statement_with, number_operand, AnswersBare, AreTemplates}
+use Rattle.rv_pseudo.specs.Templates.{statement_with, number_operand, AnswersBare, AreTemplates, all_templates, operand}
 use Rattle.rv_pseudo.proofs.InRangeLemmas.{is_taken, and_right, good_away, part_mnemonic}
 use Rattle.rv_pseudo.proofs.TableLemmas.{part_statement}
-use Rattle.rv_pseudo.proofs.RowsLemmas.{away_operand}
+use Rattle.rv_pseudo.proofs.RowsLemmas.{away_operand, target_operand}
 use Rattle.rv_source_laws.specs.Lines as lines
 use Rattle.rv_pseudo.specs.Templates as pseudo
-use Rattle.rv_pseudo.specs.Templates.{all_templates, operand}
-use Rattle.rv_pseudo.proofs.RowsLemmas.{target_operand}
-use Rattle.rv_pseudo_laws.specs.Code.{Part, Closed, Open, Joined}
 use Rattle.rv_pseudo_laws.specs.Filled.{are_closed}
 use Rattle.rv_instruction.specs.Code.{parts_in, IsCodable, AreCodable, AreInRange, MayHave}
 use Rattle.rv_instruction.specs.Opened.{are_free}

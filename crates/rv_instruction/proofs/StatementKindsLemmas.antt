@@ -9,15 +9,15 @@ use Rattle.rv_text_laws.specs.Values as values
 use Rattle.rv_lexer.specs.declared.fault.SourceCode.{SourceCode}
 use Rattle.rv_lexer.specs.declared.fault.SourceFault.{SourceFault}
 use Rattle.rv_lexer.specs.declared.fault.SourceFault.TheVariants.{At, OutOfMemory}
-use Rattle.rv_statement.specs.Statement.{Expression, Statement, StatementKind, Label, Numbered, Instruction, Directs}
+use Rattle.rv_statement_laws.specs.Statement.{Expression, Statement, StatementKind, Label, Numbered, Instruction, Directs}
 use Rattle.rv_statement.specs.View.{plain_of, with_operand}
-use Rattle.rv_statement.specs.declared.pseudo.Function.{Function}
+use Rattle.rv_statement_laws.specs.declared.pseudo.Function.{Function}
 use Rattle.rv_statement.specs.declared.statement.Operation.{Operation}
 use Rattle.rv_statement.specs.declared.statement.Operation.TheVariants as operations
 use Rattle.rv_statement.specs.declared.statement.Plain.{Plain}
 use Rattle.rv_statement.specs.declared.statement.Plain.TheVariants as plains
 use Rattle.rv_text_laws.specs.Codes.{lowest}
-use Rattle.rv_statement.specs.declared.mnemonic.Mnemonic.TheVariants as mnemonics
+use Rattle.rv_statement_laws.specs.declared.mnemonic.Mnemonic.TheVariants as mnemonics
 use Rattle.rv_layout_laws.specs.declared.item.Forms.{Forms}
 use Rattle.rv_pseudo_laws.specs.Code.{Part, Constants}
 use Rattle.rv_pseudo_laws.specs.Filled.{are_closed, code_bytes}

@@ -4,8 +4,8 @@ use Rattle.std.proofs.Common.{◌≡◌, Bool, Option, Some, None, option_map, r
 use Rattle.std.specs.Prelude.{is_some}
 use Rattle.rv_text_laws.specs.Expression.{Primary}
 use Rattle.rv_text_laws.specs.Values as values
-use Rattle.rv_statement.specs.declared.pseudo.Function.TheVariants.{Hi, Lo, PcrelHi, PcrelLo}
-use Rattle.rv_statement.specs.declared.pseudo.Function.{Function}
+use Rattle.rv_statement_laws.specs.declared.pseudo.Function.TheVariants.{Hi, Lo, PcrelHi, PcrelLo}
+use Rattle.rv_statement_laws.specs.declared.pseudo.Function.{Function}
 use Rattle.rv_statement.specs.declared.statement.Operation.{Operation}
 use Rattle.rv_pseudo.specs.Faults.{constant_in, faults_of}
 use Rattle.rv_source_laws.specs.Lines.{constant_of}

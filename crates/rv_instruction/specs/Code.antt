@@ -16,11 +16,11 @@ use Rattle.rv_text_laws.specs.Values as values
 use Rattle.rv_lexer.specs.declared.fault.SourceFault.{SourceFault}
 use Rattle.rv_lexer.specs.declared.fault.SourceFault.TheVariants.{At, OutOfMemory}
 use Rattle.rv_lexer.specs.Fault.{source_fault_number}
-use Rattle.rv_statement.specs.declared.mnemonic.Mnemonic.{Mnemonic}
-use Rattle.rv_statement.specs.declared.pseudo.Function.{Function}
-use Rattle.rv_statement.specs.declared.pseudo.Function.TheVariants.{PcrelLo}
+use Rattle.rv_statement_laws.specs.declared.mnemonic.Mnemonic.{Mnemonic}
+use Rattle.rv_statement_laws.specs.declared.pseudo.Function.{Function}
+use Rattle.rv_statement_laws.specs.declared.pseudo.Function.TheVariants.{PcrelLo}
 use Rattle.rv_statement.specs.declared.statement.Operation.{Operation}
-use Rattle.rv_statement.specs.Statement.{StatementKind, Instruction, Operand, Expression, Statement}
+use Rattle.rv_statement_laws.specs.Statement.{StatementKind, Instruction, Operand, Expression, Statement}
 use Rattle.rv_unit_laws.specs.Faults.{constant_faults}
 use Rattle.rv_layout_laws.specs.declared.item.Forms.{Forms}
 use Rattle.rv_layout_laws.specs.Branches.{Offers}

@@ -3,15 +3,15 @@
 use Rattle.std.specs.Prelude.{ℕ, ◌-◌, pos, Bool, false, ◌==◌, List, Option, Some, None, option_map, slice_get, if◌then◌else◌}
 use Rattle.std.specs.Int.{w64, int_wrap}
 use Rattle.rv_text_laws.specs.Values.{Value, Symbolic}
-use Rattle.rv_statement.specs.Statement.{StatementKind, Instruction, Expression}
+use Rattle.rv_statement_laws.specs.Statement.{StatementKind, Instruction, Expression}
 use Rattle.rv_layout_laws.specs.declared.item.Forms.{Forms}
 use Rattle.rv_layout_laws.specs.declared.item.Forms.TheVariants.{Settled}
 use Rattle.rv_layout_laws.specs.declared.item.Item.{Item}
 use Rattle.rv_unit_laws.specs.Tables.{Tables, Definition, sure_definition}
 use Rattle.rv_unit_tables.specs.declared.section_offset.SectionOffset.{SectionOffset}
-use Rattle.rv_statement.specs.declared.pseudo.Function.{Function}
-use Rattle.rv_statement.specs.declared.pseudo.ZeroBranchOperation.{ZeroBranchOperation}
-use Rattle.rv_statement.specs.declared.pseudo.ZeroBranchOperation.TheVariants.{Beqz, Bnez}
+use Rattle.rv_statement_laws.specs.declared.pseudo.Function.{Function}
+use Rattle.rv_statement_laws.specs.declared.pseudo.ZeroBranchOperation.{ZeroBranchOperation}
+use Rattle.rv_statement_laws.specs.declared.pseudo.ZeroBranchOperation.TheVariants.{Beqz, Bnez}
 use Rattle.rv_statement.specs.declared.statement.Operation.{Operation}
 use Rattle.rv_pseudo.specs.Templates.{statement_with}
 use Rattle.rv_source_laws.specs.Sizes.{Near, near_forms, far_form, target_in, is_short_register, jump_forms}

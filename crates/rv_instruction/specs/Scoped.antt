@@ -6,7 +6,7 @@ use Rattle.rv_text_laws.specs.Values as values
 use Rattle.rv_lexer.specs.declared.fault.SourceFault.{SourceFault}
 use Rattle.rv_text.specs.declared.evaluation.Value.{Value}
 use Rattle.rv_text.specs.Eval.{IsOutcome}
-use Rattle.rv_statement.specs.Statement.{StatementKind, Expression}
+use Rattle.rv_statement_laws.specs.Statement.{StatementKind, Expression}
 use Rattle.rv_unit_laws.specs.Tables.{tables, value_by_tables, stood}
 use Rattle.rv_unit_tables.specs.declared.section_offset.SectionOffset.{SectionOffset}
 use Rattle.rv_unit_tables.specs.Sections.{offset_of}

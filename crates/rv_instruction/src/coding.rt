@@ -9,7 +9,7 @@ ghost use Rattle.rv_text_laws.specs.Expression.{Primary};
 ghost use Rattle.rv_text_laws.specs.Values as values;
 ghost use Rattle.rv_text.specs.Eval.{IsOutcome};
 ghost use Rattle.rv_text.specs.Expr.{tree_of_expr};
-ghost use Rattle.rv_statement.specs.Statement.{Expression, Statement as Said};
+ghost use Rattle.rv_statement_laws.specs.Statement.{Expression, Statement as Said};
 ghost use Rattle.rv_statement.specs.View.{plain_of, statement_of};
 ghost use Rattle.rv_unit.specs.Unit.{IsFilled, IsScope};
 ghost use Rattle.rv_pseudo.specs.Templates.{statement_with};
@@ -24,7 +24,8 @@ use crate::worth::{Outcome, worth};
 use arrayvec::ArrayVec;
 use rv_isa::Inst;
 use rv_pseudo::{Manner, Templates, takes_target, with_operand};
-use rv_statement::{Function, Operation, Plain, Statement, StatementKind};
+use rv_statement::{Operation, Plain, Statement, StatementKind};
+use rv_statement_laws::Function;
 use rv_text::{Expr, SourceCode, SourceFault, Value};
 use rv_unit::{Scope, SectionOffset};
 

@@ -5,7 +5,7 @@ ghost use Rattle.rv_isa.specs.Ranges.{IsValid};
 ghost use Rattle.rv_isa_laws.specs.Arithmetic.{signed};
 ghost use Rattle.rv_text_laws.specs.Values as values;
 ghost use Rattle.rv_text.specs.Eval.{value_told};
-ghost use Rattle.rv_statement.specs.Statement.{Operand};
+ghost use Rattle.rv_statement_laws.specs.Statement.{Operand};
 ghost use Rattle.rv_statement.specs.View.{plain_of, with_operand};
 ghost use Rattle.rv_pseudo_laws.specs.Code.{Constants};
 ghost use Rattle.rv_pseudo_laws.specs.Valid.{IsOperandOf};

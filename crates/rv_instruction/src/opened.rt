@@ -6,7 +6,7 @@ ghost use Rattle.std.specs.Prelude.{◌≡◌, ◌+◌, None, option_map, true};
 ghost use Rattle.rv_isa.specs.declared.kind.Kind.{Kind as SpecKind};
 ghost use Rattle.rv_isa.specs.Kinds as kinds;
 ghost use Rattle.rv_text_laws.specs.Values as values;
-ghost use Rattle.rv_statement.specs.Statement.{Expression};
+ghost use Rattle.rv_statement_laws.specs.Statement.{Expression};
 ghost use Rattle.rv_statement.specs.View.{statement_kind};
 ghost use Rattle.rv_pseudo.specs.Templates.{statement_with};
 ghost use Rattle.rv_unit_laws.specs.Tables.{tables, definition};
@@ -20,7 +20,8 @@ use crate::near::addend;
 use crate::worth::Outcome;
 use rv_isa::Kind;
 use rv_pseudo::takes_target;
-use rv_statement::{Function, Operation, Statement, StatementKind};
+use rv_statement::{Operation, Statement, StatementKind};
+use rv_statement_laws::Function;
 use rv_text::{Symbol, Value};
 use rv_unit::{Definition, Scope, SectionOffset};
 

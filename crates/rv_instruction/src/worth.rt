@@ -11,7 +11,7 @@ ghost use Rattle.rv_instruction.specs.Code as laws;
 ghost use Rattle.rv_instruction.specs.Scoped.{labels_at};
 
 use rv_pseudo::Worth;
-use rv_statement::Function;
+use rv_statement_laws::Function;
 use rv_text::{SourceCode, SourceFault, Symbol, Value};
 use rv_unit::Scope;
 

@@ -7,7 +7,7 @@ use Rattle.std.specs.List.{AllByRecursion}
 use Rattle.std.proofs.lemmas.List.{length-map}
 use Rattle.rv_text_laws.specs.Values.{Value, Symbolic}
 use Rattle.rv_text_laws.specs.Values as values
-use Rattle.rv_statement.specs.Statement.{Statement, StatementKind, Label, Numbered, Instruction, Directs, Expression, Operand}
+use Rattle.rv_statement_laws.specs.Statement.{Statement, StatementKind, Label, Numbered, Instruction, Directs, Expression, Operand}
 use Rattle.rv_layout_laws.specs.declared.item.Forms.{Forms}
 use Rattle.rv_layout_laws.specs.declared.item.Forms.TheVariants.{Settled, CompressedBranch, Branch, CompressedJump}
 use Rattle.rv_layout_laws.specs.declared.item.Item.{Item}

@@ -11,12 +11,12 @@ use Rattle.rv_parcel.specs.declared.parcel.ParcelOperation.TheVariants as parcel
 use Rattle.rv_parcel.specs.declared.parcel.RegisterSet.TheVariants.{Short}
 use Rattle.rv_parcel.specs.Mnemonics.{is_of_set, shape_of}
 use Rattle.rv_parcel.specs.Parcel.{expansion}
-use Rattle.rv_statement.specs.declared.mnemonic.Mnemonic.TheVariants.{Parcel}
+use Rattle.rv_statement_laws.specs.declared.mnemonic.Mnemonic.TheVariants.{Parcel}
 use Rattle.rv_statement.specs.declared.statement.Operation.{Operation}
 use Rattle.rv_statement.specs.declared.statement.Operation.TheVariants as operations
 use Rattle.rv_statement.specs.declared.statement.Plain.{Plain}
 use Rattle.rv_statement.specs.declared.statement.Plain.TheVariants as plains
-use Rattle.rv_statement.specs.Statement.{Instruction, Operand, Register, Applied, Target}
+use Rattle.rv_statement_laws.specs.Statement.{Instruction, Operand, Register, Applied, Target}
 use Rattle.rv_statement.specs.View.{parcel_registers, parcel_operands, shaped, plain_of}
 use Rattle.rv_pseudo_laws.specs.Code.{Part, Closed, Open, Joined, Constants, code, named_form, branch}
 use Rattle.rv_pseudo_laws.specs.Filled.{are_closed}

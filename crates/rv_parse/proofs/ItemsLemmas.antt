@@ -3,7 +3,7 @@
 use Rattle.std.proofs.Common.{◌≡◌, true, false, List, [], ◌∷◌, ◌++◌, append_assoc, Ok, Err, refl, sym, ◌∙◌, ap, map}
 use Rattle.rv_text_laws.specs.Lexing.{Token}
 use Rattle.rv_text_laws.specs.SyntaxError.{SyntaxError, Read}
-use Rattle.rv_statement.specs.Statement.{Operand}
+use Rattle.rv_statement_laws.specs.Statement.{Operand}
 use Rattle.rv_parse_laws.specs.Syntax.{is_comma, Slot}
 use Rattle.rv_parse_laws.specs.Parsing.{operand_at, end_at, items_at}
 use Rattle.rv_parse_laws.proofs.ItemsLemmas.{items_step}

@@ -6,10 +6,11 @@ use Rattle.rv_text_laws.specs.Expression.{Tree}
 use Rattle.rv_text_laws.specs.SyntaxError.{SyntaxError, Read}
 use Rattle.rv_text.specs.declared.expr.Expr.{Expr}
 use Rattle.rv_text.specs.Expr.{tree_of_expr}
-use Rattle.rv_statement.specs.declared.directive.Width.{Width}
-use Rattle.rv_statement.specs.declared.directive.DirectiveWord.TheVariants as words
-use Rattle.rv_statement.specs.Statement.{Operand, Value, Values, StatementKind, Directs}
-use Rattle.rv_statement.specs.View.{now_of, quoted, width_bytes}
+use Rattle.rv_statement_laws.specs.declared.directive.Width.{Width}
+use Rattle.rv_statement_laws.specs.declared.directive.DirectiveWord.TheVariants as words
+use Rattle.rv_statement_laws.specs.Statement.{Operand, Value, Values, StatementKind, Directs}
+use Rattle.rv_statement.specs.View.{now_of, quoted}
+use Rattle.rv_statement_laws.specs.Widths.{width_bytes}
 use Rattle.rv_parse_laws.specs.Syntax.{is_comma, Slot, A_symbol, A_string, A_value, A_comma, front_begins, operand_slots, directed, names_in, strings_in, values_in}
 use Rattle.rv_parse_laws.specs.Parsing.{operand_at, operands_at, end_at, ended_at, items_at, value_operand_at, seen_as}
 use Rattle.rv_parse_laws.proofs.OperandsLemmas.{operand_shorter}

@@ -4,7 +4,7 @@ use Rattle.std.proofs.Common.{◌≡◌, ℕ, Bool, true, false, ◌||◌, List,
 use Rattle.rv_text_laws.specs.Grammar.{Kind, Name as NameToken}
 use Rattle.rv_text_laws.specs.Lexing.{Token, is_last}
 use Rattle.rv_text_laws.specs.SyntaxError.{SyntaxError, Read}
-use Rattle.rv_statement.specs.Statement.{Operand, Word, Statement as SpecStatement}
+use Rattle.rv_statement_laws.specs.Statement.{Operand, Word, Statement as SpecStatement}
 use Rattle.rv_statement.specs.View.{statement_kind, statement_of}
 use Rattle.rv_statement.specs.declared.statement.Statement.{Statement}
 use Rattle.rv_parse_laws.specs.Syntax.{A_section, A_comma}

@@ -9,9 +9,9 @@ use Rattle.rv_parcel.specs.declared.parcel.RegisterSet.{RegisterSet}
 use Rattle.rv_parcel.specs.declared.parcel.ParcelOperation.{ParcelOperation}
 use Rattle.rv_parcel.specs.declared.parcel.ParcelOperation.TheVariants as parcels
 use Rattle.rv_parcel.specs.declared.parcel.OperandShape.TheVariants.{Number, Address, Target as ATarget}
-use Rattle.rv_statement.specs.declared.mnemonic.Mnemonic.TheVariants.{Parcel}
+use Rattle.rv_statement_laws.specs.declared.mnemonic.Mnemonic.TheVariants.{Parcel}
 use Rattle.rv_statement.specs.declared.statement.Operation.TheVariants as operations
-use Rattle.rv_statement.specs.Statement.{Expression, Operand, Register, Target, Instruction}
+use Rattle.rv_statement_laws.specs.Statement.{Expression, Operand, Register, Target, Instruction}
 use Rattle.rv_statement.specs.View.{parcel_registers, parcel_operands, shaped, with_operand, with_expression}
 use Rattle.rv_parse_laws.specs.declared.role.Role.TheVariants as roles
 use Rattle.rv_parse_laws.specs.Syntax.{A_register_of, A_comma, A_value, A_target, An_address_by, Slot, Slots, last, slots, parcel_slots, registers_alone, registers_and_base, registers_before}

@@ -7,13 +7,13 @@ use Rattle.rv_text_laws.proofs.TokensLemmas.{given}
 use Rattle.rv_lexer.specs.declared.fault.SourceCode.{SourceCode}
 use Rattle.rv_lexer.specs.declared.fault.SourceCode.TheVariants.{Limit}
 use Rattle.rv_lexer.specs.Fault.{source_fault_number}
-use Rattle.rv_statement.specs.Statement.{Statement}
+use Rattle.rv_statement_laws.specs.Statement.{Statement}
 use Rattle.rv_text_laws.specs.Codes.{limit}
 use Rattle.rv_parse_laws.specs.Opening.{is_opened}
 use Rattle.rv_parse_laws.specs.Parsing as parsing
 use Rattle.rv_text_laws.specs.SyntaxError as wrongs
 use Rattle.rv_parse_laws.specs.Reading.{statements_of_parts, longest_source}
-use Rattle.rv_statement.specs.Limits.{most_statements}
+use Rattle.rv_statement_laws.specs.Limits.{most_statements}
 use Rattle.rv_parse_laws.specs.Refusals.{SaysUpTo, SyntaxFault, Refuses, RefusesAt}
 use Rattle.rv_parse_laws.proofs.FirstFaultLemmas.{FirstInTokens, wrong_first, past_first, all_good, line_refused, before_tokens, token_refused}
 use Rattle.rv_lexer.specs.declared.syntax_error.SyntaxError.{SyntaxError}

@@ -3,7 +3,7 @@
 use Rattle.std.proofs.Common.{◌≡◌, ℕ, ◌+◌, true, false, List, [], ◌∷◌, ◌++◌, length, length-append, Result, Ok, Err, refl, sym, ◌∙◌, ap, subst, arith}
 use Rattle.rv_text_laws.specs.Lexing as lexing
 use Rattle.rv_lexer.specs.Token.{token_of, kind_of}
-use Rattle.rv_statement.specs.Statement.{Statement as SpecStatement}
+use Rattle.rv_statement_laws.specs.Statement.{Statement as SpecStatement}
 use Rattle.rv_parse_laws.specs.Syntax.{Says, is_end, is_source_end}
 use Rattle.rv_parse_laws.specs.Opening.{is_opened}
 use Rattle.rv_parse_laws.specs.Parsing.{statement_at, part_at, checked_at}

@@ -1,16 +1,15 @@
 -- What the readings of a cursor answer.
 
 use Rattle.std.specs.Prelude.{◌≡◌, ◌<◌, ℕ, Bool, false, List, ◌∷◌, length, Result, Ok, Err, ◌⊎◌}
-use Rattle.rv_statement.specs.Statement.{Statement}
-use Rattle.rv_statement.specs.Statement.{Instruction, Directs}
+use Rattle.rv_statement_laws.specs.Statement.{Statement, Instruction, Directs}
 use Rattle.rv_statement.specs.View.{statement_kind}
-use Rattle.rv_statement.specs.declared.mnemonic.Mnemonic.{Mnemonic}
-use Rattle.rv_statement.specs.declared.directive.DirectiveWord.{DirectiveWord}
+use Rattle.rv_statement_laws.specs.declared.mnemonic.Mnemonic.{Mnemonic}
+use Rattle.rv_statement_laws.specs.declared.directive.DirectiveWord.{DirectiveWord}
 use Rattle.rv_statement.specs.declared.statement.StatementKind.{StatementKind}
 use Rattle.rv_parse_laws.specs.Syntax.{is_end, slots, operand_slots, directed}
 use Rattle.rv_lexer.specs.declared.cursor.Cursor.{Cursor}
 use Rattle.rv_text_laws.specs.Codes.{limit}
-use Rattle.rv_statement.specs.Limits.{most_statements}
+use Rattle.rv_statement_laws.specs.Limits.{most_statements}
 use Rattle.rv_parse_laws.specs.Refusals.{SaysUpTo, Refuses, RefusesAt}
 use Rattle.rv_lexer.specs.declared.fault.SourceFault.{SourceFault}
 use Rattle.rv_lexer.specs.declared.fault.SourceFault.TheVariants as faults

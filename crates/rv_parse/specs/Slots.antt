@@ -4,7 +4,7 @@ use Rattle.std.specs.Prelude.{ℕ, Bool, true, false, List, [], ◌∷◌, ◌++
 use Rattle.rv_text_laws.specs.Lexing.{Token}
 use Rattle.rv_text_laws.specs.SyntaxError.{Read}
 use Rattle.rv_parcel.specs.declared.parcel.RegisterSet.{RegisterSet}
-use Rattle.rv_statement.specs.Statement.{Operand, Register}
+use Rattle.rv_statement_laws.specs.Statement.{Operand, Register}
 use Rattle.rv_parse_laws.specs.Syntax.{Slot, A_register_of, A_comma, A_value, A_target, An_address, Some_flags, At_sign, A_type, Slots, Takes, last, and_maybe}
 use Rattle.rv_parse_laws.specs.Parsing.{◌>>=◌, seen_as, operand_at, operands_at, ended_at, target_next, further, items_at}
 use Rattle.rv_parse_laws.specs.declared.role.Role.TheVariants as roles

@@ -4,9 +4,9 @@ use Rattle.rv_text.specs.declared.expr.Expr.{Expr}
 use Rattle.rv_text.specs.Expr.{expr_of, tree_of_expr}
 use Rattle.rv_text.specs.Nodes.{are_numbers}
 use Rattle.rv_parse_laws.specs.Syntax.{is_of_numbers}
-use Rattle.rv_statement.specs.Statement.{Expression, Operand, Register, Value, Applied, Target}
+use Rattle.rv_statement_laws.specs.Statement.{Expression, Operand, Register, Value, Applied, Target}
 use Rattle.std.specs.Prelude.{◌≡◌, Bool, true, false, List, [], ◌∷◌, Option, Some, None}
-use Rattle.rv_statement.specs.declared.pseudo.Function.{Function}
+use Rattle.rv_statement_laws.specs.declared.pseudo.Function.{Function}
 use Rattle.rv_parse.specs.declared.value.Argument.{Argument}
 use Rattle.rv_parse.specs.declared.access.Location.{Location}
 use Rattle.rv_parse.specs.declared.access.Location.TheVariants as locations

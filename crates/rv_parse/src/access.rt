@@ -1,8 +1,8 @@
 //! The operands of loads, stores, atomics and fences, up to the statement's end.
 
 ghost use Rattle.std.specs.Prelude.{◌∷◌, []};
-ghost use Rattle.rv_statement.specs.declared.mnemonic.Mnemonic.TheVariants.{Load, Store, LoadReserved, Atomic, Fence};
-ghost use Rattle.rv_statement.specs.Statement.{Instruction, Register};
+ghost use Rattle.rv_statement_laws.specs.declared.mnemonic.Mnemonic.TheVariants.{Load, Store, LoadReserved, Atomic, Fence};
+ghost use Rattle.rv_statement_laws.specs.Statement.{Instruction, Register};
 ghost use Rattle.rv_statement.specs.View.{statement_kind};
 ghost use Rattle.rv_parse_laws.specs.Syntax.{A_register, A_target, A_comma, Stops, Takes, last, closed, atomic_address};
 ghost use Rattle.rv_parse.specs.Slots.{location_at, placed_at};

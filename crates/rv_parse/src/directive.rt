@@ -6,8 +6,8 @@
 
 ghost use Rattle.std.specs.Prelude.{◌∷◌, [], map, Some};
 ghost use Rattle.rv_lexer.specs.Cursor.{left, Answers};
-ghost use Rattle.rv_statement.specs.declared.directive.DirectiveWord.TheVariants.{Enters, Section, Binds, Set, AlignToPower, AlignToBytes, Value, Ascii, Asciz, Zero, Option, Ignored};
-ghost use Rattle.rv_statement.specs.Statement.{Directs};
+ghost use Rattle.rv_statement_laws.specs.declared.directive.DirectiveWord.TheVariants.{Enters, Section, Binds, Set, AlignToPower, AlignToBytes, Value, Ascii, Asciz, Zero, Option, Ignored};
+ghost use Rattle.rv_statement_laws.specs.Statement.{Directs};
 ghost use Rattle.rv_statement.specs.View.{statement_kind};
 ghost use Rattle.rv_parse_laws.specs.Syntax.{A_symbol, A_string, A_value, directed};
 ghost use Rattle.rv_parse_laws.specs.declared.role.Role.TheVariants as roles;
@@ -20,7 +20,8 @@ ghost use Rattle.rv_parse.specs.Left.{Gives, GivesDirective, ReadsDirective};
 use crate::{slot, value};
 use rv_parse_words::fault::{self, Slot};
 use rv_parse_words::{Role, kinds};
-use rv_statement::{Binding, DirectiveWord, Opening, Setting, Standard, StatementKind, Width};
+use rv_statement::{Opening, Setting, StatementKind};
+use rv_statement_laws::{Binding, DirectiveWord, Standard, Width};
 use rv_text::{Cursor, Expr, ReadError, SyntaxError};
 use std::alloc::Global;
 

@@ -1,7 +1,7 @@
 //! The operands of instructions, up to the statement's end.
 
 ghost use Rattle.std.specs.Prelude.{◌≡◌, false};
-ghost use Rattle.rv_statement.specs.declared.mnemonic.Mnemonic.TheVariants.{Registers};
+ghost use Rattle.rv_statement_laws.specs.declared.mnemonic.Mnemonic.TheVariants.{Registers};
 ghost use Rattle.rv_parse_laws.specs.Syntax.{upper_role, targets};
 ghost use Rattle.rv_parse_laws.specs.Parsing.{operands_at};
 ghost use Rattle.rv_parse.specs.Left.{ReadsInstruction};
@@ -13,7 +13,8 @@ use rv_isa::{RegisterOperation, UpperOperation};
 use rv_parse_words::Role;
 use rv_parse_words::fault::Slot;
 use rv_parse_words::words::has_constant;
-use rv_statement::{Mnemonic, Operation, Plain, StatementKind};
+use rv_statement::{Operation, Plain, StatementKind};
+use rv_statement_laws::Mnemonic;
 use rv_text::{Cursor, ReadError};
 use std::alloc::Global;
 

@@ -1,8 +1,8 @@
 //! The operands of jumps and calls, up to the statement's end.
 
 ghost use Rattle.std.specs.Prelude.{◌∷◌};
-ghost use Rattle.rv_statement.specs.declared.mnemonic.Mnemonic.TheVariants.{Jal, Jalr, Jr, Call, Jump};
-ghost use Rattle.rv_statement.specs.Statement.{Instruction, Register};
+ghost use Rattle.rv_statement_laws.specs.declared.mnemonic.Mnemonic.TheVariants.{Jal, Jalr, Jr, Call, Jump};
+ghost use Rattle.rv_statement_laws.specs.Statement.{Instruction, Register};
 ghost use Rattle.rv_statement.specs.View.{statement_kind};
 ghost use Rattle.rv_parse_laws.specs.Syntax.{jump_target};
 ghost use Rattle.rv_parse_laws.specs.Parsing.{operands_at, seen_as};

@@ -6,7 +6,7 @@
 ghost use Rattle.std.specs.Str.{bytes_eq};
 ghost use Rattle.std.specs.Prelude.{◌≡◌, ℕ, List, [], Bool, ◌||◌, option_map, IfOk, OnOk};
 ghost use Rattle.rv_lexer.specs.Cursor.{left, syntax_error_of};
-ghost use Rattle.rv_statement.specs.Statement.{Statement};
+ghost use Rattle.rv_statement_laws.specs.Statement.{Statement};
 ghost use Rattle.rv_statement.specs.View.{statement_kind};
 ghost use Rattle.rv_parse_laws.specs.Opening.{opens, is_opened};
 ghost use Rattle.rv_parse_laws.specs.WrongOpening.{flags_fault, type_fault};
@@ -16,7 +16,7 @@ ghost use Rattle.rv_parse.specs.Opened.{Has, Knows};
 use crate::slot;
 use rv_parse_words::fault::{self, Slot};
 use rv_parse_words::{kinds, words};
-use rv_statement::StatementKind;
+use rv_statement::{StatementKind, section_name};
 use rv_text::{Cursor, LONGEST_NAME, SourceCode, SyntaxError, TokenKind, append_string};
 use std::alloc::{AllocError, Global};
 use std::collections::HashSet;
@@ -61,7 +61,7 @@ impl<'a> Opened<'a> {
             Has (self.new).set (λ n. opens n (statement_kind kind.now) || test n)) }
     {
         match kind {
-            StatementKind::Enters(standard) => self.insert(standard.name()),
+            StatementKind::Enters(standard) => self.insert(section_name(*standard)),
             StatementKind::Opens(opening) => self.insert(opening.name),
             _ => Ok(()),
         }

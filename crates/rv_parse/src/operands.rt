@@ -3,7 +3,7 @@
 ghost use Rattle.std.specs.Prelude.{◌≡◌, ◌∷◌, [], false};
 ghost use Rattle.rv_lexer.specs.Cursor.{left, Answers};
 ghost use Rattle.rv_text.specs.Expr.{tree_of_expr};
-ghost use Rattle.rv_statement.specs.Statement.{Register, Value};
+ghost use Rattle.rv_statement_laws.specs.Statement.{Register, Value};
 ghost use Rattle.rv_statement.specs.View.{statement_kind, with_expression, with_operand, operand_in};
 ghost use Rattle.rv_text_laws.specs.Expression.{Tree};
 ghost use Rattle.rv_parse_laws.specs.Faults.{may_call};

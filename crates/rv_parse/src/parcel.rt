@@ -3,8 +3,8 @@
 ghost use Rattle.std.specs.Prelude.{◌≡◌, ◌∷◌};
 ghost use Rattle.rv_parcel.specs.Mnemonics.{register_sets, shape_of};
 ghost use Rattle.rv_parcel.specs.declared.parcel.OperandShape.TheVariants.{Registers, Number, Address, Target};
-ghost use Rattle.rv_statement.specs.declared.mnemonic.Mnemonic.TheVariants.{Parcel};
-ghost use Rattle.rv_statement.specs.Statement.{Instruction, Register};
+ghost use Rattle.rv_statement_laws.specs.declared.mnemonic.Mnemonic.TheVariants.{Parcel};
+ghost use Rattle.rv_statement_laws.specs.Statement.{Instruction, Register};
 ghost use Rattle.rv_statement.specs.View.{parcel_registers, statement_kind};
 ghost use Rattle.rv_lexer.specs.Cursor.{left, Answers};
 ghost use Rattle.rv_parse_laws.specs.Syntax.{An_address_by, last, registers_alone};

@@ -6,7 +6,7 @@
 
 ghost use Rattle.std.specs.Prelude.{◌≡◌, ◌∷◌, []};
 ghost use Rattle.rv_lexer.specs.Cursor.{left, syntax_error_of};
-ghost use Rattle.rv_statement.specs.Statement.{Register, Accesses};
+ghost use Rattle.rv_statement_laws.specs.Statement.{Register, Accesses};
 ghost use Rattle.rv_parse_laws.specs.Syntax.{A_register_of, A_register, A_zero, Some_accesses, A_symbol, A_string, A_section, Some_flags, At_sign, A_type, A_plt, A_comma, An_opening, A_closing, Slot as AnySlot, front_begins};
 ghost use Rattle.rv_parse_laws.specs.Parsing.{operand_at, end_at, base_at, base_next, plt_next, too_long};
 ghost use Rattle.rv_parse_words.specs.View.{slot_of, word_of, string_of};

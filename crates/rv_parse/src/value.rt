@@ -3,8 +3,8 @@
 ghost use Rattle.std.specs.Prelude.{◌≡◌, ◌∷◌, [], false, None, IfOk};
 ghost use Rattle.rv_lexer.specs.Cursor.{left, syntax_error_of, Answers};
 ghost use Rattle.rv_text.specs.Expr.{tree_of_expr};
-ghost use Rattle.rv_statement.specs.declared.pseudo.Function.TheVariants.{PcrelHi};
-ghost use Rattle.rv_statement.specs.Statement.{Applied, Target};
+ghost use Rattle.rv_statement_laws.specs.declared.pseudo.Function.TheVariants.{PcrelHi};
+ghost use Rattle.rv_statement_laws.specs.Statement.{Applied, Target};
 ghost use Rattle.rv_parse_laws.specs.Faults.{may_call, wrong_function};
 ghost use Rattle.rv_lexer.specs.Token.{token_of};
 ghost use Rattle.rv_parse.specs.View.{operand_of, TellsNumbers};
@@ -15,7 +15,7 @@ ghost use Rattle.rv_parse.specs.Left.{Gives};
 use crate::slot;
 use rv_parse_words::fault::{self, Slot};
 use rv_parse_words::{Role, kinds};
-use rv_statement::Function;
+use rv_statement_laws::Function;
 use rv_text::{Cursor, Expr, ReadError, SourceCode, SyntaxError, Token};
 use std::alloc::Global;
 

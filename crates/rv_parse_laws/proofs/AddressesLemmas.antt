@@ -12,7 +12,7 @@ use Rattle.rv_text_laws.specs.declared.operator.Frame.TheVariants.{Parenthesis}
 use Rattle.rv_text_laws.proofs.ExpressionsLemmas.{fails, goes}
 use Rattle.rv_text_laws.proofs.ExpressionWrongLemmas.{ended_more}
 use Rattle.rv_parcel.specs.declared.parcel.RegisterSet.{RegisterSet}
-use Rattle.rv_statement.specs.Statement.{Expression, Operand, Register, Value, Applied}
+use Rattle.rv_statement_laws.specs.Statement.{Expression, Operand, Register, Value, Applied}
 use Rattle.rv_parse_laws.specs.Syntax.{is_register, register_of, kept_in, valued, is_refused, is_refused_by, function_in, is_percent, is_opening, is_colon, Slot, A_register_of, A_register, An_address_by, A_closing, An_opening, single, front_begins, IsValueIn, IsBase, IsOperand}
 use Rattle.rv_parse_laws.specs.Faults.{wrong_first}
 use Rattle.rv_parse_laws.specs.Parsing.{◌>>=◌, seen_as, allowed, value_at, enclosed_at, named_at, applied_at, value_operand_at, single_at, base_at, base_next, offset_at, is_target_next, target_behind, target_next, operand_at}
@@ -22,7 +22,7 @@ use Rattle.rv_parse_laws.proofs.LastTokensLemmas.{register_no_last, opening_no_l
 use Rattle.rv_parse_laws.proofs.SinglesLemmas.{single_found, single_fault, single_passed, kept_is, a_register, a_number, a_register_is, an_opening, a_closing}
 use Rattle.rv_parse_laws.proofs.ValuesLemmas.{Closes, closes, value_is, no_percent}
 use Rattle.rv_parse_laws.proofs.ArgumentsLemmas.{value_in_is, value_in_some, ValueFound, value_found, ValueWrong, value_wrong, closing_single}
-use Rattle.rv_statement.specs.declared.pseudo.Function.{Function}
+use Rattle.rv_statement_laws.specs.declared.pseudo.Function.{Function}
 use Rattle.rv_parse_laws.specs.declared.role.Role.{Role}
 use Rattle.rv_parse_laws.specs.declared.role.Role.TheVariants as roles
 

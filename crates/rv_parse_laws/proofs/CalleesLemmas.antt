@@ -10,7 +10,7 @@ use Rattle.rv_text_laws.specs.Codes.{limit}
 use Rattle.rv_text_laws.specs.SyntaxError.{SyntaxError, wrong, longest_name}
 use Rattle.rv_text_laws.specs.Expression.{Leaf, Symbol, Here, A_primary, No_operand, Begin, begins, follows, Nothing_more}
 use Rattle.rv_text_laws.proofs.ExpressionWrongLemmas.{ended_more}
-use Rattle.rv_statement.specs.Statement.{Expression, Operand, Target}
+use Rattle.rv_statement_laws.specs.Statement.{Expression, Operand, Target}
 use Rattle.rv_parse_laws.specs.declared.role.Role.TheVariants as roles
 use Rattle.rv_parse_laws.specs.Words.{register}
 use Rattle.rv_parse_laws.specs.Syntax.{is_symbol, is_register, token_symbol, is_at_sign, is_plt, label_named, is_colon, A_callee, A_plt, At_sign, single, front_begins, IsValue, IsValueIn, IsLinked, IsOperand}

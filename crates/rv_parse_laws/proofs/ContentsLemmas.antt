@@ -4,7 +4,7 @@ use Rattle.std.proofs.Common.{◌≡◌, ℕ, Bool, true, false, cond, ◌&&◌,
 use Rattle.std.specs.Str.{bytes_eq}
 use Rattle.rv_text_laws.specs.Lexing.{Token}
 use Rattle.rv_text_laws.specs.SyntaxError.{longest_name}
-use Rattle.rv_statement.specs.Statement.{Operand, Value, Target, Word}
+use Rattle.rv_statement_laws.specs.Statement.{Operand, Value, Target, Word}
 use Rattle.rv_parse_laws.specs.declared.role.Role.{Role}
 use Rattle.rv_parse_laws.specs.Syntax.{A_value, A_section, targets, is_of_numbers, is_section_name, IsValueIn}
 use Rattle.rv_parse_laws.specs.Content.{left_out, content_fault}

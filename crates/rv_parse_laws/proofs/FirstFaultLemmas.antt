@@ -5,16 +5,15 @@ use Rattle.rv_text_laws.specs.Cut.{Piece, texts, NothingReads, cut}
 use Rattle.rv_text_laws.specs.Lexing.{Token, Lexes, newlines}
 use Rattle.rv_text_laws.proofs.CutLemmas.{unique, nothing_none}
 use Rattle.rv_text_laws.proofs.TokensLemmas.{one_list}
-use Rattle.rv_statement.specs.Statement.{Statement}
+use Rattle.rv_statement_laws.specs.Statement.{Statement}
 use Rattle.rv_parse_laws.specs.Syntax.{SourcePart, IsPart, StopsPart, is_end}
-use Rattle.rv_parse_laws.specs.Opening.{is_opened}
+use Rattle.rv_parse_laws.specs.Opening.{is_opened, OpenWell}
 use Rattle.rv_parse_laws.specs.WrongOpening.{IsWrongOpening}
 use Rattle.rv_parse_laws.specs.Parsing.{part_at, opening_at, checked_at}
 use Rattle.rv_text_laws.specs.Codes.{limit}
 use Rattle.rv_text_laws.specs.SyntaxError.{SyntaxError, wrong, fault_offset}
 use Rattle.rv_parse_laws.specs.Reading.{AreParts, Reads, statements_of_parts, IsPastLine, longest_source}
-use Rattle.rv_statement.specs.Limits.{most_statements}
-use Rattle.rv_parse_laws.specs.Opening.{OpenWell}
+use Rattle.rv_statement_laws.specs.Limits.{most_statements}
 use Rattle.rv_parse_laws.proofs.OpenedWellLemmas.{all_open_well}
 use Rattle.rv_parse_laws.specs.Refusals.{OpensWell, AllOpenWell, CanGoOn, WrongToken, WrongOpening, PastStatements, Stands, SyntaxFault, Refuses, RefusesAt}
 use Rattle.rv_parse_laws.specs.Wrong.{IsWrongStatement}

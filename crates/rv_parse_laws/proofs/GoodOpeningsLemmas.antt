@@ -7,11 +7,11 @@ use Rattle.std.proofs.lemmas.Slice.Eq.{bytes_eq-Decides}
 use Rattle.std.proofs.lemmas.Bool.{and_parts}
 use Rattle.std.specs.Option.{option_or}
 use Rattle.rv_text_laws.specs.Grammar.{Kind, Name as NameToken}
-use Rattle.rv_statement.specs.declared.directive.DirectiveWord.{DirectiveWord}
-use Rattle.rv_statement.specs.declared.directive.DirectiveWord.TheVariants as words
-use Rattle.rv_statement.specs.declared.directive.Choice.{Choice}
-use Rattle.rv_statement.specs.declared.mnemonic.Mnemonic.{Mnemonic}
-use Rattle.rv_statement.specs.Statement.{Operand, Word, Value, Directs}
+use Rattle.rv_statement_laws.specs.declared.directive.DirectiveWord.{DirectiveWord}
+use Rattle.rv_statement_laws.specs.declared.directive.DirectiveWord.TheVariants as words
+use Rattle.rv_statement_laws.specs.declared.directive.Choice.{Choice}
+use Rattle.rv_statement_laws.specs.declared.mnemonic.Mnemonic.{Mnemonic}
+use Rattle.rv_statement_laws.specs.Statement.{Operand, Word, Value, Directs}
 use Rattle.rv_parse_laws.specs.Words.{named_in, choices, frame_directive, directive_words, directive_named, mnemonic_named, begun_by, beginning}
 use Rattle.rv_parse_laws.specs.declared.beginning.Beginning.TheVariants as beginnings
 use Rattle.rv_parse_laws.specs.Syntax.{begins, option_directive, directed}

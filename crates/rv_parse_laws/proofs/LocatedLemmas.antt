@@ -8,7 +8,7 @@ use Rattle.rv_text_laws.specs.Codes.{unsupported_here}
 use Rattle.rv_text_laws.specs.SyntaxError.{SyntaxError, wrong, Read}
 use Rattle.rv_text_laws.proofs.ExpressionWrongLemmas.{ended_behind}
 use Rattle.rv_parcel.specs.declared.parcel.RegisterSet.TheVariants.{Any}
-use Rattle.rv_statement.specs.Statement.{Expression, Operand, Target}
+use Rattle.rv_statement_laws.specs.Statement.{Expression, Operand, Target}
 use Rattle.rv_parse_laws.specs.declared.role.Role.TheVariants as roles
 use Rattle.rv_parse_laws.specs.Syntax.{is_opening, is_end, is_of_numbers, A_register, A_target, An_address, An_opening, front_begins, IsValue, IsOperand, TakesSlot, EndsHere}
 use Rattle.rv_parse_laws.specs.Faults.{wrong_after}

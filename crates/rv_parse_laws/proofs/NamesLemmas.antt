@@ -29,8 +29,8 @@ use Rattle.rv_isa.specs.declared.operation.BranchOperation.TheVariants.{Beq, Bne
 use Rattle.rv_isa.specs.declared.operation.AtomicOperation.{AtomicOperation}
 use Rattle.rv_isa.specs.declared.operation.AtomicOperation.TheVariants.{Sc, Amoswap, Amoadd, Amoxor, Amoand, Amoor, Amomin, Amomax, Amominu, Amomaxu}
 use Rattle.rv_isa.specs.Mnemonics.{ordering}
-use Rattle.rv_statement.specs.declared.mnemonic.Mnemonic.{Mnemonic}
-use Rattle.rv_statement.specs.declared.mnemonic.Mnemonic.TheVariants as mnemonics
+use Rattle.rv_statement_laws.specs.declared.mnemonic.Mnemonic.{Mnemonic}
+use Rattle.rv_statement_laws.specs.declared.mnemonic.Mnemonic.TheVariants as mnemonics
 use Rattle.rv_parse_laws.specs.Words.{form_with, named_in, instruction_words, atomic_operations, atomic_forms, form_behind, atomic_in, mnemonic_named}
 use Rattle.rv_parse_laws.specs.Names.{word_of, mnemonic_of}
 

@@ -10,9 +10,9 @@ use Rattle.rv_text_laws.specs.Grammar.{Kind, Name as NameToken, Text, Punctuatio
 use Rattle.rv_text_laws.specs.Lexing.{Token}
 use Rattle.rv_text_laws.specs.Joined.{first_name}
 use Rattle.rv_text_laws.specs.SyntaxError.{SyntaxError, wrong}
-use Rattle.rv_statement.specs.declared.directive.DirectiveWord.{DirectiveWord}
-use Rattle.rv_statement.specs.declared.directive.DirectiveWord.TheVariants as words
-use Rattle.rv_statement.specs.Statement.{Operand, Word, Quoted, StatementKind, Label, Numbered, Instruction, Directs, Statement}
+use Rattle.rv_statement_laws.specs.declared.directive.DirectiveWord.{DirectiveWord}
+use Rattle.rv_statement_laws.specs.declared.directive.DirectiveWord.TheVariants as words
+use Rattle.rv_statement_laws.specs.Statement.{Operand, Word, Quoted, StatementKind, Label, Numbered, Instruction, Directs, Statement}
 use Rattle.rv_parse_laws.specs.declared.role.Role.TheVariants as roles
 use Rattle.rv_parse_laws.specs.declared.beginning.Beginning.{Beginning}
 use Rattle.rv_parse_laws.specs.declared.beginning.Beginning.TheVariants as beginnings

@@ -9,8 +9,8 @@ use Rattle.rv_text_laws.specs.Grammar.{Kind, Name as NameToken, Text}
 use Rattle.rv_text_laws.specs.Lexing.{Token}
 use Rattle.rv_text_laws.specs.Joined.{IsJoined}
 use Rattle.rv_text_laws.specs.SyntaxError.{SyntaxError, wrong, Read}
-use Rattle.rv_statement.specs.declared.directive.DirectiveWord.TheVariants as words
-use Rattle.rv_statement.specs.Statement.{Operand, Word, Quoted, Directs, Statement}
+use Rattle.rv_statement_laws.specs.declared.directive.DirectiveWord.TheVariants as words
+use Rattle.rv_statement_laws.specs.Statement.{Operand, Word, Quoted, Directs, Statement}
 use Rattle.rv_parse_laws.specs.Words.{beginning, mnemonic_named, directive_named, instruction_words, atomic_operations, atomic_forms, directive_words}
 use Rattle.rv_parse_laws.specs.Syntax.{begins, is_comma, is_at_sign, is_end, is_section_name, A_section, Some_flags, At_sign, A_comma, single, operand_slots, directed, colon_next, AreOperands, SourcePart, Says, IsPart}
 use Rattle.rv_parse_laws.specs.Opening.{is_opened}

@@ -8,7 +8,7 @@ use Rattle.rv_text_laws.specs.Grammar.{Kind, Punctuation, Name as NameToken, Num
 use Rattle.rv_text_laws.specs.Lexing.{Token, is_last, is_ended}
 use Rattle.rv_text_laws.specs.SyntaxError.{SyntaxError, wrong, Read}
 use Rattle.rv_text_laws.proofs.ExpressionWrongLemmas.{ended_more}
-use Rattle.rv_statement.specs.Statement.{Operand, StatementKind, Label, Numbered, Instruction, Directs}
+use Rattle.rv_statement_laws.specs.Statement.{Operand, StatementKind, Label, Numbered, Instruction, Directs}
 use Rattle.rv_isa.specs.RegisterNames.{abi_names}
 use Rattle.rv_parse_laws.specs.Words.{register_names, register}
 use Rattle.rv_parse_laws.specs.Syntax.{is_symbol, label_of, begins, is_colon, is_end, Slots, slots, operand_slots, directed, AreOperands, colon_next, IsLabel, IsStatement, SourcePart, Ends, Says, IsPart, EndsHere, StopsPart}

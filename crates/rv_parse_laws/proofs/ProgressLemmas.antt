@@ -4,7 +4,7 @@ use Rattle.std.proofs.Common.{◌≡◌, true, false, List, [], ◌∷◌, ◌++
 use Rattle.rv_text_laws.specs.Cut.{Piece, Each}
 use Rattle.rv_text_laws.specs.Lexing.{Token, is_last}
 use Rattle.rv_text_laws.specs.Grammar.{Kind, Bad_byte, Bad_token, End}
-use Rattle.rv_statement.specs.Statement.{StatementKind, Statement}
+use Rattle.rv_statement_laws.specs.Statement.{StatementKind, Statement}
 use Rattle.rv_parse_laws.specs.Syntax.{SourcePart, Ends, Says, IsPart, StopsPart, is_end, is_source_end}
 use Rattle.rv_parse_laws.specs.Opening.{is_opened}
 use Rattle.rv_parse_laws.specs.Parsing.{checked_at}

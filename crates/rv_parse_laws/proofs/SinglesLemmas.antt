@@ -10,7 +10,7 @@ use Rattle.rv_isa.specs.RegisterNames.{abi_names}
 use Rattle.rv_parcel.specs.declared.parcel.RegisterSet.{RegisterSet}
 use Rattle.rv_parcel.specs.declared.parcel.RegisterSet.TheVariants.{Any, Nonzero, Short, Stack, Upper}
 use Rattle.rv_parcel.specs.Mnemonics.{is_of_set}
-use Rattle.rv_statement.specs.Statement.{Operand, Register, Accesses, Word, Quoted}
+use Rattle.rv_statement_laws.specs.Statement.{Operand, Register, Accesses, Word, Quoted}
 use Rattle.rv_parse_laws.specs.Words.{register_names, register, choices}
 use Rattle.rv_parse_laws.specs.Syntax.{is_symbol, register_of, kept_in, token_symbol, is_colon, is_end, access_sets, accesses, Slot, A_register_of, A_value, An_address_by, A_callee, A_zero, Some_accesses, A_symbol, A_string, A_section, Some_flags, At_sign, A_type, An_option, A_plt, A_comma, An_opening, A_closing, single}
 use Rattle.rv_parse_laws.specs.Faults.{wrong_first}

@@ -14,7 +14,7 @@ use Rattle.rv_text_laws.proofs.ExpressionsLemmas.{fails, expression_is}
 use Rattle.rv_text_laws.proofs.ExpressionWrongLemmas.{can_go_on, ends_there, end_at, whole_there}
 use Rattle.rv_text_laws.proofs.ExpressionFaultsLemmas.{stuck, fails_there, wrong_at}
 use Rattle.rv_text_laws.proofs.TreesLemmas.{postfix_tree}
-use Rattle.rv_statement.specs.Statement.{Expression}
+use Rattle.rv_statement_laws.specs.Statement.{Expression}
 use Rattle.rv_parse_laws.specs.Syntax.{is_register, is_comma, is_opening, is_end, is_percent, is_of_numbers, IsValue}
 use Rattle.rv_text_laws.specs.Codes.{unsupported_here}
 use Rattle.rv_parse_laws.specs.Parsing.{seen_as, value_at, allowed}

@@ -4,13 +4,13 @@ use Rattle.std.proofs.Common.{◌≡◌, ℕ, ◌-◌, ◌<◌, ◌≤◌, List,
 use Rattle.rv_text_laws.specs.Cut.{Piece, Finds}
 use Rattle.rv_text_laws.specs.Lexing.{Token, Lexes}
 use Rattle.rv_text_laws.proofs.CutLemmas.{unique}
-use Rattle.rv_statement.specs.Statement.{Statement}
+use Rattle.rv_statement_laws.specs.Statement.{Statement}
 use Rattle.rv_parse_laws.specs.Syntax.{SourcePart, IsPart, StopsPart}
 use Rattle.rv_parse_laws.specs.Parsing.{part_at}
 use Rattle.rv_text_laws.specs.SyntaxError.{SyntaxError, Read}
 use Rattle.rv_text_laws.proofs.TokensLemmas.{one_list, given}
 use Rattle.rv_parse_laws.specs.Reading.{AreParts, Reads, statements_of_parts, IsPastLine, longest_source}
-use Rattle.rv_statement.specs.Limits.{most_statements}
+use Rattle.rv_statement_laws.specs.Limits.{most_statements}
 use Rattle.rv_parse_laws.specs.Refusals.{SaysUpTo}
 use Rattle.rv_text_laws.specs.Front.{tokens_from}
 use Rattle.rv_parse_laws.specs.Opening.{OpenWell}

@@ -11,22 +11,22 @@ use Rattle.rv_text_laws.specs.Expression.{Leaf, Literal, Symbol, Here, Reference
 use Rattle.rv_text_laws.specs.ExpressionAt.{expression_at}
 use Rattle.rv_text_laws.specs.declared.operator.UnaryOperator.TheVariants.{Negate}
 use Rattle.rv_text_laws.specs.declared.operator.BinaryOperator.TheVariants.{Add, Multiply}
-use Rattle.rv_statement.specs.declared.directive.Choice.TheVariants.{Norvc}
-use Rattle.rv_statement.specs.declared.directive.Standard.TheVariants.{Bss}
-use Rattle.rv_statement.specs.declared.mnemonic.Mnemonic.TheVariants.{Registers, Upper, Load, Store, Branch, Jal, Jalr, LoadReserved, Nop, Unary, Compare, ZeroBranch, SwappedBranch, J, Jr, Ret, La, Call, Tail, Jump, Parcel}
+use Rattle.rv_statement_laws.specs.declared.directive.Choice.TheVariants.{Norvc}
+use Rattle.rv_statement_laws.specs.declared.directive.Standard.TheVariants.{Bss}
+use Rattle.rv_statement_laws.specs.declared.mnemonic.Mnemonic.TheVariants.{Registers, Upper, Load, Store, Branch, Jal, Jalr, LoadReserved, Nop, Unary, Compare, ZeroBranch, SwappedBranch, J, Jr, Ret, La, Call, Tail, Jump, Parcel}
 use Rattle.rv_parcel.specs.declared.parcel.ParcelOperation.TheVariants as parcels
 use Rattle.rv_isa.specs.declared.operation.RegisterOperation.TheVariants.{And}
 use Rattle.rv_isa.specs.declared.operation.BranchOperation.TheVariants.{Bgeu}
 use Rattle.rv_isa.specs.declared.operation.UpperOperation.TheVariants.{Lui, Auipc}
-use Rattle.rv_statement.specs.declared.pseudo.Function.TheVariants.{Hi, Lo, PcrelHi, PcrelLo}
-use Rattle.rv_statement.specs.declared.pseudo.UnaryOperation.TheVariants.{SextW}
-use Rattle.rv_statement.specs.declared.pseudo.CompareOperation.TheVariants.{Sgtu}
-use Rattle.rv_statement.specs.declared.pseudo.ZeroBranchOperation.TheVariants.{Bgtz}
-use Rattle.rv_statement.specs.declared.pseudo.SwappedBranchOperation.TheVariants.{Ble}
+use Rattle.rv_statement_laws.specs.declared.pseudo.Function.TheVariants.{Hi, Lo, PcrelHi, PcrelLo}
+use Rattle.rv_statement_laws.specs.declared.pseudo.UnaryOperation.TheVariants.{SextW}
+use Rattle.rv_statement_laws.specs.declared.pseudo.CompareOperation.TheVariants.{Sgtu}
+use Rattle.rv_statement_laws.specs.declared.pseudo.ZeroBranchOperation.TheVariants.{Bgtz}
+use Rattle.rv_statement_laws.specs.declared.pseudo.SwappedBranchOperation.TheVariants.{Ble}
 use Rattle.rv_isa.specs.declared.operation.LoadOperation.TheVariants.{Lw}
 use Rattle.rv_isa.specs.declared.operation.StoreOperation.TheVariants.{Sd}
-use Rattle.rv_statement.specs.declared.directive.Binding.TheVariants.{Local, Global, Weak}
-use Rattle.rv_statement.specs.Statement.{Register, Value, Applied, Target, Enters, Opens, Binds, Sets, Aligns_to_power, Aligns_to_bytes, Values, Strings, Zeros, Chooses as Choosing, Ignored, StatementKind, Label, Numbered, Instruction, Directs, Statement}
+use Rattle.rv_statement_laws.specs.declared.directive.Binding.TheVariants.{Local, Global, Weak}
+use Rattle.rv_statement_laws.specs.Statement.{Register, Value, Applied, Target, Enters, Opens, Binds, Sets, Aligns_to_power, Aligns_to_bytes, Values, Strings, Zeros, Chooses as Choosing, Ignored, StatementKind, Label, Numbered, Instruction, Directs, Statement}
 use Rattle.rv_parse_laws.specs.Words.{function_words, left_out_words, instruction_words, atomic_operations, atomic_forms, form_with, mnemonic_named, directive_words, directive_named, beginning, choices, left_out_options, section_types, register_names, register}
 use Rattle.rv_parse_laws.specs.Syntax.{is_symbol, access_sets, is_section_name, SourcePart, Says}
 use Rattle.rv_parse_laws.specs.Opening.{is_opened}

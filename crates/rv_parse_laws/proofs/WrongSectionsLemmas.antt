@@ -11,7 +11,7 @@ use Rattle.rv_text_laws.specs.SyntaxError.{SyntaxError, wrong, Read, longest_nam
 use Rattle.rv_text_laws.specs.Joined.{joined_bytes, AreAfter, IsJoined, joined_after, first_name, joined_at}
 use Rattle.rv_text_laws.proofs.JoinsLemmas.{joined_is as joined_name_is, joined_found as joined_name_found}
 use Rattle.rv_parse_laws.specs.Syntax.{is_section_name, A_section}
-use Rattle.rv_statement.specs.Statement.{Word}
+use Rattle.rv_statement_laws.specs.Statement.{Word}
 use Rattle.rv_parse_laws.specs.Content.{left_out, content_fault}
 use Rattle.rv_parse_laws.specs.Faults.{wrong_first}
 use Rattle.rv_parse_laws.specs.Wrong.{IsLongName, IsWrongSection, Passes}

@@ -6,7 +6,7 @@ use Rattle.rv_text_laws.specs.Lexing.{Token, is_ended}
 use Rattle.rv_text_laws.specs.SyntaxError.{SyntaxError, wrong, Read}
 use Rattle.rv_text_laws.specs.Expression.{Leaf, Symbol}
 use Rattle.rv_text_laws.proofs.ExpressionWrongLemmas.{ended_more}
-use Rattle.rv_statement.specs.Statement.{Operand, Target, Word, Instruction, Directs}
+use Rattle.rv_statement_laws.specs.Statement.{Operand, Target, Word, Instruction, Directs}
 use Rattle.rv_parse_laws.specs.declared.role.Role.TheVariants as roles
 use Rattle.rv_parse_laws.specs.declared.beginning.Beginning.{Beginning}
 use Rattle.rv_parse_laws.specs.declared.beginning.Beginning.TheVariants as beginnings

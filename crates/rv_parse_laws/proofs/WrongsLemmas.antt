@@ -11,9 +11,9 @@ use Rattle.rv_text_laws.proofs.ExpressionFoundLemmas.{expression_found}
 use Rattle.rv_text_laws.proofs.ExpressionWrongLemmas.{ended_more}
 use Rattle.rv_text_laws.proofs.ExpressionFaultsLemmas.{fails_there, wrong_at}
 use Rattle.rv_parcel.specs.declared.parcel.RegisterSet.{RegisterSet}
-use Rattle.rv_statement.specs.Statement.{Expression, Operand, Applied, Value, Target}
-use Rattle.rv_statement.specs.declared.pseudo.Function.{Function}
-use Rattle.rv_statement.specs.declared.pseudo.Function.TheVariants.{Hi, Lo, PcrelHi, PcrelLo}
+use Rattle.rv_statement_laws.specs.Statement.{Expression, Operand, Applied, Value, Target}
+use Rattle.rv_statement_laws.specs.declared.pseudo.Function.{Function}
+use Rattle.rv_statement_laws.specs.declared.pseudo.Function.TheVariants.{Hi, Lo, PcrelHi, PcrelLo}
 use Rattle.rv_parse_laws.specs.declared.role.Role.{Role}
 use Rattle.rv_parse_laws.specs.declared.role.Role.TheVariants as roles
 use Rattle.rv_parse_laws.specs.Syntax.{is_register, register_of, kept_in, is_percent, is_opening, targets, valued, is_of_numbers, is_refused, function_in, label_named, is_refused_by, IsArgument, IsValueIn, Slot, A_register_of, A_register, A_value, An_address_by, A_closing, An_opening}

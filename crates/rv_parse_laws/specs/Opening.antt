@@ -4,8 +4,8 @@
 use Rattle.std.specs.Prelude.{◌≡◌, ℕ, Bool, true, false, not, ◌&&◌, ◌||◌, List, [], ◌∷◌, ◌++◌, Option, Some, None, is_some, codes}
 use Rattle.std.specs.List.{list_any}
 use Rattle.std.specs.Str.{bytes_eq}
-use Rattle.rv_statement.specs.Sections.{standard_name}
-use Rattle.rv_statement.specs.Statement.{Operand, Word, Quoted, Enters, Opens, StatementKind, Directs, Statement}
+use Rattle.rv_statement_laws.specs.Sections.{standard_name}
+use Rattle.rv_statement_laws.specs.Statement.{Operand, Word, Quoted, Enters, Opens, StatementKind, Directs, Statement}
 use Rattle.rv_parse_laws.specs.Syntax.{Slot, Some_flags, A_type}
 use Rattle.rv_parse_laws.specs.Content.{content_fault}
 

@@ -5,12 +5,12 @@ use Rattle.rv_text_laws.specs.Cut.{Piece, texts, NothingReads}
 use Rattle.rv_text_laws.specs.Lexing.{Token, Lexes, newlines}
 use Rattle.rv_text_laws.specs.Codes.{limit}
 use Rattle.rv_text_laws.specs.SyntaxError.{fault_offset}
-use Rattle.rv_statement.specs.Statement.{Label, Numbered, Statement}
+use Rattle.rv_statement_laws.specs.Statement.{Label, Numbered, Statement}
 use Rattle.rv_parse_laws.specs.Syntax.{SourcePart, Says, IsPart, StopsPart, is_end, colon_next}
 use Rattle.rv_parse_laws.specs.WrongOpening.{IsWrongOpening}
 use Rattle.rv_parse_laws.specs.Wrong.{IsWrongStatement}
 use Rattle.rv_parse_laws.specs.Reading.{longest_source, IsPastLine, told, statements_of_parts, AreParts}
-use Rattle.rv_statement.specs.Limits.{most_statements}
+use Rattle.rv_statement_laws.specs.Limits.{most_statements}
 
 -- at the front of the tokens, after these statements, no opening of a section is wrong
 abbrev pub OpensWell : List Statement → List Token → Type 0

@@ -7,8 +7,8 @@ use Rattle.std.specs.Option.{option_or}
 use Rattle.rv_text_laws.specs.SyntaxError.{longest_name}
 pub use Rattle.rv_text.specs.Registers.{is_among, register_below}
 unfoldable pub use Rattle.rv_text.specs.Registers.{register_names, register}
-use Rattle.rv_statement.specs.declared.mnemonic.Mnemonic.{Mnemonic}
-use Rattle.rv_statement.specs.declared.mnemonic.Mnemonic.TheVariants.{Registers, Immediate, Shift, Upper, Load, Store, Branch, Jal, Jalr, LoadReserved, Atomic, Fence, FenceTso, Ecall, Ebreak, Nop, Unary, Compare, ZeroBranch, SwappedBranch, J, Jr, Ret, La, Li, Call, Tail, Jump, Parcel}
+use Rattle.rv_statement_laws.specs.declared.mnemonic.Mnemonic.{Mnemonic}
+use Rattle.rv_statement_laws.specs.declared.mnemonic.Mnemonic.TheVariants.{Registers, Immediate, Shift, Upper, Load, Store, Branch, Jal, Jalr, LoadReserved, Atomic, Fence, FenceTso, Ecall, Ebreak, Nop, Unary, Compare, ZeroBranch, SwappedBranch, J, Jr, Ret, La, Li, Call, Tail, Jump, Parcel}
 use Rattle.rv_parcel.specs.declared.parcel.ParcelOperation.TheVariants as parcels
 use Rattle.rv_isa.specs.declared.operation.RegisterOperation.TheVariants.{Add, Sub, Sll, Slt, Sltu, Xor, Srl, Sra, Or, And, Addw, Subw, Sllw, Srlw, Sraw, Mul, Mulh, Mulhsu, Mulhu, Div, Divu, Rem, Remu, Mulw, Divw, Divuw, Remw, Remuw}
 use Rattle.rv_isa.specs.declared.operation.ImmediateOperation.TheVariants.{Addi, Slti, Sltiu, Xori, Ori, Andi, Addiw}
@@ -17,22 +17,22 @@ use Rattle.rv_isa.specs.declared.operation.UpperOperation.TheVariants.{Lui, Auip
 use Rattle.rv_isa.specs.declared.operation.LoadOperation.TheVariants.{Lb, Lh, Lw, Ld, Lbu, Lhu, Lwu}
 use Rattle.rv_isa.specs.declared.operation.StoreOperation.TheVariants.{Sb, Sh, Sw, Sd}
 use Rattle.rv_isa.specs.declared.operation.BranchOperation.TheVariants.{Beq, Bne, Blt, Bge, Bltu, Bgeu}
-use Rattle.rv_statement.specs.declared.pseudo.UnaryOperation.TheVariants.{Mv, Not, Neg, Negw, SextB, SextH, SextW, ZextB, ZextH, ZextW, Seqz, Snez, Sltz, Sgtz}
-use Rattle.rv_statement.specs.declared.pseudo.CompareOperation.TheVariants.{Sgt, Sgtu}
-use Rattle.rv_statement.specs.declared.pseudo.ZeroBranchOperation.TheVariants.{Beqz, Bnez, Bgez, Bltz, Blez, Bgtz}
-use Rattle.rv_statement.specs.declared.pseudo.SwappedBranchOperation.TheVariants.{Bgt, Ble, Bgtu, Bleu}
+use Rattle.rv_statement_laws.specs.declared.pseudo.UnaryOperation.TheVariants.{Mv, Not, Neg, Negw, SextB, SextH, SextW, ZextB, ZextH, ZextW, Seqz, Snez, Sltz, Sgtz}
+use Rattle.rv_statement_laws.specs.declared.pseudo.CompareOperation.TheVariants.{Sgt, Sgtu}
+use Rattle.rv_statement_laws.specs.declared.pseudo.ZeroBranchOperation.TheVariants.{Beqz, Bnez, Bgez, Bltz, Blez, Bgtz}
+use Rattle.rv_statement_laws.specs.declared.pseudo.SwappedBranchOperation.TheVariants.{Bgt, Ble, Bgtu, Bleu}
 use Rattle.rv_isa.specs.declared.operation.AtomicOperation.{AtomicOperation}
-use Rattle.rv_statement.specs.declared.pseudo.Function.{Function}
-use Rattle.rv_statement.specs.declared.pseudo.Function.TheVariants.{Hi, Lo, PcrelHi, PcrelLo}
+use Rattle.rv_statement_laws.specs.declared.pseudo.Function.{Function}
+use Rattle.rv_statement_laws.specs.declared.pseudo.Function.TheVariants.{Hi, Lo, PcrelHi, PcrelLo}
 use Rattle.rv_isa.specs.declared.operation.AtomicOperation.TheVariants.{Sc, Amoswap, Amoadd, Amoxor, Amoand, Amoor, Amomin, Amomax, Amominu, Amomaxu}
 use Rattle.rv_isa.specs.declared.operation.AtomicForm.{AtomicForm}
-use Rattle.rv_statement.specs.declared.directive.Binding.TheVariants.{Local, Global, Weak}
-use Rattle.rv_statement.specs.declared.directive.Standard.TheVariants.{Text, Data, Rodata, Bss}
-use Rattle.rv_statement.specs.declared.directive.Width.TheVariants.{Byte, Half, Word, Double}
-use Rattle.rv_statement.specs.declared.directive.Choice.{Choice}
-use Rattle.rv_statement.specs.declared.directive.Choice.TheVariants.{Rvc, Norvc, Relax, Norelax, Push, Pop, Nopic}
-use Rattle.rv_statement.specs.declared.directive.DirectiveWord.{DirectiveWord}
-use Rattle.rv_statement.specs.declared.directive.DirectiveWord.TheVariants as words
+use Rattle.rv_statement_laws.specs.declared.directive.Binding.TheVariants.{Local, Global, Weak}
+use Rattle.rv_statement_laws.specs.declared.directive.Standard.TheVariants.{Text, Data, Rodata, Bss}
+use Rattle.rv_statement_laws.specs.declared.directive.Width.TheVariants.{Byte, Half, Word, Double}
+use Rattle.rv_statement_laws.specs.declared.directive.Choice.{Choice}
+use Rattle.rv_statement_laws.specs.declared.directive.Choice.TheVariants.{Rvc, Norvc, Relax, Norelax, Push, Pop, Nopic}
+use Rattle.rv_statement_laws.specs.declared.directive.DirectiveWord.{DirectiveWord}
+use Rattle.rv_statement_laws.specs.declared.directive.DirectiveWord.TheVariants as words
 use Rattle.rv_parse_laws.specs.declared.beginning.Beginning.{Beginning}
 use Rattle.rv_parse_laws.specs.declared.beginning.Beginning.TheVariants as beginnings
 

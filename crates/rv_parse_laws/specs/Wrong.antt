@@ -11,10 +11,10 @@ use Rattle.rv_text_laws.specs.SyntaxError.{longest_name}
 use Rattle.rv_text_laws.specs.Joined.{IsJoined, ReadsJoined, first_name}
 use Rattle.rv_text_laws.specs.Expression.{EndsBefore}
 use Rattle.rv_text_laws.specs.ExpressionFault.{FailsAt}
-use Rattle.rv_statement.specs.Statement.{Expression, Operand, Applied, Word}
+use Rattle.rv_statement_laws.specs.Statement.{Expression, Operand, Applied, Word}
 use Rattle.rv_parcel.specs.declared.parcel.RegisterSet.{RegisterSet}
-use Rattle.rv_statement.specs.declared.pseudo.Function.{Function}
-use Rattle.rv_statement.specs.declared.pseudo.Function.TheVariants.{PcrelLo}
+use Rattle.rv_statement_laws.specs.declared.pseudo.Function.{Function}
+use Rattle.rv_statement_laws.specs.declared.pseudo.Function.TheVariants.{PcrelLo}
 use Rattle.rv_parse_laws.specs.declared.role.Role.{Role}
 use Rattle.rv_parse_laws.specs.declared.role.Role.TheVariants as roles
 use Rattle.rv_parse_laws.specs.declared.beginning.Beginning.{Beginning}

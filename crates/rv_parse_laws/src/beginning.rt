@@ -1,6 +1,6 @@
 //! What the first word of a statement begins.
 
-use rv_statement::{DirectiveWord, Mnemonic};
+use rv_statement_laws::{DirectiveWord, Mnemonic};
 
 /// What a word begins.
 #[derive(Clone, Copy, Debug, PartialEq, Eq, Drop)]

@@ -2,7 +2,7 @@
 
 ghost use Rattle.std.specs.Prelude.{◌≡◌, ℕ, List, Some};
 ghost use Rattle.rv_isa.specs.declared.instruction.Format.{Format};
-ghost use Rattle.rv_statement.specs.Statement.{Statement};
+ghost use Rattle.rv_statement_laws.specs.Statement.{Statement};
 ghost use Rattle.rv_parse_laws.specs.Names.{word_of, mnemonic_of};
 ghost use Rattle.rv_parse_laws.specs.Reading.{Reads};
 ghost use Rattle.rv_parse_laws.specs.Refusals.{SyntaxFault, Refuses};

@@ -1,6 +1,7 @@
 use rv_parse::{SourceFault, Statement, parse, parse_compact};
 use rv_pseudo::{Form, expansion};
-use rv_statement::{Binding, StatementKind, Statements};
+use rv_statement::{StatementKind, Statements};
+use rv_statement_laws::Binding;
 use std::alloc::Global;
 
 /// A statement of each kind that takes memory, and of the others.

@@ -3,8 +3,8 @@
 use Rattle.std.specs.Prelude.{ℕ, List, [], ◌∷◌, Option, None}
 use Rattle.std.specs.Borrow.{Bor}
 use Rattle.rv_text_laws.specs.Grammar.{Kind, Name}
-use Rattle.rv_statement.specs.declared.directive.Choice.{Choice}
-use Rattle.rv_statement.specs.Statement.{Operand, Word, Quoted}
+use Rattle.rv_statement_laws.specs.declared.directive.Choice.{Choice}
+use Rattle.rv_statement_laws.specs.Statement.{Operand, Word, Quoted}
 use Rattle.rv_statement.specs.View.{now_of, quoted}
 use Rattle.rv_parse_laws.specs.Syntax as syntax
 use Rattle.rv_parse_laws.specs.Words as words

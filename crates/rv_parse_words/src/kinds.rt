@@ -20,7 +20,8 @@ use crate::words::{accesses_named, beginning_with, choice_named, function_named,
 use rv_parcel::RegisterSet;
 use rv_isa::{AccessSet, Reg};
 use rv_parse_laws::{Beginning, Role};
-use rv_statement::{Choice, Function, StatementKind};
+use rv_statement::StatementKind;
+use rv_statement_laws::{Choice, Function};
 use rv_text::{Expr, LONGEST_NAME, Punct, TokenKind};
 
 /// A name that a symbol may have.

@@ -8,7 +8,7 @@
 ghost use Rattle.std.specs.Prelude.{◌≡◌, map, ◌||◌, ◌&&◌, option_map, is_some, codes};
 ghost use Rattle.std.specs.Option.{option_or};
 ghost use Rattle.rv_parse_laws.specs.Words.{function_words, left_out_words, left_out_options, section_types, choices, is_among, is_frame, frame_directive, directive_words, directive_named, beginning, register, named_in, atomic_forms, form_behind, atomic_in, atomic_operations, instruction_words, mnemonic_named};
-ghost use Rattle.rv_statement.specs.declared.mnemonic.Mnemonic.TheVariants.{LoadReserved};
+ghost use Rattle.rv_statement_laws.specs.declared.mnemonic.Mnemonic.TheVariants.{LoadReserved};
 ghost use Rattle.std.specs.List.{list_all};
 ghost use Rattle.rv_parse_laws.specs.Syntax.{access_sets, with_constant, is_flag};
 ghost use Rattle.rv_parse_laws.specs.Faults.{is_known_flag};
@@ -20,10 +20,7 @@ use rv_isa::{
     Reg, RegisterOperation, ShiftOperation, StoreOperation, UpperOperation, reg_named,
 };
 use rv_parse_laws::Beginning;
-use rv_statement::{
-    Binding, Choice, CompareOperation, DirectiveWord, Function, Mnemonic, Standard,
-    SwappedBranchOperation, UnaryOperation, Width, ZeroBranchOperation,
-};
+use rv_statement_laws::{Binding, Choice, CompareOperation, DirectiveWord, Function, Mnemonic, Standard, SwappedBranchOperation, UnaryOperation, Width, ZeroBranchOperation};
 use rv_text::LONGEST_NAME;
 
 /// What the language leaves out by name: a mnemonic, and directives.

@@ -5,7 +5,7 @@ use Rattle.std.specs.Prelude.{IfSome, unwrap_or}
 use Rattle.rv_isa.specs.declared.instruction.Inst.{Inst}
 use Rattle.rv_statement.specs.declared.statement.Operation.{Operation}
 use Rattle.rv_statement.specs.declared.statement.Operation.TheVariants as operations
-use Rattle.rv_statement.specs.Statement.{Expression}
+use Rattle.rv_statement_laws.specs.Statement.{Expression}
 use Rattle.rv_statement.specs.View.{with_operand}
 use Rattle.rv_pseudo_laws.specs.Code.{Closed}
 use Rattle.rv_pseudo_laws.specs.InstructionFaults.{Number}

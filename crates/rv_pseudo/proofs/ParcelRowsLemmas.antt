@@ -11,12 +11,12 @@ use Rattle.rv_parcel.specs.declared.parcel.RegisterSet.TheVariants.{Short}
 use Rattle.rv_parcel.specs.Mnemonics.{is_of_set, own_registers, shape_of, takes_number, form_with, form_of}
 use Rattle.rv_parcel.specs.Parcel.{IsLine, expansion}
 use Rattle.rv_isa.specs.declared.operation.BranchOperation.TheVariants.{Beq, Bne}
-use Rattle.rv_statement.specs.declared.mnemonic.Mnemonic.{Mnemonic}
-use Rattle.rv_statement.specs.declared.mnemonic.Mnemonic.TheVariants.{Parcel}
-use Rattle.rv_statement.specs.declared.pseudo.Function.{Function}
+use Rattle.rv_statement_laws.specs.declared.mnemonic.Mnemonic.{Mnemonic}
+use Rattle.rv_statement_laws.specs.declared.mnemonic.Mnemonic.TheVariants.{Parcel}
+use Rattle.rv_statement_laws.specs.declared.pseudo.Function.{Function}
 use Rattle.rv_statement.specs.declared.statement.Operation.TheVariants as operations
 use Rattle.rv_statement.specs.declared.statement.Plain.TheVariants as plains
-use Rattle.rv_statement.specs.Statement.{Operand, Register, Value, Applied, Target, Expression}
+use Rattle.rv_statement_laws.specs.Statement.{Operand, Register, Value, Applied, Target, Expression}
 use Rattle.rv_statement.specs.View.{parcel_registers, parcel_operands, shaped, plain_of}
 use Rattle.rv_pseudo_laws.specs.Code.{Part, Closed, Constants, jump, constant_number, named_form, short_branch, code}
 use Rattle.rv_pseudo_laws.specs.InstructionFaults.{Worth, number_faults, target_faults, operand_faults}

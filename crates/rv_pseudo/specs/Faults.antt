@@ -9,10 +9,10 @@ use Rattle.rv_parcel.specs.declared.parcel.OperandShape.TheVariants as shapes
 use Rattle.rv_parcel.specs.Mnemonics.{register_sets, are_in, own_registers, shape_of}
 use Rattle.rv_text_laws.specs.Codes.{scratch_register, faulty_if}
 use Rattle.rv_lexer.specs.Fault.{source_fault_number}
-use Rattle.rv_statement.specs.declared.mnemonic.Mnemonic.{Mnemonic}
-use Rattle.rv_statement.specs.declared.mnemonic.Mnemonic.TheVariants as mnemonics
-use Rattle.rv_statement.specs.declared.pseudo.Function.{Function}
-use Rattle.rv_statement.specs.declared.pseudo.Function.TheVariants.{Hi, Lo, PcrelHi, PcrelLo}
+use Rattle.rv_statement_laws.specs.declared.mnemonic.Mnemonic.{Mnemonic}
+use Rattle.rv_statement_laws.specs.declared.mnemonic.Mnemonic.TheVariants as mnemonics
+use Rattle.rv_statement_laws.specs.declared.pseudo.Function.{Function}
+use Rattle.rv_statement_laws.specs.declared.pseudo.Function.TheVariants.{Hi, Lo, PcrelHi, PcrelLo}
 use Rattle.rv_statement.specs.declared.statement.Operation.{Operation}
 use Rattle.rv_statement.specs.declared.statement.Operation.TheVariants as operations
 use Rattle.rv_parse_laws.specs.Syntax.{with_constant}

@@ -13,14 +13,14 @@ use Rattle.rv_lexer.specs.declared.fault.SourceCode.{SourceCode}
 use Rattle.rv_lexer.specs.declared.fault.SourceFault.{SourceFault}
 use Rattle.rv_lexer.specs.declared.fault.SourceFault.TheVariants.{At, OutOfMemory}
 use Rattle.rv_lexer.specs.Fault.{source_fault_number as code_number}
-use Rattle.rv_statement.specs.declared.mnemonic.Mnemonic.{Mnemonic}
-use Rattle.rv_statement.specs.declared.mnemonic.Mnemonic.TheVariants.{Call, Tail, Jump}
-use Rattle.rv_statement.specs.declared.pseudo.Function.{Function}
+use Rattle.rv_statement_laws.specs.declared.mnemonic.Mnemonic.{Mnemonic}
+use Rattle.rv_statement_laws.specs.declared.mnemonic.Mnemonic.TheVariants.{Call, Tail, Jump}
+use Rattle.rv_statement_laws.specs.declared.pseudo.Function.{Function}
 use Rattle.rv_statement.specs.declared.statement.Plain.{Plain}
 use Rattle.rv_statement.specs.declared.statement.Plain.TheVariants as plains
 use Rattle.rv_statement.specs.declared.statement.Operation.{Operation}
 use Rattle.rv_statement.specs.declared.statement.Operation.TheVariants as operations
-use Rattle.rv_statement.specs.Statement.{StatementKind, Instruction, Operand, Value, Applied, Expression}
+use Rattle.rv_statement_laws.specs.Statement.{StatementKind, Instruction, Operand, Value, Applied, Expression}
 use Rattle.rv_statement.specs.View.{with_operand, operand_in}
 use Rattle.rv_isa_laws.specs.Arithmetic.{wrapped}
 use Rattle.rv_pseudo_laws.specs.Code.{Part, Closed, Open, Joined, Constants, code, alone, signed_12, upper_20, constant_number, by_constant, by_form, named_form}

@@ -3,7 +3,7 @@
 ghost use Rattle.std.specs.Prelude.{◌≡◌, ◌<◌, [], ◌∷◌, ◌==◌, map, true, IfSome};
 ghost use Rattle.rv_isa.specs.Operations.{of_reserve, of_atomic, of_shift};
 ghost use Rattle.rv_isa.specs.Ranges.{shift_limit};
-ghost use Rattle.rv_statement.specs.declared.pseudo.UnaryOperation.TheVariants.{Mv};
+ghost use Rattle.rv_statement_laws.specs.declared.pseudo.UnaryOperation.TheVariants.{Mv};
 ghost use Rattle.rv_statement.specs.View.{plain_of};
 ghost use Rattle.rv_pseudo_laws.specs.Code as row;
 ghost use Rattle.rv_pseudo_laws.specs.Li as li;
@@ -17,7 +17,8 @@ use rv_isa::{
     ShiftOperation, fence,
 };
 use rv_lexer::SourceCode;
-use rv_statement::{CompareOperation, Plain, UnaryOperation};
+use rv_statement::Plain;
+use rv_statement_laws::{CompareOperation, UnaryOperation};
 
 /// Whether a register is x0.
 pub(crate) fn is_x0(register: Reg) -> bool

@@ -4,7 +4,7 @@
 //! expression and does nothing else.
 
 ghost use Rattle.std.specs.Prelude.{◌≡◌, Some, [], IfSome, true};
-ghost use Rattle.rv_statement.specs.Statement.{Expression};
+ghost use Rattle.rv_statement_laws.specs.Statement.{Expression};
 ghost use Rattle.rv_statement.specs.View.{statement_kind};
 ghost use Rattle.rv_pseudo.specs.Faults as faults;
 ghost use Rattle.rv_pseudo.specs.Templates as is;
@@ -18,7 +18,8 @@ use crate::template::{Form, Manner, Templates, Worth, constant, manner_of};
 use arrayvec::ArrayVec;
 use rv_isa::Inst;
 use rv_lexer::{SourceCode, SourceFault};
-use rv_statement::{Function, Operation, Statement, StatementKind};
+use rv_statement::{Operation, Statement, StatementKind};
+use rv_statement_laws::Function;
 
 /// Whether a statement is a store at a number from a register.
 fn is_store(operation: &Operation) -> bool

@@ -20,7 +20,8 @@ use crate::template::Worth;
 use rv_parcel::{OperandShape, ParcelOperation};
 use rv_isa::{Reg, RegisterOperation, ShiftOperation};
 use rv_lexer::SourceCode;
-use rv_statement::{Function, Operation};
+use rv_statement::Operation;
+use rv_statement_laws::Function;
 
 // ---- ranges
 

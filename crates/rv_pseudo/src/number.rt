@@ -26,7 +26,8 @@ use rv_isa::{
     IType, ImmediateOperation, Inst, Kind, LoadOperation, Reg, RegisterOperation, SType, Shift,
     ShiftOperation, StoreOperation, UType, UpperOperation,
 };
-use rv_statement::{Function, Operation};
+use rv_statement::Operation;
+use rv_statement_laws::Function;
 
 /// A number of 12 bits in two's complement.
 fn immediate(number: i64) -> i32

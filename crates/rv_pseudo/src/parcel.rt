@@ -8,10 +8,10 @@ ghost use Rattle.std.specs.Prelude.{◌≡◌, ℕ, Bool, true, IfSome, Option};
 ghost use Rattle.rv_isa.specs.declared.kind.Kind.{Kind as SpecKind};
 ghost use Rattle.rv_parcel.specs.Mnemonics.{shape_of};
 ghost use Rattle.rv_parcel.specs.Parcel.{IsLine};
-ghost use Rattle.rv_statement.specs.declared.mnemonic.Mnemonic.TheVariants as mnemonics;
+ghost use Rattle.rv_statement_laws.specs.declared.mnemonic.Mnemonic.TheVariants as mnemonics;
 ghost use Rattle.rv_statement.specs.declared.statement.Operation.TheVariants as operations;
 ghost use Rattle.rv_statement.specs.declared.statement.Plain.TheVariants as plains;
-ghost use Rattle.rv_statement.specs.Statement.{Expression, Target};
+ghost use Rattle.rv_statement_laws.specs.Statement.{Expression, Target};
 ghost use Rattle.rv_statement.specs.View.{parcel_registers, plain_of, statement_kind, with_operand};
 ghost use Rattle.rv_pseudo_laws.specs.Code as row;
 ghost use Rattle.rv_pseudo.specs.Faults as faults;
@@ -25,7 +25,8 @@ use rv_compress::expanded;
 use rv_parcel::{Compressed, OperandShape, ParcelOperation};
 use rv_isa::{BranchOperation, Reg};
 use rv_lexer::SourceCode;
-use rv_statement::{Function, Operation, Plain, StatementKind};
+use rv_statement::{Operation, Plain, StatementKind};
+use rv_statement_laws::Function;
 
 // ---- forms
 

@@ -8,7 +8,7 @@ ghost use Rattle.std.specs.Prelude.{◌≡◌, Bool, true, false, pos};
 ghost use Rattle.rv_isa.specs.declared.kind.Kind.TheVariants.{PcrelLo12I, PcrelLo12S};
 ghost use Rattle.rv_isa.specs.Operations.{of_branch, of_load, of_store};
 ghost use Rattle.rv_isa.specs.Ranges.{IsBranchOffset};
-ghost use Rattle.rv_statement.specs.Statement.{Expression, Target};
+ghost use Rattle.rv_statement_laws.specs.Statement.{Expression, Target};
 ghost use Rattle.rv_statement.specs.View.{with_operand};
 ghost use Rattle.rv_pseudo_laws.specs.Code as row;
 ghost use Rattle.rv_pseudo_laws.specs.Li.{addi};
@@ -24,7 +24,8 @@ use rv_isa::{
     BType, BranchOperation, IType, Inst, JType, Kind, LoadOperation, Reg, SType, StoreOperation,
     UType,
 };
-use rv_statement::{Operation, SwappedBranchOperation, ZeroBranchOperation};
+use rv_statement::Operation;
+use rv_statement_laws::{SwappedBranchOperation, ZeroBranchOperation};
 
 /// The branch that is taken where this one is not.
 fn inverted(operation: BranchOperation) -> BranchOperation

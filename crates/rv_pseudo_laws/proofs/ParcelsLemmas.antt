@@ -16,9 +16,9 @@ use Rattle.rv_parcel.specs.declared.parcel.RegisterSet.TheVariants.{Any, Nonzero
 use Rattle.rv_parcel.specs.Mnemonics.{is_of_set, register_sets, are_in, shape_of, is_between, is_multiple, is_zero, takes_number, form_with, form_of}
 use Rattle.rv_parcel.specs.Parcel.{IsShort, IsNonzero, IsMultiple, IsSixBits, IsStackStep, IsUpper, IsLine, IsNoHint, parcel, expansion}
 use Rattle.rv_parcel.proofs.ReaderLemmas.{stands-valid}
-use Rattle.rv_statement.specs.declared.mnemonic.Mnemonic.{Mnemonic}
-use Rattle.rv_statement.specs.declared.mnemonic.Mnemonic.TheVariants.{Parcel}
-use Rattle.rv_statement.specs.Statement.{Operand, Register, Target}
+use Rattle.rv_statement_laws.specs.declared.mnemonic.Mnemonic.{Mnemonic}
+use Rattle.rv_statement_laws.specs.declared.mnemonic.Mnemonic.TheVariants.{Parcel}
+use Rattle.rv_statement_laws.specs.Statement.{Operand, Register, Target}
 use Rattle.rv_pseudo_laws.specs.Code.{Closed, Constants, constant_number, by_form, parcel_form, named_form, code}
 
 -- ---- registers of a set

@@ -13,10 +13,10 @@ use Rattle.rv_isa.specs.Operations.{format_of}
 use Rattle.rv_isa.specs.Ranges.{IsReg, IsValid, shift_limit}
 use Rattle.rv_isa_laws.specs.Halves.{hi, lo}
 use Rattle.rv_parcel.specs.Mnemonics.{takes_number}
-use Rattle.rv_statement.specs.declared.mnemonic.Mnemonic.{Mnemonic}
-use Rattle.rv_statement.specs.declared.mnemonic.Mnemonic.TheVariants.{Registers, Immediate, Shift, Upper, Li, Parcel}
-use Rattle.rv_statement.specs.declared.pseudo.Function.TheVariants.{Hi, Lo}
-use Rattle.rv_statement.specs.Statement.{Operand, Register, Value, Applied}
+use Rattle.rv_statement_laws.specs.declared.mnemonic.Mnemonic.{Mnemonic}
+use Rattle.rv_statement_laws.specs.declared.mnemonic.Mnemonic.TheVariants.{Registers, Immediate, Shift, Upper, Li, Parcel}
+use Rattle.rv_statement_laws.specs.declared.pseudo.Function.TheVariants.{Hi, Lo}
+use Rattle.rv_statement_laws.specs.Statement.{Operand, Register, Value, Applied}
 use Rattle.rv_parse_laws.specs.Syntax.{with_constant}
 use Rattle.rv_pseudo_laws.specs.Li.{is_signed}
 use Rattle.rv_pseudo_laws.specs.Code.{Part, Closed, Open, Joined, Constants}

@@ -6,10 +6,10 @@ use Rattle.rv_isa.specs.RegisterNames.{abi_names}
 use Rattle.rv_text_laws.specs.declared.punct.Punct.TheVariants as puncts
 use Rattle.rv_text_laws.specs.Grammar.{Punctuation, Stops}
 use Rattle.rv_text_laws.specs.Lexing.{placed}
-use Rattle.rv_statement.specs.declared.directive.DirectiveWord.TheVariants as words
-use Rattle.rv_statement.specs.declared.directive.Binding.TheVariants.{Global}
-use Rattle.rv_statement.specs.declared.directive.Choice.TheVariants.{Norvc, Norelax}
-use Rattle.rv_statement.specs.Statement.{Word, Label, Directs, Chooses as Choosing, Binds}
+use Rattle.rv_statement_laws.specs.declared.directive.DirectiveWord.TheVariants as words
+use Rattle.rv_statement_laws.specs.declared.directive.Binding.TheVariants.{Global}
+use Rattle.rv_statement_laws.specs.declared.directive.Choice.TheVariants.{Norvc, Norelax}
+use Rattle.rv_statement_laws.specs.Statement.{Word, Label, Directs, Chooses as Choosing, Binds}
 use Rattle.rv_parse_laws.specs.Words.{register, register_names, choices, beginning, mnemonic_named, directive_named, instruction_words, atomic_operations, atomic_forms, directive_words}
 use Rattle.rv_parse_laws.specs.Syntax.{is_symbol}
 use Rattle.rv_raw_laws.proofs.LexemesLemmas.{lexeme, word, blank, name_spells, name_stops}

@@ -11,7 +11,7 @@ use Rattle.rv_text_laws.specs.declared.class.Class.TheVariants.{Letter, Digit}
 use Rattle.rv_text_laws.specs.Cut.{Piece, texts, Each, NothingReads}
 use Rattle.rv_text_laws.specs.Grammar.{Kind, Space, Line_comment, Block_comment, Newline, Punctuation, Name, Number, Reference, Bad_word, Text, Character, Bad_byte, Bad_token, End, IsWord, Spells, Stops}
 use Rattle.rv_text_laws.specs.Lexing.{Token, placed, newlines, tokens_of, last}
-use Rattle.rv_statement.specs.Statement.{StatementKind, Label, Numbered, Instruction, Directs, Statement}
+use Rattle.rv_statement_laws.specs.Statement.{StatementKind, Label, Numbered, Instruction, Directs, Statement}
 use Rattle.rv_parse_laws.specs.Syntax.{SourcePart, Ends, Says, StopsPart, is_end}
 use Rattle.rv_parse_laws.specs.Opening.{OpenWell}
 use Rattle.rv_parse_laws.specs.Reading.{longest_source, longest_line, IsPastLine, statements_of_parts, AreParts, Reads}

@@ -3,7 +3,7 @@
 use Rattle.std.proofs.Common.{ℕ, List, [], ◌∷◌, ◌++◌, map}
 use Rattle.std.specs.List.{AllByRecursion}
 use Rattle.rv_isa.specs.Operations.{format_of}
-use Rattle.rv_statement.specs.Statement.{StatementKind}
+use Rattle.rv_statement_laws.specs.Statement.{StatementKind}
 use Rattle.rv_listing_laws.specs.declared.code.Code.{Code}
 use Rattle.rv_listing_laws.specs.declared.code.Code.TheVariants.{Word, Parcel}
 use Rattle.rv_listing_laws.specs.Raw.{IsSourced, code_text, raw_lines}

@@ -15,8 +15,8 @@ use Rattle.rv_isa.specs.declared.operation.StoreOperation.{StoreOperation}
 use Rattle.rv_isa.specs.declared.operation.BranchOperation.{BranchOperation}
 use Rattle.rv_isa.specs.declared.operation.AtomicOperation.{AtomicOperation}
 use Rattle.rv_isa.specs.Mnemonics.{ordering}
-use Rattle.rv_statement.specs.declared.mnemonic.Mnemonic.{Mnemonic}
-use Rattle.rv_statement.specs.declared.mnemonic.Mnemonic.TheVariants as words
+use Rattle.rv_statement_laws.specs.declared.mnemonic.Mnemonic.{Mnemonic}
+use Rattle.rv_statement_laws.specs.declared.mnemonic.Mnemonic.TheVariants as words
 use Rattle.rv_parse_laws.specs.declared.beginning.Beginning.TheVariants as beginnings
 use Rattle.rv_parse_laws.specs.Words.{beginning, register_names, register, mnemonic_named, directive_named, instruction_words, atomic_operations, atomic_forms, directive_words, form_with}
 use Rattle.rv_listing_laws.specs.Instruction.{abi_register as abi, load_reserved_name}

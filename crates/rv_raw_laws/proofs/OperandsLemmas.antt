@@ -18,7 +18,7 @@ use Rattle.rv_parcel.specs.declared.parcel.RegisterSet.TheVariants.{Any, Nonzero
 use Rattle.rv_parcel.specs.Mnemonics.{is_of_set}
 use Rattle.std.proofs.lemmas.Bool.Decides.{nat_tests}
 use Rattle.rv_parse_laws.specs.Words.{register, register_names, named_in}
-use Rattle.rv_statement.specs.Statement.{Operand, Register, Value, Target, Accesses, Expression}
+use Rattle.rv_statement_laws.specs.Statement.{Operand, Register, Value, Target, Accesses, Expression}
 use Rattle.rv_parse_laws.specs.declared.role.Role.{Role}
 use Rattle.rv_parse_laws.specs.declared.role.Role.TheVariants as roles
 use Rattle.rv_parse_laws.specs.Syntax.{Slot, A_register, A_register_of, A_value, An_address, An_address_by, kept_in, A_comma, A_target, Some_accesses, access_sets, Slots, Stops as Ends_here, Takes, Chooses, Locates, atomic_address, jump_target, IsValue, IsValueIn, IsOperand, IsBase, IsOffset, AreOperands, targets, is_refused, front_begins, colon_next, is_register}

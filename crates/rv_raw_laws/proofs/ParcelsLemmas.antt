@@ -11,8 +11,8 @@ use Rattle.rv_parcel.specs.declared.parcel.RegisterSet.{RegisterSet}
 use Rattle.rv_parcel.specs.declared.parcel.RegisterSet.TheVariants.{Any, Nonzero, Short, Stack, Upper}
 use Rattle.rv_parcel.specs.Mnemonics.{is_of_set, parcel_name}
 use Rattle.rv_parcel.specs.Parcel.{IsShort, IsSixBits, IsBranch, IsJump, IsStackStep, IsUpper, IsLine, IsNoHint}
-use Rattle.rv_statement.specs.declared.mnemonic.Mnemonic.TheVariants as words
-use Rattle.rv_statement.specs.Statement.{Operand, Register, Instruction}
+use Rattle.rv_statement_laws.specs.declared.mnemonic.Mnemonic.TheVariants as words
+use Rattle.rv_statement_laws.specs.Statement.{Operand, Register, Instruction}
 use Rattle.rv_parse_laws.specs.declared.role.Role.TheVariants as roles
 use Rattle.rv_parse_laws.specs.Words.{beginning, mnemonic_named, directive_named, instruction_words, atomic_operations, atomic_forms, directive_words}
 use Rattle.rv_parse_laws.specs.Syntax.{A_register_of, An_address_by, A_value, A_target, Slots, last, and_then, slots}

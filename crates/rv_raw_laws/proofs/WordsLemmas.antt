@@ -12,9 +12,9 @@ use Rattle.rv_text_laws.specs.Bytes.{class, in_line}
 use Rattle.rv_text_laws.specs.Cut.{texts, Each}
 use Rattle.rv_text_laws.specs.Grammar.{Spells, Stops}
 use Rattle.rv_text_laws.specs.Lexing.{placed, tokens_of}
-use Rattle.rv_statement.specs.declared.mnemonic.Mnemonic.{Mnemonic}
-use Rattle.rv_statement.specs.declared.mnemonic.Mnemonic.TheVariants as words
-use Rattle.rv_statement.specs.Statement.{Operand, Register, Accesses, StatementKind, Instruction}
+use Rattle.rv_statement_laws.specs.declared.mnemonic.Mnemonic.{Mnemonic}
+use Rattle.rv_statement_laws.specs.declared.mnemonic.Mnemonic.TheVariants as words
+use Rattle.rv_statement_laws.specs.Statement.{Operand, Register, Accesses, StatementKind, Instruction}
 use Rattle.rv_isa.specs.declared.instruction.Fence.{Fence as FenceOperands}
 use Rattle.rv_isa.specs.declared.instruction.Format.{Format}
 use Rattle.rv_isa.specs.Ranges.{IsSigned12, IsBranchOffset, IsJumpOffset, shift_limit, IsValidFormat}

@@ -13,10 +13,10 @@ use Rattle.rv_parcel.specs.Mnemonics.{operation_of}
 use Rattle.rv_text_laws.specs.declared.operator.UnaryOperator.TheVariants.{Negate}
 use Rattle.rv_text_laws.specs.declared.operator.BinaryOperator.TheVariants.{Add, Subtract}
 use Rattle.rv_text_laws.specs.Expression.{Leaf, Unary, Binary, Literal, Here}
-use Rattle.rv_statement.specs.declared.directive.Binding.TheVariants.{Global}
-use Rattle.rv_statement.specs.declared.directive.Choice.TheVariants.{Norvc, Norelax}
-use Rattle.rv_statement.specs.declared.mnemonic.Mnemonic.TheVariants as words
-use Rattle.rv_statement.specs.Statement.{Expression, Operand, Register, Value, Target, Accesses, Binds, Chooses, StatementKind, Label, Instruction, Directs, Statement}
+use Rattle.rv_statement_laws.specs.declared.directive.Binding.TheVariants.{Global}
+use Rattle.rv_statement_laws.specs.declared.directive.Choice.TheVariants.{Norvc, Norelax}
+use Rattle.rv_statement_laws.specs.declared.mnemonic.Mnemonic.TheVariants as words
+use Rattle.rv_statement_laws.specs.Statement.{Expression, Operand, Register, Value, Target, Accesses, Binds, Chooses, StatementKind, Label, Instruction, Directs, Statement}
 use Rattle.rv_parse_laws.specs.Words.{form_with}
 use Rattle.rv_parse_laws.specs.Syntax.{accesses}
 use Rattle.rv_listing_laws.specs.Instruction.{is_tso}

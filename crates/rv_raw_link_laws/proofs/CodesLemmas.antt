@@ -23,9 +23,9 @@ use Rattle.rv_parcel.specs.Mnemonics.{are_in, register_sets, takes_number, form_
 use Rattle.rv_parcel.specs.Parcel.{IsLine, IsNoHint, IsUpper, IsBranch, IsJump, expansion}
 use Rattle.rv_reloc_laws.specs.Ranges.{Takes, IsOdd}
 use Rattle.rv_text_laws.specs.Codes.{immediate_range, faulty_if}
-use Rattle.rv_statement.specs.declared.mnemonic.Mnemonic.{Mnemonic}
-use Rattle.rv_statement.specs.declared.mnemonic.Mnemonic.TheVariants as words
-use Rattle.rv_statement.specs.Statement.{StatementKind, Instruction, Operand, Target, Accesses, Expression}
+use Rattle.rv_statement_laws.specs.declared.mnemonic.Mnemonic.{Mnemonic}
+use Rattle.rv_statement_laws.specs.declared.mnemonic.Mnemonic.TheVariants as words
+use Rattle.rv_statement_laws.specs.Statement.{StatementKind, Instruction, Operand, Target, Accesses, Expression}
 use Rattle.rv_pseudo_laws.specs.Li.{is_signed}
 use Rattle.rv_pseudo_laws.specs.Code.{Part, Closed, Open, Joined, Constants, b_type, jal, by_form}
 use Rattle.rv_pseudo_laws.specs.InstructionFaults.{Worth, Number, Address, number_faults, faults, else_unplaced, own_faults, range_faults}

@@ -5,8 +5,8 @@ use Rattle.std.proofs.lemmas.List.{drop_all}
 use Rattle.rv_text_laws.specs.Expression.{Primary, Here}
 use Rattle.rv_text_laws.specs.Codes.{lowest}
 use Rattle.rv_text_laws.specs.Values.{Meaning, Open, value_of}
-use Rattle.rv_statement.specs.Statement.{StatementKind, Label, Expression}
-use Rattle.rv_statement.specs.Limits.{most_statements}
+use Rattle.rv_statement_laws.specs.Statement.{StatementKind, Label, Expression}
+use Rattle.rv_statement_laws.specs.Limits.{most_statements}
 use Rattle.rv_parse_laws.specs.Reading.{Reads}
 use Rattle.rv_pseudo_laws.specs.Code.{Constants}
 use Rattle.rv_pseudo_laws.specs.InstructionFaults.{Worth, faults as faults_of}

@@ -21,8 +21,8 @@ use Rattle.rv_layout_laws.specs.declared.item.Forms.TheVariants.{Branch as FullB
 use Rattle.rv_layout_laws.specs.declared.item.Item.{Item}
 use Rattle.rv_layout_laws.specs.Offsets.{IsImmediate}
 use Rattle.rv_layout_laws.specs.Branches.{smallest}
-use Rattle.rv_statement.specs.declared.mnemonic.Mnemonic.TheVariants as words
-use Rattle.rv_statement.specs.Statement.{StatementKind, Instruction, Statement, Register, Target, Accesses}
+use Rattle.rv_statement_laws.specs.declared.mnemonic.Mnemonic.TheVariants as words
+use Rattle.rv_statement_laws.specs.Statement.{StatementKind, Instruction, Statement, Register, Target, Accesses}
 use Rattle.rv_pseudo_laws.specs.Code.{Open, Constants, jal}
 use Rattle.rv_unit_laws.specs.Bindings.{Bindings}
 use Rattle.rv_unit_laws.specs.Tables.{Tables, Labelled, after, meaning, definition_at}

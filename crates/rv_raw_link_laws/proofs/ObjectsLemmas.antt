@@ -6,7 +6,7 @@ use Rattle.std.specs.List.{AllByRecursion}
 use Rattle.std.proofs.lemmas.Bool.{eq-eqb, ne_eqb}
 use Rattle.rv_text_laws.specs.Values.{value_of}
 use Rattle.rv_layout_laws.specs.Branches.{smallest, item_at}
-use Rattle.rv_statement.specs.Statement.{StatementKind, Label, Statement}
+use Rattle.rv_statement_laws.specs.Statement.{StatementKind, Label, Statement}
 use Rattle.rv_unit_laws.specs.Bindings.{Bindings, bindings_of}
 use Rattle.rv_unit_laws.specs.Sections.{text_section}
 use Rattle.rv_unit_laws.specs.Tables.{Tables, Labelled, at_start, after as after_one, tables, opened_of, meaning}

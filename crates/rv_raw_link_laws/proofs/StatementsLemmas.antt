@@ -8,13 +8,13 @@ use Rattle.rv_isa.specs.Operations.{format_of}
 use Rattle.std.specs.Prelude.{if◌then◌else◌}
 use Rattle.rv_text_laws.specs.Expression.{Here}
 use Rattle.rv_text_laws.specs.Values.{Open}
-use Rattle.rv_statement.specs.declared.directive.Binding.{Binding}
-use Rattle.rv_statement.specs.declared.directive.Binding.TheVariants.{Global}
-use Rattle.rv_statement.specs.declared.directive.Choice.{Choice}
-use Rattle.rv_statement.specs.declared.directive.Choice.TheVariants.{Norvc, Norelax}
-use Rattle.rv_statement.specs.declared.mnemonic.Mnemonic.{Mnemonic}
-use Rattle.rv_statement.specs.declared.mnemonic.Mnemonic.TheVariants as words
-use Rattle.rv_statement.specs.Statement.{StatementKind, Label, Instruction, Directs, Chooses, Binds, Operand, Accesses}
+use Rattle.rv_statement_laws.specs.declared.directive.Binding.{Binding}
+use Rattle.rv_statement_laws.specs.declared.directive.Binding.TheVariants.{Global}
+use Rattle.rv_statement_laws.specs.declared.directive.Choice.{Choice}
+use Rattle.rv_statement_laws.specs.declared.directive.Choice.TheVariants.{Norvc, Norelax}
+use Rattle.rv_statement_laws.specs.declared.mnemonic.Mnemonic.{Mnemonic}
+use Rattle.rv_statement_laws.specs.declared.mnemonic.Mnemonic.TheVariants as words
+use Rattle.rv_statement_laws.specs.Statement.{StatementKind, Label, Instruction, Directs, Chooses, Binds, Operand, Accesses}
 use Rattle.rv_unit_laws.specs.Bindings.{Bindings, all_local, bound, bound_by, bindings_after, bindings_of}
 use Rattle.rv_unit_laws.specs.Options.{Options}
 use Rattle.rv_unit_laws.specs.Sections.{text_section}

@@ -12,8 +12,8 @@ use Rattle.rv_isa.specs.Operations.{format_of, of_branch}
 use Rattle.rv_text_laws.specs.Codes.{limit}
 use Rattle.rv_text_laws.specs.Expression.{Primary}
 use Rattle.rv_text_laws.specs.Values.{Meaning, Value, value_of}
-use Rattle.rv_statement.specs.Statement.{StatementKind, Statement, Expression}
-use Rattle.rv_statement.specs.Limits.{most_statements}
+use Rattle.rv_statement_laws.specs.Statement.{StatementKind, Statement, Expression}
+use Rattle.rv_statement_laws.specs.Limits.{most_statements}
 use Rattle.rv_pseudo_laws.specs.Code.{Part, Closed, Open, Constants, b_type, jal, inverted, branch}
 use Rattle.rv_unit_laws.specs.Bindings.{Bindings, bindings_of}
 use Rattle.rv_unit_laws.specs.Tables.{Tables, Labelled, at_start, after, meaning, longest_section}

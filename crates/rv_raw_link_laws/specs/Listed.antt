@@ -4,7 +4,7 @@
 use Rattle.std.specs.Prelude.{◌≡◌, ℕ, ◌+◌, ◌≤◌, Bool, List, [], ◌∷◌, ◌++◌, length, flat_map, None}
 use Rattle.std.specs.List.{AllByRecursion}
 use Rattle.rv_isa_laws.specs.Platform.{stack_start}
-use Rattle.rv_statement.specs.Statement.{Statement}
+use Rattle.rv_statement_laws.specs.Statement.{Statement}
 use Rattle.rv_parse_laws.specs.Reading.{longest_source}
 use Rattle.rv_unit_laws.specs.Faults.{StatementFault}
 use Rattle.rv_listing_laws.specs.declared.code.Code.{Code}

@@ -9,7 +9,7 @@ use Rattle.rv_isa.specs.declared.kind.Kind.{Kind}
 use Rattle.rv_isa.specs.declared.kind.Kind.TheVariants as kinds
 use Rattle.rv_map_laws.specs.declared.map.SectionId.{SectionId}
 use Rattle.rv_collect_laws.specs.Graph.{is_dropped}
-use Rattle.rv_statement.specs.Statement.{Statement, StatementKind, Label, Numbered, Instruction, Directs}
+use Rattle.rv_statement_laws.specs.Statement.{Statement, StatementKind, Label, Numbered, Instruction, Directs}
 use Rattle.rv_source_laws.specs.Located.{Located}
 use Rattle.rv_source_laws.specs.Compressed.{names_parcel}
 use Rattle.rv_layout_laws.specs.Offsets.{Reaches}

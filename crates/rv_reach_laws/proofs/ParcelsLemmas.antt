@@ -4,7 +4,7 @@ use Rattle.std.proofs.Common.{◌≡◌, ℕ, suc, ◌+◌, ◌-◌, ◌<◌, in
 use Rattle.std.specs.Prelude.{◌==◌, ◌&&◌, ◌||◌, nat_le, nat_lt, flat_map, if◌then◌else◌, option_and_then}
 use Rattle.std.specs.List.{slice_get, list_any}
 use Rattle.std.proofs.lemmas.Bool.{and_from, or_right, eq-eqb, le-leb}
-use Rattle.rv_statement.specs.Statement.{Statement}
+use Rattle.rv_statement_laws.specs.Statement.{Statement}
 use Rattle.rv_unit_laws.specs.Tables.{Tables, after, at_start}
 use Rattle.rv_object_laws.specs.declared.row.Row.{Row}
 use Rattle.rv_source_laws.specs.Located.{Located, located_from, has_row}

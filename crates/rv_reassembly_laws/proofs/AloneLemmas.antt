@@ -9,8 +9,8 @@ use Rattle.rv_isa_laws.specs.Bytes.{little_endian}
 use Rattle.rv_isa_laws.specs.Word.{form, word}
 use Rattle.rv_parcel.specs.declared.form.Compressed.{Compressed}
 use Rattle.rv_parcel.specs.Parcel.{parcel, IsShortOf}
-use Rattle.rv_statement.specs.declared.mnemonic.Mnemonic.{Mnemonic}
-use Rattle.rv_statement.specs.Statement.{StatementKind, Instruction, Operand}
+use Rattle.rv_statement_laws.specs.declared.mnemonic.Mnemonic.{Mnemonic}
+use Rattle.rv_statement_laws.specs.Statement.{StatementKind, Instruction, Operand}
 use Rattle.rv_pseudo_laws.specs.Code.{Part, Closed, Open, Joined}
 use Rattle.rv_pseudo_laws.specs.Filled.{filled_part, filled}
 use Rattle.rv_source_laws.specs.Program.{Mapped, Program, has_values}

@@ -18,8 +18,8 @@ use Rattle.rv_layout_laws.specs.Offsets.{IsImmediate}
 use Rattle.rv_text_laws.specs.Expression.{Here}
 use Rattle.rv_text_laws.specs.Values.{Value, Open, Symbolic}
 use Rattle.rv_map_laws.specs.declared.map.Row.{Row}
-use Rattle.rv_statement.specs.declared.mnemonic.Mnemonic.TheVariants as words
-use Rattle.rv_statement.specs.Statement.{StatementKind, Instruction, Operand, Register, Target, Accesses}
+use Rattle.rv_statement_laws.specs.declared.mnemonic.Mnemonic.TheVariants as words
+use Rattle.rv_statement_laws.specs.Statement.{StatementKind, Instruction, Operand, Register, Target, Accesses}
 use Rattle.rv_unit_laws.specs.Bindings.{Bindings}
 use Rattle.rv_unit_laws.specs.Options.{first_options}
 use Rattle.rv_unit_laws.specs.Sections.{text_section}

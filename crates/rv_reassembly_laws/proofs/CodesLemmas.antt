@@ -17,9 +17,9 @@ use Rattle.rv_parcel.specs.declared.form.Compressed.{Compressed}
 use Rattle.rv_parcel.specs.declared.form.Compressed.TheVariants as forms
 use Rattle.rv_parcel.specs.Mnemonics.{operation_of}
 use Rattle.rv_parcel.specs.Parcel.{IsLine, IsShortOf, parcel, expansion}
-use Rattle.rv_statement.specs.declared.mnemonic.Mnemonic.{Mnemonic}
-use Rattle.rv_statement.specs.declared.mnemonic.Mnemonic.TheVariants as words
-use Rattle.rv_statement.specs.Statement.{StatementKind, Instruction, Operand, Target, Accesses}
+use Rattle.rv_statement_laws.specs.declared.mnemonic.Mnemonic.{Mnemonic}
+use Rattle.rv_statement_laws.specs.declared.mnemonic.Mnemonic.TheVariants as words
+use Rattle.rv_statement_laws.specs.Statement.{StatementKind, Instruction, Operand, Target, Accesses}
 use Rattle.rv_parse_laws.specs.Words.{form_with}
 use Rattle.rv_pseudo_laws.specs.Code.{Part, Open, Constants, b_type, jal, jump}
 use Rattle.rv_pseudo_laws.specs.Filled.{filled_part}

@@ -5,7 +5,7 @@ use Rattle.std.specs.Prelude.{codes, flat_map}
 use Rattle.std.specs.List.{AllByRecursion}
 use Rattle.std.proofs.lemmas.List.{map-append}
 use Rattle.std.proofs.lemmas.Grind.{flat_map-append}
-use Rattle.rv_statement.specs.Statement.{Label, Statement}
+use Rattle.rv_statement_laws.specs.Statement.{Label, Statement}
 use Rattle.rv_parse_laws.specs.Reading.{Reads, longest_source}
 use Rattle.rv_image_laws.specs.Image.{Image}
 use Rattle.rv_image_laws.specs.Linked.{Linked}

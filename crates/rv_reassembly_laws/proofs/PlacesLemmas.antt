@@ -8,10 +8,10 @@ use Rattle.std.proofs.lemmas.List.{length-map, append-nil}
 use Rattle.rv_map_laws.specs.declared.map.Row.{Row}
 use Rattle.rv_map_laws.specs.declared.map.SectionId.{SectionId}
 use Rattle.rv_collect_laws.specs.Graph.{is_dropped}
-use Rattle.rv_statement.specs.declared.directive.Binding.TheVariants.{Global}
-use Rattle.rv_statement.specs.declared.directive.Choice.TheVariants.{Norvc, Norelax}
-use Rattle.rv_statement.specs.declared.mnemonic.Mnemonic.{Mnemonic}
-use Rattle.rv_statement.specs.Statement.{StatementKind, Label, Instruction, Directs, Binds, Chooses, Operand, Statement}
+use Rattle.rv_statement_laws.specs.declared.directive.Binding.TheVariants.{Global}
+use Rattle.rv_statement_laws.specs.declared.directive.Choice.TheVariants.{Norvc, Norelax}
+use Rattle.rv_statement_laws.specs.declared.mnemonic.Mnemonic.{Mnemonic}
+use Rattle.rv_statement_laws.specs.Statement.{StatementKind, Label, Instruction, Directs, Binds, Chooses, Operand, Statement}
 use Rattle.rv_unit_laws.specs.Bindings.{Bindings, bindings_of}
 use Rattle.rv_unit_laws.specs.Options.{Options, first_options}
 use Rattle.rv_unit_laws.specs.Sections.{Section, text_section, section_at}

@@ -9,7 +9,7 @@ use Rattle.rv_text_laws.specs.Expression.{Here}
 use Rattle.rv_text_laws.specs.Values.{Open, Symbolic, add}
 use Rattle.rv_map_laws.specs.Map.{Map}
 use Rattle.rv_map_laws.specs.declared.map.Row.{Row}
-use Rattle.rv_statement.specs.Statement.{StatementKind, Label}
+use Rattle.rv_statement_laws.specs.Statement.{StatementKind, Label}
 use Rattle.rv_pseudo_laws.specs.Code.{Part}
 use Rattle.rv_unit_laws.specs.Bindings.{bindings_of}
 use Rattle.rv_unit_laws.specs.Tables.{opened_of, stands, meaning, tables}

@@ -9,7 +9,7 @@ use Rattle.rv_layout_laws.specs.Alignment.{aligned}
 use Rattle.rv_layout_laws.specs.Branches.{IsLeastGood}
 use Rattle.rv_map_laws.specs.declared.map.Row.{Row}
 use Rattle.rv_collect_laws.specs.Graph.{is_dropped}
-use Rattle.rv_statement.specs.Statement.{StatementKind, Statement}
+use Rattle.rv_statement_laws.specs.Statement.{StatementKind, Statement}
 use Rattle.rv_unit_laws.specs.Bindings.{bindings_of}
 use Rattle.rv_unit_laws.specs.Sections.{Section, goes_to_text, text_section}
 use Rattle.rv_unit_laws.specs.Tables.{Tables, opened_of, tables}

@@ -2,7 +2,7 @@
 -- on, begun at the same place.
 
 use Rattle.std.specs.Prelude.{◌≡◌, ℕ, Bool, List, [], ◌∷◌}
-use Rattle.rv_statement.specs.Statement.{Statement}
+use Rattle.rv_statement_laws.specs.Statement.{Statement}
 use Rattle.rv_image_laws.specs.Image.{Image}
 use Rattle.rv_image_laws.specs.Linked.{Linked}
 use Rattle.rv_listing_laws.specs.Raw.{IsRawListing}

@@ -17,8 +17,8 @@ use Rattle.rv_parcel.specs.declared.form.Compressed.{Compressed}
 use Rattle.rv_parcel.specs.Parcel.{parcel, StandsFor}
 use Rattle.rv_isa_laws.specs.Reader.{Reader}
 use Rattle.rv_isa_laws.specs.Run.{NoInstruction, Got, fetch}
-use Rattle.rv_statement.specs.Statement.{StatementKind, Label, Numbered, Instruction, Directs, Statement, Expression, Directive, Sets}
-use Rattle.rv_statement.specs.declared.directive.Binding.{Binding}
+use Rattle.rv_statement_laws.specs.Statement.{StatementKind, Label, Numbered, Instruction, Directs, Statement, Expression, Directive, Sets}
+use Rattle.rv_statement_laws.specs.declared.directive.Binding.{Binding}
 use Rattle.rv_pseudo_laws.specs.Code.{Part}
 use Rattle.rv_unit_laws.specs.Bindings.{is_global, is_weak}
 use Rattle.rv_unit_laws.specs.Contributions.{Contribution, Nothing, Bytes, Zero_bytes, Alignment, contribution}

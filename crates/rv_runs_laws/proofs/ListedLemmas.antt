@@ -13,7 +13,7 @@ use Rattle.rv_isa_laws.specs.Word.{Spells}
 use Rattle.rv_parcel.specs.Parcel.{StandsFor}
 use Rattle.rv_isa_laws.specs.Memory.{Mem}
 use Rattle.rv_isa_laws.specs.Reader.{Reader}
-use Rattle.rv_statement.specs.Statement.{Statement}
+use Rattle.rv_statement_laws.specs.Statement.{Statement}
 use Rattle.rv_map_laws.specs.declared.map.Row.{Row}
 use Rattle.rv_image_laws.specs.Linked.{Linked}
 use Rattle.rv_image_laws.specs.Executable.{linked_image}

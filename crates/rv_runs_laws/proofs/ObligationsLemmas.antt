@@ -12,9 +12,9 @@ use Rattle.rv_isa_laws.specs.Effect.{Effect, Goes, Breaks}
 use Rattle.rv_isa_laws.specs.Meaning.{effect}
 use Rattle.rv_text_laws.specs.Expression.{Primary}
 use Rattle.rv_text_laws.specs.Values.{Value, Constant, Symbolic, Difference, Faulty}
-use Rattle.rv_statement.specs.declared.mnemonic.Mnemonic.{Mnemonic}
-use Rattle.rv_statement.specs.Statement.{StatementKind, Label, Numbered, Instruction, Directs, Directive, Sets, Aligns_to_power, Aligns_to_bytes, Expression, Operand, Applied, Target}
-use Rattle.rv_statement.specs.declared.pseudo.Function.TheVariants.{Hi, Lo, PcrelLo}
+use Rattle.rv_statement_laws.specs.declared.mnemonic.Mnemonic.{Mnemonic}
+use Rattle.rv_statement_laws.specs.Statement.{StatementKind, Label, Numbered, Instruction, Directs, Directive, Sets, Aligns_to_power, Aligns_to_bytes, Expression, Operand, Applied, Target}
+use Rattle.rv_statement_laws.specs.declared.pseudo.Function.TheVariants.{Hi, Lo, PcrelLo}
 use Rattle.rv_pseudo_laws.specs.Code.{Part, Closed}
 use Rattle.rv_pseudo_laws.specs.Filled.{FieldValue, filled}
 use Rattle.rv_source_laws.specs.Program.{Mapped, Program, form, resolved, address, number, has_values}

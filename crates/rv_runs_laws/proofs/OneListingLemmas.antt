@@ -6,7 +6,7 @@ use Rattle.std.specs.Cmp.{IsStrictWeakOrder}
 use Rattle.rv_isa.specs.declared.instruction.Inst.{Inst}
 use Rattle.rv_parcel.specs.declared.form.Compressed.{Compressed}
 use Rattle.rv_parcel.specs.Encoded.{IsLeast, IsLeastAs}
-use Rattle.rv_statement.specs.Statement.{StatementKind, Label, Numbered, Instruction, Directs}
+use Rattle.rv_statement_laws.specs.Statement.{StatementKind, Label, Numbered, Instruction, Directs}
 use Rattle.rv_pseudo_laws.specs.Code.{Part, Closed, Open, Joined}
 use Rattle.rv_source_laws.specs.Program.{Mapped, Program}
 use Rattle.rv_source_laws.specs.Lines.{form_at, Line, Lie}

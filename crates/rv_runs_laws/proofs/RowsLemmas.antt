@@ -20,14 +20,14 @@ use Rattle.rv_isa_laws.specs.Effect.{Goes}
 use Rattle.rv_isa_laws.specs.Kept.{InRange}
 use Rattle.rv_isa_laws.specs.Meaning.{effect, sets, branches, jumps, with_result, is_taken}
 use Rattle.rv_reloc_laws.specs.Operands.{with_value, branch_to}
-use Rattle.rv_statement.specs.declared.pseudo.UnaryOperation.{UnaryOperation}
-use Rattle.rv_statement.specs.declared.pseudo.UnaryOperation.TheVariants.{Mv, Not, Neg, Negw, SextB, SextH, SextW, ZextB, ZextH, ZextW, Seqz, Snez, Sltz, Sgtz}
-use Rattle.rv_statement.specs.declared.pseudo.CompareOperation.{CompareOperation}
-use Rattle.rv_statement.specs.declared.pseudo.CompareOperation.TheVariants.{Sgt, Sgtu}
-use Rattle.rv_statement.specs.declared.pseudo.ZeroBranchOperation.{ZeroBranchOperation}
-use Rattle.rv_statement.specs.declared.pseudo.ZeroBranchOperation.TheVariants.{Beqz, Bnez, Bgez, Bltz, Blez, Bgtz}
-use Rattle.rv_statement.specs.declared.pseudo.SwappedBranchOperation.{SwappedBranchOperation}
-use Rattle.rv_statement.specs.declared.pseudo.SwappedBranchOperation.TheVariants.{Bgt, Ble, Bgtu, Bleu}
+use Rattle.rv_statement_laws.specs.declared.pseudo.UnaryOperation.{UnaryOperation}
+use Rattle.rv_statement_laws.specs.declared.pseudo.UnaryOperation.TheVariants.{Mv, Not, Neg, Negw, SextB, SextH, SextW, ZextB, ZextH, ZextW, Seqz, Snez, Sltz, Sgtz}
+use Rattle.rv_statement_laws.specs.declared.pseudo.CompareOperation.{CompareOperation}
+use Rattle.rv_statement_laws.specs.declared.pseudo.CompareOperation.TheVariants.{Sgt, Sgtu}
+use Rattle.rv_statement_laws.specs.declared.pseudo.ZeroBranchOperation.{ZeroBranchOperation}
+use Rattle.rv_statement_laws.specs.declared.pseudo.ZeroBranchOperation.TheVariants.{Beqz, Bnez, Bgez, Bltz, Blez, Bgtz}
+use Rattle.rv_statement_laws.specs.declared.pseudo.SwappedBranchOperation.{SwappedBranchOperation}
+use Rattle.rv_statement_laws.specs.declared.pseudo.SwappedBranchOperation.TheVariants.{Bgt, Ble, Bgtu, Bleu}
 use Rattle.rv_pseudo_laws.specs.Li.{addi, addiw, slli}
 use Rattle.rv_pseudo_laws.specs.Code.{Part, Closed, Open, r_type, i_type, b_type, shift_by, jal, unary, compare, inverted, branch, jump, zero_branch, swapped_branch}
 use Rattle.rv_pseudo_laws.specs.Filled.{FieldValue, filled, AreTaken}

@@ -15,7 +15,7 @@ use Rattle.rv_isa_laws.specs.Kept.{GoesOn, InRange}
 use Rattle.rv_isa_laws.proofs.ConsoleLemmas.{run_adds}
 use Rattle.rv_isa_laws.specs.Reader.{Reader}
 use Rattle.rv_isa_laws.specs.Run.{NoInstruction, run, done, machine_run}
-use Rattle.rv_statement.specs.Statement.{Statement}
+use Rattle.rv_statement_laws.specs.Statement.{Statement}
 use Rattle.rv_map_laws.specs.Map.{Map}
 use Rattle.rv_source_laws.specs.Program.{Mapped, Program, program}
 use Rattle.rv_source_laws.specs.Meaning.{meaning, cost}

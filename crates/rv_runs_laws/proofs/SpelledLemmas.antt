@@ -34,10 +34,10 @@ use Rattle.rv_parcel.specs.declared.parcel.OperandShape.{OperandShape}
 use Rattle.rv_parcel.specs.declared.parcel.OperandShape.TheVariants as shapes
 use Rattle.rv_parcel.specs.Mnemonics.{is_of_set, are_in, register_sets, shape_of, takes_number, form_with, form_of}
 use Rattle.rv_parcel.specs.Parcel.{expansion}
-use Rattle.rv_statement.specs.declared.mnemonic.Mnemonic.{Mnemonic}
-use Rattle.rv_statement.specs.declared.mnemonic.Mnemonic.TheVariants.{Registers, Immediate, Shift, Upper, Load, Store, Branch, Jal, Jalr, LoadReserved, Atomic, Fence, FenceTso, Ecall, Ebreak, Nop, Unary, Compare, ZeroBranch, SwappedBranch, J, Jr, Ret, La, Li, Call, Tail, Jump, Parcel}
-use Rattle.rv_statement.specs.declared.pseudo.Function.TheVariants.{Hi, Lo, PcrelHi, PcrelLo}
-use Rattle.rv_statement.specs.Statement.{Operand, Register, Value, Applied, Target, Accesses, Word, Quoted, Expression}
+use Rattle.rv_statement_laws.specs.declared.mnemonic.Mnemonic.{Mnemonic}
+use Rattle.rv_statement_laws.specs.declared.mnemonic.Mnemonic.TheVariants.{Registers, Immediate, Shift, Upper, Load, Store, Branch, Jal, Jalr, LoadReserved, Atomic, Fence, FenceTso, Ecall, Ebreak, Nop, Unary, Compare, ZeroBranch, SwappedBranch, J, Jr, Ret, La, Li, Call, Tail, Jump, Parcel}
+use Rattle.rv_statement_laws.specs.declared.pseudo.Function.TheVariants.{Hi, Lo, PcrelHi, PcrelLo}
+use Rattle.rv_statement_laws.specs.Statement.{Operand, Register, Value, Applied, Target, Accesses, Word, Quoted, Expression}
 use Rattle.rv_parse_laws.specs.Syntax.{with_constant}
 use Rattle.rv_pseudo_laws.specs.Code.{Part, Closed, Open, Constants, opened, by_number, by_part, signed_12, upper_20, constant_number, by_amount, by_constant, by_form, parcel_form, branch, i_type, s_type, b_type, u_type, shift_by, jal, jalr, code}
 use Rattle.rv_pseudo_laws.specs.Filled.{FieldValue, filled}

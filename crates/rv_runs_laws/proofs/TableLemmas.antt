@@ -6,10 +6,10 @@ use Rattle.rv_isa_laws.specs.Arithmetic.{wrapped, signed}
 use Rattle.rv_isa_laws.specs.Halves.{lo}
 use Rattle.rv_isa_laws.specs.Hart.{Hart, register}
 use Rattle.rv_isa_laws.specs.Effect.{Effect}
-use Rattle.rv_statement.specs.declared.mnemonic.Mnemonic.{Mnemonic}
-use Rattle.rv_statement.specs.declared.mnemonic.Mnemonic.TheVariants.{Load, Store, Branch, Unary, Compare, ZeroBranch, SwappedBranch, La, Li, Call, Tail, Jump}
-use Rattle.rv_statement.specs.declared.pseudo.Function.TheVariants.{Lo}
-use Rattle.rv_statement.specs.Statement.{Operand, Register, Value, Applied, Target, Expression}
+use Rattle.rv_statement_laws.specs.declared.mnemonic.Mnemonic.{Mnemonic}
+use Rattle.rv_statement_laws.specs.declared.mnemonic.Mnemonic.TheVariants.{Load, Store, Branch, Unary, Compare, ZeroBranch, SwappedBranch, La, Li, Call, Tail, Jump}
+use Rattle.rv_statement_laws.specs.declared.pseudo.Function.TheVariants.{Lo}
+use Rattle.rv_statement_laws.specs.Statement.{Operand, Register, Value, Applied, Target, Expression}
 use Rattle.rv_pseudo_laws.specs.Li.{is_signed, li}
 use Rattle.rv_pseudo_laws.specs.Code.{Part, Closed, Constants, constant_number, through, code}
 use Rattle.rv_pseudo_laws.specs.Filled.{FieldValue}

@@ -3,7 +3,7 @@
 
 ghost use Rattle.std.specs.Prelude.{◌≡◌, ℕ, ◌^◌, ◌%◌, ◌<◌, Bool, List};
 ghost use Rattle.rv_isa_laws.specs.Memory.{Mem};
-ghost use Rattle.rv_statement.specs.Statement.{Statement};
+ghost use Rattle.rv_statement_laws.specs.Statement.{Statement};
 ghost use Rattle.rv_map_laws.specs.Map.{Map};
 ghost use Rattle.rv_isa_laws.specs.Word.{Spells};
 ghost use Rattle.rv_parcel.specs.Parcel.{StandsFor};

@@ -5,7 +5,7 @@ ghost use Rattle.std.specs.Prelude.{◌≡◌, ◌↔◌, ℕ, Bool, List};
 ghost use Rattle.rv_isa_laws.specs.Word.{Spells};
 ghost use Rattle.rv_parcel.specs.Parcel.{StandsFor};
 ghost use Rattle.rv_isa_laws.specs.Reader.{Reader};
-ghost use Rattle.rv_statement.specs.Statement.{Statement};
+ghost use Rattle.rv_statement_laws.specs.Statement.{Statement};
 ghost use Rattle.rv_image_laws.specs.Linked.{Linked};
 ghost use Rattle.rv_image_laws.specs.Executable.{linked_image};
 ghost use Rattle.rv_source_laws.specs.Program.{Program, program};

@@ -3,7 +3,7 @@
 use Rattle.std.proofs.Common.{◌≡◌, ℕ, suc, Bool, true, false, List, [], ◌∷◌, ◌++◌, refl, sym, ap, ◌∙◌, Some}
 use Rattle.std.specs.Prelude.{if◌then◌else◌, filter, slice_get}
 use Rattle.std.specs.List.{AllByRecursion}
-use Rattle.rv_statement.specs.Statement.{StatementKind, Label, Numbered, Instruction, Directs, Statement, Enters, Opens}
+use Rattle.rv_statement_laws.specs.Statement.{StatementKind, Label, Numbered, Instruction, Directs, Statement, Enters, Opens}
 use Rattle.rv_unit_laws.specs.Sections.{Section, text_section, section_at}
 use Rattle.rv_unit_laws.specs.Tables.{Tables, after, after_all, stood, opened_of}
 use Rattle.rv_unit_laws.proofs.OpenedLemmas.{got_of, IsOpen, after_opened, after_open, stays_all}

@@ -3,8 +3,8 @@
 
 use Rattle.std.specs.Prelude.{Bool, true, false, ◌&&◌, ◌||◌, List}
 use Rattle.std.specs.List.{list_any}
-use Rattle.rv_statement.specs.declared.mnemonic.Mnemonic.TheVariants.{Parcel}
-use Rattle.rv_statement.specs.Statement.{StatementKind, Instruction, Directs, Statement}
+use Rattle.rv_statement_laws.specs.declared.mnemonic.Mnemonic.TheVariants.{Parcel}
+use Rattle.rv_statement_laws.specs.Statement.{StatementKind, Instruction, Directs, Statement}
 use Rattle.rv_unit_laws.specs.Contributions.{Contribution, Alignment, contribution}
 use Rattle.rv_source_laws.specs.Located.{Located, located}
 

@@ -3,8 +3,8 @@
 
 use Rattle.std.specs.Prelude.{ℕ, Bool, not, ◌&&◌, ◌==◌, List, [], ◌∷◌, filter, is_some, bytes_eq, if◌then◌else◌}
 use Rattle.std.specs.List.{list_any}
-use Rattle.rv_statement.specs.Statement.{StatementKind, Label, Directs, Sets}
-use Rattle.rv_statement.specs.declared.directive.Binding.{Binding}
+use Rattle.rv_statement_laws.specs.Statement.{StatementKind, Label, Directs, Sets}
+use Rattle.rv_statement_laws.specs.declared.directive.Binding.{Binding}
 use Rattle.rv_unit_laws.specs.Tables.{Tables, Assignment, assigned_before}
 use Rattle.rv_source_laws.specs.Located.{Located}
 

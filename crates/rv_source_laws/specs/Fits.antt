@@ -5,8 +5,8 @@ use Rattle.std.specs.List.{AllByRecursion}
 use Rattle.rv_layout_laws.specs.Alignment.{aligned}
 use Rattle.rv_isa.specs.declared.instruction.Inst.{Inst}
 use Rattle.rv_isa.specs.Ranges.{IsValid}
-use Rattle.rv_statement.specs.Statement.{StatementKind, Label, Numbered, Instruction, Directs, Statement, Operand, Applied, Directive, Sets}
-use Rattle.rv_statement.specs.declared.pseudo.Function.TheVariants.{PcrelLo}
+use Rattle.rv_statement_laws.specs.Statement.{StatementKind, Label, Numbered, Instruction, Directs, Statement, Operand, Applied, Directive, Sets}
+use Rattle.rv_statement_laws.specs.declared.pseudo.Function.TheVariants.{PcrelLo}
 use Rattle.rv_pseudo_laws.specs.Code.{Part}
 use Rattle.rv_pseudo_laws.specs.Filled.{are_closed, code_bytes, AreTaken}
 use Rattle.rv_unit_laws.specs.Contributions.{Contribution, Nothing, Bytes, Zero_bytes, Alignment, contribution}

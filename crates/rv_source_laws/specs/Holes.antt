@@ -14,9 +14,9 @@ use Rattle.rv_parcel.specs.declared.parcel.OperandShape.{OperandShape}
 use Rattle.rv_parcel.specs.declared.parcel.OperandShape.TheVariants as shapes
 use Rattle.rv_parcel.specs.Mnemonics.{shape_of, form_with}
 use Rattle.rv_parcel.specs.Parcel.{expansion}
-use Rattle.rv_statement.specs.declared.mnemonic.Mnemonic.{Mnemonic}
-use Rattle.rv_statement.specs.declared.mnemonic.Mnemonic.TheVariants.{Registers, Immediate, Shift, Upper, Load, Store, Jal, Jalr, LoadReserved, Atomic, Fence, FenceTso, Ecall, Ebreak, Nop, J, Jr, Ret, Parcel}
-use Rattle.rv_statement.specs.Statement.{Operand, Register, Target, Accesses}
+use Rattle.rv_statement_laws.specs.declared.mnemonic.Mnemonic.{Mnemonic}
+use Rattle.rv_statement_laws.specs.declared.mnemonic.Mnemonic.TheVariants.{Registers, Immediate, Shift, Upper, Load, Store, Jal, Jalr, LoadReserved, Atomic, Fence, FenceTso, Ecall, Ebreak, Nop, J, Jr, Ret, Parcel}
+use Rattle.rv_statement_laws.specs.Statement.{Operand, Register, Target, Accesses}
 use Rattle.rv_parse_laws.specs.Syntax.{with_constant}
 use Rattle.rv_pseudo_laws.specs.Li.{addi}
 use Rattle.rv_pseudo_laws.specs.Code.{r_type, i_type, s_type, b_type, u_type, shift_by, reserve, atomic, jalr}

@@ -10,18 +10,18 @@ use Rattle.rv_isa_laws.specs.Halves.{hi, lo}
 use Rattle.rv_isa_laws.specs.Hart.{Hart, register, with_register, advanced}
 use Rattle.rv_isa_laws.specs.Effect.{Effect, Goes, Loads, Stores, Breaks}
 use Rattle.rv_isa_laws.specs.Meaning.{effect, sets, jumps, with_result, is_taken, load_width, load_result, store_width}
-use Rattle.rv_statement.specs.declared.mnemonic.Mnemonic.{Mnemonic}
-use Rattle.rv_statement.specs.declared.mnemonic.Mnemonic.TheVariants.{Load, Store, Branch, Unary, Compare, ZeroBranch, SwappedBranch, La, Li, Call, Tail, Jump}
-use Rattle.rv_statement.specs.declared.pseudo.Function.TheVariants.{Lo}
-use Rattle.rv_statement.specs.declared.pseudo.UnaryOperation.{UnaryOperation}
-use Rattle.rv_statement.specs.declared.pseudo.UnaryOperation.TheVariants.{Mv, Not, Neg, Negw, SextB, SextH, SextW, ZextB, ZextH, ZextW, Seqz, Snez, Sltz, Sgtz}
-use Rattle.rv_statement.specs.declared.pseudo.CompareOperation.{CompareOperation}
-use Rattle.rv_statement.specs.declared.pseudo.CompareOperation.TheVariants.{Sgt, Sgtu}
-use Rattle.rv_statement.specs.declared.pseudo.ZeroBranchOperation.{ZeroBranchOperation}
-use Rattle.rv_statement.specs.declared.pseudo.ZeroBranchOperation.TheVariants.{Beqz, Bnez, Bgez, Bltz, Blez, Bgtz}
-use Rattle.rv_statement.specs.declared.pseudo.SwappedBranchOperation.{SwappedBranchOperation}
-use Rattle.rv_statement.specs.declared.pseudo.SwappedBranchOperation.TheVariants.{Bgt, Ble, Bgtu, Bleu}
-use Rattle.rv_statement.specs.Statement.{StatementKind, Label, Numbered, Instruction, Directs, Operand, Register, Value, Applied, Target, Expression, Directive, Aligns_to_power, Aligns_to_bytes}
+use Rattle.rv_statement_laws.specs.declared.mnemonic.Mnemonic.{Mnemonic}
+use Rattle.rv_statement_laws.specs.declared.mnemonic.Mnemonic.TheVariants.{Load, Store, Branch, Unary, Compare, ZeroBranch, SwappedBranch, La, Li, Call, Tail, Jump}
+use Rattle.rv_statement_laws.specs.declared.pseudo.Function.TheVariants.{Lo}
+use Rattle.rv_statement_laws.specs.declared.pseudo.UnaryOperation.{UnaryOperation}
+use Rattle.rv_statement_laws.specs.declared.pseudo.UnaryOperation.TheVariants.{Mv, Not, Neg, Negw, SextB, SextH, SextW, ZextB, ZextH, ZextW, Seqz, Snez, Sltz, Sgtz}
+use Rattle.rv_statement_laws.specs.declared.pseudo.CompareOperation.{CompareOperation}
+use Rattle.rv_statement_laws.specs.declared.pseudo.CompareOperation.TheVariants.{Sgt, Sgtu}
+use Rattle.rv_statement_laws.specs.declared.pseudo.ZeroBranchOperation.{ZeroBranchOperation}
+use Rattle.rv_statement_laws.specs.declared.pseudo.ZeroBranchOperation.TheVariants.{Beqz, Bnez, Bgez, Bltz, Blez, Bgtz}
+use Rattle.rv_statement_laws.specs.declared.pseudo.SwappedBranchOperation.{SwappedBranchOperation}
+use Rattle.rv_statement_laws.specs.declared.pseudo.SwappedBranchOperation.TheVariants.{Bgt, Ble, Bgtu, Bleu}
+use Rattle.rv_statement_laws.specs.Statement.{StatementKind, Label, Numbered, Instruction, Directs, Operand, Register, Value, Applied, Target, Expression, Directive, Aligns_to_power, Aligns_to_bytes}
 use Rattle.rv_source_laws.specs.Program.{Mapped, Program, number, has_values}
 use Rattle.rv_source_laws.specs.Lines.{other_operand, operand_number, distance, gives}
 use Rattle.rv_source_laws.specs.Holes.{hole}

@@ -8,9 +8,9 @@ use Rattle.std.specs.Option.{option_or}
 use Rattle.rv_map_laws.specs.Globals.{global_address}
 use Rattle.rv_text_laws.specs.Expression.{Primary, Symbol}
 use Rattle.rv_text_laws.specs.Values.{Value, Constant, Symbolic, Difference, Faulty, add, subtract}
-use Rattle.rv_statement.specs.Statement.{StatementKind, Label, Numbered, Instruction, Directs, Statement, Expression, Operand, Value as Of_value, Applied, Target}
-use Rattle.rv_statement.specs.declared.pseudo.Function.TheVariants.{PcrelLo}
-use Rattle.rv_statement.specs.declared.directive.Binding.{Binding}
+use Rattle.rv_statement_laws.specs.Statement.{StatementKind, Label, Numbered, Instruction, Directs, Statement, Expression, Operand, Value as Of_value, Applied, Target}
+use Rattle.rv_statement_laws.specs.declared.pseudo.Function.TheVariants.{PcrelLo}
+use Rattle.rv_statement_laws.specs.declared.directive.Binding.{Binding}
 use Rattle.rv_unit_laws.specs.Bindings.{is_shared, is_global, is_weak}
 use Rattle.rv_unit_laws.specs.Contributions.{Numbers, Contribution, Bytes, Zero_bytes, Alignment, contribution}
 use Rattle.rv_unit_laws.specs.Tables.{Tables, SectionOffset, Definition, tables, at_start, definition, sure_definition, value_by_tables as value_in_file}

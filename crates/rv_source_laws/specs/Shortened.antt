@@ -7,9 +7,9 @@ use Rattle.std.specs.List.{AllByRecursion, find, list_any}
 use Rattle.rv_layout_laws.specs.Sites.{padding_site, size_at}
 use Rattle.rv_text_laws.specs.Expression.{Primary, Symbol}
 use Rattle.rv_text_laws.specs.Values.{Value, Symbolic}
-use Rattle.rv_statement.specs.declared.mnemonic.Mnemonic.{Mnemonic}
-use Rattle.rv_statement.specs.declared.mnemonic.Mnemonic.TheVariants.{Call}
-use Rattle.rv_statement.specs.Statement.{StatementKind, Instruction, Directs, Statement, Operand, Register, Sets}
+use Rattle.rv_statement_laws.specs.declared.mnemonic.Mnemonic.{Mnemonic}
+use Rattle.rv_statement_laws.specs.declared.mnemonic.Mnemonic.TheVariants.{Call}
+use Rattle.rv_statement_laws.specs.Statement.{StatementKind, Instruction, Directs, Statement, Operand, Register, Sets}
 use Rattle.rv_unit_laws.specs.Sections.{goes_to_text}
 use Rattle.rv_unit_laws.specs.Tables.{Tables, Assignment, Definition, assigned_ever, is_location, sure_definition, alignment_of}
 use Rattle.rv_layout_laws.specs.declared.site.Site.{Site}

@@ -3,9 +3,9 @@
 -- "Conditional Branches" and "Unconditional Jumps").
 
 use Rattle.std.specs.Prelude.{◌≡◌, ℕ, suc, Bool, true, false, ◌==◌, ⊤, if◌then◌else◌, List, [], ◌∷◌, filter, Option, Some, None}
-use Rattle.rv_statement.specs.declared.mnemonic.Mnemonic.{Mnemonic}
-use Rattle.rv_statement.specs.declared.mnemonic.Mnemonic.TheVariants.{Call, Tail, Jump}
-use Rattle.rv_statement.specs.Statement.{StatementKind, Instruction, Directs, Statement, Expression, Directive}
+use Rattle.rv_statement_laws.specs.declared.mnemonic.Mnemonic.{Mnemonic}
+use Rattle.rv_statement_laws.specs.declared.mnemonic.Mnemonic.TheVariants.{Call, Tail, Jump}
+use Rattle.rv_statement_laws.specs.Statement.{StatementKind, Instruction, Directs, Statement, Expression, Directive}
 use Rattle.rv_text_laws.specs.Values.{Value}
 use Rattle.rv_unit_laws.specs.Contributions.{Contribution, Alignment, contribution}
 use Rattle.rv_unit_laws.specs.Tables.{tables, at_start, alignment_of}

@@ -1,7 +1,7 @@
 //! What a list of sources means at a map.
 //!
-//! It takes the statements of sources (`rv_statement`), their names and sections (`rv_unit_laws`) and a map (`rv_map_laws`),
-//! all as plain data. It gives the definitions by which a built program is judged: where each statement stands
+//! It takes the statements of sources (`rv_statement_laws`), their names and sections (`rv_unit_laws`) and a map
+//! (`rv_map_laws`), all as plain data. It gives the definitions by which a built program is judged: where each statement stands
 //! (`specs/Located`), its row and the values of its expressions (`Program`), what it does in one step (`Holes`, `Meaning`), the
 //! instructions that stand for it (`Lines`), memory at the start (`Start`), when a map fits the sources (`Fits`), gives their
 //! branches the least sizes (`Sized`, over `Sizes`), shows the calls as short as they can be (`Shortened`) and resolves their

@@ -1,7 +1,7 @@
 -- The program of the objects of sources, without the sections that collection dropped, is the linked program of the sources.
 
 use Rattle.std.proofs.Common.{ℕ, Bool, List}
-use Rattle.rv_statement.specs.Statement.{Statement}
+use Rattle.rv_statement_laws.specs.Statement.{Statement}
 use Rattle.rv_collect_laws.specs.Graph.{AreDrops}
 use Rattle.rv_source_laws.specs.Collected.{graph_of}
 use Rattle.rv_image_laws.specs.Linked.{Linked}

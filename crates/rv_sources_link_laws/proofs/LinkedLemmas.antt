@@ -6,7 +6,7 @@ use Rattle.std.specs.Prelude.{ℤ, Some, ◌&&◌, not, IsTrue, if◌then◌else
 use Rattle.std.specs.List.{AllByRecursion}
 use Rattle.rv_layout_laws.specs.Alignment.{aligned}
 use Rattle.rv_isa_laws.specs.Bytes.{zeros}
-use Rattle.rv_statement.specs.Statement.{Statement}
+use Rattle.rv_statement_laws.specs.Statement.{Statement}
 use Rattle.rv_unit_laws.specs.declared.section_type.SectionType.{SectionType}
 use Rattle.rv_unit_laws.specs.declared.section_type.SectionType.TheVariants as types
 use Rattle.rv_unit_laws.specs.Sections.{Section as SourceSection, is_nobits_type, is_nobits, goes_to_text, goes_to_rodata, goes_to_data, goes_to_bss}

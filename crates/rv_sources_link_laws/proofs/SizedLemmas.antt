@@ -5,7 +5,7 @@ use Rattle.std.proofs.lemmas.List.{append-nil}
 use Rattle.std.proofs.lemmas.Bool.{and_parts, eq-eqb, ne_eqb}
 use Rattle.std.specs.Prelude.{◌==◌, if◌then◌else◌, filter, slice_index_or}
 use Rattle.std.specs.List.{AllByRecursion}
-use Rattle.rv_statement.specs.Statement.{Statement}
+use Rattle.rv_statement_laws.specs.Statement.{Statement}
 use Rattle.rv_unit_laws.specs.Tables.{Tables, tables}
 use Rattle.rv_map_laws.specs.declared.map.Row.{Row as MapRow}
 use Rattle.rv_source_laws.specs.Located.{Located, has_row}

@@ -6,11 +6,11 @@ use Rattle.rv_isa.specs.declared.kind.Kind.{Kind}
 use Rattle.rv_isa.specs.declared.kind.Kind.TheVariants.{Align, Abs32, Abs64, Add32, Sub32}
 use Rattle.rv_text_laws.specs.declared.operator.BinaryOperator.TheVariants.{Add, Subtract}
 use Rattle.rv_text_laws.specs.Expression.{Primary, Literal, Symbol as Named, Here, Leaf, Binary}
-use Rattle.rv_statement.specs.declared.directive.Choice.TheVariants.{Norvc}
-use Rattle.rv_statement.specs.declared.directive.Standard.TheVariants.{Text, Data}
-use Rattle.rv_statement.specs.declared.mnemonic.Mnemonic.TheVariants.{Ecall}
-use Rattle.rv_statement.specs.declared.directive.Binding.TheVariants as bindings
-use Rattle.rv_statement.specs.Statement.{StatementKind, Label, Instruction, Directs, Statement, Expression, Enters, Opens, Binds, Sets, Aligns_to_bytes, Chooses, Values}
+use Rattle.rv_statement_laws.specs.declared.directive.Choice.TheVariants.{Norvc}
+use Rattle.rv_statement_laws.specs.declared.directive.Standard.TheVariants.{Text, Data}
+use Rattle.rv_statement_laws.specs.declared.mnemonic.Mnemonic.TheVariants.{Ecall}
+use Rattle.rv_statement_laws.specs.declared.directive.Binding.TheVariants as bindings
+use Rattle.rv_statement_laws.specs.Statement.{StatementKind, Label, Instruction, Directs, Statement, Expression, Enters, Opens, Binds, Sets, Aligns_to_bytes, Chooses, Values}
 use Rattle.rv_unit_laws.specs.Tables.{at_start}
 use Rattle.rv_source_laws.specs.Located.{Located, located_from}
 use Rattle.rv_map_laws.specs.Map.{Map, Global as Shown}

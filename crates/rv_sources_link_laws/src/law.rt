@@ -3,7 +3,7 @@
 ghost use Rattle.std.specs.Prelude.{Bool, List};
 ghost use Rattle.rv_map_laws.specs.declared.map.SectionId.{SectionId};
 ghost use Rattle.rv_collect_laws.specs.Graph.{AreDrops};
-ghost use Rattle.rv_statement.specs.Statement.{Statement};
+ghost use Rattle.rv_statement_laws.specs.Statement.{Statement};
 ghost use Rattle.rv_source_laws.specs.Collected.{graph_of};
 ghost use Rattle.rv_object_laws.specs.Object.{Object};
 ghost use Rattle.rv_link_laws.specs.Collects.{Collects};

@@ -6,7 +6,7 @@ use Rattle.std.proofs.lemmas.Bool.{cases_Bool, both_ways, and_from, and_parts}
 use Rattle.std.proofs.lemmas.List.Folds.{list_all_at, list_all-append}
 use Rattle.std.proofs.lemmas.List.{map-append, length-map, length_push, map_push, get_or_push, get_or_append_left, take_more}
 use Rattle.std.proofs.lemmas.Option.{slice_get-map, get_or_from_slice_get, slice_get_within, slice_get_read}
-use Rattle.rv_statement.specs.Statement as specs
+use Rattle.rv_statement_laws.specs.Statement as specs
 use Rattle.rv_statement.specs.View.{statement_kind, statement_of}
 use Rattle.rv_statement.specs.declared.statement.Statement.{Statement}
 use Rattle.rv_statement.specs.declared.record.Words.{Words}

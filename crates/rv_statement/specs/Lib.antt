@@ -1,6 +1,3 @@
-pub mod Sections
-pub mod Statement
 pub mod View
 pub mod Records
 pub mod Statements
-pub mod Limits

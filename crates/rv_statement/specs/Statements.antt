@@ -2,7 +2,7 @@
 
 use Rattle.std.specs.Prelude.{List, map}
 use Rattle.rv_statement.specs.declared.statements.Statements.{Statements}
-use Rattle.rv_statement.specs.Statement as specs
+use Rattle.rv_statement_laws.specs.Statement as specs
 use Rattle.rv_statement.specs.Records.{recorded}
 
 -- the statements of a list: what its records say of the source

@@ -10,10 +10,9 @@ use Rattle.rv_parcel.specs.declared.parcel.ParcelOperation.{ParcelOperation}
 use Rattle.rv_parcel.specs.declared.parcel.OperandShape.{OperandShape}
 use Rattle.rv_parcel.specs.declared.parcel.OperandShape.TheVariants.{Address, Target as ATarget}
 use Rattle.rv_parcel.specs.Mnemonics.{own_registers, shape_of}
-use Rattle.rv_statement.specs.declared.directive.Width.{Width}
-use Rattle.rv_statement.specs.declared.directive.Width.TheVariants as widths
-use Rattle.rv_statement.specs.declared.mnemonic.Mnemonic.TheVariants as mnemonics
-use Rattle.rv_statement.specs.declared.pseudo.Function.{Function}
+use Rattle.rv_statement_laws.specs.declared.mnemonic.Mnemonic.TheVariants as mnemonics
+use Rattle.rv_statement_laws.specs.declared.pseudo.Function.{Function}
+use Rattle.rv_statement_laws.specs.Widths.{width_bytes}
 use Rattle.rv_statement.specs.declared.statement.Operation.{Operation}
 use Rattle.rv_statement.specs.declared.statement.Operation.TheVariants as operations
 use Rattle.rv_statement.specs.declared.statement.Plain.{Plain}
@@ -23,7 +22,7 @@ use Rattle.rv_statement.specs.declared.statement.Setting.{Setting}
 use Rattle.rv_statement.specs.declared.statement.StatementKind.{StatementKind}
 use Rattle.rv_statement.specs.declared.statement.StatementKind.TheVariants as kinds
 use Rattle.rv_statement.specs.declared.statement.Statement.{Statement}
-use Rattle.rv_statement.specs.Statement as specs
+use Rattle.rv_statement_laws.specs.Statement as specs
 
 -- what a reference points to
 abbrev pub now_of : Bor (List ℕ) → List ℕ
@@ -32,12 +31,6 @@ now_of b = b.now
 -- the bytes of a string that stands so between its quotes
 abbrev pub quoted : Bor (List ℕ) → List ℕ
 quoted b = string_bytes b.now
-
-abbrev pub width_bytes : Width → ℕ
-width_bytes widths.Byte = 1
-width_bytes widths.Half = 2
-width_bytes widths.Word = 4
-width_bytes widths.Double = 8
 
 -- the registers that a parcel has, as operands
 abbrev pub parcel_registers : ParcelOperation → ℕ → ℕ → List specs.Operand

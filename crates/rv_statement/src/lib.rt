@@ -1,9 +1,10 @@
 //! Statements of a source: each with its line and its kind, as the code holds them, and the same as data for contracts.
 //!
 //! Takes nothing: these are types. Gives `Statement` with a `StatementKind`, whose names, digits and strings are parts of
-//! the source, `Statements`, a source's list of them, and `Mnemonic`, `DirectiveWord` and what directives choose from.
-//! Main contract: `specs/View`, which says of each statement of the code what statement of `specs/Statement` it is,
-//! `Statements::push` and `read`, by which a list hands out what it was given, and `Standard::name`, the name of a section
+//! the source, and `Statements`, a source's list of them. `Mnemonic`, `DirectiveWord` and what directives choose from are types
+//! of `rv_statement_laws`, which has the statements of contracts too.
+//! Main contract: `specs/View`, which says of each statement of the code what statement of contracts it is,
+//! `Statements::push` and `read`, by which a list hands out what it was given, and `section_name`, the name of a section
 //! with a directive of its own.
 //! Must not know how a statement is spelled, where it stands, or what it does.
 //!
@@ -19,18 +20,13 @@
 #![tactic(auto)]
 
 mod directive;
-mod mnemonic;
-mod pseudo;
 mod record;
 mod statement;
 mod statements;
 
-pub use directive::{Binding, Choice, DirectiveWord, Standard, Width};
-pub use mnemonic::Mnemonic;
-pub use pseudo::{
-    CompareOperation, Function, SwappedBranchOperation, UnaryOperation, ZeroBranchOperation,
-};
+pub use directive::section_name;
 pub use statement::{
     MOST_STATEMENTS, Opening, Operation, Plain, Setting, Statement, StatementKind,
 };
 pub use statements::Statements;
+pub use rv_statement_laws::{Binding, Choice, CompareOperation, DirectiveWord, Function, Mnemonic, Standard, SwappedBranchOperation, UnaryOperation, Width, ZeroBranchOperation};

@@ -5,11 +5,11 @@
 
 ghost use Rattle.std.specs.Prelude.{◌≡◌, ◌≤◌, ◌+◌, length, IfSome};
 ghost use Rattle.rv_text_laws.specs.Bytes.{digits_value};
-ghost use Rattle.rv_statement.specs.Statement.{Numbered};
+ghost use Rattle.rv_statement_laws.specs.Statement.{Numbered};
 ghost use Rattle.rv_statement.specs.View.{statement_kind};
 ghost use Rattle.rv_statement.specs.Records.{part, plain_in, part_end, packed_kind, IsPacked};
 
-use crate::pseudo::{CompareOperation, UnaryOperation};
+use rv_statement_laws::{CompareOperation, UnaryOperation};
 use crate::statement::{Plain, StatementKind};
 use rv_parcel::ParcelOperation;
 use rv_isa::{LoadOperation, Reg, RegisterOperation, StoreOperation};

@@ -3,10 +3,7 @@
 //! A statement has 40 bytes, since a source may have 4 million of them. `.set`, `.section` and expressions with
 //! operators are behind a pointer.
 
-use crate::directive::{Binding, Choice, Standard, Width};
-use crate::pseudo::{
-    CompareOperation, Function, SwappedBranchOperation, UnaryOperation, ZeroBranchOperation,
-};
+use rv_statement_laws::{Binding, Choice, CompareOperation, Function, Standard, SwappedBranchOperation, UnaryOperation, Width, ZeroBranchOperation};
 use rv_parcel::ParcelOperation;
 use rv_isa::{
     AccessSet, AtomicForm, AtomicOperation, BranchOperation, ImmediateOperation, LoadOperation,

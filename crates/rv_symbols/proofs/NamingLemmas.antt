@@ -5,7 +5,7 @@ use Rattle.std.specs.Prelude.{◌&&◌, ◌||◌, ◌==◌, nat_lt, not, filter,
 use Rattle.std.specs.List.{list_all}
 use Rattle.std.proofs.lemmas.Bool.{and_parts, and_from}
 use Rattle.std.proofs.lemmas.List.Folds.{list_any-append}
-use Rattle.rv_statement.specs.Statement.{StatementKind, Label, Directs, Sets}
+use Rattle.rv_statement_laws.specs.Statement.{StatementKind, Label, Directs, Sets}
 use Rattle.rv_map_laws.specs.Name.{is_name, is_name_byte}
 use Rattle.rv_source_laws.specs.Exports.{sets_first, defined_name}
 use Rattle.rv_unit_laws.specs.Tables.{Tables}

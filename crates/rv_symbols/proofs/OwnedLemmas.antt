@@ -7,8 +7,8 @@ use Rattle.std.specs.List.{AllByRecursion, list_any}
 use Rattle.std.specs.Str.{bytes_eq}
 use Rattle.rv_map_laws.specs.Globals.{is_one_of}
 use Rattle.rv_text_laws.specs.Expression.{Symbol as Named}
-use Rattle.rv_statement.specs.declared.directive.Binding.{Binding}
-use Rattle.rv_statement.specs.declared.directive.Binding.TheVariants.{Local, Global, Weak}
+use Rattle.rv_statement_laws.specs.declared.directive.Binding.{Binding}
+use Rattle.rv_statement_laws.specs.declared.directive.Binding.TheVariants.{Local, Global, Weak}
 use Rattle.rv_unit_laws.specs.Bindings as source
 use Rattle.rv_unit_laws.specs.Bindings.{is_shared}
 use Rattle.rv_unit_laws.specs.Tables as laws

@@ -4,9 +4,9 @@ use Rattle.std.proofs.Common.{◌≡◌, ℕ, suc, ◌+◌, ◌*◌, ◌≤◌, 
 use Rattle.std.specs.Prelude.{codes, bytes_eq, if◌then◌else◌}
 use Rattle.std.specs.List.{list_any}
 use Rattle.std.proofs.lemmas.List.{map-append, length-map}
-use Rattle.rv_statement.specs.declared.directive.Standard.{Standard}
-use Rattle.rv_statement.specs.declared.directive.Standard.TheVariants.{Text, Data, Rodata, Bss}
-use Rattle.rv_statement.specs.Statement.{StatementKind, Label, Numbered, Instruction, Directs, Statement, Directive, Enters, Opens}
+use Rattle.rv_statement_laws.specs.declared.directive.Standard.{Standard}
+use Rattle.rv_statement_laws.specs.declared.directive.Standard.TheVariants.{Text, Data, Rodata, Bss}
+use Rattle.rv_statement_laws.specs.Statement.{StatementKind, Label, Numbered, Instruction, Directs, Statement, Directive, Enters, Opens}
 use Rattle.rv_parse_laws.specs.Reading.{Reads}
 use Rattle.rv_unit_laws.specs.Sections.{Section as SourceSection, Opened, entered_by}
 use Rattle.rv_unit_laws.specs.Tables.{Tables, at_start, with_section, after, after_all, tables, opened_of}

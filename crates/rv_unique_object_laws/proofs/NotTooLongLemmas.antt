@@ -5,7 +5,7 @@ use Rattle.std.specs.Prelude.{◌==◌, nat_lt, Option, slice_get, if◌then◌e
 use Rattle.std.specs.List.{AllByRecursion}
 use Rattle.std.proofs.lemmas.Bool.{le-ltb, eq-eqb}
 use Rattle.rv_text_laws.specs.Codes.{limit}
-use Rattle.rv_statement.specs.Statement.{Statement}
+use Rattle.rv_statement_laws.specs.Statement.{Statement}
 use Rattle.rv_unit_laws.specs.Sections.{Section}
 use Rattle.rv_unit_laws.specs.Tables.{at_start, tables, opened_of, longest_section}
 use Rattle.rv_unit_laws.specs.Faults.{StatementFault, at_line}

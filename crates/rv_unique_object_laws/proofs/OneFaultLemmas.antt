@@ -2,7 +2,7 @@
 
 use Rattle.std.proofs.Common.{◌≡◌, List, [], ◌∷◌, sym, ap, ◌∙◌, Some, None, inl, inr}
 use Rattle.std.specs.Prelude.{Option}
-use Rattle.rv_statement.specs.Statement.{Statement}
+use Rattle.rv_statement_laws.specs.Statement.{Statement}
 use Rattle.rv_unit_laws.specs.Tables.{tables}
 use Rattle.rv_unit_laws.specs.Faults.{StatementFault}
 use Rattle.rv_source_laws.specs.Located.{located}

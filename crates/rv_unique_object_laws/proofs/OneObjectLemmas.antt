@@ -3,7 +3,7 @@
 use Rattle.std.proofs.Common.{◌≡◌, ℕ, suc, Bool, true, false, List, [], ◌∷◌, map, refl, sym, ap, ◌∙◌, subst, Some, None}
 use Rattle.std.specs.Prelude.{flat_map, slice_get, if◌then◌else◌}
 use Rattle.std.specs.List.{AllByRecursion}
-use Rattle.rv_statement.specs.Statement.{Statement}
+use Rattle.rv_statement_laws.specs.Statement.{Statement}
 use Rattle.rv_unit_laws.specs.Sections.{Section as SourceSection}
 use Rattle.rv_unit_laws.specs.Tables.{Tables, at_start, tables, opened_of}
 use Rattle.rv_unit_laws.specs.Faults.{first_unit_fault}

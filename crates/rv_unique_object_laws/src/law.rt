@@ -2,7 +2,7 @@
 
 ghost use Rattle.std.specs.Prelude.{◌≡◌, ◌≤◌, ◌&&◌, true, ℕ, List, length};
 ghost use Rattle.std.specs.List.{AllByRecursion};
-ghost use Rattle.rv_statement.specs.Statement.{Statement};
+ghost use Rattle.rv_statement_laws.specs.Statement.{Statement};
 ghost use Rattle.rv_parse_laws.specs.Reading.{Reads};
 ghost use Rattle.rv_unit_laws.specs.Sections.{most_sections};
 ghost use Rattle.rv_unit_laws.specs.Tables.{longest_section};

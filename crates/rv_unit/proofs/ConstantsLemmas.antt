@@ -4,7 +4,7 @@ use Rattle.std.proofs.Common.{◌≡◌, ℕ, ◌+◌, ◌<◌, ◌≤◌, true,
 use Rattle.rv_text_laws.specs.Bytes.{digits_value}
 use Rattle.rv_text_laws.specs.Expression.{Literal, Symbol, Here, Reference}
 use Rattle.rv_text_laws.specs.Values.{Constant}
-use Rattle.rv_statement.specs.Statement.{Statement, Expression}
+use Rattle.rv_statement_laws.specs.Statement.{Statement, Expression}
 use Rattle.rv_unit_laws.specs.Tables.{Tables, SectionOffset, NumericLabel, at_start, tables, after_all, numeric_label_after, forward_in, meaning, value_by_tables, opened_of}
 use Rattle.rv_unit_laws.proofs.BeforeLemmas.{before_all, before_start}
 use Rattle.rv_unit_laws.proofs.SettledLemmas.{Agree, is_settled, constant_same, constant_later}

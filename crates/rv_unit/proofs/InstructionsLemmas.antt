@@ -1,12 +1,12 @@
 -- Statements of the code that are instructions.
 
 use Rattle.std.proofs.Common.{◌≡◌, List, refl}
-use Rattle.rv_statement.specs.declared.mnemonic.Mnemonic.{Mnemonic}
+use Rattle.rv_statement_laws.specs.declared.mnemonic.Mnemonic.{Mnemonic}
 use Rattle.rv_statement.specs.declared.statement.Operation.{Operation}
 use Rattle.rv_statement.specs.declared.statement.Operation.TheVariants as operations
 use Rattle.rv_statement.specs.declared.statement.Plain.{Plain}
 use Rattle.rv_statement.specs.declared.statement.Plain.TheVariants as plains
-use Rattle.rv_statement.specs.Statement.{StatementKind, Instruction, Operand}
+use Rattle.rv_statement_laws.specs.Statement.{StatementKind, Instruction, Operand}
 use Rattle.rv_statement.specs.View.{plain_of, with_operand}
 
 -- an instruction, whichever

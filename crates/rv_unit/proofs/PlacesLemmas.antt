@@ -6,7 +6,7 @@ use Rattle.rv_text_laws.specs.Expression.{Node, Primary, Symbol, tree_of}
 use Rattle.rv_text_laws.specs.Values.{Meaning, Known, InSection, Open, Refused, Symbolic, meant}
 use Rattle.rv_text.specs.Expr.{lone_primary}
 use Rattle.rv_text.proofs.EvalsLemmas.{lone_value}
-use Rattle.rv_statement.specs.declared.directive.Binding.{Binding}
+use Rattle.rv_statement_laws.specs.declared.directive.Binding.{Binding}
 use Rattle.rv_unit_laws.specs.Bindings.{is_weak}
 use Rattle.rv_unit_laws.specs.Sections.{Opened, section_at}
 use Rattle.rv_unit_laws.specs.Tables.{Tables, SectionOffset, Labelled, Assignment, labelled, label_of, assigned_first, assigned_before, assigned_later, assigned_ever, own_named, weakened, named, opened_of, meaning, value_by_tables}

@@ -6,7 +6,7 @@ use Rattle.std.proofs.lemmas.Bool.{ltb-true}
 use Rattle.rv_text_laws.specs.Bytes.{digits_value}
 use Rattle.rv_text_laws.specs.Expression.{Symbol, Here, Reference}
 use Rattle.rv_text_laws.specs.Values.{Open, Refused}
-use Rattle.rv_statement.specs.Statement.{Statement as SpecStatement}
+use Rattle.rv_statement_laws.specs.Statement.{Statement as SpecStatement}
 use Rattle.rv_text.specs.declared.node.Symbol.{Symbol as Written}
 use Rattle.rv_text.specs.declared.node.Symbol.TheVariants as symbols
 use Rattle.rv_lexer.specs.Reference.{digits_in}
@@ -17,8 +17,7 @@ use Rattle.rv_unit_laws.proofs.BoundLemmas.{bound_all}
 use Rattle.rv_unit_laws.proofs.OpenedLemmas.{IsStood, stood_all, stood_start, stands_same, open_inside, find_passes}
 use Rattle.rv_unit.specs.declared.unit.Unit.{Unit as SourceUnit}
 use Rattle.rv_unit_tables.specs.Tables.{tables_of}
-use Rattle.rv_unit.specs.Unit.{said, IsFilled}
-use Rattle.rv_unit.specs.Unit.{passed, comes_after}
+use Rattle.rv_unit.specs.Unit.{said, IsFilled, passed, comes_after}
 use Rattle.rv_unit.proofs.PassedLemmas.{passed_before, passed_keeps, passed_rest}
 use Rattle.rv_unit_tables.proofs.LookupsLemmas.{numeric_label_none}
 

@@ -4,7 +4,7 @@ use Rattle.std.proofs.Common.{◌≡◌, ℕ, ◌+◌, ◌<◌, ◌≤◌, Bool,
 use Rattle.std.specs.Prelude.{not, is_some, slice_get, if◌then◌else◌}
 use Rattle.std.proofs.lemmas.List.{get_or-map, length-map}
 use Rattle.std.proofs.lemmas.Option.{slice_get_within, get_or_from_slice_get}
-use Rattle.rv_statement.specs.Statement.{StatementKind, Statement as SpecStatement}
+use Rattle.rv_statement_laws.specs.Statement.{StatementKind, Statement as SpecStatement}
 use Rattle.rv_unit_laws.specs.Sections.{Section, place_of_name, most_sections, section_at, current_section}
 use Rattle.rv_unit_laws.specs.Tables as laws
 use Rattle.rv_unit_laws.specs.Tables.{gives_location}

@@ -1,7 +1,7 @@
 -- The faults of the statement at an index of a unit, by the tables before it.
 
 use Rattle.std.specs.Prelude.{ℕ, ◌+◌, List}
-use Rattle.rv_statement.specs.Statement.{StatementKind, Directive}
+use Rattle.rv_statement_laws.specs.Statement.{StatementKind, Directive}
 use Rattle.rv_unit_laws.specs.Tables.{tables}
 use Rattle.rv_unit_laws.specs.Faults.{faults, directive_faults}
 use Rattle.rv_unit.specs.declared.unit.Unit.{Unit as SourceUnit}

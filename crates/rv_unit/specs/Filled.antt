@@ -1,7 +1,7 @@
 -- What is kept of a source beside its statements.
 
 use Rattle.std.specs.Prelude.{◌≡◌, List, map}
-use Rattle.rv_statement.specs.Statement.{Statement}
+use Rattle.rv_statement_laws.specs.Statement.{Statement}
 use Rattle.rv_unit_laws.specs.Tables as laws
 use Rattle.rv_unit_tables.specs.declared.section_offset.SectionOffset.{SectionOffset}
 use Rattle.rv_unit_tables.specs.declared.options.Options.{Options}

@@ -7,7 +7,7 @@ use Rattle.rv_lexer.specs.declared.fault.SourceFault.TheVariants as refusals
 use Rattle.rv_lexer.specs.declared.fault.SourceCode.{SourceCode}
 use Rattle.rv_lexer.specs.Fault.{source_fault_number}
 use Rattle.rv_unit_laws.specs.Faults.{StatementFault, first_unit_fault}
-use Rattle.rv_statement.specs.Statement.{Statement, StatementKind}
+use Rattle.rv_statement_laws.specs.Statement.{Statement, StatementKind}
 use Rattle.rv_statement.specs.Statements.{statements_of}
 use Rattle.rv_unit_laws.specs.Tables as laws
 use Rattle.rv_unit_tables.specs.declared.section_offset.Definition.{Definition}

@@ -5,10 +5,11 @@
 
 ghost use Rattle.std.specs.Prelude.{◌≡◌, ℕ, ◌+◌, ◌<◌, ◌≤◌, ◌^◌, ◌-◌, List, [], Some, flat_map, map, true, length, option_map};
 ghost use Rattle.rv_text.specs.Expr.{tree_of_expr};
-ghost use Rattle.rv_statement.specs.Limits.{most_statements};
-ghost use Rattle.rv_statement.specs.Statement.{Operand as SpecOperand, Instruction, Label, Directs, Zeros, Aligns_to_power, Aligns_to_bytes, Values, Strings};
-ghost use Rattle.rv_statement.specs.declared.mnemonic.Mnemonic.{Mnemonic as SpecMnemonic};
-ghost use Rattle.rv_statement.specs.View.{width_bytes, quoted, setting_of, statement_kind};
+ghost use Rattle.rv_statement_laws.specs.Limits.{most_statements};
+ghost use Rattle.rv_statement_laws.specs.Statement.{Operand as SpecOperand, Instruction, Label, Directs, Zeros, Aligns_to_power, Aligns_to_bytes, Values, Strings};
+ghost use Rattle.rv_statement_laws.specs.declared.mnemonic.Mnemonic.{Mnemonic as SpecMnemonic};
+ghost use Rattle.rv_statement_laws.specs.Widths.{width_bytes};
+ghost use Rattle.rv_statement.specs.View.{quoted, setting_of, statement_kind};
 ghost use Rattle.rv_unit_laws.specs.Faults as faults;
 ghost use Rattle.rv_unit_laws.specs.Tables as laws;
 ghost use Rattle.rv_unit_laws.proofs.AskedLemmas.{depth_after as depth_then};
@@ -23,7 +24,8 @@ use crate::faults::{
     is_difference, lower, power_fault, set_fault, value_fault, zero_fault,
 };
 use crate::unit::Unit;
-use rv_statement::{Choice, Setting, StatementKind, Statements, Width};
+use rv_statement::{Setting, StatementKind, Statements};
+use rv_statement_laws::{Choice, Width};
 use rv_text::{Expr, SourceCode};
 use rv_unit_tables::{
     Section, SectionOffset, byte_alignment, power_alignment, strings_size, values_size,

@@ -18,7 +18,7 @@ ghost use Rattle.rv_text.specs.Eval.{meaning_of, IsOutcome};
 ghost use Rattle.rv_unit.specs.Faults.{ForValue, open_meaning, is_difference};
 ghost use Rattle.rv_unit_tables.specs.Sections.{section_of};
 
-use rv_statement::Choice;
+use rv_statement_laws::Choice;
 use rv_text::{Expr, SourceCode, SourceFault, Symbol, SymbolMeaning, Value, symbolic_value};
 use rv_unit_tables::{GREATEST_ALIGNMENT, LONGEST_SECTION, Section, is_power_below, padding};
 

@@ -2,7 +2,7 @@
 
 ghost use Rattle.std.specs.Prelude.{◌≡◌, ◌<◌, ◌≤◌, Some, None, length, map, option_map, IfOk, IfErr, IfSome, IfNone};
 ghost use Rattle.rv_text_laws.specs.Codes.{limit};
-ghost use Rattle.rv_statement.specs.Limits.{most_statements};
+ghost use Rattle.rv_statement_laws.specs.Limits.{most_statements};
 ghost use Rattle.rv_statement.specs.Statements.{statements_of};
 ghost use Rattle.rv_statement.specs.View.{statement_of};
 ghost use Rattle.rv_unit_laws.specs.Faults.{first_unit_fault};

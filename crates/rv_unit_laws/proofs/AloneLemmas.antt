@@ -8,8 +8,8 @@ use Rattle.std.specs.Str.{bytes_eq}
 use Rattle.std.proofs.lemmas.Bool.{or_parts}
 use Rattle.std.proofs.lemmas.List.Folds.{find-append}
 use Rattle.rv_text_laws.specs.Values.{Value}
-use Rattle.rv_statement.specs.declared.directive.Choice.{Choice}
-use Rattle.rv_statement.specs.Statement.{Expression, Directive}
+use Rattle.rv_statement_laws.specs.declared.directive.Choice.{Choice}
+use Rattle.rv_statement_laws.specs.Statement.{Expression, Directive}
 use Rattle.rv_unit_laws.specs.Sections.{Section, entered_by}
 use Rattle.rv_unit_laws.specs.Contributions.{Contribution, Nothing, contribution}
 use Rattle.rv_unit_laws.specs.Tables.{Tables, Labelled, here, value_by_tables, label_of, assigned_ever, is_defined, has_location, assigned_by, choice_in, with_assignment, with_section, with_chosen, with_contribution, after_directive, gives_location}

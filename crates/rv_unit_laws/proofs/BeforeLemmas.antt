@@ -8,8 +8,8 @@ use Rattle.std.proofs.lemmas.Bool.{ltb-true, ltb-false, lt-ltb, and_parts}
 use Rattle.std.proofs.lemmas.List.Folds.{list_all-append}
 use Rattle.rv_text_laws.specs.Values.{Meaning, Known, InSection, Open, Refused, Value, Constant, Symbolic, Difference, Faulty, add}
 use Rattle.rv_text_laws.specs.Expression.{Literal, Symbol, Here, Reference}
-use Rattle.rv_statement.specs.Statement.{StatementKind, Label, Numbered, Instruction, Directs, Statement, Expression, Directive, Sets}
-use Rattle.rv_statement.specs.declared.directive.Choice.{Choice}
+use Rattle.rv_statement_laws.specs.Statement.{StatementKind, Label, Numbered, Instruction, Directs, Statement, Expression, Directive, Sets}
+use Rattle.rv_statement_laws.specs.declared.directive.Choice.{Choice}
 use Rattle.rv_unit_laws.specs.Sections.{Section, entered_by}
 use Rattle.rv_unit_laws.specs.Contributions.{Contribution, Nothing, Bytes, Zero_bytes, Alignment, contribution}
 use Rattle.rv_unit_laws.specs.Tables.{Tables, Labelled, NumericLabel, Assignment, at_start, here, after, after_directive, after_all, value_by_tables, assigned, assigned_by, choice_in, with_label, with_numeric_label, with_assignment, with_section, with_contribution, with_choice, with_chosen, label_of, assigned_before, assigned_ever, has_location, is_defined, may_set, is_location, gives_location}

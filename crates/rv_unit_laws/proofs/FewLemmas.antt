@@ -4,8 +4,8 @@ use Rattle.std.proofs.Common.{◌≡◌, ℕ, zero, suc, ◌≤◌, List, [], �
 use Rattle.std.specs.Prelude.{slice_get}
 use Rattle.std.proofs.lemmas.List.{drop_all}
 use Rattle.rv_text_laws.specs.Codes.{limit}
-use Rattle.rv_statement.specs.Limits.{most_statements}
-use Rattle.rv_statement.specs.Statement.{Statement}
+use Rattle.rv_statement_laws.specs.Limits.{most_statements}
+use Rattle.rv_statement_laws.specs.Statement.{Statement}
 use Rattle.rv_unit_laws.specs.Tables.{at_start, tables}
 use Rattle.rv_unit_laws.specs.Faults.{StatementFault, past_most, first_fault_from, first_unit_fault}
 

@@ -8,8 +8,8 @@ use Rattle.std.proofs.lemmas.Nat.{pow-add, pow_pos}
 use Rattle.std.proofs.lemmas.List.{map-append, length-map}
 use Rattle.std.specs.Prelude.{⊤, if◌then◌else◌, slice_index_or}
 use Rattle.rv_text_laws.specs.Values.{Value, Constant, Symbolic, Difference, Faulty}
-use Rattle.rv_statement.specs.Statement.{StatementKind, Label, Numbered, Instruction, Directs, Statement, Expression, Directive, Aligns_to_power, Aligns_to_bytes, Values, Strings, Zeros}
-use Rattle.rv_statement.specs.declared.directive.Choice.{Choice}
+use Rattle.rv_statement_laws.specs.Statement.{StatementKind, Label, Numbered, Instruction, Directs, Statement, Expression, Directive, Aligns_to_power, Aligns_to_bytes, Values, Strings, Zeros}
+use Rattle.rv_statement_laws.specs.declared.directive.Choice.{Choice}
 use Rattle.rv_unit_laws.specs.Sections.{Section, text_section, current_section, entered_by}
 use Rattle.rv_unit_laws.specs.Contributions.{AlignmentForm, As_power, As_bytes, Contribution, Nothing, Bytes, Zero_bytes, Alignment, contribution}
 use Rattle.rv_unit_laws.specs.Tables.{Tables, Assignment, at_start, here, value_by_tables, is_power, is_power_below, greatest_alignment, alignment_of, power_alignment, byte_alignment, alignment_as, contribution_alignment, or_none, data_bytes, contributed, counted_in, changed_at, is_defined, may_set, with_assignment, with_section, with_data, with_contribution, with_choice, with_chosen, with_numeric_label, assigned_by, choice_in, after, after_directive, after_all, opened_of, ends_of, alignments_of, Extent, least_alignment, empty_extent, extended}

@@ -6,9 +6,9 @@
 use Rattle.std.specs.Prelude.{ℕ, Bool, true, false, List, [], ◌∷◌, if◌then◌else◌}
 use Rattle.std.specs.List.{list_any}
 use Rattle.std.specs.Str.{bytes_eq}
-use Rattle.rv_statement.specs.Statement.{StatementKind, Directs, Statement, Binds}
-use Rattle.rv_statement.specs.declared.directive.Binding.{Binding}
-use Rattle.rv_statement.specs.declared.directive.Binding.TheVariants.{Local, Global, Weak}
+use Rattle.rv_statement_laws.specs.Statement.{StatementKind, Directs, Statement, Binds}
+use Rattle.rv_statement_laws.specs.declared.directive.Binding.{Binding}
+use Rattle.rv_statement_laws.specs.declared.directive.Binding.TheVariants.{Local, Global, Weak}
 
 -- the binding of each name
 abbrev pub Bindings : Type 0

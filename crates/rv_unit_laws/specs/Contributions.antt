@@ -2,7 +2,7 @@
 -- "Pseudo Ops").
 
 use Rattle.std.specs.Prelude.{ℕ, List, Bool}
-use Rattle.rv_statement.specs.Statement.{Expression, Directive, Aligns_to_power, Aligns_to_bytes, Values, Strings, Zeros}
+use Rattle.rv_statement_laws.specs.Statement.{Expression, Directive, Aligns_to_power, Aligns_to_bytes, Values, Strings, Zeros}
 
 -- bytes that are written out
 pub data Contents : Type 0 where

@@ -4,10 +4,10 @@
 use Rattle.std.specs.Prelude.{ℕ, suc, ◌+◌, ◌^◌, Bool, true, false, not, ◌&&◌, ◌||◌, ◌==◌, nat_lt, nat_le, List, [], ◌∷◌, ◌++◌, length, drop, flat_map, Option, Some, None, is_some, if◌then◌else◌}
 use Rattle.rv_text_laws.specs.Codes.{duplicate_label, not_constant, immediate_range, wrong_section, option_stack, limit, faulty_if, lowest}
 use Rattle.rv_text_laws.specs.Values.{Value, Constant, Symbolic, Difference, Faulty}
-use Rattle.rv_statement.specs.Limits.{most_statements}
-use Rattle.rv_statement.specs.Statement.{StatementKind, Label, Numbered, Instruction, Directs, Statement, Expression, Directive, Enters, Opens, Sets, Chooses}
-use Rattle.rv_statement.specs.declared.directive.Choice.{Choice}
-use Rattle.rv_statement.specs.declared.directive.Choice.TheVariants.{Pop}
+use Rattle.rv_statement_laws.specs.Limits.{most_statements}
+use Rattle.rv_statement_laws.specs.Statement.{StatementKind, Label, Numbered, Instruction, Directs, Statement, Expression, Directive, Enters, Opens, Sets, Chooses}
+use Rattle.rv_statement_laws.specs.declared.directive.Choice.{Choice}
+use Rattle.rv_statement_laws.specs.declared.directive.Choice.TheVariants.{Pop}
 use Rattle.rv_text_laws.specs.Expression.{Here}
 use Rattle.rv_unit_laws.specs.Sections.{Section, is_nobits, current_section, place_of_name, most_sections, entered_by}
 use Rattle.rv_unit_laws.specs.Contributions.{Contents, Numbers, Texts, AlignmentForm, As_power, As_bytes, Contribution, Nothing, Bytes, Zero_bytes, Alignment, contribution}

@@ -1,8 +1,8 @@
 -- What `.option` sets, and what it keeps (GNU as, "RISC-V-Directives", `.option`).
 
 use Rattle.std.specs.Prelude.{Bool, true, false, List, ◌∷◌, drop, slice_index_or}
-use Rattle.rv_statement.specs.declared.directive.Choice.{Choice}
-use Rattle.rv_statement.specs.declared.directive.Choice.TheVariants.{Rvc, Norvc, Relax, Norelax, Push, Pop}
+use Rattle.rv_statement_laws.specs.declared.directive.Choice.{Choice}
+use Rattle.rv_statement_laws.specs.declared.directive.Choice.TheVariants.{Rvc, Norvc, Relax, Norelax, Push, Pop}
 
 -- whether instructions may be compressed, and whether the linker may relax them
 pub record Options : Type 0 where

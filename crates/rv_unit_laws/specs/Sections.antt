@@ -3,8 +3,8 @@
 use Rattle.std.specs.Prelude.{ℕ, suc, Bool, true, false, ◌||◌, ◌==◌, List, [], ◌∷◌, length, take, Option, Some, None, slice_index_or, codes, option_map, if◌then◌else◌}
 use Rattle.std.specs.List.{list_any}
 use Rattle.std.specs.Str.{bytes_eq}
-use Rattle.rv_statement.specs.Statement.{Directive, Enters, Opens}
-use Rattle.rv_statement.specs.Sections.{standard_name}
+use Rattle.rv_statement_laws.specs.Statement.{Directive, Enters, Opens}
+use Rattle.rv_statement_laws.specs.Sections.{standard_name}
 use Rattle.rv_map_laws.specs.Regions.{is_text, is_bss, is_data, is_rodata}
 use Rattle.rv_unit_laws.specs.declared.section_type.SectionType.{SectionType}
 use Rattle.rv_unit_laws.specs.declared.section_type.SectionType.TheVariants.{Progbits, Nobits, Note}

@@ -14,11 +14,11 @@ use Rattle.rv_text_laws.specs.Bytes.{digits_value}
 use Rattle.rv_text_laws.specs.Expression.{Primary, Literal, Symbol, Here, Reference}
 use Rattle.rv_text_laws.specs.Codes.{undefined_local, not_constant}
 use Rattle.rv_text_laws.specs.Values.{Meaning, Known, InSection, Open, Refused, Value, Constant, Symbolic, add, value_of}
-use Rattle.rv_statement.specs.Statement.{StatementKind, Label, Numbered, Instruction, Directs, Statement, Expression, Directive, Sets, Chooses}
-use Rattle.rv_statement.specs.declared.directive.Choice.{Choice}
+use Rattle.rv_statement_laws.specs.Statement.{StatementKind, Label, Numbered, Instruction, Directs, Statement, Expression, Directive, Sets, Chooses}
+use Rattle.rv_statement_laws.specs.declared.directive.Choice.{Choice}
 use Rattle.rv_unit_laws.specs.Sections.{Section, Opened, text_section, most_sections, place_of_name, entered_by, section_at}
 use Rattle.rv_unit_laws.specs.Options.{Options, first_options, options_then, kept_then}
-use Rattle.rv_statement.specs.declared.directive.Binding.{Binding}
+use Rattle.rv_statement_laws.specs.declared.directive.Binding.{Binding}
 use Rattle.rv_unit_laws.specs.Bindings.{Bindings, bindings_after, bindings_of, is_weak}
 use Rattle.rv_unit_laws.specs.Contributions.{Contents, Numbers, Texts, AlignmentForm, As_power, As_bytes, Contribution, Nothing, Bytes, Zero_bytes, Alignment, contribution}
 

@@ -1,7 +1,7 @@
 -- Tables that are filled statement by statement.
 
 use Rattle.std.proofs.Common.{◌≡◌, ℕ, suc, ◌+◌, List, [], ◌∷◌, ◌++◌, refl, sym, ap, ◌∙◌, subst, arith, append_assoc, append-nil}
-use Rattle.rv_statement.specs.Statement.{Statement}
+use Rattle.rv_statement_laws.specs.Statement.{Statement}
 use Rattle.rv_unit_laws.specs.Options.{Options}
 use Rattle.rv_unit_laws.specs.Tables.{Tables, SectionOffset, at_start, after, after_all, tables, stood, places, places_from, options_from, all_options}
 use Rattle.rv_unit_laws.proofs.BeforeLemmas.{IsBefore, before_after, before_start}

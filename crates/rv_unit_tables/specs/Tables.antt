@@ -11,8 +11,8 @@ use Rattle.rv_text.specs.Eval.{meaning_of}
 use Rattle.rv_unit_laws.specs.Bindings.{is_weak}
 use Rattle.rv_unit_laws.specs.Sections as sections
 use Rattle.rv_unit_laws.specs.Tables as laws
-use Rattle.rv_statement.specs.declared.directive.Binding.{Binding}
-use Rattle.rv_statement.specs.declared.directive.Binding.TheVariants.{Local}
+use Rattle.rv_statement_laws.specs.declared.directive.Binding.{Binding}
+use Rattle.rv_statement_laws.specs.declared.directive.Binding.TheVariants.{Local}
 use Rattle.rv_unit_tables.specs.declared.tables.Assignment.{Assignment}
 use Rattle.rv_unit_tables.specs.declared.tables.Label.{Label}
 use Rattle.rv_unit_tables.specs.declared.number.Number.{Number}

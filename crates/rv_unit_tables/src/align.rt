@@ -1,12 +1,13 @@
 //! Counts, alignments and sizes, by the values of their expressions.
 
 ghost use Rattle.std.specs.Prelude.{◌≡◌, ◌≤◌, ◌+◌, ◌*◌, ◌-◌, ◌^◌, min, length, map};
-ghost use Rattle.rv_statement.specs.View.{width_bytes, quoted};
+ghost use Rattle.rv_statement_laws.specs.Widths.{width_bytes};
+ghost use Rattle.rv_statement.specs.View.{quoted};
 ghost use Rattle.rv_text.specs.Eval.{IsOutcome};
 ghost use Rattle.rv_text_laws.specs.Values as values;
 ghost use Rattle.rv_unit_laws.specs.Tables as laws;
 
-use rv_statement::Width;
+use rv_statement_laws::Width;
 use rv_text::{SourceFault, Value, string_size};
 
 /// The longest section, in bytes.

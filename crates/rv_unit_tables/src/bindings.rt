@@ -6,7 +6,7 @@ ghost use Rattle.rv_unit_laws.specs.Bindings.{bound, is_weak};
 ghost use Rattle.rv_unit_tables.specs.Tables.{binding_in};
 
 use indexmap::IndexMap;
-use rv_statement::Binding;
+use rv_statement_laws::Binding;
 use std::alloc::AllocError;
 
 /// Whether one of the names is weak, with one more binding.

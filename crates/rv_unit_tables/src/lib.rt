@@ -36,7 +36,7 @@ pub use align::{
 };
 pub use fill::{Filled, assigned};
 pub use options::Options;
-pub use rv_statement::Binding;
+pub use rv_statement_laws::Binding;
 pub use rv_unit_laws::SectionType;
 pub use section::{Extent, Section};
 pub use section_offset::{Definition, SectionOffset};

@@ -1,14 +1,15 @@
 //! Sections and their flags.
 
 ghost use Rattle.std.specs.Prelude.{◌≡◌, ◌+◌, max, None, option_map};
-ghost use Rattle.rv_statement.specs.Sections.{standard_name};
+ghost use Rattle.rv_statement_laws.specs.Sections.{standard_name};
 ghost use Rattle.rv_statement.specs.View.{now_of, quoted};
 ghost use Rattle.rv_unit_laws.specs.Sections as laws;
 ghost use Rattle.rv_unit_laws.specs.Tables as tables;
 ghost use Rattle.rv_unit_tables.specs.Sections.{extent_of, section_of};
 
 use crate::align::end_within;
-use rv_statement::Standard;
+use rv_statement::section_name;
+use rv_statement_laws::Standard;
 use rv_text::string_contains;
 use rv_unit_laws::SectionType;
 
@@ -192,6 +193,6 @@ impl<'a> Section<'a> {
     pub fn standard(standard: Standard) -> Self
         ensures { section_of result ≡ laws.section_with (standard_name standard) None None }
     {
-        Section::of(standard.name(), None, None)
+        Section::of(section_name(standard), None, None)
     }
 }

@@ -13,7 +13,7 @@ ghost use Rattle.rv_text.specs.Nodes.{symbol_of};
 ghost use Rattle.rv_text.specs.Expr.{tree_of_expr};
 ghost use Rattle.rv_lexer.specs.Reference.{digits_in, is_ahead};
 ghost use Rattle.rv_text.specs.Eval.{meaning_of, IsOutcome};
-ghost use Rattle.rv_statement.specs.declared.directive.Choice.TheVariants.{Pop};
+ghost use Rattle.rv_statement_laws.specs.declared.directive.Choice.TheVariants.{Pop};
 ghost use Rattle.rv_statement.specs.View.{now_of};
 ghost use Rattle.rv_unit_laws.specs.Bindings.{bound, is_weak};
 ghost use Rattle.rv_unit_laws.specs.Sections as sections;
@@ -31,7 +31,7 @@ use crate::options::Options;
 use crate::section::{Extent, Section};
 use crate::section_offset::SectionOffset;
 use indexmap::IndexMap;
-use rv_statement::{Binding, Choice};
+use rv_statement_laws::{Binding, Choice};
 use rv_text::{Expr, NumericReference, SourceFault, Symbol, SymbolMeaning, Value, symbolic_value};
 use std::alloc::{AllocError, Global};
 

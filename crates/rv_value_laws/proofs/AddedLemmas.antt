@@ -5,8 +5,8 @@ use Rattle.std.specs.Prelude.{not, slice_index_or, if◌then◌else◌, ⊤, ◌
 use Rattle.std.proofs.lemmas.Bool.{leb-true, le-leb, not-false}
 use Rattle.rv_text_laws.specs.Codes.{faulty_if}
 use Rattle.rv_text_laws.specs.Values.{Value, Constant, Symbolic, Difference, Faulty}
-use Rattle.rv_statement.specs.Statement.{StatementKind, Label, Numbered, Instruction, Directs, Expression, Directive, Enters, Opens, Binds, Sets, Aligns_to_power, Aligns_to_bytes, Values, Strings, Zeros, Chooses, Ignored}
-use Rattle.rv_statement.specs.declared.directive.Choice.{Choice}
+use Rattle.rv_statement_laws.specs.Statement.{StatementKind, Label, Numbered, Instruction, Directs, Expression, Directive, Enters, Opens, Binds, Sets, Aligns_to_power, Aligns_to_bytes, Values, Strings, Zeros, Chooses, Ignored}
+use Rattle.rv_statement_laws.specs.declared.directive.Choice.{Choice}
 use Rattle.rv_unit_laws.specs.Sections.{Section, is_nobits, section_at, current_section, entered_by}
 use Rattle.rv_unit_laws.specs.Contributions.{Numbers, Texts, AlignmentForm, As_power, As_bytes, Contribution, Nothing, Bytes, Zero_bytes, Alignment, contribution}
 use Rattle.rv_unit_laws.specs.Tables.{Tables, Assignment, here, stood, value_by_tables, alignment_of, alignment_as, contribution_alignment, counted, or_none, within, padding, contributed, contents_size, longest_section, changed_at, counted_in, is_defined, may_set, with_assignment, with_section, with_data, with_contribution, with_choice, with_chosen, with_numeric_label, assigned_by, choice_in, after, after_directive, enters, opened_of, ends_of}

@@ -12,8 +12,8 @@ use Rattle.rv_map_laws.specs.Map.{Map, Global}
 use Rattle.rv_map_laws.specs.Limits.{IsMap}
 use Rattle.rv_map_laws.specs.Globals.{global_address}
 use Rattle.rv_map_laws.specs.declared.map.Row.{Row}
-use Rattle.rv_statement.specs.Statement.{Statement, Expression}
-use Rattle.rv_statement.specs.declared.directive.Binding.{Binding}
+use Rattle.rv_statement_laws.specs.Statement.{Statement, Expression}
+use Rattle.rv_statement_laws.specs.declared.directive.Binding.{Binding}
 use Rattle.rv_unit_laws.specs.Bindings.{is_weak}
 use Rattle.rv_unit_laws.specs.Faults.{first_unit_fault}
 use Rattle.rv_unit_laws.specs.Sections.{Opened, section_at}

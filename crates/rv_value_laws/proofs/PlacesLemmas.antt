@@ -5,7 +5,7 @@ use Rattle.std.specs.Prelude.{if◌then◌else◌, filter, is_some, slice_get, s
 use Rattle.std.specs.List.{find, AllByRecursion}
 use Rattle.std.proofs.lemmas.Bool.{and_parts, both_ways, eq-eqb, eqb-true}
 use Rattle.std.proofs.lemmas.Nat.{pow_pos}
-use Rattle.rv_statement.specs.Statement.{Statement}
+use Rattle.rv_statement_laws.specs.Statement.{Statement}
 use Rattle.rv_text_laws.specs.Values.{InSection, add}
 use Rattle.rv_map_laws.specs.Map.{Map, Global}
 use Rattle.rv_map_laws.specs.Limits.{IsMap, IsGlobal}

@@ -6,7 +6,7 @@ use Rattle.std.specs.List.{find, AllByRecursion}
 use Rattle.std.proofs.lemmas.Bool.{eq-eqb, eqb-true, and_parts}
 use Rattle.rv_text_laws.specs.Values.{Meaning, Known, InSection, Open, Refused, Value, Constant, Symbolic, Difference, Faulty, add}
 use Rattle.rv_text_laws.specs.Expression.{Primary, Literal, Symbol, Here, Reference}
-use Rattle.rv_statement.specs.Statement.{StatementKind, Label, Numbered, Instruction, Directs, Statement, Expression, Directive, Enters, Opens, Binds, Sets, Aligns_to_power, Aligns_to_bytes, Values, Strings, Zeros, Chooses, Ignored}
+use Rattle.rv_statement_laws.specs.Statement.{StatementKind, Label, Numbered, Instruction, Directs, Statement, Expression, Directive, Enters, Opens, Binds, Sets, Aligns_to_power, Aligns_to_bytes, Values, Strings, Zeros, Chooses, Ignored}
 use Rattle.rv_unit_laws.specs.Sections.{section_at}
 use Rattle.rv_unit_laws.specs.Contributions.{Nothing, contribution}
 use Rattle.rv_unit_laws.specs.Tables.{Tables, SectionOffset, here, stood, value_by_tables, longest_section, after, after_all, opened_of, enters, alignment_at, alignments_of, alignment_of, gives_location, assigned}

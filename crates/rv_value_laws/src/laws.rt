@@ -6,7 +6,7 @@ ghost use Rattle.rv_text_laws.specs.Values.{Meaning, Constant, value_of};
 ghost use Rattle.rv_source_laws.specs.Program.{program, resolved};
 ghost use Rattle.rv_map_laws.specs.Map.{Map};
 ghost use Rattle.rv_map_laws.specs.Limits.{IsMap};
-ghost use Rattle.rv_statement.specs.Statement.{Statement};
+ghost use Rattle.rv_statement_laws.specs.Statement.{Statement};
 ghost use Rattle.rv_source_laws.specs.Fits.{Fits};
 ghost use Rattle.rv_value_laws.specs.Plain.{plain};
 ghost use Rattle.rv_value_laws.specs.Forms.{sort_of};

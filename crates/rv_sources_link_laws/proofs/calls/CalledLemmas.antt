@@ -13,9 +13,9 @@ use Rattle.rv_parcel.specs.declared.form.Compressed.{Compressed}
 use Rattle.rv_parcel.specs.declared.form.Compressed.TheVariants.{J as ShortJump}
 use Rattle.rv_parcel.specs.declared.parcel.ParcelOperation.TheVariants as parcels
 use Rattle.rv_parcel.specs.Parcel.{IsShortOf}
-use Rattle.rv_statement.specs.declared.mnemonic.Mnemonic.{Mnemonic}
-use Rattle.rv_statement.specs.declared.mnemonic.Mnemonic.TheVariants.{Registers, Branch, Jal, ZeroBranch, SwappedBranch, J, Call, Tail, Jump, Parcel}
-use Rattle.rv_statement.specs.Statement.{Operand, Register, Target, Expression}
+use Rattle.rv_statement_laws.specs.declared.mnemonic.Mnemonic.{Mnemonic}
+use Rattle.rv_statement_laws.specs.declared.mnemonic.Mnemonic.TheVariants.{Registers, Branch, Jal, ZeroBranch, SwappedBranch, J, Call, Tail, Jump, Parcel}
+use Rattle.rv_statement_laws.specs.Statement.{Operand, Register, Target, Expression}
 use Rattle.rv_pseudo_laws.specs.Code.{Part, Closed, Open, Joined, Constants, b_type, jal, inverted, branch, jump, far, named_form, code}
 use Rattle.rv_pseudo_laws.specs.Valid.{IsOpen}
 use Rattle.rv_link_laws.specs.CallSites as objects

@@ -6,7 +6,7 @@ use Rattle.std.proofs.lemmas.Bool.{and_parts, eqb-true}
 use Rattle.std.specs.Prelude.{◌&&◌, ◌||◌, ◌==◌, IsTrue, nat_le, if◌then◌else◌, filter, flat_map, slice_index}
 use Rattle.std.specs.List.{AllByRecursion, slice_get, list_any}
 use Rattle.rv_layout_laws.specs.Sites.{padding_site, size_at}
-use Rattle.rv_statement.specs.Statement.{StatementKind, Label, Numbered, Instruction, Directs, Statement}
+use Rattle.rv_statement_laws.specs.Statement.{StatementKind, Label, Numbered, Instruction, Directs, Statement}
 use Rattle.rv_unit_laws.specs.Sections.{Section as SourceSection, goes_to_text as source_text}
 use Rattle.rv_unit_laws.specs.Tables.{Tables, tables}
 use Rattle.rv_layout_laws.specs.declared.site.Site.{Site as Spot}

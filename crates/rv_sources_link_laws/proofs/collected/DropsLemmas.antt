@@ -5,7 +5,7 @@ use Rattle.std.specs.Prelude.{codes}
 use Rattle.rv_map_laws.specs.declared.map.SectionId.{SectionId}
 use Rattle.rv_collect_laws.specs.Graph.{AreAlike, AreDrops}
 use Rattle.rv_collect_laws.proofs.MarksLemmas.{alike_drops}
-use Rattle.rv_statement.specs.Statement.{Statement}
+use Rattle.rv_statement_laws.specs.Statement.{Statement}
 use Rattle.rv_source_laws.specs.Program as source
 use Rattle.rv_source_laws.specs.Program.{Program, chosen}
 use Rattle.rv_source_laws.specs.Collected.{unplaced, graph_of as sources_graph}

@@ -6,7 +6,7 @@ use Rattle.std.proofs.lemmas.Bool.{eq-eqb, ne_eqb}
 use Rattle.std.specs.Prelude.{⊤, ◌&&◌, ◌==◌, option_map, if◌then◌else◌, slice_index_or}
 use Rattle.std.specs.List.{AllByRecursion, find}
 use Rattle.rv_map_laws.specs.declared.map.SectionId.{SectionId}
-use Rattle.rv_statement.specs.Statement.{Statement}
+use Rattle.rv_statement_laws.specs.Statement.{Statement}
 use Rattle.rv_unit_laws.specs.Tables.{Tables, tables, at_start, after}
 use Rattle.rv_source_laws.specs.Located.{Located, located_now, located_from, located_of}
 use Rattle.rv_source_laws.specs.Program as source

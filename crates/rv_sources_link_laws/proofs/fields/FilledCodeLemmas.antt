@@ -14,9 +14,9 @@ use Rattle.rv_reloc_laws.specs.Ranges.{Takes}
 use Rattle.rv_reloc_laws.specs.Values.{value_of}
 use Rattle.rv_text_laws.specs.Expression.{Primary, Symbol as Named, Literal, Here, Reference}
 use Rattle.rv_text_laws.specs.Values.{Meaning, Value, Symbolic, add}
-use Rattle.rv_statement.specs.declared.mnemonic.Mnemonic.{Mnemonic}
-use Rattle.rv_statement.specs.declared.pseudo.Function.TheVariants.{Hi, Lo, PcrelHi, PcrelLo}
-use Rattle.rv_statement.specs.Statement.{Instruction, Operand, Register, Value as Of_value, Applied, Target, Accesses, Word, Quoted, Expression}
+use Rattle.rv_statement_laws.specs.declared.mnemonic.Mnemonic.{Mnemonic}
+use Rattle.rv_statement_laws.specs.declared.pseudo.Function.TheVariants.{Hi, Lo, PcrelHi, PcrelLo}
+use Rattle.rv_statement_laws.specs.Statement.{Instruction, Operand, Register, Value as Of_value, Applied, Target, Accesses, Word, Quoted, Expression}
 use Rattle.rv_pseudo_laws.specs.Code.{Part as CodePart, Closed, Open as Open_part, Joined, named_form}
 use Rattle.rv_pseudo_laws.specs.Filled.{FieldValue, are_closed}
 use Rattle.rv_unit_laws.specs.Sections.{Section as SourceSection}

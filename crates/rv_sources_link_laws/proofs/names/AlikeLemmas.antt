@@ -3,8 +3,8 @@
 use Rattle.std.proofs.Common.{◌≡◌, ℕ, suc, Bool, true, false, List, [], ◌∷◌, ◌++◌, refl, sym, ap, ◌∙◌, subst, map, Option, Some, None}
 use Rattle.std.proofs.lemmas.List.Elements.{filter-append}
 use Rattle.std.specs.Prelude.{◌&&◌, if◌then◌else◌, filter, flat_map, bytes_eq}
-use Rattle.rv_statement.specs.declared.directive.Binding.{Binding as SourceBinding}
-use Rattle.rv_statement.specs.declared.directive.Binding.TheVariants as bindings
+use Rattle.rv_statement_laws.specs.declared.directive.Binding.{Binding as SourceBinding}
+use Rattle.rv_statement_laws.specs.declared.directive.Binding.TheVariants as bindings
 use Rattle.rv_unit_laws.specs.Bindings.{is_shared, is_global, is_weak}
 use Rattle.rv_source_laws.specs.Exports.{defined_name}
 use Rattle.rv_source_laws.specs.Program as source

@@ -6,9 +6,9 @@ use Rattle.std.proofs.lemmas.List.Elements.{filter-append}
 use Rattle.std.specs.Prelude.{◌&&◌, not, if◌then◌else◌, filter, flat_map}
 use Rattle.std.specs.List.{list_any}
 use Rattle.rv_text_laws.specs.Values.{Meaning, Known, InSection as InData, Open as OpenAddress, Refused}
-use Rattle.rv_statement.specs.Statement.{StatementKind, Label, Numbered, Instruction, Directs, Statement, Enters, Sets}
-use Rattle.rv_statement.specs.declared.directive.Binding.{Binding as SourceBinding}
-use Rattle.rv_statement.specs.declared.directive.Binding.TheVariants.{Local, Global, Weak}
+use Rattle.rv_statement_laws.specs.Statement.{StatementKind, Label, Numbered, Instruction, Directs, Statement, Enters, Sets}
+use Rattle.rv_statement_laws.specs.declared.directive.Binding.{Binding as SourceBinding}
+use Rattle.rv_statement_laws.specs.declared.directive.Binding.TheVariants.{Local, Global, Weak}
 use Rattle.rv_unit_laws.specs.Bindings.{is_shared}
 use Rattle.rv_unit_laws.specs.Tables.{Tables, Assignment, tables, assigned_ever}
 use Rattle.rv_source_laws.specs.Exports.{names_where}

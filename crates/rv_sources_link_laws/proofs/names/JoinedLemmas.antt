@@ -5,7 +5,7 @@ use Rattle.std.specs.Prelude.{not, filter, codes, option_and_then}
 use Rattle.std.specs.List.{AllByRecursion}
 use Rattle.rv_map_laws.specs.Globals.{AreDistinct, shown, linker_symbols}
 use Rattle.rv_map_laws.specs.Limits.{IsRow}
-use Rattle.rv_statement.specs.Statement.{Statement}
+use Rattle.rv_statement_laws.specs.Statement.{Statement}
 use Rattle.rv_source_laws.specs.Program as source
 use Rattle.rv_source_laws.specs.Program.{Program, program}
 use Rattle.rv_source_laws.specs.Resolves.{Resolves, definitions, shown_symbols, export_address, run_start}

@@ -3,7 +3,7 @@
 use Rattle.std.proofs.Common.{◌≡◌, ℕ, ◌+◌, ◌≤◌, List, [], ◌∷◌, sym, ap, ◌∙◌, arith, Some}
 use Rattle.std.specs.Prelude.{flat_map}
 use Rattle.std.specs.List.{AllByRecursion, slice_get}
-use Rattle.rv_statement.specs.Statement.{Statement}
+use Rattle.rv_statement_laws.specs.Statement.{Statement}
 use Rattle.rv_unit_laws.specs.Sections.{Section as SourceSection}
 use Rattle.rv_unit_laws.specs.Tables.{Tables, tables, longest_section}
 use Rattle.rv_object_laws.specs.Object.{Section, Object}

@@ -3,7 +3,7 @@
 use Rattle.std.proofs.Common.{◌≡◌, ℕ, zero, suc, ◌+◌, ◌-◌, ◌≤◌, Bool, true, false, List, [], ◌∷◌, ◌++◌, refl, ap, ◌∙◌, subst, arith, map, Option, Some, None}
 use Rattle.std.specs.Prelude.{⊤, if◌then◌else◌, flat_map, option_and_then, slice_index_or}
 use Rattle.std.specs.List.{find, slice_get}
-use Rattle.rv_statement.specs.Statement.{Statement}
+use Rattle.rv_statement_laws.specs.Statement.{Statement}
 use Rattle.rv_unit_laws.specs.Sections.{Section as SourceSection}
 use Rattle.rv_unit_laws.specs.Tables.{Tables, tables, at_start, after}
 use Rattle.rv_map_laws.specs.Map.{Map}

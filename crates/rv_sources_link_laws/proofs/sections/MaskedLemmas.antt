@@ -2,7 +2,7 @@
 
 use Rattle.std.proofs.Common.{◌≡◌, ℕ, zero, suc, ◌+◌, Bool, true, false, List, [], ◌∷◌, length, refl, ap, ◌∙◌, arith, map, Some}
 use Rattle.std.specs.List.{AllByRecursion, slice_get}
-use Rattle.rv_statement.specs.Statement.{Statement}
+use Rattle.rv_statement_laws.specs.Statement.{Statement}
 use Rattle.rv_unit_laws.specs.Sections.{Section}
 use Rattle.rv_unit_laws.specs.Tables.{tables, opened_of}
 use Rattle.rv_source_laws.specs.Located.{Located, without_address, masked}

@@ -4,7 +4,7 @@
 use Rattle.std.proofs.Common.{◌≡◌, ℕ, ◌+◌, ◌-◌, ◌%◌, ◌<◌, Bool, true, false, List, [], ◌∷◌, length, refl, sym, ap, ◌∙◌, subst, Option, inl, inr}
 use Rattle.std.specs.Prelude.{if◌then◌else◌, flat_map, map}
 use Rattle.std.specs.List.{AllByRecursion}
-use Rattle.rv_statement.specs.Statement.{StatementKind, Expression, Label, Numbered, Instruction, Directs, Aligns_to_power, Aligns_to_bytes, Values, Strings, Zeros, Enters, Opens, Binds, Sets, Chooses, Ignored}
+use Rattle.rv_statement_laws.specs.Statement.{StatementKind, Expression, Label, Numbered, Instruction, Directs, Aligns_to_power, Aligns_to_bytes, Values, Strings, Zeros, Enters, Opens, Binds, Sets, Chooses, Ignored}
 use Rattle.rv_text_laws.specs.Values.{Value}
 use Rattle.rv_unit_laws.specs.Contributions.{contribution}
 use Rattle.rv_unit_laws.specs.Sections.{Section as SourceSection}

@@ -14,9 +14,9 @@ use Rattle.rv_text_laws.specs.Values.{Value, Constant, Symbolic, Difference, Fau
 use Rattle.rv_parcel.specs.declared.form.Compressed.{Compressed}
 use Rattle.rv_parcel.specs.declared.parcel.ParcelOperation.TheVariants as parcels
 use Rattle.rv_parcel.specs.Parcel.{expansion as meant}
-use Rattle.rv_statement.specs.declared.mnemonic.Mnemonic.{Mnemonic}
-use Rattle.rv_statement.specs.declared.mnemonic.Mnemonic.TheVariants.{Registers, Parcel}
-use Rattle.rv_statement.specs.Statement.{StatementKind, Label, Numbered, Instruction, Directs, Expression, Operand, Register, Target, Directive, Sets, Aligns_to_power, Aligns_to_bytes, Values, Strings, Zeros}
+use Rattle.rv_statement_laws.specs.declared.mnemonic.Mnemonic.{Mnemonic}
+use Rattle.rv_statement_laws.specs.declared.mnemonic.Mnemonic.TheVariants.{Registers, Parcel}
+use Rattle.rv_statement_laws.specs.Statement.{StatementKind, Label, Numbered, Instruction, Directs, Expression, Operand, Register, Target, Directive, Sets, Aligns_to_power, Aligns_to_bytes, Values, Strings, Zeros}
 use Rattle.rv_pseudo_laws.specs.Code.{Part, Closed, Constants, named_form, code}
 use Rattle.rv_pseudo_laws.specs.Filled.{FieldValue, filled, are_closed, AreTaken}
 use Rattle.rv_unit_laws.specs.Options.{Options}

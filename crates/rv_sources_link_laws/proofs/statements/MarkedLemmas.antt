@@ -7,7 +7,7 @@ use Rattle.rv_isa.specs.Kinds.{is_low_part}
 use Rattle.rv_isa.specs.declared.kind.Kind.{Kind}
 use Rattle.rv_isa.specs.declared.kind.Kind.TheVariants as kind
 use Rattle.rv_text_laws.specs.Values.{Value}
-use Rattle.rv_statement.specs.Statement.{Expression}
+use Rattle.rv_statement_laws.specs.Statement.{Expression}
 use Rattle.rv_pseudo_laws.specs.Code.{Part as CodePart, Closed, Open as Open_part, Joined}
 use Rattle.rv_unit_laws.specs.Tables.{Tables}
 use Rattle.rv_source_laws.specs.Located.{Located}

@@ -7,7 +7,7 @@ use Rattle.std.specs.Prelude.{⊤, ◌^◌, ◌&&◌, ◌||◌, ◌==◌, nat_lt
 use Rattle.std.specs.List.{AllByRecursion}
 use Rattle.rv_isa_laws.specs.Bytes.{zeros}
 use Rattle.rv_text_laws.specs.Values.{Value, Constant, Symbolic, Difference, Faulty}
-use Rattle.rv_statement.specs.Statement.{StatementKind, Label, Numbered, Instruction, Directs, Expression, Enters, Opens, Binds, Sets, Aligns_to_power, Aligns_to_bytes, Values, Strings, Zeros, Chooses, Ignored}
+use Rattle.rv_statement_laws.specs.Statement.{StatementKind, Label, Numbered, Instruction, Directs, Expression, Enters, Opens, Binds, Sets, Aligns_to_power, Aligns_to_bytes, Values, Strings, Zeros, Chooses, Ignored}
 use Rattle.rv_unit_laws.specs.Sections.{Section as SourceSection}
 use Rattle.rv_unit_laws.specs.Tables.{Tables, is_power_below, power_alignment, byte_alignment, alignment_of, padding}
 use Rattle.rv_source_laws.specs.Fits.{needs_no_padding}

@@ -2,7 +2,7 @@
 
 use Rattle.std.specs.Prelude.{List, ◌≡◌, ℕ, ℤ, unwrap_or, ◌+◌, ◌*◌, ◌%◌, Bool, true, false, [], length, Option, if◌then◌else◌}
 use Rattle.rv_text_laws.specs.Values.{Value, Constant}
-use Rattle.rv_statement.specs.Statement.{StatementKind, Label, Numbered, Instruction, Directs, Expression, Directive, Sets, Aligns_to_power, Aligns_to_bytes, Values, Strings, Zeros}
+use Rattle.rv_statement_laws.specs.Statement.{StatementKind, Label, Numbered, Instruction, Directs, Expression, Directive, Sets, Aligns_to_power, Aligns_to_bytes, Values, Strings, Zeros}
 use Rattle.rv_unit_laws.specs.Sections.{Section}
 use Rattle.rv_unit_laws.specs.Tables.{alignment_of, padding, string_bytes}
 use Rattle.rv_map_laws.specs.declared.map.Row.{Row}

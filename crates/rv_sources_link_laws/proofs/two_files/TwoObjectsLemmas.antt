@@ -3,12 +3,12 @@
 use Rattle.std.proofs.Common.{ℕ, false, List, [], ◌∷◌, refl, arith, inl, inr, slice_index_or, map}
 use Rattle.std.specs.Int.{int_wrap}
 use Rattle.rv_text_laws.specs.Values.{Value}
-use Rattle.rv_statement.specs.Statement.{Label, Expression}
+use Rattle.rv_statement_laws.specs.Statement.{Label, Expression}
 use Rattle.rv_unit_laws.specs.Tables.{at_start, tables}
 use Rattle.rv_source_laws.specs.Located.{located_now, located_from}
 use Rattle.rv_assemble_laws.specs.LaidStatements.{LaidStatement, expression_value}
 use Rattle.rv_isa.specs.declared.instruction.Inst.TheVariants as inst
-use Rattle.rv_statement.specs.declared.mnemonic.Mnemonic.TheVariants.{Ecall}
+use Rattle.rv_statement_laws.specs.declared.mnemonic.Mnemonic.TheVariants.{Ecall}
 use Rattle.rv_pseudo_laws.specs.Code.{Closed}
 use Rattle.rv_assemble_laws.specs.Coded.{IsCode}
 use Rattle.rv_assemble_laws.specs.IsObjectOf.{IsObjectOf}

@@ -4,8 +4,9 @@ use Rattle.std.proofs.lemmas.Result.{on_ok_weaker}
 use Rattle.std.specs.Prelude.{flat_map}
 use Rattle.rv_text_laws.specs.Values.{Value}
 use Rattle.rv_text.specs.Expr.{tree_of_expr}
-use Rattle.rv_statement.specs.Statement.{Expression}
-use Rattle.rv_statement.specs.View.{width_bytes, statement_kind}
+use Rattle.rv_statement_laws.specs.Statement.{Expression}
+use Rattle.rv_statement_laws.specs.Widths.{width_bytes}
+use Rattle.rv_statement.specs.View.{statement_kind}
 use Rattle.rv_statement.specs.declared.statement.StatementKind.TheVariants as kinds
 use Rattle.rv_unit_laws.specs.Tables.{longest_section}
 use Rattle.rv_assemble_laws.specs.Templates.{value_bytes, Datum}

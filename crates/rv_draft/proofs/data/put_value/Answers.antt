@@ -4,7 +4,7 @@ use Rattle.rv_text_laws.specs.Expression.{Literal}
 use Rattle.rv_text_laws.specs.Values.{Constant}
 use Rattle.rv_text.specs.Expr.{tree_of_expr}
 use Rattle.rv_text.proofs.EvalsLemmas.{lone_value}
-use Rattle.rv_statement.specs.View.{width_bytes}
+use Rattle.rv_statement_laws.specs.Widths.{width_bytes}
 use Rattle.rv_unit_laws.specs.Tables as laws
 use Rattle.rv_unit_tables.specs.Sections.{offset_of}
 use Rattle.rv_unit.specs.Unit.{said}

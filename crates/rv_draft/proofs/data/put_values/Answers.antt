@@ -2,8 +2,8 @@ use Rattle.std.proofs.Common.{rules, ◌≡◌, ◌++◌, ◌∙◌, ◌+◌, �
 use Rattle.std.proofs.lemmas.List.{length-map}
 use Rattle.rv_text_laws.specs.Values.{Value}
 use Rattle.rv_text.specs.Expr.{tree_of_expr}
-use Rattle.rv_statement.specs.Statement.{Expression}
-use Rattle.rv_statement.specs.View.{width_bytes}
+use Rattle.rv_statement_laws.specs.Statement.{Expression}
+use Rattle.rv_statement_laws.specs.Widths.{width_bytes}
 use Rattle.rv_assemble_laws.specs.Templates.{value_bytes}
 use Rattle.rv_instruction.specs.Scoped.{values_at}
 use Rattle.rv_draft.proofs.JoinedLemmas.{left_map, flat_more, flat_done}

@@ -1,7 +1,8 @@
 use Rattle.std.proofs.Common.{rules, ◌≡◌, ◌*◌, ◌∙◌, false, true, sym, ap, length, map, vec_len}
 use Rattle.std.proofs.lemmas.List.{length-map}
 use Rattle.rv_text.specs.Expr.{tree_of_expr}
-use Rattle.rv_statement.specs.View.{width_bytes, quoted, statement_kind}
+use Rattle.rv_statement_laws.specs.Widths.{width_bytes}
+use Rattle.rv_statement.specs.View.{quoted, statement_kind}
 use Rattle.rv_unit_laws.specs.Tables.{padding, string_bytes, within}
 use Rattle.rv_unit_tables.proofs.LookupsLemmas.{within_cut}
 use Rattle.rv_instruction.specs.Scoped.{values_at}

@@ -1,5 +1,5 @@
 use Rattle.std.proofs.Common.{refl}
-use Rattle.rv_statement.specs.declared.mnemonic.Mnemonic.TheVariants.{Load}
+use Rattle.rv_statement_laws.specs.declared.mnemonic.Mnemonic.TheVariants.{Load}
 use Rattle.rv_parse.proofs.LocatedLemmas.{accesses}
 use Rattle.rv_parse.proofs.access.load.Goals as goal
 

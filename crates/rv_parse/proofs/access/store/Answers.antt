@@ -1,5 +1,5 @@
 use Rattle.std.proofs.Common.{refl}
-use Rattle.rv_statement.specs.declared.mnemonic.Mnemonic.TheVariants.{Store}
+use Rattle.rv_statement_laws.specs.declared.mnemonic.Mnemonic.TheVariants.{Store}
 use Rattle.rv_parse.proofs.LocatedLemmas.{accesses}
 use Rattle.rv_parse.proofs.access.store.Goals as goal
 

@@ -1,5 +1,5 @@
 use Rattle.std.proofs.Common.{◌≡◌, ◌≤◌, length}
-use Rattle.rv_statement.specs.Limits.{most_statements}
+use Rattle.rv_statement_laws.specs.Limits.{most_statements}
 use Rattle.rv_parse_laws.specs.Refusals.{SaysUpTo}
 use Rattle.rv_lexer.specs.Left.{tokens_left}
 use Rattle.rv_lexer.specs.Cursor.{left}

@@ -1,5 +1,5 @@
 use Rattle.std.proofs.Common.{ap, sym, subst, ◌∙◌}
-use Rattle.rv_statement.specs.Statement.{Target}
+use Rattle.rv_statement_laws.specs.Statement.{Target}
 use Rattle.rv_statement.specs.View.{with_operand}
 use Rattle.rv_pseudo.specs.Faults.{is_written}
 use Rattle.rv_pseudo.specs.Templates.{AreTemplates}

@@ -3,7 +3,7 @@ use Rattle.std.specs.Prelude.{flat_map, slice_get}
 use Rattle.std.specs.HashSet.{contains}
 use Rattle.rv_object_types.specs.Parts.{symbol_of}
 use Rattle.rv_statement.specs.View.{statement_of}
-use Rattle.rv_statement.specs.Statement.{Statement}
+use Rattle.rv_statement_laws.specs.Statement.{Statement}
 use Rattle.rv_statement.specs.Statements.{statements_of}
 use Rattle.rv_unit.specs.Unit.{said}
 use Rattle.rv_assemble_laws.specs.ShownNames.{said_names, are_shown}

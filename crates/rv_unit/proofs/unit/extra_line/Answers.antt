@@ -1,7 +1,7 @@
 use Rattle.std.proofs.Common.{◌≡◌, ◌<◌, ◌≤◌, ◌∙◌, length, map, sym, ap, refl, ltb-true, ltb-false, Some}
 use Rattle.std.specs.Prelude.{option_map}
 use Rattle.std.proofs.lemmas.Option.{slice_get_read, slice_get-map}
-use Rattle.rv_statement.specs.Limits.{most_statements}
+use Rattle.rv_statement_laws.specs.Limits.{most_statements}
 use Rattle.rv_statement.specs.View.{statement_of}
 use Rattle.rv_unit_laws.proofs.FewLemmas.{first_past}
 use Rattle.rv_unit.proofs.unit.extra_line.Goals as goal

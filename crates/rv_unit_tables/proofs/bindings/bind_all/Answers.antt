@@ -1,6 +1,6 @@
 use Rattle.std.proofs.Common.{◌<◌, ◌∙◌, length, rules, ap, []}
 use Rattle.std.specs.Prelude.{unwrap_or}
-use Rattle.rv_statement.specs.declared.directive.Binding.TheVariants.{Local}
+use Rattle.rv_statement_laws.specs.declared.directive.Binding.TheVariants.{Local}
 use Rattle.rv_unit_tables.specs.Tables.{binding_in}
 use Rattle.rv_unit_tables.proofs.BoundLemmas.{bound_next}
 use Rattle.rv_unit_tables.proofs.bindings.bind_all.Goals as goal

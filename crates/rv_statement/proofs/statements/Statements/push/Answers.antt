@@ -1,5 +1,5 @@
 use Rattle.std.proofs.Common.{◌≡◌, [], ◌∷◌, ◌++◌, OnOk, subst}
-use Rattle.rv_statement.specs.Statement as specs
+use Rattle.rv_statement_laws.specs.Statement as specs
 use Rattle.rv_statement.specs.Statements.{statements_of}
 use Rattle.rv_statement.proofs.RecordsLemmas.{packed_statement}
 use Rattle.rv_statement.proofs.statements.Statements.push.Goals as goal

@@ -1,10 +1,9 @@
 use Rattle.std.proofs.Common.{◌≡◌, ◌∙◌, ◌+◌, ap, sym, subst, map, true, false, Some, option_map}
 use Rattle.std.specs.Prelude.{box_value}
 use Rattle.rv_text.specs.Expr.{tree_of_expr}
-use Rattle.rv_statement.specs.Statement.{Strings}
+use Rattle.rv_statement_laws.specs.Statement.{Strings, Applied, Directs, Enters}
 use Rattle.rv_statement.specs.declared.statement.Opening.{Opening}
 use Rattle.rv_statement.specs.View.{now_of, quoted, opening_of, statement_kind, operand_in}
-use Rattle.rv_statement.specs.Statement.{Applied, Directs, Enters}
 use Rattle.rv_unit_laws.specs.Faults as faults
 use Rattle.rv_unit_laws.specs.Sections.{section_with}
 use Rattle.rv_unit_laws.specs.Tables as laws

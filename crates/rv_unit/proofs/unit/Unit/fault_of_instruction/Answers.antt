@@ -1,7 +1,7 @@
 use Rattle.std.proofs.Common.{◌∙◌, ◌||◌, refl, subst}
 use Rattle.std.specs.Prelude.{not}
 use Rattle.rv_text_laws.specs.Codes.{faulty_if}
-use Rattle.rv_statement.specs.Statement.{Instruction}
+use Rattle.rv_statement_laws.specs.Statement.{Instruction}
 use Rattle.rv_unit_laws.specs.Sections.{Section, is_nobits}
 use Rattle.rv_lexer.specs.Fault.{IsLowest}
 use Rattle.rv_unit.proofs.StandingLemmas.{at_home}

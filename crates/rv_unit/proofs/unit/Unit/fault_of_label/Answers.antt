@@ -1,6 +1,6 @@
 use Rattle.std.proofs.Common.{◌∙◌, ◌+◌, length, subst}
 use Rattle.rv_text_laws.specs.Codes.{faulty_if}
-use Rattle.rv_statement.specs.Statement.{Label}
+use Rattle.rv_statement_laws.specs.Statement.{Label}
 use Rattle.rv_lexer.specs.Fault.{IsLowest}
 use Rattle.rv_unit.specs.Unit.{said}
 use Rattle.rv_unit.proofs.ApartLemmas.{whole_apart}

@@ -1,5 +1,5 @@
 use Rattle.std.proofs.Common.{◌∙◌, subst, length, map, refl}
-use Rattle.rv_statement.specs.Statement.{StatementKind, Directs, Strings}
+use Rattle.rv_statement_laws.specs.Statement.{StatementKind, Directs, Strings}
 use Rattle.rv_statement.specs.View.{quoted}
 use Rattle.rv_unit_laws.specs.Sections.{current_section}
 use Rattle.rv_unit_laws.specs.Tables as laws

@@ -1,5 +1,5 @@
 use Rattle.std.proofs.Common.{sym, ap, subst, true}
-use Rattle.rv_statement.specs.View.{width_bytes}
+use Rattle.rv_statement_laws.specs.Widths.{width_bytes}
 use Rattle.rv_text_laws.specs.Codes.{lowest}
 use Rattle.rv_text.specs.Expr.{tree_of_expr}
 use Rattle.rv_unit_laws.specs.Faults as faults

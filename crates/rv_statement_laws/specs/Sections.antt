@@ -1,8 +1,8 @@
 -- The sections that have a directive of their own (GNU as, ".text", ".data"; RISC-V-Directives).
 
 use Rattle.std.specs.Prelude.{ℕ, List, codes}
-use Rattle.rv_statement.specs.declared.directive.Standard.{Standard}
-use Rattle.rv_statement.specs.declared.directive.Standard.TheVariants.{Text, Data, Rodata, Bss}
+use Rattle.rv_statement_laws.specs.declared.directive.Standard.{Standard}
+use Rattle.rv_statement_laws.specs.declared.directive.Standard.TheVariants.{Text, Data, Rodata, Bss}
 
 abbrev pub standard_name : Standard → List ℕ
 standard_name Text = codes ".text"

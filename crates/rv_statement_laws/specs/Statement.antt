@@ -3,12 +3,12 @@
 
 use Rattle.std.specs.Prelude.{ℕ, List, Bool, Option}
 use Rattle.rv_text_laws.specs.Expression.{Tree}
-use Rattle.rv_statement.specs.declared.mnemonic.Mnemonic.{Mnemonic}
-use Rattle.rv_statement.specs.declared.pseudo.Function.{Function}
+use Rattle.rv_statement_laws.specs.declared.mnemonic.Mnemonic.{Mnemonic}
+use Rattle.rv_statement_laws.specs.declared.pseudo.Function.{Function}
 use Rattle.rv_isa.specs.declared.operation.AccessSet.{AccessSet}
-use Rattle.rv_statement.specs.declared.directive.Standard.{Standard}
-use Rattle.rv_statement.specs.declared.directive.Binding.{Binding}
-use Rattle.rv_statement.specs.declared.directive.Choice.{Choice}
+use Rattle.rv_statement_laws.specs.declared.directive.Standard.{Standard}
+use Rattle.rv_statement_laws.specs.declared.directive.Binding.{Binding}
+use Rattle.rv_statement_laws.specs.declared.directive.Choice.{Choice}
 
 -- an expression of a statement: as it is written, without its parentheses
 abbrev pub Expression : Type 0

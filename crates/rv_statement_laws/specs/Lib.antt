@@ -1,0 +1,4 @@
+pub mod Widths
+pub mod Limits
+pub mod Sections
+pub mod Statement
