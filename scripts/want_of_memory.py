@@ -194,7 +194,7 @@ def made(items):
 CASES = [
     """
 use std::alloc::{AllocError, AllocFailed, Global};
-ghost use Rattle.rv_elf.specs.declared.fault.FileFault.TheVariants.{OutOfMemory};
+ghost use Rattle.rv_fault.specs.declared.file_fault.FileFault.TheVariants.{OutOfMemory};
 /// `Err(AllocError)`: this is no line of code.
 #[derive(Drop, Error)]
 pub enum Fault {

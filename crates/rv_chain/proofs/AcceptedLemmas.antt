@@ -16,11 +16,11 @@ use Rattle.rv_unit_laws.specs.Faults.{StatementFault}
 use Rattle.rv_image_laws.specs.Segment.{Segment, meets_stack, are_apart, meets_segment}
 use Rattle.rv_image_laws.specs.Image.{Image}
 use Rattle.rv_image_laws.specs.ImageOf.{ImageOf, segment_in}
-use Rattle.rv_elf.specs.FirstFault.{header_tests, table_tests, type_tests}
+use Rattle.rv_elf_laws.specs.FirstFault.{header_tests, table_tests, type_tests}
 use Rattle.rv_image_laws.specs.FirstFault.{first_fault, load_tests, programs_tests, whole_tests}
 use Rattle.rv_image.proofs.ApartLemmas.{loaded_apart}
-use Rattle.rv_elf.specs.FirstTrue.{no_fault_parts}
-use Rattle.rv_elf.specs.Sections.{program_headers, is_load}
+use Rattle.rv_elf_laws.specs.FirstTrue.{no_fault_parts}
+use Rattle.rv_elf_laws.specs.Sections.{program_headers, is_load}
 use Rattle.rv_listing_laws.specs.declared.code.Code.{Code}
 use Rattle.rv_listing_laws.specs.Raw.{IsSourced, IsRawListing, raw_bytes, is_executable, lines_text, raw_lines}
 use Rattle.rv_object_laws.specs.Object.{Object}

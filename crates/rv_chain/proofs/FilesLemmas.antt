@@ -3,8 +3,8 @@
 use Rattle.std.proofs.Common.{◌≡◌, ℕ, zero, suc, ◌+◌, ◌-◌, ◌<◌, Bool, true, false, cond, ◌⊎◌, inl, inr, List, ◌∷◌, length, map, filter, refl, sym, ap, subst, ◌∙◌, arith, Some, None}
 use Rattle.std.specs.Prelude.{IsTrue}
 use Rattle.std.specs.List.{AllByRecursion}
-use Rattle.rv_elf.specs.declared.fault.FileFault.{FileFault}
-use Rattle.rv_elf.specs.Sections.{section_count}
+use Rattle.rv_fault.specs.declared.file_fault.FileFault.{FileFault}
+use Rattle.rv_elf_laws.specs.Sections.{section_count}
 use Rattle.rv_object_laws.specs.Object.{Section, Object}
 use Rattle.rv_object_laws.specs.Valid.{is_section_alignment, fit_inside, are_paddings, are_rows}
 use Rattle.rv_object_file_laws.specs.Parts.{is_kept, kept, row_records}

@@ -5,7 +5,7 @@ use Rattle.rv_map_laws.specs.Limits.{IsMap}
 use Rattle.rv_map_laws.specs.Text.{map_text}
 use Rattle.rv_image_laws.specs.Linked.{Linked, IsLaidOut}
 use Rattle.rv_image_laws.specs.Executable.{exe_of, linked_image}
-use Rattle.rv_elf.specs.Fields.{number_in, e_flags}
+use Rattle.rv_elf_laws.specs.Fields.{number_in, e_flags}
 use Rattle.rv_image_laws.specs.ImageOf.{ImageOf}
 use Rattle.rv_image_laws.specs.FirstFault.{first_fault}
 use Rattle.rv_image.proofs.LoadedAgainLemmas.{reads, reload_image, reload_fault}

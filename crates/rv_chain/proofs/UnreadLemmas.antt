@@ -2,7 +2,7 @@
 
 use Rattle.std.proofs.Common.{◌≡◌, ℕ, Bool, ◌+◌, ◌<◌, List, [], ◌∷◌, length, take, drop, get_or, sym, ap, ◌∙◌, inr, Some, None}
 use Rattle.std.specs.List.{AllByRecursion}
-use Rattle.rv_elf.specs.declared.fault.FileFault.{FileFault}
+use Rattle.rv_fault.specs.declared.file_fault.FileFault.{FileFault}
 use Rattle.rv_object_laws.specs.Object.{Object}
 use Rattle.rv_object_file_laws.specs.FirstFault.{first_fault}
 use Rattle.rv_fault.specs.declared.link_fault.LinkFault.{LinkFault}

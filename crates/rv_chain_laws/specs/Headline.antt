@@ -11,7 +11,7 @@ use Rattle.rv_map_laws.specs.Limits.{IsMap}
 use Rattle.rv_image_laws.specs.Image.{Image}
 use Rattle.rv_image_laws.specs.ImageOf.{ImageOf}
 use Rattle.rv_image_laws.specs.FirstFault.{first_fault}
-use Rattle.rv_elf.specs.Fields.{number_in, e_flags}
+use Rattle.rv_elf_laws.specs.Fields.{number_in, e_flags}
 use Rattle.rv_isa_laws.specs.Word.{Spells}
 use Rattle.rv_parcel.specs.Parcel.{StandsFor}
 use Rattle.rv_isa_laws.specs.Reader.{Reader}

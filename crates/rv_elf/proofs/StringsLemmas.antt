@@ -6,7 +6,7 @@ use Rattle.std.specs.List.{slice_range}
 use Rattle.std.proofs.lemmas.Bool.{false_from_ne_true}
 use Rattle.std.proofs.lemmas.List.{take_all, length-drop}
 use Rattle.memchr.specs.Find.{IsFirstByte, is_byte}
-use Rattle.rv_elf.specs.Sections.{before_zero}
+use Rattle.rv_elf_laws.specs.Sections.{before_zero}
 
 -- after a byte that is not zero
 behind : (byte : ℕ) (bytes : List ℕ) (r : Option (List ℕ)) → (byte == 0) ≡ false → before_zero bytes ≡ r → before_zero (byte ∷ bytes) ≡ option_map (λ name. byte ∷ name) r

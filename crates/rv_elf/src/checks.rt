@@ -1,14 +1,14 @@
 //! What every file of this machine is tested for.
 
 ghost use Rattle.std.specs.Prelude.{◌≡◌, ◌*◌, ◌<◌, ◌≤◌, length, OnOk, IfOk};
-ghost use Rattle.rv_elf.specs.Fields.{file_header_size, number_in, e_type};
-ghost use Rattle.rv_elf.specs.FirstFault.{Finds, header_tests, table_tests};
-ghost use Rattle.rv_elf.specs.Sections.{HasPrograms, HasSections, is_past, section_count};
-ghost use Rattle.rv_elf.specs.Numbers.{shn_loreserve};
+ghost use Rattle.rv_elf_laws.specs.Fields.{file_header_size, number_in, e_type};
+ghost use Rattle.rv_elf_laws.specs.FirstFault.{Finds, header_tests, table_tests};
+ghost use Rattle.rv_elf_laws.specs.Sections.{HasPrograms, HasSections, is_past, section_count};
+ghost use Rattle.rv_elf_laws.specs.Numbers.{shn_loreserve};
 
-use crate::fault::FileFault;
+use rv_fault::FileFault;
 use crate::fields::{byte, half, word};
-use crate::file_header::{FILE_HEADER_SIZE, FileHeader};
+use crate::file_header::{FILE_HEADER_SIZE, read_file_header};
 use crate::numbers::{
     ELFCLASS64, ELFDATA2LSB, ELFMAG, EM_RISCV, EV_CURRENT, PN_XNUM, SHN_LORESERVE,
 };
@@ -17,7 +17,7 @@ use crate::program_header::PROGRAM_HEADER_SIZE;
 use crate::section_header::SECTION_HEADER_SIZE;
 
 /// The type of a file of this machine (`e_type`), or the first fault of its header.
-#[tactic(auto, unfolding(crate::specs::FirstFault::header_tests))]
+#[tactic(auto, unfolding(rv_elf_laws::specs::FirstFault::header_tests))]
 pub fn file_type(file: &[u8]) -> Result<u16, FileFault>
     ensures faults { Finds (header_tests file.now) result }
     ensures size { OnOk result (file_header_size ≤ length file.now) }
@@ -42,7 +42,7 @@ pub fn file_type(file: &[u8]) -> Result<u16, FileFault>
 }
 
 /// Looks at the tables of program headers and section headers.
-#[tactic(auto, unfolding(crate::specs::FirstFault::table_tests))]
+#[tactic(auto, unfolding(rv_elf_laws::specs::FirstFault::table_tests))]
 pub(crate) fn check_tables(file: &[u8]) -> Result<(), FileFault>
     requires { file_header_size ≤ length file.now }
     ensures faults { Finds (table_tests file.now) result }
@@ -50,7 +50,7 @@ pub(crate) fn check_tables(file: &[u8]) -> Result<(), FileFault>
     ensures sections { OnOk result (HasSections file.now) }
     ensures few { OnOk result (section_count file.now < shn_loreserve) }
 {
-    let header = FileHeader::of(file);
+    let header = read_file_header(file);
     let programs = header.e_phnum;
     let sections = header.e_shnum;
     let names = header.e_shstrndx;

@@ -5,7 +5,7 @@
 //!
 //! Main contracts: `ElfView::open` gives a view just of a file whose header and tables have no fault, and otherwise the
 //! fault that stands first (`open_tests`); each call of a view gives the numbers that the table of fields
-//! (`specs/Fields.antt`) names; each call of a writer adds the bytes of its record (`specs/Records.antt`).
+//! (`rv_elf_laws/specs/Fields`) names; each call of a writer adds the bytes of its record (`Records` beside it).
 //! It does not know what sections mean.
 //!
 //! ```text
@@ -21,7 +21,6 @@
 #![tactic(auto)]
 
 mod checks;
-mod fault;
 mod fields;
 mod file_header;
 mod index;
@@ -36,8 +35,7 @@ mod view;
 mod writer;
 
 pub use checks::{file_type, lies_past};
-pub use fault::FileFault;
-pub use file_header::{FILE_HEADER_SIZE, FileHeader};
+pub use file_header::FILE_HEADER_SIZE;
 pub use index::{SectionIndex, SymbolIndex};
 pub use numbers::{
     EF_RISCV_RVC, EM_RISCV, ET_EXEC, ET_REL, EV_CURRENT, PF_R, PF_W, PF_X, PT_DYNAMIC, PT_INTERP,
@@ -45,10 +43,12 @@ pub use numbers::{
     SHT_NOBITS, SHT_NOTE, SHT_NULL, SHT_PROGBITS, SHT_RELA, SHT_STRTAB, SHT_SYMTAB, STB_GLOBAL,
     STB_LOCAL, STB_WEAK,
 };
-pub use program_header::{PROGRAM_HEADER_SIZE, ProgramHeader};
-pub use rela::{RELA_SIZE, Rela, rela_in};
-pub use section_header::{SECTION_HEADER_SIZE, SectionHeader};
+pub use program_header::PROGRAM_HEADER_SIZE;
+pub use rela::{RELA_SIZE, rela_in};
+pub use section_header::SECTION_HEADER_SIZE;
 pub use string::string_in;
-pub use symbol::{SYMBOL_SIZE, Symbol, symbol_in};
+pub use symbol::{SYMBOL_SIZE, symbol_in};
 pub use view::ElfView;
 pub use writer::ElfWriter;
+pub use rv_elf_laws::{FileHeader, ProgramHeader, Rela, SectionHeader, Symbol};
+pub use rv_fault::FileFault;

@@ -1,7 +1,7 @@
 //! Strings in a table of strings.
 
 ghost use Rattle.std.specs.Prelude.{◌≡◌, None, Some, MatchOption};
-ghost use Rattle.rv_elf.specs.Sections.{string_at};
+ghost use Rattle.rv_elf_laws.specs.Sections.{string_at};
 
 use memchr::memchr;
 

@@ -1,24 +1,25 @@
 //! A file, as its records.
 
 ghost use Rattle.std.specs.Prelude.{◌≡◌, ◌+◌, ◌*◌, ◌<◌, ◌≤◌, None, Some, length, IfOk, MatchOption};
-ghost use Rattle.rv_elf.specs.Fields.{file_header_size, program_header_size, symbol_size, rela_size, number_in, e_phoff};
-ghost use Rattle.rv_elf.specs.FirstFault.{Finds, open_tests};
-ghost use Rattle.rv_elf.specs.Numbers.{shn_loreserve};
-ghost use Rattle.rv_elf.specs.Records.{file_header_in, program_header_at, symbol_at, rela_at};
-ghost use Rattle.rv_elf.specs.Sections.{HasPrograms, HasSections, program_count, section_count, section_header_of, indexed_contents, file_contents, string_at};
+ghost use Rattle.rv_elf_laws.specs.Fields.{file_header_size, program_header_size, symbol_size, rela_size, number_in, e_phoff};
+ghost use Rattle.rv_elf_laws.specs.FirstFault.{Finds, open_tests};
+ghost use Rattle.rv_elf_laws.specs.Numbers.{shn_loreserve};
+ghost use Rattle.rv_elf_laws.specs.Records.{file_header_in, program_header_at, symbol_at, rela_at};
+ghost use Rattle.rv_elf_laws.specs.Sections.{HasPrograms, HasSections, program_count, section_count, section_header_of, indexed_contents, file_contents, string_at};
 
 use crate::checks::{check_tables, file_type, lies_past};
-use crate::fault::FileFault;
+use rv_fault::FileFault;
 use crate::fields::double;
-use crate::file_header::FileHeader;
+use crate::file_header::read_file_header;
 use crate::index::{SectionIndex, SymbolIndex};
 use crate::numbers::SHT_NOBITS;
 use crate::offsets::{E_PHOFF, E_SHOFF};
-use crate::program_header::{PROGRAM_HEADER_SIZE, ProgramHeader};
-use crate::rela::{Rela, rela_in};
-use crate::section_header::{SECTION_HEADER_SIZE, SectionHeader};
+use crate::program_header::{PROGRAM_HEADER_SIZE, read_program_header};
+use crate::rela::rela_in;
+use crate::section_header::{SECTION_HEADER_SIZE, read_section_header};
 use crate::string::string_in;
-use crate::symbol::{Symbol, symbol_in};
+use crate::symbol::symbol_in;
+use rv_elf_laws::{FileHeader, ProgramHeader, Rela, SectionHeader, Symbol};
 
 /// A file of this machine whose header and tables are good.
 #[derive(Clone, Copy, Debug, Drop)]
@@ -32,7 +33,7 @@ pub struct ElfView<'a> {
 
 impl<'a> ElfView<'a> {
     /// The file of these bytes, or the first fault of its header and tables.
-    #[tactic(auto, using(crate::specs::FirstTrue::first_true_some, crate::specs::FirstTrue::first_true_none))]
+    #[tactic(auto, using(rv_elf_laws::specs::FirstTrue::first_true_some, rv_elf_laws::specs::FirstTrue::first_true_none))]
     pub fn open(file: &'a [u8]) -> Result<ElfView<'a>, FileFault>
         ensures faults { Finds (open_tests file.now) result }
         ensures file { IfOk result (λ view. view.file.now ≡ file.now) }
@@ -53,7 +54,7 @@ impl<'a> ElfView<'a> {
     pub fn header(&self) -> FileHeader
         ensures { result ≡ file_header_in self.now.file.now }
     {
-        FileHeader::of(self.file)
+        read_file_header(self.file)
     }
 
     /// The program header of this index, from 0.
@@ -64,7 +65,7 @@ impl<'a> ElfView<'a> {
             self.now.file.now }
     {
         let table = double(self.file, 0, E_PHOFF) as usize;
-        ProgramHeader::at(self.file, table + PROGRAM_HEADER_SIZE * index as usize)
+        read_program_header(self.file, table + PROGRAM_HEADER_SIZE * index as usize)
     }
 
     /// The header of a section.
@@ -73,7 +74,7 @@ impl<'a> ElfView<'a> {
         ensures { result ≡ section_header_of self.now.file.now index.0 }
     {
         let table = double(self.file, 0, E_SHOFF) as usize;
-        SectionHeader::at(self.file, table + SECTION_HEADER_SIZE * index.0 as usize)
+        read_section_header(self.file, table + SECTION_HEADER_SIZE * index.0 as usize)
     }
 
     /// The bytes that the file has of a section with this header: none of one of zeros (`SHT_NOBITS`), and none

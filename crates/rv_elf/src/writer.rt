@@ -1,14 +1,15 @@
 //! Writes a file, record after record.
 
 ghost use Rattle.std.specs.Prelude.{◌≡◌, ◌≤◌, List, ℕ, [], ◌++◌, length, drop, replicate, OnOk, OnErr};
-ghost use Rattle.rv_elf.specs.Fields.{file_header_size};
-ghost use Rattle.rv_elf.specs.Records.{file_header_bytes, program_header_bytes, section_header_bytes, symbol_bytes, rela_bytes};
+ghost use Rattle.rv_elf_laws.specs.Fields.{file_header_size};
+ghost use Rattle.rv_elf_laws.specs.Records.{file_header_bytes, program_header_bytes, section_header_bytes, symbol_bytes, rela_bytes};
 
-use crate::file_header::FileHeader;
-use crate::program_header::ProgramHeader;
-use crate::rela::Rela;
-use crate::section_header::SectionHeader;
-use crate::symbol::Symbol;
+use crate::file_header::bytes_of_file_header;
+use crate::program_header::bytes_of_program_header;
+use crate::rela::bytes_of_rela;
+use crate::section_header::bytes_of_section_header;
+use crate::symbol::bytes_of_symbol;
+use rv_elf_laws::{FileHeader, ProgramHeader, Rela, SectionHeader, Symbol};
 use std::alloc::{AllocError, Global};
 use std::marker::Model;
 
@@ -47,7 +48,7 @@ impl ElfWriter {
         ensures ok { OnOk result (self.new ≡ self.old ++ file_header_bytes header.now) }
         ensures err { OnErr result (self.new ≡ self.old) }
     {
-        self.raw(&header.bytes())
+        self.raw(&bytes_of_file_header(header))
     }
 
     /// Writes the header of the file over its first 64 bytes, where it is known only in the end what the header says.
@@ -55,7 +56,7 @@ impl ElfWriter {
         requires { file_header_size ≤ length self.old }
         ensures { self.new ≡ file_header_bytes header.now ++ drop file_header_size self.old }
     {
-        put_over(&mut self.bytes, &header.bytes());
+        put_over(&mut self.bytes, &bytes_of_file_header(header));
     }
 
     /// Writes a program header.
@@ -63,7 +64,7 @@ impl ElfWriter {
         ensures ok { OnOk result (self.new ≡ self.old ++ program_header_bytes header.now) }
         ensures err { OnErr result (self.new ≡ self.old) }
     {
-        self.raw(&header.bytes())
+        self.raw(&bytes_of_program_header(header))
     }
 
     /// Writes a section header.
@@ -71,7 +72,7 @@ impl ElfWriter {
         ensures ok { OnOk result (self.new ≡ self.old ++ section_header_bytes header.now) }
         ensures err { OnErr result (self.new ≡ self.old) }
     {
-        self.raw(&header.bytes())
+        self.raw(&bytes_of_section_header(header))
     }
 
     /// Writes a symbol.
@@ -79,7 +80,7 @@ impl ElfWriter {
         ensures ok { OnOk result (self.new ≡ self.old ++ symbol_bytes symbol.now) }
         ensures err { OnErr result (self.new ≡ self.old) }
     {
-        self.raw(&symbol.bytes())
+        self.raw(&bytes_of_symbol(symbol))
     }
 
     /// Writes a relocation.
@@ -87,7 +88,7 @@ impl ElfWriter {
         ensures ok { OnOk result (self.new ≡ self.old ++ rela_bytes rela.now) }
         ensures err { OnErr result (self.new ≡ self.old) }
     {
-        self.raw(&rela.bytes())
+        self.raw(&bytes_of_rela(rela))
     }
 
     /// Writes bytes as they are.

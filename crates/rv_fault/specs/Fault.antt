@@ -2,7 +2,7 @@
 
 use Rattle.std.specs.Prelude.{⊤}
 use Rattle.rv_lexer.specs.declared.fault.SourceFault.TheVariants as sources
-use Rattle.rv_elf.specs.declared.fault.FileFault.TheVariants as files
+use Rattle.rv_fault.specs.declared.file_fault.FileFault.TheVariants as files
 use Rattle.rv_fault.specs.declared.link_fault.LinkFault.{LinkFault}
 use Rattle.rv_fault.specs.declared.link_fault.LinkFault.TheVariants as links
 use Rattle.rv_fault.specs.declared.fault.Fault.{Fault}

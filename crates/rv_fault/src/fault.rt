@@ -3,7 +3,7 @@
 ghost use Rattle.std.specs.Prelude.{◌≡◌};
 
 use crate::link_fault::LinkFault;
-use rv_elf::FileFault;
+use crate::file_fault::FileFault;
 use rv_lexer::SourceFault;
 use std::alloc::{AllocError, AllocFailed};
 use thiserror::Error;

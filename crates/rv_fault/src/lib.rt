@@ -15,7 +15,9 @@
 #![tactic(auto)]
 
 mod fault;
+mod file_fault;
 mod link_fault;
 
 pub use fault::Fault;
+pub use file_fault::FileFault;
 pub use link_fault::LinkFault;

@@ -1,7 +1,6 @@
 //! What the program shows of files for people and scripts: sizes, names, headers and tables.
 
-use rv_elf::FileFault;
-use rv_fault::Fault;
+use rv_fault::{Fault, FileFault};
 use rv_inspect::{ElfLines, NameLines, SizeTable};
 use rv_system::{JobError, System, fault_line, file_bytes, image_in, map_in, print, print_parts};
 use std::alloc::{AllocError, Global};

@@ -4,12 +4,12 @@ use Rattle.std.proofs.Common.{◌≡◌, ◌∙◌, ℕ, suc, ◌+◌, ◌*◌, 
 use Rattle.std.specs.List.{list_any, list_all}
 use Rattle.std.proofs.lemmas.List.{map-append}
 use Rattle.std.proofs.lemmas.List.Elements.{filter-append}
-use Rattle.rv_elf.specs.declared.fault.FileFault.TheVariants.{Truncated}
-use Rattle.rv_elf.specs.declared.program_header.ProgramHeader.{ProgramHeader}
-use Rattle.rv_elf.specs.Records.{program_header_at}
-use Rattle.rv_elf.specs.FirstFault.{first_true, header_tests, open_tests, type_tests}
-use Rattle.rv_elf.specs.FirstTrue.{no_fault_parts}
-use Rattle.rv_elf.specs.Sections.{records, program_headers}
+use Rattle.rv_fault.specs.declared.file_fault.FileFault.TheVariants.{Truncated}
+use Rattle.rv_elf_laws.specs.declared.program_header.ProgramHeader.{ProgramHeader}
+use Rattle.rv_elf_laws.specs.Records.{program_header_at}
+use Rattle.rv_elf_laws.specs.FirstFault.{first_true, header_tests, open_tests, type_tests}
+use Rattle.rv_elf_laws.specs.FirstTrue.{no_fault_parts}
+use Rattle.rv_elf_laws.specs.Sections.{records, program_headers}
 use Rattle.rv_firmware.specs.Blocks.{Block}
 use Rattle.rv_firmware.specs.FirmwareOf.{is_flashed, is_cut, block_in, firmware_tests, contents_tests}
 

@@ -2,12 +2,12 @@
 
 use Rattle.std.specs.Prelude.{ℕ, ◌+◌, ◌^◌, ◌==◌, ◌≡◌, nat_le, nat_lt, Bool, false, not, ◌&&◌, ◌||◌, ⊤, List, [], ◌∷◌, ◌++◌, Some, None, take, drop, map, filter}
 use Rattle.std.specs.List.{list_any, list_all}
-use Rattle.rv_elf.specs.declared.fault.FileFault.{FileFault}
-use Rattle.rv_elf.specs.declared.fault.FileFault.TheVariants.{Truncated}
-use Rattle.rv_elf.specs.declared.program_header.ProgramHeader.{ProgramHeader}
-use Rattle.rv_elf.specs.Fields.{number_in, e_entry}
-use Rattle.rv_elf.specs.FirstFault.{first_true, header_tests, type_tests, open_tests}
-use Rattle.rv_elf.specs.Sections.{program_headers, is_load, is_past}
+use Rattle.rv_fault.specs.declared.file_fault.FileFault.{FileFault}
+use Rattle.rv_fault.specs.declared.file_fault.FileFault.TheVariants.{Truncated}
+use Rattle.rv_elf_laws.specs.declared.program_header.ProgramHeader.{ProgramHeader}
+use Rattle.rv_elf_laws.specs.Fields.{number_in, e_entry}
+use Rattle.rv_elf_laws.specs.FirstFault.{first_true, header_tests, type_tests, open_tests}
+use Rattle.rv_elf_laws.specs.Sections.{program_headers, is_load, is_past}
 use Rattle.rv_firmware.specs.declared.fault.FirmwareFault.{FirmwareFault}
 use Rattle.rv_firmware.specs.declared.fault.FirmwareFault.TheVariants.{File, Address, Memory}
 use Rattle.rv_firmware.specs.declared.firmware.Firmware.{Firmware as DeclaredFirmware}

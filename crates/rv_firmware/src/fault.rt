@@ -3,7 +3,7 @@
 ghost use Rattle.std.specs.Prelude.{◌≡◌};
 ghost use Rattle.rv_firmware.specs.declared.fault.FirmwareFault.TheVariants.{File, Memory};
 
-use rv_elf::FileFault;
+use rv_fault::FileFault;
 use std::alloc::{AllocError, AllocFailed};
 use thiserror::Error;
 

@@ -5,15 +5,17 @@
 
 ghost use Rattle.std.specs.Prelude.{◌≡◌, ◌⊎◌, ◌+◌, ◌^◌, ◌<◌, ◌++◌, false, true, length, map, filter, [], ◌∷◌, IfOk, OnOk, MatchResult, ◌&&◌};
 ghost use Rattle.std.specs.List.{list_any};
-ghost use Rattle.rv_elf.specs.FirstFault.{Finds};
-ghost use Rattle.rv_elf.specs.Sections.{program_headers};
+ghost use Rattle.rv_elf_laws.specs.FirstFault.{Finds};
+ghost use Rattle.rv_elf_laws.specs.Sections.{program_headers};
 ghost use Rattle.rv_firmware.specs.declared.fault.FirmwareFault.TheVariants.{Memory};
 ghost use Rattle.rv_firmware.specs.Blocks.{block_of};
 ghost use Rattle.rv_firmware.specs.FirmwareOf.{firmware_of, firmware_in, firmware_tests, is_flashed, is_cut, is_low, are_low, block_in, IsRefused};
 
 use crate::block::Block;
 use crate::fault::FirmwareFault;
-use rv_elf::{ET_EXEC, ElfView, FileFault, PT_LOAD, ProgramHeader, file_type, lies_past};
+use rv_elf::{ET_EXEC, ElfView, PT_LOAD, file_type, lies_past};
+use rv_fault::FileFault;
+use rv_elf_laws::ProgramHeader;
 use std::alloc::{AllocError, Global};
 
 /// The contents of an executable's segments, and where it starts.
@@ -68,7 +70,7 @@ impl<'a> Firmware<'a> {
 }
 
 /// What of a file is to be looked at, or its first fault.
-#[tactic(auto, using(rv_elf::specs::FirstTrue::first_true_some, rv_elf::specs::FirstTrue::first_true_none), unfolding(crate::specs::FirmwareOf::firmware_tests, rv_elf::specs::FirstFault::type_tests, crate::specs::FirmwareOf::contents_tests))]
+#[tactic(auto, using(rv_elf_laws::specs::FirstTrue::first_true_some, rv_elf_laws::specs::FirstTrue::first_true_none), unfolding(crate::specs::FirmwareOf::firmware_tests, rv_elf_laws::specs::FirstFault::type_tests, crate::specs::FirmwareOf::contents_tests))]
 fn open(file: &[u8]) -> Result<ElfView<'_>, FileFault>
     ensures faults { Finds (firmware_tests file.now) result }
     ensures file { IfOk result (λ view. view.file.now ≡ file.now) }

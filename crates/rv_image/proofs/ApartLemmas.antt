@@ -1,21 +1,21 @@
 -- The segments of a file without a fault lie apart, and have the memory that their headers say.
 
 use Rattle.std.proofs.Common.{◌≡◌, ℕ, zero, suc, ◌+◌, ◌-◌, ◌≤◌, ◌^◌, Bool, true, false, not, ◌&&◌, List, [], ◌∷◌, ◌++◌, length, take, drop, replicate, map, filter, None, refl, ap, sym, ◌∙◌, append_assoc, arith, sum_by, nat_lt, inl, inr}
-use Rattle.rv_elf.specs.declared.fault.FileFault.TheVariants.{BadTable, Overlap}
+use Rattle.rv_fault.specs.declared.file_fault.FileFault.TheVariants.{BadTable, Overlap}
 use Rattle.std.specs.List.{list_any, list_all}
 use Rattle.std.proofs.lemmas.Bool.{cases_Bool, or_parts, and_from, cond-true, cond-false, eq-eqb, eqb-true, not_from_false}
 use Rattle.std.proofs.lemmas.Bool.Decides.{nat_tests}
 use Rattle.std.proofs.lemmas.List.{length-append, length-replicate, length-take-le, length-drop}
 use Rattle.std.proofs.lemmas.List.Folds.{list_any-append}
 use Rattle.std.proofs.lemmas.List.Sums.{sum_by-cons}
-use Rattle.rv_elf.specs.declared.program_header.ProgramHeader.{ProgramHeader}
-use Rattle.rv_elf.specs.Sections.{is_load, is_past}
+use Rattle.rv_elf_laws.specs.declared.program_header.ProgramHeader.{ProgramHeader}
+use Rattle.rv_elf_laws.specs.Sections.{is_load, is_past}
 use Rattle.rv_image_laws.specs.Segment.{do_meet, meets_segment, meets_stack, are_apart, memory_size}
 use Rattle.rv_isa_laws.specs.Platform.{stack_start, stack_end}
 use Rattle.rv_image_laws.specs.ImageOf.{segment_in}
-use Rattle.rv_elf.specs.FirstFault.{first_true}
+use Rattle.rv_elf_laws.specs.FirstFault.{first_true}
 use Rattle.rv_image_laws.specs.FirstFault.{do_overlap, programs_tests, program_tests, segment_tests, IsLoadable, loaded_size}
-use Rattle.rv_elf.specs.FirstTrue.{no_fault_parts}
+use Rattle.rv_elf_laws.specs.FirstTrue.{no_fault_parts}
 use Rattle.rv_image.proofs.LoadedLemmas.{program_loadable, program_fits}
 
 -- bytes that do not lie past the end of the file are all there

@@ -5,7 +5,7 @@ use Rattle.std.proofs.Math.Seq.{drop-append_seam, take-append_seam}
 use Rattle.std.proofs.lemmas.List.{length-append, length-replicate}
 use Rattle.std.proofs.lemmas.Bool.{cond-true, cond-false}
 use Rattle.std.proofs.lemmas.Bool.Decides.{nat_tests}
-use Rattle.rv_elf.specs.Sections.{is_past}
+use Rattle.rv_elf_laws.specs.Sections.{is_past}
 use Rattle.rv_image_laws.specs.Executable.{Part, memory_size_of, has_memory, offset_of, with_contents, with_parts}
 
 -- the parts stand in memory one after the other, from low on and up to high

@@ -4,23 +4,23 @@ use Rattle.std.proofs.Common.{◌≡◌, ℕ, ◌+◌, ◌*◌, ◌-◌, ◌%◌
 use Rattle.std.proofs.lemmas.Bool.{le-ltb, ne_eqb, and_left, and_right, cond-true, cond-false}
 use Rattle.std.proofs.lemmas.Bool.Decides.{nat_tests}
 use Rattle.std.proofs.lemmas.List.{length-append}
-use Rattle.rv_elf.specs.declared.fault.FileFault.TheVariants.{Truncated, BadMagic, WrongClass, WrongMachine, BadTable, NotExecutable, MemoryLimit}
+use Rattle.rv_fault.specs.declared.file_fault.FileFault.TheVariants.{Truncated, BadMagic, WrongClass, WrongMachine, BadTable, NotExecutable, MemoryLimit}
 use Rattle.rv_image.specs.declared.linked.Linked.{Linked as DeclaredLinked}
 use Rattle.rv_image_laws.specs.Linked.{Linked, IsLaidOut}
 use Rattle.rv_image.specs.Views.{linked_of}
-use Rattle.rv_elf.specs.declared.file_header.FileHeader.{FileHeader}
-use Rattle.rv_elf.specs.Fields.{number_in, ei_magic, ei_class, ei_data, ei_version, e_type, e_machine, e_entry, e_phoff, e_shoff, e_flags, e_phentsize, e_shentsize}
-use Rattle.rv_elf.specs.Numbers.{elfmag, elfclass64, elfdata2lsb, ev_current, et_exec, em_riscv, shn_loreserve, pn_xnum}
-use Rattle.rv_elf.specs.Records.{file_header_in, file_header_bytes}
-use Rattle.rv_elf.specs.ReadBack.{file_header_again}
-use Rattle.rv_elf.specs.Sections.{program_count, section_count, names_section, is_load, program_headers, is_past}
+use Rattle.rv_elf_laws.specs.declared.file_header.FileHeader.{FileHeader}
+use Rattle.rv_elf_laws.specs.Fields.{number_in, ei_magic, ei_class, ei_data, ei_version, e_type, e_machine, e_entry, e_phoff, e_shoff, e_flags, e_phentsize, e_shentsize}
+use Rattle.rv_elf_laws.specs.Numbers.{elfmag, elfclass64, elfdata2lsb, ev_current, et_exec, em_riscv, shn_loreserve, pn_xnum}
+use Rattle.rv_elf_laws.specs.Records.{file_header_in, file_header_bytes}
+use Rattle.rv_elf_laws.specs.ReadBack.{file_header_again}
+use Rattle.rv_elf_laws.specs.Sections.{program_count, section_count, names_section, is_load, program_headers, is_past}
 use Rattle.rv_isa_laws.specs.Platform.{stack_start, memory_limit}
 use Rattle.rv_image_laws.specs.Image.{Image}
 use Rattle.rv_image_laws.specs.ImageOf.{ImageOf, segment_in}
-use Rattle.rv_elf.specs.FirstFault.{first_true, header_tests, table_tests, type_tests}
+use Rattle.rv_elf_laws.specs.FirstFault.{first_true, header_tests, table_tests, type_tests}
 use Rattle.rv_image_laws.specs.FirstFault.{first_fault, load_tests, programs_tests, whole_tests, loaded_size, programs_from}
 use Rattle.rv_image_laws.specs.Executable.{Part, all_parts, parts_with_memory, has_memory, memory_size_of, header_of, program_of, program_bytes, exe_of, linked_image}
-use Rattle.rv_elf.specs.FirstTrue.{first_true_none}
+use Rattle.rv_elf_laws.specs.FirstTrue.{first_true_none}
 use Rattle.rv_image.proofs.PartsLemmas.{AllFit, programs_read, length-programs}
 use Rattle.rv_image.proofs.ContentsLemmas.{Ascending, AllStand, extends, all_stand, filter_stand, filter_ascend}
 use Rattle.rv_image.proofs.SoundLemmas.{programs_sound, filter_loads, segments_same, loaded_parts, filter_memory}

@@ -5,16 +5,16 @@ use Rattle.std.proofs.lemmas.Bool.{cond-true, cond-false, eq-eqb}
 use Rattle.std.proofs.lemmas.Bool.Decides.{nat_tests}
 use Rattle.std.proofs.lemmas.List.{map-append}
 use Rattle.std.proofs.lemmas.List.Elements.{filter-append}
-use Rattle.rv_elf.specs.declared.fault.FileFault.TheVariants.{Truncated, Dynamic}
+use Rattle.rv_fault.specs.declared.file_fault.FileFault.TheVariants.{Truncated, Dynamic}
 use Rattle.std.proofs.lemmas.List.Sums.{sum_by-cons}
-use Rattle.rv_elf.specs.declared.program_header.ProgramHeader.{ProgramHeader}
-use Rattle.rv_elf.specs.Records.{program_header_at}
-use Rattle.rv_elf.specs.Sections.{is_load, is_past}
+use Rattle.rv_elf_laws.specs.declared.program_header.ProgramHeader.{ProgramHeader}
+use Rattle.rv_elf_laws.specs.Records.{program_header_at}
+use Rattle.rv_elf_laws.specs.Sections.{is_load, is_past}
 use Rattle.rv_image_laws.specs.ImageOf.{segment_in}
-use Rattle.rv_elf.specs.FirstFault.{first_true}
+use Rattle.rv_elf_laws.specs.FirstFault.{first_true}
 use Rattle.rv_image_laws.specs.FirstFault.{is_dynamic, programs_tests, program_tests, segment_tests, IsLoadable, loaded_size, programs_from}
 use Rattle.rv_image.proofs.ProgramsLemmas.{programs_from_cut}
-use Rattle.rv_elf.specs.FirstTrue.{no_fault_parts}
+use Rattle.rv_elf_laws.specs.FirstTrue.{no_fault_parts}
 
 -- the tests of what is loaded, all false
 segment_fits : (before : List ProgramHeader) (p : ProgramHeader) → first_true (segment_tests before p) ≡ None → (p.p_filesz ≤ p.p_memsz) × (p.p_vaddr + p.p_memsz ≤ 2 ^ 64)

@@ -2,8 +2,8 @@
 
 use Rattle.std.proofs.Common.{◌≡◌, ℕ, ◌+◌, ◌*◌, List, [], ◌∷◌, ◌++◌, length, drop, map, refl, ap, sym, ◌∙◌, append_assoc, arith, flat_map}
 use Rattle.std.proofs.lemmas.List.{drop-drop}
-use Rattle.rv_elf.specs.Records.{program_header_bytes}
-use Rattle.rv_elf.specs.ReadBack.{FitsProgramHeader, program_header_there}
+use Rattle.rv_elf_laws.specs.Records.{program_header_bytes}
+use Rattle.rv_elf_laws.specs.ReadBack.{FitsProgramHeader, program_header_there}
 use Rattle.rv_image_laws.specs.FirstFault.{programs_from}
 use Rattle.rv_image_laws.specs.Executable.{Part, program_of, program_bytes}
 

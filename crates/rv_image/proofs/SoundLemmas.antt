@@ -6,16 +6,16 @@ use Rattle.std.proofs.lemmas.Bool.{and_from, le-ltb, le-leb, cond-true, cond-fal
 use Rattle.std.proofs.lemmas.Bool.Decides.{nat_tests}
 use Rattle.std.proofs.lemmas.List.Folds.{list_all-append}
 use Rattle.std.proofs.lemmas.List.Sums.{sum_by-cons}
-use Rattle.rv_elf.specs.declared.program_header.ProgramHeader.{ProgramHeader}
-use Rattle.rv_elf.specs.Sections.{is_load}
+use Rattle.rv_elf_laws.specs.declared.program_header.ProgramHeader.{ProgramHeader}
+use Rattle.rv_elf_laws.specs.Sections.{is_load}
 use Rattle.rv_image_laws.specs.Segment.{do_meet}
 use Rattle.rv_isa_laws.specs.Platform.{stack_start, stack_end}
 use Rattle.rv_image_laws.specs.ImageOf.{segment_in}
-use Rattle.rv_elf.specs.FirstFault.{first_true}
+use Rattle.rv_elf_laws.specs.FirstFault.{first_true}
 use Rattle.rv_image_laws.specs.FirstFault.{ends_by, program_tests, programs_tests, segment_tests, loaded_size}
 use Rattle.rv_image_laws.specs.Executable.{Part, memory_size_of, has_memory, offset_of, program_of, segment_of_part}
 use Rattle.rv_image.proofs.ProgramsLemmas.{none_meets, all_end_later}
-use Rattle.rv_elf.specs.FirstTrue.{first_true_none}
+use Rattle.rv_elf_laws.specs.FirstTrue.{first_true_none}
 use Rattle.rv_image.proofs.ContentsLemmas.{Ascending, Stands, AllStand}
 
 -- what ascends to high from low

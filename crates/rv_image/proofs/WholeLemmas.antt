@@ -3,12 +3,12 @@
 use Rattle.std.proofs.Common.{◌≡◌, ℕ, ◌%◌, ◌≤◌, List, [], None, arith}
 use Rattle.std.proofs.lemmas.Bool.Decides.{nat_tests}
 use Rattle.rv_isa_laws.specs.Platform.{memory_limit}
-use Rattle.rv_elf.specs.Sections.{program_headers}
-use Rattle.rv_elf.specs.Fields.{number_in, ei_magic, ei_class, ei_data, ei_version, e_type, e_machine, e_entry}
-use Rattle.rv_elf.specs.Numbers.{elfmag, elfclass64, elfdata2lsb, ev_current, et_exec, em_riscv}
-use Rattle.rv_elf.specs.FirstFault.{first_true, header_tests, table_tests, type_tests}
+use Rattle.rv_elf_laws.specs.Sections.{program_headers}
+use Rattle.rv_elf_laws.specs.Fields.{number_in, ei_magic, ei_class, ei_data, ei_version, e_type, e_machine, e_entry}
+use Rattle.rv_elf_laws.specs.Numbers.{elfmag, elfclass64, elfdata2lsb, ev_current, et_exec, em_riscv}
+use Rattle.rv_elf_laws.specs.FirstFault.{first_true, header_tests, table_tests, type_tests}
 use Rattle.rv_image_laws.specs.FirstFault.{load_tests, programs_tests, whole_tests, loaded_size}
-use Rattle.rv_elf.specs.FirstTrue.{no_fault_parts}
+use Rattle.rv_elf_laws.specs.FirstTrue.{no_fault_parts}
 
 pub record HeaderSays (file : List ℕ) : Type 0 where
   pub magic : number_in ei_magic 0 file ≡ elfmag

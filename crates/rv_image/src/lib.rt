@@ -31,7 +31,7 @@ pub use image::Image;
 pub use linked::Linked;
 pub use loading::load;
 pub use round_trip::reload;
-pub use rv_elf::FileFault;
+pub use rv_fault::FileFault;
 pub use rv_map::{Global, Map};
 pub use rv_map_laws::{Region, Row, SectionId};
 pub use segment::{MEMORY_LIMIT, STACK_BYTES, STACK_START, Segment};

@@ -1,12 +1,12 @@
 //! Reads an executable.
 
 ghost use Rattle.std.specs.Prelude.{◌≡◌, ◌<◌, ◌+◌, ◌*◌, ◌⊎◌, false, None, Some, length, take, drop, map, filter, [], ◌∷◌, ◌++◌, IfOk, MatchResult, ℕ};
-ghost use Rattle.rv_elf.specs.declared.fault.FileFault.TheVariants.{OutOfMemory};
-ghost use Rattle.rv_elf.specs.Fields.{number_in, e_phoff, program_header_size};
-ghost use Rattle.rv_elf.specs.FirstFault.{Finds};
-ghost use Rattle.rv_elf.specs.Numbers.{pt_load};
-ghost use Rattle.rv_elf.specs.Records.{program_header_at};
-ghost use Rattle.rv_elf.specs.Sections.{program_headers, program_count, is_load, is_past};
+ghost use Rattle.rv_fault.specs.declared.file_fault.FileFault.TheVariants.{OutOfMemory};
+ghost use Rattle.rv_elf_laws.specs.Fields.{number_in, e_phoff, program_header_size};
+ghost use Rattle.rv_elf_laws.specs.FirstFault.{Finds};
+ghost use Rattle.rv_elf_laws.specs.Numbers.{pt_load};
+ghost use Rattle.rv_elf_laws.specs.Records.{program_header_at};
+ghost use Rattle.rv_elf_laws.specs.Sections.{program_headers, program_count, is_load, is_past};
 ghost use Rattle.rv_image_laws.specs.FirstFault.{load_tests, first_fault, IsLoadable};
 ghost use Rattle.rv_image.specs.Views.{image_of};
 ghost use Rattle.rv_image_laws.specs.ImageOf.{ImageOf, segment_in};
@@ -15,7 +15,9 @@ ghost use Rattle.rv_image.specs.SegmentView.{segment_of};
 use crate::image::Image;
 use crate::segment::Segment;
 use crate::segments::{check_programs, check_whole};
-use rv_elf::{ET_EXEC, ElfView, FileFault, PT_LOAD, ProgramHeader, file_type};
+use rv_elf::{ET_EXEC, ElfView, PT_LOAD, file_type};
+use rv_fault::FileFault;
+use rv_elf_laws::ProgramHeader;
 use std::alloc::{AllocError, Global};
 
 /// The image of an executable, or the first of its faults. Nothing of the file is copied before all
@@ -34,7 +36,7 @@ pub fn load(alloc: Global, file: &[u8]) -> Result<Image, FileFault>
 }
 
 /// A view of a file without a fault, or its first fault.
-#[tactic(auto, using(rv_elf::specs::FirstTrue::first_true_some, rv_elf::specs::FirstTrue::first_true_none), unfolding(rv_image_laws::specs::FirstFault::load_tests, rv_elf::specs::FirstFault::type_tests))]
+#[tactic(auto, using(rv_elf_laws::specs::FirstTrue::first_true_some, rv_elf_laws::specs::FirstTrue::first_true_none), unfolding(rv_image_laws::specs::FirstFault::load_tests, rv_elf_laws::specs::FirstFault::type_tests))]
 fn check(file: &[u8]) -> Result<ElfView<'_>, FileFault>
     ensures faults { Finds (load_tests file.now) result }
     ensures file { IfOk result (λ view. view.file.now ≡ file.now) }

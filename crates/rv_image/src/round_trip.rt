@@ -1,7 +1,7 @@
 //! What is written is loaded again.
 
 ghost use Rattle.std.specs.Prelude.{◌≡◌, MatchResult};
-ghost use Rattle.rv_elf.specs.declared.fault.FileFault.TheVariants.{OutOfMemory};
+ghost use Rattle.rv_fault.specs.declared.file_fault.FileFault.TheVariants.{OutOfMemory};
 ghost use Rattle.rv_image_laws.specs.Executable.{linked_image};
 ghost use Rattle.rv_image.specs.Views.{image_of, linked_of};
 
@@ -9,7 +9,7 @@ use crate::image::Image;
 use crate::linked::Linked;
 use crate::loading::load;
 use crate::writing::write_exec;
-use rv_elf::FileFault;
+use rv_fault::FileFault;
 use std::alloc::Global;
 
 /// The image of a linked program: its executable is written, and loaded again. Nothing but want of

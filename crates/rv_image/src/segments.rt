@@ -3,15 +3,15 @@
 ghost use Rattle.std.specs.Prelude.{◌≡◌, ◌<◌, ◌≤◌, ◌+◌, ◌^◌, true, not, nat_lt, [], ◌∷◌};
 ghost use Rattle.std.specs.List.{list_any, list_all};
 ghost use Rattle.rv_isa_laws.specs.Platform.{memory_limit};
-ghost use Rattle.rv_elf.specs.FirstFault.{Finds};
-ghost use Rattle.rv_elf.specs.Sections.{program_count, program_headers};
+ghost use Rattle.rv_elf_laws.specs.FirstFault.{Finds};
+ghost use Rattle.rv_elf_laws.specs.Sections.{program_count, program_headers};
 ghost use Rattle.rv_image_laws.specs.FirstFault.{programs_tests, program_tests, segment_tests, do_overlap, ends_by, whole_tests, loaded_size, programs_before};
 ghost use Rattle.rv_image_laws.specs.Segment.{do_meet};
 
 use crate::segment::{MEMORY_LIMIT, STACK_BYTES, STACK_START};
-use rv_elf::{
-    ElfView, FileFault, PT_DYNAMIC, PT_INTERP, PT_LOAD, PT_TLS, ProgramHeader, lies_past,
-};
+use rv_elf::{ElfView, PT_DYNAMIC, PT_INTERP, PT_LOAD, PT_TLS, lies_past};
+use rv_fault::FileFault;
+use rv_elf_laws::ProgramHeader;
 
 /// Looks at the program headers, one after the other.
 pub(crate) fn check_programs(view: &ElfView<'_>) -> Result<(), FileFault>

@@ -1,15 +1,13 @@
 //! Writes an executable.
 
 ghost use Rattle.std.specs.Prelude.{◌≡◌, ◌<◌, ◌≤◌, ◌+◌, ◌^◌, length, filter, flat_map, [], ◌∷◌, ◌++◌, IfOk, OnOk, ◌-◌};
-ghost use Rattle.rv_elf.specs.Numbers.{pf_x, pf_w, pf_r};
+ghost use Rattle.rv_elf_laws.specs.Numbers.{pf_x, pf_w, pf_r};
 ghost use Rattle.rv_image_laws.specs.Executable.{exe_of, parts_with_memory, has_memory, header_of, program_of, program_bytes, with_contents, with_parts, all_parts, offset_of, memory_size_of};
 ghost use Rattle.rv_image.specs.Views.{segment_part, linked_of};
 
 use crate::linked::Linked;
-use rv_elf::{
-    EF_RISCV_RVC, EM_RISCV, ET_EXEC, EV_CURRENT, ElfWriter, FILE_HEADER_SIZE, FileHeader, PF_R,
-    PF_W, PF_X, PROGRAM_HEADER_SIZE, PT_LOAD, ProgramHeader,
-};
+use rv_elf::{EF_RISCV_RVC, EM_RISCV, ET_EXEC, EV_CURRENT, ElfWriter, FILE_HEADER_SIZE, PF_R, PF_W, PF_X, PROGRAM_HEADER_SIZE, PT_LOAD};
+use rv_elf_laws::{FileHeader, ProgramHeader};
 use std::alloc::{AllocError, Global};
 
 /// The bytes of a page: text stands in the file from the second on.

@@ -1,11 +1,11 @@
 -- The executable that a linked program becomes (System V gABI, "ELF Header" and "Program Header").
 
 use Rattle.std.specs.Prelude.{ℕ, ◌+◌, ◌-◌, ◌==◌, Bool, not, if◌then◌else◌, List, [], ◌∷◌, ◌++◌, length, replicate, map, filter, flat_map}
-use Rattle.rv_elf.specs.declared.file_header.FileHeader.{FileHeader}
-use Rattle.rv_elf.specs.declared.program_header.ProgramHeader.{ProgramHeader}
-use Rattle.rv_elf.specs.Fields.{file_header_size, program_header_size}
-use Rattle.rv_elf.specs.Numbers.{et_exec, em_riscv, ev_current, ef_riscv_rvc, pt_load, pf_x, pf_w, pf_r}
-use Rattle.rv_elf.specs.Records.{file_header_bytes, program_header_bytes}
+use Rattle.rv_elf_laws.specs.declared.file_header.FileHeader.{FileHeader}
+use Rattle.rv_elf_laws.specs.declared.program_header.ProgramHeader.{ProgramHeader}
+use Rattle.rv_elf_laws.specs.Fields.{file_header_size, program_header_size}
+use Rattle.rv_elf_laws.specs.Numbers.{et_exec, em_riscv, ev_current, ef_riscv_rvc, pt_load, pf_x, pf_w, pf_r}
+use Rattle.rv_elf_laws.specs.Records.{file_header_bytes, program_header_bytes}
 use Rattle.rv_image_laws.specs.Segment.{Segment}
 use Rattle.rv_image_laws.specs.Image.{Image}
 use Rattle.rv_image_laws.specs.Linked.{Linked}

@@ -2,14 +2,14 @@
 
 use Rattle.std.specs.Prelude.{◌≡◌, ℕ, ◌+◌, ◌-◌, ◌%◌, ◌^◌, ◌==◌, nat_lt, nat_le, ◌≤◌, false, Bool, not, ◌&&◌, ◌||◌, if◌then◌else◌, List, [], ◌∷◌, ◌++◌, filter, sum_by, Option}
 use Rattle.std.specs.List.{list_any}
-use Rattle.rv_elf.specs.declared.program_header.ProgramHeader.{ProgramHeader}
-use Rattle.rv_elf.specs.declared.fault.FileFault.{FileFault}
-use Rattle.rv_elf.specs.declared.fault.FileFault.TheVariants.{Truncated, BadTable, Dynamic, Overlap, MemoryLimit}
-use Rattle.rv_elf.specs.Fields.{number_in, e_entry, e_phoff, program_header_size}
-use Rattle.rv_elf.specs.FirstFault.{first_true, header_tests, type_tests, table_tests}
-use Rattle.rv_elf.specs.Numbers.{pt_load, pt_dynamic, pt_interp, pt_tls}
-use Rattle.rv_elf.specs.Records.{program_header_at}
-use Rattle.rv_elf.specs.Sections.{is_past, is_load, records, program_headers}
+use Rattle.rv_elf_laws.specs.declared.program_header.ProgramHeader.{ProgramHeader}
+use Rattle.rv_fault.specs.declared.file_fault.FileFault.{FileFault}
+use Rattle.rv_fault.specs.declared.file_fault.FileFault.TheVariants.{Truncated, BadTable, Dynamic, Overlap, MemoryLimit}
+use Rattle.rv_elf_laws.specs.Fields.{number_in, e_entry, e_phoff, program_header_size}
+use Rattle.rv_elf_laws.specs.FirstFault.{first_true, header_tests, type_tests, table_tests}
+use Rattle.rv_elf_laws.specs.Numbers.{pt_load, pt_dynamic, pt_interp, pt_tls}
+use Rattle.rv_elf_laws.specs.Records.{program_header_at}
+use Rattle.rv_elf_laws.specs.Sections.{is_past, is_load, records, program_headers}
 use Rattle.rv_image_laws.specs.Segment.{do_meet}
 use Rattle.rv_isa_laws.specs.Platform.{stack_start, stack_end, memory_limit}
 

@@ -1,10 +1,10 @@
 -- The image of a file (System V gABI, "ProgramHeader Loading"; RISC-V ELF psABI, "File Header").
 
 use Rattle.std.specs.Prelude.{◌≡◌, ℕ, ◌-◌, List, ◌++◌, take, drop, replicate, map, filter}
-use Rattle.rv_elf.specs.declared.program_header.ProgramHeader.{ProgramHeader}
-use Rattle.rv_elf.specs.Fields.{number_in, ei_magic, ei_class, ei_data, ei_version, e_type, e_machine, e_entry}
-use Rattle.rv_elf.specs.Numbers.{elfmag, elfclass64, elfdata2lsb, ev_current, et_exec, em_riscv}
-use Rattle.rv_elf.specs.Sections.{program_headers, is_load}
+use Rattle.rv_elf_laws.specs.declared.program_header.ProgramHeader.{ProgramHeader}
+use Rattle.rv_elf_laws.specs.Fields.{number_in, ei_magic, ei_class, ei_data, ei_version, e_type, e_machine, e_entry}
+use Rattle.rv_elf_laws.specs.Numbers.{elfmag, elfclass64, elfdata2lsb, ev_current, et_exec, em_riscv}
+use Rattle.rv_elf_laws.specs.Sections.{program_headers, is_load}
 use Rattle.rv_image_laws.specs.Segment.{Segment}
 use Rattle.rv_image_laws.specs.Image.{Image}
 

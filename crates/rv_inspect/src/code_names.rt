@@ -7,10 +7,9 @@ use crate::labels::{Label, Labels};
 use crate::marks::{Mark, Marks};
 use crate::parts::{bytes_of, count_symbols, section_named, symbol_at, symbol_table};
 use crate::relocations::{Relocation, file_relocations};
-use rv_elf::{
-    ET_REL, ElfView, FileFault, SHN_ABS, SHN_UNDEF, STB_GLOBAL, STB_LOCAL, SectionHeader, Symbol,
-    string_in,
-};
+use rv_elf::{ET_REL, ElfView, SHN_ABS, SHN_UNDEF, STB_GLOBAL, STB_LOCAL, string_in};
+use rv_fault::FileFault;
+use rv_elf_laws::{SectionHeader, Symbol};
 use rv_map::Map;
 use std::alloc::{AllocError, Global};
 

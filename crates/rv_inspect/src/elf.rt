@@ -5,7 +5,8 @@ use crate::relocation_lines::{RelocationLines, check_relocations};
 use crate::section_lines::SectionLines;
 use crate::segment_lines::put_segments;
 use crate::symbol_lines::{SymbolLines, check_symbols};
-use rv_elf::{ElfView, FileFault};
+use rv_elf::ElfView;
+use rv_fault::FileFault;
 use std::alloc::AllocError;
 
 /// The header, the sections, the segments, the relocations and the symbols of a file, whose lines are made part by part:

@@ -2,7 +2,8 @@
 
 use crate::columns::Column::{Decimal, Hexadecimal, Padded, Text};
 use crate::columns::{put, put_columns};
-use rv_elf::{EF_RISCV_RVC, ET_EXEC, ET_REL, ElfView, FileHeader};
+use rv_elf::{EF_RISCV_RVC, ET_EXEC, ET_REL, ElfView};
+use rv_elf_laws::FileHeader;
 use std::alloc::AllocError;
 
 /// The bytes of `e_ident`.

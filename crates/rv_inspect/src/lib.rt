@@ -56,7 +56,7 @@ pub use parts::{
     symbol_table,
 };
 pub use relocation_name::kind_name;
-pub use rv_elf::FileFault;
+pub use rv_fault::FileFault;
 pub use rv_map::Map;
 pub use section_lines::section_name;
 pub use size::SizeTable;

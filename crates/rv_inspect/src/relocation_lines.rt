@@ -6,7 +6,9 @@ use crate::parts::{bytes_of, count_relas, rela_at, section_at, section_named, sy
 use crate::relocation_name::kind_name;
 use crate::section_lines::section_name;
 use crate::symbol_lines::symbol_name;
-use rv_elf::{ElfView, FileFault, Rela, SHT_RELA, SectionHeader};
+use rv_elf::{ElfView, SHT_RELA};
+use rv_fault::FileFault;
+use rv_elf_laws::{Rela, SectionHeader};
 use std::alloc::AllocError;
 
 const HEADING: &[u8] = b"    Offset             Info             Type               \

@@ -5,7 +5,9 @@ use crate::columns::{put, put_columns};
 use crate::parts::{bytes_of, count_relas, rela_at, section_at, section_named, symbol_at};
 use crate::relocation_name::kind_name;
 use crate::section_lines::section_name;
-use rv_elf::{ElfView, FileFault, Rela, SHT_RELA, SectionHeader, Symbol, string_in};
+use rv_elf::{ElfView, SHT_RELA, string_in};
+use rv_fault::FileFault;
+use rv_elf_laws::{Rela, SectionHeader, Symbol};
 use std::alloc::{AllocError, Global};
 
 /// A relocation and what it names.

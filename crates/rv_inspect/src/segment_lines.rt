@@ -2,7 +2,8 @@
 
 use crate::columns::Column::{Hexadecimal, Left, Padded, Text};
 use crate::columns::{put, put_columns};
-use rv_elf::{ElfView, PF_R, PF_W, PF_X, PT_DYNAMIC, PT_INTERP, PT_LOAD, PT_TLS, ProgramHeader};
+use rv_elf::{ElfView, PF_R, PF_W, PF_X, PT_DYNAMIC, PT_INTERP, PT_LOAD, PT_TLS};
+use rv_elf_laws::ProgramHeader;
 use std::alloc::AllocError;
 
 const HEADING: &[u8] = b"

@@ -2,7 +2,8 @@
 
 use rv_assemble::assemble;
 use rv_chain::{Built, LinkOptions, build};
-use rv_elf::{ElfView, ElfWriter, SectionIndex, Symbol, SymbolIndex};
+use rv_elf::{ElfView, ElfWriter, SectionIndex, SymbolIndex};
+use rv_elf_laws::Symbol;
 use rv_image::{FileFault, load};
 use rv_object::{Object, read, write};
 use std::alloc::Global;

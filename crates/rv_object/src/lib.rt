@@ -14,7 +14,7 @@
 //! Source: System V gABI, chapters 4 and 5; RISC-V ELF psABI, "Relocations".
 #![tactic(auto)]
 
-pub use rv_elf::FileFault;
+pub use rv_fault::FileFault;
 pub use rv_object_reader::read;
 pub use rv_object_types::{
     Binding, Contents, Definition, Object, Relocation, Row, Section, Symbol,

@@ -9,7 +9,7 @@ use Rattle.std.proofs.lemmas.List.{map-append, length-append}
 use Rattle.std.proofs.lemmas.List.Elements.{filter-append}
 use Rattle.std.proofs.lemmas.Bool.{cond-true, cond-false, eqb-true}
 use Rattle.std.proofs.lemmas.Bool.Decides.{nat_tests}
-use Rattle.rv_elf.specs.Sections.{section_count}
+use Rattle.rv_elf_laws.specs.Sections.{section_count}
 use Rattle.rv_object_file_laws.specs.Parts.{FileSection, is_kept, is_index, kept, kept_at, kept_before}
 use Rattle.rv_object_checks.specs.Found.{section_at, sections_from, place_among_kept, place_at, places_of}
 use Rattle.rv_object_checks.proofs.SectionsFromLemmas.{sections_are}

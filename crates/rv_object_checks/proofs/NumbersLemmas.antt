@@ -4,7 +4,7 @@ use Rattle.std.proofs.Common.{◌≡◌, ℕ, ◌+◌, ◌-◌, ◌≤◌, List,
 use Rattle.std.proofs.lemmas.List.{drop-drop, drop-take}
 use Rattle.byteorder.specs.Endian.{little_number}
 use Rattle.byteorder.specs.Numbers.{little_from-take}
-use Rattle.rv_elf.specs.Fields.{Field, field, number_in}
+use Rattle.rv_elf_laws.specs.Fields.{Field, field, number_in}
 
 -- a field of a record whose bytes these are
 pub number_here : (offset width : ℕ) (bytes : List ℕ) → little_number width (drop offset bytes) ≡ number_in (field offset width) 0 bytes

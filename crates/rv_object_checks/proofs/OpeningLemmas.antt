@@ -4,13 +4,13 @@ use Rattle.std.proofs.Common.{◌≡◌, ◌⊎◌, inl, inr, ℕ, zero, suc, �
 use Rattle.std.specs.Prelude.{◌==◌}
 use Rattle.std.proofs.lemmas.Bool.{cond-true, cond-false}
 use Rattle.std.proofs.lemmas.Bool.Decides.{nat_tests}
-use Rattle.rv_elf.specs.declared.fault.FileFault.{FileFault}
-use Rattle.rv_elf.specs.declared.fault.FileFault.TheVariants.{OutOfMemory, NotObject, BadTable}
-use Rattle.rv_elf.specs.Fields.{number_in, e_type}
-use Rattle.rv_elf.specs.FirstFault.{first_true, header_tests, table_tests, open_tests}
-use Rattle.rv_elf.specs.FirstTrue.{first_true_none, first_true_some, no_fault_parts}
-use Rattle.rv_elf.specs.Numbers.{et_rel}
-use Rattle.rv_elf.specs.Sections.{section_count, names_section}
+use Rattle.rv_fault.specs.declared.file_fault.FileFault.{FileFault}
+use Rattle.rv_fault.specs.declared.file_fault.FileFault.TheVariants.{OutOfMemory, NotObject, BadTable}
+use Rattle.rv_elf_laws.specs.Fields.{number_in, e_type}
+use Rattle.rv_elf_laws.specs.FirstFault.{first_true, header_tests, table_tests, open_tests}
+use Rattle.rv_elf_laws.specs.FirstTrue.{first_true_none, first_true_some, no_fault_parts}
+use Rattle.rv_elf_laws.specs.Numbers.{et_rel}
+use Rattle.rv_elf_laws.specs.Sections.{section_count, names_section}
 use Rattle.rv_object_file_laws.specs.FirstFault.{object_tests, sections_tests, first_fault}
 use Rattle.rv_object_file_laws.specs.Parts.{sections}
 use Rattle.rv_object_checks.specs.Opening.{opening_tests}

@@ -2,10 +2,10 @@
 
 use Rattle.std.proofs.Common.{◌≡◌, ℕ, zero, suc, ◌+◌, ◌-◌, ◌≤◌, ◌<◌, Bool, List, [], ◌∷◌, drop, Some, None, refl, ap, sym, ◌∙◌, arith}
 use Rattle.std.specs.Prelude.{flat_map}
-use Rattle.rv_elf.specs.declared.fault.FileFault.{FileFault}
-use Rattle.rv_elf.specs.FirstFault.{first_true}
-use Rattle.rv_elf.specs.Sections.{records}
-use Rattle.rv_elf.specs.FirstTrue.{first_true_none, first_true_some}
+use Rattle.rv_fault.specs.declared.file_fault.FileFault.{FileFault}
+use Rattle.rv_elf_laws.specs.FirstFault.{first_true}
+use Rattle.rv_elf_laws.specs.Sections.{records}
+use Rattle.rv_elf_laws.specs.FirstTrue.{first_true_none, first_true_some}
 
 pub records_cut : {X : Type 0} (f : ℕ → List ℕ → X) (size n i p q : ℕ) (bytes : List ℕ) → i < n → q ≡ p + size →
     records f size (n - i) p bytes ≡ f p bytes ∷ records f size (n - (i + 1)) q bytes

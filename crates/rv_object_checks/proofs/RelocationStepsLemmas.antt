@@ -7,22 +7,22 @@ use Rattle.std.proofs.lemmas.List.{length-replicate}
 use Rattle.std.proofs.lemmas.Bool.{leb-true, and_parts}
 use Rattle.std.proofs.lemmas.Bool.Decides.{nat_tests}
 use Rattle.rv_isa.specs.Kinds.{width_of}
-use Rattle.rv_elf.specs.declared.rela.Rela.{Rela}
-use Rattle.rv_elf.specs.declared.section_header.SectionHeader.{SectionHeader}
-use Rattle.rv_elf.specs.declared.fault.FileFault.{FileFault}
-use Rattle.rv_elf.specs.Fields.{rela_size}
-use Rattle.rv_elf.specs.Fields as at
-use Rattle.rv_elf.specs.Numbers.{sht_nobits}
-use Rattle.rv_elf.specs.FirstFault.{first_true}
-use Rattle.rv_elf.specs.Records.{rela_at}
-use Rattle.rv_elf.specs.Sections.{records}
+use Rattle.rv_elf_laws.specs.declared.rela.Rela.{Rela}
+use Rattle.rv_elf_laws.specs.declared.section_header.SectionHeader.{SectionHeader}
+use Rattle.rv_fault.specs.declared.file_fault.FileFault.{FileFault}
+use Rattle.rv_elf_laws.specs.Fields.{rela_size}
+use Rattle.rv_elf_laws.specs.Fields as at
+use Rattle.rv_elf_laws.specs.Numbers.{sht_nobits}
+use Rattle.rv_elf_laws.specs.FirstFault.{first_true}
+use Rattle.rv_elf_laws.specs.Records.{rela_at}
+use Rattle.rv_elf_laws.specs.Sections.{records}
 use Rattle.rv_object_laws.specs.Object.{Relocation, Contents, Nobits, Progbits, size_of}
 use Rattle.rv_object_laws.specs.Valid.{is_align, held, fits_inside, is_padding, is_padding_of, padding_of}
 use Rattle.rv_object_file_laws.specs.FirstFault.{relocations_tests, relocation_tests}
 use Rattle.rv_object_file_laws.specs.Parts.{relocation_in, relocations_in, extent_of}
 use Rattle.rv_object_checks.specs.Stretches.{HoldsCode}
 use Rattle.rv_object_checks.proofs.SymbolFieldsLemmas.{number_behind}
-use Rattle.rv_elf.specs.FirstTrue.{first_true_none, first_true_some}
+use Rattle.rv_elf_laws.specs.FirstTrue.{first_true_none, first_true_some}
 
 -- the records from an index on, of so many
 abbrev pub left_of : ℕ → ℕ → List ℕ → List Rela

@@ -4,9 +4,9 @@ use Rattle.std.proofs.Common.{◌≡◌, ℕ, zero, suc, ◌+◌, ◌*◌, ◌-�
 use Rattle.rv_object_checks.specs.SectionsFrom.{from_cut}
 use Rattle.std.specs.List.{find}
 use Rattle.std.proofs.lemmas.Bool.{cond-true, cond-false}
-use Rattle.rv_elf.specs.Fields.{number_in, e_shoff, section_header_size}
-use Rattle.rv_elf.specs.Records.{section_header_at}
-use Rattle.rv_elf.specs.Sections.{records, section_count}
+use Rattle.rv_elf_laws.specs.Fields.{number_in, e_shoff, section_header_size}
+use Rattle.rv_elf_laws.specs.Records.{section_header_at}
+use Rattle.rv_elf_laws.specs.Sections.{records, section_count}
 use Rattle.rv_object_file_laws.specs.Parts.{FileSection, numbered, sections}
 use Rattle.rv_object_checks.specs.Found.{section_at, sections_from}
 

@@ -8,8 +8,8 @@ use Rattle.std.proofs.lemmas.Bool.Decides.{nat_tests}
 use Rattle.std.proofs.lemmas.List.{length-drop, get_or-drop, append_assoc, append-nil}
 use Rattle.memchr.specs.Find.{IsFirst, Passes, places, places_from}
 use Rattle.rv_map_laws.specs.Name.{is_name_byte}
-use Rattle.rv_elf.specs.declared.section_header.SectionHeader.{SectionHeader}
-use Rattle.rv_elf.specs.Sections.{before_zero, string_at, indexed_contents, names_section}
+use Rattle.rv_elf_laws.specs.declared.section_header.SectionHeader.{SectionHeader}
+use Rattle.rv_elf_laws.specs.Sections.{before_zero, string_at, indexed_contents, names_section}
 use Rattle.rv_object_file_laws.specs.FirstFault.{is_none}
 use Rattle.rv_object_file_laws.specs.Parts.{name_at, name_of}
 use Rattle.rv_object_checks.specs.Names.{strings_end, names_end, is_unshown, can_show}

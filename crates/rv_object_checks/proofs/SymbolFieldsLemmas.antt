@@ -6,13 +6,13 @@ use Rattle.std.specs.declared.result.Result.TheVariants.{Ok, Err}
 use Rattle.rv_map_laws.specs.Name.{is_name}
 use Rattle.std.proofs.lemmas.List.{drop-drop}
 use Rattle.byteorder.specs.Endian.{little_number}
-use Rattle.rv_elf.specs.declared.fault.FileFault.{FileFault}
-use Rattle.rv_elf.specs.declared.fault.FileFault.TheVariants.{OutOfMemory}
-use Rattle.rv_elf.specs.FirstFault.{Finds, first_true}
-use Rattle.rv_elf.specs.declared.symbol.Symbol.{Symbol}
-use Rattle.rv_elf.specs.Fields as at
-use Rattle.rv_elf.specs.Records.{symbol_at}
-use Rattle.rv_elf.specs.Sections.{string_at, symbols_in}
+use Rattle.rv_fault.specs.declared.file_fault.FileFault.{FileFault}
+use Rattle.rv_fault.specs.declared.file_fault.FileFault.TheVariants.{OutOfMemory}
+use Rattle.rv_elf_laws.specs.FirstFault.{Finds, first_true}
+use Rattle.rv_elf_laws.specs.declared.symbol.Symbol.{Symbol}
+use Rattle.rv_elf_laws.specs.Fields as at
+use Rattle.rv_elf_laws.specs.Records.{symbol_at}
+use Rattle.rv_elf_laws.specs.Sections.{string_at, symbols_in}
 use Rattle.rv_object_file_laws.specs.FirstFault.{is_none, is_bad_name, is_shared_record, symbol_tests}
 use Rattle.rv_object_file_laws.specs.Parts.{name_at}
 use Rattle.rv_object_checks.specs.Names.{can_show}

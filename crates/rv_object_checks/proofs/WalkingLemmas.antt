@@ -11,11 +11,11 @@ use Rattle.std.proofs.lemmas.Bool.Decides.{nat_tests}
 use Rattle.std.proofs.lemmas.List.Elements.{filter-append, filter_map-append}
 use Rattle.std.proofs.lemmas.List.Folds.{list_any-append}
 use Rattle.std.proofs.lemmas.Option.{slice_get_read}
-use Rattle.rv_elf.specs.declared.fault.FileFault.{FileFault}
-use Rattle.rv_elf.specs.declared.fault.FileFault.TheVariants.{OutOfMemory}
-use Rattle.rv_elf.specs.declared.section_header.SectionHeader.{SectionHeader}
-use Rattle.rv_elf.specs.FirstFault.{first_true}
-use Rattle.rv_elf.specs.Sections.{section_count, section_header_of, file_contents, relas_in}
+use Rattle.rv_fault.specs.declared.file_fault.FileFault.{FileFault}
+use Rattle.rv_fault.specs.declared.file_fault.FileFault.TheVariants.{OutOfMemory}
+use Rattle.rv_elf_laws.specs.declared.section_header.SectionHeader.{SectionHeader}
+use Rattle.rv_elf_laws.specs.FirstFault.{first_true}
+use Rattle.rv_elf_laws.specs.Sections.{section_count, section_header_of, file_contents, relas_in}
 use Rattle.rv_object_laws.specs.Object.{Relocation}
 use Rattle.rv_object_file_laws.specs.FirstFault.{section_tests, records_tests, rela_tests, relocations_tests, sections_tests, symbol_count}
 use Rattle.rv_object_file_laws.specs.Parts.{FileSection, is_symbol_table, is_rela, is_rows, is_loaded, relocates, relas_of, relocation_in, relocations_in}
@@ -25,7 +25,7 @@ use Rattle.rv_object_checks.specs.Held.{fields_of}
 use Rattle.rv_object_checks.specs.Stretches.{HoldsCode, AreHeld}
 use Rattle.rv_object_checks.specs.Tests.{tests_behind, size_tests, link_tests}
 use Rattle.rv_object_checks.specs.Walk.{relocations_before, HoldsOf, HoldBefore, AreEmpty}
-use Rattle.rv_elf.specs.FirstTrue.{first_true_none, first_true_some}
+use Rattle.rv_elf_laws.specs.FirstTrue.{first_true_none, first_true_some}
 
 -- ---- one section further
 

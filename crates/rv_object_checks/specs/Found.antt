@@ -3,7 +3,7 @@
 
 use Rattle.std.specs.Prelude.{ℕ, zero, suc, List, [], ◌∷◌, map, Option, Some, None}
 use Rattle.std.specs.List.{find}
-use Rattle.rv_elf.specs.Sections.{section_header_of}
+use Rattle.rv_elf_laws.specs.Sections.{section_header_of}
 use Rattle.rv_object_file_laws.specs.Parts.{FileSection, sections, is_rows, kept_at, kept_before}
 
 -- the section of an index, from 0

@@ -2,7 +2,7 @@
 -- and the names of a file's sections.
 
 use Rattle.std.specs.Prelude.{ℕ, suc, ◌^◌, ◌==◌, Bool, false, not, List, [], ◌∷◌, Option, None, Some, if◌then◌else◌}
-use Rattle.rv_elf.specs.Sections.{names_section, indexed_contents}
+use Rattle.rv_elf_laws.specs.Sections.{names_section, indexed_contents}
 use Rattle.rv_map_laws.specs.Name.{is_name, is_name_byte}
 
 -- where the last string of a table ends: behind its last zero byte

@@ -1,11 +1,11 @@
 -- The tests of a section's header, by whether there are others of its kind before it.
 
 use Rattle.std.specs.Prelude.{ℕ, ◌%◌, ◌==◌, Bool, not, ◌&&◌, ◌||◌, List, [], ◌∷◌, ◌++◌}
-use Rattle.rv_elf.specs.declared.fault.FileFault.{FileFault}
-use Rattle.rv_elf.specs.declared.fault.FileFault.TheVariants.{Truncated, BadTable, BadString, BadIndex, UnsupportedSection}
-use Rattle.rv_elf.specs.declared.section_header.SectionHeader.{SectionHeader}
-use Rattle.rv_elf.specs.Numbers.{sht_nobits}
-use Rattle.rv_elf.specs.Sections.{is_past}
+use Rattle.rv_fault.specs.declared.file_fault.FileFault.{FileFault}
+use Rattle.rv_fault.specs.declared.file_fault.FileFault.TheVariants.{Truncated, BadTable, BadString, BadIndex, UnsupportedSection}
+use Rattle.rv_elf_laws.specs.declared.section_header.SectionHeader.{SectionHeader}
+use Rattle.rv_elf_laws.specs.Numbers.{sht_nobits}
+use Rattle.rv_elf_laws.specs.Sections.{is_past}
 use Rattle.rv_object_laws.specs.Valid.{is_section_alignment}
 use Rattle.rv_object_file_laws.specs.FirstFault.{is_none, record_size, is_linked, is_unsupported}
 use Rattle.rv_object_file_laws.specs.Parts.{name_of, is_executable, is_symbol_table, is_rows}

@@ -2,7 +2,7 @@
 
 use Rattle.std.specs.Prelude.{◌≡◌, ℕ, ◌<◌, true, List, [], ◌∷◌, filter, length, IfSome}
 use Rattle.std.specs.List.{slice_get}
-use Rattle.rv_elf.specs.Sections.{section_count, section_header_of}
+use Rattle.rv_elf_laws.specs.Sections.{section_count, section_header_of}
 use Rattle.rv_object_laws.specs.Object.{Relocation}
 use Rattle.rv_object_file_laws.specs.Parts.{FileSection, is_loaded, relocates, relas_of, relocations_in}
 use Rattle.rv_object_checks.specs.declared.places.Places.{Places}

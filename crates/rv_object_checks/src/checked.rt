@@ -2,7 +2,7 @@
 
 ghost use Rattle.std.specs.Prelude.{◌≡◌, ◌<◌, None, IfSome, option_map};
 ghost use Rattle.std.specs.Option.{ForSome, is_some};
-ghost use Rattle.rv_elf.specs.Sections.{section_count};
+ghost use Rattle.rv_elf_laws.specs.Sections.{section_count};
 ghost use Rattle.rv_object_file_laws.specs.FirstFault.{first_fault};
 ghost use Rattle.rv_object_file_laws.specs.Parts.{is_kept, symbol_table};
 ghost use Rattle.rv_object_checks.specs.Found.{section_at, place_at, places_of, rows_section};

@@ -1,9 +1,9 @@
 //! The first fault of a file.
 
 ghost use Rattle.std.specs.Prelude.{◌≡◌, ◌⊎◌, ◌<◌, None, Some, MatchResult, IfOk, OnOk};
-ghost use Rattle.rv_elf.specs.FirstFault.{Finds};
-ghost use Rattle.rv_elf.specs.Sections.{names_section, section_count};
-ghost use Rattle.rv_elf.specs.declared.fault.FileFault.TheVariants.{OutOfMemory};
+ghost use Rattle.rv_elf_laws.specs.FirstFault.{Finds};
+ghost use Rattle.rv_elf_laws.specs.Sections.{names_section, section_count};
+ghost use Rattle.rv_fault.specs.declared.file_fault.FileFault.TheVariants.{OutOfMemory};
 ghost use Rattle.rv_object_file_laws.specs.FirstFault.{first_fault};
 ghost use Rattle.rv_object_checks.specs.Opening.{opening_tests};
 
@@ -11,7 +11,8 @@ use crate::checked::Checked;
 use crate::names::Names;
 use crate::tables::Tables;
 use crate::walk::check_sections;
-use rv_elf::{ET_REL, ElfView, FileFault, file_type};
+use rv_elf::{ET_REL, ElfView, file_type};
+use rv_fault::FileFault;
 use std::alloc::Global;
 
 /// Looks for the first fault of a file; one without is an object.

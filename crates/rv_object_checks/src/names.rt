@@ -1,14 +1,15 @@
 //! The names of a file's sections.
 
 ghost use Rattle.std.specs.Prelude.{◌≡◌, ◌<◌, ℕ, not};
-ghost use Rattle.rv_elf.specs.Sections.{section_count, names_section};
+ghost use Rattle.rv_elf_laws.specs.Sections.{section_count, names_section};
 ghost use Rattle.rv_object_file_laws.specs.FirstFault.{is_none};
 ghost use Rattle.rv_object_file_laws.specs.Parts.{name_at, name_of, is_named, is_rows, is_kept};
 ghost use Rattle.rv_object_file_laws.specs.Rows.{rows_name};
 ghost use Rattle.rv_object_checks.specs.Names.{names_table, names_end};
 
 use crate::strings::end_of_strings;
-use rv_elf::{ElfView, SectionHeader, SectionIndex};
+use rv_elf::{ElfView, SectionIndex};
+use rv_elf_laws::SectionHeader;
 
 /// The name of the section of rows, as a table of names has it.
 const ROWS_NAME: &[u8] = b".rv.rows\0";

@@ -10,7 +10,7 @@ ghost use Rattle.rv_object_checks.specs.Stretches.{AreHeld, placed};
 use crate::fields::Fields;
 use crate::paddings::Paddings;
 use crate::recent::Recent;
-use rv_elf::Rela;
+use rv_elf_laws::Rela;
 use rv_isa::Kind;
 use std::alloc::{AllocError, Global};
 

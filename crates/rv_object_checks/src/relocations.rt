@@ -4,11 +4,11 @@
 //! symbols is known by the header that names it: nothing is looked up ahead, and a fault is told where its record is.
 
 ghost use Rattle.std.specs.Prelude.{◌≡◌, ◌⊎◌, ◌+◌, ◌*◌, ◌≤◌, ◌<◌, true, false, ◌++◌, List, None, Some, MatchResult, MatchBool, IfOk, length, option_to_list};
-ghost use Rattle.rv_elf.specs.Fields.{rela_size};
-ghost use Rattle.rv_elf.specs.FirstFault.{first_true};
-ghost use Rattle.rv_elf.specs.Records.{rela_at};
-ghost use Rattle.rv_elf.specs.Sections.{relas_in};
-ghost use Rattle.rv_elf.specs.declared.fault.FileFault.TheVariants.{OutOfMemory};
+ghost use Rattle.rv_elf_laws.specs.Fields.{rela_size};
+ghost use Rattle.rv_elf_laws.specs.FirstFault.{first_true};
+ghost use Rattle.rv_elf_laws.specs.Records.{rela_at};
+ghost use Rattle.rv_elf_laws.specs.Sections.{relas_in};
+ghost use Rattle.rv_fault.specs.declared.file_fault.FileFault.TheVariants.{OutOfMemory};
 ghost use Rattle.rv_object_laws.specs.Object.{Relocation};
 ghost use Rattle.rv_object_laws.specs.Valid.{fits_inside, is_padding, is_padding_of};
 ghost use Rattle.rv_object_file_laws.specs.FirstFault.{relocations_tests, relocation_tests, is_misplaced};
@@ -17,7 +17,9 @@ ghost use Rattle.rv_object_checks.specs.Held.{fields_of};
 ghost use Rattle.rv_object_checks.specs.Stretches.{HoldsCode, placed};
 
 use crate::places::{Places, is_align};
-use rv_elf::{FileFault, RELA_SIZE, Rela, SHF_EXECINSTR, SHT_NOBITS, SectionHeader, rela_in};
+use rv_elf::{RELA_SIZE, SHF_EXECINSTR, SHT_NOBITS, rela_in};
+use rv_fault::FileFault;
+use rv_elf_laws::{Rela, SectionHeader};
 use rv_isa::{Kind, kind_of};
 use std::alloc::AllocError;
 

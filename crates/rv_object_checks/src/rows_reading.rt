@@ -1,9 +1,9 @@
 //! The rows of a section: their fields, and whether they are good.
 
 ghost use Rattle.std.specs.Prelude.{◌≡◌, ◌+◌, ◌*◌, ◌≤◌, ◌<◌, true, nat_le, Some, None, flat_map, length, if◌then◌else◌};
-ghost use Rattle.rv_elf.specs.Fields.{field, number_in};
-ghost use Rattle.rv_elf.specs.FirstFault.{Finds};
-ghost use Rattle.rv_elf.specs.Sections.{file_contents, section_count};
+ghost use Rattle.rv_elf_laws.specs.Fields.{field, number_in};
+ghost use Rattle.rv_elf_laws.specs.FirstFault.{Finds};
+ghost use Rattle.rv_elf_laws.specs.Sections.{file_contents, section_count};
 ghost use Rattle.rv_object_file_laws.specs.FirstFault.{row_tests};
 ghost use Rattle.rv_object_file_laws.specs.Parts.{kept_at};
 ghost use Rattle.rv_object_file_laws.specs.Rows.{row_size, row_at, rows_in};
@@ -14,7 +14,9 @@ use crate::headers::is_loaded;
 use crate::rows::{ROW_SIZE, RowRecord};
 use crate::tables::Tables;
 use byteorder::{ByteOrder, LittleEndian};
-use rv_elf::{FileFault, SectionHeader, SectionIndex};
+use rv_elf::SectionIndex;
+use rv_fault::FileFault;
+use rv_elf_laws::SectionHeader;
 
 /// The row of this index, from 0, in a section of these bytes.
 pub fn row_in(bytes: &[u8], index: usize) -> RowRecord

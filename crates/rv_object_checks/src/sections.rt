@@ -1,7 +1,7 @@
 //! The header of a section.
 
 ghost use Rattle.std.specs.Prelude.{◌≡◌, ◌<◌, true, OnOk};
-ghost use Rattle.rv_elf.specs.FirstFault.{Finds};
+ghost use Rattle.rv_elf_laws.specs.FirstFault.{Finds};
 ghost use Rattle.rv_object_file_laws.specs.FirstFault.{record_size, is_rela_linked, is_linked};
 ghost use Rattle.rv_object_file_laws.specs.Parts.{is_section};
 ghost use Rattle.rv_object_checks.specs.Tests.{tests_behind, size_tests, link_tests};
@@ -11,12 +11,12 @@ use crate::headers::{
 };
 use crate::names::Names;
 use crate::rows::ROW_SIZE;
-use rv_elf::{
-    ElfView, FileFault, RELA_SIZE, SHT_NOBITS, SYMBOL_SIZE, SectionHeader, SectionIndex, lies_past,
-};
+use rv_elf::{ElfView, RELA_SIZE, SHT_NOBITS, SYMBOL_SIZE, SectionIndex, lies_past};
+use rv_fault::FileFault;
+use rv_elf_laws::SectionHeader;
 
 /// Looks at the header of a section, with a section of symbols before it in the file or not, and one of rows.
-#[tactic(auto, using(rv_elf::specs::FirstTrue::first_true_some, rv_elf::specs::FirstTrue::first_true_none))]
+#[tactic(auto, using(rv_elf_laws::specs::FirstTrue::first_true_some, rv_elf_laws::specs::FirstTrue::first_true_none))]
 pub(crate) fn check_section(
     names: &Names<'_>,
     header: &SectionHeader,

@@ -5,7 +5,7 @@
 
 ghost use Rattle.std.specs.Prelude.{◌≡◌, ◌<◌, ◌==◌, ◌&&◌, not, length, slice_index, IfOk};
 ghost use Rattle.memchr.specs.Find.{places};
-ghost use Rattle.rv_elf.specs.Sections.{string_at};
+ghost use Rattle.rv_elf_laws.specs.Sections.{string_at};
 ghost use Rattle.rv_map_laws.specs.Name.{is_name_byte};
 ghost use Rattle.rv_object_file_laws.specs.FirstFault.{is_none};
 ghost use Rattle.rv_object_checks.specs.Names.{strings_end, is_unshown, can_show};

@@ -1,19 +1,18 @@
 //! The symbols of a section.
 
 ghost use Rattle.std.specs.Prelude.{◌≡◌, ◌⊎◌, ◌+◌, ◌*◌, ◌/◌, ◌==◌, ◌≤◌, ◌<◌, true, None, Some, MatchResult, drop, flat_map, length};
-ghost use Rattle.rv_elf.specs.Fields.{symbol_size};
-ghost use Rattle.rv_elf.specs.FirstFault.{Finds, first_true};
-ghost use Rattle.rv_elf.specs.Records.{symbol_at};
-ghost use Rattle.rv_elf.specs.Sections.{section_count, indexed_contents, file_contents, symbols_in};
-ghost use Rattle.rv_elf.specs.declared.fault.FileFault.TheVariants.{OutOfMemory};
+ghost use Rattle.rv_elf_laws.specs.Fields.{symbol_size};
+ghost use Rattle.rv_elf_laws.specs.FirstFault.{Finds, first_true};
+ghost use Rattle.rv_elf_laws.specs.Records.{symbol_at};
+ghost use Rattle.rv_elf_laws.specs.Sections.{section_count, indexed_contents, file_contents, symbols_in};
+ghost use Rattle.rv_fault.specs.declared.file_fault.FileFault.TheVariants.{OutOfMemory};
 ghost use Rattle.rv_object_file_laws.specs.FirstFault.{symbol_tests, symbol_count, is_bad_name, has_binding, has_home, is_shared_record};
 ghost use Rattle.rv_object_file_laws.specs.Parts.{is_section, name_at};
 
 use crate::strings::Strings;
-use rv_elf::{
-    ElfView, FileFault, SHN_ABS, SHN_UNDEF, STB_GLOBAL, STB_LOCAL, STB_WEAK, SYMBOL_SIZE,
-    SectionHeader, SectionIndex, Symbol, SymbolIndex, symbol_in,
-};
+use rv_elf::{ElfView, SHN_ABS, SHN_UNDEF, STB_GLOBAL, STB_LOCAL, STB_WEAK, SYMBOL_SIZE, SectionIndex, SymbolIndex, symbol_in};
+use rv_fault::FileFault;
+use rv_elf_laws::{SectionHeader, Symbol};
 use std::alloc::Global;
 
 /// How many symbols there are for these relocations, by the header of the table that they name, symbol 0 as well.

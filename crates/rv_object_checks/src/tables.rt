@@ -2,7 +2,7 @@
 
 ghost use Rattle.std.specs.Prelude.{◌≡◌, ◌<◌, ◌≤◌, ◌-◌, ◌+◌, IfOk, IfSome, None, Some, option_map, if◌then◌else◌};
 ghost use Rattle.std.specs.Option.{ForSome};
-ghost use Rattle.rv_elf.specs.Sections.{section_count};
+ghost use Rattle.rv_elf_laws.specs.Sections.{section_count};
 ghost use Rattle.rv_object_file_laws.specs.Parts.{symbol_table};
 ghost use Rattle.rv_object_checks.specs.Found.{section_at, places_of, rows_section};
 

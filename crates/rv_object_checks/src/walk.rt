@@ -1,9 +1,9 @@
 //! Goes over the sections of a file, one after the other.
 
 ghost use Rattle.std.specs.Prelude.{◌≡◌, ◌⊎◌, ◌<◌, ℕ, true, List, [], ◌∷◌, ◌++◌, ◌||◌, None, Some, MatchResult, IfOk, length};
-ghost use Rattle.rv_elf.specs.FirstFault.{first_true};
-ghost use Rattle.rv_elf.specs.Sections.{section_count};
-ghost use Rattle.rv_elf.specs.declared.fault.FileFault.TheVariants.{OutOfMemory};
+ghost use Rattle.rv_elf_laws.specs.FirstFault.{first_true};
+ghost use Rattle.rv_elf_laws.specs.Sections.{section_count};
+ghost use Rattle.rv_fault.specs.declared.file_fault.FileFault.TheVariants.{OutOfMemory};
 ghost use Rattle.rv_object_file_laws.specs.FirstFault.{is_linked, rela_tests, records_tests, sections_tests};
 ghost use Rattle.rv_object_file_laws.specs.Parts.{FileSection, is_rela, sections};
 ghost use Rattle.rv_object_checks.specs.Walk.{HoldBefore};
@@ -15,7 +15,9 @@ use crate::rows_reading::check_rows;
 use crate::sections::check_section;
 use crate::symbols::{check_symbols, count_symbols};
 use crate::tables::{Tables, count_sections};
-use rv_elf::{ElfView, FileFault, SectionHeader, SectionIndex};
+use rv_elf::{ElfView, SectionIndex};
+use rv_fault::FileFault;
+use rv_elf_laws::SectionHeader;
 use std::alloc::{AllocError, Global};
 
 /// Looks at the sections of a file, each header before its records.

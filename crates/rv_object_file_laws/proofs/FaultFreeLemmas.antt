@@ -1,16 +1,16 @@
 -- A written file has no fault.
 
 use Rattle.std.proofs.Common.{◌≡◌, ℕ, suc, ◌+◌, ◌/◌, ◌%◌, ◌<◌, ◌≤◌, ◌^◌, ◌==◌, nat_le, Bool, true, false, not, ◌&&◌, ◌||◌, List, [], ◌∷◌, ◌++◌, length, drop, map, filter, flat_map, codes, None, refl, ap, sym, subst, ◌∙◌, arith, inl, inr, append_assoc, append-nil, if◌then◌else◌}
-use Rattle.rv_elf.specs.FirstTrue.{first_true_none}
+use Rattle.rv_elf_laws.specs.FirstTrue.{first_true_none}
 use Rattle.std.specs.List.{AllByRecursion, list_any, list_all, slice_get}
 use Rattle.std.proofs.lemmas.Bool.{cases_Bool, cond-true, cond-false, and_left, and_right, and_parts, and_from, or_right, not_from_true, lt-ltb, ne_eqb}
 use Rattle.std.proofs.lemmas.List.Elements.{filter-append}
-use Rattle.rv_elf.specs.declared.fault.FileFault.{FileFault}
-use Rattle.rv_elf.specs.declared.fault.FileFault.TheVariants.{Truncated, BadTable, BadString, BadIndex, UnsupportedSection, NotObject}
-use Rattle.rv_elf.specs.declared.section_header.SectionHeader.{SectionHeader}
-use Rattle.rv_elf.specs.Fields.{number_in, e_type}
-use Rattle.rv_elf.specs.FirstFault.{first_true, header_tests, table_tests}
-use Rattle.rv_elf.specs.Sections.{is_past, section_count, section_header_of, indexed_contents, file_contents, symbols_in, relas_in}
+use Rattle.rv_fault.specs.declared.file_fault.FileFault.{FileFault}
+use Rattle.rv_fault.specs.declared.file_fault.FileFault.TheVariants.{Truncated, BadTable, BadString, BadIndex, UnsupportedSection, NotObject}
+use Rattle.rv_elf_laws.specs.declared.section_header.SectionHeader.{SectionHeader}
+use Rattle.rv_elf_laws.specs.Fields.{number_in, e_type}
+use Rattle.rv_elf_laws.specs.FirstFault.{first_true, header_tests, table_tests}
+use Rattle.rv_elf_laws.specs.Sections.{is_past, section_count, section_header_of, indexed_contents, file_contents, symbols_in, relas_in}
 use Rattle.rv_object_laws.specs.declared.row.Row.{Row}
 use Rattle.rv_object_laws.specs.Object.{Contents, Progbits, Note, Nobits, Section, Object, size_of, stored}
 use Rattle.rv_object_laws.specs.Valid.{is_section_alignment, is_row_in}

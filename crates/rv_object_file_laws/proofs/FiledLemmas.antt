@@ -4,10 +4,10 @@ use Rattle.std.proofs.Common.{◌≡◌, ℕ, suc, ◌+◌, ◌*◌, ◌<◌, �
 use Rattle.std.specs.List.{AllByRecursion}
 use Rattle.std.proofs.lemmas.Bool.{ne_eqb}
 use Rattle.std.proofs.lemmas.List.{length-append, length-replicate, length-map, map-append, drop-drop, drop_at}
-use Rattle.rv_elf.specs.declared.section_header.SectionHeader.{SectionHeader}
-use Rattle.rv_elf.specs.Fields.{number_in, e_shoff}
-use Rattle.rv_elf.specs.Records.{file_header_bytes, section_header_bytes}
-use Rattle.rv_elf.specs.Sections.{names_section, indexed_contents, section_count}
+use Rattle.rv_elf_laws.specs.declared.section_header.SectionHeader.{SectionHeader}
+use Rattle.rv_elf_laws.specs.Fields.{number_in, e_shoff}
+use Rattle.rv_elf_laws.specs.Records.{file_header_bytes, section_header_bytes}
+use Rattle.rv_elf_laws.specs.Sections.{names_section, indexed_contents, section_count}
 use Rattle.rv_object_laws.specs.Object.{Object}
 use Rattle.rv_object_file_laws.specs.Parts.{sections}
 use Rattle.rv_object_file_laws.specs.Known.{IsSection, IsObject}

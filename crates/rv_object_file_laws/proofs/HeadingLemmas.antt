@@ -2,12 +2,12 @@
 
 use Rattle.std.proofs.Common.{◌≡◌, ℕ, ◌+◌, ◌*◌, ◌/◌, ◌%◌, ◌<◌, ◌≤◌, ◌^◌, ◌==◌, nat_le, nat_lt, false, not, ◌&&◌, List, [], ◌∷◌, ◌++◌, length, None, refl, ap, ◌∙◌, arith}
 use Rattle.std.proofs.lemmas.Bool.{le-ltb, lt-leb, and_left, and_right}
-use Rattle.rv_elf.specs.declared.file_header.FileHeader.{FileHeader}
-use Rattle.rv_elf.specs.declared.fault.FileFault.TheVariants.{Truncated, BadMagic, WrongClass, WrongMachine, BadTable}
-use Rattle.rv_elf.specs.Fields.{number_in, ei_magic, ei_class, ei_data, ei_version, e_type, e_machine, e_flags, e_phoff, e_shoff, e_phentsize, e_phnum, e_shentsize, e_shnum, e_shstrndx}
-use Rattle.rv_elf.specs.Records.{file_header_bytes}
-use Rattle.rv_elf.specs.Sections.{is_past, program_count, section_count, names_section}
-use Rattle.rv_elf.specs.FirstFault.{first_true, header_tests, table_tests}
+use Rattle.rv_elf_laws.specs.declared.file_header.FileHeader.{FileHeader}
+use Rattle.rv_fault.specs.declared.file_fault.FileFault.TheVariants.{Truncated, BadMagic, WrongClass, WrongMachine, BadTable}
+use Rattle.rv_elf_laws.specs.Fields.{number_in, ei_magic, ei_class, ei_data, ei_version, e_type, e_machine, e_flags, e_phoff, e_shoff, e_phentsize, e_phnum, e_shentsize, e_shnum, e_shstrndx}
+use Rattle.rv_elf_laws.specs.Records.{file_header_bytes}
+use Rattle.rv_elf_laws.specs.Sections.{is_past, program_count, section_count, names_section}
+use Rattle.rv_elf_laws.specs.FirstFault.{first_true, header_tests, table_tests}
 use Rattle.rv_object_file_laws.proofs.RecordsLemmas.{number_at}
 use Rattle.rv_object_file_laws.proofs.LaidLemmas.{not_past}
 

@@ -5,11 +5,11 @@ use Rattle.std.specs.List.{AllByRecursion}
 use Rattle.std.proofs.lemmas.Bool.{cond-false, or_from}
 use Rattle.std.proofs.lemmas.Bool.Decides.{nat_tests}
 use Rattle.std.proofs.lemmas.List.{drop-drop, drop_at, take_at, length-append, length-replicate, length-drop, map-id}
-use Rattle.rv_elf.specs.declared.section_header.SectionHeader.{SectionHeader}
-use Rattle.rv_elf.specs.Fields.{number_in, e_shoff, section_header_size}
-use Rattle.rv_elf.specs.ReadBack.{FitsSectionHeader, section_header_there}
-use Rattle.rv_elf.specs.Records.{section_header_at, section_header_bytes}
-use Rattle.rv_elf.specs.Sections.{records, is_past, is_nobits, file_contents, section_header_of, section_count}
+use Rattle.rv_elf_laws.specs.declared.section_header.SectionHeader.{SectionHeader}
+use Rattle.rv_elf_laws.specs.Fields.{number_in, e_shoff, section_header_size}
+use Rattle.rv_elf_laws.specs.ReadBack.{FitsSectionHeader, section_header_there}
+use Rattle.rv_elf_laws.specs.Records.{section_header_at, section_header_bytes}
+use Rattle.rv_elf_laws.specs.Sections.{records, is_past, is_nobits, file_contents, section_header_of, section_count}
 use Rattle.rv_object_file_laws.specs.Parts.{FileSection, numbered, sections, name_of}
 use Rattle.rv_layout_laws.specs.Alignment.{aligned}
 use Rattle.rv_object_file_laws.specs.Written.{table_of, UnplacedSection, zeros_at, contents_from, headers_offset, header_of, headers_from}

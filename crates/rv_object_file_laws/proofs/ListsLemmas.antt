@@ -1,11 +1,11 @@
 -- Searches of lists at whose elements a test has one answer; lists of tests.
 
 use Rattle.std.proofs.Common.{◌≡◌, Bool, true, false, List, [], ◌∷◌, ◌++◌, map, flat_map, filter, Some, None, refl, ap, ◌∙◌}
-use Rattle.rv_elf.specs.FirstTrue.{first_true_none}
+use Rattle.rv_elf_laws.specs.FirstTrue.{first_true_none}
 use Rattle.std.specs.List.{AllByRecursion, find, list_any}
 use Rattle.std.proofs.lemmas.Bool.{cond-true, cond-false, or_from}
-use Rattle.rv_elf.specs.declared.fault.FileFault.{FileFault}
-use Rattle.rv_elf.specs.FirstFault.{first_true}
+use Rattle.rv_fault.specs.declared.file_fault.FileFault.{FileFault}
+use Rattle.rv_elf_laws.specs.FirstFault.{first_true}
 
 pub filter_all : {X : Type 0} (p : X → Bool) (xs : List X) → AllByRecursion (λ x. p x ≡ true) xs → filter p xs ≡ xs
 filter_all p [] h = refl

@@ -5,9 +5,9 @@ use Rattle.std.specs.List.{AllByRecursion}
 use Rattle.std.proofs.lemmas.Bool.{or_from, cases_Bool, cond-true, cond-false, eqb-true}
 use Rattle.std.proofs.lemmas.Bool.Decides.{nat_tests}
 use Rattle.std.proofs.lemmas.List.{length-append, length-map}
-use Rattle.rv_elf.specs.declared.section_header.SectionHeader.{SectionHeader}
-use Rattle.rv_elf.specs.Records.{section_header_bytes}
-use Rattle.rv_elf.specs.Sections.{is_past, names_section, indexed_contents, file_contents}
+use Rattle.rv_elf_laws.specs.declared.section_header.SectionHeader.{SectionHeader}
+use Rattle.rv_elf_laws.specs.Records.{section_header_bytes}
+use Rattle.rv_elf_laws.specs.Sections.{is_past, names_section, indexed_contents, file_contents}
 use Rattle.rv_object_laws.specs.Object.{Contents, Progbits, Note, Nobits, Section, Symbol, Object, stored, size_of}
 use Rattle.rv_object_laws.specs.Valid.{is_section_alignment, is_string}
 use Rattle.rv_object_laws.specs.declared.row.Row.{Row}

@@ -5,8 +5,8 @@ use Rattle.std.specs.List.{AllByRecursion, find, list_all, slice_get}
 use Rattle.std.proofs.lemmas.Bool.{cond-true, and_left, and_parts, ltb-true, false≢true}
 use Rattle.std.proofs.lemmas.List.Elements.{filter-append}
 use Rattle.std.proofs.lemmas.Option.{slice_get_within}
-use Rattle.rv_elf.specs.Records.{symbol_at}
-use Rattle.rv_elf.specs.Sections.{indexed_contents, file_contents, symbols_in}
+use Rattle.rv_elf_laws.specs.Records.{symbol_at}
+use Rattle.rv_elf_laws.specs.Sections.{indexed_contents, file_contents, symbols_in}
 use Rattle.rv_object_laws.specs.declared.row.Row.{Row}
 use Rattle.rv_object_laws.specs.Object.{Relocation, Section, Symbol, Object}
 use Rattle.rv_object_laws.specs.Valid.{is_below, is_defined_in, is_row_in}

@@ -5,12 +5,12 @@ use Rattle.std.specs.List.{AllByRecursion}
 use Rattle.std.proofs.lemmas.List.{drop-drop, drop_at}
 use Rattle.byteorder.specs.Endian.{little_bytes, little_number}
 use Rattle.byteorder.specs.Numbers.{little_number-reads_back}
-use Rattle.rv_elf.specs.declared.section_header.SectionHeader.{SectionHeader}
-use Rattle.rv_elf.specs.declared.symbol.Symbol.{Symbol}
-use Rattle.rv_elf.specs.declared.rela.Rela.{Rela}
-use Rattle.rv_elf.specs.Fields.{field, number_in}
-use Rattle.rv_elf.specs.Records.{section_header_bytes, symbol_bytes, rela_bytes}
-use Rattle.rv_elf.specs.Sections.{records}
+use Rattle.rv_elf_laws.specs.declared.section_header.SectionHeader.{SectionHeader}
+use Rattle.rv_elf_laws.specs.declared.symbol.Symbol.{Symbol}
+use Rattle.rv_elf_laws.specs.declared.rela.Rela.{Rela}
+use Rattle.rv_elf_laws.specs.Fields.{field, number_in}
+use Rattle.rv_elf_laws.specs.Records.{section_header_bytes, symbol_bytes, rela_bytes}
+use Rattle.rv_elf_laws.specs.Sections.{records}
 use Rattle.rv_object_file_laws.specs.Rows.{RowRecord, row_at, row_bytes}
 
 -- the number of a field, where its bytes stand

@@ -7,11 +7,11 @@ use Rattle.std.proofs.lemmas.List.{length-append, nil_from_length}
 use Rattle.rv_isa.specs.declared.kind.Kind.{Kind}
 use Rattle.rv_isa.specs.declared.kind.Kind.TheVariants as kinds
 use Rattle.rv_isa.specs.Kinds.{number_of}
-use Rattle.rv_elf.specs.declared.rela.Rela.{Rela}
-use Rattle.rv_elf.specs.Fields.{rela_size}
-use Rattle.rv_elf.specs.ReadBack.{FitsRela, rela_there}
-use Rattle.rv_elf.specs.Records.{rela_at, rela_bytes}
-use Rattle.rv_elf.specs.Sections.{records, relas_in}
+use Rattle.rv_elf_laws.specs.declared.rela.Rela.{Rela}
+use Rattle.rv_elf_laws.specs.Fields.{rela_size}
+use Rattle.rv_elf_laws.specs.ReadBack.{FitsRela, rela_there}
+use Rattle.rv_elf_laws.specs.Records.{rela_at, rela_bytes}
+use Rattle.rv_elf_laws.specs.Sections.{records, relas_in}
 use Rattle.rv_object_laws.specs.Object.{Relocation, Section}
 use Rattle.rv_object_file_laws.specs.Parts.{FileSection, kind_numbered, symbol_index, relocation_by, relocation_in, relocations_in, relocates, relas_of}
 use Rattle.rv_object_file_laws.specs.Known.{IsRelocation}

@@ -4,7 +4,7 @@ use Rattle.std.proofs.Common.{◌≡◌, ℕ, zero, suc, ◌+◌, ◌/◌, ◌%�
 use Rattle.std.specs.List.{AllByRecursion}
 use Rattle.std.proofs.lemmas.Bool.{eqb-true, false≢true}
 use Rattle.std.proofs.lemmas.List.{nil_from_length}
-use Rattle.rv_elf.specs.Sections.{file_contents}
+use Rattle.rv_elf_laws.specs.Sections.{file_contents}
 use Rattle.rv_object_laws.specs.Object.{Contents, Progbits, Note, Nobits, Relocation, Section, stored, size_of}
 use Rattle.rv_object_laws.specs.Valid.{is_section_alignment, is_loaded_alone}
 use Rattle.rv_object_file_laws.specs.Parts.{sections, is_loaded, contents_in, relocates, relas_of, relocations_in}

@@ -6,7 +6,7 @@ use Rattle.std.proofs.lemmas.Bool.{cases_Bool, eqb-true, cond-true, cond-false, 
 use Rattle.std.proofs.lemmas.List.{drop-drop, drop_at, length-append}
 use Rattle.std.proofs.lemmas.List.Folds.{list_any-append}
 use Rattle.std.proofs.lemmas.Slice.Eq.{bytes_eq-Decides}
-use Rattle.rv_elf.specs.Sections.{before_zero, string_at}
+use Rattle.rv_elf_laws.specs.Sections.{before_zero, string_at}
 use Rattle.rv_object_laws.specs.Valid.{is_string}
 use Rattle.rv_object_file_laws.specs.Parts.{name_at}
 use Rattle.rv_object_file_laws.specs.Written.{unseen, strings_of, table_of, offset_in, name_offset}

@@ -7,11 +7,11 @@ use Rattle.std.proofs.lemmas.List.{length-append, length-replicate, drop_at, len
 use Rattle.std.proofs.lemmas.List.Folds.{list_any-append}
 use Rattle.std.proofs.lemmas.Slice.Eq.{bytes_eq-Decides}
 use Rattle.rv_map_laws.specs.Name.{is_name_byte}
-use Rattle.rv_elf.specs.declared.symbol.Symbol.{Symbol as SymbolRecord}
-use Rattle.rv_elf.specs.Fields.{symbol_size}
-use Rattle.rv_elf.specs.ReadBack.{FitsSymbol, symbol_there}
-use Rattle.rv_elf.specs.Records.{symbol_at, symbol_bytes}
-use Rattle.rv_elf.specs.Sections.{records, symbols_in}
+use Rattle.rv_elf_laws.specs.declared.symbol.Symbol.{Symbol as SymbolRecord}
+use Rattle.rv_elf_laws.specs.Fields.{symbol_size}
+use Rattle.rv_elf_laws.specs.ReadBack.{FitsSymbol, symbol_there}
+use Rattle.rv_elf_laws.specs.Records.{symbol_at, symbol_bytes}
+use Rattle.rv_elf_laws.specs.Sections.{records, symbols_in}
 use Rattle.rv_object_laws.specs.declared.symbol.Binding.{Binding}
 use Rattle.rv_object_laws.specs.declared.symbol.Binding.TheVariants.{Local, Global, Weak}
 use Rattle.rv_object_laws.specs.declared.symbol.Definition.{Definition}

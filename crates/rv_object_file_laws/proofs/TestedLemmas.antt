@@ -1,17 +1,17 @@
 -- No test of a record that was written is true: relocations, symbols and rows.
 
 use Rattle.std.proofs.Common.{◌≡◌, ℕ, suc, ◌+◌, ◌*◌, ◌/◌, ◌%◌, ◌<◌, ◌==◌, nat_lt, nat_le, Bool, true, false, not, ◌&&◌, ◌||◌, List, [], ◌∷◌, ◌++◌, length, map, replicate, Option, Some, None, refl, ap, ◌∙◌, arith, if◌then◌else◌}
-use Rattle.rv_elf.specs.FirstTrue.{first_true_none}
+use Rattle.rv_elf_laws.specs.FirstTrue.{first_true_none}
 use Rattle.std.specs.List.{AllByRecursion, list_all, list_any}
 use Rattle.std.proofs.lemmas.Bool.{and_right, and_parts, and_from, or_from, or_right, not_from_true, lt-leb, lt-ltb, ltb-true}
 use Rattle.std.proofs.lemmas.List.{length-replicate}
 use Rattle.std.proofs.lemmas.List.Folds.{list_all-append}
 use Rattle.rv_isa.specs.Kinds.{number_of, width_of}
 use Rattle.rv_map_laws.specs.Name.{is_name}
-use Rattle.rv_elf.specs.declared.fault.FileFault.TheVariants.{BadTable, BadString, BadIndex, UnsupportedRelocation}
-use Rattle.rv_elf.specs.declared.section_header.SectionHeader.{SectionHeader}
-use Rattle.rv_elf.specs.FirstFault.{first_true}
-use Rattle.rv_elf.specs.Sections.{section_count}
+use Rattle.rv_fault.specs.declared.file_fault.FileFault.TheVariants.{BadTable, BadString, BadIndex, UnsupportedRelocation}
+use Rattle.rv_elf_laws.specs.declared.section_header.SectionHeader.{SectionHeader}
+use Rattle.rv_elf_laws.specs.FirstFault.{first_true}
+use Rattle.rv_elf_laws.specs.Sections.{section_count}
 use Rattle.rv_object_laws.specs.declared.symbol.Binding.{Binding}
 use Rattle.rv_object_laws.specs.declared.symbol.Binding.TheVariants.{Local, Global, Weak}
 use Rattle.rv_object_laws.specs.declared.symbol.Definition.{Definition}

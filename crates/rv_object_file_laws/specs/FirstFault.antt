@@ -4,15 +4,15 @@
 use Rattle.std.specs.Prelude.{ℕ, ◌+◌, ◌/◌, ◌%◌, ◌==◌, nat_lt, nat_le, Bool, true, false, not, ◌&&◌, ◌||◌, if◌then◌else◌, List, [], ◌∷◌, ◌++◌, drop, filter, flat_map, Option, Some, None}
 use Rattle.std.specs.List.{list_any}
 use Rattle.rv_map_laws.specs.Name.{is_name}
-use Rattle.rv_elf.specs.declared.fault.FileFault.{FileFault}
-use Rattle.rv_elf.specs.declared.fault.FileFault.TheVariants.{Truncated, BadTable, BadString, BadIndex, UnsupportedRelocation, UnsupportedSection, NotObject}
-use Rattle.rv_elf.specs.declared.section_header.SectionHeader.{SectionHeader}
-use Rattle.rv_elf.specs.declared.symbol.Symbol.{Symbol as SymbolRecord}
-use Rattle.rv_elf.specs.declared.rela.Rela.{Rela}
-use Rattle.rv_elf.specs.Fields.{number_in, e_type, symbol_size, rela_size}
-use Rattle.rv_elf.specs.FirstFault.{first_true, header_tests, table_tests}
-use Rattle.rv_elf.specs.Numbers.{et_rel, sht_progbits, sht_note, sht_nobits, sht_group, shn_undef, shn_abs, stb_local, stb_global, stb_weak}
-use Rattle.rv_elf.specs.Sections.{is_past, section_count, section_header_of, indexed_contents, file_contents, symbols_in, relas_in}
+use Rattle.rv_fault.specs.declared.file_fault.FileFault.{FileFault}
+use Rattle.rv_fault.specs.declared.file_fault.FileFault.TheVariants.{Truncated, BadTable, BadString, BadIndex, UnsupportedRelocation, UnsupportedSection, NotObject}
+use Rattle.rv_elf_laws.specs.declared.section_header.SectionHeader.{SectionHeader}
+use Rattle.rv_elf_laws.specs.declared.symbol.Symbol.{Symbol as SymbolRecord}
+use Rattle.rv_elf_laws.specs.declared.rela.Rela.{Rela}
+use Rattle.rv_elf_laws.specs.Fields.{number_in, e_type, symbol_size, rela_size}
+use Rattle.rv_elf_laws.specs.FirstFault.{first_true, header_tests, table_tests}
+use Rattle.rv_elf_laws.specs.Numbers.{et_rel, sht_progbits, sht_note, sht_nobits, sht_group, shn_undef, shn_abs, stb_local, stb_global, stb_weak}
+use Rattle.rv_elf_laws.specs.Sections.{is_past, section_count, section_header_of, indexed_contents, file_contents, symbols_in, relas_in}
 use Rattle.rv_object_laws.specs.Object.{Relocation}
 use Rattle.rv_object_laws.specs.Valid.{is_section_alignment, fits_inside, is_padding, are_apart}
 use Rattle.rv_object_file_laws.specs.Parts.{FileSection, sections, is_section, is_loaded, is_executable, name_at, name_of, is_symbol_table, is_rela, is_rows, kept_at, extent_of, relocates, relas_of, kind_numbered, relocation_in, relocations_in}

@@ -2,10 +2,10 @@
 -- RISC-V ELF psABI, "File Header").
 
 use Rattle.std.specs.Prelude.{◌≡◌, ℕ, ◌/◌, ◌%◌, ◌==◌, max, List, [], drop, map, filter, unwrap_or, Option, Some, None, if◌then◌else◌}
-use Rattle.rv_elf.specs.declared.symbol.Symbol.{Symbol as SymbolRecord}
-use Rattle.rv_elf.specs.Fields.{number_in, ei_magic, ei_class, ei_data, ei_version, e_type, e_machine, e_flags}
-use Rattle.rv_elf.specs.Numbers.{elfmag, et_rel, em_riscv, shn_undef, shn_abs, stb_local, stb_weak}
-use Rattle.rv_elf.specs.Sections.{indexed_contents}
+use Rattle.rv_elf_laws.specs.declared.symbol.Symbol.{Symbol as SymbolRecord}
+use Rattle.rv_elf_laws.specs.Fields.{number_in, ei_magic, ei_class, ei_data, ei_version, e_type, e_machine, e_flags}
+use Rattle.rv_elf_laws.specs.Numbers.{elfmag, et_rel, em_riscv, shn_undef, shn_abs, stb_local, stb_weak}
+use Rattle.rv_elf_laws.specs.Sections.{indexed_contents}
 use Rattle.rv_object_laws.specs.declared.symbol.Binding.{Binding}
 use Rattle.rv_object_laws.specs.declared.symbol.Binding.TheVariants.{Local, Global, Weak}
 use Rattle.rv_object_laws.specs.declared.symbol.Definition.{Definition}

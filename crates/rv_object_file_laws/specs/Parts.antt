@@ -6,11 +6,11 @@ use Rattle.std.specs.List.{find}
 use Rattle.rv_isa.specs.declared.kind.Kind.{Kind}
 use Rattle.rv_isa.specs.declared.kind.Kind.TheVariants as kinds
 use Rattle.rv_isa.specs.Kinds.{number_of}
-use Rattle.rv_elf.specs.declared.section_header.SectionHeader.{SectionHeader}
-use Rattle.rv_elf.specs.declared.symbol.Symbol.{Symbol as SymbolRecord}
-use Rattle.rv_elf.specs.declared.rela.Rela.{Rela}
-use Rattle.rv_elf.specs.Numbers.{sht_progbits, sht_symtab, sht_rela, sht_note, sht_nobits, shf_write, shf_alloc, shf_execinstr}
-use Rattle.rv_elf.specs.Sections.{section_headers, indexed_contents, section_count, names_section, file_contents, string_at, symbols_in, relas_in}
+use Rattle.rv_elf_laws.specs.declared.section_header.SectionHeader.{SectionHeader}
+use Rattle.rv_elf_laws.specs.declared.symbol.Symbol.{Symbol as SymbolRecord}
+use Rattle.rv_elf_laws.specs.declared.rela.Rela.{Rela}
+use Rattle.rv_elf_laws.specs.Numbers.{sht_progbits, sht_symtab, sht_rela, sht_note, sht_nobits, shf_write, shf_alloc, shf_execinstr}
+use Rattle.rv_elf_laws.specs.Sections.{section_headers, indexed_contents, section_count, names_section, file_contents, string_at, symbols_in, relas_in}
 use Rattle.rv_object_laws.specs.Object.{Contents, Progbits, Note, Nobits, Relocation}
 use Rattle.rv_object_file_laws.specs.Rows.{RowRecord, rows_name, rows_in}
 

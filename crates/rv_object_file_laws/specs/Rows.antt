@@ -2,8 +2,8 @@
 -- the source stands.
 
 use Rattle.std.specs.Prelude.{ℕ, List, ◌++◌, length, codes, ◌/◌}
-use Rattle.rv_elf.specs.Fields.{Field, field, number_in, bytes_of}
-use Rattle.rv_elf.specs.Sections.{records}
+use Rattle.rv_elf_laws.specs.Fields.{Field, field, number_in, bytes_of}
+use Rattle.rv_elf_laws.specs.Sections.{records}
 
 abbrev pub rows_name : List ℕ
 rows_name = codes ".rv.rows"

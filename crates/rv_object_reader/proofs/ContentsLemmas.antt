@@ -5,8 +5,8 @@ use Rattle.std.proofs.lemmas.Bool.{and_from, cond-false, true≢false}
 use Rattle.std.proofs.lemmas.Bool.Decides.{nat_tests}
 use Rattle.std.proofs.lemmas.List.{length-take, length-drop, length-replicate}
 use Rattle.rv_isa.specs.Kinds.{width_of}
-use Rattle.rv_elf.specs.declared.section_header.SectionHeader.{SectionHeader}
-use Rattle.rv_elf.specs.Sections.{is_past, is_nobits, file_contents, before_zero, string_at, names_section, indexed_contents}
+use Rattle.rv_elf_laws.specs.declared.section_header.SectionHeader.{SectionHeader}
+use Rattle.rv_elf_laws.specs.Sections.{is_past, is_nobits, file_contents, before_zero, string_at, names_section, indexed_contents}
 use Rattle.rv_object_laws.specs.Object.{Contents, Progbits, Note, Nobits, Relocation, size_of}
 use Rattle.rv_object_laws.specs.Valid.{is_section_alignment, is_string, keeps_name, is_even, fits_inside, is_padding, is_padding_of, padding_of, is_align}
 use Rattle.rv_object_file_laws.specs.Parts.{FileSection, is_kept, is_named, is_executable, name_at, name_of, contents_in, extent_of}

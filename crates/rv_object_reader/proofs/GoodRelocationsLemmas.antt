@@ -9,15 +9,15 @@ use Rattle.std.proofs.lemmas.List.Elements.{filter-append, filter_map-append}
 use Rattle.std.proofs.lemmas.List.Folds.{list_all-append}
 use Rattle.std.proofs.lemmas.List.Concat.{flat_map-append}
 use Rattle.rv_isa.specs.declared.kind.Kind.{Kind}
-use Rattle.rv_elf.specs.declared.section_header.SectionHeader.{SectionHeader}
-use Rattle.rv_elf.specs.declared.rela.Rela.{Rela}
-use Rattle.rv_elf.specs.FirstFault.{first_true}
-use Rattle.rv_elf.specs.Sections.{section_header_of, file_contents, relas_in}
+use Rattle.rv_elf_laws.specs.declared.section_header.SectionHeader.{SectionHeader}
+use Rattle.rv_elf_laws.specs.declared.rela.Rela.{Rela}
+use Rattle.rv_elf_laws.specs.FirstFault.{first_true}
+use Rattle.rv_elf_laws.specs.Sections.{section_header_of, file_contents, relas_in}
 use Rattle.rv_object_laws.specs.Object.{Relocation}
 use Rattle.rv_object_laws.specs.Valid.{fits_inside, is_padding, are_apart, are_all_apart, is_below}
 use Rattle.rv_object_file_laws.specs.Parts.{FileSection, sections, is_loaded, is_executable, is_symbol_table, is_rela, extent_of, symbol_records, relocates, relas_of, kind_numbered, symbol_index, relocation_by, relocation_in, relocations_in}
 use Rattle.rv_object_file_laws.specs.FirstFault.{is_none, is_misplaced, relocation_tests, relocations_tests, records_tests, symbol_count, first_fault}
-use Rattle.rv_elf.specs.FirstTrue.{no_fault_parts}
+use Rattle.rv_elf_laws.specs.FirstTrue.{no_fault_parts}
 use Rattle.rv_object_reader.proofs.FirstTrueLemmas.{all_false, not_false}
 use Rattle.rv_object_reader.proofs.WalkLemmas.{Passed, AllPassed, fine, header_says}
 use Rattle.rv_object_reader.proofs.SymbolCountLemmas.{no_symbols, symbols_counted}

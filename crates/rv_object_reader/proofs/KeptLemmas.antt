@@ -4,7 +4,7 @@ use Rattle.std.proofs.Common.{◌≡◌, ℕ, zero, suc, ◌+◌, ◌-◌, ◌<�
 use Rattle.std.specs.List.{find, slice_get}
 use Rattle.std.proofs.lemmas.Bool.{cond-true, cond-false, eqb-true, true≢false, lt-ltb, le-ltb}
 use Rattle.std.proofs.lemmas.Bool.Decides.{nat_tests}
-use Rattle.rv_elf.specs.Sections.{section_header_of, section_count}
+use Rattle.rv_elf_laws.specs.Sections.{section_header_of, section_count}
 use Rattle.rv_object_file_laws.specs.Parts.{FileSection, kept, is_kept, is_index, kept_before, kept_at}
 use Rattle.rv_object_checks.specs.Found.{section_at, sections_from}
 use Rattle.rv_object_reader.proofs.WalkLemmas.{sections_are, AllPassed, FoundPassed, fine, HeaderSays, header_says}

@@ -3,7 +3,7 @@
 use Rattle.std.proofs.Common.{◌≡◌, List, [], ◌∷◌, ◌++◌, map, Some, None, ap, sym, ◌∙◌}
 use Rattle.std.specs.List.{cons_option}
 use Rattle.std.proofs.lemmas.List.{append_assoc, map-append}
-use Rattle.rv_elf.specs.declared.rela.Rela.{Rela}
+use Rattle.rv_elf_laws.specs.declared.rela.Rela.{Rela}
 use Rattle.rv_object_types.specs.declared.relocation.Relocation.{Relocation as DeclaredRelocation}
 use Rattle.rv_object_laws.specs.Object.{Relocation}
 use Rattle.rv_object_types.specs.Parts.{relocation_of}

@@ -5,10 +5,10 @@ use Rattle.std.proofs.Common.{◌≡◌, ℕ, zero, suc, ◌+◌, ◌-◌, ◌/�
 use Rattle.std.specs.List.{find, list_any}
 use Rattle.std.proofs.lemmas.Bool.{and_parts, and_from, cond-true, cond-false, eqb-true, true≢false}
 use Rattle.std.proofs.lemmas.Bool.Decides.{nat_tests}
-use Rattle.rv_elf.specs.declared.section_header.SectionHeader.{SectionHeader}
-use Rattle.rv_elf.specs.FirstFault.{first_true}
-use Rattle.rv_elf.specs.Records.{symbol_at}
-use Rattle.rv_elf.specs.Sections.{records, section_count, section_header_of, file_contents}
+use Rattle.rv_elf_laws.specs.declared.section_header.SectionHeader.{SectionHeader}
+use Rattle.rv_elf_laws.specs.FirstFault.{first_true}
+use Rattle.rv_elf_laws.specs.Records.{symbol_at}
+use Rattle.rv_elf_laws.specs.Sections.{records, section_count, section_header_of, file_contents}
 use Rattle.rv_object_checks.specs.Found.{section_at, sections_from}
 use Rattle.rv_object_file_laws.specs.FirstFault.{section_tests, is_linked, is_rela_linked, symbol_count, first_fault}
 use Rattle.rv_object_file_laws.specs.Parts.{FileSection, is_section, is_loaded, is_symbol_table, is_rela, symbol_table, symbols_of, symbol_records}

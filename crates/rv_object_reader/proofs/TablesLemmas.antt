@@ -2,8 +2,8 @@
 
 use Rattle.std.proofs.Common.{◌≡◌, ℕ, ◌<◌, ◌==◌, nat_le, false, not, ◌&&◌, List, None, arith}
 use Rattle.std.proofs.lemmas.Bool.Decides.{nat_tests}
-use Rattle.rv_elf.specs.FirstFault.{table_tests}
-use Rattle.rv_elf.specs.Sections.{section_count, names_section}
+use Rattle.rv_elf_laws.specs.FirstFault.{table_tests}
+use Rattle.rv_elf_laws.specs.Sections.{section_count, names_section}
 use Rattle.rv_object_file_laws.specs.FirstFault.{first_fault}
 use Rattle.rv_object_reader.proofs.FirstTrueLemmas.{all_false}
 use Rattle.rv_object_reader.proofs.WalkLemmas.{fine}

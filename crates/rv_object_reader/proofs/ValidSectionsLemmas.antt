@@ -4,7 +4,7 @@ use Rattle.std.proofs.Common.{◌≡◌, ℕ, zero, suc, ◌-◌, ◌<◌, Bool,
 use Rattle.std.specs.List.{list_all}
 use Rattle.std.proofs.lemmas.Bool.{and_from}
 use Rattle.std.proofs.lemmas.List.Folds.{list_all-map}
-use Rattle.rv_elf.specs.Sections.{section_count, section_header_of}
+use Rattle.rv_elf_laws.specs.Sections.{section_count, section_header_of}
 use Rattle.rv_object_laws.specs.Object.{Contents, Relocation, Section}
 use Rattle.rv_object_laws.specs.Valid.{is_section_alignment, is_string, keeps_name, is_even, is_loaded_alone, fit_inside, fits_inside, is_padding, are_paddings, are_all_apart, is_below}
 use Rattle.rv_object_file_laws.specs.Parts.{sections, kept, is_kept, is_loaded, is_executable, contents_in, extent_of, symbol_records}

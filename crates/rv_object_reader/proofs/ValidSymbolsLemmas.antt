@@ -7,9 +7,9 @@ use Rattle.std.proofs.lemmas.Bool.Decides.{nat_tests}
 use Rattle.std.proofs.lemmas.List.{length-drop, length-map}
 use Rattle.std.proofs.lemmas.List.Folds.{list_all-map}
 use Rattle.rv_map_laws.specs.Name.{is_name}
-use Rattle.rv_elf.specs.declared.symbol.Symbol.{Symbol as SymbolRecord}
-use Rattle.rv_elf.specs.FirstFault.{first_true}
-use Rattle.rv_elf.specs.Sections.{indexed_contents, file_contents, symbols_in}
+use Rattle.rv_elf_laws.specs.declared.symbol.Symbol.{Symbol as SymbolRecord}
+use Rattle.rv_elf_laws.specs.FirstFault.{first_true}
+use Rattle.rv_elf_laws.specs.Sections.{indexed_contents, file_contents, symbols_in}
 use Rattle.rv_object_laws.specs.declared.symbol.Binding.TheVariants.{Local, Global, Weak}
 use Rattle.rv_object_laws.specs.declared.symbol.Definition.TheVariants.{Undefined, Absolute}
 use Rattle.rv_object_laws.specs.Object.{Section, Symbol}

@@ -2,17 +2,17 @@
 
 use Rattle.std.proofs.Common.{◌≡◌, ℕ, zero, suc, ◌+◌, ◌-◌, ◌*◌, ◌%◌, ◌==◌, Bool, true, false, not, ◌&&◌, ◌||◌, List, [], ◌∷◌, ◌++◌, drop, Some, None, refl, ap, sym, ◌∙◌, subst, arith, cond}
 use Rattle.std.specs.List.{find}
-use Rattle.rv_elf.specs.declared.section_header.SectionHeader.{SectionHeader}
-use Rattle.rv_elf.specs.Fields.{number_in, e_shoff, e_type}
-use Rattle.rv_elf.specs.FirstFault.{first_true, header_tests, table_tests}
-use Rattle.rv_elf.specs.Numbers.{et_rel, sht_nobits}
-use Rattle.rv_elf.specs.Records.{section_header_at}
-use Rattle.rv_elf.specs.Sections.{records, section_count, is_past}
+use Rattle.rv_elf_laws.specs.declared.section_header.SectionHeader.{SectionHeader}
+use Rattle.rv_elf_laws.specs.Fields.{number_in, e_shoff, e_type}
+use Rattle.rv_elf_laws.specs.FirstFault.{first_true, header_tests, table_tests}
+use Rattle.rv_elf_laws.specs.Numbers.{et_rel, sht_nobits}
+use Rattle.rv_elf_laws.specs.Records.{section_header_at}
+use Rattle.rv_elf_laws.specs.Sections.{records, section_count, is_past}
 use Rattle.rv_object_laws.specs.Valid.{is_section_alignment}
 use Rattle.rv_object_file_laws.specs.Parts.{FileSection, numbered, sections, is_executable, name_of}
 use Rattle.rv_object_file_laws.specs.FirstFault.{is_none, is_linked, section_tests, records_tests, sections_tests, object_tests, first_fault}
 use Rattle.rv_object_checks.specs.Found.{section_at, sections_from}
-use Rattle.rv_elf.specs.FirstTrue.{no_fault_parts}
+use Rattle.rv_elf_laws.specs.FirstTrue.{no_fault_parts}
 use Rattle.rv_object_reader.proofs.FirstTrueLemmas.{passed, all_false, not_false}
 
 pub numbered_from : (file : List ℕ) (n i : ℕ) →

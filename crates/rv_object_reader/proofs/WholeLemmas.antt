@@ -2,9 +2,9 @@
 
 use Rattle.std.proofs.Common.{◌≡◌, ℕ, ◌%◌, ◌==◌, ◌&&◌, List, None, drop, map, subst}
 use Rattle.std.proofs.lemmas.Bool.{and_parts, eqb-true}
-use Rattle.rv_elf.specs.Fields.{number_in, ei_magic, ei_class, ei_data, ei_version, e_type, e_machine, e_flags}
-use Rattle.rv_elf.specs.FirstFault.{first_true, header_tests}
-use Rattle.rv_elf.specs.Numbers.{elfmag, et_rel, em_riscv}
+use Rattle.rv_elf_laws.specs.Fields.{number_in, ei_magic, ei_class, ei_data, ei_version, e_type, e_machine, e_flags}
+use Rattle.rv_elf_laws.specs.FirstFault.{first_true, header_tests}
+use Rattle.rv_elf_laws.specs.Numbers.{elfmag, et_rel, em_riscv}
 use Rattle.rv_object_laws.specs.Object.{Object}
 use Rattle.rv_object_file_laws.specs.FirstFault.{first_fault}
 use Rattle.rv_object_file_laws.specs.ObjectOf.{ObjectOf, section_in, symbol_in, row_in}

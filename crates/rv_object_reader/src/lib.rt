@@ -23,5 +23,5 @@ mod strings;
 mod symbols;
 
 pub use reading::read;
-pub use rv_elf::FileFault;
+pub use rv_fault::FileFault;
 pub use rv_object_types::Object;

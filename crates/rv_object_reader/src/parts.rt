@@ -1,7 +1,7 @@
 //! The parts of an object, lent by its file.
 
 ghost use Rattle.std.specs.Prelude.{◌≡◌, ◌==◌, ◌%◌, [], None, unwrap_or, IfOk};
-ghost use Rattle.rv_elf.specs.Fields.{number_in, e_flags};
+ghost use Rattle.rv_elf_laws.specs.Fields.{number_in, e_flags};
 ghost use Rattle.rv_object_types.specs.Parts.{contents_of};
 ghost use Rattle.rv_object_file_laws.specs.ObjectOf.{binding_in};
 ghost use Rattle.rv_object_file_laws.specs.Parts.{contents_in, is_writable, name_of};
@@ -9,10 +9,8 @@ ghost use Rattle.rv_object_file_laws.specs.FirstFault.{first_fault};
 ghost use Rattle.rv_object_checks.specs.Names.{names_table};
 
 use crate::strings::Strings;
-use rv_elf::{
-    EF_RISCV_RVC, ElfView, SHF_WRITE, SHT_NOBITS, SHT_NOTE, STB_LOCAL, STB_WEAK, SectionHeader,
-    SectionIndex, Symbol,
-};
+use rv_elf::{EF_RISCV_RVC, ElfView, SHF_WRITE, SHT_NOBITS, SHT_NOTE, STB_LOCAL, STB_WEAK, SectionIndex};
+use rv_elf_laws::{SectionHeader, Symbol};
 use rv_object_types::{Binding, Contents};
 use std::alloc::{AllocError, Global};
 use std::borrow::CowSlice;

@@ -1,7 +1,7 @@
 //! From a file to its object.
 
 ghost use Rattle.std.specs.Prelude.{◌≡◌, ◌⊎◌, None, Some, IfOk, IfErr};
-ghost use Rattle.rv_elf.specs.declared.fault.FileFault.TheVariants.{OutOfMemory};
+ghost use Rattle.rv_fault.specs.declared.file_fault.FileFault.TheVariants.{OutOfMemory};
 ghost use Rattle.rv_object_types.specs.View.{object_of};
 ghost use Rattle.rv_object_file_laws.specs.FirstFault.{first_fault};
 ghost use Rattle.rv_object_file_laws.specs.ObjectOf.{ObjectOf};
@@ -11,7 +11,7 @@ use crate::relocations::relocations;
 use crate::rows::rows;
 use crate::sections::sections;
 use crate::symbols::symbols;
-use rv_elf::FileFault;
+use rv_fault::FileFault;
 use rv_object_checks::check;
 use rv_object_types::Object;
 use std::alloc::Global;

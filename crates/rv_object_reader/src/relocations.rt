@@ -1,13 +1,14 @@
 //! The relocations of each section that an object keeps.
 
 ghost use Rattle.std.specs.Prelude.{◌≡◌, ◌<◌, ◌++◌, ◌∷◌, [], IfOk, OnOk, List, length, map, option_map};
-ghost use Rattle.rv_elf.specs.Sections.{section_count, relas_in};
+ghost use Rattle.rv_elf_laws.specs.Sections.{section_count, relas_in};
 ghost use Rattle.rv_object_types.specs.Parts.{relocation_of};
 ghost use Rattle.rv_object_checks.specs.Found.{section_at};
 ghost use Rattle.rv_object_file_laws.specs.Parts.{FileSection, kept, relocation_in, relocations_in};
 ghost use Rattle.rv_object_reader.specs.Collected.{lists_of, lists_so_far, lists_in};
 
-use rv_elf::{RELA_SIZE, Rela, SHT_RELA, SectionIndex};
+use rv_elf::{RELA_SIZE, SHT_RELA, SectionIndex};
+use rv_elf_laws::Rela;
 use rv_object_checks::{Checked, count_sections, is_loaded, kind_numbered, rela_from};
 use rv_object_types::Relocation;
 use std::alloc::{AllocError, Global};

@@ -1,7 +1,7 @@
 //! The sections that an object keeps.
 
 ghost use Rattle.std.specs.Prelude.{◌≡◌, ◌<◌, true, IfOk, map};
-ghost use Rattle.rv_elf.specs.Sections.{section_count};
+ghost use Rattle.rv_elf_laws.specs.Sections.{section_count};
 ghost use Rattle.rv_object_types.specs.Parts.{relocation_of};
 ghost use Rattle.rv_object_types.specs.Sections.{section_of};
 ghost use Rattle.rv_object_checks.specs.Found.{section_at};

@@ -2,8 +2,8 @@
 
 ghost use Rattle.std.specs.Prelude.{◌≡◌, true, None, IfOk, drop, map};
 ghost use Rattle.std.specs.List.{AllByRecursion};
-ghost use Rattle.rv_elf.specs.FirstFault.{first_true};
-ghost use Rattle.rv_elf.specs.Sections.{symbols_in as records_in};
+ghost use Rattle.rv_elf_laws.specs.FirstFault.{first_true};
+ghost use Rattle.rv_elf_laws.specs.Sections.{symbols_in as records_in};
 ghost use Rattle.rv_object_types.specs.Parts.{symbol_of};
 ghost use Rattle.rv_object_file_laws.specs.FirstFault.{has_home, symbol_tests};
 ghost use Rattle.rv_object_file_laws.specs.ObjectOf.{names_of, symbol_in, definition_in};
@@ -11,7 +11,8 @@ ghost use Rattle.rv_object_file_laws.specs.Parts.{symbol_records, symbol_table};
 
 use crate::parts::binding;
 use crate::strings::Strings;
-use rv_elf::{SHN_ABS, SHN_UNDEF, SYMBOL_SIZE, SectionIndex, Symbol as SymbolRecord};
+use rv_elf::{SHN_ABS, SHN_UNDEF, SYMBOL_SIZE, SectionIndex};
+use rv_elf_laws::Symbol as SymbolRecord;
 use rv_object_checks::{Checked, symbol_from};
 use rv_object_types::{Definition, Symbol};
 use std::alloc::{AllocError, Global};

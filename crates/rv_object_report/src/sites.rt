@@ -1,6 +1,7 @@
 //! The relocations of objects' files: where their records stand, and whose value may be one that its field does not take.
 
-use rv_elf::{ElfView, RELA_SIZE, Rela, SHF_ALLOC, SHT_RELA, SectionHeader};
+use rv_elf::{ElfView, RELA_SIZE, SHF_ALLOC, SHT_RELA};
+use rv_elf_laws::{Rela, SectionHeader};
 use rv_inspect::{bytes_of, count_relas, rela_at, section_at, section_named};
 use rv_isa::Kind;
 use rv_object_checks::kind_numbered;

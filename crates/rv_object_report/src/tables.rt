@@ -1,7 +1,8 @@
 //! What the tables of an object's file say of a place in a section: its name, and the row of the statement that stands there.
 
 use crate::sites::Site;
-use rv_elf::{ElfView, SectionHeader};
+use rv_elf::ElfView;
+use rv_elf_laws::SectionHeader;
 use rv_inspect::{bytes_of, section_at, section_name, section_named, symbol_at, symbol_name};
 use rv_object_checks::{ROW_SIZE, RowRecord, row_in};
 

@@ -2,12 +2,12 @@
 
 use Rattle.std.proofs.Common.{◌≡◌, ℕ, suc, ◌+◌, ◌/◌, ◌%◌, ◌^◌, ◌∷◌, [], ◌++◌, ap, ◌∙◌, arith}
 use Rattle.byteorder.specs.Endian.{little_bytes}
-use Rattle.rv_elf.specs.declared.file_header.FileHeader.{FileHeader}
-use Rattle.rv_elf.specs.declared.section_header.SectionHeader.{SectionHeader}
-use Rattle.rv_elf.specs.declared.symbol.Symbol.{Symbol}
-use Rattle.rv_elf.specs.declared.rela.Rela.{Rela}
-use Rattle.rv_elf.specs.Fields as at
-use Rattle.rv_elf.specs.Records.{ident, file_header_bytes, section_header_bytes, symbol_bytes, rela_bytes}
+use Rattle.rv_elf_laws.specs.declared.file_header.FileHeader.{FileHeader}
+use Rattle.rv_elf_laws.specs.declared.section_header.SectionHeader.{SectionHeader}
+use Rattle.rv_elf_laws.specs.declared.symbol.Symbol.{Symbol}
+use Rattle.rv_elf_laws.specs.declared.rela.Rela.{Rela}
+use Rattle.rv_elf_laws.specs.Fields as at
+use Rattle.rv_elf_laws.specs.Records.{ident, file_header_bytes, section_header_bytes, symbol_bytes, rela_bytes}
 use Rattle.rv_object_laws.specs.declared.row.Row.{Row}
 use Rattle.rv_object_file_laws.specs.Rows as rows
 use Rattle.rv_object_file_laws.specs.Rows.{row_bytes}

@@ -5,8 +5,8 @@ use Rattle.std.specs.Prelude.{flat_map}
 use Rattle.std.proofs.lemmas.List.{drop_more, drop_all, length-replicate}
 use Rattle.std.proofs.Math.Seq.{drop-append_seam}
 use mir.Val.{bool_byte}
-use Rattle.rv_elf.specs.declared.file_header.FileHeader.{FileHeader}
-use Rattle.rv_elf.specs.Records.{file_header_bytes, section_header_bytes}
+use Rattle.rv_elf_laws.specs.declared.file_header.FileHeader.{FileHeader}
+use Rattle.rv_elf_laws.specs.Records.{file_header_bytes, section_header_bytes}
 use Rattle.rv_object_laws.specs.declared.row.Row.{Row}
 use Rattle.rv_object_types.specs.declared.section.Section.{Section as DeclaredSection}
 use Rattle.rv_object_laws.specs.Object.{Section, Symbol}

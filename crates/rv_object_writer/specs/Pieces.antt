@@ -2,9 +2,9 @@
 
 use Rattle.std.specs.Prelude.{◌≡◌, ℕ, ◌+◌, Bool, List, length, map, flat_map, if◌then◌else◌}
 use Rattle.std.specs.List.{AllByRecursion}
-use Rattle.rv_elf.specs.declared.file_header.FileHeader.{FileHeader}
-use Rattle.rv_elf.specs.Fields.{rela_size, file_header_size, section_header_size}
-use Rattle.rv_elf.specs.Numbers.{sht_rela, et_rel, em_riscv}
+use Rattle.rv_elf_laws.specs.declared.file_header.FileHeader.{FileHeader}
+use Rattle.rv_elf_laws.specs.Fields.{rela_size, file_header_size, section_header_size}
+use Rattle.rv_elf_laws.specs.Numbers.{sht_rela, et_rel, em_riscv}
 use Rattle.rv_object_laws.specs.Object.{Object}
 use Rattle.rv_object_file_laws.specs.Known.{IsRelocation, IsSymbol}
 use Rattle.rv_object_file_laws.specs.Rows.{row_bytes}

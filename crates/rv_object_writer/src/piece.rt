@@ -36,7 +36,7 @@ pub(crate) struct Piece<'p> {
 
 impl<'p> Piece<'p> {
     ghost use Rattle.rv_object_file_laws.specs.Written.{section_piece, table_piece};
-    ghost use Rattle.rv_elf.specs.Numbers.{sht_progbits};
+    ghost use Rattle.rv_elf_laws.specs.Numbers.{sht_progbits};
     ghost use Rattle.rv_object_file_laws.specs.Rows.{rows_name};
     ghost use Rattle.rv_object_writer.specs.Pieces.{piece_of, rows_bytes};
 

@@ -2,8 +2,8 @@
 
 ghost use Rattle.std.specs.Prelude.{◌≡◌, ◌+◌, ◌++◌, ◌∷◌, [], ◌<◌, ◌^◌, map, codes, IfOk, OnOk};
 ghost use Rattle.std.specs.List.{AllByRecursion};
-ghost use Rattle.rv_elf.specs.Fields.{symbol_size};
-ghost use Rattle.rv_elf.specs.Numbers.{sht_strtab, sht_symtab};
+ghost use Rattle.rv_elf_laws.specs.Fields.{symbol_size};
+ghost use Rattle.rv_elf_laws.specs.Numbers.{sht_strtab, sht_symtab};
 ghost use Rattle.rv_object_laws.specs.Object.{size_of};
 ghost use Rattle.rv_object_types.specs.Sections.{section_of};
 ghost use Rattle.rv_object_types.specs.View.{object_of};

@@ -6,8 +6,8 @@
 
 ghost use Rattle.std.specs.Prelude.{◌≡◌, ◌+◌, ◌<◌, ◌%◌, ◌^◌, ℕ, List, [], ◌∷◌, ◌++◌, map, flat_map, replicate, codes, IfOk, OnOk};
 ghost use Rattle.std.specs.List.{AllByRecursion};
-ghost use Rattle.rv_elf.specs.Fields.{symbol_size};
-ghost use Rattle.rv_elf.specs.Records.{rela_bytes, symbol_bytes};
+ghost use Rattle.rv_elf_laws.specs.Fields.{symbol_size};
+ghost use Rattle.rv_elf_laws.specs.Records.{rela_bytes, symbol_bytes};
 ghost use Rattle.rv_object_types.specs.Parts.{relocation_of, symbol_of};
 ghost use Rattle.rv_object_types.specs.Sections.{section_of};
 ghost use Rattle.rv_object_file_laws.specs.Known.{IsRelocation, IsSymbol};
@@ -18,10 +18,8 @@ ghost use Rattle.rv_object_writer.specs.Strings.{IsStringTable};
 
 use crate::strings::StringTable;
 use byteorder::{ByteOrder, LittleEndian};
-use rv_elf::{
-    ElfWriter, Rela, SHN_ABS, SHN_UNDEF, STB_GLOBAL, STB_LOCAL, STB_WEAK, SYMBOL_SIZE,
-    Symbol as SymbolRecord,
-};
+use rv_elf::{ElfWriter, SHN_ABS, SHN_UNDEF, STB_GLOBAL, STB_LOCAL, STB_WEAK, SYMBOL_SIZE};
+use rv_elf_laws::{Rela, Symbol as SymbolRecord};
 use rv_object_types::{Binding, Definition, Relocation, Row, Section, Symbol};
 use std::alloc::{AllocError, Global};
 
@@ -38,7 +36,7 @@ fn symbol_number(symbol: Option<u32>) -> u32
 }
 
 /// Writes a relocation.
-#[tactic(auto, unfolding(rv_elf::specs::Records::rela_bytes))]
+#[tactic(auto, unfolding(rv_elf_laws::specs::Records::rela_bytes))]
 fn put_relocation(out: &mut ElfWriter, relocation: Relocation) -> Result<(), AllocError>
     ensures written { OnOk result
         (out.new ≡ out.old ++ rela_bytes (rela_of (relocation_of relocation))) }
@@ -209,7 +207,7 @@ fn value(definition: Definition) -> u64
 }
 
 /// Writes a symbol.
-#[tactic(auto, unfolding(rv_elf::specs::Records::symbol_bytes))]
+#[tactic(auto, unfolding(rv_elf_laws::specs::Records::symbol_bytes))]
 fn put_symbol(
     out: &mut ElfWriter,
     names: &StringTable<'_>,

@@ -5,8 +5,8 @@
 
 ghost use Rattle.std.specs.Prelude.{◌≡◌, ◌+◌, ◌++◌, ◌^◌, ◌<◌, ◌≤◌, ℕ, List, None, map, flat_map, length, drop, replicate, IfOk, OnOk};
 ghost use Rattle.std.specs.List.{AllByRecursion};
-ghost use Rattle.rv_elf.specs.Fields.{file_header_size, section_header_size};
-ghost use Rattle.rv_elf.specs.Records.{file_header_bytes, section_header_bytes};
+ghost use Rattle.rv_elf_laws.specs.Fields.{file_header_size, section_header_size};
+ghost use Rattle.rv_elf_laws.specs.Records.{file_header_bytes, section_header_bytes};
 ghost use Rattle.rv_object_laws.specs.Object.{size_of};
 ghost use Rattle.rv_object_types.specs.View.{object_of};
 ghost use Rattle.rv_object_file_laws.specs.FirstFault.{first_fault};
@@ -22,9 +22,8 @@ use crate::piece::{Body, Piece};
 use crate::pieces::{Tables, all_pieces, first_pieces};
 use crate::strings::StringTable;
 use crate::tables::put_rows;
-use rv_elf::{
-    EM_RISCV, ET_REL, ElfWriter, FILE_HEADER_SIZE, FileHeader, SECTION_HEADER_SIZE, SectionHeader,
-};
+use rv_elf::{EM_RISCV, ET_REL, ElfWriter, FILE_HEADER_SIZE, SECTION_HEADER_SIZE};
+use rv_elf_laws::{FileHeader, SectionHeader};
 use rv_object_file_laws::written_object_is_read;
 use rv_object_types::Object;
 use std::alloc::{AllocError, Global};
@@ -114,7 +113,7 @@ fn aligned(at: u64) -> u64
 }
 
 /// Writes the header of the file over its first bytes, where the section headers come next.
-#[tactic(auto, unfolding(rv_elf::specs::Records::file_header_bytes))]
+#[tactic(auto, unfolding(rv_elf_laws::specs::Records::file_header_bytes))]
 fn set_header(out: &mut ElfWriter, rvc: bool, last: u128, pieces: &[Piece<'_>])
     requires front { file_header_size ≤ length out.old }
     requires next { length out.old ≡ headers_offset file_header_size (map piece_of pieces.now) }
@@ -182,7 +181,7 @@ fn put_contents(out: &mut ElfWriter, pieces: &[Piece<'_>]) -> Result<(), AllocEr
 }
 
 /// Writes the header of a section.
-#[tactic(auto, unfolding(rv_elf::specs::Records::section_header_bytes))]
+#[tactic(auto, unfolding(rv_elf_laws::specs::Records::section_header_bytes))]
 fn put_section_header(
     out: &mut ElfWriter,
     names: &StringTable<'_>,

@@ -8,7 +8,7 @@ use Rattle.std.specs.Prelude.{◌&&◌, ◌==◌, not, nat_le, if◌then◌else�
 use Rattle.std.specs.List.{AllByRecursion, find}
 use Rattle.rv_isa_laws.specs.Memory.{Mem}
 use Rattle.rv_map_laws.specs.declared.map.Row.{Row}
-use Rattle.rv_elf.specs.Numbers.{pf_x}
+use Rattle.rv_elf_laws.specs.Numbers.{pf_x}
 use Rattle.rv_image_laws.specs.Linked.{Linked}
 use Rattle.rv_image_laws.specs.Segment.{Segment}
 use Rattle.rv_image_laws.specs.Executable.{Part, all_parts, has_memory, segment_of_part, linked_image}

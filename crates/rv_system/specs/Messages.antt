@@ -10,9 +10,9 @@ use Rattle.rv_map_laws.specs.Name.{is_name_byte}
 use Rattle.rv_lexer.specs.declared.fault.SourceFault.{SourceFault}
 use Rattle.rv_lexer.specs.declared.fault.SourceFault.TheVariants.{At, OutOfMemory}
 use Rattle.rv_lexer.specs.Fault as sources
-use Rattle.rv_elf.specs.declared.fault.FileFault.{FileFault}
-use Rattle.rv_elf.specs.declared.fault.FileFault.TheVariants.{UnsupportedRelocation, UnsupportedSection}
-use Rattle.rv_elf.specs.Fault as files
+use Rattle.rv_fault.specs.declared.file_fault.FileFault.{FileFault}
+use Rattle.rv_fault.specs.declared.file_fault.FileFault.TheVariants.{UnsupportedRelocation, UnsupportedSection}
+use Rattle.rv_fault.specs.FileFault as files
 use Rattle.rv_fault.specs.declared.link_fault.LinkFault.{LinkFault}
 use Rattle.rv_fault.specs.declared.link_fault.LinkFault.TheVariants.{Undefined, Duplicate}
 use Rattle.rv_fault.specs.LinkFault as links

@@ -12,8 +12,8 @@ use Rattle.rv_unit_laws.specs.Sections.{Section as SourceSection, Opened, entere
 use Rattle.rv_unit_laws.specs.Tables.{Tables, at_start, with_section, after, after_all, tables, opened_of}
 use Rattle.rv_unit_laws.proofs.EnteringLemmas.{sections_more, entering}
 use Rattle.rv_unit_laws.proofs.OpenedLemmas.{entered_in, after_opened}
-use Rattle.rv_elf.specs.Fields.{symbol_size, rela_size}
-use Rattle.rv_elf.specs.Numbers.{sht_symtab, sht_strtab, sht_rela}
+use Rattle.rv_elf_laws.specs.Fields.{symbol_size, rela_size}
+use Rattle.rv_elf_laws.specs.Numbers.{sht_symtab, sht_strtab, sht_rela}
 use Rattle.rv_object_laws.specs.declared.row.Row.{Row}
 use Rattle.rv_object_laws.specs.Object.{Section, Symbol, Object}
 use Rattle.rv_object_file_laws.specs.Written.{unseen, strings_of, table_of, UnplacedSection, section_piece, table_piece, relocations_bytes, rela_pieces, row_pieces, symbol_names, symbols_bytes, locals, symtab_index, last_index, first_pieces, section_names, HasFile}

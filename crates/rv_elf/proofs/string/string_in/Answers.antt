@@ -1,5 +1,5 @@
 use Rattle.std.proofs.Common.{sym, ap, ◌∙◌}
-use Rattle.rv_elf.specs.Sections.{before_zero}
+use Rattle.rv_elf_laws.specs.Sections.{before_zero}
 use Rattle.rv_elf.proofs.StringsLemmas.{no_string, string_there, rest_is}
 use Rattle.rv_elf.proofs.string.string_in.Goals as goal
 

@@ -1,7 +1,7 @@
 use Rattle.std.proofs.Common.{◌≡◌, ◌∙◌, ◌+◌, ◌*◌, ◌-◌, ◌&&◌, true, sym, ap}
 use Rattle.std.specs.List.{list_all}
-use Rattle.rv_elf.specs.Fields.{number_in, e_phoff}
-use Rattle.rv_elf.specs.Records.{program_header_at}
+use Rattle.rv_elf_laws.specs.Fields.{number_in, e_phoff}
+use Rattle.rv_elf_laws.specs.Records.{program_header_at}
 use Rattle.rv_firmware.specs.FirmwareOf.{is_low}
 use Rattle.rv_firmware.proofs.HeadersLemmas.{headers_from, all_cut}
 use Rattle.rv_firmware.proofs.firmware.are_low.Goals as goal

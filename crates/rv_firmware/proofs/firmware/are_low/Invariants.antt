@@ -1,6 +1,6 @@
 use Rattle.std.proofs.Common.{◌≡◌, ◌+◌, ◌*◌, ◌-◌}
 use Rattle.std.specs.List.{list_all}
-use Rattle.rv_elf.specs.Fields.{number_in, e_phoff}
+use Rattle.rv_elf_laws.specs.Fields.{number_in, e_phoff}
 use Rattle.rv_firmware.specs.FirmwareOf.{is_low}
 use Rattle.rv_firmware.proofs.HeadersLemmas.{headers_from}
 use Rattle.rv_firmware.proofs.firmware.are_low.Given as goal

@@ -1,8 +1,8 @@
 use Rattle.std.proofs.Common.{◌≡◌, ◌∙◌, ◌+◌, ◌*◌, ◌-◌, ◌++◌, [], ◌∷◌, sym, ap, subst, map, append_assoc}
 use Rattle.std.specs.List.{list_any, list_all}
 use Rattle.std.proofs.lemmas.Bool.{and_parts, or_parts}
-use Rattle.rv_elf.specs.Fields.{number_in, e_phoff}
-use Rattle.rv_elf.specs.Records.{program_header_at}
+use Rattle.rv_elf_laws.specs.Fields.{number_in, e_phoff}
+use Rattle.rv_elf_laws.specs.Records.{program_header_at}
 use Rattle.rv_firmware.specs.Blocks.{block_of}
 use Rattle.rv_firmware.specs.FirmwareOf.{is_cut, is_low}
 use Rattle.rv_firmware.proofs.HeadersLemmas.{headers_from, any_cut, all_cut, kept, kept_cut}

@@ -1,7 +1,7 @@
 use Rattle.std.proofs.Common.{◌≡◌, ◌∙◌, ◌+◌, ◌*◌, ◌-◌, ◌||◌, false, sym, ap}
 use Rattle.std.specs.List.{list_any}
-use Rattle.rv_elf.specs.Fields.{number_in, e_phoff}
-use Rattle.rv_elf.specs.Records.{program_header_at}
+use Rattle.rv_elf_laws.specs.Fields.{number_in, e_phoff}
+use Rattle.rv_elf_laws.specs.Records.{program_header_at}
 use Rattle.rv_firmware.specs.FirmwareOf.{is_cut}
 use Rattle.rv_firmware.proofs.HeadersLemmas.{headers_from, any_cut}
 use Rattle.rv_firmware.proofs.firmware.is_any_cut.Goals as goal

@@ -1,6 +1,6 @@
 use Rattle.std.proofs.Common.{◌≡◌, ◌+◌, ◌*◌, ◌-◌}
 use Rattle.std.specs.List.{list_any}
-use Rattle.rv_elf.specs.Fields.{number_in, e_phoff}
+use Rattle.rv_elf_laws.specs.Fields.{number_in, e_phoff}
 use Rattle.rv_firmware.specs.FirmwareOf.{is_cut}
 use Rattle.rv_firmware.proofs.HeadersLemmas.{headers_from}
 use Rattle.rv_firmware.proofs.firmware.is_any_cut.Given as goal

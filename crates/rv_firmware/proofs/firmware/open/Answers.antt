@@ -1,6 +1,6 @@
 use Rattle.std.proofs.Common.{◌≡◌, ◌++◌, Some, rules}
-use Rattle.rv_elf.specs.FirstFault.{first_true, header_tests, open_tests, type_tests}
-use Rattle.rv_elf.specs.FirstTrue.{first_true_some}
+use Rattle.rv_elf_laws.specs.FirstFault.{first_true, header_tests, open_tests, type_tests}
+use Rattle.rv_elf_laws.specs.FirstTrue.{first_true_some}
 use Rattle.rv_firmware.specs.FirmwareOf.{firmware_tests, contents_tests}
 use Rattle.rv_firmware.proofs.firmware.open.Goals as goal
 

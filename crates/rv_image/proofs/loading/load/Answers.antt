@@ -1,6 +1,6 @@
 use Rattle.std.proofs.Common.{◌∙◌, ap, [], map, filter}
-use Rattle.rv_elf.specs.Fields.{number_in, e_entry, e_phoff}
-use Rattle.rv_elf.specs.Sections.{program_headers, program_count, is_load}
+use Rattle.rv_elf_laws.specs.Fields.{number_in, e_entry, e_phoff}
+use Rattle.rv_elf_laws.specs.Sections.{program_headers, program_count, is_load}
 use Rattle.rv_image_laws.specs.ImageOf.{segment_in}
 use Rattle.rv_image.proofs.LoadedLemmas.{programs_loadable}
 use Rattle.rv_image.proofs.ApartLemmas.{loaded_apart, loaded_memory}

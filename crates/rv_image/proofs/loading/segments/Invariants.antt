@@ -1,6 +1,6 @@
 use Rattle.std.proofs.Common.{◌≡◌, ◌+◌, ◌*◌, ◌-◌, ◌++◌, map, filter}
-use Rattle.rv_elf.specs.Fields.{number_in, e_phoff}
-use Rattle.rv_elf.specs.Sections.{is_load}
+use Rattle.rv_elf_laws.specs.Fields.{number_in, e_phoff}
+use Rattle.rv_elf_laws.specs.Sections.{is_load}
 use Rattle.rv_image_laws.specs.FirstFault.{programs_from}
 use Rattle.rv_image_laws.specs.ImageOf.{segment_in}
 use Rattle.rv_image.specs.SegmentView.{segment_of}

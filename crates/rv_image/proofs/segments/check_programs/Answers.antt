@@ -1,8 +1,8 @@
 use Rattle.std.proofs.Common.{◌≡◌, ◌∙◌, sym, ap, subst, true, None, Some, []}
 use Rattle.std.proofs.lemmas.Result.{err_from_is_err_and}
-use Rattle.rv_elf.specs.Fields.{number_in, e_phoff}
-use Rattle.rv_elf.specs.FirstFault.{first_true}
-use Rattle.rv_elf.specs.Sections.{program_count}
+use Rattle.rv_elf_laws.specs.Fields.{number_in, e_phoff}
+use Rattle.rv_elf_laws.specs.FirstFault.{first_true}
+use Rattle.rv_elf_laws.specs.Sections.{program_count}
 use Rattle.rv_image_laws.specs.FirstFault.{program_tests, programs_tests, ends_by, programs_from}
 use Rattle.rv_image.proofs.ProgramsLemmas.{tests_step, tests_stop, all_step, all_end_later}
 use Rattle.rv_image.proofs.segments.check_programs.Goals as goal

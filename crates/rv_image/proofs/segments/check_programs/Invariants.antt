@@ -1,7 +1,7 @@
 use Rattle.std.proofs.Common.{◌≡◌, ◌≤◌, ◌+◌, ◌*◌, ◌-◌, ◌^◌, true, []}
 use Rattle.std.specs.List.{list_all}
-use Rattle.rv_elf.specs.Fields.{number_in, e_phoff}
-use Rattle.rv_elf.specs.FirstFault.{first_true}
+use Rattle.rv_elf_laws.specs.Fields.{number_in, e_phoff}
+use Rattle.rv_elf_laws.specs.FirstFault.{first_true}
 use Rattle.rv_image_laws.specs.FirstFault.{programs_tests, ends_by, programs_from}
 use Rattle.rv_image.proofs.segments.check_programs.Given as goal
 

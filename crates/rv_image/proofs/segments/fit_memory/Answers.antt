@@ -1,8 +1,8 @@
 use Rattle.std.proofs.Common.{◌≡◌, ◌∙◌, ◌+◌, ◌*◌, ◌<◌, ◌^◌, sym, ap, not, nat_lt, arith, [], ◌∷◌}
 use Rattle.std.proofs.lemmas.Bool.{lt-ltb}
-use Rattle.rv_elf.specs.Fields.{number_in, e_phoff}
-use Rattle.rv_elf.specs.Records.{program_header_at}
-use Rattle.rv_elf.specs.Sections.{program_count}
+use Rattle.rv_elf_laws.specs.Fields.{number_in, e_phoff}
+use Rattle.rv_elf_laws.specs.Records.{program_header_at}
+use Rattle.rv_elf_laws.specs.Sections.{program_count}
 use Rattle.rv_image_laws.specs.FirstFault.{loaded_size, programs_from}
 use Rattle.rv_image.proofs.LoadedLemmas.{loaded_step}
 use Rattle.rv_image.proofs.segments.fit_memory.Goals as goal

@@ -1,5 +1,5 @@
 use Rattle.std.proofs.Common.{◌≡◌, ◌≤◌, ◌+◌, ◌*◌, ◌-◌, ◌^◌}
-use Rattle.rv_elf.specs.Fields.{number_in, e_phoff}
+use Rattle.rv_elf_laws.specs.Fields.{number_in, e_phoff}
 use Rattle.rv_image_laws.specs.FirstFault.{loaded_size, programs_from}
 use Rattle.rv_image.proofs.segments.fit_memory.Given as goal
 

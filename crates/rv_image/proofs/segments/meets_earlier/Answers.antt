@@ -1,5 +1,5 @@
 use Rattle.std.proofs.Common.{◌≡◌, ◌∙◌, sym, subst, false}
-use Rattle.rv_elf.specs.Fields.{number_in, e_phoff}
+use Rattle.rv_elf_laws.specs.Fields.{number_in, e_phoff}
 use Rattle.rv_image_laws.specs.FirstFault.{do_overlap}
 use Rattle.rv_image.proofs.ProgramsLemmas.{any_step}
 use Rattle.rv_image.proofs.segments.meets_earlier.Goals as goal

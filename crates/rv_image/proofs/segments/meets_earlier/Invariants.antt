@@ -1,6 +1,6 @@
 use Rattle.std.proofs.Common.{◌≡◌, ◌+◌, ◌*◌, ◌-◌}
 use Rattle.std.specs.List.{list_any}
-use Rattle.rv_elf.specs.Fields.{number_in, e_phoff}
+use Rattle.rv_elf_laws.specs.Fields.{number_in, e_phoff}
 use Rattle.rv_image_laws.specs.FirstFault.{do_overlap, programs_from}
 use Rattle.rv_image.proofs.segments.meets_earlier.Given as goal
 

@@ -2,8 +2,8 @@ use Rattle.std.proofs.Common.{◌≡◌, true, false, ◌∙◌, arith}
 use Rattle.std.specs.Prelude.{◌==◌}
 use Rattle.std.proofs.lemmas.Bool.Decides.{nat_tests}
 use Rattle.std.proofs.lemmas.Result.{err_from_is_err_and}
-use Rattle.rv_elf.specs.Fields.{number_in, e_type}
-use Rattle.rv_elf.specs.Numbers.{et_rel}
+use Rattle.rv_elf_laws.specs.Fields.{number_in, e_type}
+use Rattle.rv_elf_laws.specs.Numbers.{et_rel}
 use Rattle.rv_object_checks.proofs.OpeningLemmas.{header_stops, type_stops, tables_are, names_inside}
 use Rattle.rv_object_checks.proofs.checking.open.Goals as goal
 

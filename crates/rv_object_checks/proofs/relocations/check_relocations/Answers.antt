@@ -1,8 +1,8 @@
 use Rattle.std.proofs.Common.{◌≡◌, ◌⊎◌, inl, inr, ◌+◌, ◌<◌, ◌/◌, ◌∷◌, Some, length, sym, ap, ◌∙◌, arith}
 use Rattle.std.proofs.lemmas.Result.{err_from_is_err_and}
-use Rattle.rv_elf.specs.FirstFault.{first_true}
-use Rattle.rv_elf.specs.Sections.{relas_in}
-use Rattle.rv_elf.specs.declared.fault.FileFault.TheVariants.{OutOfMemory}
+use Rattle.rv_elf_laws.specs.FirstFault.{first_true}
+use Rattle.rv_elf_laws.specs.Sections.{relas_in}
+use Rattle.rv_fault.specs.declared.file_fault.FileFault.TheVariants.{OutOfMemory}
 use Rattle.rv_object_file_laws.specs.FirstFault.{relocations_tests}
 use Rattle.rv_object_checks.proofs.RelocationStepsLemmas.{left_of, left_next, step, fault}
 use Rattle.rv_object_checks.proofs.relocations.check_relocations.Goals as goal

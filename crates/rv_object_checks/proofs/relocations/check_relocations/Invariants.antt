@@ -1,5 +1,5 @@
 use Rattle.std.proofs.Common.{◌/◌, length, List}
-use Rattle.rv_elf.specs.Sections.{relas_in}
+use Rattle.rv_elf_laws.specs.Sections.{relas_in}
 use Rattle.rv_object_laws.specs.Object.{Relocation}
 use Rattle.rv_object_checks.specs.Held.{fields_of}
 use Rattle.rv_object_checks.specs.Stretches.{HoldsCode}

@@ -1,6 +1,6 @@
 use Rattle.std.proofs.Common.{◌*◌, ◌-◌, length, drop, ap, ◌∙◌, le_of_eq}
 use Rattle.std.proofs.lemmas.List.{length-drop, take_all}
-use Rattle.rv_elf.specs.Records.{rela_at}
+use Rattle.rv_elf_laws.specs.Records.{rela_at}
 use Rattle.rv_object_checks.proofs.RelocationStepsLemmas.{rela_behind}
 use Rattle.rv_object_checks.proofs.relocations.rela_from.Goals as goal
 

@@ -1,7 +1,7 @@
 use Rattle.std.proofs.Common.{◌≡◌, ◌+◌, ◌*◌, ◌/◌, length, None, Some, subst, ap, sym, ◌∙◌, arith}
 use Rattle.std.specs.Prelude.{flat_map}
 use Rattle.std.proofs.lemmas.Result.{err_from_is_err_and}
-use Rattle.rv_elf.specs.FirstFault.{first_true}
+use Rattle.rv_elf_laws.specs.FirstFault.{first_true}
 use Rattle.rv_object_file_laws.specs.FirstFault.{row_tests}
 use Rattle.rv_object_file_laws.specs.Rows.{row_at, rows_in}
 use Rattle.rv_object_checks.proofs.RecordsLemmas.{tests_step, tests_stop}

@@ -1,7 +1,7 @@
 use Rattle.std.proofs.Common.{◌≡◌, ◌*◌, ◌-◌, ◌/◌, length}
 use Rattle.std.specs.Prelude.{flat_map}
-use Rattle.rv_elf.specs.FirstFault.{first_true}
-use Rattle.rv_elf.specs.Sections.{records}
+use Rattle.rv_elf_laws.specs.FirstFault.{first_true}
+use Rattle.rv_elf_laws.specs.Sections.{records}
 use Rattle.rv_object_file_laws.specs.FirstFault.{row_tests}
 use Rattle.rv_object_file_laws.specs.Parts.{kept_at}
 use Rattle.rv_object_file_laws.specs.Rows.{row_at, rows_in}

@@ -2,7 +2,7 @@ use Rattle.std.proofs.Common.{◌<◌, Some, None, length, get_or, max, ap, sym,
 use Rattle.std.specs.Prelude.{if◌then◌else◌}
 use Rattle.std.specs.Option.{is_some}
 use Rattle.std.proofs.lemmas.Bool.{cond-false}
-use Rattle.rv_elf.specs.Sections.{section_count}
+use Rattle.rv_elf_laws.specs.Sections.{section_count}
 use Rattle.rv_object_checks.specs.Found.{section_at}
 use Rattle.rv_object_checks.proofs.KeptSectionsLemmas.{long_places, places_long, placed_at, kept_by, some_below, past_count, is_behind}
 use Rattle.rv_object_checks.proofs.rows_reading.is_kept_index.Goals as goal

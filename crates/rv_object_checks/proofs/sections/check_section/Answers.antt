@@ -1,6 +1,6 @@
 use Rattle.std.proofs.lemmas.Result.{err_from_is_err_and}
 use Rattle.rv_object_checks.specs.Tests.{size_tests, link_tests}
-use Rattle.rv_elf.specs.FirstTrue.{first_true_some}
+use Rattle.rv_elf_laws.specs.FirstTrue.{first_true_some}
 use Rattle.rv_object_checks.proofs.sections.check_section.Goals as goal
 
 pub returns-in_err-check_size-clause-faults : goal.returns-in_err-check_size-clause-faults

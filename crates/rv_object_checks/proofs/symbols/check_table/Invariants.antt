@@ -1,8 +1,8 @@
 use Rattle.std.proofs.Common.{◌≡◌, ◌+◌, ◌*◌, ◌-◌, drop}
 use Rattle.std.specs.Prelude.{flat_map}
-use Rattle.rv_elf.specs.FirstFault.{first_true}
-use Rattle.rv_elf.specs.Records.{symbol_at}
-use Rattle.rv_elf.specs.Sections.{records, symbols_in}
+use Rattle.rv_elf_laws.specs.FirstFault.{first_true}
+use Rattle.rv_elf_laws.specs.Records.{symbol_at}
+use Rattle.rv_elf_laws.specs.Sections.{records, symbols_in}
 use Rattle.rv_object_file_laws.specs.FirstFault.{symbol_tests}
 use Rattle.rv_object_checks.proofs.symbols.check_table.Given as goal
 

@@ -1,6 +1,6 @@
 use Rattle.std.proofs.Common.{◌≡◌, ◌+◌, ◌-◌, false, ap, sym, ◌∙◌, arith}
 use Rattle.std.specs.List.{find}
-use Rattle.rv_elf.specs.Sections.{section_count, section_header_of}
+use Rattle.rv_elf_laws.specs.Sections.{section_count, section_header_of}
 use Rattle.rv_object_file_laws.specs.Parts.{is_rows}
 use Rattle.rv_object_checks.proofs.SectionsFromLemmas.{all_are, find_past}
 use Rattle.rv_object_checks.proofs.tables.first_rows.Goals as goal

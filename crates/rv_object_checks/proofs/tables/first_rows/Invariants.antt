@@ -1,6 +1,6 @@
 use Rattle.std.proofs.Common.{◌≡◌, ◌+◌, ◌-◌}
 use Rattle.std.specs.List.{find}
-use Rattle.rv_elf.specs.Sections.{section_count}
+use Rattle.rv_elf_laws.specs.Sections.{section_count}
 use Rattle.rv_object_file_laws.specs.Parts.{is_rows, sections}
 use Rattle.rv_object_checks.specs.Found.{sections_from}
 use Rattle.rv_object_checks.proofs.tables.first_rows.Given as goal

@@ -1,8 +1,8 @@
 use Rattle.std.proofs.Common.{◌≡◌, ◌⊎◌, inl, inr, ◌+◌, ◌-◌, ◌<◌, [], length, Some, refl, ap, sym, subst, ◌∙◌, arith}
 use Rattle.std.proofs.lemmas.Result.{err_from_is_err_and}
-use Rattle.rv_elf.specs.FirstFault.{first_true}
-use Rattle.rv_elf.specs.Sections.{section_count}
-use Rattle.rv_elf.specs.declared.fault.FileFault.TheVariants.{OutOfMemory}
+use Rattle.rv_elf_laws.specs.FirstFault.{first_true}
+use Rattle.rv_elf_laws.specs.Sections.{section_count}
+use Rattle.rv_fault.specs.declared.file_fault.FileFault.TheVariants.{OutOfMemory}
 use Rattle.rv_object_file_laws.specs.FirstFault.{sections_tests}
 use Rattle.rv_object_file_laws.specs.Parts.{is_symbol_table, is_rows, sections}
 use Rattle.rv_object_checks.specs.Found.{sections_from}

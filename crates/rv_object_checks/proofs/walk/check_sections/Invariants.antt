@@ -1,7 +1,7 @@
 use Rattle.std.proofs.Common.{◌≡◌, ◌+◌, ◌-◌, []}
 use Rattle.std.specs.List.{list_any}
-use Rattle.rv_elf.specs.FirstFault.{first_true}
-use Rattle.rv_elf.specs.Sections.{section_count}
+use Rattle.rv_elf_laws.specs.FirstFault.{first_true}
+use Rattle.rv_elf_laws.specs.Sections.{section_count}
 use Rattle.rv_object_file_laws.specs.FirstFault.{sections_tests}
 use Rattle.rv_object_file_laws.specs.Parts.{is_symbol_table, is_rows, sections}
 use Rattle.rv_object_checks.specs.Found.{sections_from}

@@ -1,6 +1,6 @@
 use Rattle.std.proofs.Common.{◌+◌, ◌*◌, ◌-◌, ◌/◌, ◌∷◌, ◌++◌, length, map, ap, sym, ◌∙◌, arith}
-use Rattle.rv_elf.specs.Records.{rela_at}
-use Rattle.rv_elf.specs.Sections.{records, relas_in}
+use Rattle.rv_elf_laws.specs.Records.{rela_at}
+use Rattle.rv_elf_laws.specs.Sections.{records, relas_in}
 use Rattle.rv_object_types.specs.Parts.{relocation_of}
 use Rattle.rv_object_file_laws.specs.Parts.{relocations_in}
 use Rattle.rv_object_reader.proofs.MadeLemmas.{records_next}

@@ -1,7 +1,7 @@
 use Rattle.std.proofs.Common.{◌≡◌, ℕ, ◌<◌, ◌==◌, ◌++◌, List, None, Some, true, false, map, sym, subst, ap, ◌∙◌, arith, eq-eqb}
 use Rattle.std.proofs.lemmas.Result.{on_ok_weaker}
-use Rattle.rv_elf.specs.declared.section_header.SectionHeader.{SectionHeader}
-use Rattle.rv_elf.specs.Sections.{file_contents, relas_in, section_count, section_header_of}
+use Rattle.rv_elf_laws.specs.declared.section_header.SectionHeader.{SectionHeader}
+use Rattle.rv_elf_laws.specs.Sections.{file_contents, relas_in, section_count, section_header_of}
 use Rattle.rv_object_types.specs.Parts.{relocation_of}
 use Rattle.rv_object_checks.specs.Found.{place_at, section_at}
 use Rattle.rv_object_file_laws.specs.FirstFault.{is_linked, first_fault}

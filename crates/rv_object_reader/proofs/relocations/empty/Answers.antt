@@ -1,5 +1,5 @@
 use Rattle.std.proofs.Common.{◌+◌, ◌-◌, ◌<◌, [], not, map, sym, ap, ◌∙◌, arith}
-use Rattle.rv_elf.specs.Sections.{section_count}
+use Rattle.rv_elf_laws.specs.Sections.{section_count}
 use Rattle.rv_object_types.specs.Parts.{relocation_of}
 use Rattle.rv_object_checks.specs.Found.{section_at}
 use Rattle.rv_object_file_laws.specs.Parts.{kept}

@@ -1,6 +1,6 @@
 use Rattle.std.proofs.Common.{◌≡◌, ◌-◌, sym, ap, ◌∙◌, arith}
 use Rattle.rv_object_checks.specs.SectionsFrom.{from_more}
-use Rattle.rv_elf.specs.Sections.{section_count}
+use Rattle.rv_elf_laws.specs.Sections.{section_count}
 use Rattle.rv_object_checks.specs.Found.{sections_from}
 use Rattle.rv_object_reader.specs.Collected.{lists_so_far}
 use Rattle.rv_object_reader.proofs.WalkLemmas.{sections_are}

@@ -1,5 +1,5 @@
 use Rattle.std.proofs.Common.{◌+◌, ◌*◌, ◌-◌, ◌/◌, length, subst, sym, ap, ◌∙◌, arith}
-use Rattle.rv_elf.specs.Sections.{records}
+use Rattle.rv_elf_laws.specs.Sections.{records}
 use Rattle.rv_object_file_laws.specs.ObjectOf.{row_in}
 use Rattle.rv_object_file_laws.specs.Rows.{row_at, rows_in}
 use Rattle.rv_object_laws.proofs.CountedLemmas.{counted_next}

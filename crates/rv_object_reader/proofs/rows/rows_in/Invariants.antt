@@ -1,5 +1,5 @@
 use Rattle.std.proofs.Common.{◌≡◌, ◌*◌, ◌-◌, ◌/◌, true, length}
-use Rattle.rv_elf.specs.Sections.{records}
+use Rattle.rv_elf_laws.specs.Sections.{records}
 use Rattle.rv_object_laws.specs.Valid.{are_counted}
 use Rattle.rv_object_file_laws.specs.ObjectOf.{row_in}
 use Rattle.rv_object_file_laws.specs.Rows.{row_at, rows_in}

@@ -1,5 +1,5 @@
 use Rattle.std.proofs.Common.{◌≡◌, [], max, unwrap_or, map, ap, ◌∙◌, arith}
-use Rattle.rv_elf.specs.Sections.{section_header_of}
+use Rattle.rv_elf_laws.specs.Sections.{section_header_of}
 use Rattle.rv_object_types.specs.Parts.{contents_of, relocation_of}
 use Rattle.rv_object_file_laws.specs.Parts.{name_of, contents_in, is_loaded, is_executable, is_writable}
 use Rattle.rv_object_reader.proofs.ValidSectionsLemmas.{valid_by}

@@ -1,5 +1,5 @@
 use Rattle.std.proofs.Common.{◌≡◌, None, [], unwrap_or, subst, ap, ◌∙◌, rules, of_calls}
-use Rattle.rv_elf.specs.FirstFault.{first_true}
+use Rattle.rv_elf_laws.specs.FirstFault.{first_true}
 use Rattle.rv_object_laws.specs.Valid.{is_shown}
 use Rattle.rv_object_file_laws.specs.FirstFault.{symbol_tests}
 use Rattle.rv_object_file_laws.specs.Parts.{name_at}

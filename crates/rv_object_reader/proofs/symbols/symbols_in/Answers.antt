@@ -1,7 +1,7 @@
 use Rattle.std.proofs.Common.{◌≡◌, ◌+◌, ◌*◌, ◌-◌, ◌/◌, length, drop, map, None, ap, sym, ◌∙◌, arith}
-use Rattle.rv_elf.specs.FirstFault.{first_true}
-use Rattle.rv_elf.specs.Records.{symbol_at}
-use Rattle.rv_elf.specs.Sections.{records, symbols_in}
+use Rattle.rv_elf_laws.specs.FirstFault.{first_true}
+use Rattle.rv_elf_laws.specs.Records.{symbol_at}
+use Rattle.rv_elf_laws.specs.Sections.{records, symbols_in}
 use Rattle.rv_object_types.specs.Parts.{symbol_of}
 use Rattle.rv_object_file_laws.specs.FirstFault.{symbol_tests}
 use Rattle.rv_object_file_laws.specs.ObjectOf.{symbol_in}

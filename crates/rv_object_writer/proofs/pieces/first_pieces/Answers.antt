@@ -1,7 +1,7 @@
 use Rattle.std.proofs.Common.{◌≡◌, ◌+◌, ◌++◌, ◌∙◌, [], ◌∷◌, map, codes, ap}
 use Rattle.std.proofs.lemmas.List.{map_push}
-use Rattle.rv_elf.specs.Fields.{symbol_size}
-use Rattle.rv_elf.specs.Numbers.{sht_strtab, sht_symtab}
+use Rattle.rv_elf_laws.specs.Fields.{symbol_size}
+use Rattle.rv_elf_laws.specs.Numbers.{sht_strtab, sht_symtab}
 use Rattle.rv_object_laws.specs.Object.{Object}
 use Rattle.rv_object_types.specs.Parts.{symbol_of}
 use Rattle.rv_object_types.specs.Sections.{section_of}

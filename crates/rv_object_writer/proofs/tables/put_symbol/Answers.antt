@@ -1,5 +1,5 @@
 use Rattle.std.proofs.Common.{◌≡◌, ◌++◌, ◌∙◌, ◌*◌, ◌%◌, ◌^◌, ap}
-use Rattle.rv_elf.specs.Records.{symbol_bytes}
+use Rattle.rv_elf_laws.specs.Records.{symbol_bytes}
 use Rattle.rv_object_laws.specs.Object.{Symbol}
 use Rattle.rv_object_types.specs.Parts.{symbol_of}
 use Rattle.rv_object_file_laws.specs.Written.{strings_of, name_offset, section_index_of, symbol_record}

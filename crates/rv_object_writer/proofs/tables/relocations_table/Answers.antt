@@ -1,6 +1,6 @@
 use Rattle.std.proofs.Common.{ℕ, List, map, refl}
 use Rattle.std.proofs.lemmas.List.Elements.{All-more}
-use Rattle.rv_elf.specs.Records.{rela_bytes}
+use Rattle.rv_elf_laws.specs.Records.{rela_bytes}
 use Rattle.rv_object_types.specs.declared.relocation.Relocation.{Relocation}
 use Rattle.rv_object_types.specs.Parts.{relocation_of}
 use Rattle.rv_object_file_laws.specs.Known.{IsRelocation}

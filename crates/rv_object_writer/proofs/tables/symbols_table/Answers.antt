@@ -1,7 +1,7 @@
 use Rattle.std.proofs.Common.{List, map, refl, subst}
 use Rattle.std.specs.Prelude.{flat_map}
 use Rattle.std.proofs.lemmas.List.Elements.{All-more}
-use Rattle.rv_elf.specs.Records.{symbol_bytes}
+use Rattle.rv_elf_laws.specs.Records.{symbol_bytes}
 use Rattle.rv_object_types.specs.declared.symbol.Symbol.{Symbol}
 use Rattle.rv_object_types.specs.Parts.{symbol_of}
 use Rattle.rv_object_file_laws.specs.Known.{IsSymbol}

@@ -1,7 +1,7 @@
 use Rattle.std.proofs.Common.{◌≡◌, ◌++◌, ℕ, List, map, drop, take, replicate, All}
 use Rattle.std.specs.Prelude.{flat_map}
-use Rattle.rv_elf.specs.Fields.{symbol_size}
-use Rattle.rv_elf.specs.Records.{symbol_bytes}
+use Rattle.rv_elf_laws.specs.Fields.{symbol_size}
+use Rattle.rv_elf_laws.specs.Records.{symbol_bytes}
 use Rattle.rv_object_types.specs.Parts.{symbol_of}
 use Rattle.rv_object_file_laws.specs.Known.{IsSymbol}
 use Rattle.rv_object_file_laws.specs.Written.{strings_of, symbol_record}

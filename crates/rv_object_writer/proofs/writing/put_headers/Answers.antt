@@ -1,7 +1,7 @@
 use Rattle.std.proofs.Common.{◌≡◌, ◌∙◌, ◌+◌, ◌++◌, [], arith, length, map, drop, get_or, sym, ap, append-nil}
 use Rattle.std.specs.Prelude.{flat_map}
 use Rattle.std.proofs.lemmas.List.{drop_all}
-use Rattle.rv_elf.specs.Records.{section_header_bytes}
+use Rattle.rv_elf_laws.specs.Records.{section_header_bytes}
 use Rattle.rv_object_file_laws.specs.Written.{headers_from, headers_offset}
 use Rattle.rv_object_writer.specs.declared.piece.Body.TheVariants.{Bytes}
 use Rattle.rv_object_writer.specs.declared.piece.Piece.{Piece as DeclaredPiece}

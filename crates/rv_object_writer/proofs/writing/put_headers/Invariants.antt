@@ -1,7 +1,7 @@
 use Rattle.std.proofs.Common.{◌≡◌, ◌++◌, ℕ, List, map, drop}
 use Rattle.std.specs.Prelude.{flat_map}
-use Rattle.rv_elf.specs.Fields.{file_header_size}
-use Rattle.rv_elf.specs.Records.{section_header_bytes}
+use Rattle.rv_elf_laws.specs.Fields.{file_header_size}
+use Rattle.rv_elf_laws.specs.Records.{section_header_bytes}
 use Rattle.rv_object_file_laws.specs.Written.{strings_of, headers_from, headers_offset}
 use Rattle.rv_object_writer.specs.Pieces.{piece_of}
 use Rattle.rv_object_writer.specs.Strings.{IsStringTable}

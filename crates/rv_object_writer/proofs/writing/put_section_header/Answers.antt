@@ -1,5 +1,5 @@
 use Rattle.std.proofs.Common.{◌≡◌, ◌++◌, ◌∙◌, ◌%◌, ◌^◌, ap}
-use Rattle.rv_elf.specs.Records.{section_header_bytes}
+use Rattle.rv_elf_laws.specs.Records.{section_header_bytes}
 use Rattle.rv_object_file_laws.specs.Written.{UnplacedSection, strings_of, name_offset, header_of}
 use Rattle.rv_object_writer.specs.Pieces.{piece_of}
 use Rattle.rv_object_writer.proofs.CutLemmas.{section_cut}

@@ -1,7 +1,7 @@
 use Rattle.std.proofs.Common.{◌≡◌, ◌+◌, ◌++◌, ◌∷◌, [], ◌∙◌, List, ℕ, ap, map, flat_map, replicate, codes}
-use Rattle.rv_elf.specs.Fields.{file_header_size, section_header_size}
-use Rattle.rv_elf.specs.Numbers.{sht_strtab}
-use Rattle.rv_elf.specs.Records.{file_header_bytes, section_header_bytes}
+use Rattle.rv_elf_laws.specs.Fields.{file_header_size, section_header_size}
+use Rattle.rv_elf_laws.specs.Numbers.{sht_strtab}
+use Rattle.rv_elf_laws.specs.Records.{file_header_bytes, section_header_bytes}
 use Rattle.rv_object_laws.specs.Object.{Object}
 use Rattle.rv_object_types.specs.View.{object_of}
 use Rattle.rv_object_file_laws.specs.Written.{contents_from, headers_from, strings_of, last_index, first_pieces, table_piece, section_names, pieces as file_pieces}

@@ -1,7 +1,7 @@
 use Rattle.std.proofs.Common.{◌≡◌, ◌+◌, ◌∙◌, ◌++◌, replicate, ap, map, flat_map, subst, List}
 use Rattle.std.specs.List.{AllByRecursion}
-use Rattle.rv_elf.specs.Fields.{symbol_size}
-use Rattle.rv_elf.specs.Records.{symbol_bytes}
+use Rattle.rv_elf_laws.specs.Fields.{symbol_size}
+use Rattle.rv_elf_laws.specs.Records.{symbol_bytes}
 use Rattle.rv_object_laws.specs.Object.{Object, Symbol}
 use Rattle.rv_object_types.specs.Parts.{symbol_of}
 use Rattle.rv_object_types.specs.Sections.{section_of}

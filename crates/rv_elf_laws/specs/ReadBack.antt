@@ -10,14 +10,14 @@ use Rattle.std.proofs.lemmas.Bool.{or_parts}
 use Rattle.std.proofs.lemmas.List.{drop-drop, drop_at}
 use Rattle.byteorder.specs.Endian.{little_number}
 use Rattle.byteorder.specs.Numbers.{little_number-reads_back}
-use Rattle.rv_elf.specs.declared.file_header.FileHeader.{FileHeader}
-use Rattle.rv_elf.specs.declared.program_header.ProgramHeader.{ProgramHeader}
-use Rattle.rv_elf.specs.declared.section_header.SectionHeader.{SectionHeader}
-use Rattle.rv_elf.specs.declared.symbol.Symbol.{Symbol}
-use Rattle.rv_elf.specs.declared.rela.Rela.{Rela}
-use Rattle.rv_elf.specs.Fields as at
-use Rattle.rv_elf.specs.Records.{file_header_in, file_header_bytes, program_header_at, program_header_bytes, section_header_at, section_header_bytes, symbol_at, symbol_bytes, rela_at, rela_bytes}
-use Rattle.rv_elf.specs.Sections.{before_zero, string_at}
+use Rattle.rv_elf_laws.specs.declared.file_header.FileHeader.{FileHeader}
+use Rattle.rv_elf_laws.specs.declared.program_header.ProgramHeader.{ProgramHeader}
+use Rattle.rv_elf_laws.specs.declared.section_header.SectionHeader.{SectionHeader}
+use Rattle.rv_elf_laws.specs.declared.symbol.Symbol.{Symbol}
+use Rattle.rv_elf_laws.specs.declared.rela.Rela.{Rela}
+use Rattle.rv_elf_laws.specs.Fields as at
+use Rattle.rv_elf_laws.specs.Records.{file_header_in, file_header_bytes, program_header_at, program_header_bytes, section_header_at, section_header_bytes, symbol_at, symbol_bytes, rela_at, rela_bytes}
+use Rattle.rv_elf_laws.specs.Sections.{before_zero, string_at}
 
 -- a field whose bytes stand in those of a record, which stand at a place of a file
 field_there : (f : at.Field) (number place : ℕ) (file bytes : List ℕ) → drop place file ≡ bytes →

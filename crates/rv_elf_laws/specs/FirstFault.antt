@@ -1,11 +1,11 @@
 -- Why a file is none of this machine: tests in order, the first that is true gives the fault.
 
 use Rattle.std.specs.Prelude.{◌≡◌, ℕ, Result, MatchResult, ◌*◌, ◌%◌, ◌/◌, ◌==◌, nat_lt, nat_le, Bool, not, ◌&&◌, if◌then◌else◌, List, [], ◌∷◌, ◌++◌, length, Option, Some, None}
-use Rattle.rv_elf.specs.declared.fault.FileFault.{FileFault}
-use Rattle.rv_elf.specs.declared.fault.FileFault.TheVariants.{Truncated, BadMagic, WrongClass, WrongMachine, NotExecutable, BadTable}
-use Rattle.rv_elf.specs.Fields.{number_in, file_header_size, program_header_size, section_header_size, ei_magic, ei_class, ei_data, ei_version, e_type, e_machine, e_flags, e_phoff, e_shoff, e_phentsize, e_shentsize}
-use Rattle.rv_elf.specs.Numbers.{elfmag, elfclass64, elfdata2lsb, ev_current, et_exec, em_riscv, shn_loreserve, pn_xnum}
-use Rattle.rv_elf.specs.Sections.{is_past, program_count, section_count, names_section}
+use Rattle.rv_fault.specs.declared.file_fault.FileFault.{FileFault}
+use Rattle.rv_fault.specs.declared.file_fault.FileFault.TheVariants.{Truncated, BadMagic, WrongClass, WrongMachine, NotExecutable, BadTable}
+use Rattle.rv_elf_laws.specs.Fields.{number_in, file_header_size, program_header_size, section_header_size, ei_magic, ei_class, ei_data, ei_version, e_type, e_machine, e_flags, e_phoff, e_shoff, e_phentsize, e_shentsize}
+use Rattle.rv_elf_laws.specs.Numbers.{elfmag, elfclass64, elfdata2lsb, ev_current, et_exec, em_riscv, shn_loreserve, pn_xnum}
+use Rattle.rv_elf_laws.specs.Sections.{is_past, program_count, section_count, names_section}
 
 abbrev pub first_true : List (Bool × FileFault) → Option FileFault
 first_true [] = None

@@ -2,8 +2,8 @@
 -- for the crates that test files further.
 
 use Rattle.std.proofs.Common.{◌≡◌, Bool, true, false, List, [], ◌∷◌, ◌++◌, Some, None, refl}
-use Rattle.rv_elf.specs.declared.fault.FileFault.{FileFault}
-use Rattle.rv_elf.specs.FirstFault.{first_true}
+use Rattle.rv_fault.specs.declared.file_fault.FileFault.{FileFault}
+use Rattle.rv_elf_laws.specs.FirstFault.{first_true}
 
 pub first_true_none : (xs ys : List (Bool × FileFault)) → first_true xs ≡ None →
     first_true (xs ++ ys) ≡ first_true ys

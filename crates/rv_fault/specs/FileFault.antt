@@ -1,8 +1,8 @@
 -- How messages show a file's fault.
 
 use Rattle.std.specs.Prelude.{ℕ, List, Option, Some, None, codes}
-use Rattle.rv_elf.specs.declared.fault.FileFault.{FileFault}
-use Rattle.rv_elf.specs.declared.fault.FileFault.TheVariants.{Truncated, BadMagic, WrongClass, WrongMachine, BadTable, BadString, BadIndex, Overlap, UnsupportedRelocation, UnsupportedSection, NotExecutable, Dynamic, MemoryLimit, NotObject, OutOfMemory}
+use Rattle.rv_fault.specs.declared.file_fault.FileFault.{FileFault}
+use Rattle.rv_fault.specs.declared.file_fault.FileFault.TheVariants.{Truncated, BadMagic, WrongClass, WrongMachine, BadTable, BadString, BadIndex, Overlap, UnsupportedRelocation, UnsupportedSection, NotExecutable, Dynamic, MemoryLimit, NotObject, OutOfMemory}
 
 -- the number after the `F` (from 1); none for want of memory
 abbrev pub file_fault_number : FileFault → Option ℕ

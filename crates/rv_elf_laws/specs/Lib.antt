@@ -1,8 +1,7 @@
-pub mod Fault
 pub mod Fields
 pub mod FirstFault
 pub mod FirstTrue
 pub mod Numbers
-pub mod Records
 pub mod ReadBack
+pub mod Records
 pub mod Sections

@@ -1,8 +1,8 @@
 //! Why a file is refused.
 
 ghost use Rattle.std.specs.Prelude.{◌≡◌};
-ghost use Rattle.rv_elf.specs.declared.fault.FileFault.TheVariants.{OutOfMemory};
-ghost use Rattle.rv_elf.specs.Fault.{file_fault_number, file_fault_name};
+ghost use Rattle.rv_fault.specs.declared.file_fault.FileFault.TheVariants.{OutOfMemory};
+ghost use Rattle.rv_fault.specs.FileFault.{file_fault_number, file_fault_name};
 
 use std::alloc::{AllocError, AllocFailed};
 use thiserror::Error;

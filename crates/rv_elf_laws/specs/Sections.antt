@@ -2,13 +2,13 @@
 -- Table").
 
 use Rattle.std.specs.Prelude.{ℕ, zero, suc, ◌+◌, ◌*◌, ◌/◌, ◌<◌, ◌≤◌, ◌==◌, nat_lt, Bool, not, ◌&&◌, ◌||◌, List, [], ◌∷◌, length, take, drop, Option, Some, None, option_map, if◌then◌else◌}
-use Rattle.rv_elf.specs.declared.program_header.ProgramHeader.{ProgramHeader}
-use Rattle.rv_elf.specs.declared.section_header.SectionHeader.{SectionHeader}
-use Rattle.rv_elf.specs.declared.symbol.Symbol.{Symbol}
-use Rattle.rv_elf.specs.declared.rela.Rela.{Rela}
-use Rattle.rv_elf.specs.Fields.{number_in, e_phoff, e_phnum, e_shoff, e_shnum, e_shstrndx, program_header_size, section_header_size, symbol_size, rela_size}
-use Rattle.rv_elf.specs.Numbers.{sht_nobits, pt_load}
-use Rattle.rv_elf.specs.Records.{program_header_at, section_header_at, symbol_at, rela_at}
+use Rattle.rv_elf_laws.specs.declared.program_header.ProgramHeader.{ProgramHeader}
+use Rattle.rv_elf_laws.specs.declared.section_header.SectionHeader.{SectionHeader}
+use Rattle.rv_elf_laws.specs.declared.symbol.Symbol.{Symbol}
+use Rattle.rv_elf_laws.specs.declared.rela.Rela.{Rela}
+use Rattle.rv_elf_laws.specs.Fields.{number_in, e_phoff, e_phnum, e_shoff, e_shnum, e_shstrndx, program_header_size, section_header_size, symbol_size, rela_size}
+use Rattle.rv_elf_laws.specs.Numbers.{sht_nobits, pt_load}
+use Rattle.rv_elf_laws.specs.Records.{program_header_at, section_header_at, symbol_at, rela_at}
 
 -- some of the size bytes at a place lie past the end of the file
 abbrev pub is_past : List ℕ → ℕ → ℕ → Bool

@@ -3,12 +3,12 @@
 
 use Rattle.std.specs.Prelude.{ℕ, List, [], ◌∷◌, ◌++◌}
 use Rattle.std.specs.Int.{cast_signed, cast_unsigned, w64}
-use Rattle.rv_elf.specs.declared.file_header.FileHeader.{FileHeader}
-use Rattle.rv_elf.specs.declared.program_header.ProgramHeader.{ProgramHeader}
-use Rattle.rv_elf.specs.declared.section_header.SectionHeader.{SectionHeader}
-use Rattle.rv_elf.specs.declared.symbol.Symbol.{Symbol}
-use Rattle.rv_elf.specs.declared.rela.Rela.{Rela}
-use Rattle.rv_elf.specs.Fields as at
+use Rattle.rv_elf_laws.specs.declared.file_header.FileHeader.{FileHeader}
+use Rattle.rv_elf_laws.specs.declared.program_header.ProgramHeader.{ProgramHeader}
+use Rattle.rv_elf_laws.specs.declared.section_header.SectionHeader.{SectionHeader}
+use Rattle.rv_elf_laws.specs.declared.symbol.Symbol.{Symbol}
+use Rattle.rv_elf_laws.specs.declared.rela.Rela.{Rela}
+use Rattle.rv_elf_laws.specs.Fields as at
 
 -- 7Fh ELF, class 2 (64 bits), data 1 (little-endian), version 1, and nine zeros
 abbrev pub ident : List ℕ
