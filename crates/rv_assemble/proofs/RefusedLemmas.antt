@@ -2,8 +2,8 @@
 
 use Rattle.std.proofs.Common.{◌≡◌, ℕ, List, ap, ◌∙◌, None, inl, inr}
 use Rattle.std.specs.Prelude.{Result, Ok, Err, IfOk, IfErr}
-use Rattle.rv_lexer.specs.declared.fault.SourceFault.{SourceFault}
-use Rattle.rv_lexer.specs.declared.fault.SourceFault.TheVariants.{At, OutOfMemory}
+use Rattle.rv_fault.specs.declared.source_fault.SourceFault.{SourceFault}
+use Rattle.rv_fault.specs.declared.source_fault.SourceFault.TheVariants.{At, OutOfMemory}
 use Rattle.rv_statement_laws.specs.Statement.{Statement}
 use Rattle.rv_parse_laws.specs.Reading.{Reads}
 use Rattle.rv_unit_laws.specs.Faults.{first_unit_fault}

@@ -1,10 +1,10 @@
 -- The first fault of a source.
 
 use Rattle.std.specs.Prelude.{ℕ, ⊤, List, ◌⊎◌}
-use Rattle.rv_lexer.specs.declared.fault.SourceCode.{SourceCode}
-use Rattle.rv_lexer.specs.declared.fault.SourceFault.{SourceFault}
-use Rattle.rv_lexer.specs.declared.fault.SourceFault.TheVariants.{At, OutOfMemory}
-use Rattle.rv_lexer.specs.Fault.{source_fault_number}
+use Rattle.rv_fault.specs.declared.source_fault.SourceCode.{SourceCode}
+use Rattle.rv_fault.specs.declared.source_fault.SourceFault.{SourceFault}
+use Rattle.rv_fault.specs.declared.source_fault.SourceFault.TheVariants.{At, OutOfMemory}
+use Rattle.rv_fault.specs.SourceFault.{source_fault_number}
 use Rattle.rv_statement_laws.specs.Statement.{Statement}
 use Rattle.rv_parse_laws.specs.Reading.{Reads}
 use Rattle.rv_parse_laws.specs.Refusals.{Refuses}

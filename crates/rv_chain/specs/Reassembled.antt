@@ -2,8 +2,8 @@
 
 use Rattle.std.specs.Prelude.{◌≡◌, ◌⊎◌, ◌<◌, ℕ, Bool, List, [], ◌∷◌, length, filter, None}
 use Rattle.rv_text_laws.specs.Codes.{limit}
-use Rattle.rv_lexer.specs.declared.fault.SourceFault.TheVariants.{At}
-use Rattle.rv_lexer.specs.Fault.{source_fault_number}
+use Rattle.rv_fault.specs.declared.source_fault.SourceFault.TheVariants.{At}
+use Rattle.rv_fault.specs.SourceFault.{source_fault_number}
 use Rattle.rv_parse_laws.specs.Reading.{longest_source}
 use Rattle.rv_image_laws.specs.Segment.{Segment}
 use Rattle.rv_image_laws.specs.Image.{Image}

@@ -2,7 +2,7 @@
 -- memory runs out, or a fault names its cause.
 
 use Rattle.std.specs.Prelude.{◌≡◌, ℕ, ◌+◌, Bool, ⊤, ◌⊎◌, List, ◌∷◌, ◌++◌, length, map}
-use Rattle.rv_lexer.specs.declared.fault.SourceFault.{SourceFault}
+use Rattle.rv_fault.specs.declared.source_fault.SourceFault.{SourceFault}
 use Rattle.rv_statement_laws.specs.Statement.{Statement}
 use Rattle.rv_object_types.specs.declared.object.Object.{Object as DeclaredObject}
 use Rattle.rv_object_laws.specs.Object.{Object}

@@ -4,9 +4,9 @@
 use Rattle.std.specs.Prelude.{◌≡◌, ℕ, ◌<◌, ◌≤◌, ◌^◌, true, List, [], flat_map, map, length, Some, option_map, slice_get, slice_index, if◌then◌else◌}
 use Rattle.std.specs.List.{AllByRecursion, list_any}
 use Rattle.rv_text.specs.Nodes.{symbol_of}
-use Rattle.rv_lexer.specs.declared.fault.SourceFault.{SourceFault}
-use Rattle.rv_lexer.specs.declared.fault.SourceFault.TheVariants.{At, OutOfMemory}
-use Rattle.rv_lexer.specs.Fault.{source_fault_number}
+use Rattle.rv_fault.specs.declared.source_fault.SourceFault.{SourceFault}
+use Rattle.rv_fault.specs.declared.source_fault.SourceFault.TheVariants.{At, OutOfMemory}
+use Rattle.rv_fault.specs.SourceFault.{source_fault_number}
 use Rattle.rv_statement_laws.specs.Statement.{Statement}
 use Rattle.rv_unit_laws.specs.Sections.{Section, is_nobits, goes_to_text}
 use Rattle.rv_unit_laws.specs.Tables.{Tables, at_start, tables, longest_section, opened_of, alignment_at}

@@ -1,7 +1,7 @@
 -- Which faults name their cause, and what a fault of the linker is to who builds.
 
 use Rattle.std.specs.Prelude.{⊤}
-use Rattle.rv_lexer.specs.declared.fault.SourceFault.TheVariants as sources
+use Rattle.rv_fault.specs.declared.source_fault.SourceFault.TheVariants as sources
 use Rattle.rv_fault.specs.declared.file_fault.FileFault.TheVariants as files
 use Rattle.rv_fault.specs.declared.link_fault.LinkFault.{LinkFault}
 use Rattle.rv_fault.specs.declared.link_fault.LinkFault.TheVariants as links

@@ -1,3 +1,4 @@
 pub mod Fault
 pub mod LinkFault
 pub mod FileFault
+pub mod SourceFault

@@ -4,7 +4,7 @@ ghost use Rattle.std.specs.Prelude.{◌≡◌};
 
 use crate::link_fault::LinkFault;
 use crate::file_fault::FileFault;
-use rv_lexer::SourceFault;
+use crate::source_fault::SourceFault;
 use std::alloc::{AllocError, AllocFailed};
 use thiserror::Error;
 

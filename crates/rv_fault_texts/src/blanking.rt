@@ -8,7 +8,7 @@ use crate::names::{is_assignment, is_macro, is_section};
 use crate::place::FaultPlace;
 use crate::tokens::{LineToken, all_tokens, is_end, is_line_feed, part, span, text_of, unlabelled};
 use memchr::{memchr, memchr2};
-use rv_lexer::SourceCode;
+use rv_fault::SourceCode;
 use std::alloc::{AllocError, Global};
 
 /// Blanks the statement of a fault; whether that changes a byte.

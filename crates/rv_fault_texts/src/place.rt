@@ -10,7 +10,7 @@ use crate::occurrences::definition_of;
 use crate::tokens::{
     LineToken, Sort, all_tokens, is_end, is_label, part, place, span, text_of, unlabelled,
 };
-use rv_lexer::{SourceCode, SourceFault};
+use rv_fault::{SourceCode, SourceFault};
 use rv_parse::{ReadError, parse_compact, parse_placed};
 use std::alloc::{AllocError, Global};
 

@@ -3,7 +3,7 @@
 use crate::names::{is_assignment, is_definer};
 use crate::place::FaultPlace;
 use crate::tokens::{LineToken, Sort, all_tokens, is_label, part, text_of, unlabelled};
-use rv_lexer::SourceCode;
+use rv_fault::SourceCode;
 use std::alloc::{AllocError, Global};
 
 /// Adds the names that a refused statement of a source would define; a draft of that has the same statement there.

@@ -5,7 +5,7 @@ use crate::names::{has_gaps, is_access, is_zero, range_of};
 use crate::parcel_numbers::{numbers_of, parcel_named};
 use crate::place::{Expected, FaultPlace};
 use crate::tokens::part;
-use rv_lexer::SourceCode;
+use rv_fault::SourceCode;
 use std::alloc::{AllocError, Global};
 
 /// Numbers of more digits may have the sign bit.

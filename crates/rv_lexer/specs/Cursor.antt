@@ -8,7 +8,7 @@ use Rattle.rv_lexer.specs.declared.syntax_error.SyntaxError.{SyntaxError}
 use Rattle.rv_lexer.specs.declared.syntax_error.ReadError.{ReadError}
 use Rattle.rv_lexer.specs.declared.syntax_error.ReadError.TheVariants as errors
 use Rattle.rv_lexer.specs.Token.{token_of, kind_of}
-use Rattle.rv_lexer.specs.Fault.{source_fault_number}
+use Rattle.rv_fault.specs.SourceFault.{source_fault_number}
 use Rattle.rv_lexer.specs.Left.{tokens_left}
 
 -- the next token, and unless it is the last those of the lexer

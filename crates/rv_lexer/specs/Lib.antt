@@ -1,4 +1,3 @@
-pub mod Fault
 pub mod Reference
 pub mod Token
 pub mod Left

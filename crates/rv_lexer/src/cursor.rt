@@ -4,11 +4,11 @@ ghost use Rattle.std.specs.Prelude.{◌≡◌, ◌∷◌, false, option_map, is_
 ghost use Rattle.rv_text_laws.specs.Lexing.{is_last};
 ghost use Rattle.rv_text_laws.specs.SyntaxError.{wrong};
 ghost use Rattle.rv_text_laws.specs.Joined.{joined_bytes, joined_at};
-ghost use Rattle.rv_lexer.specs.Fault.{source_fault_number};
+ghost use Rattle.rv_fault.specs.SourceFault.{source_fault_number};
 ghost use Rattle.rv_lexer.specs.Token.{token_of, kind_of};
 ghost use Rattle.rv_lexer.specs.Left.{GivesToken};
 
-use crate::fault::SourceCode;
+use rv_fault::SourceCode;
 use crate::lexer::Lexer;
 use crate::syntax_error::SyntaxError;
 use crate::token::{Token, TokenKind};

@@ -20,7 +20,6 @@
 
 mod class;
 mod cursor;
-mod fault;
 mod lexeme;
 mod lexer;
 mod reference;
@@ -30,10 +29,10 @@ mod token;
 mod word;
 
 pub use cursor::Cursor;
-pub use fault::{SourceCode, SourceFault};
 pub use lexer::Lexer;
 pub use reference::NumericReference;
 pub use rv_text_laws::Punct;
 pub use strings::{append_string, string_contains, string_size};
 pub use syntax_error::{LONGEST_NAME, ReadError, SyntaxError};
 pub use token::{Token, TokenKind};
+pub use rv_fault::{SourceCode, SourceFault};

@@ -3,10 +3,10 @@
 ghost use Rattle.std.specs.Prelude.{◌≡◌, ◌==◌};
 ghost use Rattle.rv_text_laws.specs.Codes.{limit};
 ghost use Rattle.rv_text_laws.specs.SyntaxError.{is_long, fault_offset, wrong};
-ghost use Rattle.rv_lexer.specs.Fault.{source_fault_number};
+ghost use Rattle.rv_fault.specs.SourceFault.{source_fault_number};
 ghost use Rattle.rv_lexer.specs.Token.{token_of, kind_of};
 
-use crate::fault::SourceCode;
+use rv_fault::SourceCode;
 use crate::token::{Token, TokenKind};
 use std::alloc::{AllocError, AllocFailed};
 use thiserror::Error;

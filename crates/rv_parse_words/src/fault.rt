@@ -1,7 +1,7 @@
 //! What is wrong where: the codes of the faults of phase one.
 
 ghost use Rattle.std.specs.Prelude.{◌≡◌};
-ghost use Rattle.rv_lexer.specs.Fault.{source_fault_number};
+ghost use Rattle.rv_fault.specs.SourceFault.{source_fault_number};
 ghost use Rattle.rv_lexer.specs.Token.{kind_of};
 ghost use Rattle.rv_text_laws.specs.Codes.{bad_operands};
 ghost use Rattle.rv_parse_laws.specs.Faults.{may_call, wrong_or, wrong_name, wrong_section_name, wrong_after_value, wrong_after, wrong_symbol, wrong_letters, wrong_option, wrong_any, wrong_word, wrong_start, wrong_label};

@@ -9,10 +9,10 @@ use Rattle.rv_parcel.specs.declared.form.Compressed.{Compressed}
 use Rattle.rv_parcel.specs.declared.parcel.ParcelOperation.{ParcelOperation}
 use Rattle.rv_parcel.specs.Mnemonics.{own_registers, shape_of, form_of}
 use Rattle.rv_text_laws.specs.Codes.{lowest}
-use Rattle.rv_lexer.specs.declared.fault.SourceCode.{SourceCode}
-use Rattle.rv_lexer.specs.declared.fault.SourceFault.{SourceFault}
-use Rattle.rv_lexer.specs.declared.fault.SourceFault.TheVariants.{At, OutOfMemory}
-use Rattle.rv_lexer.specs.Fault.{source_fault_number as code_number}
+use Rattle.rv_fault.specs.declared.source_fault.SourceCode.{SourceCode}
+use Rattle.rv_fault.specs.declared.source_fault.SourceFault.{SourceFault}
+use Rattle.rv_fault.specs.declared.source_fault.SourceFault.TheVariants.{At, OutOfMemory}
+use Rattle.rv_fault.specs.SourceFault.{source_fault_number as code_number}
 use Rattle.rv_statement_laws.specs.declared.mnemonic.Mnemonic.{Mnemonic}
 use Rattle.rv_statement_laws.specs.declared.mnemonic.Mnemonic.TheVariants.{Call, Tail, Jump}
 use Rattle.rv_statement_laws.specs.declared.pseudo.Function.{Function}

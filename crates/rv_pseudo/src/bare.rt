@@ -16,7 +16,7 @@ use rv_isa::{
     Atomic, AtomicForm, AtomicOperation, IType, Inst, RType, Reg, Reserve, SType, Shift,
     ShiftOperation, fence,
 };
-use rv_lexer::SourceCode;
+use rv_fault::SourceCode;
 use rv_statement::Plain;
 use rv_statement_laws::{CompareOperation, UnaryOperation};
 

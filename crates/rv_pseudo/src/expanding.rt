@@ -17,7 +17,7 @@ use crate::target::{takes_target, targeted};
 use crate::template::{Form, Manner, Templates, Worth, constant, manner_of};
 use arrayvec::ArrayVec;
 use rv_isa::Inst;
-use rv_lexer::{SourceCode, SourceFault};
+use rv_fault::{SourceCode, SourceFault};
 use rv_statement::{Operation, Statement, StatementKind};
 use rv_statement_laws::Function;
 

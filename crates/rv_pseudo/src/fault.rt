@@ -6,7 +6,7 @@
 ghost use Rattle.std.specs.Prelude.{◌≡◌, ◌==◌, ℕ, not, List, ◌++◌};
 ghost use Rattle.rv_text_laws.specs.Codes as codes;
 ghost use Rattle.rv_text_laws.specs.Codes.{scratch_register};
-ghost use Rattle.rv_lexer.specs.Fault.{source_fault_number, IsLowest};
+ghost use Rattle.rv_fault.specs.SourceFault.{source_fault_number, IsLowest};
 ghost use Rattle.rv_parse_laws.specs.Syntax as syntax;
 ghost use Rattle.rv_pseudo_laws.specs.InstructionFaults as table;
 ghost use Rattle.rv_pseudo_laws.specs.Valid as range;
@@ -19,7 +19,7 @@ use crate::target::takes_target;
 use crate::template::Worth;
 use rv_parcel::{OperandShape, ParcelOperation};
 use rv_isa::{Reg, RegisterOperation, ShiftOperation};
-use rv_lexer::SourceCode;
+use rv_fault::SourceCode;
 use rv_statement::Operation;
 use rv_statement_laws::Function;
 

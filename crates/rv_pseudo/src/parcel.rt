@@ -24,7 +24,7 @@ use arrayvec::ArrayVec;
 use rv_compress::expanded;
 use rv_parcel::{Compressed, OperandShape, ParcelOperation};
 use rv_isa::{BranchOperation, Reg};
-use rv_lexer::SourceCode;
+use rv_fault::SourceCode;
 use rv_statement::{Operation, Plain, StatementKind};
 use rv_statement_laws::Function;
 

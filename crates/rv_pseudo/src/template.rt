@@ -6,7 +6,7 @@ ghost use Rattle.rv_pseudo.specs.Templates as is;
 
 use arrayvec::ArrayVec;
 use rv_isa::{Inst, Kind};
-use rv_lexer::SourceCode;
+use rv_fault::SourceCode;
 
 /// What an expression is worth to an instruction.
 #[derive(Clone, Copy, Debug, PartialEq, Eq, Drop)]

@@ -12,12 +12,11 @@ use crate::placing::{is_loaded_by_li, place_of};
 use crate::report::{Finding, Report};
 use rv_assemble::assemble;
 use rv_chain::build;
-use rv_fault::Fault;
+use rv_fault::{Fault, SourceCode, SourceFault};
 use rv_fault_texts::{
     FaultPlace, Remark, blank, closing_of, follows_from, is_of_macro, put_refused_names,
     put_sentence, section_before, without_macro, without_sort,
 };
-use rv_lexer::{SourceCode, SourceFault};
 use rv_link::LinkOptions;
 use std::alloc::{AllocError, Global};
 

@@ -1,11 +1,10 @@
 //! Where a fault stands, with what assembling parts of its line alone tells.
 
 use rv_assemble::assemble;
-use rv_fault::Fault;
+use rv_fault::{Fault, SourceCode, SourceFault};
 use rv_fault_texts::{
     FaultPlace, LineToken, is_end, part, place_by_text, place_in_group, span, tokens_of_line,
 };
-use rv_lexer::{SourceCode, SourceFault};
 use std::alloc::Global;
 
 /// The place of the first fault of a source at a line, with its code; none where the line has no token.

@@ -1,8 +1,7 @@
 //! Findings as programs read them: lines as compilers write them, which editors take, and JSON.
 
-use rv_fault::Fault;
+use rv_fault::{Fault, SourceFault};
 use rv_fault_texts::Remark;
-use rv_lexer::SourceFault;
 use serde_json::{Value, json};
 use std::alloc::{AllocError, Global};
 

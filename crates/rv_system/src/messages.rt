@@ -5,8 +5,7 @@ ghost use Rattle.rv_system.specs.Messages.{Tells, fault_text, file_name, file_te
 
 use crate::error::JobError;
 use crate::shown::shown_name;
-use rv_fault::{Fault, FileFault, LinkFault};
-use rv_lexer::SourceFault;
+use rv_fault::{Fault, FileFault, LinkFault, SourceFault};
 use std::alloc::{AllocError, Global};
 
 /// The line of a fault; `names` are the files in their order.

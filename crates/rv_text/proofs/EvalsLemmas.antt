@@ -17,7 +17,7 @@ use Rattle.rv_text.specs.declared.node.Node as code
 use Rattle.rv_text.specs.Nodes.{symbol_of, node_of}
 use Rattle.rv_text.specs.declared.evaluation.Value as code_value
 use Rattle.rv_text.specs.declared.expr.Expr.{Expr}
-use Rattle.rv_lexer.specs.declared.fault.SourceFault.{SourceFault}
+use Rattle.rv_fault.specs.declared.source_fault.SourceFault.{SourceFault}
 use Rattle.rv_text.specs.Expr.{lone_primary as alone_nodes, expr_of, tree_of_expr}
 use Rattle.rv_text.specs.Eval.{part_value, tops, IsOutcome}
 

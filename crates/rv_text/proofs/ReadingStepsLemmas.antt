@@ -12,7 +12,7 @@ use Rattle.rv_text_laws.proofs.ExpressionFoundLemmas.{expression_found}
 use Rattle.rv_text_laws.proofs.ExpressionValuesLemmas.{postfix_fits}
 use Rattle.rv_lexer.specs.declared.cursor.Cursor.{Cursor}
 use Rattle.rv_lexer.specs.declared.syntax_error.SyntaxError.{SyntaxError}
-use Rattle.rv_lexer.specs.Fault.{source_fault_number}
+use Rattle.rv_fault.specs.SourceFault.{source_fault_number}
 use Rattle.rv_lexer.specs.Token.{token_of, kind_of}
 use Rattle.rv_lexer.specs.Left.{tokens_left}
 use Rattle.rv_lexer.specs.Cursor.{left, syntax_error_of}

@@ -18,8 +18,8 @@ use Rattle.rv_text.specs.declared.reading.Step.{Step}
 use Rattle.rv_text.specs.declared.reading.Step.TheVariants as steps
 use Rattle.rv_text.specs.declared.reading.Stop.{Stop}
 use Rattle.rv_text.specs.declared.reading.Stop.TheVariants as stops
-use Rattle.rv_lexer.specs.declared.fault.SourceFault.{SourceFault}
-use Rattle.rv_lexer.specs.declared.fault.SourceFault.TheVariants as faults
+use Rattle.rv_fault.specs.declared.source_fault.SourceFault.{SourceFault}
+use Rattle.rv_fault.specs.declared.source_fault.SourceFault.TheVariants as faults
 use Rattle.rv_text.specs.declared.reading.Begin.{Begin}
 use Rattle.rv_text.specs.declared.reading.Begin.TheVariants as begins
 use Rattle.rv_text.specs.declared.reading.Follow.{Follow}
@@ -27,7 +27,7 @@ use Rattle.rv_text.specs.declared.reading.Follow.TheVariants as follows
 use Rattle.rv_lexer.specs.declared.cursor.Cursor.{Cursor}
 use Rattle.rv_lexer.specs.declared.syntax_error.ReadError.{ReadError}
 use Rattle.rv_lexer.specs.declared.syntax_error.ReadError.TheVariants as errors
-use Rattle.rv_lexer.specs.Fault.{source_fault_number}
+use Rattle.rv_fault.specs.SourceFault.{source_fault_number}
 use Rattle.rv_lexer.specs.Token.{token_of}
 use Rattle.rv_lexer.specs.Reference.{digits_in, is_ahead}
 use Rattle.rv_lexer.specs.Cursor.{left, syntax_error_of, Answers}

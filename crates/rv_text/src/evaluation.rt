@@ -9,7 +9,7 @@ ghost use Rattle.std.specs.Prelude.{◌≡◌, ℕ, List, ◌<◌, ◌≤◌, �
 ghost use Rattle.rv_text_laws.specs.Expression.{Primary, tree_of};
 ghost use Rattle.rv_text_laws.specs.Values as values;
 ghost use Rattle.rv_text_laws.specs.declared.operator.BinaryOperator.TheVariants.{Divide, Remainder};
-ghost use Rattle.rv_lexer.specs.Fault.{source_fault_number};
+ghost use Rattle.rv_fault.specs.SourceFault.{source_fault_number};
 ghost use Rattle.rv_text.specs.Nodes.{symbol_of, spelling_of, node_of, nodes_of};
 ghost use Rattle.rv_text.specs.Expr.{tree_of_expr};
 ghost use Rattle.rv_text.specs.Eval.{meaning_of, name_meaning_of, part_value, tops, Means, MeansWords, IsOutcome};
@@ -18,7 +18,7 @@ use crate::expr::Expr;
 use crate::node::{Node, Nodes, Symbol};
 use crate::pair::{Pair, SymbolPair};
 use arrayvec::ArrayVec;
-use rv_lexer::{SourceCode, SourceFault};
+use rv_fault::{SourceCode, SourceFault};
 use rv_text_laws::{BinaryOperator, UnaryOperator};
 
 /// The most values that wait for an operator, in an expression that is read.

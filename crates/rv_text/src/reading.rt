@@ -11,7 +11,7 @@ ghost use Rattle.rv_text_laws.specs.ExpressionAt as reading;
 ghost use Rattle.rv_text_laws.specs.ExpressionFault.{unclosed};
 ghost use Rattle.rv_text_laws.specs.Lexing.{Token};
 ghost use Rattle.rv_text_laws.specs.declared.operator.Frame.TheVariants.{Infix};
-ghost use Rattle.rv_lexer.specs.Fault.{source_fault_number};
+ghost use Rattle.rv_fault.specs.SourceFault.{source_fault_number};
 ghost use Rattle.rv_lexer.specs.Token.{kind_of};
 ghost use Rattle.rv_lexer.specs.Left.{tokens_left};
 ghost use Rattle.rv_lexer.specs.Cursor.{left, Answers};
@@ -23,7 +23,8 @@ use crate::expr::Expr;
 use crate::front::{after_minus, after_number, after_symbol};
 use crate::node::{Node, Nodes, Symbol};
 use rv_isa::reg_named;
-use rv_lexer::{Cursor, LONGEST_NAME, Lexer, ReadError, SourceCode, SourceFault, TokenKind};
+use rv_lexer::{Cursor, LONGEST_NAME, Lexer, ReadError, TokenKind};
+use rv_fault::{SourceCode, SourceFault};
 use rv_text_laws::{BinaryOperator, Frame, Punct, UnaryOperator};
 use std::alloc::{AllocError, AllocFailed, Global};
 

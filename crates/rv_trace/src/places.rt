@@ -4,7 +4,7 @@
 //! a binary search. A map has global names alone; those of a file are the labels of its source, each at the address of the
 //! statement after it.
 
-use rv_lexer::SourceFault;
+use rv_fault::SourceFault;
 use rv_map::Map;
 use rv_map_laws::{Region, Row};
 use rv_parse::parse_compact;

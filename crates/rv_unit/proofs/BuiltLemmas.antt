@@ -1,7 +1,7 @@
 -- The unit of a list of statements says those of the list that it was made of.
 
 use Rattle.std.proofs.Common.{◌≡◌, List, Result, Ok, Err, IfOk, ap, ◌∙◌}
-use Rattle.rv_lexer.specs.declared.fault.SourceFault.{SourceFault}
+use Rattle.rv_fault.specs.declared.source_fault.SourceFault.{SourceFault}
 use Rattle.rv_statement_laws.specs.Statement.{Statement}
 use Rattle.rv_statement.specs.Statements.{statements_of}
 use Rattle.rv_statement.specs.declared.statements.Statements.{Statements}

@@ -1,8 +1,8 @@
 -- The first fault, statement by statement.
 
 use Rattle.std.proofs.Common.{◌≡◌, ℕ, suc, ◌+◌, List, ◌∷◌, drop, sym, ap, ◌∙◌, arith, Option, Some, None, option_map}
-use Rattle.rv_lexer.specs.declared.fault.SourceCode.{SourceCode}
-use Rattle.rv_lexer.specs.Fault.{source_fault_number, IsLowest}
+use Rattle.rv_fault.specs.declared.source_fault.SourceCode.{SourceCode}
+use Rattle.rv_fault.specs.SourceFault.{source_fault_number, IsLowest}
 use Rattle.rv_statement_laws.specs.Statement.{Statement as SpecStatement}
 use Rattle.rv_unit_laws.specs.Tables.{after, tables}
 use Rattle.rv_text_laws.specs.Codes.{lowest}

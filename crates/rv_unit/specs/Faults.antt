@@ -1,7 +1,7 @@
 -- What the results of values stand for.
 
 use Rattle.std.specs.Prelude.{ℕ, Bool, true, false, Result}
-use Rattle.rv_lexer.specs.declared.fault.SourceFault.{SourceFault}
+use Rattle.rv_fault.specs.declared.source_fault.SourceFault.{SourceFault}
 use Rattle.rv_text.specs.declared.evaluation.Value.{Value}
 use Rattle.rv_text.specs.Eval.{IsOutcome}
 use Rattle.rv_text_laws.specs.Codes.{undefined_local}

@@ -2,10 +2,10 @@
 
 use Rattle.std.specs.Prelude.{◌≡◌, ◌⊎◌, ℕ, ◌+◌, ◌<◌, ◌≤◌, Bool, true, false, List, Some, None, length, take}
 use Rattle.rv_text_laws.specs.Expression.{Primary, Reference}
-use Rattle.rv_lexer.specs.declared.fault.SourceFault.{SourceFault}
-use Rattle.rv_lexer.specs.declared.fault.SourceFault.TheVariants as refusals
-use Rattle.rv_lexer.specs.declared.fault.SourceCode.{SourceCode}
-use Rattle.rv_lexer.specs.Fault.{source_fault_number}
+use Rattle.rv_fault.specs.declared.source_fault.SourceFault.{SourceFault}
+use Rattle.rv_fault.specs.declared.source_fault.SourceFault.TheVariants as refusals
+use Rattle.rv_fault.specs.declared.source_fault.SourceCode.{SourceCode}
+use Rattle.rv_fault.specs.SourceFault.{source_fault_number}
 use Rattle.rv_unit_laws.specs.Faults.{StatementFault, first_unit_fault}
 use Rattle.rv_statement_laws.specs.Statement.{Statement, StatementKind}
 use Rattle.rv_statement.specs.Statements.{statements_of}

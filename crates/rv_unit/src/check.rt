@@ -15,7 +15,7 @@ ghost use Rattle.rv_unit_laws.specs.Tables as laws;
 ghost use Rattle.rv_unit_laws.proofs.AskedLemmas.{depth_after as depth_then};
 ghost use Rattle.rv_unit_tables.specs.Sections.{section_of, offset_of};
 ghost use Rattle.rv_unit_tables.specs.declared.section_offset.SectionOffset.{SectionOffset as SectionOffsetOf};
-ghost use Rattle.rv_lexer.specs.Fault.{IsLowest};
+ghost use Rattle.rv_fault.specs.SourceFault.{IsLowest};
 ghost use Rattle.rv_unit.specs.FaultsAt.{faults_at, directive_faults_at};
 ghost use Rattle.rv_unit.specs.Unit.{said, passed, fault_of, IsStatementOf, IsFilled};
 

@@ -7,7 +7,7 @@
 ghost use Rattle.std.specs.Prelude.{◌≡◌, ◌<◌, ℕ, List, ◌++◌, Option, Some, None, not, ◌&&◌, ◌||◌, ◌==◌};
 ghost use Rattle.rv_text_laws.specs.Codes as codes;
 ghost use Rattle.rv_text_laws.specs.Codes.{duplicate_label, wrong_section};
-ghost use Rattle.rv_lexer.specs.Fault.{source_fault_number, IsLowest};
+ghost use Rattle.rv_fault.specs.SourceFault.{source_fault_number, IsLowest};
 ghost use Rattle.rv_unit_laws.specs.Sections.{is_nobits};
 ghost use Rattle.rv_unit_laws.specs.Faults as laws;
 ghost use Rattle.rv_unit_laws.specs.Tables as tables;

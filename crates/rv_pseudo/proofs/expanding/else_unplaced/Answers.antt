@@ -1,5 +1,5 @@
 use Rattle.std.proofs.Common.{refl, sym, ◌∙◌}
-use Rattle.rv_lexer.specs.declared.fault.SourceCode.TheVariants.{UnsupportedHere}
+use Rattle.rv_fault.specs.declared.source_fault.SourceCode.TheVariants.{UnsupportedHere}
 use Rattle.rv_pseudo.proofs.TableLemmas.{answer_found, answer_unplaced}
 use Rattle.rv_pseudo.proofs.expanding.else_unplaced.Goals as goal
 

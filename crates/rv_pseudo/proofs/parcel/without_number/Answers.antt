@@ -1,5 +1,5 @@
 use Rattle.std.proofs.Common.{refl, ap, ◌∙◌, ◌∷◌, []}
-use Rattle.rv_lexer.specs.declared.fault.SourceCode.TheVariants.{UnsupportedHere}
+use Rattle.rv_fault.specs.declared.source_fault.SourceCode.TheVariants.{UnsupportedHere}
 use Rattle.rv_statement.specs.declared.statement.Plain.TheVariants as plains
 use Rattle.rv_pseudo.specs.Templates.{plain}
 use Rattle.rv_pseudo.proofs.ParcelRowsLemmas.{bare_templates, bare_none}

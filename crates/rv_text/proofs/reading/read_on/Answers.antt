@@ -4,7 +4,7 @@ use Rattle.rv_text_laws.specs.SyntaxError.{SyntaxError}
 use Rattle.rv_text_laws.specs.Expression.{Node}
 use Rattle.rv_text.specs.Nodes.{nodes_of}
 use Rattle.rv_lexer.specs.Cursor.{left}
-use Rattle.rv_lexer.specs.Fault.{source_fault_number}
+use Rattle.rv_fault.specs.SourceFault.{source_fault_number}
 use Rattle.rv_text.specs.Expr.{stage_of}
 use Rattle.rv_text.proofs.ReadingStepsLemmas.{ended, failed, read_fits, at_next}
 use Rattle.rv_text.proofs.reading.read_on.Goals as goal

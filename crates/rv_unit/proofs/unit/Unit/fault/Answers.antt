@@ -8,7 +8,7 @@ use Rattle.rv_unit_laws.specs.Faults as faults
 use Rattle.rv_unit_laws.specs.Sections.{section_with}
 use Rattle.rv_unit_laws.specs.Tables as laws
 use Rattle.rv_unit_laws.proofs.OpenedLemmas.{after_opened}
-use Rattle.rv_lexer.specs.Fault.{IsLowest}
+use Rattle.rv_fault.specs.SourceFault.{IsLowest}
 use Rattle.rv_unit.specs.Unit.{said, passed, IsStatementOf}
 use Rattle.rv_unit.proofs.InstructionsLemmas.{plain_is, with_is}
 use Rattle.rv_unit.proofs.unit.Unit.fault.Goals as goal

@@ -6,7 +6,7 @@ use Rattle.rv_unit_laws.specs.Faults as faults
 use Rattle.rv_unit_laws.specs.Sections.{current_section}
 use Rattle.rv_unit_laws.specs.Tables as laws
 use Rattle.rv_unit_tables.specs.Sections.{section_of}
-use Rattle.rv_lexer.specs.Fault.{IsLowest}
+use Rattle.rv_fault.specs.SourceFault.{IsLowest}
 use Rattle.rv_unit.specs.Unit.{said, passed}
 use Rattle.rv_unit.proofs.StandingLemmas.{at_here, at_home}
 use Rattle.rv_unit.proofs.unit.Unit.fault_of_bytes.Goals as goal

@@ -3,7 +3,7 @@ use Rattle.std.specs.Prelude.{not}
 use Rattle.rv_text_laws.specs.Codes.{faulty_if}
 use Rattle.rv_statement_laws.specs.Statement.{Instruction}
 use Rattle.rv_unit_laws.specs.Sections.{Section, is_nobits}
-use Rattle.rv_lexer.specs.Fault.{IsLowest}
+use Rattle.rv_fault.specs.SourceFault.{IsLowest}
 use Rattle.rv_unit.proofs.StandingLemmas.{at_home}
 use Rattle.rv_unit.proofs.unit.Unit.fault_of_instruction.Goals as goal
 

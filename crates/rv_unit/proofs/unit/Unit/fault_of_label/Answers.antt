@@ -1,7 +1,7 @@
 use Rattle.std.proofs.Common.{◌∙◌, ◌+◌, length, subst}
 use Rattle.rv_text_laws.specs.Codes.{faulty_if}
 use Rattle.rv_statement_laws.specs.Statement.{Label}
-use Rattle.rv_lexer.specs.Fault.{IsLowest}
+use Rattle.rv_fault.specs.SourceFault.{IsLowest}
 use Rattle.rv_unit.specs.Unit.{said}
 use Rattle.rv_unit.proofs.ApartLemmas.{whole_apart}
 use Rattle.rv_unit.proofs.ScopedLemmas.{whole_before}

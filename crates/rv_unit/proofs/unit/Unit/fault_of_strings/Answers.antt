@@ -3,7 +3,7 @@ use Rattle.rv_statement_laws.specs.Statement.{StatementKind, Directs, Strings}
 use Rattle.rv_statement.specs.View.{quoted}
 use Rattle.rv_unit_laws.specs.Sections.{current_section}
 use Rattle.rv_unit_laws.specs.Tables as laws
-use Rattle.rv_lexer.specs.Fault.{IsLowest}
+use Rattle.rv_fault.specs.SourceFault.{IsLowest}
 use Rattle.rv_unit.specs.Unit.{said, passed}
 use Rattle.rv_unit.proofs.SizedLemmas.{data_faults, data_shown}
 use Rattle.rv_unit.proofs.StandingLemmas.{at_here, at_home}

@@ -1,7 +1,7 @@
 //! Why a source is refused.
 
 ghost use Rattle.std.specs.Prelude.{◌≡◌};
-ghost use Rattle.rv_lexer.specs.Fault.{source_fault_number, source_fault_name};
+ghost use Rattle.rv_fault.specs.SourceFault.{source_fault_number, source_fault_name};
 
 use std::alloc::{AllocError, AllocFailed};
 use thiserror::Error;
@@ -109,7 +109,7 @@ pub enum SourceFault {
 }
 
 impl From<AllocError> for SourceFault {
-    ghost use Rattle.rv_lexer.specs.declared.fault.SourceFault.TheVariants.{OutOfMemory};
+    ghost use Rattle.rv_fault.specs.declared.source_fault.SourceFault.TheVariants.{OutOfMemory};
 
     ghost from_gives = { λ _ e. e ≡ OutOfMemory };
 
@@ -119,7 +119,7 @@ impl From<AllocError> for SourceFault {
 }
 
 impl<T: Drop> From<AllocFailed<T>> for SourceFault {
-    ghost use Rattle.rv_lexer.specs.declared.fault.SourceFault.TheVariants.{OutOfMemory};
+    ghost use Rattle.rv_fault.specs.declared.source_fault.SourceFault.TheVariants.{OutOfMemory};
 
     ghost from_gives = { λ _ e. e ≡ OutOfMemory };
 
