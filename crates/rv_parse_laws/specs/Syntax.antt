@@ -35,7 +35,7 @@ use Rattle.rv_statement_laws.specs.declared.directive.DirectiveWord.TheVariants 
 use Rattle.rv_statement_laws.specs.declared.directive.Choice.{Choice}
 use Rattle.rv_statement_laws.specs.Statement.{Expression, Operand, Register, Value, Applied, Target, Accesses, Word, Quoted, Directive, Enters, Opens, Binds, Sets, Aligns_to_power, Aligns_to_bytes, Values, Strings, Zeros, Chooses as Choosing, Ignored, StatementKind, Label, Numbered, Instruction, Directs}
 use Rattle.rv_statement_laws.specs.Widths.{width_bytes}
-pub use Rattle.rv_text.specs.Registers.{is_register}
+pub use Rattle.rv_isa.specs.Registers.{is_register}
 use Rattle.rv_parse_laws.specs.Words.{register, function_words, named_in, choices, beginning}
 use Rattle.rv_parse_laws.specs.declared.role.Role.{Role}
 use Rattle.rv_parse_laws.specs.declared.role.Role.TheVariants as roles

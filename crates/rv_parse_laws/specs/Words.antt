@@ -5,8 +5,8 @@ use Rattle.std.specs.Prelude.{ℕ, zero, suc, List, [], ◌∷◌, ◌++◌, Boo
 use Rattle.std.specs.Str.{bytes_eq}
 use Rattle.std.specs.Option.{option_or}
 use Rattle.rv_text_laws.specs.SyntaxError.{longest_name}
-pub use Rattle.rv_text.specs.Registers.{is_among, register_below}
-unfoldable pub use Rattle.rv_text.specs.Registers.{register_names, register}
+pub use Rattle.rv_isa.specs.Registers.{is_among, register_below}
+unfoldable pub use Rattle.rv_isa.specs.Registers.{register_names, register}
 use Rattle.rv_statement_laws.specs.declared.mnemonic.Mnemonic.{Mnemonic}
 use Rattle.rv_statement_laws.specs.declared.mnemonic.Mnemonic.TheVariants.{Registers, Immediate, Shift, Upper, Load, Store, Branch, Jal, Jalr, LoadReserved, Atomic, Fence, FenceTso, Ecall, Ebreak, Nop, Unary, Compare, ZeroBranch, SwappedBranch, J, Jr, Ret, La, Li, Call, Tail, Jump, Parcel}
 use Rattle.rv_parcel.specs.declared.parcel.ParcelOperation.TheVariants as parcels

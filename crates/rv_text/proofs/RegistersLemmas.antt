@@ -6,7 +6,7 @@ use Rattle.std.proofs.lemmas.Bool.{cases_Bool, and_parts, eqb-true, or_left, or_
 use Rattle.std.proofs.lemmas.Option.{same_Some, slice_get_within}
 use Rattle.std.proofs.lemmas.Slice.Eq.{bytes_eq-Decides}
 use Rattle.rv_isa.specs.RegisterNames.{abi_names, decimal, IsNameOf}
-use Rattle.rv_text.specs.Registers.{is_among, register_names, register_below, register}
+use Rattle.rv_isa.specs.Registers.{is_among, register_names, register_below, register}
 
 -- whether an option is this number
 abbrev is_it : Option ℕ → ℕ → Bool

@@ -1,4 +1,3 @@
-pub mod Registers
 pub mod Nodes
 pub mod Expr
 pub mod Eval

@@ -9,7 +9,7 @@ ghost use Rattle.rv_text_laws.specs.declared.operator.UnaryOperator.TheVariants.
 ghost use Rattle.rv_text_laws.specs.declared.operator.Frame.TheVariants.{Prefix, Infix};
 ghost use Rattle.rv_lexer.specs.Cursor.{left};
 ghost use Rattle.rv_lexer.specs.Token.{kind_of};
-ghost use Rattle.rv_text.specs.Registers.{is_register};
+ghost use Rattle.rv_isa.specs.Registers.{is_register};
 ghost use Rattle.rv_text.specs.Nodes.{symbol_of, node_of, nodes_of};
 ghost use Rattle.rv_text.specs.Expr.{stack_of, ends_operand, after_operand, after_negative, after_pair, after_two, Reached, ReadOn, IsAtNext};
 

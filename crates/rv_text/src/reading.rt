@@ -15,7 +15,7 @@ ghost use Rattle.rv_fault.specs.SourceFault.{source_fault_number};
 ghost use Rattle.rv_lexer.specs.Token.{kind_of};
 ghost use Rattle.rv_lexer.specs.Left.{tokens_left};
 ghost use Rattle.rv_lexer.specs.Cursor.{left, Answers};
-ghost use Rattle.rv_text.specs.Registers.{is_register};
+ghost use Rattle.rv_isa.specs.Registers.{is_register};
 ghost use Rattle.rv_text.specs.Nodes.{node_of, nodes_of, some_nodes};
 ghost use Rattle.rv_text.specs.Expr.{begin_of, follow_of, stack_of, stage_of, Steps, Reached, ReadOn, IsAtNext, expr_of, NamesFault, NoReading};
 

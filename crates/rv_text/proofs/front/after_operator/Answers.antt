@@ -3,7 +3,7 @@ use Rattle.std.proofs.Common.{[], ◌∷◌, sym, ap}
 use Rattle.rv_text_laws.specs.Expression.{Literal, Primary_node}
 use Rattle.rv_text_laws.specs.declared.operator.Frame.TheVariants.{Infix}
 use Rattle.rv_lexer.specs.Token.{kind_of}
-use Rattle.rv_text.specs.Registers.{is_register}
+use Rattle.rv_isa.specs.Registers.{is_register}
 use Rattle.rv_text.specs.Nodes.{symbol_of}
 use Rattle.rv_text.specs.Expr.{begin_of}
 use Rattle.rv_text.proofs.FrontsLemmas.{continued, primary_step}

@@ -1,7 +1,7 @@
 use Rattle.std.proofs.Common.{◌≡◌, length}
 use Rattle.rv_text_laws.specs.ExpressionAt.{read_from}
 use Rattle.rv_lexer.specs.Cursor.{left}
-use Rattle.rv_text.specs.Registers.{is_register}
+use Rattle.rv_isa.specs.Registers.{is_register}
 use Rattle.rv_text.specs.Expr.{stage_of}
 use Rattle.rv_text.proofs.reading.read_on.Given as goal
 
