@@ -13,9 +13,9 @@ ghost use Rattle.rv_parcel.specs.Parcel.{
   IsUpper,
 };
 
-use rv_parcel::Compressed;
 use crate::writing::write;
 use rv_isa::{BType, IType, Inst, JType, RType, Reg, SType, Shift, UType};
+use rv_parcel::Compressed;
 
 /// Whether a register is one of x8 to x15.
 fn is_short(register: Reg) -> bool

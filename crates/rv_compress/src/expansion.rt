@@ -4,9 +4,9 @@ ghost use Rattle.std.specs.Prelude.{◌≡◌, ◌↔◌, IfSome};
 ghost use Rattle.rv_isa.specs.Ranges.{IsValid};
 ghost use Rattle.rv_parcel.specs.Parcel.{IsLine, StandsFor, expansion};
 
-use rv_parcel::Compressed;
 use crate::reading::read;
 use rv_isa::{BType, IType, Inst, JType, RType, Reg, SType, Shift, UType};
+use rv_parcel::Compressed;
 
 #[inline(always)]
 fn immediate_operands(rd: Reg, rs1: Reg, immediate: i32) -> IType

@@ -32,5 +32,5 @@ pub use expansion::{expand, expanded};
 pub use front::next_inst;
 pub use laws::{parcels_have_a_reader, parcels_stand_for_valid_instructions};
 pub use reading::read;
-pub use writing::write;
 pub use rv_parcel::{Compressed, OperandShape, ParcelOperation, RegisterSet};
+pub use writing::write;

@@ -3,12 +3,12 @@
 ghost use Rattle.std.specs.Prelude.{◌≡◌, ◌≢◌, ◌*◌, ◌<◌, ◌/◌, ◌%◌, ◌^◌, ◌+◌};
 ghost use Rattle.rv_parcel.specs.Parcel.{HasOpcode, IsForm, IsRead, bits_at};
 
-use rv_parcel::Compressed;
 use crate::immediate::{
     branch_offset, double_load, double_offset, double_store, jump_offset, signed_10, signed_12,
     signed_six, six, stack_address, stack_step, upper_20, word_load, word_offset, word_store,
 };
 use rv_isa::Reg;
+use rv_parcel::Compressed;
 
 /// x8 to x15, by bits 4:2.
 #[inline]

@@ -25,8 +25,8 @@ ghost use Rattle.rv_parcel.specs.Parcel.{
   word_store,
 };
 
-use rv_parcel::Compressed;
 use rv_isa::Reg;
+use rv_parcel::Compressed;
 
 /// The number of a register, for a field of five bits.
 fn five(register: Reg) -> u32

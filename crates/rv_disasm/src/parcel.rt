@@ -10,8 +10,8 @@ ghost use Rattle.rv_listing_laws.specs.Parcels.{parcel_text};
 
 use crate::instruction::{put, put_in_parentheses, put_register};
 use crate::numbers::{put_decimal, put_distance, put_prefixed, put_signed};
-use rv_parcel::Compressed;
 use rv_isa::Reg;
+use rv_parcel::Compressed;
 use std::alloc::AllocError;
 
 /// Adds the text of a parcel of this form.

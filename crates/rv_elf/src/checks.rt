@@ -6,7 +6,6 @@ ghost use Rattle.rv_elf_laws.specs.FirstFault.{Finds, header_tests, table_tests}
 ghost use Rattle.rv_elf_laws.specs.Sections.{HasPrograms, HasSections, is_past, section_count};
 ghost use Rattle.rv_elf_laws.specs.Numbers.{shn_loreserve};
 
-use rv_fault::FileFault;
 use crate::fields::{byte, half, word};
 use crate::file_header::{FILE_HEADER_SIZE, read_file_header};
 use crate::numbers::{
@@ -15,6 +14,7 @@ use crate::numbers::{
 use crate::offsets::{E_FLAGS, E_MACHINE, E_TYPE, EI_CLASS, EI_DATA, EI_VERSION};
 use crate::program_header::PROGRAM_HEADER_SIZE;
 use crate::section_header::SECTION_HEADER_SIZE;
+use rv_fault::FileFault;
 
 /// The type of a file of this machine (`e_type`), or the first fault of its header.
 #[tactic(auto, unfolding(rv_elf_laws::specs::FirstFault::header_tests))]

@@ -45,10 +45,10 @@ pub use numbers::{
 };
 pub use program_header::PROGRAM_HEADER_SIZE;
 pub use rela::{RELA_SIZE, rela_in};
+pub use rv_elf_laws::{FileHeader, ProgramHeader, Rela, SectionHeader, Symbol};
+pub use rv_fault::FileFault;
 pub use section_header::SECTION_HEADER_SIZE;
 pub use string::string_in;
 pub use symbol::{SYMBOL_SIZE, symbol_in};
 pub use view::ElfView;
 pub use writer::ElfWriter;
-pub use rv_elf_laws::{FileHeader, ProgramHeader, Rela, SectionHeader, Symbol};
-pub use rv_fault::FileFault;

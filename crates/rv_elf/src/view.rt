@@ -8,7 +8,6 @@ ghost use Rattle.rv_elf_laws.specs.Records.{file_header_in, program_header_at, s
 ghost use Rattle.rv_elf_laws.specs.Sections.{HasPrograms, HasSections, program_count, section_count, section_header_of, indexed_contents, file_contents, string_at};
 
 use crate::checks::{check_tables, file_type, lies_past};
-use rv_fault::FileFault;
 use crate::fields::double;
 use crate::file_header::read_file_header;
 use crate::index::{SectionIndex, SymbolIndex};
@@ -20,6 +19,7 @@ use crate::section_header::{SECTION_HEADER_SIZE, read_section_header};
 use crate::string::string_in;
 use crate::symbol::symbol_in;
 use rv_elf_laws::{FileHeader, ProgramHeader, Rela, SectionHeader, Symbol};
+use rv_fault::FileFault;
 
 /// A file of this machine whose header and tables are good.
 #[derive(Clone, Copy, Debug, Drop)]

@@ -2,8 +2,8 @@
 
 ghost use Rattle.std.specs.Prelude.{◌≡◌};
 
-use crate::link_fault::LinkFault;
 use crate::file_fault::FileFault;
+use crate::link_fault::LinkFault;
 use crate::source_fault::SourceFault;
 use std::alloc::{AllocError, AllocFailed};
 use thiserror::Error;

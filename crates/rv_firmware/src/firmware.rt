@@ -14,8 +14,8 @@ ghost use Rattle.rv_firmware.specs.FirmwareOf.{firmware_of, firmware_in, firmwar
 use crate::block::Block;
 use crate::fault::FirmwareFault;
 use rv_elf::{ET_EXEC, ElfView, PT_LOAD, file_type, lies_past};
-use rv_fault::FileFault;
 use rv_elf_laws::ProgramHeader;
+use rv_fault::FileFault;
 use std::alloc::{AllocError, Global};
 
 /// The contents of an executable's segments, and where it starts.

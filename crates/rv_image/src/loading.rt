@@ -16,8 +16,8 @@ use crate::image::Image;
 use crate::segment::Segment;
 use crate::segments::{check_programs, check_whole};
 use rv_elf::{ET_EXEC, ElfView, PT_LOAD, file_type};
-use rv_fault::FileFault;
 use rv_elf_laws::ProgramHeader;
+use rv_fault::FileFault;
 use std::alloc::{AllocError, Global};
 
 /// The image of an executable, or the first of its faults. Nothing of the file is copied before all

@@ -10,8 +10,8 @@ ghost use Rattle.rv_image_laws.specs.Segment.{do_meet};
 
 use crate::segment::{MEMORY_LIMIT, STACK_BYTES, STACK_START};
 use rv_elf::{ElfView, PT_DYNAMIC, PT_INTERP, PT_LOAD, PT_TLS, lies_past};
-use rv_fault::FileFault;
 use rv_elf_laws::ProgramHeader;
+use rv_fault::FileFault;
 
 /// Looks at the program headers, one after the other.
 pub(crate) fn check_programs(view: &ElfView<'_>) -> Result<(), FileFault>

@@ -6,7 +6,10 @@ ghost use Rattle.rv_image_laws.specs.Executable.{exe_of, parts_with_memory, has_
 ghost use Rattle.rv_image.specs.Views.{segment_part, linked_of};
 
 use crate::linked::Linked;
-use rv_elf::{EF_RISCV_RVC, EM_RISCV, ET_EXEC, EV_CURRENT, ElfWriter, FILE_HEADER_SIZE, PF_R, PF_W, PF_X, PROGRAM_HEADER_SIZE, PT_LOAD};
+use rv_elf::{
+    EF_RISCV_RVC, EM_RISCV, ET_EXEC, EV_CURRENT, ElfWriter, FILE_HEADER_SIZE, PF_R, PF_W, PF_X,
+    PROGRAM_HEADER_SIZE, PT_LOAD,
+};
 use rv_elf_laws::{FileHeader, ProgramHeader};
 use std::alloc::{AllocError, Global};
 

@@ -11,11 +11,11 @@ use crate::instruction_text::{
 };
 use crate::parcel_text::put_parcel;
 use crate::scope::Scope;
-use rv_parcel::Compressed;
 use rv_isa::{
     BType, BranchOperation, Fence, Format, IType, ImmediateOperation, Inst, JType, RType, Reg,
     RegisterOperation, Shift, ShiftOperation,
 };
+use rv_parcel::Compressed;
 use std::alloc::AllocError;
 
 /// Adds the text of the parcel at an address, which stands for an instruction.

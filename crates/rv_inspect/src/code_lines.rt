@@ -10,8 +10,8 @@ use crate::parcel_text::put_parcel;
 use crate::relocations::{Relocation, put_relocation};
 use crate::scope::{Scope, put_address, put_place};
 use rv_compress::{next_inst, read};
-use rv_parcel::Compressed;
 use rv_isa::{Format, Inst};
+use rv_parcel::Compressed;
 use std::alloc::AllocError;
 
 /// So many zeros or more are one line.

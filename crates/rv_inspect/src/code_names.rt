@@ -8,8 +8,8 @@ use crate::marks::{Mark, Marks};
 use crate::parts::{bytes_of, count_symbols, section_named, symbol_at, symbol_table};
 use crate::relocations::{Relocation, file_relocations};
 use rv_elf::{ET_REL, ElfView, SHN_ABS, SHN_UNDEF, STB_GLOBAL, STB_LOCAL, string_in};
-use rv_fault::FileFault;
 use rv_elf_laws::{SectionHeader, Symbol};
+use rv_fault::FileFault;
 use rv_map::Map;
 use std::alloc::{AllocError, Global};
 

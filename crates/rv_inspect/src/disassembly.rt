@@ -9,8 +9,8 @@ use crate::relocations::relocations_in;
 use crate::scope::Scope;
 use crate::section_lines::section_name;
 use rv_elf::{ET_REL, ElfView, PF_X, PT_LOAD, SHF_EXECINSTR, SHT_NOBITS, lies_past};
-use rv_fault::FileFault;
 use rv_elf_laws::{ProgramHeader, SectionHeader};
+use rv_fault::FileFault;
 use rv_map::Map;
 use std::alloc::{AllocError, Global};
 

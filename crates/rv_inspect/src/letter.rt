@@ -2,7 +2,10 @@
 
 use crate::parts::section_at;
 use crate::section_lines::section_name;
-use rv_elf::{ElfView, SHF_ALLOC, SHF_EXECINSTR, SHF_WRITE, SHN_ABS, SHN_UNDEF, SHT_NOBITS, STB_LOCAL, STB_WEAK};
+use rv_elf::{
+    ElfView, SHF_ALLOC, SHF_EXECINSTR, SHF_WRITE, SHN_ABS, SHN_UNDEF, SHT_NOBITS, STB_LOCAL,
+    STB_WEAK,
+};
 use rv_elf_laws::{SectionHeader, Symbol};
 
 /// `st_shndx`: the symbol is to get bytes of its own (gABI, SHN_COMMON).

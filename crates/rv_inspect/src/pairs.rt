@@ -1,8 +1,8 @@
 //! The addresses that two instructions make, as GNU's `objdump` tells them: the upper part of a `lui` or an `auipc` holds
 //! until an instruction adds to that register.
 
-use rv_parcel::Compressed;
 use rv_isa::{Format, IType, ImmediateOperation, Inst, Reg, UType, UpperOperation};
+use rv_parcel::Compressed;
 
 /// The number of `gp`, whose value the linker knows.
 const GP: u8 = 3;

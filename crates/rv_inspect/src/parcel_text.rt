@@ -3,8 +3,8 @@
 use crate::columns::put;
 use crate::instruction_text::{put_amount, put_registers, put_sum, put_target, set_tab, target_of};
 use crate::scope::Scope;
-use rv_parcel::Compressed;
 use rv_isa::Reg;
+use rv_parcel::Compressed;
 use std::alloc::AllocError;
 
 /// Adds the text of the parcel at an address. It is that of a listing but for a tab, numbers of shifts in hexadecimal, the

@@ -1,8 +1,11 @@
 //! The records of any file, by their index: none where the file has none there.
 
-use rv_elf::{ElfView, RELA_SIZE, SHT_NOBITS, SHT_SYMTAB, SYMBOL_SIZE, SectionIndex, SymbolIndex, lies_past, rela_in, symbol_in};
-use rv_fault::FileFault;
+use rv_elf::{
+    ElfView, RELA_SIZE, SHT_NOBITS, SHT_SYMTAB, SYMBOL_SIZE, SectionIndex, SymbolIndex, lies_past,
+    rela_in, symbol_in,
+};
 use rv_elf_laws::{Rela, SectionHeader, Symbol};
+use rv_fault::FileFault;
 
 /// The header of the section of this index.
 pub fn section_at(view: &ElfView<'_>, index: u16) -> Option<SectionHeader> {

@@ -7,8 +7,8 @@ use crate::relocation_name::kind_name;
 use crate::section_lines::section_name;
 use crate::symbol_lines::symbol_name;
 use rv_elf::{ElfView, SHT_RELA};
-use rv_fault::FileFault;
 use rv_elf_laws::{Rela, SectionHeader};
+use rv_fault::FileFault;
 use std::alloc::AllocError;
 
 const HEADING: &[u8] = b"    Offset             Info             Type               \

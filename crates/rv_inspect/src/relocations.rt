@@ -6,8 +6,8 @@ use crate::parts::{bytes_of, count_relas, rela_at, section_at, section_named, sy
 use crate::relocation_name::kind_name;
 use crate::section_lines::section_name;
 use rv_elf::{ElfView, SHT_RELA, string_in};
-use rv_fault::FileFault;
 use rv_elf_laws::{Rela, SectionHeader, Symbol};
+use rv_fault::FileFault;
 use std::alloc::{AllocError, Global};
 
 /// A relocation and what it names.

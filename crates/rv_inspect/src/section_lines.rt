@@ -3,7 +3,10 @@
 use crate::columns::Column::{Decimal, Hexadecimal, Left, Name, Padded, Text};
 use crate::columns::{put, put_columns};
 use crate::parts::section_at;
-use rv_elf::{ElfView, SHT_GROUP, SHT_NOBITS, SHT_NOTE, SHT_NULL, SHT_PROGBITS, SHT_RELA, SHT_STRTAB, SHT_SYMTAB, SectionIndex};
+use rv_elf::{
+    ElfView, SHT_GROUP, SHT_NOBITS, SHT_NOTE, SHT_NULL, SHT_PROGBITS, SHT_RELA, SHT_STRTAB,
+    SHT_SYMTAB, SectionIndex,
+};
 use rv_elf_laws::SectionHeader;
 use std::alloc::AllocError;
 

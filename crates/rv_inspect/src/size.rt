@@ -4,8 +4,8 @@ use crate::columns::Column::{Decimal, Hexadecimal, Text};
 use crate::columns::put_columns;
 use crate::parts::section_at;
 use rv_elf::{ElfView, PF_W, PT_LOAD, SHF_ALLOC, SHF_EXECINSTR, SHF_WRITE, SHT_NOBITS};
-use rv_fault::FileFault;
 use rv_elf_laws::{ProgramHeader, SectionHeader};
+use rv_fault::FileFault;
 use std::alloc::{AllocError, Global};
 
 /// The bytes that a file has in memory, by what they are.

@@ -5,8 +5,8 @@ use crate::columns::{Column, put_columns};
 use crate::parts::{bytes_of, count_symbols, section_at, section_named, symbol_at};
 use crate::section_lines::section_name;
 use rv_elf::{ElfView, SHN_ABS, SHN_UNDEF, SHT_SYMTAB, STB_GLOBAL, STB_LOCAL, STB_WEAK, string_in};
-use rv_fault::FileFault;
 use rv_elf_laws::{SectionHeader, Symbol};
+use rv_fault::FileFault;
 use std::alloc::AllocError;
 
 /// The lower half of `st_info`: the symbol stands for a section (gABI, STT_SECTION).

@@ -15,9 +15,9 @@ ghost use Rattle.rv_instruction.specs.Code.{encoded_bytes, encoded_instructions,
 
 use arrayvec::ArrayVec;
 use rv_compress::{shrink, write};
-use rv_parcel::Compressed;
 use rv_encode::encode;
 use rv_isa::{Inst, Kind};
+use rv_parcel::Compressed;
 use rv_pseudo::{Template, Templates};
 
 /// A part of a statement's code as it lies in memory.

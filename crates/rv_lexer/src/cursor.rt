@@ -8,10 +8,10 @@ ghost use Rattle.rv_fault.specs.SourceFault.{source_fault_number};
 ghost use Rattle.rv_lexer.specs.Token.{token_of, kind_of};
 ghost use Rattle.rv_lexer.specs.Left.{GivesToken};
 
-use rv_fault::SourceCode;
 use crate::lexer::Lexer;
 use crate::syntax_error::SyntaxError;
 use crate::token::{Token, TokenKind};
+use rv_fault::SourceCode;
 use rv_text_laws::Punct;
 
 /// A token that goes on with a name, where no gap is between.

@@ -6,8 +6,8 @@ ghost use Rattle.rv_text_laws.specs.SyntaxError.{is_long, fault_offset, wrong};
 ghost use Rattle.rv_fault.specs.SourceFault.{source_fault_number};
 ghost use Rattle.rv_lexer.specs.Token.{token_of, kind_of};
 
-use rv_fault::SourceCode;
 use crate::token::{Token, TokenKind};
+use rv_fault::SourceCode;
 use std::alloc::{AllocError, AllocFailed};
 use thiserror::Error;
 

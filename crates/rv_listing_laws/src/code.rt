@@ -1,7 +1,7 @@
 //! An instruction as it lies in memory.
 
-use rv_parcel::Compressed;
 use rv_isa::Inst;
+use rv_parcel::Compressed;
 
 /// An instruction as it lies in memory.
 #[derive(Clone, Copy, Drop)]

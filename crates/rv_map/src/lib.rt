@@ -29,5 +29,5 @@ pub use digits::{put_hexadecimal, put_padded, write_hexadecimal};
 pub use law::{one_map, reread};
 pub use map::{Global, Map};
 pub use reading::read;
-pub use writing::write;
 pub use rv_map_laws::{Region, Row, SectionId};
+pub use writing::write;

@@ -10,8 +10,8 @@ ghost use Rattle.rv_map_laws.specs.Text.{hexadecimal, line_text, gap_line, globa
 ghost use Rattle.rv_map.specs.Reading.{Gives, behind, region_at, global_at, drop_at, row_at, head_at};
 
 use crate::map::{Global, Map};
-use rv_map_laws::{Region, Row, SectionId};
 use crate::numeral::{cut, number_before};
+use rv_map_laws::{Region, Row, SectionId};
 use std::alloc::{AllocError, Global as Allocator};
 
 const DECIMAL: u64 = 10;

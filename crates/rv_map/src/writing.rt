@@ -8,8 +8,8 @@ ghost use Rattle.rv_map_laws.specs.Text.{hexadecimal, line_text, region_line, ga
 
 use crate::digits::put_hexadecimal;
 use crate::map::{Global, Map};
-use rv_map_laws::{Region, Row, SectionId};
 use itoa::Buffer;
+use rv_map_laws::{Region, Row, SectionId};
 use std::alloc::{AllocError, Global as Allocator};
 
 /// The text of a map: a line for each region, gap, global, dropped section and row.

@@ -5,7 +5,9 @@ ghost use Rattle.rv_object_laws.specs.Valid.{is_section_alignment};
 ghost use Rattle.rv_object_file_laws.specs.FirstFault.{is_unsupported};
 ghost use Rattle.rv_object_file_laws.specs.Parts.{is_loaded, is_executable, is_symbol_table, is_rela};
 
-use rv_elf::{SHF_ALLOC, SHF_EXECINSTR, SHT_GROUP, SHT_NOBITS, SHT_NOTE, SHT_PROGBITS, SHT_RELA, SHT_SYMTAB};
+use rv_elf::{
+    SHF_ALLOC, SHF_EXECINSTR, SHT_GROUP, SHT_NOBITS, SHT_NOTE, SHT_PROGBITS, SHT_RELA, SHT_SYMTAB,
+};
 use rv_elf_laws::SectionHeader;
 
 /// Whether the section has a place in memory.

@@ -18,8 +18,8 @@ ghost use Rattle.rv_object_checks.specs.Stretches.{HoldsCode, placed};
 
 use crate::places::{Places, is_align};
 use rv_elf::{RELA_SIZE, SHF_EXECINSTR, SHT_NOBITS, rela_in};
-use rv_fault::FileFault;
 use rv_elf_laws::{Rela, SectionHeader};
+use rv_fault::FileFault;
 use rv_isa::{Kind, kind_of};
 use std::alloc::AllocError;
 

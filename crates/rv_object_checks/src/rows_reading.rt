@@ -15,8 +15,8 @@ use crate::rows::{ROW_SIZE, RowRecord};
 use crate::tables::Tables;
 use byteorder::{ByteOrder, LittleEndian};
 use rv_elf::SectionIndex;
-use rv_fault::FileFault;
 use rv_elf_laws::SectionHeader;
+use rv_fault::FileFault;
 
 /// The row of this index, from 0, in a section of these bytes.
 pub fn row_in(bytes: &[u8], index: usize) -> RowRecord

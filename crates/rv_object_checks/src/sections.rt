@@ -12,8 +12,8 @@ use crate::headers::{
 use crate::names::Names;
 use crate::rows::ROW_SIZE;
 use rv_elf::{ElfView, RELA_SIZE, SHT_NOBITS, SYMBOL_SIZE, SectionIndex, lies_past};
-use rv_fault::FileFault;
 use rv_elf_laws::SectionHeader;
+use rv_fault::FileFault;
 
 /// Looks at the header of a section, with a section of symbols before it in the file or not, and one of rows.
 #[tactic(auto, using(rv_elf_laws::specs::FirstTrue::first_true_some, rv_elf_laws::specs::FirstTrue::first_true_none))]

@@ -10,9 +10,12 @@ ghost use Rattle.rv_object_file_laws.specs.FirstFault.{symbol_tests, symbol_coun
 ghost use Rattle.rv_object_file_laws.specs.Parts.{is_section, name_at};
 
 use crate::strings::Strings;
-use rv_elf::{ElfView, SHN_ABS, SHN_UNDEF, STB_GLOBAL, STB_LOCAL, STB_WEAK, SYMBOL_SIZE, SectionIndex, SymbolIndex, symbol_in};
-use rv_fault::FileFault;
+use rv_elf::{
+    ElfView, SHN_ABS, SHN_UNDEF, STB_GLOBAL, STB_LOCAL, STB_WEAK, SYMBOL_SIZE, SectionIndex,
+    SymbolIndex, symbol_in,
+};
 use rv_elf_laws::{SectionHeader, Symbol};
+use rv_fault::FileFault;
 use std::alloc::Global;
 
 /// How many symbols there are for these relocations, by the header of the table that they name, symbol 0 as well.

@@ -16,8 +16,8 @@ use crate::sections::check_section;
 use crate::symbols::{check_symbols, count_symbols};
 use crate::tables::{Tables, count_sections};
 use rv_elf::{ElfView, SectionIndex};
-use rv_fault::FileFault;
 use rv_elf_laws::SectionHeader;
+use rv_fault::FileFault;
 use std::alloc::{AllocError, Global};
 
 /// Looks at the sections of a file, each header before its records.

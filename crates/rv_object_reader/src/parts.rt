@@ -9,7 +9,9 @@ ghost use Rattle.rv_object_file_laws.specs.FirstFault.{first_fault};
 ghost use Rattle.rv_object_checks.specs.Names.{names_table};
 
 use crate::strings::Strings;
-use rv_elf::{EF_RISCV_RVC, ElfView, SHF_WRITE, SHT_NOBITS, SHT_NOTE, STB_LOCAL, STB_WEAK, SectionIndex};
+use rv_elf::{
+    EF_RISCV_RVC, ElfView, SHF_WRITE, SHT_NOBITS, SHT_NOTE, STB_LOCAL, STB_WEAK, SectionIndex,
+};
 use rv_elf_laws::{SectionHeader, Symbol};
 use rv_object_types::{Binding, Contents};
 use std::alloc::{AllocError, Global};

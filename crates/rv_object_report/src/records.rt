@@ -5,9 +5,12 @@
 ghost use Rattle.std.specs.Prelude.{◌<◌};
 
 use crate::tables::{is_rows, row_at, symbol_named};
-use rv_elf::{ElfView, RELA_SIZE, SHF_ALLOC, SHF_EXECINSTR, SHT_GROUP, SHT_NOBITS, SHT_NOTE, SHT_PROGBITS, SHT_RELA, SHT_SYMTAB, SYMBOL_SIZE};
-use rv_fault::FileFault;
+use rv_elf::{
+    ElfView, RELA_SIZE, SHF_ALLOC, SHF_EXECINSTR, SHT_GROUP, SHT_NOBITS, SHT_NOTE, SHT_PROGBITS,
+    SHT_RELA, SHT_SYMTAB, SYMBOL_SIZE,
+};
 use rv_elf_laws::{Rela, SectionHeader};
+use rv_fault::FileFault;
 use rv_fault_texts::put_bytes;
 use rv_inspect::{
     bytes_of, count_relas, kind_name, rela_at, section_at, section_name, section_named,

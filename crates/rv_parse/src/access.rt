@@ -14,8 +14,8 @@ ghost use Rattle.rv_parse.specs.Left.{Gives, GivesInstruction, ReadsInstruction}
 use crate::operands::{given, with};
 use crate::value::Argument;
 use crate::{slot, value};
-use rv_parcel::RegisterSet;
 use rv_isa::{AtomicForm, AtomicOperation, LoadOperation, Reg, StoreOperation};
+use rv_parcel::RegisterSet;
 use rv_parse_words::Role;
 use rv_parse_words::fault::Slot;
 use rv_statement::{Operation, Plain, StatementKind};

@@ -14,8 +14,8 @@ ghost use Rattle.rv_parse.specs.Slots.{sets_in, own, leading_at, leading_of};
 
 use crate::operands::{self, given, with};
 use crate::{slot, value};
-use rv_parcel::{OperandShape, ParcelOperation, RegisterSet};
 use rv_isa::Reg;
+use rv_parcel::{OperandShape, ParcelOperation, RegisterSet};
 use rv_parse_words::Role;
 use rv_parse_words::fault::Slot;
 use rv_statement::{Operation, Plain, StatementKind};

@@ -12,8 +12,8 @@ ghost use Rattle.rv_parse_laws.specs.Parsing.{operand_at, end_at, base_at, base_
 ghost use Rattle.rv_parse_words.specs.View.{slot_of, word_of, string_of};
 ghost use Rattle.rv_parse.specs.Left.{Gives};
 
-use rv_parcel::RegisterSet;
 use rv_isa::{AccessSet, Reg};
+use rv_parcel::RegisterSet;
 use rv_parse_words::fault::{self, Slot};
 use rv_parse_words::kinds;
 use rv_text::{Cursor, LONGEST_NAME, SourceCode, SyntaxError};

@@ -17,8 +17,8 @@ ghost use Rattle.rv_parse_laws.specs.Parsing.{width};
 ghost use Rattle.rv_parse_words.specs.View.{choice_of, word_of, string_of};
 
 use crate::words::{accesses_named, beginning_with, choice_named, function_named, register_named};
-use rv_parcel::RegisterSet;
 use rv_isa::{AccessSet, Reg};
+use rv_parcel::RegisterSet;
 use rv_parse_laws::{Beginning, Role};
 use rv_statement::StatementKind;
 use rv_statement_laws::{Choice, Function};

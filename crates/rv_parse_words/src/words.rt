@@ -14,13 +14,16 @@ ghost use Rattle.rv_parse_laws.specs.Syntax.{access_sets, with_constant, is_flag
 ghost use Rattle.rv_parse_laws.specs.Faults.{is_known_flag};
 ghost use Rattle.rv_parse_words.specs.View.{named_of, second};
 
-use rv_parcel::ParcelOperation;
 use rv_isa::{
     AccessSet, AtomicForm, AtomicOperation, BranchOperation, ImmediateOperation, LoadOperation,
     Reg, RegisterOperation, ShiftOperation, StoreOperation, UpperOperation, reg_named,
 };
+use rv_parcel::ParcelOperation;
 use rv_parse_laws::Beginning;
-use rv_statement_laws::{Binding, Choice, CompareOperation, DirectiveWord, Function, Mnemonic, Standard, SwappedBranchOperation, UnaryOperation, Width, ZeroBranchOperation};
+use rv_statement_laws::{
+    Binding, Choice, CompareOperation, DirectiveWord, Function, Mnemonic, Standard,
+    SwappedBranchOperation, UnaryOperation, Width, ZeroBranchOperation,
+};
 use rv_text::LONGEST_NAME;
 
 /// What the language leaves out by name: a mnemonic, and directives.

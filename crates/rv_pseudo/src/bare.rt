@@ -12,11 +12,11 @@ ghost use Rattle.rv_pseudo.specs.Templates as is;
 use crate::parcel;
 use crate::template::{Templates, one, plain, two};
 use arrayvec::ArrayVec;
+use rv_fault::SourceCode;
 use rv_isa::{
     Atomic, AtomicForm, AtomicOperation, IType, Inst, RType, Reg, Reserve, SType, Shift,
     ShiftOperation, fence,
 };
-use rv_fault::SourceCode;
 use rv_statement::Plain;
 use rv_statement_laws::{CompareOperation, UnaryOperation};
 

@@ -16,8 +16,8 @@ use crate::number::{number, numbered, numbered_one, relocation};
 use crate::target::{takes_target, targeted};
 use crate::template::{Form, Manner, Templates, Worth, constant, manner_of};
 use arrayvec::ArrayVec;
-use rv_isa::Inst;
 use rv_fault::{SourceCode, SourceFault};
+use rv_isa::Inst;
 use rv_statement::{Operation, Statement, StatementKind};
 use rv_statement_laws::Function;
 

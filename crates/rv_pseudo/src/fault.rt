@@ -17,9 +17,9 @@ use crate::li::is_short;
 use crate::number::{lower_part, upper_part};
 use crate::target::takes_target;
 use crate::template::Worth;
-use rv_parcel::{OperandShape, ParcelOperation};
-use rv_isa::{Reg, RegisterOperation, ShiftOperation};
 use rv_fault::SourceCode;
+use rv_isa::{Reg, RegisterOperation, ShiftOperation};
+use rv_parcel::{OperandShape, ParcelOperation};
 use rv_statement::Operation;
 use rv_statement_laws::Function;
 

@@ -22,9 +22,9 @@ use crate::target::{branch, jump};
 use crate::template::{Manner, Templates, Worth, constant, one, plain};
 use arrayvec::ArrayVec;
 use rv_compress::expanded;
-use rv_parcel::{Compressed, OperandShape, ParcelOperation};
-use rv_isa::{BranchOperation, Reg};
 use rv_fault::SourceCode;
+use rv_isa::{BranchOperation, Reg};
+use rv_parcel::{Compressed, OperandShape, ParcelOperation};
 use rv_statement::{Operation, Plain, StatementKind};
 use rv_statement_laws::Function;
 

@@ -19,11 +19,11 @@ use crate::bare::{is_x0, jalr};
 use crate::parcel;
 use crate::template::{Templates, one, plain, two, under};
 use arrayvec::ArrayVec;
-use rv_parcel::OperandShape;
 use rv_isa::{
     BType, BranchOperation, IType, Inst, JType, Kind, LoadOperation, Reg, SType, StoreOperation,
     UType,
 };
+use rv_parcel::OperandShape;
 use rv_statement::Operation;
 use rv_statement_laws::{SwappedBranchOperation, ZeroBranchOperation};
 

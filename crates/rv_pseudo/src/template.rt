@@ -5,8 +5,8 @@ ghost use Rattle.rv_pseudo.specs.Faults as faults;
 ghost use Rattle.rv_pseudo.specs.Templates as is;
 
 use arrayvec::ArrayVec;
-use rv_isa::{Inst, Kind};
 use rv_fault::SourceCode;
+use rv_isa::{Inst, Kind};
 
 /// What an expression is worth to an instruction.
 #[derive(Clone, Copy, Debug, PartialEq, Eq, Drop)]

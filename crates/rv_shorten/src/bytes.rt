@@ -12,9 +12,9 @@ ghost use Rattle.rv_cut_laws.specs.Cutting.{are_cuts};
 
 use crate::cut::Cut;
 use rv_compress::write;
-use rv_parcel::Compressed;
 use rv_encode::encode;
 use rv_isa::{Inst, JType, Reg};
+use rv_parcel::Compressed;
 use std::alloc::AllocError;
 
 /// Bytes that stand together: those of a call, and those of the section behind it.

@@ -25,8 +25,11 @@ mod statement;
 mod statements;
 
 pub use directive::section_name;
+pub use rv_statement_laws::{
+    Binding, Choice, CompareOperation, DirectiveWord, Function, Mnemonic, Standard,
+    SwappedBranchOperation, UnaryOperation, Width, ZeroBranchOperation,
+};
 pub use statement::{
     MOST_STATEMENTS, Opening, Operation, Plain, Setting, Statement, StatementKind,
 };
 pub use statements::Statements;
-pub use rv_statement_laws::{Binding, Choice, CompareOperation, DirectiveWord, Function, Mnemonic, Standard, SwappedBranchOperation, UnaryOperation, Width, ZeroBranchOperation};

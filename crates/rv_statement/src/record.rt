@@ -9,10 +9,10 @@ ghost use Rattle.rv_statement_laws.specs.Statement.{Numbered};
 ghost use Rattle.rv_statement.specs.View.{statement_kind};
 ghost use Rattle.rv_statement.specs.Records.{part, plain_in, part_end, packed_kind, IsPacked};
 
-use rv_statement_laws::{CompareOperation, UnaryOperation};
 use crate::statement::{Plain, StatementKind};
-use rv_parcel::ParcelOperation;
 use rv_isa::{LoadOperation, Reg, RegisterOperation, StoreOperation};
+use rv_parcel::ParcelOperation;
+use rv_statement_laws::{CompareOperation, UnaryOperation};
 
 /// An instruction of registers alone, as in `Plain`; those that order memory have more bytes.
 #[derive(Clone, Copy, Debug, Drop)]

@@ -3,11 +3,14 @@
 //! A statement has 40 bytes, since a source may have 4 million of them. `.set`, `.section` and expressions with
 //! operators are behind a pointer.
 
-use rv_statement_laws::{Binding, Choice, CompareOperation, Function, Standard, SwappedBranchOperation, UnaryOperation, Width, ZeroBranchOperation};
-use rv_parcel::ParcelOperation;
 use rv_isa::{
     AccessSet, AtomicForm, AtomicOperation, BranchOperation, ImmediateOperation, LoadOperation,
     Reg, RegisterOperation, ShiftOperation, StoreOperation, UpperOperation,
+};
+use rv_parcel::ParcelOperation;
+use rv_statement_laws::{
+    Binding, Choice, CompareOperation, Function, Standard, SwappedBranchOperation, UnaryOperation,
+    Width, ZeroBranchOperation,
 };
 use rv_text::Expr;
 

@@ -20,4 +20,6 @@ mod pseudo;
 
 pub use directive::{Binding, Choice, DirectiveWord, Standard, Width};
 pub use mnemonic::Mnemonic;
-pub use pseudo::{CompareOperation, Function, SwappedBranchOperation, UnaryOperation, ZeroBranchOperation};
+pub use pseudo::{
+    CompareOperation, Function, SwappedBranchOperation, UnaryOperation, ZeroBranchOperation,
+};

@@ -2,9 +2,14 @@
 //!
 //! Source: RISC-V Unprivileged ISA 20191213, chapter 24; RISC-V Assembly Programmer's Manual.
 
-use crate::pseudo::{CompareOperation, SwappedBranchOperation, UnaryOperation, ZeroBranchOperation};
+use crate::pseudo::{
+    CompareOperation, SwappedBranchOperation, UnaryOperation, ZeroBranchOperation,
+};
+use rv_isa::{
+    AtomicForm, AtomicOperation, BranchOperation, ImmediateOperation, LoadOperation,
+    RegisterOperation, ShiftOperation, StoreOperation, UpperOperation,
+};
 use rv_parcel::ParcelOperation;
-use rv_isa::{AtomicForm, AtomicOperation, BranchOperation, ImmediateOperation, LoadOperation, RegisterOperation, ShiftOperation, StoreOperation, UpperOperation};
 
 /// A mnemonic: of a base instruction, of a pseudo-instruction, of a parcel.
 #[derive(Clone, Copy, Debug, PartialEq, Eq, Drop)]

@@ -22,9 +22,9 @@ ghost use Rattle.rv_text.specs.Expr.{begin_of, follow_of, stack_of, stage_of, St
 use crate::expr::Expr;
 use crate::front::{after_minus, after_number, after_symbol};
 use crate::node::{Node, Nodes, Symbol};
+use rv_fault::{SourceCode, SourceFault};
 use rv_isa::reg_named;
 use rv_lexer::{Cursor, LONGEST_NAME, Lexer, ReadError, TokenKind};
-use rv_fault::{SourceCode, SourceFault};
 use rv_text_laws::{BinaryOperator, Frame, Punct, UnaryOperator};
 use std::alloc::{AllocError, AllocFailed, Global};
 
