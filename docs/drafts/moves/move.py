@@ -268,7 +268,16 @@ class Mover:
         for n in names: line = re.sub(r"(?<![\w.'])" + re.escape(old) + r"\." + re.escape(n) + r"(?![\w'])", f"{new}.{n}", line)
         return line
 
+    def over_lines(self, m):
+        """An import over several lines: with its new module where all of it goes there, else on one line."""
+        names = [x.strip().partition(" as ")[0] for x in m[3].split(",") if x.strip()]
+        dsts = {self.place.get((m[2], n), m[2]) for n in names}
+        if dsts == {m[2]}: return m[0]
+        if len(dsts) == 1: return m[0].replace(m[2] + ".{", dsts.pop() + ".{", 1)
+        return f"{m[1]}use {m[2]}.{{" + ", ".join(x.strip() for x in m[3].split(",") if x.strip()) + "};"
+
     def rewrite_rt(self, path, text):
+        text = re.sub(r"^(\s*(?:pub |ghost |unfoldable )*)use (Rattle\.[\w.]+)\.\{\n([^}]*)\};", self.over_lines, text, flags=re.M)
         out, realias = [], []
         for l in text.split("\n"):
             if re.match(r"\s*(?:pub |ghost |unfoldable )*use Rattle\.", l) and USE.match(l):
@@ -294,6 +303,7 @@ class Mover:
                     if m + "." in l and re.search(r"\b" + re.escape(n) + r"\b", l): l = l.replace(m + ".", d + ".")
                 out.append(l)
             else: out.append(l)
+        out = [self.rewrite_paths(path, l) for l in out]
         for old, new, names in realias:
             out = [l if "use Rattle." in l else self.realias(l, old, new, names) for l in out]
         # one line for one module
@@ -311,6 +321,18 @@ class Mover:
                     at[k] = len(res)
             res.append(l)
         return "\n".join(res)
+
+    def rewrite_paths(self, path, line):
+        """The names in attributes: crate::specs::File::name."""
+        if "::specs::" not in line and "::proofs::" not in line: return line
+        here = path.relative_to(self.top / "crates").parts[0]
+        def one(m):
+            crate = here if m[1] == "crate" else m[1]
+            d = self.place.get((f"Rattle.{crate}.{m[2]}.{m[3].replace('::', '.')}", m[4]))
+            if not d: return m[0]
+            _, to, rest = d.split(".", 2)
+            return f"{'crate' if to == here else to}::{rest.replace('.', '::')}::{m[4]}"
+        return re.sub(r"(?<![\w:])(crate|rv_\w+)::(specs|proofs)::(\w+(?:::\w+)*)::([^\s:,()]+)", one, line)
 
     def lib(self, old, new):
         self.drop_lib(old); self.add_lib(new)

@@ -65,8 +65,10 @@ def check(t, only=None):
     for p, text in t.rt.items():
         c = p.relative_to(t.top / "crates").parts[0]
         if only and c not in only: continue
-        for l in text.splitlines():
+        for l in re.sub(r"use Rattle\.[^;]*;", lambda m: " ".join(m[0].split()).replace("{ ", "{").replace(", }", "}"), text).splitlines():
             if re.match(r"\s*(?:pub |ghost )*use Rattle\.", l) and USE.match(l): one(str(p.relative_to(t.top)), c, Import(l))
+            for m in re.finditer(r"\b(crate|rv_\w+)::((?:specs|proofs)(?:::[A-Z]\w*)+)::([^\s(),]+)", l if "#[tactic(" in l else ""):
+                one(str(p.relative_to(t.top)), c, Import("use Rattle." + ".".join((c if m[1] == "crate" else m[1], *m[2].split("::"))) + ".{" + m[3] + "}"))
     for c in t.order:
         has, wants = {x for x in t.line[c] if x.startswith("rv_")}, named_crates(t, c)
         if has != wants: faults.append(f"crates.txt: {c} wants {sorted(wants - has)}, has too many {sorted(has - wants)}")

@@ -46,16 +46,34 @@ for k, (text, f) in a.items():
     if len(c) > 1: c = [x for x in c if x[0].split(".")[-1] == k[0].split(".")[-1]] or c
     if len(c) != 1: faults.append(f"{k}: {len(c)} in AFTER: {c[:3]}")
     else: to[k] = c[0]
+# types of the code that went to another crate, each with the same text
+def types(t):
+    out = {}
+    for p, text in t.rt.items():
+        parts = p.relative_to(t.top / "crates").with_suffix("").parts
+        for m in re.finditer(r"^pub (?:enum|struct) (\w+)[^;{]*(?:;|\{.*?^\})", re.sub(r"\n#\[error.*", "", text), re.M | re.S):
+            out["Rattle." + parts[0] + ".specs.declared." + ".".join((*parts[2:], m[1]))] = (m[1], m[0])
+    return out
+types_a, types_b = types(A), types(B)
+gone = {}
+for k, x in types_a.items():
+    if k in types_b: continue
+    c = [y for y in types_b if y not in types_a and types_b[y] == x]
+    if len(c) == 1: gone[k] = c[0]
+    else: faults.append(f"type {k}: {len(c)} in AFTER: {c[:3]}")
+def type_of(module):
+    k = module.removesuffix(".TheVariants")
+    return gone[k] + module[len(k):] if k in gone else module
 def resolved(t, at):
     r = t.exists(*at) or at
     return r
-def mapped(at): 
+def mapped(at):
     if at in to: return to[at]
     f = A.antt.get(at[0])
     if f and at[1] in f.constructors():
         d = to.get((at[0], f.constructors()[at[1]]))
         if d: return (d[0], at[1])
-    return at
+    return (type_of(at[0]), at[1])
 cache = {}
 def table(t, f):
     if f.module not in cache.setdefault(id(t), {}): cache[id(t)][f.module] = (origins(t, f), f.own(), f.constructors())
@@ -79,7 +97,9 @@ for k, x in to.items():
     for n, m in al.items():
         for y in set(re.findall(r"(?<![^\s(){}\[\],;])" + re.escape(n) + r"\.([^\s(){}\[\],;.]+)", a[k][0])):
             want = mapped(A.exists(m, y) or (m, y))
+            if m.split(".")[-1] in ("Goals", "Given"):   # of the crate in which the answers stand
+                want = (want[0].replace(f".{a[k][1].crate}.", f".{b[x][1].crate}.", 1), y)
             got = [(B.exists(m2, y) or (m2, y)) for n2, m2 in al2.items() if re.search(r"(?<![^\s(){}\[\],;])" + re.escape(n2) + r"\." + re.escape(y) + r"(?![\w'-])", text2)]
             if want not in got and not (len(want[0].split(".")) > 3 and "declared" in want[0]): faults.append(f"{x}: {n}.{y} was {want}, is {got}")
 for f in faults: print(f)
-print(len(a), "items,", sum(1 for k, x in to.items() if k != x), "moved,", seen, "words looked at,", len(faults), "faults;", len(b) - len(to), "new items", [k for k in b if k not in set(to.values())][:5])
+print(len(a), "items,", sum(1 for k, x in to.items() if k != x), "moved,", seen, "words looked at,", len(gone), "types moved,", len(faults), "faults;", len(b) - len(to), "new items", [k for k in b if k not in set(to.values())][:5])
