@@ -15,6 +15,8 @@ ghost use Rattle.rv_isa_laws.specs.Reader.{Reader};
 ghost use Rattle.rv_isa_laws.specs.Run.{Fetched as laws_fetched, fetch as fetched_at, done};
 ghost use Rattle.rv_memory.specs.Rights.{IsWidth};
 ghost use Rattle.rv_machine.specs.Action.{effect_of, HasWidth, of_word, of_double};
+ghost use Rattle.rv_machine.specs.Asked.{IsAsked, IsAskedBy};
+ghost use Rattle.rv_machine.specs.declared.action.Action.TheVariants.{Break};
 ghost use Rattle.rv_machine.specs.End.{law_end};
 ghost use Rattle.rv_event_laws.specs.Event.{access, destination, set_to, sets, event_of};
 ghost use Rattle.rv_machine.specs.Fetch.{fetched_of};
@@ -77,7 +79,16 @@ pub struct Accesses {
 pub(crate) struct Look {
     pub pc: u64,
     pub fetched: Fetched,
+    /// What the instruction asks; where there is none, a breakpoint, which nobody does.
+    pub action: Action,
     pub accesses: Accesses,
+}
+
+/// What an instruction asks, and what that reads and writes, if it goes on.
+#[derive(Clone, Copy, Drop)]
+struct Asks {
+    action: Action,
+    accesses: Accesses,
 }
 
 /// The bytes that a call moved.
@@ -223,27 +234,46 @@ fn accesses_of<M: Memory>(action: Action, memory: &M) -> Accesses
     }
 }
 
-/// What an instruction of this length in bytes reads and writes, if it goes on.
+/// The same of an action that is used again.
 #[inline]
-fn asked_accesses<M: Memory>(inst: &Inst, bytes: u64, hart: &Hart, memory: &M) -> Accesses
-    ensures { (input console : List ℕ) →
+fn accesses_by<M: Memory>(action: &Action, memory: &M) -> Accesses
+    requires { HasWidth action.now }
+    ensures { (bytes : ℕ) (h : laws.Hart) →
+        AreSeen (apply (effect_of action.now bytes h) (M.mem memory.now))
+        (effect_of action.now bytes h) (M.mem memory.now) result }
+{
+    accesses_of(*action, memory)
+}
+
+/// What an instruction of this length in bytes asks, and what that reads and writes, if it goes on.
+#[inline]
+fn asked_accesses<M: Memory>(inst: &Inst, bytes: u64, hart: &Hart, memory: &M) -> Asks
+    ensures asked { IsAsked inst.now bytes hart.now result.action }
+    ensures seen { (input console : List ℕ) →
         let before = hart_of hart.now input console in
         let effect = effect_by inst.now bytes before in
-        AreSeen (apply effect (M.mem memory.now)) effect (M.mem memory.now) result }
+        AreSeen (apply effect (M.mem memory.now)) effect (M.mem memory.now) result.accesses }
 {
     let action = asked(*inst, bytes, hart);
-    accesses_of(action, memory)
+    let accesses = accesses_by(&action, memory);
+    Asks { action, accesses }
 }
 
 /// A look at what asks nothing.
 #[inline]
 fn without(pc: u64, fetched: Fetched) -> Look
     ensures { result
-        ≡ record { pc = pc; fetched = fetched; accesses = record { read = None; stored = None } } }
+        ≡ record {
+          pc = pc;
+          fetched = fetched;
+          action = Break;
+          accesses = record { read = None; stored = None };
+        } }
 {
     Look {
         pc,
         fetched,
+        action: Action::Break,
         accesses: Accesses {
             read: None,
             stored: None,
@@ -251,20 +281,22 @@ fn without(pc: u64, fetched: Fetched) -> Look
     }
 }
 
-/// Looks at what the next step reads and writes, if it goes on.
+/// Fetches the next instruction, and looks at what it reads and writes, if it goes on.
 pub(crate) fn look_at<M: Memory>(hart: &Hart, memory: &M) -> Look
-    ensures { (reader : Reader Spells StandsFor) (input console : List ℕ) →
+    ensures asked { IsAskedBy result.fetched hart.now result.action }
+    ensures look { (reader : Reader Spells StandsFor) (input console : List ℕ) →
         let before = hart_of hart.now input console in
         IsLook result (fetched_at reader (M.mem memory.now) before.pc) before (M.mem memory.now) }
 {
     let pc = hart.pc;
     match fetch(memory, pc) {
         Fetched::Got(inst, bytes) => {
-            let accesses = asked_accesses(&inst, bytes, hart, memory);
+            let asks = asked_accesses(&inst, bytes, hart, memory);
             Look {
                 pc,
                 fetched: Fetched::Got(inst, bytes),
-                accesses,
+                action: asks.action,
+                accesses: asks.accesses,
             }
         }
         Fetched::NoRight => without(pc, Fetched::NoRight),

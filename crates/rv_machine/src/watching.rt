@@ -163,6 +163,7 @@ pub fn run_watched<M: Memory + Drop, R: GuestIn, W: GuestOut, T: Watcher<M>>(
         }
         let look = look_at(&machine.hart, &machine.memory);
         match step_told(
+            &look,
             &mut machine.hart,
             &mut machine.memory,
             &mut machine.intake,

@@ -81,7 +81,7 @@ loop-left-preserved g c =
             told_on r far.5 c.args.limit c.loop-left.left start m0 before after c.loop-left.machine.hart m far.0 more.0 far.1 more.2 (far.7 r) more.1
             (c.loop-left.left - 1) (event_as c.went_on-event.result m') c.step_told.new.hart m' is
             (λ others follows. c.went_on-event.ensures (fetch r m c.loop-left.machine.hart.pc) (hart_of c.loop-left.machine.hart (more.0 ++ others) far.1) m others (far.1 ++ more.1) m'
-            (c.look_at-look.ensures r (more.0 ++ others) far.1) ((stepped_as _ _ more.0 more.1 _ (step r) (hart_of c.loop-left.machine.hart) (hart_of c.step_told.new.hart) m m' c.in-Ok-Went.field-0-is (more.5 r)) others far.1 follows)
+            (c.look_at-look.ensures.look r (more.0 ++ others) far.1) ((stepped_as _ _ more.0 more.1 _ (step r) (hart_of c.loop-left.machine.hart) (hart_of c.step_told.new.hart) m m' c.in-Ok-Went.field-0-is (more.5 r)) others far.1 follows)
             (moved_between c.in-Ok-Went.moved more.0 others far.1 more.1 m' (moved_as _ _ more.0 more.1 m' c.in-Ok-Went.field-0-is more.4)))
             (stepped_as _ _ more.0 more.1 _ (step r) (hart_of c.loop-left.machine.hart) (hart_of c.step_told.new.hart) m m' c.in-Ok-Went.field-0-is (more.5 r)),
         suc far.8,
@@ -117,7 +117,7 @@ returns-in-Err-after-clause-runs g c =
           (told_on r far.5 c.args.limit c.loop-left.left start m0 before after c.loop-left.machine.hart m far.0 more.0 far.1 more.2 (far.7 r) more.1
           (c.loop-left.left - 1) (event_as c.went_on-event.result m') c.step_told.new.hart m' is
           (λ others follows. c.went_on-event.ensures (fetch r m c.loop-left.machine.hart.pc) (hart_of c.loop-left.machine.hart (more.0 ++ others) far.1) m others (far.1 ++ more.1) m'
-          (c.look_at-look.ensures r (more.0 ++ others) far.1) ((stepped_as _ _ more.0 more.1 _ (step r) (hart_of c.loop-left.machine.hart) (hart_of c.step_told.new.hart) m m' c.in-Ok-Went.field-0-is (more.5 r)) others far.1 follows)
+          (c.look_at-look.ensures.look r (more.0 ++ others) far.1) ((stepped_as _ _ more.0 more.1 _ (step r) (hart_of c.loop-left.machine.hart) (hart_of c.step_told.new.hart) m m' c.in-Ok-Went.field-0-is (more.5 r)) others far.1 follows)
           (moved_between c.in-Ok-Went.moved more.0 others far.1 more.1 m' (moved_as _ _ more.0 more.1 m' c.in-Ok-Went.field-0-is more.4)))
           (stepped_as _ _ more.0 more.1 _ (step r) (hart_of c.loop-left.machine.hart) (hart_of c.step_told.new.hart) m m' c.in-Ok-Went.field-0-is (more.5 r))) rest may in
           (front.0, front.1, (suc far.8, omega (arith, far.9, is), reaches_next r far.8 start m0 before after c.loop-left.machine.hart c.step_told.new.hart m m' far.0 more.0 far.1 more.1 more.2 (far.10 r) (stepped_as _ _ more.0 more.1 _ (step r) (hart_of c.loop-left.machine.hart) (hart_of c.step_told.new.hart) m m' c.in-Ok-Went.field-0-is (more.5 r)) rest may)),
@@ -149,7 +149,7 @@ returns-in-Ok-after-2-clause-runs g c =
                 (c.loop-left.left - 1) c.in-Ok-Ended.end c.step_told.new.hart m' is over.0 over.1.0 over.1.1 rest may,
             told_over r far.5 c.args.limit c.loop-left.left start m0 before after c.loop-left.machine.hart m far.0 more.0 far.1 more.2 (far.7 r)
                 (c.loop-left.left - 1) (event_as c.ended-event.result m') (law_end c.in-Ok-Ended.end) is
-                (λ others follows. c.ended-event.ensures (fetch r m c.loop-left.machine.hart.pc) (hart_of c.loop-left.machine.hart (more.0 ++ others) far.1) m m' (c.look_at-look.ensures r (more.0 ++ others) far.1) (over.1.1 (more.0 ++ others) far.1).0)
+                (λ others follows. c.ended-event.ensures (fetch r m c.loop-left.machine.hart.pc) (hart_of c.loop-left.machine.hart (more.0 ++ others) far.1) m m' (c.look_at-look.ensures.look r (more.0 ++ others) far.1) (over.1.1 (more.0 ++ others) far.1).0)
                 (λ input console. (over.1.1 input console).0) rest may,
           ),
     )
