@@ -1,5 +1,7 @@
 -- The object of a source (gABI, "Sections", "Symbol Table", "Relocation"; RISC-V ELF psABI,
--- "Relocations"): what assembling is.
+-- "Relocations"): what assembling is. It is said of each section, templates in order and open
+-- fields, and not of windows of bytes, so that the law that joins assembler and linker is one
+-- induction.
 
 use Rattle.std.specs.Prelude.{◌≡◌, ℕ, suc, ◌+◌, ◌≤◌, true, false, ⊤, List, [], ◌∷◌, ◌++◌, flat_map, map, length, Option, Some, None, option_map, if◌then◌else◌}
 use Rattle.std.specs.List.{AllByRecursion, list_any, slice_get}

@@ -1,5 +1,7 @@
 -- The symbols of an object, in their order (gABI, "Symbol Table"; GNU as, "Symbols"): local ones,
--- those that the source makes global or weak, and those that it leaves undefined.
+-- those that the source makes global or weak, and those that it leaves undefined. A symbol without
+-- a name is placed at the first statement that a reference means at its section and offset, before
+-- that statement's own label; there is one for each place.
 
 use Rattle.std.specs.Prelude.{◌≡◌, ℕ, Bool, true, false, not, ◌&&◌, ◌==◌, List, [], ◌∷◌, ◌++◌, filter, flat_map, map, Option, Some, None, if◌then◌else◌, bytes_eq}
 use Rattle.std.specs.List.{find, list_any}

@@ -1,5 +1,6 @@
 -- The linked program of objects, whoever made them (gABI, "Sections", "Symbol Table", "Relocation";
--- GNU ld; this project's layout). Nothing here knows of statements.
+-- GNU ld; this project's layout). Nothing here knows of statements. A link needs a map that a text
+-- can show (`IsMap`): numbers below 2^64, so that no address wraps where the source's does not.
 
 use Rattle.std.specs.Prelude.{◌≡◌, ℕ, suc, ◌+◌, ◌-◌, ◌%◌, ◌<◌, ◌≤◌, nat_le, Bool, IsTrue, List, [], ◌∷◌, ◌++◌, length, map, Option, Some, None, if◌then◌else◌}
 use Rattle.std.specs.List.{AllByRecursion, list_any, list_all, slice_get}

@@ -1,4 +1,7 @@
 //! Where bytes stand in a table: positions in order, and the first of them from an offset on.
+//!
+//! A table of strings is searched once for the bytes that end a name or that no map shows, because reading each name to its
+//! end would take 10^12 steps for a million names that end in one long string.
 
 ghost use Rattle.std.specs.Prelude.{◌≡◌, ◌<◌, ◌≤◌, ℕ, Bool, List, nat_lt, length, slice_index};
 ghost use Rattle.std.specs.List.Sorted.{IsNonDecreasing, IsPartitionPoint};

@@ -1,7 +1,8 @@
 //! The rows of a map.
 //!
 //! A map has the rows of a file by their ordinals, and a reader of objects tests no order: rows that do not rise are
-//! sorted, and those of one ordinal keep their order.
+//! sorted, and those of one ordinal keep their order. A link without a map makes neither names nor rows, and still promises that
+//! its map has a text.
 
 ghost use Rattle.std.specs.Prelude.{◌≡◌, ◌+◌, ◌<◌, ◌++◌, ◌^◌, ℕ, Some, List, All, IfOk, OnOk, IsTrue, map};
 ghost use Rattle.std.specs.Bool.{OnTrue};

@@ -155,7 +155,8 @@ fn expanded_at(statement: &Statement<'_>, manner: Manner) -> Result<Templates, S
 /// At the statement's line the fault with the lowest number: E10 for a scratch register that is x0 or the one that is
 /// stored; E13 for an address where a constant has to stand; E14 for a constant out of its range, or in place of a target.
 /// Where nothing else is wrong, E9 for a part of a value in a field that takes none, and for a parcel with registers or an
-/// operand that it does not take. Never want of memory.
+/// operand that it does not take. Never want of memory. A form has no fault of an expression, because whoever evaluates the
+/// expression reports that.
 pub fn expansion(statement: &Statement<'_>, form: Form) -> Result<Templates, SourceFault>
     ensures { IsExpansion
         (is.faults_by (is.manner_of form) (statement_kind (statement.now).kind))

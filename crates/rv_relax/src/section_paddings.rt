@@ -1,4 +1,6 @@
 //! What is kept of the paddings of a section.
+//!
+//! A padding of no bytes counts for nothing: it may be inside another padding or a field, as GNU as writes it with `.reloc`.
 
 ghost use Rattle.std.specs.Prelude.{◌≡◌, ◌++◌, IsTrue, IfOk, OnOk};
 ghost use Rattle.std.specs.List.{list_all};

@@ -1,6 +1,7 @@
 //! The statements of a source, as they are kept.
 //!
-//! A source may have 4 million of them: one of registers alone and a numeric label take 12 bytes, any other 52.
+//! A source may have 4 million of them: one of registers alone and a numeric label take 12 bytes, any other 52, since 16 for all of
+//! them cost more instructions. Callers who want a slice take a plain vector, by `parse`.
 
 ghost use Rattle.std.specs.Prelude.{◌≡◌, ◌<◌, ◌≤◌, ◌^◌, ◌==◌, ◌++◌, [], ◌∷◌, Some, length, map, IsTrue, IfOk, OnOk, OnErr};
 ghost use Rattle.std.specs.List.{slice_get, list_all};

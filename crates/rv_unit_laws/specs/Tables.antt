@@ -337,7 +337,8 @@ padding None offset = 0
 padding (Some alignment) offset = aligned alignment offset - offset
 
 -- the bytes that a contribution has at an offset of data: none where they would pass the longest
--- section, or where a count or an alignment is faulty
+-- section, or where a count or an alignment is faulty. The statement of data that would pass it is
+-- refused, so no end of a section passes 32 bits.
 abbrev pub contributed : (Expression → Value) → ℕ → Contribution → ℕ
 contributed v offset Nothing = 0
 contributed v offset (Bytes contents) = within offset (contents_size contents)
