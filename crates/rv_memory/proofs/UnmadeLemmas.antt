@@ -1,13 +1,13 @@
 -- The part of the stack that is not made yet: what a memory has with it, and that it has the same when a segment gets it.
 
-use Rattle.std.proofs.Common.{◌≡◌, ◌≢◌, ℕ, zero, suc, ◌+◌, ◌*◌, ◌-◌, ◌%◌, ◌^◌, ◌≤◌, ◌<◌, nat_le, nat_lt, Bool, true, false, ◌&&◌, ◌||◌, cond, inl, inr, List, [], ◌∷◌, ◌++◌, Option, Some, None, length, length-append, length-set, replicate, get_or, set, slice_get, map, IfSome, MatchBool, refl, ap, sym, subst, ◌∙◌, arith}
+use Rattle.std.proofs.Common.{◌≡◌, ℕ, zero, suc, ◌+◌, ◌-◌, ◌%◌, ◌^◌, ◌≤◌, ◌<◌, Bool, true, false, ◌&&◌, ◌||◌, cond, inl, inr, List, [], ◌∷◌, ◌++◌, Option, Some, None, length, length-append, length-set, replicate, get_or, set, slice_get, map, IfSome, MatchBool, refl, ap, sym, subst, ◌∙◌, arith}
 use Rattle.std.proofs.lemmas.Bool.{and_parts, cases_eq, cases_lt}
 use Rattle.std.proofs.lemmas.Bool.Decides.{nat_tests}
 use Rattle.std.proofs.lemmas.List.{map-set, length-replicate, get_or-set_same, get_or-set_other, get_or-append-add}
-use Rattle.std.proofs.lemmas.Option.{slice_get-get_or, get_or_from_slice_get}
+use Rattle.std.proofs.lemmas.Option.{slice_get-get_or}
 use Rattle.std.proofs.Math.Path.{fun_ext}
-use Rattle.rv_isa_laws.specs.Memory.{Mem, Right, Read, Write, Execute, may, bytes_at, number_at, with_byte, with_bytes}
-use Rattle.rv_isa_laws.specs.Platform.{stack_start, stack_end}
+use Rattle.rv_isa_laws.specs.Memory.{Mem, Right, Read, Write, Execute, may, with_byte, with_bytes}
+use Rattle.rv_isa_laws.specs.Platform.{stack_start}
 use Rattle.rv_image_laws.specs.Segment.{Segment}
 use Rattle.rv_image.specs.SegmentView.{segment_of}
 use Rattle.rv_image.specs.declared.segment.Segment.{Segment as DeclaredSegment}
@@ -59,14 +59,6 @@ may-unmade m base a (suc n) r h =
 pub right-lifts : {A : Type 0} (o : Option A) (m : Mem) (base a n : ℕ) (r : Right) → IfSome o (λ _. may m a n r ≡ true) → IfSome o (λ _. may (with_unmade base m) a n r ≡ true)
 right-lifts None m base a n r h = h
 right-lifts (Some x) m base a n r h = may-unmade m base a n r h
-
-pub bytes-unmade : (m : Mem) (base a n : ℕ) → bytes_at (with_unmade base m) a n ≡ bytes_at m a n
-bytes-unmade m base a zero = refl
-bytes-unmade m base a (suc n) = ap (λ (bs : List ℕ). m.byte (a % 2 ^ 64) ∷ bs) (bytes-unmade m base (a + 1) n)
-
-pub number-unmade : (m : Mem) (base a n : ℕ) → number_at (with_unmade base m) a n ≡ number_at m a n
-number-unmade m base a zero = refl
-number-unmade m base a (suc n) = ap (λ (v : ℕ). m.byte (a % 2 ^ 64) + 256 * v) (number-unmade m base (a + 1) n)
 
 pub put-unmade : (m : Mem) (base a : ℕ) (bs : List ℕ) → with_unmade base (with_bytes m a bs) ≡ with_bytes (with_unmade base m) a bs
 put-unmade m base a [] = refl
@@ -218,7 +210,7 @@ zeros-front (suc z) (suc k) bs low = zeros-front z k bs (omega (arith, low))
 
 zeros-behind : (z k n : ℕ) (bs : List ℕ) → n ≡ z + k → get_or (replicate z 0 ++ bs) n 0 ≡ get_or bs k 0
 zeros-behind z k n bs is =
-    let place : length (replicate z 0) + k ≡ n = omega (arith, length-replicate z 0, is) in
+    let place : length (replicate z 0) + k ≡ n = omega (arith, length-replicate {A = ℕ} z 0, is) in
     ap (λ (j : ℕ). get_or (replicate z 0 ++ bs) j 0) (sym place) ∙ get_or-append-add (replicate z 0) bs k 0
 
 -- the byte and the right of an address, whether the longer segment holds it

@@ -5,7 +5,6 @@ use Rattle.std.specs.List.{list_any}
 use Rattle.rv_image_laws.specs.Segment.{Segment, do_meet}
 use Rattle.rv_memory.specs.Flat.{no_segment}
 use Rattle.rv_memory.specs.declared.page.Page.{Page}
-use Rattle.rv_memory.specs.declared.page.PageRights.{PageRights}
 use Rattle.rv_memory.specs.declared.page.PageRights.TheVariants.{Same, Mixed}
 
 -- segments with bytes, by ascending addresses

@@ -1,4 +1,4 @@
-use Rattle.std.proofs.Common.{Ok, Err, ◌-◌, map, length, rules, arith}
+use Rattle.std.proofs.Common.{Ok, Err, ◌-◌, map, rules, arith}
 use Rattle.std.proofs.lemmas.List.{length-map}
 use Rattle.std.proofs.lemmas.List.Sorted.{answers_always}
 use Rattle.rv_image.specs.SegmentView.{segment_of}

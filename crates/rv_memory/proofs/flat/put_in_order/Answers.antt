@@ -1,11 +1,7 @@
-use Rattle.std.proofs.Common.{◌≡◌, ◌≤◌, ◌<◌, ◌∙◌, ℕ, List, ap, sym, subst, rules, map, length, get_or, arith}
-use Rattle.std.specs.List.Sorted.{IsNonDecreasingBy}
-use Rattle.std.proofs.lemmas.List.{length-map, get_or-map}
+use Rattle.std.proofs.Common.{◌<◌, rules, length}
 use Rattle.std.proofs.lemmas.List.Sorted.{All-permutation, IsPermutation-map, IsNonDecreasingBy-from_sort, answers_always}
-use Rattle.rv_image_laws.specs.Segment.{Segment}
 use Rattle.rv_image.specs.SegmentView.{segment_of}
 use Rattle.rv_image.specs.declared.segment.Segment.{Segment as DeclaredSegment}
-use Rattle.rv_memory.specs.Flat.{no_segment}
 use Rattle.rv_memory.proofs.OrderLemmas.{permuted-kept, ordered-is}
 use Rattle.rv_memory.proofs.flat.put_in_order.Goals as goal
 

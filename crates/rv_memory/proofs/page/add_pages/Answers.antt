@@ -1,8 +1,7 @@
-use Rattle.std.proofs.Common.{◌≡◌, ◌<◌, ◌+◌, ◌-◌, ◌/◌, ◌∙◌, ℕ, sym, ap, map, take, length, get_or, arith}
+use Rattle.std.proofs.Common.{◌≡◌, ◌<◌, ◌+◌, ◌-◌, ◌/◌, ◌∙◌, sym, ap, map, take, length, arith}
 use Rattle.std.proofs.lemmas.List.{length-map}
 use Rattle.rv_image_laws.specs.Segment.{Segment}
 use Rattle.rv_image.specs.SegmentView.{segment_of}
-use Rattle.rv_memory.specs.Flat.{no_segment}
 use Rattle.rv_memory.proofs.FlatLemmas.{element-or}
 use Rattle.rv_memory.proofs.PageLemmas.{more-start, more-next, more-all, right-take}
 use Rattle.rv_memory.proofs.page.add_pages.Goals as goal

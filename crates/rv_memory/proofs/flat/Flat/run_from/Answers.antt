@@ -1,4 +1,4 @@
-use Rattle.std.proofs.Common.{◌≡◌, true, false, arith}
+use Rattle.std.proofs.Common.{◌≡◌, true, false}
 use Rattle.rv_memory.specs.Rights.{right_of}
 use Rattle.rv_image_laws.specs.Memory.{gives_right}
 use Rattle.rv_memory.proofs.FlatLemmas.{placed}
