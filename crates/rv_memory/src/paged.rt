@@ -1,8 +1,9 @@
 //! A memory that keeps pages of 4096 bytes, and of the stack no more than is used.
 //!
-//! A list has every page of the image and of the stack by ascending numbers, each with its rights: one for the whole page
-//! where all of its bytes agree, else those of its segments. A look-up is a binary search. The bytes of neighbouring pages
-//! lie one after the other in their segment, where the image had them, so none is copied.
+//! A list has every page of the image by ascending numbers, each with its rights: one for the whole page where all of its
+//! bytes agree, else those of its segments. A look-up is a binary search; it tries the stack first, whose pages need not be
+//! in the list. The bytes of neighbouring pages lie one after the other in their segment, where the image had them, so
+//! none is copied.
 //!
 //! At the start the stack's segment has only the last of its bytes. Below are zeros that no segment has: a load reads them
 //! as they are, and the first store there has the segment begin at the stack's start. The room for that is asked for at
