@@ -55,9 +55,9 @@ def building():
 
 def relaxation():
     """Links that shorten calls."""
-    heads = ["What", "By", "Time of the largest", "Exponent", "Bytes of text left"]
+    heads = ["What", "By", "Time of the largest", "Exponent"]
     rows = [
-        [it["what"], it["tool"], f"{it['seconds'][-1]:.2f} s", f"{it['exponent']:.2f}", f"{it['bytes']:,}"]
+        [it["what"], it["tool"], f"{it['seconds'][-1]:.2f} s", f"{it['exponent']:.2f}"]
         for it in of("run", "relaxation")
     ]
     return table(heads, rows)
