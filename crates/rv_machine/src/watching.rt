@@ -63,14 +63,14 @@ pub enum WatchFault {
 
 /// A hart over a memory that can be looked at between its steps. Its calls use streams.
 #[derive(Drop)]
-pub struct Watched<M: Memory + Drop> {
+pub struct Watched<M: Memory> {
     hart: Hart,
     memory: M,
     intake: Intake,
 }
 
 /// Who is told what each step of a machine did, and looks at the machine before and after it.
-pub trait Watcher<M: Memory + Drop> {
+pub trait Watcher<M: Memory> {
     /// That the watcher shows exactly these events, in its own words.
     ghost has_seen: { Self → List Event → Type 0 };
 
@@ -86,7 +86,7 @@ pub trait Watcher<M: Memory + Drop> {
             → has_seen self.new (past ++ (event_as event.now (M.mem machine.now.memory) ∷ []))) };
 }
 
-impl<M: Memory + Drop> Watched<M> {
+impl<M: Memory> Watched<M> {
     /// A machine before its first step: registers 0 but sp, at an entry.
     pub fn new(memory: M, entry: u64) -> Self
         ensures hart { (input : List ℕ) → hart_of result.hart input [] ≡ start entry input }
@@ -129,7 +129,7 @@ impl<M: Memory + Drop> Watched<M> {
 }
 
 /// Runs a machine, at most `limit` instructions, and tells a watcher the event of each step.
-pub fn run_watched<M: Memory + Drop, R: GuestIn, W: GuestOut, T: Watcher<M>>(
+pub fn run_watched<M: Memory, R: GuestIn, W: GuestOut, T: Watcher<M>>(
     machine: &mut Watched<M>,
     reader: &mut R,
     writer: &mut W,

@@ -62,7 +62,7 @@ impl Counts {
 
 /// The instruction at the pc, where there is one.
 #[inline]
-fn visited_at<M: Memory + Drop>(
+fn visited_at<M: Memory>(
     instructions: &mut VisitedInstructions,
     machine: &Watched<M>,
 ) -> Result<Option<usize>, AllocError> {
@@ -75,7 +75,7 @@ fn visited_at<M: Memory + Drop>(
 
 /// Counts what an instruction did; `called` says whether the one before was a call.
 #[inline]
-fn note<M: Memory + Drop>(
+fn note<M: Memory>(
     instructions: &mut VisitedInstructions,
     current: Option<usize>,
     called: bool,
@@ -102,7 +102,7 @@ fn note<M: Memory + Drop>(
 
 /// Whether an instruction was a branch that was taken; it changed no register.
 #[inline]
-fn takes<M: Memory + Drop>(inst: Inst, machine: &Watched<M>) -> bool {
+fn takes<M: Memory>(inst: Inst, machine: &Watched<M>) -> bool {
     match inst.format() {
         Format::Branch(operation, x) => {
             is_taken(operation, machine.register(x.rs1), machine.register(x.rs2))
@@ -134,7 +134,7 @@ fn lower(lowest: u64, sp: u64) -> u64 {
     }
 }
 
-impl<M: Memory + Drop> Watcher<M> for Counts {
+impl<M: Memory> Watcher<M> for Counts {
     ghost has_seen = { λ counts seen. counts.totals ≡ totals_of seen };
 
     #[inline]

@@ -33,7 +33,7 @@ impl Latest {
     }
 }
 
-impl<M: Memory + Drop> Watcher<M> for Latest {
+impl<M: Memory> Watcher<M> for Latest {
     ghost has_seen = { λ latest seen. latest.count ≡ length seen % 2 ^ 64 };
 
     #[inline]
@@ -99,7 +99,7 @@ fn add_bounds(bounds: &mut Vec<Bounds>, image: &Image) -> Result<(), AllocError>
 
 /// Why a run ended that the guest did not end by an exit: the instruction at pc, the access that failed, the registers, the
 /// segments and the latest instructions.
-pub fn report_text<M: Memory + Drop>(
+pub fn report_text<M: Memory>(
     alloc: Global,
     machine: &Watched<M>,
     latest: &Latest,
@@ -117,7 +117,7 @@ pub fn report_text<M: Memory + Drop>(
 }
 
 /// Adds the lines of the instruction at pc.
-fn put_at<M: Memory + Drop>(
+fn put_at<M: Memory>(
     text: &mut Vec<u8>,
     machine: &Watched<M>,
     places: &Places<'_>,
@@ -133,7 +133,7 @@ fn put_at<M: Memory + Drop>(
 }
 
 /// Adds the lines of the registers.
-fn put_registers<M: Memory + Drop>(
+fn put_registers<M: Memory>(
     text: &mut Vec<u8>,
     machine: &Watched<M>,
     places: &Places<'_>,
@@ -155,7 +155,7 @@ fn put_segments(text: &mut Vec<u8>, segments: &Segments) -> Result<(), AllocErro
 }
 
 /// Adds the line of an address: its symbol, and the instruction that stands there.
-fn put_place<M: Memory + Drop>(
+fn put_place<M: Memory>(
     text: &mut Vec<u8>,
     machine: &Watched<M>,
     places: &Places<'_>,
@@ -179,7 +179,7 @@ fn put_place<M: Memory + Drop>(
 }
 
 /// Adds the access that failed, where one did.
-fn put_failed<M: Memory + Drop>(
+fn put_failed<M: Memory>(
     text: &mut Vec<u8>,
     machine: &Watched<M>,
     segments: &Segments,
@@ -223,7 +223,7 @@ fn put_why(
 }
 
 /// What a failed access was, and its bytes.
-fn failed<M: Memory + Drop>(end: &End, machine: &Watched<M>) -> Option<(&'static str, u64)> {
+fn failed<M: Memory>(end: &End, machine: &Watched<M>) -> Option<(&'static str, u64)> {
     match end {
         End::FetchOutside(_) => Some(("fetch", 2)),
         End::LoadText(_)
@@ -246,12 +246,12 @@ fn failed<M: Memory + Drop>(end: &End, machine: &Watched<M>) -> Option<(&'static
 }
 
 /// The instruction at pc.
-fn inst_at<M: Memory + Drop>(machine: &Watched<M>) -> Option<Inst> {
+fn inst_at<M: Memory>(machine: &Watched<M>) -> Option<Inst> {
     inst_of(bits_at(machine.memory(), machine.pc())?)
 }
 
 /// Adds a register: its name, its value, and the symbol that it points into.
-fn put_register<M: Memory + Drop>(
+fn put_register<M: Memory>(
     text: &mut Vec<u8>,
     machine: &Watched<M>,
     places: &Places<'_>,
@@ -298,7 +298,7 @@ fn rights(flags: u32) -> &'static str {
 }
 
 /// Adds the lines of the latest instructions, the last one at the end.
-fn put_latest<M: Memory + Drop>(
+fn put_latest<M: Memory>(
     text: &mut Vec<u8>,
     machine: &Watched<M>,
     latest: &Latest,

@@ -170,7 +170,7 @@ fn put_rest(text: &mut Vec<u8>, start: usize, rest: &[u8]) -> Result<(), AllocEr
     Ok(())
 }
 
-impl<M: Memory + Drop, L: Write> Watcher<M> for Trace<'_, L> {
+impl<M: Memory, L: Write> Watcher<M> for Trace<'_, L> {
     // what the lines say of the events is tested
     ghost has_seen = { λ _ _. ⊤ };
 
