@@ -99,6 +99,7 @@ pub known-still : (ss ts : List Segment) (pages : List Page) (code stack low wri
 known-still ss ts pages code stack low written n alike known = record {
   ordered = ordered-still ss ts alike known.ordered;
   listed = pages-still ss ts _ pages alike known.listed;
+  stack_listed = known.stack_listed;
   code_executes = quick-still ss ts 0 code Execute alike known.code_executes;
   code_ends = λ some. alike-rights _ Execute ss ts alike ∙ known.code_ends some;
   stack_reads = quick-still ss ts _ stack _ alike known.stack_reads;

@@ -16,11 +16,13 @@ use Rattle.rv_image_laws.specs.Segment.{Segment}
 use Rattle.rv_isa_laws.specs.Memory.{Right, Read, Write, Execute}
 use Rattle.rv_image_laws.specs.Memory.{lies_in, segment_at, gives_right, right_in}
 use Rattle.rv_memory.specs.Flat.{AreDisjoint, no_segment}
-use Rattle.rv_memory.specs.Pages.{AreOrdered, has_byte_on, is_listed, is_reached, with_page, no_page, AreAscending, HoldsPage, IsRight, ArePages, AreListed}
+use Rattle.rv_memory.specs.Pages.{AreOrdered, has_byte_on, is_listed, is_reached, with_page, no_page, AreAscending, HoldsPage, IsRight, AreRight, ArePages, AreListed}
+use Rattle.rv_memory.specs.Unmade.{IsGap, deep, deeper}
 use Rattle.rv_memory.specs.declared.page.Page.{Page}
 use Rattle.rv_memory.specs.declared.page.PageRights.TheVariants.{Same}
 use Rattle.rv_memory.proofs.FlatLemmas.{holds-range, range-holds, held-segment}
 use Rattle.rv_memory.proofs.OrderLemmas.{searched, apart-at, none-found}
+use Rattle.rv_memory.proofs.UnmadeLemmas.{address-at, address-other, size-at, size-other, other-at, same-at, deep-count, long-deeper, holds-deep}
 
 rising : (pages : List Page) → AreAscending pages → IsNonDecreasingBy (λ (page : Page). page.number) pages
 rising pages up = IsNonDecreasingBy-from_default (λ (page : Page). page.number) pages no_page
@@ -276,13 +278,50 @@ gives-low flags Execute = let e : flags % 8 % 2 ≡ flags % 2 = omega arith in a
 gives-low flags Write = let e : flags % 8 / 2 % 2 ≡ flags / 2 % 2 = omega arith in ap (λ (n : ℕ). n == 1) e
 gives-low flags Read = let e : flags % 8 / 4 % 2 ≡ flags / 4 % 2 = omega arith in ap (λ (n : ℕ). n == 1) e
 
--- the pages of segments are those of all but one
-pub pages-listed : (ss : List Segment) (i : ℕ) (pages : List Page) → ArePages ss pages → AreListed ss i pages
-pages-listed ss i pages are = record {
+-- the pages of the segments, one of which has more in front, are those of all but that one
+pub pages-listed : (ss : List Segment) (i start : ℕ) (pages : List Page) → IsGap ss i start → ArePages (deep ss i start) pages → AreRight ss pages → AreListed ss i pages
+pages-listed ss i start pages gap are right = record {
   ascending = are.ascending;
-  all = λ k n other within byte. are.all n ∙ list_any_at _ ss k no_segment within byte;
-  right = are.right;
+  all = λ k n other within byte.
+      are.all n ∙ list_any_at _ (deep ss i start) k no_segment (omega (arith, within, deep-count ss i start)) (ap (λ (u : Segment). has_byte_on n u) (other-at ss i start k other) ∙ byte);
+  right = right;
 }
+
+-- and of the whole of that one
+pub deep-pages : (ss : List Segment) (i start n : ℕ) (pages : List Page) → IsGap ss i start → ArePages (deep ss i start) pages →
+    start ≤ 4096 * n → 4096 * n < (get_or ss i no_segment).address + length (get_or ss i no_segment).bytes → is_listed n pages ≡ true
+deep-pages ss i start n pages gap are low high =
+    let s : Segment = get_or ss i no_segment in
+    let byte : has_byte_on n (deeper start s) ≡ true = (let size = long-deeper s start in let under = gap.low in grind (arith, nat_tests)) in
+    are.all n ∙ list_any_at _ (deep ss i start) i no_segment (omega (arith, gap.within, deep-count ss i start))
+    (ap (λ (u : Segment). has_byte_on n u) (same-at ss i i (deeper start s) gap.within refl) ∙ byte)
+
+-- where a segment begins and ends, with more in front of one
+pub deep-start : (ss : List Segment) (i start j : ℕ) → IsGap ss i start → j ≡ i → start ≡ (get_or (deep ss i start) j no_segment).address
+deep-start ss i start j gap same = sym (address-at ss i start j gap.within same)
+
+pub deep-end : (ss : List Segment) (i start j : ℕ) → IsGap ss i start →
+    (get_or (deep ss i start) j no_segment).address + length (get_or (deep ss i start) j no_segment).bytes ≡ (get_or ss j no_segment).address + length (get_or ss j no_segment).bytes
+deep-end ss i start j gap = elim (cases_eq j i) [
+  | inl same ↦
+      let here : (get_or ss j no_segment) ≡ get_or ss i no_segment = ap (λ (k : ℕ). get_or ss k no_segment) same in
+      rw here (let address = address-at ss i start j gap.within same in let size = size-at ss i start j gap.within same in omega (arith, address, size, gap.low))
+  | inr other ↦ ap (λ (u : Segment). u.address + length u.bytes) (other-at ss i start j other)
+]
+
+-- a page put behind others is right, as they are
+right-by : (b : Bool) (ss : List Segment) (pages : List Page) (page : Page) → AreRight ss pages → IsRight ss page → AreRight ss (cond b pages (pages ++ (page ∷ [])))
+right-by true ss pages page before right k within = before k within
+right-by false ss pages page before right k within = elim (cases_lt k (length pages)) [
+  | inl low ↦ rw (put-first pages page k low) (before k low)
+  | inr past ↦ rw (put-last pages page k (omega (arith, past, within, long pages page))) right
+]
+
+pub right-next : (ss : List Segment) (pages : List Page) (page : Page) → AreRight ss pages → IsRight ss page → AreRight ss (with_page page pages)
+right-next ss pages page before right = right-by (is_reached page.number pages) ss pages page before right
+
+pub right-deep : (ss : List Segment) (i start : ℕ) (page : Page) → IsGap ss i start → IsRight ss page → IsRight (deep ss i start) page
+right-deep ss i start page gap right flags j says = holds-deep ss i start page.number flags j gap (right flags j says)
 
 -- an address whose page is not listed lies in no segment but that one
 pub not-listed : (ss : List Segment) (i : ℕ) (pages : List Page) (x : ℕ) → AreListed ss i pages → lies_in (get_or ss i no_segment) x ≡ false →

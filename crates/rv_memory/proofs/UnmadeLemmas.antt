@@ -14,7 +14,7 @@ use Rattle.rv_image.specs.declared.segment.Segment.{Segment as DeclaredSegment}
 use Rattle.rv_image_laws.specs.Memory.{lies_in, segment_at, byte_in, right_in, gives_right}
 use Rattle.rv_memory.specs.Flat.{memory_of, AreDisjoint, no_segment}
 use Rattle.rv_memory.specs.Pages.{AreOrdered, AreListed, HoldsPage, has_byte_on}
-use Rattle.rv_memory.specs.Unmade.{lies_unmade, in_unmade, with_unmade, IsUnmade, deeper}
+use Rattle.rv_memory.specs.Unmade.{lies_unmade, in_unmade, with_unmade, IsUnmade, IsGap, deep, deeper}
 use Rattle.rv_memory.specs.declared.page.Page.{Page}
 use Rattle.rv_memory.proofs.NewLemmas.{or-true}
 use Rattle.rv_memory.proofs.FlatLemmas.{element-or, holds-range, range-holds, held-segment, same-memory}
@@ -101,17 +101,6 @@ pub set-lifts : (b : Bool) (m n : Mem) (base a : ℕ) (bs : List ℕ) → MatchB
 set-lifts true m n base a bs put = ap (λ (k : Mem). with_unmade base k) put ∙ put-unmade m base a bs
 set-lifts false m n base a bs same = ap (λ (k : Mem). with_unmade base k) same
 
--- between an address and the segment at an index, which begins above, no segment lies
-pub record IsGap (ss : List Segment) (i start : ℕ) : Type 0 where
-  pub apart : AreDisjoint ss
-  pub within : i < length ss
-  pub low : start ≤ (get_or ss i no_segment).address
-  pub free : (x : ℕ) → start ≤ x → x < (get_or ss i no_segment).address → segment_at ss x ≡ None
-
--- the segments, where the one at the index begins at the address
-abbrev pub deep : List Segment → ℕ → ℕ → List Segment
-deep ss i start = set ss i (deeper start (get_or ss i no_segment))
-
 pub deeper-is : (s : Segment) (start : ℕ) (bs room : List ℕ) → room ≡ replicate (s.address - start) 0 ++ bs → bs ≡ s.bytes →
     record { address = start; bytes = room; flags = s.flags } ≡ deeper start s
 deeper-is s start bs room is same =
@@ -122,17 +111,17 @@ pub segments-deep : (xs : List DeclaredSegment) (i start : ℕ) (s t : DeclaredS
 segments-deep xs i start s t within is new =
     map-set segment_of xs i t ∙ ap (set (map segment_of xs) i) (new ∙ ap (λ (u : Segment). deeper start u) (sym (element-or xs i s within is)))
 
-long : (s : Segment) (start : ℕ) → length (deeper start s).bytes ≡ (s.address - start) + length s.bytes
-long s start =
+pub long-deeper : (s : Segment) (start : ℕ) → length (deeper start s).bytes ≡ (s.address - start) + length s.bytes
+long-deeper s start =
     length-append (replicate (s.address - start) 0) s.bytes ∙ ap (λ (n : ℕ). n + length s.bytes) (length-replicate (s.address - start) 0)
 
 deep-range : (s : Segment) (start x : ℕ) → start ≤ s.address → lies_in (deeper start s) x ≡ true → (start ≤ x) × (x < s.address + length s.bytes)
 deep-range s start x low h =
     let range = holds-range (deeper start s) x h in
-    (range.0, omega (arith, range.1, long s start, low))
+    (range.0, omega (arith, range.1, long-deeper s start, low))
 
 range-deep : (s : Segment) (start x : ℕ) → start ≤ s.address → start ≤ x → x < s.address + length s.bytes → lies_in (deeper start s) x ≡ true
-range-deep s start x low above high = range-holds (deeper start s) x above (omega (arith, high, long s start, low))
+range-deep s start x low above high = range-holds (deeper start s) x above (omega (arith, high, long-deeper s start, low))
 
 set-at : (ss : List Segment) (i : ℕ) (t : Segment) → i < length ss → slice_get (set ss i t) i ≡ Some t
 set-at [] i t low = absurd (omega (arith, low))
@@ -293,7 +282,7 @@ deep-memory ss i base apart is =
     ∙ same-memory (memory_of (deep ss i stack_start)) (with_unmade s.address (memory_of ss)) bytes rights
     ∙ ap (λ (a : ℕ). with_unmade a (memory_of ss)) is.top.starts
 
-same-at : (ss : List Segment) (i j : ℕ) (t : Segment) → i < length ss → j ≡ i → get_or (set ss i t) j no_segment ≡ t
+pub same-at : (ss : List Segment) (i j : ℕ) (t : Segment) → i < length ss → j ≡ i → get_or (set ss i t) j no_segment ≡ t
 same-at ss i j t within same = ap (λ (k : ℕ). get_or (set ss i t) k no_segment) same ∙ get_or-set_same ss i t no_segment within
 
 -- segments below begin at the address or below
@@ -313,33 +302,33 @@ below-gap ss i start j gap ordered other low =
       | inr under ↦ under
     ]
 
-address-at : (ss : List Segment) (i start j : ℕ) → i < length ss → j ≡ i → (get_or (deep ss i start) j no_segment).address ≡ start
+pub address-at : (ss : List Segment) (i start j : ℕ) → i < length ss → j ≡ i → (get_or (deep ss i start) j no_segment).address ≡ start
 address-at ss i start j within same = ap (λ (u : Segment). u.address) (same-at ss i j (deeper start (get_or ss i no_segment)) within same)
 
-size-at : (ss : List Segment) (i start j : ℕ) → i < length ss → j ≡ i →
+pub size-at : (ss : List Segment) (i start j : ℕ) → i < length ss → j ≡ i →
     length (get_or (deep ss i start) j no_segment).bytes ≡ ((get_or ss i no_segment).address - start) + length (get_or ss i no_segment).bytes
 size-at ss i start j within same =
-    ap (λ (u : Segment). length u.bytes) (same-at ss i j (deeper start (get_or ss i no_segment)) within same) ∙ long (get_or ss i no_segment) start
+    ap (λ (u : Segment). length u.bytes) (same-at ss i j (deeper start (get_or ss i no_segment)) within same) ∙ long-deeper (get_or ss i no_segment) start
 
 flags-at : (ss : List Segment) (i start j : ℕ) → i < length ss → j ≡ i → (get_or (deep ss i start) j no_segment).flags ≡ (get_or ss i no_segment).flags
 flags-at ss i start j within same = ap (λ (u : Segment). u.flags) (same-at ss i j (deeper start (get_or ss i no_segment)) within same)
 
-other-at : (ss : List Segment) (i start j : ℕ) → (j ≡ i → ⊥) → get_or (deep ss i start) j no_segment ≡ get_or ss j no_segment
+pub other-at : (ss : List Segment) (i start j : ℕ) → (j ≡ i → ⊥) → get_or (deep ss i start) j no_segment ≡ get_or ss j no_segment
 other-at ss i start j other = get_or-set_other ss i j (deeper start (get_or ss i no_segment)) no_segment other
 
-address-other : (ss : List Segment) (i start j : ℕ) → (j ≡ i → ⊥) → (get_or (deep ss i start) j no_segment).address ≡ (get_or ss j no_segment).address
+pub address-other : (ss : List Segment) (i start j : ℕ) → (j ≡ i → ⊥) → (get_or (deep ss i start) j no_segment).address ≡ (get_or ss j no_segment).address
 address-other ss i start j other = ap (λ (u : Segment). u.address) (other-at ss i start j other)
 
-size-other : (ss : List Segment) (i start j : ℕ) → (j ≡ i → ⊥) → length (get_or (deep ss i start) j no_segment).bytes ≡ length (get_or ss j no_segment).bytes
+pub size-other : (ss : List Segment) (i start j : ℕ) → (j ≡ i → ⊥) → length (get_or (deep ss i start) j no_segment).bytes ≡ length (get_or ss j no_segment).bytes
 size-other ss i start j other = ap (λ (u : Segment). length u.bytes) (other-at ss i start j other)
 
-count : (ss : List Segment) (i start : ℕ) → length (deep ss i start) ≡ length ss
-count ss i start = length-set {A = Segment} ss i (deeper start (get_or ss i no_segment))
+pub deep-count : (ss : List Segment) (i start : ℕ) → length (deep ss i start) ≡ length ss
+deep-count ss i start = length-set {A = Segment} ss i (deeper start (get_or ss i no_segment))
 
 pub deep-ordered : (ss : List Segment) (i start : ℕ) → IsGap ss i start → AreOrdered ss → AreOrdered (deep ss i start)
 deep-ordered ss i start gap ordered = record {
   rises = λ j k low within.
-      let in_k : k < length ss = omega (arith, within, count ss i start) in
+      let in_k : k < length ss = omega (arith, within, deep-count ss i start) in
       elim (cases_eq j i) [
         | inl j_is ↦ elim (cases_eq k i) [
           | inl k_is ↦ omega (arith, address-at ss i start j gap.within j_is, address-at ss i start k gap.within k_is)
@@ -357,7 +346,7 @@ deep-ordered ss i start gap ordered = record {
         ]
       ];
   filled = λ j within.
-      let in_j : j < length ss = omega (arith, within, count ss i start) in
+      let in_j : j < length ss = omega (arith, within, deep-count ss i start) in
       elim (cases_eq j i) [
         | inl same ↦
             let some = ordered.filled i gap.within in
@@ -368,14 +357,14 @@ deep-ordered ss i start gap ordered = record {
       ];
 }
 
-holds-deep : (ss : List Segment) (i start n flags j : ℕ) → IsGap ss i start → HoldsPage ss n flags j → HoldsPage (deep ss i start) n flags j
+pub holds-deep : (ss : List Segment) (i start n flags j : ℕ) → IsGap ss i start → HoldsPage ss n flags j → HoldsPage (deep ss i start) n flags j
 holds-deep ss i start n flags j gap holds = elim (cases_eq j i) [
   | inl same ↦
       let whole = subst (λ (k : ℕ). HoldsPage ss n flags k) same holds in
       let address = address-at ss i start j gap.within same in
       let size = size-at ss i start j gap.within same in
       record {
-        within = omega (arith, holds.within, count ss i start);
+        within = omega (arith, holds.within, deep-count ss i start);
         low = omega (arith, address, whole.low, gap.low);
         high = omega (arith, address, size, whole.high, gap.low);
         gives = whole.gives ∙ ap (λ (f : ℕ). f % 8) (sym (flags-at ss i start j gap.within same));
@@ -384,7 +373,7 @@ holds-deep ss i start n flags j gap holds = elim (cases_eq j i) [
       let address = address-other ss i start j other in
       let size = size-other ss i start j other in
       record {
-        within = omega (arith, holds.within, count ss i start);
+        within = omega (arith, holds.within, deep-count ss i start);
         low = omega (arith, address, holds.low);
         high = omega (arith, address, size, holds.high);
         gives = holds.gives ∙ ap (λ (u : Segment). u.flags % 8) (sym (other-at ss i start j other));
@@ -395,13 +384,13 @@ pub deep-listed : (ss : List Segment) (i start : ℕ) (pages : List Page) → Is
 deep-listed ss i start pages gap are = record {
   ascending = are.ascending;
   all = λ k n other within byte.
-      are.all k n other (omega (arith, within, count ss i start)) (ap (λ (u : Segment). has_byte_on n u) (sym (other-at ss i start k other)) ∙ byte);
+      are.all k n other (omega (arith, within, deep-count ss i start)) (ap (λ (u : Segment). has_byte_on n u) (sym (other-at ss i start k other)) ∙ byte);
   right = λ k within flags j says. holds-deep ss i start _ flags j gap (are.right k within flags j says);
 }
 
 pub deep-unmade : (ss : List Segment) (i base : ℕ) → AreDisjoint ss → IsUnmade ss i base → IsUnmade (deep ss i stack_start) i stack_start
 deep-unmade ss i base apart is = record {
-  within = omega (arith, is.within, count ss i stack_start);
+  within = omega (arith, is.within, deep-count ss i stack_start);
   top = record {
     starts = address-at ss i stack_start i is.within refl;
     ends = omega (arith, size-at ss i stack_start i is.within refl, is.top.starts, is.top.ends, is.above);

@@ -63,6 +63,10 @@ abbrev pub IsRight : List Segment → Page → Type 0
 IsRight segments page =
     (flags i : ℕ) → page.rights ≡ Same flags i → HoldsPage segments page.number flags i
 
+abbrev pub AreRight : List Segment → List Page → Type 0
+AreRight segments pages =
+    (k : ℕ) → k < length pages → IsRight segments (slice_index_or pages k no_page)
+
 -- the pages of segments: each that has a byte of theirs, by ascending numbers, with its rights
 pub record ArePages (segments : List Segment) (pages : List Page) : Type 0 where
   pub ascending : AreAscending pages

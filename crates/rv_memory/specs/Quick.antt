@@ -1,12 +1,13 @@
 -- Where accesses look before they search, and what a memory of pages knows of its segments.
 
-use Rattle.std.specs.Prelude.{◌≡◌, ℕ, ◌+◌, ◌%◌, ◌^◌, ◌<◌, ◌==◌, false, if◌then◌else◌, List}
+use Rattle.std.specs.Prelude.{◌≡◌, ℕ, ◌+◌, ◌*◌, ◌%◌, ◌^◌, ◌<◌, ◌≤◌, ◌==◌, true, false, if◌then◌else◌, List}
 use Rattle.rv_isa_laws.specs.Memory.{Right, Read, Write, Execute}
+use Rattle.rv_isa_laws.specs.Platform.{stack_start, stack_end}
 use Rattle.rv_image_laws.specs.Segment.{Segment}
 use Rattle.rv_memory.specs.Flat.{memory_of}
 use Rattle.rv_memory.specs.Rights.{IsWidth}
 use Rattle.rv_memory.specs.Stretches.{IsStretch}
-use Rattle.rv_memory.specs.Pages.{AreOrdered, AreListed}
+use Rattle.rv_memory.specs.Pages.{AreOrdered, AreListed, is_listed}
 use Rattle.rv_memory.specs.declared.page.Page.{Page}
 use Rattle.rv_memory.specs.declared.stretch.Near.{Near}
 
@@ -33,6 +34,9 @@ pub record AreKnown (segments : List Segment) (list : List Page)
     (code stack low written : Near) (code_bytes : ℕ) : Type 0 where
   pub ordered : AreOrdered segments
   pub listed : AreListed segments stack.segment list
+  -- every page of the stack is in the list, whether it is made or not
+  pub stack_listed : (number : ℕ) → stack_start ≤ 4096 * number → 4096 * number < stack_end →
+      is_listed number list ≡ true
   pub code_executes : IsQuick segments 0 code Execute
   pub code_ends : IsEnd segments code.start code_bytes
   pub stack_reads : IsQuick segments stack.segment stack Read

@@ -1,11 +1,11 @@
 -- The lower part of the stack before anything is written there: zeros that no segment has yet.
 
-use Rattle.std.specs.Prelude.{◌≡◌, ℕ, ◌+◌, ◌-◌, ◌<◌, ◌≤◌, nat_le, nat_lt, Bool, false, ◌&&◌, ◌||◌, List, ◌++◌, [], length, replicate, slice_index_or, None, MatchOption}
+use Rattle.std.specs.Prelude.{◌≡◌, ℕ, ◌+◌, ◌-◌, ◌<◌, ◌≤◌, nat_le, nat_lt, Bool, false, ◌&&◌, ◌||◌, List, ◌++◌, [], length, replicate, slice_index_or, set, None, MatchOption}
 use Rattle.rv_isa_laws.specs.Memory.{Mem, Right, Read, Write, Execute}
 use Rattle.rv_isa_laws.specs.Platform.{stack_start, stack_end}
 use Rattle.rv_image_laws.specs.Segment.{Segment}
 use Rattle.rv_image_laws.specs.Memory.{segment_at}
-use Rattle.rv_memory.specs.Flat.{no_segment}
+use Rattle.rv_memory.specs.Flat.{AreDisjoint, no_segment}
 
 -- an address of the stack below base, from which on a segment has its bytes
 abbrev pub lies_unmade : ℕ → ℕ → Bool
@@ -57,3 +57,16 @@ deeper start s = record {
   bytes = replicate (s.address - start) 0 ++ s.bytes;
   flags = s.flags;
 }
+
+-- the segments, where the one at index i begins at the address
+abbrev pub deep : List Segment → ℕ → ℕ → List Segment
+deep segments i start =
+    set segments i (deeper start (slice_index_or segments i no_segment))
+
+-- between an address and the segment at index i, which begins there or above, no segment lies
+pub record IsGap (segments : List Segment) (i start : ℕ) : Type 0 where
+  pub apart : AreDisjoint segments
+  pub within : i < length segments
+  pub low : start ≤ (slice_index_or segments i no_segment).address
+  pub free : (x : ℕ) → start ≤ x → x < (slice_index_or segments i no_segment).address →
+      segment_at segments x ≡ None

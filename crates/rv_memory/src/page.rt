@@ -28,11 +28,13 @@ ghost use Rattle.std.specs.Prelude.{
 };
 ghost use Rattle.std.specs.List.{list_any};
 ghost use Rattle.rv_image.specs.SegmentView.{segment_of};
-ghost use Rattle.rv_memory.specs.Flat.{AreDisjoint, no_segment};
+ghost use Rattle.rv_memory.specs.Flat.{no_segment};
+ghost use Rattle.rv_memory.specs.Unmade.{IsGap, deep};
 ghost use Rattle.rv_memory.specs.Pages.{
   AreAscending,
   AreOrdered,
   ArePages,
+  AreRight,
   IsRight,
   has_byte_on,
   is_listed,
@@ -53,7 +55,7 @@ const PAGE_BYTES: u64 = 4096;
 pub enum PageRights {
     /// All have the same, segment flags, and lie in the segment at the index.
     Same(u8, usize),
-    /// Each byte has those of its own segment, and none where there is no segment.
+    /// Each byte has those of its own segment, or of the stack where it is not made yet, and none elsewhere.
     Mixed,
 }
 
@@ -130,17 +132,41 @@ fn page_in(segments: &[Segment], index: usize, number: u64) -> Page
     }
 }
 
-/// Adds the pages of the segment at an index, behind those of the segments before it.
-fn add_pages(pages: &mut Vec<Page>, segments: &[Segment], index: usize) -> Result<(), AllocError>
+/// The address at which the segment at an index begins, where that at `top` begins at `start`.
+fn start_of(segments: &[Segment], index: usize, top: usize, start: u64) -> u64
     requires index { index < length segments.now }
-    requires apart { AreDisjoint (map segment_of segments.now) }
+    requires top { top < length segments.now }
+    ensures { result
+        ≡ (slice_index_or (deep (map segment_of segments.now) top start) index no_segment).address }
+{
+    if index == top {
+        return start;
+    }
+    segments[index].address
+}
+
+/// Adds the pages of the segment at an index, behind those of the segments before it, where the segment at `top` begins at
+/// `start`, from where on it is to have bytes.
+fn add_pages(
+    pages: &mut Vec<Page>,
+    segments: &[Segment],
+    index: usize,
+    top: usize,
+    start: u64,
+) -> Result<(), AllocError>
+    requires index { index < length segments.now }
+    requires gap { IsGap (map segment_of segments.now) top start }
     requires ordered { AreOrdered (map segment_of segments.now) }
-    requires before { ArePages (take index (map segment_of segments.now)) pages.old.items }
-    ensures { OnOk result
-        (ArePages (take (index + 1) (map segment_of segments.now)) pages.new.items) }
+    requires before { ArePages (take index (deep (map segment_of segments.now) top start))
+        pages.old.items }
+    requires right { AreRight (map segment_of segments.now) pages.old.items }
+    ensures pages { OnOk result
+        (ArePages (take (index + 1) (deep (map segment_of segments.now) top start))
+        pages.new.items) }
+    ensures right { OnOk result (AreRight (map segment_of segments.now) pages.new.items) }
 {
     let segment = &segments[index];
-    let first = segment.address / PAGE_BYTES;
+    let first = start_of(segments, index, top, start) / PAGE_BYTES;
     let last = (segment.address + (segment.bytes.len() as u64 - 1)) / PAGE_BYTES;
     for number in first..last + 1 {
         add_page(pages, page_in(segments, index, number))?;
@@ -148,15 +174,22 @@ fn add_pages(pages: &mut Vec<Page>, segments: &[Segment], index: usize) -> Resul
     Ok(())
 }
 
-/// The pages of segments.
-pub(crate) fn pages_of(alloc: Global, segments: &[Segment]) -> Result<Vec<Page>, AllocError>
-    requires apart { AreDisjoint (map segment_of segments.now) }
+/// The pages of segments, of which the one at `top` is to have bytes from `start` on.
+pub(crate) fn pages_of(
+    alloc: Global,
+    segments: &[Segment],
+    top: usize,
+    start: u64,
+) -> Result<Vec<Page>, AllocError>
+    requires gap { IsGap (map segment_of segments.now) top start }
     requires ordered { AreOrdered (map segment_of segments.now) }
-    ensures { IfOk result (λ pages. ArePages (map segment_of segments.now) pages.items) }
+    ensures pages { IfOk result
+        (λ pages. ArePages (deep (map segment_of segments.now) top start) pages.items) }
+    ensures right { IfOk result (λ pages. AreRight (map segment_of segments.now) pages.items) }
 {
     let mut pages = Vec::new(alloc);
     for i in 0..segments.len() {
-        add_pages(&mut pages, segments, i)?;
+        add_pages(&mut pages, segments, i, top, start)?;
     }
     Ok(pages)
 }

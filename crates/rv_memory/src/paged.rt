@@ -1,9 +1,9 @@
 //! A memory that keeps pages of 4096 bytes, and of the stack no more than is used.
 //!
-//! A list has every page of the image by ascending numbers, each with its rights: one for the whole page where all of its
-//! bytes agree, else those of its segments. A look-up is a binary search; it tries the stack first, whose pages need not be
-//! in the list. The bytes of neighbouring pages lie one after the other in their segment, where the image had them, so
-//! none is copied.
+//! A list has every page of the image and of the stack by ascending numbers, each with its rights: one for the whole page
+//! where all of its bytes agree, else those of its segments. A look-up is a binary search, after a look at what is made of
+//! the stack. The bytes of neighbouring pages lie one after the other in their segment, where the image had them, so none
+//! is copied.
 //!
 //! At the start the stack's segment has only the last of its bytes. Below are zeros that no segment has: a load reads them
 //! as they are, and the first store there has the segment begin at the stack's start. The room for that is asked for at
@@ -68,7 +68,7 @@ const MADE_AT_START: usize = 0x1_0000;
 /// From here on the stack is made at the start.
 const MADE_FROM: u64 = STACK_START + (STACK_BYTES - MADE_AT_START) as u64;
 
-/// Pages by ascending numbers: all of an image's segments.
+/// Pages by ascending numbers: all of an image's segments and of the stack.
 #[derive(Drop)]
 pub struct Paged {
     /// The bytes of the pages: segments in the order of their addresses.
@@ -119,9 +119,9 @@ impl Paged {
         ensures { IfOk result (λ paged. held_pages paged ≡ mem_of (image_of image)) }
     {
         let flat = Flat::in_order(alloc, image, MADE_FROM)?;
-        let pages = pages_of(alloc, &flat.segments)?;
-        let room = Vec::with_capacity(alloc, STACK_BYTES)?;
         let top = flat.stack_index(MADE_FROM);
+        let pages = pages_of(alloc, &flat.segments, top, STACK_START)?;
+        let room = Vec::with_capacity(alloc, STACK_BYTES)?;
         let below = top.wrapping_sub(1);
         let code = near_of(&flat, 0, (Right::Execute, Right::Execute));
         let code_bytes = bytes_before_end(&flat, code.start, code.room_1);

@@ -1,9 +1,12 @@
-use Rattle.std.proofs.Common.{◌≡◌, ◌<◌, ◌+◌, ◌-◌, ◌/◌, ◌∙◌, sym, ap, map, take, length, arith}
+use Rattle.std.proofs.Common.{◌≡◌, ◌<◌, ◌+◌, ◌-◌, ◌/◌, ◌∙◌, List, sym, ap, get_or, map, take, length, arith}
 use Rattle.std.proofs.lemmas.List.{length-map}
 use Rattle.rv_image_laws.specs.Segment.{Segment}
 use Rattle.rv_image.specs.SegmentView.{segment_of}
+use Rattle.rv_memory.specs.Flat.{no_segment}
+use Rattle.rv_memory.specs.Unmade.{deep}
 use Rattle.rv_memory.proofs.FlatLemmas.{element-or}
-use Rattle.rv_memory.proofs.PageLemmas.{more-start, more-next, more-all, right-take}
+use Rattle.rv_memory.proofs.PageLemmas.{more-start, more-next, more-all, right-take, right-next, right-deep, deep-end}
+use Rattle.rv_memory.proofs.UnmadeLemmas.{deep-apart, deep-ordered, deep-count}
 use Rattle.rv_memory.proofs.page.add_pages.Goals as goal
 
 pub overflow_sub-last : goal.overflow_sub-last
@@ -17,31 +20,41 @@ overflow_sub-last c =
 
 pub loop-number-init : goal.loop-number-init
 loop-number-init c =
-    let xs = c.args.segments.now in
-    let s = c.index-segments-index.result in
-    let within : c.args.index < length (map segment_of xs) = omega (arith, c.requires.index, length-map xs segment_of) in
-    let is = element-or xs c.args.index s c.requires.index c.index-segments-index.is in
-    more-start (map segment_of xs) c.args.index (s.address / 4096) c.args.pages.now.items within c.requires.apart c.requires.ordered c.requires.before
-    (ap (λ (t : Segment). t.address / 4096) (sym is))
+    let ss : List Segment = map segment_of c.args.segments.now in
+    let ds : List Segment = deep ss c.args.top c.args.start in
+    let within : c.args.index < length ds = omega (arith, c.requires.index, length-map c.args.segments.now segment_of, deep-count ss c.args.top c.args.start) in (
+      more-start ds c.args.index (c.start_of-first.result / 4096) c.args.pages.now.items within (deep-apart ss c.args.top c.args.start c.requires.gap) (deep-ordered ss c.args.top c.args.start c.requires.gap c.requires.ordered) c.requires.before
+          (ap (λ n. n / 4096) c.start_of-first.ensures),
+      c.requires.right,
+    )
 
 pub loop-number-preserved : goal.loop-number-preserved
 loop-number-preserved c =
-    let xs = c.args.segments.now in
-    let s = c.index-segments-index.result in
-    let within : c.args.index < length (map segment_of xs) = omega (arith, c.requires.index, length-map xs segment_of) in
-    let right = right-take (map segment_of xs) c.args.index c.page_in.result within c.page_in.ensures.right c.page_in.ensures.same in
-    let next = more-next (take (c.args.index + 1) (map segment_of xs)) (s.address / 4096) c.loop-number.number c.args.pages.now.items c.loop-number.pages.items c.page_in.result
-    (omega (arith, c.loop-number.auto.number)) c.page_in.ensures.number right c.loop-number.invariant in
-    rw c.in_ok-add_page.ensures.added next
+    let ss : List Segment = map segment_of c.args.segments.now in
+    let ds : List Segment = deep ss c.args.top c.args.start in
+    let within : c.args.index < length ds = omega (arith, c.requires.index, length-map c.args.segments.now segment_of, deep-count ss c.args.top c.args.start) in
+    let right = right-take ds c.args.index c.page_in.result within (right-deep ss c.args.top c.args.start c.page_in.result c.requires.gap c.page_in.ensures.right) c.page_in.ensures.same in
+    let next = more-next (take (c.args.index + 1) ds) (c.start_of-first.result / 4096) c.loop-number.number c.args.pages.now.items c.loop-number.pages.items c.page_in.result
+    (omega (arith, c.loop-number.auto.number)) c.page_in.ensures.number right c.loop-number.invariant.0 in
+    let both = right-next ss c.loop-number.pages.items c.page_in.result c.loop-number.invariant.1 c.page_in.ensures.right in
+    (rw c.in_ok-add_page.ensures.added next, rw c.in_ok-add_page.ensures.added both)
 
-pub returns : goal.returns
-returns c =
+pub returns-clause-pages : goal.returns-clause-pages
+returns-clause-pages c =
     let xs = c.args.segments.now in
+    let ss : List Segment = map segment_of xs in
+    let ds : List Segment = deep ss c.args.top c.args.start in
     let s = c.index-segments-index.result in
-    let within : c.args.index < length (map segment_of xs) = omega (arith, c.requires.index, length-map xs segment_of) in
+    let within : c.args.index < length ss = omega (arith, c.requires.index, length-map xs segment_of) in
+    let deep_within : c.args.index < length ds = omega (arith, within, deep-count ss c.args.top c.args.start) in
+    let ordered = deep-ordered ss c.args.top c.args.start c.requires.gap c.requires.ordered in
     let is = element-or xs c.args.index s c.requires.index c.index-segments-index.is in
     let some : 0 < length s.bytes.items = rw is at (c.requires.ordered.filled c.args.index within) in
+    let more = ordered.filled c.args.index deep_within in
+    let here : s.address + length s.bytes.items ≡ (get_or ss c.args.index no_segment).address + length (get_or ss c.args.index no_segment).bytes = sym (ap (λ (t : Segment). t.address + length t.bytes) is) in
+    let ends = deep-end ss c.args.top c.args.start c.args.index c.requires.gap in
     let end : c.loop-number.number ≡ (s.address + (length s.bytes.items - 1)) / 4096 + 1 =
     omega (arith, some, c.len.ensures, c.loop-number-test.false, c.loop-number.auto.number-end, c.loop-number.auto.number) in
-    more-all (map segment_of xs) c.args.index (s.address / 4096) c.loop-number.number c.args.pages.now.items c.loop-number.pages.items within c.requires.ordered c.requires.before
-    (ap (λ (t : Segment). t.address / 4096) (sym is)) (end ∙ ap (λ (t : Segment). (t.address + (length t.bytes - 1)) / 4096 + 1) (sym is)) c.loop-number.invariant
+    let last : s.address + (length s.bytes.items - 1) ≡ (get_or ds c.args.index no_segment).address + (length (get_or ds c.args.index no_segment).bytes - 1) = omega (arith, some, more, here, ends) in
+    more-all ds c.args.index (c.start_of-first.result / 4096) c.loop-number.number c.args.pages.now.items c.loop-number.pages.items deep_within ordered c.requires.before
+    (ap (λ n. n / 4096) c.start_of-first.ensures) (end ∙ ap (λ n. n / 4096 + 1) last) c.loop-number.invariant.0

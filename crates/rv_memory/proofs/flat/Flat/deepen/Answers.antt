@@ -3,7 +3,8 @@ use Rattle.std.proofs.lemmas.List.{length-map}
 use Rattle.rv_image_laws.specs.Segment.{Segment}
 use Rattle.rv_image.specs.SegmentView.{segment_of}
 use Rattle.rv_memory.specs.Flat.{AreDisjoint}
-use Rattle.rv_memory.proofs.UnmadeLemmas.{IsGap, deep-apart, deeper-is, segments-deep}
+use Rattle.rv_memory.specs.Unmade.{IsGap}
+use Rattle.rv_memory.proofs.UnmadeLemmas.{deep-apart, deeper-is, segments-deep}
 use Rattle.rv_memory.proofs.flat.Flat.deepen.Goals as goal
 
 pub invariant_of-self : goal.invariant_of-self

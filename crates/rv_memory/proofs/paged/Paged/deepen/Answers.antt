@@ -30,6 +30,7 @@ invariant_of-self c =
       known = record {
         ordered = ordered;
         listed = subst (λ (j : ℕ). AreListed ss j old.pages.items) (sym c.near_of-stack.ensures.index) listed;
+        stack_listed = old.known.stack_listed;
         code_executes = c.near_of-code.ensures.first;
         code_ends = c.bytes_before_end-code_bytes.ensures;
         stack_reads = subst (λ (i : ℕ). IsQuick ss i stack Read) (sym c.near_of-stack.ensures.index) c.near_of-stack.ensures.first;

@@ -1,13 +1,23 @@
 use Rattle.std.proofs.Common.{ℕ, sym, subst, List, map, arith}
 use Rattle.rv_isa_laws.specs.Memory.{Read, Write}
+use Rattle.rv_isa_laws.specs.Platform.{stack_start}
 use Rattle.rv_image.specs.SegmentView.{segment_of}
 use Rattle.rv_image.specs.declared.segment.Segment.{Segment}
 use Rattle.rv_memory.specs.Held.{pieces}
-use Rattle.rv_memory.specs.Pages.{ArePages}
+use Rattle.rv_memory.specs.Pages.{ArePages, AreRight, AreListed}
 use Rattle.rv_memory.specs.Quick.{IsQuick}
-use Rattle.rv_memory.specs.Unmade.{IsUnmade}
-use Rattle.rv_memory.proofs.PageLemmas.{pages-listed}
+use Rattle.rv_memory.specs.Unmade.{IsUnmade, IsGap, deep}
+use Rattle.rv_memory.proofs.PageLemmas.{pages-listed, deep-pages}
+use Rattle.rv_memory.proofs.UnmadeLemmas.{unmade-gap}
 use Rattle.rv_memory.proofs.paged.Paged.new.Goals as goal
+
+pub pages_of-requires-clause-gap : goal.pages_of-requires-clause-gap
+pages_of-requires-clause-gap c =
+    let ss = pieces c.in_ok-flat.flat in
+    let top : IsUnmade ss c.stack_index-top.result 0x3FFF_0000 =
+    record { within = c.stack_index-top.ensures.within; top = c.stack_index-top.ensures.top; above = omega arith; free = c.in_ok-flat.ensures.free } in
+    subst (λ (l : List Segment). IsGap (map segment_of l) c.stack_index-top.result stack_start) (sym c.deref.ensures.value)
+    (unmade-gap ss c.stack_index-top.result 0x3FFF_0000 c.in_ok-flat.flat.apart top)
 
 pub invariant_of-result : goal.invariant_of-result
 invariant_of-result c =
@@ -17,10 +27,15 @@ invariant_of-result c =
     let written = c.near_of-written.result in
     let top : IsUnmade ss c.stack_index-top.result 0x3FFF_0000 =
     record { within = c.stack_index-top.ensures.within; top = c.stack_index-top.ensures.top; above = omega arith; free = c.in_ok-flat.ensures.free } in
+    let gap = unmade-gap ss c.stack_index-top.result 0x3FFF_0000 c.in_ok-flat.flat.apart top in
+    let are = subst (λ (l : List Segment). ArePages (deep (map segment_of l) c.stack_index-top.result stack_start) c.in_ok-pages.pages.items) c.deref.ensures.value c.in_ok-pages.ensures.pages in
+    let right = subst (λ (l : List Segment). AreRight (map segment_of l) c.in_ok-pages.pages.items) c.deref.ensures.value c.in_ok-pages.ensures.right in
     record {
       known = record {
         ordered = c.in_ok-flat.ensures.ordered;
-        listed = pages-listed ss stack.segment c.in_ok-pages.pages.items (subst (λ (l : List Segment). ArePages (map segment_of l) c.in_ok-pages.pages.items) c.deref.ensures.value c.in_ok-pages.ensures);
+        listed = subst (λ (i : ℕ). AreListed ss i c.in_ok-pages.pages.items) (sym c.near_of-stack.ensures.index) (pages-listed ss c.stack_index-top.result stack_start c.in_ok-pages.pages.items gap are right);
+        stack_listed = λ n low high.
+            deep-pages ss c.stack_index-top.result stack_start n c.in_ok-pages.pages.items gap are low (omega (arith, high, c.stack_index-top.ensures.top.starts, c.stack_index-top.ensures.top.ends));
         code_executes = c.near_of-code.ensures.first;
         code_ends = c.bytes_before_end-code_bytes.ensures;
         stack_reads = subst (λ (i : ℕ). IsQuick ss i stack Read) (sym c.near_of-stack.ensures.index) c.near_of-stack.ensures.first;
