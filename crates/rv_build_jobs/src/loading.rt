@@ -5,7 +5,7 @@
 use crate::building::built;
 use rv_image::Image;
 use rv_job::{Asked, default_options};
-use rv_system::{JobError, System, file_bytes, given_bytes, image_in, map_in};
+use rv_system::{JobError, System, check_fit, file_bytes, given_bytes, image_in, map_in};
 use rv_watched_jobs::Program;
 use std::alloc::Global;
 
@@ -27,14 +27,35 @@ pub fn load_program<S: System>(
         None => map_text(system, asked)?,
     };
     if bytes.as_slice().starts_with(b"\x7fELF") {
-        let map = match given {
-            Some(text) => Some(map_in(alloc, asked.map.unwrap_or("-"), text.as_slice())?),
-            None => None,
-        };
-        let image = image_in(alloc, asked.file, bytes.as_slice())?;
-        return Ok((Program { map, source: None }, image));
+        return given_program(alloc, asked, given, bytes.as_slice());
     }
     built_program(system, asked.file, bytes, asked.explains)
+}
+
+/// An executable as a program, with the map of this text, if there is one.
+fn given_program(
+    alloc: Global,
+    asked: &Asked<'_>,
+    given: Option<Vec<u8>>,
+    exe: &[u8],
+) -> Result<(Program, Image), JobError> {
+    let Some(text) = given else {
+        let image = image_in(alloc, asked.file, exe)?;
+        let program = Program {
+            map: None,
+            source: None,
+        };
+        return Ok((program, image));
+    };
+    let name = asked.map.unwrap_or("-");
+    let map = map_in(alloc, name, text.as_slice())?;
+    let image = image_in(alloc, asked.file, exe)?;
+    check_fit(alloc, name, &map, asked.file, &image)?;
+    let program = Program {
+        map: Some(map),
+        source: None,
+    };
+    Ok((program, image))
 }
 
 /// A source as a program, with its map.

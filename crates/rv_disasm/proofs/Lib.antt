@@ -1,5 +1,6 @@
 pub mod CodesLemmas
 pub mod DumpLinesLemmas
+pub mod FittingLemmas
 pub mod FourLemmas
 pub mod HeldLemmas
 pub mod OneFormLemmas

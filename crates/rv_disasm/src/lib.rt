@@ -7,6 +7,7 @@
 //! Main contracts: `listing` gives a text that `IsListing` of the image and the map, by whatever reader of words and
 //! parcels, and there is one alone (`one_listing`); `raw_listing` gives the text that `IsRawListing` of the image, and
 //! none exactly where it has none, and there is one at most (`one_raw_listing`); `hex_dump` gives `dump_of` the bytes.
+//! `fits` says whether a map is one of an image (`specs/Fitting`).
 //! `ListedRows` gives the same listing as `listing`, a row at a time: what is there, with what is `listing_left`, stays the
 //! listing. What rows that lie over each other show is made once.
 //! What a listing is, `rv_listing_laws` says, with a table of how an instruction of each format is shown (`text_with`) and
@@ -26,6 +27,7 @@
 
 mod code;
 mod dump;
+mod fitting;
 mod instruction;
 mod kept;
 mod law;
@@ -38,6 +40,7 @@ mod raw;
 mod rows;
 
 pub use dump::hex_dump;
+pub use fitting::fits;
 pub use instruction::put_instruction;
 pub use law::{one_listing, one_raw_listing};
 pub use listed::{ListedRows, listing};

@@ -46,7 +46,7 @@ fn put_statement(text: &mut Vec<u8>, row: &Row) -> Result<(), AllocError>
 }
 
 /// The bytes of a row in the executable segment that has them all; none where none does.
-fn row_bytes<'a>(segments: &'a [Segment], row: &Row) -> &'a [u8]
+pub(crate) fn row_bytes<'a>(segments: &'a [Segment], row: &Row) -> &'a [u8]
     ensures bytes { result.now ≡ shows.row_bytes (map segment_of segments.now) row.now }
     ensures ends { row.now.address + length result.now ≤ 2 ^ 64 }
 {

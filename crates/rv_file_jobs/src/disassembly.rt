@@ -7,7 +7,8 @@ use rv_job::AskedCode;
 use rv_map::Map;
 use rv_paint::has_escape;
 use rv_system::{
-    JobError, System, fault_line, file_bytes, image_in, map_in, print, print_listing, print_parts,
+    JobError, System, check_fit, fault_line, file_bytes, image_in, map_in, print, print_listing,
+    print_parts,
 };
 use std::alloc::Global;
 
@@ -60,7 +61,22 @@ pub fn code<S: System>(system: &mut S, asked: &AskedCode<'_>) -> Result<u8, JobE
         Ok(shown) => shown,
         Err(fault) => return Err(fault_line(alloc, &Fault::File(1, fault), &[asked.file])?),
     };
+    check_code_map(alloc, asked, map.as_ref(), file.as_slice())?;
     print_code(system, &shown, asked.file)
+}
+
+/// Refuses a map that is not the file's, if one is given.
+fn check_code_map(
+    alloc: Global,
+    asked: &AskedCode<'_>,
+    map: Option<&Map>,
+    file: &[u8],
+) -> Result<(), JobError> {
+    let (Some(map), Some(map_name)) = (map, asked.map) else {
+        return Ok(());
+    };
+    let image = image_in(alloc, asked.file, file)?;
+    check_fit(alloc, map_name, map, asked.file, &image)
 }
 
 /// Prints the instructions of a file, below its name; the exit status.

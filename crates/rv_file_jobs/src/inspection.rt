@@ -2,7 +2,9 @@
 
 use rv_fault::{Fault, FileFault};
 use rv_inspect::{ElfLines, NameLines, SizeTable};
-use rv_system::{JobError, System, fault_line, file_bytes, image_in, map_in, print, print_parts};
+use rv_system::{
+    JobError, System, check_fit, fault_line, file_bytes, image_in, map_in, print, print_parts,
+};
 use std::alloc::{AllocError, Global};
 
 /// Prints the sizes of files, which are read in their order; the exit status.
@@ -48,7 +50,8 @@ fn names_by_map<S: System>(system: &mut S, map_name: &str, name: &str) -> Result
     let text = file_bytes(system, map_name)?;
     let exe = file_bytes(system, name)?;
     let map = map_in(alloc, map_name, text.as_slice())?;
-    let _image = image_in(alloc, name, exe.as_slice())?;
+    let image = image_in(alloc, name, exe.as_slice())?;
+    check_fit(alloc, map_name, &map, name, &image)?;
     print_names(system, NameLines::of_map(alloc, &map)?)
 }
 

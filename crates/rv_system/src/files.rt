@@ -3,6 +3,7 @@
 use crate::error::JobError;
 use crate::messages::fault_line;
 use crate::system::{FILE_LIMIT, Purpose, System};
+use rv_disasm::fits;
 use rv_fault::Fault;
 use rv_image::{Image, load};
 use rv_map::{Map, read};
@@ -75,6 +76,20 @@ pub fn map_in(alloc: Global, name: &str, text: &[u8]) -> Result<Map, JobError> {
         Some(map) => Ok(map),
         None => Err(JobError::Line(format!(in alloc; "{name}: not a map")?)),
     }
+}
+
+/// Refuses the map of another program than an image's; the names are those of their files.
+pub fn check_fit(
+    alloc: Global,
+    map_name: &str,
+    map: &Map,
+    exe_name: &str,
+    image: &Image,
+) -> Result<(), JobError> {
+    if fits(map, image) {
+        return Ok(());
+    }
+    Err(JobError::Line(format!(in alloc; "{map_name}: not a map of {exe_name}")?))
 }
 
 /// Writes a file anew.

@@ -20,8 +20,8 @@ mod system;
 
 pub use error::JobError;
 pub use files::{
-    borrowed, cannot, file_bytes, files_bytes, given_bytes, image_in, map_in, print, print_listing,
-    print_parts, write,
+    borrowed, cannot, check_fit, file_bytes, files_bytes, given_bytes, image_in, map_in, print,
+    print_listing, print_parts, write,
 };
 pub use messages::fault_line;
 pub use system::{FILE_LIMIT, Purpose, System};
