@@ -13,7 +13,7 @@ j 1f; j 2f; 1: nop
 a.s:1: E6 UnknownMnemonic
     .globl _start; _start: c.flw fa0,0(a0)
                            ^^^^^
-  c.flw is the name of no instruction
+  c.flw is an instruction of the F extension, which this language leaves out
 a.s:2: E15 WrongSection
     .data; ecall; .text
     ^^^^^^^^^^^^^^^^^^^

@@ -22,6 +22,7 @@ mod link_wording;
 mod names;
 mod near_names;
 mod occurrences;
+mod other_extensions;
 mod parcel_numbers;
 mod place;
 mod references;

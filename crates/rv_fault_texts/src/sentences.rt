@@ -2,6 +2,7 @@
 
 use crate::excerpt::put_bytes;
 use crate::names::{has_gaps, is_access, is_zero, range_of};
+use crate::other_extensions::words_of_unknown;
 use crate::parcel_numbers::{numbers_of, parcel_named};
 use crate::place::{Expected, FaultPlace};
 use crate::tokens::part;
@@ -111,11 +112,9 @@ fn put_words(
                 " is no number that is known at this line, and a number has to stand here",
             )
         }
-        SourceCode::UnknownMnemonic => put_shown_and(
-            text,
-            subject,
-            " is the name of no instruction",
-        ),
+        SourceCode::UnknownMnemonic => {
+            put_shown_and(text, subject, words_of_unknown(subject.shown))
+        }
         SourceCode::UnknownDirective => put_shown_and(
             text,
             subject,
