@@ -1,22 +1,20 @@
 //! How often each instruction of a run was executed.
 //!
 //! What was executed, read and stored is summed over the events of the run ([`Totals`]). Beside it is counted, for each
-//! instruction, how often it was executed and called, and branches taken; and the lowest stack pointer is kept.
+//! instruction, how often it was executed and called, and branches taken; and the stack's depth is kept.
 
 ghost use Rattle.std.specs.Prelude.{◌≡◌};
 ghost use Rattle.rv_trace.specs.Totals.{totals_of};
 
 use crate::access::{is_call, is_taken};
+use crate::depth::Depth;
 use crate::totals::{Totals, is_executed};
 use crate::visited::{VisitedInstruction, VisitedInstructions, bits_at};
-use rv_image::{Image, STACK_BYTES, STACK_START};
+use rv_image::Image;
 use rv_isa::{Format, Inst, Reg};
 use rv_machine::{Event, Fetched, ShowFault, Watched, Watcher};
 use rv_memory::Memory;
 use std::alloc::{AllocError, Global};
-
-/// The address after the stack.
-const STACK_END: u64 = STACK_START + STACK_BYTES as u64;
 
 /// How often each instruction was executed. The instruction that ends a run counts where the run ends by it: by an exit or
 /// a breakpoint, but not by an access that failed.
@@ -29,8 +27,8 @@ pub struct Counts {
     called: bool,
     /// The sums over the events.
     totals: Totals,
-    /// The lowest value of sp in the stack.
-    lowest: u64,
+    /// How deep the stack went.
+    depth: Depth,
 }
 
 impl Counts {
@@ -41,7 +39,7 @@ impl Counts {
             current: None,
             called: false,
             totals: Totals::nothing(),
-            lowest: STACK_END,
+            depth: Depth::of(image),
         })
     }
 
@@ -54,9 +52,9 @@ impl Counts {
         self.totals
     }
 
-    /// The most bytes of the stack below its end that sp has left.
+    /// How many bytes the stack had at most.
     pub(crate) fn deepest(&self) -> u64 {
-        STACK_END.saturating_sub(self.lowest)
+        self.depth.deepest()
     }
 }
 
@@ -124,16 +122,6 @@ fn calls(event: &Event) -> bool {
     }
 }
 
-/// The lowest value of sp in the stack, after one more.
-#[inline]
-fn lower(lowest: u64, sp: u64) -> u64 {
-    if STACK_START <= sp && sp < lowest {
-        sp
-    } else {
-        lowest
-    }
-}
-
 impl<M: Memory> Watcher<M> for Counts {
     ghost has_seen = { λ counts seen. counts.totals ≡ totals_of seen };
 
@@ -154,7 +142,7 @@ impl<M: Memory> Watcher<M> for Counts {
             machine,
         );
         self.called = calls(event);
-        self.lowest = lower(self.lowest, machine.register(Reg::SP));
+        self.depth.note(event, machine.register(Reg::SP));
         Ok(())
     }
 }

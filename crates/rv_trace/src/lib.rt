@@ -23,6 +23,7 @@ mod access;
 mod columns;
 mod counter;
 mod counts;
+mod depth;
 mod lines;
 mod pattern;
 mod places;
