@@ -85,7 +85,7 @@ pub(crate) const STATS: Help = Help {
     after_help: "Examples:
   rv stats prog.s
   rv stats --lines prog.s
-  rv stats --lcov prog.info --map prog.map prog
+  rv stats --lcov prog.info prog.s
 
 The counts stand on standard error, and genhtml draws the file that --lcov names.",
 };
