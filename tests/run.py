@@ -23,7 +23,7 @@ RV = TESTS.parent / "rv"
 SECONDS = 60
 LINE = re.compile(r"# (?P<key>[a-z]+(?: has| at [0-9a-f]+| [.\w$-]+(?: \w+)?)?|no map): ?(?P<value>.*)")
 KEYS = (
-    "rv options input limit exit end console fault status error errors out text rodata data map listing section "
+    "rv options input environment limit exit end console fault status error errors out text rodata data map listing section "
     "alignment size same patch cut"
 ).split()
 SEGMENTS = {"text": 1, "rodata": 4, "data": 6}
@@ -215,7 +215,9 @@ def look_at(folder, words, head):
     """Makes one call, and compares each expectation with what came."""
     given = b"".join(repeated_text(value) for key, value in head if key == "input")
     before = sorted(folder.iterdir())
-    process = subprocess.run([RV, *words], cwd=folder, input=given, capture_output=True, timeout=SECONDS)
+    variables = {name: value for name, value in os.environ.items() if name != "RV_LIMIT"}
+    variables.update(value.split("=", 1) for key, value in head if key == "environment")
+    process = subprocess.run([RV, *words], cwd=folder, input=given, capture_output=True, timeout=SECONDS, env=variables)
     error_lines = process.stderr.decode("utf8", "replace").splitlines()
     last, one = error_lines[-1] if error_lines else "", dict(head)
     status = (

@@ -43,7 +43,7 @@ Assembles, links and runs bare RISC-V programs (RV64IMAC).
 Usage: rv [COMMAND]
 
 Commands:
-  run          Runs an executable, or builds a source and runs it
+  run          Runs an executable, or builds sources and runs them
   trace        Runs a program and shows each instruction
   stats        Runs a program and counts what it executes
   build        Builds an executable from sources
@@ -93,15 +93,15 @@ Without words rv does the same as 'rv run -'.
 Exit status: 0 done; 1 refused, the fault stands on standard error; 2 wrong words.
 'rv run' exits with the guest's status, or with 125 where the guest did not exit.
 #--- run.txt
-Runs an executable, or builds a source and runs it
+Runs an executable, or builds sources and runs them
 
-Usage: rv run [OPTIONS] <FILE>
+Usage: rv run [OPTIONS] <FILE>...
 
 Arguments:
-  <FILE>  An executable or a source; - is standard input
+  <FILE>...  An executable, or sources that are built together; - is standard input
 
 Options:
-      --limit <N>  The most instructions to execute [default: 1000000000000]
+      --limit <N>  The most instructions to execute, as 500k or 10M [default: RV_LIMIT, else 1000G]
       --report     Says why the run ended where the program did not exit
       --map <F>    The map of an executable, for its symbols and lines
       --explain    Shows below a fault where it stands and why, as on a terminal
@@ -109,7 +109,8 @@ Options:
 
 Examples:
   rv run prog.s
-  rv run --limit 1000000 prog < input
+  rv run driver.s answer.s
+  rv run --limit 10M prog < input
   rv run --report --map prog.map prog
   rv run - < prog.s
 
@@ -117,17 +118,17 @@ Standard input is the guest's input, and its console is standard output.
 #--- trace.txt
 Runs a program and shows each instruction
 
-Usage: rv trace [OPTIONS] <FILE>
+Usage: rv trace [OPTIONS] <FILE>...
 
 Arguments:
-  <FILE>  An executable or a source; - is standard input
+  <FILE>...  An executable, or sources that are built together; - is standard input
 
 Options:
       --from <N>   The number of the first instruction that is shown [default: 1]
       --count <N>  How many instructions are shown; the run ends after them
   -o <FILE>        Writes the lines to a file instead of standard error
       --map <F>    The map of an executable, for its symbols and lines
-      --limit <N>  The most instructions to execute [default: 1000000000000]
+      --limit <N>  The most instructions to execute, as 500k or 10M [default: RV_LIMIT, else 1000G]
   -h, --help       Print help
 
 Examples:
@@ -140,16 +141,16 @@ loaded or stored, and at the first instruction of a line of the source that line
 #--- stats.txt
 Runs a program and counts what it executes
 
-Usage: rv stats [OPTIONS] <FILE>
+Usage: rv stats [OPTIONS] <FILE>...
 
 Arguments:
-  <FILE>  An executable or a source; - is standard input
+  <FILE>...  An executable, or sources that are built together; - is standard input
 
 Options:
       --lines        Shows how often each line was executed
       --lcov <FILE>  Writes how often each line was executed as lcov does
       --map <F>      The map of an executable, for its symbols and lines
-      --limit <N>    The most instructions to execute [default: 1000000000000]
+      --limit <N>    The most instructions to execute, as 500k or 10M [default: RV_LIMIT, else 1000G]
   -h, --help         Print help
 
 Examples:

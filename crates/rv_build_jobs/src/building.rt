@@ -2,65 +2,75 @@
 //!
 //! A job writes no file before all that it writes is made.
 
+use crate::loading::{given_sources, is_elf};
 use crate::refusing::{refused_objects, refused_sources};
 use rv_chain::{
     Built, Fault, LinkOptions, assemble_object, build, build_exe, link_objects, link_objects_exe,
 };
 use rv_guests::{GuestInput, Guests, report_end, run_line};
-use rv_job::default_options;
+use rv_job::{Asked, default_options};
 use rv_system::{
     JobError, Purpose, System, borrowed, file_bytes, files_bytes, given_bytes, image_in, print,
     write,
 };
 use std::alloc::{AllocError, Global};
 
-/// Runs an executable, or builds a source and runs it; the exit status.
+/// Runs an executable, or builds sources and runs what they come to; the exit status.
 ///
 /// Each has a function of its own, so that what a small guest needs stands together in the program, and not among what
 /// a source needs: that is 0.2 MiB of pages.
 #[inline(never)]
-pub fn run<S: Guests>(
-    system: &mut S,
-    name: &str,
-    limit: u64,
-    explains: bool,
-) -> Result<u8, JobError> {
-    let bytes = given_bytes(system, name)?;
-    if bytes.as_slice().starts_with(b"\x7fELF") {
-        return run_executable(system, name, bytes.as_slice(), limit);
+pub fn run<S: Guests>(system: &mut S, asked: &Asked<'_>) -> Result<u8, JobError> {
+    if !asked.others.is_empty() {
+        return run_sources(system, asked);
     }
-    run_source(system, name, bytes.as_slice(), limit, explains)
+    let bytes = given_bytes(system, asked.file)?;
+    if is_elf(bytes.as_slice()) {
+        return run_executable(system, asked, bytes.as_slice());
+    }
+    run_source(system, asked, bytes.as_slice())
 }
 
 /// Builds a source and runs it; the exit status.
 #[inline(never)]
-fn run_source<S: Guests>(
-    system: &mut S,
-    name: &str,
-    source: &[u8],
-    limit: u64,
-    explains: bool,
-) -> Result<u8, JobError> {
-    let exe = executable(system, &[name], &[source], default_options(), explains)?;
-    run_executable(system, name, exe.as_slice(), limit)
+fn run_source<S: Guests>(system: &mut S, asked: &Asked<'_>, source: &[u8]) -> Result<u8, JobError> {
+    let names = [asked.file];
+    let exe = executable(system, &names, &[source], default_options(), asked.explains)?;
+    run_executable(system, asked, exe.as_slice())
+}
+
+/// Builds several sources together and runs what they come to; the exit status.
+#[inline(never)]
+fn run_sources<S: Guests>(system: &mut S, asked: &Asked<'_>) -> Result<u8, JobError> {
+    let alloc: Global = system.alloc();
+    let names = asked.names(alloc)?;
+    let read = given_sources(system, names.as_slice())?;
+    let sources = borrowed(alloc, read.as_slice())?;
+    let exe = executable(
+        system,
+        names.as_slice(),
+        sources.as_slice(),
+        default_options(),
+        asked.explains,
+    )?;
+    run_executable(system, asked, exe.as_slice())
 }
 
 /// Runs an executable; the exit status.
 #[inline(never)]
 fn run_executable<S: Guests>(
     system: &mut S,
-    name: &str,
+    asked: &Asked<'_>,
     exe: &[u8],
-    limit: u64,
 ) -> Result<u8, JobError> {
     let alloc: Global = system.alloc();
-    let image = image_in(alloc, name, exe)?;
-    let input = if name == "-" {
+    let image = image_in(alloc, asked.file, exe)?;
+    let input = if asked.has_input() {
         GuestInput::Empty
     } else {
         GuestInput::Standard
     };
-    match system.run(image, input, limit) {
+    match system.run(image, input, asked.limit) {
         Ok(end) => Ok(report_end(system, &end)),
         Err(fault) => Err(run_line(alloc, &fault)?),
     }

@@ -1,4 +1,4 @@
-//! The jobs of the program that build: they run a source, write executables, objects and maps, and load what a run that is
+//! The jobs of the program that build: they run sources, write executables, objects and maps, and load what a run that is
 //! looked at is of.
 //!
 //! Main functions: `run`, `build_files`, `assemble`, `link_files`, `print_map`, `load_program`. What is built, assembled and

@@ -1,15 +1,21 @@
 //! The programs of runs that are looked at, as the words name them.
 //!
-//! A source is built with its map; an executable has the map that the words name for it, if any.
+//! Sources are built with their map; an executable has the map that the words name for it, if any.
 
 use crate::building::built;
+use rv_chain::Built;
 use rv_image::Image;
 use rv_job::{Asked, default_options};
-use rv_system::{JobError, System, check_fit, file_bytes, given_bytes, image_in, map_in};
+use rv_system::{JobError, System, borrowed, check_fit, file_bytes, given_bytes, image_in, map_in};
 use rv_watched_jobs::Program;
-use std::alloc::Global;
+use std::alloc::{AllocError, Global};
 
-/// Reads a program, and builds it where it is a source.
+/// Whether a file is an executable or an object, and no source.
+pub(crate) fn is_elf(bytes: &[u8]) -> bool {
+    bytes.starts_with(b"\x7fELF")
+}
+
+/// Reads a program, and builds it where it is of sources.
 #[inline(never)]
 pub fn load_program<S: System>(
     system: &mut S,
@@ -21,15 +27,18 @@ pub fn load_program<S: System>(
     } else {
         None
     };
-    let bytes = given_bytes(system, asked.file)?;
+    let names = asked.names(alloc)?;
+    let read = given_files(system, names.as_slice())?;
     let given = match early {
         Some(text) => Some(text),
         None => map_text(system, asked)?,
     };
-    if bytes.as_slice().starts_with(b"\x7fELF") {
-        return given_program(alloc, asked, given, bytes.as_slice());
+    let bytes = only(read.as_slice());
+    if is_elf(bytes) {
+        return given_program(alloc, asked, given, bytes);
     }
-    built_program(system, asked.file, bytes, asked.explains)
+    refuse_elf(alloc, names.as_slice(), read.as_slice())?;
+    built_program(system, asked, names.as_slice(), read)
 }
 
 /// An executable as a program, with the map of this text, if there is one.
@@ -39,13 +48,10 @@ fn given_program(
     given: Option<Vec<u8>>,
     exe: &[u8],
 ) -> Result<(Program, Image), JobError> {
+    let sources = Vec::new(alloc);
     let Some(text) = given else {
         let image = image_in(alloc, asked.file, exe)?;
-        let program = Program {
-            map: None,
-            source: None,
-        };
-        return Ok((program, image));
+        return Ok((Program { map: None, sources }, image));
     };
     let name = asked.map.unwrap_or("-");
     let map = map_in(alloc, name, text.as_slice())?;
@@ -53,33 +59,87 @@ fn given_program(
     check_fit(alloc, name, &map, asked.file, &image)?;
     let program = Program {
         map: Some(map),
-        source: None,
+        sources,
     };
     Ok((program, image))
 }
 
-/// A source as a program, with its map.
+/// Sources as a program, with its map.
 fn built_program<S: System>(
     system: &S,
-    name: &str,
-    source: Vec<u8>,
-    explains: bool,
+    asked: &Asked<'_>,
+    names: &[&str],
+    read: Vec<Vec<u8>>,
 ) -> Result<(Program, Image), JobError> {
     let alloc: Global = system.alloc();
-    let built = built(
-        system,
-        &[name],
-        &[source.as_slice()],
-        default_options(),
-        explains,
-    )?;
-    let map = map_in(alloc, name, built.map.as_slice())?;
-    let image = image_in(alloc, name, built.exe.as_slice())?;
+    let built = built_of(system, asked, names, read.as_slice())?;
+    let map = map_in(alloc, asked.file, built.map.as_slice())?;
+    let image = image_in(alloc, asked.file, built.exe.as_slice())?;
     let program = Program {
         map: Some(map),
-        source: Some(source),
+        sources: read,
     };
     Ok((program, image))
+}
+
+/// What sources build.
+fn built_of<S: System>(
+    system: &S,
+    asked: &Asked<'_>,
+    names: &[&str],
+    read: &[Vec<u8>],
+) -> Result<Built, JobError> {
+    let sources = borrowed(system.alloc(), read)?;
+    built(
+        system,
+        names,
+        sources.as_slice(),
+        default_options(),
+        asked.explains,
+    )
+}
+
+/// The bytes of several sources, in their order.
+pub(crate) fn given_sources<S: System>(
+    system: &mut S,
+    names: &[&str],
+) -> Result<Vec<Vec<u8>>, JobError> {
+    let read = given_files(system, names)?;
+    refuse_elf(system.alloc(), names, read.as_slice())?;
+    Ok(read)
+}
+
+/// The bytes of files, in their order; `-` is standard input.
+fn given_files<S: System>(system: &mut S, names: &[&str]) -> Result<Vec<Vec<u8>>, JobError> {
+    let mut read: Vec<Vec<u8>> = Vec::new(system.alloc());
+    for name in names {
+        read.push(given_bytes(system, name)?)?;
+    }
+    Ok(read)
+}
+
+/// The bytes of the only file; nothing where there are several.
+fn only(read: &[Vec<u8>]) -> &[u8] {
+    match read {
+        [bytes] => bytes.as_slice(),
+        _ => b"",
+    }
+}
+
+/// Refuses the first of several files that is no source.
+fn refuse_elf(alloc: Global, names: &[&str], read: &[Vec<u8>]) -> Result<(), JobError> {
+    for (name, bytes) in names.iter().zip(read.iter()) {
+        if is_elf(bytes.as_slice()) {
+            return Err(no_source(alloc, name)?);
+        }
+    }
+    Ok(())
+}
+
+/// The line of a file that stands among sources and is none.
+fn no_source(alloc: Global, name: &str) -> Result<JobError, AllocError> {
+    let line = format!(in alloc; "{name}: not a source, as each of several files has to be")?;
+    Ok(JobError::Line(line))
 }
 
 /// The text of the map that the words name.

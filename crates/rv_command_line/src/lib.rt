@@ -9,7 +9,7 @@
 //! nor how a job is done.
 //!
 //! ```text
-//! let job = parse_job(alloc, &["rv", "dump", "prog"])?;   // Job::Dump { file: "prog" }
+//! let job = parse_job(alloc, &["rv", "dump", "prog"], None)?;   // Job::Dump { file: "prog" }
 //! ```
 #![tactic(auto)]
 

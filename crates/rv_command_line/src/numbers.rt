@@ -5,6 +5,16 @@ ghost use Rattle.rv_command_line.specs.Numbers.{IsRadixNumber, IsStart};
 
 use crate::operands::{Operands, Refusal, Text};
 
+/// The letters at the end of an amount, and what they multiply it by.
+const UNITS: [(&str, u64); 6] = [
+    ("k", 1_000),
+    ("K", 1_000),
+    ("m", 1_000_000),
+    ("M", 1_000_000),
+    ("g", 1_000_000_000),
+    ("G", 1_000_000_000),
+];
+
 /// The number of an operand in digits alone, or a default; `wanted` says what it should be.
 pub(crate) fn count(
     operands: &mut Operands<'_, '_>,
@@ -44,6 +54,23 @@ pub fn decimal(text: &str) -> Option<u64>
     ensures none { IfNone result ((n : ℕ) → IsRadixNumber 10 text.now n → ⊥) }
 {
     in_radix(text, 10)
+}
+
+/// A number below 2^64 as people write large ones: decimal, or so many thousands (`k`), millions (`M`) or thousands of
+/// millions (`G`), the letter of either case.
+pub(crate) fn amount(text: &str) -> Option<u64> {
+    let (digits, unit) = parts(text);
+    decimal(digits)?.checked_mul(unit)
+}
+
+/// What stands before the letter at the end of an amount, and what that multiplies it by.
+fn parts(text: &str) -> (&str, u64) {
+    for (letter, unit) in &UNITS {
+        if let Some(digits) = text.strip_suffix(*letter) {
+            return (digits, *unit);
+        }
+    }
+    (text, 1)
 }
 
 /// A number below 2^64, decimal or `0x` with hexadecimal digits of either case.

@@ -176,6 +176,8 @@ pub(crate) struct Operands<'f, 'a> {
     pub(crate) alloc: Global,
     /// What was found of them; nothing where they are only listed.
     found: Option<&'f ArgMatches<'a>>,
+    /// What the environment says of the limit of a run.
+    pub(crate) limit: Option<&'f str>,
     /// Those that were asked for, where they are only listed.
     listed: Vec<Entry>,
 }
@@ -186,15 +188,21 @@ impl<'f, 'a> Operands<'f, 'a> {
         Operands {
             alloc,
             found: None,
+            limit: None,
             listed: Vec::new(alloc),
         }
     }
 
-    /// Those that were found.
-    pub(crate) fn of(alloc: Global, found: &'f ArgMatches<'a>) -> Operands<'f, 'a> {
+    /// Those that were found, and what the environment says of the limit of a run.
+    pub(crate) fn of(
+        alloc: Global,
+        found: &'f ArgMatches<'a>,
+        limit: Option<&'f str>,
+    ) -> Operands<'f, 'a> {
         Operands {
             alloc,
             found: Some(found),
+            limit,
             listed: Vec::new(alloc),
         }
     }
@@ -247,12 +255,33 @@ impl<'f, 'a> Operands<'f, 'a> {
         Ok(values)
     }
 
+    /// The first value, which has to be there, and those behind it.
+    pub(crate) fn first_and_others(
+        &mut self,
+        texts: Texts,
+    ) -> Result<(&'a str, Vec<&'a str>), Refusal> {
+        let all = self.all(texts)?;
+        match all.split_first() {
+            Some((first, others)) => Ok((*first, Vec::from_slice(self.alloc, others)?)),
+            None => Ok((self.refuse("", "a word is missing")?, Vec::new(self.alloc))),
+        }
+    }
+
     /// Whether both are there, the one before the other.
     pub(crate) fn is_before(&self, one: Text, other: Text) -> bool {
+        self.is_before_id(one, other.0.id)
+    }
+
+    /// Whether it is there, before the first of these.
+    pub(crate) fn is_before_all(&self, one: Text, others: Texts) -> bool {
+        self.is_before_id(one, others.0.id)
+    }
+
+    fn is_before_id(&self, one: Text, other: &str) -> bool {
         let Some(found) = self.found else {
             return false;
         };
-        match (found.index_of(one.0.id), found.index_of(other.0.id)) {
+        match (found.index_of(one.0.id), found.index_of(other)) {
             (Some(first), Some(second)) => first < second,
             _ => false,
         }

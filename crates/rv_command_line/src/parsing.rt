@@ -3,29 +3,31 @@
 use crate::builds::refuse_debug_information;
 use crate::commands::command;
 use crate::operands::{Operands, Refusal};
-use crate::runs::LIMIT;
+use crate::runs::default_run;
 use crate::words::Word;
 use clap::error::ErrorKind;
 use clap::{Command, Error};
 use rv_job::Job;
 use std::alloc::{AllocError, Global};
 
-/// What the words ask for; the first word is the program's own name.
-pub fn parse_job<'a>(alloc: Global, words: &'a [&'a str]) -> Result<Job<'a>, Error> {
+/// What the words ask for; the first word is the program's own name. `limit` is what the environment says of the limit of
+/// a run, where it says something.
+pub fn parse_job<'a>(
+    alloc: Global,
+    words: &'a [&'a str],
+    limit: Option<&str>,
+) -> Result<Job<'a>, Error> {
     let mut command = command(alloc, words.get(1).copied())?;
     match refuse_debug_information(alloc, words) {
         Ok(()) => {}
         Err(refusal) => return Err(usage(&mut command, refusal)?),
     }
     let matches = command.try_get_matches_from_mut(words)?;
-    let Some((name, found)) = matches.subcommand() else {
-        return Ok(Job::Run {
-            file: "-",
-            limit: LIMIT,
-            explains: false,
-        });
+    let asked = match matches.subcommand() {
+        Some((name, found)) => job_of(name, &mut Operands::of(alloc, found, limit)),
+        None => default_run(alloc, limit),
     };
-    match job_of(name, &mut Operands::of(alloc, found)) {
+    match asked {
         Ok(job) => Ok(job),
         Err(refusal) => Err(usage(&mut command, refusal)?),
     }

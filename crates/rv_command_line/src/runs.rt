@@ -1,20 +1,22 @@
 //! The words that run a guest.
 
 use crate::builds::explain;
-use crate::numbers::{count, decimal, number};
-use crate::operands::{Flag, Operands, Refusal, Text};
+use crate::numbers::{amount, count, decimal, number};
+use crate::operands::{Flag, Operands, Refusal, Text, Texts};
 use crate::words::Help;
 use rv_job::{Asked, Coverage, Job, Shown};
+use std::alloc::Global;
 
-/// The most instructions that are executed unless the words say otherwise.
-pub(crate) const LIMIT: u64 = 1_000_000_000_000;
+/// The most instructions that are executed unless the words or the environment say otherwise.
+const LIMIT: u64 = 1_000_000_000_000;
 
 pub(crate) const RUN: Help = Help {
     name: "run",
-    about: "Runs an executable, or builds a source and runs it",
+    about: "Runs an executable, or builds sources and runs them",
     after_help: "Examples:
   rv run prog.s
-  rv run --limit 1000000 prog < input
+  rv run driver.s answer.s
+  rv run --limit 10M prog < input
   rv run --report --map prog.map prog
   rv run - < prog.s
 
@@ -22,8 +24,7 @@ Standard input is the guest's input, and its console is standard output.",
 };
 
 pub(crate) fn run<'a>(operands: &mut Operands<'_, 'a>) -> Result<Job<'a>, Refusal> {
-    let wanted = "a limit is a decimal number below 2^64";
-    let limit = count(operands, limit(), LIMIT, wanted)?;
+    let limit = limit(operands)?;
     let reports = Flag::long(
         "report",
         "Says why the run ended where the program did not exit",
@@ -35,11 +36,19 @@ pub(crate) fn run<'a>(operands: &mut Operands<'_, 'a>) -> Result<Job<'a>, Refusa
     if is_report {
         return Ok(Job::Report(asked));
     }
-    Ok(Job::Run {
-        file: asked.file,
-        limit,
-        explains,
-    })
+    Ok(Job::Run(asked))
+}
+
+/// What is done without words: a source on standard input is run.
+pub(crate) fn default_run<'a>(alloc: Global, given: Option<&str>) -> Result<Job<'a>, Refusal> {
+    Ok(Job::Run(Asked {
+        file: "-",
+        others: Vec::new(alloc),
+        map: None,
+        map_first: false,
+        limit: default_limit(alloc, given)?,
+        explains: false,
+    }))
 }
 
 pub(crate) const TRACE: Help = Help {
@@ -104,12 +113,32 @@ pub(crate) fn stats<'a>(operands: &mut Operands<'_, 'a>) -> Result<Job<'a>, Refu
     Ok(Job::Stats(looked_at(operands)?, coverage))
 }
 
-/// What a number of `trace` and `stats` has to be.
+/// What a number of `trace` has to be.
 const COUNT: &str = "a count is a decimal number below 2^64";
 
-fn limit() -> Text {
-    let help = "The most instructions to execute [default: 1000000000000]";
-    Text::long("limit", "N", help)
+/// The most instructions that are executed.
+fn limit(operands: &mut Operands<'_, '_>) -> Result<u64, Refusal> {
+    let help = "The most instructions to execute, as 500k or 10M [default: RV_LIMIT, else 1000G]";
+    match operands.optional(Text::long("limit", "N", help))? {
+        Some(text) => number(
+            amount(text),
+            "a limit is a decimal number below 2^64, also as 500k, 10M or 1G",
+        ),
+        None => default_limit(operands.alloc, operands.limit),
+    }
+}
+
+/// The most instructions where the words say nothing: what the environment says, where it says something.
+fn default_limit(alloc: Global, given: Option<&str>) -> Result<u64, Refusal> {
+    let Some(text) = given else {
+        return Ok(LIMIT);
+    };
+    match amount(text) {
+        Some(limit) => Ok(limit),
+        None => Err(Refusal::Wrong(format!(in alloc;
+            "the environment's RV_LIMIT is '{text}', which is no limit as 5000, 500k, 10M or 1G"
+        )?)),
+    }
 }
 
 fn map() -> Text {
@@ -117,14 +146,15 @@ fn map() -> Text {
     Text::long("map", "F", help)
 }
 
-fn file() -> Text {
-    Text::alone("FILE", "An executable or a source; - is standard input")
+fn files() -> Texts {
+    let help = "An executable, or sources that are built together; - is standard input";
+    Texts::alone("FILE", help)
 }
 
 /// The program that `trace` or `stats` names, and how far it runs.
 fn looked_at<'a>(operands: &mut Operands<'_, 'a>) -> Result<Asked<'a>, Refusal> {
     let map = operands.optional(map())?;
-    let limit = count(operands, limit(), LIMIT, COUNT)?;
+    let limit = limit(operands)?;
     asked(operands, map, limit, false)
 }
 
@@ -135,10 +165,12 @@ fn asked<'a>(
     limit: u64,
     explains: bool,
 ) -> Result<Asked<'a>, Refusal> {
+    let (file, others) = operands.first_and_others(files())?;
     Ok(Asked {
-        file: operands.required(file())?,
+        file,
+        others,
         map: given,
-        map_first: operands.is_before(map(), file()),
+        map_first: operands.is_before_all(map(), files()),
         limit,
         explains,
     })

@@ -7,8 +7,8 @@ use rv_memory::Paged;
 use rv_paint::painted;
 use rv_streams::{ReadFault, read_whole};
 use rv_system::{FILE_LIMIT, Purpose, System};
-use std::alloc::Global;
-use std::env::{Env, FillError};
+use std::alloc::{AllocError, Global};
+use std::env::{self, Env, FillError, VarError};
 use std::fs::File;
 use std::io::{self, IsTerminal, Stderr, Write};
 use std::os::unix::fs::PermissionsExt;
@@ -71,6 +71,17 @@ impl System for Host<'_> {
             let _ = let_run(&file);
         }
         Ok(())
+    }
+
+    fn variable(&self, name: &str) -> Result<Option<String>, AllocError> {
+        match env::var(self.rt, name) {
+            Ok(text) if text.is_empty() => Ok(None),
+            Ok(text) => Ok(Some(text)),
+            Err(VarError::NotPresent) => Ok(None),
+            // what is no text is no number either
+            Err(VarError::NotUnicode) => Ok(Some("\u{FFFD}".to_string(self.rt.alloc())?)),
+            Err(VarError::OutOfMemory) => Err(AllocError),
+        }
     }
 
     fn shows_colours(&self) -> bool {

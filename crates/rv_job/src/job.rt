@@ -7,13 +7,8 @@ use rv_link::LinkOptions;
 /// What the command line asks for.
 #[derive(Drop)]
 pub enum Job<'a> {
-    /// Runs an executable, or a source; `-` is standard input.
-    Run {
-        file: &'a str,
-        limit: u64,
-        /// Whether a fault is explained.
-        explains: bool,
-    },
+    /// Runs an executable, or sources.
+    Run(Asked<'a>),
     /// Runs, and says why a run ended where the guest did not exit.
     Report(Asked<'a>),
     /// Runs, and writes a line for each instruction.

@@ -1,10 +1,14 @@
-//! What is asked of runs that are looked at.
+//! What is asked of runs.
+
+use std::alloc::{AllocError, Global};
 
 /// What a run is of, as the words say it.
-#[derive(Clone, Copy, Drop)]
+#[derive(Drop)]
 pub struct Asked<'a> {
     /// An executable, or a source; `-` is standard input.
     pub file: &'a str,
+    /// More sources, which are built together with the first.
+    pub others: Vec<&'a str>,
     /// The map of an executable.
     pub map: Option<&'a str>,
     /// Whether the map comes before the file in the words.
@@ -13,6 +17,21 @@ pub struct Asked<'a> {
     pub limit: u64,
     /// Whether a fault of the source is explained.
     pub explains: bool,
+}
+
+impl<'a> Asked<'a> {
+    /// The files in their order.
+    pub fn names(&self, alloc: Global) -> Result<Vec<&'a str>, AllocError> {
+        let mut names: Vec<&'a str> = Vec::new(alloc);
+        names.push(self.file)?;
+        names.extend_from_slice(self.others.as_slice())?;
+        Ok(names)
+    }
+
+    /// Whether one of the files is standard input, so that the guest has none.
+    pub fn has_input(&self) -> bool {
+        self.file == "-" || self.others.iter().any(|name| *name == "-")
+    }
 }
 
 /// Which lines of a trace are written, and where.

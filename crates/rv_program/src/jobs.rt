@@ -16,11 +16,7 @@ use rv_watched_jobs::{run_with_report, stats, trace};
 /// Does a job; the exit status.
 pub(crate) fn run_job<S: Guests>(system: &mut S, job: &Job<'_>) -> Result<u8, JobError> {
     match job {
-        Job::Run {
-            file,
-            limit,
-            explains,
-        } => run(system, file, *limit, *explains),
+        Job::Run(asked) => run(system, asked),
         Job::Report(asked) => look_back(system, asked),
         Job::Trace(asked, shown) => show_steps(system, asked, shown),
         Job::Stats(asked, coverage) => count(system, asked, coverage),

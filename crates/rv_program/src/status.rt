@@ -32,7 +32,9 @@ fn work<S: Guests>(system: &mut S, words: &[String]) -> Result<u8, CliError> {
     for word in words {
         given.push(word.as_str())?;
     }
-    let job = parse_job(alloc, given.as_slice())?;
+    let limit = system.variable("RV_LIMIT")?;
+    let limit = limit.as_ref().map(|text| text.as_str());
+    let job = parse_job(alloc, given.as_slice(), limit)?;
     Ok(run_job(system, &job)?)
 }
 

@@ -140,6 +140,10 @@ impl System for Fake<'_> {
         Ok(())
     }
 
+    fn variable(&self, _: &str) -> Result<Option<String>, AllocError> {
+        Ok(None)
+    }
+
     fn shows_colours(&self) -> bool {
         self.scene.colours
     }

@@ -4,7 +4,7 @@
 //! has no ghost state, so what a command line gives and takes is tested and not proved.
 
 use rv_streams::ReadFault;
-use std::alloc::Global;
+use std::alloc::{AllocError, Global};
 use std::io::{self, Write};
 
 /// The most bytes of a file: 1 GiB.
@@ -32,6 +32,9 @@ pub trait System {
 
     /// Writes a file anew.
     fn write(&mut self, name: &str, purpose: Purpose, bytes: &[u8]) -> io::Result<()>;
+
+    /// What a variable of the environment says, where it is set and not empty.
+    fn variable(&self, name: &str) -> Result<Option<String>, AllocError>;
 
     /// Whether standard output shows colours: it is a terminal, and nobody asked for none.
     fn shows_colours(&self) -> bool;

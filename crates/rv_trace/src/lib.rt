@@ -1,7 +1,7 @@
 //! Why a run ended, and how it went: reports, traces and counts, in words of the program's symbols and lines.
 //!
 //! It takes a machine that [`run_watched`](rv_machine::run_watched) runs, and what is known of the program's addresses
-//! ([`Places`], from its map and its source), and gives texts: the instructions executed one by one ([`Trace`]), how often
+//! ([`Places`], from its map and its sources), and gives texts: the instructions executed one by one ([`Trace`]), how often
 //! each was ([`Counts`], `counts_text`, `lines_text`, `lcov_text`), and why the run ended ([`Latest`], `report_text`).
 //!
 //! Main contracts: that of `run_watched`, by which a run that is watched is the run of the machine, and each watcher is told
@@ -9,7 +9,7 @@
 //! the events is tested. It must not know files or the words of a command line.
 //!
 //! ```text
-//! let places = Places::new(alloc, Some(&map), Some(Source { name: "a.s", text }))?;
+//! let places = Places::new(alloc, Some(&map), &[Source { name: "a.s", text }])?;
 //! let mut counts = Counts::new(alloc, &image)?;
 //! let mut machine = Watched::new(Paged::new(alloc, image)?, entry);
 //! let end = run_watched(&mut machine, &mut reader, &mut writer, &mut counts, limit)?;

@@ -114,7 +114,7 @@ pub(crate) fn put_file(
     places: &Places<'_>,
     file: u64,
 ) -> Result<(), AllocError> {
-    match places.source_name() {
+    match places.source_name(file) {
         Some(name) => put(text, name),
         None => put_decimal(text, file),
     }

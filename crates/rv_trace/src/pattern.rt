@@ -245,7 +245,7 @@ pub(crate) fn put_line(
     crate::lines::put_file(text, places, row.file)?;
     text.push(b':')?;
     put_decimal(text, row.line)?;
-    let line = places.line(row.line);
+    let line = places.line(row.file, row.line);
     if !line.is_empty() {
         put(text, ": ")?;
         text.extend_from_slice(line)?;

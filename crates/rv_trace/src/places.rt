@@ -4,7 +4,7 @@
 //! a binary search. A map has global names alone; those of a file are the labels of its source, each at the address of the
 //! statement after it.
 
-use rv_fault::SourceFault;
+use rv_fault::{Fault, SourceFault};
 use rv_map::Map;
 use rv_map_laws::{Region, Row};
 use rv_parse::parse_compact;
@@ -16,6 +16,14 @@ use std::alloc::{AllocError, Global};
 pub struct Source<'a> {
     pub name: &'a str,
     pub text: &'a [u8],
+}
+
+/// A source by its lines.
+#[derive(Drop)]
+struct Lines<'a> {
+    name: &'a str,
+    /// Without their ends.
+    lines: Vec<&'a [u8]>,
 }
 
 /// A name and its address.
@@ -45,13 +53,30 @@ fn is_bound(name: &[u8]) -> bool {
     bounds.iter().any(|bound| *bound == name)
 }
 
-/// The address of a statement of the one source, by its ordinal.
-fn address_of(map: &Map, ordinal: u64) -> Option<u64> {
+/// The address of a statement, by its file and its ordinal.
+fn address_of(map: &Map, key: (u64, u64)) -> Option<u64> {
     match map
         .rows
-        .binary_search_by_key(&(1, ordinal), |row| (row.file, row.ordinal))
+        .binary_search_by_key(&key, |row| (row.file, row.ordinal))
     {
         Ok(index) => map.rows.get(index).map(|row| row.address),
+        Err(_) => None,
+    }
+}
+
+/// The lines of a text, without their ends.
+fn lines_of<'a>(alloc: Global, text: &'a [u8]) -> Result<Vec<&'a [u8]>, AllocError> {
+    let mut lines: Vec<&'a [u8]> = Vec::new(alloc);
+    for line in text.split(|byte| *byte == b'\n') {
+        lines.push(line)?;
+    }
+    Ok(lines)
+}
+
+/// The index of what has a number, from 1.
+fn index_of(number: u64) -> Option<usize> {
+    match usize::try_from(number.checked_sub(1)?) {
+        Ok(index) => Some(index),
         Err(_) => None,
     }
 }
@@ -64,47 +89,60 @@ pub struct Places<'a> {
     /// Those with bytes, by address.
     rows: Vec<Row>,
     regions: Vec<Region>,
-    source: Option<Source<'a>>,
-    /// The lines of the source, without their ends.
-    lines: Vec<&'a [u8]>,
+    /// The sources in the order of their files' numbers; none where they are not at hand.
+    sources: Vec<Lines<'a>>,
 }
 
 impl<'a> Places<'a> {
-    /// What a map says, and the source where the program has one that is at hand.
-    pub fn new(
-        alloc: Global,
-        map: Option<&'a Map>,
-        source: Option<Source<'a>>,
-    ) -> Result<Self, SourceFault> {
-        let mut places = Places::nothing(alloc, source);
-        places.add(alloc, map)?;
+    /// What a map says, and the sources, where the program has some that are at hand, in the order of their files' numbers.
+    pub fn new(alloc: Global, map: Option<&'a Map>, sources: &[Source<'a>]) -> Result<Self, Fault> {
+        let mut places = Places::nothing(alloc);
+        if let Some(map) = map {
+            places.add_globals(map)?;
+            places.add_all_labels(alloc, map, sources)?;
+            places.order_symbols(alloc)?;
+            places.add_rows(map)?;
+            places.add_regions(map)?;
+        }
+        places.add_sources(alloc, sources)?;
         Ok(places)
     }
 
     /// Nothing yet.
-    fn nothing(alloc: Global, source: Option<Source<'a>>) -> Self {
+    fn nothing(alloc: Global) -> Self {
         Places {
             symbols: Vec::new(alloc),
             rows: Vec::new(alloc),
             regions: Vec::new(alloc),
-            source,
-            lines: Vec::new(alloc),
+            sources: Vec::new(alloc),
         }
     }
 
-    /// Adds what a map and the source say.
-    fn add(&mut self, alloc: Global, map: Option<&'a Map>) -> Result<(), SourceFault> {
-        if let Some(map) = map {
-            self.add_globals(map)?;
-            if let Some(source) = self.source {
-                self.add_labels(alloc, map, source.text)?;
+    /// Adds the labels of all sources.
+    fn add_all_labels(
+        &mut self,
+        alloc: Global,
+        map: &Map,
+        sources: &[Source<'a>],
+    ) -> Result<(), Fault> {
+        let mut file: u32 = 0;
+        for source in sources {
+            file = file.saturating_add(1);
+            match self.add_labels(alloc, map, u64::from(file), source.text) {
+                Ok(()) => {}
+                Err(fault) => return Err(Fault::Source(file, fault)),
             }
-            self.order_symbols(alloc)?;
-            self.add_rows(map)?;
-            self.add_regions(map)?;
         }
-        if let Some(source) = self.source {
-            self.add_lines(source.text)?;
+        Ok(())
+    }
+
+    /// Adds the sources by their lines.
+    fn add_sources(&mut self, alloc: Global, sources: &[Source<'a>]) -> Result<(), AllocError> {
+        for source in sources {
+            self.sources.push(Lines {
+                name: source.name,
+                lines: lines_of(alloc, source.text)?,
+            })?;
         }
         Ok(())
     }
@@ -112,13 +150,6 @@ impl<'a> Places<'a> {
     fn add_regions(&mut self, map: &Map) -> Result<(), AllocError> {
         for region in [map.text, map.rodata, map.data, map.bss] {
             self.regions.push(region)?;
-        }
-        Ok(())
-    }
-
-    fn add_lines(&mut self, text: &'a [u8]) -> Result<(), AllocError> {
-        for line in text.split(|byte| *byte == b'\n') {
-            self.lines.push(line)?;
         }
         Ok(())
     }
@@ -135,9 +166,15 @@ impl<'a> Places<'a> {
         Ok(())
     }
 
-    /// Adds the labels of the source that was built: not numeric ones, those of GNU's local names (`.L`), and those with
+    /// Adds the labels of a source that was built, by the number of its file: not numeric ones, those of GNU's local names (`.L`), and those with
     /// nothing behind them in their part of a section.
-    fn add_labels(&mut self, alloc: Global, map: &Map, text: &'a [u8]) -> Result<(), SourceFault> {
+    fn add_labels(
+        &mut self,
+        alloc: Global,
+        map: &Map,
+        file: u64,
+        text: &'a [u8],
+    ) -> Result<(), SourceFault> {
         let statements = parse_compact(alloc, text)?;
         let mut waiting: Vec<&'a [u8]> = Vec::new(alloc);
         let mut ordinal: u64 = 0;
@@ -145,17 +182,17 @@ impl<'a> Places<'a> {
         for index in 0..statements.len() {
             let statement = statements.read(index, &mut room);
             ordinal = ordinal.saturating_add(1);
-            self.add_label(map, &statement.kind, ordinal, &mut waiting)?;
+            self.add_label(map, &statement.kind, (file, ordinal), &mut waiting)?;
         }
         Ok(())
     }
 
-    /// Keeps the label of a statement of this ordinal; or gives the statement's address to those that are kept.
+    /// Keeps the label of a statement of this file and ordinal; or gives the statement's address to those that are kept.
     fn add_label(
         &mut self,
         map: &Map,
         kind: &StatementKind<'a>,
-        ordinal: u64,
+        key: (u64, u64),
         waiting: &mut Vec<&'a [u8]>,
     ) -> Result<(), AllocError> {
         match kind {
@@ -166,7 +203,7 @@ impl<'a> Places<'a> {
             }
             StatementKind::Enters(_) | StatementKind::Opens(_) => waiting.clear(),
             _ => {
-                if let Some(address) = address_of(map, ordinal) {
+                if let Some(address) = address_of(map, key) {
                     self.add_waiting(waiting.as_slice(), address)?;
                     waiting.clear();
                 }
@@ -263,23 +300,25 @@ impl<'a> Places<'a> {
         self.rows.as_slice()
     }
 
-    /// The name of the source, where there is one.
-    pub(crate) fn source_name(&self) -> Option<&'a str> {
-        match self.source {
+    /// The source of a file's number, where it is at hand.
+    fn source(&self, file: u64) -> Option<&Lines<'a>> {
+        self.sources.get(index_of(file)?)
+    }
+
+    /// The name of a file by its number, where its source is at hand.
+    pub(crate) fn source_name(&self, file: u64) -> Option<&'a str> {
+        match self.source(file) {
             Some(source) => Some(source.name),
             None => None,
         }
     }
 
-    /// The text of a line, from 1, without the blanks around it; none where the source is not at hand.
-    pub(crate) fn line(&self, number: u64) -> &'a [u8] {
-        let Some(before) = number.checked_sub(1) else {
+    /// The text of a line of a file without the blanks around it; none where the source is not at hand.
+    pub(crate) fn line(&self, file: u64, number: u64) -> &'a [u8] {
+        let (Some(source), Some(index)) = (self.source(file), index_of(number)) else {
             return &[];
         };
-        let Ok(index) = usize::try_from(before) else {
-            return &[];
-        };
-        match self.lines.get(index) {
+        match source.lines.get(index) {
             Some(line) => line.trim_ascii(),
             None => &[],
         }

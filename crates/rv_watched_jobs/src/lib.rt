@@ -6,8 +6,8 @@
 //!
 //! ```text
 //! // rv run --report a.s
-//! let asked = Asked { file: "a.s", map: None, map_first: false, limit };
-//! let status = run_with_report(system, &asked, program, image)?;
+//! let (program, image) = load_program(system, asked)?;
+//! let status = run_with_report(system, asked, program, image)?;
 //! ```
 #![tactic(auto)]
 

@@ -1,9 +1,8 @@
 //! Runs that are looked at: reports of why they ended, traces, and counts.
 //!
-//! Of a program that was built from a source the map and the text are at hand, so its symbols, files and lines are shown; of
+//! Of a program that was built from sources the map and the texts are at hand, so its symbols, files and lines are shown; of
 //! an executable those of the map that the words name for it, if any.
 
-use rv_fault::Fault;
 use rv_guests::{GuestInput, Guests, report_end, run_line};
 use rv_image::Image;
 use rv_job::{Asked, Coverage, Shown};
@@ -21,25 +20,26 @@ use std::io::Write;
 /// What is known of a program.
 #[derive(Drop)]
 pub struct Program {
-    /// Its map, where it was built from a source or the words name one.
+    /// Its map, where it was built from sources or the words name one.
     pub map: Option<Map>,
-    /// The text of its source, where it was built from one.
-    pub source: Option<Vec<u8>>,
+    /// The texts of its sources in their order, where it was built from them.
+    pub sources: Vec<Vec<u8>>,
 }
 
 impl Program {
     /// What is known of its addresses.
-    fn places<'a>(&'a self, alloc: Global, name: &'a str) -> Result<Places<'a>, JobError> {
-        let source = match &self.source {
-            Some(text) => Some(Source {
-                name,
+    fn places<'a>(&'a self, alloc: Global, asked: &Asked<'a>) -> Result<Places<'a>, JobError> {
+        let names = asked.names(alloc)?;
+        let mut sources: Vec<Source<'a>> = Vec::new(alloc);
+        for (name, text) in names.iter().zip(self.sources.iter()) {
+            sources.push(Source {
+                name: *name,
                 text: text.as_slice(),
-            }),
-            None => None,
-        };
-        match Places::new(alloc, self.map.as_ref(), source) {
+            })?;
+        }
+        match Places::new(alloc, self.map.as_ref(), sources.as_slice()) {
             Ok(places) => Ok(places),
-            Err(fault) => Err(fault_line(alloc, &Fault::Source(1, fault), &[name])?),
+            Err(fault) => Err(fault_line(alloc, &fault, names.as_slice())?),
         }
     }
 }
@@ -53,7 +53,7 @@ pub fn run_with_report<S: Guests>(
     image: Image,
 ) -> Result<u8, JobError> {
     let alloc: Global = system.alloc();
-    let places = program.places(alloc, asked.file)?;
+    let places = program.places(alloc, asked)?;
     let segments = Segments::of(alloc, &image)?;
     let mut latest = Latest::new();
     let mut machine = machine_of(alloc, image)?;
@@ -78,7 +78,7 @@ pub fn stats<S: Guests>(
     image: Image,
 ) -> Result<u8, JobError> {
     let alloc: Global = system.alloc();
-    let places = program.places(alloc, asked.file)?;
+    let places = program.places(alloc, asked)?;
     let mut counts = Counts::new(alloc, &image)?;
     let mut machine = machine_of(alloc, image)?;
     let watched = watch(system, &mut machine, asked, &mut counts, asked.limit);
@@ -119,7 +119,7 @@ pub fn trace<S: Guests>(
     image: Image,
 ) -> Result<u8, JobError> {
     let alloc: Global = system.alloc();
-    let places = program.places(alloc, asked.file)?;
+    let places = program.places(alloc, asked)?;
     trace_by(system, asked, shown, image, &places)
 }
 
@@ -185,7 +185,7 @@ fn watch<S: Guests, T: Watcher<Paged>>(
     watcher: &mut T,
     limit: u64,
 ) -> Result<End, WatchFault> {
-    let input = if asked.file == "-" {
+    let input = if asked.has_input() {
         GuestInput::Empty
     } else {
         GuestInput::Standard
