@@ -102,7 +102,7 @@ Arguments:
 
 Options:
       --limit <N>  The most instructions to execute, as 500k or 10M [default: RV_LIMIT, else 1000G]
-      --report     Says why the run ended where the program did not exit
+      --report     Says how the run ended, and shows the registers and the latest instructions
       --map <F>    The map of an executable, for its symbols and lines
       --explain    Shows below a fault where it stands and why, as on a terminal
   -h, --help       Print help

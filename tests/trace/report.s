@@ -1,11 +1,15 @@
-# Why a run ended that did not exit. With an exit nothing is added.
+# How a run ended: by an access, and by an exit.
 # rv: run --report a.s
 # status: 125
 # out:
 # errors is: wanted
 # rv: run --report exit.s
 # status: 7
-# errors:
+# errors has: exit
+# errors has:   with status 7
+# errors has:   exit.s:4: ecall
+# errors has:   a0   0000000000000007 7
+# errors has:   s1   ffffffffffffff85 -123
 # rv: build -o exe --map map a.s
 # rv: run --report --map map exe
 # status: 125
@@ -23,7 +27,7 @@ _start: la a1, buf
 buf: .zero 16
 #--- exit.s
 .globl _start
-_start: li a0, 7
+_start: li a0, 7; li s1, -123
   li a7, 93
   ecall
 #--- wanted
@@ -39,7 +43,7 @@ registers
   sp   0000000040000000
   gp   0000000000000000
   tp   0000000000000000
-  t0   0000000000000008
+  t0   0000000000000008 8
   t1   0000000000000000
   t2   0000000000000000
   s0   0000000000000000
@@ -67,9 +71,9 @@ registers
   t5   0000000000000000
   t6   0000000000000000
 segments
-  0000000000010000 0000000000010014 --x
-  0000000000011000 0000000000011010 rw-
-  000000003ff00000 0000000040000000 rw-
+  0000000000010000 0000000000010014 --x .text
+  0000000000011000 0000000000011010 rw- .bss
+  000000003ff00000 0000000040000000 rw- the stack
 latest instructions
   0000000000010000 _start               auipc a1,0x1
   0000000000010004 _start+0x4           addi a1,a1,0

@@ -27,7 +27,7 @@ pub(crate) fn run<'a>(operands: &mut Operands<'_, 'a>) -> Result<Job<'a>, Refusa
     let limit = limit(operands)?;
     let reports = Flag::long(
         "report",
-        "Says why the run ended where the program did not exit",
+        "Says how the run ended, and shows the registers and the latest instructions",
     );
     let is_report = operands.flag(reports)?;
     let map = operands.optional(map().beside(reports))?;

@@ -9,7 +9,7 @@ use rv_link::LinkOptions;
 pub enum Job<'a> {
     /// Runs an executable, or sources.
     Run(Asked<'a>),
-    /// Runs, and says why a run ended where the guest did not exit.
+    /// Runs, and says how the run ended.
     Report(Asked<'a>),
     /// Runs, and writes a line for each instruction.
     Trace(Asked<'a>, Shown<'a>),

@@ -72,7 +72,7 @@ pub(crate) fn run_job<S: Guests>(system: &mut S, job: &Job<'_>) -> Result<u8, Jo
     }
 }
 
-/// Runs, and says why the run ended where the guest did not exit; the exit status.
+/// Runs, and says how the run ended; the exit status.
 fn look_back<S: Guests>(system: &mut S, asked: &Asked<'_>) -> Result<u8, JobError> {
     let (program, image) = load_program(system, asked)?;
     run_with_report(system, asked, program, image)

@@ -4,6 +4,7 @@
 //! a binary search. A map has global names alone; those of a file are the labels of its source, each at the address of the
 //! statement after it.
 
+use crate::columns::put;
 use rv_fault::{Fault, SourceFault};
 use rv_map::Map;
 use rv_map_laws::{Region, Row};
@@ -63,6 +64,9 @@ fn address_of(map: &Map, key: (u64, u64)) -> Option<u64> {
         Err(_) => None,
     }
 }
+
+/// The regions of a program, in the order of its map.
+const REGIONS: [&str; 4] = [".text", ".rodata", ".data", ".bss"];
 
 /// The lines of a text, without their ends.
 fn lines_of<'a>(alloc: Global, text: &'a [u8]) -> Result<Vec<&'a [u8]>, AllocError> {
@@ -245,6 +249,31 @@ impl<'a> Places<'a> {
         }
         self.rows
             .sort_by_key(|row| (row.address, row.file, row.ordinal))
+    }
+
+    /// Adds the names of the regions between two addresses, a blank before each.
+    pub(crate) fn put_regions(
+        &self,
+        text: &mut Vec<u8>,
+        start: u64,
+        end: u64,
+    ) -> Result<(), AllocError> {
+        for (name, region) in REGIONS.iter().zip(self.regions.iter()) {
+            if start <= region.start && region.start < region.end && region.end <= end {
+                text.push(b' ')?;
+                put(text, name)?;
+            }
+        }
+        Ok(())
+    }
+
+    /// The name of the region that has an address.
+    pub(crate) fn region_at(&self, address: u64) -> Option<&'static str> {
+        let index = self
+            .regions
+            .iter()
+            .position(|region| region.start <= address && address < region.end)?;
+        REGIONS.get(index).copied()
     }
 
     /// The nearest symbol at or below an address, in the address's region.

@@ -14,6 +14,13 @@ use rv_machine::{End, Event, ShowFault, Watched, Watcher};
 use rv_memory::Memory;
 use std::alloc::{AllocError, Global};
 
+/// What is less, or as much below 0, is shown in decimal too.
+const SMALL: u64 = 65_536;
+/// How far behind what a symbol names an access is said to be behind it.
+const BEHIND: u64 = 4_096;
+/// How far below the stack an access is said to find it full.
+const BELOW_STACK: u64 = 65_536;
+
 /// The addresses of the latest 16 instructions of a run.
 #[derive(Drop)]
 pub struct Latest {
@@ -72,6 +79,17 @@ impl Segments {
         Ok(Segments { bounds })
     }
 
+    /// The nearest end of a segment at or below an address; 0 where there is none.
+    fn end_before(&self, address: u64) -> u64 {
+        let mut nearest: u64 = 0;
+        for bounds in &self.bounds {
+            if bounds.end <= address {
+                nearest = nearest.max(bounds.end);
+            }
+        }
+        nearest
+    }
+
     /// The segment that has an address.
     fn at(&self, address: u64) -> Option<&Bounds> {
         self.bounds.iter().find(|bounds| {
@@ -97,8 +115,8 @@ fn add_bounds(bounds: &mut Vec<Bounds>, image: &Image) -> Result<(), AllocError>
     Ok(())
 }
 
-/// Why a run ended that the guest did not end by an exit: the instruction at pc, the access that failed, the registers, the
-/// segments and the latest instructions.
+/// How a run ended: the status of an exit, the instruction at pc, the access that failed, the registers, the segments and the
+/// latest instructions.
 pub fn report_text<M: Memory>(
     alloc: Global,
     machine: &Watched<M>,
@@ -108,12 +126,23 @@ pub fn report_text<M: Memory>(
     end: &End,
 ) -> Result<Vec<u8>, AllocError> {
     let mut text = Vec::new(alloc);
+    put_exit(&mut text, end)?;
     put_at(&mut text, machine, places)?;
-    put_failed(&mut text, machine, segments, end)?;
+    put_failed(&mut text, machine, (places, segments), end)?;
     put_registers(&mut text, machine, places)?;
-    put_segments(&mut text, segments)?;
+    put_segments(&mut text, places, segments)?;
     put_latest(&mut text, machine, latest, places)?;
     Ok(text)
+}
+
+/// Adds the status of an exit.
+fn put_exit(text: &mut Vec<u8>, end: &End) -> Result<(), AllocError> {
+    let End::Exited(status) = end else {
+        return Ok(());
+    };
+    put(text, "exit\n  with status ")?;
+    put_decimal(text, u64::from(*status))?;
+    put(text, "\n")
 }
 
 /// Adds the lines of the instruction at pc.
@@ -146,10 +175,14 @@ fn put_registers<M: Memory>(
 }
 
 /// Adds the lines of the segments.
-fn put_segments(text: &mut Vec<u8>, segments: &Segments) -> Result<(), AllocError> {
+fn put_segments(
+    text: &mut Vec<u8>,
+    places: &Places<'_>,
+    segments: &Segments,
+) -> Result<(), AllocError> {
     put(text, "segments\n")?;
     for bounds in &segments.bounds {
-        put_bounds(text, bounds)?;
+        put_bounds(text, places, bounds)?;
     }
     Ok(())
 }
@@ -182,7 +215,7 @@ fn put_place<M: Memory>(
 fn put_failed<M: Memory>(
     text: &mut Vec<u8>,
     machine: &Watched<M>,
-    segments: &Segments,
+    known: (&Places<'_>, &Segments),
     end: &End,
 ) -> Result<(), AllocError> {
     let (Some(address), Some(what)) = (end.address(), failed(end, machine)) else {
@@ -194,32 +227,99 @@ fn put_failed<M: Memory>(
     put_decimal(text, what.1)?;
     put(text, " bytes at ")?;
     put_fixed(text, address, 8)?;
-    put_why(text, segments, end, address, what.1)?;
+    put_symbol(text, known.0, address)?;
+    put_why(text, known, end, address, what.1)?;
     text.push(b'\n')?;
+    Ok(())
+}
+
+/// Adds the symbol that an address points into, after a blank, where there is one.
+fn put_symbol(text: &mut Vec<u8>, places: &Places<'_>, address: u64) -> Result<(), AllocError> {
+    if let Some(near) = places.symbol_at(address) {
+        text.push(b' ')?;
+        put_near(text, Some(near))?;
+    }
     Ok(())
 }
 
 /// Adds why an access of these bytes failed.
 fn put_why(
     text: &mut Vec<u8>,
-    segments: &Segments,
+    known: (&Places<'_>, &Segments),
     end: &End,
     address: u64,
     bytes: u64,
 ) -> Result<(), AllocError> {
+    let (places, segments) = known;
     if matches!(end, End::MisalignedAtomic(_)) {
         return put(text, ", which is no multiple of them");
     }
     match segments.at(address) {
         Some(bounds) if bounds.end.wrapping_sub(address) < bytes => {
-            put(text, ", past the end of a segment")
+            put(text, ", past the end of ")?;
+            put(
+                text,
+                name_of(places, bounds, address).unwrap_or("a segment"),
+            )
         }
         Some(bounds) => {
-            put(text, ", whose segment has ")?;
+            put(text, ", in ")?;
+            put(
+                text,
+                name_of(places, bounds, address).unwrap_or("a segment"),
+            )?;
+            put(text, ", which has ")?;
             put(text, rights(bounds.flags))
         }
-        None => put(text, ", in no segment"),
+        None => {
+            put(text, ", in no segment")?;
+            put_beside(text, places, segments, address)
+        }
     }
+}
+
+/// The name of the part of a segment that has an address.
+fn name_of(places: &Places<'_>, bounds: &Bounds, address: u64) -> Option<&'static str> {
+    if bounds.start == STACK_START {
+        return Some("the stack");
+    }
+    places.region_at(address)
+}
+
+/// Adds what an access in no segment is beside: the low end of the stack, or the end of what a symbol names.
+fn put_beside(
+    text: &mut Vec<u8>,
+    places: &Places<'_>,
+    segments: &Segments,
+    address: u64,
+) -> Result<(), AllocError> {
+    if address < STACK_START && STACK_START.wrapping_sub(address) <= BELOW_STACK {
+        put(text, "; the stack is full: ")?;
+        put_decimal(text, STACK_BYTES as u64 >> 20)?;
+        return put(text, " MiB");
+    }
+    let end = segments.end_before(address);
+    let Some(last) = places.symbol_at(end.wrapping_sub(1)) else {
+        return Ok(());
+    };
+    put_behind(text, last.name, address.wrapping_sub(end))
+}
+
+/// Adds how far behind what a symbol names an access is, where it is near.
+fn put_behind(text: &mut Vec<u8>, name: &[u8], distance: u64) -> Result<(), AllocError> {
+    if distance > BEHIND {
+        return Ok(());
+    }
+    if distance == 0 {
+        put(text, ", right")?;
+    } else {
+        put(text, ", ")?;
+        put_decimal(text, distance)?;
+        put(text, " bytes")?;
+    }
+    put(text, " behind `")?;
+    text.extend_from_slice(name)?;
+    put(text, "`")
 }
 
 /// What a failed access was, and its bytes.
@@ -250,7 +350,7 @@ fn inst_at<M: Memory>(machine: &Watched<M>) -> Option<Inst> {
     inst_of(bits_at(machine.memory(), machine.pc())?)
 }
 
-/// Adds a register: its name, its value, and the symbol that it points into.
+/// Adds a register: its name, its value, that in decimal where it is small, and the symbol that it points into.
 fn put_register<M: Memory>(
     text: &mut Vec<u8>,
     machine: &Watched<M>,
@@ -263,22 +363,38 @@ fn put_register<M: Memory>(
     fill_column(text, start, 4)?;
     let value = machine.register(reg);
     put_fixed(text, value, 8)?;
-    if let Some(near) = places.symbol_at(value) {
-        text.push(b' ')?;
-        put_near(text, Some(near))?;
-    }
+    put_small(text, value)?;
+    put_symbol(text, places, value)?;
     text.push(b'\n')?;
     Ok(())
 }
 
-/// Adds a segment: its first address, the address after it, and its rights.
-fn put_bounds(text: &mut Vec<u8>, bounds: &Bounds) -> Result<(), AllocError> {
+/// Adds a number in decimal, after a blank, where it is small; 0 is plain as it stands.
+fn put_small(text: &mut Vec<u8>, value: u64) -> Result<(), AllocError> {
+    let negated = value.wrapping_neg();
+    if value == 0 || SMALL <= value && SMALL <= negated {
+        return Ok(());
+    }
+    if value < SMALL {
+        put(text, " ")?;
+        return put_decimal(text, value);
+    }
+    put(text, " -")?;
+    put_decimal(text, negated)
+}
+
+/// Adds a segment: its first address, the address after it, its rights, and what it holds.
+fn put_bounds(text: &mut Vec<u8>, places: &Places<'_>, bounds: &Bounds) -> Result<(), AllocError> {
     put(text, "  ")?;
     put_fixed(text, bounds.start, 8)?;
     text.push(b' ')?;
     put_fixed(text, bounds.end, 8)?;
     text.push(b' ')?;
     put(text, rights(bounds.flags))?;
+    if bounds.start == STACK_START {
+        put(text, " the stack")?;
+    }
+    places.put_regions(text, bounds.start, bounds.end)?;
     text.push(b'\n')?;
     Ok(())
 }

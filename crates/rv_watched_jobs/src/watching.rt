@@ -44,7 +44,7 @@ impl Program {
     }
 }
 
-/// Runs a program, and says why the run ended where the guest did not exit; the exit status.
+/// Runs a program, and says how the run ended and what it left; the exit status.
 #[inline(never)]
 pub fn run_with_report<S: Guests>(
     system: &mut S,
@@ -59,9 +59,6 @@ pub fn run_with_report<S: Guests>(
     let mut machine = machine_of(alloc, image)?;
     let watched = watch(system, &mut machine, asked, &mut latest, asked.limit);
     let end = ended(alloc, watched, "-")?;
-    if matches!(end, End::Exited(_)) {
-        return Ok(report_end(system, &end));
-    }
     let text = report_text(alloc, &machine, &latest, &places, &segments, &end)?;
     let status = report_end(system, &end);
     put_lines(system, text.as_slice())?;
