@@ -250,11 +250,11 @@ def commands(name, source, at, texts):
     calls += [(f"{it[0]} {name} {number}", it, shown(output_of(at, *it))) for number, it in enumerate(looked)]
     raw = raw_listing(at)
     calls += [(f"objdump --raw {name}", ["objdump", "--raw", str(at / "exe")], shown(raw))] if raw else []
-    # (a run of a source takes no options of the link)
-    calls += [(f"run of a source {name}", ["run", *paths], ran)] if len(texts) == 1 and not source.options else []
+    # (a run of sources takes no options of the link)
+    calls += [(f"run of sources {name}", ["run", *paths], ran)] if not source.options else []
     shells = [["completions", shell] for shell in ("bash", "zsh", "fish")] if name == "exit7" else []
     calls += [(f"{' '.join(it)} {name}", it, shown(output_of(at, *it))) for it in shells]
-    calls += watched(name, source, at, paths) if name == "exit7" else []
+    calls += watched(name, source, at, paths) if name in ("exit7", "two_files") else []
     calls += images(name, at) if name == "hello" else []
     for called, words, wanted in calls:
         yield Case(called, [RV, *words], at, source.given if wanted is ran else b"", wanted)

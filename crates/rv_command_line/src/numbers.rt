@@ -1,4 +1,4 @@
-//! Numbers as words write them; their bounds and digits are promised.
+//! Numbers as words write them; their bounds and digits are promised, and the letters behind them tested.
 
 ghost use Rattle.std.specs.Prelude.{◌≤◌, ℕ, IfSome, IfNone};
 ghost use Rattle.rv_command_line.specs.Numbers.{IsRadixNumber, IsStart};
