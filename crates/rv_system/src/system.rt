@@ -1,4 +1,4 @@
-//! What the program asks of the system: files, and the standard streams.
+//! What the program asks of the system: files, the standard streams, and variables of the environment.
 //!
 //! Files and streams go through one trait, so that tests see each status and each line without starting a process. It
 //! has no ghost state, so what a command line gives and takes is tested and not proved.
