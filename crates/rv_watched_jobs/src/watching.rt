@@ -28,7 +28,11 @@ pub struct Program {
 
 impl Program {
     /// What is known of its addresses.
-    fn places<'a>(&'a self, alloc: Global, asked: &Asked<'a>) -> Result<Places<'a>, JobError> {
+    fn places<'a, 'w: 'a>(
+        &'a self,
+        alloc: Global,
+        asked: &Asked<'w>,
+    ) -> Result<Places<'a>, JobError> {
         let names = asked.names(alloc)?;
         let mut sources: Vec<Source<'a>> = Vec::new(alloc);
         for (name, text) in names.iter().zip(self.sources.iter()) {
