@@ -8,7 +8,7 @@ or it is of lists of any type. What the standard library has itself is taken fro
 
 NAMES says how lemmas of rv_list_laws are called, by the statement as `--plan` prints it; without a row the shortest of
 the names that are free, and not a word of the lemma's users, is taken."""
-import re, shutil, subprocess, sys
+import re, subprocess, sys
 from collections import Counter, defaultdict
 from pathlib import Path
 HERE = Path(__file__).resolve().parent
@@ -16,10 +16,11 @@ sys.path[:0] = [str(HERE), str(HERE.parents[2] / "scripts")]
 from tree import *
 from deps import origins, item_text
 import copies
+import kit
 from lists_names import NAMES, SUBJECTS, ORDER, HEADS
 
 LAWS = "rv_list_laws"
-KIT = Path("/opt/rattle") if Path("/opt/rattle").is_dir() else Path(shutil.which("rt")).resolve().parents[1]
+KIT = Path(kit.folder())
 LIBRARY = KIT / "rattle/std/lemmas"
 MAY = {("definitions", "definitions"), ("theorems", "definitions"), ("theorems", "theorems"), ("code", "definitions"), ("code", "code")}
 EDGE = r"(?<![^\s(){}\[\],;])%s(?=[\s(){}\[\],;.]|$)"
