@@ -24,6 +24,7 @@ use Rattle.rv_fault.specs.declared.link_fault.LinkFault.{LinkFault}
 use Rattle.rv_fault.specs.declared.link_fault.LinkFault.TheVariants as faults
 use Rattle.rv_fault.specs.Fault.{of_link}
 use Rattle.rv_link_laws.specs.TextStart.{IsTextStart}
+use Rattle.rv_object_types.proofs.WholeLemmas.{are_whole}
 use Rattle.rv_reach_laws.specs.Reach.{is_short_call, is_chosen_branch, ShortCallsReach, ShortBranchesReach, ShortFormsReach}
 use Rattle.rv_chain.specs.Refusals.{IsRefusedAt, IsFirstRefused, IsRefusedIn, AreUnlinked, IsRefusedFor}
 
@@ -92,8 +93,8 @@ pub short_forms_reach : ShortCallsReach → ShortBranchesReach → (sources : Li
     → ShortFormsReach sources (without drops (map object_of objects)) left start
 short_forms_reach calls branches sources objects drops left start relax of relaxed at p placed section place i j before now ii jj was is short =
     elim (or_cases (is_short_call before.kind now.kind) (is_chosen_branch sources i before) short) [
-      | inl call ↦ calls objects drops left start relax p relaxed at placed section place i j before now ii jj was is call
-      | inr branch ↦ branches sources objects drops left start relax p of relaxed at placed section place i j before now ii jj was is branch
+      | inl call ↦ calls (map object_of objects) drops left start relax p (are_whole objects) relaxed at placed section place i j before now ii jj was is call
+      | inr branch ↦ branches sources (map object_of objects) drops left start relax p (are_whole objects) of relaxed at placed section place i j before now ii jj was is branch
     ]
 
 -- a refused link of assembled sources

@@ -17,7 +17,6 @@ use Rattle.rv_image.proofs.LoadedAgainLemmas.{reload_image}
 use Rattle.rv_source_laws.specs.Program.{program}
 use Rattle.rv_listing_laws.specs.Listing.{IsListing}
 use Rattle.rv_chain_laws.specs.SourceListing.{IsSourceListing}
-use Rattle.rv_runs_laws.proofs.ListedLemmas.{listed_is}
 use Rattle.rv_chain_laws.specs.Building.{IsProgramFrom}
 use Rattle.rv_chain_laws.specs.Listed.{IsListedAs}
 
@@ -28,9 +27,9 @@ one_image file image other a b =
     let segments : image.segments ≡ other.segments = a.segments ∙ sym b.segments in
     λ i. record { entry = entry i; segments = segments i }
 
-pub listed_as : (texts : List (List ℕ)) (start : ℕ) (relax gc : Bool) (l : Linked) (exe map_bytes : List ℕ) → IsLaidOut l → IsMap l.map → IsProgramFrom texts start relax gc l → exe ≡ exe_of l → map_bytes ≡ map_text l.map
-    → IsListedAs texts exe map_bytes
-listed_as texts start relax gc l exe map_bytes laid is_map program_of written shown = record { sources = program_of.sources; read = program_of.read; listed = listed }
+pub listed_as : (texts : List (List ℕ)) (start : ℕ) (relax gc : Bool) (l : Linked) (exe map_bytes : List ℕ) → IsLaidOut l → IsMap l.map → (of : IsProgramFrom texts start relax gc l)
+    → ((reader : Reader Spells StandsFor) (text : List ℕ) → IsListing reader (linked_image l) l.map text ↔ IsSourceListing (program of.sources l.map) text) → exe ≡ exe_of l → map_bytes ≡ map_text l.map → IsListedAs texts exe map_bytes
+listed_as texts start relax gc l exe map_bytes laid is_map program_of agrees written shown = record { sources = program_of.sources; read = program_of.read; listed = listed }
   where
     listed : (image : Image) → ImageOf exe image → (m : Map) → IsMap m → map_bytes ≡ map_text m → (reader : Reader Spells StandsFor) (text : List ℕ)
         → IsListing reader image m text ↔ IsSourceListing (program program_of.sources m) text
@@ -39,4 +38,4 @@ listed_as texts start relax gc l exe map_bytes laid is_map program_of written sh
         let loaded : ImageOf exe (linked_image l) = subst (λ file. ImageOf file (linked_image l)) (sym written) (reload_image l laid) in
         let same_image : linked_image l ≡ image = one_image exe (linked_image l) image loaded loads in
         subst (λ n. IsListing reader image n text ↔ IsSourceListing (program program_of.sources n) text) same_map
-        (subst (λ im. IsListing reader im l.map text ↔ IsSourceListing (program program_of.sources l.map) text) same_image (listed_is start program_of.sources relax gc l program_of.linked reader text))
+        (subst (λ im. IsListing reader im l.map text ↔ IsSourceListing (program program_of.sources l.map) text) same_image (agrees reader text))

@@ -23,6 +23,7 @@ use rv_link::{LinkOptions, within_limits};
 use rv_object_types::Object;
 use rv_reach_laws::{short_branches_reach, short_calls_reach};
 use rv_reassembly_laws::raw_listings_reassemble;
+use rv_runs_laws::{linked_runs_agree, listing_is_the_sources};
 use rv_sources_link_laws::{linked_objects_are_flagged, objects_of_sources_link};
 use rv_text::SourceFault;
 use rv_value_laws::values_are_plain;
@@ -59,6 +60,8 @@ pub fn build(alloc: Global, sources: &[&[u8]], options: LinkOptions) -> Result<B
         (IsRefusedFor (map now_of sources.now) options.text_start options.relax options.gc) }
 {
     let linked = linked(alloc, sources, options, true)?;
+    linked_runs_agree();
+    listing_is_the_sources();
     raw_listings_reassemble();
     values_are_plain();
     let built = Built::of(alloc, &linked)?;
@@ -78,6 +81,8 @@ pub fn build_exe(alloc: Global, sources: &[&[u8]], options: LinkOptions) -> Resu
         (IsRefusedFor (map now_of sources.now) options.text_start options.relax options.gc) }
 {
     let linked = linked(alloc, sources, options, false)?;
+    linked_runs_agree();
+    listing_is_the_sources();
     raw_listings_reassemble();
     let exe = write_exec(alloc, &linked)?;
     Ok(exe)

@@ -8,11 +8,7 @@ use Rattle.std.proofs.lemmas.Bool.{eq-eqb, ne_eqb, and_from, and_left, and_right
 use Rattle.rv_layout_laws.specs.Sites.{padding_site, size_at}
 use Rattle.rv_layout_laws.specs.declared.site.Site.{Site}
 use Rattle.rv_layout_laws.specs.Calls.{InOrder}
-use Rattle.rv_object_types.specs.declared.object.Object.{Object as DeclaredObject}
-use Rattle.rv_object_types.specs.declared.section.Section.{Section as DeclaredSection}
 use Rattle.rv_object_laws.specs.Object.{Relocation, Section, Object, size_of, stored}
-use Rattle.rv_object_types.specs.Sections.{section_of}
-use Rattle.rv_object_types.specs.View.{object_of}
 use Rattle.rv_link_laws.specs.Inputs.{InputSection, goes_to_text, begins_at}
 use Rattle.rv_link_laws.specs.CallSites.{changes, site_of, sites_from, sites_of, start_padding, base, base_in}
 use Rattle.rv_link_laws.specs.Shortened.{Sizes, sizes_by, cut, cuts}
@@ -31,14 +27,6 @@ AreSound (s ∷ ss) = IsSound s × AreSound ss
 abbrev pub AllSound : List Object → Type 0
 AllSound [] = ⊤
 AllSound (o ∷ os) = AreSound o.sections × AllSound os
-
-sound_sections : (xs : List DeclaredSection) → AreSound (map section_of xs)
-sound_sections [] = tt
-sound_sections (x ∷ xs) = (record { fit = x.inside; paddings = x.paddings }, sound_sections xs)
-
-pub sound_objects : (xs : List DeclaredObject) → AllSound (map object_of xs)
-sound_objects [] = tt
-sound_objects (x ∷ xs) = (sound_sections x.sections.items, sound_objects xs)
 
 -- ---- where the walk stands
 

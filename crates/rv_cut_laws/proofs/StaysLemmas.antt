@@ -1,12 +1,10 @@
 -- What an object keeps where calls are cut out of its sections.
 
-use Rattle.std.proofs.Common.{◌≡◌, ℕ, zero, suc, ◌+◌, ◌-◌, Bool, true, nat_le, List, [], ◌∷◌, Some, map, refl, arith}
+use Rattle.std.proofs.Common.{◌≡◌, ℕ, zero, suc, ◌+◌, ◌-◌, Bool, true, nat_le, List, [], ◌∷◌, Some, map, arith}
 use Rattle.std.specs.List.{list_all, slice_get}
 use Rattle.std.proofs.lemmas.Bool.{leb-true, le-leb, and_parts, and_from}
 use Rattle.rv_object_laws.specs.declared.row.Row.{Row}
-use Rattle.rv_object_types.specs.declared.section.Section.{Section as DeclaredSection}
 use Rattle.rv_object_laws.specs.Object.{Section, size_of}
-use Rattle.rv_object_types.specs.Sections.{section_of}
 use Rattle.rv_object_laws.specs.Valid.{fit_inside, is_row_in, are_rows}
 use Rattle.rv_link_laws.specs.Moves.{Move, new_offset}
 use Rattle.rv_link_laws.specs.Shortened.{shortened_contents}
@@ -20,10 +18,6 @@ use Rattle.rv_cut_laws.proofs.ShortLemmas.{size_left}
 -- fields fit in each section
 abbrev pub all_fit : List Section → Bool
 all_fit ss = list_all (λ s. fit_inside s.contents s.relocations) ss
-
-pub all_fitting : (xs : List DeclaredSection) → all_fit (map section_of xs) ≡ true
-all_fitting [] = refl
-all_fitting (x ∷ xs) = and_from (fit_inside (section_of x).contents (section_of x).relocations) (all_fit (map section_of xs)) x.inside (all_fitting xs)
 
 row_in_one : (r : Row) (s : Section) (ms : List Move) → AreCuts s ms → fit_inside s.contents s.relocations ≡ true → is_row_in r (Some s) ≡ true → is_row_in (cut_row ms r) (Some (cut_section ms s)) ≡ true
 row_in_one r s ms cuts fit h =

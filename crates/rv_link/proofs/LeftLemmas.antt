@@ -18,8 +18,10 @@ use Rattle.rv_link_laws.specs.IsProgramOf.{Leaves, IsProgramOf}
 use Rattle.rv_link_laws.specs.Without.{without}
 use Rattle.rv_link_laws.specs.Shortened.{Sizes, shortened_symbol, shortened_from, shortened, Relaxes}
 use Rattle.rv_link_laws.specs.Refusals.{ArePast, AreDoubled, IsUnlinked, HasNoProgram}
-use Rattle.rv_link_laws.proofs.TextLineLemmas.{sites_text, whole_text}
-use Rattle.rv_link_laws.proofs.WholeLemmas.{are_whole, whole_left}
+use Rattle.rv_link_sites.proofs.CodeObjectsLemmas.{sites_text}
+use Rattle.rv_link_laws.proofs.TextLineLemmas.{whole_text}
+use Rattle.rv_object_types.proofs.WholeLemmas.{are_whole}
+use Rattle.rv_link_laws.proofs.WholeLemmas.{whole_left}
 use Rattle.rv_link_laws.proofs.WithoutLemmas.{without_none, as_many_from as many_left_from}
 use Rattle.rv_resolve.specs.Chosen.{seen, seen_of}
 use Rattle.rv_link_laws.specs.Exports.{first_again}

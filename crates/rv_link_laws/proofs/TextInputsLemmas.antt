@@ -1,16 +1,13 @@
 -- The sections of the text, with what each object keeps of its sections.
 
-use Rattle.std.proofs.Common.{◌≡◌, ℕ, suc, ◌+◌, ◌-◌, ◌≤◌, Bool, true, false, List, [], ◌∷◌, ◌++◌, Some, map, slice_index_or, refl, ap, ◌∙◌, arith}
+use Rattle.std.proofs.Common.{◌≡◌, ℕ, suc, ◌+◌, ◌-◌, ◌≤◌, Bool, true, false, List, [], ◌∷◌, ◌++◌, Some, slice_index_or, refl, ap, ◌∙◌, arith}
 use Rattle.std.specs.Prelude.{if◌then◌else◌}
 use Rattle.std.specs.List.{AllByRecursion, slice_get}
-use Rattle.rv_object_types.specs.declared.object.Object.{Object as DeclaredObject}
 use Rattle.rv_object_laws.specs.Object.{Section, Object}
 use Rattle.rv_object_laws.specs.Valid.{fit_inside, are_paddings}
-use Rattle.rv_object_types.specs.View.{object_of}
 use Rattle.rv_link_laws.specs.Inputs.{InputSection, goes_to_text, inputs_from, inputs_of, inputs}
 use Rattle.rv_link_laws.specs.Names.{no_object, object_at}
 use Rattle.rv_object_laws.specs.Whole.{IsWholeSection, IsWhole}
-use Rattle.rv_link_laws.proofs.WholeLemmas.{are_whole}
 
 -- the section of an object at its place
 pub record IsTextInput (os : List Object) (i : InputSection) : Type 0 where
@@ -55,7 +52,3 @@ of_are whole file (o ∷ os) some each h =
 -- the sections of the text of whole objects
 pub whole_inputs : (os : List Object) → AllByRecursion IsWhole os → AllByRecursion (IsTextInput os) (inputs goes_to_text os)
 whole_inputs os h = of_are os 1 os (omega arith) (λ n. ap (λ k. slice_index_or os k no_object) (let e : 1 + n - 1 ≡ n = omega arith in e)) h
-
--- and of objects of the code
-pub text_inputs : (ds : List DeclaredObject) → AllByRecursion (IsTextInput (map object_of ds)) (inputs goes_to_text (map object_of ds))
-text_inputs ds = whole_inputs (map object_of ds) (are_whole ds)

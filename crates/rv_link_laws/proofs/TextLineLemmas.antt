@@ -11,10 +11,8 @@ use Rattle.rv_layout_laws.specs.declared.site.SiteKind.{SiteKind}
 use Rattle.rv_layout_laws.specs.declared.site.SiteKind.TheVariants.{Call, Padding}
 use Rattle.rv_layout_laws.specs.Calls.{bytes_of, site_at, InOrder, IsOutside, LeadsOutside, IsText}
 use Rattle.rv_layout_laws.specs.Calls as layout
-use Rattle.rv_object_types.specs.declared.object.Object.{Object as DeclaredObject}
 use Rattle.rv_object_laws.specs.Object.{Section, Object, Relocation, size_of}
 use Rattle.rv_object_laws.specs.Valid.{held, is_align, is_padding, are_all_apart}
-use Rattle.rv_object_types.specs.View.{object_of}
 use Rattle.rv_link_laws.specs.Moves.{full_padding, has_padding, alignment_of}
 use Rattle.rv_link_laws.specs.Inputs.{InputSection, goes_to_text, inputs_from, inputs_of, inputs}
 use Rattle.rv_link_laws.specs.Names.{Place, no_object, object_at, is_in_text}
@@ -24,7 +22,6 @@ use Rattle.rv_link_laws.specs.Within.{LeadsWithin, IsWithin}
 use Rattle.rv_link_laws.proofs.ChangesLemmas.{IsPermitted, IsChange, Stand, held_full, held_call, change, all_ordered, all_filtered, changes_stand}
 use Rattle.rv_link_laws.proofs.TextInputsLemmas.{IsTextInput, all_append, whole_inputs}
 use Rattle.rv_link_laws.proofs.TextPlacesLemmas.{is_named, IsNamed, target_named, not_inside}
-use Rattle.rv_link_laws.proofs.WholeLemmas.{are_whole}
 
 -- ---- sites one behind the other, from an offset to another
 
@@ -391,10 +388,3 @@ whole_text os h = text os (whole_inputs os h)
 -- all of it within the line of the text
 pub whole_within : (os : List Object) → AllByRecursion IsWhole os → (i : ℕ) → IsWithin (length_of (inputs goes_to_text os)) (site_at (sites_of os) i)
 whole_within os h i = within os (whole_inputs os h) i
-
--- so do those of objects of the code
-pub sites_text : (ds : List DeclaredObject) → IsText (sites_of (map object_of ds))
-sites_text ds = whole_text (map object_of ds) (are_whole ds)
-
-pub sites_within : (ds : List DeclaredObject) (i : ℕ) → IsWithin (length_of (inputs goes_to_text (map object_of ds))) (site_at (sites_of (map object_of ds)) i)
-sites_within ds i = whole_within (map object_of ds) (are_whole ds) i

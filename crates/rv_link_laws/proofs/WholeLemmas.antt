@@ -1,36 +1,18 @@
--- Every object of the code is whole, and what is left of whole objects is whole.
+-- What is left of whole objects is whole.
 
-use Rattle.std.proofs.Common.{◌≡◌, ℕ, suc, Bool, true, false, not, ◌&&◌, ◌||◌, List, [], ◌∷◌, length, map, filter, refl, ap, ◌∙◌, Option, Some, None}
+use Rattle.std.proofs.Common.{◌≡◌, ℕ, suc, Bool, true, false, not, ◌&&◌, ◌||◌, List, [], ◌∷◌, length, filter, refl, ap, ◌∙◌, Option, Some, None}
 use Rattle.std.specs.Prelude.{if◌then◌else◌}
 use Rattle.std.specs.Option.{option_map}
 use Rattle.std.specs.List.{AllByRecursion, list_all, slice_get}
 use Rattle.std.proofs.lemmas.Bool.{and_parts, and_from}
 use Rattle.rv_map_laws.specs.declared.map.SectionId.{SectionId}
 use Rattle.rv_collect_laws.specs.Graph.{is_dropped}
-use Rattle.rv_object_types.specs.declared.object.Object.{Object as DeclaredObject}
 use Rattle.rv_object_laws.specs.declared.row.Row.{Row}
-use Rattle.rv_object_types.specs.declared.section.Section.{Section as DeclaredSection}
 use Rattle.rv_object_laws.specs.Object.{Contents, Progbits, Note, Nobits, Section, Symbol, Object}
-use Rattle.rv_object_types.specs.Sections.{section_of}
 use Rattle.rv_object_laws.specs.Valid.{fit_inside, is_below, are_indexed, is_defined_in, are_defined, is_row_in, are_rows}
-use Rattle.rv_object_types.specs.View.{object_of}
 use Rattle.rv_object_laws.specs.Whole.{IsWholeSection, IsWhole}
 use Rattle.rv_link_laws.specs.Without.{without_section, without_sections, without_object, without_from, without}
 use Rattle.rv_link_laws.proofs.WithoutLemmas.{as_many_sections, section_left}
-
--- ---- objects of the code
-
-sections_are : (ss : List DeclaredSection) → AllByRecursion IsWholeSection (map section_of ss)
-sections_are [] = tt
-sections_are (s ∷ ss) = (record { named = s.named; kept = s.kept; aligned = s.aligned; even = s.even; alone = s.alone; inside = s.inside; paddings = s.paddings }, sections_are ss)
-
--- an object of the code is whole, by its ghost fields
-pub is_whole : (d : DeclaredObject) → IsWhole (object_of d)
-is_whole d = record { sections = sections_are d.sections.items; indexed = d.indexed; defined = d.defined; lie = d.lie }
-
-pub are_whole : (ds : List DeclaredObject) → AllByRecursion IsWhole (map object_of ds)
-are_whole [] = tt
-are_whole (d ∷ ds) = (is_whole d, are_whole ds)
 
 -- ---- sections that are left
 

@@ -7,8 +7,6 @@ ghost use Rattle.rv_map_laws.specs.declared.map.SectionId.{SectionId};
 ghost use Rattle.rv_collect_laws.specs.Graph.{is_dropped};
 ghost use Rattle.rv_layout_laws.specs.Calls.{IsText, site_at};
 ghost use Rattle.rv_object_laws.specs.Object.{Object, Relocation, Section, Symbol};
-ghost use Rattle.rv_object_types.specs.View.{object_of};
-ghost use Rattle.rv_object_types.specs.declared.object.Object.{Object as AnyObject};
 ghost use Rattle.rv_object_laws.specs.declared.row.Row.{Row};
 ghost use Rattle.rv_link_laws.specs.CallSites.{length_of, sites_of, target_place};
 ghost use Rattle.rv_link_laws.specs.Collects.{Collects, entry_place};
@@ -35,16 +33,8 @@ pub fn rows_in_order_stay()
     ensures { (low : ℕ) (rows : List Row) → Rise low rows → by_ordinal rows ≡ rows }
 {}
 
-/// The sites of objects make a text: they stand in order, and no call leads strictly inside another. All of it is within the
-/// line of the text.
-pub fn sites_make_a_text()
-    ensures text { (objects : List AnyObject) → IsText (sites_of (map object_of objects)) }
-    ensures within { (objects : List AnyObject) (i : ℕ) →
-        IsWithin (length_of (inputs goes_to_text (map object_of objects)))
-        (site_at (sites_of (map object_of objects)) i) }
-{}
-
-/// So do the sites of all objects that keep what every object keeps, whoever made them.
+/// The sites of objects that keep what every object keeps make a text, whoever made them: they stand in order, and no call leads
+/// strictly inside another. All of it is within the line of the text.
 pub fn sites_of_whole_objects()
     ensures text { (objects : List Object) → AllByRecursion IsWhole objects →
         IsText (sites_of objects) }
@@ -57,11 +47,9 @@ pub fn without_nothing()
     ensures { (objects : List Object) → without [] objects ≡ objects }
 {}
 
-/// Objects of the code keep what every object keeps, and so does what is left of objects without sections that are dropped. There
-/// are as many of them, and each is what is left of its own. The input sections of a region, or of all that have an address, are
-/// those that are not dropped.
+/// What is left of objects without sections that are dropped keeps what every object keeps. There are as many of them, and each
+/// is what is left of its own. The input sections of a region, or of all that have an address, are those that are not dropped.
 pub fn what_is_left()
-    ensures declared { (objects : List AnyObject) → AllByRecursion IsWhole (map object_of objects) }
     ensures whole { (drops : List SectionId) (objects : List Object) →
         AllByRecursion IsWhole objects → AllByRecursion IsWhole (without drops objects) }
     ensures many { (drops : List SectionId) (objects : List Object) →

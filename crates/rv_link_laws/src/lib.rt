@@ -21,5 +21,5 @@ mod law;
 
 pub use law::{
     names_stay, nothing_begins, nothing_dangles, nothing_moves, one_collection, rows_in_order_stay,
-    sites_make_a_text, sites_of_whole_objects, what_is_left, without_nothing,
+    sites_of_whole_objects, what_is_left, without_nothing,
 };

@@ -9,3 +9,4 @@ pub mod ChangedLemmas
 pub mod TargetsLemmas
 pub mod WalksLemmas
 pub mod ConstantLemmas
+pub mod CodeObjectsLemmas

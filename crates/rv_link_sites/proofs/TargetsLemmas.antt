@@ -15,7 +15,7 @@ use Rattle.rv_link_laws.specs.Names.{Place, no_object, object_at, symbol_place, 
 use Rattle.rv_link_laws.specs.CallSites.{start_padding, home, moving, past_end, target_place, base, text_offset, excess, sites_of, length_of}
 use Rattle.rv_link_laws.specs.Within.{LeadsWithin, IsWithin}
 use Rattle.rv_link_laws.specs.Layout.{section_in, object_section}
-use Rattle.rv_link_laws.proofs.TextLineLemmas.{sites_text, sites_within}
+use Rattle.rv_link_sites.proofs.CodeObjectsLemmas.{sites_text, sites_within}
 use Rattle.rv_resolve.specs.Names.{place_of}
 use Rattle.rv_link_sites.specs.declared.line.Line.{Line}
 use Rattle.rv_link_sites.specs.Line.{end_from, next, ended, ended_files, IsLine}

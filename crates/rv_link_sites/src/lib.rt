@@ -20,10 +20,12 @@
 mod between;
 mod changes;
 mod entries;
+mod law;
 mod line;
 mod order;
 mod text;
 mod walk;
 mod words;
 
+pub use law::sites_make_a_text;
 pub use walk::placed;

@@ -18,6 +18,7 @@
 #![tactic(auto)]
 
 mod contents;
+mod law;
 mod object;
 mod padding;
 mod relocation;
@@ -25,6 +26,7 @@ mod section;
 mod symbol;
 
 pub use contents::Contents;
+pub use law::objects_are_whole;
 pub use object::Object;
 pub use padding::{operations, put_no_operations};
 pub use relocation::Relocation;

@@ -20,7 +20,6 @@ use Rattle.rv_unit_laws.specs.Tables.{Tables, tables, opened_of, longest_section
 use Rattle.rv_object_laws.specs.declared.symbol.Definition.TheVariants as definitions
 use Rattle.rv_object_laws.specs.declared.row.Row.{Row}
 use Rattle.rv_object_laws.specs.Object.{Relocation, Section, Symbol, Object, size_of}
-use Rattle.rv_object_types.specs.View.{object_of}
 use Rattle.rv_link_laws.specs.Moves.{Move, moves, new_offset}
 use Rattle.rv_link_laws.specs.Inputs.{InputSection, goes_to_text, inputs}
 use Rattle.rv_link_laws.specs.Layout.{Layout, IsLayout, outer_in}
@@ -35,7 +34,7 @@ use Rattle.rv_object_laws.specs.Whole.{IsWhole}
 use Rattle.rv_link_laws.specs.Without.{without}
 use Rattle.rv_link_laws.proofs.TextInputsLemmas.{IsTextInput, whole_inputs}
 use Rattle.rv_link_laws.proofs.InputsLeftLemmas.{text_is, inputs_left}
-use Rattle.rv_link_laws.proofs.WholeLemmas.{are_whole, whole_left}
+use Rattle.rv_link_laws.proofs.WholeLemmas.{whole_left}
 use Rattle.rv_link_laws.specs.TextStart.{IsTextStart}
 use Rattle.rv_assemble_laws.specs.LaidStatements.{LaidStatement, expression_value, parts, laid_in, end_of, HasSize}
 use Rattle.rv_assemble_laws.specs.IsObjectOf.{Numbering, row_of, relocations_from, IsSectionOf, IsObjectOf}
@@ -471,9 +470,9 @@ same_reach sources os us start p whole nears same placed = subst (λ u. IsLayout
         (whole_one os whole start p placed section i at_i before (all_at (HasNear sources) (inputs goes_to_text os) section i nears at_i place before at_before short) (short_of sources i before short)))
 
 pub short_branches_reach : ShortBranchesReach
-short_branches_reach sources ds drops us start false p h same begins placed =
-    same_reach sources (without drops (map object_of ds)) us start p (whole_left drops (map object_of ds) (are_whole ds)) (all_near_left sources drops (map object_of ds) h) same placed
-short_branches_reach sources ds drops us start true p h (kept, greatest, same) begins placed =
-    let os = without drops (map object_of ds) in
+short_branches_reach sources os drops us start false p whole h same begins placed =
+    same_reach sources (without drops os) us start p (whole_left drops os whole) (all_near_left sources drops os h) same placed
+short_branches_reach sources all drops us start true p whole h (kept, greatest, same) begins placed =
+    let os = without drops all in
     subst (λ u. IsLayout u start p → ForEachLeft os u (Reaching sources u p)) (sym same)
-    (short_reach sources os (whole_left drops (map object_of ds) (are_whole ds)) (all_near_left sources drops (map object_of ds) h) kept greatest start p begins) placed
+    (short_reach sources os (whole_left drops all whole) (all_near_left sources drops all h) kept greatest start p begins) placed

@@ -19,7 +19,6 @@ use Rattle.rv_layout_laws.proofs.ReachingLemmas.{Nearer, reaches_nearer}
 use Rattle.rv_layout_laws.proofs.ShorteningLemmas.{greatest_reaching}
 use Rattle.rv_object_laws.specs.Object.{Relocation, Section, Object, size_of}
 use Rattle.rv_object_laws.specs.Valid.{are_paddings}
-use Rattle.rv_object_types.specs.View.{object_of}
 use Rattle.rv_link_laws.specs.Moves.{Move, dropped, moves, new_offset, has_padding}
 use Rattle.rv_link_laws.specs.Inputs.{Starts, InputSection, goes_to_text, inputs, Stand}
 use Rattle.rv_link_laws.specs.Names.{Place}
@@ -33,7 +32,7 @@ use Rattle.rv_link_laws.specs.Untaken.{IsTaken}
 use Rattle.rv_link_laws.proofs.ChangesLemmas as permitted
 use Rattle.rv_link_laws.proofs.TextInputsLemmas.{IsTextInput, whole_inputs}
 use Rattle.rv_link_laws.proofs.TextLineLemmas.{site_call, whole_text}
-use Rattle.rv_link_laws.proofs.WholeLemmas.{are_whole, whole_left}
+use Rattle.rv_link_laws.proofs.WholeLemmas.{whole_left}
 use Rattle.rv_link_laws.proofs.TextPlacesLemmas.{target_named}
 use Rattle.rv_link_laws.specs.TextStart.{IsTextStart}
 use Rattle.rv_link_laws.specs.Lists.{In}
@@ -516,7 +515,7 @@ short_reach os whole kept greatest start p begins placed section place i j befor
     (was_shortened sizes before (ap (λ (x : Relocation). is_short_call before.kind x.kind) one ∙ short))))
 
 pub short_calls_reach : ShortCallsReach
-short_calls_reach ds drops us start false p same begins placed = same_reach (without drops (map object_of ds)) us p same
-short_calls_reach ds drops us start true p (kept, greatest, same) begins placed =
-    let os = without drops (map object_of ds) in
-    subst (λ u. IsLayout u start p → ForEachLeft os u (Reaches_in u p)) (sym same) (short_reach os (whole_left drops (map object_of ds) (are_whole ds)) kept greatest start p begins) placed
+short_calls_reach os drops us start false p whole same begins placed = same_reach (without drops os) us p same
+short_calls_reach all drops us start true p whole (kept, greatest, same) begins placed =
+    let os = without drops all in
+    subst (λ u. IsLayout u start p → ForEachLeft os u (Reaches_in u p)) (sym same) (short_reach os (whole_left drops all whole) kept greatest start p begins) placed

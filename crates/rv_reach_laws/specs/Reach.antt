@@ -4,15 +4,14 @@
 -- "Conditional Branches", "Unconditional Jumps").
 
 use Rattle.std.specs.Prelude.{◌≡◌, ◌==◌, ℕ, ◌+◌, ◌-◌, nat_le, nat_lt, Bool, true, false, not, ◌&&◌, ◌||◌, List, map, Some, None, option_and_then}
-use Rattle.std.specs.List.{slice_get, list_any}
+use Rattle.std.specs.List.{AllByRecursion, slice_get, list_any}
 use Rattle.rv_isa.specs.declared.kind.Kind.{Kind}
 use Rattle.rv_isa.specs.declared.kind.Kind.TheVariants as kinds
 use Rattle.rv_map_laws.specs.declared.map.SectionId.{SectionId}
 use Rattle.rv_statement_laws.specs.Statement.{Statement}
-use Rattle.rv_object_types.specs.declared.object.Object.{Object as DeclaredObject}
 use Rattle.rv_object_laws.specs.declared.row.Row.{Row}
 use Rattle.rv_object_laws.specs.Object.{Relocation, Object}
-use Rattle.rv_object_types.specs.View.{object_of}
+use Rattle.rv_object_laws.specs.Whole.{IsWhole}
 use Rattle.rv_source_laws.specs.Compressed.{names_parcel}
 use Rattle.rv_link_laws.specs.Inputs.{InputSection, goes_to_text, inputs}
 use Rattle.rv_link_laws.specs.CallSites.{is_call}
@@ -75,23 +74,23 @@ ForEachLeft os left P =
 -- each such call takes its value
 abbrev pub ShortCallsReach : Type 0
 ShortCallsReach =
-    (objects : List DeclaredObject) (drops : List SectionId) (left : List Object) (start : ℕ)
+    (objects : List Object) (drops : List SectionId) (left : List Object) (start : ℕ)
     (relax : Bool) (l : Layout)
-    → Relaxes relax (without drops (map object_of objects)) left
+    → AllByRecursion IsWhole objects → Relaxes relax (without drops objects) left
     → IsTextStart start → IsLayout left start l
-    → ForEachLeft (without drops (map object_of objects)) left
+    → ForEachLeft (without drops objects) left
     (λ before now i j. is_short_call before.kind now.kind ≡ true → IsTaken left l j now)
 
 -- and so does the field of each branch and jump of sources that has a form below its largest,
 -- unless its statement names it
 abbrev pub ShortBranchesReach : Type 0
 ShortBranchesReach =
-    (sources : List (List Statement)) (objects : List DeclaredObject) (drops : List SectionId)
+    (sources : List (List Statement)) (objects : List Object) (drops : List SectionId)
     (left : List Object) (start : ℕ) (relax : Bool) (l : Layout)
-    → AreObjectsOf sources (map object_of objects)
-    → Relaxes relax (without drops (map object_of objects)) left
+    → AllByRecursion IsWhole objects → AreObjectsOf sources objects
+    → Relaxes relax (without drops objects) left
     → IsTextStart start → IsLayout left start l
-    → ForEachLeft (without drops (map object_of objects)) left
+    → ForEachLeft (without drops objects) left
     (λ before now i j. is_chosen_branch sources i before ≡ true → IsTaken left l j now)
 
 -- both, where what relaxation leaves of objects of sources is placed: a build has no fault at such

@@ -4,3 +4,4 @@ pub mod LossesLemmas
 pub mod CutKindsLemmas
 pub mod RunningLemmas
 pub mod StepsLemmas
+pub mod CodeObjectsLemmas

@@ -17,7 +17,8 @@ returns-clause-headline c =
     let readable = from.links.2.linked.readable in
     let exe = c.in_ok-built.built.exe.items in
     subst (λ text. TheHeadline texts o.text_start o.relax o.gc exe text) (sym (whole_map l from.whole c.in_ok-built.built.map.items from.shown c.in_ok-built.ensures.map))
-    (headlined texts o.text_start o.relax o.gc from.whole exe (whole_laid_out c.in_ok-linked.linked true from.whole from.shown readable) readable from.program (whole_written true l from.whole exe from.shown c.in_ok-built.ensures.exe))
+    (headlined texts o.text_start o.relax o.gc from.whole exe (whole_laid_out c.in_ok-linked.linked true from.whole from.shown readable) readable from.program
+    (c.linked_runs_agree.ensures o.text_start from.program.sources o.relax o.gc from.whole from.program.linked) (whole_written true l from.whole exe from.shown c.in_ok-built.ensures.exe))
 
 pub returns-clause-listed : goal.returns-clause-listed
 returns-clause-listed c =
@@ -28,7 +29,7 @@ returns-clause-listed c =
     let exe = c.in_ok-built.built.exe.items in
     let text = c.in_ok-built.built.map.items in
     listed_as (map now_of c.args.sources.now) o.text_start o.relax o.gc from.whole exe text (whole_laid_out c.in_ok-linked.linked true from.whole from.shown readable) readable from.program
-    (whole_written true l from.whole exe from.shown c.in_ok-built.ensures.exe) (whole_map l from.whole text from.shown c.in_ok-built.ensures.map)
+    (c.listing_is_the_sources.ensures o.text_start from.program.sources o.relax o.gc from.whole from.program.linked) (whole_written true l from.whole exe from.shown c.in_ok-built.ensures.exe) (whole_map l from.whole text from.shown c.in_ok-built.ensures.map)
 
 pub returns-clause-links : goal.returns-clause-links
 returns-clause-links c =

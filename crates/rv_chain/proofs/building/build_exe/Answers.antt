@@ -20,8 +20,8 @@ returns-clause-builds c =
     let written = whole_written false (linked_of c.in_ok-linked.linked) from.whole exe from.shown c.in_ok-exe.ensures in
     record {
       map_bytes = text;
-      headline = headlined texts o.text_start o.relax o.gc from.whole exe laid readable from.program written;
-      listed = listed_as texts o.text_start o.relax o.gc from.whole exe text laid readable from.program written refl;
+      headline = headlined texts o.text_start o.relax o.gc from.whole exe laid readable from.program (c.linked_runs_agree.ensures o.text_start from.program.sources o.relax o.gc from.whole from.program.linked) written;
+      listed = listed_as texts o.text_start o.relax o.gc from.whole exe text laid readable from.program (c.listing_is_the_sources.ensures o.text_start from.program.sources o.relax o.gc from.whole from.program.linked) written refl;
       links = (from.links.0, from.links.1, built_of from.links.0 o.text_start o.relax o.gc from.whole exe text laid from.links.2 written refl);
     }
 

@@ -4,7 +4,8 @@ use Rattle.rv_object_types.specs.Sections.{section_of}
 use Rattle.rv_object_laws.specs.Valid.{are_indexed, are_defined, are_rows, are_counted}
 use Rattle.rv_object_types.specs.View.{object_of}
 use Rattle.rv_link_laws.specs.Without.{without_sections}
-use Rattle.rv_link_laws.proofs.WholeLemmas.{is_whole, whole_object}
+use Rattle.rv_object_types.proofs.WholeLemmas.{is_whole}
+use Rattle.rv_link_laws.proofs.WholeLemmas.{whole_object}
 use Rattle.rv_collect.specs.Drops.{drops_in}
 use Rattle.rv_collect.proofs.LeftLemmas.{still_counted}
 use Rattle.rv_collect.proofs.left.left_object.Goals as goal

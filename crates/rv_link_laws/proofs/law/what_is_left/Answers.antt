@@ -1,10 +1,7 @@
 use Rattle.rv_link_laws.proofs.InputsLeftLemmas.{loaded_is, text_is, rodata_is, data_is, bss_is, inputs_left}
-use Rattle.rv_link_laws.proofs.WholeLemmas.{are_whole, whole_left}
+use Rattle.rv_link_laws.proofs.WholeLemmas.{whole_left}
 use Rattle.rv_link_laws.proofs.WithoutLemmas.{as_many_objects, object_left}
 use Rattle.rv_link_laws.proofs.law.what_is_left.Goals as goal
-
-pub returns-clause-declared : goal.returns-clause-declared
-returns-clause-declared c = are_whole
 
 pub returns-clause-whole : goal.returns-clause-whole
 returns-clause-whole c = whole_left

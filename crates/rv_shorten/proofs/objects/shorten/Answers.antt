@@ -6,7 +6,7 @@ use Rattle.rv_object_types.specs.View.{object_of}
 use Rattle.rv_link_laws.specs.Shortened.{shortened}
 use Rattle.rv_shorten.specs.View.{short_object_of}
 use Rattle.rv_cut_laws.specs.Walk.{AreWalked, walked}
-use Rattle.rv_cut_laws.proofs.LineLemmas.{sound_objects}
+use Rattle.rv_shorten.proofs.CodeObjectsLemmas.{sound_objects}
 use Rattle.rv_cut_laws.proofs.LaidLemmas.{walk_is}
 use Rattle.rv_shorten.proofs.objects.shorten.Goals as goal
 

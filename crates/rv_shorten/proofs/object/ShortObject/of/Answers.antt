@@ -4,7 +4,8 @@ use Rattle.rv_object_types.specs.Sections.{section_of}
 use Rattle.rv_object_laws.specs.Valid.{are_rows}
 use Rattle.rv_cut_laws.specs.Cutting.{cut_symbol, cut_row_of}
 use Rattle.rv_shorten.specs.Sections.{moves_in_all}
-use Rattle.rv_cut_laws.proofs.StaysLemmas.{all_fitting, rows_stay}
+use Rattle.rv_shorten.proofs.CodeObjectsLemmas.{all_fitting}
+use Rattle.rv_cut_laws.proofs.StaysLemmas.{rows_stay}
 use Rattle.rv_shorten.proofs.object.ShortObject.of.Goals as goal
 
 pub invariant_of-result : goal.invariant_of-result
