@@ -82,6 +82,7 @@ check: rv
 	scripts/definitions.py
 	scripts/trusted.py --check
 	scripts/storeys.py
+	scripts/copies.py
 
 refused: rv rv_refused
 	tests/refused.py

@@ -39,6 +39,7 @@ OF_FILES = [
     ["scripts/want_of_memory.py"],
     ["scripts/definitions.py"],
     ["scripts/storeys.py"],
+    ["scripts/copies.py"],
     ["scripts/trusted.py", "--check"],
 ]
 

@@ -4,6 +4,7 @@ use Rattle.std.proofs.Common.{◌≡◌, ℕ, zero, suc, ◌^◌, ◌<◌, ◌�
 use Rattle.std.proofs.Math.Pow.{pow-lt}
 use Rattle.std.proofs.lemmas.Bool.{and_parts, leb-true, ltb-true, ltb-false}
 use Rattle.std.specs.Prelude.{if◌then◌else◌, slice_index_or}
+use Rattle.rv_list_laws.proofs.NumbersLemmas.{low_power}
 use Rattle.rv_text_laws.specs.Values.{Value, Constant, Symbolic, Difference, Faulty}
 use Rattle.rv_statement_laws.specs.Statement.{StatementKind, Label, Numbered, Instruction, Directs, Statement, Expression, Directive}
 use Rattle.rv_statement_laws.specs.declared.directive.Choice.{Choice}
@@ -13,31 +14,12 @@ use Rattle.rv_unit_laws.specs.Tables.{Tables, Assignment, at_start, here, value_
 use Rattle.rv_unit_laws.proofs.EnteringLemmas.{entering}
 use Rattle.rv_unit_laws.proofs.GrownLemmas.{IsPower, alignment_new, data_alignments, grown_all}
 use Rattle.rv_object_laws.specs.Valid.{is_section_alignment}
+use Rattle.rv_layout.proofs.BesideLemmas.{low_if}
 
 -- ---- no alignment is greater
 
 abbrev AreLow : List ℕ → Type 0
 AreLow ns = (j : ℕ) → slice_index_or ns j 1 ≤ 4096
-
-low_power : (k : ℕ) → k < 13 → 2 ^ k ≤ 4096
-low_power zero h = omega arith
-low_power (suc zero) h = omega arith
-low_power (suc (suc zero)) h = omega arith
-low_power (suc (suc (suc zero))) h = omega arith
-low_power (suc (suc (suc (suc zero)))) h = omega arith
-low_power (suc (suc (suc (suc (suc zero))))) h = omega arith
-low_power (suc (suc (suc (suc (suc (suc zero)))))) h = omega arith
-low_power (suc (suc (suc (suc (suc (suc (suc zero))))))) h = omega arith
-low_power (suc (suc (suc (suc (suc (suc (suc (suc zero)))))))) h = omega arith
-low_power (suc (suc (suc (suc (suc (suc (suc (suc (suc zero))))))))) h = omega arith
-low_power (suc (suc (suc (suc (suc (suc (suc (suc (suc (suc zero)))))))))) h = omega arith
-low_power (suc (suc (suc (suc (suc (suc (suc (suc (suc (suc (suc zero))))))))))) h = omega arith
-low_power (suc (suc (suc (suc (suc (suc (suc (suc (suc (suc (suc (suc zero)))))))))))) h = omega arith
-low_power (suc (suc (suc (suc (suc (suc (suc (suc (suc (suc (suc (suc (suc k))))))))))))) h = absurd (omega (arith, h))
-
-low_if : (b : Bool) (n : ℕ) → (b ≡ true → n ≤ 4096) → or_none (if b then Some n else None) ≤ 4096
-low_if true n h = h refl
-low_if false n h = omega arith
 
 pub form_low : (form : AlignmentForm) (v : Value) → or_none (alignment_as form v) ≤ 4096
 form_low As_power (Constant k) = low_if (nat_lt k 13) (2 ^ k) (λ e. low_power k (ltb-true k 13 e))

@@ -1,25 +1,21 @@
 -- The open fields of a statement lie in its bytes, part by part; a padding is all of its part.
 
-use Rattle.std.proofs.Common.{◌≡◌, ℕ, zero, suc, ◌%◌, ◌≤◌, Bool, true, false, ◌&&◌, ◌==◌, List, [], ◌∷◌, ◌++◌, length, refl, sym, ap, ◌∙◌, subst, arith, map, length-append, Option, Some, None, inl, inr}
-use Rattle.std.proofs.lemmas.List.{length-replicate}
-use Rattle.std.specs.Prelude.{◌⊎◌, ◌||◌, if◌then◌else◌, unwrap_or}
+use Rattle.std.proofs.Common.{◌≡◌, ℕ, zero, suc, ◌%◌, ◌≤◌, Bool, true, false, ◌&&◌, List, [], ◌∷◌, length, refl, sym, ap, ◌∙◌, subst, arith, map, Option, Some, None, inl, inr}
+use Rattle.std.specs.Prelude.{◌⊎◌, if◌then◌else◌, unwrap_or}
 use Rattle.std.specs.List.{AllByRecursion}
+use Rattle.rv_list_laws.proofs.EachLemmas.{each_split, each_append}
 use Rattle.rv_isa.specs.declared.instruction.Inst.{Inst}
-use Rattle.rv_isa.specs.declared.instruction.Format.{Format}
-use Rattle.rv_isa.specs.declared.instruction.Format.TheVariants as format
 use Rattle.rv_isa.specs.declared.kind.Kind.{Kind}
-use Rattle.rv_isa.specs.declared.kind.Kind.TheVariants as kind
-use Rattle.rv_isa.specs.declared.kind.Kind.TheVariants.{Abs32, Abs64, Add8, Add16, Add32, Add64, Sub8, Sub16, Sub32, Sub64}
 use Rattle.rv_isa.specs.Kinds.{width_of, is_low_part}
 use Rattle.rv_isa.specs.Operations.{format_of}
-use Rattle.rv_isa_laws.specs.Bytes.{zeros}
+use Rattle.rv_isa.proofs.KindsLemmas.{width_low}
 use Rattle.rv_isa_laws.specs.Word.{word, form}
+use Rattle.rv_isa_laws.proofs.BytesLemmas.{little_long, zeros_long}
 use Rattle.rv_text_laws.specs.Values.{Value, Constant, Symbolic, Difference, Faulty}
 use Rattle.rv_statement_laws.specs.declared.pseudo.Function.TheVariants.{Hi, Lo, PcrelHi, PcrelLo}
 use Rattle.rv_statement_laws.specs.Statement.{StatementKind, Label, Numbered, Instruction, Directs, Expression, Operand, Register, Value as Of_value, Applied, Target, Accesses, Word, Quoted}
 use Rattle.rv_pseudo_laws.specs.Code.{Part as CodePart, Closed, Open as OpenPart, Joined, named_form, code}
 use Rattle.rv_pseudo_laws.specs.Filled.{are_closed}
-use Rattle.rv_pseudo_laws.specs.Valid.{fills_branch, fills_jump, fills_call, fills_upper, fills_lower, fills_store, fills}
 use Rattle.rv_parcel.specs.declared.form.Compressed.{Compressed}
 use Rattle.rv_parcel.specs.Encoded.{IsEncodedIn}
 use Rattle.rv_unit_laws.specs.Contributions.{Numbers, Texts, Contribution, Nothing, Bytes, Zero_bytes, Alignment, contribution}
@@ -28,78 +24,22 @@ use Rattle.rv_unit_laws.specs.Tables.{Tables, Definition, definition}
 use Rattle.rv_source_laws.specs.Located.{Located}
 use Rattle.rv_source_laws.specs.Lines.{operand_of}
 use Rattle.rv_object_laws.specs.Valid.{is_align}
+use Rattle.rv_object_laws.proofs.NopsLemmas.{length_even}
 use Rattle.rv_assemble_laws.specs.CodeFields.{symbol_field, low_field, low_field_at, label_field, field_of, relax_fields, part_fields}
 use Rattle.rv_assemble_laws.specs.Coded.{constants, IsCodedPart, AreCodedParts}
 use Rattle.rv_assemble_laws.specs.Templates.{Template, Datum, Open, absolute_kind, add_kind, subtract_kind, value_bytes, value_fields, template_fields, IsWide, IsWidth, HasField, IsTemplate, align_field, padding_templates, contribution_templates}
 use Rattle.rv_assemble_laws.specs.LaidStatements.{LaidStatement, LaidPart, laid_part, part_bytes, parts_of, parts, expression_value as values, coded_templates, templates, HasSize}
+use Rattle.rv_assemble_laws.proofs.ValidLemmas.{fills_plain}
+use Rattle.rv_assemble_laws.proofs.TemplatesLemmas.{absolute_plain, add_plain, subtract_plain}
+use Rattle.rv_layout.proofs.LengthsLemmas.{pair_long}
 use Rattle.rv_assemble.proofs.SettledLemmas.{IsIn}
-use Rattle.rv_assemble.proofs.RoomLemmas.{nops_long, IsRoom, HasRoom, directive_room}
-use Rattle.rv_assemble.proofs.FieldListsLemmas.{all_split, all_join}
-pub use Rattle.rv_draft.proofs.FieldsSoFarLemmas.{little_long}
+use Rattle.rv_assemble.proofs.RoomLemmas.{IsRoom, HasRoom, directive_room}
 
 -- ---- bytes of code
 
 pub encoded_long : (i : Inst) (n : ℕ) (bytes : List ℕ) → IsEncodedIn i n bytes → (length bytes ≡ n) × (n % 2 ≡ 0)
 encoded_long i n bytes (inl (e, f)) = (ap length f ∙ little_long 4 (word (form i)) ∙ sym e, ap (λ m. m % 2) e)
 encoded_long i n bytes (inr (e, (q, h, f))) = (ap length f ∙ little_long 2 q ∙ sym e, ap (λ m. m % 2) e)
-
--- ---- kinds of code
-
-width_most : (k : Kind) → width_of k ≤ 8
-width_most kind.None = omega arith
-width_most _ = omega arith
-
-branch_plain : (k : Kind) → fills_branch k ≡ true → is_align k ≡ false
-branch_plain kind.Branch e = refl
-branch_plain kind.RvcBranch e = refl
-branch_plain _ e = absurd (cc)
-
-jump_plain : (k : Kind) → fills_jump k ≡ true → is_align k ≡ false
-jump_plain kind.Jal e = refl
-jump_plain kind.RvcJump e = refl
-jump_plain _ e = absurd (cc)
-
-call_plain : (k : Kind) → fills_call k ≡ true → is_align k ≡ false
-call_plain kind.Call e = refl
-call_plain kind.CallPlt e = refl
-call_plain _ e = absurd (cc)
-
-upper_plain : (k : Kind) → fills_upper k ≡ true → is_align k ≡ false
-upper_plain kind.Hi20 e = refl
-upper_plain kind.PcrelHi20 e = refl
-upper_plain kind.Call e = refl
-upper_plain kind.CallPlt e = refl
-upper_plain _ e = absurd (cc)
-
-lower_plain : (k : Kind) → fills_lower k ≡ true → is_align k ≡ false
-lower_plain kind.Lo12I e = refl
-lower_plain kind.PcrelLo12I e = refl
-lower_plain _ e = absurd (cc)
-
-store_plain : (k : Kind) → fills_store k ≡ true → is_align k ≡ false
-store_plain kind.Lo12S e = refl
-store_plain kind.PcrelLo12S e = refl
-store_plain _ e = absurd (cc)
-
-either_plain : (k : Kind) (a b : Bool) → (a || b) ≡ true → (a ≡ true → is_align k ≡ false) → (b ≡ true → is_align k ≡ false) → is_align k ≡ false
-either_plain k true b e f g = f refl
-either_plain k false b e f g = g e
-
-filled_plain : (f : Format) (k : Kind) → fills f k ≡ true → is_align k ≡ false
-filled_plain (format.Branch operation x) k e = branch_plain k e
-filled_plain (format.Jal x) k e = jump_plain k e
-filled_plain (format.Upper operation x) k e = upper_plain k e
-filled_plain (format.Immediate operation x) k e = lower_plain k e
-filled_plain (format.Load operation x) k e = lower_plain k e
-filled_plain (format.Jalr x) k e = either_plain k (fills_lower k) (fills_call k) e (lower_plain k) (call_plain k)
-filled_plain (format.Store operation x) k e = store_plain k e
-filled_plain (format.Registers operation x) k e = absurd (cc)
-filled_plain (format.Shift operation x) k e = absurd (cc)
-filled_plain (format.LoadReserved wide x) k e = absurd (cc)
-filled_plain (format.Atomic operation wide x) k e = absurd (cc)
-filled_plain (format.Fence x) k e = absurd (cc)
-filled_plain format.Ecall k e = absurd (cc)
-filled_plain format.Ebreak k e = absurd (cc)
 
 -- ---- the fields of code
 
@@ -147,24 +87,16 @@ relax_fits : (n ordinal : ℕ) (relax : Bool) → AllByRecursion (FitsIn n) (rel
 relax_fits n ordinal true = ((omega arith, refl), tt)
 relax_fits n ordinal false = tt
 
-pub joined_long : (i j : Inst) (bytes first second : List ℕ) → IsEncodedIn i 4 first → IsEncodedIn j 4 second → bytes ≡ first ++ second → length bytes ≡ 8
-joined_long i j bytes first second h k e =
-    let a = (encoded_long i 4 first h).0 in
-    let b = (encoded_long j 4 second k).0 in
-    let c = ap length e in
-    let d = length-append first second in
-    omega (arith, a, b, c, d)
-
 part_fits : (named : Option Compressed) (compressed : Bool) (t : Tables) (v : Expression → Value) (s : Located) (p : CodePart) (bytes : List ℕ) → IsCodedPart named compressed p bytes → AllByRecursion (FitsIn (length bytes)) (part_fields t v s p)
 part_fits named compressed t v s (Closed i) bytes h = tt
 part_fits named compressed t v s (OpenPart k i) bytes (open_at, written) =
     let long = (encoded_long i (width_of k) bytes written).0 in
-    operand_fits (length bytes) t v s.ordinal (operand_of s.kind) k (omega (arith, long), filled_plain (format_of i) k open_at.1)
+    operand_fits (length bytes) t v s.ordinal (operand_of s.kind) k (omega (arith, long), fills_plain (format_of i) k open_at.1)
 part_fits named compressed t v s (Joined k i j) bytes (open_at, other, (first, (second, a, b, e))) =
-    let long = joined_long i j bytes first second a b e in
-    let most = width_most k in
-    all_join (FitsIn (length bytes)) (field_of t v s.ordinal (operand_of s.kind) k) (relax_fields s.options.relax s.ordinal)
-    (operand_fits (length bytes) t v s.ordinal (operand_of s.kind) k (omega (arith, long, most), filled_plain (format_of i) k open_at.1))
+    let long = pair_long i j bytes first second a b e in
+    let most = width_low k in
+    each_append (FitsIn (length bytes)) (field_of t v s.ordinal (operand_of s.kind) k) (relax_fields s.options.relax s.ordinal)
+    (operand_fits (length bytes) t v s.ordinal (operand_of s.kind) k (omega (arith, long, most), fills_plain (format_of i) k open_at.1))
     (relax_fits (length bytes) s.ordinal s.options.relax)
 
 -- the one field of a padding, which has all bytes of its part
@@ -203,39 +135,11 @@ subtract_width width (inr (inl e)) = ap (λ n. width_of (subtract_kind n)) e ∙
 subtract_width width (inr (inr (inl e))) = ap (λ n. width_of (subtract_kind n)) e ∙ sym e
 subtract_width width (inr (inr (inr e))) = ap (λ n. width_of (subtract_kind n)) e ∙ sym e
 
-absolute_plain : (width : ℕ) → is_align (absolute_kind width) ≡ false
-absolute_plain width = go (width == 4)
-  where
-    go : (b : Bool) → is_align (if b then Abs32 else Abs64) ≡ false
-    go true = refl
-    go false = refl
-
-add_plain : (width : ℕ) → is_align (add_kind width) ≡ false
-add_plain width = go (width == 1) (width == 2) (width == 4)
-  where
-    go : (a b c : Bool) → is_align (if a then Add8 else if b then Add16 else if c then Add32 else Add64) ≡ false
-    go true b c = refl
-    go false true c = refl
-    go false false true = refl
-    go false false false = refl
-
-subtract_plain : (width : ℕ) → is_align (subtract_kind width) ≡ false
-subtract_plain width = go (width == 1) (width == 2) (width == 4)
-  where
-    go : (a b c : Bool) → is_align (if a then Sub8 else if b then Sub16 else if c then Sub32 else Sub64) ≡ false
-    go true b c = refl
-    go false true c = refl
-    go false false true = refl
-    go false false false = refl
-
-zeros_length : (width : ℕ) → length (zeros width) ≡ width
-zeros_length width = length-replicate {A = ℕ} width 0
-
 value_fits : (ordinal width : ℕ) (v : Value) → HasField width v → AllByRecursion (FitsIn (length (value_bytes width v))) (value_fields ordinal width v)
 value_fits ordinal width (Constant n) h = tt
-value_fits ordinal width (Symbolic q at plus) h = let w = absolute_width width h in let z = zeros_length width in ((omega (arith, w, z), absolute_plain width), tt)
+value_fits ordinal width (Symbolic q at plus) h = let w = absolute_width width h in let z = zeros_long width in ((omega (arith, w, z), absolute_plain width), tt)
 value_fits ordinal width (Difference q r plus) h =
-    let a = add_width width h in let b = subtract_width width h in let z = zeros_length width in
+    let a = add_width width h in let b = subtract_width width h in let z = zeros_long width in
     ((omega (arith, a, z), add_plain width), ((omega (arith, b, z), subtract_plain width), tt))
 value_fits ordinal width (Faulty code) h = absurd h
 
@@ -249,7 +153,7 @@ values_fit ordinal width v (e ∷ es) (h, hs) = (inl (value_fits ordinal width (
 
 padding_fits : (executable : Bool) (ordinal bytes : ℕ) → (executable ≡ true → IsRoom bytes) → AllByRecursion Holds (map (laid_part ordinal) (padding_templates executable ordinal bytes))
 padding_fits true ordinal zero h = tt
-padding_fits true ordinal (suc n) h = (inr (record { bytes = suc n; field = refl; long = nops_long (suc n) (h refl).0; room = h refl }), tt)
+padding_fits true ordinal (suc n) h = (inr (record { bytes = suc n; field = refl; long = length_even (suc n) (h refl).0; room = h refl }), tt)
 padding_fits false ordinal bytes h = (inl tt, tt)
 
 contribution_fits : (executable : Bool) (ordinal bytes : ℕ) (v : Expression → Value) (c : Contribution) → (executable ≡ true → HasRoom c bytes) → AreTemplates ordinal (contribution_templates executable ordinal v c bytes)
@@ -285,5 +189,5 @@ pub all_fit : (t : Tables) (home : Section) (multiple : ℕ) (laid : List LaidSt
     → AllByRecursion Holds (parts t laid)
 all_fit t home multiple [] h z k = tt
 all_fit t home multiple (s ∷ ss) (h, hs) (z, zs) k =
-    let both = all_split (λ (p : LaidPart). IsTemplate p.template) (parts_of t s) (parts t ss) k in
-    all_join Holds (parts_of t s) (parts t ss) (laid_fits t home multiple s h z both.0) (all_fit t home multiple ss hs zs both.1)
+    let both = each_split (λ (p : LaidPart). IsTemplate p.template) (parts_of t s) (parts t ss) k in
+    each_append Holds (parts_of t s) (parts t ss) (laid_fits t home multiple s h z both.0) (all_fit t home multiple ss hs zs both.1)

@@ -7,6 +7,7 @@ use Rattle.std.proofs.lemmas.List.Folds.{list_all-append}
 use Rattle.std.specs.Global.{Vec}
 use Rattle.std.specs.List.{AllByRecursion, list_all}
 use Rattle.std.specs.Prelude.{⊤, ◌&&◌, if◌then◌else◌, flat_map, option_map, slice_get, slice_index, slice_index_or}
+use Rattle.rv_list_laws.proofs.MapLemmas.{get_map, get_unmap}
 use Rattle.rv_isa.specs.Kinds.{width_of}
 use Rattle.rv_statement_laws.specs.Statement.{Statement}
 use Rattle.rv_unit_laws.specs.declared.section_type.SectionType.{SectionType}
@@ -36,6 +37,7 @@ use Rattle.rv_assemble.proofs.SettledLemmas.{IsSettled, settled, IsIn, all_in}
 use Rattle.rv_assemble.proofs.FieldListsLemmas.{numbered, in_section, section_relocations, parts_numbered}
 use Rattle.rv_assemble.proofs.AlignmentsLemmas.{aligned}
 use Rattle.rv_assemble_laws.proofs.OpenedNamesLemmas.{sections_named}
+use Rattle.rv_assemble_laws.proofs.IsObjectOfLemmas.{stored_size}
 use Rattle.rv_symbols.proofs.NamingLemmas.{name_is_string}
 use Rattle.rv_assemble.proofs.NamesKeptLemmas.{names_kept, kept_by}
 use Rattle.rv_assemble.proofs.EvenCodeLemmas.{parts_even, end_even, ends_within}
@@ -62,11 +64,6 @@ contents_same : (kind : SectionType) (stop end : ℕ) (bytes full : List ℕ) �
 contents_same types.Progbits stop end bytes full e f = ap (contents_of types.Progbits stop) f
 contents_same types.Note stop end bytes full e f = ap (contents_of types.Note stop) f
 contents_same types.Nobits stop end bytes full e f = ap (λ n. contents_of types.Nobits n []) e
-
-pub contents_size : (kind : SectionType) (end : ℕ) (full : List ℕ) → end ≡ length full → size_of (contents_of kind end full) ≡ end
-contents_size types.Progbits end full e = sym e
-contents_size types.Note end full e = sym e
-contents_size types.Nobits end full e = refl
 
 -- ---- what every section keeps
 
@@ -130,11 +127,6 @@ sections_count (x ∷ es) (n ∷ ns) [] rs (a, b, c) = absurd (omega (arith, b))
 sections_count (x ∷ es) (n ∷ ns) (v ∷ vs) [] (a, b, c) = absurd (omega (arith, c))
 sections_count (x ∷ es) (n ∷ ns) (v ∷ vs) (r ∷ rs) (a, b, c) = ap suc (sections_count es ns vs rs (omega (arith, a), omega (arith, b), omega (arith, c)))
 
-got_map : {X Y : Type 0} (f : X → Y) (xs : List X) (j : ℕ) (x : X) → slice_get xs j ≡ Some x → slice_get (map f xs) j ≡ Some (f x)
-got_map f [] j x e = absurd (cc)
-got_map f (y ∷ ys) zero x e = let same : y ≡ x = cc in ap (λ z. Some (f z)) same
-got_map f (y ∷ ys) (suc j) x e = got_map f ys j x e
-
 read_map : (xs : List Extent) (j : ℕ) (x : Extent) → slice_get xs j ≡ Some x → slice_index_or (map (λ (e : Extent). e.alignment) xs) j 1 ≡ x.alignment
 read_map [] j x e = absurd (cc)
 read_map (y ∷ ys) zero x e = let same : y ≡ x = cc in ap (λ (z : Extent). z.alignment) same
@@ -155,10 +147,6 @@ all_from P (s ∷ ss) h = (own (s.located.section == s.located.section) (eq-eqb 
     rest true j k = k.1
     rest false j k = k
 
-all_two : (P Q R : LaidStatement → Type 0) (laid : List LaidStatement) → ((s : LaidStatement) → P s → Q s → R s) → AllByRecursion P laid → AllByRecursion Q laid → AllByRecursion R laid
-all_two P Q R [] f h k = tt
-all_two P Q R (s ∷ ss) f (p, ps) (q, qs) = (f s p q, all_two P Q R ss f ps qs)
-
 -- ---- rows
 
 rows_are : (k : ℕ) (t : Tables) (ss : List Statement) (laid : List LaidStatement) → map (λ s. s.located) laid ≡ located_from 1 k t ss → rows_from k (map item_of laid) ≡ flat_map rows_at laid
@@ -171,11 +159,6 @@ rows_are k t (x ∷ ss) (s ∷ laid) e =
     let number : s.located.ordinal ≡ k = ap (λ (l : Located). l.ordinal) own in
     ap (λ n. (if has_row s.located then item_row n (item_of s) ∷ [] else []) ++ rows_from (k + 1) (map item_of laid)) (sym number)
     ∙ ap (λ l. rows_at s ++ l) (ap (λ n. rows_from n (map item_of laid)) (add-one k) ∙ rows_are (suc k) (after t k x.kind) ss laid later)
-
-un_map : {X Y : Type 0} (f : X → Y) (xs : List X) (j : ℕ) (y : Y) → slice_get (map f xs) j ≡ Some y → (x : X) × (slice_get xs j ≡ Some x) × (f x ≡ y)
-un_map f [] j y e = absurd (cc)
-un_map f (x ∷ xs) zero y e = (x, refl, (let same : f x ≡ y = cc in same))
-un_map f (x ∷ xs) (suc j) y e = un_map f xs j y e
 
 all_given : (A : Extent → Type 0) (Q : LaidStatement → Type 0) (laid : List LaidStatement) → ((e : Extent) → A e → AllByRecursion Q laid) → AllByRecursion (λ s. (e : Extent) → A e → Q s) laid
 all_given A Q [] f = tt
@@ -234,7 +217,7 @@ module _ (ss : List Statement) (d : Draft) (extents : List Extent) (lists : List
     made = section_at extents d.ends.items d.sections.items lists j e
 
     there : slice_get (opened_of t).sections j ≡ Some home
-    there = ap (λ l. slice_get l j) (sym opened) ∙ got_map extent_section extents j e at
+    there = ap (λ l. slice_get l j) (sym opened) ∙ get_map extent_section extents j e at
 
     drafted : IsDrafted t j home laid d
     drafted = h.each j home there
@@ -257,7 +240,7 @@ module _ (ss : List Statement) (d : Draft) (extents : List Extent) (lists : List
     ends = filled t 0 laid drafted.tile ∙ (let f : 0 + length full ≡ length full = omega arith in f)
 
     size : size_of made.contents ≡ stop
-    size = ap size_of contents ∙ contents_size home.section_type stop full ends
+    size = ap size_of contents ∙ stored_size home.section_type stop full ends
 
     are_numbered : home.loaded ≡ true → ArePartsNumbered t h.laid number symbols (parts t laid)
     are_numbered loaded = parts_numbered t h.laid number symbols (opened_of t).sections j home there loaded h.laid all_settled numbers
@@ -359,7 +342,7 @@ module _ (ss : List Statement) (d : Draft) (extents : List Extent) (lists : List
       shown : has_row s.located ≡ true → Lies (row_of s) ≡ true
       shown e =
           let j = s.located.section in
-          let (x, at, is) = un_map extent_section extents j s.located.home (ap (λ l. slice_get l j) opened ∙ k.home) in
+          let (x, at, is) = get_unmap extent_section extents j s.located.home (ap (λ l. slice_get l j) opened ∙ k.home) in
           let found = found_at extents d.ends.items d.sections.items lists are_each j x at in
           let loaded : (extent_section x).loaded ≡ true = ap (λ (q : SourceSection). q.loaded) is ∙ (and_parts s.located.placed s.located.home.loaded e).1 in
           let fit : nat_le (s.offset + s.bytes) (size_of (section_at extents d.ends.items d.sections.items lists j x).contents) ≡ true =

@@ -3,6 +3,7 @@
 use Rattle.std.proofs.Common.{◌≡◌, ℕ, zero, suc, ◌+◌, ◌%◌, ◌≤◌, Bool, true, false, List, [], ◌∷◌, length, refl, sym, ap, ◌∙◌, subst, arith, map, length-append, Option, Some, None, inl, inr}
 use Rattle.std.specs.Prelude.{◌&&◌, flat_map, unwrap_or}
 use Rattle.std.specs.List.{AllByRecursion}
+use Rattle.rv_list_laws.proofs.EachLemmas.{each_append}
 use Rattle.rv_isa.specs.declared.instruction.Inst.{Inst}
 use Rattle.rv_isa.specs.Kinds.{width_of}
 use Rattle.rv_parcel.specs.declared.form.Compressed.{Compressed}
@@ -20,10 +21,11 @@ use Rattle.rv_assemble_laws.specs.Templates.{Open, padding_templates, contributi
 use Rattle.rv_assemble_laws.specs.LaidStatements.{LaidStatement, LaidPart, expression_value, laid_part, part_bytes, parts_of, parts, coded_templates, templates, Tile, end_of, HasSize}
 use Rattle.rv_assemble_laws.proofs.FilledLemmas.{filled}
 use Rattle.rv_source_laws.proofs.HeldLemmas.{ContributionHeld, IsHeld}
+use Rattle.rv_object_laws.proofs.NopsLemmas.{length_even}
+use Rattle.rv_layout.proofs.LengthsLemmas.{pair_long}
 use Rattle.rv_assemble.proofs.SettledLemmas.{IsIn}
-use Rattle.rv_assemble.proofs.FieldListsLemmas.{all_join}
-use Rattle.rv_assemble.proofs.RoomLemmas.{nops_long, IsRoom, HasRoom, directive_room}
-use Rattle.rv_assemble.proofs.CodeFitsLemmas.{encoded_long, joined_long}
+use Rattle.rv_assemble.proofs.RoomLemmas.{IsRoom, HasRoom, directive_room}
+use Rattle.rv_assemble.proofs.CodeFitsLemmas.{encoded_long}
 
 least_even : (rvc : Bool) (i : Inst) (n : ℕ) → IsLeast rvc i n → n % 2 ≡ 0
 least_even true i n (inl (e, h)) = ap (λ m. m % 2) e
@@ -41,7 +43,7 @@ IsEvenPart p = length (part_bytes p) % 2 ≡ 0
 part_even : (named : Option Compressed) (rvc : Bool) (p : CodePart) (bytes : List ℕ) → IsCodedPart named rvc p bytes → length bytes % 2 ≡ 0
 part_even named rvc (Closed i) bytes h = least_as_even named rvc i (length bytes) h.1
 part_even named rvc (OpenPart k i) bytes (h, written) = let both = encoded_long i (width_of k) bytes written in ap (λ n. n % 2) both.0 ∙ both.1
-part_even named rvc (Joined k i j) bytes (h, o, (first, (second, a, b, e))) = ap (λ n. n % 2) (joined_long i j bytes first second a b e)
+part_even named rvc (Joined k i j) bytes (h, o, (first, (second, a, b, e))) = ap (λ n. n % 2) (pair_long i j bytes first second a b e)
 
 code_even : (named : Option Compressed) (rvc : Bool) (ordinal : ℕ) (fields : CodePart → List Open) (ps : List CodePart) (coded : List (List ℕ)) → AreCodedParts named rvc ps coded
     → AllByRecursion IsEvenPart (map (laid_part ordinal) (coded_templates fields ps coded))
@@ -52,7 +54,7 @@ code_even named rvc ordinal fields (p ∷ ps) (bytes ∷ coded) (h, hs) = (part_
 
 padding_even : (executable : Bool) (ordinal bytes : ℕ) → executable ≡ true → IsRoom bytes → AllByRecursion IsEvenPart (map (laid_part ordinal) (padding_templates executable ordinal bytes))
 padding_even true ordinal zero e h = tt
-padding_even true ordinal (suc n) e h = (ap (λ m. m % 2) (nops_long (suc n) h.0) ∙ h.0, tt)
+padding_even true ordinal (suc n) e h = (ap (λ m. m % 2) (length_even (suc n) h.0) ∙ h.0, tt)
 padding_even false ordinal bytes e h = absurd (cc)
 
 contribution_even : (home : Section) (executable : Bool) (ordinal bytes : ℕ) (v : Expression → Value) (c : Contribution) → home.executable ≡ true → executable ≡ true → ContributionHeld home c → HasRoom c bytes
@@ -86,7 +88,7 @@ pub parts_even : (t : Tables) (home : Section) (multiple : ℕ) (laid : List Lai
     → AllByRecursion IsEvenPart (parts t laid)
 parts_even t home multiple [] code h sized = tt
 parts_even t home multiple (s ∷ ss) code (h, hs) (z, zs) =
-    all_join IsEvenPart (parts_of t s) (parts t ss) (laid_even t home s multiple code h z) (parts_even t home multiple ss code hs zs)
+    each_append IsEvenPart (parts_of t s) (parts t ss) (laid_even t home s multiple code h z) (parts_even t home multiple ss code hs zs)
 
 all_even : (ps : List LaidPart) → AllByRecursion IsEvenPart ps → length (flat_map part_bytes ps) % 2 ≡ 0
 all_even [] h = refl

@@ -8,6 +8,7 @@ use Rattle.std.proofs.lemmas.List.{map-append}
 use Rattle.std.proofs.lemmas.Bool.{eqb-true}
 use Rattle.std.specs.Prelude.{◌==◌, if◌then◌else◌, filter, flat_map, option_map, slice_get}
 use Rattle.std.specs.List.{AllByRecursion}
+use Rattle.rv_list_laws.proofs.EachLemmas.{each_append, each_split, each_flat_map}
 use Rattle.rv_unit_laws.specs.Sections.{Section}
 use Rattle.rv_unit_laws.specs.Tables.{Tables}
 use Rattle.rv_object_laws.specs.Object.{Relocation, Symbol}
@@ -17,17 +18,6 @@ use Rattle.rv_assemble_laws.specs.Symbols.{SymbolUse, use_of, references_in, ref
 use Rattle.rv_assemble_laws.specs.IsObjectOf.{Numbering, relocation_at, relocations_from, IsNumbered, ArePartsNumbered}
 use Rattle.rv_assemble_laws.specs.Fields.{Field, field_at, fields_from, fields_at, fields}
 use Rattle.rv_assemble.proofs.SettledLemmas.{IsSettled}
-pub use Rattle.rv_source_laws.proofs.HomesLemmas.{all_join}
-
--- ---- lists
-
-pub all_split : {X : Type 0} (P : X → Type 0) (xs ys : List X) → AllByRecursion P (xs ++ ys) → AllByRecursion P xs × AllByRecursion P ys
-all_split P [] ys h = (tt, h)
-all_split P (x ∷ xs) ys (h, hs) = let rest = all_split P xs ys hs in ((h, rest.0), rest.1)
-
-all_each : {X Y : Type 0} (P : Y → Type 0) (f : X → List Y) (xs : List X) → AllByRecursion P (flat_map f xs) → AllByRecursion (λ x. AllByRecursion P (f x)) xs
-all_each P f [] h = tt
-all_each P f (x ∷ xs) h = let both = all_split P (f x) (flat_map f xs) h in (both.0, all_each P f xs both.1)
 
 -- ---- a field as a relocation
 
@@ -173,11 +163,11 @@ module _ (t : Tables) (all : List LaidStatement) (number : Numbering) (symbols :
       → ArePartsNumbered t all number symbols (parts t (laid_in j laid))
   parts_numbered [] h is = tt
   parts_numbered (s ∷ ss) (h, hs) is =
-      let both = all_split (IsNumbered t all number symbols) (references_of t s) (references t ss) is in
+      let both = each_split (IsNumbered t all number symbols) (references_of t s) (references t ss) is in
       go (s.located.section == j) refl both.0 (parts_numbered ss hs both.1)
     where
       own : s.located.home.loaded ≡ true → AllByRecursion (IsNumbered t all number symbols) (references_of t s) → ArePartsNumbered t all number symbols (parts_of t s)
-      own e k = all_each (IsNumbered t all number symbols) references_in (parts_of t s) (subst (λ b. AllByRecursion (IsNumbered t all number symbols) (if b then flat_map references_in (parts_of t s) else [])) e k)
+      own e k = each_flat_map (IsNumbered t all number symbols) references_in (parts_of t s) (subst (λ b. AllByRecursion (IsNumbered t all number symbols) (if b then flat_map references_in (parts_of t s) else [])) e k)
 
       go : (b : Bool) → (s.located.section == j) ≡ b → AllByRecursion (IsNumbered t all number symbols) (references_of t s) → ArePartsNumbered t all number symbols (parts t (laid_in j ss))
           → ArePartsNumbered t all number symbols (parts t (if b then s ∷ laid_in j ss else laid_in j ss))
@@ -185,5 +175,5 @@ module _ (t : Tables) (all : List LaidStatement) (number : Numbering) (symbols :
           let same : s.located.section ≡ j = eqb-true s.located.section j e in
           let equal : Some s.located.home ≡ Some home = sym h.home ∙ ap (λ n. slice_get sections n) same ∙ at in
           let is : s.located.home ≡ home = cc in
-          all_join (λ p. AllByRecursion (IsNumbered t all number symbols) (references_in p)) (parts_of t s) (parts t (laid_in j ss)) (own (ap (λ (x : Section). x.loaded) is ∙ loaded) k) rest
+          each_append (λ p. AllByRecursion (IsNumbered t all number symbols) (references_in p)) (parts_of t s) (parts t (laid_in j ss)) (own (ap (λ (x : Section). x.loaded) is ∙ loaded) k) rest
       go false e k rest = rest

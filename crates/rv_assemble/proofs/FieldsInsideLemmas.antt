@@ -6,6 +6,8 @@ use Rattle.std.proofs.lemmas.Bool.{and_parts, eq-eqb, le-leb}
 use Rattle.std.proofs.lemmas.List.Folds.{list_all-append}
 use Rattle.std.specs.Prelude.{not, if◌then◌else◌, flat_map, unwrap_or}
 use Rattle.std.specs.List.{AllByRecursion, list_all}
+use Rattle.rv_list_laws.proofs.ElementsLemmas.{append_none_parts}
+use Rattle.rv_list_laws.proofs.EachLemmas.{each_append}
 use Rattle.rv_isa.specs.Kinds.{width_of}
 use Rattle.rv_text_laws.specs.Values.{Value}
 use Rattle.rv_statement_laws.specs.Statement.{StatementKind, Label, Numbered, Instruction, Directs, Expression}
@@ -18,9 +20,8 @@ use Rattle.rv_assemble_laws.specs.Templates.{Open, template_fields, padding_temp
 use Rattle.rv_assemble_laws.specs.LaidStatements.{LaidStatement, LaidPart, expression_value, templates, laid_part, part_bytes, parts_of, parts, Tile}
 use Rattle.rv_assemble_laws.specs.IsObjectOf.{Numbering, relocation_at, relocations_from}
 use Rattle.rv_assemble_laws.proofs.FilledLemmas.{bytes_append}
-use Rattle.rv_source_laws.proofs.HeldLemmas.{ContributionHeld, IsHeld, none_left}
+use Rattle.rv_source_laws.proofs.HeldLemmas.{ContributionHeld, IsHeld}
 use Rattle.rv_assemble.proofs.SettledLemmas.{IsIn}
-use Rattle.rv_assemble.proofs.FieldListsLemmas.{all_join}
 use Rattle.rv_assemble.proofs.RoomLemmas.{IsRoom}
 use Rattle.rv_assemble.proofs.CodeFitsLemmas.{FitsIn, Holds}
 use Rattle.rv_assemble.proofs.EvenCodeLemmas.{IsEvenPart}
@@ -55,8 +56,8 @@ parts_bare : (t : Tables) (home : Section) (offset : ℕ) (laid : List LaidState
 parts_bare t home offset [] e h tile none = tt
 parts_bare t home offset (s ∷ ss) e (h, hs) (at, bytes, tile) none =
     let both : home.executable ≡ true → (flat_map part_bytes (parts_of t s) ≡ []) × (flat_map part_bytes (parts t ss) ≡ []) =
-    λ code. none_left (flat_map part_bytes (parts_of t s)) (flat_map part_bytes (parts t ss)) (sym (bytes_append (parts_of t s) (parts t ss)) ∙ none code) in
-    all_join HasNoField (parts_of t s) (parts t ss)
+    λ code. append_none_parts (flat_map part_bytes (parts_of t s)) (flat_map part_bytes (parts t ss)) (sym (bytes_append (parts_of t s) (parts t ss)) ∙ none code) in
+    each_append HasNoField (parts_of t s) (parts t ss)
     (statement_bare home t s s.located.kind e h.held (λ code. bytes ∙ ap length (both (sym (ap (λ (x : Section). x.executable) h.same) ∙ code)).0))
     (parts_bare t home (offset + s.bytes) ss e hs tile (λ code. (both code).1))
 
@@ -220,7 +221,7 @@ part_apart number place p (inr h) = ap (λ fs. are_all_apart (map (relocation_at
 parts_behind : (number : Numbering) (n offset : ℕ) (ps : List LaidPart) → n ≤ offset → AllByRecursion (Behind n) (relocations_from number offset ps)
 parts_behind number n offset [] l = tt
 parts_behind number n offset (p ∷ ps) l =
-    all_join (Behind n) (map (relocation_at number offset) (template_fields p.ordinal p.template)) (relocations_from number (offset + length (part_bytes p)) ps)
+    each_append (Behind n) (map (relocation_at number offset) (template_fields p.ordinal p.template)) (relocations_from number (offset + length (part_bytes p)) ps)
     (opens_behind number offset n (template_fields p.ordinal p.template) l) (parts_behind number n (offset + length (part_bytes p)) ps (omega (arith, l)))
 
 parts_apart : (number : Numbering) (offset : ℕ) (ps : List LaidPart) → AllByRecursion Holds ps → are_all_apart (relocations_from number offset ps) ≡ true

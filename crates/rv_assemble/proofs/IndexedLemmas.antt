@@ -1,10 +1,12 @@
 -- Each relocation of a section names one of the symbols, and each symbol stands in one of the sections.
 
-use Rattle.std.proofs.Common.{◌≡◌, ℕ, zero, suc, ◌+◌, ◌<◌, Bool, true, false, not, ◌&&◌, ◌==◌, nat_lt, List, [], ◌∷◌, ◌++◌, length, refl, ap, ◌∙◌, subst, arith, map, Option, Some, None}
+use Rattle.std.proofs.Common.{◌≡◌, ℕ, ◌+◌, ◌<◌, Bool, true, false, not, ◌&&◌, ◌==◌, nat_lt, List, [], ◌∷◌, ◌++◌, length, refl, ap, ◌∙◌, subst, map, Option, Some, None}
 use Rattle.std.proofs.lemmas.Bool.{and_parts, lt-ltb}
 use Rattle.std.proofs.lemmas.List.Folds.{list_all-append}
 use Rattle.std.specs.Prelude.{if◌then◌else◌, filter, flat_map, option_map, slice_get}
 use Rattle.std.specs.List.{AllByRecursion, list_all, list_any}
+use Rattle.rv_list_laws.proofs.EachLemmas.{each_split}
+use Rattle.std.proofs.lemmas.Option.{slice_get_within}
 use Rattle.rv_text_laws.specs.Expression.{Primary}
 use Rattle.rv_text_laws.specs.Values.{Meaning, Known, InSection as InData, Open as OpenAddress, Refused}
 use Rattle.rv_statement_laws.specs.Statement.{StatementKind, Label, Numbered, Instruction, Directs, Sets}
@@ -21,14 +23,8 @@ use Rattle.rv_assemble_laws.specs.LaidStatements.{LaidStatement, LaidPart, part_
 use Rattle.rv_assemble_laws.specs.Symbols.{use_of, laid_at, after_statement, after_found, assigned_definition, statement_definition, local_symbol, shared_symbol, references, is_meant, are_together, unnamed_symbols, is_absolute, named_symbols, local_symbols, exports_of, exports, missing_name, distinct_from, undefined_symbols, symbols_of, StandsFor}
 use Rattle.rv_assemble_laws.specs.IsObjectOf.{Numbering, relocation_at, relocations_from, IsNumbered, ArePartsNumbered}
 use Rattle.rv_assemble.proofs.SettledLemmas.{IsSettled}
-use Rattle.rv_assemble.proofs.FieldListsLemmas.{all_split}
 
 -- ---- relocations
-
-inside_of : {X : Type 0} (xs : List X) (i : ℕ) (x : X) → slice_get xs i ≡ Some x → i < length xs
-inside_of [] i x e = absurd (cc)
-inside_of (y ∷ ys) zero x e = omega arith
-inside_of (y ∷ ys) (suc i) x e = let l = inside_of ys i x e in omega (arith, l)
 
 module _ (t : Tables) (all : List LaidStatement) (number : Numbering) (symbols : List Symbol) where
   abbrev IsIndexed : Relocation → Bool
@@ -39,7 +35,7 @@ module _ (t : Tables) (all : List LaidStatement) (number : Numbering) (symbols :
     where
       go : (found : Option Symbol) → slice_get symbols n ≡ found → StandsFor t all ordinal q found → nat_lt n (length symbols) ≡ true
       go None e h = absurd h
-      go (Some x) e h = lt-ltb n (length symbols) (inside_of symbols n x e)
+      go (Some x) e h = lt-ltb n (length symbols) (slice_get_within symbols n x e)
 
   open_indexed : (ordinal : ℕ) (q : Option Primary) → AllByRecursion (IsNumbered t all number symbols) (use_of ordinal q) → is_below (length symbols) (option_map (number ordinal) q) ≡ true
   open_indexed ordinal None h = refl
@@ -49,7 +45,7 @@ module _ (t : Tables) (all : List LaidStatement) (number : Numbering) (symbols :
       → list_all IsIndexed (map (relocation_at number place) fs) ≡ true
   opens_indexed place [] h = refl
   opens_indexed place (f ∷ fs) h =
-      let both = all_split (IsNumbered t all number symbols) (use_of f.ordinal f.symbol) (flat_map (λ f. use_of f.ordinal f.symbol) fs) h in
+      let both = each_split (IsNumbered t all number symbols) (use_of f.ordinal f.symbol) (flat_map (λ f. use_of f.ordinal f.symbol) fs) h in
       ap (λ b. b && list_all IsIndexed (map (relocation_at number place) fs)) (open_indexed f.ordinal f.symbol both.0) ∙ opens_indexed place fs both.1
 
   pub parts_indexed : (offset : ℕ) (ps : List LaidPart) → ArePartsNumbered t all number symbols ps → list_all IsIndexed (relocations_from number offset ps) ≡ true
@@ -72,10 +68,10 @@ module _ (t : Tables) (sections : List SourceSection) (count : ℕ) (counted : l
   AllStand xs = list_all Stands xs ≡ true
 
   at_statement : (s : LaidStatement) → IsSettled sections s → (plus : ℕ) → IsIn (after_statement s plus)
-  at_statement s h plus = lt-ltb s.located.section count (subst (λ n. s.located.section < n) counted (inside_of sections s.located.section s.located.home h.home))
+  at_statement s h plus = lt-ltb s.located.section count (subst (λ n. s.located.section < n) counted (slice_get_within sections s.located.section s.located.home h.home))
 
   own_laid : (s : LaidStatement) → IsSettled sections s → IsIn (InSection s.located.section s.offset)
-  own_laid s h = lt-ltb s.located.section count (subst (λ n. s.located.section < n) counted (inside_of sections s.located.section s.located.home h.home))
+  own_laid s h = lt-ltb s.located.section count (subst (λ n. s.located.section < n) counted (slice_get_within sections s.located.section s.located.home h.home))
 
   found_laid : (ordinal plus : ℕ) (laid : List LaidStatement) → AllByRecursion (IsSettled sections) laid → IsIn (after_found (laid_at laid ordinal) plus)
   found_laid ordinal plus [] h = refl

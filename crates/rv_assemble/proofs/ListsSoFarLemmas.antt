@@ -1,11 +1,13 @@
 -- One field more of the relocations so far, and one section more of the sections.
 
-use Rattle.std.proofs.Common.{◌≡◌, ℕ, ℤ, zero, suc, ◌+◌, ◌<◌, ◌==◌, Bool, true, false, List, [], ◌∷◌, ◌++◌, length, drop, map, Option, Some, None, refl, sym, ap, ◌∙◌, subst, arith, get_or, add-one, append_assoc, append-nil}
+use Rattle.std.proofs.Common.{◌≡◌, ℕ, ℤ, zero, suc, ◌+◌, ◌<◌, ◌==◌, Bool, true, false, List, [], ◌∷◌, ◌++◌, length, drop, map, Option, Some, None, refl, sym, ap, ◌∙◌, subst, arith, get_or, append_assoc, append-nil}
 use Rattle.std.proofs.lemmas.Bool.{eqb-true, eq-eqb}
 use Rattle.std.proofs.lemmas.List.{length-set, drop_more, map-append}
 use Rattle.std.specs.Global.{Vec}
 use Rattle.std.specs.List.{AllByRecursion}
 use Rattle.std.specs.Prelude.{slice_get, slice_set, if◌then◌else◌}
+use Rattle.rv_list_laws.proofs.NumbersLemmas.{eq_swap}
+use Rattle.rv_list_laws.proofs.MapLemmas.{drop_map_or}
 use Rattle.rv_isa.specs.declared.kind.Kind.{Kind}
 use Rattle.rv_object_types.specs.declared.relocation.Relocation.{Relocation as DeclaredRelocation}
 use Rattle.rv_object_laws.specs.Object.{Relocation}
@@ -22,33 +24,10 @@ empty_behind [] x (suc j) e h = refl
 empty_behind (y ∷ ys) x zero e h = h 0
 empty_behind (y ∷ ys) x (suc j) e h = empty_behind ys x j e (λ i. h (suc i))
 
-swap : (a b : ℕ) → (a == b) ≡ (b == a)
-swap a b = go (a == b) refl
-  where
-    go : (c : Bool) → (a == b) ≡ c → c ≡ (b == a)
-    go true e = sym (eq-eqb b a (sym (eqb-true a b e)))
-    go false e = go' (b == a) refl
-      where
-        go' : (d : Bool) → (b == a) ≡ d → false ≡ d
-        go' false f = refl
-        go' true f = absurd (let g : (a == b) ≡ true = eq-eqb a b (sym (eqb-true b a f)) in cc)
-
--- the front of what is left
-pub left : {X : Type 0} (xs : List X) (i : ℕ) (x : X) → i < length xs → x ≡ get_or xs i x → drop i xs ≡ x ∷ drop (i + 1) xs
-left xs i x inside is = drop_more xs i x inside ∙ ap (λ y. y ∷ drop (i + 1) xs) (sym is)
-
-pub left_map : {X Y : Type 0} (f : X → Y) (xs : List X) (i : ℕ) (d : X) → i < length xs → drop i (map f xs) ≡ f (get_or xs i d) ∷ drop (i + 1) (map f xs)
-left_map f xs i d inside = by xs i inside ∙ ap (λ n. f (get_or xs i d) ∷ drop n (map f xs)) (sym (add-one i))
-  where
-    by : (xs : List _) (i : ℕ) → i < length xs → drop i (map f xs) ≡ f (get_or xs i d) ∷ drop (suc i) (map f xs)
-    by [] i inside = absurd (omega (arith, inside))
-    by (y ∷ ys) zero inside = refl
-    by (y ∷ ys) (suc i) inside = by ys i (omega (arith, inside))
-
 one_more : (old new : List (Vec DeclaredRelocation)) (f : Field) (n : Option ℕ) (fs : List Field) (ns : List (Option ℕ)) (whole : ℕ → List Relocation)
     → GainsOne old new f n → ((j : ℕ) → list_in old j ++ relocations_in j (f ∷ fs) (n ∷ ns) ≡ whole j) → (j : ℕ) → list_in new j ++ relocations_in j fs ns ≡ whole j
 one_more old new f n fs ns whole (count, gains) h j =
-    ap (λ l. l ++ relocations_in j fs ns) (gains j ∙ ap (λ b. if b then list_in old j ++ field_relocation f n ∷ [] else list_in old j) (swap j f.section) ∙ go (f.section == j))
+    ap (λ l. l ++ relocations_in j fs ns) (gains j ∙ ap (λ b. if b then list_in old j ++ field_relocation f n ∷ [] else list_in old j) (eq_swap j f.section) ∙ go (f.section == j))
     ∙ append_assoc (list_in old j) (relocations_at j f n) (relocations_in j fs ns) ∙ h j
   where
     go : (b : Bool) → (if b then list_in old j ++ field_relocation f n ∷ [] else list_in old j) ≡ list_in old j ++ (if b then field_relocation f n ∷ [] else [])
@@ -102,7 +81,7 @@ pub next_one : (old new : List (Vec DeclaredRelocation)) (fs : List OpenField) (
     → (j : ℕ) → list_in new j ++ relocations_in j (drop (i + 1) (map field_of fs)) (drop (i + 1) ns) ≡ whole j
 next_one old new fs ns i d whole inside each gains h =
     one_more old new (field_of (get_or fs i d)) (get_or ns i None) (drop (i + 1) (map field_of fs)) (drop (i + 1) ns) whole gains
-    (λ j. ap (λ l. list_in old j ++ relocations_in j l (get_or ns i None ∷ drop (i + 1) ns)) (sym (left_map field_of fs i d inside))
+    (λ j. ap (λ l. list_in old j ++ relocations_in j l (get_or ns i None ∷ drop (i + 1) ns)) (sym (drop_map_or field_of fs i d inside))
     ∙ ap (λ l. list_in old j ++ relocations_in j (drop i (map field_of fs)) l) (sym (drop_more ns i None (subst (λ n. i < n) (sym each) inside))) ∙ h j)
 
 abbrev pub placed : ℕ → Option ℕ → Kind → ℤ → Relocation

@@ -1,48 +1,16 @@
 -- The room that a padding in code has: an even count of bytes, 4094 at most, all of them instructions without effect.
 
-use Rattle.std.proofs.Common.{◌≡◌, ℕ, zero, suc, ◌+◌, ◌-◌, ◌*◌, ◌/◌, ◌%◌, ◌^◌, ◌≤◌, Bool, true, false, nat_le, List, [], ◌∷◌, length, length-append, refl, sym, ◌∙◌, subst, arith, Option, Some, None}
+use Rattle.std.proofs.Common.{◌≡◌, ℕ, zero, suc, ◌-◌, ◌%◌, ◌^◌, ◌≤◌, Bool, true, false, refl, sym, subst, arith, Option, Some, None}
 use Rattle.std.proofs.Math.Nat.{pow-suc}
-use Rattle.std.proofs.lemmas.Bool.{leb-true, leb-false}
-use Rattle.std.specs.Prelude.{⊤, if◌then◌else◌}
+use Rattle.std.specs.Prelude.{⊤}
 use Rattle.rv_text_laws.specs.Values.{Value}
 use Rattle.rv_statement_laws.specs.Statement.{Expression, Directive, Enters, Opens, Binds, Sets, Aligns_to_power, Aligns_to_bytes, Values, Strings, Zeros, Chooses, Ignored}
 use Rattle.rv_unit_laws.specs.Contributions.{Contribution, Nothing, Bytes, Zero_bytes, Alignment, contribution}
 use Rattle.rv_unit_laws.specs.Tables.{alignment_of, contribution_alignment, or_none}
 use Rattle.rv_unit_laws.proofs.GrownLemmas.{AlignsToPower, directive_aligned}
-use Rattle.rv_object_laws.specs.Padding.{four_each, no_operations}
 use Rattle.rv_source_laws.specs.Sizes.{code_padding}
 use Rattle.rv_assemble_laws.specs.LaidStatements.{LaidStatement, IsPaddedIn, DirectiveSize}
 use Rattle.rv_assemble.proofs.AlignmentsLemmas.{form_low}
-
--- ---- instructions without effect
-
-abbrev two_of : Bool → ℕ
-two_of b = if b then 2 else 0
-
--- the rest of an even count
-rest_of : (bytes : ℕ) → bytes % 2 ≡ 0 → bytes ≡ 4 * (bytes / 4) + two_of (nat_le 2 (bytes % 4))
-rest_of bytes even = go (nat_le 2 (bytes % 4)) refl
-  where
-    go : (b : Bool) → nat_le 2 (bytes % 4) ≡ b → bytes ≡ 4 * (bytes / 4) + two_of b
-    go true e = let h = leb-true 2 (bytes % 4) e in omega (arith, even, h)
-    go false e = let h = leb-false 2 (bytes % 4) e in omega (arith, even, h)
-
-fours_long : (n : ℕ) → length (four_each n) ≡ 4 * n
-fours_long zero = refl
-fours_long (suc n) = let ih = fours_long n in omega (arith, ih)
-
-pub nops_long : (bytes : ℕ) → bytes % 2 ≡ 0 → length (no_operations bytes) ≡ bytes
-nops_long bytes even =
-    let two : List ℕ = if nat_le 2 (bytes % 4) then 0x01 ∷ 0 ∷ [] else [] in
-    let last : length two ≡ two_of (nat_le 2 (bytes % 4)) = go (nat_le 2 (bytes % 4)) in
-    let both = length-append (four_each (bytes / 4)) two in
-    let front = fours_long (bytes / 4) in
-    let whole = rest_of bytes even in
-    both ∙ omega (arith, last, front, whole)
-  where
-    go : (b : Bool) → length {A = ℕ} (if b then 0x01 ∷ 0 ∷ [] else []) ≡ two_of b
-    go true = refl
-    go false = refl
 
 -- ---- counts of bytes
 

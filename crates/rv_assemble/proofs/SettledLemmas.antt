@@ -5,31 +5,20 @@ use Rattle.std.proofs.Common.{◌≡◌, ℕ, suc, Bool, true, false, List, [], 
 use Rattle.std.proofs.lemmas.Bool.{eqb-true}
 use Rattle.std.specs.Prelude.{◌==◌, if◌then◌else◌}
 use Rattle.std.specs.List.{AllByRecursion, slice_get}
-use Rattle.rv_statement_laws.specs.Statement.{StatementKind, Label, Numbered, Instruction, Directs, Statement, Sets, Aligns_to_power, Aligns_to_bytes, Values, Strings, Zeros}
+use Rattle.rv_statement_laws.specs.Statement.{Statement}
 use Rattle.rv_unit_laws.specs.Sections.{Section, text_section}
 use Rattle.rv_unit_laws.specs.Tables.{Tables, at_start, after, tables, opened_of}
 use Rattle.rv_unit_laws.specs.Faults.{first_unit_fault}
-use Rattle.rv_source_laws.specs.Located.{Located, located_from, is_placed}
+use Rattle.rv_source_laws.specs.Located.{Located, located_from}
 use Rattle.rv_source_laws.proofs.HeldLemmas.{IsHeld, Held, all_held}
 use Rattle.rv_source_laws.proofs.HomesLemmas.{homes_from}
 use Rattle.rv_assemble_laws.specs.LaidStatements.{LaidStatement, laid_in, templates}
+use Rattle.rv_assemble_laws.proofs.LaidStatementsLemmas.{unplaced_by, of_located}
 
 abbrev pub IsHomeIn : List Section → Located → Type 0
 IsHomeIn sections l = slice_get sections l.section ≡ Some l.home
 
 -- ---- statements without a place
-
-unplaced_by : (t : Tables) (k : ℕ) (kind : StatementKind) → is_placed t k kind ≡ false → (u : Tables) (s : LaidStatement) → templates u s kind ≡ []
-unplaced_by t k (Label name) e u s = absurd (cc)
-unplaced_by t k (Numbered number) e u s = absurd (cc)
-unplaced_by t k (Instruction mnemonic operands) e u s = absurd (cc)
-unplaced_by t k (Directs (Sets name x)) e u s = refl
-unplaced_by t k (Directs (Values width values)) e u s = absurd (cc)
-unplaced_by t k (Directs (Strings ended strings)) e u s = absurd (cc)
-unplaced_by t k (Directs (Zeros count)) e u s = absurd (cc)
-unplaced_by t k (Directs (Aligns_to_power x)) e u s = absurd (cc)
-unplaced_by t k (Directs (Aligns_to_bytes x)) e u s = absurd (cc)
-unplaced_by t k (Directs _) e u s = refl
 
 abbrev pub IsBare : Located → Type 0
 IsBare l = l.placed ≡ false → (u : Tables) (s : LaidStatement) → templates u s l.kind ≡ []
@@ -44,10 +33,6 @@ pub record IsSettled (sections : List Section) (s : LaidStatement) : Type 0 wher
   pub home : IsHomeIn sections s.located
   pub held : IsHeld s.located.home s.located.kind
   pub bare : IsBare s.located
-
-of_located : (P : Located → Type 0) (laid : List LaidStatement) → AllByRecursion P (map (λ s. s.located) laid) → AllByRecursion (λ s. P s.located) laid
-of_located P [] h = tt
-of_located P (s ∷ ss) (h, hs) = (h, of_located P ss hs)
 
 settled_by : (sections : List Section) (laid : List LaidStatement) → AllByRecursion (λ s. IsHomeIn sections s.located) laid → AllByRecursion (λ s. Held s.located) laid
     → AllByRecursion (λ s. IsBare s.located) laid → AllByRecursion (IsSettled sections) laid

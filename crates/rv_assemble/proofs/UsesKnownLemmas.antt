@@ -6,6 +6,7 @@ use Rattle.std.proofs.lemmas.Bool.{and_parts, and_from}
 use Rattle.std.proofs.lemmas.List.Folds.{list_all-append}
 use Rattle.std.specs.Prelude.{⊤, if◌then◌else◌, flat_map, is_some, unwrap_or}
 use Rattle.std.specs.List.{AllByRecursion, list_all}
+use Rattle.rv_list_laws.proofs.TestsLemmas.{all_weaker}
 use Rattle.rv_isa.specs.Kinds.{is_low_part}
 use Rattle.rv_isa.specs.declared.kind.Kind.{Kind}
 use Rattle.rv_text_laws.specs.Bytes.{digits_value}
@@ -16,7 +17,6 @@ use Rattle.rv_statement_laws.specs.Statement.{StatementKind, Label, Numbered, In
 use Rattle.rv_pseudo_laws.specs.Code.{Part as CodePart, Closed, Open as OpenPart, Joined, code}
 use Rattle.rv_unit_laws.specs.Contributions.{Numbers, Texts, Contribution, Nothing, Bytes, Zero_bytes, Alignment, contribution}
 use Rattle.rv_unit_laws.specs.Tables.{Tables, SectionOffset, NumericLabel, at_start, after, tables, meaning, numeric_label_after, numeric_label_before, forward_in, backward_in, numeric_definition, opened_of, Definition, definition}
-use Rattle.rv_unit_laws.proofs.FoundLemmas.{all_weaker}
 use Rattle.rv_source_laws.specs.Located.{Located, located_from}
 use Rattle.rv_source_laws.specs.Program.{place_of, in_operand, in_contribution}
 use Rattle.rv_source_laws.specs.Lines.{other_operand, operand_of}

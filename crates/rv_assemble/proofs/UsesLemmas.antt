@@ -1,16 +1,17 @@
 -- The fields of a draft as the symbols that its source's relocations name.
 
-use Rattle.std.proofs.Common.{◌≡◌, ℕ, suc, ◌+◌, ◌*◌, ◌^◌, ◌<◌, ◌≤◌, List, [], ◌∷◌, ◌++◌, length, map, refl, sym, ap, ◌∙◌, subst, arith, None, drop, get_or, append_assoc}
+use Rattle.std.proofs.Common.{◌≡◌, ℕ, ◌+◌, ◌*◌, ◌^◌, ◌<◌, ◌≤◌, List, [], ◌∷◌, ◌++◌, length, map, refl, sym, ap, ◌∙◌, subst, arith, None, drop, get_or, append_assoc}
 use Rattle.std.proofs.lemmas.List.{length-map, drop_more}
 use Rattle.std.specs.List.{AllByRecursion}
 use Rattle.std.specs.Prelude.{Bool, true, false, flat_map, if◌then◌else◌}
 use Rattle.std.proofs.lemmas.Option.{slice_get_within}
+use Rattle.rv_list_laws.proofs.EachLemmas.{each_append}
 use Rattle.rv_statement_laws.specs.Statement.{Statement}
 use Rattle.rv_unit_laws.specs.Faults.{first_unit_fault}
 use Rattle.rv_unit_laws.specs.Sections.{Section}
-use Rattle.rv_unit_laws.specs.Tables.{Tables, at_start, after, tables, opened_of}
+use Rattle.rv_unit_laws.specs.Tables.{Tables, at_start, tables, opened_of}
+use Rattle.rv_source_laws.proofs.LocatedLemmas.{count_from}
 use Rattle.rv_unit.specs.Items.{offsets_of}
-use Rattle.rv_source_laws.specs.Located.{located_from}
 use Rattle.rv_assemble_laws.specs.Templates.{Open, template_fields}
 use Rattle.rv_assemble_laws.specs.LaidStatements.{LaidStatement, LaidPart, part_bytes, parts_of}
 use Rattle.rv_assemble_laws.specs.Symbols.{references}
@@ -26,7 +27,7 @@ use Rattle.rv_symbols.specs.SymbolUse.{AreMeant, uses_of}
 use Rattle.rv_symbols.specs.HasSymbols.{AreLaid}
 use Rattle.rv_assemble.specs.Tabled.{open_field_use, uses_in}
 use Rattle.rv_assemble.proofs.SettledLemmas.{IsSettled, settled}
-use Rattle.rv_assemble.proofs.FieldListsLemmas.{use_of_field, uses_of_fields, all_join}
+use Rattle.rv_assemble.proofs.FieldListsLemmas.{use_of_field, uses_of_fields}
 use Rattle.rv_assemble.proofs.UsesKnownLemmas.{are_shown_uses, are_meant_uses}
 
 offsets_are : (laid : List LaidStatement) → map (λ s. s.offset) laid ≡ offsets_of (map item_of laid)
@@ -37,10 +38,6 @@ uses_are : (fs : List OpenField) → flat_map open_field_use fs ≡ flat_map use
 uses_are [] = refl
 uses_are (f ∷ fs) = ap (λ l. open_field_use f ++ l) (uses_are fs)
 
-count_from : (k : ℕ) (t : Tables) (ss : List Statement) → length (located_from 1 k t ss) ≡ length ss
-count_from k t [] = refl
-count_from k t (s ∷ ss) = ap suc (count_from (suc k) (after t k s.kind) ss)
-
 -- ---- the sections of fields
 
 opens_inside : (n section offset : ℕ) → section < n → (fs : List Open) → AllByRecursion (λ (f : Field). f.section < n) (map (field_at section offset) fs)
@@ -50,7 +47,7 @@ opens_inside n section offset h (f ∷ fs) = (h, opens_inside n section offset h
 parts_inside : (n section offset : ℕ) → section < n → (ps : List LaidPart) → AllByRecursion (λ (f : Field). f.section < n) (fields_from section offset ps)
 parts_inside n section offset h [] = tt
 parts_inside n section offset h (p ∷ ps) =
-    all_join (λ (f : Field). f.section < n) (map (field_at section offset) (template_fields p.ordinal p.template)) (fields_from section (offset + length (part_bytes p)) ps) (opens_inside n section offset h (template_fields p.ordinal p.template))
+    each_append (λ (f : Field). f.section < n) (map (field_at section offset) (template_fields p.ordinal p.template)) (fields_from section (offset + length (part_bytes p)) ps) (opens_inside n section offset h (template_fields p.ordinal p.template))
     (parts_inside n section (offset + length (part_bytes p)) h ps)
 
 statement_inside : (n : ℕ) (t : Tables) (s : LaidStatement) → s.located.section < n → AllByRecursion (λ (f : Field). f.section < n) (fields_at t s)
@@ -63,7 +60,7 @@ statement_inside n t s h = go s.located.home.loaded
 laid_inside : (t : Tables) (sections : List Section) (laid : List LaidStatement) → AllByRecursion (IsSettled sections) laid → AllByRecursion (λ (f : Field). f.section < length sections) (fields t laid)
 laid_inside t sections [] h = tt
 laid_inside t sections (s ∷ ss) (h, hs) =
-    all_join (λ (f : Field). f.section < length sections) (fields_at t s) (fields t ss)
+    each_append (λ (f : Field). f.section < length sections) (fields_at t s) (fields t ss)
     (statement_inside (length sections) t s (slice_get_within sections s.located.section s.located.home h.home)) (laid_inside t sections ss hs)
 
 unmapped : (n : ℕ) (fs : List OpenField) → AllByRecursion (λ (f : Field). f.section < n) (map field_of fs) → AllByRecursion (λ (f : OpenField). f.section < n) fs

@@ -12,5 +12,10 @@ pub mod FixedLemmas
 pub mod LeastAllLemmas
 pub mod ItemSectionsLemmas
 pub mod LeastCodeLemmas
-pub mod ListsLemmas
 pub mod OrdinalsLemmas
+pub mod EncodedLemmas
+pub mod InstructionFaultsLemmas
+pub mod IsObjectOfLemmas
+pub mod LaidStatementsLemmas
+pub mod TemplatesLemmas
+pub mod ValidLemmas

@@ -7,6 +7,7 @@ use Rattle.std.specs.Option.{option_or}
 use Rattle.std.specs.Str.{bytes_eq}
 use Rattle.std.proofs.lemmas.Bool.{not-true}
 use Rattle.std.proofs.lemmas.List.Folds.{find-append}
+use Rattle.rv_list_laws.proofs.ElementsLemmas.{same_bytes}
 use Rattle.rv_text_laws.specs.Expression.{Literal, Symbol, Here, Reference}
 use Rattle.rv_text_laws.specs.Values.{Known, InSection, Open, Refused, Value, Constant, Symbolic, Difference, Faulty, add}
 use Rattle.rv_statement_laws.specs.Statement.{StatementKind, Label, Numbered, Instruction, Directs, Statement, Expression, Directive, Enters, Opens, Binds, Sets, Aligns_to_power, Aligns_to_bytes, Values, Strings, Zeros, Chooses, Ignored}
@@ -15,7 +16,6 @@ use Rattle.rv_unit_laws.specs.Tables.{Tables, Labelled, Assignment, here, value_
 use Rattle.rv_unit_laws.proofs.AloneLemmas.{Same, section_same, directive_same, own_label, other_label, undefined, unplaced}
 use Rattle.rv_text_laws.specs.Codes.{lowest}
 use Rattle.rv_unit_laws.specs.Faults.{faults, first_fault_from}
-use Rattle.rv_unit_laws.proofs.FoundLemmas.{same_bytes}
 use Rattle.rv_unit_laws.proofs.BeforeLemmas.{IsBefore, placed_latest, before_after}
 use Rattle.rv_source_laws.specs.Located.{Located, is_placed, located_from}
 use Rattle.rv_source_laws.proofs.HeldLemmas.{no_test, no_lowest, no_fault}

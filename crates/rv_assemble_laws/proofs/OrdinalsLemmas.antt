@@ -2,11 +2,11 @@
 
 use Rattle.std.specs.Prelude.{slice_get}
 use Rattle.std.proofs.Common.{◌≡◌, ℕ, zero, suc, ◌+◌, List, [], ◌∷◌, map, sym, ap, ◌∙◌, arith, Some}
+use Rattle.rv_list_laws.proofs.ElementsLemmas.{cons_parts}
 use Rattle.rv_statement_laws.specs.Statement.{Statement}
 use Rattle.rv_unit_laws.specs.Tables.{Tables, after}
 use Rattle.rv_source_laws.specs.Located.{Located, located_from}
 use Rattle.rv_assemble_laws.specs.LaidStatements.{LaidStatement}
-use Rattle.rv_assemble_laws.proofs.UseWeightsLemmas.{cons_parts}
 
 pub ordinal_by : (k : ℕ) (t : Tables) (ss : List Statement) (laid : List LaidStatement) → map (λ s. s.located) laid ≡ located_from 1 k t ss → (i : ℕ) (s : LaidStatement) → slice_get laid i ≡ Some s → s.located.ordinal ≡ k + i
 ordinal_by k t ss [] e zero s f = absurd (cc)

@@ -2,6 +2,7 @@
 
 use Rattle.std.proofs.Common.{◌≡◌, ℕ, zero, suc, ◌+◌, ◌*◌, ◌≤◌, Bool, true, false, List, [], ◌∷◌, ◌++◌, flat_map, map, length, length-append, Option, Some, None, refl, ap, arith}
 use Rattle.std.specs.Prelude.{ℤ, pos, ◌==◌, unwrap_or, option_map, if◌then◌else◌}
+use Rattle.rv_list_laws.proofs.ElementsLemmas.{cons_parts}
 use Rattle.rv_isa.specs.Kinds.{is_low_part}
 use Rattle.rv_isa.specs.declared.instruction.Inst.{Inst}
 use Rattle.rv_isa.specs.declared.kind.Kind.{Kind}
@@ -374,9 +375,6 @@ references_light t (s ∷ laid) =
     omega (arith, a, b, c)
 
 -- ---- the statements of a source
-
-pub cons_parts : {A : Type 0} (x y : A) (xs ys : List A) → x ∷ xs ≡ y ∷ ys → (x ≡ y) × (xs ≡ ys)
-cons_parts x y xs ys e = (cc, cc)
 
 pub laid_said : (k : ℕ) (u : Tables) (ss : List Statement) (laid : List LaidStatement) → map (λ s. s.located) laid ≡ located_from 1 k u ss → (statement_said laid ≡ all_said ss) × (length laid ≡ length ss)
 laid_said k u [] [] e = (refl, refl)

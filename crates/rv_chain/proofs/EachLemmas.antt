@@ -5,10 +5,6 @@ use Rattle.std.specs.List.{AllByRecursion}
 use Rattle.rv_object_laws.specs.Object.{Object}
 use Rattle.rv_chain_laws.specs.Objects.{AreEach}
 
-pub weaken : {X : Type 0} (P Q : X → Type 0) → ((x : X) → P x → Q x) → (xs : List X) → AllByRecursion P xs → AllByRecursion Q xs
-weaken P Q f [] h = tt
-weaken P Q f (x ∷ xs) (h, hs) = (f x h, weaken P Q f xs hs)
-
 -- ---- one of each
 
 pub same_each : (Is : List ℕ → Object → Type 0) → ((bytes : List ℕ) (o p : Object) → Is bytes o → Is bytes p → o ≡ p)

@@ -3,6 +3,7 @@
 use Rattle.std.proofs.Common.{◌≡◌, ℕ, zero, suc, ◌+◌, ◌-◌, ◌<◌, Bool, true, false, cond, ◌⊎◌, inl, inr, List, ◌∷◌, length, map, filter, refl, sym, ap, subst, ◌∙◌, arith, Some, None}
 use Rattle.std.specs.Prelude.{IsTrue}
 use Rattle.std.specs.List.{AllByRecursion}
+use Rattle.rv_list_laws.proofs.EachLemmas.{each_weaker}
 use Rattle.rv_fault.specs.declared.file_fault.FileFault.{FileFault}
 use Rattle.rv_elf_laws.specs.Sections.{section_count}
 use Rattle.rv_object_laws.specs.Object.{Section, Object}
@@ -11,7 +12,6 @@ use Rattle.rv_object_file_laws.specs.Parts.{is_kept, kept, row_records}
 use Rattle.rv_object_file_laws.specs.FirstFault.{first_fault}
 use Rattle.rv_object_file_laws.specs.ObjectOf.{ObjectOf, section_in, row_in}
 use Rattle.rv_object_checks.specs.Found.{section_at, sections_from}
-use Rattle.rv_object_reader.proofs.WalkLemmas.{sections_are}
 use Rattle.rv_object_reader.proofs.ValidSectionsLemmas.{IsValid, section_valid}
 use Rattle.rv_object_reader.proofs.ValidSymbolsLemmas.{object_rows}
 use Rattle.rv_fault.specs.declared.link_fault.LinkFault.{LinkFault}
@@ -21,9 +21,10 @@ use Rattle.rv_unique_link_laws.specs.Asked.{IsSound}
 use Rattle.rv_fault.specs.declared.fault.Fault.TheVariants.{Source, File, Link, Memory}
 use Rattle.rv_fault.specs.Fault.{IsNamed}
 use Rattle.rv_chain_laws.specs.Objects.{IsObjectIn, AreEach, AreObjectsIn}
+use Rattle.rv_object_checks.proofs.SectionsFromLemmas.{sections_are}
 use Rattle.rv_chain.specs.LinkRefusals.{IsFirstUnread, AreReadUnlinked}
 use Rattle.rv_chain.specs.OneFault.{FilesForMemory, FilesForOne, FilesHaveOneFault}
-use Rattle.rv_chain.proofs.EachLemmas.{weaken, same_each, count_each, in_middle, all_each, one_first}
+use Rattle.rv_chain.proofs.EachLemmas.{same_each, count_each, in_middle, all_each, one_first}
 use Rattle.rv_chain.proofs.ReasonsLemmas.{within_past, past_once, IsRefusal, LinkLaws, no_refusal, one_reason}
 
 -- ---- what the object of a file keeps
@@ -49,9 +50,9 @@ is_sound : (file : List ℕ) (o : Object) → IsObjectIn file o → IsSound o
 is_sound file o (none, is) =
     let valid : AllByRecursion IsValid o.sections = subst (λ ss. AllByRecursion IsValid ss) (sym is.sections) (all_valid file none) in
     record {
-      alignments = weaken IsValid (λ s. IsTrue (is_section_alignment s.alignment)) (λ s v. v.aligned) o.sections valid;
-      inside = weaken IsValid (λ s. IsTrue (fit_inside s.contents s.relocations)) (λ s v. v.inside) o.sections valid;
-      paddings = weaken IsValid (λ s. IsTrue (are_paddings s.executable s.contents s.relocations)) (λ s v. v.paddings) o.sections valid;
+      alignments = each_weaker IsValid (λ s. IsTrue (is_section_alignment s.alignment)) (λ s v. v.aligned) o.sections valid;
+      inside = each_weaker IsValid (λ s. IsTrue (fit_inside s.contents s.relocations)) (λ s v. v.inside) o.sections valid;
+      paddings = each_weaker IsValid (λ s. IsTrue (are_paddings s.executable s.contents s.relocations)) (λ s v. v.paddings) o.sections valid;
       rows = ap (are_rows o.sections) is.rows ∙ ap (λ ss. are_rows ss (map (row_in file) (row_records file))) is.sections ∙ object_rows file none;
     }
 

@@ -13,19 +13,12 @@ use Rattle.rv_image_laws.specs.Linked.{Linked, IsLaidOut}
 use Rattle.rv_image_laws.specs.Image.{Image}
 use Rattle.rv_image_laws.specs.Executable.{exe_of, linked_image}
 use Rattle.rv_image_laws.specs.ImageOf.{ImageOf}
-use Rattle.rv_image.proofs.LoadedAgainLemmas.{reload_image}
+use Rattle.rv_image.proofs.LoadedAgainLemmas.{reload_image, one_image}
 use Rattle.rv_source_laws.specs.Program.{program}
 use Rattle.rv_listing_laws.specs.Listing.{IsListing}
 use Rattle.rv_chain_laws.specs.SourceListing.{IsSourceListing}
 use Rattle.rv_chain_laws.specs.Building.{IsProgramFrom}
 use Rattle.rv_chain_laws.specs.Listed.{IsListedAs}
-
--- a file has one image
-one_image : (file : List ℕ) (image other : Image) → ImageOf file image → ImageOf file other → image ≡ other
-one_image file image other a b =
-    let entry : image.entry ≡ other.entry = a.entry ∙ sym b.entry in
-    let segments : image.segments ≡ other.segments = a.segments ∙ sym b.segments in
-    λ i. record { entry = entry i; segments = segments i }
 
 pub listed_as : (texts : List (List ℕ)) (start : ℕ) (relax gc : Bool) (l : Linked) (exe map_bytes : List ℕ) → IsLaidOut l → IsMap l.map → (of : IsProgramFrom texts start relax gc l)
     → ((reader : Reader Spells StandsFor) (text : List ℕ) → IsListing reader (linked_image l) l.map text ↔ IsSourceListing (program of.sources l.map) text) → exe ≡ exe_of l → map_bytes ≡ map_text l.map → IsListedAs texts exe map_bytes

@@ -18,15 +18,14 @@ use Rattle.rv_assemble_laws.specs.LaidStatements.{LaidStatement, part_bytes, par
 use Rattle.rv_assemble_laws.specs.IsObjectOf.{Numbering, relocations_from, IsSectionOf, AreSectionsOf, row_of, rows_at, IsObjectOf}
 use Rattle.rv_assemble_laws.proofs.FaultlessLemmas.{no_first_fault}
 use Rattle.rv_assemble_laws.proofs.FilledLemmas.{filled}
+use Rattle.rv_assemble_laws.proofs.IsObjectOfLemmas.{stored_size}
 use Rattle.rv_assemble.proofs.SettledLemmas.{IsSettled, settled, IsIn, all_in}
 use Rattle.rv_assemble.proofs.AlignmentsLemmas.{aligned}
 use Rattle.rv_assemble.proofs.EvenCodeLemmas.{parts_even, ends_within}
 use Rattle.rv_assemble.proofs.CodeFitsLemmas.{Holds, all_fit}
 use Rattle.rv_assemble.proofs.FieldsInsideLemmas.{none_in_nobits, parts_within, paddings_lie}
 use Rattle.rv_unique_link_laws.specs.Asked.{IsSound}
-use Rattle.rv_assemble.proofs.ComposedLemmas.{contents_size, inside_by}
-
--- ---- contents
+use Rattle.rv_assemble.proofs.ComposedLemmas.{inside_by}
 
 -- ---- sections, one by one
 
@@ -109,7 +108,7 @@ module _ (ss : List Statement) (o : Object) (h : IsObjectOf ss o) where
     ends = filled t 0 laid is.tile ∙ (let f : 0 + length full ≡ length full = omega arith in f)
 
     size : size_of x.contents ≡ end_of 0 laid
-    size = ap size_of is.contents ∙ contents_size home.section_type (end_of 0 laid) full ends
+    size = ap size_of is.contents ∙ stored_size home.section_type (end_of 0 laid) full ends
 
     held : AllByRecursion Holds (parts t laid)
     held = all_fit t home x.alignment laid inside is.sizes is.fields

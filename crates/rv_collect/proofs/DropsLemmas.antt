@@ -5,6 +5,7 @@ use Rattle.std.specs.Prelude.{option_and_then, if◌then◌else◌}
 use Rattle.std.specs.List.{slice_get}
 use Rattle.std.proofs.lemmas.List.{map-append}
 use Rattle.std.proofs.lemmas.List.Elements.{filter-append}
+use Rattle.rv_list_laws.proofs.TakeDropLemmas.{drop_read, drop_some}
 use Rattle.rv_map_laws.specs.declared.map.SectionId.{SectionId}
 use Rattle.rv_object_types.specs.declared.object.Object.{Object as DeclaredObject}
 use Rattle.rv_object_types.specs.declared.section.Section.{Section as DeclaredSection}
@@ -21,7 +22,6 @@ use Rattle.rv_collect.specs.declared.collection.Collection.{Collection}
 use Rattle.rv_collect.specs.declared.marks.Marks.{Marks}
 use Rattle.rv_collect.specs.Drops.{id_at, mark_in, drops_in, dropped_from}
 use Rattle.rv_collect.specs.Marks.{row_of, is_marked, drops_of}
-use Rattle.rv_collect.proofs.LeftLemmas.{left, some_left}
 use Rattle.rv_collect.proofs.LoadedLemmas.{one_loaded}
 
 -- ---- which sections of a file are dropped
@@ -82,10 +82,10 @@ among_from marks file o dropped k (s ∷ ss) is =
         let e : suc k + j ≡ k + suc j = omega arith in
         ap dropped e ∙ is (suc j) ∙ ap (λ n. is_loaded_at (slice_get ss j) && not (mark_in (row_of marks file) n)) (sym e)
 
-    left : List SectionId
-    left = outside (is_marked marks) (map id_of others)
+    drop_read : List SectionId
+    drop_read = outside (is_marked marks) (map id_of others)
 
-    by : (b : Bool) → (if b && not mark then id_at file k ∷ left else left) ≡ outside (is_marked marks) (map id_of (if b then it ∷ others else others))
+    by : (b : Bool) → (if b && not mark then id_at file k ∷ drop_read else drop_read) ≡ outside (is_marked marks) (map id_of (if b then it ∷ others else others))
     by true = refl
     by false = refl
 
@@ -104,7 +104,7 @@ pub drops_one : (marks : Marks) (ds : List DeclaredObject) (i : ℕ) (d : Declar
 drops_one marks ds i d inside is =
     let more = map object_of (drop (i + 1) ds) in
     let e : suc i ≡ i + 1 = omega arith in
-    ap (λ l. dropped_of marks (suc i) (map object_of l)) (left ds i d inside is)
+    ap (λ l. dropped_of marks (suc i) (map object_of l)) (drop_read ds i d inside is)
     ∙ dropped_step marks i (object_of d) more
     ∙ ap (λ l. l ++ dropped_of marks (suc (suc i)) more) (sym (among_is marks i (object_of d)))
     ∙ ap (λ n. dropped_from (drops_in (object_of d).sections (row_of marks i)) i 0 (object_of d).sections ++ dropped_of marks (suc n) more) e
@@ -114,7 +114,7 @@ pub dropped_one : (dropped : ℕ → Bool) (file : ℕ) (ss : List DeclaredSecti
     → dropped_from dropped file i (map section_of (drop i ss))
     ≡ (if dropped i then id_at file i ∷ [] else []) ++ dropped_from dropped file (i + 1) (map section_of (drop (i + 1) ss))
 dropped_one dropped file ss i inside =
-    let some = some_left ss i inside in
+    let some = drop_some ss i inside in
     ap (λ l. dropped_from dropped file i (map section_of l)) some.1
     ∙ by (dropped i) (dropped_from dropped file (suc i) (map section_of (drop (i + 1) ss)))
     ∙ ap (λ n. (if dropped i then id_at file i ∷ [] else []) ++ dropped_from dropped file n (map section_of (drop (i + 1) ss))) (let e : suc i ≡ i + 1 = omega arith in e)

@@ -8,6 +8,8 @@ use Rattle.std.proofs.lemmas.Bool.{ne_eqb, true≢false, or_from}
 use Rattle.std.proofs.lemmas.List.{length-map}
 use Rattle.std.proofs.lemmas.List.Folds.{list_any-append}
 use Rattle.std.proofs.lemmas.Option.{slice_get_within}
+use Rattle.rv_list_laws.proofs.MapLemmas.{get_map_read}
+use Rattle.rv_list_laws.proofs.NumbersLemmas.{eq_self, eq_swap}
 use Rattle.rv_map_laws.specs.declared.map.SectionId.{SectionId}
 use Rattle.rv_object_types.specs.declared.object.Object.{Object as DeclaredObject}
 use Rattle.rv_object_types.specs.declared.section.Section.{Section as DeclaredSection}
@@ -15,7 +17,6 @@ use Rattle.rv_object_laws.specs.Object.{Section, Object}
 use Rattle.rv_object_types.specs.Parts.{relocation_of}
 use Rattle.rv_object_types.specs.Sections.{section_of}
 use Rattle.rv_object_types.specs.View.{object_of}
-use Rattle.rv_collect.proofs.LeftLemmas.{viewed_at}
 use Rattle.rv_link_laws.specs.Collects.{id_of, loaded_sections, leads_to, is_at, refers, graph_of}
 use Rattle.rv_link_laws.specs.Inputs.{InputSection, inputs_from, inputs_of, inputs}
 use Rattle.rv_link_laws.specs.IsLinkOf.{is_loaded}
@@ -57,9 +58,6 @@ both_there false b q e f = absurd (true≢false (sym e))
 or_none : (a b : Bool) → b ≡ false → (a || b) ≡ a
 or_none true b e = refl
 or_none false b e = e
-
-eq_self : (n : ℕ) → (n == n) ≡ true
-eq_self n = grind arith
 
 module _ (test : InputSection → Bool) where
   abbrev here : ℕ → ℕ → InputSection → Bool
@@ -207,14 +205,11 @@ module _ (test : InputSection → Bool) where
 abbrev pub section_at : List Object → ℕ → ℕ → Option Section
 section_at os file index = option_and_then (λ o. slice_get o.sections index) (slice_get os file)
 
-eq_back : (a b : ℕ) → (a == b) ≡ (b == a)
-eq_back a b = grind arith
-
 same_test : (s : SectionId) (is : List InputSection) → is_one_of (map id_of is) s ≡ list_any (λ i. is_at s i && true) is
 same_test s [] = refl
 same_test s (i ∷ is) =
     ap (λ b. b || is_one_of (map id_of is) s)
-    (ap (λ b. b && (s.section == suc i.index)) (eq_back s.file i.file) ∙ ap (λ b. (i.file == s.file) && b) (eq_back s.section (suc i.index)) ∙ and_true ((i.file == s.file) && (suc i.index == s.section)))
+    (ap (λ b. b && (s.section == suc i.index)) (eq_swap s.file i.file) ∙ ap (λ b. (i.file == s.file) && b) (eq_swap s.section (suc i.index)) ∙ and_true ((i.file == s.file) && (suc i.index == s.section)))
     ∙ ap (λ b. (((i.file == s.file) && (suc i.index == s.section)) && true) || b) (same_test s is)
   where
     and_true : (b : Bool) → b ≡ (b && true)
@@ -272,7 +267,7 @@ file_inside xs file index has =
     omega (arith, inside, long)
 
 pub object_there : (xs : List DeclaredObject) (file index : ℕ) (x : DeclaredObject) → Has (graph_of (map object_of xs)) (id_at file index) → x ≡ get_or xs file x → slice_get (map object_of xs) file ≡ Some (object_of x)
-object_there xs file index x has is = viewed_at object_of xs file x (file_inside xs file index has) is
+object_there xs file index x has is = get_map_read object_of xs file x (file_inside xs file index has) is
 
 pub section_inside : (xs : List DeclaredObject) (file index : ℕ) (x : DeclaredObject) → Has (graph_of (map object_of xs)) (id_at file index) → x ≡ get_or xs file x → index < length x.sections.items
 section_inside xs file index x has is =
@@ -304,6 +299,6 @@ pub refers_code : (xs : List DeclaredObject) (file index : ℕ) (x : DeclaredObj
 refers_code xs file index x s has is one t =
     let os = map object_of xs in
     let at = object_there xs file index x has is in
-    let here = viewed_at section_of x.sections.items index s (section_inside xs file index x has is) one in
+    let here = get_map_read section_of x.sections.items index s (section_inside xs file index x has is) one in
     let same : section_at os file index ≡ Some (section_of s) = ap (option_and_then (λ (q : Object). slice_get q.sections index)) at ∙ here in
     refers_by os file index (object_of x) (section_of s) at here (sym (ap is_loaded_at same) ∙ sym (one_loaded os file index) ∙ has) t

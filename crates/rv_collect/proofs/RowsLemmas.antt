@@ -5,6 +5,7 @@ use Rattle.std.specs.Global.{Vec}
 use Rattle.std.specs.Prelude.{◌==◌, slice_index_or}
 use Rattle.std.proofs.lemmas.Bool.{ne_eqb}
 use Rattle.std.proofs.lemmas.List.{length-replicate, length-map, map-set, get_or-map}
+use Rattle.rv_list_laws.proofs.NumbersLemmas.{eq_suc}
 use Rattle.rv_object_types.specs.declared.object.Object.{Object as DeclaredObject}
 use Rattle.rv_object_types.specs.Sections.{section_of}
 use Rattle.rv_object_types.specs.View.{object_of}
@@ -42,15 +43,12 @@ apart_left n = ne_eqb (suc n) zero (λ e. omega (arith, e))
 pub apart_right : (n : ℕ) → (zero == suc n) ≡ false
 apart_right n = ne_eqb zero (suc n) (λ e. omega (arith, e))
 
-pub one_less : (m n : ℕ) → (suc m == suc n) ≡ (m == n)
-one_less m n = grind arith
-
 one_in : (marks : List Bool) (index i : ℕ) → index < length marks → mark_in (set marks index true) i ≡ ((i == index) || mark_in marks i)
 one_in [] index i low = absurd (omega (arith, low))
 one_in (m ∷ ms) zero zero low = refl
 one_in (m ∷ ms) zero (suc i) low = sym (ap (λ b. b || mark_in ms i) (apart_left i))
 one_in (m ∷ ms) (suc index) zero low = sym (ap (λ b. b || m) (apart_right index))
-one_in (m ∷ ms) (suc index) (suc i) low = one_in ms index i (omega (arith, low)) ∙ sym (ap (λ b. b || mark_in ms i) (one_less i index))
+one_in (m ∷ ms) (suc index) (suc i) low = one_in ms index i (omega (arith, low)) ∙ sym (ap (λ b. b || mark_in ms i) (eq_suc i index))
 
 -- the marks with one more, by its file and its index there
 abbrev pub with_mark : List (List Bool) → (file index : ℕ) → List (List Bool)
@@ -63,7 +61,7 @@ one_marked (r ∷ rs) zero index zero i low = one_in r index i low
 one_marked (r ∷ rs) zero index (suc f) i low = sym (ap (λ b. (b && (i == index)) || mark_in (row_in rs f) i) (apart_left f))
 one_marked (r ∷ rs) (suc file) index zero i low = sym (ap (λ b. (b && (i == index)) || mark_in r i) (apart_right file))
 one_marked (r ∷ rs) (suc file) index (suc f) i low =
-    one_marked rs file index f i low ∙ sym (ap (λ b. (b && (i == index)) || mark_in (row_in rs f) i) (one_less f file))
+    one_marked rs file index f i low ∙ sym (ap (λ b. (b && (i == index)) || mark_in (row_in rs f) i) (eq_suc f file))
 
 same_long : (marks : List Bool) (index : ℕ) → length (set marks index true) ≡ length marks
 same_long [] index = refl

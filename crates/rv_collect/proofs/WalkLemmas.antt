@@ -20,9 +20,12 @@ use Rattle.rv_collect.specs.Drops.{id_at}
 use Rattle.rv_collect.specs.Targets.{leads_in, target_in}
 use Rattle.rv_collect.specs.Marks.{AreLike, mark_rows, mark_at, marked_by, is_marked}
 use Rattle.rv_collect.proofs.LoadedLemmas.{IsLoaded}
-use Rattle.rv_collect.proofs.RowsLemmas.{row_in, apart_right, one_less}
+use Rattle.rv_collect.proofs.RowsLemmas.{row_in, apart_right}
 use Rattle.rv_collect.specs.Walk.{done_of, queued, IsWalk, IsReached, Entered, Referred, Grows, IsMarked, IsPlaceMarked, AreFollowed, AreFollowedTo, IsEnded}
 use Rattle.std.proofs.lemmas.Map.Keys.{any_passes_from_place}
+use Rattle.rv_list_laws.proofs.NumbersLemmas.{eq_suc}
+use Rattle.rv_list_laws.proofs.TruthLemmas.{and_false}
+use Rattle.rv_list_laws.proofs.TakeDropLemmas.{take_next}
 
 -- ---- the queue
 
@@ -78,17 +81,13 @@ ends_closed os w e =
 
 -- ---- a mark is made
 
-and_none : (a : Bool) → (a && false) ≡ false
-and_none true = refl
-and_none false = refl
-
 -- the marks with one more, of sections by their numbers
 more_by : (old new : ℕ → ℕ → Bool) (file index : ℕ) → ((f i : ℕ) → new f i ≡ (((f == file) && (i == index)) || old f i))
     → (f i : ℕ) → marked_by new f i ≡ (((f == suc file) && (i == suc index)) || marked_by old f i)
 more_by old new file index more zero i = sym (ap (λ b. (b && (i == suc index)) || false) (apart_right file))
-more_by old new file index more (suc f) zero = sym (ap (λ b. ((suc f == suc file) && b) || false) (apart_right index) ∙ ap (λ b. b || false) (and_none (suc f == suc file)))
+more_by old new file index more (suc f) zero = sym (ap (λ b. ((suc f == suc file) && b) || false) (apart_right index) ∙ ap (λ b. b || false) (and_false (suc f == suc file)))
 more_by old new file index more (suc f) (suc i) =
-    more f i ∙ sym (ap (λ b. (b && (suc i == suc index)) || old f i) (one_less f file) ∙ ap (λ b. ((f == file) && b) || old f i) (one_less i index))
+    more f i ∙ sym (ap (λ b. (b && (suc i == suc index)) || old f i) (eq_suc f file) ∙ ap (λ b. ((f == file) && b) || old f i) (eq_suc i index))
 
 module _ (os : List Object) (old new : Walk) (file index : ℕ) where
   -- one more section is marked and queued
@@ -237,19 +236,12 @@ pub leads_one : (os : List Object) (file : ℕ) (o : Object) (t : SectionId) (rs
     → leads_in os file o t rs ≡ true
 leads_one os file o t rs i r at h = any_passes_from_place (λ q. lies_in t (target_in os file o q)) rs i r at h
 
-take_at : {X : Type 0} (xs : List X) (n : ℕ) (x : X) → slice_get xs n ≡ Some x → take (n + 1) xs ≡ take n xs ++ x ∷ []
-take_at [] n x at = absurd (cc)
-take_at (y ∷ xs) zero x at =
-    let same : y ≡ x = cc in
-    ap (λ z. z ∷ []) same
-take_at (y ∷ xs) (suc n) x at = ap (λ k. take k (y ∷ xs)) (next n) ∙ ap (λ l. y ∷ l) (take_at xs n x at)
-
 pub marked_on : (os : List Object) (a b : Walk) (file : ℕ) (o : Object) (rs : List Relocation) (n : ℕ) (r : Relocation) → Grows a b → slice_get rs n ≡ Some r
     → ((t : SectionId) → leads_in os file o t (take n rs) ≡ true → IsMarked os a t) → IsPlaceMarked os b (target_in os file o r)
     → (t : SectionId) → leads_in os file o t (take (n + 1) rs) ≡ true → IsMarked os b t
 marked_on os a b file o rs n r g at before now t leads =
     let test : Relocation → Bool = λ q. lies_in t (target_in os file o q) in
-    let parts : (list_any test (take n rs) || (test r || false)) ≡ true = sym (ap (list_any test) (take_at rs n r at) ∙ list_any-append test (take n rs) (r ∷ [])) ∙ leads in
+    let parts : (list_any test (take n rs) || (test r || false)) ≡ true = sym (ap (list_any test) (take_next rs n r at) ∙ list_any-append test (take n rs) (r ∷ [])) ∙ leads in
     elim (or_cases (list_any test (take n rs)) (test r || false) parts) [
       | inl earlier ↦ still_marked os a b t g (before t earlier)
       | inr last ↦ now t (sym (or-false (test r)) ∙ last)

@@ -18,7 +18,7 @@ pub record Lies (c : Contents) (r : Relocation) : Type 0 where
   pub short : full_padding r ≤ 4094
   pub within : r.place + full_padding r ≤ size_of c
 
-padding_lies : (c : Contents) (place : ℕ) (o : Option ℕ) → is_padding_of true c place o ≡ true → (unwrap_or o 0 ≤ 4094) × (place + unwrap_or o 0 ≤ size_of c)
+pub padding_lies : (c : Contents) (place : ℕ) (o : Option ℕ) → is_padding_of true c place o ≡ true → (unwrap_or o 0 ≤ 4094) × (place + unwrap_or o 0 ≤ size_of c)
 padding_lies c place None h = absurd (cc)
 padding_lies c place (Some n) h =
     let one = three (n % 2 == 0) (nat_le n 4094) ((place % 2 == 0) && nat_le (place + n) (size_of c)) h in

@@ -1,9 +1,10 @@
 -- The changes of a section of text, as sites: which are calls, where they stand, and what is kept of them.
 
-use Rattle.std.proofs.Common.{◌≡◌, ℕ, ◌+◌, ◌-◌, ◌%◌, ◌<◌, ◌≤◌, ◌⊎◌, inl, inr, Bool, true, false, not, cond, ◌&&◌, ◌||◌, nat_le, nat_lt, List, [], ◌∷◌, ◌++◌, Option, Some, None, length, map, refl, sym, ap, subst, ◌∙◌, arith}
-use Rattle.std.specs.Prelude.{◌==◌, filter, count_by, ⊤, unwrap_or}
+use Rattle.std.proofs.Common.{◌≡◌, ℕ, ◌+◌, ◌-◌, ◌%◌, ◌<◌, ◌≤◌, ◌⊎◌, inl, inr, Bool, true, false, not, cond, ◌&&◌, ◌||◌, nat_le, nat_lt, List, [], ◌∷◌, ◌++◌, length, map, refl, sym, ap, subst, ◌∙◌, arith}
+use Rattle.std.specs.Prelude.{◌==◌, filter, count_by, ⊤}
 use Rattle.std.specs.List.{list_all}
 use Rattle.std.proofs.lemmas.Bool.{leb-true, ltb-true, eqb-true, eq-eqb, ne_eqb, le-leb, and_parts, and_from, or_cases}
+use Rattle.rv_list_laws.proofs.TruthLemmas.{and_four_first}
 use Rattle.rv_layout_laws.specs.Sites.{padding_site, size_at}
 use Rattle.rv_isa.specs.Kinds.{width_of}
 use Rattle.rv_isa_laws.specs.Bytes.{little_endian}
@@ -11,6 +12,7 @@ use Rattle.rv_layout_laws.specs.declared.site.Site.{Site}
 use Rattle.rv_layout_laws.specs.Calls.{InOrder, bytes_of, is_call as is_call_site}
 use Rattle.rv_object_laws.specs.Object.{Contents, Progbits, Note, Nobits, Relocation, Section, Object, size_of, stored}
 use Rattle.rv_object_laws.specs.Valid.{fits_inside, fit_inside, is_align, padding_of, is_padding_of, is_padding, are_all_apart, are_paddings}
+use Rattle.rv_object_laws.proofs.ObjectLemmas.{padding_inside as padding_within}
 use Rattle.rv_link_laws.specs.Moves.{Move, full_padding, has_padding, alignment_of}
 use Rattle.rv_link_laws.specs.Inputs.{InputSection, goes_to_text}
 use Rattle.rv_link_laws.specs.CallSites.{is_call, meets, has_relax, are_call_words, is_auipc, is_jalr, rs1, rd, word_at, is_text_place, target_place, is_entered, is_permitted, may_change, call_site, site_of, link_register}
@@ -33,10 +35,6 @@ six true true false d e f h = absurd (cc)
 six true false c d e f h = absurd (cc)
 six false b c d e f h = absurd (cc)
 
-first_of_four : (a b c d : Bool) → (a && b && c && d) ≡ true → a ≡ true
-first_of_four true b c d h = refl
-first_of_four false b c d h = absurd (cc)
-
 pub record IsPermitted (i : InputSection) (r : Relocation) : Type 0 where
   pub call : is_call r.kind ≡ true
   pub even : r.place % 2 ≡ 0
@@ -48,7 +46,7 @@ permitted os i r h =
     let bytes = stored i.section.contents in
     record {
       call = all.0;
-      even = eqb-true (r.place % 2) 0 (first_of_four (r.place % 2 == 0) (is_auipc (word_at bytes r.place)) (is_jalr (word_at bytes (r.place + 4))) (rs1 (word_at bytes (r.place + 4)) == rd (word_at bytes r.place)) all.1);
+      even = eqb-true (r.place % 2) 0 (and_four_first (r.place % 2 == 0) (is_auipc (word_at bytes r.place)) (is_jalr (word_at bytes (r.place + 4))) (rs1 (word_at bytes (r.place + 4)) == rd (word_at bytes r.place)) all.1);
       alone = eqb-true (count_by (meets r.place) i.section.relocations) 1 all.2;
     }
 
@@ -80,17 +78,6 @@ call_inside_by (Nobits size) r h call = let wide = call_width r.kind call in let
 
 pub call_inside : (s : Section) (r : Relocation) → IsSound s → In r s.relocations → is_call r.kind ≡ true → r.place + 8 ≤ size_of s.contents
 call_inside s r sound i call = call_inside_by s.contents r (all_in (fits_inside s.contents) r s.relocations sound.fit i) call
-
-last_of_three : (a b c : Bool) → (a && b && c) ≡ true → c ≡ true
-last_of_three true true c h = h
-last_of_three true false c h = absurd (cc)
-last_of_three false b c h = absurd (cc)
-
-padding_within : (c : Contents) (place : ℕ) (o : Option ℕ) → is_padding_of true c place o ≡ true → place + unwrap_or o 0 ≤ size_of c
-padding_within c place None h = absurd (cc)
-padding_within c place (Some n) h =
-    let one = last_of_three (n % 2 == 0) (nat_le n 4094) ((place % 2 == 0) && nat_le (place + n) (size_of c)) h in
-    leb-true (place + n) (size_of c) (and_parts (place % 2 == 0) (nat_le (place + n) (size_of c)) one).1
 
 padding_inside : (s : Section) (r : Relocation) (e : Bool) → s.executable ≡ e → e ≡ true → are_paddings e s.contents s.relocations ≡ true → In r s.relocations → has_padding r ≡ true → r.place < size_of s.contents
 padding_inside s r false is text h i padding = absurd (cc)

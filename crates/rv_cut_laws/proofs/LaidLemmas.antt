@@ -3,6 +3,7 @@
 use Rattle.std.proofs.Common.{◌≡◌, ℕ, zero, suc, ◌+◌, Bool, true, false, cond, List, [], ◌∷◌, ◌++◌, length, map, take, drop, refl, sym, ap, subst, ◌∙◌, arith}
 use Rattle.std.specs.List.{slice_get}
 use Rattle.std.proofs.lemmas.List.{drop-drop}
+use Rattle.rv_list_laws.proofs.MapLemmas.{map_same}
 use Rattle.rv_layout_laws.specs.declared.site.Site.{Site}
 use Rattle.rv_layout_laws.specs.Calls.{IsText}
 use Rattle.rv_object_laws.specs.declared.symbol.Definition.{Definition}
@@ -113,10 +114,6 @@ listed_at sizes x (s ∷ ss) (suc j) = listed_at sizes (suc x) ss j ∙ ap (λ n
 
 cuts_there : (sizes : ℕ → Sizes) (o : Object) (j : ℕ) → moves_at (cuts_listed sizes 0 o.sections) j ≡ cuts_in sizes o j
 cuts_there sizes o j = listed_at sizes 0 o.sections j ∙ ap (λ n. cuts_at (sizes n) (slice_get o.sections j)) (omega arith)
-
-map_same : {X Y : Type 0} (f g : X → Y) (xs : List X) → ((x : X) → f x ≡ g x) → map f xs ≡ map g xs
-map_same f g [] each = refl
-map_same f g (x ∷ xs) each = ap (λ y. y ∷ map f xs) (each x) ∙ ap (λ ys. g x ∷ ys) (map_same f g xs each)
 
 same_definition : (sizes : ℕ → Sizes) (o : Object) (d : Definition) → cut_definition (cuts_listed sizes 0 o.sections) d ≡ shortened_definition sizes o d
 same_definition sizes o (definitions.InSection section offset) = ap (λ ms. definitions.InSection section (new_offset ms offset)) (cuts_there sizes o section)

@@ -2,17 +2,17 @@
 
 use Rattle.std.proofs.Common.{◌≡◌, ◌⊎◌, inl, inr, ℕ, ◌+◌, ◌-◌, ◌<◌, ◌≤◌, Bool, true, false, List, [], ◌∷◌, length, refl, sym, ap, ◌∙◌, subst, arith, Option, Some, None}
 use Rattle.std.proofs.lemmas.Bool.{and_parts, leb-true, le-leb, or_left, or_right}
-use Rattle.std.proofs.lemmas.Bool.Decides.{nat_tests}
 use Rattle.std.specs.Prelude.{◌&&◌, ◌||◌, not, nat_le, max, filter, unwrap_or, if◌then◌else◌}
 use Rattle.std.specs.List.{AllByRecursion, list_all}
 use Rattle.rv_layout_laws.specs.Alignment.{aligned}
 use Rattle.rv_isa.specs.declared.kind.Kind.{Kind}
 use Rattle.rv_isa.specs.declared.kind.Kind.TheVariants as kinds
 use Rattle.rv_isa.specs.Kinds.{width_of}
-use Rattle.rv_object_laws.specs.Object.{Contents, Progbits, Note, Nobits, Relocation, Section, size_of}
+use Rattle.rv_object_laws.specs.Object.{Contents, Relocation, Section, size_of}
 use Rattle.rv_object_laws.specs.Valid.{is_align, padding_of, is_padding, is_padding_of, held, are_apart, are_all_apart, are_paddings, fits_inside, fit_inside}
 use Rattle.rv_object_laws.specs.Padding.{no_operations}
 use Rattle.rv_link_laws.specs.Moves.{full_padding, has_padding, alignment_of, inserted, by_place, plan, moves, new_offset, has_room}
+use Rattle.rv_link_laws.proofs.ChangesLemmas.{held_full, held_width, fits}
 use Rattle.rv_cut_laws.proofs.FollowingLemmas.{Follow, Clears, field_inside}
 use Rattle.rv_cut_laws.proofs.ApartLemmas.{padded}
 
@@ -38,12 +38,6 @@ all_in P [] h = tt
 all_in P (r ∷ rs) h = (h r (inl refl), all_in P rs (λ q in'. h q (inr in')))
 
 -- ---- paddings
-
-held_align : (r : Relocation) → is_align r.kind ≡ true → held r ≡ full_padding r
-held_align r e = ap (λ b. if b then full_padding r else width_of r.kind) e
-
-held_field : (r : Relocation) → is_align r.kind ≡ false → held r ≡ width_of r.kind
-held_field r e = ap (λ b. if b then full_padding r else width_of r.kind) e
 
 has_no_padding : (k : Kind) → 0 < width_of k → is_align k ≡ false
 has_no_padding kinds.Align h = absurd (omega arith)
@@ -77,27 +71,27 @@ held_apart r q e some other h = elim (either (is_align r.kind || is_align q.kind
 ]
 
 held_some : (r : Relocation) → has_padding r ≡ true → 0 < held r
-held_some r h = let p = padded r h in subst (λ n. 0 < n) (sym (held_align r p.0)) p.1
+held_some r h = let p = padded r h in subst (λ n. 0 < n) (sym (held_full r p.0)) p.1
 
 width_some : (r : Relocation) → is_align r.kind ≡ false → 0 < width_of r.kind → 0 < held r
-width_some r e has = subst (λ n. 0 < n) (sym (held_field r e)) has
+width_some r e has = subst (λ n. 0 < n) (sym (held_width r e)) has
 
 paddings_apart : (r q : Relocation) → has_padding r ≡ true → has_padding q ≡ true → are_apart r q ≡ true → Apart r q
 paddings_apart r q e f h = elim (held_apart r q (or_left (is_align r.kind) _ (padded r e).0) (held_some r e) (held_some q f) h) [
-  | inl before ↦ inl (subst (λ n. r.place + n ≤ q.place) (held_align r (padded r e).0) before)
-  | inr after ↦ inr (subst (λ n. q.place + n ≤ r.place) (held_align q (padded q f).0) after)
+  | inl before ↦ inl (subst (λ n. r.place + n ≤ q.place) (held_full r (padded r e).0) before)
+  | inr after ↦ inr (subst (λ n. q.place + n ≤ r.place) (held_full q (padded q f).0) after)
 ]
 
 field_before : (r q : Relocation) → is_align r.kind ≡ false → 0 < width_of r.kind → has_padding q ≡ true → are_apart r q ≡ true → Beside r q
 field_before r q e has f h = elim (held_apart r q (or_right (is_align r.kind) _ (padded q f).0) (width_some r e has) (held_some q f) h) [
-  | inl before ↦ inl (subst (λ n. r.place + n ≤ q.place) (held_field r e) before)
-  | inr after ↦ inr (subst (λ n. q.place + n ≤ r.place) (held_align q (padded q f).0) after)
+  | inl before ↦ inl (subst (λ n. r.place + n ≤ q.place) (held_width r e) before)
+  | inr after ↦ inr (subst (λ n. q.place + n ≤ r.place) (held_full q (padded q f).0) after)
 ]
 
 field_after : (q r : Relocation) → has_padding q ≡ true → is_align r.kind ≡ false → 0 < width_of r.kind → are_apart q r ≡ true → Beside r q
 field_after q r f e has h = elim (held_apart q r (or_left (is_align q.kind) _ (padded q f).0) (held_some q f) (width_some r e has) h) [
-  | inl before ↦ inr (subst (λ n. q.place + n ≤ r.place) (held_align q (padded q f).0) before)
-  | inr after ↦ inl (subst (λ n. r.place + n ≤ q.place) (held_field r e) after)
+  | inl before ↦ inr (subst (λ n. q.place + n ≤ r.place) (held_full q (padded q f).0) before)
+  | inr after ↦ inl (subst (λ n. r.place + n ≤ q.place) (held_width r e) after)
 ]
 
 -- ---- in order
@@ -210,11 +204,6 @@ beside_all r (q ∷ qs) (inr later) e has h =
       go true f more = (field_after q r f e has (at_member (are_apart q) r qs later ((and_parts (list_all (are_apart q) qs) (are_all_apart qs) h).0)), more)
       go false f more = more
 
-field_ends : (c : Contents) (r : Relocation) → 0 < width_of r.kind → fits_inside c r ≡ true → r.place + width_of r.kind ≤ size_of c
-field_ends (Progbits bytes) r has h = leb-true _ _ h
-field_ends (Note bytes) r has h = leb-true _ _ h
-field_ends (Nobits size) r has h = absurd (grind (arith, nat_tests))
-
 -- ---- of a section
 
 module _ (s : Section) (base : ℕ) (paddings : are_paddings s.executable s.contents s.relocations ≡ true) where
@@ -249,4 +238,4 @@ module _ (s : Section) (base : ℕ) (paddings : are_paddings s.executable s.cont
       → AllByRecursion (λ r. 0 < width_of r.kind → new_offset (moves base s) r.place + width_of r.kind ≤ new_offset (moves base s) (size_of s.contents)) s.relocations
   fields_inside room inside =
       all_in _ s.relocations (λ r in' has. field_inside (moves base s) (size_of s.contents) r.place (width_of r.kind) (section_follows room) (fields_clear r in' has)
-      (field_ends s.contents r has (at_member (fits_inside s.contents) r s.relocations in' inside)))
+      (fits s.contents r has (at_member (fits_inside s.contents) r s.relocations in' inside)))

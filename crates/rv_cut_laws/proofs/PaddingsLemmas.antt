@@ -4,6 +4,7 @@ use Rattle.std.proofs.Common.{◌≡◌, ℕ, ◌+◌, ◌%◌, ◌<◌, ◌≤�
 use Rattle.std.specs.Prelude.{◌==◌, unwrap_or}
 use Rattle.std.specs.List.{list_all}
 use Rattle.std.proofs.lemmas.Bool.{leb-true, leb-false, le-leb, eqb-true, eq-eqb, and_parts, and_from, or_left, or_right, ltb-true, ltb-false}
+use Rattle.rv_list_laws.proofs.TruthLemmas.{or_three as three_or, and_three}
 use Rattle.rv_isa.specs.Kinds.{width_of}
 use Rattle.rv_object_laws.specs.Object.{Contents, Relocation, Section, size_of}
 use Rattle.rv_object_laws.specs.Valid.{is_align, padding_of, is_padding_of, is_padding, held, are_apart, are_all_apart}
@@ -30,12 +31,6 @@ align_stays ms r = by (found ms r.place) (is_call r.kind) refl
 abbrev Apart : Relocation → Relocation → Type 0
 Apart r q = (r.place + held r ≤ max r.place q.place) ⊎ (q.place + held q ≤ max r.place q.place)
 
-three_or : (a b c : Bool) → (a || b || c) ≡ true → (a ≡ true) ⊎ ((b ≡ true) ⊎ (c ≡ true))
-three_or true b c h = inl refl
-three_or false true c h = inr (inl refl)
-three_or false false true h = inr (inr refl)
-three_or false false false h = absurd (cc)
-
 or_three : (a b c : Bool) → (a ≡ true) ⊎ ((b ≡ true) ⊎ (c ≡ true)) → (a || b || c) ≡ true
 or_three true b c h = refl
 or_three false true c h = refl
@@ -49,12 +44,6 @@ three true true true h = (refl, refl, refl)
 three true true false h = absurd (cc)
 three true false c h = absurd (cc)
 three false b c h = absurd (cc)
-
-from_three : (a b c : Bool) → a ≡ true → b ≡ true → c ≡ true → (a && b && c) ≡ true
-from_three true true true f g h = refl
-from_three true true false f g h = absurd (cc)
-from_three true false c f g h = absurd (cc)
-from_three false b c f g h = absurd (cc)
 
 -- one of them is an alignment
 told : (r q : Relocation) → (is_align r.kind || is_align q.kind) ≡ true → are_apart r q ≡ true → Apart r q
@@ -180,7 +169,7 @@ padding_stays s ms c e r order size stay h = by (is_align r.kind) refl
         let new : held (cut_relocation ms r) ≡ n = ap (λ b. cond b (unwrap_or (padding_of r.addend) 0) (width_of (cut_kind ms r))) (align_stays ms r ∙ align) ∙ ap (λ o. unwrap_or o 0) is in
         let st = stay (sym f) in
         let end = ap (λ m. new_offset ms (r.place + m)) old in
-        from_three (n % 2 == 0) (nat_le n 4094) ((new_offset ms r.place % 2 == 0) && nat_le (new_offset ms r.place + n) (size_of c)) one.0 one.1
+        and_three (n % 2 == 0) (nat_le n 4094) ((new_offset ms r.place % 2 == 0) && nat_le (new_offset ms r.place + n) (size_of c)) one.0 one.1
         (and_from (new_offset ms r.place % 2 == 0) (nat_le (new_offset ms r.place + n) (size_of c)) (eq-eqb (new_offset ms r.place % 2) 0 even) (le-leb (new_offset ms r.place + n) (size_of c) (omega (arith, st, new, end, up, size))))
 
     whole : is_align r.kind ≡ true → (o : Option ℕ) → padding_of r.addend ≡ o → is_padding_of e s.contents r.place o ≡ true → is_padding_of e c (new_offset ms r.place) o ≡ true

@@ -3,6 +3,7 @@
 use Rattle.std.proofs.Common.{◌≡◌, ℕ, suc, ◌+◌, ◌-◌, ◌%◌, ◌<◌, ◌≤◌, ◌⊎◌, inl, inr, Bool, true, false, cond, ◌&&◌, nat_lt, List, [], ◌∷◌, ◌++◌, Some, length, map, take, refl, sym, ap, subst, ◌∙◌, arith}
 use Rattle.std.specs.Prelude.{◌==◌, filter}
 use Rattle.std.proofs.lemmas.Bool.{ltb-true, lt-ltb, le-ltb, and_parts, and_from, or_right, true≢false}
+use Rattle.rv_list_laws.proofs.TruthLemmas.{and_three}
 use Rattle.rv_layout_laws.specs.Sites.{size_at}
 use Rattle.rv_isa.specs.declared.kind.Kind.{Kind}
 use Rattle.rv_isa.specs.declared.kind.Kind.TheVariants as kinds
@@ -25,17 +26,11 @@ use Rattle.rv_cut_laws.proofs.ChangesLemmas.{permitted, change_permitted, paddin
 
 -- ---- calls that are cut short are permitted
 
-three_true : (a b c : Bool) → a ≡ true → b ≡ true → c ≡ true → (a && b && c) ≡ true
-three_true true true true f g h = refl
-three_true true true false f g h = absurd (true≢false (sym h))
-three_true true false c f g h = absurd (true≢false (sym g))
-three_true false b c f g h = absurd (true≢false (sym f))
-
 -- the call of a place meets its bytes
 meets_own : (place : ℕ) (r : Relocation) → is_call r.kind ≡ true → r.place ≡ place → meets place r ≡ true
 meets_own place r call at =
     let wide = call_width r.kind call in
-    three_true (nat_lt 0 (width_of r.kind)) (nat_lt r.place (place + 8)) (nat_lt place (r.place + width_of r.kind))
+    and_three (nat_lt 0 (width_of r.kind)) (nat_lt r.place (place + 8)) (nat_lt place (r.place + width_of r.kind))
     (lt-ltb 0 (width_of r.kind) (omega (arith, wide))) (lt-ltb r.place (place + 8) (omega (arith, at))) (lt-ltb place (r.place + width_of r.kind) (omega (arith, at, wide)))
 
 pub short_parts : (sizes : Sizes) (r : Relocation) → is_shortened sizes r ≡ true → (is_call r.kind ≡ true) × (sizes r.place < 8)

@@ -202,7 +202,7 @@ all_dropped stop size a b (m ∷ ms) h far further =
     omega (arith, one.ends, long.0, long.1)
 
 -- more of the bytes before an offset that is further on are dropped
-more_dropped : (a b : ℕ) (ms : List Move) → a ≤ b → dropped ms a ≤ dropped ms b
+pub more_dropped : (a b : ℕ) (ms : List Move) → a ≤ b → dropped ms a ≤ dropped ms b
 more_dropped a b [] le = omega arith
 more_dropped a b (m ∷ ms) le = let later = more_dropped a b ms le in omega arith
 

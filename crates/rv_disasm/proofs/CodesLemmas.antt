@@ -72,14 +72,6 @@ no_word bytes begins never = no_front bytes go
     go (Word i) rest (v, f) same = let b = begins_word i bytes rest v same in never i b.room b.spells f
     go (Parcel c) rest (l, n) same = (begins_parcel c bytes rest l same).begins begins
 
--- and at others
-pub no_parcel : (bytes : List ℕ) → slice_index bytes 0 % 4 ≢ 3 → ((c : Compressed) → 2 ≤ length bytes → SpellsForm (front_parcel bytes) c → IsNoHint c → ⊥) → IsFront None bytes
-no_parcel bytes begins never = no_front bytes go
-  where
-    go : (c : Code) (rest : List ℕ) → IsSourced c → bytes ≡ raw_bytes c ++ rest → ⊥
-    go (Word i) rest (v, f) same = absurd (begins (begins_word i bytes rest v same).begins)
-    go (Parcel c) rest (l, n) same = let b = begins_parcel c bytes rest l same in never c b.room b.spells n
-
 four : (a b c d : ℕ) → a < 256 → b < 256 → c < 256 → d < 256 →
     (a ≡ (a + b * 2 ^ 8 + c * 2 ^ 16 + d * 2 ^ 24) % 256)
     × (b ≡ (a + b * 2 ^ 8 + c * 2 ^ 16 + d * 2 ^ 24) / 256 % 256)

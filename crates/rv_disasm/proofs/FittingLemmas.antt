@@ -2,8 +2,8 @@
 
 use Rattle.std.proofs.Common.{◌≡◌, ◌↔◌, ℕ, suc, zero, ◌+◌, ◌-◌, ◌<◌, ◌≤◌, Bool, true, false, List, [], ◌∷◌, length, drop, drop-cons, get_or, Option, Some, inl, inr, refl, sym, ap, ◌∙◌, arith}
 use Rattle.std.specs.Prelude.{◌==◌, ◌&&◌, nat_le}
-use Rattle.std.proofs.lemmas.Bool.Decides.{nat_tests}
 use Rattle.std.proofs.lemmas.List.{drop_all}
+use Rattle.rv_list_laws.proofs.NumbersLemmas.{le_true, le_false}
 use Rattle.rv_isa.specs.declared.instruction.Inst.{Inst}
 use Rattle.rv_isa_laws.specs.Reader.{Reader}
 use Rattle.rv_isa_laws.specs.Word.{Spells}
@@ -11,7 +11,7 @@ use Rattle.rv_parcel.specs.Parcel.{StandsFor}
 use Rattle.rv_parcel.specs.Front.{FrontSpells}
 use Rattle.rv_map_laws.specs.declared.map.Row.{Row}
 use Rattle.rv_image_laws.specs.Segment.{Segment}
-use Rattle.rv_listing_laws.proofs.FrontsLemmas.{front_is, le_true}
+use Rattle.rv_listing_laws.proofs.FrontsLemmas.{front_is}
 use Rattle.rv_disasm.specs.Fitting.{behind, claimed_bytes, row_fits, rows_fit, spell}
 
 -- an instruction lies in the bytes that it begins
@@ -32,9 +32,6 @@ pub spell_end : (reader : Reader Spells StandsFor) (n : ℕ) (bytes : List ℕ) 
 unfolding spell
 spell_end reader zero bytes none = refl
 spell_end reader (suc n) bytes none = absurd (omega (arith, none))
-
-le_false : (m n : ℕ) → n < m → nat_le m n ≡ false
-le_false m n h = grind (arith, nat_tests)
 
 -- the first of the rows that are left, and those after it
 rows_at : (reader : Reader Spells StandsFor) (ss : List Segment) (left : ℕ) (rows : List Row) (i : ℕ) (d : Row) → i < length rows →

@@ -4,12 +4,12 @@ use Rattle.std.proofs.Common.{◌≡◌, ℕ, ◌-◌, ◌%◌, ◌≤◌, List,
 use Rattle.std.specs.Prelude.{◌==◌}
 use Rattle.std.proofs.lemmas.Bool.{cond-true, cond-false, cases_Bool}
 use Rattle.std.proofs.lemmas.List.{length-append, drop_at, take_all}
+use Rattle.rv_list_laws.proofs.NumbersLemmas.{le_true}
 use Rattle.rv_isa.specs.declared.instruction.Inst.{Inst}
 use Rattle.rv_isa_laws.specs.Reader.{Reader}
 use Rattle.rv_isa_laws.specs.Word.{Spells}
 use Rattle.rv_parcel.specs.Parcel.{StandsFor}
 use Rattle.rv_listing_laws.specs.Lines.{read_whole, front}
-use Rattle.rv_listing_laws.proofs.FrontsLemmas.{le_true}
 
 whole_four : (count : ℕ) (four bytes : List ℕ) (found : Option Inst) → count ≤ length four → count ≤ length bytes → read_whole count four found ≡ read_whole count bytes found
 whole_four count four bytes found few many =
@@ -34,6 +34,3 @@ added_line text new line start is at =
     let long = ap length is ∙ length-append text line in
     let rest = ap (drop start) is ∙ drop_at text line start (sym at) in
     ap (take (length new - start)) rest ∙ take_all (length new - start) line (omega (arith, long, at))
-
-pub grown : (text new more : List ℕ) → new ≡ text ++ more → length text ≤ length new
-grown text new more is = let long = ap length is ∙ length-append text more in omega (arith, long)

@@ -2,7 +2,6 @@ pub mod CodesLemmas
 pub mod DumpLinesLemmas
 pub mod FittingLemmas
 pub mod FourLemmas
-pub mod HeldLemmas
 pub mod OneFormLemmas
 pub mod RawLemmas
 pub mod RegistersLemmas

@@ -1,15 +1,17 @@
 -- Bytes are those of one list of instructions at most, and an image has one raw listing at most.
 
-use Rattle.std.proofs.Common.{◌≡◌, ℕ, suc, ◌+◌, ◌<◌, ◌≤◌, true, List, [], ◌∷◌, ◌++◌, length, drop, drop-cons, get_or, take, map, flat_map, append_assoc, Option, Some, None, refl, sym, ap, ◌∙◌, subst, arith}
+use Rattle.std.proofs.Common.{◌≡◌, ℕ, suc, ◌+◌, ◌<◌, true, List, [], ◌∷◌, ◌++◌, length, drop, drop-cons, get_or, take, map, flat_map, append_assoc, Option, Some, None, refl, sym, ap, ◌∙◌, subst, arith}
 use Rattle.std.specs.Prelude.{codes, filter, is_some, option_map}
 use Rattle.std.specs.Option.{option_to_list}
 use Rattle.std.proofs.lemmas.Bool.{cond-true}
 use Rattle.std.proofs.lemmas.List.Elements.{filter-append}
 use Rattle.std.specs.List.{AllByRecursion}
-use Rattle.std.proofs.lemmas.List.{append-nil, drop-drop, drop_all, length-append, length-drop, map-append, take-append-drop}
+use Rattle.std.proofs.lemmas.List.{append-nil, drop-drop, length-append, length-drop, map-append, take-append-drop}
 use Rattle.std.proofs.lemmas.Grind.{flat_map-append}
 use Rattle.std.proofs.lemmas.Option.{none-some}
 use Rattle.std.proofs.Math.Seq.{drop-append_seam, take-append_seam}
+use Rattle.rv_list_laws.proofs.EachLemmas.{each_append, each_split}
+use Rattle.rv_list_laws.proofs.ElementsLemmas.{one_is_not_two, one_item_same}
 use Rattle.rv_image.specs.declared.segment.Segment.{Segment as DeclaredSegment}
 use Rattle.rv_image_laws.specs.Segment.{Segment}
 use Rattle.rv_image.specs.SegmentView.{segment_of}
@@ -32,14 +34,6 @@ not_ended c rest e =
     let some = some_bytes c in
     let long : 0 ≡ length (raw_bytes c) + length rest = ap length e ∙ length-append (raw_bytes c) rest in
     absurd (omega (arith, some, long))
-
-all_join : {X : Type 0} (P : X → Type 0) (xs ys : List X) → AllByRecursion P xs → AllByRecursion P ys → AllByRecursion P (xs ++ ys)
-all_join P [] ys a b = b
-all_join P (x ∷ xs) ys (p, a) b = (p, all_join P xs ys a b)
-
-all_split : {X : Type 0} (P : X → Type 0) (xs ys : List X) → AllByRecursion P (xs ++ ys) → AllByRecursion P xs × AllByRecursion P ys
-all_split P [] ys a = (tt, a)
-all_split P (x ∷ xs) ys (p, a) = let parts = all_split P xs ys a in ((p, parts.0), parts.1)
 
 -- behind instructions with which bytes begin stand others, where all of them are instructions
 left_of : (cs ds : List Code) (rest : List ℕ) → AllByRecursion IsSourced cs → AllByRecursion IsSourced ds → flat_map raw_bytes cs ++ rest ≡ flat_map raw_bytes ds →
@@ -71,9 +65,6 @@ pub record IsBegun (bytes rest old new : List ℕ) : Type 0 where
   pub same : bytes ≡ flat_map raw_bytes cs ++ rest
   pub lines : new ≡ old ++ lines_text (map code_text cs)
 
-pub begun : (bytes text : List ℕ) → IsBegun bytes bytes text text
-begun bytes text = record { cs = []; sourced = tt; same = refl; lines = sym (append-nil text) }
-
 pub begun_more : (bytes rest old now new : List ℕ) (offset count : ℕ) (c : Code) → rest ≡ drop offset bytes → IsFront (Some c) rest → count ≡ length (raw_bytes c) →
     new ≡ now ++ code_text c ++ 10 ∷ [] → IsBegun bytes (drop offset bytes) old now → IsBegun bytes (drop (offset + count) bytes) old new
 begun_more bytes rest old now new offset count c is found counted added so_far =
@@ -83,7 +74,7 @@ begun_more bytes rest old now new offset count c is found counted added so_far =
     let here : drop offset bytes ≡ raw_bytes c ++ drop (offset + count) bytes = sym is ∙ front.1.1 ∙ ap (λ r. raw_bytes c ++ r) (sym behind) in
     record {
       cs = so_far.cs ++ c ∷ [];
-      sourced = all_join IsSourced so_far.cs (c ∷ []) so_far.sourced (front.0, tt);
+      sourced = each_append IsSourced so_far.cs (c ∷ []) so_far.sourced (front.0, tt);
       same =
           so_far.same ∙ ap (λ r. flat_map raw_bytes so_far.cs ++ r) here
           ∙ sym (append_assoc (flat_map raw_bytes so_far.cs) (raw_bytes c) (drop (offset + count) bytes))
@@ -98,13 +89,6 @@ begun_more bytes rest old now new offset count c is found counted added so_far =
           ∙ ap lines_text (sym (map-append code_text so_far.cs (c ∷ []))));
     }
 
-pub begun_all : (bytes old new : List ℕ) (offset : ℕ) → length bytes ≤ offset → IsBegun bytes (drop offset bytes) old new → AreAdded bytes old new
-begun_all bytes old new offset past so_far = record {
-  cs = so_far.cs;
-  codes = record { sourced = so_far.sourced; same = so_far.same ∙ ap (λ r. flat_map raw_bytes so_far.cs ++ r) (drop_all offset bytes past) ∙ append-nil (flat_map raw_bytes so_far.cs) };
-  lines = so_far.lines;
-}
-
 -- bytes that no instruction begins are none's
 pub begun_none : (bytes rest old now : List ℕ) (offset : ℕ) → rest ≡ drop offset bytes → offset < length bytes → IsFront None rest → IsBegun bytes (drop offset bytes) old now →
     (ds : List Code) → AreCodes bytes ds → ⊥
@@ -117,9 +101,6 @@ begun_none bytes rest old now offset is within found so_far ds codes =
     go (e ∷ es) some = absurd (none-some e ((found e).1 (some.sourced.0, (flat_map raw_bytes es, is ∙ some.same))))
 
 -- ---- segments and images
-
-two_of : {X : Type 0} (x y z : X) (zs : List X) → x ∷ [] ≡ y ∷ z ∷ zs → ⊥
-two_of x y z zs e = let long : 1 ≡ suc (suc (length zs)) = ap length e in absurd (omega (arith, long))
 
 -- a second one that can be executed
 pub second_found : {R : Type 0} (show : R → Segment) (segments : List DeclaredSegment) (i : ℕ) (d : DeclaredSegment) (found : Option R) → i < length segments → is_some found ≡ true →
@@ -136,7 +117,7 @@ second_found show segments i d (Some r) within some so_far here other all =
     ∙ filter-append is_executable (map segment_of (take i segments)) (segment_of s ∷ map segment_of behind)
     ∙ ap (λ l. l ++ filter is_executable (segment_of s ∷ map segment_of behind)) so_far
     ∙ ap (λ l. show r ∷ l) (cond-true _ _ _ here) in
-    two_of other (show r) (segment_of s) (filter is_executable (map segment_of behind)) (sym all ∙ apart)
+    one_is_not_two other (show r) (segment_of s) (filter is_executable (map segment_of behind)) (sym all ∙ apart)
 
 -- a segment has one cut at an address
 pub one_cut : (s : Segment) (start : ℕ) (b a b' a' : List ℕ) → IsCut s start b a → IsCut s start b' a' → (b ≡ b') × (a ≡ a')
@@ -147,9 +128,6 @@ one_cut s start b a b' a' c d =
       sym (take-append_seam b a) ∙ ap (take (length b)) same ∙ ap (λ n. take n (b' ++ a')) long ∙ take-append_seam b' a',
       sym (drop-append_seam b a) ∙ ap (drop (length b)) same ∙ ap (λ n. drop n (b' ++ a')) long ∙ drop-append_seam b' a',
     )
-
-one_of : {X : Type 0} (x y : X) → x ∷ [] ≡ y ∷ [] → x ≡ y
-one_of x y e = cc
 
 -- a list of instructions with an element has bytes
 some_length : (cs : List Code) → 0 < length cs → 0 < length (flat_map raw_bytes cs)
@@ -169,8 +147,8 @@ pub record IsShown (s : Segment) (start : ℕ) (before after : List Code) : Type
 
 pub shown : (image : Image) (text : List ℕ) (s : Segment) → filter is_executable image.segments ≡ s ∷ [] → (r : IsRawListing image text) → IsShown s image.entry r.before r.after
 shown image text s alone r =
-    let same : r.segment ≡ s = one_of r.segment s (sym r.alone ∙ alone) in
-    let parts = all_split IsSourced r.before r.after r.sourced in
+    let same : r.segment ≡ s = one_item_same r.segment s (sym r.alone ∙ alone) in
+    let parts = each_split IsSourced r.before r.after r.sourced in
     subst (λ k. IsShown k image.entry r.before r.after) same (
     record {
       cut = record {
@@ -210,7 +188,7 @@ listed image s b a first begins labelled text alone cut is before label after = 
   below = cut.below;
   before = before.cs;
   after = after.cs;
-  sourced = all_join IsSourced before.cs after.cs before.codes.sourced after.codes.sourced;
+  sourced = each_append IsSourced before.cs after.cs before.codes.sourced after.codes.sourced;
   bytes = cut.bytes ∙ ap (λ x. x ++ a) before.codes.same ∙ ap (λ x. flat_map raw_bytes before.cs ++ x) after.codes.same ∙ sym (flat_map-append raw_bytes before.cs after.cs);
   some = some_codes after.cs (subst (λ x. 0 < length x) after.codes.same cut.some);
   entry = cut.entry ∙ ap (λ x. s.address + length x) before.codes.same;

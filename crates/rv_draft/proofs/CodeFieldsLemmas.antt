@@ -1,8 +1,7 @@
 -- The open fields of a statement's code, by the shapes and the bytes of its parts.
 
-use Rattle.std.proofs.Common.{◌≡◌, ◌≢◌, ℕ, zero, suc, ◌+◌, ◌≤◌, Bool, true, false, List, [], ◌∷◌, ◌++◌, length, refl, sym, ap, ◌∙◌, subst, map, drop, append-nil, append_assoc, Option, Some, None}
+use Rattle.std.proofs.Common.{◌≡◌, ◌≢◌, ℕ, zero, suc, ◌+◌, Bool, true, false, List, [], ◌∷◌, ◌++◌, length, refl, sym, ap, ◌∙◌, subst, map, append-nil, append_assoc, Option, Some, None}
 use Rattle.std.specs.Prelude.{◌&&◌, unwrap_or, if◌then◌else◌}
-use Rattle.std.proofs.lemmas.List.{at_drop_all, map-append}
 use Rattle.rv_isa.specs.declared.instruction.Inst.{Inst}
 use Rattle.rv_isa.specs.declared.kind.Kind.{Kind}
 use Rattle.rv_parcel.specs.declared.form.Compressed.{Compressed}
@@ -143,13 +142,6 @@ free_fields t l x coded section (Directs directive) plain free = ap (λ c. field
 
 -- ---- part by part
 
--- fields that are added twice at a place
-pub added_twice : (section place : ℕ) (old mid new : List Field) (a b : List Open) → mid ≡ old ++ map (field_at section place) a → new ≡ mid ++ map (field_at section place) b
-    → new ≡ old ++ map (field_at section place) (a ++ b)
-added_twice section place old mid new a b first second =
-    second ∙ ap (λ l. l ++ map (field_at section place) b) first ∙ append_assoc old (map (field_at section place) a) (map (field_at section place) b)
-    ∙ ap (λ l. old ++ l) (sym (map-append (field_at section place) a b))
-
 -- one part more of the fields so far
 pub coded_more : (fields : Kind → List Open) (more : List Open) (section place behind : ℕ) (c : Coded) (left rest : List Coded) (old new all : List Field)
     → left ≡ c ∷ rest → behind ≡ place + length (encoded_bytes c.encoded) → new ≡ old ++ map (field_at section place) (shape_opens fields more (shape_in c))
@@ -159,11 +151,6 @@ coded_more fields more section place behind c left rest old new all here next ad
     ∙ append_assoc old (map (field_at section place) (shape_opens fields more (shape_in c))) (coded_fields fields more section behind rest)
     ∙ ap (λ n. old ++ (map (field_at section place) (shape_opens fields more (shape_in c)) ++ coded_fields fields more section n rest)) next
     ∙ ap (λ l. old ++ coded_fields fields more section place l) (sym here) ∙ h
-
-pub coded_done : (fields : Kind → List Open) (more : List Open) (section place i : ℕ) (code : List Coded) (old all : List Field) → length code ≤ i
-    → old ++ coded_fields fields more section place (drop i code) ≡ all → old ≡ all
-coded_done fields more section place i code old all past h =
-    sym (append-nil old) ∙ ap (λ l. old ++ coded_fields fields more section place l) (sym (at_drop_all (λ l. l) code i past)) ∙ h
 
 -- ---- paddings
 

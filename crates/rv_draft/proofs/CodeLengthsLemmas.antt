@@ -2,6 +2,7 @@
 
 use Rattle.std.proofs.Common.{◌≡◌, ℕ, zero, suc, ◌-◌, Bool, true, false, List, [], ◌∷◌, length, drop, None, refl, sym, ap, subst, arith}
 use Rattle.std.specs.Prelude.{slice_index, is_some, if◌then◌else◌}
+use Rattle.rv_list_laws.proofs.ElementsLemmas.{first_same}
 use Rattle.rv_text_laws.specs.Values.{Value}
 use Rattle.rv_statement_laws.specs.Statement.{StatementKind, Label, Numbered, Instruction, Directs, Expression, Statement}
 use Rattle.rv_unit_laws.specs.Faults.{first_unit_fault}
@@ -16,7 +17,6 @@ use Rattle.rv_assemble_laws.specs.LaidStatements.{expression_value}
 use Rattle.rv_instruction.specs.Code.{near_forms_of, MayHave}
 use Rattle.rv_layout.specs.Code.{statement_padding, data_of, beside_of}
 use Rattle.rv_layout.specs.Measure.{HasLength, IsSize, AreSizes}
-use Rattle.rv_layout.proofs.StandingLemmas.{first_same}
 use Rattle.rv_draft.specs.Lengths.{IsLength, AreLengths, code_length, code_lengths}
 use Rattle.rv_assemble_laws.proofs.LeastAllLemmas.{Agree, least_all}
 

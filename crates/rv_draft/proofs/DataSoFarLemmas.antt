@@ -1,9 +1,11 @@
 -- One statement more of the data so far.
 
-use Rattle.std.proofs.Common.{◌≡◌, ℕ, zero, suc, ◌+◌, ◌*◌, ◌≤◌, ◌==◌, Bool, true, false, List, [], ◌∷◌, ◌++◌, length, map, take, drop, get_or, Some, refl, sym, ap, ◌∙◌, subst, append-nil, append_assoc, arith}
+use Rattle.std.proofs.Common.{◌≡◌, ℕ, zero, suc, ◌+◌, ◌*◌, ◌≤◌, ◌==◌, Bool, true, false, List, [], ◌∷◌, ◌++◌, length, map, take, drop, refl, sym, ap, ◌∙◌, subst, append-nil, append_assoc, arith}
 use Rattle.std.specs.Global.{Vec}
-use Rattle.std.specs.Prelude.{flat_map, slice_get, slice_index_or, not, ◌&&◌, if◌then◌else◌}
+use Rattle.std.specs.Prelude.{flat_map, slice_index_or, not, ◌&&◌, if◌then◌else◌}
 use Rattle.std.proofs.lemmas.Bool.{eqb-true, eq-eqb}
+use Rattle.rv_list_laws.proofs.ElementsLemmas.{first_same}
+use Rattle.rv_list_laws.proofs.TakeDropLemmas.{drop_zero}
 use Rattle.rv_text_laws.specs.Values.{Value}
 use Rattle.rv_statement_laws.specs.Statement.{StatementKind, Label, Numbered, Instruction, Directs, Expression, Statement}
 use Rattle.rv_unit_laws.specs.Sections.{Section, is_nobits}
@@ -27,8 +29,7 @@ use Rattle.rv_draft.specs.Seated.{laid_of, first_code, other_codes, laid_from}
 use Rattle.rv_draft.specs.Sized.{IsSized, AreSized, first_size, other_sizes}
 use Rattle.rv_draft.specs.Spots.{HasBytesOf}
 use Rattle.rv_draft.proofs.EvensLemmas.{none_more}
-use Rattle.rv_layout.proofs.StandingLemmas.{located_at, stated_next, first_same}
-use Rattle.rv_draft.proofs.SoFarSizedLemmas.{drop_none}
+use Rattle.rv_layout.proofs.StandingLemmas.{located_at, stated_next}
 
 -- ---- the bytes of sections never fall
 
@@ -91,7 +92,7 @@ sized_left all k zero t (y ∷ ys) (z ∷ zs) sizes s rest x more h e g =
     let alike : z ≡ x = cc in
     let n : k ≡ 0 + k = omega arith in
     let one : SizedAt all k t y z (first_size sizes) = record { sized = h.0 } in
-    subst (λ l. SizedAt all (0 + k) t s x (first_size l)) (sym (drop_none sizes))
+    subst (λ l. SizedAt all (0 + k) t s x (first_size l)) (sym (drop_zero sizes))
     (subst (λ n. SizedAt all n t s x (first_size sizes)) n (subst (λ s. SizedAt all k t s x (first_size sizes)) same (subst (λ x. SizedAt all k t y x (first_size sizes)) alike one)))
 sized_left all k (suc i) t (y ∷ ys) (z ∷ zs) sizes s rest x more h e g =
     let n : i + suc k ≡ suc i + k = omega arith in
@@ -176,13 +177,13 @@ drop_laid (suc i) (l ∷ ls) [] codes = none (drop i ls) (drop (suc i) codes)
     none : (ms : List Located) (more : List (List Coded)) → [] ≡ laid_from ms [] more
     none [] more = refl
     none (m ∷ ms) more = refl
-drop_laid zero (l ∷ ls) (x ∷ is) codes = ap (laid_from (l ∷ ls) (x ∷ is)) (sym (drop_none codes))
+drop_laid zero (l ∷ ls) (x ∷ is) codes = ap (laid_from (l ∷ ls) (x ∷ is)) (sym (drop_zero codes))
 drop_laid (suc i) (l ∷ ls) (x ∷ is) codes = drop_laid i ls is (other_codes codes) ∙ ap (laid_from (drop i ls) (drop i is)) (codes_left i codes)
 
 others_left : (i : ℕ) (codes : List (List Coded)) → other_codes (drop i codes) ≡ drop (suc i) codes
 others_left zero [] = refl
 others_left (suc i) [] = refl
-others_left zero (coded ∷ codes) = sym (drop_none codes)
+others_left zero (coded ∷ codes) = sym (drop_zero codes)
 others_left (suc i) (coded ∷ codes) = others_left i codes
 
 pub laid_next : (ss : List Statement) (is : List Item) (codes : List (List Coded)) (i : ℕ) (s : Statement) (x : Item) → drop i ss ≡ s ∷ drop (i + 1) ss → drop i is ≡ x ∷ drop (i + 1) is
@@ -218,12 +219,6 @@ code_at t u p q h g l x coded had found tables place home own =
     own ∙ ap (λ (u : Tables). had ++ fields_said h.loaded p.section x.offset (code_said u (laid_of l x coded) l.kind)) tables
     ∙ ap (λ (q : Standing). had ++ fields_said h.loaded q.section x.offset (code_said u (laid_of l x coded) l.kind)) place
     ∙ ap (λ (g : Section). had ++ fields_said g.loaded q.section x.offset (code_said u (laid_of l x coded) l.kind)) home
-
-pub got_as : {A B : Type 0} (f : A → B) (xs : List A) (i : ℕ) (d : A) (y : B) → slice_get (map f xs) i ≡ Some y → f (get_or xs i d) ≡ y
-got_as f [] zero d y e = absurd (cc)
-got_as f [] (suc i) d y e = absurd (cc)
-got_as f (x ∷ xs) zero d y e = cc
-got_as f (x ∷ xs) (suc i) d y e = got_as f xs i d y e
 
 swapped : (a b : ℕ) (c : Bool) → (a == b) ≡ c → (b == a) ≡ c
 swapped a b true e = eq-eqb b a (sym (eqb-true a b e))
@@ -335,10 +330,10 @@ module _ (ss : List Statement) (is : List Item) (codes : List (List Coded)) (sta
 
 pub data_begin : (ss : List Statement) (is : List Item) (codes : List (List Coded)) (start : List (Vec ℕ)) (found : List OpenField) → found ≡ [] → IsDataTo ss is codes start 0 start found
 data_begin ss is codes start found none = record {
-  bytes = λ j. ap (λ l. bytes_in start j ++ data_bytes (tables ss) j l) (drop_none (laid_statements ss is []));
+  bytes = λ j. ap (λ l. bytes_in start j ++ data_bytes (tables ss) j l) (drop_zero (laid_statements ss is []));
   fields =
       ap (λ l. map field_of l ++ flat_map (open_fields (tables ss)) (drop 0 (laid_statements ss is codes))) none
-      ∙ ap (flat_map (open_fields (tables ss))) (drop_none (laid_statements ss is codes));
+      ∙ ap (flat_map (open_fields (tables ss))) (drop_zero (laid_statements ss is codes));
 }
 
 pub data_all : (ss : List Statement) (is : List Item) (codes : List (List Coded)) (start : List (Vec ℕ)) (i : ℕ) (sections : List (Vec ℕ)) (found : List OpenField) → drop i (located_from 1 1 (at_start ss) ss) ≡ []

@@ -4,6 +4,7 @@ use Rattle.std.proofs.Common.{◌≡◌, ℕ, ◌≤◌, ◌<◌, ◌^◌, List,
 use Rattle.std.specs.Prelude.{flat_map, ◌||◌, slice_get, slice_index, if◌then◌else◌}
 use Rattle.std.specs.List.{AllByRecursion, list_any}
 use Rattle.std.specs.Global.{Vec}
+use Rattle.rv_list_laws.proofs.EachLemmas.{each_map}
 use Rattle.rv_statement_laws.specs.Statement.{Statement}
 use Rattle.rv_unit_laws.specs.Sections.{Section, text_section, is_nobits}
 use Rattle.rv_unit_laws.specs.Tables.{Tables, at_start, tables, longest_section, opened_of}
@@ -12,7 +13,7 @@ use Rattle.rv_source_laws.specs.Located.{located, located_from}
 use Rattle.rv_source_laws.specs.Compressed.{is_compressed, is_compressed_code}
 use Rattle.rv_source_laws.specs.Sizes.{AreLeast}
 use Rattle.rv_source_laws.proofs.HeldLemmas.{all_held}
-use Rattle.rv_source_laws.proofs.HomesLemmas.{IsHomeIn, homes_from, all_map}
+use Rattle.rv_source_laws.proofs.HomesLemmas.{IsHomeIn, homes_from}
 use Rattle.rv_assemble_laws.specs.LaidStatements.{LaidStatement, part_bytes, parts, parts_of, laid_in, Tile, end_of}
 use Rattle.rv_draft.specs.declared.draft.Draft.{Draft}
 use Rattle.rv_draft.specs.Added.{IsWhole}
@@ -99,7 +100,7 @@ module _ (ss : List Statement) (lengths : List ℕ) (code : List (Vec ℕ)) (siz
     follow : Tile t 0 (laid_in j all) × (end_of 0 (laid_in j all) ≡ slice_index d.ends.items j)
     follow =
         tiles t j 1 (at_start ss) (λ j. 0) (λ j. slice_index d.ends.items j) ss d.items.items codes h.items
-        (all_map (Fit t) (λ (s : LaidStatement). s.bytes ≡ length (flat_map part_bytes (parts_of t s))) all (λ s f. f.bytes) fits)
+        (each_map (Fit t) (λ (s : LaidStatement). s.bytes ≡ length (flat_map part_bytes (parts_of t s))) all (λ s f. f.bytes) fits)
 
     bytes : bytes_in d.sections.items j ≡ (if is_nobits home then [] else flat_map part_bytes (parts t (laid_in j all)))
     bytes =

@@ -1,16 +1,15 @@
 -- One value more of the open fields so far.
 
-use Rattle.std.proofs.Common.{append_assoc, append-nil, ◌≡◌, ℕ, ◌+◌, ◌*◌, ◌≤◌, ◌<◌, Bool, true, false, List, [], ◌∷◌, ◌++◌, length, map, drop, refl, sym, ap, ◌∙◌, arith}
-use Rattle.std.proofs.Math.Nat.{mul-le-mul_right}
+use Rattle.std.proofs.Common.{append_assoc, append-nil, ◌≡◌, ℕ, ◌+◌, ◌*◌, ◌≤◌, Bool, true, false, List, [], ◌∷◌, ◌++◌, length, map, drop, refl, sym, ap, ◌∙◌, arith}
 use Rattle.std.proofs.lemmas.List.{at_drop_all, length-replicate}
 use Rattle.std.specs.Prelude.{flat_map, if◌then◌else◌}
+use Rattle.rv_isa_laws.proofs.BytesLemmas.{little_long}
 use Rattle.rv_text_laws.specs.Values.{Value, Constant, Symbolic, Difference, Faulty}
 use Rattle.rv_statement_laws.specs.Statement.{Expression}
 use Rattle.rv_assemble_laws.specs.Templates.{Datum, value_bytes, value_fields}
 use Rattle.rv_assemble_laws.specs.LaidStatements.{LaidPart, laid_part, part_bytes}
 use Rattle.rv_assemble_laws.specs.Fields.{Field, field_at, fields_from}
 use Rattle.rv_draft.specs.DataParts.{fields_said}
-pub use Rattle.rv_layout.proofs.LengthsLemmas.{little_long}
 
 -- a value has the bytes of its width
 pub value_long : (width : ℕ) (v : Value) → length (value_bytes width v) ≡ width
@@ -66,8 +65,3 @@ pub place_more : (offset width i place next : ℕ) → place ≡ offset + width 
 place_more offset width i place next here more =
     let all : (i + 1) * width ≡ i * width + width = omega arith in
     omega (arith, here, more, all)
-
-pub next_place : (offset width i count : ℕ) → i < count → offset + width * i + width ≤ offset + width * count
-next_place offset width i count inside =
-    let more : (i + 1) * width ≤ count * width = mul-le-mul_right width (omega (arith, inside)) in
-    omega (arith, more)

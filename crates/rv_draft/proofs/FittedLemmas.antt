@@ -5,6 +5,7 @@ use Rattle.std.proofs.lemmas.List.{length-replicate}
 use Rattle.std.specs.Prelude.{flat_map, not, ◌&&◌, ◌||◌, nat_lt, nat_le, ⊤, slice_index_or, unwrap_or, if◌then◌else◌}
 use Rattle.std.specs.List.{AllByRecursion}
 use Rattle.std.proofs.lemmas.Bool.{leb-true, both_ways}
+use Rattle.rv_list_laws.proofs.ElementsLemmas.{append_none_parts}
 use Rattle.rv_isa_laws.specs.Bytes.{zeros}
 use Rattle.rv_parcel.specs.declared.form.Compressed.{Compressed}
 use Rattle.rv_text_laws.specs.Values.{Value, Constant, Symbolic, Difference, Faulty}
@@ -24,7 +25,7 @@ use Rattle.rv_source_laws.specs.Located.{Located, located_now, located_from, con
 use Rattle.rv_assemble_laws.specs.CodeFields.{part_fields}
 use Rattle.rv_assemble_laws.specs.Coded.{joined, constants, AreCodedParts, IsCode}
 use Rattle.rv_source_laws.specs.Sizes.{code_padding}
-use Rattle.rv_source_laws.proofs.HeldLemmas.{Held, IsHeld, DirectiveHeld, none_left, no_test}
+use Rattle.rv_source_laws.proofs.HeldLemmas.{Held, IsHeld, DirectiveHeld, no_test}
 use Rattle.rv_assemble_laws.specs.Templates.{Datum, Open, value_bytes, HasField, IsWide, IsWidth, IsTemplate, padding_templates, contribution_templates}
 use Rattle.rv_assemble_laws.specs.LaidStatements.{LaidStatement, LaidPart, expression_value, laid_part, coded_templates, templates, part_bytes, parts_of, IsMultiple, IsPaddedIn, HasSize}
 use Rattle.rv_assemble_laws.specs.Fields.{Field, fields_from, fields_at}
@@ -370,12 +371,12 @@ have_fields w v (e ∷ es) is none =
     (has_field w (v e) is parts.0, have_fields w v es is parts.1)
   where
     none_left_of : (xs ys : List ℕ) → xs ++ ys ≡ [] → (xs ≡ []) × (ys ≡ [])
-    none_left_of xs ys e = none_left xs ys e
+    none_left_of xs ys e = append_none_parts xs ys e
 
 fields_one : (all t : Tables) (k : ℕ) (s : Statement) → faults all t k s.kind ≡ [] → IsWideKind s.kind → HaveFields all (located_now 1 k t s)
 fields_one all t k s none wide w vs e =
     let sound : faults all t k (Directs (Values w vs)) ≡ [] = subst (λ says. faults all t k says ≡ []) e none in
-    let own = none_left (flat_map (λ x. value_faults w (value_by_tables all true k (here t) x)) vs)
+    let own = append_none_parts (flat_map (λ x. value_faults w (value_by_tables all true k (here t) x)) vs)
     (faulty_if ((current_section (opened_of t)).executable || is_nobits (current_section (opened_of t))) 15 ++ past_section (current_section (opened_of t)).executable (here t).offset (w * length vs)) sound in
     subst (λ says. AllByRecursion (λ x. HasField w (value_by_tables all true k (stood t k says) x)) vs) (sym e)
     (have_fields w (λ x. value_by_tables all true k (here t) x) vs (wide w vs e) own.0)
@@ -416,7 +417,7 @@ module _ (all t : Tables) (k : ℕ) (whole : (e : Expression) (n : ℕ) → valu
   power_spare : (e : Expression) → directive_faults all t k (Aligns_to_power e) ≡ [] → Spare (Directs (Aligns_to_power e)) current
   power_spare e none empty =
       let w = value_by_tables all false k (here t) e in
-      let parts = none_left (power_faults w) (alignment_faults current (here t).offset (power_alignment w)) none in
+      let parts = append_none_parts (power_faults w) (alignment_faults current (here t).offset (power_alignment w)) none in
       let (n, is) = a_power w parts.0 in
       ap (λ a. if current.executable then code_padding a else 0) (ap power_alignment (whole e n is ∙ sym is))
       ∙ spare_by current.executable (is_nobits current) (here t).offset (power_alignment w) parts.1 empty
@@ -424,7 +425,7 @@ module _ (all t : Tables) (k : ℕ) (whole : (e : Expression) (n : ℕ) → valu
   bytes_spare : (e : Expression) → directive_faults all t k (Aligns_to_bytes e) ≡ [] → Spare (Directs (Aligns_to_bytes e)) current
   bytes_spare e none empty =
       let w = value_by_tables all false k (here t) e in
-      let parts = none_left (bytes_faults w) (alignment_faults current (here t).offset (byte_alignment w)) none in
+      let parts = append_none_parts (bytes_faults w) (alignment_faults current (here t).offset (byte_alignment w)) none in
       let (n, is) = a_multiple w parts.0 in
       ap (λ a. if current.executable then code_padding a else 0) (ap byte_alignment (whole e n is ∙ sym is))
       ∙ spare_by current.executable (is_nobits current) (here t).offset (byte_alignment w) parts.1 empty

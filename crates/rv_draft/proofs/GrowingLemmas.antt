@@ -1,10 +1,8 @@
 -- A section that grows.
 
-use Rattle.std.proofs.Common.{◌≡◌, ℕ, zero, suc, ◌<◌, Bool, true, false, List, [], ◌∷◌, ◌++◌, length, set, take, drop, ◌≤◌, get_or, refl, sym, ap, ◌∙◌, arith, Result, Ok, Err}
+use Rattle.std.proofs.Common.{◌≡◌, ℕ, zero, suc, ◌<◌, Bool, true, false, List, [], ◌∷◌, ◌++◌, length, set, get_or, refl, sym, ap, ◌∙◌, arith}
 use Rattle.std.proofs.lemmas.Bool.{eqb-true, eq-eqb}
-use Rattle.std.proofs.Math.Seq.{take-append_seam}
-use Rattle.std.proofs.lemmas.List.{at_drop_all, length-set}
-use Rattle.std.specs.Result.{OnOk}
+use Rattle.std.proofs.lemmas.List.{length-set}
 use Rattle.std.specs.Global.{Vec}
 use Rattle.std.specs.Prelude.{◌==◌, if◌then◌else◌}
 use Rattle.rv_draft.specs.Code.{GrowsBy, bytes_in}
@@ -41,14 +39,3 @@ read_at (x ∷ xs) (suc k) d h = let below : k < length xs = omega (arith, h) in
 
 pub grows_set : (xs : List (Vec ℕ)) (k : ℕ) (v : Vec ℕ) (more : List ℕ) → k < length xs → v.items ≡ bytes_in xs k ++ more → GrowsBy xs (set xs k v) k more
 grows_set xs k v more h e = (length-set xs k v, λ j. grown_at xs k j v more h e)
-
--- what holds in either way, where there is a value
-pub on_ok_both : {T E : Type 0} (P Q : Type 0) (r : Result T E) → OnOk r P → OnOk r Q → OnOk r (P × Q)
-on_ok_both P Q (Ok x) p q = (p, q)
-on_ok_both P Q (Err e) p q = tt
-
--- a vector whose slice was written has what the slice has
-pub written_back : {A : Type 0} (new old : List A) (len : ℕ) → length new ≡ length old → length new ≡ len → take len (new ++ drop (length new) old) ≡ new
-written_back new old len same count =
-    let past : length old ≤ length new = omega (arith, same) in
-    ap (λ l. take len (new ++ l)) (at_drop_all (λ l. l) old (length new) past) ∙ ap (λ n. take n (new ++ [])) (sym count) ∙ take-append_seam new []

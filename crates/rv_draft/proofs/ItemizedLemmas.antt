@@ -1,6 +1,6 @@
 -- The item of a unit's statement at an index, and the bytes of each section after it.
 
-use Rattle.std.proofs.Common.{◌≡◌, ℕ, zero, suc, ◌+◌, ◌<◌, ◌≤◌, ◌^◌, ◌≢◌, ◌==◌, ◌&&◌, Bool, true, false, List, [], ◌∷◌, ◌++◌, length, set, get_or, inl, inr, refl, sym, ap, ◌∙◌, subst}
+use Rattle.std.proofs.Common.{◌≡◌, ℕ, ◌+◌, ◌<◌, ◌≤◌, ◌^◌, ◌≢◌, ◌==◌, ◌&&◌, Bool, true, false, List, length, set, get_or, inl, inr, refl, sym, ap, ◌∙◌, subst}
 use Rattle.std.specs.Prelude.{if◌then◌else◌, slice_index, slice_index_or}
 use Rattle.std.proofs.lemmas.List.{get_or-set_same, get_or-set_other}
 use Rattle.std.proofs.lemmas.Bool.{eqb-true, eqb-false, cases_eq}
@@ -46,13 +46,6 @@ low_by ends k n j inside low all =
       | inl here ↦ subst (λ m. m ≤ 2 ^ 28) (sym (ap (λ i. get_or (set ends k n) i 0) here ∙ get_or-set_same ends k n 0 inside)) low
       | inr other ↦ subst (λ m. m ≤ 2 ^ 28) (sym (get_or-set_other ends k j n 0 other)) (all j)
     ]
-
--- a section without a byte after others
-pub none_behind : (xs : List ℕ) (j : ℕ) → ((i : ℕ) → slice_index xs i ≡ 0) → slice_index (xs ++ 0 ∷ []) j ≡ 0
-none_behind [] zero h = refl
-none_behind [] (suc j) h = refl
-none_behind (y ∷ ys) zero h = h 0
-none_behind (y ∷ ys) (suc j) h = none_behind ys j (λ i. h (suc i))
 
 -- ---- the item of a statement
 

@@ -4,6 +4,7 @@ use Rattle.std.proofs.Common.{◌≡◌, ℕ, suc, ◌<◌, ◌==◌, Bool, true
 use Rattle.std.specs.Prelude.{if◌then◌else◌}
 use Rattle.std.specs.List.{AllByRecursion, find}
 use Rattle.std.proofs.lemmas.Bool.{eq-eqb}
+use Rattle.rv_list_laws.proofs.NumbersLemmas.{eq_below}
 use Rattle.rv_text_laws.specs.Expression.{Literal, Symbol, Here, Reference}
 use Rattle.rv_text_laws.specs.Values.{Known, InSection, Open, Refused, Value, Constant, Symbolic, Difference, Faulty}
 use Rattle.rv_statement_laws.specs.Statement.{StatementKind, Label, Numbered, Instruction, Directs, Statement, Expression, Directive, Sets}
@@ -18,7 +19,6 @@ use Rattle.rv_source_laws.specs.Located.{Located, located_now, located_from}
 use Rattle.rv_assemble_laws.specs.LaidStatements.{LaidStatement}
 use Rattle.rv_assemble_laws.specs.Symbols.{laid_at}
 use Rattle.rv_assemble_laws.specs.IsObjectOf.{IsInData, StandsInData}
-use Rattle.rv_layout.proofs.SeenLemmas.{other as below_no}
 
 -- ---- a statement is found by its ordinal
 
@@ -33,7 +33,7 @@ skip : (first : Located) (ls rest : List Located) → AllByRecursion (λ (l : Lo
     → AllByRecursion (λ (l : Located). Found (first ∷ ls) l.ordinal ≡ Some l) rest
 skip first ls [] h f = tt
 skip first ls (l ∷ rest) h f =
-    (ap (λ b. if b then Some first else Found ls l.ordinal) (below_no first.ordinal l.ordinal h.0) ∙ f.0, skip first ls rest h.1 f.1)
+    (ap (λ b. if b then Some first else Found ls l.ordinal) (eq_below first.ordinal l.ordinal h.0) ∙ f.0, skip first ls rest h.1 f.1)
 
 found_from : (file k : ℕ) (t : Tables) (ss : List Statement) → AllByRecursion (λ (l : Located). Found (located_from file k t ss) l.ordinal ≡ Some l) (located_from file k t ss)
 found_from file k t [] = tt

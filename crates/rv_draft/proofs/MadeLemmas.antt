@@ -2,6 +2,7 @@
 
 use Rattle.std.proofs.Common.{◌≡◌, ℕ, zero, suc, ◌+◌, Bool, true, List, [], ◌∷◌, length, drop, None, refl, sym, ap, ◌∙◌, subst, arith}
 use Rattle.std.specs.Global.{Vec}
+use Rattle.rv_list_laws.proofs.ElementsLemmas.{first_same}
 use Rattle.rv_text_laws.specs.Values.{Value}
 use Rattle.rv_statement_laws.specs.Statement.{StatementKind, Label, Numbered, Instruction, Directs, Expression, Statement}
 use Rattle.rv_text_laws.specs.Codes.{lowest}
@@ -26,7 +27,7 @@ use Rattle.rv_draft.specs.DataParts.{AreMade, IsMade}
 use Rattle.rv_draft.specs.Lengths.{AreLengths}
 use Rattle.rv_draft.specs.Sized.{AreSized, IsSized}
 use Rattle.rv_draft.specs.Spots.{value_in, IsMadeAt}
-use Rattle.rv_layout.proofs.StandingLemmas.{StandsAt, first_same, located_at}
+use Rattle.rv_layout.proofs.StandingLemmas.{StandsAt, located_at}
 use Rattle.rv_layout.proofs.ExtentsLemmas.{faults_in, faults_there}
 use Rattle.rv_draft.proofs.WholeLemmas.{one_file}
 

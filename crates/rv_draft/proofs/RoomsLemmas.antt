@@ -1,8 +1,11 @@
 -- Along a source without faults each section has room for the statements that are left.
 
-use Rattle.std.proofs.Common.{◌≡◌, ℕ, zero, suc, ◌+◌, ◌<◌, ◌≤◌, Bool, true, false, ◌==◌, nat_lt, List, [], ◌∷◌, length, take, drop, refl, sym, ap, ◌∙◌, subst, append-nil, arith, Option, Some, None}
+use Rattle.std.proofs.Common.{◌≡◌, ℕ, suc, ◌+◌, ◌<◌, ◌≤◌, Bool, true, false, ◌==◌, nat_lt, List, [], ◌∷◌, length, take, drop, refl, sym, ap, ◌∙◌, subst, append-nil, arith, Option, Some, None}
 use Rattle.std.proofs.lemmas.Bool.{eqb-true, ltb-false}
 use Rattle.std.specs.Prelude.{slice_index_or, if◌then◌else◌}
+use Rattle.rv_list_laws.proofs.EachLemmas.{each_dropped}
+use Rattle.rv_list_laws.proofs.ElementsLemmas.{index_or_get}
+use Rattle.rv_list_laws.proofs.TakeDropLemmas.{drop_zero, drop_inside}
 use Rattle.rv_statement_laws.specs.Statement.{StatementKind, Label, Numbered, Instruction, Directs, Statement, Expression, Directive, Sets, Aligns_to_power, Aligns_to_bytes, Values, Strings, Zeros}
 use Rattle.rv_text_laws.specs.Values.{Value}
 use Rattle.rv_text_laws.specs.Codes.{limit}
@@ -12,7 +15,7 @@ use Rattle.rv_unit_laws.specs.Faults.{first_unit_fault}
 use Rattle.rv_unit_laws.proofs.GrownLemmas.{BeginsAt, puts, grows_after, grown_all, begins_multiple}
 use Rattle.rv_unit_laws.proofs.OpenedLemmas.{after_opened, open_inside, stood_all, stood_start}
 use Rattle.rv_unit.specs.Unit.{passed}
-use Rattle.rv_unit.proofs.ConstantsLemmas.{constant_past, constant_whole, whole_rest}
+use Rattle.rv_unit.proofs.ConstantsLemmas.{constant_past, constant_whole}
 use Rattle.rv_source_laws.specs.Located.{Located, located, located_from, is_placed, is_placed_directive}
 use Rattle.rv_source_laws.proofs.HeldLemmas.{no_fault}
 use Rattle.rv_source_laws.proofs.HomesLemmas.{IsHomeIn, homes_from}
@@ -20,15 +23,15 @@ use Rattle.rv_assemble_laws.specs.Refusals.{grown as grown_by, size_fault_from}
 use Rattle.rv_assemble_laws.specs.LaidStatements.{expression_value}
 use Rattle.rv_draft.specs.declared.item.CodeSize.{CodeSize}
 use Rattle.rv_unit.specs.declared.item.Item.{Item}
+use Rattle.rv_unit.proofs.PassedLemmas.{passed_rest}
 use Rattle.rv_draft.specs.Items.{IsItem, grown}
 use Rattle.rv_draft.specs.Sized.{IsItemPadded, IsSizedDirective, IsSized, bytes_of_sizes, size_bytes}
 use Rattle.rv_draft.specs.Measured.{stretch, IsSize}
-use Rattle.rv_layout.proofs.StandingLemmas.{all_at, got_or, located_at, stated_next}
+use Rattle.rv_layout.proofs.StandingLemmas.{located_at, stated_next}
 use Rattle.rv_draft.proofs.SoFarItemsLemmas.{passed_next}
 use Rattle.rv_draft.proofs.SoFarSizedLemmas.{IsSizedAt}
 use Rattle.rv_draft.proofs.SoundLemmas.{sound_at}
 use Rattle.rv_draft.proofs.RoomyLemmas.{IsRoomy, statement_here}
-pub use Rattle.rv_draft.proofs.SoFarSizedLemmas.{drop_none}
 
 -- the bytes of each section before the statement at an index: those of code are no more than what the sizes of
 -- code have counted, and these have room for what is left; those of others are no more than the tables'
@@ -38,18 +41,12 @@ pub record HasRoomLeft (ss : List Statement) (sizes : List CodeSize) (i : ℕ) (
   pub code : (j : ℕ) → (section_at (opened_of (tables ss)) j).executable ≡ true → ends j ≤ counted j
   pub stored : (j : ℕ) → (section_at (opened_of (tables ss)) j).executable ≡ false → ends j ≤ slice_index_or (ends_of (passed ss i)) j 0
 
-drop_inside : {A : Type 0} (xs : List A) (i : ℕ) (y : A) (ys : List A) → drop i xs ≡ y ∷ ys → i < length xs
-drop_inside [] zero y ys e = absurd (cc)
-drop_inside [] (suc i) y ys e = absurd (cc)
-drop_inside (x ∷ xs) zero y ys e = omega arith
-drop_inside (x ∷ xs) (suc i) y ys e = let l : i < length xs = drop_inside xs i y ys e in omega (arith, l)
-
 pub rooms_begin : (ss : List Statement) (sizes : List CodeSize) (ends : ℕ → ℕ) → size_fault_from (λ j. 0) (located (ss ∷ [])) (bytes_of_sizes sizes) ≡ None → ((j : ℕ) → ends j ≡ 0) → HasRoomLeft ss sizes 0 ends
 rooms_begin ss sizes ends good zeros = record {
   counted = λ j. 0;
   rest =
-      ap (λ l. size_fault_from (λ j. 0) l (drop 0 (bytes_of_sizes sizes))) (drop_none (located_from 1 1 (at_start ss) ss) ∙ sym (append-nil (located_from 1 1 (at_start ss) ss)))
-      ∙ ap (λ l. size_fault_from (λ j. 0) (located (ss ∷ [])) l) (drop_none (bytes_of_sizes sizes)) ∙ good;
+      ap (λ l. size_fault_from (λ j. 0) l (drop 0 (bytes_of_sizes sizes))) (drop_zero (located_from 1 1 (at_start ss) ss) ∙ sym (append-nil (located_from 1 1 (at_start ss) ss)))
+      ∙ ap (λ l. size_fault_from (λ j. 0) (located (ss ∷ [])) l) (drop_zero (bytes_of_sizes sizes)) ∙ good;
   code = λ j code. let e = zeros j in omega (arith, e);
   stored = λ j other. let e = zeros j in omega (arith, e);
 }
@@ -123,14 +120,14 @@ module _ (ss : List Statement) (i : ℕ) (s : Statement) (here_is : drop i ss �
   -- the section of the statement
   home_is : section_at (opened_of all) st.section ≡ st.home
   home_is =
-      got_or (opened_of all).sections st.section text_section st.home
-      (all_at (IsHomeIn (λ file. (opened_of all).sections)) (located_from 1 1 (at_start ss) ss) i st (drop (i + 1) (located_from 1 1 (at_start ss) ss)) next
+      index_or_get (opened_of all).sections st.section text_section st.home
+      (each_dropped (IsHomeIn (λ file. (opened_of all).sections)) (located_from 1 1 (at_start ss) ss) i st (drop (i + 1) (located_from 1 1 (at_start ss) ss)) next
       (homes_from (λ file. (opened_of all).sections) 1 1 (at_start ss) ss refl (text_section, refl)))
 
   multiples : (d : Directive) → s.kind ≡ Directs d → puts d ≡ true → BeginsAt (alignment_of (value_by_tables t false k (here t)) d) (slice_index_or (alignments_of all) t.current 1)
   multiples d is h =
       subst (λ (u : Tables). BeginsAt (alignment_of (value_by_tables t false k (here t)) d) (slice_index_or (alignments_of u) t.current 1))
-      (sym (whole_rest ss i within ∙ ap (after_all t k) here_is ∙ ap (λ y. after_all (after t k y) (suc k) (drop (i + 1) ss)) is))
+      (sym (passed_rest ss i within ∙ ap (after_all t k) here_is ∙ ap (λ y. after_all (after t k y) (suc k) (drop (i + 1) ss)) is))
       (begins_multiple t k (suc k) d (drop (i + 1) ss) h (grown_all ss 1 (take i ss)) inside)
 
   -- the section where a statement that has a row stands is the current one

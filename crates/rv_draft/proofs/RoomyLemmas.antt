@@ -1,10 +1,11 @@
 -- In a source without faults each statement has a size, and its section has room for it.
 
-use Rattle.std.proofs.Common.{◌≡◌, ℕ, ◌+◌, ◌*◌, ◌-◌, ◌/◌, ◌^◌, ◌<◌, ◌≤◌, Bool, true, false, ◌||◌, nat_lt, nat_le, List, [], ◌++◌, length, refl, sym, ap, ◌∙◌, subst, arith, Option, Some, None}
+use Rattle.std.proofs.Common.{◌≡◌, ℕ, ◌+◌, ◌*◌, ◌-◌, ◌/◌, ◌^◌, ◌<◌, ◌≤◌, Bool, true, false, ◌||◌, nat_lt, List, [], ◌++◌, length, refl, sym, ap, ◌∙◌, subst, arith, Option, Some, None}
 use Rattle.std.proofs.Math.Nat.{div-mul-le_self, mul-le-mul_right}
-use Rattle.std.proofs.lemmas.Bool.{leb-true, le-leb, not-false, or_parts, both_ways}
+use Rattle.std.proofs.lemmas.Bool.{not-false, or_parts, both_ways}
 use Rattle.std.proofs.lemmas.Nat.{le-div}
 use Rattle.std.specs.Prelude.{IfErr, Result, Ok, Err, not, flat_map, slice_index_or, if◌then◌else◌}
+use Rattle.rv_list_laws.proofs.ElementsLemmas.{append_none_parts}
 use Rattle.rv_layout_laws.specs.Alignment.{aligned}
 use Rattle.rv_text_laws.specs.Values.{Value, Constant, Symbolic, Difference, Faulty}
 use Rattle.rv_statement_laws.specs.Statement.{StatementKind, Label, Numbered, Instruction, Directs, Expression, Directive, Sets, Aligns_to_power, Aligns_to_bytes, Values, Strings, Zeros}
@@ -13,9 +14,11 @@ use Rattle.rv_unit_laws.specs.Tables.{Tables, here, value_by_tables, alignment_o
 use Rattle.rv_text_laws.specs.Codes.{faulty_if}
 use Rattle.rv_unit_laws.specs.Faults.{size_faults, power_faults, bytes_faults, value_faults, code_alignment_faults, past_section, alignment_faults, directive_faults, faults}
 use Rattle.rv_unit_laws.proofs.GrownLemmas.{BeginsAt, puts, end_behind}
+use Rattle.rv_unit_laws.proofs.TablesLemmas.{within_fits}
 use Rattle.rv_assemble_laws.specs.Coded.{is_constant}
 use Rattle.rv_source_laws.specs.Located.{is_placed, is_placed_directive}
-use Rattle.rv_source_laws.proofs.HeldLemmas.{none_left, no_test}
+use Rattle.rv_source_laws.proofs.HeldLemmas.{no_test}
+use Rattle.rv_source_laws.proofs.TablesLemmas.{past_fits}
 use Rattle.rv_assemble_laws.specs.LaidStatements.{IsMultiple}
 use Rattle.rv_draft.specs.declared.item.CodeSize.{CodeSize}
 use Rattle.rv_draft.specs.Sized.{IsItemPadded, IsSizedDirective, size_bytes}
@@ -39,15 +42,6 @@ room_by true offset bytes low none fits = fits refl
 room_by false offset bytes low none fits = let e = none refl in omega (arith, e, low)
 
 -- ---- what no fault says
-
--- bytes that do not pass the longest section
-past_fits : (executable : Bool) (offset bytes : ℕ) → executable ≡ false → past_section executable offset bytes ≡ [] → offset + bytes ≤ longest_section
-past_fits true offset bytes e none = absurd (cc)
-past_fits false offset bytes e none =
-    leb-true (offset + bytes) longest_section (not-false (nat_le (offset + bytes) longest_section) (no_test (not (nat_le (offset + bytes) longest_section)) 17 none))
-
-within_fits : (offset bytes : ℕ) → offset + bytes ≤ longest_section → within offset bytes ≡ bytes
-within_fits offset bytes fits = ap (λ b. if b then bytes else 0) (le-leb (offset + bytes) longest_section fits)
 
 -- a count of bytes
 record IsCount (v : Value) (n : ℕ) : Type 0 where
@@ -155,8 +149,8 @@ module _ (all t : Tables) (k begins offset : ℕ) (own : CodeSize) (low : offset
 
   values_here : (width : ℕ) (values : List Expression) → directive_faults all t k (Values width values) ≡ [] → Here (Directs (Values width values))
   values_here width values none =
-      let later = none_left (flat_map (λ e. value_faults width (value_by_tables all true k (here t) e)) values) (faulty_if (home.executable || is_nobits home) 15 ++ past_section home.executable (here t).offset (width * length values)) none in
-      let last = none_left (faulty_if (home.executable || is_nobits home) 15) (past_section home.executable (here t).offset (width * length values)) later.1 in
+      let later = append_none_parts (flat_map (λ e. value_faults width (value_by_tables all true k (here t) e)) values) (faulty_if (home.executable || is_nobits home) 15 ++ past_section home.executable (here t).offset (width * length values)) none in
+      let last = append_none_parts (faulty_if (home.executable || is_nobits home) 15) (past_section home.executable (here t).offset (width * length values)) later.1 in
       let other = (or_parts home.executable (is_nobits home) (no_test (home.executable || is_nobits home) 15 last.0)).0 in
       let fits = past_fits home.executable (here t).offset (width * length values) other last.1 in
       let same : data_bytes first (here t).offset (Values width values) ≡ width * length values = within_fits (here t).offset (width * length values) fits in
@@ -166,7 +160,7 @@ module _ (all t : Tables) (k begins offset : ℕ) (own : CodeSize) (low : offset
   strings_here : (ended : Bool) (strings : List (List ℕ)) → directive_faults all t k (Strings ended strings) ≡ [] → Here (Directs (Strings ended strings))
   strings_here ended strings none =
       let count = length (string_bytes ended strings) in
-      let last = none_left (faulty_if (home.executable || is_nobits home) 15) (past_section home.executable (here t).offset count) none in
+      let last = append_none_parts (faulty_if (home.executable || is_nobits home) 15) (past_section home.executable (here t).offset count) none in
       let other = (or_parts home.executable (is_nobits home) (no_test (home.executable || is_nobits home) 15 last.0)).0 in
       let fits = past_fits home.executable (here t).offset count other last.1 in
       let same : data_bytes first (here t).offset (Strings ended strings) ≡ count = within_fits (here t).offset count fits in
@@ -177,8 +171,8 @@ module _ (all t : Tables) (k begins offset : ℕ) (own : CodeSize) (low : offset
   zeros_here count none =
       let w = value_by_tables all false k (here t) count in
       let past_faults : Option ℕ → List ℕ = λ o. elim o [ None ↦ [] | Some n ↦ past_section home.executable (here t).offset n ] in
-      let later = none_left (size_faults w) (faulty_if home.executable 15 ++ past_faults (counted w)) none in
-      let last = none_left (faulty_if home.executable 15) (past_faults (counted w)) later.1 in
+      let later = append_none_parts (size_faults w) (faulty_if home.executable 15 ++ past_faults (counted w)) none in
+      let last = append_none_parts (faulty_if home.executable 15) (past_faults (counted w)) later.1 in
       let other = no_test home.executable 15 last.0 in
       let (n, is) = a_count w later.0 in
       let found : counted w ≡ Some n = ap counted is.is ∙ ap (λ b. if b then Some n else None) is.below in
@@ -227,7 +221,7 @@ module _ (all t : Tables) (k begins offset : ℕ) (own : CodeSize) (low : offset
   power_here : (e : Expression) → BeginsAt (alignment_of first (Aligns_to_power e)) begins → directive_faults all t k (Aligns_to_power e) ≡ [] → Fits → Here (Directs (Aligns_to_power e))
   power_here e multiples none fits =
       let w = value_by_tables all false k (here t) e in
-      let parts = none_left (power_faults w) (alignment_faults home (here t).offset (power_alignment w)) none in
+      let parts = append_none_parts (power_faults w) (alignment_faults home (here t).offset (power_alignment w)) none in
       let (n, is) = a_power w parts.0 in
       let now : power_alignment (v e) ≡ power_alignment w = ap power_alignment (whole e n is ∙ sym is) in
       let sooner : power_alignment (first e) ≡ power_alignment w = ap power_alignment (past e n is ∙ sym is) in
@@ -239,7 +233,7 @@ module _ (all t : Tables) (k begins offset : ℕ) (own : CodeSize) (low : offset
   bytes_here : (e : Expression) → BeginsAt (alignment_of first (Aligns_to_bytes e)) begins → directive_faults all t k (Aligns_to_bytes e) ≡ [] → Fits → Here (Directs (Aligns_to_bytes e))
   bytes_here e multiples none fits =
       let w = value_by_tables all false k (here t) e in
-      let parts = none_left (bytes_faults w) (alignment_faults home (here t).offset (byte_alignment w)) none in
+      let parts = append_none_parts (bytes_faults w) (alignment_faults home (here t).offset (byte_alignment w)) none in
       let (n, is) = a_multiple w parts.0 in
       let now : byte_alignment (v e) ≡ byte_alignment w = ap byte_alignment (whole e n is ∙ sym is) in
       let sooner : byte_alignment (first e) ≡ byte_alignment w = ap byte_alignment (past e n is ∙ sym is) in

@@ -5,12 +5,13 @@ use Rattle.std.specs.Prelude.{flat_map, not, ◌&&◌, slice_get, slice_index_or
 use Rattle.std.specs.List.{AllByRecursion}
 use Rattle.std.proofs.lemmas.Bool.{eqb-true, eq-eqb, and_parts}
 use Rattle.std.proofs.lemmas.Nat.{pow_pos}
+use Rattle.rv_list_laws.proofs.EachLemmas.{each_append}
 use Rattle.rv_statement_laws.specs.Statement.{Statement}
 use Rattle.rv_unit_laws.specs.Sections.{Section, is_nobits, goes_to_text}
 use Rattle.rv_unit_laws.specs.Tables.{Tables, after, tables, opened_of, alignments_of}
 use Rattle.rv_unit_laws.proofs.GrownLemmas.{grown_all}
 use Rattle.rv_source_laws.specs.Located.{Located, located_now, located_from}
-use Rattle.rv_source_laws.proofs.HomesLemmas.{IsHomeIn, all_join}
+use Rattle.rv_source_laws.proofs.HomesLemmas.{IsHomeIn}
 use Rattle.rv_assemble_laws.specs.Templates.{IsTemplate}
 use Rattle.rv_assemble_laws.specs.LaidStatements.{LaidStatement, LaidPart, expression_value, part_bytes, parts, parts_of, laid_in, Tile, end_of, HasSize}
 use Rattle.rv_assemble_laws.specs.Fields.{fields_at, fields}
@@ -213,7 +214,7 @@ module _ (t : Tables) (j : ℕ) (home : Section) where
 
   pub section_templates : (laid : List LaidStatement) → AllByRecursion Of laid → AllByRecursion (λ (p : LaidPart). IsTemplate p.template) (parts t laid)
   section_templates [] h = tt
-  section_templates (s ∷ ss) h = all_join (λ (p : LaidPart). IsTemplate p.template) (parts_of t s) (parts t ss) h.0.fit.templates (section_templates ss h.1)
+  section_templates (s ∷ ss) h = each_append (λ (p : LaidPart). IsTemplate p.template) (parts_of t s) (parts t ss) h.0.fit.templates (section_templates ss h.1)
 
 -- ---- the open fields
 

@@ -1,7 +1,8 @@
 -- One statement more of the code so far.
 
-use Rattle.std.proofs.Common.{◌≡◌, ℕ, ◌+◌, ◌==◌, nat_lt, Bool, true, false, List, [], ◌∷◌, ◌++◌, length, Option, Some, None, if◌then◌else◌, refl, sym, ap, ◌∙◌, subst, append-nil, zero, suc, append_assoc, length-append, rules, arith}
+use Rattle.std.proofs.Common.{◌≡◌, ℕ, ◌+◌, ◌==◌, nat_lt, Bool, true, false, List, [], ◌∷◌, ◌++◌, length, Option, Some, None, if◌then◌else◌, refl, sym, ap, ◌∙◌, subst, append-nil, zero, suc, append_assoc, length-append, arith}
 use Rattle.std.specs.Global.{Vec}
+use Rattle.rv_list_laws.proofs.NumbersLemmas.{eq_self}
 use Rattle.rv_text_laws.specs.Codes.{limit, lowest}
 use Rattle.rv_statement_laws.specs.Statement.{StatementKind, Label, Numbered, Instruction, Directs, Expression}
 use Rattle.rv_text_laws.specs.Values.{Value}
@@ -43,9 +44,6 @@ grown_length : (b : Bool) (old more : List ℕ) → length (if b then old ++ mor
 grown_length true old more = length-append old more
 grown_length false old more = refl
 
-same : (n : ℕ) → (n == n) ≡ true
-same n = search rules
-
 joined_by : (b : Bool) (old code rest : List ℕ) → (if b then old ++ code else old) ++ rest ≡ old ++ ((if b then code else []) ++ rest)
 joined_by true old code rest = append_assoc old code rest
 joined_by false old code rest = refl
@@ -60,7 +58,7 @@ next_code t all s next old new wanted h a =
     let own : CodeSize = code_size (padding_at t s) a.coded in
     let alike : (j : ℕ) → g j ≡ (if j == s.section then f j + size else f j) =
     λ j. ap length (a.grows.1 j) ∙ grown_length (j == s.section) (bytes_in old.sections.items j) code ∙ ap (λ n. if j == s.section then f j + n else f j) (code_long t s a.coded) in
-    let here : g s.section ≡ f s.section + size = alike s.section ∙ ap (λ b. if b then f s.section + size else f s.section) (same s.section) in
+    let here : g s.section ≡ f s.section + size = alike s.section ∙ ap (λ b. if b then f s.section + size else f s.section) (eq_self s.section) in
     let behind : (more : List (List Coded)) → (h.codes ++ a.coded ∷ []) ++ more ≡ h.codes ++ a.coded ∷ more = λ more. append_assoc h.codes (a.coded ∷ []) more in
     record {
       faults =

@@ -1,7 +1,8 @@
 -- The size of one item more.
 
-use Rattle.std.proofs.Common.{◌≡◌, ℕ, suc, ◌+◌, true, List, [], ◌∷◌, ◌++◌, drop, refl, sym, subst, append-nil, append_assoc, arith}
+use Rattle.std.proofs.Common.{◌≡◌, ℕ, suc, ◌+◌, true, List, [], ◌∷◌, ◌++◌, drop, sym, subst, append-nil, append_assoc, arith}
 use Rattle.std.specs.Prelude.{slice_index_or}
+use Rattle.rv_list_laws.proofs.TakeDropLemmas.{drop_zero}
 use Rattle.rv_statement_laws.specs.Statement.{Statement}
 use Rattle.rv_unit_laws.specs.Tables.{Tables, at_start, after, alignments_of}
 use Rattle.rv_unit.specs.Unit.{passed}
@@ -17,13 +18,9 @@ abbrev pub AreSizedSoFar : Tables → List Statement → List CodeSize → ℕ �
 AreSizedSoFar all ss sizes i so_far =
     (rest : List Item) → AreSized all (i + 1) (passed ss i) (drop i ss) rest (drop i sizes) → AreSized all 1 (at_start ss) ss (so_far ++ rest) sizes
 
-pub drop_none : {A : Type 0} (xs : List A) → drop 0 xs ≡ xs
-drop_none [] = refl
-drop_none (x ∷ xs) = refl
-
 pub sized_begin : (all : Tables) (ss : List Statement) (sizes : List CodeSize) → AreSizedSoFar all ss sizes 0 []
 sized_begin all [] sizes rest h = tt
-sized_begin all (s ∷ ss) sizes rest h = subst (λ l. AreSized all 1 (at_start (s ∷ ss)) (s ∷ ss) rest l) (drop_none sizes) h
+sized_begin all (s ∷ ss) sizes rest h = subst (λ l. AreSized all 1 (at_start (s ∷ ss)) (s ∷ ss) rest l) (drop_zero sizes) h
 
 -- the item of a statement has its size where it has a place
 abbrev pub IsSizedAt : Tables → List Statement → ℕ → Statement → CodeSize → Item → Type 0

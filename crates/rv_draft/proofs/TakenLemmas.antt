@@ -1,13 +1,8 @@
 -- What is taken from the end of a list that was reversed is next in that list.
 
-use Rattle.std.proofs.Common.{◌≡◌, ℕ, ◌+◌, ◌<◌, ◌-◌, List, [], ◌∷◌, ◌++◌, length, map, drop, reverse, get_or, sym, ap, ◌∙◌, arith}
-use Rattle.std.proofs.lemmas.List.{drop_more, length-drop, length-reverse, reverse-append}
-use Rattle.rv_layout.proofs.LeftLemmas.{left_at}
-
-pub some_left : {X : Type 0} (xs left : List X) (i : ℕ) → i < length xs → reverse left ≡ drop i xs → 0 < length left
-some_left xs left i inside reversed =
-    let count : length left ≡ length xs - i = sym (length-reverse left) ∙ ap length reversed ∙ length-drop i xs in
-    omega (arith, inside, count)
+use Rattle.std.proofs.Common.{◌≡◌, ℕ, ◌+◌, ◌<◌, List, [], ◌∷◌, ◌++◌, length, map, drop, reverse, get_or, sym, ap, ◌∙◌}
+use Rattle.std.proofs.lemmas.List.{drop_more, reverse-append}
+use Rattle.rv_list_laws.proofs.MapLemmas.{drop_map_or}
 
 module _ {X : Type 0} (xs left rest : List X) (i : ℕ) (x : X) (inside : i < length xs) (reversed : reverse left ≡ drop i xs) (taken : left ≡ rest ++ x ∷ []) where
   both : x ∷ reverse rest ≡ get_or xs i x ∷ drop (i + 1) xs
@@ -23,4 +18,4 @@ module _ {X : Type 0} (xs left rest : List X) (i : ℕ) (x : X) (inside : i < le
   next_is = drop_more xs i x inside ∙ ap (λ y. y ∷ drop (i + 1) xs) (sym same)
 
   pub mapped_next : {Y : Type 0} (f : X → Y) → drop i (map f xs) ≡ f x ∷ drop (i + 1) (map f xs)
-  mapped_next f = left_at f xs i x inside ∙ ap (λ y. f y ∷ drop (i + 1) (map f xs)) (sym same)
+  mapped_next f = drop_map_or f xs i x inside ∙ ap (λ y. f y ∷ drop (i + 1) (map f xs)) (sym same)

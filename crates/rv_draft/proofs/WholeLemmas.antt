@@ -3,6 +3,7 @@
 use Rattle.std.proofs.Common.{◌≡◌, ℕ, zero, suc, ◌+◌, Bool, true, Option, List, [], ◌∷◌, ◌++◌, drop, inl, inr, Some, Result, Ok, Err, sym, ap, ◌∙◌, subst, append-nil}
 use Rattle.std.specs.Prelude.{slice_index, is_some}
 use Rattle.std.proofs.lemmas.List.{map-append}
+use Rattle.rv_list_laws.proofs.ElementsLemmas.{first_same}
 use Rattle.rv_instruction.specs.Code.{near_forms_of}
 use Rattle.rv_text_laws.specs.Values.{Value}
 use Rattle.rv_fault.specs.declared.source_fault.SourceFault.{SourceFault}
@@ -30,7 +31,7 @@ use Rattle.rv_draft.specs.Lengths.{HasLengthAt}
 use Rattle.rv_layout.specs.Measure.{IsSize, AreSizes}
 use Rattle.rv_draft.specs.declared.item.CodeSize.{CodeSize}
 use Rattle.rv_draft.proofs.LengthsLemmas.{added_length}
-use Rattle.rv_layout.proofs.StandingLemmas.{StandsAt, first_same, located_at}
+use Rattle.rv_layout.proofs.StandingLemmas.{StandsAt, located_at}
 
 -- the code of the first `i` statements of a source
 abbrev pub CodeTo : List Statement → ℕ → Coder → Type 0

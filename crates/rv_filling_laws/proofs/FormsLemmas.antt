@@ -5,8 +5,6 @@ use Rattle.rv_isa.specs.declared.instruction.IType.{IType}
 use Rattle.rv_isa.specs.declared.instruction.SType.{SType}
 use Rattle.rv_isa.specs.declared.instruction.BType.{BType}
 use Rattle.rv_isa.specs.declared.instruction.UType.{UType}
-use Rattle.rv_isa.specs.declared.instruction.Inst.{Inst}
-use Rattle.rv_isa.specs.declared.instruction.Inst.TheVariants as inst
 use Rattle.rv_isa.specs.declared.operation.ImmediateOperation.{ImmediateOperation}
 use Rattle.rv_isa.specs.declared.operation.ImmediateOperation.TheVariants.{Addi, Slti, Sltiu, Xori, Ori, Andi, Addiw}
 use Rattle.rv_isa.specs.declared.operation.UpperOperation.{UpperOperation}
@@ -17,13 +15,9 @@ use Rattle.rv_isa.specs.declared.operation.StoreOperation.{StoreOperation}
 use Rattle.rv_isa.specs.declared.operation.StoreOperation.TheVariants.{Sb, Sh, Sw, Sd}
 use Rattle.rv_isa.specs.declared.operation.BranchOperation.{BranchOperation}
 use Rattle.rv_isa.specs.declared.operation.BranchOperation.TheVariants.{Beq, Bne, Blt, Bge, Bltu, Bgeu}
-use Rattle.rv_isa.specs.Operations.{format_of, instruction_of, of_immediate, of_upper, of_load, of_store, of_branch}
+use Rattle.rv_isa.specs.Operations.{of_immediate, of_upper, of_load, of_store, of_branch}
 use Rattle.rv_isa_laws.specs.Word.{Immediate, Store, Branch, Upper, form}
 use Rattle.rv_filling_laws.specs.Formats.{AreSelectors}
-
-pub rebuilt : (i : Inst) → instruction_of (format_of i) ≡ i
-rebuilt (inst.Lui x) = refl
-rebuilt _ = refl
 
 -- ---- selectors
 

@@ -17,6 +17,7 @@ use Rattle.rv_isa.specs.declared.operation.BranchOperation.TheVariants.{Beq, Bne
 use Rattle.rv_isa.specs.Kinds.{width_of}
 use Rattle.rv_isa.specs.Operations.{format_of, instruction_of, of_branch}
 use Rattle.rv_isa.specs.Ranges.{IsIType, IsValidFormat}
+use Rattle.rv_isa.proofs.OperationsLemmas.{rebuilt}
 use Rattle.rv_isa_laws.specs.Bytes.{little_endian}
 use Rattle.rv_isa_laws.specs.Word.{Form, Immediate, Upper, form}
 use Rattle.rv_parcel.specs.declared.form.Compressed.{Compressed}
@@ -33,7 +34,7 @@ use Rattle.rv_pseudo_laws.specs.Valid.{fills_branch, fills_jump, fills_call, fil
 use Rattle.rv_pseudo_laws.proofs.FormatsLemmas.{branch_format}
 use Rattle.rv_pseudo_laws.proofs.FillingLemmas.{even}
 use Rattle.rv_filling_laws.specs.Parts.{fills_call_pair, IsEncodedPart}
-use Rattle.rv_filling_laws.proofs.FormsLemmas.{rebuilt, immediate_opcode, immediate_funct3, load_funct3, store_funct3, branch_funct3, upper_opcode, immediate_form, load_form, store_form, branch_form, upper_form, immediate_selectors, load_selectors, store_selectors, branch_selectors, upper_selector}
+use Rattle.rv_filling_laws.proofs.FormsLemmas.{immediate_opcode, immediate_funct3, load_funct3, store_funct3, branch_funct3, upper_opcode, immediate_form, load_form, store_form, branch_form, upper_form, immediate_selectors, load_selectors, store_selectors, branch_selectors, upper_selector}
 
 -- ---- words
 

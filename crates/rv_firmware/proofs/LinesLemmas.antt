@@ -1,8 +1,8 @@
 -- Cells of bytes that are cut into lines.
 
-use Rattle.std.proofs.Common.{◌≡◌, ◌∙◌, ℕ, zero, suc, ◌+◌, ◌<◌, ◌≤◌, List, [], ◌∷◌, ◌++◌, length, take, drop, get_or, ap, sym, refl, arith, append_assoc, append-nil}
+use Rattle.std.proofs.Common.{◌≡◌, ◌∙◌, ℕ, zero, suc, ◌+◌, ◌≤◌, List, [], ◌∷◌, ◌++◌, length, take, drop, ap, sym, refl, arith, append_assoc, append-nil}
 use Rattle.std.proofs.lemmas.Grind.{flat_map-append}
-use Rattle.std.proofs.lemmas.List.{drop-drop, length-drop, at_drop_more}
+use Rattle.std.proofs.lemmas.List.{drop-drop, length-drop}
 use Rattle.rv_firmware.specs.Blocks.{Block, cells_from, cells_of}
 
 -- the first bytes and those after them
@@ -44,10 +44,3 @@ line_added before line address at bytes starts is within =
     ∙ ap (λ cs. cells_of before ++ cs)
     (ap (λ cs. cs ++ cells_from (address + (at + count)) (drop (at + count) bytes)) here
     ∙ ap (λ cs. cells_from (address + at) (take count (drop at bytes)) ++ cs) (sym left) ∙ sym cut)
-
--- the next item of a list, which is another name of a field
-pub next_of : {X Y : Type 0} (F : List X → Y) (items list : List X) (i : ℕ) (x : X) → list ≡ items → i < length list →
-    x ≡ get_or list i x → F (drop i items) ≡ F (x ∷ drop (i + 1) items)
-next_of F items list i x same below is =
-    ap (λ l. F (drop i l)) (sym same) ∙ at_drop_more F list i x below
-    ∙ ap (λ y. F (y ∷ drop (i + 1) list)) (sym is) ∙ ap (λ l. F (x ∷ drop (i + 1) l)) same

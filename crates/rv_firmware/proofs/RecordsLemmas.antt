@@ -1,23 +1,11 @@
 -- The records of lines, in Intel HEX.
 
-use Rattle.std.proofs.Common.{◌≡◌, ◌∙◌, ℕ, ◌+◌, ◌*◌, ◌/◌, ◌%◌, ◌==◌, ◌≤◌, Bool, true, false, List, [], ◌∷◌, ◌++◌, length, ap, sym, refl, arith, append_assoc, append-nil, if◌then◌else◌}
-use Rattle.std.specs.List.{list_all, flat_map}
+use Rattle.std.proofs.Common.{◌≡◌, ◌∙◌, ℕ, ◌+◌, ◌*◌, ◌/◌, ◌%◌, ◌==◌, ◌≤◌, Bool, true, false, List, [], ◌∷◌, ◌++◌, length, ap, sym, refl, arith, if◌then◌else◌}
+use Rattle.std.specs.List.{list_all}
 use Rattle.std.proofs.lemmas.Bool.{and_parts, and_from, eqb-true, le-leb, leb-true}
-use Rattle.std.proofs.lemmas.Grind.{flat_map-append}
 use Rattle.std.proofs.lemmas.List.Folds.{list_all-append}
 use Rattle.rv_firmware.specs.Blocks.{Block, cells_from, cells_of, is_line}
-use Rattle.rv_firmware.specs.IntelHex.{HexRecord, record_line, line_records, base_records, base_record, data_record, loaded, is_record, records_from, number_of_pair, pair}
-
--- the text of a line's records
-pub line_text : (text mid new : List ℕ) (upper : ℕ) (b : Block) →
-    mid ≡ text ++ flat_map record_line (base_records upper (b.address / 65536)) → new ≡ mid ++ record_line (data_record b) →
-    new ≡ text ++ flat_map record_line (line_records upper b)
-line_text text mid new upper b h k =
-    let first = flat_map record_line (base_records upper (b.address / 65536)) in
-    let one = record_line (data_record b) in
-    k ∙ ap (λ t. t ++ one) h ∙ append_assoc text first one
-    ∙ ap (λ t. text ++ (first ++ t)) (sym (append-nil one))
-    ∙ ap (λ t. text ++ t) (sym (flat_map-append record_line (base_records upper (b.address / 65536)) (data_record b ∷ [])))
+use Rattle.rv_firmware.specs.IntelHex.{HexRecord, line_records, base_record, data_record, loaded, is_record, records_from, number_of_pair, pair}
 
 pair_number : (n : ℕ) → number_of_pair (pair n) ≡ n
 unfolding number_of_pair

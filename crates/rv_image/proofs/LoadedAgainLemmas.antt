@@ -1,9 +1,9 @@
 -- What is written is loaded again: the executable of a linked program has no fault, and its image is the one that was meant.
 
-use Rattle.std.proofs.Common.{◌≡◌, ℕ, ◌+◌, ◌*◌, ◌-◌, ◌%◌, ◌/◌, ◌≤◌, ◌<◌, ◌^◌, ◌==◌, nat_le, nat_lt, Bool, true, false, not, ◌&&◌, List, [], ◌∷◌, ◌++◌, length, drop, map, filter, flat_map, None, refl, ap, sym, ◌∙◌, append_assoc, arith, sum_by, if◌then◌else◌}
+use Rattle.std.proofs.Common.{◌≡◌, ℕ, ◌+◌, ◌*◌, ◌-◌, ◌%◌, ◌/◌, ◌≤◌, ◌<◌, ◌^◌, ◌==◌, nat_le, nat_lt, Bool, true, false, not, ◌&&◌, List, [], ◌∷◌, ◌++◌, length, drop, map, filter, flat_map, None, refl, ap, sym, ◌∙◌, append_assoc, arith, sum_by}
 use Rattle.std.proofs.lemmas.Bool.{le-ltb, ne_eqb, and_left, and_right, cond-true, cond-false}
-use Rattle.std.proofs.lemmas.Bool.Decides.{nat_tests}
 use Rattle.std.proofs.lemmas.List.{length-append}
+use Rattle.rv_list_laws.proofs.TruthLemmas.{flag_below, flags_fine}
 use Rattle.rv_fault.specs.declared.file_fault.FileFault.TheVariants.{Truncated, BadMagic, WrongClass, WrongMachine, BadTable, NotExecutable, MemoryLimit}
 use Rattle.rv_image.specs.declared.linked.Linked.{Linked as DeclaredLinked}
 use Rattle.rv_image_laws.specs.Linked.{Linked, IsLaidOut}
@@ -21,6 +21,8 @@ use Rattle.rv_elf_laws.specs.FirstFault.{first_true, header_tests, table_tests, 
 use Rattle.rv_image_laws.specs.FirstFault.{first_fault, load_tests, programs_tests, whole_tests, loaded_size, programs_from}
 use Rattle.rv_image_laws.specs.Executable.{Part, all_parts, parts_with_memory, has_memory, memory_size_of, header_of, program_of, program_bytes, exe_of, linked_image}
 use Rattle.rv_elf_laws.specs.FirstTrue.{first_true_none}
+use Rattle.rv_elf_laws.proofs.RecordsLemmas.{length-file_header}
+use Rattle.rv_elf_laws.proofs.SectionsLemmas.{not_past}
 use Rattle.rv_image.proofs.PartsLemmas.{AllFit, programs_read, length-programs}
 use Rattle.rv_image.proofs.ContentsLemmas.{Ascending, AllStand, extends, all_stand, filter_stand, filter_ascend}
 use Rattle.rv_image.proofs.SoundLemmas.{programs_sound, filter_loads, segments_same, loaded_parts, filter_memory}
@@ -32,10 +34,6 @@ pub record HasHeader (h : FileHeader) (file : List ℕ) : Type 0 where
   pub order : number_in ei_data 0 file ≡ elfdata2lsb
   pub version : number_in ei_version 0 file ≡ ev_current
   pub fields : file_header_in file ≡ h
-
-small_flag : (b : Bool) → (if b then 1 else 0) < 2 ^ 32
-small_flag true = omega arith
-small_flag false = omega arith
 
 header_reads : (l : Linked) (rest : List ℕ) → l.map.entry < 2 ^ 64 → length (parts_with_memory l) < 2 ^ 16 → HasHeader (header_of l) (file_header_bytes (header_of l) ++ rest)
 unfolding file_header_bytes number_in
@@ -51,7 +49,7 @@ header_reads l rest small few = record {
     e_entry = small;
     e_phoff = omega arith;
     e_shoff = omega arith;
-    e_flags = small_flag l.rvc;
+    e_flags = flag_below l.rvc;
     e_ehsize = omega arith;
     e_phentsize = omega arith;
     e_phnum = few;
@@ -60,17 +58,6 @@ header_reads l rest small few = record {
     e_shstrndx = omega arith;
   });
 }
-
-length-header : (h : FileHeader) → length (file_header_bytes h) ≡ 64
-unfolding file_header_bytes
-length-header h = refl
-
-flags_fine : (b : Bool) → not ((if b then 1 else 0) / 2 % 8 == 0) ≡ false
-flags_fine true = refl
-flags_fine false = refl
-
-within : (file : List ℕ) (place size : ℕ) → place + size ≤ length file → is_past file place size ≡ false
-within file place size h = grind (arith, nat_tests)
 
 header_sound : (l : Linked) (file : List ℕ) → HasHeader (header_of l) file → 64 ≤ length file → first_true (header_tests file) ≡ None
 unfolding header_tests
@@ -98,7 +85,7 @@ table_sound l file reads few long =
     let section_size : (not (section_count file == 0) && not (number_in e_shentsize 0 file == 64)) ≡ false = and_left _ _ (ap (λ h. not (h.e_shnum == 0)) reads.fields) in
     let names : (not (names_section file == 0) && nat_le (section_count file) (names_section file)) ≡ false = and_left _ _ (ap (λ h. not (h.e_shstrndx == 0)) reads.fields) in
     let program_end : is_past file (number_in e_phoff 0 file) (56 * program_count file) ≡ false =
-    ap (λ h. is_past file h.e_phoff (56 * h.e_phnum)) reads.fields ∙ within file 64 (56 * length (parts_with_memory l)) long in
+    ap (λ h. is_past file h.e_phoff (56 * h.e_phnum)) reads.fields ∙ not_past file 64 (56 * length (parts_with_memory l)) long in
     let section_end : is_past file (number_in e_shoff 0 file) (64 * section_count file) ≡ false = ap (λ h. is_past file (number_in e_shoff 0 file) (64 * h.e_shnum)) reads.fields in
     (λ i. first_true ((sections i, BadTable) ∷ (programs_few i, BadTable) ∷ (program_size i, BadTable) ∷ (section_size i, BadTable) ∷ (names i, BadTable)
     ∷ (program_end i, Truncated) ∷ (section_end i, Truncated) ∷ []))
@@ -183,7 +170,7 @@ few_parts l = length-filtered (all_parts l)
 pub short : (l : Linked) → length (file_header_bytes (header_of l) ++ flat_map (program_bytes l.map.text.start) (parts_with_memory l)) ≤ 0x1000
 short l =
     let table = flat_map (program_bytes l.map.text.start) (parts_with_memory l) in
-    omega (arith, length-append (file_header_bytes (header_of l)) table, length-header (header_of l), length-programs l.map.text.start (parts_with_memory l), few_parts l)
+    omega (arith, length-append (file_header_bytes (header_of l)) table, length-file_header (header_of l), length-programs l.map.text.start (parts_with_memory l), few_parts l)
 
 -- the file is the header, then the program headers, then more
 file_is : (l : Linked) → (extra : List ℕ) × (exe_of l ≡ file_header_bytes (header_of l) ++ (flat_map (program_bytes l.map.text.start) (parts_with_memory l) ++ extra))
@@ -205,7 +192,7 @@ module _ (l : Linked) (laid : IsLaidOut l) where
   long =
       let whole = file_is l in
       let table = flat_map (program_bytes l.map.text.start) (parts_with_memory l) in
-      rw whole.1 (omega (arith, length-append (file_header_bytes (header_of l)) (table ++ whole.0), length-append table whole.0, length-header (header_of l), length-programs l.map.text.start (parts_with_memory l)))
+      rw whole.1 (omega (arith, length-append (file_header_bytes (header_of l)) (table ++ whole.0), length-append table whole.0, length-file_header (header_of l), length-programs l.map.text.start (parts_with_memory l)))
 
   pub programs_are : program_headers (exe_of l) ≡ map (program_of l.map.text.start) (parts_with_memory l)
   programs_are =

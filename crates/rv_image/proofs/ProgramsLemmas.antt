@@ -42,12 +42,6 @@ pub any_step : (test : ProgramHeader → Bool) (count i place : ℕ) (file : Lis
 any_step test count i place file below other =
     ap (list_any test) (programs_from_cut count i place file below) ∙ ap (λ b. b || list_any test (programs_from (count - (i + 1)) (place + 56 * (i + 1)) file)) other
 
--- a search that ends with this header
-pub any_here : (test : ProgramHeader → Bool) (count i place : ℕ) (file : List ℕ) → i < count → test (program_header_at (place + 56 * i) file) ≡ true →
-    list_any test (programs_from (count - i) (place + 56 * i) file) ≡ true
-any_here test count i place file below yes_here =
-    ap (list_any test) (programs_from_cut count i place file below) ∙ ap (λ b. b || list_any test (programs_from (count - (i + 1)) (place + 56 * (i + 1)) file)) yes_here
-
 -- what all headers so far have, and one more has
 pub all_step : (test : ProgramHeader → Bool) (i place : ℕ) (file : List ℕ) → list_all test (programs_from i place file) ≡ true → test (program_header_at (place + 56 * i) file) ≡ true →
     list_all test (programs_from (i + 1) place file) ≡ true

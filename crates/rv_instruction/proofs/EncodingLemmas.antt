@@ -77,7 +77,7 @@ one_instruction (Joined k i j) = refl
 pub sum_both : (a b c d : ℕ) → a ≡ b → c ≡ d → a + c ≡ b + d
 sum_both a b c d e f = ap (λ n. n + c) e ∙ ap (λ n. b + n) f
 
-encoded_size : (i : Inst) (w : ℕ) (bytes : List ℕ) → IsEncodedIn i w bytes → length bytes ≡ w
+pub encoded_size : (i : Inst) (w : ℕ) (bytes : List ℕ) → IsEncodedIn i w bytes → length bytes ≡ w
 encoded_size i w bytes (inl (four, is)) = ap length is ∙ sym four
 encoded_size i w bytes (inr (two, (q, short, is))) = ap length is ∙ sym two
 
@@ -178,11 +178,6 @@ pub shapes_more : (i : ℕ) (ts : List Template) (t : Template) (found : List Co
 shapes_more i ts t found e below at so one =
     map-append shape_in found (e ∷ []) ∙ ap (λ l. l ++ shape_in e ∷ []) so ∙ ap (λ x. map (λ t. shape_of (part_of t)) (take i ts) ++ x ∷ []) one
     ∙ sym (map-append (λ t. shape_of (part_of t)) (take i ts) (t ∷ [])) ∙ ap (map (λ t. shape_of (part_of t))) (sym (take_next i ts t below at))
-
-pub codable_at : (i : ℕ) (ts : List Template) (t : Template) → i < length ts → t ≡ slice_index_or ts i t → AreCodableEach ts → IsCodable (part_of t)
-codable_at i [] t below at codable = absurd (omega arith)
-codable_at zero (x ∷ xs) t below at (one, rest) = subst (λ y. IsCodable (part_of y)) (sym at) one
-codable_at (suc i) (x ∷ xs) t below at (one, rest) = codable_at i xs t (omega arith) at rest
 
 pub coded_more : (rvc : Bool) (i : ℕ) (ts : List Template) (t d : Template) (found : List Coded) (e : Coded) → i < length ts → t ≡ slice_index_or ts i d
     → AreCodedParts None rvc (map part_of (take i ts)) (coded_by found) → IsCodedPart None rvc (part_of t) (encoded_bytes e.encoded)

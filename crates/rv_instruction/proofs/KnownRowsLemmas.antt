@@ -21,6 +21,7 @@ use Rattle.rv_parse_laws.specs.Syntax.{with_constant}
 use Rattle.rv_pseudo_laws.specs.Code.{Part, Closed, Open, Joined, Constants, i_type, s_type, u_type, shift_by, jalr, by_number, signed_12, upper_20, constant_number, by_constant, unary, named_form}
 use Rattle.rv_pseudo_laws.specs.Filled.{are_closed}
 use Rattle.rv_pseudo_laws.specs.Li.{li}
+use Rattle.rv_pseudo_laws.proofs.FilledLemmas.{all_closed}
 use Rattle.rv_pseudo.specs.declared.template.Template.{Template}
 use Rattle.rv_pseudo.specs.Faults.{takes_target}
 use Rattle.rv_pseudo.specs.Templates.{all_templates, number_operand, statement_with, operand, form_told}
@@ -106,10 +107,6 @@ rows_by _ (Some PcrelLo) c e = refl
 
 -- ---- no field is open
 
-pub closed_map : (is : List Inst) → are_closed (map Closed is) ≡ true
-closed_map [] = refl
-closed_map (i ∷ is) = closed_map is
-
 each_back : (ps : List Part) → are_closed ps ≡ true → map part_of (all_templates ps) ≡ ps
 each_back [] closed = refl
 each_back (Closed i ∷ ps) closed = ap (λ t. Closed i ∷ t) (each_back ps closed)
@@ -144,7 +141,7 @@ form_free (Some form) = refl
 
 -- of statements without an expression
 pub plain_closed : (p : Plain) (c : Constants) (rvc : Bool) (bytes : ℕ) → are_free (pseudo.parts_of c rvc bytes (plain_of p)) ≡ true
-plain_closed (plains.Unary operation rd rs) c rvc bytes = closed_map (unary rvc operation rd rs)
+plain_closed (plains.Unary operation rd rs) c rvc bytes = all_closed (unary rvc operation rd rs)
 plain_closed (plains.Parcel operation a b) c rvc bytes = ap are_free (bare_row operation a b c rvc bytes) ∙ form_free (named_form c (mnemonics.Parcel operation) (parcel_registers operation a b))
 plain_closed plains.Ecall c rvc bytes = refl
 plain_closed _ c rvc bytes = refl
@@ -185,7 +182,7 @@ upper_free (Some PcrelLo) number make e known = absurd (cc)
 
 li_free : (rd : ℕ) (o : Option ℤ) → are_free (option_map (λ k. map Closed (li rd k)) o) ≡ true
 li_free rd None = refl
-li_free rd (Some k) = closed_map (li rd k)
+li_free rd (Some k) = all_closed (li rd k)
 
 constant_free : (form : Option Mnemonic) (rd rs1 : ℕ) (function : Option Function) (number : Option ℤ) (e : Expression) → is_known function number ≡ true
     → are_free (by_constant (λ t. number) form rd rs1 (number_operand function e)) ≡ true

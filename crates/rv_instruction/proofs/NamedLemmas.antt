@@ -21,20 +21,19 @@ use Rattle.rv_statement_laws.specs.declared.pseudo.Function.{Function}
 use Rattle.rv_statement_laws.specs.declared.pseudo.Function.TheVariants.{Hi, Lo, PcrelHi, PcrelLo}
 use Rattle.rv_statement.specs.declared.statement.Operation.{Operation}
 use Rattle.rv_statement.specs.declared.statement.Operation.TheVariants as operations
-use Rattle.rv_statement.specs.declared.statement.Plain.{Plain}
-use Rattle.rv_statement.specs.declared.statement.Plain.TheVariants as plains
 use Rattle.rv_statement_laws.specs.Statement.{Expression, Statement, StatementKind, Label, Numbered, Instruction, Directs, Operand, Register, Value, Applied, Target}
-use Rattle.rv_statement.specs.View.{plain_of, parcel_registers, parcel_operands, shaped}
+use Rattle.rv_statement.specs.View.{parcel_operands, shaped}
 use Rattle.rv_pseudo_laws.specs.Code.{Closed, Constants, constant_number, by_form, parcel_form, named_form, code}
 use Rattle.rv_pseudo_laws.specs.Filled.{are_closed}
 use Rattle.rv_pseudo_laws.specs.InstructionFaults.{Worth, Number, number_faults, low_faults, operand_faults, else_unplaced, has_row, faults}
 use Rattle.rv_pseudo_laws.proofs.ParcelsLemmas.{named_code}
 use Rattle.rv_pseudo.specs.Templates.{statement_with, operand, asked_bytes}
-use Rattle.rv_source_laws.specs.Lines.{constant_of, form_in}
+use Rattle.rv_source_laws.specs.Lines.{form_in}
 use Rattle.rv_source_laws.specs.Compressed.{names_parcel}
 use Rattle.rv_source_laws.specs.Sizes.{near_forms}
 use Rattle.rv_assemble_laws.specs.Coded.{constants, joined, IsCodedPart, AreCodedParts}
 use Rattle.rv_assemble_laws.specs.InstructionFaults.{instruction_faults, worth, worths}
+use Rattle.rv_assemble_laws.proofs.InstructionFaultsLemmas.{worth_is}
 use Rattle.rv_instruction.specs.declared.encoded.Encoded.{Encoded}
 use Rattle.rv_instruction.specs.declared.encoded.Coded.{Coded}
 use Rattle.rv_instruction.specs.Code.{encoded_bytes, encoded_instructions, coded_by, whole, alone_coded, HasCode, Codes}
@@ -91,10 +90,6 @@ same_operands v w shapes.Registers operation a b o same = behind_registers v w (
 same_operands v w shapes.Number operation a b o same = behind_registers v w (take (length (register_sets operation)) (a ∷ b ∷ [])) (o ∷ []) (same, tt)
 same_operands v w shapes.Target operation a b o same = behind_registers v w (take (length (register_sets operation)) (a ∷ b ∷ [])) (o ∷ []) (same, tt)
 
-pub same_registers : (v w : Constants) (rs : List ℕ) → AllByRecursion (IsSame v w) (map Register rs)
-same_registers v w [] = tt
-same_registers v w (r ∷ rs) = (refl, same_registers v w rs)
-
 shaped_same : (v : Constants) (shape : OperandShape) (e : Expression) → constant_number v (shaped shape e) ≡ constant_number (λ t. v e) (shaped shape e)
 shaped_same v shapes.Registers e = refl
 shaped_same v shapes.Number e = refl
@@ -124,13 +119,6 @@ pub statement_form : (operation : Operation) (function : Option Function) (v : C
     → form_in v kind ≡ form_in (λ t. o) kind
 statement_form operation function v e kind o says is =
     subst (λ k. form_in v k ≡ form_in (λ t. o) k) (sym says) (form_same operation function v e ∙ ap (λ n. form_in (λ t. n) (statement_with operation function e)) (sym is))
-
--- of a statement without an expression, whatever constants there are
-pub plain_form : (p : Plain) (v w : Constants) → form_in v (plain_of p) ≡ form_in w (plain_of p)
-plain_form (plains.Parcel operation a b) v w =
-    named_same v w (Parcel operation) (parcel_registers operation a b) (same_registers v w (take (length (register_sets operation)) (a ∷ b ∷ [])))
-plain_form plains.Ecall v w = refl
-plain_form _ v w = refl
 
 -- ---- no fault
 
@@ -183,10 +171,6 @@ named_sound v w worth (Parcel operation) operands form named =
     ∙ ap (λ row. faulty_if (not (is_some row)) unsupported_here) (named_code v false 4 (Parcel operation) operands form named)
 named_sound v w worth mnemonic operands form named = absurd (cc)
 
-constant_is_worth : (l : Primary → Bool) (v : values.Value) (k : ℤ) → constant_of v ≡ Some k → worth l v ≡ Number k
-constant_is_worth l (values.Constant n) k e = ap (λ o. elim o [ None ↦ Number k | Some m ↦ Number m ]) e
-constant_is_worth l _ k e = absurd (cc)
-
 -- ---- its code
 
 named_near : (rvc : Bool) (v : Constants) (mnemonic : Mnemonic) (operands : List Operand) (form : Compressed) → named_form v mnemonic operands ≡ Some form
@@ -216,7 +200,7 @@ has_named rvc bytes v (Numbered number) e form named one is = absurd (cc)
 has_named rvc bytes v (Directs directive) e form named one is = absurd (cc)
 
 no_fault : (v : Expression → values.Value) (l : Primary → Bool) (kind : StatementKind) (form : Compressed) → form_in (constants v) kind ≡ Some form → instruction_faults v l kind ≡ []
-no_fault v l (Instruction mnemonic operands) form named = named_sound (constants v) (worths v l) (λ x k. constant_is_worth l (v x) k) mnemonic operands form named
+no_fault v l (Instruction mnemonic operands) form named = named_sound (constants v) (worths v l) (λ x k. worth_is l (v x) k) mnemonic operands form named
 no_fault v l (Label name) form named = refl
 no_fault v l (Numbered number) form named = refl
 no_fault v l (Directs directive) form named = refl

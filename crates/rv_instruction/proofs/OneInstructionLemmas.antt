@@ -31,10 +31,6 @@ use Rattle.rv_instruction.specs.Code.{encoded_bytes, alone, worth_for, AreCodabl
 use Rattle.rv_instruction.proofs.RangesLemmas.{plain_codable, constant_codable}
 use Rattle.rv_instruction.proofs.StatementKindsLemmas.{AreAnswers, answered, operand_found}
 
-pub some_more : {X : Type 0} (P Q : X → Type 0) → ((x : X) → P x → Q x) → (o : Option X) → IfSome o P → IfSome o Q
-some_more P Q f None h = tt
-some_more P Q f (Some x) h = f x h
-
 -- ---- without an expression
 
 pub plain_valid : (p : Plain) (found : Option Inst) → ((c : Constants) → AreInRange c (plain_of p)) → IsBareOne (plain_of p) (says_more p) found → IfSome found (λ i. IsValid i)

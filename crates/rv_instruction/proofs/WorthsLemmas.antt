@@ -1,7 +1,6 @@
 -- What values are worth to an instruction.
 
-use Rattle.std.proofs.Common.{◌≡◌, Bool, Option, Some, None, option_map, refl, ap}
-use Rattle.std.specs.Prelude.{is_some}
+use Rattle.std.proofs.Common.{◌≡◌, Bool, Option, Some, None, refl}
 use Rattle.rv_text_laws.specs.Expression.{Primary}
 use Rattle.rv_text_laws.specs.Values as values
 use Rattle.rv_statement_laws.specs.declared.pseudo.Function.TheVariants.{Hi, Lo, PcrelHi, PcrelLo}
@@ -11,10 +10,6 @@ use Rattle.rv_pseudo.specs.Faults.{constant_in, faults_of}
 use Rattle.rv_source_laws.specs.Lines.{constant_of}
 use Rattle.rv_assemble_laws.specs.InstructionFaults.{worth}
 use Rattle.rv_instruction.specs.Code.{worth_for}
-
-pub some_mapped : {X Y : Type 0} (f : X → Y) (o : Option X) (p : Option Y) → option_map f o ≡ p → is_some o ≡ is_some p
-some_mapped f None p e = ap is_some e
-some_mapped f (Some x) p e = ap is_some e
 
 pub constant_worth : (l : Primary → Bool) (v : values.Value) → constant_in (worth l v) ≡ constant_of v
 constant_worth l (values.Constant n) = refl

@@ -26,7 +26,7 @@ pub(crate) fn signed(number: u64) -> i64
 }
 
 /// Whether a symbol of the next statement stands somewhere in its source.
-#[tactic(auto, using(crate::proofs::WorthsLemmas::some_mapped))]
+#[tactic(auto, using(rv_list_laws::proofs::OptionsLemmas::is_some_by_map))]
 fn is_defined<'a>(scope: &Scope<'_, 'a>, symbol: Symbol<'a>) -> bool
     ensures { (index : ℕ) → IsFilled (scope.now).unit.now → IsScope scope.now index
         → result ≡ is_some

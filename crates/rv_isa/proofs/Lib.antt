@@ -1,1 +1,3 @@
 pub mod AbiNamesLemmas
+pub mod KindsLemmas
+pub mod OperationsLemmas

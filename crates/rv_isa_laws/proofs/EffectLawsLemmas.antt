@@ -4,6 +4,7 @@
 use Rattle.std.proofs.Common.{◌≡◌, ℕ, ◌+◌, ◌%◌, ◌^◌, ◌<◌, Bool, true, false, List, Option, refl, length, get_or, set, arith}
 use Rattle.std.specs.Prelude.{slice_index, if◌then◌else◌, ◌==◌}
 use Rattle.std.proofs.lemmas.List.{length-set, get_or-set_same, get_or-set_other, set_past}
+use Rattle.rv_list_laws.proofs.NumbersLemmas.{mod_below}
 use Rattle.rv_isa.specs.declared.instruction.Inst.{Inst}
 use Rattle.rv_isa.specs.declared.instruction.Atomic.{Atomic as AtomicOperands}
 use Rattle.rv_isa.specs.declared.instruction.Format.{Format}
@@ -14,9 +15,6 @@ use Rattle.rv_isa.specs.Operations.{format_of}
 use Rattle.rv_isa_laws.specs.Hart.{Hart, Reservation, with_register}
 use Rattle.rv_isa_laws.specs.Kept.{GoesOn, Kept}
 use Rattle.rv_isa_laws.specs.Meaning.{atomic_effect, format_effect, effect, with_result, with_reservation}
-
-wraps : (n : ℕ) → n % 2 ^ 64 < 2 ^ 64
-wraps n = omega arith
 
 count_put : (b : Bool) (xs : List ℕ) (r v : ℕ) → length (if b then xs else set xs r v) ≡ length xs
 count_put true xs r v = refl
@@ -34,9 +32,9 @@ kept_at : (h : Hart) (rd v pc : ℕ) → Kept h (record (with_register h rd (v %
 kept_at h rd v pc = record {
   input = refl;
   console = refl;
-  pc = wraps pc;
+  pc = mod_below pc;
   count = count_put (rd == 0) h.registers rd (v % 2 ^ 64);
-  below = below_put (rd == 0) h.registers rd (v % 2 ^ 64) (wraps v);
+  below = below_put (rd == 0) h.registers rd (v % 2 ^ 64) (mod_below v);
 }
 
 kept_result : (bytes : ℕ) (h : Hart) (rd v : ℕ) → Kept h (with_result bytes h rd v)
@@ -46,13 +44,13 @@ kept_reserved : (bytes : ℕ) (h : Hart) (r : Option Reservation) (rd v : ℕ) �
 kept_reserved bytes h r rd v = record {
   input = refl;
   console = refl;
-  pc = wraps (h.pc + bytes);
+  pc = mod_below (h.pc + bytes);
   count = count_put (rd == 0) h.registers rd (v % 2 ^ 64);
-  below = below_put (rd == 0) h.registers rd (v % 2 ^ 64) (wraps v);
+  below = below_put (rd == 0) h.registers rd (v % 2 ^ 64) (mod_below v);
 }
 
 kept_pc : (h : Hart) (pc : ℕ) → Kept h (record h { pc = pc % 2 ^ 64 })
-kept_pc h pc = record { input = refl; console = refl; pc = wraps pc; count = refl; below = λ all. all }
+kept_pc h pc = record { input = refl; console = refl; pc = mod_below pc; count = refl; below = λ all. all }
 
 atomic_keeps : (operation : AtomicOperation) (double : Bool) (x : AtomicOperands) (bytes : ℕ) (h : Hart) → GoesOn (Kept h) (atomic_effect operation double x bytes h)
 atomic_keeps Sc double x bytes h = kept_reserved bytes h _ x.rd _

@@ -2,3 +2,4 @@ pub mod EffectLawsLemmas
 pub mod ConsoleLemmas
 pub mod ReadingsLemmas
 pub mod ReaderLemmas
+pub mod BytesLemmas

@@ -2,6 +2,7 @@
 use Rattle.std.proofs.Common.{◌≡◌, ℕ, suc, ◌+◌, ◌-◌, ◌*◌, ◌/◌, ◌%◌, ◌^◌, ◌<◌, ℤ, pos, negsuc, Bool, true, false, List, [], ◌∷◌, Option, Some, None, nat_eq, nat_lt, if◌then◌else◌, slice_index_or, refl, sym, ◌∙◌, ap, subst, arith, ◌↔◌, lit<, zero}
 use Rattle.std.proofs.lemmas.Bool.{eq-eqb}
 use Rattle.std.specs.Int.{from_bool}
+use Rattle.rv_list_laws.proofs.TruthLemmas.{bit_below}
 use Rattle.rv_isa.specs.declared.instruction.RType.{RType}
 use Rattle.rv_isa.specs.declared.instruction.IType.{IType}
 use Rattle.rv_isa.specs.declared.instruction.Shift.{Shift}
@@ -416,10 +417,6 @@ jump-case opcode x make below v named w e =
     let same : jump_of w ≡ x = rw (g, s.0, f.rd_is) refl in
     via opcode (w / 2 ^ 12 % 8) (w / 2 ^ 27) (w / 2 ^ 26) (w / 2 ^ 25) w (make (jump_of w)) (make x) f.opcode_is refl refl refl refl (named (w / 2 ^ 12 % 8) (w / 2 ^ 27) (w / 2 ^ 26) (w / 2 ^ 25) w) (ap make same)
 
-bit-below : (b : Bool) → from_bool b < 2
-bit-below true = lit< tt
-bit-below false = lit< tt
-
 bit-back : (b : Bool) → nat_eq (from_bool b) 1 ≡ b
 bit-back true = refl
 bit-back false = refl
@@ -430,8 +427,8 @@ memory-case : (opcode funct3 funct5 : ℕ) (x : Atomic) (make : Atomic → Inst)
 memory-case opcode funct3 funct5 x make a b v named w e =
     let r : ℕ = from_bool x.release in
     let q : ℕ = from_bool x.acquire in
-    let rb : r < 2 = bit-below x.release in
-    let qb : q < 2 = bit-below x.acquire in
+    let rb : r < 2 = bit_below x.release in
+    let qb : q < 2 = bit_below x.acquire in
     let f : Fields w opcode x.rd funct3 x.rs1 x.rs2 (r + q * 2 + funct5 * 4) = fields w opcode x.rd funct3 x.rs1 x.rs2 (r + q * 2 + funct5 * 4) a v.0 b v.1 v.2 (omega (arith, e)) in
     let g : w / 2 ^ 25 % 2 ≡ r = omega (arith, f.funct7_is, rb, qb) in
     let h : w / 2 ^ 26 % 2 ≡ q = omega (arith, f.funct7_is, rb, qb) in
@@ -445,8 +442,8 @@ reserve-case : (opcode funct3 funct5 : ℕ) (x : Reserve) (make : Reserve → In
 reserve-case opcode funct3 funct5 x make a b v named w e =
     let r : ℕ = from_bool x.release in
     let q : ℕ = from_bool x.acquire in
-    let rb : r < 2 = bit-below x.release in
-    let qb : q < 2 = bit-below x.acquire in
+    let rb : r < 2 = bit_below x.release in
+    let qb : q < 2 = bit_below x.acquire in
     let f : Fields w opcode x.rd funct3 x.rs1 0 (r + q * 2 + funct5 * 4) = fields w opcode x.rd funct3 x.rs1 0 (r + q * 2 + funct5 * 4) a v.0 b v.1 (lit< tt) (omega (arith, e)) in
     let g : w / 2 ^ 25 % 2 ≡ r = omega (arith, f.funct7_is, rb, qb) in
     let h : w / 2 ^ 26 % 2 ≡ q = omega (arith, f.funct7_is, rb, qb) in

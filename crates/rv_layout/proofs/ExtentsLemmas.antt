@@ -1,9 +1,8 @@
 -- Which section a statement stands in, and its faults there.
 
-use Rattle.std.proofs.Common.{◌≡◌, ℕ, zero, suc, ◌+◌, ◌<◌, true, List, [], ◌∷◌, length, map, get_or, Some, refl, sym, ap, ◌∙◌, subst, arith}
-use Rattle.std.specs.Prelude.{slice_index_or, slice_get}
+use Rattle.std.proofs.Common.{◌≡◌, ℕ, ◌+◌, ◌<◌, true, List, length, map, get_or, sym, ap, ◌∙◌, subst}
 use Rattle.std.proofs.lemmas.List.{length-map}
-use Rattle.std.proofs.lemmas.Option.{slice_get-get_or}
+use Rattle.std.proofs.lemmas.Option.{slice_get-get_or, slice_get_within, same_Some}
 use Rattle.rv_statement_laws.specs.Statement.{Statement, Numbered}
 use Rattle.rv_unit_laws.specs.Sections.{Section}
 use Rattle.rv_unit_laws.specs.Tables.{Tables, SectionOffset as Standing, tables, value_by_tables}
@@ -15,31 +14,18 @@ use Rattle.rv_unit.specs.Unit.{said, IsFilled}
 use Rattle.rv_assemble_laws.specs.InstructionFaults.{instruction_faults, is_label}
 use Rattle.rv_assemble_laws.specs.Refusals.{code_faults_at}
 use Rattle.rv_layout.specs.Code.{IsExtentAt}
-use Rattle.rv_layout.proofs.StandingLemmas.{StandsAt, stands_at, located_at, got_inside}
+use Rattle.rv_layout.proofs.StandingLemmas.{StandsAt, stands_at, located_at}
 
 -- ---- the section of a statement
 
-pub got_map : {A B : Type 0} (f : A → B) (xs : List A) (i : ℕ) (d : A) → i < length xs → slice_get (map f xs) i ≡ Some (f (get_or xs i d))
-got_map f [] i d h = absurd (omega arith)
-got_map f (x ∷ xs) zero d h = refl
-got_map f (x ∷ xs) (suc i) d h = got_map f xs i d (omega arith)
-
-pub read_map : {A B : Type 0} (f : A → B) (xs : List A) (i : ℕ) (d : A) (e : B) → i < length xs → slice_index_or (map f xs) i e ≡ f (get_or xs i d)
-read_map f [] i d e h = absurd (omega arith)
-read_map f (x ∷ xs) zero d e h = refl
-read_map f (x ∷ xs) (suc i) d e h = read_map f xs i d e (omega arith)
-
-some_same : {A : Type 0} (a b : A) → Some a ≡ Some b → a ≡ b
-some_same a b e = cc
-
 pub home_at : (u : SourceUnit) (i : ℕ) (s : Statement) (p : SectionOffset) (e : Extent) → StandsAt u i s p → IsExtentAt u.tables.extents.items p.section e → extent_section e ≡ (located_at (said u) i s).home
-home_at u i s p e at there = some_same (extent_section e) (located_at (said u) i s).home (sym there.section ∙ at.home)
+home_at u i s p e at there = same_Some (extent_section e) (located_at (said u) i s).home (sym there.section ∙ at.home)
 
 -- the section of a statement is one of the unit's
 pub stands_inside : (u : SourceUnit) (i : ℕ) (s : Statement) (p : SectionOffset) → StandsAt u i s p → p.section < length u.tables.extents.items
 stands_inside u i s p at =
     subst (λ n. p.section < n) (length-map u.tables.extents.items extent_section)
-    (got_inside (map extent_section u.tables.extents.items) p.section (located_at (said u) i s).home at.home)
+    (slice_get_within (map extent_section u.tables.extents.items) p.section (located_at (said u) i s).home at.home)
 
 pub place_inside : (u : SourceUnit) (i : ℕ) (d p : SectionOffset) → IsFilled u → i < length (said u) → p ≡ get_or u.places.items i d → p.section < length u.tables.extents.items
 place_inside u i d p filled inside is =

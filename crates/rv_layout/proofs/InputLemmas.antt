@@ -5,6 +5,10 @@ use Rattle.std.specs.Prelude.{slice_get, pos, if◌then◌else◌}
 use Rattle.std.specs.Int.{w64, int_wrap}
 use Rattle.std.specs.List.{AllByRecursion}
 use Rattle.std.proofs.lemmas.List.{length-map}
+use Rattle.rv_list_laws.proofs.NumbersLemmas.{eq_below}
+use Rattle.std.proofs.lemmas.Option.{slice_get_within}
+use Rattle.rv_list_laws.proofs.ElementsLemmas.{get_some}
+use Rattle.rv_list_laws.proofs.EachLemmas.{get_each}
 use Rattle.rv_text_laws.specs.Values.{Value, Symbolic}
 use Rattle.rv_text_laws.specs.Values as values
 use Rattle.rv_statement_laws.specs.Statement.{Statement, StatementKind, Label, Numbered, Instruction, Directs, Expression, Operand}
@@ -25,21 +29,10 @@ use Rattle.rv_source_laws.specs.Sizes.{Near, near_forms, near_at, near_value, ne
 use Rattle.rv_source_laws.proofs.HomesLemmas.{IsHomeIn, homes_from}
 use Rattle.rv_assemble_laws.proofs.ItemSectionsLemmas.{item_section}
 use Rattle.rv_layout.specs.Measure.{IsMeasured}
-use Rattle.rv_layout.proofs.SeenLemmas.{Found, other, found_none, items_count}
-use Rattle.rv_layout.proofs.StandingLemmas.{got_inside, stated_length}
+use Rattle.rv_layout.proofs.SeenLemmas.{Found, found_none, items_count}
+use Rattle.rv_layout.proofs.StandingLemmas.{stated_length}
 
 -- ---- lists
-
-got_at : {A : Type 0} (xs : List A) (i : ℕ) → i < length xs → (x : A) × (slice_get xs i ≡ Some x)
-got_at [] i inside = absurd (omega (arith, inside))
-got_at (x ∷ xs) zero inside = (x, refl)
-got_at (x ∷ xs) (suc i) inside = got_at xs i (let h : suc i < suc (length xs) = inside in omega (arith, h))
-
-all_got : {A : Type 0} (P : A → Type 0) (xs : List A) (i : ℕ) (x : A) → slice_get xs i ≡ Some x → AllByRecursion P xs → P x
-all_got P [] zero x e h = absurd (cc)
-all_got P [] (suc i) x e h = absurd (cc)
-all_got P (y ∷ ys) zero x e h = let same : y ≡ x = cc in subst P same h.0
-all_got P (y ∷ ys) (suc i) x e h = all_got P ys i x e h.1
 
 -- the item of a statement
 item_got : (t : Tables) (all xs : List Located) (ls : List ℕ) (i : ℕ) (s : Located) → length ls ≡ length xs → slice_get xs i ≡ Some s
@@ -68,7 +61,7 @@ found_got zero k t (s ∷ ss) =
 found_got (suc j) k t (s ∷ ss) =
     let less : k < suc j + k = omega arith in
     let same : suc j + k ≡ j + suc k = omega arith in
-    ap (λ b. if b then Some (located_now 1 k t s) else Found (suc j + k) (located_from 1 (suc k) (after t k s.kind) ss)) (other k (suc j + k) less)
+    ap (λ b. if b then Some (located_now 1 k t s) else Found (suc j + k) (located_from 1 (suc k) (after t k s.kind) ss)) (eq_below k (suc j + k) less)
     ∙ ap (λ n. Found n (located_from 1 (suc k) (after t k s.kind) ss)) same
     ∙ found_got j (suc k) (after t k s.kind) ss
 
@@ -142,7 +135,7 @@ module _ (t : Tables) (ss : List Statement) (ls : List ℕ) (count : length ls �
       let there = found n refl in
       let got = found_index ss n.ordinal there.0 there.1 in
       let item = item_got t all all ls (n.ordinal - 1) there.0 count got in
-      let inside = got_inside all (n.ordinal - 1) there.0 got in (
+      let inside = slice_get_within all (n.ordinal - 1) there.0 got in (
         subst (λ k. n.ordinal - 1 < k) (sym (items_count t all all ls count)) inside,
         λ b. ap (λ (x : Item). x.section) item.1 ∙ kind_section t all there.0 item.0 there.0.kind ∙ there.2,
       )
@@ -163,15 +156,15 @@ module _ (t : Tables) (ss : List Statement) (ls : List ℕ) (count : length ls �
   within : (sections : List Section) → AllByRecursion (IsHomeIn (λ file. sections)) all → (i : ℕ) → i < length items → TargetsItsSection items (length sections) (item_at items i)
   within sections homes i inside =
       let inside' : i < length all = subst (λ k. i < k) (items_count t all all ls count) inside in
-      let got = got_at all i inside' in
+      let got = get_some all i inside' in
       let s = got.0 in
       let item = item_got t all all ls i s count got.1 in
-      let home = all_got (IsHomeIn (λ file. sections)) all i s got.1 homes in
+      let home = get_each (IsHomeIn (λ file. sections)) all i s got.1 homes in
       let some : 0 < length items = omega (arith, inside) in
       let stands : Stands s (item_at items i) = subst (Stands s) (sym item.1) (stand s item.0 s.kind some) in
       let own : (item_at items i).section ≡ s.section = ap (λ (x : Item). x.section) item.1 ∙ kind_section t all s item.0 s.kind in
       record {
-        in_section = subst (λ k. k < length sections) (sym own) (got_inside sections s.section s.home home);
+        in_section = subst (λ k. k < length sections) (sym own) (slice_get_within sections s.section s.home home);
         has_target = stands.0;
         same_section = λ b. stands.1 b ∙ sym own;
       }

@@ -1,13 +1,11 @@
 -- How long the code of a statement is: two codes of one statement have as many bytes.
 
-use Rattle.std.proofs.Common.{◌≡◌, ℕ, zero, suc, ◌+◌, Bool, List, [], ◌∷◌, ◌++◌, length, Option, Some, None, Err, inl, inr, refl, sym, ap, ◌∙◌, subst, arith, length-append}
+use Rattle.std.proofs.Common.{◌≡◌, ℕ, ◌+◌, Bool, List, [], ◌∷◌, ◌++◌, length, Option, Some, None, Err, refl, sym, ap, ◌∙◌, subst, arith, length-append}
 use Rattle.std.specs.Prelude.{◌&&◌}
 use Rattle.rv_isa.specs.declared.instruction.Inst.{Inst}
 use Rattle.rv_isa.specs.Kinds.{width_of}
-use Rattle.rv_isa_laws.specs.Bytes.{little_endian}
-use Rattle.rv_isa_laws.specs.Word.{word, form}
 use Rattle.rv_parcel.specs.declared.form.Compressed.{Compressed}
-use Rattle.rv_parcel.specs.Encoded.{IsLeastAs, IsEncodedIn}
+use Rattle.rv_parcel.specs.Encoded.{IsEncodedIn}
 use Rattle.rv_text_laws.specs.Values.{Value}
 use Rattle.rv_text_laws.specs.Expression.{Primary}
 use Rattle.rv_fault.specs.declared.source_fault.SourceFault.{SourceFault}
@@ -25,32 +23,22 @@ use Rattle.rv_instruction.specs.declared.encoded.Coded.{Coded}
 use Rattle.rv_instruction.specs.Code.{IsCodeOf, Codes, coded_by, near_forms_of}
 use Rattle.rv_layout.specs.Code.{bytes_coded, IsCoded}
 use Rattle.rv_assemble_laws.proofs.FixedLemmas.{code_fixed}
-use Rattle.rv_assemble_laws.proofs.LeastCodeLemmas.{least_one, some_parts}
+use Rattle.rv_assemble_laws.proofs.LeastCodeLemmas.{some_parts}
+use Rattle.rv_assemble_laws.proofs.EncodedLemmas.{least_one_as}
+use Rattle.rv_instruction.proofs.EncodingLemmas.{encoded_size}
 
 -- ---- the bytes of a part have one length
 
-pub little_long : (width n : ℕ) → length (little_endian width n) ≡ width
-little_long zero n = refl
-little_long (suc width) n = ap suc (little_long width _)
-
-pub encoded_long : (i : Inst) (n : ℕ) (bytes : List ℕ) → IsEncodedIn i n bytes → length bytes ≡ n
-encoded_long i n bytes (inl (e, f)) = ap length f ∙ little_long 4 (word (form i)) ∙ sym e
-encoded_long i n bytes (inr (e, (q, h, f))) = ap length f ∙ little_long 2 q ∙ sym e
-
-least_one_as : (named : Option Compressed) (rvc : Bool) (i : Inst) (m n : ℕ) → IsLeastAs named rvc i m → IsLeastAs named rvc i n → m ≡ n
-least_one_as (Some form) rvc i m n e f = e ∙ sym f
-least_one_as None rvc i m n e f = least_one rvc i m n e f
-
-pair_long : (i j : Inst) (bytes first second : List ℕ) → IsEncodedIn i 4 first → IsEncodedIn j 4 second → bytes ≡ first ++ second → length bytes ≡ 8
+pub pair_long : (i j : Inst) (bytes first second : List ℕ) → IsEncodedIn i 4 first → IsEncodedIn j 4 second → bytes ≡ first ++ second → length bytes ≡ 8
 pair_long i j bytes first second a b e =
     let all : length bytes ≡ length first + length second = ap length e ∙ length-append first second in
-    let one : length first ≡ 4 = encoded_long i 4 first a in
-    let two : length second ≡ 4 = encoded_long j 4 second b in
+    let one : length first ≡ 4 = encoded_size i 4 first a in
+    let two : length second ≡ 4 = encoded_size j 4 second b in
     omega (arith, all, one, two)
 
 pub part_long : (named : Option Compressed) (rvc : Bool) (p : Part) (a b : List ℕ) → IsCodedPart named rvc p a → IsCodedPart named rvc p b → length a ≡ length b
 part_long named rvc (Closed i) a b (v, m, x) (w, n, y) = least_one_as named rvc i (length a) (length b) m n
-part_long named rvc (Open k i) a b (v, x) (w, y) = encoded_long i (width_of k) a x ∙ sym (encoded_long i (width_of k) b y)
+part_long named rvc (Open k i) a b (v, x) (w, y) = encoded_size i (width_of k) a x ∙ sym (encoded_size i (width_of k) b y)
 part_long named rvc (Joined k i j) a b (v, w, (f, (s, x, y, e))) (v', w', (f', (s', x', y', e'))) =
     pair_long i j a f s x y e ∙ sym (pair_long i j b f' s' x' y' e')
 

@@ -22,9 +22,9 @@ use Rattle.rv_pseudo_laws.specs.Code.{Part, Closed, Open, Joined, Constants, cod
 use Rattle.rv_pseudo_laws.specs.Filled.{are_closed}
 use Rattle.rv_assemble_laws.specs.Coded.{AreCodedParts, constants, joined}
 use Rattle.rv_instruction.specs.Code.{coded_by}
+use Rattle.rv_instruction.proofs.EncodingLemmas.{encoded_size}
 use Rattle.rv_layout.specs.Code.{bytes_coded}
 use Rattle.rv_layout.specs.Measure.{HasOneLength, HasLengthWith, is_bare_parcel, is_parcel}
-use Rattle.rv_layout.proofs.LengthsLemmas.{encoded_long}
 use Rattle.rv_layout.proofs.WordsLemmas.{one_joined}
 
 -- one parcel: of the form that is named, or with an open field of one
@@ -44,8 +44,8 @@ IsParcel named (Some (p ∷ q ∷ ps)) = ⊥
 part_long : (named : Option Compressed) (c : Bool) (p : Part) (x : List ℕ) (coded : List (List ℕ)) → IsParcelPart named p → AreCodedParts named c (p ∷ []) (x ∷ coded) → length x ≡ 2
 part_long (Some form) c (Closed i) x coded parcel ((valid, least, is), rest) = least
 part_long None c (Closed i) x coded parcel h = absurd parcel
-part_long (Some form) c (Open k i) x coded wide ((right, is), rest) = encoded_long i (width_of k) x is ∙ wide
-part_long None c (Open k i) x coded wide ((right, is), rest) = encoded_long i (width_of k) x is ∙ wide
+part_long (Some form) c (Open k i) x coded wide ((right, is), rest) = encoded_size i (width_of k) x is ∙ wide
+part_long None c (Open k i) x coded wide ((right, is), rest) = encoded_size i (width_of k) x is ∙ wide
 part_long (Some form) c (Joined k i j) x coded parcel h = absurd parcel
 part_long None c (Joined k i j) x coded parcel h = absurd parcel
 

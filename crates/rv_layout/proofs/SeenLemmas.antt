@@ -14,6 +14,8 @@ use Rattle.rv_unit_laws.specs.Tables.{Tables, SectionOffset as Standing, Definit
 use Rattle.rv_unit.specs.declared.unit.Unit.{Unit as SourceUnit}
 use Rattle.rv_unit.specs.Unit.{said, IsFilled}
 use Rattle.std.proofs.lemmas.List.{length-append}
+use Rattle.rv_list_laws.proofs.NumbersLemmas.{eq_below}
+use Rattle.rv_list_laws.proofs.TakeDropLemmas.{take_here, take_whole}
 use Rattle.rv_assemble_laws.specs.Refusals.{code_faults_at}
 use Rattle.rv_instruction.specs.Code.{near_forms_of, OffersAny, MayHave}
 use Rattle.rv_layout.specs.Code.{beside_of}
@@ -34,13 +36,6 @@ use Rattle.rv_instruction.specs.Near.{section_by_ordinal, near_by, near_in, near
 abbrev pub Found : ℕ → List Located → Option Located
 Found n ls = find (λ (s : Located). s.ordinal == n) ls
 
-pub other : (a b : ℕ) → a < b → (a == b) ≡ false
-other a b h = go (a == b) refl
-  where
-    go : (c : Bool) → (a == b) ≡ c → (a == b) ≡ false
-    go true e = let same : a ≡ b = eqb-true a b e in absurd (omega (arith, h, same))
-    go false e = e
-
 none_first : (m : ℕ) → (suc m == 0) ≡ false
 none_first m = go (suc m == 0) refl
   where
@@ -57,7 +52,7 @@ found_at zero k t (s ∷ ss) =
 found_at (suc j) k t (s ∷ ss) =
     let less : k < suc j + k = omega arith in
     let same : suc j + k ≡ j + suc k = omega arith in
-    ap (λ b. option_map (λ (s : Located). s.section) (if b then Some (located_now 1 k t s) else Found (suc j + k) (located_from 1 (suc k) (after t k s.kind) ss))) (other k (suc j + k) less)
+    ap (λ b. option_map (λ (s : Located). s.section) (if b then Some (located_now 1 k t s) else Found (suc j + k) (located_from 1 (suc k) (after t k s.kind) ss))) (eq_below k (suc j + k) less)
     ∙ ap (λ n. option_map (λ (s : Located). s.section) (Found n (located_from 1 (suc k) (after t k s.kind) ss))) same
     ∙ found_at j (suc k) (after t k s.kind) ss
 
@@ -144,12 +139,6 @@ items_more t all (x ∷ xs) [] s n same = absurd (let e : 0 ≡ suc (length xs) 
 items_more t all (x ∷ xs) (l ∷ ls) s n same =
     let less : length ls ≡ length xs = let e : suc (length ls) ≡ suc (length xs) = same in omega (arith, e) in
     ap (λ r. item_by_kind t all x l x.kind ∷ r) (items_more t all xs ls s n less)
-
-pub take_here : {A : Type 0} (xs : List A) (i : ℕ) (x : A) (rest : List A) → drop i xs ≡ x ∷ rest → take (suc i) xs ≡ take i xs ++ x ∷ []
-take_here [] zero x rest e = absurd (cc)
-take_here [] (suc i) x rest e = absurd (cc)
-take_here (y ∷ ys) zero x rest e = let same : y ≡ x = cc in ap (λ z. z ∷ []) same
-take_here (y ∷ ys) (suc i) x rest e = ap (λ l. y ∷ l) (take_here ys i x rest e)
 
 -- ---- the least lengths
 
@@ -324,12 +313,6 @@ measured_more u i x p rvc b old new item filled at on home (bytes, long, is) (ls
       more ∙ ap (λ l. l ++ item ∷ []) so ∙ ap (λ y. items_of t all (take i all) ls ++ y ∷ []) seen
           ∙ sym (items_more t all (take i all) ls s bytes same) ∙ ap (λ xs. items_of t all xs (ls ++ bytes ∷ [])) (sym longer),
     )
-
-take_whole : {A : Type 0} (xs : List A) (i : ℕ) → drop i xs ≡ [] → take i xs ≡ xs
-take_whole [] zero e = refl
-take_whole [] (suc i) e = refl
-take_whole (x ∷ xs) zero e = absurd (cc)
-take_whole (x ∷ xs) (suc i) e = ap (λ l. x ∷ l) (take_whole xs i e)
 
 pub measured_whole : (ss : List Statement) (i : ℕ) (items : List Item) → drop i (located_from 1 1 (at_start ss) ss) ≡ [] → MeasuredTo ss i items → IsMeasured ss items
 measured_whole ss i items none (ls, lengths, same, so) =

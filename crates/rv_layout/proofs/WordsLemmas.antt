@@ -30,9 +30,9 @@ use Rattle.rv_source_laws.specs.Sizes.{near_forms, branch_forms, jump_forms, is_
 use Rattle.rv_assemble_laws.specs.Coded.{AreCodedParts, constants, joined}
 use Rattle.rv_instruction.specs.declared.encoded.Coded.{Coded}
 use Rattle.rv_instruction.specs.Code.{coded_by, near_forms_of}
+use Rattle.rv_instruction.proofs.EncodingLemmas.{encoded_size}
 use Rattle.rv_layout.specs.Code.{bytes_coded, is_instruction}
 use Rattle.rv_layout.specs.Measure.{HasOneLength, HasLengthWith, is_bare_parcel, is_parcel, is_unary, is_word, is_jal, is_longer}
-use Rattle.rv_layout.proofs.LengthsLemmas.{encoded_long}
 
 -- ---- one word
 
@@ -66,7 +66,7 @@ one_joined x = ap length (append-nil x)
 open_long : (b : Bool) (k : Kind) (i : Inst) (coded : List (List ℕ)) → width_of k ≡ 4 → AreCodedParts None b (Open k i ∷ []) coded → length (joined coded) ≡ 4
 open_long b k i [] wide h = absurd h
 open_long b k i (x ∷ y ∷ ys) wide (h, hs) = absurd hs
-open_long b k i (x ∷ []) wide ((o, h), hs) = one_joined x ∙ encoded_long i (width_of k) x h ∙ wide
+open_long b k i (x ∷ []) wide ((o, h), hs) = one_joined x ∙ encoded_size i (width_of k) x h ∙ wide
 
 closed_long : (i : Inst) (coded : List (List ℕ)) → AreCodedParts None false (Closed i ∷ []) coded → length (joined coded) ≡ 4
 closed_long i [] h = absurd h

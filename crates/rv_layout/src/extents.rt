@@ -6,7 +6,7 @@ ghost use Rattle.rv_layout.specs.Code.{IsExtentAt};
 use rv_unit::Extent;
 
 /// The section at a place.
-#[tactic(auto, using(crate::proofs::ExtentsLemmas::got_map, crate::proofs::ExtentsLemmas::read_map))]
+#[tactic(auto, using(rv_list_laws::proofs::MapLemmas::get_map_or, rv_list_laws::proofs::MapLemmas::index_or_map))]
 pub fn extent_at<'a>(extents: &[Extent<'a>], section: u32) -> Extent<'a>
     requires { section < length extents.now }
     ensures { IsExtentAt extents.now section result }

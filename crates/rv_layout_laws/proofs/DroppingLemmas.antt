@@ -3,6 +3,7 @@
 use Rattle.std.proofs.Common.{◌≡◌, ◌⊎◌, inl, inr, ℕ, zero, suc, ◌+◌, ◌-◌, ◌*◌, ◌/◌, ◌%◌, ◌≤◌, min, max, List, [], ◌∷◌, length, slice_index, pos, ◌-ℤ◌, refl, arith}
 use Rattle.std.proofs.lemmas.Int.{ints}
 use Rattle.std.proofs.lemmas.Bool.{cases_lt}
+use Rattle.rv_list_laws.proofs.NumbersLemmas.{span_within}
 use Rattle.rv_layout_laws.specs.declared.site.Site.{Site}
 use Rattle.rv_layout_laws.specs.Offsets.{GrowsEvenly, AtMost}
 use Rattle.rv_layout_laws.specs.Calls.{bytes_of, site_at, dropped_of, dropped, new_offset, InOrder}
@@ -12,10 +13,6 @@ use Rattle.rv_layout_laws.proofs.ReachingLemmas.{Nearer, Ahead, Behind}
 
 lost : ℕ → ℕ → ℕ → ℕ → ℕ
 lost o n k x = min (n - k) (x - (o + k))
-
-pub span_within : (o n k a b base : ℕ) → base ≤ o → a ≤ b → (p q e : ℕ) → e ≡ o + n → p ≤ q + (b - max a e)
-    → min (n - k) (b - (o + k)) + p ≤ min (n - k) (a - (o + k)) + q + (b - max a base)
-span_within o n k a b base f le p q e is rest = omega arith
 
 spans : (o n s l a b : ℕ) → s ≤ l → l ≤ n → a ≤ b
     → min (n - s) (a - (o + s)) + min (n - l) (b - (o + l)) ≤ min (n - s) (b - (o + s)) + min (n - l) (a - (o + l))

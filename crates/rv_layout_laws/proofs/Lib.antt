@@ -4,3 +4,5 @@ pub mod DroppingLemmas
 pub mod ShorteningLemmas
 pub mod RegrowingLemmas
 pub mod WorkedLemmas
+pub mod AlignmentLemmas
+pub mod OffsetsLemmas

@@ -29,13 +29,13 @@ offered_grows CompressedBranch a b x y le = halved a b (offered_even CompressedB
 offered_grows Branch a b x y le = halved a b (offered_even Branch a refl x) (offered_even Branch b refl y) le
 offered_grows CompressedJump a b x y le = halved a b (offered_even CompressedJump a refl x) (offered_even CompressedJump b refl y) le
 
-offers_smallest : (forms : Forms) → Offers forms (smallest forms)
+pub offers_smallest : (forms : Forms) → Offers forms (smallest forms)
 offers_smallest (Settled bytes) = refl
 offers_smallest CompressedBranch = inl refl
 offers_smallest Branch = inl refl
 offers_smallest CompressedJump = inl refl
 
-smallest_least : (forms : Forms) (size : ℕ) → Offers forms size → smallest forms ≤ size
+pub smallest_least : (forms : Forms) (size : ℕ) → Offers forms size → smallest forms ≤ size
 smallest_least (Settled bytes) size h = omega arith
 smallest_least CompressedBranch size h = ⊎_elim (λ a. omega arith) (λ b. ⊎_elim (λ c. omega arith) (λ d. omega arith) b) h
 smallest_least Branch size h = ⊎_elim (λ a. omega arith) (λ b. omega arith) h
@@ -125,7 +125,7 @@ set_holds P sizes i v all one k =
 
 -- ---- widening
 
-smallest_at : (items : List Item) (i : ℕ) → slice_index (smallest_sizes items) i ≡ smallest (item_at items i).forms
+pub smallest_at : (items : List Item) (i : ℕ) → slice_index (smallest_sizes items) i ≡ smallest (item_at items i).forms
 smallest_at items i = get_or-map (λ item. smallest item.forms) items i _
 
 pub smallest_family : (items : List Item) → IsFamily items (smallest_sizes items)

@@ -91,13 +91,6 @@ referred_kind word some = go (reference_in word) refl some
 pub referred_same : (word other : List ℕ) → word ≡ other → is_some (reference_in word) ≡ true → grammar.Reference (digits_in word) (is_ahead word) ≡ digits_kind other (reference_in other)
 referred_same word other same some = referred_kind word some ∙ ap (λ (w : List ℕ). digits_kind w (reference_in w)) same
 
-pub unreferred : (word : List ℕ) → is_some (reference_in word) ≡ false → reference_in word ≡ None
-unreferred word none = go (reference_in word) refl none
-  where
-    go : (o : Option (List ℕ × Bool)) → reference_in word ≡ o → is_some o ≡ false → o ≡ None
-    go None e none = refl
-    go (Some r) e none = absurd (cc)
-
 -- a word that refers to a label is its digits and the letter
 pub spelled_reference : (word : List ℕ) → is_some (reference_in word) ≡ true → digits_in word ++ direction (is_ahead word) ∷ [] ≡ word
 spelled_reference word some = go (reference_in word) refl some

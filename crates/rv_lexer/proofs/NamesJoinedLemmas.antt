@@ -2,6 +2,7 @@
 
 use Rattle.std.proofs.Common.{◌≡◌, ℕ, ◌-◌, true, List, ◌∷◌, take, drop, refl, sym, ◌∙◌, ap, subst, Option, Some, None}
 use Rattle.std.specs.Prelude.{is_some}
+use Rattle.rv_list_laws.proofs.ElementsLemmas.{some_bytes}
 use Rattle.rv_text_laws.specs.Lexing as lexing
 use Rattle.rv_text_laws.specs.Grammar.{Name}
 use Rattle.rv_text_laws.specs.Joined.{joined_bytes, joins, joined_at}
@@ -20,10 +21,6 @@ unfolding left tokens_left
 begun c d first is one =
     subst (λ (all : List lexing.Token). Joining c.before.at c.before.rest.now all c.next.start c.next.stop (left d)) (sym one)
     (joining_first c.before.at c.before.line c.before.rest.now (token_of c.next) (left d) first (c.gives ∙ one) is)
-
-some_bytes : (o : Option (List ℕ)) → is_some o ≡ true → (bytes : List ℕ) × (o ≡ Some bytes)
-some_bytes None e = absurd (cc)
-some_bytes (Some bytes) e = (bytes, refl)
 
 -- a token that goes on with it
 pub went_on : (at : ℕ) (bytes : List ℕ) (all : List lexing.Token) (start stop : ℕ) (c d : Cursor) → Joining at bytes all start stop (left c)

@@ -15,11 +15,6 @@ number_with base number rest = number * base ^ length rest + digits_value base r
 abbrev pub number_on : ℕ → ℕ → List ℕ → Option ℕ
 number_on base number rest = cond (list_all (is_digit base) rest && nat_lt (number_with base number rest) (2 ^ 64)) (Some (number_with base number rest)) None
 
-pub on_start : (base : ℕ) (ds : List ℕ) → number_by base ds ≡ number_on base 0 ds
-on_start base ds =
-    let same : digits_value base ds ≡ number_with base 0 ds = omega arith in
-    ap (λ n. cond (list_all (is_digit base) ds && nat_lt n (2 ^ 64)) (Some n) None) same
-
 regrouped : (n b x g v : ℕ) → n * (x * b) + (g * x + v) ≡ (n * b + g) * x + v
 regrouped n b x g v = omega arith
 

@@ -1,14 +1,14 @@
 -- Regions grow section by section.
 
-use Rattle.std.proofs.Common.{◌≡◌, ℕ, zero, suc, ◌+◌, ◌-◌, ◌*◌, ◌/◌, ◌%◌, ◌<◌, ◌≤◌, max, Bool, true, false, if◌then◌else◌, List, [], ◌∷◌, ◌++◌, length, take, drop, min, refl, sym, ap, ◌∙◌, subst, arith, add-one, add-zero, append_assoc}
+use Rattle.std.proofs.Common.{◌≡◌, ℕ, zero, suc, ◌+◌, ◌-◌, ◌<◌, ◌≤◌, Bool, true, false, if◌then◌else◌, List, [], ◌∷◌, ◌++◌, length, take, drop, min, refl, sym, ap, ◌∙◌, subst, arith, add-one, add-zero, append_assoc}
 use Rattle.std.proofs.lemmas.List.{length-append, length-take, length-drop, length-replicate}
 use Rattle.std.specs.Prelude.{ℤ, IsTrue, Option, Some, None}
 use Rattle.std.specs.List.{AllByRecursion, list_all, slice_get}
-use Rattle.rv_layout_laws.specs.Alignment.{aligned}
+use Rattle.rv_list_laws.proofs.TakeDropLemmas.{drop_suc}
 use Rattle.rv_map_laws.specs.declared.map.Region.{Region}
 use Rattle.rv_object_laws.specs.Object.{Relocation, Section, Object}
-use Rattle.rv_link_laws.specs.Moves.{Move, moves, new_offset, kept, has_room, alignments_of}
-use Rattle.rv_link_laws.specs.Inputs.{Starts, InputSection, goes_to_text, inputs_from, inputs_of, raised, begins_at, start_of, size, Stand, sections_end, Holds, contents}
+use Rattle.rv_link_laws.specs.Moves.{Move, moves, new_offset, kept, has_room}
+use Rattle.rv_link_laws.specs.Inputs.{Starts, InputSection, inputs_from, inputs_of, begins_at, start_of, size, Stand, sections_end, Holds, contents}
 use Rattle.rv_link_laws.specs.Names.{object_at}
 use Rattle.rv_link_laws.specs.Values.{patched_at, applied, initial_bytes}
 use Rattle.rv_link_laws.specs.Layout.{section_in, object_section}
@@ -19,9 +19,11 @@ use Rattle.rv_placement.specs.declared.placement.Placement.{Placement}
 use Rattle.rv_placement.specs.Placement.{starts_of, layout_of}
 use Rattle.rv_isa.specs.declared.kind.Kind.{Kind}
 use Rattle.rv_isa.specs.Kinds.{width_of}
-use Rattle.rv_isa_laws.specs.Bytes.{little_endian, zeros}
+use Rattle.rv_isa_laws.specs.Bytes.{zeros}
+use Rattle.rv_isa_laws.proofs.BytesLemmas.{little_long}
 use Rattle.rv_reloc_laws.specs.Fields.{patched}
-use Rattle.rv_link_laws.proofs.ListsLemmas.{found_at}
+use Rattle.rv_link_laws.proofs.ListsLemmas.{found_at, above}
+use Rattle.rv_placement.proofs.AlignmentsLemmas.{begins_some}
 use Rattle.rv_link.specs.declared.fixed.Input.{Input}
 use Rattle.rv_link_values.specs.Values.{IsInputAt}
 use Rattle.rv_link.proofs.StepsLemmas.{all_inside, kept_long}
@@ -30,30 +32,9 @@ use Rattle.rv_link.specs.Regions.{left_from, IsGrown}
 
 -- ---- starts
 
-raised_least : (rs : List Relocation) (n : ℕ) → n ≤ raised rs n
-raised_least [] n = omega arith
-raised_least (r ∷ rs) n = omega (arith, raised_least rs n)
-
-begins_positive : (s : Section) → 0 < begins_at s
-begins_positive s =
-    let low : ℕ = max (if goes_to_text s then 2 else 1) s.alignment in
-    let one : 0 < (if goes_to_text s then 2 else 1) = go (goes_to_text s) in
-    omega (arith, raised_least (alignments_of s) low) where
-      go : (b : Bool) → 0 < (if b then 2 else 1)
-      go true = omega arith
-      go false = omega arith
-
-aligned_over : (a n : ℕ) → 0 < a → n ≤ aligned a n
-aligned_over a n h =
-    let sum : ℕ = n + (a - 1) in
-    let parts : a * (sum / a) + sum % a ≡ sum = div-add-mod' sum a h in
-    omega arith where
-      div-add-mod' : (m a : ℕ) → 0 < a → a * (m / a) + m % a ≡ m
-      div-add-mod' m a h = omega arith
-
 -- a section starts where those before it end, or later
 pub later : (starts : Starts) (stop : ℕ) (i : InputSection) (left : List InputSection) → Stand starts stop (i ∷ left) → stop ≤ start_of starts i
-later starts stop i left (here, rest) = subst (λ n. stop ≤ n) (sym here) (aligned_over (begins_at i.section) stop (begins_positive i.section))
+later starts stop i left (here, rest) = subst (λ n. stop ≤ n) (sym here) (above (begins_at i.section) stop (begins_some i.section))
 
 -- ---- regions
 
@@ -102,11 +83,6 @@ taken goes i s rest more e = ap (λ b. (if b then i ∷ rest else rest) ++ more)
 passed : (goes : Section → Bool) (i : InputSection) (s : Section) (rest more : List InputSection) → goes s ≡ false → (if goes s then i ∷ rest else rest) ++ more ≡ rest ++ more
 passed goes i s rest more e = ap (λ b. (if b then i ∷ rest else rest) ++ more) e
 
-get_front : {A : Type 0} (xs : List A) (i : ℕ) (x : A) → slice_get xs i ≡ Some x → drop i xs ≡ x ∷ drop (suc i) xs
-get_front [] i x e = absurd (cc)
-get_front (y ∷ ys) zero x e = let same : y ≡ x = cc in ap (λ z. z ∷ ys) same
-get_front (y ∷ ys) (suc i) x e = get_front ys i x e
-
 pub found_object : (os : List Object) (file index : ℕ) (s : Section) → object_section os file index ≡ Some s → slice_get os file ≡ Some (object_at os (file + 1))
 found_object os file index s e = go (slice_get os file) refl e where
   go : (x : Option Object) → slice_get os file ≡ x → section_in x index ≡ Some s → slice_get os file ≡ Some (object_at os (file + 1))
@@ -125,7 +101,7 @@ found_section os file index s e = record {
 pub front_of : (os : List Object) (file index : ℕ) (s : Section) → object_section os file index ≡ Some s
     → drop index (object_at os (file + 1)).sections ≡ s ∷ drop (index + 1) (object_at os (file + 1)).sections
 front_of os file index s e =
-    get_front (object_at os (file + 1)).sections index s (ap (λ x. section_in x index) (sym (found_object os file index s e)) ∙ e)
+    drop_suc (object_at os (file + 1)).sections index s (ap (λ x. section_in x index) (sym (found_object os file index s e)) ∙ e)
     ∙ ap (λ n. s ∷ drop n (object_at os (file + 1)).sections) (sym (add-one index))
 
 module _ (os : List Object) (file index : ℕ) (s : Section) (goes : Section → Bool) (stands : object_section os file index ≡ Some s) where
@@ -150,10 +126,6 @@ module _ (os : List Object) (file index : ℕ) (s : Section) (goes : Section →
 
 -- ---- the bytes of a section
 
-endian_length : (width n : ℕ) → length (little_endian width n) ≡ width
-endian_length zero n = refl
-endian_length (suc width) n = ap suc (endian_length width (n / 256))
-
 whole_length : (offset total width front field rest : ℕ) → front ≡ min offset total → field ≡ width → rest ≡ total - offset - width
     → (0 < width → offset + width ≤ total) → front + (field + rest) ≡ total
 whole_length offset total zero front field rest e f g inside = omega arith
@@ -164,7 +136,7 @@ patched_length offset k v bytes inside =
     let field : List ℕ = patched k v (take (width_of k) (drop offset bytes)) in
     let rest : List ℕ = drop (width_of k) (drop offset bytes) in
     length-append (take offset bytes) (field ++ rest) ∙ ap (λ n. length (take offset bytes) + n) (length-append field rest)
-    ∙ whole_length offset (length bytes) (width_of k) (length (take offset bytes)) (length field) (length rest) (length-take offset bytes) (endian_length (width_of k) _)
+    ∙ whole_length offset (length bytes) (width_of k) (length (take offset bytes)) (length field) (length rest) (length-take offset bytes) (little_long (width_of k) _)
     (length-drop (width_of k) (drop offset bytes) ∙ ap (λ n. n - width_of k) (length-drop offset bytes)) inside
 
 applied_length : (ms : List Move) (w : Relocation → ℤ) (rs : List Relocation) (bytes : List ℕ) → AllByRecursion (IsInside ms (length bytes)) rs

@@ -5,6 +5,7 @@ use Rattle.std.proofs.lemmas.List.{take-append-drop, get_or_default, length-map}
 use Rattle.std.proofs.lemmas.Int.{fits_signed_from_abs, int_wrap_fits}
 use Rattle.std.specs.Int.{int_wrap, w64}
 use Rattle.std.specs.Prelude.{ℤ, pos, drop, if◌then◌else◌}
+use Rattle.rv_list_laws.proofs.MapLemmas.{get_or_map_read, drop_map_read}
 use Rattle.rv_isa.specs.Kinds.{is_low_part}
 use Rattle.rv_isa.specs.declared.kind.Kind.{Kind}
 use Rattle.rv_isa.specs.declared.kind.Kind.TheVariants as kinds
@@ -22,7 +23,7 @@ use Rattle.rv_link_laws.specs.Values.{value, own_value, paired, patched_at}
 use Rattle.rv_placement.specs.declared.placement.Placement.{Placement}
 use Rattle.rv_placement.specs.Placement.{starts_of, layout_of}
 use Rattle.rv_link.specs.Idle.{is_idle}
-use Rattle.rv_link.proofs.StepsLemmas.{IsPatched, get_or-map, next_of, patched_step}
+use Rattle.rv_link.proofs.StepsLemmas.{IsPatched, patched_step}
 
 -- what holds of a kind without a field
 record Idles (k : Kind) : Type 0 where
@@ -84,7 +85,7 @@ next ms all items n d same h =
     let r : Declared = get_or items n d in
     let here : r ≡ get_or all n r = get_or_default items n d r h ∙ ap (λ l. get_or l n r) same in
     let low : n < length all = subst (λ l. n < length l) same h in
-    next_of (cut_relocation ms) (map relocation_of all) n (relocation_of r) (subst (λ k. n < k) (sym (length-map all relocation_of)) low) (sym (get_or-map relocation_of all n r low here))
+    drop_map_read (cut_relocation ms) (map relocation_of all) n (relocation_of r) (subst (λ k. n < k) (sym (length-map all relocation_of)) low) (sym (get_or_map_read relocation_of all n r low here))
 
 idle_step : (os : List Object) (p : Placement) (i : InputSection) (ms : List Move) (all : List Relocation) (old : List ℕ)
     (from : List Relocation) (r : Relocation) (left : List Relocation) (bytes : List ℕ) → IsPatched os p i ms all old from bytes → from ≡ r ∷ left

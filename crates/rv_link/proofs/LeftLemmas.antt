@@ -22,7 +22,7 @@ use Rattle.rv_link_sites.proofs.CodeObjectsLemmas.{sites_text}
 use Rattle.rv_link_laws.proofs.TextLineLemmas.{whole_text}
 use Rattle.rv_object_types.proofs.WholeLemmas.{are_whole}
 use Rattle.rv_link_laws.proofs.WholeLemmas.{whole_left}
-use Rattle.rv_link_laws.proofs.WithoutLemmas.{without_none, as_many_from as many_left_from}
+use Rattle.rv_link_laws.proofs.WithoutLemmas.{without_none, as_many_objects}
 use Rattle.rv_resolve.specs.Chosen.{seen, seen_of}
 use Rattle.rv_link_laws.specs.Exports.{first_again}
 use Rattle.rv_resolve.proofs.AlikeLemmas.{same_names, seen_left}
@@ -70,13 +70,10 @@ alike true os left h = record {
   seen = ap seen_of h.2 ∙ seen_from _ 1 os;
 }
 
-pub many_left : (drops : List SectionId) (os : List Object) → length (without drops os) ≡ length os
-many_left drops os = many_left_from drops 1 os
-
 alike_leaves : (os : List Object) (relax gc : Bool) (drops : List SectionId) (left : List Object) → Leaves os relax gc drops left → AreAlike os left
 alike_leaves os relax gc drops left h =
     let same = alike relax (without drops os) left h.relaxed in
-    record { many = same.many ∙ many_left drops os; seen = same.seen ∙ seen_left drops os }
+    record { many = same.many ∙ as_many_objects drops os; seen = same.seen ∙ seen_left drops os }
 
 -- ---- there is such
 

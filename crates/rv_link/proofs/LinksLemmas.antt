@@ -6,6 +6,9 @@ use Rattle.std.specs.Prelude.{IsTrue}
 use Rattle.std.specs.Global.{Vec}
 use Rattle.std.specs.List.{AllByRecursion, list_all, slice_get}
 use Rattle.std.proofs.lemmas.Option.{slice_get_within}
+use Rattle.rv_list_laws.proofs.EachLemmas.{each_append, each_from_both}
+use Rattle.rv_list_laws.proofs.TestsLemmas.{all_get}
+use Rattle.rv_list_laws.proofs.ElementsLemmas.{get_some}
 use Rattle.rv_map_laws.specs.declared.map.SectionId.{SectionId}
 use Rattle.rv_map_laws.specs.Limits.{IsMap}
 use Rattle.rv_object_laws.specs.Object.{Section, Object}
@@ -15,9 +18,7 @@ use Rattle.rv_link_laws.specs.Names.{entry_of}
 use Rattle.rv_link_laws.specs.IsLinkOf.{most_files, IsLinkOf, is_loaded}
 use Rattle.rv_link_laws.specs.Layout.{section_in, object_section, shown_globals, regions_of}
 use Rattle.rv_link_laws.specs.Untaken.{IsTaken, AreTaken}
-use Rattle.rv_link_laws.proofs.TextInputsLemmas.{all_append}
 use Rattle.rv_isa_laws.specs.Platform.{stack_start}
-use Rattle.rv_link_laws.proofs.ListsLemmas.{all_both}
 use Rattle.rv_relax.specs.Kept.{moves_of}
 use Rattle.rv_placement.specs.declared.placement.PlacedSection.{PlacedSection}
 use Rattle.rv_placement.specs.declared.placement.Placement.{Placement}
@@ -26,8 +27,6 @@ use Rattle.rv_resolve.specs.declared.names.Names.{Names}
 use Rattle.rv_link.specs.declared.regions.Regions.{Regions}
 use Rattle.rv_link.specs.Regions.{AreGrown, HasLinkNames}
 use Rattle.rv_link.specs.Made.{made}
-use Rattle.rv_link.proofs.StandingLemmas.{all_at}
-use Rattle.rv_placement.proofs.FoundLemmas.{some_at}
 
 -- ---- every input section
 
@@ -51,7 +50,7 @@ module _ (os : List Object) (goes : Section → Bool) (P : InputSection → Type
   in_files file [] there = tt
   in_files file (o ∷ xs) there =
       let same : file ≡ file + 0 = omega arith in
-      all_append P (inputs_from goes (suc file) o 0 o.sections) (inputs_of goes (suc (suc file)) xs)
+      each_append P (inputs_from goes (suc file) o 0 o.sections) (inputs_of goes (suc (suc file)) xs)
       (in_file file o (ap (λ n. slice_get os n) same ∙ there 0 o refl) 0 o.sections (λ k s e. let plain : 0 + k ≡ k = omega arith in ap (λ n. slice_get o.sections n) plain ∙ e))
       (in_files (suc file) xs (λ k q e. let next : suc file + k ≡ file + suc k = omega arith in ap (λ n. slice_get os n) next ∙ there (suc k) q e))
 
@@ -76,14 +75,14 @@ has_its_room : (os : List Object) (start : ℕ) (p : Placement) → IsPlacement 
 has_its_room os start p placed roomy file o index s at there =
     let (qs, qs_there, long) = places_at p.files.items os placed.each file o at in
     let inside : index < length qs.items = omega (arith, long, slice_get_within o.sections index s there) in
-    let (q, q_there) = some_at qs.items index inside in
+    let (q, q_there) = get_some qs.items index inside in
     let stands : object_section os file index ≡ Some s = ap (λ z. section_in z index) at ∙ there in
     let found : placed_at p file index ≡ Some q = ap (λ z. placed_in z index) qs_there ∙ q_there in
     let back : suc file - 1 ≡ file = omega arith in
     let starts : starts_of p (suc file) index ≡ q.start = ap (λ n. start_in (placed_at p n index)) back ∙ ap start_in found in
     let planned : moves_of q.plan.now ≡ moves q.start s = placed.planned file index s q stands found in
-    let row : are_roomy_in qs.items ≡ true = all_at (λ g. are_roomy_in g.items) p.files.items file qs roomy qs_there in
-    let own : list_all has_room (moves_of q.plan.now) ≡ true = all_at (λ z. list_all has_room (moves_of z.plan.now)) qs.items index q row q_there in
+    let row : are_roomy_in qs.items ≡ true = all_get (λ g. are_roomy_in g.items) p.files.items file qs roomy qs_there in
+    let own : list_all has_room (moves_of q.plan.now) ≡ true = all_get (λ z. list_all has_room (moves_of z.plan.now)) qs.items index q row q_there in
     subst (λ m. IsTrue (list_all has_room m)) (planned ∙ ap (λ n. moves n s) (sym starts)) own
 
 -- ---- the whole
@@ -112,7 +111,7 @@ is_link drops os start names p entry r few page low named placed roomy begins ev
       rows = refl;
       readable = readable;
       relocated =
-          all_both (λ i. AreTaken os (layout_of p) i) _ _ (λ i taken. all_both (IsTaken os (layout_of p) i) _ _ (λ q has known. record { resolved = known; found = has.found; alone = has.alone; takes = has.takes }) i.section.relocations taken)
+          each_from_both (λ i. AreTaken os (layout_of p) i) _ _ (λ i taken. each_from_both (IsTaken os (layout_of p) i) _ _ (λ q has known. record { resolved = known; found = has.found; alone = has.alone; takes = has.takes }) i.section.relocations taken)
           (inputs is_loaded os) (grown.taken tt) resolved;
       text_bytes = sym (append-nil r.text.items) ∙ grown.text.holds;
       rodata_bytes = sym (append-nil r.rodata.items) ∙ grown.rodata.holds;

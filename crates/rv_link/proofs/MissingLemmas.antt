@@ -6,6 +6,7 @@ use Rattle.std.specs.Prelude.{◌&&◌, ◌==◌, bytes_eq, codes, if◌then◌e
 use Rattle.std.specs.Global.{Vec}
 use Rattle.std.specs.List.{AllByRecursion, find, slice_get}
 use Rattle.std.specs.Option.{option_or}
+use Rattle.rv_list_laws.proofs.EachLemmas.{each_append}
 use Rattle.rv_map_laws.specs.Globals.{AreDistinct}
 use Rattle.rv_map_laws.specs.Regions.{is_text}
 use Rattle.rv_map_laws.specs.declared.map.SectionId.{SectionId}
@@ -24,7 +25,6 @@ use Rattle.rv_link_laws.specs.Shortened.{Sizes, shortened_text, shortened_sectio
 use Rattle.rv_link_laws.specs.Without.{without}
 use Rattle.rv_link_laws.specs.Refusals.{HasNoProgram}
 use Rattle.rv_link_laws.proofs.DanglingLemmas.{nothing_left}
-use Rattle.rv_link_laws.proofs.TextInputsLemmas.{all_append}
 use Rattle.rv_link_laws.specs.Entry.{is_entry, has_entry}
 use Rattle.rv_link_laws.specs.Undefined.{undefined_name, first_some, undefined_in, first_undefined}
 use Rattle.rv_resolve.proofs.AlikeLemmas.{same_names}
@@ -118,7 +118,7 @@ exports_unloaded_in test file o index (s ∷ ss) h = by (is_export test s) (expo
 exports_unloaded : (test : Binding → Bool) (file : ℕ) (os : List Object) → AreUnloaded os → AllByRecursion IsOfUnloaded (exports_from test file os)
 exports_unloaded test file [] h = tt
 exports_unloaded test file (o ∷ os) h =
-    all_append IsOfUnloaded (exports_in test file o 0 o.symbols) (exports_from test (suc file) os) (exports_unloaded_in test file o 0 o.symbols h.0) (exports_unloaded test (suc file) os h.1)
+    each_append IsOfUnloaded (exports_in test file o 0 o.symbols) (exports_from test (suc file) os) (exports_unloaded_in test file o 0 o.symbols h.0) (exports_unloaded test (suc file) os h.1)
 
 no_text : (ss : List Section) (index : ℕ) → AllByRecursion IsUnloaded ss → is_in_text (slice_get ss index) ≡ false
 no_text [] index h = refl
@@ -142,7 +142,7 @@ no_entry_in test (e ∷ es) h = by (test e) (no_entry_in test es h.1)
 no_entry : (os : List Object) → AreUnloaded os → has_entry os ≡ false
 no_entry os h =
     no_entry_in (λ e. bytes_eq e.symbol.name (codes "_start")) (candidates os)
-    (all_append IsOfUnloaded (exports_where is_global os) (exports_where is_weak os) (exports_unloaded is_global 1 os h) (exports_unloaded is_weak 1 os h))
+    (each_append IsOfUnloaded (exports_where is_global os) (exports_where is_weak os) (exports_unloaded is_global 1 os h) (exports_unloaded is_weak 1 os h))
 
 -- ---- without an entry
 

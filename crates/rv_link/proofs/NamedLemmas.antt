@@ -1,9 +1,11 @@
 -- The global names of placed objects can stand in a map.
 
-use Rattle.std.proofs.Common.{◌≡◌, ◌≤◌, ◌<◌, ◌+◌, ◌%◌, ◌^◌, ℕ, suc, Bool, true, false, cond, if◌then◌else◌, Option, Some, None, List, [], ◌∷◌, map, refl, arith}
-use Rattle.std.specs.Prelude.{IsTrue, filter, flat_map, is_some, not}
+use Rattle.std.proofs.Common.{◌≡◌, ◌≤◌, ◌<◌, ◌+◌, ◌%◌, ◌^◌, ℕ, suc, Bool, true, false, if◌then◌else◌, Option, Some, None, List, [], ◌∷◌, map, refl, arith}
+use Rattle.std.specs.Prelude.{IsTrue, flat_map, is_some, not}
 use Rattle.std.specs.List.{AllByRecursion, slice_get}
 use Rattle.std.proofs.lemmas.Bool.{and_parts, ltb-true}
+use Rattle.rv_list_laws.proofs.EachLemmas.{each_append}
+use Rattle.rv_list_laws.proofs.FilterLemmas.{each_filter}
 use Rattle.rv_map_laws.specs.Globals.{shown, linker_symbols}
 use Rattle.rv_map_laws.specs.Limits.{IsGlobal}
 use Rattle.rv_map_laws.specs.Name.{is_name}
@@ -20,7 +22,6 @@ use Rattle.rv_link_laws.specs.Inputs.{Starts}
 use Rattle.rv_link_laws.specs.Moves.{Move, moves, new_offset}
 use Rattle.rv_link_laws.specs.Names.{Export, chosen, is_defined, is_export, exports_in, exports_from, exports_where, is_chosen, chosen_exports, offset_address, defined_address, export_address, globals_of, shown_linker_symbols}
 use Rattle.rv_link_laws.specs.Layout.{regions_of, shown_globals}
-use Rattle.rv_link_laws.proofs.TextInputsLemmas.{all_append}
 use Rattle.rv_shorten.specs.declared.object.ShortObject.{ShortObject}
 use Rattle.rv_cut_laws.specs.Cutting.{cut_definition, cut_symbol}
 use Rattle.rv_shorten.specs.View.{short_object_of, moves_by_section}
@@ -75,15 +76,7 @@ showable_in file o index (s ∷ ss) all = by (is_export is_shared s) refl (showa
 showable_from : (file : ℕ) (os : List Object) → AllByRecursion (λ o. AllByRecursion CanShow o.symbols) os → AllByRecursion IsShowable (exports_from is_shared file os)
 showable_from file [] all = tt
 showable_from file (o ∷ os) all =
-    all_append IsShowable (exports_in is_shared file o 0 o.symbols) (exports_from is_shared (suc file) os) (showable_in file o 0 o.symbols all.0) (showable_from (suc file) os all.1)
-
-all_filtered : {A : Type 0} (P : A → Type 0) (test : A → Bool) (xs : List A) → AllByRecursion P xs → AllByRecursion P (filter test xs)
-all_filtered P test [] all = tt
-all_filtered {A = A} P test (x ∷ xs) all = by (test x) (all_filtered P test xs all.1)
-  where
-    by : (b : Bool) → AllByRecursion P (filter test xs) → AllByRecursion P (cond b (x ∷ filter test xs) (filter test xs))
-    by true more = (all.0, more)
-    by false more = more
+    each_append IsShowable (exports_in is_shared file o 0 o.symbols) (exports_from is_shared (suc file) os) (showable_in file o 0 o.symbols all.0) (showable_from (suc file) os all.1)
 
 -- ---- their addresses
 
@@ -104,7 +97,7 @@ defined_known name starts o (definitions.Skipped n) is low = tt
 shown_known : (starts : Starts) (es : List Export) → AllByRecursion IsShowable es → AllByRecursion IsGlobal (flat_map (λ e. shown e.symbol.name (export_address starts e)) es)
 shown_known starts [] all = tt
 shown_known starts (e ∷ es) all =
-    all_append IsGlobal (shown e.symbol.name (export_address starts e)) (flat_map (λ e. shown e.symbol.name (export_address starts e)) es)
+    each_append IsGlobal (shown e.symbol.name (export_address starts e)) (flat_map (λ e. shown e.symbol.name (export_address starts e)) es)
     (defined_known e.symbol.name (starts e.file) e.object e.symbol.definition all.0.0 all.0.1) (shown_known starts es all.1)
 
 -- ---- the linker's names
@@ -124,6 +117,6 @@ pub globals_known : (objects : List ShortObject) (start : ℕ) (p : Placement) �
     → AllByRecursion IsGlobal (shown_globals (map short_object_of objects) (layout_of p))
 globals_known objects start p placed =
     let os = map short_object_of objects in
-    all_append IsGlobal (globals_of (starts_of p) os) (shown_linker_symbols os (regions_of (layout_of p)))
-    (shown_known (starts_of p) (chosen_exports os) (all_filtered IsShowable (is_chosen os) (exports_where is_shared os) (showable_from 1 os (can_show objects))))
-    (all_filtered IsGlobal (λ g. not (is_some (chosen os g.name))) (linker_symbols (regions_of (layout_of p))) (linkers_known os start p placed))
+    each_append IsGlobal (globals_of (starts_of p) os) (shown_linker_symbols os (regions_of (layout_of p)))
+    (shown_known (starts_of p) (chosen_exports os) (each_filter IsShowable (is_chosen os) (exports_where is_shared os) (showable_from 1 os (can_show objects))))
+    (each_filter IsGlobal (λ g. not (is_some (chosen os g.name))) (linker_symbols (regions_of (layout_of p))) (linkers_known os start p placed))

@@ -4,6 +4,7 @@ use Rattle.std.proofs.Common.{◌≡◌, ◌≤◌, ◌<◌, ◌+◌, ◌^◌, �
 use Rattle.std.specs.List.{AllByRecursion, list_all, slice_get}
 use Rattle.std.proofs.lemmas.Bool.{and_parts}
 use Rattle.std.proofs.lemmas.Option.{slice_get_within}
+use Rattle.rv_list_laws.proofs.EachLemmas.{each_append, each_mapped}
 use Rattle.rv_map_laws.specs.Limits.{IsRow}
 use Rattle.rv_object_laws.specs.declared.row.Row.{Row}
 use Rattle.rv_object_laws.specs.Object.{Object, size_of}
@@ -12,7 +13,6 @@ use Rattle.rv_object_laws.proofs.CountedLemmas.{counted_widths}
 use Rattle.rv_link_laws.specs.IsLinkOf.{inserted_row, by_ordinal, map_row, moves_at, row_in, rows_of, most_files}
 use Rattle.rv_link_laws.specs.Moves.{Move, moves, new_offset}
 use Rattle.rv_link_laws.specs.Layout.{object_section}
-use Rattle.rv_link_laws.proofs.TextInputsLemmas.{all_append}
 use Rattle.rv_shorten.specs.declared.object.ShortObject.{ShortObject}
 use Rattle.rv_cut_laws.specs.Cutting.{cut_row_of}
 use Rattle.rv_shorten.specs.View.{short_object_of, moves_by_section as cuts_of}
@@ -36,10 +36,6 @@ all_inserted P r (q ∷ qs) one all = by (nat_le r.ordinal q.ordinal) (all_inser
 all_ordered : (P : Row → Type 0) (rs : List Row) → AllByRecursion P rs → AllByRecursion P (by_ordinal rs)
 all_ordered P [] all = tt
 all_ordered P (r ∷ rs) all = all_inserted P r (by_ordinal rs) all.0 (all_ordered P rs all.1)
-
-all_mapped : {A B : Type 0} (P : B → Type 0) (f : A → B) (xs : List A) → AllByRecursion (λ x. P (f x)) xs → AllByRecursion P (map f xs)
-all_mapped P f [] all = tt
-all_mapped P f (x ∷ xs) all = (all.0, all_mapped P f xs all.1)
 
 -- ---- a row
 
@@ -110,8 +106,8 @@ module _ (os : List Object) (start : ℕ) (p : Placement) (is : IsPlacement os s
       let at : slice_get os file ≡ Some o = ap (λ n. slice_get os n) same ∙ there 0 o refl in
       let inside : file < most_files = omega (arith, slice_get_within os file o at, few) in
       let mine = rows_known_in file o at inside o.rows x.lie (cut_numbered (cuts_of x) x.whole.now.rows.items x.whole.now.counted) in
-      all_append IsRow (map (row_in (starts_of p) (suc file) o) (by_ordinal o.rows)) (rows_of (starts_of p) (suc (suc file)) (map short_object_of xs))
-      (all_mapped IsRow (row_in (starts_of p) (suc file) o) (by_ordinal o.rows) (all_ordered (λ r. IsRow (row_in (starts_of p) (suc file) o r)) o.rows mine))
+      each_append IsRow (map (row_in (starts_of p) (suc file) o) (by_ordinal o.rows)) (rows_of (starts_of p) (suc (suc file)) (map short_object_of xs))
+      (each_mapped IsRow (row_in (starts_of p) (suc file) o) (by_ordinal o.rows) (all_ordered (λ r. IsRow (row_in (starts_of p) (suc file) o r)) o.rows mine))
       (rows_known_from (suc file) xs (λ k q e. let next : suc file + k ≡ file + suc k = omega arith in ap (λ n. slice_get os n) next ∙ there (suc k) q e) few)
 
 pub rows_known : (objects : List ShortObject) (start : ℕ) (p : Placement) → IsPlacement (map short_object_of objects) start p → length (map short_object_of objects) ≤ most_files

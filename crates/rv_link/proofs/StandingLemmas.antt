@@ -1,10 +1,12 @@
 -- A section of the objects, and what is placed for it.
 
-use Rattle.std.proofs.Common.{◌≡◌, ℕ, zero, suc, ◌+◌, ◌-◌, ◌<◌, Bool, true, List, [], ◌∷◌, length, map, get_or, sym, ap, ◌∙◌, subst, arith, Some}
-use Rattle.std.proofs.lemmas.Bool.{and_parts}
+use Rattle.std.proofs.Common.{◌≡◌, ℕ, zero, suc, ◌+◌, ◌-◌, ◌<◌, true, List, [], ◌∷◌, length, map, get_or, sym, ap, ◌∙◌, subst, arith, Some}
 use Rattle.std.proofs.lemmas.List.{length-map}
 use Rattle.std.specs.Global.{Vec}
 use Rattle.std.specs.List.{list_all, slice_get}
+use Rattle.rv_list_laws.proofs.MapLemmas.{get_map_read}
+use Rattle.rv_list_laws.proofs.ElementsLemmas.{get_read}
+use Rattle.rv_list_laws.proofs.TestsLemmas.{all_get}
 use Rattle.rv_object_laws.specs.Object.{Object}
 use Rattle.rv_link_laws.specs.Moves.{has_room}
 use Rattle.rv_link_laws.specs.Names.{object_at, no_object}
@@ -20,16 +22,6 @@ use Rattle.rv_link.specs.declared.fixed.Input.{Input}
 use Rattle.rv_link.specs.Filled.{IsPlacedInput}
 use Rattle.rv_link_laws.proofs.ListsLemmas.{found_at}
 
-pub read : {A B : Type 0} (f : A → B) (xs : List A) (i : ℕ) (x : A) → i < length xs → x ≡ get_or xs i x → slice_get (map f xs) i ≡ Some (f x)
-read f [] i x h e = absurd (omega arith)
-read f (y ∷ ys) zero x h e = ap (λ z. Some (f z)) (sym e)
-read f (y ∷ ys) (suc i) x h e = read f ys i x (omega arith) e
-
-pub read_plain : {A : Type 0} (xs : List A) (i : ℕ) (x : A) → i < length xs → x ≡ get_or xs i x → slice_get xs i ≡ Some x
-read_plain [] i x h e = absurd (omega arith)
-read_plain (y ∷ ys) zero x h e = ap Some (sym e)
-read_plain (y ∷ ys) (suc i) x h e = read_plain ys i x (omega arith) e
-
 -- an index of a section is one of a file that is there
 pub within : (os : List Object) (file index : ℕ) → index < length (object_at os (file + 1)).sections → file < length os
 within os file index h =
@@ -39,13 +31,6 @@ within os file index h =
       go [] file h = absurd (omega arith)
       go (o ∷ os) zero h = omega arith
       go (o ∷ os) (suc file) h = omega (arith, go os file h)
-
-pub all_at : {A : Type 0} (test : A → Bool) (xs : List A) (i : ℕ) (x : A) → list_all test xs ≡ true → slice_get xs i ≡ Some x → test x ≡ true
-all_at test [] i x h e = absurd (cc)
-all_at test (y ∷ ys) zero x h e =
-    let same : y ≡ x = cc in
-    ap test (sym same) ∙ (and_parts (test y) (list_all test ys) h).0
-all_at test (y ∷ ys) (suc i) x h e = all_at test ys i x ((and_parts (test y) (list_all test ys) h).1) e
 
 counts : (fs : List (Vec PlacedSection)) (os : List Object) → map (λ f. length f.items) fs ≡ map (λ o. length o.sections) os
     → (file : ℕ) (o : Object) → slice_get os file ≡ Some o → (f : Vec PlacedSection) → f ≡ get_or fs file f → (file < length fs) × (length f.items ≡ length o.sections)
@@ -68,7 +53,7 @@ module _ (objects : List ShortObject) (first : ℕ) (p : Placement) (placed : Is
   low = subst (λ n. file < n) (length-map objects short_object_of) (within (map short_object_of objects) file index here)
 
   pub object_there : slice_get (map short_object_of objects) file ≡ Some (short_object_of o)
-  object_there = read short_object_of objects file o low o_is
+  object_there = get_map_read short_object_of objects file o low o_is
 
   pub object_is : object_at (map short_object_of objects) (file + 1) ≡ short_object_of o
   object_is = found_at (map short_object_of objects) file (short_object_of o) object_there
@@ -81,7 +66,7 @@ module _ (objects : List ShortObject) (first : ℕ) (p : Placement) (placed : Is
     places_long = (counts p.files.items (map short_object_of objects) placed.each file (short_object_of o) object_there qs qs_is).1 ∙ length-map o.sections.items short_section_of
 
     pub places_there : slice_get p.files.items file ≡ Some qs
-    places_there = read_plain p.files.items file qs ((counts p.files.items (map short_object_of objects) placed.each file (short_object_of o) object_there qs qs_is).0) qs_is
+    places_there = get_read p.files.items file qs ((counts p.files.items (map short_object_of objects) placed.each file (short_object_of o) object_there qs qs_is).0) qs_is
 
     pub input_is : (x : Input) → x.file ≡ file → x.index ≡ index → x.section.now ≡ get_or (get_or objects file o).sections.items index x.section.now → x.placed.now ≡ get_or qs.items index x.placed.now
         → IsPlacedInput (map short_object_of objects) p x
@@ -89,16 +74,16 @@ module _ (objects : List ShortObject) (first : ℕ) (p : Placement) (placed : Is
         let same_file : file ≡ x.file = sym e in
         let same_index : index ≡ x.index = sym f in
         let own : x.section.now ≡ get_or o.sections.items index x.section.now = s_is ∙ ap (λ z. get_or z.sections.items index x.section.now) (sym o_is) in
-        let s_there : slice_get (map short_section_of o.sections.items) index ≡ Some (short_section_of x.section.now) = read short_section_of o.sections.items index x.section.now index_low own in
+        let s_there : slice_get (map short_section_of o.sections.items) index ≡ Some (short_section_of x.section.now) = get_map_read short_section_of o.sections.items index x.section.now index_low own in
         let stands : object_section (map short_object_of objects) file index ≡ Some (short_section_of x.section.now) = ap (λ z. section_in z index) object_there ∙ s_there in
-        let q_there : slice_get qs.items index ≡ Some x.placed.now = read_plain qs.items index x.placed.now (subst (λ n. index < n) (sym places_long) index_low) q_is in
+        let q_there : slice_get qs.items index ≡ Some x.placed.now = get_read qs.items index x.placed.now (subst (λ n. index < n) (sym places_long) index_low) q_is in
         let at : placed_at p file index ≡ Some x.placed.now = ap (λ z. placed_in z index) places_there ∙ q_there in
         let back : file + 1 - 1 ≡ file = omega arith in
         let start : starts_of p (file + 1) index ≡ x.placed.now.start = ap (λ n. start_in (placed_at p n index)) back ∙ ap start_in at in
-        let row : are_roomy_in qs.items ≡ true = all_at (λ g. are_roomy_in g.items) p.files.items file qs roomy places_there in
+        let row : are_roomy_in qs.items ≡ true = all_get (λ g. are_roomy_in g.items) p.files.items file qs roomy places_there in
         record {
           stands = subst (λ n. object_section (map short_object_of objects) n x.index ≡ Some (short_section_of x.section.now)) same_file (subst (λ n. object_section (map short_object_of objects) file n ≡ Some (short_section_of x.section.now)) same_index stands);
           start = subst (λ n. starts_of p (n + 1) x.index ≡ x.placed.now.start) same_file (subst (λ n. starts_of p (file + 1) n ≡ x.placed.now.start) same_index start);
           planned = placed.planned file index (short_section_of x.section.now) x.placed.now stands at;
-          room = all_at (λ q. list_all has_room (moves_of q.plan.now)) qs.items index x.placed.now row q_there;
+          room = all_get (λ q. list_all has_room (moves_of q.plan.now)) qs.items index x.placed.now row q_there;
         }

@@ -1,10 +1,11 @@
 -- What a turn of the loops over relocations and sections does.
 
-use Rattle.std.proofs.Common.{◌≡◌, ℕ, zero, suc, ◌+◌, ◌-◌, ◌<◌, List, [], ◌∷◌, ◌++◌, length, take, drop, map, get_or, refl, sym, ap, ◌∙◌, subst, arith, Some, inl, inr}
-use Rattle.std.proofs.lemmas.List.{drop_more, get_or_default, drop_at, drop_all, take_at, take_all, append-nil, length-map, length-append, length-replicate}
+use Rattle.std.proofs.Common.{◌≡◌, ℕ, ◌+◌, ◌-◌, ◌<◌, List, [], ◌∷◌, ◌++◌, length, take, drop, map, get_or, refl, sym, ap, ◌∙◌, subst, arith, Some, inl, inr}
+use Rattle.std.proofs.lemmas.List.{get_or_default, drop_at, drop_all, take_at, take_all, append-nil, length-map, length-append, length-replicate}
 use Rattle.std.proofs.lemmas.Bool.{and_parts, eqb-true}
 use Rattle.std.specs.Prelude.{◌==◌, is_some, unwrap_or, ℤ, pos, IsTrue, true}
 use Rattle.std.specs.List.{AllByRecursion, list_all}
+use Rattle.rv_list_laws.proofs.MapLemmas.{get_or_map_read, drop_map_read}
 use Rattle.rv_isa.specs.Kinds.{width_of, is_low_part}
 use Rattle.rv_reloc_laws.specs.Ranges.{Takes, Refuses}
 use Rattle.rv_object_laws.specs.Object.{Contents, Progbits, Note, Nobits, Relocation, Section, Object, size_of}
@@ -24,18 +25,6 @@ use Rattle.rv_fault.specs.declared.link_fault.LinkFault.TheVariants.{Overflow, O
 use Rattle.rv_link.specs.Filled.{IsInside}
 use Rattle.rv_cut_laws.proofs.FollowingLemmas.{Follow, kept_size}
 use Rattle.rv_cut_laws.proofs.OrderedLemmas.{section_follows, fields_inside}
-
--- ---- lists
-
-pub get_or-map : {A B : Type 0} (f : A → B) (xs : List A) (i : ℕ) (x : A) → i < length xs → x ≡ get_or xs i x → get_or (map f xs) i (f x) ≡ f x
-get_or-map f [] i x h e = absurd (omega arith)
-get_or-map f (y ∷ ys) zero x h e = ap f (sym e)
-get_or-map f (y ∷ ys) (suc i) x h e = get_or-map f ys i x (omega arith) e
-
-pub next_of : {A B : Type 0} (f : A → B) (xs : List A) (i : ℕ) (x : A) → i < length xs → x ≡ get_or xs i x → drop i (map f xs) ≡ f x ∷ drop (i + 1) (map f xs)
-next_of f xs i x h e =
-    drop_more (map f xs) i (f x) (subst (λ n. i < n) (sym (length-map xs f)) h)
-    ∙ ap (λ y. y ∷ drop (i + 1) (map f xs)) (get_or-map f xs i x h e)
 
 -- ---- relocations
 
@@ -92,7 +81,7 @@ moved_next ms all items n d q same h is =
     let r : Declared = get_or items n d in
     let here : r ≡ get_or all n r = get_or_default items n d r h ∙ ap (λ l. get_or l n r) same in
     let low : n < length all = subst (λ l. n < length l) same h in
-    next_of (cut_relocation ms) (map relocation_of all) n (relocation_of r) (subst (λ k. n < k) (sym (length-map all relocation_of)) low) (sym (get_or-map relocation_of all n r low here))
+    drop_map_read (cut_relocation ms) (map relocation_of all) n (relocation_of r) (subst (λ k. n < k) (sym (length-map all relocation_of)) low) (sym (get_or_map_read relocation_of all n r low here))
     ∙ ap (λ x. x ∷ drop (n + 1) (map (cut_relocation ms) (map relocation_of all))) (sym is)
 
 pub inside_next : (os : List Object) (p : Placement) (i : InputSection) (ms : List Move) (all : List Relocation) (old : List ℕ)

@@ -1,6 +1,6 @@
 -- What may change of a section of text lies in it, one behind the other.
 
-use Rattle.std.proofs.Common.{◌≡◌, ℕ, ◌+◌, ◌%◌, ◌<◌, ◌≤◌, ◌⊎◌, inl, inr, Bool, true, false, not, cond, ◌&&◌, ◌||◌, nat_le, nat_lt, max, List, [], ◌∷◌, Option, Some, None, count_by, refl, sym, ap, ◌∙◌, arith}
+use Rattle.std.proofs.Common.{◌≡◌, ℕ, ◌+◌, ◌<◌, ◌≤◌, ◌⊎◌, inl, inr, Bool, true, false, not, cond, ◌&&◌, ◌||◌, nat_le, nat_lt, max, List, [], ◌∷◌, count_by, refl, sym, ap, ◌∙◌, arith}
 use Rattle.std.specs.Prelude.{◌==◌, unwrap_or}
 use Rattle.std.specs.List.{list_all, filter}
 use Rattle.std.proofs.lemmas.Bool.{leb-true, ltb-true, ltb-false, eqb-true, le-leb, and_parts, and_from, and_cases, or_left, or_right}
@@ -13,6 +13,7 @@ use Rattle.rv_link_laws.specs.Moves.{full_padding, has_padding}
 use Rattle.rv_link_laws.specs.Inputs.{InputSection}
 use Rattle.rv_link_laws.specs.CallSites.{is_call, has_relax, are_call_words, is_text_place, target_place, is_entered, meets, is_permitted, may_change, inserted_change, in_order}
 use Rattle.rv_object_laws.specs.Object as objects
+use Rattle.rv_object_laws.proofs.ObjectLemmas.{padding_inside}
 
 -- ---- a permitted call
 
@@ -51,14 +52,7 @@ held_width r align = ap (λ b. cond b (unwrap_or (padding_of r.addend) 0) (width
 pub held_call : (r : Relocation) → is_call r.kind ≡ true → held r ≡ 8
 held_call r h = let both = call_width r.kind h in held_width r both.0 ∙ both.1
 
-padding_lies : (c : Contents) (place : ℕ) (o : Option ℕ) → is_padding_of true c place o ≡ true → place + unwrap_or o 0 ≤ size_of c
-padding_lies c place None h = absurd (cc)
-padding_lies c place (Some n) h =
-    let one = and_parts ((n % 2 == 0) && nat_le n 4094) ((place % 2 == 0) && nat_le (place + n) (size_of c)) h in
-    let two = and_parts (place % 2 == 0) (nat_le (place + n) (size_of c)) one.1 in
-    leb-true (place + n) (size_of c) two.1
-
-fits : (c : Contents) (r : Relocation) → 0 < width_of r.kind → fits_inside c r ≡ true → r.place + width_of r.kind ≤ size_of c
+pub fits : (c : Contents) (r : Relocation) → 0 < width_of r.kind → fits_inside c r ≡ true → r.place + width_of r.kind ≤ size_of c
 fits (objects.Progbits bytes) r some h = leb-true (r.place + width_of r.kind) (size_of (objects.Progbits bytes)) h
 fits (objects.Note bytes) r some h = leb-true (r.place + width_of r.kind) (size_of (objects.Note bytes)) h
 fits (objects.Nobits size) r some h = absurd (let e = eqb-true (width_of r.kind) 0 h in omega (arith, e, some))
@@ -141,22 +135,10 @@ all_ordered p (r ∷ rs) h =
     let both = and_parts (p r) (list_all p rs) h in
     all_inserted p r (in_order rs) both.0 (all_ordered p rs both.1)
 
-pub all_filtered : {X : Type 0} (p : X → Bool) (xs : List X) → list_all p (filter p xs) ≡ true
-all_filtered p [] = refl
-all_filtered {X} p (x ∷ xs) = by (p x) refl (all_filtered p xs)
-  where
-    by : (b : Bool) → p x ≡ b → list_all p (filter p xs) ≡ true → list_all p (cond b (x ∷ filter p xs) (filter p xs)) ≡ true
-    by true e h = and_from (p x) (list_all p (filter p xs)) e h
-    by false e h = h
-
 -- one behind the other, from an offset to another
 abbrev pub Stand : (from to : ℕ) → List Relocation → Type 0
 Stand from to [] = from ≤ to
 Stand from to (r ∷ rs) = (from ≤ r.place) × Stand (r.place + held r) to rs
-
-stand_up : (from to : ℕ) (rs : List Relocation) → Stand from to rs → from ≤ to
-stand_up from to [] h = h
-stand_up from to (r ∷ rs) h = let one = h.0 in let more = stand_up (r.place + held r) to rs h.1 in omega (arith, one, more)
 
 insert_one : (from to : ℕ) (r : Relocation) (qs : List Relocation) → from ≤ r.place → r.place + held r ≤ to → list_all (are_clear r) qs ≡ true → Stand from to qs
     → Stand from to (inserted_change r qs)
@@ -238,7 +220,7 @@ module _ (os : List objects.Object) (i : InputSection) where
       by : ((is_align r.kind ≡ true) × (has_padding r ≡ true)) ⊎ ((has_padding r ≡ false) × IsPermitted os i r) → r.place + held r ≤ size_of c
       by (inl a) =
           let full = held_full r a.0 in
-          let within = padding_lies c r.place (padding_of r.addend) (sym (ap (λ b. not b || is_padding_of true c r.place (padding_of r.addend)) a.0) ∙ padding) in
+          let within = padding_inside c r.place (padding_of r.addend) (sym (ap (λ b. not b || is_padding_of true c r.place (padding_of r.addend)) a.0) ∙ padding) in
           omega (arith, full, within)
       by (inr a) =
           let both = call_width r.kind a.1.call in

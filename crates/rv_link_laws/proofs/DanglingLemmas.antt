@@ -3,8 +3,9 @@
 use Rattle.std.proofs.Common.{◌≡◌, ℕ, suc, Bool, true, false, not, ◌&&◌, ◌||◌, ◌==◌, List, [], ◌∷◌, ◌++◌, map, filter, refl, ap, subst, sym, ◌∙◌, Option, Some, None}
 use Rattle.std.specs.Prelude.{if◌then◌else◌}
 use Rattle.std.specs.List.{AllByRecursion, list_any}
-use Rattle.std.proofs.lemmas.Bool.{and_from, and_parts, or_left, or_right, true≢false, not-true, eq-eqb}
+use Rattle.std.proofs.lemmas.Bool.{and_from, and_parts, true≢false, not-true, eq-eqb}
 use Rattle.std.proofs.lemmas.List.Elements.{filter-append}
+use Rattle.rv_list_laws.proofs.EachLemmas.{each_by_any}
 use Rattle.rv_map_laws.specs.declared.map.SectionId.{SectionId}
 use Rattle.rv_collect_laws.specs.Graph.{is_same, is_one_of, Has, IsLeastClosed, staying, is_dropped}
 use Rattle.rv_collect_laws.proofs.MarksLemmas.{some_drops, same_drops, drops_within, rest_least}
@@ -33,18 +34,12 @@ all_kept test f P (x ∷ xs) h = by (test x) h.0 (all_kept test f P xs h.1)
     by true k more = (k refl, more)
     by false k more = more
 
--- what holds of each that is found by a test that it passes holds of all
-all_found : {A : Type 0} (P : A → Type 0) (xs : List A) → ((x : A) → ((test : A → Bool) → test x ≡ true → list_any test xs ≡ true) → P x) → AllByRecursion P xs
-all_found P [] h = tt
-all_found P (x ∷ xs) h =
-    (h x (λ test e. or_left (test x) (list_any test xs) e), all_found P xs (λ y k. h y (λ test e. or_right (test x) (list_any test xs) (k test e))))
-
 -- a test that all fail leaves none
 none_left : (test : InputSection → Bool) (xs : List InputSection) → AllByRecursion (λ x. test x ≡ false) xs → filter test xs ≡ []
 none_left test [] h = refl
 none_left test (x ∷ xs) h = ap (λ b. if b then x ∷ filter test xs else filter test xs) h.0 ∙ none_left test xs h.1
 
-any_id : (test : SectionId → Bool) (xs : List InputSection) → list_any (λ i. test (id_of i)) xs ≡ list_any test (map id_of xs)
+pub any_id : (test : SectionId → Bool) (xs : List InputSection) → list_any (λ i. test (id_of i)) xs ≡ list_any test (map id_of xs)
 any_id test [] = refl
 any_id test (x ∷ xs) = ap (λ b. test (id_of x) || b) (any_id test xs)
 
@@ -99,15 +94,15 @@ module _ (os : List Object) (drops : List SectionId) (collected : Collects true 
   kept_lead =
       subst (AllByRecursion (λ i. AllByRecursion (λ r. IsNotDropped drops (target_place (without drops os) i r)) i.section.relocations)) (sym (inputs_left is_loaded loaded_is drops os))
       (all_kept (is_left drops) (left_of drops) (λ i. AllByRecursion (λ r. IsNotDropped drops (target_place (without drops os) i r)) i.section.relocations) (inputs is_loaded os)
-      (all_found (λ i. is_left drops i ≡ true → AllByRecursion (λ r. IsNotDropped drops (target_place (without drops os) (left_of drops i) r)) i.section.relocations) (inputs is_loaded os)
-      (λ i there left. all_found (λ r. IsNotDropped drops (target_place (without drops os) (left_of drops i) r)) i.section.relocations
+      (each_by_any (λ i. is_left drops i ≡ true → AllByRecursion (λ r. IsNotDropped drops (target_place (without drops os) (left_of drops i) r)) i.section.relocations) (inputs is_loaded os)
+      (λ i there left. each_by_any (λ r. IsNotDropped drops (target_place (without drops os) (left_of drops i) r)) i.section.relocations
       (λ r its. subst (IsNotDropped drops) (sym (target_place_left drops os i r)) (target_stays i r there its left)))))
 
 -- no relocation of what is left leads to a dropped section
 pub refer_to_kept : (gc : Bool) (os : List Object) (drops : List SectionId) → Collects gc os drops → ReferToKept drops (without drops os)
 refer_to_kept false os drops e =
-    all_found (λ i. AllByRecursion (λ r. IsNotDropped drops (target_place (without drops os) i r)) i.section.relocations) (inputs is_loaded (without drops os))
-    (λ i there. all_found (λ r. IsNotDropped drops (target_place (without drops os) i r)) i.section.relocations (λ r its. no_drops drops (target_place (without drops os) i r) e))
+    each_by_any (λ i. AllByRecursion (λ r. IsNotDropped drops (target_place (without drops os) i r)) i.section.relocations) (inputs is_loaded (without drops os))
+    (λ i there. each_by_any (λ r. IsNotDropped drops (target_place (without drops os) i r)) i.section.relocations (λ r its. no_drops drops (target_place (without drops os) i r) e))
 refer_to_kept true os drops collected = kept_lead os drops collected
 
 -- a run does not begin in a dropped section
@@ -154,7 +149,7 @@ module _ (goes : Section → Bool) (off : IsOfLoaded goes) where
 
 -- where a run can begin nowhere, every section with an address is dropped
 pub all_dropped : (os : List Object) (drops : List SectionId) → Collects true os drops → entry_place os ≡ None → AllByRecursion (λ i. is_dropped drops i.file i.index ≡ true) (inputs is_loaded os)
-all_dropped os drops collected none = all_found (λ i. is_dropped drops i.file i.index ≡ true) (inputs is_loaded os) each
+all_dropped os drops collected none = each_by_any (λ i. is_dropped drops i.file i.index ≡ true) (inputs is_loaded os) each
   where
     least : IsLeastClosed (graph_of os) (staying (graph_of os) drops)
     least = rest_least (graph_of os) drops collected

@@ -1,6 +1,6 @@
 -- Where a run begins: at what `_start` means.
 
-use Rattle.std.specs.Prelude.{◌==◌, ◌&&◌, is_some, slice_get, option_and_then, codes, if◌then◌else◌}
+use Rattle.std.specs.Prelude.{◌==◌, is_some, slice_get, option_and_then, codes, if◌then◌else◌}
 use Rattle.std.proofs.Common.{◌≡◌, ◌+◌, ℕ, Bool, true, false, Option, Some, None, List, refl, ap, ◌%◌, ◌^◌}
 use Rattle.std.proofs.lemmas.Bool.{and_parts}
 use Rattle.rv_object_laws.specs.declared.symbol.Definition.{Definition}
@@ -8,8 +8,7 @@ use Rattle.rv_object_laws.specs.declared.symbol.Definition.TheVariants as defini
 use Rattle.rv_object_laws.specs.Object.{Section, Object}
 use Rattle.rv_link_laws.specs.Inputs.{Starts}
 use Rattle.rv_link_laws.specs.Moves.{moves, new_offset}
-use Rattle.rv_link_laws.specs.Collects.{run_place}
-use Rattle.rv_link_laws.specs.Names.{Export, Place, chosen, offset_address, is_in_text, defined_address, can_begin, begins_run, place_in, run_start, entry_of}
+use Rattle.rv_link_laws.specs.Names.{Export, chosen, offset_address, is_in_text, defined_address, can_begin, begins_run, run_start, entry_of}
 use Rattle.rv_link_laws.specs.Entry.{is_entry, has_entry}
 
 abbrev pub start_name : List ℕ
@@ -36,37 +35,3 @@ entry_some starts os = by (chosen os start_name)
     by : (f : Option Export) → is_some (option_and_then (run_start starts) f) ≡ is_entry f
     by None = refl
     by (Some e) = go e (begins_run e) refl
-
-no_place : (b : Bool) (p : Option Place) → p ≡ None → (if b then p else None) ≡ None
-no_place true p e = e
-no_place false p e = refl
-
--- a definition without a place begins no run
-pub run_none : (e : Export) → place_in e.file e.symbol.definition ≡ None → run_place e ≡ None
-run_none e h = no_place (begins_run e) (place_in e.file e.symbol.definition) h
-
--- a run can begin at a place
-abbrev pub begins_at : Object → Place → Bool
-begins_at o p = is_in_text (slice_get o.sections p.section) && (p.offset % 2 == 0)
-
-pub run_some : (e : Export) (p : Place) → place_in e.file e.symbol.definition ≡ Some p → run_place e ≡ (if begins_at e.object p then Some p else None)
-run_some e p h = go e.symbol.definition h
-  where
-    go : (d : Definition) → place_in e.file d ≡ Some p → (if can_begin e.object d then place_in e.file d else None) ≡ (if begins_at e.object p then Some p else None)
-    go definitions.Undefined h = absurd (cc)
-    go (definitions.Absolute n) h = absurd (cc)
-    go (definitions.Skipped n) h = absurd (cc)
-    go (definitions.InSection section offset) h =
-        let q : Place = record { file = e.file; section = section; offset = offset } in
-        let same : q ≡ p = let t : ◌≡◌ {A = Option Place} (Some q) (Some p) = h in cc in
-        ap (λ (x : Place). if begins_at e.object x then Some x else None) same
-
--- its file is that of the definition
-pub place_file : (file : ℕ) (d : Definition) (p : Place) → place_in file d ≡ Some p → file ≡ p.file
-place_file file definitions.Undefined p h = absurd (cc)
-place_file file (definitions.Absolute n) p h = absurd (cc)
-place_file file (definitions.Skipped n) p h = absurd (cc)
-place_file file (definitions.InSection section offset) p h =
-    let q : Place = record { file = file; section = section; offset = offset } in
-    let same : q ≡ p = let t : ◌≡◌ {A = Option Place} (Some q) (Some p) = h in cc in
-    ap (λ (x : Place). x.file) same

@@ -2,18 +2,17 @@
 
 use Rattle.std.proofs.Common.{◌≡◌, ◌+◌, ◌-◌, inl, inr, ℕ, zero, suc, Bool, true, false, cond, Some, List, [], ◌∷◌, ◌++◌, slice_get, refl, sym, ap, subst, ◌∙◌, arith}
 use Rattle.std.specs.Prelude.{filter, bytes_eq, if◌then◌else◌}
-use Rattle.std.specs.List.{AllByRecursion, find}
+use Rattle.std.specs.List.{AllByRecursion}
 use Rattle.std.proofs.lemmas.Bool.{and_parts, and_from, or_left, or_right}
 use Rattle.std.proofs.lemmas.Slice.Eq.{bytes_eq-Decides}
+use Rattle.rv_list_laws.proofs.EachLemmas.{each_append}
 use Rattle.rv_map_laws.specs.Globals.{is_one_of}
 use Rattle.rv_object_laws.specs.declared.symbol.Binding.{Binding}
 use Rattle.rv_object_laws.specs.declared.symbol.Binding.TheVariants as bindings
 use Rattle.rv_object_laws.specs.Object.{Symbol, Object}
 use Rattle.rv_object_laws.specs.Bindings.{is_global, is_weak, is_shared}
 use Rattle.rv_link_laws.specs.Names.{Export, is_defined, is_export, exports_in, exports_from, exports_where, names_of, candidates}
-use Rattle.rv_link_laws.proofs.TextInputsLemmas.{all_append}
 use Rattle.rv_link_laws.specs.Lists.{In}
-pub use Rattle.rv_link_laws.proofs.TextPlacesLemmas.{all_found}
 
 -- a definition for all files is a symbol of its object
 pub record IsHeld (os : List Object) (e : Export) : Type 0 where
@@ -21,16 +20,6 @@ pub record IsHeld (os : List Object) (e : Export) : Type 0 where
   pub object : slice_get os (e.file - 1) ≡ Some e.object
   pub symbol : slice_get e.object.symbols e.index ≡ Some e.symbol
   pub shared : is_export is_shared e.symbol ≡ true
-
-pub found_passes : {A : Type 0} (test : A → Bool) (xs : List A) (x : A) → find test xs ≡ Some x → test x ≡ true
-found_passes test [] x is = absurd (cc)
-found_passes test (y ∷ ys) x is = by (test y) refl is (λ e. found_passes test ys x e)
-  where
-    by : (b : Bool) → test y ≡ b → cond b (Some y) (find test ys) ≡ Some x → (find test ys ≡ Some x → test x ≡ true) → test x ≡ true
-    by true passes e more =
-        let same : y ≡ x = cc in
-        ap test (sym same) ∙ passes
-    by false passes e more = more e
 
 module _ (os : List Object) (test : Binding → Bool) (wider : (b : Binding) → test b ≡ true → is_shared b ≡ true) where
   shared_too : (s : Symbol) → is_export test s ≡ true → is_export is_shared s ≡ true
@@ -65,7 +54,7 @@ module _ (os : List Object) (test : Binding → Bool) (wider : (b : Binding) →
   held_from : (file : ℕ) (ps : List Object) → ((n : ℕ) → slice_get os (file + n) ≡ slice_get ps n) → AllByRecursion (IsHeld os) (exports_from test (suc file) ps)
   held_from file [] each = tt
   held_from file (o ∷ ps) each =
-      all_append (IsHeld os) (exports_in test (suc file) o 0 o.symbols) (exports_from test (suc (suc file)) ps)
+      each_append (IsHeld os) (exports_in test (suc file) o 0 o.symbols) (exports_from test (suc (suc file)) ps)
       (held_in file o 0 o.symbols (ap (slice_get os) (let c : file ≡ file + 0 = omega arith in c) ∙ each 0) (λ n. ap (slice_get o.symbols) (let c : 0 + n ≡ n = omega arith in c)))
       (held_from (suc file) ps (λ n. ap (slice_get os) (let c : suc file + n ≡ file + suc n = omega arith in c) ∙ each (suc n)))
 
@@ -83,7 +72,7 @@ weak_wider bindings.Global e = absurd (cc)
 weak_wider bindings.Weak e = refl
 
 pub candidates_held : (os : List Object) → AllByRecursion (IsHeld os) (candidates os)
-candidates_held os = all_append (IsHeld os) (exports_where is_global os) (exports_where is_weak os) (all_held os is_global global_wider) (all_held os is_weak weak_wider)
+candidates_held os = each_append (IsHeld os) (exports_where is_global os) (exports_where is_weak os) (all_held os is_global global_wider) (all_held os is_weak weak_wider)
 
 pub shared_held : (os : List Object) → AllByRecursion (IsHeld os) (exports_where is_shared os)
 shared_held os = all_held os is_shared (λ b e. e)

@@ -16,4 +16,5 @@ pub mod HeldLemmas
 pub mod ShownLemmas
 pub mod FirstSomeLemmas
 pub mod LinkerNamesLemmas
-pub mod StepsLemmas
+pub mod InputsLemmas
+pub mod MovesLemmas

@@ -3,24 +3,13 @@
 use Rattle.std.proofs.Common.{◌≡◌, ℕ, Bool, true, false, cond, Some, option_map, List, [], ◌∷◌, map, is_some, refl, sym, ap, ◌∙◌}
 use Rattle.std.specs.Prelude.{◌||◌, bytes_eq}
 use Rattle.std.specs.List.{find}
-use Rattle.std.proofs.lemmas.Slice.Eq.{bytes_eq-Decides}
+use Rattle.rv_list_laws.proofs.ElementsLemmas.{bytes_eq_swap}
 use Rattle.rv_map_laws.specs.Globals.{global_address, is_one_of}
 use Rattle.rv_map_laws.specs.Map.{Global}
-use Rattle.rv_link_laws.proofs.ChosenLemmas.{same_bytes}
-
-pub same_tests : (a b : Bool) → (a ≡ true → b ≡ true) → (b ≡ true → a ≡ true) → a ≡ b
-same_tests true b f g = sym (f refl)
-same_tests false true f g = g refl
-same_tests false false f g = refl
-
-pub swap : (x y : List ℕ) → bytes_eq x y ≡ bytes_eq y x
-swap x y =
-    same_tests (bytes_eq x y) (bytes_eq y x) (λ e. (bytes_eq-Decides y x).1 (sym (same_bytes x y e)))
-    (λ e. (bytes_eq-Decides x y).1 (sym (same_bytes y x e)))
 
 -- a test of the code, of a name and a constant
 pub tested : (name text constant : List ℕ) (test b : Bool) → text ≡ constant → test ≡ bytes_eq name text → test ≡ b → bytes_eq constant name ≡ b
-tested name text constant test b is same outcome = swap constant name ∙ ap (bytes_eq name) (sym is) ∙ sym same ∙ outcome
+tested name text constant test b is same outcome = bytes_eq_swap constant name ∙ ap (bytes_eq name) (sym is) ∙ sym same ∙ outcome
 
 pub passed_over : (l : Global) (ls : List Global) (name : List ℕ) → bytes_eq l.name name ≡ false → global_address (l ∷ ls) name ≡ global_address ls name
 passed_over l ls name e = ap (λ c. option_map (λ (q : Global). q.address) (cond c (Some l) (find (λ (q : Global). bytes_eq q.name name) ls))) e

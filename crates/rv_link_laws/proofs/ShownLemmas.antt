@@ -7,6 +7,7 @@ use Rattle.std.specs.Option.{option_or}
 use Rattle.std.proofs.lemmas.Bool.{and_parts, and_from, eqb-true, eq-eqb}
 use Rattle.std.proofs.lemmas.List.Folds.{find-append}
 use Rattle.std.proofs.lemmas.Slice.Eq.{bytes_eq-Decides}
+use Rattle.rv_list_laws.proofs.ElementsLemmas.{same_bytes}
 use Rattle.rv_map_laws.specs.Globals.{global_address, is_one_of, AreDistinct, shown, linker_symbols}
 use Rattle.rv_map_laws.specs.Map.{Map, Global}
 use Rattle.rv_object_laws.specs.Object.{Symbol, Object}
@@ -14,7 +15,7 @@ use Rattle.rv_link_laws.specs.Inputs.{Starts}
 use Rattle.rv_object_laws.specs.Bindings.{is_shared, is_global, is_weak}
 use Rattle.rv_link_laws.specs.Names.{Export, exports_where, names_of, chosen, is_this, is_chosen, chosen_exports, global_names, export_address, globals_of, shown_linker_symbols, unshown_address, outer_address}
 use Rattle.rv_link_laws.specs.Lists.{In}
-use Rattle.rv_link_laws.proofs.ChosenLemmas.{chosen_held, chosen_named, same_bytes}
+use Rattle.rv_link_laws.proofs.ChosenLemmas.{chosen_held, chosen_named}
 use Rattle.rv_link_laws.proofs.HeldLemmas.{IsHeld, shared_held, same_export, held_one, in_filter, named_in}
 
 -- ---- the definitions that names mean

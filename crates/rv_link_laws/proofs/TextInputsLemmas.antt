@@ -1,8 +1,9 @@
 -- The sections of the text, with what each object keeps of its sections.
 
-use Rattle.std.proofs.Common.{◌≡◌, ℕ, suc, ◌+◌, ◌-◌, ◌≤◌, Bool, true, false, List, [], ◌∷◌, ◌++◌, Some, slice_index_or, refl, ap, ◌∙◌, arith}
+use Rattle.std.proofs.Common.{◌≡◌, ℕ, suc, ◌+◌, ◌-◌, ◌≤◌, Bool, true, false, List, [], ◌∷◌, Some, slice_index_or, refl, ap, ◌∙◌, arith}
 use Rattle.std.specs.Prelude.{if◌then◌else◌}
 use Rattle.std.specs.List.{AllByRecursion, slice_get}
+use Rattle.rv_list_laws.proofs.EachLemmas.{each_append}
 use Rattle.rv_object_laws.specs.Object.{Section, Object}
 use Rattle.rv_object_laws.specs.Valid.{fit_inside, are_paddings}
 use Rattle.rv_link_laws.specs.Inputs.{InputSection, goes_to_text, inputs_from, inputs_of, inputs}
@@ -17,10 +18,6 @@ pub record IsTextInput (os : List Object) (i : InputSection) : Type 0 where
   pub text : goes_to_text i.section ≡ true
   pub inside : fit_inside i.section.contents i.section.relocations ≡ true
   pub paddings : are_paddings i.section.executable i.section.contents i.section.relocations ≡ true
-
-pub all_append : {A : Type 0} (P : A → Type 0) (xs ys : List A) → AllByRecursion P xs → AllByRecursion P ys → AllByRecursion P (xs ++ ys)
-all_append P [] ys left right = right
-all_append P (x ∷ xs) ys left right = (left.0, all_append P xs ys left.1 right)
 
 from_are : (os : List Object) (file : ℕ) (o : Object) (index : ℕ) (ss : List Section) → 1 ≤ file → object_at os file ≡ o → ((n : ℕ) → slice_get o.sections (index + n) ≡ slice_get ss n)
     → AllByRecursion IsWholeSection ss → AllByRecursion (IsTextInput os) (inputs_from goes_to_text file o index ss)
@@ -45,7 +42,7 @@ of_are : (whole : List Object) (file : ℕ) (os : List Object) → 1 ≤ file �
     → AllByRecursion (IsTextInput whole) (inputs_of goes_to_text file os)
 of_are whole file [] some each h = tt
 of_are whole file (o ∷ os) some each h =
-    all_append (IsTextInput whole) (inputs_from goes_to_text file o 0 o.sections) (inputs_of goes_to_text (suc file) os)
+    each_append (IsTextInput whole) (inputs_from goes_to_text file o 0 o.sections) (inputs_of goes_to_text (suc file) os)
     (from_are whole file o 0 o.sections some (ap (object_at whole) (let e : file ≡ file + 0 = omega arith in e) ∙ each 0) (λ n. ap (slice_get o.sections) (let e : 0 + n ≡ n = omega arith in e)) h.0.sections)
     (of_are whole (suc file) os (omega (arith, some)) (λ n. ap (object_at whole) (let e : suc file + n ≡ file + suc n = omega arith in e) ∙ each (suc n)) h.1)
 

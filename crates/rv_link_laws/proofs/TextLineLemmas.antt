@@ -1,10 +1,12 @@
 -- The sites of objects make a text.
 
-use Rattle.std.proofs.Common.{◌≡◌, ℕ, zero, suc, ◌+◌, ◌-◌, ◌<◌, ◌≤◌, min, ◌⊎◌, inl, inr, Bool, true, false, ◌&&◌, ◌||◌, not, List, [], ◌∷◌, ◌++◌, Option, Some, None, map, get_or, slice_index_or, IsTrue, refl, sym, ap, subst, ◌∙◌, arith}
+use Rattle.std.proofs.Common.{◌≡◌, ℕ, zero, suc, ◌+◌, ◌-◌, ◌<◌, ◌≤◌, min, ◌⊎◌, inl, inr, Bool, true, false, ◌&&◌, ◌||◌, not, List, [], ◌∷◌, ◌++◌, Option, Some, None, map, slice_index_or, IsTrue, refl, sym, ap, subst, ◌∙◌, arith}
 use Rattle.std.specs.Prelude.{◌==◌, if◌then◌else◌, filter}
 use Rattle.std.specs.List.{AllByRecursion, list_all, list_any, slice_get}
 use Rattle.std.proofs.lemmas.Bool.{cases_lt, eqb-true, eq-eqb, and_parts, and_from, or_left, or_right}
-use Rattle.std.proofs.lemmas.List.Folds.{list_any-append}
+use Rattle.rv_list_laws.proofs.FilterLemmas.{all_filtered}
+use Rattle.rv_list_laws.proofs.EachLemmas.{each_append, each_get_or}
+use Rattle.rv_list_laws.proofs.TestsLemmas.{any_left, any_right}
 use Rattle.rv_layout_laws.specs.Sites.{padding_site}
 use Rattle.rv_layout_laws.specs.declared.site.Site.{Site}
 use Rattle.rv_layout_laws.specs.declared.site.SiteKind.{SiteKind}
@@ -19,8 +21,8 @@ use Rattle.rv_link_laws.specs.Names.{Place, no_object, object_at, is_in_text}
 use Rattle.rv_link_laws.specs.CallSites.{home, moving, is_text_place, target_place, is_entered, may_change, changes, start_padding, base_in, base, text_offset, call_site, site_of, sites_from, sites_of, length_of}
 use Rattle.rv_object_laws.specs.Whole.{IsWhole}
 use Rattle.rv_link_laws.specs.Within.{LeadsWithin, IsWithin}
-use Rattle.rv_link_laws.proofs.ChangesLemmas.{IsPermitted, IsChange, Stand, held_full, held_call, change, all_ordered, all_filtered, changes_stand}
-use Rattle.rv_link_laws.proofs.TextInputsLemmas.{IsTextInput, all_append, whole_inputs}
+use Rattle.rv_link_laws.proofs.ChangesLemmas.{IsPermitted, IsChange, Stand, held_full, held_call, change, all_ordered, changes_stand}
+use Rattle.rv_link_laws.proofs.TextInputsLemmas.{IsTextInput, whole_inputs}
 use Rattle.rv_link_laws.proofs.TextPlacesLemmas.{is_named, IsNamed, target_named, not_inside}
 
 -- ---- sites one behind the other, from an offset to another
@@ -156,7 +158,7 @@ sites_lead os offset [] h = tt
 sites_lead os offset (i ∷ is) h =
     let first = offset + start_padding i.section in
     let stop = first + size_of i.section.contents in
-    (tt, all_append (Leads os) (map (site_of os i first) (changes os i)) (sites_from os stop is) (changes_lead os i first (changes os i) h.0 (all_change os i first)) (sites_lead os stop is h.1))
+    (tt, each_append (Leads os) (map (site_of os i first) (changes os i)) (sites_from os stop is) (changes_lead os i first (changes os i) h.0 (all_change os i first)) (sites_lead os stop is h.1))
 
 -- ---- they are outside calls
 
@@ -240,7 +242,7 @@ avoids os offset (i ∷ is) p inputs place = by ((i.file == p.file) && (i.index 
     own = map (site_of os i first) (changes os i)
 
     all : (old : ℕ) → AllByRecursion (Avoids old) own → AllByRecursion (Avoids old) (sites_from os stop is) → AllByRecursion (Avoids old) (sites_from os offset (i ∷ is))
-    all old h g = ((λ call. absurd (cc)), all_append (Avoids old) own (sites_from os stop is) h g)
+    all old h g = ((λ call. absurd (cc)), each_append (Avoids old) own (sites_from os stop is) h g)
 
     at : ℕ
     at = moving (home os p) p.offset
@@ -280,12 +282,6 @@ base_within os (i ∷ is) p inputs place found = by (is_at p.file p.section i) r
         let within = stands_low os i 0 p inputs.0 place (eqb-true i.file p.file both.0) (eqb-true i.index p.section both.1) in
         omega (arith, within)
     by false e there more = let within = more there in omega (arith, within)
-
-any_left : {A : Type 0} (q : A → Bool) (xs ys : List A) → list_any q xs ≡ true → list_any q (xs ++ ys) ≡ true
-any_left q xs ys h = list_any-append q xs ys ∙ or_left (list_any q xs) (list_any q ys) h
-
-any_right : {A : Type 0} (q : A → Bool) (xs ys : List A) → list_any q ys ≡ true → list_any q (xs ++ ys) ≡ true
-any_right q xs ys h = list_any-append q xs ys ∙ or_right (list_any q xs) (list_any q ys) h
 
 found_section : (file : ℕ) (o : Object) (index : ℕ) (ss : List Section) (n : ℕ) → is_in_text (slice_get ss n) ≡ true
     → list_any (is_at file (index + n)) (inputs_from goes_to_text file o index ss) ≡ true
@@ -338,11 +334,6 @@ place_within os p inputs' place = base_within os (inputs goes_to_text os) p inpu
 
 -- ---- the whole
 
-at_index : {A : Type 0} (P : A → Type 0) (xs : List A) (d : A) → AllByRecursion P xs → P d → (i : ℕ) → P (get_or xs i d)
-at_index P [] d h none i = none
-at_index P (x ∷ xs) d h none zero = h.0
-at_index P (x ∷ xs) d h none (suc i) = at_index P xs d h.1 none i
-
 abbrev pub nowhere : Site
 nowhere = record { offset = 0; kind = Padding (record { bytes = 0; alignment = 1 }) }
 
@@ -361,12 +352,12 @@ module _ (os : List Object) (h : AllByRecursion (IsTextInput os) (inputs goes_to
       subst (λ n. Between 0 n (sites_of os)) same (between_sites os 0 (inputs goes_to_text os) h)
 
   leads_at : (i : ℕ) → Leads os (site_at (sites_of os) i)
-  leads_at i = at_index (Leads os) (sites_of os) nowhere (sites_lead os 0 (inputs goes_to_text os) h) tt i
+  leads_at i = each_get_or (Leads os) (sites_of os) nowhere (sites_lead os 0 (inputs goes_to_text os) h) tt i
 
   avoids_at : (p : Place) → IsTextPlace os p → (j : ℕ) → Avoids (line_offset os p) (site_at (sites_of os) j)
   avoids_at p place j =
       let same : 0 + line_offset os p ≡ line_offset os p = omega arith in
-      at_index (Avoids (line_offset os p)) (sites_of os) nowhere
+      each_get_or (Avoids (line_offset os p)) (sites_of os) nowhere
       (subst (λ n. AllByRecursion (Avoids n) (sites_of os)) same (avoids os 0 (inputs goes_to_text os) p h place)) (λ call. absurd (cc)) j
 
   pub text : IsText (sites_of os)

@@ -1,9 +1,9 @@
 -- The place of a symbol is one that a symbol of its object names.
 
-use Rattle.std.proofs.Common.{◌≡◌, ℕ, suc, ◌+◌, ◌-◌, ◌<◌, ◌≤◌, ◌⊎◌, inl, inr, Bool, true, false, cond, ◌&&◌, nat_lt, List, [], ◌∷◌, Option, Some, None, slice_index_or, refl, sym, ap, subst, ◌∙◌, arith}
+use Rattle.std.proofs.Common.{◌≡◌, ℕ, suc, ◌+◌, ◌-◌, ◌<◌, ◌≤◌, ◌⊎◌, inl, inr, Bool, true, false, ◌&&◌, nat_lt, List, [], ◌∷◌, Option, Some, None, slice_index_or, refl, sym, ap, ◌∙◌, arith}
 use Rattle.std.specs.Prelude.{◌==◌, if◌then◌else◌, option_and_then, bytes_eq}
-use Rattle.std.specs.List.{AllByRecursion, find, list_any, slice_get}
-use Rattle.std.proofs.lemmas.Bool.{eqb-true, eq-eqb, lt-ltb, and_from, or_left, or_right, or_cases, cases_lt}
+use Rattle.std.specs.List.{AllByRecursion, list_any, slice_get}
+use Rattle.std.proofs.lemmas.Bool.{eqb-true, eq-eqb, lt-ltb, and_from, cases_lt}
 use Rattle.rv_object_laws.specs.declared.symbol.Binding.{Binding}
 use Rattle.rv_object_laws.specs.declared.symbol.Definition.{Definition}
 use Rattle.rv_object_laws.specs.declared.symbol.Definition.TheVariants as definitions
@@ -11,9 +11,11 @@ use Rattle.rv_object_laws.specs.Object.{Symbol, Object, Relocation}
 use Rattle.rv_link_laws.specs.Inputs.{InputSection}
 use Rattle.rv_object_laws.specs.Bindings.{is_global, is_weak}
 use Rattle.rv_link_laws.specs.Names.{is_sure, is_export, Export, exports_in, exports_from, exports_where, candidates, chosen, Place, place_in, shared_place, symbol_place, no_object, object_at}
-use Rattle.rv_link_laws.proofs.TextInputsLemmas.{all_append}
 use Rattle.rv_link_laws.specs.CallSites.{is_inside, is_entered, target_place}
 use Rattle.std.proofs.lemmas.Map.Keys.{any_passes_from_place}
+use Rattle.rv_list_laws.proofs.EachLemmas.{each_append}
+use Rattle.rv_list_laws.proofs.FindLemmas.{each_found}
+use Rattle.rv_list_laws.proofs.TestsLemmas.{any_weaker}
 
 -- a definition names a place of a section
 abbrev pub names_at : (index offset : ℕ) → Definition → Bool
@@ -26,29 +28,6 @@ is_named o p = list_any (λ s. names_at p.section p.offset s.definition) o.symbo
 pub record IsNamed (os : List Object) (p : Place) : Type 0 where
   pub counted : 1 ≤ p.file
   pub named : is_named (object_at os p.file) p ≡ true
-
-any_first : {A : Type 0} (q : A → Bool) (x : A) (xs : List A) → q x ≡ true → list_any q (x ∷ xs) ≡ true
-any_first q x xs h = or_left (q x) (list_any q xs) h
-
-any_later : {A : Type 0} (q : A → Bool) (x : A) (xs : List A) → list_any q xs ≡ true → list_any q (x ∷ xs) ≡ true
-any_later q x xs h = or_right (q x) (list_any q xs) h
-
--- what holds of each holds of the one that is found
-pub all_found : {A : Type 0} (P : A → Type 0) (test : A → Bool) (xs : List A) (x : A) → AllByRecursion P xs → find test xs ≡ Some x → P x
-all_found P test [] x all is = absurd (cc)
-all_found P test (y ∷ ys) x all is = by (test y) is (λ e. all_found P test ys x all.1 e)
-  where
-    by : (b : Bool) → cond b (Some y) (find test ys) ≡ Some x → (find test ys ≡ Some x → P x) → P x
-    by true e more = subst P (let same : y ≡ x = cc in same) all.0
-    by false e more = more e
-
-pub any_weaker : {A : Type 0} (p q : A → Bool) (xs : List A) → ((x : A) → p x ≡ true → q x ≡ true) → list_any p xs ≡ true → list_any q xs ≡ true
-any_weaker p q [] f h = h
-any_weaker p q (x ∷ xs) f h = by (or_cases (p x) (list_any p xs) h) (λ e. any_weaker p q xs f e)
-  where
-    by : (p x ≡ true) ⊎ (list_any p xs ≡ true) → (list_any p xs ≡ true → list_any q xs ≡ true) → list_any q (x ∷ xs) ≡ true
-    by (inl e) more = any_first q x xs (f x e)
-    by (inr e) more = any_later q x xs (more e)
 
 -- ---- places of definitions
 
@@ -99,7 +78,7 @@ exports_are_in os test file o some at index (s ∷ ss) each = by (is_export test
 exports_are : (whole : List Object) (test : Binding → Bool) (file : ℕ) (os : List Object) → 1 ≤ file → ((n : ℕ) → object_at whole (file + n) ≡ slice_index_or os n no_object) → AllByRecursion (IsExport whole) (exports_from test file os)
 exports_are whole test file [] some each = tt
 exports_are whole test file (o ∷ os) some each =
-    all_append (IsExport whole) (exports_in test file o 0 o.symbols) (exports_from test (suc file) os) (exports_are_in whole test file o some here 0 o.symbols (λ n. ap (slice_get o.symbols) (let same : 0 + n ≡ n = omega arith in same)))
+    each_append (IsExport whole) (exports_in test file o 0 o.symbols) (exports_from test (suc file) os) (exports_are_in whole test file o some here 0 o.symbols (λ n. ap (slice_get o.symbols) (let same : 0 + n ≡ n = omega arith in same)))
     (exports_are whole test (suc file) os (omega (arith, some)) later)
   where
     here : object_at whole file ≡ o
@@ -109,7 +88,7 @@ exports_are whole test file (o ∷ os) some each =
     later n = ap (object_at whole) (let same : suc file + n ≡ file + suc n = omega arith in same) ∙ each (suc n)
 
 candidates_are : (os : List Object) → AllByRecursion (IsExport os) (candidates os)
-candidates_are os = all_append (IsExport os) (exports_where is_global os) (exports_where is_weak os) (exports_are os is_global 1 os (omega arith) each) (exports_are os is_weak 1 os (omega arith) each)
+candidates_are os = each_append (IsExport os) (exports_where is_global os) (exports_where is_weak os) (exports_are os is_global 1 os (omega arith) each) (exports_are os is_weak 1 os (omega arith) each)
   where
     each : (n : ℕ) → object_at os (1 + n) ≡ slice_index_or os n no_object
     each n = ap (λ m. slice_index_or os m no_object) (let same : 1 + n - 1 ≡ n = omega arith in same)
@@ -130,7 +109,7 @@ shared_named os name p h = by (chosen os name) refl h
 
     by : (c : Option Export) → chosen os name ≡ c → option_and_then (λ e. place_in e.file e.symbol.definition) c ≡ Some p → IsNamed os p
     by None found is = absurd (cc)
-    by (Some e) found is = named_by e (all_found (IsExport os) (λ x. bytes_eq x.symbol.name name) (candidates os) e (candidates_are os) found) is
+    by (Some e) found is = named_by e (each_found (IsExport os) (λ x. bytes_eq x.symbol.name name) (candidates os) e (candidates_are os) found) is
 
 pub symbol_named : (os : List Object) (file : ℕ) (o : Object) (n : ℕ) (s : Symbol) (p : Place) → 1 ≤ file → object_at os file ≡ o → slice_get o.symbols n ≡ Some s → symbol_place os file s ≡ Some p → IsNamed os p
 symbol_named os file o n s p some at got h = by (is_sure s) h

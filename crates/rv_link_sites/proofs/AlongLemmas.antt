@@ -4,6 +4,7 @@ use Rattle.std.proofs.Common.{◌≡◌, ℕ, zero, suc, ◌+◌, ◌*◌, Bool,
 use Rattle.std.specs.Prelude.{◌==◌, if◌then◌else◌}
 use Rattle.std.specs.List.{slice_get}
 use Rattle.std.proofs.lemmas.Bool.{eq-eqb, ne_eqb, and_from, and_left, and_right}
+use Rattle.rv_list_laws.proofs.ElementsLemmas.{get_front, get_behind}
 use Rattle.rv_object_laws.specs.Object.{Section, Object, size_of}
 use Rattle.rv_link_laws.specs.Inputs.{InputSection, goes_to_text, inputs_from, inputs_of, inputs}
 use Rattle.rv_link_laws.specs.CallSites.{start_padding, base_in, base, sites_from, sites_of, length_of}
@@ -191,16 +192,6 @@ base_is os n k o s at there text =
 abbrev pub AtPlace : List ℕ → (place first size : ℕ) → Type 0
 AtPlace xs place first size = (slice_get xs place ≡ Some first) × (slice_get xs (suc place) ≡ Some (first + size))
 
-at_front : {A : Type 0} (xs ys : List A) (i : ℕ) (x : A) → slice_get xs i ≡ Some x → slice_get (xs ++ ys) i ≡ Some x
-at_front [] ys i x h = absurd (cc)
-at_front (y ∷ xs) ys zero x h = h
-at_front (y ∷ xs) ys (suc i) x h = at_front xs ys i x h
-
-at_back : {A : Type 0} (xs ys : List A) (i j : ℕ) → j ≡ length xs + i → slice_get (xs ++ ys) j ≡ slice_get ys i
-at_back [] ys i j e = ap (slice_get ys) (let h : j ≡ i = omega (arith, e) in h)
-at_back (x ∷ xs) ys i zero e = absurd (omega (arith, e))
-at_back (x ∷ xs) ys i (suc j) e = at_back xs ys i j (omega (arith, e))
-
 at_section : (stop : ℕ) (ss : List Section) (k place : ℕ) (s : Section) → place ≡ 2 * k → slice_get ss k ≡ Some s → goes_to_text s ≡ true → AtPlace (places stop ss) place (first_in stop ss k) (size_of s.contents)
 at_section stop [] k place s e at text = absurd (cc)
 at_section stop (t ∷ ss) zero (suc place) s e at text = absurd (omega (arith, e))
@@ -222,7 +213,7 @@ at_files n stop (p ∷ os) zero k o s at there text =
     let same : p ≡ o = cc in
     let here = at_section stop p.sections k (0 + 2 * k) s (omega arith) (ap (λ (x : Object). slice_get x.sections k) same ∙ there) text in
     let more = places_files (ended stop p.sections) os in
-    (0, ap Some (let e : n ≡ n + 0 = omega arith in e), (at_front (places stop p.sections) more _ _ here.0, at_front (places stop p.sections) more _ _ here.1))
+    (0, ap Some (let e : n ≡ n + 0 = omega arith in e), (get_front (places stop p.sections) more _ _ here.0, get_front (places stop p.sections) more _ _ here.1))
 at_files n stop (p ∷ os) (suc file) k o s at there text =
     let len = length p.sections in
     let found = at_files (n + 2 * len) (ended stop p.sections) os file k o s at there text in
@@ -233,7 +224,7 @@ at_files n stop (p ∷ os) (suc file) k o s at there text =
       2 * len + entry,
       found.1 ∙ ap Some (let e : n + 2 * len + entry ≡ n + (2 * len + entry) = omega arith in e),
       (
-        at_back own more (entry + 2 * k) (2 * len + entry + 2 * k) (omega (arith, many)) ∙ found.2.0,
-        at_back own more (suc (entry + 2 * k)) (suc (2 * len + entry + 2 * k)) (omega (arith, many)) ∙ found.2.1,
+        get_behind own more (entry + 2 * k) (2 * len + entry + 2 * k) (omega (arith, many)) ∙ found.2.0,
+        get_behind own more (suc (entry + 2 * k)) (suc (2 * len + entry + 2 * k)) (omega (arith, many)) ∙ found.2.1,
       ),
     )

@@ -1,7 +1,7 @@
 -- What one relocation changes.
 
-use Rattle.std.proofs.Common.{◌≡◌, ℕ, ◌+◌, ◌-◌, ◌%◌, ◌<◌, ◌≤◌, ◌^◌, ◌⊎◌, inl, inr, Bool, true, false, not, ◌&&◌, ◌||◌, nat_le, List, [], ◌∷◌, ◌++◌, Option, Some, None, length, map, take, drop, All, count_by, ℤ, pos, ◌+ℤ◌, refl, sym, ap, ◌∙◌, append_assoc, append-nil, arith}
-use Rattle.std.specs.Prelude.{◌==◌, if◌then◌else◌, filter, unwrap_or}
+use Rattle.std.proofs.Common.{◌≡◌, ℕ, ◌+◌, ◌-◌, ◌<◌, ◌≤◌, ◌^◌, ◌⊎◌, inl, inr, Bool, true, false, not, ◌&&◌, ◌||◌, List, [], ◌∷◌, ◌++◌, Option, Some, None, length, map, take, drop, All, count_by, ℤ, pos, ◌+ℤ◌, refl, sym, ap, ◌∙◌, append_assoc, append-nil, arith}
+use Rattle.std.specs.Prelude.{◌==◌, if◌then◌else◌, filter}
 use Rattle.std.specs.Int.{w64, int_wrap}
 use Rattle.std.specs.List.{list_all, AllByRecursion}
 use Rattle.std.specs.List.Sorted.{IsPermutation}
@@ -24,6 +24,7 @@ use Rattle.rv_link_laws.specs.Moves.{has_padding, full_padding, alignment_of}
 use Rattle.rv_link_laws.specs.Inputs.{InputSection, goes_to_text}
 use Rattle.rv_link_laws.specs.CallSites.{is_call, has_relax, are_call_words, is_text_place, target_place, text_offset, excess, constant, is_entered, meets, is_permitted, may_change, call_site, site_of, is_compressible}
 use Rattle.rv_link_laws.proofs.ChangesLemmas.{call_width, one_if}
+use Rattle.rv_cut_laws.proofs.ApartLemmas.{padding_lies}
 use Rattle.rv_link_sites.specs.Between.{is_allowed}
 use Rattle.rv_link_sites.specs.declared.text.Target.{Target}
 use Rattle.rv_link_sites.specs.Text.{IsLying, can_shorten, call_of, text_target}
@@ -140,14 +141,6 @@ module _ (os : List Object) (i : InputSection) (r : Relocation) where
       ∙ sym (ap (λ b. if b then Some (call_of os i r) else None) (three (are_call_words (stored i.section.contents) r.place) (is_text_place os (target_place os i r)) (is_entered i.object i.index r.place) words found.0 entered))
 
 -- ---- it lies in its section
-
-padding_lies : (c : Contents) (place : ℕ) (o : Option ℕ) → is_padding_of true c place o ≡ true → (unwrap_or o 0 ≤ 4094) × (place + unwrap_or o 0 ≤ size_of c)
-padding_lies c place None h = absurd (cc)
-padding_lies c place (Some n) h =
-    let one = and_parts ((n % 2 == 0) && nat_le n 4094) ((place % 2 == 0) && nat_le (place + n) (size_of c)) h in
-    let two = and_parts (n % 2 == 0) (nat_le n 4094) one.0 in
-    let three = and_parts (place % 2 == 0) (nat_le (place + n) (size_of c)) one.1 in
-    (leb-true n 4094 two.1, leb-true (place + n) (size_of c) three.1)
 
 call_lies : (c : Contents) (r : Relocation) → width_of r.kind ≡ 8 → fits_inside c r ≡ true → (r.place + 8 ≤ length (stored c)) × (r.place + 8 ≤ size_of c)
 call_lies (objects.Progbits bytes) r width h = let le = leb-true (r.place + width_of r.kind) (length bytes) h in (omega (arith, width, le), omega (arith, width, le))

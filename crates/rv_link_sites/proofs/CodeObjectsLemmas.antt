@@ -1,19 +1,14 @@
 -- The text of objects of the code, and its sites.
 
-use Rattle.std.specs.List.{AllByRecursion}
 use Rattle.std.proofs.Common.{List, map, ℕ}
 use Rattle.rv_layout_laws.specs.Calls.{site_at, IsText}
 use Rattle.rv_link_laws.specs.Inputs.{goes_to_text, inputs}
 use Rattle.rv_link_laws.specs.CallSites.{sites_of, length_of}
 use Rattle.rv_link_laws.specs.Within.{IsWithin}
-use Rattle.rv_link_laws.proofs.TextInputsLemmas.{IsTextInput, whole_inputs}
 use Rattle.rv_link_laws.proofs.TextLineLemmas.{whole_text, whole_within}
 use Rattle.rv_object_types.specs.declared.object.Object.{Object as DeclaredObject}
 use Rattle.rv_object_types.specs.View.{object_of}
 use Rattle.rv_object_types.proofs.WholeLemmas.{are_whole}
-
-pub text_inputs : (ds : List DeclaredObject) → AllByRecursion (IsTextInput (map object_of ds)) (inputs goes_to_text (map object_of ds))
-text_inputs ds = whole_inputs (map object_of ds) (are_whole ds)
 
 pub sites_text : (ds : List DeclaredObject) → IsText (sites_of (map object_of ds))
 sites_text ds = whole_text (map object_of ds) (are_whole ds)

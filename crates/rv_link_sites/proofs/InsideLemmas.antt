@@ -86,12 +86,6 @@ entries_tell o e index place h inside =
 
 -- ---- lists
 
-pub empty_push : (lists : List (Vec ℕ)) (v : Vec ℕ) → v.items ≡ [] → ((index : ℕ) → list_at lists index ≡ []) → (index : ℕ) → list_at (lists ++ v ∷ []) index ≡ []
-empty_push [] v e h zero = e
-empty_push [] v e h (suc index) = refl
-empty_push (w ∷ lists) v e h zero = h 0
-empty_push (w ∷ lists) v e h (suc index) = empty_push lists v e (λ k. h (suc k)) index
-
 offsets_append : (index : ℕ) (xs ys : List Symbol) → offsets_in index (xs ++ ys) ≡ offsets_in index xs ++ offsets_in index ys
 offsets_append index [] ys = refl
 offsets_append index (x ∷ xs) ys = ap (λ l. offset_in index x.definition ++ l) (offsets_append index xs ys) ∙ sym (append_assoc (offset_in index x.definition) (offsets_in index xs) (offsets_in index ys))

@@ -6,12 +6,13 @@ use Rattle.std.specs.Bool.{OnTrue}
 use Rattle.std.specs.Ordering.{is_le}
 use Rattle.std.specs.List.{find, list_any, take_while, IsAllAdjacentAnswer}
 use Rattle.std.specs.List.Sorted.{IsNonDecreasingBy}
-use Rattle.std.proofs.lemmas.List.{drop_more, drop_all}
+use Rattle.std.proofs.lemmas.List.{drop_all}
 use Rattle.std.proofs.lemmas.List.Sorted.{IsNonDecreasingBy-from_all_adjacent}
 use Rattle.std.proofs.lemmas.List.Sums.{take_while-cons}
 use Rattle.std.proofs.lemmas.Map.Keys.{le_from_is_le}
 use Rattle.std.proofs.lemmas.Bool.{eq-eqb, lt-ltb, le-ltb, leb-true, leb-false}
 use Rattle.std.proofs.Math.Bool.{and-true}
+use Rattle.rv_list_laws.proofs.TakeDropLemmas.{drop_read_or}
 use Rattle.rv_isa.specs.declared.kind.Kind.TheVariants as kinds
 use Rattle.rv_isa.specs.Kinds.{width_of}
 use Rattle.rv_object_types.specs.declared.relocation.Relocation.{Relocation as Declared}
@@ -22,10 +23,6 @@ use Rattle.rv_link_sites.specs.Between.{Rise, has_field, next_field}
 use Rattle.rv_link_sites.proofs.SortedLemmas.{place_of}
 use Rattle.rv_link_sites.proofs.AloneLemmas.{rise_lower, no_relax}
 
--- what is left of a list, from an element on
-pub left : {X : Type 0} (xs : List X) (i : ℕ) (x d : X) → i < length xs → x ≡ get_or xs i d → drop i xs ≡ x ∷ drop (i + 1) xs
-left xs i x d inside is = drop_more xs i d inside ∙ ap (λ y. y ∷ drop (i + 1) xs) (sym is)
-
 -- what a slice has past its end
 abbrev pub nothing : Declared
 nothing = record { place = 0; kind = kinds.None; symbol = None; addend = pos 0 }
@@ -34,7 +31,7 @@ abbrev pub at : List Declared → ℕ → Declared
 at xs i = get_or xs i nothing
 
 pub relocations_left : (xs : List Declared) (i : ℕ) → i < length xs → map relocation_of (drop i xs) ≡ relocation_of (at xs i) ∷ map relocation_of (drop (i + 1) xs)
-relocations_left xs i inside = ap (map relocation_of) (left xs i (at xs i) nothing inside refl)
+relocations_left xs i inside = ap (map relocation_of) (drop_read_or xs i (at xs i) nothing inside refl)
 
 -- ---- fields
 

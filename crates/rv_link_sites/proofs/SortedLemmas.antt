@@ -5,6 +5,7 @@ use Rattle.std.specs.Prelude.{filter, pos, None}
 use Rattle.std.proofs.lemmas.Bool.{cond-true, cond-false, cases_Bool, leb-true, ltb-true, lt-ltb, and_parts, and_from, or_cases}
 use Rattle.std.specs.List.{list_all}
 use Rattle.std.specs.List.Sorted.{IsNonDecreasingBy, IsStableByKey}
+use Rattle.rv_list_laws.proofs.FilterLemmas.{filter_kept, filter_dropped}
 use Rattle.rv_isa.specs.declared.kind.Kind.TheVariants as kinds
 use Rattle.rv_object_types.specs.declared.relocation.Relocation.{Relocation as Declared}
 use Rattle.rv_object_laws.specs.Object.{Relocation, Object}
@@ -13,7 +14,7 @@ use Rattle.rv_object_laws.specs.Valid.{held, are_all_apart}
 use Rattle.rv_link_laws.specs.Inputs.{InputSection}
 use Rattle.rv_link_laws.specs.CallSites.{inserted_change, in_order, may_change, changes}
 use Rattle.rv_link_laws.proofs.ChangesLemmas.{are_clear, all_ordered, AllClear, all_clear}
-use Rattle.rv_relax.proofs.StableLemmas.{same, same_true, filter_kept, filter_dropped, AreAtLeast, Rises, at_least_lower, rises_sorted, one_alone}
+use Rattle.rv_relax.proofs.StableLemmas.{same, same_true, AreAtLeast, Rises, at_least_lower, rises_sorted, one_alone}
 use Rattle.rv_link_sites.specs.Between.{Rise}
 
 abbrev place : Relocation → ℕ

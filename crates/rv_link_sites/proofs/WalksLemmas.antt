@@ -1,46 +1,20 @@
 -- One section, and one object, more of the sites, by what stands at an index.
 
-use Rattle.std.proofs.Common.{◌≡◌, ◌<◌, ◌≤◌, ◌+◌, ℕ, zero, suc, true, false, Some, List, [], ◌∷◌, ◌++◌, length, drop, get_or, map, refl, sym, ap, ◌∙◌, append-nil, arith}
+use Rattle.std.proofs.Common.{◌≡◌, ◌≤◌, ◌+◌, ℕ, suc, true, false, Some, List, [], ◌∷◌, ◌++◌, length, drop, sym, ap, ◌∙◌, append-nil, arith}
 use Rattle.std.specs.Prelude.{if◌then◌else◌}
 use Rattle.std.specs.List.{slice_get}
 use Rattle.std.proofs.lemmas.List.{drop_all}
+use Rattle.rv_list_laws.proofs.ElementsLemmas.{append_grown}
+use Rattle.rv_list_laws.proofs.TakeDropLemmas.{drop_next}
 use Rattle.rv_layout_laws.specs.declared.site.Site.{Site}
 use Rattle.rv_object_laws.specs.Object.{Section, Object}
 use Rattle.rv_link_laws.specs.Inputs.{InputSection, goes_to_text}
 use Rattle.rv_link_laws.specs.CallSites.{sites_of}
 use Rattle.rv_link_sites.specs.Line.{end_from, next, ended, ended_files, section_sites, text_sites, input, object_sites, files_sites}
-use Rattle.rv_link_sites.proofs.StepsLemmas.{grows, grows_files, grown}
+use Rattle.rv_link_sites.proofs.StepsLemmas.{grows, grows_files}
 use Rattle.rv_link_sites.proofs.AlongLemmas.{sites_are}
 
-pub left_at : {A : Type 0} (xs : List A) (i : ℕ) (x : A) → slice_get xs i ≡ Some x → drop i xs ≡ x ∷ drop (i + 1) xs
-left_at [] i x at = absurd (cc)
-left_at (y ∷ xs) zero x at = let same : y ≡ x = cc in ap (λ z. z ∷ xs) same
-left_at (y ∷ xs) (suc i) x at = left_at xs i x at ∙ ap (λ n. x ∷ drop n (y ∷ xs)) (let e : suc (i + 1) ≡ suc i + 1 = omega arith in e)
-
-pub some_there : {A : Type 0} (xs : List A) (i : ℕ) → i < length xs → (x : A) × (slice_get xs i ≡ Some x)
-some_there [] i inside = absurd (omega (arith, inside))
-some_there (x ∷ xs) zero inside = (x, refl)
-some_there (x ∷ xs) (suc i) inside = some_there xs i (omega (arith, inside))
-
-pub mapped_there : {A B : Type 0} (f : A → B) (xs : List A) (i : ℕ) (x : A) → i < length xs → x ≡ get_or xs i x → slice_get (map f xs) i ≡ Some (f x)
-mapped_there f [] i x inside is = absurd (omega (arith, inside))
-mapped_there f (y ∷ xs) zero x inside is = ap (λ z. Some (f z)) (sym is)
-mapped_there f (y ∷ xs) (suc i) x inside is = mapped_there f xs i x (omega (arith, inside)) is
-
-pub some_mapped : {A B : Type 0} (f : A → B) (xs : List A) (i : ℕ) → i < length xs → (y : B) × (slice_get (map f xs) i ≡ Some y)
-some_mapped f [] i inside = absurd (omega (arith, inside))
-some_mapped f (x ∷ xs) zero inside = (f x, refl)
-some_mapped f (x ∷ xs) (suc i) inside = some_mapped f xs i (omega (arith, inside))
-
-pub mapped_at : {A B : Type 0} (f : A → B) (xs : List A) (i : ℕ) (d : A) → i < length xs → slice_get (map f xs) i ≡ Some (f (get_or xs i d))
-mapped_at f [] i d inside = absurd (omega (arith, inside))
-mapped_at f (x ∷ xs) zero d inside = refl
-mapped_at f (x ∷ xs) (suc i) d inside = mapped_at f xs i d (omega (arith, inside))
-
 -- ---- one section by itself
-
-pub next_other : (stop : ℕ) (s : Section) → goes_to_text s ≡ false → stop ≡ next stop s
-next_other stop s e = sym (ap (λ b. if b then end_from stop s else stop) e)
 
 pub next_text : (stop : ℕ) (s : Section) → goes_to_text s ≡ true → end_from stop s ≡ next stop s
 next_text stop s e = sym (ap (λ b. if b then end_from stop s else stop) e)
@@ -56,48 +30,43 @@ sites_text os stop i e = sym (ap (λ b. if b then text_sites os stop i else []) 
 module _ (stop i : ℕ) (ss : List Section) (s : Section) (at : slice_get ss i ≡ Some s) where
   pub section_low : (limit whole : ℕ) → whole ≤ limit → ended stop (drop i ss) ≡ whole → next stop s ≤ limit
   section_low limit whole low h =
-      let e : ended (next stop s) (drop (i + 1) ss) ≡ whole = ap (ended stop) (sym (left_at ss i s at)) ∙ h in
+      let e : ended (next stop s) (drop (i + 1) ss) ≡ whole = ap (ended stop) (sym (drop_next ss i s at)) ∙ h in
       let more = grows (next stop s) (drop (i + 1) ss) in
       omega (arith, low, e, more)
 
   module _ (end : ℕ) (ends : end ≡ next stop s) where
     pub section_ends : (whole : ℕ) → ended stop (drop i ss) ≡ whole → ended end (drop (i + 1) ss) ≡ whole
-    section_ends whole h = ap (λ n. ended n (drop (i + 1) ss)) ends ∙ ap (ended stop) (sym (left_at ss i s at)) ∙ h
+    section_ends whole h = ap (λ n. ended n (drop (i + 1) ss)) ends ∙ ap (ended stop) (sym (drop_next ss i s at)) ∙ h
 
     pub section_more : (os : List Object) (file : ℕ) (o : Object) (old new all : List Site) → new ≡ old ++ section_sites os stop (input file o i s)
         → old ++ object_sites os file o i stop (drop i ss) ≡ all → new ++ object_sites os file o (i + 1) end (drop (i + 1) ss) ≡ all
     section_more os file o old new all e h =
-        let here : object_sites os file o i stop (s ∷ drop (i + 1) ss) ≡ object_sites os file o i stop (drop i ss) = ap (object_sites os file o i stop) (sym (left_at ss i s at)) in
+        let here : object_sites os file o i stop (s ∷ drop (i + 1) ss) ≡ object_sites os file o i stop (drop i ss) = ap (object_sites os file o i stop) (sym (drop_next ss i s at)) in
         let index : i + 1 ≡ suc i = omega arith in
-        grown old (section_sites os stop (input file o i s)) (object_sites os file o (i + 1) end (drop (i + 1) ss)) new all e
+        append_grown old (section_sites os stop (input file o i s)) (object_sites os file o (i + 1) end (drop (i + 1) ss)) new all e
         (ap (λ n. old ++ (section_sites os stop (input file o i s) ++ object_sites os file o n end (drop (i + 1) ss))) index
         ∙ ap (λ n. old ++ (section_sites os stop (input file o i s) ++ object_sites os file o (suc i) n (drop (i + 1) ss))) ends ∙ ap (λ l. old ++ l) here ∙ h)
 
 module _ (stop i : ℕ) (os : List Object) (o : Object) (at : slice_get os i ≡ Some o) where
   pub object_low : (limit whole : ℕ) → whole ≤ limit → ended_files stop (drop i os) ≡ whole → ended stop o.sections ≤ limit
   object_low limit whole low h =
-      let e : ended_files (ended stop o.sections) (drop (i + 1) os) ≡ whole = ap (ended_files stop) (sym (left_at os i o at)) ∙ h in
+      let e : ended_files (ended stop o.sections) (drop (i + 1) os) ≡ whole = ap (ended_files stop) (sym (drop_next os i o at)) ∙ h in
       let more = grows_files (ended stop o.sections) (drop (i + 1) os) in
       omega (arith, low, e, more)
 
   module _ (end : ℕ) (ends : end ≡ ended stop o.sections) where
     pub object_ends : (whole : ℕ) → ended_files stop (drop i os) ≡ whole → ended_files end (drop (i + 1) os) ≡ whole
-    object_ends whole h = ap (λ n. ended_files n (drop (i + 1) os)) ends ∙ ap (ended_files stop) (sym (left_at os i o at)) ∙ h
+    object_ends whole h = ap (λ n. ended_files n (drop (i + 1) os)) ends ∙ ap (ended_files stop) (sym (drop_next os i o at)) ∙ h
 
     pub object_more : (old new all : List Site) → new ≡ old ++ object_sites os (i + 1) o 0 stop o.sections
         → old ++ files_sites os (i + 1) stop (drop i os) ≡ all → new ++ files_sites os (i + 1 + 1) end (drop (i + 1) os) ≡ all
     object_more old new all e h =
-        let here : files_sites os (i + 1) stop (o ∷ drop (i + 1) os) ≡ files_sites os (i + 1) stop (drop i os) = ap (files_sites os (i + 1) stop) (sym (left_at os i o at)) in
+        let here : files_sites os (i + 1) stop (o ∷ drop (i + 1) os) ≡ files_sites os (i + 1) stop (drop i os) = ap (files_sites os (i + 1) stop) (sym (drop_next os i o at)) in
         let index : i + 1 + 1 ≡ suc (i + 1) = omega arith in
-        grown old (object_sites os (i + 1) o 0 stop o.sections) (files_sites os (i + 1 + 1) end (drop (i + 1) os)) new all e
+        append_grown old (object_sites os (i + 1) o 0 stop o.sections) (files_sites os (i + 1 + 1) end (drop (i + 1) os)) new all e
         (ap (λ n. old ++ (object_sites os (i + 1) o 0 stop o.sections ++ files_sites os n end (drop (i + 1) os))) index
         ∙ ap (λ n. old ++ (object_sites os (i + 1) o 0 stop o.sections ++ files_sites os (suc (i + 1)) n (drop (i + 1) os))) ends ∙ ap (λ l. old ++ l) here ∙ h)
 
 pub objects_done : (file i stop : ℕ) (os rest : List Object) (new old : List Site) → length rest ≤ i → new ++ files_sites os file stop (drop i rest) ≡ old ++ files_sites os 1 0 os → new ≡ old ++ sites_of os
 objects_done file i stop os rest new old past h =
     sym (append-nil new) ∙ ap (λ l. new ++ files_sites os file stop l) (sym (drop_all i rest past)) ∙ h ∙ ap (λ l. old ++ l) (sites_are os)
-
-pub one_there : {A : Type 0} (xs : List A) (i : ℕ) (x y : A) → slice_get xs i ≡ Some x → slice_get xs i ≡ Some y → x ≡ y
-one_there [] i x y h g = absurd (cc)
-one_there (z ∷ xs) zero x y h g = (let one : z ≡ x = cc in let two : z ≡ y = cc in sym one ∙ two)
-one_there (z ∷ xs) (suc i) x y h g = one_there xs i x y h g

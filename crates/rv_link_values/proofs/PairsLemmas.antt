@@ -10,28 +10,24 @@ use Rattle.rv_link_laws.specs.Inputs.{InputSection}
 use Rattle.rv_link_laws.specs.Names.{Outer, object_at, no_object}
 use Rattle.rv_link_laws.specs.Values.{own_value, high_at, value_at, value_in}
 use Rattle.rv_link_laws.specs.Layout.{section_in, object_section}
+use Rattle.rv_link_laws.proofs.ListsLemmas.{found_at}
 use Rattle.rv_relax.specs.Kept.{moves_of}
 use Rattle.rv_placement.specs.declared.placement.PlacedSection.{PlacedSection}
 use Rattle.rv_placement.specs.declared.placement.Placement.{Placement}
 use Rattle.rv_placement.specs.Placement.{starts_of, start_in, placed_at, IsPlacement}
+use Rattle.rv_placement.proofs.FoundLemmas.{not_placed}
 use Rattle.rv_resolve.specs.Names.{place_of}
 use Rattle.rv_link_values.specs.Highs.{high_in, high_of}
 use Rattle.rv_link_values.specs.Values.{IsInputAt}
-use Rattle.rv_link_values.proofs.PlacesLemmas.{not_placed}
 
 -- ---- objects and sections by their numbers
-
-same_object : (os : List Object) (file : ℕ) (o : Object) → slice_get os file ≡ Some o → object_at os (file + 1) ≡ o
-same_object os file o at =
-    let same : file + 1 - 1 ≡ file = omega arith in
-    ap (λ n. slice_index_or os n no_object) same ∙ sym (unwrap_or-slice_get os file no_object) ∙ ap (λ x. Rattle.std.specs.Prelude.unwrap_or x no_object) at
 
 -- the sections of an object that isn't there are those of none
 sections_at : (os : List Object) (file index : ℕ) → slice_get (object_at os (file + 1)).sections index ≡ object_section os file index
 sections_at os file index = by (slice_get os file) refl
   where
     by : (f : Option Object) → slice_get os file ≡ f → slice_get (object_at os (file + 1)).sections index ≡ object_section os file index
-    by (Some o) at = ap (λ x. slice_get x.sections index) (same_object os file o at) ∙ sym (ap (λ x. section_in x index) at)
+    by (Some o) at = ap (λ x. slice_get x.sections index) (found_at os file o at) ∙ sym (ap (λ x. section_in x index) at)
     by None at =
         let same : file + 1 - 1 ≡ file = omega arith in
         let none : object_at os (file + 1) ≡ no_object = ap (λ n. slice_index_or os n no_object) same ∙ sym (unwrap_or-slice_get os file no_object) ∙ ap (λ x. Rattle.std.specs.Prelude.unwrap_or x no_object) at in
@@ -75,7 +71,7 @@ module _ (os : List Object) (start : ℕ) (p : Placement) (is : IsPlacement os s
   present : (q : PlacedSection) → placed_at p file index ≡ Some q → (o : Object) (s : Section) → slice_get os file ≡ Some o → slice_get o.sections index ≡ Some s
       → worth ≡ option_map (own_value outer (starts_of p (file + 1)) o (starts_of p (file + 1) index) s) (high_of p os file index (new_offset (moves_of q.plan.now) offset))
   present q there o s at stands =
-      ap (λ x. value_in outer (starts_of p) (file + 1) x index offset (slice_get x.sections index)) (same_object os file o at)
+      ap (λ x. value_in outer (starts_of p) (file + 1) x index offset (slice_get x.sections index)) (found_at os file o at)
       ∙ ap (value_in outer (starts_of p) (file + 1) o index offset) stands
       ∙ ap (option_map (own_value outer (starts_of p (file + 1)) o (starts_of p (file + 1) index) s)) (high_found q there o s at stands)
 

@@ -1,7 +1,7 @@
 -- Where sections stand, and what their offsets become.
 
-use Rattle.std.proofs.Common.{◌≡◌, ◌+◌, ◌-◌, ℕ, Some, None, List, sym, ap, ◌∙◌, arith}
-use Rattle.rv_object_laws.specs.Object.{Section, Object}
+use Rattle.std.proofs.Common.{◌≡◌, ◌+◌, ◌-◌, ℕ, Some, List, sym, ap, ◌∙◌, arith}
+use Rattle.rv_object_laws.specs.Object.{Object}
 use Rattle.rv_link_laws.specs.Moves.{new_offset}
 use Rattle.rv_link_laws.specs.Inputs.{InputSection}
 use Rattle.rv_link_laws.specs.Values.{moved}
@@ -11,14 +11,6 @@ use Rattle.rv_placement.specs.declared.placement.PlacedSection.{PlacedSection}
 use Rattle.rv_placement.specs.declared.placement.Placement.{Placement}
 use Rattle.rv_placement.specs.Placement.{starts_of, start_in, placed_at, IsPlacement}
 use Rattle.rv_link_values.specs.Values.{IsInputAt}
-use Rattle.rv_placement.proofs.FoundLemmas.{each_at}
-
--- ---- each section has its place
-
-pub not_placed : (os : List Object) (start : ℕ) (p : Placement) → IsPlacement os start p → (file index : ℕ) (s : Section) → object_section os file index ≡ Some s → placed_at p file index ≡ None → ⊥
-not_placed os start p is file index s at none =
-    let (q, there) = each_at p.files.items os is.each file index s at in
-    let both : Some q ≡ None = sym there ∙ none in cc
 
 -- ---- what offsets become
 

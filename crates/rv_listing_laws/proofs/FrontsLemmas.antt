@@ -5,6 +5,7 @@ use Rattle.std.specs.Prelude.{◌↔◌, ◌==◌, nat_le, slice_index}
 use Rattle.std.proofs.lemmas.Option.{some_pair_parts}
 use Rattle.std.proofs.lemmas.Bool.{cond-true, cond-false, cases_Bool}
 use Rattle.std.proofs.lemmas.Bool.Decides.{nat_tests}
+use Rattle.rv_list_laws.proofs.NumbersLemmas.{le_true}
 use Rattle.rv_isa.specs.declared.instruction.Inst.{Inst}
 use Rattle.rv_isa_laws.specs.Reader.{Reader}
 use Rattle.rv_isa_laws.specs.Word.{Spells}
@@ -23,9 +24,6 @@ is_word b h = grind (arith, nat_tests)
 
 is_parcel : (b : ℕ) → (b % 4 == 3) ≡ false → b % 4 ≡ 3 → ⊥
 is_parcel b h e = grind (arith, nat_tests)
-
-pub le_true : (m n : ℕ) → m ≤ n → nat_le m n ≡ true
-le_true m n h = grind (arith, nat_tests)
 
 true_le : (m n : ℕ) → nat_le m n ≡ true → m ≤ n
 true_le m n h = grind (arith, nat_tests)

@@ -5,6 +5,7 @@ use Rattle.std.specs.List.{flat_map, AllByRecursion}
 use Rattle.std.proofs.lemmas.List.{append-nil, length-append, map-append, nil_from_length}
 use Rattle.std.proofs.lemmas.Option.{some_pair_parts, none-some}
 use Rattle.std.proofs.lemmas.List.Concat.{flat_map-append}
+use Rattle.rv_list_laws.proofs.EachLemmas.{each_more}
 use Rattle.rv_map_laws.specs.declared.map.Region.{Region}
 use Rattle.rv_map_laws.specs.declared.map.Row.{Row}
 use Rattle.rv_map_laws.specs.declared.map.SectionId.{SectionId}
@@ -200,10 +201,6 @@ whole_text head gaps globals drops rows bytes r0 r1 r2 r3 r4 e0 e1 e2 e3 e4 none
 
 -- ---- the loops
 
-pub all_more : {A : Type 0} (P : A → Type 0) (xs : List A) (x : A) → AllByRecursion P xs → P x → AllByRecursion P (xs ++ x ∷ [])
-all_more P [] x h p = (p, tt)
-all_more P (y ∷ ys) x h p = (h.0, all_more P ys x h.1 p)
-
 -- one item more
 pub items_more : {A : Type 0} (line : A → List (List ℕ)) (bytes : List ℕ) (xs : List A) (x : A) (rest after : List ℕ)
     → bytes ≡ texts line xs ++ rest → rest ≡ line_text (line x) ++ after → bytes ≡ texts line (xs ++ x ∷ []) ++ after
@@ -230,4 +227,4 @@ pub globals_fit : (xs : List DeclaredGlobal) (x : DeclaredGlobal) (name : List �
     → AllByRecursion IsGlobal (map global_of (xs ++ x ∷ []))
 globals_fit xs x name all named fits is =
     subst (λ (gs : List Global). AllByRecursion IsGlobal gs) (sym (map-append global_of xs (x ∷ [])))
-    (all_more IsGlobal (map global_of xs) (global_of x) all (subst (λ (n : List ℕ). IsTrue (is_name n)) (sym is) named, fits))
+    (each_more IsGlobal (map global_of xs) (global_of x) all (subst (λ (n : List ℕ). IsTrue (is_name n)) (sym is) named, fits))

@@ -3,11 +3,11 @@
 use Rattle.std.proofs.Common.{◌≡◌, ◌≢◌, ℕ, zero, suc, ◌+◌, ◌/◌, ◌%◌, ◌^◌, ◌≤◌, ◌<◌, Bool, true, false, inl, inr, List, [], ◌∷◌, ◌++◌, length, get_or, take, drop, drop-cons, refl, ap, sym, ◌∙◌, arith}
 use Rattle.std.proofs.lemmas.Bool.{and_parts}
 use Rattle.std.proofs.lemmas.Bool.Decides.{nat_tests}
-use Rattle.std.proofs.Math.Nat.{div-div-eq-div-mul, pow-suc}
-use Rattle.std.specs.Int.{bytes_low_first, to_le_bytes, w64}
+use Rattle.std.specs.Int.{to_le_bytes, w64}
 use Rattle.rv_isa_laws.specs.Memory.{Mem, Right, Read, Execute, may, bytes_at, with_byte, with_bytes, number_at, with_number}
 use Rattle.rv_memory.specs.Rights.{MayLoad}
 use Rattle.rv_isa_laws.specs.Bytes.{number_in, little_endian}
+use Rattle.rv_isa_laws.proofs.BytesLemmas.{bytes-low-first}
 
 -- a range from an address is that from an address that is equal modulo 2 ^ 64
 pub may-wraps : (m : Mem) (a b n : ℕ) (r : Right) → a % 2 ^ 64 ≡ b % 2 ^ 64 → may m a n r ≡ may m b n r
@@ -15,13 +15,6 @@ may-wraps m a b zero r e = refl
 may-wraps m a b (suc n) r e =
     let next : (a + 1) % 2 ^ 64 ≡ (b + 1) % 2 ^ 64 = omega arith in
     let rest = may-wraps m (a + 1) (b + 1) n r next in
-    cc
-
-pub number_at-wraps : (m : Mem) (a b n : ℕ) → a % 2 ^ 64 ≡ b % 2 ^ 64 → number_at m a n ≡ number_at m b n
-number_at-wraps m a b zero e = refl
-number_at-wraps m a b (suc n) e =
-    let next : (a + 1) % 2 ^ 64 ≡ (b + 1) % 2 ^ 64 = omega arith in
-    let rest = number_at-wraps m (a + 1) (b + 1) n next in
     cc
 
 -- the rights of a range in two parts
@@ -117,18 +110,6 @@ may-front m a (suc n) (suc k) r low h =
 pub may-none : (m : Mem) (a n : ℕ) (r : Right) → 0 < n → m.has (a % 2 ^ 64) r ≡ false → may m a n r ≡ false
 may-none m a zero r some h = absurd (omega arith)
 may-none m a (suc n) r some h = rw h
-
--- a number's bytes, as machine words have them
-pub bytes-low-first : (i k v w : ℕ) → w ≡ v / 256 ^ i → bytes_low_first i k v ≡ little_endian k w
-bytes-low-first i zero v w e = refl
-bytes-low-first zero (suc k) v w e =
-    let one : w ≡ v = e ∙ grind arith in
-    let rest = bytes-low-first 1 k v (w / 256) (rw one) in
-    cc
-bytes-low-first (suc i) (suc k) v w e =
-    let next : w / 256 ≡ v / 256 ^ suc (suc i) = rw e (div-div-eq-div-mul v (256 ^ suc i) 256 ∙ ap (λ (n : ℕ). v / n) (sym (pow-suc 256 (suc i)))) in
-    let rest = bytes-low-first (suc (suc i)) k v (w / 256) next in
-    rw (sym e) (ap (λ (bs : List ℕ). w % 256 ∷ bs) rest)
 
 little_endian-take : (n k v : ℕ) → k ≤ n → little_endian k v ≡ take k (little_endian n v)
 little_endian-take n zero v low = refl

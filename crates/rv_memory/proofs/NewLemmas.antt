@@ -5,6 +5,7 @@ use Rattle.std.specs.List.{list_all}
 use Rattle.std.proofs.lemmas.Bool.{and_parts, cases_lt}
 use Rattle.std.proofs.lemmas.Bool.Decides.{nat_tests}
 use Rattle.std.proofs.Math.Path.{fun_ext}
+use Rattle.rv_list_laws.proofs.TruthLemmas.{or_false_back}
 use Rattle.rv_isa_laws.specs.Memory.{Mem, Right, Read, Write, Execute}
 use Rattle.rv_image_laws.specs.Segment.{Segment, meets_segment, meets_stack, are_apart}
 use Rattle.rv_isa_laws.specs.Platform.{stack_start, stack_end}
@@ -109,20 +110,16 @@ pub or-true : (b : Bool) → (b || true) ≡ true
 or-true true = refl
 or-true false = refl
 
-or-none : (b : Bool) → b ≡ (b || false)
-or-none true = refl
-or-none false = refl
-
 out-of-range : (stack : Segment) (x : ℕ) → IsStack stack → lies_in stack x ≡ false → (lies_unmade stack.address x || false) ≡ (nat_le stack_start x && nat_lt x stack_end)
 out-of-range stack x is h = elim (cases_lt x stack.address) [
   | inl below ↦
       let p : nat_lt x stack.address ≡ true = grind (arith, nat_tests) in
       let q : nat_lt x stack_end ≡ true = (let e = is.high in grind (arith, nat_tests)) in
-      sym (or-none (lies_unmade stack.address x)) ∙ ap (λ (b : Bool). nat_le stack_start x && b) (p ∙ sym q)
+      sym (or_false_back (lies_unmade stack.address x)) ∙ ap (λ (b : Bool). nat_le stack_start x && b) (p ∙ sym q)
   | inr above ↦
       let p : nat_lt x stack.address ≡ false = grind (arith, nat_tests) in
       let q : nat_lt x stack_end ≡ false = (let e = is.ends in grind (arith, nat_tests)) in
-      sym (or-none (lies_unmade stack.address x)) ∙ ap (λ (b : Bool). nat_le stack_start x && b) (p ∙ sym q)
+      sym (or_false_back (lies_unmade stack.address x)) ∙ ap (λ (b : Bool). nat_le stack_start x && b) (p ∙ sym q)
 ]
 
 stack-right-by : (b : Bool) (stack : Segment) (x : ℕ) (r : Right) → IsStack stack → lies_in stack x ≡ b →
@@ -150,7 +147,7 @@ right-cond : (b : Bool) (u : Segment) (o p : Option Segment) (a x : ℕ) (r : Ri
     (in_unmade a x r || right_in o r) ≡ (right_in p r || in_stack x r) → (in_unmade a x r || right_in (cond b (Some u) o) r) ≡ (right_in (cond b (Some u) p) r || in_stack x r)
 right-cond true u o p a x r low away e =
     let h : in_stack x r ≡ false = away refl in
-    ap (λ (b : Bool). b || gives_right u.flags r) (unmade-stack a x r low h) ∙ or-none (gives_right u.flags r) ∙ ap (λ (b : Bool). gives_right u.flags r || b) (sym h)
+    ap (λ (b : Bool). b || gives_right u.flags r) (unmade-stack a x r low h) ∙ or_false_back (gives_right u.flags r) ∙ ap (λ (b : Bool). gives_right u.flags r || b) (sym h)
 right-cond false u o p a x r low away e = e
 
 with-stack-right : (ss : List Segment) (stack : Segment) (x : ℕ) (r : Right) → IsStack stack → are_apart ss ≡ true →

@@ -97,13 +97,6 @@ put-ascends pages page up none i j low within =
       | inr past ↦ rw (put-first pages page i in_i, put-last pages page j (omega (arith, past, within, count))) (above-all pages page.number i none in_i)
     ]
 
-with-by : (b : Bool) (pages : List Page) (page : Page) → AreAscending pages → is_reached page.number pages ≡ b → AreAscending (cond b pages (pages ++ (page ∷ [])))
-with-by true pages page up e = up
-with-by false pages page up e = put-ascends pages page up e
-
-pub with-ascends : (pages : List Page) (page : Page) → AreAscending pages → AreAscending (with_page page pages)
-with-ascends pages page up = with-by (is_reached page.number pages) pages page up refl
-
 -- the pages of a segment whose first page has this number, up to that of number m, added to those of the segments before it
 pub record AreMore (segments : List Segment) (first m : ℕ) (old pages : List Page) : Type 0 where
   pub ascending : AreAscending pages
@@ -295,10 +288,6 @@ deep-pages ss i start n pages gap are low high =
     let byte : has_byte_on n (deeper start s) ≡ true = (let size = long-deeper s start in let under = gap.low in grind (arith, nat_tests)) in
     are.all n ∙ list_any_at _ (deep ss i start) i no_segment (omega (arith, gap.within, deep-count ss i start))
     (ap (λ (u : Segment). has_byte_on n u) (same-at ss i i (deeper start s) gap.within refl) ∙ byte)
-
--- where a segment begins and ends, with more in front of one
-pub deep-start : (ss : List Segment) (i start j : ℕ) → IsGap ss i start → j ≡ i → start ≡ (get_or (deep ss i start) j no_segment).address
-deep-start ss i start j gap same = sym (address-at ss i start j gap.within same)
 
 pub deep-end : (ss : List Segment) (i start j : ℕ) → IsGap ss i start →
     (get_or (deep ss i start) j no_segment).address + length (get_or (deep ss i start) j no_segment).bytes ≡ (get_or ss j no_segment).address + length (get_or ss j no_segment).bytes

@@ -11,9 +11,6 @@ use Rattle.rv_memory.specs.Flat.{no_segment, with_part}
 use Rattle.rv_memory.specs.Stretches.{IsStretch, AreAlike}
 use Rattle.rv_memory.proofs.FlatLemmas.{length-with_part}
 
-pub alike-same : (ss : List Segment) → AreAlike ss ss
-alike-same ss = record { count = refl; addresses = λ k. refl; lengths = λ k. refl; flags = λ k. refl }
-
 count-set : (ss : List Segment) (i : ℕ) (t : Segment) → length (set ss i t) ≡ length ss
 count-set [] i t = refl
 count-set (s ∷ ss) zero t = refl

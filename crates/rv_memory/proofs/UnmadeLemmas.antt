@@ -1,7 +1,7 @@
 -- The part of the stack that is not made yet: what a memory has with it, and that it has the same when a segment gets it.
 
-use Rattle.std.proofs.Common.{◌≡◌, ℕ, zero, suc, ◌+◌, ◌-◌, ◌%◌, ◌^◌, ◌≤◌, ◌<◌, Bool, true, false, ◌&&◌, ◌||◌, cond, inl, inr, List, [], ◌∷◌, ◌++◌, Option, Some, None, length, length-append, length-set, replicate, get_or, set, slice_get, map, IfSome, MatchBool, refl, ap, sym, subst, ◌∙◌, arith}
-use Rattle.std.proofs.lemmas.Bool.{and_parts, cases_eq, cases_lt}
+use Rattle.std.proofs.Common.{◌≡◌, ℕ, zero, suc, ◌+◌, ◌-◌, ◌%◌, ◌^◌, ◌≤◌, ◌<◌, Bool, true, false, ◌||◌, cond, inl, inr, List, [], ◌∷◌, ◌++◌, Option, Some, None, length, length-append, length-set, replicate, get_or, set, slice_get, map, IfSome, MatchBool, refl, ap, sym, subst, ◌∙◌, arith}
+use Rattle.std.proofs.lemmas.Bool.{and_parts, cases_eq, cases_lt, and_from}
 use Rattle.std.proofs.lemmas.Bool.Decides.{nat_tests}
 use Rattle.std.proofs.lemmas.List.{map-set, length-replicate, get_or-set_same, get_or-set_other, get_or-append-add}
 use Rattle.std.proofs.lemmas.Option.{slice_get-get_or}
@@ -44,9 +44,6 @@ has-made m base x r e = ap (λ (b : Bool). b || m.has x r) (no-right base x r e)
 pub none-unmade : (m : Mem) → with_unmade stack_start m ≡ m
 none-unmade m = same-memory (with_unmade stack_start m) m refl (fun_ext (λ (x : ℕ). fun_ext (λ (r : Right). has-made m stack_start x r (all-made x))))
 
-both-true : (a b : Bool) → a ≡ true → b ≡ true → (a && b) ≡ true
-both-true a b e f = ap (λ (c : Bool). c && b) e ∙ f
-
 -- what may be done without it may be done with it
 pub may-unmade : (m : Mem) (base a n : ℕ) (r : Right) → may m a n r ≡ true → may (with_unmade base m) a n r ≡ true
 may-unmade m base a zero r h = refl
@@ -54,7 +51,7 @@ may-unmade m base a (suc n) r h =
     let both = and_parts (m.has (a % 2 ^ 64) r) (may m (a + 1) n r) h in
     let here : (in_unmade base (a % 2 ^ 64) r || m.has (a % 2 ^ 64) r) ≡ true =
     ap (λ (b : Bool). in_unmade base (a % 2 ^ 64) r || b) both.0 ∙ or-true (in_unmade base (a % 2 ^ 64) r) in
-    both-true _ _ here (may-unmade m base (a + 1) n r both.1)
+    and_from _ _ here (may-unmade m base (a + 1) n r both.1)
 
 pub right-lifts : {A : Type 0} (o : Option A) (m : Mem) (base a n : ℕ) (r : Right) → IfSome o (λ _. may m a n r ≡ true) → IfSome o (λ _. may (with_unmade base m) a n r ≡ true)
 right-lifts None m base a n r h = h
@@ -73,14 +70,14 @@ run-unmade m base a (suc zero) r gives at high small =
     let wraps : a % 2 ^ 64 ≡ a = omega (arith, range.1, small) in
     let there : lies_unmade base (a % 2 ^ 64) ≡ true = subst (λ (x : ℕ). lies_unmade base x ≡ true) (sym wraps) at in
     let here : (in_unmade base (a % 2 ^ 64) r || m.has (a % 2 ^ 64) r) ≡ true = ap (λ (b : Bool). b || m.has (a % 2 ^ 64) r) (gives _ there) in
-    both-true _ true here refl
+    and_from _ true here refl
 run-unmade m base a (suc (suc n)) r gives at high small =
     let range = unmade-range base a at in
     let wraps : a % 2 ^ 64 ≡ a = omega (arith, range.1, small) in
     let there : lies_unmade base (a % 2 ^ 64) ≡ true = subst (λ (x : ℕ). lies_unmade base x ≡ true) (sym wraps) at in
     let here : (in_unmade base (a % 2 ^ 64) r || m.has (a % 2 ^ 64) r) ≡ true = ap (λ (b : Bool). b || m.has (a % 2 ^ 64) r) (gives _ there) in
     let next : lies_unmade base (a + 1) ≡ true = range-unmade base (a + 1) (omega (arith, range.0)) (omega (arith, high)) in
-    both-true _ _ here (run-unmade m base (a + 1) (suc n) r gives next (omega (arith, high)) small)
+    and_from _ _ here (run-unmade m base (a + 1) (suc n) r gives next (omega (arith, high)) small)
 
 -- where no segment lies there is no right but these
 pub free-right : (ss : List Segment) (base x : ℕ) (r : Right) → lies_unmade base x ≡ false → segment_at ss x ≡ None →

@@ -9,19 +9,14 @@ use Rattle.std.proofs.lemmas.List.{map-append, length-append}
 use Rattle.std.proofs.lemmas.List.Elements.{filter-append}
 use Rattle.std.proofs.lemmas.Bool.{cond-true, cond-false, eqb-true}
 use Rattle.std.proofs.lemmas.Bool.Decides.{nat_tests}
+use Rattle.rv_list_laws.proofs.NumbersLemmas.{eq_below, lt_true}
 use Rattle.rv_elf_laws.specs.Sections.{section_count}
 use Rattle.rv_object_file_laws.specs.Parts.{FileSection, is_kept, is_index, kept, kept_at, kept_before}
 use Rattle.rv_object_checks.specs.Found.{section_at, sections_from, place_among_kept, place_at, places_of}
 use Rattle.rv_object_checks.proofs.SectionsFromLemmas.{sections_are}
 
-other_index : (k j : ℕ) → k < j → (k == j) ≡ false
-other_index k j h = grind (arith, nat_tests)
-
 index_above : (k j : ℕ) → j < k → (k == j) ≡ false
 index_above k j h = grind (arith, nat_tests)
-
-is_before : (k j : ℕ) → k < j → nat_lt k j ≡ true
-is_before k j h = grind (arith, nat_tests)
 
 pub is_behind : (k j : ℕ) → j ≤ k → nat_lt k j ≡ false
 is_behind k j h = grind (arith, nat_tests)
@@ -85,7 +80,7 @@ module _ (P : FileSection → Bool) (file : List ℕ) where
           → length (filter (λ s. nat_lt s.index j) (filter P (sections_from file n (suc k)))) ≡ length (filter P (sections_from file m (suc k)))
           → length (filter (λ s. nat_lt s.index j) (filter P (section_at file k ∷ sections_from file n (suc k)))) ≡ length (filter P (section_at file k ∷ sections_from file m (suc k)))
       go true e rest = ap (λ ss. length (filter (λ s. nat_lt s.index j) ss)) (cond-true (P (section_at file k)) _ _ e)
-          ∙ ap length (cond-true _ _ _ (is_before k j (omega arith))) ∙ ap suc rest ∙ sym (ap length (cond-true (P (section_at file k)) _ _ e))
+          ∙ ap length (cond-true _ _ _ (lt_true k j (omega arith))) ∙ ap suc rest ∙ sym (ap length (cond-true (P (section_at file k)) _ _ e))
       go false e rest = ap (λ ss. length (filter (λ s. nat_lt s.index j) ss)) (cond-false (P (section_at file k)) _ _ e)
           ∙ rest ∙ sym (ap length (cond-false (P (section_at file k)) _ _ e))
 
@@ -203,7 +198,7 @@ none_past : (file : List ℕ) (n k j : ℕ) → (0 < n → k + n ≤ j) → find
 none_past file zero k j past = refl
 none_past file (suc n) k j past =
     let below : k + suc n ≤ j = past (omega arith) in
-    skip (is_kept file) file j k (sections_from file n (suc k)) (λ here. other_index k j (omega arith)) ∙ none_past file n (suc k) j (λ some. omega arith)
+    skip (is_kept file) file j k (sections_from file n (suc k)) (λ here. eq_below k j (omega arith)) ∙ none_past file n (suc k) j (λ some. omega arith)
 
 pub past_count : (file : List ℕ) (j : ℕ) → section_count file ≤ j → kept_at file j ≡ None
 past_count file j past = ap (find (is_index j)) (kept_are file) ∙ none_past file (section_count file - 1) 1 j (λ some. omega arith)

@@ -7,7 +7,6 @@ pub mod OpeningLemmas
 pub mod PositionsLemmas
 pub mod RecordsLemmas
 pub mod RelocationStepsLemmas
-pub mod RoomsLemmas
 pub mod SectionsFromLemmas
 pub mod StringsLemmas
 pub mod SymbolFieldsLemmas

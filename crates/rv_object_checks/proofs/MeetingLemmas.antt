@@ -4,6 +4,7 @@ use Rattle.std.proofs.Common.{◌≡◌, ℕ, ◌+◌, ◌<◌, Bool, true, fals
 use Rattle.std.proofs.lemmas.Bool.{or_right}
 use Rattle.std.specs.List.{list_any}
 use Rattle.std.proofs.lemmas.Bool.Decides.{nat_tests}
+use Rattle.rv_list_laws.proofs.TruthLemmas.{or_false}
 use Rattle.rv_object_laws.specs.Object.{Relocation}
 use Rattle.rv_object_laws.specs.Valid.{is_align, held, are_apart}
 use Rattle.rv_object_checks.specs.Stretches.{ends_in, starts_in, holds_in, pads_in, fills_in, AreHeld}
@@ -27,10 +28,6 @@ any_split x h [] = refl
 any_split x h (q ∷ qs) =
     ap (λ r. (x q && h q || not (x q) && h q) || r) (any_split x h qs)
     ∙ or_apart (x q) (h q) (list_any (λ q. x q && h q) qs) (list_any (λ q. not (x q) && h q) qs)
-
-pub or_false : (b : Bool) → (b || false) ≡ b
-or_false true = refl
-or_false false = refl
 
 or_assoc : (a b c : Bool) → (a || (b || c)) ≡ ((a || b) || c)
 or_assoc true b c = refl

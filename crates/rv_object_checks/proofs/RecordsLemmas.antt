@@ -1,6 +1,6 @@
 -- The records of a section, one after the other, and their tests.
 
-use Rattle.std.proofs.Common.{◌≡◌, ℕ, zero, suc, ◌+◌, ◌-◌, ◌≤◌, ◌<◌, Bool, List, [], ◌∷◌, drop, Some, None, refl, ap, sym, ◌∙◌, arith}
+use Rattle.std.proofs.Common.{◌≡◌, ℕ, zero, suc, ◌+◌, ◌-◌, ◌<◌, Bool, List, ◌∷◌, drop, Some, None, refl, ap, sym, ◌∙◌, arith}
 use Rattle.std.specs.Prelude.{flat_map}
 use Rattle.rv_fault.specs.declared.file_fault.FileFault.{FileFault}
 use Rattle.rv_elf_laws.specs.FirstFault.{first_true}
@@ -12,9 +12,6 @@ pub records_cut : {X : Type 0} (f : ℕ → List ℕ → X) (size n i p q : ℕ)
 records_cut f size n i p q bytes below next =
     let left : n - i ≡ suc (n - (i + 1)) = omega arith in
     ap (λ m. records f size m p bytes) left ∙ ap (λ place. f p bytes ∷ records f size (n - (i + 1)) place bytes) (sym next)
-
-pub records_end : {X : Type 0} (f : ℕ → List ℕ → X) (size n i p : ℕ) (bytes : List ℕ) → n ≤ i → records f size (n - i) p bytes ≡ []
-records_end f size n i p bytes past = let none : n - i ≡ 0 = omega arith in ap (λ m. records f size m p bytes) none
 
 -- all records but the first
 pub records_behind : {X : Type 0} (f : ℕ → List ℕ → X) (size n p : ℕ) (bytes : List ℕ) → p ≡ 0 + size →
@@ -38,7 +35,3 @@ pub tests_stop : {X : Type 0} (T : X → List (Bool × FileFault)) (f : ℕ → 
 tests_stop T f size n i p q bytes fault below next found =
     ap (λ rs. first_true (flat_map T rs)) (records_cut f size n i p q bytes below next)
     ∙ first_true_some (T (f p bytes)) (flat_map T (records f size (n - (i + 1)) q bytes)) fault found
-
-pub tests_end : {X : Type 0} (T : X → List (Bool × FileFault)) (f : ℕ → List ℕ → X) (size n i p : ℕ) (bytes : List ℕ) → n ≤ i →
-    first_true (flat_map T (records f size (n - i) p bytes)) ≡ None
-tests_end T f size n i p bytes past = ap (λ rs. first_true (flat_map T rs)) (records_end f size n i p bytes past)

@@ -1,10 +1,10 @@
 -- Relocations one after the other: what has been looked at, and what is left.
 
-use Rattle.std.proofs.Common.{◌≡◌, ℕ, suc, ◌+◌, ◌-◌, ◌*◌, ◌<◌, ◌≤◌, Bool, true, false, not, ◌&&◌, ◌||◌, nat_le, ◌%◌, length, subst, List, [], ◌∷◌, ◌++◌, drop, Option, Some, None, refl, sym, ap, ◌∙◌, arith, append_assoc}
+use Rattle.std.proofs.Common.{◌≡◌, ℕ, suc, ◌+◌, ◌-◌, ◌*◌, ◌<◌, ◌≤◌, Bool, true, false, not, ◌||◌, length, subst, List, [], ◌∷◌, ◌++◌, drop, Option, Some, None, refl, sym, ap, ◌∙◌, arith, append_assoc}
 use Rattle.std.specs.Prelude.{◌==◌, option_to_list, if◌then◌else◌, unwrap_or, replicate}
 use Rattle.std.specs.Int.{cast_signed, w64}
 use Rattle.std.proofs.lemmas.List.{length-replicate}
-use Rattle.std.proofs.lemmas.Bool.{leb-true, and_parts}
+use Rattle.std.proofs.lemmas.Bool.{leb-true}
 use Rattle.std.proofs.lemmas.Bool.Decides.{nat_tests}
 use Rattle.rv_isa.specs.Kinds.{width_of}
 use Rattle.rv_elf_laws.specs.declared.rela.Rela.{Rela}
@@ -16,13 +16,14 @@ use Rattle.rv_elf_laws.specs.Numbers.{sht_nobits}
 use Rattle.rv_elf_laws.specs.FirstFault.{first_true}
 use Rattle.rv_elf_laws.specs.Records.{rela_at}
 use Rattle.rv_elf_laws.specs.Sections.{records}
-use Rattle.rv_object_laws.specs.Object.{Relocation, Contents, Nobits, Progbits, size_of}
+use Rattle.rv_object_laws.specs.Object.{Relocation, Nobits, Progbits, size_of}
 use Rattle.rv_object_laws.specs.Valid.{is_align, held, fits_inside, is_padding, is_padding_of, padding_of}
 use Rattle.rv_object_file_laws.specs.FirstFault.{relocations_tests, relocation_tests}
 use Rattle.rv_object_file_laws.specs.Parts.{relocation_in, relocations_in, extent_of}
 use Rattle.rv_object_checks.specs.Stretches.{HoldsCode}
 use Rattle.rv_object_checks.proofs.SymbolFieldsLemmas.{number_behind}
 use Rattle.rv_elf_laws.specs.FirstTrue.{first_true_none, first_true_some}
+use Rattle.rv_object_laws.proofs.ObjectLemmas.{padding_inside}
 
 -- the records from an index on, of so many
 abbrev pub left_of : ℕ → ℕ → List ℕ → List Rela
@@ -37,11 +38,6 @@ left_next count i bytes less =
 
     place : rela_size * i + rela_size ≡ rela_size * (i + 1)
     place = omega arith
-
-pub left_none : (count : ℕ) (bytes : List ℕ) → left_of count count bytes ≡ []
-left_none count bytes = ap (λ n. records rela_at rela_size n (rela_size * count) bytes) zeros where
-  zeros : count - count ≡ 0
-  zeros = omega arith
 
 -- ---- what a relocation adds
 
@@ -65,9 +61,6 @@ pub record Going (h : SectionHeader) (symbols : ℕ) (before : List Relocation) 
   pub hold : HoldsCode h p f mid
   pub whole : before ++ relocations_in all ≡ mid ++ relocations_in left
 
-pub begin : (h : SectionHeader) (symbols : ℕ) (before : List Relocation) (all left : List Rela) (p f : List (ℕ × ℕ)) → left ≡ all → HoldsCode h p f before → Going h symbols before all p f left
-begin h symbols before all left p f e hold = record { mid = before; same = ap (λ rs. first_true (relocations_tests h symbols before rs)) (sym e); hold = hold; whole = ap (λ rs. before ++ relocations_in rs) (sym e) }
-
 pub step : (h : SectionHeader) (symbols : ℕ) (before : List Relocation) (all : List Rela) (p f p' f' : List (ℕ × ℕ)) (left rest : List Rela) (r : Rela)
     → left ≡ r ∷ rest → (g : Going h symbols before all p f left)
     → first_true (relocation_tests h symbols g.mid r) ≡ None → HoldsCode h p' f' (g.mid ++ option_to_list (relocation_in r))
@@ -89,18 +82,6 @@ fault h symbols before all p f left rest r x e g some =
     g.same ∙ (ap (λ rs. first_true (relocations_tests h symbols g.mid rs)) e
     ∙ first_true_some (relocation_tests h symbols g.mid r) (relocations_tests h symbols (g.mid ++ relocations_in (r ∷ [])) rest) x some)
 
-append_nothing : (xs : List Relocation) → xs ++ [] ≡ xs
-append_nothing [] = refl
-append_nothing (x ∷ xs) = ap (λ ys. x ∷ ys) (append_nothing xs)
-
-pub done : (h : SectionHeader) (symbols : ℕ) (before : List Relocation) (all : List Rela) (p f : List (ℕ × ℕ)) (left : List Rela)
-    → left ≡ [] → Going h symbols before all p f left
-    → (first_true (relocations_tests h symbols before all) ≡ None) × HoldsCode h p f (before ++ relocations_in all)
-done h symbols before all p f left e g = (
-  g.same ∙ ap (λ rs. first_true (relocations_tests h symbols g.mid rs)) e,
-  subst (HoldsCode h p f) (sym (g.whole ∙ (ap (λ rs. g.mid ++ relocations_in rs) e ∙ append_nothing g.mid))) g.hold,
-)
-
 -- ---- what a relocation holds lies in the section
 
 extent_size : (h : SectionHeader) → size_of (extent_of h) ≡ h.sh_size
@@ -108,12 +89,6 @@ extent_size h = go (h.sh_type == sht_nobits) where
   go : (b : Bool) → size_of (if b then Nobits h.sh_size else Progbits (replicate h.sh_size 0)) ≡ h.sh_size
   go true = refl
   go false = length-replicate {A = ℕ} h.sh_size 0
-
-padding_inside : (c : Contents) (place : ℕ) (o : Option ℕ) → is_padding_of true c place o ≡ true → place + unwrap_or o 0 ≤ size_of c
-padding_inside c place None h = absurd (cc)
-padding_inside c place (Some n) h =
-    let one : ((n % 2 == 0) && nat_le n 4094 ≡ true) × (((place % 2 == 0) && nat_le (place + n) (size_of c)) ≡ true) = and_parts ((n % 2 == 0) && nat_le n 4094) ((place % 2 == 0) && nat_le (place + n) (size_of c)) h in
-    leb-true (place + n) (size_of c) ((and_parts (place % 2 == 0) (nat_le (place + n) (size_of c)) one.1).1)
 
 field_inside : (h : SectionHeader) (r : Relocation) → 0 < width_of r.kind → fits_inside (extent_of h) r ≡ true → r.place + width_of r.kind ≤ h.sh_size
 field_inside h r some fit = go (h.sh_type == sht_nobits) fit where

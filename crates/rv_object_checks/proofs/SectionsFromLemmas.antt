@@ -1,9 +1,9 @@
 -- The sections of a file, by their indices.
 
-use Rattle.std.proofs.Common.{◌≡◌, ℕ, zero, suc, ◌+◌, ◌*◌, ◌-◌, ◌≤◌, ◌<◌, Bool, true, false, List, [], ◌∷◌, drop, Some, None, refl, ap, ◌∙◌, arith}
+use Rattle.std.proofs.Common.{◌≡◌, ℕ, zero, suc, ◌+◌, ◌*◌, ◌-◌, ◌<◌, Bool, false, List, ◌∷◌, drop, refl, ap, ◌∙◌, arith}
 use Rattle.rv_object_checks.specs.SectionsFrom.{from_cut}
 use Rattle.std.specs.List.{find}
-use Rattle.std.proofs.lemmas.Bool.{cond-true, cond-false}
+use Rattle.std.proofs.lemmas.Bool.{cond-false}
 use Rattle.rv_elf_laws.specs.Fields.{number_in, e_shoff, section_header_size}
 use Rattle.rv_elf_laws.specs.Records.{section_header_at}
 use Rattle.rv_elf_laws.specs.Sections.{records, section_count}
@@ -27,21 +27,10 @@ sections_are file =
     ap (λ ss. drop 1 ss) (numbered_from file (section_count file) 0 (number_in e_shoff 0 file) (omega arith))
     ∙ behind_first file (section_count file)
 
-from_end : (file : List ℕ) (n i k : ℕ) → n ≤ i → sections_from file (n - i) k ≡ []
-from_end file n i k past = let none : n - i ≡ 0 = omega arith in rw none refl
-
 -- a search, one section further
 pub find_past : (P : FileSection → Bool) (file : List ℕ) (n i : ℕ) → i < n → P (section_at file (i + 1)) ≡ false →
     find P (sections_from file (n - i) (i + 1)) ≡ find P (sections_from file (n - (i + 1)) (i + 1 + 1))
 find_past P file n i below other = ap (find P) (from_cut file n i below) ∙ cond-false _ _ _ other
-
-pub find_here : (P : FileSection → Bool) (file : List ℕ) (n i : ℕ) → i < n → P (section_at file (i + 1)) ≡ true →
-    find P (sections_from file (n - i) (i + 1)) ≡ Some (section_at file (i + 1))
-find_here P file n i below is = ap (find P) (from_cut file n i below) ∙ cond-true _ _ _ is
-
-pub find_end : (P : FileSection → Bool) (file : List ℕ) (n i : ℕ) → n ≤ i →
-    find P (sections_from file (n - i) (i + 1)) ≡ None
-find_end P file n i past = ap (find P) (from_end file n i (i + 1) past)
 
 pub all_are : (file : List ℕ) → sections file ≡ sections_from file (section_count file - 1 - 0) 1
 all_are file = let same : section_count file - 1 - 0 ≡ section_count file - 1 = omega arith in rw same (sections_are file)

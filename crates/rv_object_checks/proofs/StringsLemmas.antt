@@ -7,6 +7,7 @@ use Rattle.std.proofs.lemmas.Bool.{eqb-true, leb-true, and_parts, cond-true, con
 use Rattle.std.proofs.lemmas.Bool.Decides.{nat_tests}
 use Rattle.std.proofs.lemmas.List.{length-drop, get_or-drop, append_assoc, append-nil}
 use Rattle.memchr.specs.Find.{IsFirst, Passes, places, places_from}
+use Rattle.rv_list_laws.proofs.NumbersLemmas.{lt_true}
 use Rattle.rv_map_laws.specs.Name.{is_name_byte}
 use Rattle.rv_elf_laws.specs.declared.section_header.SectionHeader.{SectionHeader}
 use Rattle.rv_elf_laws.specs.Sections.{before_zero, string_at, indexed_contents, names_section}
@@ -81,9 +82,6 @@ last_end (byte ∷ bytes) (suc k) low is h =
 not_le : (n o : ℕ) → nat_lt o n ≡ not (nat_le n o)
 not_le n o = grind (arith, nat_tests)
 
-below : (n m : ℕ) → n < m → nat_lt n m ≡ true
-below n m h = grind (arith, nat_tests)
-
 other_number : (n m : ℕ) → (n ≡ m → ⊥) → (n == m) ≡ false
 other_number n m h = grind (arith, nat_tests)
 
@@ -96,7 +94,7 @@ pub named : (file : List ℕ) (h : SectionHeader) → h.sh_name < 2 ^ 32 → (h.
 named file h fits other = go (names_section file == 0) refl
   where
     go : (b : Bool) → (names_section file == 0) ≡ b → nat_lt h.sh_name (names_end file) ≡ not (is_none (name_of file h))
-    go true e = ap (nat_lt h.sh_name) (cond-true (names_section file == 0) _ _ e) ∙ below h.sh_name (2 ^ 32) fits ∙ ap (λ o. not (is_none o)) (sym (cond-true (names_section file == 0) _ _ e))
+    go true e = ap (nat_lt h.sh_name) (cond-true (names_section file == 0) _ _ e) ∙ lt_true h.sh_name (2 ^ 32) fits ∙ ap (λ o. not (is_none o)) (sym (cond-true (names_section file == 0) _ _ e))
     go false e =
         let table = indexed_contents file (names_section file) in
         ap (nat_lt h.sh_name) (cond-false (names_section file == 0) _ _ e) ∙ not_le (strings_end table) h.sh_name
@@ -140,7 +138,7 @@ never_shown byte (Some name) hidden = ap (λ b. b && list_all is_name_byte name)
 
 with_bytes : (byte : ℕ) (o : Option (List ℕ)) → can_show (option_map (λ name. byte ∷ name) o) ≡ all_shown (option_map (λ name. byte ∷ name) o)
 with_bytes byte None = refl
-with_bytes byte (Some name) = ap (λ b. b && list_all is_name_byte (byte ∷ name)) (below 0 (length (byte ∷ name)) (omega arith))
+with_bytes byte (Some name) = ap (λ b. b && list_all is_name_byte (byte ∷ name)) (lt_true 0 (length (byte ∷ name)) (omega arith))
 
 first_byte : (byte : ℕ) (bytes : List ℕ) → (byte == 0) ≡ false → before_zero (byte ∷ bytes) ≡ option_map (λ name. byte ∷ name) (before_zero bytes)
 first_byte byte bytes other = cond-false (byte == 0) _ _ other
@@ -181,7 +179,7 @@ shows_to (byte ∷ bytes) zero within before here =
     empty_or_all byte bytes (byte == 0) refl ∙ ap (λ b. not (byte == 0) && b) (here_shown byte bytes (byte == 0) refl (unshown_byte byte here)) ∙ never_both (byte == 0)
 shows_to (byte ∷ bytes) (suc k) within before here =
     empty_or_all byte bytes false (shown_byte byte (before 0 (omega arith))).1 ∙ shown_to (byte ∷ bytes) (suc k) within before here
-    ∙ ap (λ b. b && (get_or (byte ∷ bytes) (suc k) 0 == 0)) (sym (below 0 (suc k) (omega arith)))
+    ∙ ap (λ b. b && (get_or (byte ∷ bytes) (suc k) 0 == 0)) (sym (lt_true 0 (suc k) (omega arith)))
 
 shows_none : (bytes : List ℕ) → ((j : ℕ) → j < length bytes → is_unshown (get_or bytes j 0) ≡ true → ⊥) → can_show (before_zero bytes) ≡ false
 shows_none [] h = refl

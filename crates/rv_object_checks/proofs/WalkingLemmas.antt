@@ -1,8 +1,7 @@
 -- Over the sections of a file, one after the other.
 
-use Rattle.std.proofs.Common.{◌≡◌, ◌⊎◌, inl, inr, ℕ, zero, suc, ◌+◌, ◌-◌, ◌≤◌, ◌<◌, Bool, true, false, List, [], ◌∷◌, ◌++◌, length, get_or, set, filter, Option, Some, None, refl, ap, sym, subst, ◌∙◌, arith, append_assoc, take, drop, drop_of_length-le, take_all}
+use Rattle.std.proofs.Common.{◌≡◌, ◌⊎◌, inl, inr, ℕ, zero, suc, ◌+◌, ◌-◌, ◌<◌, Bool, true, false, List, [], ◌∷◌, ◌++◌, length, get_or, set, filter, Some, None, refl, ap, sym, subst, ◌∙◌, arith, append_assoc, take, drop, drop_of_length-le, take_all}
 use Rattle.rv_object_checks.specs.SectionsFrom.{from_cut, from_more}
-use Rattle.rv_object_checks.proofs.MeetingLemmas.{or_false}
 use Rattle.std.specs.Prelude.{Result, MatchResult, IfSome, ◌==◌, ◌||◌, ◌&&◌}
 use Rattle.std.specs.List.{list_any, slice_get}
 use Rattle.std.specs.declared.result.Result.TheVariants.{Ok, Err}
@@ -11,6 +10,10 @@ use Rattle.std.proofs.lemmas.Bool.Decides.{nat_tests}
 use Rattle.std.proofs.lemmas.List.Elements.{filter-append, filter_map-append}
 use Rattle.std.proofs.lemmas.List.Folds.{list_any-append}
 use Rattle.std.proofs.lemmas.Option.{slice_get_read}
+use Rattle.rv_list_laws.proofs.TruthLemmas.{or_false}
+use Rattle.std.proofs.lemmas.List.{append-nil, length-set}
+use Rattle.rv_list_laws.proofs.ElementsLemmas.{get_set, get_set_other}
+use Rattle.rv_list_laws.proofs.OptionsLemmas.{if_some, of_if_some}
 use Rattle.rv_fault.specs.declared.file_fault.FileFault.{FileFault}
 use Rattle.rv_fault.specs.declared.file_fault.FileFault.TheVariants.{OutOfMemory}
 use Rattle.rv_elf_laws.specs.declared.section_header.SectionHeader.{SectionHeader}
@@ -88,10 +91,6 @@ module _ (file : List ℕ) (n i : ℕ) (below : i < n) where
         first_true (sections_tests file (sections_from file i 1) (sections_from file (n - i) (i + 1))) ≡ Some fault
     walk_ends_within fault header records = walk_stop_within fault (tests_at ∙ header) (records_at ∙ records)
 
--- no section is left
-pub walk_over : (file : List ℕ) (before : List FileSection) (n i k : ℕ) → n ≤ i → first_true (sections_tests file before (sections_from file (n - i) k)) ≡ None
-walk_over file before n i k past = let none : n - i ≡ 0 = omega arith in rw none refl
-
 -- whether one of the sections passes a test, one section further
 pub any_more : (P : FileSection → Bool) (file : List ℕ) (i : ℕ) (old new here : Bool) → old ≡ list_any P (sections_from file i 1) →
     here ≡ P (section_at file (i + 1)) → new ≡ (old || here) → new ≡ list_any P (sections_from file (i + 1) 1)
@@ -107,45 +106,18 @@ relas_more file [] us = refl
 relas_more file (s ∷ ss) us = ap (λ rs. relas_in (file_contents file s.header) ++ rs) (relas_more file ss us)
     ∙ sym (append_assoc (relas_in (file_contents file s.header)) (relas_of file ss) (relas_of file us))
 
-append_none : {X : Type 0} (xs : List X) → xs ++ [] ≡ xs
-append_none [] = refl
-append_none (x ∷ xs) = ap (λ ys. x ∷ ys) (append_none xs)
-
 module _ (file : List ℕ) (before : List FileSection) (s : FileSection) (t : ℕ) where
   pub before_more : relocates t s ≡ true → relocations_before file (before ++ s ∷ []) t ≡ relocations_before file before t ++ relocations_in (relas_in (file_contents file s.header))
   before_more here =
       let mine = filter (relocates t) before in
       ap (λ ss. relocations_in (relas_of file ss)) (filter-append (relocates t) before (s ∷ []) ∙ ap (λ us. mine ++ us) (cond-true _ (s ∷ []) [] here))
-      ∙ ap relocations_in (relas_more file mine (s ∷ []) ∙ ap (λ rs. relas_of file mine ++ rs) (append_none (relas_in (file_contents file s.header))))
+      ∙ ap relocations_in (relas_more file mine (s ∷ []) ∙ ap (λ rs. relas_of file mine ++ rs) (append-nil (relas_in (file_contents file s.header))))
       ∙ filter_map-append relocation_in (relas_of file mine) (relas_in (file_contents file s.header))
 
   pub before_same : relocates t s ≡ false → relocations_before file (before ++ s ∷ []) t ≡ relocations_before file before t
   before_same other =
       ap (λ ss. relocations_in (relas_of file ss)) (filter-append (relocates t) before (s ∷ []) ∙ ap (λ us. filter (relocates t) before ++ us) (cond-false _ (s ∷ []) [] other)
-      ∙ append_none (filter (relocates t) before))
-
-get_set : {X : Type 0} (xs : List X) (t : ℕ) (x : X) → t < length xs → slice_get (set xs t x) t ≡ Some x
-get_set [] t x low = absurd (omega arith)
-get_set (y ∷ xs) zero x low = refl
-get_set (y ∷ xs) (suc t) x low = get_set xs t x (omega arith)
-
-pub get_other : {X : Type 0} (xs : List X) (t u : ℕ) (x : X) → (u ≡ t → ⊥) → slice_get (set xs t x) u ≡ slice_get xs u
-get_other [] t u x other = refl
-get_other (y ∷ xs) zero zero x other = absurd (other refl)
-get_other (y ∷ xs) zero (suc u) x other = refl
-get_other (y ∷ xs) (suc t) zero x other = refl
-get_other (y ∷ xs) (suc t) (suc u) x other = get_other xs t u x (λ e. other (ap suc e))
-
-set_long : {X : Type 0} (xs : List X) (t : ℕ) (x : X) → length (set xs t x) ≡ length xs
-set_long [] t x = refl
-set_long (y ∷ xs) zero x = refl
-set_long (y ∷ xs) (suc t) x = ap suc (set_long xs t x)
-
-if_some : {X : Type 0} (P : X → Type 0) (o : Option X) (x : X) → o ≡ Some x → P x → IfSome o P
-if_some P o x e p = subst (λ q. IfSome q P) (sym e) p
-
-some_if : {X : Type 0} (P : X → Type 0) (o : Option X) (x : X) → o ≡ Some x → IfSome o P → P x
-some_if P o x e p = subst (λ q. IfSome q P) e p
+      ∙ append-nil (filter (relocates t) before))
 
 module _ (file : List ℕ) (before : List FileSection) (s : FileSection) (all : List Places) where
   -- a section that relocates this one
@@ -153,7 +125,7 @@ module _ (file : List ℕ) (before : List FileSection) (s : FileSection) (all : 
       HoldsOf file target (relocations_before file before target ++ relocations_in (relas_in (file_contents file s.header))) new →
       HoldBefore file before all → HoldBefore file (before ++ s ∷ []) (set all target new)
   hold_more target new inside rela info holds was = record {
-    long = set_long all target new ∙ was.long;
+    long = length-set all target new ∙ was.long;
     held = λ t below loaded. go t below loaded (t == target) refl;
   }
     where
@@ -167,7 +139,7 @@ module _ (file : List ℕ) (before : List FileSection) (s : FileSection) (all : 
           (subst (λ rs. HoldsOf file target rs new) (sym (before_more file before s target here)) holds))
       go t below loaded false e =
           let other : relocates t s ≡ false = ap (λ b. b && (s.header.sh_info == t)) rela ∙ not_here t target s.header.sh_info info e in
-          subst (λ o. IfSome o (HoldsOf file t (relocations_before file (before ++ s ∷ []) t))) (sym (get_other all target t new (λ h. differ t target h e)))
+          subst (λ o. IfSome o (HoldsOf file t (relocations_before file (before ++ s ∷ []) t))) (sym (get_set_other all target t new (λ h. differ t target h e)))
           (subst (λ rs. IfSome (slice_get all t) (HoldsOf file t rs)) (sym (before_same file before s t other)) (was.held t below loaded))
         where
           not_here : (t target info : ℕ) → info ≡ target → (t == target) ≡ false → (info == t) ≡ false
@@ -194,7 +166,7 @@ pub target_done : {X : Type 0} (file : List ℕ) (before : List FileSection) (i 
     (λ fault. (fault ≡ OutOfMemory) ⊎ (first_true (rela_tests file before h) ≡ Some fault))
 target_done {X = X} file before i h target symbols bytes all old new result rela inside is there counted are read checked was =
     go result (subst (λ g. Answers g symbols bytes old new result) is checked (relocations_before file before h.sh_info)
-    (some_if (HoldsOf file h.sh_info (relocations_before file before h.sh_info)) (slice_get all h.sh_info) old
+    (of_if_some (HoldsOf file h.sh_info (relocations_before file before h.sh_info)) (slice_get all h.sh_info) old
     (slice_get_read all (length all) h.sh_info old refl (omega (arith, was.long)) read) (was.held h.sh_info inside loaded)))
   where
     loaded : is_loaded (section_header_of file h.sh_info) ≡ true
@@ -233,7 +205,7 @@ relas_done {X = X} Held file before h result other rela done =
 -- what is lent of a vector is written back
 written_back : {X : Type 0} (all new : List X) (n : ℕ) → n ≡ length all → length new ≡ length all → take n (new ++ drop (length new) all) ≡ new
 written_back all new n count long =
-    ap (λ rest. take n (new ++ rest)) (drop_of_length-le all (omega (arith, long))) ∙ ap (take n) (append_none new) ∙ take_all n new (omega (arith, count, long))
+    ap (λ rest. take n (new ++ rest)) (drop_of_length-le all (omega (arith, long))) ∙ ap (take n) (append-nil new) ∙ take_all n new (omega (arith, count, long))
 
 pub hold_on : (file : List ℕ) (i : ℕ) (h : SectionHeader) (all new : List Places) (n : ℕ) → h ≡ section_header_of file (i + 1) → n ≡ length all → length all ≡ section_count file →
     HoldBefore file (sections_from file i 1 ++ record { index = i + 1; header = h } ∷ []) new →

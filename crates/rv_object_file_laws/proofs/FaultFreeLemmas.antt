@@ -5,6 +5,9 @@ use Rattle.rv_elf_laws.specs.FirstTrue.{first_true_none}
 use Rattle.std.specs.List.{AllByRecursion, list_any, list_all, slice_get}
 use Rattle.std.proofs.lemmas.Bool.{cases_Bool, cond-true, cond-false, and_left, and_right, and_parts, and_from, or_right, not_from_true, lt-ltb, ne_eqb}
 use Rattle.std.proofs.lemmas.List.Elements.{filter-append}
+use Rattle.rv_list_laws.proofs.EachLemmas.{each_append, each_map_weaker, each_weaker, any_none}
+use Rattle.rv_list_laws.proofs.FilterLemmas.{filter_none}
+use Rattle.rv_list_laws.proofs.TruthLemmas.{flags_fine}
 use Rattle.rv_fault.specs.declared.file_fault.FileFault.{FileFault}
 use Rattle.rv_fault.specs.declared.file_fault.FileFault.TheVariants.{Truncated, BadTable, BadString, BadIndex, UnsupportedSection, NotObject}
 use Rattle.rv_elf_laws.specs.declared.section_header.SectionHeader.{SectionHeader}
@@ -22,7 +25,7 @@ use Rattle.rv_object_file_laws.specs.Known.{IsSection, IsObject}
 use Rattle.rv_layout_laws.specs.Alignment.{aligned}
 use Rattle.rv_object_file_laws.specs.Written.{relocations_bytes, table_piece, UnplacedSection, table_of, kind_of, section_piece, rela_pieces, row_pieces, row_record, header_of, symtab_index, last_index, section_names, symbol_names, symbols_bytes, symbol_record, file_header_of, file_of, HasFile}
 use Rattle.rv_object_file_laws.proofs.LaidLemmas.{listed, Shows, AllShow}
-use Rattle.rv_object_file_laws.proofs.ListsLemmas.{all_append, all_mapped, all_weaker, any_none, filter_none, flat_map_none}
+use Rattle.rv_object_file_laws.proofs.ListsLemmas.{flat_map_none}
 use Rattle.rv_object_file_laws.proofs.HeadingLemmas.{header_sound, table_sound}
 use Rattle.rv_object_file_laws.proofs.GroupsLemmas.{entry, piece_rows, rows_seen, section_answers}
 use Rattle.rv_object_file_laws.proofs.RelocatedLemmas.{FitsFields, length-relocations, relas_read, rela_piece}
@@ -287,10 +290,6 @@ tables_pass o file before has f r count none =
 
 -- ---- all
 
-flags_fine : (b : Bool) → not ((if b then 1 else 0) / 2 % 8 == 0) ≡ false
-flags_fine true = refl
-flags_fine false = refl
-
 sections_sound : (o : Object) (file : List ℕ) → IsObject o → HasFile o → (f : IsFiled o file) → first_true (sections_tests file [] (sections file)) ≡ None
 sections_sound o file known has f =
     let names = section_names o in
@@ -314,16 +313,16 @@ sections_sound o file known has f =
       below = omega (arith, count);
     } in
     let none_related : (k : ℕ) → 1 ≤ k → filter (relocates k) ([] ++ a) ≡ [] =
-    (λ k above. filter_none (relocates k) a (all_weaker (λ t. is_rela t.header ≡ false) (λ t. relocates k t ≡ false) (λ t e. and_left (is_rela t.header) (t.header.sh_info == k) e) a s.relas_sections)) in
-    let pass_a = plains_pass file names 1 64 (map section_piece o.sections) [] f.show_sections (all_mapped IsSection Plain section_piece section_plain o.sections known.all_sections) in
+    (λ k above. filter_none (relocates k) a (each_weaker (λ t. is_rela t.header ≡ false) (λ t. relocates k t ≡ false) (λ t e. and_left (is_rela t.header) (t.header.sh_info == k) e) a s.relas_sections)) in
+    let pass_a = plains_pass file names 1 64 (map section_piece o.sections) [] f.show_sections (each_map_weaker IsSection Plain section_piece section_plain o.sections known.all_sections) in
     let pass_b = relas_pass file names (symtab_index o) (length o.symbols) 1 (1 + length o.sections) f.at_relas o.sections a symbols f.show_relas
     (homes_of file names 1 64 o.sections f.show_sections) known.all_sections r.fields none_related (omega arith) (omega (arith, count, groups)) in
-    let no_rows : list_any (λ t. is_rows file t.header) (a ++ b) ≡ false = any_none (λ t. is_rows file t.header) (a ++ b) (all_append (λ t. is_rows file t.header ≡ false) a b s.rows_sections s.rows_relas) in
+    let no_rows : list_any (λ t. is_rows file t.header) (a ++ b) ≡ false = any_none (λ t. is_rows file t.header) (a ++ b) (each_append (λ t. is_rows file t.header ≡ false) a b s.rows_sections s.rows_relas) in
     let pass_c = rows_pass file names (1 + length o.sections + length (rela_group o)) f.at_rows (length o.sections) o.rows (a ++ b) (omega (arith, groups, last)) f.show_rows r.placed
     (rows_fine file names o.sections o.rows r.keeps known.lie) no_rows in
     let no_symbols : list_any (λ t. is_symbol_table t.header) ((a ++ b) ++ c) ≡ false =
     any_none (λ t. is_symbol_table t.header) ((a ++ b) ++ c)
-    (all_append (λ t. is_symbol_table t.header ≡ false) (a ++ b) c (all_append (λ t. is_symbol_table t.header ≡ false) a b s.symbols_sections s.symbols_relas) s.symbols_rows) in
+    (each_append (λ t. is_symbol_table t.header ≡ false) (a ++ b) c (each_append (λ t. is_symbol_table t.header ≡ false) a b s.symbols_sections s.symbols_relas) s.symbols_rows) in
     let pass_d = tables_pass o file ((a ++ b) ++ c) has f r count no_symbols in
     ap (λ ss. first_true (sections_tests file [] ss)) f.all
     ∙ pass_on file [] a (b ++ (c ++ d)) pass_a

@@ -4,20 +4,22 @@ use Rattle.std.proofs.Common.{◌≡◌, ℕ, suc, ◌+◌, ◌*◌, ◌<◌, �
 use Rattle.std.specs.List.{AllByRecursion}
 use Rattle.std.proofs.lemmas.Bool.{ne_eqb}
 use Rattle.std.proofs.lemmas.List.{length-append, length-replicate, length-map, map-append, drop-drop, drop_at}
+use Rattle.rv_list_laws.proofs.EachLemmas.{each_append, each_map_weaker, each_weaker, each_unmapped}
+use Rattle.rv_list_laws.proofs.TruthLemmas.{flag_below}
 use Rattle.rv_elf_laws.specs.declared.section_header.SectionHeader.{SectionHeader}
 use Rattle.rv_elf_laws.specs.Fields.{number_in, e_shoff}
 use Rattle.rv_elf_laws.specs.Records.{file_header_bytes, section_header_bytes}
 use Rattle.rv_elf_laws.specs.Sections.{names_section, indexed_contents, section_count}
+use Rattle.rv_elf_laws.proofs.RecordsLemmas.{length-file_header}
 use Rattle.rv_object_laws.specs.Object.{Object}
 use Rattle.rv_object_file_laws.specs.Parts.{sections}
 use Rattle.rv_object_file_laws.specs.Known.{IsSection, IsObject}
 use Rattle.rv_object_file_laws.specs.Written.{UnplacedSection, table_of, contents_from, headers_offset, headers_from, section_piece, row_pieces, symtab_index, last_index, first_pieces, pieces, section_names, symbol_names, symbols_bytes, locals, file_header_of, file_of, HasFile}
 use Rattle.rv_object_file_laws.proofs.StringsLemmas.{is_among}
 use Rattle.rv_object_file_laws.proofs.LaidLemmas.{after, length-contents, all_stand, Headed, all_headed, sections_are, headers_fit, length-headers, listed, listed-append, AllShow, IsSized, all_show, show-append}
-use Rattle.rv_object_file_laws.proofs.ListsLemmas.{all_append, all_mapped, all_weaker}
-use Rattle.rv_object_file_laws.proofs.HeadingLemmas.{ReadsHeader, length-file_header, file_header_back}
+use Rattle.rv_object_file_laws.proofs.HeadingLemmas.{ReadsHeader, file_header_back}
 use Rattle.rv_object_file_laws.proofs.GroupsLemmas.{length-relas}
-use Rattle.rv_object_file_laws.proofs.PlacedLemmas.{IsFine, pieces_fit, section_fine, table_fine, relas_fine, rows_fine, locals_within, names_piece, tables, rela_group, four_groups, piece_count, length-header_table, last_bytes, all_unmapped, named_all, flag_small}
+use Rattle.rv_object_file_laws.proofs.PlacedLemmas.{IsFine, pieces_fit, section_fine, table_fine, relas_fine, rows_fine, locals_within, names_piece, tables, rela_group, four_groups, piece_count, length-header_table, last_bytes, named_all}
 use Rattle.rv_object_file_laws.proofs.SymbolsReadLemmas.{all_among}
 
 -- what is read of the sections of a written file
@@ -99,15 +101,15 @@ all_fine o known has =
     let strtab = table_fine (codes ".strtab") 3 (table_of (symbol_names o)) 0 0 1 0 (omega arith) (omega arith) (omega arith) (omega arith) (omega arith) refl in
     let shstrtab = table_fine (codes ".shstrtab") 3 (table_of (section_names o)) 0 0 1 0 (omega arith) (omega arith) (omega arith) (omega arith) (omega arith) refl in
     subst (AllByRecursion IsFine) (sym (four_groups o))
-    (all_append IsFine p₁ (p₂ ++ (p₃ ++ tables o)) (all_mapped IsSection IsFine section_piece section_fine o.sections known.all_sections)
-    (all_append IsFine p₂ (p₃ ++ tables o) (relas_fine (symtab_index o) 1 o.sections (omega (arith, last)) (omega (arith, groups, last)) known.all_sections)
-    (all_append IsFine p₃ (tables o) (rows_fine o.rows) (symtab, (strtab, (shstrtab, tt))))))
+    (each_append IsFine p₁ (p₂ ++ (p₃ ++ tables o)) (each_map_weaker IsSection IsFine section_piece section_fine o.sections known.all_sections)
+    (each_append IsFine p₂ (p₃ ++ tables o) (relas_fine (symtab_index o) 1 o.sections (omega (arith, last)) (omega (arith, groups, last)) known.all_sections)
+    (each_append IsFine p₃ (tables o) (rows_fine o.rows) (symtab, (strtab, (shstrtab, tt))))))
 
 all_named : (o : Object) → AllByRecursion (λ p. is_among p.name (section_names o) ≡ true) (pieces o)
 all_named o =
     let names : List (List ℕ) = section_names o in
     let same : map (λ p. p.name) (pieces o) ≡ names = map-append (λ (p : UnplacedSection). p.name) (first_pieces o) (names_piece o ∷ []) in
-    all_unmapped (λ n. is_among n names ≡ true) (λ (p : UnplacedSection). p.name) (pieces o)
+    each_unmapped (λ n. is_among n names ≡ true) (λ (p : UnplacedSection). p.name) (pieces o)
     (subst (AllByRecursion (λ n. is_among n names ≡ true)) (sym same) (all_among [] names))
 
 -- a file of these parts: a header, contents, the header of section 0, and those of the pieces
@@ -142,7 +144,7 @@ from_parts o null known has nulls file whole small =
       kind = omega arith;
       machine = omega arith;
       sections = room;
-      flags = flag_small o.rvc;
+      flags = flag_below o.rvc;
       count = omega (arith, few.count, last);
       size = omega arith;
       names = omega (arith, last);
@@ -166,7 +168,7 @@ from_parts o null known has nulls file whole small =
     let strings : indexed_contents file (names_section file) ≡ table_of names =
     ap (indexed_contents file) index ∙ last_bytes file names 1 64 (first_pieces o) (names_piece o) stand headed refl refl in
     let named = named_all file names 64 ps other strings fine (all_named o) in
-    let shows = all_show file names 1 64 ps stand (all_weaker IsFine IsSized (λ p f. f.sized) ps fine) headed named in
+    let shows = all_show file names 1 64 ps stand (each_weaker IsFine IsSized (λ p f. f.sized) ps fine) headed named in
     groups_filed o file all shows reads (omega (arith, size)) (omega (arith, size))
 
 pub filed : (o : Object) → IsObject o → HasFile o → length (file_of o) < 2 ^ 64 → IsFiled o (file_of o)

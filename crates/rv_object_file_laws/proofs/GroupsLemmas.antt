@@ -1,8 +1,9 @@
 -- The sections that the parts of an object become, group by group, and what tests say of them.
 
-use Rattle.std.proofs.Common.{◌≡◌, ℕ, suc, ◌+◌, ◌-◌, ◌<◌, ◌≤◌, ◌==◌, nat_lt, Bool, true, false, not, ◌&&◌, ◌||◌, List, [], ◌∷◌, length, map, filter, Some, None, refl, ap, sym, ◌∙◌, arith, inl, inr, bytes_eq}
+use Rattle.std.proofs.Common.{◌≡◌, ℕ, suc, ◌+◌, ◌-◌, ◌≤◌, ◌==◌, nat_lt, Bool, true, false, not, ◌&&◌, ◌||◌, List, [], ◌∷◌, length, map, filter, Some, None, refl, ap, sym, ◌∙◌, arith, inl, inr, bytes_eq}
 use Rattle.std.specs.List.{AllByRecursion, find}
-use Rattle.std.proofs.lemmas.Bool.{eqb-true, eqb-false, ltb-true, ltb-false, cases_Bool, cond-true, cond-false, not-true, ne_eqb}
+use Rattle.std.proofs.lemmas.Bool.{ltb-true, ltb-false, cases_Bool, cond-true, cond-false, not-true, ne_eqb}
+use Rattle.rv_list_laws.proofs.EachLemmas.{each_map_weaker}
 use Rattle.rv_object_laws.specs.Object.{Contents, Progbits, Note, Nobits, Section}
 use Rattle.rv_object_laws.specs.Valid.{keeps_name}
 use Rattle.rv_object_laws.specs.declared.row.Row.{Row}
@@ -12,7 +13,6 @@ use Rattle.rv_object_file_laws.specs.Known.{IsSection}
 use Rattle.rv_layout_laws.specs.Alignment.{aligned}
 use Rattle.rv_object_file_laws.specs.Written.{UnplacedSection, kind_of, section_piece, rela_pieces, row_pieces, header_of, has_relocations}
 use Rattle.rv_object_file_laws.proofs.LaidLemmas.{listed, Shows, AllShow}
-use Rattle.rv_object_file_laws.proofs.ListsLemmas.{all_mapped}
 
 abbrev pub entry : List (List ℕ) → ℕ → ℕ → UnplacedSection → FileSection
 entry names i at p = record { index = i; header = header_of names at p }
@@ -60,7 +60,7 @@ section_answers s sound =
     record { is_kept = h.0; is_rows = h.1; is_symbols = h.2; is_relas = h.3 }
 
 pub sections_answer : (ss : List Section) → AllByRecursion IsSection ss → AllByRecursion (Answers true false false false) (map section_piece ss)
-sections_answer ss sound = all_mapped IsSection (Answers true false false false) section_piece section_answers ss sound
+sections_answer ss sound = each_map_weaker IsSection (Answers true false false false) section_piece section_answers ss sound
 
 pub relas_answer : (symtab index : ℕ) (ss : List Section) → AllByRecursion (Answers false false false true) (rela_pieces symtab index ss)
 relas_answer symtab index [] = tt
@@ -88,21 +88,6 @@ length-relas symtab index (s ∷ ss) = elim (cases_Bool (length s.relocations ==
 ]
 
 -- ---- sections by their indices
-
--- the section of an index of the list, where the list has it
-pub find_listed : (names : List (List ℕ)) (i at k : ℕ) (ps : List UnplacedSection) → i ≤ k → k < i + length ps →
-    (place : ℕ) × (p : UnplacedSection) × (find (is_index k) (listed names i at ps) ≡ Some (entry names k place p))
-find_listed names i at k [] low high = absurd (omega arith)
-find_listed names i at k (p ∷ ps) low high = elim (cases_Bool (i == k)) [
-  | inl e ↦
-      let same : i ≡ k = eqb-true i k e in
-      (at, p, cond-true (i == k) (Some (entry names i at p)) (find (is_index k) (listed names (suc i) (aligned 8 at + length p.bytes) ps)) e ∙ ap (λ n. Some (entry names n at p)) same)
-  | inr e ↦
-      let other = eqb-false i k e in
-      let next = aligned 8 at + length p.bytes in
-      let more = find_listed names (suc i) next k ps (omega arith) (omega arith) in
-      (more.0, more.1, cond-false (i == k) (Some (entry names i at p)) (find (is_index k) (listed names (suc i) next ps)) e ∙ more.2)
-]
 
 pub find_beyond : (names : List (List ℕ)) (i at k : ℕ) (ps : List UnplacedSection) → i + length ps ≤ k → find (is_index k) (listed names i at ps) ≡ None
 find_beyond names i at k [] high = refl

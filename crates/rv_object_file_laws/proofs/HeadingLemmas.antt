@@ -8,8 +8,8 @@ use Rattle.rv_elf_laws.specs.Fields.{number_in, ei_magic, ei_class, ei_data, ei_
 use Rattle.rv_elf_laws.specs.Records.{file_header_bytes}
 use Rattle.rv_elf_laws.specs.Sections.{is_past, program_count, section_count, names_section}
 use Rattle.rv_elf_laws.specs.FirstFault.{first_true, header_tests, table_tests}
+use Rattle.rv_elf_laws.proofs.SectionsLemmas.{not_past}
 use Rattle.rv_object_file_laws.proofs.RecordsLemmas.{number_at}
-use Rattle.rv_object_file_laws.proofs.LaidLemmas.{not_past}
 
 pub record FitsFileHeader (h : FileHeader) : Type 0 where
   pub kind : h.e_type < 2 ^ 16
@@ -34,10 +34,6 @@ pub record ReadsHeader (h : FileHeader) (file : List ℕ) : Type 0 where
   pub size : number_in e_shentsize 0 file ≡ h.e_shentsize
   pub count : number_in e_shnum 0 file ≡ h.e_shnum
   pub names : number_in e_shstrndx 0 file ≡ h.e_shstrndx
-
-pub length-file_header : (h : FileHeader) → length (file_header_bytes h) ≡ 64
-unfolding file_header_bytes
-length-file_header h = refl
 
 pub file_header_back : (h : FileHeader) (rest : List ℕ) → FitsFileHeader h → ReadsHeader h (file_header_bytes h ++ rest)
 unfolding file_header_bytes

@@ -3,7 +3,6 @@
 use Rattle.std.proofs.Common.{◌≡◌, ℕ, suc, ◌+◌, ◌-◌, ◌*◌, ◌<◌, ◌≤◌, ◌^◌, ◌==◌, false, ◌||◌, List, [], ◌∷◌, ◌++◌, length, take, drop, flat_map, Some, refl, ap, sym, subst, ◌∙◌, append_assoc, arith}
 use Rattle.std.specs.List.{AllByRecursion}
 use Rattle.std.proofs.lemmas.Bool.{cond-false, or_from}
-use Rattle.std.proofs.lemmas.Bool.Decides.{nat_tests}
 use Rattle.std.proofs.lemmas.List.{drop-drop, drop_at, take_at, length-append, length-replicate, length-drop, map-id}
 use Rattle.rv_elf_laws.specs.declared.section_header.SectionHeader.{SectionHeader}
 use Rattle.rv_elf_laws.specs.Fields.{number_in, e_shoff, section_header_size}
@@ -12,6 +11,7 @@ use Rattle.rv_elf_laws.specs.Records.{section_header_at, section_header_bytes}
 use Rattle.rv_elf_laws.specs.Sections.{records, is_past, is_nobits, file_contents, section_header_of, section_count}
 use Rattle.rv_object_file_laws.specs.Parts.{FileSection, numbered, sections, name_of}
 use Rattle.rv_layout_laws.specs.Alignment.{aligned}
+use Rattle.rv_elf_laws.proofs.SectionsLemmas.{not_past}
 use Rattle.rv_object_file_laws.specs.Written.{table_of, UnplacedSection, zeros_at, contents_from, headers_offset, header_of, headers_from}
 use Rattle.rv_object_file_laws.proofs.StringsLemmas.{name_offset_within}
 use Rattle.rv_object_file_laws.proofs.RecordsLemmas.{length-section_header, records_back}
@@ -23,10 +23,6 @@ aligned_up at = omega arith
 abbrev pub after : ℕ → List UnplacedSection → ℕ
 after at [] = at
 after at (p ∷ ps) = after (aligned 8 at + length p.bytes) ps
-
-pub after-append : (at : ℕ) (ps qs : List UnplacedSection) → after at (ps ++ qs) ≡ after (after at ps) qs
-after-append at [] qs = refl
-after-append at (p ∷ ps) qs = after-append (aligned 8 at + length p.bytes) ps qs
 
 pub end_after : (at : ℕ) (ps : List UnplacedSection) → at ≤ headers_offset at ps
 end_after at [] = aligned_up at
@@ -77,9 +73,6 @@ all_stand file rest at (p ∷ ps) long here =
       record { within = omega (arith, aligned_up at); bytes = ap (take (length p.bytes)) there ∙ take_at p.bytes tail (length p.bytes) refl },
       all_stand file rest next ps (omega (arith, aligned_up at)) behind,
     )
-
-pub not_past : (file : List ℕ) (place size : ℕ) → place + size ≤ length file → is_past file place size ≡ false
-not_past file place size h = grind (arith, nat_tests)
 
 -- ---- headers
 

@@ -1,6 +1,6 @@
 -- Each section of a written file shows the piece that it was made of.
 
-use Rattle.std.proofs.Common.{◌≡◌, ℕ, suc, ◌+◌, ◌*◌, ◌<◌, ◌≤◌, ◌^◌, ◌==◌, Bool, true, false, List, [], ◌∷◌, ◌++◌, length, take, drop, map, flat_map, codes, refl, ap, ◌∙◌, arith, inl, inr, append_assoc, if◌then◌else◌}
+use Rattle.std.proofs.Common.{◌≡◌, ℕ, suc, ◌+◌, ◌*◌, ◌<◌, ◌≤◌, ◌^◌, ◌==◌, Bool, true, false, List, [], ◌∷◌, ◌++◌, length, take, drop, map, flat_map, codes, refl, ap, ◌∙◌, arith, inl, inr, append_assoc}
 use Rattle.std.specs.List.{AllByRecursion}
 use Rattle.std.proofs.lemmas.Bool.{or_from, cases_Bool, cond-true, cond-false, eqb-true}
 use Rattle.std.proofs.lemmas.Bool.Decides.{nat_tests}
@@ -14,10 +14,11 @@ use Rattle.rv_object_laws.specs.declared.row.Row.{Row}
 use Rattle.rv_object_file_laws.specs.Known.{IsSection}
 use Rattle.rv_object_file_laws.specs.Parts.{name_at}
 use Rattle.rv_layout_laws.specs.Alignment.{aligned}
+use Rattle.rv_elf_laws.proofs.SectionsLemmas.{not_past}
 use Rattle.rv_object_file_laws.specs.Written.{name_offset, UnplacedSection, table_of, table_piece, headers_offset, headers_from, kind_of, flag_if, section_piece, rela_pieces, row_pieces, symtab_index, last_index, pieces, section_names, symbol_names, symbols_bytes, is_local, locals}
 use Rattle.rv_object_file_laws.proofs.RecordsLemmas.{length-section_header}
 use Rattle.rv_object_file_laws.proofs.StringsLemmas.{is_among, name_back}
-use Rattle.rv_object_file_laws.proofs.LaidLemmas.{end_after, AllStand, not_past, FitsPiece, Headed, IsSized, AllNamed}
+use Rattle.rv_object_file_laws.proofs.LaidLemmas.{end_after, AllStand, FitsPiece, Headed, IsSized, AllNamed}
 use Rattle.rv_object_file_laws.proofs.GroupsLemmas.{length-relas}
 
 -- ---- what holds of each piece
@@ -175,10 +176,6 @@ last_bytes file names i at (p ∷ ps) q stand headed bytes sized =
     let next : i + suc (length ps) ≡ suc i + length ps = omega arith in
     ap (indexed_contents file) next ∙ last_bytes file names (suc i) (aligned 8 at + length p.bytes) ps q stand.1 headed.1 bytes sized
 
-pub all_unmapped : {X Y : Type 0} (P : Y → Type 0) (f : X → Y) (xs : List X) → AllByRecursion P (map f xs) → AllByRecursion (λ x. P (f x)) xs
-all_unmapped P f [] h = tt
-all_unmapped P f (x ∷ xs) h = (h.0, all_unmapped P f xs h.1)
-
 pub named_all : (file : List ℕ) (names : List (List ℕ)) (at : ℕ) (ps : List UnplacedSection) → (names_section file == 0) ≡ false →
     indexed_contents file (names_section file) ≡ table_of names → AllByRecursion IsFine ps → AllByRecursion (λ p. is_among p.name names ≡ true) ps → AllNamed file names at ps
 named_all file names at [] other table fine among = tt
@@ -187,7 +184,3 @@ named_all file names at (p ∷ ps) other table fine among = (
       ∙ name_back names p.name fine.0.string among.0,
   named_all file names (aligned 8 at + length p.bytes) ps other table fine.1 among.1,
 )
-
-pub flag_small : (b : Bool) → (if b then 1 else 0) < 2 ^ 32
-flag_small true = omega arith
-flag_small false = omega arith

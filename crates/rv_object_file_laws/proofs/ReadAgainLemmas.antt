@@ -3,8 +3,10 @@
 use Rattle.std.proofs.Common.{◌≡◌, ℕ, suc, ◌+◌, ◌%◌, ◌<◌, ◌≤◌, ◌^◌, ◌==◌, Bool, true, false, List, [], ◌∷◌, ◌++◌, length, drop, map, filter, Option, Some, None, refl, ap, sym, ◌∙◌, arith, append-nil, if◌then◌else◌}
 use Rattle.std.specs.List.{AllByRecursion, find, list_all, slice_get}
 use Rattle.std.proofs.lemmas.Bool.{cond-true, and_left, and_parts, ltb-true, false≢true}
-use Rattle.std.proofs.lemmas.List.Elements.{filter-append}
 use Rattle.std.proofs.lemmas.Option.{slice_get_within}
+use Rattle.rv_list_laws.proofs.EachLemmas.{each_weaker, each_unmapped}
+use Rattle.rv_list_laws.proofs.FilterLemmas.{filter_all, filter_none, filter_groups}
+use Rattle.rv_list_laws.proofs.FindLemmas.{find_past, find_none}
 use Rattle.rv_elf_laws.specs.Records.{symbol_at}
 use Rattle.rv_elf_laws.specs.Sections.{indexed_contents, file_contents, symbols_in}
 use Rattle.rv_object_laws.specs.declared.row.Row.{Row}
@@ -17,12 +19,11 @@ use Rattle.rv_object_file_laws.specs.Known.{IsRelocation, IsSection, IsSymbol, I
 use Rattle.rv_object_file_laws.specs.Written.{UnplacedSection, table_of, section_piece, row_pieces, symtab_index, last_index, section_names, symbol_names, symbols_bytes, symbol_number, symbol_record, row_record, file_of, HasFile}
 use Rattle.rv_object_file_laws.proofs.StringsLemmas.{is_among}
 use Rattle.rv_object_file_laws.proofs.LaidLemmas.{listed, AllShow}
-use Rattle.rv_object_file_laws.proofs.ListsLemmas.{all_weaker, filter_all, filter_none, find_past, find_none}
 use Rattle.rv_object_file_laws.proofs.GroupsLemmas.{entry, Answers, rows_seen, kept_seen, listed_all, sections_answer, relas_answer, rows_answer}
 use Rattle.rv_object_file_laws.proofs.RelocatedLemmas.{FitsRelocation, FitsFields, relas_at, relas_for}
 use Rattle.rv_object_file_laws.proofs.SectionsReadLemmas.{sections_back}
 use Rattle.rv_object_file_laws.proofs.SymbolsReadLemmas.{all_among, KeepsSections, FitsName, FitsIn, symbols_read, symbols_again, rows_read, rows_again}
-use Rattle.rv_object_file_laws.proofs.PlacedLemmas.{symtab_piece, tables, rela_group, all_unmapped}
+use Rattle.rv_object_file_laws.proofs.PlacedLemmas.{symtab_piece, tables, rela_group}
 use Rattle.rv_object_file_laws.proofs.FiledLemmas.{IsFiled, small_of, filed}
 
 -- ---- what the parts of an object keep of each other
@@ -65,11 +66,6 @@ fit_rows ss (r ∷ rs) known h =
     (record { known = known.0; inside = slice_get_within ss r.section one.0 one.1 }, fit_rows ss rs known.1 both.1)
 
 -- ---- searches of the sections
-
-filter_groups : {X : Type 0} (p : X → Bool) (a b c d : List X) → filter p (a ++ (b ++ (c ++ d))) ≡ filter p a ++ (filter p b ++ (filter p c ++ filter p d))
-filter_groups p a b c d =
-    filter-append p a (b ++ (c ++ d))
-    ∙ ap (λ xs. filter p a ++ xs) (filter-append p b (c ++ d) ∙ ap (λ xs. filter p b ++ xs) (filter-append p c d))
 
 rvc_back : (b : Bool) → b ≡ ((if b then 1 else 0) % 2 == 1)
 rvc_back true = refl
@@ -143,7 +139,7 @@ sorted o file known f =
     }
 
 unrelated : (k : ℕ) (ss : List FileSection) → AllByRecursion (λ s. is_rela s.header ≡ false) ss → filter (relocates k) ss ≡ []
-unrelated k ss h = filter_none (relocates k) ss (all_weaker (λ s. is_rela s.header ≡ false) (λ s. relocates k s ≡ false) (λ s e. and_left (is_rela s.header) (s.header.sh_info == k) e) ss h)
+unrelated k ss h = filter_none (relocates k) ss (each_weaker (λ s. is_rela s.header ≡ false) (λ s. relocates k s ≡ false) (λ s e. and_left (is_rela s.header) (s.header.sh_info == k) e) ss h)
 
 -- what is read of a written file
 pub record Read (o : Object) (file : List ℕ) (f : IsFiled o file) : Type 0 where
@@ -171,7 +167,7 @@ read_of o file known has f =
     let d : List FileSection = table_list o f.at_tables in
     let i₃ = 1 + length o.sections + length (rela_group o) in
     let fields = fit_fields (length o.symbols) o.sections known.all_sections known.indexed in
-    let among = all_unmapped (λ n. is_among n strings ≡ true) (λ (y : Symbol). y.name) o.symbols (all_among [] strings) in
+    let among = each_unmapped (λ n. is_among n strings ≡ true) (λ (y : Symbol). y.name) o.symbols (all_among [] strings) in
     let named = fit_names (length o.sections) strings o.symbols known.all_symbols among known.defined in
     let placed = fit_rows o.sections o.rows known.all_rows known.lie in
     let table : symbol_table file ≡ Some (entry names (symtab_index o) f.at_tables (symtab_piece o)) =

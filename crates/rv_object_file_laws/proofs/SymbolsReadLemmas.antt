@@ -1,11 +1,12 @@
 -- Symbols and rows that were written are read again.
 
-use Rattle.std.proofs.Common.{◌≡◌, ℕ, zero, suc, ◌+◌, ◌*◌, ◌/◌, ◌<◌, ◌^◌, ◌==◌, nat_lt, nat_le, true, not, List, [], ◌∷◌, ◌++◌, length, drop, map, replicate, filter, flat_map, Some, refl, ap, sym, subst, ◌∙◌, arith, unwrap_or, append_assoc, append-nil, bytes_eq}
+use Rattle.std.proofs.Common.{◌≡◌, ℕ, zero, suc, ◌+◌, ◌*◌, ◌/◌, ◌<◌, ◌^◌, ◌==◌, nat_lt, true, List, [], ◌∷◌, ◌++◌, length, drop, map, replicate, filter, flat_map, Some, refl, ap, sym, subst, ◌∙◌, arith, unwrap_or, append_assoc, append-nil, bytes_eq}
 use Rattle.std.specs.List.{AllByRecursion, find, list_all, slice_get}
-use Rattle.std.proofs.lemmas.Bool.{cond-true, cond-false, and_parts, and_from, or_left, or_right, ltb-true, leb-true, ne_eqb, eq-eqb, not_from_false}
+use Rattle.std.proofs.lemmas.Bool.{cond-true, cond-false, and_parts, or_left, or_right, ltb-true, ne_eqb, eq-eqb}
 use Rattle.std.proofs.lemmas.List.{length-append, length-replicate, drop_at, length-map}
 use Rattle.std.proofs.lemmas.List.Folds.{list_any-append}
 use Rattle.std.proofs.lemmas.Slice.Eq.{bytes_eq-Decides}
+use Rattle.rv_list_laws.proofs.ElementsLemmas.{get_some}
 use Rattle.rv_map_laws.specs.Name.{is_name_byte}
 use Rattle.rv_elf_laws.specs.declared.symbol.Symbol.{Symbol as SymbolRecord}
 use Rattle.rv_elf_laws.specs.Fields.{symbol_size}
@@ -24,6 +25,7 @@ use Rattle.rv_object_file_laws.specs.Parts.{kept, kept_at, kept_before, is_index
 use Rattle.rv_object_file_laws.specs.ObjectOf.{names_of, binding_numbered, definition_in, definition_by, symbol_in, row_in}
 use Rattle.rv_object_file_laws.specs.Known.{IsSymbol, IsRow}
 use Rattle.rv_layout_laws.specs.Alignment.{aligned}
+use Rattle.rv_object_laws.proofs.ValidLemmas.{no_zero}
 use Rattle.rv_object_file_laws.specs.Written.{section_piece, name_offset, table_of, binding_number, section_index_of, definition_value, symbol_record, symbols_bytes, symbol_names, row_record}
 use Rattle.rv_object_file_laws.proofs.RecordsLemmas.{length-symbol, FitsRow, length-row, row_back, records_back}
 use Rattle.rv_object_file_laws.proofs.StringsLemmas.{is_among, name_back, name_offset_within}
@@ -31,13 +33,6 @@ use Rattle.rv_object_file_laws.proofs.LaidLemmas.{listed}
 use Rattle.rv_object_file_laws.proofs.GroupsLemmas.{entry, find_beyond, count_before}
 
 -- ---- names
-
-no_zero : (name : List ℕ) → list_all is_name_byte name ≡ true → is_string name ≡ true
-no_zero [] h = refl
-no_zero (byte ∷ name) h =
-    let both = and_parts (is_name_byte byte) (list_all is_name_byte name) h in
-    let low = leb-true 0x21 byte (and_parts (nat_le 0x21 byte) (nat_le byte 0x7E) both.0).0 in
-    and_from (not (byte == 0)) (is_string name) (not_from_false (byte == 0) (ne_eqb byte 0 (λ e. omega arith))) (no_zero name both.1)
 
 pub shown_string : (b : Binding) (name : List ℕ) → is_shown b name ≡ true → is_string name ≡ true
 shown_string Local name h = h
@@ -75,11 +70,6 @@ find_section names i at (suc k) j (t ∷ ss) s has same =
       cond-false (i == j) (Some (entry names i at p)) (find (is_index j) (listed names (suc i) next (map section_piece ss))) (ne_eqb i j (λ e. omega arith)) ∙ more.1,
     )
 
-pub get_below : {X : Type 0} (xs : List X) (k : ℕ) → k < length xs → (x : X) × (slice_get xs k ≡ Some x)
-get_below [] k below = absurd (omega arith)
-get_below (x ∷ xs) zero below = (x, refl)
-get_below (x ∷ xs) (suc k) below = get_below xs k (omega arith)
-
 -- the kept sections are those of the object
 abbrev pub KeepsSections : List ℕ → List (List ℕ) → List Section → Type 0
 KeepsSections file names ss = kept file ≡ listed names 1 64 (map section_piece ss)
@@ -107,7 +97,7 @@ definition_back file names ss last s (Absolute v) keeps high few inside home val
     ∙ ap (λ n. Absolute n) value
 definition_back file names ss last s (InSection k offset) keeps high few inside home value =
     let below = ltb-true k (length ss) inside in
-    let one = get_below ss k below in
+    let one = get_some ss k below in
     let here = at_back file names ss k one.0 keeps one.1 in
     cond-false (s.st_shndx == 0) _ _ (ne_eqb s.st_shndx 0 (λ e. omega arith)) ∙ cond-false (s.st_shndx == 0xFFF1) _ _ (ne_eqb s.st_shndx 0xFFF1 (λ e. omega arith))
     ∙ ap (definition_by file s) (ap (kept_at file) home ∙ here.1)

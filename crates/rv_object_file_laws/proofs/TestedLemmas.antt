@@ -42,7 +42,7 @@ told_fits (Progbits bytes) r = ap (nat_le (r.place + width_of r.kind)) (length-r
 told_fits (Note bytes) r = ap (nat_le (r.place + width_of r.kind)) (length-replicate {A = ℕ} (length bytes) 0)
 told_fits (Nobits size) r = refl
 
-padding_like : (x : Bool) (c d : Contents) (place : ℕ) (bytes : Option ℕ) → size_of c ≡ size_of d → is_padding_of x c place bytes ≡ is_padding_of x d place bytes
+pub padding_like : (x : Bool) (c d : Contents) (place : ℕ) (bytes : Option ℕ) → size_of c ≡ size_of d → is_padding_of x c place bytes ≡ is_padding_of x d place bytes
 padding_like x c d place None same = refl
 padding_like x c d place (Some n) same = ap (λ m. (n % 2 == 0) && nat_le n 4094 && (not x || (place % 2 == 0) && nat_le (place + n) m)) same
 

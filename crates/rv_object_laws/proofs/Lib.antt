@@ -1,2 +1,4 @@
 pub mod CountedLemmas
 pub mod NopsLemmas
+pub mod ObjectLemmas
+pub mod ValidLemmas

@@ -5,16 +5,12 @@ use Rattle.std.proofs.lemmas.Bool.{leb-true, leb-false, le-leb, lt-leb}
 use Rattle.std.proofs.lemmas.List.{length-append, append_assoc, append-nil}
 use Rattle.rv_object_laws.specs.Padding.{four_each, no_operations}
 
-four_length : (n : ℕ) → length (four_each n) ≡ 4 * n
+pub four_length : (n : ℕ) → length (four_each n) ≡ 4 * n
 four_length zero = refl
 four_length (suc n) = let rest = four_length n in omega arith
 
 abbrev pub half : List ℕ
 half = 0x01 ∷ 0 ∷ []
-
-last_length : (b : Bool) → length (cond b half []) ≡ cond b 2 0
-last_length true = refl
-last_length false = refl
 
 -- an odd byte is left out
 length_any : (n : ℕ) → length (no_operations n) ≡ n - n % 2

@@ -1,13 +1,15 @@
 -- The lists of relocations, one for each kept section, as the sections of the file are gone through.
 
-use Rattle.std.proofs.Common.{◌≡◌, ℕ, zero, suc, ◌+◌, ◌-◌, ◌<◌, ◌==◌, Bool, true, false, ◌&&◌, List, [], ◌∷◌, ◌++◌, length, map, filter, set, get_or, Option, Some, None, refl, ap, sym, ◌∙◌, arith, cond}
+use Rattle.std.proofs.Common.{◌≡◌, ℕ, ◌+◌, ◌-◌, ◌<◌, ◌==◌, Bool, true, false, ◌&&◌, List, [], ◌∷◌, ◌++◌, length, map, filter, set, get_or, Option, Some, None, refl, ap, sym, ◌∙◌, arith, cond}
 use Rattle.rv_object_checks.specs.SectionsFrom.{from_cut}
 use Rattle.std.specs.List.{slice_get, AllByRecursion}
 use Rattle.std.specs.Global.{Vec}
 use Rattle.std.proofs.lemmas.Bool.{and_parts, and_from, cond-true, cond-false}
 use Rattle.std.proofs.lemmas.Bool.Decides.{nat_tests}
 use Rattle.std.proofs.lemmas.List.{append-nil, length-map, map-set}
-use Rattle.std.proofs.lemmas.Option.{slice_get_read}
+use Rattle.std.proofs.lemmas.Option.{slice_get_read, slice_get_within}
+use Rattle.rv_list_laws.proofs.MapLemmas.{get_map}
+use Rattle.rv_list_laws.proofs.ElementsLemmas.{get_set_other, set_same}
 use Rattle.rv_elf_laws.specs.declared.section_header.SectionHeader.{SectionHeader}
 use Rattle.rv_elf_laws.specs.Sections.{section_count, section_header_of, file_contents, relas_in}
 use Rattle.rv_object_types.specs.declared.relocation.Relocation.{Relocation as DeclaredRelocation}
@@ -16,13 +18,13 @@ use Rattle.rv_object_types.specs.Parts.{relocation_of}
 use Rattle.rv_object_checks.specs.Found.{section_at, sections_from, place_among_kept, place_at}
 use Rattle.rv_object_file_laws.specs.FirstFault.{is_linked, is_rela_linked, first_fault}
 use Rattle.rv_object_file_laws.specs.Parts.{FileSection, sections, kept, kept_at, kept_before, is_kept, is_loaded, is_rela, is_section, is_symbol_table, symbol_table, relocates, relocations_in}
+use Rattle.rv_object_checks.proofs.SectionsFromLemmas.{sections_are}
 use Rattle.rv_object_reader.specs.Collected.{list_so_far, lists_so_far, lists_of, lists_in}
 use Rattle.rv_object_reader.proofs.GoodRelocationsLemmas.{collected, collected_append, collected_here, collected_other}
-use Rattle.rv_object_reader.proofs.KeptLemmas.{kept_place, get_map, get_below, map_kept, map_unkept, says_at}
+use Rattle.rv_object_reader.proofs.KeptLemmas.{kept_place, map_kept, map_unkept, says_at}
 use Rattle.rv_object_reader.proofs.MadeLemmas.{kept_found}
 use Rattle.rv_object_reader.proofs.SymbolCountLemmas.{no_symbols}
-use Rattle.rv_object_reader.proofs.WalkLemmas.{fine, passed_find, sections_are, header_says}
-use Rattle.rv_object_checks.proofs.WalkingLemmas.{get_other}
+use Rattle.rv_object_reader.proofs.WalkLemmas.{fine, passed_find, header_says}
 
 -- ---- one section further
 
@@ -45,10 +47,6 @@ kept_past file i below out =
     ∙ cond-false (is_kept file (section_at file (i + 1))) (section_at file (i + 1) ∷ kept_left file (i + 1)) (kept_left file (i + 1)) out
 
 -- ---- lists
-
-map_all : {X Y : Type 0} (f g : X → Y) → ((x : X) → f x ≡ g x) → (xs : List X) → map f xs ≡ map g xs
-map_all f g same [] = refl
-map_all f g same (x ∷ xs) = let rest = map_all f g same xs in λ i. same x i ∷ rest i
 
 -- a section that names another changes nothing
 list_other : (file : List ℕ) (before : List FileSection) (s t : FileSection) → relocates t.index s ≡ false → list_so_far file before t ≡ list_so_far file (before ++ s ∷ []) t
@@ -84,11 +82,6 @@ lists_unkept file before s e =
     go None h = refl
     go (Some t) h = cc
 
-set_same : {X : Type 0} (xs : List X) (i : ℕ) (x : X) → slice_get xs i ≡ Some x → set xs i x ≡ xs
-set_same [] i x e = cc
-set_same (y ∷ xs) zero x e = let same : x ≡ y = cc in ap (λ z. z ∷ xs) same
-set_same (y ∷ xs) (suc i) x e = ap (λ ys. y ∷ ys) (set_same xs i x e)
-
 -- relocations of a section that is not loaded
 pub lists_unloaded : (file : List ℕ) (before : List FileSection) (s : FileSection) → is_loaded (section_header_of file s.header.sh_info) ≡ false → lists_so_far file before ≡ lists_so_far file (before ++ s ∷ [])
 lists_unloaded file before s out = go (kept_at file s.header.sh_info) refl
@@ -113,7 +106,7 @@ place_below file j place e = go (kept_at file j) refl e
     go (Some t) k h =
         let same : kept_before file t.index ≡ place = cc in
         let at : kept_before file t.index ≡ kept_before file j = ap (λ u. kept_before file u.index) (kept_found file j t k).is in
-        let below = get_below (kept file) (kept_before file j) t (kept_place file j t k) in
+        let below = slice_get_within (kept file) (kept_before file j) t (kept_place file j t k) in
         omega (arith, below, same, at)
 
 -- a list for each
@@ -215,7 +208,7 @@ pub left_taken : (file : List ℕ) (i place : ℕ) (lists : List (Vec DeclaredRe
 left_taken file i place lists none at was j above t k =
     let p = place_says file (i + 1) place at in
     ap (λ ls. slice_get ls (kept_before file j)) (map-set (λ (list : Vec DeclaredRelocation). map relocation_of list.items) lists place none)
-    ∙ get_other (lists_in lists) place (kept_before file j) (map relocation_of none.items) (λ e. apart p e)
+    ∙ get_set_other (lists_in lists) place (kept_before file j) (map relocation_of none.items) (λ e. apart p e)
     ∙ was j (omega arith) t k
   where
     apart : PlaceAt file (i + 1) place → kept_before file j ≡ place → ⊥
@@ -230,7 +223,7 @@ left_taken file i place lists none at was j above t k =
 pub taken_below : (file : List ℕ) (i place : ℕ) (lists : List (Vec DeclaredRelocation)) → place_at file (i + 1) ≡ Some place → AreLeft file i lists → place < length lists
 taken_below file i place lists at was =
     let p = place_says file (i + 1) place at in
-    let below = get_below (lists_in lists) (kept_before file (i + 1)) _ (was (i + 1) (omega arith) (section_at file (i + 1)) p.found) in
+    let below = slice_get_within (lists_in lists) (kept_before file (i + 1)) _ (was (i + 1) (omega arith) (section_at file (i + 1)) p.found) in
     omega (arith, below, p.before, length-map lists (λ (list : Vec DeclaredRelocation). map relocation_of list.items))
 
 pub taken_is : (file : List ℕ) (i place : ℕ) (lists : List (Vec DeclaredRelocation)) (old : Vec DeclaredRelocation) → place_at file (i + 1) ≡ Some place → old ≡ get_or lists place old → AreLeft file i lists →

@@ -8,10 +8,11 @@ use Rattle.rv_isa.specs.Kinds.{width_of}
 use Rattle.rv_elf_laws.specs.declared.section_header.SectionHeader.{SectionHeader}
 use Rattle.rv_elf_laws.specs.Sections.{is_past, is_nobits, file_contents, before_zero, string_at, names_section, indexed_contents}
 use Rattle.rv_object_laws.specs.Object.{Contents, Progbits, Note, Nobits, Relocation, size_of}
-use Rattle.rv_object_laws.specs.Valid.{is_section_alignment, is_string, keeps_name, is_even, fits_inside, is_padding, is_padding_of, padding_of, is_align}
+use Rattle.rv_object_laws.specs.Valid.{is_section_alignment, is_string, keeps_name, is_even, fits_inside, is_padding, padding_of, is_align}
 use Rattle.rv_object_file_laws.specs.Parts.{FileSection, is_kept, is_named, is_executable, name_at, name_of, contents_in, extent_of}
 use Rattle.rv_object_file_laws.specs.Rows.{rows_name}
 use Rattle.rv_object_file_laws.specs.FirstFault.{is_none}
+use Rattle.rv_object_file_laws.proofs.TestedLemmas.{padding_like}
 use Rattle.rv_object_reader.proofs.WalkLemmas.{HeaderSays}
 
 -- ---- names
@@ -75,15 +76,11 @@ size_says file h says = size_by (h.sh_type == 8) (h.sh_type == 7) h.sh_size (fil
 pub fits_says : (file : List ℕ) (h : SectionHeader) → HeaderSays file h → (r : Relocation) → fits_inside (contents_in file h) r ≡ fits_inside (extent_of h) r
 fits_says file h says r = fits_by (h.sh_type == 8) (h.sh_type == 7) h.sh_size (file_contents file h) (stored_length file h says) r
 
-padding_by : (x : Bool) (c d : Contents) (place : ℕ) (o : Option ℕ) → size_of c ≡ size_of d → is_padding_of x c place o ≡ is_padding_of x d place o
-padding_by x c d place None e = refl
-padding_by x c d place (Some n) e = ap (λ size. (n % 2 == 0) && nat_le n 4094 && (not x || (place % 2 == 0) && nat_le (place + n) size)) e
-
 pub padding_says : (file : List ℕ) (h : SectionHeader) → HeaderSays file h → (r : Relocation) →
     is_padding (is_executable h) (contents_in file h) r ≡ is_padding (is_executable h) (extent_of h) r
 padding_says file h says r =
     ap (λ b. not (is_align r.kind) || b)
-    (padding_by (is_executable h) (contents_in file h) (extent_of h) r.place (padding_of r.addend) (size_says file h says ∙ sym (extent_size (h.sh_type == 8) h.sh_size)))
+    (padding_like (is_executable h) (contents_in file h) (extent_of h) r.place (padding_of r.addend) (size_says file h says ∙ sym (extent_size (h.sh_type == 8) h.sh_size)))
 
 pub even_says : (file : List ℕ) (h : SectionHeader) → HeaderSays file h → is_even (is_executable h) (contents_in file h) ≡ true
 even_says file h says = ap (λ n. not (is_executable h) || (n % 2 == 0)) (size_says file h says) ∙ go (is_executable h) (h.sh_size % 2 == 0) says.even

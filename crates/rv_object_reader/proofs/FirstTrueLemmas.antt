@@ -1,15 +1,10 @@
 -- Lists of tests of which none is true.
 
-use Rattle.std.proofs.Common.{◌≡◌, Bool, true, false, not, List, [], ◌∷◌, flat_map, Option, Some, None, refl, cond}
+use Rattle.std.proofs.Common.{◌≡◌, Bool, true, false, List, [], ◌∷◌, flat_map, Option, Some, None, refl, cond}
 use Rattle.std.specs.List.{AllByRecursion}
-use Rattle.std.proofs.lemmas.Bool.{true≢false}
 use Rattle.rv_fault.specs.declared.file_fault.FileFault.{FileFault}
 use Rattle.rv_elf_laws.specs.FirstFault.{first_true}
 use Rattle.rv_elf_laws.specs.FirstTrue.{no_fault_parts}
-
-pub not_false : (b : Bool) → not b ≡ false → b ≡ true
-not_false true e = refl
-not_false false e = absurd (true≢false e)
 
 -- the first test is not true, and no other
 pub passed : (b : Bool) (f : FileFault) (o : Option FileFault) → cond b (Some f) o ≡ None → (b ≡ false) × (o ≡ None)

@@ -2,12 +2,12 @@
 
 use Rattle.std.proofs.Common.{◌≡◌, ℕ, zero, suc, ◌-◌, ◌==◌, nat_le, Bool, true, false, not, ◌&&◌, ◌||◌, List, [], ◌∷◌, ◌++◌, length, filter, Option, Some, None, refl, ap, sym, ◌∙◌, subst, arith, if◌then◌else◌, append_assoc}
 use Rattle.std.specs.List.{list_all, list_any, cons_option}
-use Rattle.std.proofs.lemmas.Bool.{and_parts, and_from, or_parts, cond-true, cond-false, eqb-true, true≢false}
+use Rattle.std.proofs.lemmas.Bool.{and_parts, and_from, or_parts, cond-true, cond-false, eqb-true, true≢false, not-false}
 use Rattle.std.proofs.lemmas.Bool.Decides.{nat_tests}
 use Rattle.std.proofs.lemmas.List.{append-nil}
 use Rattle.std.proofs.lemmas.List.Elements.{filter-append, filter_map-append}
-use Rattle.std.proofs.lemmas.List.Folds.{list_all-append}
 use Rattle.std.proofs.lemmas.List.Concat.{flat_map-append}
+use Rattle.rv_list_laws.proofs.TestsLemmas.{all_more}
 use Rattle.rv_isa.specs.declared.kind.Kind.{Kind}
 use Rattle.rv_elf_laws.specs.declared.section_header.SectionHeader.{SectionHeader}
 use Rattle.rv_elf_laws.specs.declared.rela.Rela.{Rela}
@@ -18,7 +18,7 @@ use Rattle.rv_object_laws.specs.Valid.{fits_inside, is_padding, are_apart, are_a
 use Rattle.rv_object_file_laws.specs.Parts.{FileSection, sections, is_loaded, is_executable, is_symbol_table, is_rela, extent_of, symbol_records, relocates, relas_of, kind_numbered, symbol_index, relocation_by, relocation_in, relocations_in}
 use Rattle.rv_object_file_laws.specs.FirstFault.{is_none, is_misplaced, relocation_tests, relocations_tests, records_tests, symbol_count, first_fault}
 use Rattle.rv_elf_laws.specs.FirstTrue.{no_fault_parts}
-use Rattle.rv_object_reader.proofs.FirstTrueLemmas.{all_false, not_false}
+use Rattle.rv_object_reader.proofs.FirstTrueLemmas.{all_false}
 use Rattle.rv_object_reader.proofs.WalkLemmas.{Passed, AllPassed, fine, header_says}
 use Rattle.rv_object_reader.proofs.SymbolCountLemmas.{no_symbols, symbols_counted}
 
@@ -29,15 +29,12 @@ pub record Good (h : SectionHeader) (symbols : ℕ) (rs : List Relocation) : Typ
   pub apart : is_executable h ≡ true → are_all_apart rs ≡ true
   pub below : list_all (λ r. is_below (symbols - 1) r.symbol) rs ≡ true
 
-all_more : {X : Type 0} (p : X → Bool) (xs : List X) (x : X) → list_all p xs ≡ true → p x ≡ true → list_all p (xs ++ x ∷ []) ≡ true
-all_more p xs x all one = list_all-append p xs (x ∷ []) ∙ and_from _ _ all (and_from _ _ one refl)
-
 apart_more : (rs : List Relocation) (q : Relocation) → are_all_apart rs ≡ true → list_any (λ p. not (are_apart p q)) rs ≡ false → are_all_apart (rs ++ q ∷ []) ≡ true
 apart_more [] q all none = refl
 apart_more (r ∷ rs) q all none =
     let both = and_parts (list_all (are_apart r) rs) (are_all_apart rs) all in
     let other = or_parts (not (are_apart r q)) (list_any (λ p. not (are_apart p q)) rs) none in
-    and_from _ _ (all_more (are_apart r) rs q both.0 (not_false (are_apart r q) other.0)) (apart_more rs q both.1 other.1)
+    and_from _ _ (all_more (are_apart r) rs q both.0 (not-false (are_apart r q) other.0)) (apart_more rs q both.1 other.1)
 
 other_side : (a b : Bool) → a && b ≡ false → a ≡ true → b ≡ false
 other_side true b e t = e
@@ -59,8 +56,8 @@ with_kind h symbols before r (Some kind) placed index known good =
     let one = or_parts (not (fits_inside (extent_of h) q) || not (is_padding (is_executable h) (extent_of h) q)) meets placed in
     let two = or_parts (not (fits_inside (extent_of h) q)) (not (is_padding (is_executable h) (extent_of h) q)) one.0 in
     record {
-      inside = all_more (fits_inside (extent_of h)) before q good.inside (not_false _ two.0);
-      padded = all_more (is_padding (is_executable h) (extent_of h)) before q good.padded (not_false _ two.1);
+      inside = all_more (fits_inside (extent_of h)) before q good.inside (not-false _ two.0);
+      padded = all_more (is_padding (is_executable h) (extent_of h)) before q good.padded (not-false _ two.1);
       apart = λ e. apart_more before q (good.apart e) (other_side (is_executable h) (list_any (λ p. not (are_apart p q)) before) one.1 e);
       below = all_more (λ r. is_below (symbols - 1) r.symbol) before q good.below (symbol_below r.r_sym symbols index);
     }

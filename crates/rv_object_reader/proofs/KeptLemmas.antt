@@ -1,14 +1,15 @@
 -- The kept sections of a file, by their indices.
 
-use Rattle.std.proofs.Common.{◌≡◌, ℕ, zero, suc, ◌+◌, ◌-◌, ◌<◌, ◌≤◌, ◌==◌, nat_lt, Bool, true, false, ◌&&◌, List, [], ◌∷◌, ◌++◌, length, map, filter, set, Some, None, refl, ap, sym, ◌∙◌, subst, arith, cond, eq-eqb}
+use Rattle.std.proofs.Common.{◌≡◌, ℕ, zero, suc, ◌+◌, ◌-◌, ◌<◌, ◌≤◌, ◌==◌, nat_lt, Bool, true, false, List, [], ◌∷◌, ◌++◌, length, map, filter, set, Some, None, refl, ap, sym, ◌∙◌, subst, arith, cond, eq-eqb}
 use Rattle.std.specs.List.{find, slice_get}
 use Rattle.std.proofs.lemmas.Bool.{cond-true, cond-false, eqb-true, true≢false, lt-ltb, le-ltb}
 use Rattle.std.proofs.lemmas.Bool.Decides.{nat_tests}
 use Rattle.rv_elf_laws.specs.Sections.{section_header_of, section_count}
 use Rattle.rv_object_file_laws.specs.Parts.{FileSection, kept, is_kept, is_index, kept_before, kept_at}
 use Rattle.rv_object_checks.specs.Found.{section_at, sections_from}
-use Rattle.rv_object_reader.proofs.WalkLemmas.{sections_are, AllPassed, FoundPassed, fine, HeaderSays, header_says}
+use Rattle.rv_object_reader.proofs.WalkLemmas.{AllPassed, FoundPassed, fine, HeaderSays, header_says}
 use Rattle.rv_object_file_laws.specs.FirstFault.{first_fault}
+use Rattle.rv_object_checks.proofs.SectionsFromLemmas.{sections_are}
 
 -- sections whose indices rise, from this one on
 abbrev pub Ascends : ℕ → List FileSection → Type 0
@@ -71,33 +72,6 @@ place_found j i (x ∷ ss) s a e = go (x.index == j) refl e (place_found j (suc 
 -- a kept section stands at its place
 pub kept_place : (file : List ℕ) (j : ℕ) (s : FileSection) → kept_at file j ≡ Some s → slice_get (kept file) (kept_before file j) ≡ Some s
 kept_place file j s e = place_found j 1 (kept file) s (kept_ascends file) e
-
-pub find_test : {X : Type 0} (p : X → Bool) (xs : List X) (x : X) → find p xs ≡ Some x → p x ≡ true
-find_test p [] x e = cc
-find_test p (y ∷ xs) x e = go (p y) refl e (find_test p xs x)
-  where
-    go : (b : Bool) → p y ≡ b → cond b (Some y) (find p xs) ≡ Some x → (find p xs ≡ Some x → p x ≡ true) → p x ≡ true
-    go true t e rest = let same : y ≡ x = cc in ap p (sym same) ∙ t
-    go false t e rest = rest e
-
-pub find_filter : {X : Type 0} (q p : X → Bool) (xs : List X) → find q (filter p xs) ≡ find (λ x. p x && q x) xs
-find_filter q p [] = refl
-find_filter q p (x ∷ xs) = go (p x) (find_filter q p xs)
-  where
-    go : (b : Bool) → find q (filter p xs) ≡ find (λ x. p x && q x) xs →
-        find q (cond b (x ∷ filter p xs) (filter p xs)) ≡ cond (b && q x) (Some x) (find (λ x. p x && q x) xs)
-    go true e = ap (cond (q x) (Some x)) e
-    go false e = e
-
-pub get_map : {X Y : Type 0} (f : X → Y) (xs : List X) (i : ℕ) (x : X) → slice_get xs i ≡ Some x → slice_get (map f xs) i ≡ Some (f x)
-get_map f [] i x e = cc
-get_map f (y ∷ xs) zero x e = let same : y ≡ x = cc in ap (λ z. Some (f z)) same
-get_map f (y ∷ xs) (suc i) x e = get_map f xs i x e
-
-pub get_below : {X : Type 0} (xs : List X) (i : ℕ) (x : X) → slice_get xs i ≡ Some x → i < length xs
-get_below [] i x e = cc
-get_below (y ∷ xs) zero x e = omega arith
-get_below (y ∷ xs) (suc i) x e = omega (arith, get_below xs i x e)
 
 -- the section of an index has passed
 pub passed_at : (file : List ℕ) (before : List FileSection) (n k i : ℕ) → AllPassed file before (sections_from file n k) → k ≤ i → i < k + n →

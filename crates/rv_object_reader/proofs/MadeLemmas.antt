@@ -2,8 +2,9 @@
 
 use Rattle.std.proofs.Common.{◌≡◌, ℕ, zero, suc, ◌+◌, ◌-◌, ◌<◌, ◌≤◌, ◌==◌, Bool, true, false, ◌&&◌, List, [], ◌∷◌, ◌++◌, map, Option, Some, None, refl, ap, sym, ◌∙◌, subst, arith, cond}
 use Rattle.std.specs.List.{find, AllByRecursion}
-use Rattle.std.proofs.lemmas.Bool.{and_parts, eqb-true, true≢false}
+use Rattle.std.proofs.lemmas.Bool.{and_parts, eqb-true, true≢false, not-false}
 use Rattle.std.proofs.lemmas.List.{append_assoc, map-append}
+use Rattle.rv_list_laws.proofs.FindLemmas.{find_filter}
 use Rattle.rv_elf_laws.specs.declared.symbol.Symbol.{Symbol as SymbolRecord}
 use Rattle.rv_elf_laws.specs.FirstFault.{first_true}
 use Rattle.rv_elf_laws.specs.Sections.{section_count}
@@ -12,11 +13,10 @@ use Rattle.rv_object_checks.specs.Found.{section_at, sections_from, place_among_
 use Rattle.rv_object_file_laws.specs.FirstFault.{has_binding, has_home, symbol_tests, is_row_of, row_tests, first_fault}
 use Rattle.rv_object_file_laws.specs.Parts.{FileSection, sections, is_kept, is_index, kept_at, kept_before, row_records}
 use Rattle.rv_object_file_laws.specs.Rows.{RowRecord}
-use Rattle.rv_object_reader.proofs.FirstTrueLemmas.{not_false, all_false}
-use Rattle.rv_object_reader.proofs.KeptLemmas.{find_filter}
+use Rattle.rv_object_reader.proofs.FirstTrueLemmas.{all_false}
 use Rattle.rv_object_reader.proofs.ValidSymbolsLemmas.{IsGoodRow, good_rows}
-use Rattle.rv_object_reader.proofs.WalkLemmas.{sections_are}
 pub use Rattle.rv_object_checks.proofs.RecordsLemmas.{records_cut as records_next, records_behind}
+use Rattle.rv_object_checks.proofs.SectionsFromLemmas.{sections_are}
 
 -- ---- tables
 
@@ -91,7 +91,7 @@ row_home : (file : List ℕ) (r : RowRecord) → IsGoodRow file r → IsHome fil
 unfolding row_tests
 row_home file r good =
     let a = all_false (row_tests file r) good in
-    (and_parts (is_row_of r (kept_at file r.r_section)) (r.r_reserved == 0) (not_false (is_row_of r (kept_at file r.r_section) && (r.r_reserved == 0)) a.0)).0
+    (and_parts (is_row_of r (kept_at file r.r_section)) (r.r_reserved == 0) (not-false (is_row_of r (kept_at file r.r_section) && (r.r_reserved == 0)) a.0)).0
 
 homes : (file : List ℕ) (rs : List RowRecord) → AllByRecursion (IsGoodRow file) rs → AllByRecursion (IsHome file) rs
 homes file [] all = tt
@@ -119,4 +119,4 @@ pub symbol_has : (file names : List ℕ) (s : SymbolRecord) → first_true (symb
 unfolding symbol_tests
 symbol_has file names s good =
     let a = all_false (symbol_tests file names s) good in
-    (and_parts (has_binding s) (has_home file s) (not_false (has_binding s && has_home file s) a.1.0)).1
+    (and_parts (has_binding s) (has_home file s) (not-false (has_binding s && has_home file s) a.1.0)).1

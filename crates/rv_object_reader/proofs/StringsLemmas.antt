@@ -1,7 +1,7 @@
 -- The string at an offset, by where the first zero byte stands from there on; and the names of sections.
 
-use Rattle.std.proofs.Common.{◌≡◌, ℕ, zero, suc, ◌+◌, ◌-◌, ◌<◌, ◌==◌, Bool, true, false, cond, List, [], ◌∷◌, length, take, drop, get_or, Option, Some, None, refl, ap, sym, ◌∙◌, unwrap_or, arith}
-use Rattle.std.specs.Prelude.{option_map, slice_index}
+use Rattle.std.proofs.Common.{◌≡◌, ℕ, zero, suc, ◌+◌, ◌-◌, ◌==◌, Bool, true, false, cond, List, [], length, take, drop, get_or, Option, Some, None, refl, ap, sym, ◌∙◌, unwrap_or, arith}
+use Rattle.std.specs.Prelude.{slice_index}
 use Rattle.std.specs.List.{slice_range}
 use Rattle.std.proofs.lemmas.Bool.{cond-false}
 use Rattle.std.proofs.lemmas.Bool.Decides.{nat_tests}
@@ -11,25 +11,7 @@ use Rattle.rv_elf_laws.specs.declared.section_header.SectionHeader.{SectionHeade
 use Rattle.rv_elf_laws.specs.Sections.{before_zero, string_at, names_section, indexed_contents}
 use Rattle.rv_object_checks.specs.Names.{names_table}
 use Rattle.rv_object_file_laws.specs.Parts.{name_at, name_of}
-
--- ---- a string
-
-behind : (byte : ℕ) (bytes : List ℕ) (r : Option (List ℕ)) → ((byte == 0) ≡ true → ⊥) → before_zero bytes ≡ r → before_zero (byte ∷ bytes) ≡ option_map (λ name. byte ∷ name) r
-behind byte bytes r some rest = by (byte == 0) some
-  where
-    by : (b : Bool) → (b ≡ true → ⊥) → cond b (Some []) (option_map (λ name. byte ∷ name) (before_zero bytes)) ≡ option_map (λ name. byte ∷ name) r
-    by true other = absurd (other refl)
-    by false other = ap (option_map (λ name. byte ∷ name)) rest
-
-no_zero : (bytes : List ℕ) → ((k : ℕ) → k < length bytes → (get_or bytes k 0 == 0) ≡ true → ⊥) → before_zero bytes ≡ None
-no_zero [] none = refl
-no_zero (byte ∷ bytes) none = behind byte bytes None (none 0 (omega arith)) (no_zero bytes (λ k l. none (suc k) (omega (arith, l))))
-
-zero_at : (bytes : List ℕ) (k : ℕ) → k < length bytes → ((j : ℕ) → j < k → (get_or bytes j 0 == 0) ≡ true → ⊥) → (get_or bytes k 0 == 0) ≡ true → before_zero bytes ≡ Some (take k bytes)
-zero_at [] k l none here = absurd (omega (arith, l))
-zero_at (byte ∷ bytes) zero l none here = ap (λ b. cond b (Some []) (option_map (λ name. byte ∷ name) (before_zero bytes))) here
-zero_at (byte ∷ bytes) (suc k) l none here =
-    behind byte bytes (Some (take k bytes)) (none 0 (omega arith)) (zero_at bytes k (omega (arith, l)) (λ j m. none (suc j) (omega (arith, m))) here)
+use Rattle.rv_elf.proofs.StringsLemmas.{no_zero, zero_at}
 
 -- ---- a name, at another offset than 0
 

@@ -1,10 +1,11 @@
 -- A file without a fault has one symbol table at most: how many symbols it has is how many the table has that
 -- a section of relocations names.
 
-use Rattle.std.proofs.Common.{◌≡◌, ℕ, zero, suc, ◌+◌, ◌-◌, ◌/◌, ◌<◌, ◌≤◌, ◌==◌, Bool, true, false, not, ◌&&◌, ◌||◌, List, [], ◌∷◌, ◌++◌, length, Some, None, refl, ap, sym, ◌∙◌, subst, arith, cond, eq-eqb}
+use Rattle.std.proofs.Common.{◌≡◌, ℕ, zero, suc, ◌+◌, ◌-◌, ◌/◌, ◌<◌, ◌≤◌, ◌==◌, Bool, true, false, not, ◌&&◌, ◌||◌, List, [], ◌∷◌, ◌++◌, length, Some, None, refl, ap, sym, ◌∙◌, subst, arith, cond}
 use Rattle.std.specs.List.{find, list_any}
 use Rattle.std.proofs.lemmas.Bool.{and_parts, and_from, cond-true, cond-false, eqb-true, true≢false}
 use Rattle.std.proofs.lemmas.Bool.Decides.{nat_tests}
+use Rattle.rv_list_laws.proofs.NumbersLemmas.{not_equal}
 use Rattle.rv_elf_laws.specs.declared.section_header.SectionHeader.{SectionHeader}
 use Rattle.rv_elf_laws.specs.FirstFault.{first_true}
 use Rattle.rv_elf_laws.specs.Records.{symbol_at}
@@ -12,10 +13,11 @@ use Rattle.rv_elf_laws.specs.Sections.{records, section_count, section_header_of
 use Rattle.rv_object_checks.specs.Found.{section_at, sections_from}
 use Rattle.rv_object_file_laws.specs.FirstFault.{section_tests, is_linked, is_rela_linked, symbol_count, first_fault}
 use Rattle.rv_object_file_laws.specs.Parts.{FileSection, is_section, is_loaded, is_symbol_table, is_rela, symbol_table, symbols_of, symbol_records}
+use Rattle.rv_object_checks.proofs.SectionsFromLemmas.{sections_are}
 use Rattle.rv_object_reader.proofs.ContentsLemmas.{stored_length}
 use Rattle.rv_object_reader.proofs.FirstTrueLemmas.{all_false}
 use Rattle.rv_object_reader.proofs.KeptLemmas.{says_at}
-use Rattle.rv_object_reader.proofs.WalkLemmas.{AllPassed, fine, sections_are}
+use Rattle.rv_object_reader.proofs.WalkLemmas.{AllPassed, fine}
 
 abbrev is_table : FileSection → Bool
 is_table s = is_symbol_table s.header
@@ -42,9 +44,6 @@ any_before p (x ∷ ss) s e = go (p x) e (any_before p ss s)
     go true h rest = refl
     go false h rest = rest h
 
-other_index : (k i : ℕ) → (k == i) ≡ false → k ≡ i → ⊥
-other_index k i e h = true≢false (sym (eq-eqb k i h) ∙ e)
-
 -- behind one stands no other
 none_behind : (file : List ℕ) (before : List FileSection) (n k i : ℕ) → AllPassed file before (sections_from file n k) → list_any is_table before ≡ true →
     is_symbol_table (section_header_of file i) ≡ true → k ≤ i → i < k + n → ⊥
@@ -56,7 +55,7 @@ none_behind file before (suc n) k i all some table low high =
     go true e rest =
         let here : is_symbol_table (section_header_of file k) ≡ true = ap (λ j. is_symbol_table (section_header_of file j)) (eqb-true k i e) ∙ table in
         true≢false (sym (and_from _ _ here some) ∙ first_table file before (section_header_of file k) all.0.heading)
-    go false e rest = let other = other_index k i e in rest (omega arith) (omega arith)
+    go false e rest = let other = not_equal k i e in rest (omega arith) (omega arith)
 
 -- the first is that of any index
 table_found : (file : List ℕ) (before : List FileSection) (n k i : ℕ) → AllPassed file before (sections_from file n k) →
@@ -70,11 +69,11 @@ table_found file before (suc n) k i all table low high =
         cond b (Some (section_at file k)) (find is_table (sections_from file n (suc k))) ≡ Some (section_at file i)
     go true here true same rest = ap (λ j. Some (section_at file j)) (eqb-true k i same)
     go true here false apart rest =
-        let other = other_index k i apart in
+        let other = not_equal k i apart in
         absurd (none_behind file (before ++ section_at file k ∷ []) n (suc k) i all.1 (any_last is_table before (section_at file k) here) table (omega arith) (omega arith))
     go false here true same rest =
         absurd (true≢false (sym table ∙ ap (λ j. is_symbol_table (section_header_of file j)) (sym (eqb-true k i same)) ∙ here))
-    go false here false apart rest = let other = other_index k i apart in rest (omega arith) (omega arith)
+    go false here false apart rest = let other = not_equal k i apart in rest (omega arith) (omega arith)
 
 -- ---- its symbols
 

@@ -1,9 +1,10 @@
 -- A kept section of a file without a fault is a section of an object.
 
-use Rattle.std.proofs.Common.{◌≡◌, ℕ, zero, suc, ◌-◌, ◌<◌, Bool, true, false, not, ◌&&◌, ◌||◌, List, [], ◌∷◌, length, map, filter, None, refl, ap, sym, ◌∙◌, subst, cond}
+use Rattle.std.proofs.Common.{◌≡◌, ℕ, zero, suc, ◌-◌, ◌<◌, Bool, true, false, not, ◌||◌, List, [], ◌∷◌, length, map, filter, None, refl, ap, sym, ◌∙◌, subst, cond}
 use Rattle.std.specs.List.{list_all}
 use Rattle.std.proofs.lemmas.Bool.{and_from}
 use Rattle.std.proofs.lemmas.List.Folds.{list_all-map}
+use Rattle.rv_list_laws.proofs.TestsLemmas.{all_agree}
 use Rattle.rv_elf_laws.specs.Sections.{section_count, section_header_of}
 use Rattle.rv_object_laws.specs.Object.{Contents, Relocation, Section}
 use Rattle.rv_object_laws.specs.Valid.{is_section_alignment, is_string, keeps_name, is_even, is_loaded_alone, fit_inside, fits_inside, is_padding, are_paddings, are_all_apart, is_below}
@@ -11,7 +12,7 @@ use Rattle.rv_object_file_laws.specs.Parts.{sections, kept, is_kept, is_loaded, 
 use Rattle.rv_object_file_laws.specs.FirstFault.{first_fault}
 use Rattle.rv_object_file_laws.specs.ObjectOf.{section_in}
 use Rattle.rv_object_checks.specs.Found.{section_at, sections_from}
-use Rattle.rv_object_reader.proofs.WalkLemmas.{sections_are}
+use Rattle.rv_object_checks.proofs.SectionsFromLemmas.{sections_are}
 use Rattle.rv_object_reader.proofs.KeptLemmas.{says_at}
 use Rattle.rv_object_reader.proofs.GoodRelocationsLemmas.{all_good, collected}
 use Rattle.rv_object_reader.proofs.ContentsLemmas.{name_ends, even_says, aligned_says, kept_says, fits_says, padding_says}
@@ -25,10 +26,6 @@ pub record IsValid (s : Section) : Type 0 where
   pub alone : is_loaded_alone s.loaded s.relocations ≡ true
   pub inside : fit_inside s.contents s.relocations ≡ true
   pub paddings : are_paddings s.executable s.contents s.relocations ≡ true
-
-all_agree : {X : Type 0} (p q : X → Bool) → ((x : X) → p x ≡ q x) → (xs : List X) → list_all p xs ≡ list_all q xs
-all_agree p q same [] = refl
-all_agree p q same (x ∷ xs) = λ i. same x i && all_agree p q same xs i
 
 alone_by : (loaded : Bool) (rs : List Relocation) → is_loaded_alone loaded (cond loaded rs []) ≡ true
 alone_by true rs = refl

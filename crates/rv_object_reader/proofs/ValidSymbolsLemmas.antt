@@ -1,11 +1,16 @@
 -- Symbols and rows of a file without a fault are those of an object.
 
-use Rattle.std.proofs.Common.{◌≡◌, ℕ, ◌+◌, ◌-◌, ◌/◌, ◌==◌, nat_le, Bool, true, false, not, ◌&&◌, ◌||◌, List, [], ◌∷◌, length, map, drop, Option, Some, None, refl, ap, sym, ◌∙◌, arith, if◌then◌else◌, unwrap_or}
+use Rattle.std.proofs.Common.{◌≡◌, ℕ, ◌+◌, ◌-◌, ◌/◌, ◌==◌, nat_le, Bool, true, false, not, ◌&&◌, ◌||◌, List, [], length, map, drop, Option, Some, None, refl, ap, sym, ◌∙◌, arith, if◌then◌else◌, unwrap_or}
 use Rattle.std.specs.List.{list_all, find, slice_get, AllByRecursion}
-use Rattle.std.proofs.lemmas.Bool.{and_from, and_parts, cond-true, cond-false, eqb-true, true≢false, lt-ltb}
+use Rattle.std.proofs.lemmas.Bool.{and_parts, cond-true, cond-false, eqb-true, true≢false, lt-ltb, not-false}
 use Rattle.std.proofs.lemmas.Bool.Decides.{nat_tests}
 use Rattle.std.proofs.lemmas.List.{length-drop, length-map}
 use Rattle.std.proofs.lemmas.List.Folds.{list_all-map}
+use Rattle.rv_list_laws.proofs.FindLemmas.{find_test, find_filter}
+use Rattle.rv_list_laws.proofs.MapLemmas.{get_map}
+use Rattle.std.proofs.lemmas.Option.{slice_get_within}
+use Rattle.rv_list_laws.proofs.TestsLemmas.{all_by}
+use Rattle.rv_list_laws.proofs.EachLemmas.{all_from_each}
 use Rattle.rv_map_laws.specs.Name.{is_name}
 use Rattle.rv_elf_laws.specs.declared.symbol.Symbol.{Symbol as SymbolRecord}
 use Rattle.rv_elf_laws.specs.FirstFault.{first_true}
@@ -18,9 +23,9 @@ use Rattle.rv_object_file_laws.specs.Parts.{FileSection, sections, kept, is_kept
 use Rattle.rv_object_file_laws.specs.Rows.{RowRecord, rows_in}
 use Rattle.rv_object_file_laws.specs.FirstFault.{is_shared_record, is_bad_name, has_binding, has_home, symbol_tests, is_row_of, row_tests, first_fault}
 use Rattle.rv_object_file_laws.specs.ObjectOf.{section_in, names_of, definition_by, symbol_in, row_in}
-use Rattle.rv_object_reader.proofs.FirstTrueLemmas.{not_false, all_false, flat_map_parts}
+use Rattle.rv_object_reader.proofs.FirstTrueLemmas.{all_false, flat_map_parts}
 use Rattle.rv_object_reader.proofs.WalkLemmas.{fine, passed_find, header_says}
-use Rattle.rv_object_reader.proofs.KeptLemmas.{kept_place, find_test, find_filter, get_map, get_below}
+use Rattle.rv_object_reader.proofs.KeptLemmas.{kept_place}
 use Rattle.rv_object_reader.proofs.ContentsLemmas.{name_string, size_says}
 use Rattle.rv_object_reader.proofs.ValidSectionsLemmas.{below_symbols, indexed}
 
@@ -43,7 +48,7 @@ good_symbols file none = go (symbol_table file) refl
 
 shown_name : (o : Option (List ℕ)) (s : SymbolRecord) → is_bad_name s o ≡ false → is_shared_record s ≡ true → is_name (unwrap_or o []) ≡ true
 shown_name None s h e = absurd (true≢false h)
-shown_name (Some name) s h e = not_false (is_name name) (sym (ap (λ b. b && not (is_name name)) e) ∙ h)
+shown_name (Some name) s h e = not-false (is_name name) (sym (ap (λ b. b && not (is_name name)) e) ∙ h)
 
 other_true : (a b : Bool) → (a || b) ≡ true → a ≡ false → b ≡ true
 other_true true b h e = absurd (true≢false e)
@@ -59,7 +64,7 @@ unfolding symbol_tests
 symbol_shown file s good =
     let names = names_of file (symbol_table file) in
     let a = all_false (symbol_tests file names s) good in
-    let both = and_parts (has_binding s) (has_home file s) (not_false (has_binding s && has_home file s) a.1.0) in
+    let both = and_parts (has_binding s) (has_home file s) (not-false (has_binding s && has_home file s) a.1.0) in
     shown_by (s.st_info / 16 == 0) (s.st_info / 16 == 2) (unwrap_or (name_at names s.st_name) []) (name_string names s.st_name)
     (λ e. shown_name (name_at names s.st_name) s a.0 (other_true (s.st_info / 16 == 0) (is_shared_record s) both.0 e))
 
@@ -69,7 +74,7 @@ defined_by : (file : List ℕ) (s : SymbolRecord) (j : ℕ) (o : Option FileSect
 defined_by file s j None e = refl
 defined_by file s j (Some t) e =
     let same = eqb-true t.index j (find_test (is_index j) (kept file) t e) in
-    let below = get_below (kept file) (kept_before file j) t (kept_place file j t e) in
+    let below = slice_get_within (kept file) (kept_before file j) t (kept_place file j t e) in
     lt-ltb (kept_before file t.index) (length (map (section_in file) (kept file))) (omega (arith, length-map (kept file) (section_in file), ap (kept_before file) same, below))
 
 pub symbol_defined : (file : List ℕ) (s : SymbolRecord) → is_defined_in (length (map (section_in file) (kept file))) (symbol_in file s).definition ≡ true
@@ -120,18 +125,10 @@ pub row_lies : (file : List ℕ) → first_fault file ≡ None → (r : RowRecor
 unfolding row_tests
 row_lies file none r good =
     let a = all_false (row_tests file r) good in
-    let both = and_parts (is_row_of r (kept_at file r.r_section)) (r.r_reserved == 0) (not_false (is_row_of r (kept_at file r.r_section) && (r.r_reserved == 0)) a.0) in
+    let both = and_parts (is_row_of r (kept_at file r.r_section)) (r.r_reserved == 0) (not-false (is_row_of r (kept_at file r.r_section) && (r.r_reserved == 0)) a.0) in
     row_by file none r (kept_at file r.r_section) refl both.0
 
 -- ---- the whole
-
-all_by : {X : Type 0} (p : X → Bool) → ((x : X) → p x ≡ true) → (xs : List X) → list_all p xs ≡ true
-all_by p h [] = refl
-all_by p h (x ∷ xs) = and_from _ _ (h x) (all_by p h xs)
-
-all_from : {X : Type 0} (P : X → Type 0) (p : X → Bool) → ((x : X) → P x → p x ≡ true) → (xs : List X) → AllByRecursion P xs → list_all p xs ≡ true
-all_from P p h [] all = refl
-all_from P p h (x ∷ xs) all = and_from _ _ (h x all.0) (all_from P p h xs all.1)
 
 abbrev pub sections_in : List ℕ → List Section
 sections_in file = map (section_in file) (kept file)
@@ -153,4 +150,4 @@ object_defined file =
 pub object_rows : (file : List ℕ) → first_fault file ≡ None → are_rows (sections_in file) (map (row_in file) (row_records file)) ≡ true
 object_rows file none =
     list_all-map (λ r. is_row_in r (slice_get (sections_in file) r.section)) (row_in file) (row_records file)
-    ∙ all_from (IsGoodRow file) (λ r. is_row_in (row_in file r) (slice_get (sections_in file) (kept_before file r.r_section))) (row_lies file none) (row_records file) (good_rows file none)
+    ∙ all_from_each (IsGoodRow file) (λ r. is_row_in (row_in file r) (slice_get (sections_in file) (kept_before file r.r_section))) (row_lies file none) (row_records file) (good_rows file none)

@@ -1,34 +1,18 @@
 -- What the sections of a file have passed where no test is true.
 
-use Rattle.std.proofs.Common.{◌≡◌, ℕ, zero, suc, ◌+◌, ◌-◌, ◌*◌, ◌%◌, ◌==◌, Bool, true, false, not, ◌&&◌, ◌||◌, List, [], ◌∷◌, ◌++◌, drop, Some, None, refl, ap, sym, ◌∙◌, subst, arith, cond}
+use Rattle.std.proofs.Common.{◌≡◌, ℕ, ◌%◌, ◌==◌, Bool, true, false, not, ◌&&◌, ◌||◌, List, [], ◌∷◌, ◌++◌, Some, None, refl, subst, cond}
 use Rattle.std.specs.List.{find}
+use Rattle.std.proofs.lemmas.Bool.{not-false}
 use Rattle.rv_elf_laws.specs.declared.section_header.SectionHeader.{SectionHeader}
-use Rattle.rv_elf_laws.specs.Fields.{number_in, e_shoff, e_type}
+use Rattle.rv_elf_laws.specs.Fields.{number_in, e_type}
 use Rattle.rv_elf_laws.specs.FirstFault.{first_true, header_tests, table_tests}
 use Rattle.rv_elf_laws.specs.Numbers.{et_rel, sht_nobits}
-use Rattle.rv_elf_laws.specs.Records.{section_header_at}
-use Rattle.rv_elf_laws.specs.Sections.{records, section_count, is_past}
+use Rattle.rv_elf_laws.specs.Sections.{is_past}
 use Rattle.rv_object_laws.specs.Valid.{is_section_alignment}
-use Rattle.rv_object_file_laws.specs.Parts.{FileSection, numbered, sections, is_executable, name_of}
+use Rattle.rv_object_file_laws.specs.Parts.{FileSection, sections, is_executable, name_of}
 use Rattle.rv_object_file_laws.specs.FirstFault.{is_none, is_linked, section_tests, records_tests, sections_tests, object_tests, first_fault}
-use Rattle.rv_object_checks.specs.Found.{section_at, sections_from}
 use Rattle.rv_elf_laws.specs.FirstTrue.{no_fault_parts}
-use Rattle.rv_object_reader.proofs.FirstTrueLemmas.{passed, all_false, not_false}
-
-pub numbered_from : (file : List ℕ) (n i : ℕ) →
-    numbered i (records section_header_at 64 n (number_in e_shoff 0 file + 64 * i) file) ≡ sections_from file n i
-numbered_from file zero i = refl
-numbered_from file (suc n) i =
-    let next : number_in e_shoff 0 file + 64 * i + 64 ≡ number_in e_shoff 0 file + 64 * suc i = omega arith in
-    ap (λ ss. section_at file i ∷ ss) (ap (λ p. numbered (suc i) (records section_header_at 64 n p file)) next ∙ numbered_from file n (suc i))
-
--- all sections, by their indices
-pub sections_are : (file : List ℕ) → sections file ≡ sections_from file (section_count file - 1) 1
-sections_are file = go (section_count file)
-  where
-    go : (n : ℕ) → drop 1 (numbered 0 (records section_header_at 64 n (number_in e_shoff 0 file) file)) ≡ sections_from file (n - 1) 1
-    go zero = refl
-    go (suc n) = let less : suc n - 1 ≡ n = omega arith in numbered_from file n 1 ∙ sym (ap (λ m. sections_from file m 1) less)
+use Rattle.rv_object_reader.proofs.FirstTrueLemmas.{passed, all_false}
 
 -- a section has passed its tests, behind these
 pub record Passed (file : List ℕ) (earlier : List FileSection) (s : FileSection) : Type 0 where
@@ -90,4 +74,4 @@ pub header_says : (file : List ℕ) (before : List FileSection) (h : SectionHead
 unfolding section_tests
 header_says file before h none =
     let a = all_false (section_tests file before h) none in
-    record { stands = a.0; alignment = a.1.1.1.1.0; even = a.1.1.1.1.1.0; named = a.1.1.1.1.1.1.0; links = not_false (is_linked file h) a.1.1.1.1.1.1.1.0 }
+    record { stands = a.0; alignment = a.1.1.1.1.0; even = a.1.1.1.1.1.0; named = a.1.1.1.1.1.1.0; links = not-false (is_linked file h) a.1.1.1.1.1.1.1.0 }

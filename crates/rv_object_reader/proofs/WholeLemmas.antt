@@ -1,7 +1,7 @@
 -- The object of a file without a fault.
 
 use Rattle.std.proofs.Common.{◌≡◌, ℕ, ◌%◌, ◌==◌, ◌&&◌, List, None, drop, map, subst}
-use Rattle.std.proofs.lemmas.Bool.{and_parts, eqb-true}
+use Rattle.std.proofs.lemmas.Bool.{and_parts, eqb-true, not-false}
 use Rattle.rv_elf_laws.specs.Fields.{number_in, ei_magic, ei_class, ei_data, ei_version, e_type, e_machine, e_flags}
 use Rattle.rv_elf_laws.specs.FirstFault.{first_true, header_tests}
 use Rattle.rv_elf_laws.specs.Numbers.{elfmag, et_rel, em_riscv}
@@ -9,7 +9,7 @@ use Rattle.rv_object_laws.specs.Object.{Object}
 use Rattle.rv_object_file_laws.specs.FirstFault.{first_fault}
 use Rattle.rv_object_file_laws.specs.ObjectOf.{ObjectOf, section_in, symbol_in, row_in}
 use Rattle.rv_object_file_laws.specs.Parts.{kept, symbol_records, row_records}
-use Rattle.rv_object_reader.proofs.FirstTrueLemmas.{all_false, not_false}
+use Rattle.rv_object_reader.proofs.FirstTrueLemmas.{all_false}
 use Rattle.rv_object_reader.proofs.WalkLemmas.{fine}
 
 -- what the first bytes of the file say
@@ -24,14 +24,14 @@ head_says : (file : List ℕ) → first_true (header_tests file) ≡ None → He
 unfolding header_tests
 head_says file none =
     let a = all_false (header_tests file) none in
-    let three = and_parts (number_in ei_class 0 file == 2 && number_in ei_data 0 file == 1) (number_in ei_version 0 file == 1) (not_false _ a.1.1.0) in
+    let three = and_parts (number_in ei_class 0 file == 2 && number_in ei_data 0 file == 1) (number_in ei_version 0 file == 1) (not-false _ a.1.1.0) in
     let two = and_parts (number_in ei_class 0 file == 2) (number_in ei_data 0 file == 1) three.0 in
     record {
-      magic = eqb-true (number_in ei_magic 0 file) elfmag (not_false _ a.1.0);
+      magic = eqb-true (number_in ei_magic 0 file) elfmag (not-false _ a.1.0);
       class = eqb-true (number_in ei_class 0 file) 2 two.0;
       order = eqb-true (number_in ei_data 0 file) 1 two.1;
       version = eqb-true (number_in ei_version 0 file) 1 three.1;
-      machine = eqb-true (number_in e_machine 0 file) em_riscv (not_false _ a.1.1.1.0);
+      machine = eqb-true (number_in e_machine 0 file) em_riscv (not-false _ a.1.1.1.0);
     }
 
 -- what is collected is the object of the file
@@ -50,7 +50,7 @@ object_is file none o c =
       class = says.class;
       order = says.order;
       version = says.version;
-      object = eqb-true (number_in e_type 0 file) et_rel (not_false _ f.object);
+      object = eqb-true (number_in e_type 0 file) et_rel (not-false _ f.object);
       riscv = says.machine;
       sections = c.sections;
       symbols = c.symbols;

@@ -2,17 +2,14 @@
 
 use Rattle.std.proofs.Common.{◌≡◌, ℕ, suc, ◌+◌, ◌/◌, ◌%◌, ◌^◌, ◌∷◌, [], ◌++◌, ap, ◌∙◌, arith}
 use Rattle.byteorder.specs.Endian.{little_bytes}
-use Rattle.rv_elf_laws.specs.declared.file_header.FileHeader.{FileHeader}
 use Rattle.rv_elf_laws.specs.declared.section_header.SectionHeader.{SectionHeader}
 use Rattle.rv_elf_laws.specs.declared.symbol.Symbol.{Symbol}
-use Rattle.rv_elf_laws.specs.declared.rela.Rela.{Rela}
 use Rattle.rv_elf_laws.specs.Fields as at
-use Rattle.rv_elf_laws.specs.Records.{ident, file_header_bytes, section_header_bytes, symbol_bytes, rela_bytes}
+use Rattle.rv_elf_laws.specs.Records.{section_header_bytes, symbol_bytes}
 use Rattle.rv_object_laws.specs.declared.row.Row.{Row}
 use Rattle.rv_object_file_laws.specs.Rows as rows
 use Rattle.rv_object_file_laws.specs.Rows.{row_bytes}
 use Rattle.rv_object_file_laws.specs.Written.{row_record}
-use Rattle.std.specs.Int.{cast_unsigned, w64}
 
 pub half_cut : (x : ℕ) → little_bytes 2 (x % 2 ^ 16) ≡ little_bytes 2 x
 half_cut x =
@@ -49,11 +46,6 @@ symbol_cut s name home = λ k. word_cut name k
     ++ (at.bytes_of at.st_info s.st_info ++ (at.bytes_of at.st_other s.st_other
     ++ (half_cut home k ++ (at.bytes_of at.st_value s.st_value ++ at.bytes_of at.st_size s.st_size))))
 
-pub rela_cut : (r : Rela) (symbol : ℕ) → rela_bytes (record r { r_sym = symbol % 2 ^ 32 }) ≡ rela_bytes (record r { r_sym = symbol })
-unfolding rela_bytes
-rela_cut r symbol = λ k. at.bytes_of at.r_offset r.r_offset
-    ++ (at.bytes_of at.r_type r.r_type ++ (word_cut symbol k ++ at.bytes_of at.r_addend (cast_unsigned w64 r.r_addend)))
-
 pub row_cut : (row : Row) → row_bytes (record (row_record row) { r_section = (row.section + 1) % 2 ^ 32 }) ≡ row_bytes (row_record row)
 unfolding row_bytes
 row_cut row =
@@ -73,15 +65,3 @@ section_cut h name size link info = λ k. word_cut name k
     ++ (at.bytes_of at.sh_addr h.sh_addr ++ (at.bytes_of at.sh_offset h.sh_offset
     ++ (double_cut size k ++ (word_cut link k ++ (word_cut info k
     ++ (at.bytes_of at.sh_addralign h.sh_addralign ++ at.bytes_of at.sh_entsize h.sh_entsize))))))))
-
-pub header_cut : (h : FileHeader) (sections names : ℕ)
-    → file_header_bytes (record h { e_shnum = sections % 2 ^ 16; e_shstrndx = names % 2 ^ 16 })
-    ≡ file_header_bytes (record h { e_shnum = sections; e_shstrndx = names })
-unfolding file_header_bytes
-header_cut h sections names = λ k. ident
-    ++ (at.bytes_of at.e_type h.e_type ++ (at.bytes_of at.e_machine h.e_machine
-    ++ (at.bytes_of at.e_version h.e_version ++ (at.bytes_of at.e_entry h.e_entry
-    ++ (at.bytes_of at.e_phoff h.e_phoff ++ (at.bytes_of at.e_shoff h.e_shoff
-    ++ (at.bytes_of at.e_flags h.e_flags ++ (at.bytes_of at.e_ehsize h.e_ehsize
-    ++ (at.bytes_of at.e_phentsize h.e_phentsize ++ (at.bytes_of at.e_phnum h.e_phnum
-    ++ (at.bytes_of at.e_shentsize h.e_shentsize ++ (half_cut sections k ++ half_cut names k))))))))))))

@@ -1,9 +1,7 @@
 -- What the types of an object keep, and the widths of its numbers, as one fact of the object.
 
-use Rattle.std.proofs.Common.{◌≡◌, ◌≤◌, ◌<◌, ◌^◌, true, ℕ, List, [], ◌∷◌, length, map, take, sym, All}
+use Rattle.std.proofs.Common.{◌≡◌, ◌<◌, ◌^◌, true, List, [], ◌∷◌, map}
 use Rattle.std.proofs.lemmas.Bool.{and_parts}
-use Rattle.std.proofs.lemmas.List.{take_all}
-use Rattle.std.proofs.lemmas.List.Elements.{All-map, All-same, recursion_from_All}
 use Rattle.std.specs.List.{AllByRecursion}
 use Rattle.rv_object_types.specs.declared.object.Object.{Object}
 use Rattle.rv_object_types.specs.declared.section.Section.{Section}
@@ -15,12 +13,6 @@ use Rattle.rv_object_types.specs.View.{object_of}
 use Rattle.rv_object_laws.proofs.CountedLemmas.{counted_widths}
 use Rattle.rv_object_file_laws.specs.Known.{IsRelocation, IsSection, IsRow, IsObject}
 use Rattle.rv_object_writer.specs.Pieces.{HaveKnownNumbers}
-
--- what holds of what each item stands for that a loop has passed holds of all, once it has passed them all
-pub all_passed : {A B : Type 0} (P : B → Type 0) (f : A → B) (xs : List A) (i : ℕ) → length xs ≤ i → All (λ x. P (f x)) (take i xs)
-    → AllByRecursion P (map f xs)
-all_passed P f xs i past so_far =
-    recursion_from_All P (map f xs) (All-map P f xs (All-same (λ x. P (f x)) xs (take i xs) (sym (take_all i xs past)) so_far))
 
 sections_known : (ss : List Section) → AllByRecursion (λ s. size_of s.contents < 2 ^ 64) (map section_of ss)
     → AllByRecursion (λ s. AllByRecursion IsRelocation s.relocations) (map section_of ss) → AllByRecursion IsSection (map section_of ss)

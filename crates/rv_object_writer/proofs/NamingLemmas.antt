@@ -1,31 +1,20 @@
 -- One name more in a table.
 
-use Rattle.std.proofs.Common.{◌≡◌, ℕ, ◌+◌, Bool, true, false, cond, Option, Some, None, option_map, is_some, List, [], ◌∷◌, ◌++◌, length, refl, sym, ap, ◌∙◌, append_assoc, append-nil, length-append, Bor, option_copied}
+use Rattle.std.proofs.Common.{◌≡◌, ℕ, ◌+◌, Bool, true, false, cond, Option, Some, None, option_map, is_some, List, [], ◌∷◌, ◌++◌, length, refl, sym, ap, ◌∙◌, append_assoc, append-nil, length-append}
 use Rattle.std.specs.Prelude.{◌||◌, if◌then◌else◌, bytes_eq}
 use Rattle.std.specs.List.{list_any}
 use Rattle.std.specs.Option.{option_or}
 use Rattle.std.proofs.lemmas.Grind.{flat_map-append}
 use Rattle.std.proofs.lemmas.Slice.Eq.{bytes_eq-Decides}
+use Rattle.rv_list_laws.proofs.ElementsLemmas.{bytes_eq_swap}
+use Rattle.rv_list_laws.proofs.OptionsLemmas.{is_some_map}
 use Rattle.rv_object_file_laws.specs.Written.{unseen, offset_in}
 use Rattle.rv_object_writer.specs.Strings.{terminated, with_string, found_in}
-
-bytes_swap : (x y : List ℕ) → bytes_eq x y ≡ bytes_eq y x
-bytes_swap x y = by (bytes_eq x y) refl (bytes_eq y x) refl
-  where
-    by : (a : Bool) → bytes_eq x y ≡ a → (b : Bool) → bytes_eq y x ≡ b → a ≡ b
-    by true e true f = refl
-    by false e false f = refl
-    by true e false f = sym ((bytes_eq-Decides y x).1 (sym ((bytes_eq-Decides x y).0 e))) ∙ f
-    by false e true f = sym e ∙ (bytes_eq-Decides x y).1 (sym ((bytes_eq-Decides y x).0 f))
-
-some_map : {X Y : Type 0} (f : X → Y) (o : Option X) → is_some (option_map f o) ≡ is_some o
-some_map f None = refl
-some_map f (Some x) = refl
 
 -- a string is found where it is one of them
 pub found_any : (ss : List (List ℕ)) (name : List ℕ) → is_some (found_in ss name) ≡ list_any (bytes_eq name) ss
 found_any [] name = refl
-found_any (s ∷ ss) name = by (bytes_eq s name) (some_map (λ o. length s + 1 + o) (found_in ss name) ∙ found_any ss name) ∙ ap (λ b. b || list_any (bytes_eq name) ss) (bytes_swap s name)
+found_any (s ∷ ss) name = by (bytes_eq s name) (is_some_map (λ o. length s + 1 + o) (found_in ss name) ∙ found_any ss name) ∙ ap (λ b. b || list_any (bytes_eq name) ss) (bytes_eq_swap s name)
   where
     by : (b : Bool) → is_some (option_map (λ o. length s + 1 + o) (found_in ss name)) ≡ list_any (bytes_eq name) ss
         → is_some (if b then Some 0 else option_map (λ o. length s + 1 + o) (found_in ss name)) ≡ (b || list_any (bytes_eq name) ss)
@@ -58,15 +47,6 @@ bytes_more ss key old named new was name end =
     end ∙ ap (λ l. l ++ 0 ∷ []) name ∙ append_assoc old key (0 ∷ []) ∙ ap (λ l. l ++ (key ++ 0 ∷ [])) was
     ∙ ap (λ l. terminated ss ++ l) (sym (append-nil (key ++ 0 ∷ [])))
     ∙ sym (flat_map-append (λ (name : List ℕ). name ++ 0 ∷ []) ss (key ∷ []))
-
--- whether something is found, by what the map lends
-pub lent : {A : Type 0} (o : Option (Bor A)) → is_some (option_copied o) ≡ is_some o
-lent None = refl
-lent (Some x) = refl
-
-pub none_by : {A : Type 0} (o : Option A) → is_some o ≡ false → o ≡ None
-none_by None e = refl
-none_by (Some x) e = absurd (cc)
 
 module _ (key name : List ℕ) where
   step : (f : ℕ → ℕ) (o : Option ℕ) (b : Bool) (n m : ℕ) → f n ≡ m

@@ -1,27 +1,23 @@
 -- One step of each loop, and its end.
 
-use Rattle.std.proofs.Common.{◌≡◌, ℕ, suc, ◌+◌, ◌-◌, ◌*◌, ◌<◌, ◌≤◌, Bool, true, false, not, ◌==◌, List, [], ◌∷◌, ◌++◌, length, map, drop, filter, get_or, replicate, refl, sym, ap, ◌∙◌, append_assoc, append-nil, length-append, arith, ne_eqb, if◌then◌else◌}
+use Rattle.std.proofs.Common.{◌≡◌, ℕ, suc, ◌+◌, ◌*◌, ◌<◌, ◌≤◌, Bool, true, false, not, ◌==◌, List, [], ◌∷◌, ◌++◌, length, map, drop, get_or, replicate, refl, sym, ap, ◌∙◌, append_assoc, length-append, arith, ne_eqb, if◌then◌else◌}
 use Rattle.std.specs.Prelude.{flat_map}
-use Rattle.std.proofs.lemmas.List.{drop_more, drop_all, length-replicate}
 use Rattle.std.proofs.Math.Seq.{drop-append_seam}
+use Rattle.rv_list_laws.proofs.TakeDropLemmas.{drop_read_or}
 use mir.Val.{bool_byte}
 use Rattle.rv_elf_laws.specs.declared.file_header.FileHeader.{FileHeader}
 use Rattle.rv_elf_laws.specs.Records.{file_header_bytes, section_header_bytes}
 use Rattle.rv_object_laws.specs.declared.row.Row.{Row}
 use Rattle.rv_object_types.specs.declared.section.Section.{Section as DeclaredSection}
-use Rattle.rv_object_laws.specs.Object.{Section, Symbol}
+use Rattle.rv_object_laws.specs.Object.{Section}
 use Rattle.rv_object_types.specs.Sections.{section_of}
 use Rattle.rv_layout_laws.specs.Alignment.{aligned}
 use Rattle.rv_object_writer.specs.declared.piece.Piece.{Piece as DeclaredPiece}
 use Rattle.rv_object_writer.specs.Pieces.{body_bytes, piece_of, rows_bytes}
 use Rattle.rv_object_file_laws.proofs.SymbolsReadLemmas.{length-rows}
-use Rattle.rv_object_file_laws.specs.Written.{UnplacedSection, zeros_at, contents_from, headers_offset, headers_from, header_of, rela_pieces, row_pieces, has_relocations, is_local, locals}
-pub use Rattle.rv_object_file_laws.proofs.HeadingLemmas.{length-file_header as length-header}
+use Rattle.rv_object_file_laws.specs.Written.{UnplacedSection, contents_from, headers_offset, headers_from, header_of, rela_pieces, row_pieces}
 pub use Rattle.rv_object_file_laws.proofs.LaidLemmas.{aligned_up as not_below}
-
--- the next of those that are left
-pub left : {A : Type 0} (xs : List A) (i : ℕ) (x d : A) → i < length xs → x ≡ get_or xs i d → drop i xs ≡ x ∷ drop (i + 1) xs
-left xs i x d inside is = drop_more xs i d inside ∙ ap (λ y. y ∷ drop (i + 1) xs) (sym is)
+use Rattle.rv_object_file_laws.proofs.LaidLemmas.{length-contents}
 
 -- what is there so far and what the rest gives, one item later
 pub step : {A B : Type 0} (F : List A → List B) (g : A → List B) → ((y : A) (ys : List A) → F (y ∷ ys) ≡ g y ++ F ys)
@@ -29,12 +25,7 @@ pub step : {A B : Type 0} (F : List A → List B) (g : A → List B) → ((y : A
     → (old new whole : List B) → new ≡ old ++ g x → old ++ F (drop i xs) ≡ whole → new ++ F (drop (i + 1) xs) ≡ whole
 step F g law xs i x d inside is old new whole grown so_far =
     ap (λ l. l ++ F (drop (i + 1) xs)) grown ∙ append_assoc old (g x) (F (drop (i + 1) xs))
-    ∙ ap (λ l. old ++ l) (sym (law x (drop (i + 1) xs))) ∙ ap (λ l. old ++ F l) (sym (left xs i x d inside is)) ∙ so_far
-
-pub done : {A B : Type 0} (F : List A → List B) → F [] ≡ [] → (xs : List A) (i : ℕ) → length xs ≤ i
-    → (out whole : List B) → out ++ F (drop i xs) ≡ whole → out ≡ whole
-done F nil xs i past out whole so_far =
-    sym (append-nil out) ∙ ap (λ l. out ++ l) (sym (ap F (drop_all i xs past) ∙ nil)) ∙ so_far
+    ∙ ap (λ l. old ++ l) (sym (law x (drop (i + 1) xs))) ∙ ap (λ l. old ++ F l) (sym (drop_read_or xs i x d inside is)) ∙ so_far
 
 -- three lists and two items, one after the other
 pub five : {A : Type 0} (a b c : List A) (x y : A) {one two more most all : List A} → one ≡ a → two ≡ one ++ b → more ≡ two ++ c → most ≡ more ++ x ∷ []
@@ -44,21 +35,6 @@ five a b c x y e f g h k =
     ∙ append_assoc ((a ++ b) ++ c) (x ∷ []) (y ∷ []) ∙ append_assoc (a ++ b) c (x ∷ y ∷ []) ∙ append_assoc a b (c ++ (x ∷ y ∷ []))
 
 -- ---- contents and headers
-
-pub contents_end : (at : ℕ) (ps : List UnplacedSection) → at + length (contents_from at ps) ≡ headers_offset at ps
-contents_end at [] =
-    let zeros : length (zeros_at at) ≡ aligned 8 at - at = length-replicate {A = ℕ} (aligned 8 at - at) 0 in
-    let up = not_below at in
-    omega arith
-contents_end at (p ∷ ps) =
-    let next = aligned 8 at + length p.bytes in
-    let rest = contents_from next ps in
-    let zeros : length (zeros_at at) ≡ aligned 8 at - at = length-replicate {A = ℕ} (aligned 8 at - at) 0 in
-    let up = not_below at in
-    let all : length (zeros_at at ++ (p.bytes ++ rest)) ≡ length (zeros_at at) + length (p.bytes ++ rest) = length-append (zeros_at at) (p.bytes ++ rest) in
-    let behind : length (p.bytes ++ rest) ≡ length p.bytes + length rest = length-append p.bytes rest in
-    let end : next + length rest ≡ headers_offset next ps = contents_end next ps in
-    omega arith
 
 pub begins_below : (at : ℕ) (ps : List UnplacedSection) → aligned 8 at ≤ headers_offset at ps
 begins_below at [] = omega arith
@@ -74,7 +50,7 @@ pub ends_on : (ps : List DeclaredPiece) (i at offset total : ℕ) (d : DeclaredP
     → headers_offset (offset + length (body_bytes (get_or ps i d).body)) (map piece_of (drop (i + 1) ps)) ≡ total
 ends_on ps i at offset total d inside is end =
     ap (λ n. headers_offset (n + length (body_bytes (get_or ps i d).body)) (map piece_of (drop (i + 1) ps))) is
-    ∙ ap (λ l. headers_offset at (map piece_of l)) (sym (left ps i (get_or ps i d) d inside refl)) ∙ end
+    ∙ ap (λ l. headers_offset at (map piece_of l)) (sym (drop_read_or ps i (get_or ps i d) d inside refl)) ∙ end
 
 -- the parts of a file, whose header is written over the zeros that keep its place
 pub whole_file : (h : FileHeader) (ps : List UnplacedSection) (start one two set later new rest : List ℕ) → start ≡ [] → one ≡ start ++ replicate 64 0
@@ -98,20 +74,7 @@ length_so_far ps start one two empty place contents =
     let zero_header : List ℕ = replicate 64 0 in
     let size : length one ≡ 64 = ap length (place ∙ ap (λ l. l ++ zero_header) empty) in
     ap length contents ∙ length-append one (contents_from (length one) ps)
-    ∙ ap (λ n. n + length (contents_from n ps)) size ∙ contents_end 64 ps
-
-pub contents_more : (p : UnplacedSection) (ps : List UnplacedSection) (out new : List ℕ) → new ≡ (out ++ zeros_at (length out)) ++ p.bytes
-    → new ++ contents_from (length new) ps ≡ out ++ contents_from (length out) (p ∷ ps)
-contents_more p ps out new grown =
-    let at = length out in
-    let zeros : length (zeros_at at) ≡ aligned 8 at - at = length-replicate {A = ℕ} (aligned 8 at - at) 0 in
-    let sums : length new ≡ length out + length (zeros_at at) + length p.bytes =
-    ap length grown ∙ length-append (out ++ zeros_at at) p.bytes ∙ ap (λ n. n + length p.bytes) (length-append out (zeros_at at)) in
-    let up : at ≤ aligned 8 at = omega arith in
-    let is : length new ≡ aligned 8 at + length p.bytes = omega arith in
-    let rest = contents_from (aligned 8 at + length p.bytes) ps in
-    ap (λ n. new ++ contents_from n ps) is ∙ ap (λ l. l ++ rest) grown
-    ∙ append_assoc (out ++ zeros_at at) p.bytes rest ∙ append_assoc out (zeros_at at) (p.bytes ++ rest)
+    ∙ ap (λ n. n + length (contents_from n ps)) size ∙ length-contents 64 ps
 
 pub headers_more : (ns : List (List ℕ)) (at next : ℕ) (p : UnplacedSection) (ps : List UnplacedSection) (out new : List ℕ)
     → new ≡ out ++ section_header_bytes (header_of ns at p) → next ≡ aligned 8 at + length p.bytes
@@ -141,17 +104,7 @@ relas_step symtab i xs x inside is old new whole grown so_far =
     ap (λ l. l ++ rela_pieces symtab (suc (i + 1)) rest) grown
     ∙ append_assoc old (rela_pieces symtab (i + 1) (section_of x ∷ [])) (rela_pieces symtab (suc (i + 1)) rest)
     ∙ ap (λ l. old ++ l) (sym (relas_more symtab (i + 1) (section_of x) rest)) ∙ ap (λ n. old ++ rela_pieces symtab n (section_of x ∷ rest)) next
-    ∙ ap (λ l. old ++ rela_pieces symtab (suc i) (map section_of l)) (sym (left xs i x x inside is)) ∙ so_far
-
--- there is one for each section that has relocations
-pub relas_count : (symtab i : ℕ) (ss : List Section) → length (rela_pieces symtab i ss) ≡ length (filter has_relocations ss)
-relas_count symtab i [] = refl
-relas_count symtab i (s ∷ ss) = by (length s.relocations == 0) _ (rela_pieces symtab (suc i) ss) s (filter has_relocations ss) (relas_count symtab (suc i) ss)
-  where
-    by : (b : Bool) (p : UnplacedSection) (ps : List UnplacedSection) (t : Section) (ts : List Section) → length ps ≡ length ts
-        → length (if b then ps else p ∷ ps) ≡ length (if not b then t ∷ ts else ts)
-    by true p ps t ts e = e
-    by false p ps t ts e = ap suc e
+    ∙ ap (λ l. old ++ rela_pieces symtab (suc i) (map section_of l)) (sym (drop_read_or xs i x x inside is)) ∙ so_far
 
 -- ---- rows
 
@@ -165,12 +118,6 @@ rows_long rows = length-rows rows
 
 -- ---- symbols
 
-pub locals_more : (s : Symbol) (ss : List Symbol) → is_local s ≡ true → locals (s ∷ ss) ≡ suc (locals ss)
-locals_more s ss e = ap (λ b. if b then suc (locals ss) else 0) e
-
-pub locals_end : (s : Symbol) (ss : List Symbol) → is_local s ≡ false → locals (s ∷ ss) ≡ 0
-locals_end s ss e = ap (λ b. if b then suc (locals ss) else 0) e
-
 pub header_put : (ns : List (List ℕ)) (ps : List DeclaredPiece) (i at offset : ℕ) (d : DeclaredPiece) (out new whole : List ℕ)
     → i < length ps → offset ≡ aligned 8 at → new ≡ out ++ section_header_bytes (header_of ns at (piece_of (get_or ps i d)))
     → out ++ flat_map section_header_bytes (headers_from ns at (map piece_of (drop i ps))) ≡ whole
@@ -178,4 +125,4 @@ pub header_put : (ns : List (List ℕ)) (ps : List DeclaredPiece) (i at offset :
 header_put ns ps i at offset d out new whole inside is grown so_far =
     let size : ℕ = length (body_bytes (get_or ps i d).body) in
     headers_more ns at (offset + size) (piece_of (get_or ps i d)) (map piece_of (drop (i + 1) ps)) out new grown (ap (λ n. n + size) is)
-    ∙ ap (λ l. out ++ flat_map section_header_bytes (headers_from ns at (map piece_of l))) (sym (left ps i (get_or ps i d) d inside refl)) ∙ so_far
+    ∙ ap (λ l. out ++ flat_map section_header_bytes (headers_from ns at (map piece_of l))) (sym (drop_read_or ps i (get_or ps i d) d inside refl)) ∙ so_far

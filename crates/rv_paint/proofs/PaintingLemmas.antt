@@ -15,12 +15,6 @@ unpainted_whole painted text h =
 pub none_painted : IsPainting [] []
 none_painted = record { before = λ after. refl }
 
-pub painted_after : (p q s t : List ℕ) → IsPainting p s → IsPainting q t → IsPainting (p ++ q) (s ++ t)
-painted_after p q s t h k = record {
-  before = λ after. ap unpainted (append_assoc p q after) ∙ h.before (q ++ after)
-      ∙ ap (λ more. s ++ more) (k.before after) ∙ sym (append_assoc s t (unpainted after));
-}
-
 kept : (byte : ℕ) (rest : List ℕ) → is_escape byte ≡ false → unpainted (byte ∷ rest) ≡ byte ∷ unpainted rest
 unfolding unpainted_from rest_of_colour
 kept byte rest e = rw e refl
@@ -34,10 +28,6 @@ stays (byte ∷ rest) after h = go (is_escape byte) refl h (stays rest after)
         → unpainted (byte ∷ (rest ++ after)) ≡ byte ∷ (rest ++ unpainted after)
     go true e more later = cc
     go false e more later = kept byte (rest ++ after) e ∙ ap (λ bytes. byte ∷ bytes) (later more)
-
--- a text without escapes
-pub painted_plain : (text : List ℕ) → list_any is_escape text ≡ false → IsPainting text text
-painted_plain text h = record { before = λ after. stays text after h }
 
 -- a word between two colours
 pub painted_word : (painted colour word end text : List ℕ) → IsPainting colour [] → IsPainting end [] → list_any is_escape word ≡ false

@@ -269,7 +269,7 @@ reader-exact p i =
     exact form true e only = (λ h. record { form = form; spells = is_spelled-sound p form e; same = same_Some (expansion form) i h }, λ s. ap (λ v. Some (expansion v)) (only s.form s.spells) ∙ ap (λ v. Some v) s.same)
     exact form false e only = (λ h. absurd (none-some i h), λ s. absurd (false-true (sym e ∙ is_spelled-complete p form (subst (λ v. SpellsForm p v) (sym (only s.form s.spells)) s.spells))))
 
-expanded-valid : (form : Compressed) → IsLine form → IsValid (expansion form)
+pub expanded-valid : (form : Compressed) → IsLine form → IsValid (expansion form)
 expanded-valid Ebreak line = tt
 expanded-valid form line = grind arith
 

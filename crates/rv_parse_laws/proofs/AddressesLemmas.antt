@@ -38,9 +38,6 @@ register_is set k os h = go (kept_in set (register_of k)) refl h
     go None e h = absurd (cc)
     go (Some n) e h = (n, e, cc)
 
-is_open_single : (s : Slot) (k : Kind) → is_opening k ≡ true → single (An_opening s) k ≡ Some []
-is_open_single s k h = rw h refl
-
 -- a base, whatever follows it
 pub base_is : (set : RegisterSet) (text : List Token) (os : List Operand) → IsBase set text os → (rest : List Token) → base_at set (text ++ rest) ≡ Ok (os, rest)
 base_is set text os (o, r, c, number, w, opens, named, closed, is) rest = rw (w, is) (rw (opens, named, closed) refl)

@@ -3,6 +3,7 @@
 use Rattle.std.proofs.Common.{◌≡◌, ℕ, ◌<◌, Bool, true, false, cond, ◌&&◌, not, nat_le, List, [], ◌∷◌, ◌++◌, length, Option, Some, None, is_some, Ok, Err, refl, sym, ◌∙◌, ap, subst, codes, arith, inl, inr}
 use Rattle.std.specs.Str.{bytes_eq}
 use Rattle.std.proofs.lemmas.Bool.{and_parts}
+use Rattle.rv_list_laws.proofs.ElementsLemmas.{some_bytes}
 use Rattle.rv_text_laws.specs.declared.punct.Punct.TheVariants.{At}
 use Rattle.rv_text_laws.specs.Grammar.{Kind, Punctuation, Name as NameToken}
 use Rattle.rv_text_laws.specs.Lexing.{Token, is_ended}
@@ -70,10 +71,6 @@ pub plt_step : (f a : Token) (us : List Token) (name : List ℕ) → token_symbo
     → plt_at (f ∷ a ∷ us) ≡ seen_as (λ none. Target (named name) ∷ []) (single_at A_plt us)
 plt_step f a us name symbol at = rw (symbol_is f.kind name symbol, at) refl
 
-some_is : (o : Option (List ℕ)) → is_some o ≡ true → (name : List ℕ) × (o ≡ Some name)
-some_is None h = absurd (cc)
-some_is (Some name) h = (name, refl)
-
 at_is : (k : Kind) → is_some (single At_sign k) ≡ true → is_at_sign k ≡ true
 at_is k h = go (is_at_sign k) h
   where
@@ -94,7 +91,7 @@ plt_parts [] h = absurd (cc)
 plt_parts (f ∷ []) h = let p = and_parts (is_some (token_symbol f.kind)) (front_begins At_sign []) h in absurd (cc p.1)
 plt_parts (f ∷ a ∷ us) h =
     let p = and_parts (is_some (token_symbol f.kind)) (front_begins At_sign (a ∷ us)) h in
-    let n = some_is (token_symbol f.kind) p.0 in
+    let n = some_bytes (token_symbol f.kind) p.0 in
     (f, a, us, n.0, refl, n.1, at_is a.kind p.1)
 
 plt_there : (f a : Token) (us : List Token) (name : List ℕ) → token_symbol f.kind ≡ Some name → is_at_sign a.kind ≡ true → plt_next (f ∷ a ∷ us) ≡ true

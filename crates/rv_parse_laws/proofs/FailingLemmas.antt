@@ -3,7 +3,6 @@
 use Rattle.std.proofs.Common.{◌≡◌, ℕ, List, [], ◌∷◌, ◌++◌, append_assoc, Option, Some, None, Result, Ok, Err, refl, sym, ◌∙◌, ap, subst}
 use Rattle.rv_text_laws.specs.Lexing.{Token}
 use Rattle.rv_text_laws.specs.SyntaxError.{SyntaxError, wrong, Read}
-use Rattle.rv_parse_laws.specs.Parsing.{seen_as}
 
 pub heads : {t u : Token} {ts us : List Token} → t ∷ ts ≡ u ∷ us → t ≡ u
 heads e = cc
@@ -93,6 +92,3 @@ behind X Y P Q R S text ts w to on f = record {
 pub alike : (X Y : Type 0) (P : List Token → X → Type 0) (Q : List Token → Y → Type 0) (R : List Token → Read X) (S : List Token → Read Y) (ts : List Token) (w : SyntaxError)
     → ((us : List Token) (y : Y) → Q us y → (x : X) × P us x) → ((us : List Token) → first_of us ≡ first_of ts → S us ≡ Err w → R us ≡ Err w) → Failing Y Q S ts w → Failing X P R ts w
 alike X Y P Q R S ts w to on f = behind X Y P Q R S [] ts w to on f
-
-pub seen_wrong : {X Y : Type 0} (view : X → Y) (r : Read X) (w : SyntaxError) → r ≡ Err w → seen_as view r ≡ Err w
-seen_wrong view r w e = ap (seen_as view) e

@@ -46,12 +46,6 @@ parts (Stops behind) = true
 parts (Takes (A_comma behind) rest) = true
 parts _ = false
 
-parts_starts : (ss : Slots) → parts ss ≡ true → starts ss ≡ true
-parts_starts (Stops behind) h = refl
-parts_starts (Takes (A_comma behind) rest) h = refl
-parts_starts (Takes _ rest) h = absurd (cc)
-parts_starts _ h = absurd (cc)
-
 -- an expression and a section's name have such a thing behind them; what is chosen is one token
 abbrev pub needs : Slot → Bool
 needs (A_value role) = true

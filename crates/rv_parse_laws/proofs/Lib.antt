@@ -20,7 +20,6 @@ pub mod ProgressLemmas
 pub mod CuttingLemmas
 pub mod PlacesLemmas
 pub mod WrongsLemmas
-pub mod ContentsLemmas
 pub mod WrongSectionsLemmas
 pub mod WrongStatementsLemmas
 pub mod WrongPlacesLemmas

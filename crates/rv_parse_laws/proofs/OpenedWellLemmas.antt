@@ -10,6 +10,7 @@ use Rattle.rv_text_laws.specs.Grammar.{Kind, Name as NameToken, Text, Punctuatio
 use Rattle.rv_text_laws.specs.Lexing.{Token}
 use Rattle.rv_text_laws.specs.Joined.{first_name}
 use Rattle.rv_text_laws.specs.SyntaxError.{SyntaxError, wrong}
+use Rattle.rv_text_laws.proofs.JoinsLemmas.{joined_none}
 use Rattle.rv_statement_laws.specs.declared.directive.DirectiveWord.{DirectiveWord}
 use Rattle.rv_statement_laws.specs.declared.directive.DirectiveWord.TheVariants as words
 use Rattle.rv_statement_laws.specs.Statement.{Operand, Word, Quoted, StatementKind, Label, Numbered, Instruction, Directs, Statement}
@@ -24,7 +25,7 @@ use Rattle.rv_parse_laws.specs.Parsing.{named_or, section_name_at, single_at, fr
 use Rattle.rv_parse_laws.specs.Reading.{told, statements_of_parts}
 use Rattle.rv_parse_laws.specs.Refusals.{OpensWell, AllOpenWell}
 use Rattle.rv_parse_laws.proofs.ValuesLemmas.{closes}
-use Rattle.rv_parse_laws.proofs.SectionsLemmas.{section_is, none_at}
+use Rattle.rv_parse_laws.proofs.SectionsLemmas.{section_is}
 use Rattle.rv_parse_laws.proofs.ItemsLemmas.{end_no_comma}
 use Rattle.rv_parse_laws.proofs.GoodOpeningsLemmas.{is_section_word, section_of, others_open}
 use Rattle.rv_parse_laws.proofs.OpeningsLemmas.{section_word, opening_there, none_opens, end_no_section}
@@ -199,7 +200,7 @@ colon_name (Punctuation punct) h = refl
 colon_name _ h = absurd (cc)
 
 colon_reads : (c : Token) (us : List Token) → is_colon c.kind ≡ true → (w : SyntaxError) × (section_name_at (c ∷ us) ≡ Err w)
-colon_reads c us h = (wrong c (wrong_first A_section c.kind), ap (named_or (c ∷ us)) (none_at c us (colon_name c.kind h)))
+colon_reads c us h = (wrong c (wrong_first A_section c.kind), ap (named_or (c ∷ us)) (joined_none c us (colon_name c.kind h)))
 
 label_here : (known : List ℕ → Bool) (t c : Token) (us : List Token) → is_colon c.kind ≡ true → nothing (opening_at known (t ∷ c ∷ us)) ≡ true
 unfolding nothing opening_at

@@ -37,15 +37,6 @@ text_some _ h = absurd (cc)
 comma_single : (t : Token) (us : List Token) → is_comma t.kind ≡ true → single_at (A_comma A_section) (t ∷ us) ≡ Ok ([], us)
 comma_single t us h = rw h refl
 
-flags_comma : (t : Token) (us : List Token) → is_comma t.kind ≡ true → single_at (A_comma Some_flags) (t ∷ us) ≡ Ok ([], us)
-flags_comma t us h = rw h refl
-
-at_single : (t : Token) (us : List Token) → is_at_sign t.kind ≡ true → single_at At_sign (t ∷ us) ≡ Ok ([], us)
-at_single t us h = rw h refl
-
-flags_single : (t : Token) (us : List Token) (bytes : List ℕ) → t.kind ≡ Text bytes → single_at Some_flags (t ∷ us) ≡ Ok (Quoted bytes ∷ [], us)
-flags_single t us bytes h = rw h refl
-
 -- what is wrong behind a name is wrong with its flags or its type
 named_is : (known : List ℕ → Bool) (front us : List Token) (name : List ℕ) → OpensNamed front name → opening_at known (front ++ us) ≡ flags_wrong (known name) us
 unfolding opening_at

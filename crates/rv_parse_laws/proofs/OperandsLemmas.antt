@@ -150,7 +150,7 @@ taken_found s R N ts os rest ih e =
       f.3,
     )
 
-operand_err : (s : Slot) (R : List Token → Read (List Operand)) (us : List Token) (w : SyntaxError) → operand_at s us ≡ Err w → taking s R us ≡ Err w
+pub operand_err : (s : Slot) (R : List Token → Read (List Operand)) (us : List Token) (w : SyntaxError) → operand_at s us ≡ Err w → taking s R us ≡ Err w
 operand_err s R us w e = rw e refl
 
 rest_err : (s : Slot) (R : List Token → Read (List Operand)) (us : List Token) (os : List Operand) (rest : List Token) (w : SyntaxError) → operand_at s us ≡ Ok (os, rest) → R rest ≡ Err w

@@ -16,7 +16,7 @@ use Rattle.rv_parse_laws.specs.Faults.{wrong_start, wrong_label}
 use Rattle.rv_parse_laws.specs.Parsing.{seen_as, taken, operands_at, begun_at, after_first, statement_at, part_at}
 use Rattle.rv_parse_laws.specs.Refusals.{is_label_part, begins_label}
 use Rattle.rv_parse_laws.proofs.StepsLemmas.{seen_ok, taken_ok, pair_parts, seen_err, taken_err}
-use Rattle.rv_parse_laws.proofs.FailingLemmas.{Failing, Shown, at_once, shown_behind, first_of, never, wrongs}
+use Rattle.rv_parse_laws.proofs.FailingLemmas.{Failing, Shown, at_once, shown_behind, never, wrongs}
 use Rattle.rv_parse_laws.proofs.SinglesLemmas.{some_token, a_symbol, a_newline}
 use Rattle.rv_parse_laws.proofs.InPlacesLemmas.{slots_sound, places_sound, operands_is, operands_found, operands_wrong, operands_live}
 use Rattle.rv_parse_laws.specs.declared.beginning.Beginning.{Beginning}
@@ -32,12 +32,6 @@ label_no_end (NameToken name) s h = refl
 label_no_end (Number word number) s h = refl
 label_no_end (Bad_word word) s h = refl
 label_no_end _ s h = absurd (cc)
-
-pub label_no_last : (k : Kind) (s : StatementKind) → label_of k ≡ Some s → is_last k ≡ false
-label_no_last (NameToken name) s h = refl
-label_no_last (Number word number) s h = refl
-label_no_last (Bad_word word) s h = refl
-label_no_last _ s h = absurd (cc)
 
 -- a label says one
 abbrev pub IsLabelled : StatementKind → Type 0
@@ -80,12 +74,6 @@ colon_behind (t ∷ ts) rest h ends = h
 colon_of_part : (text rest : List Token) → colon_next (text ++ rest) ≡ false → colon_next text ≡ false
 colon_of_part [] rest h = refl
 colon_of_part (t ∷ ts) rest h = h
-
-colon_first : (ts us : List Token) → first_of ts ≡ first_of us → colon_next ts ≡ colon_next us
-colon_first [] [] e = refl
-colon_first [] (u ∷ us) e = absurd (cc)
-colon_first (t ∷ ts) [] e = absurd (cc)
-colon_first (t ∷ ts) (u ∷ us) e = let same : t ≡ u = cc in ap (λ (x : Token). is_colon x.kind) same
 
 -- a statement behind its first token, no label
 begun_is : (b : Beginning) (t : Token) (us : List Token) (s : StatementKind) (rest : List Token) → begins t.kind ≡ b → (b ≡ beginnings.Nothing → ⊥)

@@ -61,9 +61,6 @@ push_statement ts t before us rest s ss so is checked =
         subst (λ (u : Token). SaysUpTo ts rest (ss ++ record { line = u.line; kind = s } ∷ [])) (sym head)
         (push ts (v ∷ vs) rest (Says s) ss (subst (λ xs. SaysUpTo ts xs ss) whole so) (subst (OpensWell ss) whole well) spelled stops)
 
-pub nothing_yet : (ts : List Token) → SaysUpTo ts ts []
-nothing_yet ts = ([], record { whole = refl; each = tt }, tt, refl)
-
 -- a statement takes tokens
 pub statement_shorter : (ss : List Statement) (ts rest : List Token) (s : StatementKind) → checked_at (is_opened ss) ts ≡ Ok (Says s, rest) → length rest < length ts
 statement_shorter ss ts rest s checked =

@@ -12,7 +12,7 @@ use Rattle.rv_text_laws.specs.Codes.{unsupported_here, limit}
 use Rattle.rv_text_laws.specs.SyntaxError.{SyntaxError, wrong, Read, longest_name}
 use Rattle.rv_text_laws.specs.Joined.{joined_bytes, AreAfter, IsJoined, joins, joined_after, first_name, joined_at}
 use Rattle.rv_text_laws.proofs.ExpressionWrongLemmas.{ended_more}
-use Rattle.rv_text_laws.proofs.JoinsLemmas.{joins_no_last}
+use Rattle.rv_text_laws.proofs.JoinsLemmas.{joins_no_last, joined_parts, parts_join, behind_more, behind_none, joined_none, first_is as first_name_is}
 use Rattle.rv_parse_laws.specs.Syntax.{is_section_name, A_section}
 use Rattle.rv_parse_laws.specs.Faults.{wrong_first}
 use Rattle.rv_parse_laws.specs.Parsing.{too_long, named_or, section_name_at}
@@ -22,25 +22,6 @@ use Rattle.rv_parse_laws.proofs.ValuesLemmas.{closes, Closes}
 -- the tokens are a name that a section may have
 abbrev pub IsSection : List Token → List ℕ → Type 0
 IsSection ts name = IsJoined ts name × (is_section_name name ≡ true)
-
--- the two parts of a test
-tested : (a b : Bool) (bytes : List ℕ) → cond (a) (Some bytes) None ≡ Some bytes → a ≡ true
-tested true b bytes h = refl
-tested false b bytes h = absurd (cc)
-
-pub joins_parts : (place : ℕ) (t : Token) (bytes : List ℕ) → joins place t ≡ Some bytes → (t.start ≡ place) × (joined_bytes t.kind ≡ Some bytes)
-joins_parts place t bytes h = go (t.start == place) refl h
-  where
-    go : (b : Bool) → (t.start == place) ≡ b → cond b (joined_bytes t.kind) None ≡ Some bytes → (t.start ≡ place) × (joined_bytes t.kind ≡ Some bytes)
-    go true e h = (grind (arith, nat_tests), h)
-    go false e h = absurd (cc)
-
-pub to_joins : (place : ℕ) (t : Token) (bytes : List ℕ) → t.start ≡ place → joined_bytes t.kind ≡ Some bytes → joins place t ≡ Some bytes
-to_joins place t bytes here is = go (t.start == place) refl
-  where
-    go : (b : Bool) → (t.start == place) ≡ b → cond b (joined_bytes t.kind) None ≡ Some bytes
-    go true e = is
-    go false e = absurd (grind (arith, nat_tests))
 
 -- what closes a name is none of its parts
 closing_none : (k : Kind) → closes k ≡ true → joined_bytes k ≡ None
@@ -59,20 +40,12 @@ no_joins place t none = go (t.start == place)
     go true = none
     go false = refl
 
--- one part more, and none
-behind_some : (place : ℕ) (t : Token) (ts : List Token) (bytes : List ℕ) → joins place t ≡ Some bytes
-    → joined_after place (t ∷ ts) ≡ (bytes ++ (joined_after t.stop ts).0, (joined_after t.stop ts).1)
-behind_some place t ts bytes e = rw (e, joined_after) refl
-
-behind_none : (place : ℕ) (t : Token) (ts : List Token) → joins place t ≡ None → joined_after place (t ∷ ts) ≡ ([], t ∷ ts)
-behind_none place t ts e = rw (e, joined_after) refl
-
 joined_is : (place : ℕ) (text rest : List Token) (bytes : List ℕ) → AreAfter place text bytes → Closes rest → joined_after place (text ++ rest) ≡ (bytes, rest)
 joined_is place [] rest bytes is (t, us, e, h) =
     rw (e, is) (behind_none place t us (no_joins place t (closing_none t.kind h)))
 joined_is place (t ∷ text) rest bytes (here, first, later, is, w, more) closes =
     let next = joined_is t.stop text rest later more closes in
-    behind_some place t (text ++ rest) first (to_joins place t first here is)
+    behind_more place t (text ++ rest) first (parts_join place t first here is)
     ∙ ap (λ (x : List ℕ × List Token). (first ++ x.0, x.1)) next ∙ ap (λ (x : List ℕ). (x, rest)) (sym w)
 
 -- what is joined, and that it is whatever stands behind the token behind it
@@ -103,12 +76,12 @@ joined_found place (t ∷ ts) = go (joins place t) refl (joined_found t.stop ts)
         stays : (us : List Token) → first_of us ≡ first_of (t ∷ ts) → joined_after place us ≡ ([], us)
         stays us first = let k = first_is t ts us first in ap (joined_after place) k.1 ∙ behind_none place t k.0 e ∙ ap (λ (x : List Token). ([], x)) (sym k.1)
     go (Some bytes) e f =
-        let is : joined_after place (t ∷ ts) ≡ (bytes ++ (joined_after t.stop ts).0, (joined_after t.stop ts).1) = behind_some place t ts bytes e in
-        let parts = joins_parts place t bytes e in record {
+        let is : joined_after place (t ∷ ts) ≡ (bytes ++ (joined_after t.stop ts).0, (joined_after t.stop ts).1) = behind_more place t ts bytes e in
+        let parts = joined_parts place t bytes e in record {
           text = t ∷ f.text;
           whole = ap (λ us. t ∷ us) f.whole ∙ ap (λ us. t ∷ (f.text ++ us)) (sym (ap (λ (x : List ℕ × List Token). x.1) is));
           is = (parts.0, bytes, (joined_after t.stop ts).0, parts.1, ap (λ (x : List ℕ × List Token). x.0) is, f.is);
-          steady = λ us first. behind_some place t (f.text ++ us) bytes e
+          steady = λ us first. behind_more place t (f.text ++ us) bytes e
               ∙ ap (λ (x : List ℕ × List Token). (bytes ++ x.0, x.1)) (f.steady us (first ∙ ap (λ (x : List ℕ × List Token). first_of x.1) is))
               ∙ ap (λ (x : List ℕ). (x, us)) (sym (ap (λ (x : List ℕ × List Token). x.0) is));
         }
@@ -159,14 +132,6 @@ pub name_at : (t : Token) (ts : List Token) (first : List ℕ) → t.kind ≡ Na
 unfolding joined_at
 name_at t ts first is = rw is refl
 
-pub none_at : (t : Token) (ts : List Token) → first_name t.kind ≡ None → joined_at (t ∷ ts) ≡ None
-unfolding joined_at
-none_at t ts none = rw none refl
-
-pub first_name_is : (k : Kind) (first : List ℕ) → first_name k ≡ Some first → k ≡ Name first
-first_name_is (Name name) first h = let same : name ≡ first = cc in ap (λ (x : List ℕ). Name x) same
-first_name_is _ first h = absurd (cc)
-
 -- what a name and the tokens behind it say
 abbrev outcome : Token → List Token → List ℕ → List Token → Read (List ℕ)
 outcome t ts name rest = cond (is_section_name name) (Ok (name, rest)) (cond (nat_lt longest_name (length name)) (Err (too_long 0 (t ∷ ts))) (Err (wrong t unsupported_here)))
@@ -215,7 +180,7 @@ section_found (t ∷ ts) name rest e = go (first_name t.kind) refl
         parts a x b y h = let p : (a, b) ≡ (x, y) = cc in (ap (λ (q : List ℕ × List Token). q.0) p, ap (λ (q : List ℕ × List Token). q.1) p)
 
     go : (o : Option (List ℕ)) → first_name t.kind ≡ o → SectionFound (t ∷ ts) name rest
-    go None none = absurd (cc (sym (ap (named_or (t ∷ ts)) (none_at t ts none)) ∙ e))
+    go None none = absurd (cc (sym (ap (named_or (t ∷ ts)) (joined_none t ts none)) ∙ e))
     go (Some first) is = named first (first_name_is t.kind first is) (is_section_name (first ++ (joined_after t.stop ts).0)) refl
 
 -- the first token with which a name is too long
@@ -243,7 +208,7 @@ too_long_within n t ts bytes w is within h = too_long_step n t ts bytes is ∙ r
 pub length_behind : (place : ℕ) (t : Token) (ts : List Token) (bytes : List ℕ) → joins place t ≡ Some bytes
     → length (joined_after place (t ∷ ts)).0 ≡ length bytes + length (joined_after t.stop ts).0
 length_behind place t ts bytes e =
-    ap (λ (x : List ℕ × List Token). length x.0) (behind_some place t ts bytes e) ∙ length-append bytes (joined_after t.stop ts).0
+    ap (λ (x : List ℕ × List Token). length x.0) (behind_more place t ts bytes e) ∙ length-append bytes (joined_after t.stop ts).0
 
 pub long_at : (n place : ℕ) (ts : List Token) → n ≤ longest_name → longest_name < n + length (joined_after place ts).0 → LongAt n place ts
 long_at n place [] fits long = absurd (omega (arith, fits, long))
@@ -261,14 +226,14 @@ long_at n place (t ∷ ts) fits long = go (joins place t) refl (λ m. long_at m 
           is = refl;
           fits = omega (arith, fits);
           longer = bytes;
-          longer_is = ((joins_parts place t bytes e).0, bytes, [], (joins_parts place t bytes e).1, sym (append-nil bytes), refl);
+          longer_is = ((joined_parts place t bytes e).0, bytes, [], (joined_parts place t bytes e).1, sym (append-nil bytes), refl);
           past = lt;
-          says = λ text. (too_long_step n t text bytes (joins_parts place t bytes e).1 ∙ rw over refl, omega (arith, lt, length_behind place t text bytes e));
+          says = λ text. (too_long_step n t text bytes (joined_parts place t bytes e).1 ∙ rw over refl, omega (arith, lt, length_behind place t text bytes e));
         }
     some bytes e false within further =
         let le : n + length bytes ≤ longest_name = grind (arith, nat_tests, within) in
         let f = further (n + length bytes) le (omega (arith, long, length_behind place t ts bytes e)) in
-        let parts = joins_parts place t bytes e in record {
+        let parts = joined_parts place t bytes e in record {
           front = t ∷ f.front;
           at = f.at;
           more = f.more;
@@ -405,14 +370,14 @@ section_wrong (t ∷ ts) w end e = go (first_name t.kind) refl
 
     none : first_name t.kind ≡ None → Failing (List ℕ) IsSection section_name_at (t ∷ ts) w
     none h =
-        let same : wrong t (wrong_first A_section t.kind) ≡ w = wrongs _ w (sym (ap (named_or (t ∷ ts)) (none_at t ts h)) ∙ e) in
+        let same : wrong t (wrong_first A_section t.kind) ≡ w = wrongs _ w (sym (ap (named_or (t ∷ ts)) (joined_none t ts h)) ∙ e) in
         record {
           before = [];
           at = t;
           more = ts;
           whole = refl;
           is_wrong = at_once [] t _ w (sym same);
-          fails = λ text. ap (named_or (t ∷ text)) (none_at t text h) ∙ ap (λ (x : SyntaxError). Err x) same;
+          fails = λ text. ap (named_or (t ∷ text)) (joined_none t text h) ∙ ap (λ (x : SyntaxError). Err x) same;
           goes = some_section;
         }
 

@@ -9,7 +9,7 @@ use Rattle.rv_text_laws.specs.Lexing.{Token, is_ended}
 use Rattle.rv_text_laws.specs.Codes.{unsupported_here, limit}
 use Rattle.rv_text_laws.specs.SyntaxError.{SyntaxError, wrong, Read, longest_name}
 use Rattle.rv_text_laws.specs.Joined.{joined_bytes, AreAfter, IsJoined, joined_after, first_name, joined_at}
-use Rattle.rv_text_laws.proofs.JoinsLemmas.{joined_is as joined_name_is, joined_found as joined_name_found}
+use Rattle.rv_text_laws.proofs.JoinsLemmas.{joined_is as joined_name_is, joined_found as joined_name_found, parts_join, joined_none, first_is}
 use Rattle.rv_parse_laws.specs.Syntax.{is_section_name, A_section}
 use Rattle.rv_statement_laws.specs.Statement.{Word}
 use Rattle.rv_parse_laws.specs.Content.{left_out, content_fault}
@@ -17,7 +17,7 @@ use Rattle.rv_parse_laws.specs.Faults.{wrong_first}
 use Rattle.rv_parse_laws.specs.Wrong.{IsLongName, IsWrongSection, Passes}
 use Rattle.rv_parse_laws.specs.Parsing.{too_long, wrong_front, named_or, section_name_at}
 use Rattle.rv_parse_laws.proofs.FailingLemmas.{never, wrongs}
-use Rattle.rv_parse_laws.proofs.SectionsLemmas.{to_joins, none_at, name_at, section_by, first_name_is, too_long_step, too_long_within, length_behind, long_at, long_err, over_test}
+use Rattle.rv_parse_laws.proofs.SectionsLemmas.{name_at, section_by, too_long_step, too_long_within, length_behind, long_at, long_err, over_test}
 use Rattle.rv_parse_laws.proofs.WrongsLemmas.{SaidBy, left_out_is}
 
 within_test : (n : ℕ) → n ≤ longest_name → nat_lt longest_name n ≡ false
@@ -32,7 +32,7 @@ long_after n place [] t more bytes longer is fits (here, first, rest, b, w, none
     let zero : length rest ≡ 0 = ap (λ (x : List ℕ). length x) none in
     let lt : longest_name < n + length first = omega (arith, past, sizes, zero, length-append first rest) in (
       too_long_step n t more first b ∙ rw (over_test (n + length first) lt) refl,
-      omega (arith, lt, length_behind place t more first (to_joins place t first here b)),
+      omega (arith, lt, length_behind place t more first (parts_join place t first here b)),
     )
 long_after n place (u ∷ us) t more bytes longer (here, first, rest, b, w, after) fits (here', first', rest', b', w', after') past =
     let same : first ≡ first' = cc (sym b ∙ b') in
@@ -43,7 +43,7 @@ long_after n place (u ∷ us) t more bytes longer (here, first, rest, b, w, afte
     let h = long_after (n + length first) u.stop us t more rest rest' after (omega (arith, fits, sizes, length-append first rest)) after'
     (omega (arith, past, sizes', one, length-append first' rest')) in (
       too_long_within n u (us ++ t ∷ more) first (wrong t limit) b (within_test (n + length first) within) h.0,
-      omega (arith, h.1, length_behind place u (us ++ t ∷ more) first (to_joins place u first here b)),
+      omega (arith, h.1, length_behind place u (us ++ t ∷ more) first (parts_join place u first here b)),
     )
 
 long_is : (ts : List Token) (t : Token) → IsLongName ts t → section_name_at ts ≡ Err (wrong t limit)
@@ -89,7 +89,7 @@ content_rows name bad fits = go (bytes_eq name (codes ".rv.rows")) bad
     go false h = absurd (let no : (true && true) ≡ false = sym (ap (λ c. c && true) fit) ∙ h in cc)
 
 pub section_wrongs : (ts : List Token) (t : Token) (code : ℕ) → IsWrongSection ts t code → section_name_at ts ≡ Err (wrong t code)
-section_wrongs ts t code (inl (us, w, none, is)) = ap section_name_at w ∙ ap (named_or (t ∷ us)) (none_at t us none) ∙ ap (λ n. Err (wrong t n)) (sym is)
+section_wrongs ts t code (inl (us, w, none, is)) = ap section_name_at w ∙ ap (named_or (t ∷ us)) (joined_none t us none) ∙ ap (λ n. Err (wrong t n)) (sym is)
 section_wrongs ts t code (inr (inl (long, is))) = long_is ts t long ∙ ap (λ n. Err (wrong t n)) (sym is)
 section_wrongs ts t code (inr (inr (us, name, rest, w, reads, bad))) =
     let r = rows_content name code bad in
@@ -163,9 +163,9 @@ section_said (t ∷ ts) w e end = go (first_name t.kind) refl
 
     go : (o : Option (List ℕ)) → first_name t.kind ≡ o → SaidBy IsWrongSection (t ∷ ts) w
     go None none =
-        let same : wrong t (wrong_first A_section t.kind) ≡ w = wrongs _ w (sym (ap (named_or (t ∷ ts)) (none_at t ts none)) ∙ e) in
+        let same : wrong t (wrong_first A_section t.kind) ≡ w = wrongs _ w (sym (ap (named_or (t ∷ ts)) (joined_none t ts none)) ∙ e) in
         (t, wrong_first A_section t.kind, inl (ts, refl, none, refl), sym same)
-    go (Some first) is = named first (first_name_is t.kind first is) (is_section_name (first ++ (joined_after t.stop ts).0)) refl
+    go (Some first) is = named first (first_is t.kind first is) (is_section_name (first ++ (joined_after t.stop ts).0)) refl
 
 -- a name that is read ends there
 pub section_ends : (ts : List Token) (name : List ℕ) (rest : List Token) → section_name_at ts ≡ Ok (name, rest) → (one : List Token) × (ts ≡ one ++ rest) × Passes A_section one rest

@@ -22,7 +22,7 @@ use Rattle.rv_parse_laws.proofs.ValuesLemmas.{value_before, value_ended}
 use Rattle.rv_parse_laws.proofs.ArgumentsLemmas.{value_found}
 use Rattle.rv_parse_laws.proofs.CalleesLemmas.{linked_is, plt_parts, plt_is, plt_step}
 use Rattle.rv_parse_laws.proofs.LocatedLemmas.{target_parts}
-use Rattle.rv_parse_laws.proofs.OperandsLemmas.{operand_is, operand_found, operand_shorter, operand_ended}
+use Rattle.rv_parse_laws.proofs.OperandsLemmas.{operand_is, operand_found, operand_shorter, operand_ended, operand_err}
 use Rattle.rv_parse_laws.proofs.ItemsLemmas.{items_step, ended_err, any_no_end, comma_next}
 use Rattle.rv_parse_laws.proofs.PartsLemmas.{begins_no_last}
 use Rattle.rv_parse_laws.proofs.WrongsLemmas.{SaidBy, first_is, first_said, ends_before, value_is, value_said, value_passed, value_ends, address_wrongs, address_said}
@@ -118,16 +118,12 @@ operand_ends A_callee ts os rest e = callee_ends ts os rest e
 operand_ends A_section ts os rest e = let s = seen_ok (λ name. Word name ∷ []) (section_name_at ts) os rest e in section_ends ts s.0 rest s.1
 operand_ends s ts os rest e = let f = operand_found s ts os rest e in (f.text, f.whole, (os, f.is))
 
--- what stands in a slot, and then the rest
-taken_first : (s : Slot) (R : List Token → Read (List Operand)) (ts : List Token) (w : SyntaxError) → operand_at s ts ≡ Err w → taking s R ts ≡ Err w
-taken_first s R ts w e = rw e refl
-
 taken_behind : (s : Slot) (R : List Token → Read (List Operand)) (ts rest : List Token) (os : List Operand) (w : SyntaxError) → operand_at s ts ≡ Ok (os, rest) → R rest ≡ Err w → taking s R ts ≡ Err w
 taken_behind s R ts rest os w e f = rw (e, f) refl
 
 taken_wrongs : (s : Slot) (R : List Token → Read (List Operand)) (W : List Token → Token → ℕ → Type 0) (ts : List Token) (t : Token) (code : ℕ)
     → ((us : List Token) → W us t code → R us ≡ Err (wrong t code)) → IsWrongTaken s W ts t code → taking s R ts ≡ Err (wrong t code)
-taken_wrongs s R W ts t code ih (inl x) = taken_first s R ts (wrong t code) (operand_wrongs s ts t code x)
+taken_wrongs s R W ts t code ih (inl x) = operand_err s R ts (wrong t code) (operand_wrongs s ts t code x)
 taken_wrongs s R W ts t code ih (inr (one, rest, w, is, x)) =
     let p = operand_passed s one rest is in
     taken_behind s R ts rest p.0 (wrong t code) (ap (operand_at s) w ∙ p.1) (ih rest x)

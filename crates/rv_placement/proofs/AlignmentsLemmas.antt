@@ -1,13 +1,15 @@
 -- The multiple at which a section begins, whatever the order of its relocations.
 
-use Rattle.std.proofs.Common.{◌≡◌, ◌<◌, ◌≤◌, ◌+◌, ℕ, Bool, true, false, List, [], ◌∷◌, length, drop, get_or, map, max, nat_le, refl, sym, ap, ◌∙◌, arith}
+use Rattle.std.proofs.Common.{◌≡◌, ◌<◌, ◌+◌, ℕ, Bool, true, false, List, [], ◌∷◌, length, drop, get_or, map, max, refl, sym, ap, ◌∙◌, arith}
 use Rattle.std.specs.Prelude.{filter, ◌&&◌, nat_lt, if◌then◌else◌}
 use Rattle.std.proofs.lemmas.List.{drop_more}
 use Rattle.rv_object_laws.specs.Object.{Relocation, Section, Object}
 use Rattle.rv_object_types.specs.declared.relocation.Relocation.{Relocation as Declared}
 use Rattle.rv_object_types.specs.Parts.{relocation_of}
-use Rattle.rv_link_laws.specs.Moves.{Move, has_padding, alignment_of, alignments_of, inserted, by_place, full_padding}
+use Rattle.rv_link_laws.specs.Moves.{Move, has_padding, alignment_of, alignments_of, by_place, full_padding}
 use Rattle.rv_link_laws.specs.Inputs.{raised, begins_at, goes_to_text}
+use Rattle.rv_link_laws.proofs.MovesLemmas.{raised_inserted}
+use Rattle.rv_link_laws.proofs.InputsLemmas.{raised_most}
 use Rattle.rv_cut_laws.specs.Cutting.{cut_relocation, cut_section}
 use Rattle.rv_cut_laws.proofs.PaddingsLemmas.{align_stays}
 use Rattle.rv_placement.specs.Alignments.{asked, raised_by}
@@ -18,18 +20,6 @@ use Rattle.rv_placement.specs.Walk.{greatest_in, greatest_of}
 pub raised_max : (rs : List Relocation) (a m : ℕ) → raised_by rs (max a m) ≡ max m (raised_by rs a)
 raised_max [] a m = omega arith
 raised_max (r ∷ rs) a m = let h = raised_max rs a m in omega arith
-
-raised_inserted : (r : Relocation) (qs : List Relocation) (a : ℕ) → raised (inserted r qs) a ≡ max (alignment_of r) (raised qs a)
-raised_inserted r [] a = refl
-raised_inserted r (q ∷ qs) a = go (nat_le (r.place + full_padding r) q.place) (raised_inserted r qs a)
-  where
-    go : (b : Bool) → raised (inserted r qs) a ≡ max (alignment_of r) (raised qs a)
-        → raised (if b then r ∷ q ∷ qs else q ∷ inserted r qs) a ≡ max (alignment_of r) (max (alignment_of q) (raised qs a))
-    go true h = refl
-    go false h = ap (max (alignment_of q)) h ∙ swap (alignment_of q) (alignment_of r) (raised qs a)
-      where
-        swap : (x y z : ℕ) → max x (max y z) ≡ max y (max x z)
-        swap x y z = omega arith
 
 -- the order of places makes no difference
 raised_is : (rs : List Relocation) (a : ℕ) → raised (by_place (filter has_padding rs)) a ≡ raised_by rs a
@@ -70,14 +60,9 @@ begins_left ms s = go (goes_to_text s) refl
     go true e = begins_text (cut_section ms s) e ∙ raised_left ms s.relocations (max s.alignment 2) ∙ sym (begins_text s e)
     go false e = begins_other (cut_section ms s) e ∙ sym (begins_other s e)
 
--- a section begins at a multiple of one or more
-raised_up : (rs : List Relocation) (a : ℕ) → a ≤ raised rs a
-raised_up [] a = omega arith
-raised_up (r ∷ rs) a = let h = raised_up rs a in omega arith
-
 pub begins_some : (s : Section) → 0 < begins_at s
 begins_some s =
-    let h = raised_up (alignments_of s) (max (if goes_to_text s then 2 else 1) s.alignment) in
+    let h = raised_most (alignments_of s) (max (if goes_to_text s then 2 else 1) s.alignment) in
     let one = go (goes_to_text s) in omega arith
   where
     go : (b : Bool) → 0 < max (if b then 2 else 1) s.alignment

@@ -1,9 +1,10 @@
 -- What is placed for each section, and its address.
 
-use Rattle.std.proofs.Common.{suc, zero, ◌≡◌, ◌<◌, ◌+◌, ◌-◌, ◌%◌, ◌^◌, ℕ, Bool, true, false, if◌then◌else◌, Option, Some, None, List, [], ◌∷◌, length, map, refl, sym, ap, ◌∙◌, arith}
+use Rattle.std.proofs.Common.{suc, zero, ◌≡◌, ◌+◌, ◌-◌, ◌%◌, ◌^◌, ℕ, Bool, true, false, if◌then◌else◌, Option, Some, None, List, [], ◌∷◌, length, map, refl, sym, ap, ◌∙◌, arith}
 use Rattle.std.specs.Global.{Vec}
 use Rattle.std.specs.List.{slice_get}
 use Rattle.std.proofs.lemmas.Option.{slice_get_within}
+use Rattle.rv_list_laws.proofs.ElementsLemmas.{get_some}
 use Rattle.rv_object_laws.specs.Object.{Section, Object}
 use Rattle.rv_link_laws.specs.Moves.{moves, new_offset}
 use Rattle.rv_link_laws.specs.Names.{offset_address}
@@ -13,11 +14,6 @@ use Rattle.rv_placement.specs.declared.placement.PlacedSection.{PlacedSection}
 use Rattle.rv_placement.specs.declared.placement.Placement.{Placement}
 use Rattle.rv_placement.specs.Placement.{starts_of, start_in, placed_in, placed_at, IsPlacement}
 
-pub some_at : {A : Type 0} (xs : List A) (i : ℕ) → i < length xs → (x : A) × (slice_get xs i ≡ Some x)
-some_at [] i h = absurd (omega arith)
-some_at (x ∷ xs) zero h = (x, refl)
-some_at (x ∷ xs) (suc i) h = some_at xs i (omega arith)
-
 -- each section has its place
 pub each_at : (fs : List (Vec PlacedSection)) (os : List Object) → map (λ f. length f.items) fs ≡ map (λ o. length o.sections) os
     → (file index : ℕ) (s : Section) → section_in (slice_get os file) index ≡ Some s → (q : PlacedSection) × (placed_in (slice_get fs file) index ≡ Some q)
@@ -26,7 +22,7 @@ each_at [] (o ∷ os) e file index s at = absurd (cc)
 each_at (f ∷ fs) [] e file index s at = absurd (cc)
 each_at (f ∷ fs) (o ∷ os) e zero index s at =
     let same : length f.items ≡ length o.sections = cc in
-    some_at f.items index (omega (arith, slice_get_within o.sections index s at))
+    get_some f.items index (omega (arith, slice_get_within o.sections index s at))
 each_at (f ∷ fs) (o ∷ os) e (suc file) index s at = each_at fs os (let same : map (λ f. length f.items) fs ≡ map (λ o. length o.sections) os = cc in same) file index s at
 
 pub is_placed : (os : List Object) (start : ℕ) (p : Placement) → IsPlacement os start p → (file index : ℕ) (s : Section) → object_section os file index ≡ Some s → (q : PlacedSection) × (placed_at p file index ≡ Some q)

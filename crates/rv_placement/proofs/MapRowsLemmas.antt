@@ -1,9 +1,11 @@
 -- The rows of objects, as they have moved.
 
-use Rattle.std.proofs.Common.{zero, suc, ◌≡◌, ◌<◌, ◌≤◌, ◌+◌, ◌^◌, ℕ, Bool, true, Option, Some, None, List, [], ◌∷◌, ◌++◌, length, drop, get_or, map, nat_le, refl, sym, ap, subst, ◌∙◌, append_assoc, arith}
-use Rattle.std.specs.List.{list_all, slice_get}
+use Rattle.std.proofs.Common.{zero, suc, ◌≡◌, ◌<◌, ◌≤◌, ◌+◌, ◌^◌, ℕ, true, Option, Some, None, List, [], ◌∷◌, ◌++◌, length, drop, get_or, map, nat_le, refl, sym, ap, subst, ◌∙◌, append_assoc, arith}
+use Rattle.std.specs.List.{slice_get}
 use Rattle.std.proofs.lemmas.Bool.{leb-true, and_parts}
 use Rattle.std.proofs.lemmas.List.{get_or_default}
+use Rattle.rv_list_laws.proofs.TakeDropLemmas.{drop_read}
+use Rattle.rv_list_laws.proofs.TestsLemmas.{all_map_read}
 use Rattle.rv_map_laws.specs.declared.map.Row.{Row as MapRow}
 use Rattle.rv_object_laws.specs.declared.row.Row.{Row}
 use Rattle.rv_object_laws.specs.Object.{Section, Object, size_of}
@@ -19,13 +21,7 @@ use Rattle.rv_placement.specs.declared.placement.PlacedSection.{PlacedSection}
 use Rattle.rv_placement.specs.declared.placement.Placement.{Placement}
 use Rattle.rv_placement.specs.Moved.{moved_row, moved_rows}
 use Rattle.rv_placement.specs.Placement.{starts_of, placed_at, IsPlacement}
-use Rattle.rv_link_laws.proofs.ListsLemmas.{left}
 use Rattle.rv_placement.proofs.FoundLemmas.{in_object, not_placed, start_is}
-
-all_moved : {A B : Type 0} (p : B → Bool) (f : A → B) (xs : List A) (i : ℕ) (x : A) → list_all p (map f xs) ≡ true → i < length xs → x ≡ get_or xs i x → p (f x) ≡ true
-all_moved p f [] i x h inside is = absurd (omega arith)
-all_moved p f (y ∷ xs) zero x h inside is = ap (λ z. p (f z)) is ∙ (and_parts (p (f y)) (list_all p (map f xs)) h).0
-all_moved p f (y ∷ xs) (suc i) x h inside is = all_moved p f xs i x (and_parts (p (f y)) (list_all p (map f xs)) h).1 (omega arith) is
 
 pub row_stands : (r : Row) (o : Option Section) → is_row_in r o ≡ true → (s : Section) × (o ≡ Some s) × (r.offset + r.bytes ≤ size_of s.contents)
 row_stands r None h = absurd (cc)
@@ -43,7 +39,7 @@ module _ (os : List Object) (start : ℕ) (p : Placement) (is : IsPlacement os s
   here = get_or_default rows i d r inside
 
   stands : (s : Section) × (slice_get (short_object_of o).sections r.section ≡ Some s) × (moved.offset + moved.bytes ≤ size_of s.contents)
-  stands = row_stands moved (slice_get (short_object_of o).sections r.section) (all_moved (λ r. is_row_in r (slice_get (short_object_of o).sections r.section)) (moved_row o) rows i r lie inside here)
+  stands = row_stands moved (slice_get (short_object_of o).sections r.section) (all_map_read (λ r. is_row_in r (slice_get (short_object_of o).sections r.section)) (moved_row o) rows i r lie inside here)
 
   there : object_section os file r.section ≡ Some stands.0
   there = in_object os file r.section (short_object_of o) at ∙ stands.1
@@ -81,7 +77,7 @@ module _ (os : List Object) (start : ℕ) (p : Placement) (is : IsPlacement os s
       let low : IsLow q row = subst (IsLow q) (sym same) (row_low q found) in
       let one : m ≡ row_in (starts_of p) (file + 1) (short_object_of o) moved = made low.0 low.1 ∙ ap (map_row (file + 1) q.start (moves_of q.plan.now)) same ∙ row_is q found in
       ap (λ l. l ++ rest) pushed ∙ append_assoc old (m ∷ []) rest ∙ ap (λ x. old ++ (x ∷ rest)) one
-      ∙ ap (λ l. old ++ map (row_in (starts_of p) (file + 1) (short_object_of o)) (moved_rows o l)) (sym (left rows i r inside here)) ∙ h
+      ∙ ap (λ l. old ++ map (row_in (starts_of p) (file + 1) (short_object_of o)) (moved_rows o l)) (sym (drop_read rows i r inside here)) ∙ h
 
 -- one file more
 pub file_more : (p : Placement) (objects : List ShortObject) (i : ℕ) (o : ShortObject) (old new all : List MapRow) → i < length objects → o ≡ get_or objects i o
@@ -92,7 +88,7 @@ file_more p objects i o old new all inside here pushed h =
     let rest = map short_object_of (drop (i + 1) objects) in
     ap (λ l. l ++ rows_of (starts_of p) (i + 1 + 1) rest) pushed ∙ append_assoc old mine (rows_of (starts_of p) (i + 1 + 1) rest)
     ∙ ap (λ n. old ++ (mine ++ rows_of (starts_of p) n rest)) (let e : i + 1 + 1 ≡ suc (i + 1) = omega arith in e)
-    ∙ ap (λ l. old ++ rows_of (starts_of p) (i + 1) (map short_object_of l)) (sym (left objects i o inside here)) ∙ h
+    ∙ ap (λ l. old ++ rows_of (starts_of p) (i + 1) (map short_object_of l)) (sym (drop_read objects i o inside here)) ∙ h
 
 pub object_here : (objects : List ShortObject) (i : ℕ) (o : ShortObject) → i < length objects → o ≡ get_or objects i o → slice_get (map short_object_of objects) i ≡ Some (short_object_of o)
 object_here [] i o inside here = absurd (omega arith)

@@ -1,9 +1,10 @@
 -- The placed paddings have room where those of the text's sections do.
 
 use Rattle.std.proofs.Common.{suc, ◌≡◌, ◌+◌, ◌-◌, ℕ, Bool, true, false, Some, List, [], ◌∷◌, ◌++◌, length, map, refl, sym, ap, ◌∙◌, arith}
-use Rattle.std.specs.Prelude.{if◌then◌else◌, ◌&&◌, ◌↔◌, IsTrue}
+use Rattle.std.specs.Prelude.{if◌then◌else◌, ◌&&◌, ◌↔◌}
 use Rattle.std.specs.Global.{Vec}
-use Rattle.std.specs.List.{AllByRecursion, list_all, slice_get}
+use Rattle.std.specs.List.{list_all, slice_get}
+use Rattle.rv_list_laws.proofs.EachLemmas.{all_to_true, all_from_true}
 use Rattle.rv_object_laws.specs.Object.{Section, Object}
 use Rattle.rv_link_laws.specs.Moves.{moves, has_room}
 use Rattle.rv_link_laws.specs.Inputs.{Starts, InputSection, goes_to_text, inputs, inputs_from, inputs_of, start_of}
@@ -63,24 +64,8 @@ module _ (starts : Starts) where
       (λ k. ap (starts file) (let e : 0 + k ≡ k = omega arith in e) ∙ ap (λ n. starts n k) (let e : file ≡ file + 0 = omega arith in e) ∙ at 0 k)
       ∙ ap (λ b. are_roomy_in f.items && b) (room_files (suc file) fs os tail (λ j k s q a b. planned (suc j) k s q a b) (λ j k. ap (λ n. starts n k) (let e : suc file + j ≡ file + suc j = omega arith in e) ∙ at (suc j) k))
 
-pub all_true : {A : Type 0} (p : A → Bool) (xs : List A) → list_all p xs ≡ true → AllByRecursion (λ x. IsTrue (p x)) xs
-all_true p [] h = tt
-all_true p (x ∷ xs) h = (front (p x) (list_all p xs) h, all_true p xs (back (p x) (list_all p xs) h))
-  where
-    front : (a b : Bool) → a && b ≡ true → a ≡ true
-    front true b h = refl
-    front false b h = h
-
-    back : (a b : Bool) → a && b ≡ true → b ≡ true
-    back true b h = h
-    back false b h = absurd (cc)
-
-pub true_all : {A : Type 0} (p : A → Bool) (xs : List A) → AllByRecursion (λ x. IsTrue (p x)) xs → list_all p xs ≡ true
-true_all p [] h = refl
-true_all p (x ∷ xs) h = ap (λ b. b && list_all p xs) h.0 ∙ true_all p xs h.1
-
 pub are_rooms : (os : List Object) (start : ℕ) (p : Placement) → IsPlacement os start p → (b : Bool) → b ≡ are_roomy p → (b ≡ true) ↔ AreRoomy os (starts_of p)
 are_rooms os start p is b e =
     let same : list_all (room (starts_of p)) (inputs goes_to_text os) ≡ are_roomy p =
     room_files (starts_of p) 1 p.files.items os is.each is.planned (λ j k. ap (λ n. start_in (placed_at p n k)) (let g : 1 + j - 1 ≡ j = omega arith in g)) in
-    (λ h. all_true (room (starts_of p)) (inputs goes_to_text os) (same ∙ sym e ∙ h), λ h. e ∙ sym same ∙ true_all (room (starts_of p)) (inputs goes_to_text os) h)
+    (λ h. all_to_true (room (starts_of p)) (inputs goes_to_text os) (same ∙ sym e ∙ h), λ h. e ∙ sym same ∙ all_from_true (room (starts_of p)) (inputs goes_to_text os) h)

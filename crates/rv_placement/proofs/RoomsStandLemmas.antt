@@ -3,6 +3,7 @@
 use Rattle.std.proofs.Common.{suc, ◌≡◌, ◌+◌, ℕ, Bool, true, false, List, [], ◌∷◌, ◌++◌, map, refl, sym, ap, ◌∙◌}
 use Rattle.std.specs.Prelude.{if◌then◌else◌, ◌&&◌}
 use Rattle.std.specs.List.{AllByRecursion, list_all}
+use Rattle.rv_list_laws.proofs.EachLemmas.{all_to_true, all_from_true}
 use Rattle.rv_object_laws.specs.Object.{Section, Object}
 use Rattle.rv_object_laws.specs.Valid.{is_section_alignment}
 use Rattle.rv_link_laws.specs.Moves.{moves, has_room}
@@ -16,7 +17,7 @@ use Rattle.rv_relax.specs.Plan.{are_roomy_objects, is_roomy}
 use Rattle.rv_placement.specs.declared.placement.Placement.{Placement}
 use Rattle.rv_placement.specs.Placement.{starts_of, are_roomy, IsPlacement}
 use Rattle.rv_placement.proofs.AlignedLemmas.{moves_still}
-use Rattle.rv_placement.proofs.RoomsLemmas.{room, and_assoc, all_true, true_all, are_rooms}
+use Rattle.rv_placement.proofs.RoomsLemmas.{room, and_assoc, are_rooms}
 use Rattle.rv_placement.proofs.StandingLemmas.{moves_other}
 
 -- ---- wherever they stand
@@ -72,11 +73,11 @@ module _ (objects : List ShortObject) (start : ℕ) where
   rooms starts h = in_files starts 1 start os (all_aligned objects) h
 
   pub has_room_anywhere : are_roomy_objects os ≡ true → HasRoom os start
-  has_room_anywhere e starts h = all_true (room starts) (inputs goes_to_text os) (rooms starts h ∙ e)
+  has_room_anywhere e starts h = all_to_true (room starts) (inputs goes_to_text os) (rooms starts h ∙ e)
 
   pub lacks_room_anywhere : are_roomy_objects os ≡ false → (starts : Starts) → Stand starts start (inputs goes_to_text os) → AreRoomy os starts → ⊥
   lacks_room_anywhere e starts h roomies =
-      let all : list_all (room starts) (inputs goes_to_text os) ≡ true = true_all (room starts) (inputs goes_to_text os) roomies in
+      let all : list_all (room starts) (inputs goes_to_text os) ≡ true = all_from_true (room starts) (inputs goes_to_text os) roomies in
       let none : list_all (room starts) (inputs goes_to_text os) ≡ false = rooms starts h ∙ e in
       absurd (cc)
 

@@ -1,11 +1,13 @@
 -- One section, and one file, more of the text's pass.
 
-use Rattle.std.proofs.Common.{◌≡◌, ◌<◌, ◌+◌, ℕ, true, false, Option, Some, None, List, [], ◌∷◌, ◌++◌, length, take, drop, get_or, map, sym, ap, subst, ◌∙◌, append-nil}
-use Rattle.std.specs.Prelude.{if◌then◌else◌, IfSome, IfNone}
+use Rattle.std.proofs.Common.{◌≡◌, ◌<◌, ◌+◌, ℕ, true, false, Option, None, List, [], ◌∷◌, ◌++◌, length, take, drop, get_or, map, sym, ap, subst, ◌∙◌, append-nil}
+use Rattle.std.specs.Prelude.{if◌then◌else◌, IfNone}
 use Rattle.std.specs.Global.{Vec}
 use Rattle.std.specs.List.{AllZip}
 use Rattle.std.proofs.lemmas.List.{take_more, map-append}
 use Rattle.std.proofs.lemmas.Slice.Zip.{all_zipped_more}
+use Rattle.rv_list_laws.proofs.TakeDropLemmas.{drop_read}
+use Rattle.rv_list_laws.proofs.ElementsLemmas.{append_grown}
 use Rattle.rv_map_laws.specs.declared.map.Region.{Region}
 use Rattle.rv_object_laws.specs.Object.{Section, Object, size_of}
 use Rattle.rv_link_laws.specs.Moves.{Move, moves, new_offset}
@@ -16,12 +18,6 @@ use Rattle.rv_shorten.specs.Sections.{short_section_of}
 use Rattle.rv_shorten.specs.View.{short_object_of}
 use Rattle.rv_placement.specs.declared.placement.PlacedSection.{PlacedSection}
 use Rattle.rv_placement.specs.Walk.{start_behind, end_behind, next, ended, ended_files, start_from, text_starts, text_files, gap_between, gap_behind, gapped, gapped_files, lists_of, IsKept, AreKept, IsPut}
-use Rattle.rv_link_laws.proofs.ListsLemmas.{left}
-use Rattle.rv_relax.proofs.SpreadLemmas.{grown}
-
--- what is said of the value that an option has
-pub told : {A : Type 0} (P : A → Type 0) (o : Option A) (x : A) → o ≡ Some x → IfSome o P → P x
-told P o x e h = subst (λ v. IfSome v P) e h
 
 pub told_none : {A : Type 0} (P : Type 0) (o : Option A) → o ≡ None → IfNone o P → P
 told_none P o e h = subst (λ v. IfNone v P) e h
@@ -71,7 +67,7 @@ module _ (stop i : ℕ) (sections : List ShortSection) (x : ShortSection) (insid
   rest = map short_section_of (drop (i + 1) sections)
 
   here : map short_section_of (drop i sections) ≡ short_section_of x ∷ rest
-  here = ap (map short_section_of) (left sections i x inside is)
+  here = ap (map short_section_of) (drop_read sections i x inside is)
 
   pub section_ends : (whole : ℕ) → ended goes_to_text stop (map short_section_of (drop i sections)) ≡ whole → ended goes_to_text end rest ≡ whole
   section_ends whole h = ap (λ n. ended goes_to_text n rest) ends ∙ ap (ended goes_to_text stop) (sym here) ∙ h
@@ -79,14 +75,14 @@ module _ (stop i : ℕ) (sections : List ShortSection) (x : ShortSection) (insid
   pub section_starts : (q : PlacedSection) (old new : List PlacedSection) (all : List ℕ) → new ≡ old ++ (q ∷ []) → q.start ≡ start_from goes_to_text stop 0 (short_section_of x)
       → map (λ q. q.start) old ++ text_starts stop (map short_section_of (drop i sections)) ≡ all → map (λ q. q.start) new ++ text_starts end rest ≡ all
   section_starts q old new all e starts h =
-      grown (map (λ q. q.start) old) (q.start ∷ []) (text_starts end rest) (map (λ q. q.start) new) all
+      append_grown (map (λ q. q.start) old) (q.start ∷ []) (text_starts end rest) (map (λ q. q.start) new) all
       (ap (map (λ q. q.start)) e ∙ map-append (λ q. q.start) old (q ∷ []))
       (ap (λ n. map (λ q. q.start) old ++ (q.start ∷ text_starts n rest)) ends ∙ ap (λ n. map (λ q. q.start) old ++ (n ∷ text_starts (next goes_to_text stop (short_section_of x)) rest)) starts
       ∙ ap (λ l. map (λ q. q.start) old ++ text_starts stop l) (sym here) ∙ h)
 
   pub section_gaps : (old new all : List Region) → new ≡ old ++ gap_behind stop (short_section_of x) → old ++ gapped stop (map short_section_of (drop i sections)) ≡ all → new ++ gapped end rest ≡ all
   section_gaps old new all e h =
-      grown old (gap_behind stop (short_section_of x)) (gapped end rest) new all e
+      append_grown old (gap_behind stop (short_section_of x)) (gapped end rest) new all e
       (ap (λ n. old ++ (gap_behind stop (short_section_of x) ++ gapped n rest)) ends ∙ ap (λ l. old ++ gapped stop l) (sym here) ∙ h)
 
   pub section_kept : (q : PlacedSection) (old new : List PlacedSection) → new ≡ old ++ (q ∷ []) → IsKept (short_section_of x) q → AllZip IsKept (map short_section_of (take i sections)) old
@@ -103,7 +99,7 @@ module _ (stop i : ℕ) (objects : List ShortObject) (o : ShortObject) (inside :
   others = map short_object_of (drop (i + 1) objects)
 
   there : map short_object_of (drop i objects) ≡ short_object_of o ∷ others
-  there = ap (map short_object_of) (left objects i o inside is)
+  there = ap (map short_object_of) (drop_read objects i o inside is)
 
   pub object_ends : (whole : ℕ) → ended_files goes_to_text stop (map short_object_of (drop i objects)) ≡ whole → ended_files goes_to_text end others ≡ whole
   object_ends whole h = ap (λ n. ended_files goes_to_text n others) ends ∙ ap (ended_files goes_to_text stop) (sym there) ∙ h
@@ -113,7 +109,7 @@ module _ (stop i : ℕ) (objects : List ShortObject) (o : ShortObject) (inside :
   object_starts f old new all e starts h =
       let front = map (λ f. map (λ (q : PlacedSection). q.start) f) (lists_of old) in
       let here = ended goes_to_text stop (map short_section_of o.sections.items) in
-      grown front (map (λ q. q.start) f.items ∷ []) (text_files end others) (map (λ f. map (λ q. q.start) f) (lists_of new)) all
+      append_grown front (map (λ q. q.start) f.items ∷ []) (text_files end others) (map (λ f. map (λ q. q.start) f) (lists_of new)) all
       (ap (λ l. map (λ f. map (λ q. q.start) f) (lists_of l)) e ∙ ap (map (λ f. map (λ q. q.start) f)) (map-append (λ (v : Vec PlacedSection). v.items) old (f ∷ []))
       ∙ map-append (λ (f : List PlacedSection). map (λ q. q.start) f) (lists_of old) (f.items ∷ []))
       (ap (λ n. front ++ (map (λ q. q.start) f.items ∷ text_files n others)) ends ∙ ap (λ l. front ++ (l ∷ text_files here others)) starts
@@ -122,7 +118,7 @@ module _ (stop i : ℕ) (objects : List ShortObject) (o : ShortObject) (inside :
   pub object_gaps : (old new all : List Region) → new ≡ old ++ gapped stop (map short_section_of o.sections.items) → old ++ gapped_files stop (map short_object_of (drop i objects)) ≡ all → new ++ gapped_files end others ≡ all
   object_gaps old new all e h =
       let here = gapped stop (map short_section_of o.sections.items) in
-      grown old here (gapped_files end others) new all e
+      append_grown old here (gapped_files end others) new all e
       (ap (λ n. old ++ (here ++ gapped_files n others)) ends ∙ ap (λ l. old ++ gapped_files stop l) (sym there) ∙ h)
 
   pub object_kept : (f : Vec PlacedSection) (old new : List (Vec PlacedSection)) → new ≡ old ++ (f ∷ []) → AreKept (short_object_of o) f.items → AllZip AreKept (map short_object_of (take i objects)) (lists_of old)

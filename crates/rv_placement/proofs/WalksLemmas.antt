@@ -1,13 +1,14 @@
 -- Passes over sections: their ends only grow, and one step of a loop.
 
-use Rattle.std.proofs.Common.{zero, suc, ◌≡◌, ◌<◌, ◌≤◌, ◌+◌, ℕ, Bool, true, false, Option, Some, None, List, [], ◌∷◌, ◌++◌, length, take, drop, set, get_or, map, refl, sym, ap, subst, ◌∙◌, append_assoc, arith}
-use Rattle.std.specs.Prelude.{if◌then◌else◌, IfNone}
+use Rattle.std.proofs.Common.{zero, suc, ◌≡◌, ◌<◌, ◌≤◌, ◌+◌, ℕ, Bool, true, false, List, [], ◌∷◌, ◌++◌, length, take, drop, set, get_or, map, refl, sym, ap, subst, ◌∙◌, append_assoc, arith}
+use Rattle.std.specs.Prelude.{if◌then◌else◌}
 use Rattle.std.specs.Global.{Vec}
 use Rattle.std.proofs.lemmas.List.{drop_more, take_more_set, drop-set-lt, map-set, length-map}
 use Rattle.std.specs.List.{drop-map}
+use Rattle.rv_list_laws.proofs.TakeDropLemmas.{drop_read}
 use Rattle.rv_object_laws.specs.Object.{Section, Object}
 use Rattle.rv_link_laws.specs.Inputs.{begins_at}
-use Rattle.rv_link_laws.proofs.ListsLemmas.{above, left}
+use Rattle.rv_link_laws.proofs.ListsLemmas.{above}
 use Rattle.rv_shorten.specs.declared.section.ShortSection.{ShortSection}
 use Rattle.rv_shorten.specs.declared.object.ShortObject.{ShortObject}
 use Rattle.rv_shorten.specs.Sections.{short_section_of}
@@ -33,10 +34,6 @@ pub grows_files : (to : Section → Bool) (stop : ℕ) (os : List Object) → st
 grows_files to stop [] = omega arith
 grows_files to stop (o ∷ os) = let h = grows to stop o.sections in let more = grows_files to (ended to stop o.sections) os in omega arith
 
-pub if_none : {T P : Type 0} (r : Option T) → P → IfNone r P
-if_none None h = h
-if_none (Some x) h = tt
-
 -- ---- the sections of a file
 
 -- one that passes a limit is in a walk that passes it
@@ -44,7 +41,7 @@ pub file_far : (to : Section → Bool) (limit stop whole : ℕ) (sections : List
     → limit < next to stop (short_section_of x) → ended to stop (map short_section_of (drop i sections)) ≡ whole → limit < whole
 file_far to limit stop whole sections i x inside is far h =
     let rest = map short_section_of (drop (i + 1) sections) in
-    let e : ended to (next to stop (short_section_of x)) rest ≡ whole = ap (λ l. ended to stop (map short_section_of l)) (sym (left sections i x inside is)) ∙ h in
+    let e : ended to (next to stop (short_section_of x)) rest ≡ whole = ap (λ l. ended to stop (map short_section_of l)) (sym (drop_read sections i x inside is)) ∙ h in
     let more = grows to (next to stop (short_section_of x)) rest in
     omega arith
 
@@ -65,7 +62,7 @@ pub files_far : (to : Section → Bool) (limit stop whole : ℕ) (objects : List
     → limit < ended to stop (map short_section_of x.sections.items) → ended_files to stop (map short_object_of (drop i objects)) ≡ whole → limit < whole
 files_far to limit stop whole objects i x inside is far h =
     let rest = map short_object_of (drop (i + 1) objects) in
-    let e : ended_files to (ended to stop (map short_section_of x.sections.items)) rest ≡ whole = ap (λ l. ended_files to stop (map short_object_of l)) (sym (left objects i x inside is)) ∙ h in
+    let e : ended_files to (ended to stop (map short_section_of x.sections.items)) rest ≡ whole = ap (λ l. ended_files to stop (map short_object_of l)) (sym (drop_read objects i x inside is)) ∙ h in
     let more = grows_files to (ended to stop (map short_section_of x.sections.items)) rest in
     omega arith
 
@@ -102,11 +99,11 @@ module _ (to : Section → Bool) (stop : ℕ) (fs : List (Vec PlacedSection)) (o
       ∙ ap (λ n. take i (lists_of fs) ++ (g.items ∷ started_files to n behind rest)) ends
       ∙ ap (λ x. take i (lists_of fs) ++ (x ∷ started_files to new behind rest)) moved
       ∙ ap (λ l. take i (lists_of fs) ++ started_files to stop l (short_object_of o ∷ rest)) (sym (left_lists fs i f inside))
-      ∙ ap (λ l. take i (lists_of fs) ++ started_files to stop (drop i (lists_of fs)) (map short_object_of l)) (sym (left objects i o within at)) ∙ h
+      ∙ ap (λ l. take i (lists_of fs) ++ started_files to stop (drop i (lists_of fs)) (map short_object_of l)) (sym (drop_read objects i o within at)) ∙ h
 
   pub files_ended : (end whole : ℕ) → end ≡ ended to stop (map short_section_of o.sections.items) → ended_files to stop (map short_object_of (drop i objects)) ≡ whole → ended_files to end (map short_object_of (drop (i + 1) objects)) ≡ whole
   files_ended end whole ends h =
-      ap (λ n. ended_files to n (map short_object_of (drop (i + 1) objects))) ends ∙ ap (λ l. ended_files to stop (map short_object_of l)) (sym (left objects i o within at)) ∙ h
+      ap (λ n. ended_files to n (map short_object_of (drop (i + 1) objects))) ends ∙ ap (λ l. ended_files to stop (map short_object_of l)) (sym (drop_read objects i o within at)) ∙ h
 
   pub files_each : (all : List ℕ) → map length (lists_of fs) ≡ all → map length (lists_of (set fs i g)) ≡ all
   files_each all h =

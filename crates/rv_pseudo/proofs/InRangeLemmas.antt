@@ -2,6 +2,8 @@
 
 use Rattle.std.proofs.Common.{◌≡◌, ℕ, Bool, true, false, List, [], ◌∷◌, ◌++◌, Option, Some, None, refl, sym, ap, ◌∙◌, ℤ, pos}
 use Rattle.std.specs.Prelude.{if◌then◌else◌, not, ◌&&◌}
+use Rattle.rv_list_laws.proofs.TruthLemmas.{and_first}
+use Rattle.std.proofs.lemmas.Bool.{not-true}
 use Rattle.rv_isa_laws.specs.Halves.{hi, lo}
 use Rattle.rv_parcel.specs.Mnemonics.{shape_of}
 use Rattle.rv_text_laws.specs.Codes.{scratch_register, not_constant, immediate_range, faulty_if}
@@ -16,7 +18,7 @@ use Rattle.rv_pseudo_laws.specs.Valid.{form_takes, is_upper_20, takes}
 use Rattle.rv_pseudo_laws.specs.InstructionFaults.{Worth, Number, Address, Wrong, is_signed_12, takes_address, number_faults, target_faults}
 use Rattle.rv_pseudo.specs.Faults.{takes_registers, constant_in, number, mnemonic_of, with_part, known_as, takes_target, is_upper, is_constant_form, is_lower, is_written, is_placed, is_bad_scratch, scratch_of, faults_of}
 use Rattle.rv_pseudo.proofs.ParcelRowsLemmas.{beside_away}
-pub use Rattle.rv_pseudo_laws.proofs.ParcelsLemmas.{first_of as and_left, second_of as and_right}
+pub use Rattle.rv_pseudo_laws.proofs.ParcelsLemmas.{second_of as and_right}
 
 -- ---- what a field takes
 
@@ -53,10 +55,6 @@ is_taken operation (Some PcrelLo) (Some k) = false
 is_taken operation (Some function) None = takes_part function operation
 
 -- ---- tests
-
-no_not : (b : Bool) → not b ≡ true → b ≡ false
-no_not true e = absurd (cc)
-no_not false e = refl
 
 away_and : (t b : Bool) → t ≡ false → b ≡ true → (not t && b) ≡ true
 away_and true b e f = absurd (cc)
@@ -131,12 +129,12 @@ part_away Lo operation e = low_away operation e
 part_away PcrelLo operation e = low_away operation e
 
 low_number_away : (operation : Operation) (k : ℤ) → is_taken operation (Some Lo) (Some k) ≡ true → takes_target operation ≡ false
-low_number_away operation k e = no_not _ (and_right (not (is_upper operation)) _ (and_left (not (is_upper operation) && not (takes_target operation)) _ e))
+low_number_away operation k e = not-true _ (and_right (not (is_upper operation)) _ (and_first (not (is_upper operation) && not (takes_target operation)) _ e))
 
 -- what takes a constant has no target
 pub good_away : (operation : Operation) (function : Option Function) (k : ℤ) → is_taken operation function (Some k) ≡ true → takes_target operation ≡ false
-good_away operation None k e = no_not _ (and_left (not (takes_target operation)) _ e)
-good_away operation (Some Hi) k e = upper_away operation (and_left (is_upper operation) _ e)
+good_away operation None k e = not-true _ (and_first (not (takes_target operation)) _ e)
+good_away operation (Some Hi) k e = upper_away operation (and_first (is_upper operation) _ e)
 good_away operation (Some Lo) k e = low_number_away operation k e
 good_away operation (Some PcrelHi) k e = absurd (cc)
 good_away operation (Some PcrelLo) k e = absurd (cc)

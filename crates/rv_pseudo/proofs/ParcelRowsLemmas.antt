@@ -1,7 +1,8 @@
 -- The rows of statements that name a parcel, by what stands beside its registers.
 
-use Rattle.std.proofs.Common.{◌≡◌, ℕ, Bool, true, false, refl, sym, ap, ◌∙◌, ℤ, pos, List, [], ◌∷◌, ◌++◌, map, flat_map, append-nil, Option, Some, None, option_map}
+use Rattle.std.proofs.Common.{◌≡◌, ℕ, Bool, true, false, refl, sym, ap, ◌∙◌, ℤ, List, [], ◌∷◌, ◌++◌, map, flat_map, append-nil, Option, Some, None, option_map}
 use Rattle.std.specs.Prelude.{if◌then◌else◌, ◌&&◌, ◌||◌, is_some, IfSome}
+use Rattle.rv_list_laws.proofs.TruthLemmas.{and_first}
 use Rattle.rv_parcel.specs.declared.form.Compressed.{Compressed}
 use Rattle.rv_parcel.specs.declared.parcel.ParcelOperation.{ParcelOperation}
 use Rattle.rv_parcel.specs.declared.parcel.ParcelOperation.TheVariants.{Addi4spn, J, Beqz, Bnez}
@@ -63,17 +64,6 @@ target_row J a b e v rvc bytes target = refl
 target_row Beqz a b e v rvc bytes target = refl
 target_row Bnez a b e v rvc bytes target = refl
 target_row _ a b e v rvc bytes target = absurd (cc)
-
--- with registers alone
-abbrev pub by_itself : OperandShape → Option Compressed → Option Compressed
-by_itself shapes.Registers form = form
-by_itself shapes.Address form = form
-by_itself _ form = None
-
-pub bare_form : (operation : ParcelOperation) (a b : ℕ) (v : Constants)
-    → named_form v (Parcel operation) (parcel_registers operation a b) ≡ by_itself (shape_of operation) (form_of operation (own_registers operation a b) (pos 0))
-bare_form Addi4spn a b v = refl
-bare_form operation a b v = refl
 
 -- the form that an operation with an operand names
 pub parcel_named : (operation : ParcelOperation) (a b : ℕ) (function : Option Function) (e : Expression) (v : Constants)
@@ -174,17 +164,13 @@ made_some true true false make k some e t = absurd (cc)
 made_some true false takes make k some e t = absurd (cc)
 made_some false registers takes make k some e t = absurd (cc)
 
-number_left : (number registers : Bool) → (number && registers) ≡ true → number ≡ true
-number_left true registers e = refl
-number_left false registers e = absurd (cc)
-
 -- with a number that it takes, beside registers that it takes
 pub told_some : (operation : ParcelOperation) (a b : ℕ) (o : Option ℤ) → takes_number_beside operation a b ≡ true
     → is_some o ≡ true → ((k : ℤ) → o ≡ Some k → takes_number operation k ≡ true) → is_some (closed_form (form_told operation a b o)) ≡ true
 told_some operation a b None beside some takes = absurd (cc)
 told_some operation a b (Some k) beside some takes =
     made_some (is_number (shape_of operation)) (takes_registers operation a b) (takes_number operation k) (form_with operation (own_registers operation a b)) k
-    (number_form operation a b (number_left (is_number (shape_of operation)) (takes_registers operation a b) beside)) beside (takes k refl)
+    (number_form operation a b (and_first (is_number (shape_of operation)) (takes_registers operation a b) beside)) beside (takes k refl)
 
 -- what takes an operand, and no target, takes a number
 pub number_beside : (number target registers : Bool) → target ≡ false → ((number || target) && registers) ≡ true → (number && registers) ≡ true

@@ -2,6 +2,7 @@
 
 use Rattle.std.proofs.Common.{◌≡◌, ℕ, Bool, true, false, refl, sym, ap, subst, ◌∙◌, ℤ, pos, List, [], ◌∷◌, map, Option, Some, None, option_map}
 use Rattle.std.specs.Prelude.{not, ◌&&◌, is_some, unwrap_or}
+use Rattle.rv_list_laws.proofs.TruthLemmas.{and_first}
 use Rattle.rv_isa.specs.declared.instruction.Inst.{Inst}
 use Rattle.rv_isa.specs.declared.kind.Kind.{Kind}
 use Rattle.rv_isa.specs.declared.operation.ImmediateOperation.{ImmediateOperation}
@@ -31,7 +32,7 @@ use Rattle.rv_pseudo.specs.declared.template.Template.{Template}
 use Rattle.rv_pseudo.specs.Faults.{is_target, is_number, takes_registers, takes_number_beside, is_upper, is_placed, takes_target, number}
 use Rattle.rv_pseudo.specs.Templates.{plain, all_templates, parts_of, operand, number_operand, with_reloc, form_beside, form_told, Puts, IsKindOf, IsConstantRow, AreNumbered}
 use Rattle.rv_pseudo.proofs.ParcelRowsLemmas.{shaped_away, shaped_target, closed_form, number_row, told_open, told_some, number_beside}
-use Rattle.rv_pseudo.proofs.InRangeLemmas.{is_immediate, is_low, is_taken, and_left, number_takes}
+use Rattle.rv_pseudo.proofs.InRangeLemmas.{is_immediate, is_low, is_taken, number_takes}
 
 -- ---- operands
 
@@ -83,7 +84,7 @@ signed_some : (operation : Operation) (function : Option Function) (value : Opti
     → is_some (signed_12 (λ t. value) store make (number_operand function e)) ≡ true
 signed_some operation None (Some v) store make e upper away f = refl
 signed_some operation None None store make e upper away f = absurd (let target = sym away ∙ f in cc)
-signed_some operation (Some Hi) (Some v) store make e upper away f = absurd (let high = and_left (is_upper operation) _ f in cc)
+signed_some operation (Some Hi) (Some v) store make e upper away f = absurd (let high = and_first (is_upper operation) _ f in cc)
 signed_some operation (Some Hi) None store make e upper away f = absurd (let high = sym upper ∙ f in cc)
 signed_some operation (Some Lo) (Some v) store make e upper away f = refl
 signed_some operation (Some Lo) None store make e upper away f = refl
@@ -99,7 +100,7 @@ upper_some operation None (Some v) make e upper low away f = refl
 upper_some operation None None make e upper low away f = absurd (let target = sym away ∙ f in cc)
 upper_some operation (Some Hi) (Some v) make e upper low away f = refl
 upper_some operation (Some Hi) None make e upper low away f = refl
-upper_some operation (Some Lo) (Some v) make e upper low away f = absurd (let high = and_left (not (is_upper operation)) _ (and_left (not (is_upper operation) && not (takes_target operation)) _ f) in cc)
+upper_some operation (Some Lo) (Some v) make e upper low away f = absurd (let high = and_first (not (is_upper operation)) _ (and_first (not (is_upper operation) && not (takes_target operation)) _ f) in cc)
 upper_some operation (Some Lo) None make e upper low away f = absurd (let part = sym low ∙ f in cc)
 upper_some operation (Some PcrelHi) (Some v) make e upper low away f = refl
 upper_some operation (Some PcrelHi) None make e upper low away f = refl
@@ -111,7 +112,7 @@ number_some : (operation : Operation) (function : Option Function) (value : Opti
     → is_some (constant_number (λ t. value) (number_operand function e)) ≡ true
 number_some operation None (Some v) e upper low away f = refl
 number_some operation None None e upper low away f = absurd (let target = sym away ∙ f in cc)
-number_some operation (Some Hi) (Some v) e upper low away f = absurd (let high = and_left (is_upper operation) _ f in cc)
+number_some operation (Some Hi) (Some v) e upper low away f = absurd (let high = and_first (is_upper operation) _ f in cc)
 number_some operation (Some Hi) None e upper low away f = absurd (let high = sym upper ∙ f in cc)
 number_some operation (Some Lo) (Some v) e upper low away f = refl
 number_some operation (Some Lo) None e upper low away f = absurd (let part = sym low ∙ f in cc)

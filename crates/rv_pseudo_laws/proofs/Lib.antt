@@ -5,3 +5,4 @@ pub mod FormatsLemmas
 pub mod ParcelsLemmas
 pub mod FillingLemmas
 pub mod PartsLemmas
+pub mod FilledLemmas

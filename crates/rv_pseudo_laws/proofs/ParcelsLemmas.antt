@@ -4,7 +4,8 @@ use Rattle.std.proofs.Common.{◌≡◌, ◌≢◌, ℕ, ◌%◌, ◌^◌, ◌<�
 use Rattle.std.specs.Prelude.{◌||◌, ◌==◌, ⊤, if◌then◌else◌}
 use Rattle.std.proofs.lemmas.Int.{ints}
 use Rattle.std.proofs.lemmas.Bool.Decides.{nat_tests}
-use Rattle.rv_isa.specs.Ranges.{IsReg, IsValid}
+use Rattle.rv_list_laws.proofs.TruthLemmas.{and_first}
+use Rattle.rv_isa.specs.Ranges.{IsReg}
 use Rattle.rv_isa_laws.specs.Arithmetic.{wrapped}
 use Rattle.rv_parcel.specs.declared.form.Compressed.{Compressed}
 use Rattle.rv_parcel.specs.declared.parcel.ParcelOperation.{ParcelOperation}
@@ -14,8 +15,7 @@ use Rattle.rv_parcel.specs.declared.parcel.OperandShape.TheVariants as shapes
 use Rattle.rv_parcel.specs.declared.parcel.RegisterSet.{RegisterSet}
 use Rattle.rv_parcel.specs.declared.parcel.RegisterSet.TheVariants.{Any, Nonzero, Short, Stack, Upper}
 use Rattle.rv_parcel.specs.Mnemonics.{is_of_set, register_sets, are_in, shape_of, is_between, is_multiple, is_zero, takes_number, form_with, form_of}
-use Rattle.rv_parcel.specs.Parcel.{IsShort, IsNonzero, IsMultiple, IsSixBits, IsStackStep, IsUpper, IsLine, IsNoHint, parcel, expansion}
-use Rattle.rv_parcel.proofs.ReaderLemmas.{stands-valid}
+use Rattle.rv_parcel.specs.Parcel.{IsShort, IsNonzero, IsMultiple, IsSixBits, IsStackStep, IsUpper, IsLine, IsNoHint, expansion}
 use Rattle.rv_statement_laws.specs.declared.mnemonic.Mnemonic.{Mnemonic}
 use Rattle.rv_statement_laws.specs.declared.mnemonic.Mnemonic.TheVariants.{Parcel}
 use Rattle.rv_statement_laws.specs.Statement.{Operand, Register, Target}
@@ -41,10 +41,6 @@ one_in Short r e = grind (arith, nat_tests)
 one_in Stack r e = grind (arith, nat_tests)
 one_in Upper r e = grind (arith, nat_tests)
 
-pub first_of : (a b : Bool) → (a && b) ≡ true → a ≡ true
-first_of true b e = refl
-first_of false b e = absurd (cc)
-
 pub second_of : (a b : Bool) → (a && b) ≡ true → b ≡ true
 second_of true b e = e
 second_of false b e = absurd (cc)
@@ -53,7 +49,7 @@ each_in : (sets : List RegisterSet) (rs : List ℕ) → are_in sets rs ≡ true 
 each_in [] rs e = tt
 each_in (set ∷ sets) [] e = tt
 each_in (set ∷ sets) (r ∷ rs) e =
-    (one_in set r (first_of (is_of_set set r) (are_in sets rs) e), each_in sets rs (second_of (is_of_set set r) (are_in sets rs) e))
+    (one_in set r (and_first (is_of_set set r) (are_in sets rs) e), each_in sets rs (second_of (is_of_set set r) (are_in sets rs) e))
 
 -- ---- numbers of a field
 
@@ -94,7 +90,7 @@ upper k e = upper_by (is_between (pos 1) (pos 31) k) k refl e
 
 stack_address : (k : ℤ) → takes_number Addi4spn k ≡ true → IsMultiple 4 1024 (wrapped k) × (0 < wrapped k)
 stack_address k e =
-    let unit = first_of (is_multiple 4 1024 k) (not (is_zero k)) e in
+    let unit = and_first (is_multiple 4 1024 k) (not (is_zero k)) e in
     let above = second_of (is_multiple 4 1024 k) (not (is_zero k)) e in
     (multiple 4 1024 k (omega arith) unit, multiple_above 4 1024 k (omega arith) unit above)
 
@@ -102,8 +98,8 @@ stack_step : (k : ℤ) → takes_number Addi16sp k ≡ true → IsStackStep k
 stack_step k e =
     let range = is_between (negsuc 511) (pos 511) k in
     let unit = unsigned_abs k % 16 == 0 in
-    let both = first_of (range && unit) (not (is_zero k)) e in
-    let near = between (negsuc 511) (pos 511) k (first_of range unit both) in
+    let both = and_first (range && unit) (not (is_zero k)) e in
+    let near = between (negsuc 511) (pos 511) k (and_first range unit both) in
     (near.0, near.1, divided k (second_of range unit both), not_zero k (second_of (range && unit) (not (is_zero k)) e))
 
 six_bits : (k : ℤ) → is_between (negsuc 31) (pos 31) k ≡ true → IsSixBits k
@@ -130,7 +126,7 @@ row_written Sd (rs2 ∷ rs1 ∷ []) k r e = ((r.1.0, r.0, multiple 8 256 k (omeg
 row_written Nop [] k r e = (subst IsSixBits (sym (zero_only k e)) (omega (arith, ints), omega (arith, ints)), zero_only k e)
 row_written Addi (rd ∷ []) k r e =
     let range = is_between (negsuc 31) (pos 31) k in
-    ((r.0, six_bits k (first_of range (not (is_zero k)) e)), not_zero k (second_of range (not (is_zero k)) e))
+    ((r.0, six_bits k (and_first range (not (is_zero k)) e)), not_zero k (second_of range (not (is_zero k)) e))
 row_written Addiw (rd ∷ []) k r e = ((r.0, six_bits k e), tt)
 row_written Li (rd ∷ []) k r e = ((r.0.1, six_bits k e), r.0.0)
 row_written Addi16sp (sp ∷ []) k r e = (stack_step k e, tt)
@@ -189,11 +185,6 @@ parcel_rows v operation shapes.Address (Register a ∷ o ∷ Register b ∷ []) 
     by_written (form_of operation (a ∷ b ∷ [])) (constant_number v o) (of_written operation (a ∷ b ∷ []))
 parcel_rows v operation shape operands = tt
 
--- the form that a mnemonic is with operands
-pub parcel_written : (v : Constants) (operation : ParcelOperation) (shape : OperandShape) (operands : List Operand) (form : Compressed)
-    → parcel_form v operation shape operands ≡ Some form → IsLine form × IsNoHint form
-parcel_written v operation shape operands form e = subst IsWritten e (parcel_rows v operation shape operands)
-
 named_rows : (v : Constants) (mnemonic : Mnemonic) (operands : List Operand) → IsWritten (named_form v mnemonic operands)
 named_rows v (Parcel operation) operands = parcel_rows v operation (shape_of operation) operands
 named_rows v mnemonic operands = tt
@@ -202,11 +193,6 @@ named_rows v mnemonic operands = tt
 pub named_written : (v : Constants) (mnemonic : Mnemonic) (operands : List Operand) (form : Compressed) → named_form v mnemonic operands ≡ Some form
     → IsLine form × IsNoHint form
 named_written v mnemonic operands form e = subst IsWritten e (named_rows v mnemonic operands)
-
--- what a form with such operands stands for
-pub expansion_valid : (form : Compressed) → IsLine form → IsValid (expansion form)
-expansion_valid form line =
-    stands-valid (parcel form) (expansion form) (record { form = form; spells = record { line = line; sum = refl }; same = refl })
 
 -- ---- code
 

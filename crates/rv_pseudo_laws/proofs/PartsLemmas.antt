@@ -2,10 +2,10 @@
 
 use Rattle.std.proofs.Common.{◌≡◌, ℕ, ◌+◌, ◌*◌, ◌<◌, ◌^◌, Bool, true, false, not, ◌&&◌, ◌==◌, refl, sym, ap, subst, ◌∙◌, arith, ℤ, pos, negsuc, int_le, int_lt, List, [], ◌∷◌, map, Option, Some, None, option_map}
 use Rattle.std.specs.Prelude.{if◌then◌else◌, ⊤}
-use Rattle.std.specs.Int.{from_bool}
 use Rattle.std.specs.List.{AllByRecursion}
 use Rattle.std.proofs.lemmas.Int.{ints}
 use Rattle.std.proofs.lemmas.Bool.Decides.{nat_tests}
+use Rattle.rv_list_laws.proofs.TruthLemmas.{bit_below}
 use Rattle.rv_isa.specs.declared.kind.Kind.{Kind}
 use Rattle.rv_isa.specs.declared.kind.Kind.TheVariants as kind
 use Rattle.rv_isa.specs.declared.instruction.Format.{Format}
@@ -32,6 +32,7 @@ use Rattle.rv_parcel.specs.declared.parcel.ParcelOperation.TheVariants as parcel
 use Rattle.rv_parcel.specs.declared.parcel.RegisterSet.TheVariants.{Short}
 use Rattle.rv_parcel.specs.Mnemonics.{is_of_set}
 use Rattle.rv_parcel.specs.Parcel.{expansion}
+use Rattle.rv_parcel.proofs.ReaderLemmas.{expanded-valid}
 use Rattle.rv_statement_laws.specs.declared.mnemonic.Mnemonic.{Mnemonic}
 use Rattle.rv_statement_laws.specs.declared.mnemonic.Mnemonic.TheVariants.{Registers, Immediate, Shift, Upper, Load, Store, Branch, Jal, Jalr, LoadReserved, Atomic, Fence, FenceTso, Ecall, Ebreak, Nop, Unary, Compare, ZeroBranch, SwappedBranch, J, Jr, Ret, La, Li, Call, Tail, Jump, Parcel}
 use Rattle.rv_statement_laws.specs.declared.pseudo.UnaryOperation.{UnaryOperation}
@@ -50,7 +51,7 @@ use Rattle.rv_pseudo_laws.specs.Code.{Part, Closed, Open, Joined, Constants, r_t
 use Rattle.rv_pseudo_laws.specs.Valid.{form_takes, takes, takes_constant, is_amount, IsOperandOf, AreOperandsOf, fills, fills_branch, IsOpen, IsValidPart}
 use Rattle.rv_pseudo_laws.proofs.ModuloLemmas.{signed_12 as twelve}
 use Rattle.rv_pseudo_laws.proofs.SequencesLemmas.{li_valid}
-use Rattle.rv_pseudo_laws.proofs.ParcelsLemmas.{named_written, expansion_valid}
+use Rattle.rv_pseudo_laws.proofs.ParcelsLemmas.{named_written}
 use Rattle.rv_pseudo_laws.proofs.FormatsLemmas.{registers_format, immediate_format, shift_format, upper_format, load_format, store_format, branch_format, reserve_format, atomic_format}
 
 -- each part, if there is code
@@ -101,10 +102,6 @@ compare_valid Sgtu rd a b d f s = (d, s, f)
 closed_valid : (xs : List Inst) → AllByRecursion IsValid xs → AllByRecursion IsValidPart (map Closed xs)
 closed_valid [] all = tt
 closed_valid (x ∷ xs) all = (all.0, closed_valid xs all.1)
-
-bit_below : (b : Bool) → from_bool b < 2
-bit_below true = omega arith
-bit_below false = omega arith
 
 four_bits : (a b c d : ℕ) → a < 2 → b < 2 → c < 2 → d < 2 → 8 * a + 4 * b + 2 * c + d < 16
 four_bits a b c d p q r s = omega arith
@@ -292,7 +289,7 @@ form_valid (Some form) valid = (valid form refl, tt)
 parcel_valid : (v : Constants) (mnemonic : Mnemonic) (operands : List Operand)
     → AreParts (option_map (λ form. Closed (expansion form) ∷ []) (named_form v mnemonic operands))
 parcel_valid v mnemonic operands =
-    form_valid (named_form v mnemonic operands) (λ form e. expansion_valid form (named_written v mnemonic operands form e).0)
+    form_valid (named_form v mnemonic operands) (λ form e. expanded-valid form (named_written v mnemonic operands form e).0)
 
 short_by : (short : Bool) (operation : BranchOperation) (rs : ℕ) → rs < 32 → AreParts (if short then Some (branch 2 operation rs 0) else None)
 short_by true operation rs s = branch_valid 2 operation rs 0 s (omega arith)

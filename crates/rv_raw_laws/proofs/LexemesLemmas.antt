@@ -75,10 +75,6 @@ tokens-append before (p ∷ ps) qs =
     go true ih = ih
     go false ih = ap (λ x. placed before p ∷ x) ih
 
-pub newlines-append : (xs ys : List ℕ) → newlines (xs ++ ys) ≡ newlines xs + newlines ys
-newlines-append [] ys = omega arith
-newlines-append (x ∷ xs) ys = let ih = newlines-append xs ys in omega (arith, ih)
-
 pub no_newlines : (xs : List ℕ) → list_all in_line xs ≡ true → newlines xs ≡ 0
 no_newlines [] h = refl
 no_newlines (x ∷ xs) h = let a = and_parts (in_line x) (list_all in_line xs) h in go (x == 10) a.0 (no_newlines xs a.1)

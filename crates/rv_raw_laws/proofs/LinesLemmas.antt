@@ -11,13 +11,14 @@ use Rattle.rv_text_laws.specs.declared.class.Class.TheVariants.{Letter, Digit}
 use Rattle.rv_text_laws.specs.Cut.{Piece, texts, Each, NothingReads}
 use Rattle.rv_text_laws.specs.Grammar.{Kind, Space, Line_comment, Block_comment, Newline, Punctuation, Name, Number, Reference, Bad_word, Text, Character, Bad_byte, Bad_token, End, IsWord, Spells, Stops}
 use Rattle.rv_text_laws.specs.Lexing.{Token, placed, newlines, tokens_of, last}
+use Rattle.rv_text_laws.proofs.TokensLemmas.{newlines-append}
 use Rattle.rv_statement_laws.specs.Statement.{StatementKind, Label, Numbered, Instruction, Directs, Statement}
 use Rattle.rv_parse_laws.specs.Syntax.{SourcePart, Ends, Says, StopsPart, is_end}
 use Rattle.rv_parse_laws.specs.Opening.{OpenWell}
 use Rattle.rv_parse_laws.specs.Reading.{longest_source, longest_line, IsPastLine, statements_of_parts, AreParts, Reads}
 use Rattle.rv_listing_laws.specs.Raw.{lines_text}
 use Rattle.rv_raw_laws.specs.Statements.{on_lines}
-use Rattle.rv_raw_laws.proofs.LexemesLemmas.{Lexeme, word, line_feed, texts-append, each-append, tokens-append, newlines-append, no_newlines, line_stops}
+use Rattle.rv_raw_laws.proofs.LexemesLemmas.{Lexeme, word, line_feed, texts-append, each-append, tokens-append, no_newlines, line_stops}
 use Rattle.rv_raw_laws.proofs.WordsLemmas.{IsLineOf}
 
 -- each text is its statement

@@ -15,6 +15,7 @@ use Rattle.rv_isa.specs.declared.operation.ShiftOperation.{ShiftOperation}
 use Rattle.rv_isa.specs.declared.operation.ShiftOperation.TheVariants.{Slli, Srli, Srai, Slliw, Srliw, Sraiw}
 use Rattle.rv_isa.specs.Operations.{instruction_of, format_of, of_branch, access_bits, fence}
 use Rattle.rv_isa.specs.Ranges.{IsValidFormat, shift_limit}
+use Rattle.rv_isa.proofs.OperationsLemmas.{rebuilt}
 use Rattle.rv_parcel.specs.declared.form.Compressed.{Compressed}
 use Rattle.rv_parcel.specs.declared.form.Compressed.TheVariants as forms
 use Rattle.rv_parcel.specs.Parcel.{IsLine, IsNoHint, expansion}
@@ -126,10 +127,6 @@ module _ (v : Constants) (known : KnowsNumbers v) where
   forms_are (Parcel c) sourced = named v known c sourced.0 sourced.1
 
 -- ---- with the open field filled
-
-rebuilt : (i : Inst) → instruction_of (format_of i) ≡ i
-rebuilt (inst.Lui x) = refl
-rebuilt _ = refl
 
 branch_filled : (op : BranchOperation) (rs1 rs2 : ℕ) (old new : ℤ) → with_value new (of_branch op (record { offset = old; rs1 = rs1; rs2 = rs2 })) ≡ of_branch op (record { offset = new; rs1 = rs1; rs2 = rs2 })
 branch_filled Beq rs1 rs2 old new = refl

@@ -1,8 +1,7 @@
 -- A branch to `.` and a distance in its range has four bytes: all together have their smallest sizes.
 
-use Rattle.std.proofs.Common.{◌≡◌, ℕ, ◌<◌, ◌≤◌, ℤ, pos, negsuc, List, refl, sym, subst, arith, inl, inr}
+use Rattle.std.proofs.Common.{◌≡◌, ℕ, ◌<◌, ℤ, pos, negsuc, List, sym, subst, arith}
 use Rattle.std.specs.Prelude.{slice_index, ◌-ℤ◌, ◌+ℤ◌}
-use Rattle.std.proofs.Math.ListN.{get_or-map}
 use Rattle.std.proofs.lemmas.List.{length-map}
 use Rattle.std.proofs.lemmas.Int.{ints}
 use Rattle.rv_layout_laws.specs.declared.item.Forms.{Forms}
@@ -10,16 +9,8 @@ use Rattle.rv_layout_laws.specs.declared.item.Forms.TheVariants.{Settled, Compre
 use Rattle.rv_layout_laws.specs.declared.item.Item.{Item}
 use Rattle.rv_layout_laws.specs.Offsets.{offset, IsImmediate, Reaches}
 use Rattle.rv_layout_laws.specs.Branches.{Offers, smallest, largest, half, item_at, of_section, IsGood, IsLeastGood, smallest_sizes}
+use Rattle.rv_layout_laws.proofs.WideningLemmas.{smallest_at, offers_smallest as offered, smallest_least}
 use Rattle.rv_raw_laws.specs.Meaning.{LeadsFrom, LeadsFromItself}
-
-sizes_at : (items : List Item) (i : ℕ) → slice_index (smallest_sizes items) i ≡ smallest (item_at items i).forms
-sizes_at items i = get_or-map (λ (item : Item). smallest item.forms) items i (record { addend = pos 0; section = 0; target = 0; forms = Settled 0 })
-
-offered : (f : Forms) → Offers f (smallest f)
-offered (Settled bytes) = refl
-offered CompressedBranch = inl refl
-offered Branch = inl refl
-offered CompressedJump = inl refl
 
 nowhere : (x : ℕ) (z : ℤ) → (pos x -ℤ pos x) +ℤ z ≡ z
 nowhere x (pos n) = omega (arith, ints)
@@ -38,24 +29,14 @@ smallest_good : (items : List Item) → ((i : ℕ) → LeadsFromItself i (item_a
 smallest_good items leads = record {
   family = record {
     same_length = length-map items (λ (item : Item). smallest item.forms);
-    offered = λ i. subst (Offers (item_at items i).forms) (sym (sizes_at items i)) (offered (item_at items i).forms);
+    offered = λ i. subst (Offers (item_at items i).forms) (sym (smallest_at items i)) (offered (item_at items i).forms);
   };
-  reaching = λ i lt. reached (of_section (item_at items i).section items (smallest_sizes items)) i (slice_index (smallest_sizes items) i) (item_at items i).forms (item_at items i).target (item_at items i).addend (sizes_at items i) (leads i) lt;
+  reaching = λ i lt. reached (of_section (item_at items i).section items (smallest_sizes items)) i (slice_index (smallest_sizes items) i) (item_at items i).forms (item_at items i).target (item_at items i).addend (smallest_at items i) (leads i) lt;
 }
-
-at_least : (f : Forms) (n : ℕ) → Offers f n → smallest f ≤ n
-at_least (Settled bytes) n e = omega (arith, e)
-at_least CompressedBranch n (inl e) = omega (arith, e)
-at_least CompressedBranch n (inr (inl e)) = omega (arith, e)
-at_least CompressedBranch n (inr (inr e)) = omega (arith, e)
-at_least Branch n (inl e) = omega (arith, e)
-at_least Branch n (inr e) = omega (arith, e)
-at_least CompressedJump n (inl e) = omega (arith, e)
-at_least CompressedJump n (inr e) = omega (arith, e)
 
 -- the least sizes are the smallest
 pub sizes_are : (items : List Item) (sizes : List ℕ) → ((i : ℕ) → LeadsFromItself i (item_at items i)) → IsLeastGood items sizes → (i : ℕ) → slice_index sizes i ≡ smallest (item_at items i).forms
 sizes_are items sizes leads least i =
-    let low = at_least (item_at items i).forms (slice_index sizes i) (least.good.family.offered i) in
+    let low = smallest_least (item_at items i).forms (slice_index sizes i) (least.good.family.offered i) in
     let high = least.least (smallest_sizes items) (smallest_good items leads) i in
-    omega (arith, low, high, sizes_at items i)
+    omega (arith, low, high, smallest_at items i)

@@ -1,8 +1,9 @@
 -- The relocations of a raw listing's object: each leads from its place by a distance that its field takes.
 
-use Rattle.std.proofs.Common.{◌≡◌, ℕ, ℤ, pos, ◌+◌, ◌%◌, ◌^◌, ◌≤◌, ◌⊎◌, Bool, true, false, List, [], ◌∷◌, ◌++◌, length, length-append, map, append_assoc, Option, Some, None, refl, sym, ◌∙◌, ap, subst, arith, inl, inr}
-use Rattle.std.specs.Prelude.{◌&&◌, ◌==◌, if◌then◌else◌, flat_map, unwrap_or}
+use Rattle.std.proofs.Common.{◌≡◌, ℕ, ℤ, pos, ◌+◌, ◌%◌, ◌^◌, ◌≤◌, ◌⊎◌, Bool, true, false, List, [], ◌∷◌, ◌++◌, map, Option, Some, None, refl, sym, ◌∙◌, ap, subst, arith, inl, inr}
+use Rattle.std.specs.Prelude.{◌&&◌, ◌==◌, if◌then◌else◌, unwrap_or}
 use Rattle.std.specs.List.{AllByRecursion, slice_get}
+use Rattle.rv_list_laws.proofs.EachLemmas.{each_append, each_split}
 use Rattle.rv_isa.specs.Kinds.{is_low_part}
 use Rattle.rv_isa.specs.declared.instruction.Format.{Format}
 use Rattle.rv_isa.specs.declared.instruction.Format.TheVariants.{Branch, Jal}
@@ -21,7 +22,6 @@ use Rattle.rv_unit_laws.specs.Bindings.{Bindings}
 use Rattle.rv_unit_laws.specs.Tables.{Tables, Labelled, meaning, longest_section}
 use Rattle.rv_source_laws.specs.Lines.{operand_of, parts_by_size as code_of_kind}
 use Rattle.rv_source_laws.specs.Program.{place_of}
-use Rattle.rv_source_laws.proofs.HomesLemmas.{all_join}
 use Rattle.rv_listing_laws.specs.declared.code.Code.{Code}
 use Rattle.rv_listing_laws.specs.declared.code.Code.TheVariants.{Word, Parcel}
 use Rattle.rv_listing_laws.specs.Raw.{IsSourced}
@@ -31,10 +31,11 @@ use Rattle.rv_object_laws.specs.Bindings.{is_weak}
 use Rattle.rv_object_laws.specs.Object.{Relocation, Symbol, Object}
 use Rattle.rv_assemble_laws.specs.CodeFields.{symbol_field, low_field, field_of, part_fields}
 use Rattle.rv_assemble_laws.specs.Coded.{constants}
-use Rattle.rv_assemble_laws.specs.LaidStatements.{LaidStatement, LaidPart, expression_value, laid_part, coded_templates, templates, parts_of, part_bytes, parts, Tile, end_of}
+use Rattle.rv_assemble_laws.specs.LaidStatements.{LaidStatement, LaidPart, expression_value, laid_part, coded_templates, templates, parts_of, parts, Tile, end_of}
 use Rattle.rv_assemble_laws.specs.Symbols.{laid_at, after_statement, references_in, StandsFor}
-use Rattle.rv_assemble_laws.specs.Templates.{Template, Coded, Open, open_at, template_fields}
-use Rattle.rv_assemble_laws.specs.IsObjectOf.{Numbering, relocation_at, relocations_from, IsNumbered, ArePartsNumbered}
+use Rattle.rv_assemble_laws.specs.Templates.{Template, Coded, Open, open_at}
+use Rattle.rv_assemble_laws.specs.IsObjectOf.{Numbering, relocations_from, IsNumbered, ArePartsNumbered}
+use Rattle.rv_assemble_laws.proofs.IsObjectOfLemmas.{relocations_join}
 use Rattle.rv_raw_laws.proofs.ValuesLemmas.{distance_value, addend_is}
 use Rattle.rv_raw_link_laws.proofs.ValuesLemmas.{known}
 use Rattle.rv_raw_link_laws.proofs.CodesLemmas.{offset_small, far_small, leads, branch_taken, jal_taken, IsLed, IsCalm, IsOne, ClosesUnled, closed_word, is_aimed, closed_parcel, open_parcel}
@@ -86,20 +87,6 @@ module _ (m : Primary → Meaning) where
       by false e = (Closed _, closed_parcel (constants (value_of m)) (known m) f s e bytes, tt)
 
 -- ---- lists
-
-all_split : {X : Type 0} (P : X → Type 0) (xs ys : List X) → AllByRecursion P (xs ++ ys) → AllByRecursion P xs × AllByRecursion P ys
-all_split P [] ys h = (tt, h)
-all_split P (x ∷ xs) ys (one, h) = let (a, b) = all_split P xs ys h in ((one, a), b)
-
-relocations_join : (number : Numbering) (o : ℕ) (xs ys : List LaidPart) → relocations_from number o (xs ++ ys) ≡ relocations_from number o xs ++ relocations_from number (o + length (flat_map part_bytes xs)) ys
-relocations_join number o [] ys = ap (λ n. relocations_from number n ys) (let e : o ≡ o + 0 = omega arith in e)
-relocations_join number o (x ∷ xs) ys =
-    let own = map (relocation_at number o) (template_fields x.ordinal x.template) in
-    let next = o + length (part_bytes x) in
-    let long = length-append (part_bytes x) (flat_map part_bytes xs) in
-    ap (λ l. own ++ l) (relocations_join number next xs ys)
-    ∙ ap (λ n. own ++ (relocations_from number next xs ++ relocations_from number n ys)) (let e : next + length (flat_map part_bytes xs) ≡ o + length (part_bytes x ++ flat_map part_bytes xs) = omega (arith, long) in e)
-    ∙ sym (append_assoc own (relocations_from number next xs) (relocations_from number (o + length (flat_map part_bytes (x ∷ xs))) ys))
 
 pub never_low : (k : Kind) → leads k ≡ true → is_low_part k ≡ false
 never_low k h = grind arith
@@ -210,11 +197,11 @@ module _ (labels : List Labelled) (b : Bindings) (all : List LaidStatement) (num
       → AllByRecursion (λ (z : LaidStatement). z.bytes ≡ kind_size z.located.kind) zs → AreNumbered (parts t zs) → AreLeading (relocations_from number q (parts t zs))
   leading q [] tile low p a s h = tt
   leading q (z ∷ zs) (off, bytes, tile) low (plain, ps) (at, ats) (size, sizes) h =
-      let (front, back) = all_split (λ p. AllByRecursion (IsNumbered t all number symbols) (references_in p)) (parts_of t z) (parts t zs) h in
+      let (front, back) = each_split (λ p. AllByRecursion (IsNumbered t all number symbols) (references_in p)) (parts_of t z) (parts t zs) h in
       let above = end_above (q + z.bytes) zs in
       let here_low : z.offset ≤ longest_section = omega (arith, off, above, low) in
       subst AreLeading (ap (λ n. relocations_from number q (parts_of t z) ++ relocations_from number (q + n) (parts t zs)) bytes ∙ sym (relocations_join number q (parts_of t z) (parts t zs)))
-      (all_join (IsLeading symbols) (relocations_from number q (parts_of t z)) (relocations_from number (q + z.bytes) (parts t zs))
+      (each_append (IsLeading symbols) (relocations_from number q (parts_of t z)) (relocations_from number (q + z.bytes) (parts t zs))
       (subst (λ n. AreLeading (relocations_from number n (parts_of t z))) off (own z plain at here_low size front))
       (leading (q + z.bytes) zs tile low ps ats sizes back))
 

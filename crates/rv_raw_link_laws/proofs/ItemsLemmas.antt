@@ -1,11 +1,11 @@
 -- The statements of a raw listing as branch sizes see them: each has its smallest size.
 
-use Rattle.std.proofs.Common.{◌≡◌, ℕ, suc, ℤ, pos, negsuc, ◌⊎◌, Bool, true, false, List, [], ◌∷◌, Option, Some, None, refl, sym, ◌∙◌, ap, subst, arith, inl, inr}
+use Rattle.std.proofs.Common.{◌≡◌, ℕ, suc, ℤ, pos, ◌⊎◌, Bool, true, false, List, [], ◌∷◌, Option, Some, None, refl, sym, ◌∙◌, ap, subst, arith, inl, inr}
 use Rattle.std.specs.Prelude.{⊤, ◌&&◌, ◌==◌, if◌then◌else◌}
 use Rattle.std.specs.Int.{w64, int_wrap}
 use Rattle.std.specs.List.{AllByRecursion, find}
 use Rattle.std.proofs.lemmas.Bool.{eq-eqb}
-use Rattle.std.proofs.lemmas.Int.{ints}
+use Rattle.rv_list_laws.proofs.EachLemmas.{each_map}
 use Rattle.rv_isa.specs.declared.instruction.Format.{Format}
 use Rattle.rv_isa.specs.declared.instruction.Format.TheVariants.{Branch, Jal, Fence}
 use Rattle.rv_isa.specs.declared.instruction.BType.{BType}
@@ -13,23 +13,22 @@ use Rattle.rv_isa.specs.declared.instruction.JType.{JType}
 use Rattle.rv_isa.specs.declared.operation.BranchOperation.{BranchOperation}
 use Rattle.rv_isa.specs.declared.kind.Kind.TheVariants as kinds
 use Rattle.rv_isa.specs.Operations.{format_of}
-use Rattle.rv_isa.specs.Ranges.{IsBranchOffset, IsValidFormat}
+use Rattle.rv_isa.specs.Ranges.{IsValidFormat}
 use Rattle.rv_isa_laws.specs.Arithmetic.{wrapped}
 use Rattle.rv_text_laws.specs.Expression.{Primary, Here}
 use Rattle.rv_text_laws.specs.Values.{Meaning, Open as Open_place, value_of}
 use Rattle.rv_layout_laws.specs.declared.item.Forms.TheVariants.{Branch as FullBranch}
 use Rattle.rv_layout_laws.specs.declared.item.Item.{Item}
-use Rattle.rv_layout_laws.specs.Offsets.{IsImmediate}
 use Rattle.rv_layout_laws.specs.Branches.{smallest}
 use Rattle.rv_statement_laws.specs.declared.mnemonic.Mnemonic.TheVariants as words
 use Rattle.rv_statement_laws.specs.Statement.{StatementKind, Instruction, Statement, Register, Target, Accesses}
 use Rattle.rv_pseudo_laws.specs.Code.{Open, Constants, jal}
 use Rattle.rv_unit_laws.specs.Bindings.{Bindings}
 use Rattle.rv_unit_laws.specs.Tables.{Tables, Labelled, after, meaning, definition_at}
+use Rattle.rv_unit_laws.proofs.OffsetsLemmas.{immediate}
 use Rattle.rv_source_laws.specs.Located.{Located, located_from}
 use Rattle.rv_source_laws.specs.Program.{place_of}
 use Rattle.rv_source_laws.specs.Sizes.{Near, near_forms, jump_forms, near_at, near_value, settled, branch_item, item_by, item_by_kind}
-use Rattle.rv_source_laws.proofs.HomesLemmas.{all_map}
 use Rattle.rv_listing_laws.specs.declared.code.Code.{Code}
 use Rattle.rv_listing_laws.specs.declared.code.Code.TheVariants.{Word, Parcel}
 use Rattle.rv_listing_laws.specs.Instruction.{is_tso}
@@ -53,7 +52,7 @@ pub all_found : (all : List Located) → ArePlain all → AllByRecursion (IsFoun
 all_found [] h = tt
 all_found (y ∷ ys) (one, h) = (
   (y, (ap (λ b. if b then Some y else find (λ (q : Located). q.ordinal == y.ordinal) ys) (eq-eqb y.ordinal y.ordinal refl), one)),
-  all_map (IsFound ys) (IsFound (y ∷ ys)) ys further (all_found ys h),
+  each_map (IsFound ys) (IsFound (y ∷ ys)) ys further (all_found ys h),
 )
   where
     further : (s : Located) → IsFound ys s → IsFound (y ∷ ys) s
@@ -82,10 +81,6 @@ near_word (Fence x) e = by (is_tso x)
     by true = refl
     by false = refl
 near_word _ e = refl
-
-immediate : (z : ℤ) → IsBranchOffset z → IsImmediate 4096 z
-immediate (pos n) h = let high = h.1 in record { even = h.2; low = omega (arith, ints); high = omega (arith, ints, high) }
-immediate (negsuc n) h = let low = h.0 in record { even = h.2; low = omega (arith, ints, low); high = omega (arith, ints) }
 
 module _ (labels : List Labelled) (b : Bindings) (all : List Located) where
   abbrev t : Tables

@@ -27,6 +27,7 @@ use Rattle.rv_listing_laws.specs.Raw.{raw_bytes}
 use Rattle.rv_raw_laws.specs.Statements.{access_set, word_statement, code_statement}
 use Rattle.rv_assemble_laws.specs.Coded.{constants, IsCodedPart, AreCodedParts, joined, IsCode}
 use Rattle.rv_assemble_laws.specs.LaidStatements.{LaidStatement, HasSize}
+use Rattle.rv_assemble_laws.proofs.LeastCodeLemmas.{some_parts}
 use Rattle.rv_raw_link_laws.proofs.StatementsLemmas.{IsInstruction}
 
 -- ---- the bytes of a statement
@@ -127,11 +128,8 @@ of_laid_statement v s multiple kind i h =
     subst (λ k. IsCodeOf (constants v) k s.located.options.rvc s.bytes s.coded) (sym i.is)
     (of_code v s.located.options.rvc i.mnemonic i.operands s.bytes s.coded s.instructions (subst (HasSize v s multiple) i.is h))
 
-some_same : (ps qs : List Part) → Some ps ≡ Some qs → ps ≡ qs
-some_same ps qs e = cc
-
 pub parts_are : (c : Constants) (kind : StatementKind) (rvc : Bool) (bytes : ℕ) (coded : List (List ℕ)) (ps : List Part) (h : IsCodeOf c kind rvc bytes coded) → parts_by_size c rvc bytes kind ≡ Some ps → h.ps ≡ ps
-parts_are c kind rvc bytes coded ps h e = some_same h.ps ps (sym h.parts ∙ e)
+parts_are c kind rvc bytes coded ps h e = some_parts h.ps ps (sym h.parts ∙ e)
 
 -- one part alone
 closed_long : (coded : List (List ℕ)) (i : Inst) → AreCodedParts None false (Closed i ∷ []) coded → length (joined coded) ≡ 4

@@ -4,6 +4,7 @@ use Rattle.std.proofs.Common.{◌≡◌, ℕ, zero, suc, ◌+◌, ◌<◌, ◌�
 use Rattle.std.specs.Prelude.{if◌then◌else◌, flat_map, slice_index}
 use Rattle.std.specs.List.{AllByRecursion}
 use Rattle.std.proofs.lemmas.Bool.{eq-eqb, ne_eqb}
+use Rattle.rv_list_laws.proofs.EachLemmas.{each_map, each_unmapped_by, each_pair}
 use Rattle.rv_text_laws.specs.Values.{value_of}
 use Rattle.rv_layout_laws.specs.Branches.{smallest, item_at}
 use Rattle.rv_statement_laws.specs.Statement.{StatementKind, Label, Statement}
@@ -13,7 +14,6 @@ use Rattle.rv_unit_laws.specs.Tables.{Tables, Labelled, at_start, after as after
 use Rattle.rv_source_laws.specs.Located.{Located, located_from}
 use Rattle.rv_source_laws.specs.Program.{place_of}
 use Rattle.rv_source_laws.specs.Sizes.{item_by_kind, items_of, AreLeast}
-use Rattle.rv_source_laws.proofs.HomesLemmas.{all_map}
 use Rattle.rv_listing_laws.specs.declared.code.Code.{Code}
 use Rattle.rv_listing_laws.specs.Raw.{raw_bytes}
 use Rattle.rv_raw_laws.specs.Statements.{code_statement, raw_statements, on_lines}
@@ -46,25 +46,17 @@ pub record IsRaw (labels : List Labelled) (b : Bindings) (ks : List StatementKin
 
 -- ---- lists
 
-unmapped : {X Y : Type 0} (f : X → Y) (P : Y → Type 0) (xs : List X) → AllByRecursion P (map f xs) → AllByRecursion (λ x. P (f x)) xs
-unmapped f P [] h = tt
-unmapped f P (x ∷ xs) (one, h) = (one, unmapped f P xs h)
-
-paired : {X : Type 0} (P Q : X → Type 0) (xs : List X) → AllByRecursion P xs → AllByRecursion Q xs → AllByRecursion (λ x. P x × Q x) xs
-paired P Q [] h k = tt
-paired P Q (x ∷ xs) (p, ps) (q, qs) = ((p, q), paired P Q xs ps qs)
-
 -- each statement is the one of its ordinal
 later : (k : ℕ) (zs : List LaidStatement) → AreNumberedFrom k (map (λ (z : LaidStatement). z.located) zs) → AllByRecursion (λ (z : LaidStatement). k < z.located.ordinal) zs
 later k [] n = tt
-later k (z ∷ zs) (at, n) = (omega (arith, at), all_map (λ (q : LaidStatement). suc k < q.located.ordinal) (λ (q : LaidStatement). k < q.located.ordinal) zs (λ q lt. omega (arith, lt)) (later (suc k) zs n))
+later k (z ∷ zs) (at, n) = (omega (arith, at), each_map (λ (q : LaidStatement). suc k < q.located.ordinal) (λ (q : LaidStatement). k < q.located.ordinal) zs (λ q lt. omega (arith, lt)) (later (suc k) zs n))
 
 all_at : (k : ℕ) (zs : List LaidStatement) → AreNumberedFrom k (map (λ (z : LaidStatement). z.located) zs) → AllByRecursion (λ (z : LaidStatement). laid_at zs z.located.ordinal ≡ Some z) zs
 all_at k [] n = tt
 all_at k (y ∷ ys) (at, n) = (
   ap (λ b. if b then Some y else laid_at ys y.located.ordinal) (eq-eqb y.located.ordinal y.located.ordinal refl),
-  all_map Both (λ (z : LaidStatement). laid_at (y ∷ ys) z.located.ordinal ≡ Some z) ys further
-      (paired (λ (z : LaidStatement). laid_at ys z.located.ordinal ≡ Some z) (λ (z : LaidStatement). suc k < z.located.ordinal) ys (all_at (suc k) ys n) (later (suc k) ys n)),
+  each_map Both (λ (z : LaidStatement). laid_at (y ∷ ys) z.located.ordinal ≡ Some z) ys further
+      (each_pair (λ (z : LaidStatement). laid_at ys z.located.ordinal ≡ Some z) (λ (z : LaidStatement). suc k < z.located.ordinal) ys (all_at (suc k) ys n) (later (suc k) ys n)),
 )
   where
     Both : LaidStatement → Type 0
@@ -161,12 +153,12 @@ module _ (before after : List Code) (h : IsShortListing before after) (o : Objec
   same = (table_is before after).1
 
   plain : AllByRecursion (λ (z : LaidStatement). IsPlain z.located) is.laid
-  plain = unmapped (λ (z : LaidStatement). z.located) IsPlain is.laid (subst ArePlain (sym is.located) (all_plain before after h.sourced))
+  plain = each_unmapped_by (λ (z : LaidStatement). z.located) IsPlain is.laid (subst ArePlain (sym is.located) (all_plain before after h.sourced))
 
   found : AllByRecursion (λ (z : LaidStatement). IsFound (map (λ (z : LaidStatement). z.located) is.laid) z.located) is.laid
   found =
       let ls = map (λ (z : LaidStatement). z.located) is.laid in
-      unmapped (λ (z : LaidStatement). z.located) (IsFound ls) is.laid (all_found ls (subst ArePlain (sym is.located) (all_plain before after h.sourced)))
+      each_unmapped_by (λ (z : LaidStatement). z.located) (IsFound ls) is.laid (all_found ls (subst ArePlain (sym is.located) (all_plain before after h.sourced)))
 
   section : (x : Section) × ((o.sections ≡ x ∷ []) × IsSectionOf listed_table is.laid is.number o.symbols 0 text_section (laid_in 0 is.laid) x)
   section =

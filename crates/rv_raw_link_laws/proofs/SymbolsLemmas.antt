@@ -3,6 +3,9 @@
 use Rattle.std.proofs.Common.{◌≡◌, ℕ, suc, ◌+◌, ◌%◌, ◌≤◌, Bool, true, false, not, List, [], ◌∷◌, ◌++◌, map, append-nil, Some, refl, sym, ◌∙◌, ap, arith}
 use Rattle.std.specs.Prelude.{◌&&◌, if◌then◌else◌, filter, flat_map, bytes_eq}
 use Rattle.std.specs.List.{AllByRecursion, find, list_any}
+use Rattle.rv_list_laws.proofs.FilterLemmas.{each_filter}
+use Rattle.rv_list_laws.proofs.EachLemmas.{each_append}
+use Rattle.rv_list_laws.proofs.TruthLemmas.{and_false}
 use Rattle.rv_statement_laws.specs.declared.directive.Binding.TheVariants as source
 use Rattle.rv_statement_laws.specs.declared.directive.Choice.TheVariants.{Norvc, Norelax}
 use Rattle.rv_statement_laws.specs.declared.mnemonic.Mnemonic.TheVariants as words
@@ -11,7 +14,6 @@ use Rattle.rv_unit_laws.specs.Bindings as source_bindings
 use Rattle.rv_unit_laws.specs.Bindings.{Bindings}
 use Rattle.rv_unit_laws.specs.Tables.{Tables, Labelled, longest_section}
 use Rattle.rv_source_laws.specs.Exports.{defined_name, names_where}
-use Rattle.rv_source_laws.proofs.HomesLemmas.{all_filter, all_join}
 use Rattle.rv_listing_laws.specs.declared.code.Code.{Code}
 use Rattle.rv_raw_laws.specs.Statements.{code_statement, raw_statements}
 use Rattle.rv_object_laws.specs.declared.symbol.Binding.TheVariants.{Local, Global}
@@ -70,20 +72,16 @@ module _ (t : Tables) (laid : List LaidStatement) where
 
   named_local : (s : LaidStatement) → AllByRecursion IsLocal (named_symbols t laid s)
   named_local s =
-      all_filter IsLocal (λ x. not (is_absolute x)) (map (λ name. local_symbol name (statement_definition t laid s s.located.kind)) (names_where (λ b. not (source_bindings.is_shared b)) t s.located))
+      each_filter IsLocal (λ x. not (is_absolute x)) (map (λ name. local_symbol name (statement_definition t laid s s.located.kind)) (names_where (λ b. not (source_bindings.is_shared b)) t s.located))
       (mapped_local (statement_definition t laid s s.located.kind) (names_where (λ b. not (source_bindings.is_shared b)) t s.located))
 
   locals : (before rest : List LaidStatement) → AllByRecursion IsLocal (local_symbols t laid before rest)
   locals before [] = tt
   locals before (s ∷ rest) =
-      all_join IsLocal (unnamed_symbols t (references t laid) before s) (named_symbols t laid s ++ local_symbols t laid (before ++ s ∷ []) rest) (unnamed_local (references t laid) before s)
-      (all_join IsLocal (named_symbols t laid s) (local_symbols t laid (before ++ s ∷ []) rest) (named_local s) (locals (before ++ s ∷ []) rest))
+      each_append IsLocal (unnamed_symbols t (references t laid) before s) (named_symbols t laid s ++ local_symbols t laid (before ++ s ∷ []) rest) (unnamed_local (references t laid) before s)
+      (each_append IsLocal (named_symbols t laid s) (local_symbols t laid (before ++ s ∷ []) rest) (named_local s) (locals (before ++ s ∷ []) rest))
 
 -- ---- what they export
-
-and_false : (b : Bool) → (b && false) ≡ false
-and_false true = refl
-and_false false = refl
 
 module _ (file : ℕ) (o : Object) where
   past_locals : (index : ℕ) (xs ys : List Symbol) → AllByRecursion IsLocal xs → (j : ℕ) × (exports_in is_global file o index (xs ++ ys) ≡ exports_in is_global file o j ys)

@@ -1,6 +1,6 @@
 -- The code of a raw listing is not too long: each statement has eight bytes at most.
 
-use Rattle.std.proofs.Common.{◌≡◌, ℕ, suc, pos, ◌+◌, ◌*◌, ◌≤◌, ◌⊎◌, Bool, true, false, List, [], ◌∷◌, length, append-nil, Option, Some, None, refl, sym, ◌∙◌, ap, subst, arith, inl, inr}
+use Rattle.std.proofs.Common.{◌≡◌, ℕ, pos, ◌+◌, ◌*◌, ◌≤◌, ◌⊎◌, Bool, true, false, List, [], ◌∷◌, length, append-nil, Option, Some, None, refl, sym, ◌∙◌, ap, subst, arith, inl, inr}
 use Rattle.std.specs.Prelude.{⊤, ◌==◌, nat_lt, if◌then◌else◌}
 use Rattle.std.specs.List.{AllByRecursion}
 use Rattle.std.proofs.lemmas.Bool.{le-ltb}
@@ -12,7 +12,7 @@ use Rattle.rv_isa.specs.Operations.{format_of, of_branch}
 use Rattle.rv_text_laws.specs.Codes.{limit}
 use Rattle.rv_text_laws.specs.Expression.{Primary}
 use Rattle.rv_text_laws.specs.Values.{Meaning, Value, value_of}
-use Rattle.rv_statement_laws.specs.Statement.{StatementKind, Statement, Expression}
+use Rattle.rv_statement_laws.specs.Statement.{StatementKind, Expression}
 use Rattle.rv_statement_laws.specs.Limits.{most_statements}
 use Rattle.rv_pseudo_laws.specs.Code.{Part, Closed, Open, Constants, b_type, jal, inverted, branch}
 use Rattle.rv_unit_laws.specs.Bindings.{Bindings, bindings_of}
@@ -21,6 +21,7 @@ use Rattle.rv_unit_laws.specs.Faults.{StatementFault, at_line}
 use Rattle.rv_source_laws.specs.Lines.{parts_by_size}
 use Rattle.rv_source_laws.specs.Located.{Located, located_from, located}
 use Rattle.rv_source_laws.specs.Program.{place_of}
+use Rattle.rv_source_laws.proofs.LocatedLemmas.{count_from}
 use Rattle.rv_listing_laws.specs.declared.code.Code.{Code}
 use Rattle.rv_listing_laws.specs.declared.code.Code.TheVariants.{Word, Parcel}
 use Rattle.rv_listing_laws.specs.Raw.{IsSourced}
@@ -139,10 +140,6 @@ module _ (labels : List Labelled) (b : Bindings) where
       no_limit (before s.section + bytes) s.line (size_fault_from (grown before s.section bytes) ls sizes) here
       ∙ no_size_fault ls sizes (grown before s.section bytes) h ks (omega (arith, grew, le))
 
-located_many : (n : ℕ) (t : Tables) (ss : List Statement) → length (located_from 1 n t ss) ≡ length ss
-located_many n t [] = refl
-located_many n t (s ∷ ss) = ap suc (located_many (suc n) (after t n s.kind) ss)
-
 pub not_too_long : (before after : List Code) → IsShortListing before after → (f : StatementFault) → IsTooLong (listed before after) f → ⊥
 not_too_long before after h f long =
     let ss = listed before after in
@@ -150,7 +147,7 @@ not_too_long before after h f long =
     let (n, is) = table_is before after in
     let whole : located (ss ∷ []) ≡ ls = append-nil ls in
     let sizes : AreCodeSizes (table (entry_label n ∷ []) quiet (bindings_of ss)) ls long.sizes = subst (λ l. AreCodeSizes (table (entry_label n ∷ []) quiet (bindings_of ss)) l long.sizes) whole (subst (λ t. AreCodeSizes t (located (ss ∷ [])) long.sizes) is long.are_sizes) in
-    let many = located_many 1 (at_start ss) ss in
+    let many = count_from 1 (at_start ss) ss in
     let less : length ss ≤ most_statements = few before after h in
     let none = no_size_fault (entry_label n ∷ []) (bindings_of ss) ls long.sizes (λ j. 0) (all_plain before after h.sourced) sizes (omega (arith, many, less)) in
     absurd (let clash : Some f ≡ None = sym long.fault ∙ ap (λ l. size_fault_from (λ j. 0) l long.sizes) whole ∙ none in cc)

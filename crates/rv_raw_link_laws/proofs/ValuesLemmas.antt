@@ -1,28 +1,22 @@
 -- What the expressions of a raw listing are worth to its instructions: numbers, and the address of `.` with a distance.
 
-use Rattle.std.proofs.Common.{◌≡◌, ℕ, suc, ℤ, pos, negsuc, ◌%◌, ◌^◌, ◌<◌, Bool, Some, ◌∙◌, ap, arith, inr}
+use Rattle.std.proofs.Common.{◌≡◌, ℕ, suc, ℤ, pos, negsuc, ◌%◌, ◌^◌, ◌<◌, Bool, ◌∙◌, ap, arith, inr}
 use Rattle.std.specs.Prelude.{◌+ℤ◌, ◌-ℤ◌, FitsSigned}
 use Rattle.std.specs.Int.{w64, int_wrap}
 use Rattle.std.proofs.lemmas.Int.{ints, fits_signed_from_abs, int_wrap_fits}
-use Rattle.rv_isa_laws.specs.Arithmetic.{signed, wrapped}
+use Rattle.rv_isa_laws.specs.Arithmetic.{wrapped}
 use Rattle.rv_text_laws.specs.Expression.{Primary, Here}
-use Rattle.rv_text_laws.specs.Values.{Meaning, Open, Value, Constant, Symbolic, Difference, Faulty, value_of}
+use Rattle.rv_text_laws.specs.Values.{Meaning, Open, Symbolic, value_of}
 use Rattle.rv_pseudo_laws.specs.InstructionFaults.{Number, Address}
-use Rattle.rv_source_laws.specs.Lines.{constant_of}
 use Rattle.rv_raw_laws.specs.Statements.{IsSmall, constant_expression, from_dot}
 use Rattle.rv_raw_laws.specs.Meaning.{KnowsNumbers}
 use Rattle.rv_raw_laws.proofs.ValuesLemmas.{number_constant, distance_value}
 use Rattle.rv_assemble_laws.specs.Coded.{constants}
 use Rattle.rv_assemble_laws.specs.InstructionFaults.{worth, worths}
+use Rattle.rv_assemble_laws.proofs.InstructionFaultsLemmas.{worth_is}
 
 pub known : (m : Primary → Meaning) → KnowsNumbers (constants (value_of m))
 known m z small = number_constant m z small
-
-worth_is : (l : Primary → Bool) (v : Value) (k : ℤ) → constant_of v ≡ Some k → worth l v ≡ Number k
-worth_is l (Constant n) k e = ap Number (let same : signed 64 n ≡ k = cc in same)
-worth_is l (Symbolic symbol at plus) k e = absurd (cc)
-worth_is l (Difference symbol minus plus) k e = absurd (cc)
-worth_is l (Faulty code) k e = absurd (cc)
 
 pub told : (m : Primary → Meaning) (l : Primary → Bool) (z : ℤ) → IsSmall z → worths (value_of m) l (constant_expression z) ≡ Number z
 told m l z small = worth_is l (value_of m (constant_expression z)) z (number_constant m z small)

@@ -5,6 +5,8 @@ use Rattle.std.specs.Prelude.{◌==◌, ◌-◌, filter, not, nat_le, nat_lt, if
 use Rattle.std.specs.List.{AllByRecursion, list_any, slice_get}
 use Rattle.std.proofs.lemmas.Bool.{and_parts, and_from, or_cases, or_left, or_right, eqb-true, eq-eqb}
 use Rattle.std.proofs.lemmas.Option.{slice_get-map}
+use Rattle.rv_list_laws.proofs.FilterLemmas.{each_filter}
+use Rattle.rv_list_laws.proofs.EachLemmas.{each_get}
 use Rattle.rv_isa.specs.declared.kind.Kind.{Kind}
 use Rattle.rv_isa.specs.declared.kind.Kind.TheVariants as kinds
 use Rattle.rv_map_laws.specs.declared.map.SectionId.{SectionId}
@@ -38,7 +40,6 @@ use Rattle.rv_link_laws.proofs.WholeLemmas.{whole_left}
 use Rattle.rv_link_laws.specs.TextStart.{IsTextStart}
 use Rattle.rv_assemble_laws.specs.LaidStatements.{LaidStatement, expression_value, parts, laid_in, end_of, HasSize}
 use Rattle.rv_assemble_laws.specs.IsObjectOf.{Numbering, row_of, relocations_from, IsSectionOf, IsObjectOf}
-use Rattle.rv_source_laws.proofs.HomesLemmas.{all_filter}
 use Rattle.rv_sources_link_laws.specs.Joins.{AreObjectsOf}
 use Rattle.rv_sources_link_laws.proofs.sections.AssembledLemmas as assembled
 use Rattle.rv_sources_link_laws.proofs.sections.FiledLemmas.{offsets_low}
@@ -53,7 +54,7 @@ use Rattle.rv_reach_laws.specs.Reach.{is_short_branch, is_parcel_statement, is_i
 use Rattle.rv_reach_laws.proofs.MovingLemmas.{IsPaddedText, rises}
 use Rattle.rv_reach_laws.proofs.SpansLemmas.{left_input, lefts, IsPlain, address}
 use Rattle.rv_reach_laws.proofs.TargetsLemmas.{defined_at}
-use Rattle.rv_reach_laws.proofs.ShorterLemmas.{all_at, IsLow, lows}
+use Rattle.rv_reach_laws.proofs.ShorterLemmas.{IsLow, lows}
 use Rattle.rv_reach_laws.proofs.ReachedLemmas.{HasFrame, frame_at, all_frames, plains, address_low}
 use Rattle.rv_reach_laws.proofs.FieldingLemmas.{IsFine, IsBranchOf, IsParcelOf, Sort, branches}
 use Rattle.rv_reach_laws.proofs.ParcelsLemmas.{named_at, in_located, in_all, row_found, in_row}
@@ -139,7 +140,7 @@ module _ (ss : List Statement) (o : Object) (is : IsObjectOf ss o) (index : ℕ)
   in_source : (s : SourceSection) → slice_get (opened_of (tables ss)).sections index ≡ Some s → IsSectionOf t is.laid is.number o.symbols index s (laid_in index is.laid) x
       → (n : ℕ) (r : Relocation) → slice_get x.relocations n ≡ Some r → is_short_branch r.kind ≡ true → (file : ℕ)
       → IsNearIn (record { file = file; object = o; index = index; section = x }) r ⊎ ((sources : List (List Statement)) → slice_get sources (file - 1) ≡ Some ss → is_of_parcel sources (record { file = file; object = o; index = index; section = x }) r ≡ true)
-  in_source s at h n r at_r short file = elim (all_at Sorts x.relocations n r all_branches at_r short) [
+  in_source s at h n r at_r short file = elim (each_get Sorts x.relocations n r all_branches at_r short) [
     | inl branch ↦ inl (near_by (it branch))
     | inr parcel ↦ inr (λ sources there. parcelled sources there parcel)
   ]
@@ -185,7 +186,7 @@ module _ (ss : List Statement) (o : Object) (is : IsObjectOf ss o) (index : ℕ)
       )
 
       fine : AllByRecursion (IsFine (tables ss) is.laid is.number o.symbols (laid_in index is.laid)) (laid_in index is.laid)
-      fine = fine_from (laid_in index is.laid) (all_filter IsUncut (λ z. z.located.section == index) is.laid (uncut ss o is)) inside h.sizes
+      fine = fine_from (laid_in index is.laid) (each_filter IsUncut (λ z. z.located.section == index) is.laid (uncut ss o is)) inside h.sizes
 
       rels : x.relocations ≡ relocations_from is.number 0 (parts (tables ss) (laid_in index is.laid))
       rels = h.relocations ∙ ap (λ b. if b then relocations_from is.number 0 (parts (tables ss) (laid_in index is.laid)) else []) loaded
@@ -361,13 +362,13 @@ relaxed_one os whole kept greatest start p begins placed k i there q it short =
     ms = cuts (sizes_by os kept i.file i.index) i.section
 
     input : IsTextInput os i
-    input = all_at (IsTextInput os) (inputs goes_to_text os) k i (whole_inputs os whole) there
+    input = each_get (IsTextInput os) (inputs goes_to_text os) k i (whole_inputs os whole) there
 
     frame : HasFrame os kept i
     frame = frame_at os kept 0 0 (inputs goes_to_text os) (all_frames os whole kept greatest start p begins placed) k i there
 
     plain : IsPlain os kept i
-    plain = all_at (IsPlain os kept) (inputs goes_to_text os) k i (plains os whole kept greatest start p begins placed) there
+    plain = each_get (IsPlain os kept) (inputs goes_to_text os) k i (plains os whole kept greatest start p begins placed) there
 
     kind_is : shortened_kind (sizes_by os kept i.file i.index) q ≡ q.kind
     kind_is = ap (λ b. if b && nat_lt (sizes_by os kept i.file i.index q.place) 8 then (if sizes_by os kept i.file i.index q.place == 2 then kinds.RvcJump else kinds.Jal) else q.kind) (no_call q.kind short)
@@ -409,7 +410,7 @@ short_reach sources os whole nears kept greatest start p begins placed section p
     subst (λ x. IsTaken (shortened kept os) p x now) here
     (subst (λ x. IsTaken (shortened kept os) p (left_input os kept i) x) one
     (relaxed_one os whole kept greatest start p begins placed section i at_i before
-    (all_at (HasNear sources) (inputs goes_to_text os) section i nears at_i place before at_before short) (short_of sources i before short)))
+    (each_get (HasNear sources) (inputs goes_to_text os) section i nears at_i place before at_before short) (short_of sources i before short)))
 
 -- ---- where they are not
 
@@ -429,10 +430,10 @@ whole_one os whole start p placed k i there q it short =
     stands n = p.starts i.file i.index + new_offset (moves (p.starts i.file i.index) i.section) n
 
     input : IsTextInput os i
-    input = all_at (IsTextInput os) (inputs goes_to_text os) k i (whole_inputs os whole) there
+    input = each_get (IsTextInput os) (inputs goes_to_text os) k i (whole_inputs os whole) there
 
     room : IsLow p i
-    room = all_at (IsLow p) (inputs goes_to_text os) k i (lows os start p placed) there
+    room = each_get (IsLow p) (inputs goes_to_text os) k i (lows os start p placed) there
 
     padded : IsPaddedText i.section
     padded = record { text = input.text; low = room.0; paddings = input.paddings }
@@ -467,7 +468,7 @@ same_reach sources os us start p whole nears same placed = subst (λ u. IsLayout
         let one : before ≡ now = cc in
         subst (λ x. IsTaken os p x now) here
         (subst (λ x. IsTaken os p i x) one
-        (whole_one os whole start p placed section i at_i before (all_at (HasNear sources) (inputs goes_to_text os) section i nears at_i place before at_before short) (short_of sources i before short)))
+        (whole_one os whole start p placed section i at_i before (each_get (HasNear sources) (inputs goes_to_text os) section i nears at_i place before at_before short) (short_of sources i before short)))
 
 pub short_branches_reach : ShortBranchesReach
 short_branches_reach sources os drops us start false p whole h same begins placed =

@@ -3,6 +3,7 @@
 use Rattle.std.proofs.Common.{◌≡◌, ℕ, zero, suc, ◌+◌, Bool, true, false, List, [], ◌∷◌, ◌++◌, length, map, refl, sym, ap, ◌∙◌, subst, arith, Option, Some, None, ◌⊎◌, inl, inr, ◌<◌, ◌&&◌}
 use Rattle.std.specs.Prelude.{⊤, ◌==◌, if◌then◌else◌, flat_map, unwrap_or}
 use Rattle.std.specs.List.{AllByRecursion}
+use Rattle.rv_list_laws.proofs.EachLemmas.{each_split, each_append}
 use Rattle.rv_isa.specs.Kinds.{is_low_part}
 use Rattle.rv_isa.specs.declared.instruction.Inst.{Inst}
 use Rattle.rv_isa.specs.declared.kind.Kind.{Kind}
@@ -29,8 +30,6 @@ use Rattle.rv_assemble_laws.specs.LaidStatements.{LaidStatement, LaidPart, expre
 use Rattle.rv_assemble_laws.specs.Symbols.{use_of, references_in}
 use Rattle.rv_assemble_laws.specs.IsObjectOf.{Numbering, relocation_at, relocations_from, IsNumbered, ArePartsNumbered}
 use Rattle.rv_sources_link_laws.proofs.moves.WalkLemmas.{relocations_join}
-use Rattle.rv_sources_link_laws.proofs.sections.SectionsLemmas.{split}
-use Rattle.rv_assemble_laws.proofs.ListsLemmas.{join}
 use Rattle.rv_sources_link_laws.proofs.calls.UncutLemmas.{IsUncut}
 use Rattle.rv_link_laws.specs.Lists.{In}
 use Rattle.rv_reach_laws.specs.Reach.{is_short_branch}
@@ -185,7 +184,7 @@ module _ (t : Tables) (all : List LaidStatement) (number : Numbering) (symbols :
   calm_parts : (o ordinal : ℕ) (ts : List Template) → AllByRecursion IsCalm ts → Goal (relocations_from number o (map (laid_part ordinal) ts))
   calm_parts o ordinal [] h = tt
   calm_parts o ordinal (q ∷ ts) (h, hs) =
-      join (λ r. is_short_branch r.kind ≡ true → Sort r) (map (relocation_at number o) (template_fields ordinal q)) (relocations_from number (o + length (part_bytes (laid_part ordinal q))) (map (laid_part ordinal) ts))
+      each_append (λ r. is_short_branch r.kind ≡ true → Sort r) (map (relocation_at number o) (template_fields ordinal q)) (relocations_from number (o + length (part_bytes (laid_part ordinal q))) (map (laid_part ordinal) ts))
       (calm_fields o (template_fields ordinal q) (template_calm ordinal q h)) (calm_parts (o + length (part_bytes (laid_part ordinal q))) ordinal ts hs)
 
   abbrev AreNumbered : List LaidPart → Type 0
@@ -242,7 +241,7 @@ module _ (t : Tables) (all : List LaidStatement) (number : Numbering) (symbols :
         → Goal (relocations_from number z.offset (map (laid_part z.located.ordinal) (coded_templates (part_fields t v z.located) (p ∷ []) coded)))
     one_part p k i e branching [] h = tt
     one_part p k i e branching (bytes ∷ coded) (h, hs) =
-        join (λ r. is_short_branch r.kind ≡ true → Sort r) (map (relocation_at number z.offset) (part_fields t v z.located p)) []
+        each_append (λ r. is_short_branch r.kind ≡ true → Sort r) (map (relocation_at number z.offset) (part_fields t v z.located p)) []
         (by_field k branching (part_fields t v z.located p) (ap (part_fields t v z.located) e) h) tt
 
     -- of a parcel that the statement names
@@ -256,7 +255,7 @@ module _ (t : Tables) (all : List LaidStatement) (number : Numbering) (symbols :
         one : (coded : List (List ℕ)) → Goal (relocations_from number z.offset (map (laid_part z.located.ordinal) (coded_templates (part_fields t v z.located) (Open_part h.kind h.instruction ∷ []) coded)))
         one [] = tt
         one (bytes ∷ coded) =
-            join (λ r. is_short_branch r.kind ≡ true → Sort r) (map (relocation_at number z.offset) (part_fields t v z.located (Open_part h.kind h.instruction))) []
+            each_append (λ r. is_short_branch r.kind ≡ true → Sort r) (map (relocation_at number z.offset) (part_fields t v z.located (Open_part h.kind h.instruction))) []
             (all_named (ap names_parcel (is_kind ∙ ap (λ n. Instruction n os) h.named)) some (part_fields t v z.located (Open_part h.kind h.instruction))) tt
 
     by_sort : (ps : List CodePart) → Sorted z.located.options.rvc z.bytes m os ps → (IsParcelled m ps → 0 < z.bytes) → (coded : List (List ℕ))
@@ -306,8 +305,8 @@ module _ (t : Tables) (all : List LaidStatement) (number : Numbering) (symbols :
   pub branches : (q : ℕ) (ys : List LaidStatement) → ((z : LaidStatement) → In z ys → In z zs) → Tile t q ys → AllByRecursion IsFine ys → AreNumbered (parts t ys) → Goal (relocations_from number q (parts t ys))
   branches q [] inside tile fine h = tt
   branches q (z ∷ ys) inside (off, bytes, tile) (one, fine) h =
-      let both = split (λ p. AllByRecursion (IsNumbered t all number symbols) (references_in p)) (parts_of t z) (parts t ys) h in
+      let both = each_split (λ p. AllByRecursion (IsNumbered t all number symbols) (references_in p)) (parts_of t z) (parts t ys) h in
       subst (λ l. Goal l) (ap (λ n. relocations_from number q (parts_of t z) ++ relocations_from number (q + n) (parts t ys)) bytes ∙ sym (relocations_join t number q (parts_of t z) (parts t ys)))
-      (join (λ r. is_short_branch r.kind ≡ true → Sort r) (relocations_from number q (parts_of t z)) (relocations_from number (q + z.bytes) (parts t ys))
+      (each_append (λ r. is_short_branch r.kind ≡ true → Sort r) (relocations_from number q (parts_of t z)) (relocations_from number (q + z.bytes) (parts t ys))
       (subst (λ n. Goal (relocations_from number n (parts_of t z))) off (own z (inside z (inl refl)) one z.located.kind refl both.0))
       (branches (q + z.bytes) ys (λ x i. inside x (inr i)) tile fine both.1))

@@ -18,12 +18,14 @@ use Rattle.rv_link_laws.specs.CallSites.{changes, site_of, sites_from, sites_of,
 use Rattle.rv_link_laws.specs.Shortened.{Sizes, sizes_by, short_call, cut, cuts}
 use Rattle.rv_link_laws.proofs.TextInputsLemmas.{IsTextInput}
 use Rattle.rv_link_laws.specs.Lists.{In}
+use Rattle.rv_link_laws.proofs.HeldLemmas.{in_right, in_left}
 use Rattle.rv_cut_laws.specs.Cutting.{are_cuts, AreCuts}
 use Rattle.rv_cut_laws.specs.Walk.{moves_of}
 use Rattle.rv_cut_laws.proofs.ShiftsLemmas.{first_cut, other_cuts}
 use Rattle.rv_cut_laws.proofs.ChangesLemmas.{IsSound, change_inside, site_offset, passed_by, order_behind, changes_match, moves_match}
 use Rattle.rv_cut_laws.proofs.SectionsLemmas.{AreAllPermitted, all_permitted, is_change, may_be_cut, rising_changes, cuts_of_text}
 use Rattle.rv_cut_laws.proofs.LineLemmas.{Later, Stands}
+use Rattle.rv_cut_laws.proofs.ListsLemmas.{map_in}
 
 nothing : 1 ≤ 0 → ⊥
 nothing le = absurd (omega (arith, le))
@@ -174,20 +176,6 @@ pub record AreLeft (os : List Object) (kept : List ℕ) (f x at gone : ℕ) (is 
   pub offered : (i : ℕ) → Offers (site_at (sites_from os at is) i).kind (slice_index ks i)
   pub there : (s : Site) → In s (sites_from os at is) → In s (sites_of os)
 
-in_right : {X : Type 0} (x : X) (xs ys : List X) → In x ys → In x (xs ++ ys)
-in_right x [] ys i = i
-in_right x (y ∷ xs) ys i = inr (in_right x xs ys i)
-
-in_left : {X : Type 0} (x : X) (xs ys : List X) → In x xs → In x (xs ++ ys)
-in_left x [] ys i = elim i [ ]
-in_left x (y ∷ xs) ys (inl e) = inl e
-in_left x (y ∷ xs) ys (inr i) = inr (in_left x xs ys i)
-
-in_mapped : {X Y : Type 0} (f : X → Y) (x : X) (xs : List X) → In x xs → In (f x) (map f xs)
-in_mapped f x [] i = elim i [ ]
-in_mapped f x (y ∷ xs) (inl e) = inl (ap f e)
-in_mapped f x (y ∷ xs) (inr i) = inr (in_mapped f x xs i)
-
 offers_behind : (ss zs : List Site) (ks : List ℕ) → length ss ≤ length ks → ((i : ℕ) → Offers (site_at (ss ++ zs) i).kind (slice_index ks i)) → (i : ℕ) → Offers (site_at zs i).kind (slice_index (drop (length ss) ks) i)
 offers_behind [] zs [] many h i = h i
 offers_behind [] zs (k ∷ ks) many h i = h i
@@ -305,7 +293,7 @@ module _ (os : List Object) (kept : List ℕ) (f x at gone : ℕ) (i : InputSect
         ∙ (let a = dropped taken n in let e : gone + (a + 0) ≡ gone + a = omega arith in e);
     allowed = allowed;
     each = each;
-    there = λ q j. left.there (site_of os i first q) (inr (in_left (site_of os i first q) own zs (in_mapped (site_of os i first) q cs j)));
+    there = λ q j. left.there (site_of os i first q) (inr (in_left (site_of os i first q) own zs (map_in (site_of os i first) q cs j)));
   }
 
   sizes_behind : (n : ℕ) → first + size ≤ n → size_at (start ∷ (own ++ zs)) (k ∷ ks) n ≡ size_at zs (drop (length own) ks) n

@@ -4,23 +4,19 @@ use Rattle.std.proofs.Common.{◌≡◌, ℕ, ◌+◌, ◌-◌, ◌%◌, ◌^◌
 use Rattle.std.specs.Prelude.{filter, if◌then◌else◌}
 use Rattle.std.specs.List.{list_all}
 use Rattle.std.proofs.lemmas.Bool.{and_parts}
+use Rattle.rv_list_laws.proofs.NumbersLemmas.{span_within}
 use Rattle.rv_layout_laws.specs.Alignment.{aligned}
 use Rattle.rv_object_laws.specs.Object.{Relocation, Section, size_of}
 use Rattle.rv_object_laws.specs.Padding.{no_operations}
 use Rattle.rv_object_laws.specs.Valid.{is_padding, are_all_apart, are_paddings}
-use Rattle.rv_link_laws.specs.Moves.{Move, dropped, new_offset, full_padding, has_padding, alignment_of, by_place, alignments_of, plan, moves}
+use Rattle.rv_link_laws.specs.Moves.{dropped, new_offset, full_padding, has_padding, alignment_of, by_place, alignments_of, plan, moves}
 use Rattle.rv_link_laws.specs.Inputs.{goes_to_text}
+use Rattle.rv_link_laws.proofs.MovesLemmas.{none_before}
 use Rattle.rv_cut_laws.specs.Alignments.{are_alignments}
 use Rattle.rv_cut_laws.proofs.AlignmentsLemmas.{next_alignment, other_alignments}
 use Rattle.rv_cut_laws.proofs.ApartLemmas.{of_section}
 use Rattle.rv_cut_laws.proofs.OrderedLemmas.{AreOrdered, ordered}
 use Rattle.rv_unique_link_laws.proofs.EvensLemmas.{section_padded, dropped_even}
-use Rattle.rv_layout_laws.proofs.DroppingLemmas.{span_within}
-
--- further on no less is dropped
-pub more_dropped : (a b : ℕ) (ms : List Move) → a ≤ b → dropped ms a ≤ dropped ms b
-more_dropped a b [] le = omega arith
-more_dropped a b (m ∷ ms) le = let later = more_dropped a b ms le in omega (arith, le, later)
 
 -- ---- and no more than lies between
 
@@ -48,10 +44,6 @@ alignments_stand s it =
 
 pub slow : (start a b : ℕ) (s : Section) → IsPaddedText s → a ≤ b → dropped (moves start s) b ≤ dropped (moves start s) a + (b - a)
 slow start a b s it le = let all = slow_from start 0 0 a b (alignments_of s) (alignments_stand s it) le in omega (arith, all)
-
-none_before : (ms : List Move) → dropped ms 0 ≡ 0
-none_before [] = refl
-none_before (m ∷ ms) = let rest = none_before ms in omega (arith, rest)
 
 pub within : (start a : ℕ) (s : Section) → IsPaddedText s → dropped (moves start s) a ≤ a
 within start a s it =

@@ -18,6 +18,7 @@ use Rattle.rv_link_laws.specs.Untaken.{IsTaken}
 use Rattle.rv_link_laws.specs.Layout.{Layout, outer_in}
 use Rattle.rv_cut_laws.specs.Cutting.{are_cuts}
 use Rattle.rv_cut_laws.proofs.ShiftsLemmas as cut
+use Rattle.rv_cut_laws.proofs.ShiftsLemmas.{more_dropped}
 use Rattle.rv_reach_laws.specs.Reach.{is_short_branch}
 use Rattle.rv_reach_laws.proofs.MovingLemmas as padding
 use Rattle.rv_reach_laws.proofs.MovingLemmas.{IsPaddedText}
@@ -63,9 +64,9 @@ module _ (size : ℕ) (ms : List Move) (order : are_cuts 0 size ms ≡ true) (s 
       let up = cut.rising 0 size a b ms order le in
       let low_a = cut.within 0 size a ms order in
       let low_b = cut.within 0 size b ms order in
-      let more = padding.more_dropped a b ms le in
+      let more = more_dropped a b ms le in
       let up' = padding.rises start (new_offset ms a) (new_offset ms b) s padded up in
-      let more' = padding.more_dropped (new_offset ms a) (new_offset ms b) (moves start s) up in
+      let more' = more_dropped (new_offset ms a) (new_offset ms b) (moves start s) up in
       let pad_a = padding.within start (new_offset ms a) s padded in
       let pad_b = padding.within start (new_offset ms b) s padded in
       (up', omega (arith, low_a, low_b, more, more', pad_a, pad_b, up))

@@ -6,6 +6,7 @@ use Rattle.std.specs.Int.{w64, int_wrap}
 use Rattle.std.specs.List.{AllByRecursion, find, slice_get}
 use Rattle.std.proofs.lemmas.Bool.{eqb-true, eq-eqb}
 use Rattle.std.proofs.lemmas.List.Sums.{sum_by-cons}
+use Rattle.rv_list_laws.proofs.NumbersLemmas.{not_equal}
 use Rattle.rv_isa.specs.declared.kind.Kind.{Kind}
 use Rattle.rv_isa.specs.declared.kind.Kind.TheVariants as kinds
 use Rattle.rv_text_laws.specs.Expression.{Primary}
@@ -17,8 +18,8 @@ use Rattle.rv_layout_laws.specs.declared.item.Item.{Item}
 use Rattle.rv_layout_laws.specs.Offsets.{Reaches, offset, distance}
 use Rattle.rv_layout_laws.specs.Branches.{Offers, largest, half, item_at, of_section, ReachesBy, IsGood}
 use Rattle.rv_unit_laws.specs.Sections.{Section as SourceSection}
-use Rattle.rv_unit_laws.specs.Tables.{Tables, Definition, tables, at_start, after, definition, gives_way, sure_definition, opened_of, longest_section}
-use Rattle.rv_source_laws.specs.Located.{Located, located_now, located_from}
+use Rattle.rv_unit_laws.specs.Tables.{Tables, Definition, tables, at_start, definition, gives_way, sure_definition, opened_of, longest_section}
+use Rattle.rv_source_laws.specs.Located.{Located}
 use Rattle.rv_source_laws.specs.Sizes.{Near, near_forms, near_at, near_value, near_target, branch_item, item_by, item_by_kind, items_of}
 use Rattle.rv_object_laws.specs.declared.symbol.Definition.TheVariants as definitions
 use Rattle.rv_object_laws.specs.Object.{Relocation, Symbol, Object}
@@ -29,6 +30,7 @@ use Rattle.rv_assemble_laws.specs.IsObjectOf.{IsObjectOf}
 use Rattle.rv_sources_link_laws.proofs.moves.MovedLemmas.{AddsInData, adds}
 use Rattle.rv_sources_link_laws.proofs.statements.SettledLemmas.{IsSettled}
 use Rattle.rv_link_laws.specs.Lists.{In}
+use Rattle.rv_assemble_laws.proofs.OrdinalsLemmas.{ordinal_by}
 use Rattle.rv_reach_laws.proofs.BranchingLemmas.{IsBranchForm, HasForms}
 use Rattle.rv_reach_laws.proofs.FieldingLemmas.{IsBranchOf}
 
@@ -54,17 +56,6 @@ in_whole j x (y ∷ ys) i = by (y.located.section == j) refl i (λ k. in_whole j
     by true e (inl same) more = (inl same, ap (λ (s : LaidStatement). s.located.section) (sym same) ∙ eqb-true y.located.section j e)
     by true e (inr i) more = let k = more i in (inr k.0, k.1)
     by false e i more = let k = more i in (inr k.0, k.1)
-
-ordinals : (k : ℕ) (t : Tables) (ss : List Statement) (laid : List LaidStatement) → map (λ s. s.located) laid ≡ located_from 1 k t ss → (i : ℕ) (z : LaidStatement) → slice_get laid i ≡ Some z → z.located.ordinal ≡ k + i
-ordinals k t ss [] e i z there = absurd (cc)
-ordinals k t [] (s ∷ laid) e i z there = absurd (cc)
-ordinals k t (x ∷ ss) (s ∷ laid) e zero z there =
-    let now : s.located ≡ located_now 1 k t x = cc in
-    let same : s ≡ z = cc in
-    ap (λ (y : LaidStatement). y.located.ordinal) (sym same) ∙ ap (λ l. l.ordinal) now ∙ (let f : k ≡ k + 0 = omega arith in f)
-ordinals k t (x ∷ ss) (s ∷ laid) e (suc i) z there =
-    ordinals (suc k) (after t k x.kind) ss laid (let rest : map (λ s. s.located) laid ≡ located_from 1 (suc k) (after t k x.kind) ss = cc in rest) i z there
-    ∙ (let f : suc k + i ≡ k + suc i = omega arith in f)
 
 -- the statement of an ordinal
 found_laid : (n : ℕ) (laid : List LaidStatement) (l : Located) → find (λ (s : Located). s.ordinal == n) (map (λ (s : LaidStatement). s.located) laid) ≡ Some l
@@ -232,35 +223,28 @@ record IsReaching (s : Located) (kind : Kind) (bytes : ℕ) (item : Item) (near 
 two_of : (bytes : ℕ) → (bytes == 2) ≡ true → bytes ≡ 2
 two_of bytes e = eqb-true bytes 2 e
 
-not_eqb : (a b : ℕ) → (a == b) ≡ false → a ≡ b → ⊥
-not_eqb a b e f = never (a == b) e (eq-eqb a b f)
-  where
-    never : (b : Bool) → b ≡ false → b ≡ true → ⊥
-    never true f g = absurd (cc)
-    never false f g = absurd (cc)
-
 bottom : {A : Type 0} → ⊥ → A
 bottom h = absurd h
 
 reaching_branch : (s : Located) (bytes : ℕ) (forms : Forms) (near : Option Near) → (bytes == 2) ≡ false → (bytes == 8) ≡ false → IsBranchForm forms → Offers (branch_item s forms near).forms bytes
     → IsReaching s kinds.Branch bytes (branch_item s forms near) near
 reaching_branch s bytes forms None a b (inl f) offers =
-    bottom (not_eqb bytes 8 b (subst (λ g. Offers (branch_item s g None).forms bytes) f offers))
+    bottom (not_equal bytes 8 b (subst (λ g. Offers (branch_item s g None).forms bytes) f offers))
 reaching_branch s bytes forms None a b (inr f) offers =
-    bottom (not_eqb bytes 8 b (subst (λ g. Offers (branch_item s g None).forms bytes) f offers))
+    bottom (not_equal bytes 8 b (subst (λ g. Offers (branch_item s g None).forms bytes) f offers))
 reaching_branch s bytes forms (Some n) a b (inl f) offers =
     subst (λ g. Offers g bytes → IsReaching s kinds.Branch bytes (branch_item s g (Some n)) (Some n)) (sym f) by offers
   where
     by : Offers CompressedBranch bytes → IsReaching s kinds.Branch bytes (branch_item s CompressedBranch (Some n)) (Some n)
-    by (inl two) = bottom (not_eqb bytes 2 a two)
+    by (inl two) = bottom (not_equal bytes 2 a two)
     by (inr (inl four)) = record { n = n; near_is = refl; section = refl; target = refl; addend = refl; less = omega (arith, four); half_is = ap (λ c. if c then 2 ^ 8 else 2 ^ 12) a }
-    by (inr (inr eight)) = bottom (not_eqb bytes 8 b eight)
+    by (inr (inr eight)) = bottom (not_equal bytes 8 b eight)
 reaching_branch s bytes forms (Some n) a b (inr f) offers =
     subst (λ g. Offers g bytes → IsReaching s kinds.Branch bytes (branch_item s g (Some n)) (Some n)) (sym f) by offers
   where
     by : Offers FullBranch bytes → IsReaching s kinds.Branch bytes (branch_item s FullBranch (Some n)) (Some n)
     by (inl four) = record { n = n; near_is = refl; section = refl; target = refl; addend = refl; less = omega (arith, four); half_is = refl }
-    by (inr eight) = bottom (not_eqb bytes 8 b eight)
+    by (inr eight) = bottom (not_equal bytes 8 b eight)
 
 reaching_short : (s : Located) (bytes : ℕ) (forms : Forms) (near : Option Near) → (bytes == 2) ≡ true → IsBranchForm forms → Offers (branch_item s forms near).forms bytes
     → IsReaching s kinds.RvcBranch bytes (branch_item s forms near) near
@@ -386,7 +370,7 @@ module _ (ss : List Statement) (o : Object) (is : IsObjectOf ss o) (j : ℕ) (se
       index_is =
           let a = target.ordinal in
           let b1 = found.4 in
-          let c = ordinals 1 (at_start ss) ss is.laid is.located found.3.0 found.0 found.3.1 in
+          let c = ordinal_by 1 (at_start ss) ss is.laid is.located found.3.0 found.0 found.3.1 in
           omega (arith, a, b1, c)
 
       from_is : b.z.offset ≡ 0 + offset (of_section j (items t all is.laid) (map (λ (z : LaidStatement). z.bytes) is.laid)) place.0

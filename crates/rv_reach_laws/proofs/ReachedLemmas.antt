@@ -7,6 +7,7 @@ use Rattle.std.specs.Int.{w64, int_wrap, cast_signed}
 use Rattle.std.proofs.lemmas.Int.{ints, int_wrap_fits, int_wrap-add_right, int_wrap-add_same}
 use Rattle.std.proofs.lemmas.Bool.{or_right, cases_lt}
 use Rattle.std.proofs.lemmas.Option.{slice_get-map}
+use Rattle.rv_list_laws.proofs.EachLemmas.{each_get}
 use Rattle.rv_layout_laws.specs.Sites.{size_at}
 use Rattle.rv_isa.specs.declared.kind.Kind.{Kind}
 use Rattle.rv_isa.specs.declared.kind.Kind.TheVariants as kinds
@@ -48,7 +49,7 @@ use Rattle.rv_reach_laws.proofs.MovingLemmas.{rises, ended, within as within_pad
 use Rattle.rv_reach_laws.proofs.LinesLemmas.{IsFramed, Frames, frames, all_dropped}
 use Rattle.rv_reach_laws.proofs.SpansLemmas.{left_section, left_input, lefts, IsPlain, address, in_order, stays_even, nearer_ahead, nearer_behind}
 use Rattle.rv_reach_laws.proofs.TargetsLemmas.{IsAt, IsInText, in_text, place_at, stands, target_stands}
-use Rattle.rv_reach_laws.proofs.ShorterLemmas.{sounds, IsEvenCode, evens, ordered_all, index_of, in_at, all_at, kept_here, IsLow, lows}
+use Rattle.rv_reach_laws.proofs.ShorterLemmas.{sounds, IsEvenCode, evens, ordered_all, index_of, in_at, kept_here, IsLow, lows}
 
 -- ---- values that reach are in range
 
@@ -250,8 +251,8 @@ module _ (os : List Object) (whole : AllByRecursion IsWhole os) (kept : List ℕ
   -- each place has an address of 64 bits
   pub address_low : (k : ℕ) (i : InputSection) → slice_get is k ≡ Some i → (n : ℕ) → n ≤ size_of i.section.contents → address os kept start starts i n < 2 ^ 64
   address_low k i there n low =
-      let room = all_at IsLeftLow is k i all_lows there in
-      let plain = all_at (IsPlain os kept) is k i plains there in
+      let room = each_get IsLeftLow is k i all_lows there in
+      let plain = each_get (IsPlain os kept) is k i plains there in
       let frame = frame_at os kept 0 0 is all_frames k i there in
       let up = cut.rising 0 (size_of i.section.contents) n (size_of i.section.contents) (cuts (its i) i.section) frame.frame.allowed.order low in
       let goes : ℕ → ℕ = λ m. starts i.file i.index + new_offset (moves (starts i.file i.index) (left_section os kept i)) m in
@@ -275,7 +276,7 @@ module _ (os : List Object) (whole : AllByRecursion IsWhole os) (kept : List ℕ
       size = size_of i.section.contents
 
       plain : IsPlain os kept i
-      plain = all_at (IsPlain os kept) is k i plains there
+      plain = each_get (IsPlain os kept) is k i plains there
 
       order_is : are_cuts 0 size ms ≡ true
       order_is = (frame_at os kept 0 0 is all_frames k i there).frame.allowed.order
@@ -302,7 +303,7 @@ module _ (os : List Object) (whole : AllByRecursion IsWhole os) (kept : List ℕ
 
   module _ (k : ℕ) (i : InputSection) (there : slice_get is k ≡ Some i) (n : ℕ) (q : Relocation) (at_q : slice_get i.section.relocations n ≡ Some q) (short : is_shortened (its i) q ≡ true) where
     input : IsTextInput os i
-    input = all_at (IsTextInput os) is k i inputs_are there
+    input = each_get (IsTextInput os) is k i inputs_are there
 
     frame : HasFrame os kept i
     frame = frame_at os kept 0 0 is all_frames k i there

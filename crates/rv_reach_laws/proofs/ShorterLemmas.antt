@@ -120,11 +120,6 @@ in_at [] k x e = absurd (cc)
 in_at (y ∷ ys) zero x e = inl (let same : y ≡ x = cc in same)
 in_at (y ∷ ys) (suc k) x e = inr (in_at ys k x e)
 
-pub all_at : {X : Type 0} (P : X → Type 0) (xs : List X) (k : ℕ) (x : X) → AllByRecursion P xs → slice_get xs k ≡ Some x → P x
-all_at P [] k x h e = absurd (cc)
-all_at P (y ∷ ys) zero x (one, h) e = let same : y ≡ x = cc in subst P same one
-all_at P (y ∷ ys) (suc k) x (one, h) e = all_at P ys k x h e
-
 -- a family keeps of a call what is found at its offset
 pub kept_here : (from : ℕ) (ss : List Site) (ks : List ℕ) → InOrder from ss → length ks ≡ length ss → (k : ℕ) → k < length ss → is_call_site (site_at ss k).kind ≡ true
     → size_at ss ks (site_at ss k).offset ≡ slice_index ks k

@@ -1,7 +1,7 @@
 -- Where the places of a text stand once it is placed: as far apart as the sizes of its calls have them, but for what its
 -- paddings drop, which is more the further on a place is.
 
-use Rattle.std.proofs.Common.{◌≡◌, ℕ, zero, suc, ◌+◌, ◌-◌, ◌*◌, ◌/◌, ◌%◌, ◌<◌, ◌≤◌, ◌⊎◌, inl, inr, Bool, true, false, ◌&&◌, nat_lt, nat_le, max, List, [], ◌∷◌, ◌++◌, map, Some, pos, ◌-ℤ◌, refl, sym, ap, subst, ◌∙◌, arith}
+use Rattle.std.proofs.Common.{◌≡◌, ℕ, zero, suc, ◌+◌, ◌-◌, ◌*◌, ◌/◌, ◌%◌, ◌<◌, ◌≤◌, ◌⊎◌, inl, inr, Bool, true, false, ◌&&◌, nat_lt, max, List, [], ◌∷◌, ◌++◌, map, Some, pos, ◌-ℤ◌, refl, sym, ap, subst, ◌∙◌, arith}
 use Rattle.std.specs.Prelude.{◌==◌, filter, if◌then◌else◌}
 use Rattle.std.specs.List.{AllByRecursion, slice_get}
 use Rattle.std.proofs.lemmas.Int.{ints}
@@ -12,16 +12,20 @@ use Rattle.rv_layout_laws.specs.Calls as layout
 use Rattle.rv_layout_laws.specs.Calls.{InOrder}
 use Rattle.rv_layout_laws.proofs.ReachingLemmas.{Nearer, Ahead, Behind}
 use Rattle.rv_layout_laws.proofs.DroppingLemmas.{dropped_most}
+use Rattle.rv_layout_laws.proofs.AlignmentLemmas.{aligned_even}
 use Rattle.rv_object_laws.specs.Object.{Relocation, Section, Object, size_of}
 use Rattle.rv_object_laws.specs.Valid.{is_align}
-use Rattle.rv_link_laws.specs.Moves.{Move, dropped, new_offset, full_padding, has_padding, alignment_of, inserted, by_place, alignments_of, moves}
+use Rattle.rv_link_laws.specs.Moves.{Move, dropped, new_offset, full_padding, has_padding, alignment_of, by_place, alignments_of, moves}
 use Rattle.rv_link_laws.specs.Inputs.{Starts, InputSection, goes_to_text, inputs_from, inputs_of, raised, begins_at, start_of, size, Stand}
 use Rattle.rv_link_laws.specs.CallSites.{is_call, start_padding, base, sites_of}
 use Rattle.rv_link_laws.specs.Shortened.{Sizes, sizes_by, is_shortened, cuts, shortened_kind, shortened_relocation, shortened_text, shortened_section, shortened_sections, shortened_object, shortened_from}
 use Rattle.rv_link_laws.proofs.ListsLemmas.{above}
+use Rattle.rv_link_laws.proofs.MovesLemmas.{raised_inserted}
+use Rattle.rv_link_laws.proofs.InputsLemmas.{raised_most}
 use Rattle.rv_cut_laws.proofs.CallKindsLemmas.{call_no_align}
 use Rattle.rv_cut_laws.proofs.ShiftsLemmas as cut
-use Rattle.rv_unique_link_laws.proofs.MultiplesLemmas.{aligned_even, aligned_near}
+use Rattle.rv_cut_laws.proofs.ShiftsLemmas.{more_dropped}
+use Rattle.rv_unique_link_laws.proofs.MultiplesLemmas.{aligned_near}
 use Rattle.rv_reach_laws.proofs.MovingLemmas as padding
 use Rattle.rv_reach_laws.proofs.MovingLemmas.{IsPaddedText}
 use Rattle.rv_reach_laws.proofs.LinesLemmas.{IsFramed, Frames}
@@ -85,19 +89,6 @@ module _ (os : List Object) (kept : List ℕ) where
 
 -- ---- it begins at the same multiple
 
-raised_inserted : (r : Relocation) (qs : List Relocation) (a : ℕ) → raised (inserted r qs) a ≡ max (alignment_of r) (raised qs a)
-raised_inserted r [] a = refl
-raised_inserted r (q ∷ qs) a = by (nat_le (r.place + full_padding r) q.place) (raised_inserted r qs a)
-  where
-    by : (b : Bool) → raised (inserted r qs) a ≡ max (alignment_of r) (raised qs a)
-        → raised (if b then r ∷ q ∷ qs else q ∷ inserted r qs) a ≡ max (alignment_of r) (max (alignment_of q) (raised qs a))
-    by true ih = refl
-    by false ih =
-        let x = alignment_of r in
-        let y = alignment_of q in
-        let z = raised qs a in
-        ap (λ n. max y n) ih ∙ (let e : max y (max x z) ≡ max x (max y z) = omega arith in e)
-
 raised_ordered : (rs : List Relocation) (a : ℕ) → raised (by_place rs) a ≡ raised rs a
 raised_ordered [] a = refl
 raised_ordered (r ∷ rs) a = raised_inserted r (by_place rs) a ∙ ap (λ n. max (alignment_of r) n) (raised_ordered rs a)
@@ -136,10 +127,6 @@ begins_same sizes s text =
     ∙ raised_left sizes (cuts sizes s) s.relocations a
     ∙ sym (raised_ordered (filter has_padding s.relocations) a)
     ∙ ap (λ b. raised (if b then by_place (filter has_padding s.relocations) else []) a) (sym text)
-
-raised_most : (rs : List Relocation) (a : ℕ) → a ≤ raised rs a
-raised_most [] a = omega arith
-raised_most (r ∷ rs) a = let rest = raised_most rs a in omega (arith, rest)
 
 pub begins_some : (s : Section) → goes_to_text s ≡ true → 2 ≤ begins_at s
 begins_some s text =
@@ -304,7 +291,7 @@ module _ (os : List Object) (kept : List ℕ) (start : ℕ) (starts : Starts) wh
 
     excess_up : (n m : ℕ) → n ≤ m → excess n ≤ excess m
     excess_up n m le =
-        let up = padding.more_dropped (new_offset (taken i) n) (new_offset (taken i) m) (moves s0 (left_section os kept i)) (cut.rising 0 (size_of i.section.contents) n m (taken i) frame.allowed.order le) in
+        let up = more_dropped (new_offset (taken i) n) (new_offset (taken i) m) (moves s0 (left_section os kept i)) (cut.rising 0 (size_of i.section.contents) n m (taken i) frame.allowed.order le) in
         omega (arith, up)
 
     in_line : (n m : ℕ) → n ≤ size_of i.section.contents → m ≤ size_of i.section.contents → n ≤ m → AreInLine i n i m

@@ -1,20 +1,18 @@
 -- The branches of a raw listing have four bytes, and so have the jumps that keep no return address.
 
-use Rattle.std.proofs.Common.{inr, ◌≡◌, ℕ, zero, suc, ◌+◌, ◌<◌, ◌≤◌, ℤ, pos, negsuc, Bool, true, false, List, [], ◌∷◌, length, Some, None, refl, sym, ◌∙◌, ap, subst, arith}
-use Rattle.std.specs.Prelude.{⊤, ◌==◌, ◌≤ℤ◌, ◌<ℤ◌, if◌then◌else◌, slice_index}
+use Rattle.std.proofs.Common.{inr, ◌≡◌, ℕ, zero, suc, ◌+◌, ◌<◌, ◌≤◌, ℤ, pos, Bool, true, false, List, [], ◌∷◌, length, Some, None, refl, sym, ◌∙◌, ap, subst, arith}
+use Rattle.std.specs.Prelude.{⊤, ◌==◌, if◌then◌else◌, slice_index}
 use Rattle.std.specs.Int.{w64, int_wrap}
 use Rattle.std.specs.List.{AllByRecursion, find}
 use Rattle.std.proofs.lemmas.Bool.{eq-eqb, ne_eqb}
-use Rattle.std.proofs.lemmas.Int.{ints}
 use Rattle.rv_isa.specs.declared.instruction.Format.{Format}
 use Rattle.rv_isa.specs.declared.instruction.Format.TheVariants.{Branch, Jal, Fence}
 use Rattle.rv_isa.specs.Operations.{format_of}
-use Rattle.rv_isa.specs.Ranges.{IsBranchOffset, IsValidFormat}
+use Rattle.rv_isa.specs.Ranges.{IsValidFormat}
 use Rattle.rv_isa_laws.specs.Arithmetic.{wrapped}
 use Rattle.rv_layout_laws.specs.declared.item.Forms.TheVariants.{Settled, Branch as FullBranch}
 use Rattle.rv_layout_laws.specs.declared.item.Item.{Item}
 use Rattle.rv_layout_laws.specs.Branches.{smallest, item_at, IsLeastGood}
-use Rattle.rv_layout_laws.specs.Offsets.{IsImmediate}
 use Rattle.rv_text_laws.specs.Expression.{Here}
 use Rattle.rv_text_laws.specs.Values.{Value, Open, Symbolic}
 use Rattle.rv_map_laws.specs.declared.map.Row.{Row}
@@ -24,6 +22,7 @@ use Rattle.rv_unit_laws.specs.Bindings.{Bindings}
 use Rattle.rv_unit_laws.specs.Options.{first_options}
 use Rattle.rv_unit_laws.specs.Sections.{text_section}
 use Rattle.rv_unit_laws.specs.Tables.{Labelled, meaning, value_by_tables}
+use Rattle.rv_unit_laws.proofs.OffsetsLemmas.{immediate}
 use Rattle.rv_listing_laws.specs.Instruction.{is_tso}
 use Rattle.rv_listing_laws.specs.declared.code.Code.TheVariants.{Word, Parcel}
 use Rattle.rv_source_laws.specs.Located.{Located}
@@ -37,15 +36,6 @@ use Rattle.rv_raw_laws.proofs.SizesLemmas.{sizes_are}
 use Rattle.rv_reassembly_laws.proofs.CodesLemmas.{IsFull, branch_small}
 use Rattle.rv_reassembly_laws.proofs.PlacesLemmas.{no_rvc, no_relax, global_start, raw_options, raw_tables, place, places, head, whole, heads, seats}
 use Rattle.rv_reassembly_laws.proofs.StepsLemmas.{Step, A_code, The_entry, kind_of, kinds_of, IsSpoken, IsFullStep}
-
--- ---- a branch's range
-
-immediate : (z : ℤ) → IsBranchOffset z → IsImmediate 4096 z
-immediate z h = record { even = h.2; low = h.0; high = above z h.1 }
-  where
-    above : (y : ℤ) → y ≤ℤ pos 4094 → y <ℤ pos 4096
-    above (pos n) at = omega (arith, ints, at)
-    above (negsuc n) at = omega (arith, ints, at)
 
 -- ---- items
 

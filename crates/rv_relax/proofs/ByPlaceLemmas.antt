@@ -3,7 +3,7 @@
 use Rattle.std.proofs.Common.{◌≡◌, ℕ, ◌+◌, ◌<◌, inl, inr, Bool, true, false, cond, ◌&&◌, ◌||◌, nat_le, nat_lt, List, [], ◌∷◌, map, refl, sym, ap, ◌∙◌, arith}
 use Rattle.std.specs.List.{list_all, filter}
 use Rattle.std.proofs.lemmas.Bool.{cases_Bool, leb-true, ltb-true, le-leb, and_parts, and_from}
-use Rattle.std.proofs.lemmas.Bool.Decides.{nat_tests}
+use Rattle.rv_list_laws.proofs.NumbersLemmas.{le_false}
 use Rattle.rv_object_types.specs.declared.relocation.Relocation.{Relocation as DeclaredRelocation}
 use Rattle.rv_object_laws.specs.Object.{Relocation}
 use Rattle.rv_object_types.specs.Parts.{relocation_of}
@@ -17,9 +17,6 @@ place_of r = r.place
 
 -- ---- two of them
 
-pub not_up_to : (m n : ℕ) → n < m → nat_le m n ≡ false
-not_up_to m n h = grind (arith, nat_tests)
-
 -- of two places with bytes behind them that do not meet, one stands first by its end where it does by its start
 first_alike : (r f q g : ℕ) → (nat_le (r + f) q || nat_le (q + g) r) ≡ true → 0 < g → nat_le r q ≡ nat_le (r + f) q
 first_alike r f q g h some =
@@ -27,7 +24,7 @@ first_alike r f q g h some =
       | inl e ↦ let before = leb-true (r + f) q e in le-leb r q (omega (arith, before)) ∙ sym e
       | inr e ↦
           let behind = leb-true (q + g) r (sym (ap (λ b. b || nat_le (q + g) r) e) ∙ h) in
-          not_up_to r q (omega (arith, behind, some)) ∙ sym e
+          le_false r q (omega (arith, behind, some)) ∙ sym e
     ]
 
 -- the second has bytes, and they do not meet

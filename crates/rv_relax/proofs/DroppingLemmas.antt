@@ -1,15 +1,16 @@
 -- What sites drop, as a list of numbers: its sums, and what is dropped before an offset.
 
-use Rattle.std.proofs.Common.{◌≡◌, inl, inr, ⊎_elim, ℕ, zero, suc, ◌+◌, ◌-◌, ◌*◌, ◌≤◌, ◌<◌, min, false, IsTrue, List, [], ◌∷◌, length, set, take, drop, slice_index, slice_index_or, sum, pos, refl, ap, sym, ◌∙◌, arith}
+use Rattle.std.proofs.Common.{◌≡◌, inl, inr, ⊎_elim, ℕ, zero, suc, ◌+◌, ◌-◌, ◌*◌, ◌≤◌, ◌<◌, min, false, IsTrue, List, [], ◌∷◌, length, set, take, drop, slice_index, slice_index_or, sum, pos, refl, ap, arith}
 use Rattle.std.proofs.lemmas.Bool.{cases_lt}
-use Rattle.std.proofs.lemmas.List.{get_or_past, take-append-drop, drop_more, drop_all}
-use Rattle.std.proofs.lemmas.List.Sums.{sum_by-append, sum_by-cons}
+use Rattle.std.proofs.lemmas.List.{get_or_past, drop_all}
+use Rattle.std.proofs.lemmas.List.Sums.{sum_by-cons}
 use Rattle.rv_layout_laws.specs.declared.site.Site.{Site}
 use Rattle.rv_layout_laws.specs.declared.site.SiteKind.{SiteKind}
 use Rattle.rv_layout_laws.specs.declared.site.SiteKind.TheVariants.{Call, Padding}
 use Rattle.rv_layout_laws.specs.Offsets.{offset, rest}
 use Rattle.rv_layout_laws.specs.Calls.{bytes_of, Offers, is_call, site_at, dropped_of, dropped, whole_sizes, IsFamily, InOrder, IsOutside}
 use Rattle.rv_layout_laws.proofs.ShorteningLemmas.{IsOpen, before_all}
+use Rattle.rv_layout_laws.proofs.OffsetsLemmas.{whole as parts}
 use Rattle.rv_cut_laws.specs.Walk.{site_end}
 use Rattle.rv_relax.specs.Passes.{IsPlace, drops}
 
@@ -48,19 +49,6 @@ drop_at (site ∷ sites) (k ∷ kept) zero lt same = refl
 drop_at (site ∷ sites) (k ∷ kept) (suc i) lt same = drop_at sites kept i (omega arith) (omega arith)
 
 -- ---- sums
-
-pub rest_more : (numbers : List ℕ) (i : ℕ) → rest numbers i ≡ slice_index numbers i + rest numbers (i + 1)
-rest_more numbers i = elim (cases_lt i (length numbers)) [
-  | inl within ↦ ap sum (drop_more numbers i 0 within) ∙ sum_by-cons (λ x. x) (slice_index numbers i) (drop (i + 1) numbers)
-  | inr past ↦
-      let here : rest numbers i ≡ 0 = ap sum (drop_all i numbers past) in
-      let next : rest numbers (i + 1) ≡ 0 = ap sum (drop_all (i + 1) numbers (omega arith)) in
-      let none : slice_index numbers i ≡ 0 = get_or_past numbers i 0 past in
-      omega arith
-]
-
-pub parts : (numbers : List ℕ) (i : ℕ) → offset numbers i + rest numbers i ≡ sum numbers
-parts numbers i = sym (sum_by-append (λ x. x) (take i numbers) (drop i numbers)) ∙ ap sum (take-append-drop i numbers)
 
 -- of a call at least two bytes of eight are kept, of a padding all
 own_low : (kind : SiteKind) (k : ℕ) → Offers kind k → 4 * (bytes_of kind - k) ≤ 3 * bytes_of kind

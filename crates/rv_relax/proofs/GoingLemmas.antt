@@ -1,7 +1,6 @@
 -- What a pass has done so far, and what rounds have done in all.
 
-use Rattle.std.proofs.Common.{◌≡◌, ◌⊎◌, inl, inr, ℕ, suc, ◌+◌, ◌-◌, ◌≤◌, ◌<◌, Bool, true, false, List, set, refl, subst, sym, arith}
-use Rattle.std.proofs.lemmas.Bool.{cases_lt}
+use Rattle.std.proofs.Common.{◌≡◌, ◌⊎◌, inl, inr, ℕ, suc, ◌+◌, ◌≤◌, ◌<◌, Bool, true, false, List, set, refl, subst, sym, arith}
 use Rattle.rv_layout_laws.specs.declared.site.Site.{Site}
 use Rattle.rv_layout_laws.specs.Calls.{IsClosed, IsGreatestClosed, IsText, Shortenings, Unchanged, Shortens, Rounds, Begins, Shortens_some, whole_sizes}
 use Rattle.rv_layout_laws.proofs.ShorteningLemmas.{shortenings_joined, shortened_greatest}
@@ -38,12 +37,6 @@ goes_kept sites old now new n i low high low' high' false goes visit e either =
       );
     } in
     subst (λ sizes. Goes sites old sizes n low' high') (sym visit.0) kept
-
-pub step_up : (i j : ℕ) → 0 ≤ j → j < i + 1 → ((0 ≤ j) × (j < i)) ⊎ (j ≡ i)
-step_up i j a b = elim (cases_lt j i) [ inl before ↦ inl (a, before) | inr after ↦ inr (omega arith) ]
-
-pub step_down : (i high j : ℕ) → 0 < i → i - 1 ≤ j → j < high → ((i ≤ j) × (j < high)) ⊎ (j ≡ i - 1)
-step_down i high j some a b = elim (cases_lt j i) [ inl before ↦ inr (omega arith) | inr after ↦ inl (after, b) ]
 
 -- ---- rounds
 

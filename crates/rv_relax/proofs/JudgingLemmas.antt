@@ -1,13 +1,12 @@
 -- What a call's size becomes at a distance, and what that says of the family.
 
-use Rattle.std.proofs.Common.{◌≡◌, ◌↔◌, inl, inr, ⊎_elim, ℕ, ◌≤◌, ◌<◌, Bool, true, false, IsTrue, List, set, slice_index, ℤ, pos, ◌-ℤ◌, refl, ap, subst, sym, ◌∙◌, arith}
-use Rattle.std.proofs.lemmas.List.{set-get_or}
+use Rattle.std.proofs.Common.{◌≡◌, ◌↔◌, inl, inr, ⊎_elim, ℕ, ◌<◌, Bool, true, false, IsTrue, List, slice_index, ℤ, pos, ◌-ℤ◌, subst, sym, arith}
 use Rattle.rv_layout_laws.specs.declared.site.Site.{Site}
 use Rattle.rv_layout_laws.specs.declared.site.Call.{Call as CallSite}
 use Rattle.rv_layout_laws.specs.declared.site.SiteKind.TheVariants.{Call}
 use Rattle.rv_layout_laws.specs.Offsets.{Reaches}
 use Rattle.rv_layout_laws.specs.Calls.{Offers, half, site_at, new_offset, ReachesFrom, IsFamily, MayShorten}
-use Rattle.rv_relax.specs.Passes.{HasForm, MayTake, IsJudged, CannotShrink, IsTurn, IsVisit}
+use Rattle.rv_relax.specs.Passes.{HasForm, MayTake, IsJudged, CannotShrink, IsTurn}
 
 -- ---- a call
 
@@ -53,19 +52,3 @@ turn_offered sites kept i new f turn = elim turn [
   | inl same ↦ subst (Offers (site_at sites i).kind) (sym same.0) (f.offered i)
   | inr may ↦ may.offered
 ]
-
--- what a visit leaves and tells
-pub visit_told : (sites : List Site) (kept : List ℕ) (i new : ℕ) (told : Bool) → IsTurn sites kept i new → (told ≡ true → new < slice_index kept i) → (told ≡ false → slice_index kept i ≤ new)
-    → IsVisit sites i kept (set kept i new) told
-visit_told sites kept i new true turn up down =
-    let less : new < slice_index kept i = up refl in
-    elim turn [
-      | inl same ↦ let e : new ≡ slice_index kept i = same.0 in absurd (omega arith)
-      | inr may ↦ (new, (may, refl))
-    ]
-visit_told sites kept i new false turn up down =
-    let le : slice_index kept i ≤ new = down refl in
-    elim turn [
-      | inl same ↦ (ap (set kept i) same.0 ∙ set-get_or kept i 0, same.1)
-      | inr may ↦ let less : new < slice_index kept i = may.shrinks in absurd (omega arith)
-    ]

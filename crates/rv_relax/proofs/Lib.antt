@@ -13,7 +13,6 @@ pub mod PlacingLemmas
 pub mod PiecedLemmas
 pub mod OrderLemmas
 pub mod LosingLemmas
-pub mod SpreadLemmas
 pub mod RisingLemmas
 pub mod RoomsLemmas
 pub mod PadsLemmas

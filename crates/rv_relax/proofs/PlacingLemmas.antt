@@ -1,7 +1,7 @@
 -- What `Placed` holds of its sites is what a pass asks of them.
 
-use Rattle.std.proofs.Common.{◌≡◌, ◌⊎◌, inl, inr, ⊎_elim, ℕ, ◌*◌, ◌^◌, nat_le, Bool, true, false, not, ◌||◌, IsTrue, List, [], ◌∷◌, refl}
-use Rattle.std.proofs.lemmas.Bool.{leb-true, le-leb, and_parts, and_from, or_left, or_right}
+use Rattle.std.proofs.Common.{◌≡◌, inl, inr, ⊎_elim, ℕ, ◌*◌, ◌^◌, nat_le, Bool, true, false, not, ◌||◌, IsTrue, List, [], ◌∷◌, refl}
+use Rattle.std.proofs.lemmas.Bool.{leb-true, le-leb, and_parts, and_from, or_left, or_right, or_cases}
 use Rattle.rv_layout_laws.specs.declared.site.Site.{Site}
 use Rattle.rv_layout_laws.specs.declared.site.SiteKind.{SiteKind}
 use Rattle.rv_layout_laws.specs.declared.site.SiteKind.TheVariants.{Call, Padding}
@@ -23,10 +23,6 @@ order_from from (site ∷ sites) h =
     let both = and_parts (nat_le from site.offset) (are_in_line (site_end site) sites) h in
     (leb-true from site.offset both.0, order_from (site_end site) sites both.1)
 
-or_parts : (a b : Bool) → (a || b) ≡ true → (a ≡ true) ⊎ (b ≡ true)
-or_parts true b h = inl refl
-or_parts false b h = inr h
-
 -- of a call, a site that is no other call may stand anywhere
 told : (old : ℕ) (site : Site) (b : Bool) → (IsTrue b → IsOutside old site) → (not b || is_outside old site) ≡ true
 told old site false h = refl
@@ -39,7 +35,7 @@ meant : (old : ℕ) (site : Site) (b : Bool) → (not b || is_outside old site) 
 meant old site false h call = absurd (cc)
 meant old site true h call =
     ⊎_elim (λ before. inl (leb-true old site.offset before)) (λ after. inr (leb-true (site_end site) old after))
-    (or_parts (nat_le old site.offset) (nat_le (site_end site) old) h)
+    (or_cases (nat_le old site.offset) (nat_le (site_end site) old) h)
 
 outside_from : (kind : SiteKind) (site : Site) → LeadsOutside kind site → leads_outside kind site ≡ true
 outside_from (Call call) site h = told call.target site (is_call site.kind) h

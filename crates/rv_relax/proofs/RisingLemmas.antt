@@ -1,21 +1,15 @@
 -- A byte that stands before another one stands before it afterwards.
 
-use Rattle.std.proofs.Common.{◌≡◌, ℕ, ◌+◌, ◌-◌, ◌≤◌, min, max, true, List, [], ◌∷◌, length, map, refl, arith}
+use Rattle.std.proofs.Common.{◌≡◌, ℕ, ◌+◌, ◌-◌, ◌≤◌, max, true, List, [], ◌∷◌, length, map, refl, arith}
+use Rattle.rv_list_laws.proofs.NumbersLemmas.{span_within}
 use Rattle.rv_object_laws.specs.Padding.{no_operations}
-use Rattle.rv_link_laws.specs.Moves.{Move, dropped, new_offset}
+use Rattle.rv_link_laws.specs.Moves.{dropped, new_offset}
+use Rattle.rv_link_laws.proofs.MovesLemmas.{none_before}
 use Rattle.rv_relax.specs.Pieces.{Piece}
 use Rattle.rv_relax.specs.declared.section_paddings.SectionPaddings.{SectionPaddings}
 use Rattle.rv_relax.specs.Paddings.{move_of, are_in_order}
 use Rattle.rv_relax.specs.Kept.{moves_of}
 use Rattle.rv_relax.proofs.OrderLemmas.{first, rest}
-
-none_before : (ms : List Move) → dropped ms 0 ≡ 0
-none_before [] = refl
-none_before (m ∷ ms) = let later = none_before ms in omega (arith, later)
-
-span : (place full left a b stop : ℕ) → stop ≤ place → a ≤ b → (p q end : ℕ) → end ≡ place + full → p ≤ q + (b - max a end)
-    → min (full - left) (b - (place + left)) + p ≤ min (full - left) (a - (place + left)) + q + (b - max a stop)
-span place full left a b stop from le p q end is later = omega arith
 
 -- no more is dropped between two offsets than lies between them
 slow : (stop past a b : ℕ) (ps : List Piece) → are_in_order stop past ps ≡ true → a ≤ b → dropped (map move_of ps) b ≤ dropped (map move_of ps) a + (b - max a stop)
@@ -24,7 +18,7 @@ slow stop past a b (p ∷ ps) h le =
     let one = first stop past p ps h in
     let later = slow (p.place + p.full) (past + (p.full - p.left)) a b ps (rest stop past p ps h) le in
     let all =
-    span p.place p.full (length (no_operations p.left)) a b stop one.from le
+    span_within p.place p.full (length (no_operations p.left)) a b stop one.from le
     (dropped (map move_of ps) b) (dropped (map move_of ps) a) (p.place + p.full) refl later in
     all
 

@@ -5,18 +5,13 @@ use Rattle.std.proofs.lemmas.Bool.{cond-true, cond-false, cases_Bool, leb-true, 
 use Rattle.std.proofs.lemmas.Bool.Decides.{nat_tests}
 use Rattle.std.specs.List.{list_all}
 use Rattle.std.specs.List.Sorted.{ties, IsNonDecreasingBy, IsStableByKey}
+use Rattle.rv_list_laws.proofs.FilterLemmas.{filter_kept, filter_dropped}
 
 ties_at : (m n : ℕ) → (ties (λ x y. is_lt (nat_cmp x y)) m n ≡ true → m ≡ n) × (m ≡ n → ties (λ x y. is_lt (nat_cmp x y)) m n ≡ true)
 ties_at m n = (λ h. grind (arith, nat_tests), λ h. grind (arith, nat_tests))
 
 above : (m n : ℕ) → nat_le m n ≡ false → n < m
 above m n h = grind (arith, nat_tests)
-
-pub filter_kept : {X : Type 0} (p : X → Bool) (y : X) (ys : List X) → p y ≡ true → filter p (y ∷ ys) ≡ y ∷ filter p ys
-filter_kept p y ys h = cond-true _ _ _ h
-
-pub filter_dropped : {X : Type 0} (p : X → Bool) (y : X) (ys : List X) → p y ≡ false → filter p (y ∷ ys) ≡ filter p ys
-filter_dropped p y ys h = cond-false _ _ _ h
 
 module _ {X : Type 0} (key : X → ℕ) where
   -- one put before what has its key or a greater one

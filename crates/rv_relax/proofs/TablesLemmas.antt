@@ -13,9 +13,10 @@ use Rattle.rv_layout_laws.proofs.ReachingLemmas.{offset_more}
 use Rattle.rv_layout_laws.proofs.WideningLemmas.{set_holds}
 use Rattle.rv_layout_laws.proofs.DroppingLemmas.{dropped_most}
 use Rattle.rv_layout_laws.proofs.ShorteningLemmas.{IsOpen, whole_family}
+use Rattle.rv_layout_laws.proofs.OffsetsLemmas.{rest_more, whole as parts}
 use Rattle.rv_cut_laws.specs.Walk.{site_end}
 use Rattle.rv_relax.specs.Passes.{IsInput, IsPlace, IsTable, LeadsLow, drops}
-use Rattle.rv_relax.proofs.DroppingLemmas.{take_kept, drop_kept, drop_at, rest_more, parts, sum_low, none_at_first, dropped_before_site, dropped_outside}
+use Rattle.rv_relax.proofs.DroppingLemmas.{take_kept, drop_kept, drop_at, sum_low, none_at_first, dropped_before_site, dropped_outside}
 
 -- at first nothing is dropped
 pub first_table : (sites : List Site) (kept stands : List ℕ) → kept ≡ whole_sizes sites → length stands ≡ length sites + 1 → ((j : ℕ) → slice_index stands j ≡ 0) → IsTable sites 0 kept stands

@@ -1,10 +1,11 @@
 -- The search for one of what is told of sections, one after another.
 
-use Rattle.std.proofs.Common.{◌≡◌, ℕ, zero, suc, ◌+◌, ◌<◌, ◌≤◌, true, List, [], ◌∷◌, ◌++◌, Some, None, length, slice_index, slice_index_or, drop, get_or, map, refl, sym, ap, subst, ◌∙◌, append-nil, append_assoc, arith}
+use Rattle.std.proofs.Common.{◌≡◌, ℕ, zero, suc, ◌+◌, ◌<◌, ◌≤◌, true, List, [], ◌∷◌, ◌++◌, Some, None, length, slice_index, drop, get_or, map, sym, ap, ◌∙◌, append-nil, append_assoc, arith}
 use Rattle.std.specs.Prelude.{if◌then◌else◌, unwrap_or}
 use Rattle.std.specs.List.{flat_map, slice_get}
-use Rattle.std.proofs.lemmas.List.{drop_all, drop_more, length-map}
+use Rattle.std.proofs.lemmas.List.{drop_all, drop_more}
 use Rattle.std.proofs.lemmas.Option.{get_or_from_slice_get, unwrap_or-slice_get}
+use Rattle.rv_list_laws.proofs.MapLemmas.{flat_map_composed}
 use Rattle.rv_object_types.specs.declared.relocation.Relocation.{Relocation as DeclaredRelocation}
 use Rattle.rv_object_laws.specs.Object.{Relocation}
 use Rattle.rv_object_types.specs.Parts.{relocation_of}
@@ -20,9 +21,6 @@ use Rattle.rv_relax.specs.Told.{as_list, offset_among, planned_sections, told_at
 
 -- ---- what two lists share
 
-pub same_inside : {A B C : Type 0} (f : A → C) (g : B → C) (ps : List A) (xs : List B) → map f ps ≡ map g xs → (i : ℕ) → i < length xs → i < length ps
-same_inside f g ps xs same i inside = subst (λ n. i < n) (sym (length-map xs g) ∙ sym (ap length same) ∙ length-map ps f) inside
-
 pub same_at : {A B C : Type 0} (f : A → C) (g : B → C) (ps : List A) (xs : List B) → map f ps ≡ map g xs → (i : ℕ) (p : A) (x : B) → i < length xs → p ≡ get_or ps i p → x ≡ get_or xs i x → f p ≡ g x
 same_at f g [] [] same i p x inside e h = absurd (omega arith)
 same_at f g [] (y ∷ xs) same i p x inside e h = absurd (cc)
@@ -34,17 +32,7 @@ same_at f g (q ∷ ps) (y ∷ xs) same (suc i) p x inside e h =
     let rest : map f ps ≡ map g xs = cc in
     same_at f g ps xs rest i p x (omega arith) e h
 
--- an index within a list leads to one element, whatever stands past the end
-pub read_any : {A : Type 0} (xs : List A) (i : ℕ) (d : A) → i < length xs → slice_index_or xs i d ≡ get_or xs i (slice_index_or xs i d)
-read_any [] i d inside = absurd (omega arith)
-read_any (x ∷ xs) zero d inside = refl
-read_any (x ∷ xs) (suc i) d inside = read_any xs i d (omega arith)
-
 -- ---- lists that follow one another
-
-pub mapped : {X Y A : Type 0} (f : Y → List A) (g : X → Y) (xs : List X) → flat_map (λ x. f (g x)) xs ≡ flat_map f (map g xs)
-mapped f g [] = refl
-mapped f g (x ∷ xs) = ap (λ l. f (g x) ++ l) (mapped f g xs)
 
 -- a search through them: what a list has, from an index on
 module _ {X A : Type 0} (f : X → List A) (xs : List X) (i : ℕ) where
@@ -82,7 +70,7 @@ told_by counted s r = as_list (told_at counted (moves_in s) (kept_in s) (relocat
 pub section_told : (counted : Counted) (s : ShortSection) → goes_to_text (section_of s.whole.now) ≡ true → flat_map (told_by counted s) s.whole.now.relocations.items ≡ told_section counted s
 section_told counted s text =
     let own : Relocation → List ℕ = λ r. as_list (told_at counted (moves_in s) (kept_in s) r) in
-    mapped own relocation_of s.whole.now.relocations.items
+    flat_map_composed own relocation_of s.whole.now.relocations.items
     ∙ sym (ap (λ b. if b then flat_map own (section_of s.whole.now).relocations else []) text)
 
 abbrev pub told_in : Counted → ShortObject → List ℕ

@@ -10,6 +10,8 @@ use Rattle.std.proofs.lemmas.Grind.{flat_map-append}
 use Rattle.std.specs.BTreeMap.{get_by}
 use Rattle.std.specs.Cmp.Lexicographic.{slice_cmp}
 use Rattle.std.specs.Ordering.{nat_cmp}
+use Rattle.rv_list_laws.proofs.TakeDropLemmas.{drop_read, drop_next}
+use Rattle.rv_list_laws.proofs.OptionsLemmas.{copied_some}
 use Rattle.rv_map_laws.specs.Globals.{shown}
 use Rattle.rv_map_laws.specs.Map.{Global}
 use Rattle.rv_object_laws.specs.Object.{Symbol, Object}
@@ -22,8 +24,6 @@ use Rattle.rv_resolve.specs.declared.names.Names.{Names}
 use Rattle.rv_resolve.specs.Names.{IsNames}
 use Rattle.rv_resolve.specs.Shown.{shown_exports, export_at, is_chosen_at, shown_in}
 use Rattle.rv_resolve.proofs.ChosenLemmas.{kept_some}
-use Rattle.rv_link_laws.proofs.StepsLemmas.{left, left_at}
-use Rattle.rv_resolve.proofs.TableLemmas.{copied_some}
 
 -- ---- the linker's
 
@@ -31,11 +31,6 @@ use Rattle.rv_resolve.proofs.TableLemmas.{copied_some}
 pub is_taken : (os : List Object) (names : Names) (name : List ℕ) (f : Option (Bor Exported)) (b : Bool) → IsNames os names
     → option_copied f ≡ get_by (λ (k : Bor (List ℕ)). slice_cmp nat_cmp name k.now) names.definitions.by_name → is_some f ≡ b → is_some (chosen os name) ≡ b
 is_taken os names name f b h found is = sym (kept_some os name) ∙ ap is_some (sym (h.answers name) ∙ sym found) ∙ copied_some f ∙ is
-
--- one more that passes a test, or not
-pub filtered_more : {X : Type 0} (p : X → Bool) (old n m : List X) (xs : List X) (y : X) → n ≡ old ++ filter p xs → m ≡ n ++ filter p (y ∷ []) → m ≡ old ++ filter p (xs ++ y ∷ [])
-filtered_more p old n m xs y first next =
-    next ∙ ap (λ l. l ++ filter p (y ∷ [])) first ∙ append_assoc old (filter p xs) (filter p (y ∷ [])) ∙ ap (λ l. old ++ l) (sym (filter-append p xs (y ∷ [])))
 
 -- ---- one symbol more of a file
 
@@ -58,7 +53,7 @@ module _ (os : List Object) (p : Placement) where
       by true = refl
       by false = refl
 
-  -- of what is left of its symbols
+  -- of what is drop_read of its symbols
   pub symbol_more : (file : ℕ) (o : Object) (i : ℕ) (s : Symbol) (now next all : List Global) → slice_get o.symbols i ≡ Some s
       → now ++ shown_in os p file o i (drop i o.symbols) ≡ all → next ≡ now ++ shown_in os p file o i (s ∷ [])
       → next ++ shown_in os p file o (i + 1) (drop (i + 1) o.symbols) ≡ all
@@ -71,7 +66,7 @@ module _ (os : List Object) (p : Placement) where
       ∙ ap (λ l. now ++ l)
       (sym (shown-append (exports_in is_shared (file + 1) o i (s ∷ [])) (exports_in is_shared (file + 1) o (suc i) behind))
       ∙ ap (λ l. shown_exports p (filter (is_chosen os) l)) (sym (one_in (file + 1) o i s behind))
-      ∙ ap (shown_in os p file o i) (sym (left_at o.symbols i s at)))
+      ∙ ap (shown_in os p file o i) (sym (drop_next o.symbols i s at)))
       ∙ h
 
   -- a symbol that is no such definition, and one that is
@@ -96,7 +91,7 @@ module _ (os : List Object) (p : Placement) where
   -- ---- one file more
 
   abbrev pub files_shown : (file : ℕ) → List Object → List Global
-  files_shown file left = shown_exports p (filter (is_chosen os) (exports_from is_shared (suc file) left))
+  files_shown file drop_read = shown_exports p (filter (is_chosen os) (exports_from is_shared (suc file) drop_read))
 
   pub file_more : (i : ℕ) (o : Object) (now next all : List Global) → i < length os → o ≡ get_or os i o
       → now ++ files_shown i (drop i os) ≡ all → next ≡ now ++ shown_in os p i o 0 o.symbols → next ++ files_shown (i + 1) (drop (i + 1) os) ≡ all
@@ -107,5 +102,5 @@ module _ (os : List Object) (p : Placement) where
       ∙ append_assoc now (shown_in os p i o 0 o.symbols) (files_shown (i + 1) behind)
       ∙ ap (λ n. now ++ (shown_exports p (filter (is_chosen os) (exports_in is_shared n o 0 o.symbols)) ++ files_shown n behind)) after
       ∙ ap (λ l. now ++ l) (sym (shown-append (exports_in is_shared (suc i) o 0 o.symbols) (exports_from is_shared (suc (suc i)) behind)))
-      ∙ ap (λ l. now ++ files_shown i l) (sym (left os i o inside is))
+      ∙ ap (λ l. now ++ files_shown i l) (sym (drop_read os i o inside is))
       ∙ h

@@ -4,6 +4,7 @@ use Rattle.std.proofs.Common.{◌≡◌, ◌-◌, ℕ, suc, Bool, true, false, c
 use Rattle.std.specs.Prelude.{bytes_eq, if◌then◌else◌}
 use Rattle.std.specs.List.{find}
 use Rattle.std.proofs.lemmas.List.{map-append}
+use Rattle.rv_list_laws.proofs.OptionsLemmas.{is_some_map, option_map_none}
 use Rattle.rv_object_laws.specs.declared.symbol.Binding.{Binding}
 use Rattle.rv_object_laws.specs.Object.{Symbol, Object}
 use Rattle.rv_object_laws.specs.Bindings.{is_global, is_weak}
@@ -12,7 +13,6 @@ use Rattle.rv_resolve.specs.declared.definitions.Exported.{Exported}
 use Rattle.rv_resolve.specs.Chosen.{seen, seen_of, Definer, definers_in, definers_from, definitions, names_in, first_named, definer}
 use Rattle.rv_resolve.specs.Names.{exported_of, IsAt}
 use Rattle.rv_link_laws.proofs.ChosenLemmas.{chosen_held}
-use Rattle.rv_resolve.proofs.TableLemmas.{still_some, still_none}
 
 -- ---- one by one they are the definitions of the laws
 
@@ -94,7 +94,7 @@ chosen_at os name x is = by (chosen os name) refl (sym (kept_is os name) ∙ is)
         )
 
 pub chosen_none : (os : List Object) (name : List ℕ) → option_map exported_of (definer os name) ≡ None → chosen os name ≡ None
-chosen_none os name is = still_none kept (chosen os name) (sym (kept_is os name) ∙ is)
+chosen_none os name is = option_map_none kept (chosen os name) (sym (kept_is os name) ∙ is)
 
 pub kept_some : (os : List Object) (name : List ℕ) → is_some (option_map exported_of (definer os name)) ≡ is_some (chosen os name)
-kept_some os name = ap is_some (kept_is os name) ∙ still_some kept (chosen os name)
+kept_some os name = ap is_some (kept_is os name) ∙ is_some_map kept (chosen os name)

@@ -4,6 +4,7 @@ use Rattle.std.proofs.Common.{◌≡◌, ◌<◌, ◌≤◌, ℕ, Option, Some, 
 use Rattle.std.specs.Option.{option_or}
 use Rattle.std.proofs.lemmas.List.{length-map}
 use Rattle.std.proofs.lemmas.Option.{slice_get-map, slice_get_past, slice_get_read}
+use Rattle.rv_list_laws.proofs.MapLemmas.{map_composed}
 use Rattle.rv_object_laws.specs.declared.symbol.Definition.{Definition}
 use Rattle.rv_object_laws.specs.declared.symbol.Definition.TheVariants as definitions
 use Rattle.rv_object_types.specs.declared.symbol.Symbol.{Symbol as DeclaredSymbol}
@@ -19,12 +20,8 @@ use Rattle.rv_link_laws.specs.Undefined.{first_some, has_address}
 
 -- ---- the symbols that it has
 
-map_twice : {X Y Z : Type 0} (f : Y → Z) (g : X → Y) (xs : List X) → map (λ x. f (g x)) xs ≡ map f (map g xs)
-map_twice f g [] = refl
-map_twice f g (x ∷ xs) = ap (λ l. f (g x) ∷ l) (map_twice f g xs)
-
 pub symbols_are : (o : ShortObject) → short_symbols o ≡ (short_object_of o).symbols
-symbols_are o = map_twice (cut_symbol (moves_by_section o)) symbol_of o.whole.now.symbols.items
+symbols_are o = map_composed (cut_symbol (moves_by_section o)) symbol_of o.whole.now.symbols.items
 
 pub many_symbols : (o : ShortObject) → length (short_object_of o).symbols ≡ length o.whole.now.symbols.items
 many_symbols o = ap length (sym (symbols_are o)) ∙ length-map o.whole.now.symbols.items (moved_in o)

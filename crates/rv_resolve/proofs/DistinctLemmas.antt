@@ -5,9 +5,9 @@ use Rattle.std.proofs.lemmas.Bool.{false_from_ne_true}
 use Rattle.std.specs.Prelude.{◌||◌, if◌then◌else◌, bytes_eq}
 use Rattle.std.proofs.lemmas.List.Folds.{list_any-append}
 use Rattle.std.proofs.lemmas.Slice.Eq.{bytes_eq-Decides}
+use Rattle.rv_list_laws.proofs.ElementsLemmas.{same_bytes}
 use Rattle.rv_map_laws.specs.Globals.{is_one_of, AreDistinct}
 use Rattle.rv_link_laws.specs.Exports.{first_again}
-use Rattle.rv_link_laws.proofs.ChosenLemmas.{same_bytes}
 
 -- where none stands before it, none of the others is among them
 others_apart : (others names : List (List ℕ)) → first_again others names ≡ None → (other : List ℕ) → is_one_of others other ≡ true → is_one_of names other ≡ false

@@ -3,6 +3,7 @@
 use Rattle.std.proofs.Common.{◌≡◌, ◌+◌, ◌-◌, ℕ, Bool, true, false, Option, Some, None, option_map, List, slice_get, refl, sym, ap, ◌∙◌, arith}
 use Rattle.std.specs.Prelude.{◌&&◌, ◌==◌}
 use Rattle.std.proofs.lemmas.Bool.{and_parts, and_from, eqb-true, eq-eqb}
+use Rattle.rv_list_laws.proofs.TruthLemmas.{same_tests}
 use Rattle.rv_map_laws.specs.Globals.{AreDistinct}
 use Rattle.rv_object_laws.specs.declared.symbol.Binding.{Binding}
 use Rattle.rv_object_laws.specs.declared.symbol.Binding.TheVariants as bindings
@@ -15,7 +16,6 @@ use Rattle.rv_resolve.specs.Shown.{export_at, is_chosen_at}
 use Rattle.rv_resolve.proofs.ChosenLemmas.{kept, kept_is}
 use Rattle.rv_link_laws.proofs.ChosenLemmas.{chosen_held}
 use Rattle.rv_link_laws.proofs.HeldLemmas.{IsHeld, held_one}
-use Rattle.rv_link_laws.proofs.LinkerNamesLemmas.{same_tests}
 use Rattle.rv_link_laws.proofs.ShownLemmas.{chosen_kept, global_chosen}
 
 -- the numbers of a file and of an index there, from 0, tell a definition

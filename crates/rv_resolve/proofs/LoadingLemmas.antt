@@ -1,6 +1,7 @@
 -- The table while definitions come to it: one symbol more of a file, and one file more.
 
 use Rattle.std.proofs.Common.{◌≡◌, ◌<◌, ◌+◌, ℕ, suc, Bool, List, [], ◌++◌, length, map, drop, get_or, sym, ap, subst, ◌∙◌, append_assoc, append-nil, arith}
+use Rattle.rv_list_laws.proofs.TakeDropLemmas.{drop_read}
 use Rattle.rv_map_laws.specs.Globals.{AreDistinct}
 use Rattle.rv_object_types.specs.declared.object.Object.{Object as DeclaredObject}
 use Rattle.rv_object_laws.specs.declared.symbol.Binding.{Binding}
@@ -17,7 +18,6 @@ use Rattle.rv_link_laws.specs.Exports.{first_again, first_duplicate}
 use Rattle.rv_resolve.specs.Names.{IsDefinitionTable, IsDuplicate, IsRefused}
 use Rattle.rv_resolve.proofs.ChosenLemmas.{global_names_are}
 use Rattle.rv_resolve.proofs.DistinctLemmas.{all_apart}
-use Rattle.rv_link_laws.proofs.StepsLemmas.{left}
 
 -- ---- what is left
 
@@ -28,21 +28,21 @@ module _ (test : Binding → Bool) where
   pub symbols_left : (file : ℕ) (xs : List DeclaredSymbol) (i : ℕ) (x : DeclaredSymbol) → i < length xs → x ≡ get_or xs i x
       → definers_in test file i (seen_symbols (drop i xs)) ≡ definers_at test file i (seen (symbol_of x)) ++ definers_in test file (i + 1) (seen_symbols (drop (i + 1) xs))
   symbols_left file xs i x inside is =
-      ap (λ l. definers_in test file i (seen_symbols l)) (left xs i x inside is)
+      ap (λ l. definers_in test file i (seen_symbols l)) (drop_read xs i x inside is)
       ∙ ap (λ n. definers_at test file i (seen (symbol_of x)) ++ definers_in test file n (seen_symbols (drop (i + 1) xs))) (let e : suc i ≡ i + 1 = omega arith in e)
 
   pub files_left : (xs : List DeclaredObject) (i : ℕ) (x : DeclaredObject) → i < length xs → x ≡ get_or xs i x
       → definers_from test i (seen_of (map object_of (drop i xs)))
       ≡ definers_in test i 0 (seen_symbols x.symbols.items) ++ definers_from test (i + 1) (seen_of (map object_of (drop (i + 1) xs)))
   files_left xs i x inside is =
-      ap (λ l. definers_from test i (seen_of (map object_of l))) (left xs i x inside is)
+      ap (λ l. definers_from test i (seen_of (map object_of l))) (drop_read xs i x inside is)
       ∙ ap (λ n. definers_in test i 0 (seen_symbols x.symbols.items) ++ definers_from test n (seen_of (map object_of (drop (i + 1) xs)))) (let e : suc i ≡ i + 1 = omega arith in e)
 
 -- ---- the table
 
 -- something holds of some definitions, of which these are left
-abbrev pub HasBut : (List Definer → Type 0) → (all left : List Definer) → Type 0
-HasBut P all left = (done : List Definer) × P done × (done ++ left ≡ all)
+abbrev pub HasBut : (List Definer → Type 0) → (all drop_read : List Definer) → Type 0
+HasBut P all drop_read = (done : List Definer) × P done × (done ++ drop_read ≡ all)
 
 pub all_had : (P : List Definer → Type 0) (all : List Definer) → HasBut P all [] → P all
 all_had P all h = subst P (sym (append-nil h.0) ∙ h.2) h.1

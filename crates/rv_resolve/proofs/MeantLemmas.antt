@@ -3,6 +3,7 @@
 use Rattle.std.proofs.Common.{◌≡◌, ◌+◌, ℕ, Bool, true, false, Option, Some, None, option_map, List, slice_get, refl, sym, ap, ◌∙◌}
 use Rattle.std.specs.Prelude.{option_and_then, if◌then◌else◌}
 use Rattle.std.specs.Option.{option_or}
+use Rattle.rv_list_laws.proofs.OptionsLemmas.{option_map_none}
 use Rattle.rv_map_laws.specs.Globals.{global_address, linker_symbols}
 use Rattle.rv_map_laws.specs.Map.{Map}
 use Rattle.rv_object_laws.specs.Object.{Symbol, Object}
@@ -13,7 +14,6 @@ use Rattle.rv_resolve.specs.declared.names.Meant.{Meant}
 use Rattle.rv_resolve.specs.Names.{meant_of, meant_by}
 use Rattle.rv_link_laws.specs.Undefined.{has_address, is_known, is_resolved}
 use Rattle.rv_link_laws.proofs.ChosenLemmas.{chosen_held}
-use Rattle.rv_resolve.proofs.TableLemmas.{still_none}
 use Rattle.rv_link_laws.proofs.ShownLemmas.{every, outer_some, outer_none}
 
 -- ---- places
@@ -107,7 +107,7 @@ module _ (os : List Object) (file : ℕ) (o : Object) (s : Symbol) where
     where
       by : (b : Bool) → is_sure s ≡ b → (if b then Some (record { file = file; definition = s.definition }) else option_map meant_of (chosen os s.name)) ≡ None → (is_sure s ≡ false) × (chosen os s.name ≡ None)
       by true sure h = absurd (cc)
-      by false not_sure h = (not_sure, still_none meant_of (chosen os s.name) h)
+      by false not_sure h = (not_sure, option_map_none meant_of (chosen os s.name) h)
 
   pub address_none : meant_by os file s ≡ None → (starts : Starts) (m : Map)
       → symbol_address (outer_address os (every starts os m)) (starts (file + 1)) o s ≡ option_or (global_address (linker_symbols m) s.name) (if is_weak s.binding then Some 0 else None)

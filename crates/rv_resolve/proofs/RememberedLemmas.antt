@@ -1,20 +1,15 @@
 -- What is known of a name that a symbol of an earlier row has.
 
-use Rattle.std.proofs.Common.{◌≡◌, ℕ, zero, suc, false, Option, Some, None, option_map, List, [], ◌∷◌, ◌++◌, map, slice_get, sym, ap, ◌∙◌}
+use Rattle.std.proofs.Common.{◌≡◌, ℕ, false, Option, Some, None, option_map, List, map, slice_get, sym, ap, ◌∙◌}
 use Rattle.std.specs.Global.{Vec}
 use Rattle.std.specs.Prelude.{if◌then◌else◌}
 use Rattle.std.proofs.lemmas.Option.{slice_get-map}
+use Rattle.rv_list_laws.proofs.ElementsLemmas.{get_front}
 use Rattle.rv_object_laws.specs.Object.{Symbol, Object}
 use Rattle.rv_link_laws.specs.Names.{is_sure}
 use Rattle.rv_resolve.specs.declared.definitions.Exported.{Exported}
 use Rattle.rv_resolve.specs.Chosen.{Definer, Seen, seen, seen_of, first_named}
 use Rattle.rv_resolve.specs.Names.{exported_of, outside, AreRows}
-
--- an element of a list is that of a longer one
-at_front : {X : Type 0} (xs ys : List X) (k : ℕ) (x : X) → slice_get xs k ≡ Some x → slice_get (xs ++ ys) k ≡ Some x
-at_front [] ys k x h = absurd (cc)
-at_front (z ∷ xs) ys zero x h = h
-at_front (z ∷ xs) ys (suc k) x h = at_front xs ys k x h
 
 pub known_is : (ds : List Definer) (os : List Object) (rows : List (Vec (Option Exported))) (file index : ℕ) (row : Vec (Option Exported)) (found : Option Exported) (o : Object) (s : Symbol)
     → AreRows ds os rows → slice_get rows file ≡ Some row → slice_get row.items index ≡ Some found → slice_get os file ≡ Some o → slice_get o.symbols index ≡ Some s
@@ -27,7 +22,7 @@ known_is ds os rows file index row found o s h has at here there free =
     let whole : slice_get (map (map one) (seen_of os)) file ≡ Some (map one (all o)) =
     slice_get-map (map one) (seen_of os) file ∙ ap (option_map (map one)) (slice_get-map all os file ∙ ap (option_map all) here) in
     let both : ◌≡◌ {A = Option (List (Option Exported))} (Some row.items) (Some (map one (all o))) =
-    sym (at_front items h.0 file row.items front) ∙ ap (λ l. slice_get l file) h.1 ∙ whole in
+    sym (get_front items h.0 file row.items front) ∙ ap (λ l. slice_get l file) h.1 ∙ whole in
     let same : row.items ≡ map one (all o) = cc in
     let seen_at : slice_get (map one (all o)) index ≡ Some (one (seen s)) =
     slice_get-map one (all o) index ∙ ap (option_map one) (slice_get-map seen o.symbols index ∙ ap (option_map seen) there) in

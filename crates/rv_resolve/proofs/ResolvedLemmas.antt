@@ -4,6 +4,7 @@ use Rattle.std.proofs.Common.{◌≡◌, ℕ, suc, Bool, true, false, Option, So
 use Rattle.std.specs.Prelude.{IsTrue, ◌||◌, option_and_then, if◌then◌else◌}
 use Rattle.std.specs.List.{AllByRecursion}
 use Rattle.std.specs.Option.{option_or}
+use Rattle.rv_list_laws.proofs.EachLemmas.{each_append}
 use Rattle.rv_map_laws.specs.Globals.{global_address, is_one_of, linker_symbols}
 use Rattle.rv_map_laws.specs.Map.{Map}
 use Rattle.rv_object_laws.specs.declared.symbol.Definition.{Definition}
@@ -14,7 +15,6 @@ use Rattle.rv_link_laws.specs.IsLinkOf.{is_loaded}
 use Rattle.rv_object_laws.specs.Bindings.{is_weak}
 use Rattle.rv_link_laws.specs.Names.{Export, Outer, is_sure, chosen, defined_address, offset_address, outer_address, symbol_address}
 use Rattle.rv_link_laws.specs.Values.{target}
-use Rattle.rv_link_laws.proofs.TextInputsLemmas.{all_append}
 use Rattle.rv_link_laws.specs.Undefined.{has_address, is_loaded_at, is_known, is_resolved, linker_names, undefined_symbol, undefined_name, undefined_in, first_some, first_undefined}
 use Rattle.rv_resolve.specs.Resolved.{AreResolved}
 use Rattle.rv_link_laws.proofs.FirstSomeLemmas.{each_none}
@@ -94,7 +94,7 @@ module _ (os : List Object) (starts : Starts) (m : Map) where
   files : (file : ℕ) (ps : List Object) → AllByRecursion (λ o. first_some (undefined_in os o) o.sections ≡ None) ps → AllByRecursion IsResolvedAt (inputs_of is_loaded file ps)
   files file [] h = tt
   files file (o ∷ ps) h =
-      all_append IsResolvedAt (inputs_from is_loaded file o 0 o.sections) (inputs_of is_loaded (suc file) ps)
+      each_append IsResolvedAt (inputs_from is_loaded file o 0 o.sections) (inputs_of is_loaded (suc file) ps)
       (sections file o 0 o.sections (each_none (undefined_in os o) o.sections h.0)) (files (suc file) ps h.1)
 
   pub all_resolved : first_undefined os ≡ None → AreResolved starts os outer

@@ -1,6 +1,6 @@
 -- The table of what symbols mean: one element more, and what it answers.
 
-use Rattle.std.proofs.Common.{◌≡◌, false, Option, Some, None, option_map, List, [], ◌∷◌, ◌++◌, map, slice_get, sym, ap, ◌∙◌, append_assoc}
+use Rattle.std.proofs.Common.{◌≡◌, false, Option, Some, None, option_map, List, map, slice_get, sym, ap, ◌∙◌}
 use Rattle.std.specs.Global.{Vec}
 use Rattle.std.specs.Prelude.{ℕ, option_and_then, if◌then◌else◌}
 use Rattle.std.proofs.lemmas.Option.{slice_get-map}
@@ -10,10 +10,6 @@ use Rattle.rv_resolve.specs.declared.definitions.Exported.{Exported}
 use Rattle.rv_resolve.specs.declared.meanings.Meanings.{Meanings}
 use Rattle.rv_resolve.specs.Chosen.{Seen, seen, seen_of, definitions, definer}
 use Rattle.rv_resolve.specs.Names.{exported_of, outside, meant_at, AreMeanings}
-
--- what is there so far, with what is left, is the whole
-pub one_pushed : {Y : Type 0} (items next here behind all : List Y) (y : Y) → next ≡ items ++ y ∷ [] → here ≡ y ∷ behind → items ++ here ≡ all → next ++ behind ≡ all
-one_pushed items next here behind all y pushed is h = ap (λ l. l ++ behind) pushed ∙ append_assoc items (y ∷ []) behind ∙ ap (λ l. items ++ l) (sym is) ∙ h
 
 row_at : (found : Option (Vec (Option Exported))) (index : ℕ) (ms : List (Option Exported)) (m : Option Exported)
     → option_map (λ (row : Vec (Option Exported)). row.items) found ≡ Some ms → slice_get ms index ≡ Some m

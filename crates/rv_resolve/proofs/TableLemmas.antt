@@ -1,15 +1,14 @@
 -- One definition more in the table.
 
 use Rattle.std.proofs.Common.{◌≡◌, ℕ, Bool, true, false, cond, Option, Some, None, option_map, List, [], ◌∷◌, ◌++◌, map, is_some, refl, sym, ap, ◌∙◌, append_assoc}
-use Rattle.std.specs.Borrow.{Bor}
 use Rattle.std.specs.Prelude.{◌||◌, ◌&&◌, if◌then◌else◌, bytes_eq}
 use Rattle.std.specs.List.{find}
-use Rattle.std.specs.Option.{option_or, option_copied}
+use Rattle.std.specs.Option.{option_or}
 use Rattle.std.proofs.lemmas.List.{map-append}
 use Rattle.std.proofs.lemmas.List.Folds.{find-append}
+use Rattle.rv_list_laws.proofs.ElementsLemmas.{same_bytes}
 use Rattle.rv_map_laws.specs.Globals.{is_one_of}
 use Rattle.rv_object_laws.specs.declared.symbol.Binding.{Binding}
-use Rattle.rv_link_laws.proofs.ChosenLemmas.{same_bytes}
 use Rattle.rv_resolve.specs.declared.definitions.Definitions.{Definitions}
 use Rattle.rv_resolve.specs.declared.definitions.Exported.{Exported}
 use Rattle.rv_resolve.specs.Chosen.{Seen, Definer, definers_at, names_in, first_named}
@@ -25,23 +24,6 @@ one_of_named own (x ∷ xs) name = by (bytes_eq (own x) name) (one_of_named own 
         → (b || is_one_of (map own xs) name) ≡ is_some (cond b (Some x) (find (λ y. bytes_eq (own y) name) xs))
     by true rest = refl
     by false rest = rest
-
--- what is kept of something is there where it is
-pub still_some : {X Y : Type 0} (f : X → Y) (found : Option X) → is_some (option_map f found) ≡ is_some found
-still_some f None = refl
-still_some f (Some x) = refl
-
-pub still_none : {X Y : Type 0} (f : X → Y) (found : Option X) → option_map f found ≡ None → found ≡ None
-still_none f None e = refl
-still_none f (Some x) e = absurd (cc)
-
-pub is_none : {X : Type 0} (f : Option X) → is_some f ≡ false → f ≡ None
-is_none None e = refl
-is_none (Some x) e = absurd (cc)
-
-pub copied_some : {X : Type 0} (f : Option (Bor X)) → is_some (option_copied f) ≡ is_some f
-copied_some None = refl
-copied_some (Some x) = refl
 
 module _ (test : Binding → Bool) (file index : ℕ) (s : Seen) (ds : List Definer) where
   abbrev it : Definer

@@ -5,6 +5,7 @@ use Rattle.std.proofs.lemmas.Bool.{cases_lt}
 use Rattle.std.proofs.Math.Nat.{max-eq_left, max-eq_right, pow-suc}
 use Rattle.std.specs.Prelude.{max, if◌then◌else◌}
 use Rattle.std.specs.List.{AllByRecursion}
+use Rattle.rv_list_laws.proofs.EachLemmas.{each_append}
 use Rattle.rv_statement_laws.specs.Statement.{Statement}
 use Rattle.rv_unit_laws.specs.Sections.{Section, goes_to_text}
 use Rattle.rv_unit_laws.specs.Tables.{Tables, tables, alignment_at, alignments_of}
@@ -14,7 +15,6 @@ use Rattle.rv_collect_laws.specs.Graph.{is_dropped}
 use Rattle.rv_source_laws.specs.Located.{without_address}
 use Rattle.rv_source_laws.specs.Program.{Mapped}
 use Rattle.rv_source_laws.specs.Fits.{input_section, input_sections_of_file, input_sections_of}
-use Rattle.rv_source_laws.proofs.HomesLemmas.{all_join}
 use Rattle.rv_source_laws.proofs.LeftLemmas.{text_left}
 use Rattle.rv_runs_laws.proofs.RegionsLemmas.{BeginsEven}
 use Rattle.rv_runs_laws.proofs.HomesLemmas.{sections_of}
@@ -53,5 +53,5 @@ even_file t h drops mapped file index (section ∷ sections) =
 pub even_files : (drops : List SectionId) (mapped : List Mapped) (file : ℕ) (files : List (List Statement)) → AllByRecursion BeginsEven (input_sections_of goes_to_text drops mapped file files)
 even_files drops mapped file [] = tt
 even_files drops mapped file (ss ∷ files) =
-    all_join BeginsEven (input_sections_of_file goes_to_text drops (tables ss) mapped file 0 (sections_of ss)) (input_sections_of goes_to_text drops mapped (suc file) files)
+    each_append BeginsEven (input_sections_of_file goes_to_text drops (tables ss) mapped file 0 (sections_of ss)) (input_sections_of goes_to_text drops mapped (suc file) files)
     (even_file (tables ss) (grown_all ss 1 ss) drops mapped file 0 (sections_of ss)) (even_files drops mapped (suc file) files)

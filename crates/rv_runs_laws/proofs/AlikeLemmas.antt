@@ -5,9 +5,9 @@ use Rattle.std.specs.Prelude.{◌&&◌, ◌||◌, ◌==◌, if◌then◌else◌,
 use Rattle.std.proofs.lemmas.Bool.{eqb-true, and_parts}
 use Rattle.rv_isa_laws.specs.Memory.{Mem, Right, Read, Write, Execute, may, some_has, bytes_at, with_byte, with_bytes, number_at, with_number}
 use Rattle.std.proofs.lemmas.List.{length-take}
+use Rattle.rv_list_laws.proofs.NumbersLemmas.{mod_below}
 use Rattle.rv_isa_laws.specs.Hart.{Hart, LoadText, LoadOutside, StoreText, StoreOutside, register}
 use Rattle.rv_isa_laws.specs.Effect.{Effect, Goes, Loads, Stores, Reserves, Conditional, Updates, Calls, Breaks, Next, On, Over, apply, environment_call, reads, writes, load_refusal, store_refusal, answer}
-pub use Rattle.rv_runs_laws.proofs.RowsLemmas.{below_mod as wraps}
 
 -- memory m of the machine beside memory s of the source run: both have these rights, they are equal where something can be
 -- read, and what can be executed is as it was at first
@@ -34,17 +34,17 @@ module _ (has : ℕ → Right → Bool) where
 
   pub may_same : (m : Mem) → ((a : ℕ) → a < 2 ^ 64 → (right : Right) → m.has a right ≡ has a right) → (a n : ℕ) (right : Right) → may m a n right ≡ may bare a n right
   may_same m same a zero right = refl
-  may_same m same a (suc n) right = ap (λ b. b && may m (a + 1) n right) (same (a % 2 ^ 64) (wraps a) right) ∙ ap (λ b. has (a % 2 ^ 64) right && b) (may_same m same (a + 1) n right)
+  may_same m same a (suc n) right = ap (λ b. b && may m (a + 1) n right) (same (a % 2 ^ 64) (mod_below a) right) ∙ ap (λ b. has (a % 2 ^ 64) right && b) (may_same m same (a + 1) n right)
 
   some_same : (m : Mem) → ((a : ℕ) → a < 2 ^ 64 → (right : Right) → m.has a right ≡ has a right) → (a n : ℕ) (right : Right) → some_has m a n right ≡ some_has bare a n right
   some_same m same a zero right = refl
-  some_same m same a (suc n) right = ap (λ b. b || some_has m (a + 1) n right) (same (a % 2 ^ 64) (wraps a) right) ∙ ap (λ b. has (a % 2 ^ 64) right || b) (some_same m same (a + 1) n right)
+  some_same m same a (suc n) right = ap (λ b. b || some_has m (a + 1) n right) (same (a % 2 ^ 64) (mod_below a) right) ∙ ap (λ b. has (a % 2 ^ 64) right || b) (some_same m same (a + 1) n right)
 
   pub number_same : (right : Right) (m s : Mem) → ((a : ℕ) → a < 2 ^ 64 → has a right ≡ true → m.byte a ≡ s.byte a) → (a n : ℕ) → may bare a n right ≡ true → number_at m a n ≡ number_at s a n
   number_same right m s same a zero ok = refl
   number_same right m s same a (suc n) ok =
       let parts = and_parts (has (a % 2 ^ 64) right) (may bare (a + 1) n right) ok in
-      let low : m.byte (a % 2 ^ 64) ≡ s.byte (a % 2 ^ 64) = same (a % 2 ^ 64) (wraps a) parts.0 in
+      let low : m.byte (a % 2 ^ 64) ≡ s.byte (a % 2 ^ 64) = same (a % 2 ^ 64) (mod_below a) parts.0 in
       let high : number_at m (a + 1) n ≡ number_at s (a + 1) n = number_same right m s same (a + 1) n parts.1 in
       ap (λ b. b + 256 * number_at m (a + 1) n) low ∙ ap (λ k. s.byte (a % 2 ^ 64) + 256 * k) high
 
@@ -52,7 +52,7 @@ module _ (has : ℕ → Right → Bool) where
   bytes_same m s same a zero ok = refl
   bytes_same m s same a (suc n) ok =
       let parts = and_parts (has (a % 2 ^ 64) Read) (may bare (a + 1) n Read) ok in
-      let low : m.byte (a % 2 ^ 64) ≡ s.byte (a % 2 ^ 64) = same (a % 2 ^ 64) (wraps a) parts.0 in
+      let low : m.byte (a % 2 ^ 64) ≡ s.byte (a % 2 ^ 64) = same (a % 2 ^ 64) (mod_below a) parts.0 in
       let high : bytes_at m (a + 1) n ≡ bytes_at s (a + 1) n = bytes_same m s same (a + 1) n parts.1 in
       ap (λ b. b ∷ bytes_at m (a + 1) n) low ∙ ap (λ bs. s.byte (a % 2 ^ 64) ∷ bs) high
 

@@ -1,7 +1,7 @@
 -- Every list has an order: its elements ascend, and those that tie stand as they stood.
 
-use Rattle.std.proofs.Common.{◌≡◌, ℕ, suc, zero, ◌+◌, ◌<◌, Bool, true, false, List, [], ◌∷◌, length, map, refl, sym, ap, ◌∙◌, arith, get_or}
-use Rattle.std.proofs.lemmas.Bool.{and_parts, cond-true, cond-false}
+use Rattle.std.proofs.Common.{◌≡◌, ℕ, suc, zero, ◌+◌, ◌<◌, Bool, true, false, List, [], ◌∷◌, length, map, refl, ap, ◌∙◌, arith, get_or}
+use Rattle.std.proofs.lemmas.Bool.{and_parts, not-true}
 use Rattle.std.specs.Prelude.{not, filter, if◌then◌else◌}
 use Rattle.std.specs.Cmp.{IsStrictWeakOrder}
 use Rattle.std.specs.List.{AllByRecursion}
@@ -11,33 +11,7 @@ pub true_false : {A : Type 0} (b : Bool) → b ≡ true → b ≡ false → A
 true_false true e f = absurd (cc)
 true_false false e f = absurd (cc)
 
-not_true : (b : Bool) → not b ≡ true → b ≡ false
-not_true false h = refl
-not_true true h = absurd (cc)
-
 -- ---- filters
-
--- two filters in either order
-pub filters_swap : {X : Type 0} (f g : X → Bool) (xs : List X) → filter f (filter g xs) ≡ filter g (filter f xs)
-filters_swap f g [] = refl
-filters_swap f g (x ∷ xs) = go (f x) refl (g x) refl (filters_swap f g xs)
-  where
-    go : (b : Bool) → f x ≡ b → (c : Bool) → g x ≡ c → filter f (filter g xs) ≡ filter g (filter f xs)
-        → filter f (if c then x ∷ filter g xs else filter g xs) ≡ filter g (if b then x ∷ filter f xs else filter f xs)
-    go true e true k rest = cond-true _ _ _ e ∙ ap (λ ys. x ∷ ys) rest ∙ sym (cond-true _ _ _ k)
-    go true e false k rest = rest ∙ sym (cond-false _ _ _ k)
-    go false e true k rest = cond-false _ _ _ e ∙ rest
-    go false e false k rest = rest
-
--- what a filter keeps passes it
-pub all_kept : {X : Type 0} (P : X → Type 0) (test : X → Bool) (xs : List X) → AllByRecursion P xs → AllByRecursion (λ x. P x × (test x ≡ true)) (filter test xs)
-all_kept P test [] h = tt
-all_kept P test (x ∷ xs) (q, qs) = go (test x) refl (all_kept P test xs qs)
-  where
-    go : (b : Bool) → test x ≡ b → AllByRecursion (λ x. P x × (test x ≡ true)) (filter test xs)
-        → AllByRecursion (λ x. P x × (test x ≡ true)) (if b then x ∷ filter test xs else filter test xs)
-    go true e rest = ((q, e), rest)
-    go false e rest = rest
 
 module _ {X : Type 0} (lt : X → X → Bool) where
   -- ---- lists that ascend
@@ -121,7 +95,7 @@ module _ {X : Type 0} (lt : X → X → Bool) where
     tied z x y one two =
         let with_x = and_parts (not (lt z x)) (not (lt x z)) one in
         let with_y = and_parts (not (lt z y)) (not (lt y z)) two in
-        o.chain y z x (not_true (lt y z) with_y.1) (not_true (lt z x) with_x.0)
+        o.chain y z x (not-true (lt y z) with_y.1) (not-true (lt z x) with_x.0)
 
   -- a test that passes no two of which one is less
   abbrev pub IsLevel : (X → Bool) → Type 0
@@ -152,10 +126,6 @@ module _ {X : Type 0} (lt : X → X → Bool) where
   pub ordered_stable : IsStrictWeakOrder lt → (xs : List X) → IsStableBy lt xs (ordered xs)
   ordered_stable o xs z = ordered_level (ties lt z) (tied o z) xs
 
--- a filter of a list in order is in order
-pub stable_kept : {X : Type 0} (lt : X → X → Bool) (test : X → Bool) (xs ys : List X) → IsStableBy lt xs ys → IsStableBy lt (filter test xs) (filter test ys)
-stable_kept lt test xs ys h z = filters_swap (ties lt z) test ys ∙ ap (filter test) (h z) ∙ filters_swap test (ties lt z) xs
-
 -- what ascends by a field, its fields ascend
 pub ascends_by : {X Y : Type 0} (lt : Y → Y → Bool) (f : X → Y) (xs : List X) → Ascends (λ x y. lt (f x) (f y)) xs → Ascends lt (map f xs)
 ascends_by lt f [] h = tt
@@ -164,12 +134,3 @@ ascends_by {X} lt f (x ∷ xs) (q, qs) = (least xs q, ascends_by lt f xs qs)
     least : (ys : List X) → AtLeast (λ x y. lt (f x) (f y)) x ys → AtLeast lt (f x) (map f ys)
     least [] h = tt
     least (y ∷ ys) (r, rs) = (r, least ys rs)
-
-pub filter_by : {X Y : Type 0} (test : Y → Bool) (f : X → Y) (xs : List X) → filter test (map f xs) ≡ map f (filter (λ x. test (f x)) xs)
-filter_by test f [] = refl
-filter_by test f (x ∷ xs) = go (test (f x)) (filter_by test f xs)
-  where
-    go : (b : Bool) → filter test (map f xs) ≡ map f (filter (λ x. test (f x)) xs)
-        → (if b then f x ∷ filter test (map f xs) else filter test (map f xs)) ≡ map f (if b then x ∷ filter (λ x. test (f x)) xs else filter (λ x. test (f x)) xs)
-    go true rest = ap (λ ys. f x ∷ ys) rest
-    go false rest = rest

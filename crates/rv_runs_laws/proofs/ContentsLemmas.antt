@@ -7,6 +7,9 @@ use Rattle.std.proofs.lemmas.List.{length-replicate, get_or-replicate}
 use Rattle.std.proofs.Math.ListN.{get_or-eq_default}
 use Rattle.std.specs.Prelude.{◌&&◌, ◌||◌, ◌==◌, not, nat_lt, if◌then◌else◌, slice_index, slice_index_or, flat_map, option_map, option_and_then, bytes_eq, codes, IsTrue, max}
 use Rattle.std.specs.List.{AllByRecursion, find, list_any}
+use Rattle.rv_list_laws.proofs.EachLemmas.{each_append, each_map, each_pair}
+use Rattle.rv_list_laws.proofs.TruthLemmas.{one_case_of_four, or_three}
+use Rattle.rv_list_laws.proofs.FindLemmas.{none_found}
 use Rattle.rv_layout_laws.specs.Alignment.{aligned}
 use Rattle.rv_isa_laws.specs.Bytes.{little_endian, zeros}
 use Rattle.rv_isa.specs.declared.instruction.Inst.{Inst}
@@ -43,7 +46,6 @@ use Rattle.rv_source_laws.specs.Fits.{IsRowOf, CodeFits, IsPaddingIn, Contributi
 use Rattle.rv_source_laws.specs.Start.{is_within, is_in, right_at, first_byte, byte_of, spelled, spelled_contribution}
 use Rattle.rv_source_laws.specs.SourceRun.{Starts, Gap, Outside, starts_or_inside, place, found}
 use Rattle.rv_source_laws.proofs.HeldLemmas.{ContributionHeld, DirectiveHeld, IsHeld, Held}
-use Rattle.rv_source_laws.proofs.HomesLemmas.{all_join, all_map}
 use Rattle.rv_source_laws.proofs.LeftLemmas.{held_left, all_left}
 use Rattle.rv_chain_laws.specs.Realizes.{StandsIn, HoldsLines, Realizes}
 use Rattle.rv_chain_laws.specs.Contents.{IsEncoded, AreEncoded, IsWritten, contents, IsLinked}
@@ -198,18 +200,6 @@ module _ (p : Program) (file ordinal section offset line : ℕ) (home : Section)
 
 -- ---- the region of a section
 
-all_goes : (l x n w : Bool) → l ≡ true → ((l && x) ≡ true) ⊎ (((l && not x && not n && not w) ≡ true) ⊎ (((l && not x && not n && w) ≡ true) ⊎ ((l && not x && n) ≡ true)))
-all_goes true true n w e = inl refl
-all_goes true false false false e = inr (inl refl)
-all_goes true false false true e = inr (inr (inl refl))
-all_goes true false true w e = inr (inr (inr refl))
-all_goes false x n w e = absurd (cc)
-
-no_code : (l x b : Bool) → (l && not x && b) ≡ true → x ≡ false
-no_code true false b e = refl
-no_code true true b e = absurd (cc)
-no_code false x b e = absurd (cc)
-
 no_code_more : (l x n b : Bool) → (l && not x && not n && b) ≡ true → x ≡ false
 no_code_more true false n b e = refl
 no_code_more true true n b e = absurd (cc)
@@ -236,7 +226,7 @@ aligned_file goes drops t mapped file index (section ∷ sections) = go (goes (w
 aligned_files : (goes : Section → Bool) (drops : List SectionId) (mapped : List Mapped) (file : ℕ) (files : List (List Statement)) → AllByRecursion IsAligned (input_sections_of goes drops mapped file files)
 aligned_files goes drops mapped file [] = tt
 aligned_files goes drops mapped file (ss ∷ files) =
-    all_join IsAligned (input_sections_of_file goes drops (tables ss) mapped file 0 (sections_of ss)) (input_sections_of goes drops mapped (suc file) files)
+    each_append IsAligned (input_sections_of_file goes drops (tables ss) mapped file 0 (sections_of ss)) (input_sections_of goes drops mapped (suc file) files)
     (aligned_file goes drops (tables ss) mapped file 0 (sections_of ss)) (aligned_files goes drops mapped (suc file) files)
 
 some_alignment : (bs : List InputSection) → 1 ≤ greatest bs
@@ -269,30 +259,6 @@ all_found P test (y ∷ ys) x e (p, ps) = go (test y) refl (λ f. all_found P te
         (subst P same p, subst (λ z. test z ≡ true) same t)
     go false t ih = ih (subst (λ b. (if b then Some y else find test ys) ≡ Some x) t e)
 
-none_found : {X : Type 0} (test : X → Bool) (xs : List X) → find test xs ≡ None → AllByRecursion (λ x. test x ≡ false) xs
-none_found test [] e = tt
-none_found test (y ∷ ys) e = go (test y) refl (none_found test ys)
-  where
-    go : (b : Bool) → test y ≡ b → (find test ys ≡ None → AllByRecursion (λ x. test x ≡ false) ys) → (test y ≡ false) × AllByRecursion (λ x. test x ≡ false) ys
-    go true t ih =
-        let f : Some y ≡ None = subst (λ b. (if b then Some y else find test ys) ≡ None) t e in
-        absurd (cc)
-    go false t ih = (t, ih (subst (λ b. (if b then Some y else find test ys) ≡ None) t e))
-
-all_pair : {X : Type 0} (P Q : X → Type 0) (xs : List X) → AllByRecursion P xs → AllByRecursion Q xs → AllByRecursion (λ x. P x × Q x) xs
-all_pair P Q [] h k = tt
-all_pair P Q (x ∷ xs) (p, ps) (q, qs) = ((p, q), all_pair P Q xs ps qs)
-
-or_cases : (a b c : Bool) → (a || b || c) ≡ true → (a ≡ true) ⊎ ((b ≡ true) ⊎ (c ≡ true))
-or_cases true b c e = inl refl
-or_cases false true c e = inr (inl refl)
-or_cases false false true e = inr (inr refl)
-or_cases false false false e = absurd (cc)
-
-or_left : (a b c : Bool) → a ≡ true → (a || b || c) ≡ true
-or_left true b c e = refl
-or_left false b c e = absurd (cc)
-
 -- no address lies both before an end and from there on
 past : {A : Type 0} (a b c x : ℕ) → is_within a b x ≡ true → b ≤ c → c ≤ x → A
 past a b c x inside le high = let parts = within_parts a b x inside in absurd (omega arith)
@@ -319,12 +285,12 @@ all_exports P e (name ∷ names) h = (h, all_exports P e names h)
 all_where : (P : MaybeMapped → Type 0) (test : Binding → Bool) (p : Program) (statements : List MaybeMapped) → AllByRecursion P statements → AllByRecursion (λ (x : Export). P x.statement) (flat_map (exports_at test p) statements)
 all_where P test p [] h = tt
 all_where P test p (e ∷ es) (h, hs) =
-    all_join (λ (x : Export). P x.statement) (exports_at test p e) (flat_map (exports_at test p) es)
+    each_append (λ (x : Export). P x.statement) (exports_at test p e) (flat_map (exports_at test p) es)
     (all_exports P e (names_where test (tables_in p e.located.file) e.located) h) (all_where P test p es hs)
 
 pub all_candidates : (P : MaybeMapped → Type 0) (p : Program) → AllByRecursion P p.statements → AllByRecursion (λ (x : Export). P x.statement) (candidates p)
 all_candidates P p h =
-    all_join (λ (x : Export). P x.statement) (exports_where is_global p) (exports_where is_weak p)
+    each_append (λ (x : Export). P x.statement) (exports_where is_global p) (exports_where is_weak p)
     (all_where P is_global p p.statements h) (all_where P is_weak p p.statements h)
 
 -- ---- a linked program
@@ -354,15 +320,15 @@ module _ (sources : List (List Statement)) (a : ℕ) (relax gc : Bool) (l : Link
 
   fitting : AllByRecursion Fitting p.mapped
   fitting =
-      all_pair (SizeFits p) (λ s. Held s.located) p.mapped h.fits.sizes
-      (all_map (IsSeated Held) (λ s. Held s.located) p.mapped (λ s seat. seat.0) (seats Held (left map_of.drops sources) map_of.rows (all_left Held Held map_of.drops (located sources) (held_left map_of.drops) (held_of 1 sources h.fits.good))))
+      each_pair (SizeFits p) (λ s. Held s.located) p.mapped h.fits.sizes
+      (each_map (IsSeated Held) (λ s. Held s.located) p.mapped (λ s seat. seat.0) (seats Held (left map_of.drops sources) map_of.rows (all_left Held Held map_of.drops (located sources) (held_left map_of.drops) (held_of 1 sources h.fits.good))))
 
   is_aligned : (goes : Section → Bool) → AllByRecursion IsAligned (region goes)
   is_aligned goes = aligned_files goes map_of.drops p.mapped 1 sources
 
   data_sized : (goes : Section → Bool) → ((s : Section) → goes s ≡ true → s.executable ≡ false) → AllIn (Sized (spelled p)) (region goes)
   data_sized goes none = to_blocks map_of.drops p.mapped sources goes (Sized (spelled p)) at_home
-      (all_map Fitting (λ s. goes s.located.home ≡ true → Sized (spelled p) s) p.mapped
+      (each_map Fitting (λ s. goes s.located.home ≡ true → Sized (spelled p) s) p.mapped
       (λ s fits good. statement_data p s.located.file s.located.ordinal s.located.section s.located.offset s.located.line s.located.home s.located.options s.located.placed s.row s.located.kind fits.0 fits.1 (none s.located.home good)) fitting)
 
   not_rodata : (s : Section) → goes_to_rodata s ≡ true → s.executable ≡ false
@@ -381,7 +347,7 @@ module _ (sources : List (List Statement)) (a : ℕ) (relax gc : Bool) (l : Link
 
   code_sized : AllIn (Sized code) (region goes_to_text)
   code_sized = to_blocks map_of.drops p.mapped sources goes_to_text (Sized code) at_home
-      (all_map (λ s. IsTrue s.located.home.executable → IsWritten p s (code s)) (λ s. goes_to_text s.located.home ≡ true → Sized code s) p.mapped
+      (each_map (λ s. IsTrue s.located.home.executable → IsWritten p s (code s)) (λ s. goes_to_text s.located.home ≡ true → Sized code s) p.mapped
       (λ s w good. written_sized s (w (and_parts s.located.home.loaded s.located.home.executable good).1)) h.written)
 
   -- each region holds its sections from its start on
@@ -451,15 +417,15 @@ module _ (sources : List (List Statement)) (a : ℕ) (relax gc : Bool) (l : Link
 
     whole : AllByRecursion Whole p.mapped
     whole =
-        all_pair (IsAtHome map_of.drops sections) _ p.mapped at_home
-        (all_pair Fitting _ p.mapped fitting
-        (all_pair (λ s. IsTrue s.located.home.executable → IsWritten p s (code s)) _ p.mapped h.written
-        (all_pair (In goes_to_text (LiesIn map_of.text.start map_of.text.end)) _ p.mapped (lies goes_to_text map_of.text.start a map_of.text.end text_holds.0 text_holds.1 text_holds.2)
-        (all_pair (In goes_to_text (λ s. HasBytes m s.row.address (code s))) _ p.mapped (held goes_to_text code map_of.text.start a l.text text_holds.0 text_holds.1 text_is code_sized (text_held l are_regions))
-        (all_pair (In goes_to_rodata (LiesIn map_of.rodata.start map_of.rodata.end)) _ p.mapped (lies goes_to_rodata map_of.rodata.start (aligned 4096 map_of.text.end) map_of.rodata.end rodata_holds.0 rodata_holds.1 rodata_holds.2)
-        (all_pair (In goes_to_rodata (λ s. HasBytes m s.row.address (spelled p s))) _ p.mapped (held goes_to_rodata (spelled p) map_of.rodata.start (aligned 4096 map_of.text.end) l.rodata rodata_holds.0 rodata_holds.1 rodata_is (data_sized goes_to_rodata not_rodata) (rodata_held l are_regions))
-        (all_pair (In goes_to_data (LiesIn map_of.data.start map_of.data.end)) _ p.mapped (lies goes_to_data map_of.data.start (aligned 4096 map_of.rodata.end) map_of.data.end data_holds.0 data_holds.1 data_holds.2)
-        (all_pair (In goes_to_data (λ s. HasBytes m s.row.address (spelled p s))) (In goes_to_bss (LiesIn map_of.bss.start map_of.bss.end)) p.mapped (held goes_to_data (spelled p) map_of.data.start (aligned 4096 map_of.rodata.end) l.data data_holds.0 data_holds.1 data_is (data_sized goes_to_data not_data) (data_held l are_regions))
+        each_pair (IsAtHome map_of.drops sections) _ p.mapped at_home
+        (each_pair Fitting _ p.mapped fitting
+        (each_pair (λ s. IsTrue s.located.home.executable → IsWritten p s (code s)) _ p.mapped h.written
+        (each_pair (In goes_to_text (LiesIn map_of.text.start map_of.text.end)) _ p.mapped (lies goes_to_text map_of.text.start a map_of.text.end text_holds.0 text_holds.1 text_holds.2)
+        (each_pair (In goes_to_text (λ s. HasBytes m s.row.address (code s))) _ p.mapped (held goes_to_text code map_of.text.start a l.text text_holds.0 text_holds.1 text_is code_sized (text_held l are_regions))
+        (each_pair (In goes_to_rodata (LiesIn map_of.rodata.start map_of.rodata.end)) _ p.mapped (lies goes_to_rodata map_of.rodata.start (aligned 4096 map_of.text.end) map_of.rodata.end rodata_holds.0 rodata_holds.1 rodata_holds.2)
+        (each_pair (In goes_to_rodata (λ s. HasBytes m s.row.address (spelled p s))) _ p.mapped (held goes_to_rodata (spelled p) map_of.rodata.start (aligned 4096 map_of.text.end) l.rodata rodata_holds.0 rodata_holds.1 rodata_is (data_sized goes_to_rodata not_rodata) (rodata_held l are_regions))
+        (each_pair (In goes_to_data (LiesIn map_of.data.start map_of.data.end)) _ p.mapped (lies goes_to_data map_of.data.start (aligned 4096 map_of.rodata.end) map_of.data.end data_holds.0 data_holds.1 data_holds.2)
+        (each_pair (In goes_to_data (λ s. HasBytes m s.row.address (spelled p s))) (In goes_to_bss (LiesIn map_of.bss.start map_of.bss.end)) p.mapped (held goes_to_data (spelled p) map_of.data.start (aligned 4096 map_of.rodata.end) l.data data_holds.0 data_holds.1 data_is (data_sized goes_to_data not_data) (data_held l are_regions))
         (lies goes_to_bss map_of.bss.start (aligned (greatest (region goes_to_bss)) map_of.data.end) map_of.bss.end bss_holds.0 bss_holds.1 bss_holds.2)))))))))
 
     -- the ends of the regions in their order
@@ -514,12 +480,12 @@ module _ (sources : List (List Statement)) (a : ℕ) (relax gc : Bool) (l : Link
         )
 
     pub code_stands : AllByRecursion (λ s. s.located.home.executable ≡ true → StandsInText s) p.mapped
-    code_stands = all_map Whole (λ s. s.located.home.executable ≡ true → StandsInText s) p.mapped stands whole
+    code_stands = each_map Whole (λ s. s.located.home.executable ≡ true → StandsInText s) p.mapped stands whole
 
     -- every other statement stands behind the text
     behind : (s : Mapped) → Whole s → s.located.home.executable ≡ false → map_of.text.end ≤ s.row.address
     behind s (home, (fits, (written, (tl, (th, (rl, (rh, (dl, (dh, bl))))))))) other =
-        elim (all_goes s.located.home.loaded s.located.home.executable (is_nobits s.located.home) s.located.home.writable home.1) [
+        elim (one_case_of_four s.located.home.loaded s.located.home.executable (is_nobits s.located.home) s.located.home.writable home.1) [
           | inl good ↦ true_false s.located.home.executable (and_parts s.located.home.loaded s.located.home.executable good).1 other
           | inr more ↦ elim more [
             | inl good ↦ (let low = (rl good).0 in let e = rodata_past in omega arith)
@@ -531,7 +497,7 @@ module _ (sources : List (List Statement)) (a : ℕ) (relax gc : Bool) (l : Link
         ]
 
     pub data_stands : AllByRecursion (λ s. s.located.home.executable ≡ false → map_of.text.end ≤ s.row.address) p.mapped
-    data_stands = all_map Whole (λ s. s.located.home.executable ≡ false → map_of.text.end ≤ s.row.address) p.mapped behind whole
+    data_stands = each_map Whole (λ s. s.located.home.executable ≡ false → map_of.text.end ≤ s.row.address) p.mapped behind whole
 
     text_runs : (x : ℕ) → map_of.text.start ≤ x → Runs m x map_of.text.end
     text_runs x low y l' u =
@@ -542,7 +508,7 @@ module _ (sources : List (List Statement)) (a : ℕ) (relax gc : Bool) (l : Link
     -- a row of the text holds its lines
     row_holds : (s : Mapped) → Whole s → is_in map_of.text s.row.address ≡ true → HoldsLines reader m p s
     row_holds s (home, (fits, (written, (tl, (th, (rl, (rh, (dl, (dh, bl))))))))) inside =
-        elim (all_goes s.located.home.loaded s.located.home.executable (is_nobits s.located.home) s.located.home.writable home.1) [
+        elim (one_case_of_four s.located.home.loaded s.located.home.executable (is_nobits s.located.home) s.located.home.writable home.1) [
           | inl good ↦
               let x = (and_parts s.located.home.loaded s.located.home.executable good).1 in
               let lie = tl good in
@@ -602,7 +568,7 @@ module _ (sources : List (List Statement)) (a : ℕ) (relax gc : Bool) (l : Link
     row_spells : (s : Mapped) (x : ℕ) → Whole s → right_at map_of x Read ≡ true → is_within s.row.address (s.row.address + s.row.bytes) x ≡ true → m.byte x ≡ slice_index (spelled p s) (x - s.row.address)
     row_spells s x (home, (fits, (written, (tl, (th, (rl, (rh, (dl, (dh, bl))))))))) readable inside =
         let st = s.located in
-        elim (all_goes s.located.home.loaded s.located.home.executable (is_nobits s.located.home) s.located.home.writable home.1) [
+        elim (one_case_of_four s.located.home.loaded s.located.home.executable (is_nobits s.located.home) s.located.home.writable home.1) [
           | inl good ↦ true_false (right_at map_of x Read) readable (unreadable x (wider map_of.text.start map_of.text.end s.row.address (s.row.address + s.row.bytes) x (tl good).0 (tl good).1 inside))
           | inr other ↦ elim other [
             | inl good ↦ spelled_at s x (statement_data p s.located.file s.located.ordinal s.located.section s.located.offset s.located.line s.located.home s.located.options s.located.placed s.row s.located.kind fits.0 fits.1 (not_rodata s.located.home good)) (rh good) inside
@@ -618,7 +584,7 @@ module _ (sources : List (List Statement)) (a : ℕ) (relax gc : Bool) (l : Link
         ]
 
     missed : (goes : Section → Bool) (x : ℕ) → AllByRecursion (Misses x) p.mapped → AllIn (Misses x) (region goes)
-    missed goes x none = to_blocks map_of.drops p.mapped sources goes (Misses x) at_home (all_map (Misses x) (In goes (Misses x)) p.mapped (λ s e good. e) none)
+    missed goes x none = to_blocks map_of.drops p.mapped sources goes (Misses x) at_home (each_map (Misses x) (In goes (Misses x)) p.mapped (λ s e good. e) none)
 
     -- no row lies over a byte that can be read: it is zero
     region_zero : (goes : Section → Bool) (start place stop x : ℕ) (stored : List ℕ) → start ≡ place → Stand place (region goes) → stop ≡ layout_end place (region goes) → stored ≡ contents (spelled p) start (region goes) → AllIn (Sized (spelled p)) (region goes) → HasBytes m start stored
@@ -629,7 +595,7 @@ module _ (sources : List (List Statement)) (a : ℕ) (relax gc : Bool) (l : Link
 
     none_zero : (x : ℕ) → AllByRecursion (Misses x) p.mapped → right_at map_of x Read ≡ true → m.byte x ≡ 0
     none_zero x none readable =
-        elim (or_cases (is_in map_of.rodata x) (is_within map_of.data.start map_of.bss.end x) (is_within stack_start stack_end x) readable) [
+        elim (or_three (is_in map_of.rodata x) (is_within map_of.data.start map_of.bss.end x) (is_within stack_start stack_end x) readable) [
           | inl inside ↦
               let parts = within_parts map_of.rodata.start map_of.rodata.end x inside in
               region_zero goes_to_rodata map_of.rodata.start (aligned 4096 map_of.text.end) map_of.rodata.end x l.rodata rodata_holds.0 rodata_holds.1 rodata_holds.2 rodata_is (data_sized goes_to_rodata not_rodata) (rodata_held l are_regions) none parts.0 parts.1

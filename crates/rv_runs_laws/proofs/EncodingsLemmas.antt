@@ -3,6 +3,7 @@
 use Rattle.std.proofs.Common.{◌≡◌, ℕ, ◌+◌, ◌*◌, ◌/◌, ◌%◌, ◌^◌, ◌<◌, ◌≤◌, List, [], ◌∷◌, ◌++◌, length, drop, map, flat_map, refl, sym, ap, ◌∙◌, subst, arith, Option, Some, inl, inr}
 use Rattle.std.proofs.lemmas.List.{length-append}
 use Rattle.std.specs.List.{AllByRecursion}
+use Rattle.rv_list_laws.proofs.TakeDropLemmas.{drop_front}
 use Rattle.rv_isa.specs.declared.instruction.Inst.{Inst}
 use Rattle.rv_isa.specs.Ranges.{IsValid}
 use Rattle.rv_isa_laws.specs.Bytes.{little_endian}
@@ -67,10 +68,6 @@ front_of_line l bytes rest valid (inr (two, (q, stands, same))) =
 some_bytes : (l : Line) (bytes : List ℕ) → IsSpelled l bytes → 1 ≤ l.bytes
 some_bytes l bytes (inl (four, same)) = omega (arith, four)
 some_bytes l bytes (inr (two, same)) = omega (arith, two)
-
-drop_front : (front rest : List ℕ) → drop (length front) (front ++ rest) ≡ rest
-drop_front [] rest = refl
-drop_front (b ∷ bs) rest = drop_front bs rest
 
 pub lines_shown : (reader : Reader Spells StandsFor) (named : Option Compressed) (ls : List Line) (a stop : ℕ) (bytes : List ℕ) → Lie a ls stop → AreEncoded named ls bytes
     → AllByRecursion IsValid (map (λ (l : Line). l.instruction) ls) → lines reader 0 a bytes ≡ flat_map line_text ls

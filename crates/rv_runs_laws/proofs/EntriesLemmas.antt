@@ -1,6 +1,6 @@
 -- Entries of statements, one after another.
 
-use Rattle.std.proofs.Common.{◌≡◌, ℕ, Bool, true, false, List, [], ◌∷◌, ◌++◌, length, map, flat_map, filter, drop, refl, ap, ◌∙◌, arith, None}
+use Rattle.std.proofs.Common.{◌≡◌, ℕ, Bool, true, false, List, [], ◌∷◌, length, map, flat_map, filter, drop, refl, ap, arith, None}
 use Rattle.std.specs.Prelude.{if◌then◌else◌}
 use Rattle.std.specs.List.{AllByRecursion}
 use Rattle.rv_map_laws.specs.declared.map.Row.{Row}
@@ -22,19 +22,6 @@ rows_by (t ∷ ts) rows same = go (has_row t) rows (rows_by ts) same
     go false rows others long = others rows long
 
 -- ---- texts
-
--- what shows nothing may be left out
-pub shown_by : {X : Type 0} (f : X → List ℕ) (test : X → Bool) (xs : List X) → AllByRecursion (λ x. test x ≡ false → f x ≡ []) xs → flat_map f xs ≡ flat_map f (filter test xs)
-shown_by f test [] h = refl
-shown_by f test (x ∷ xs) (h, hs) = go (test x) refl (shown_by f test xs hs)
-  where
-    go : (b : Bool) → test x ≡ b → flat_map f xs ≡ flat_map f (filter test xs) → f x ++ flat_map f xs ≡ flat_map f (if b then x ∷ filter test xs else filter test xs)
-    go true e rest = ap (λ t. f x ++ t) rest
-    go false e rest = ap (λ t. t ++ flat_map f xs) (h e) ∙ rest
-
-pub flat_map_map : {X Y : Type 0} (f : Y → List ℕ) (g : X → Y) (xs : List X) → flat_map f (map g xs) ≡ flat_map (λ x. f (g x)) xs
-flat_map_map f g [] = refl
-flat_map_map f g (x ∷ xs) = ap (λ t. f (g x) ++ t) (flat_map_map f g xs)
 
 pub entries_of : (p : Program) (f : Mapped → List ℕ) (ss : List Mapped) → AllByRecursion (λ s. IsEntry p s (f s)) ss → AreEntries p ss (flat_map f ss)
 entries_of p f [] h = refl

@@ -3,11 +3,12 @@
 use Rattle.std.proofs.Common.{◌≡◌, ◌⊎◌, inl, inr, ℕ, ◌+◌, ◌%◌, ◌^◌, ◌<◌, Bool, true, false, Option, Some, None, refl, sym, ap, ◌∙◌, arith}
 use Rattle.std.specs.Prelude.{◌&&◌, ◌==◌, if◌then◌else◌}
 use Rattle.std.proofs.lemmas.Bool.{cases_Bool}
+use Rattle.rv_list_laws.proofs.NumbersLemmas.{mod_below}
 use Rattle.rv_isa.specs.declared.instruction.Inst.{Inst}
 use Rattle.rv_isa_laws.specs.Memory.{Mem, Right, Execute, may, number_at}
 use Rattle.rv_isa_laws.specs.Reader.{Reader}
 use Rattle.rv_isa_laws.specs.Run.{Fetched, NoRight, Got, spelled, length_at, fetch}
-use Rattle.rv_runs_laws.proofs.AlikeLemmas.{wraps, bare, may_same, number_same}
+use Rattle.rv_runs_laws.proofs.AlikeLemmas.{bare, may_same, number_same}
 
 -- a memory with these rights, in which what can be executed is as it was at first
 pub record Text (has : ℕ → Right → Bool) (first m : Mem) : Type 0 where
@@ -54,7 +55,7 @@ module _ {Spells StandsFor : ℕ → Inst → Type 0} (reader : Reader Spells St
 
     pub fetch_kept : (m : Mem) → Text has first m → (a : ℕ) → has (a % 2 ^ 64) Execute ≡ true → fetch reader m a ≡ fetch reader first a
     fetch_kept m text a runs =
-        let e : length_at m a ≡ length_at first a = ap (λ b. if b % 4 == 3 then 4 else 2) (text.kept (a % 2 ^ 64) (wraps a) runs) in
+        let e : length_at m a ≡ length_at first a = ap (λ b. if b % 4 == 3 then 4 else 2) (text.kept (a % 2 ^ 64) (mod_below a) runs) in
         ap (λ n. fetch_of n m a) e ∙ by_length m text a (first.byte (a % 2 ^ 64) % 4 == 3)
 
     no_right_of : (m : Mem) (a : ℕ) (t : Bool) → m.has (a % 2 ^ 64) Execute ≡ false → fetch_of (if t then 4 else 2) m a ≡ NoRight
@@ -62,7 +63,7 @@ module _ {Spells StandsFor : ℕ → Inst → Type 0} (reader : Reader Spells St
     no_right_of m a false e = ap (λ b. if b && may m (a + 1) 1 Execute then spelled 2 (reader.parcel (number_at m a 2)) else NoRight) e
 
     pub no_right : (m : Mem) → ((a : ℕ) → a < 2 ^ 64 → (right : Right) → m.has a right ≡ has a right) → (a : ℕ) → has (a % 2 ^ 64) Execute ≡ false → fetch reader m a ≡ NoRight
-    no_right m same a none = no_right_of m a (m.byte (a % 2 ^ 64) % 4 == 3) (same (a % 2 ^ 64) (wraps a) Execute ∙ none)
+    no_right m same a none = no_right_of m a (m.byte (a % 2 ^ 64) % 4 == 3) (same (a % 2 ^ 64) (mod_below a) Execute ∙ none)
 
     -- what was fetched at first is fetched at any time
     pub fetched : (m : Mem) → Text has first m → (a : ℕ) (x : Fetched) → (x ≡ NoRight → ⊥) → fetch reader first a ≡ x → fetch reader m a ≡ x

@@ -4,6 +4,7 @@ use Rattle.std.proofs.Common.{◌≡◌, ℕ, zero, suc, ◌+◌, Bool, true, fa
 use Rattle.std.proofs.lemmas.Bool.{and_parts, eqb-true, eq-eqb}
 use Rattle.std.specs.Prelude.{◌&&◌, ◌==◌, if◌then◌else◌, slice_get}
 use Rattle.std.specs.List.{AllByRecursion}
+use Rattle.rv_list_laws.proofs.EachLemmas.{each_append}
 use Rattle.rv_statement_laws.specs.Statement.{Statement}
 use Rattle.rv_unit_laws.specs.Sections.{Section, text_section}
 use Rattle.rv_unit_laws.specs.Tables.{Tables, at_start, tables, opened_of}
@@ -13,7 +14,7 @@ use Rattle.rv_collect_laws.specs.Graph.{is_dropped}
 use Rattle.rv_source_laws.specs.Located.{Located, located_from, located_of, located, left, has_row, without_address}
 use Rattle.rv_source_laws.specs.Program.{Mapped, first_of, mapped_statements, seated, mapped_of}
 use Rattle.rv_source_laws.specs.Fits.{input_section, input_sections_of_file, input_sections_of, mapped_in}
-use Rattle.rv_source_laws.proofs.HomesLemmas.{IsHomeIn, homes_from, all_join}
+use Rattle.rv_source_laws.proofs.HomesLemmas.{IsHomeIn, homes_from}
 use Rattle.rv_source_laws.proofs.LeftLemmas.{IsLeftIn, home_left, all_left}
 use Rattle.rv_runs_laws.proofs.RegionsLemmas.{AllIn}
 
@@ -45,7 +46,7 @@ rest_of_these sections file ss files same i = ap sections (let e : suc file + i 
 homes_of : (sections : ℕ → List Section) (file : ℕ) (sources : List (List Statement)) → AreOf sections file sources → AllByRecursion (IsHomeIn sections) (located_of file sources)
 homes_of sections file [] same = tt
 homes_of sections file (ss ∷ files) same =
-    all_join (IsHomeIn sections) (located_from file 1 (at_start ss) ss) (located_of (suc file) files)
+    each_append (IsHomeIn sections) (located_from file 1 (at_start ss) ss) (located_of (suc file) files)
     (homes_from sections file 1 (at_start ss) ss (first_of_these sections file ss files same) (text_section, refl))
     (homes_of sections (suc file) files (rest_of_these sections file ss files same))
 
@@ -124,7 +125,7 @@ module _ (drops : List SectionId) (all : List Mapped) (sources : List (List Stat
   to_files hs ws file [] same = tt
   to_files hs ws file (ss ∷ files) same =
       let own : sections file ≡ sections_of ss = first_of_these sections file ss files same in
-      all_join (λ b. AllByRecursion P b.mapped) (input_sections_of_file goes drops (tables ss) all file 0 (sections_of ss)) (input_sections_of goes drops all (suc file) files)
+      each_append (λ b. AllByRecursion P b.mapped) (input_sections_of_file goes drops (tables ss) all file 0 (sections_of ss)) (input_sections_of goes drops all (suc file) files)
       (to_file hs ws (tables ss) file 0 (sections_of ss) (λ j. ap (λ i. slice_get (sections file) i) (let e : 0 + j ≡ j = omega arith in e) ∙ ap (λ xs. slice_get xs j) own))
       (to_files hs ws (suc file) files (rest_of_these sections file ss files same))
 

@@ -2,10 +2,11 @@
 
 use Rattle.std.proofs.Common.{◌≡◌, ℕ, suc, ◌+◌, ◌-◌, ◌<◌, ◌≤◌, Bool, true, false, List, [], ◌∷◌, ◌++◌, length, refl, sym, ap, ◌∙◌, subst, arith, map, append_assoc, length-append, Option, Some, None}
 use Rattle.std.proofs.lemmas.Bool.Decides.{nat_tests}
-use Rattle.std.proofs.lemmas.Bool.{eqb-true}
+use Rattle.std.proofs.lemmas.Bool.{eqb-true, not-false}
 use Rattle.std.proofs.lemmas.List.{length-replicate}
 use Rattle.std.proofs.Math.Seq.{get_or-append_seam}
-use Rattle.std.specs.Prelude.{◌&&◌, ◌||◌, ◌==◌, not, nat_le, nat_lt, if◌then◌else◌, filter, slice_index}
+use Rattle.std.specs.Prelude.{◌&&◌, ◌||◌, ◌==◌, nat_le, nat_lt, if◌then◌else◌, filter, slice_index}
+use Rattle.rv_list_laws.proofs.TruthLemmas.{or_false}
 use Rattle.rv_isa_laws.specs.Bytes.{zeros}
 use Rattle.rv_isa_laws.specs.Memory.{Mem, Right, Read, Write, Execute}
 use Rattle.rv_image_laws.specs.Linked.{Linked}
@@ -33,13 +34,9 @@ pub record AreRegions (l : Linked) : Type 0 where
 part_size : (part : Part) → length (part.stored ++ zeros part.zeros) ≡ memory_size_of part
 part_size part = length-append part.stored (zeros part.zeros) ∙ ap (λ n. length part.stored + n) (length-replicate {A = ℕ} part.zeros 0)
 
-pub not_false : (b : Bool) → not b ≡ false → b ≡ true
-not_false true e = refl
-not_false false e = absurd (cc)
-
 empty_none : (part : Part) (x : ℕ) → has_memory part ≡ false → lies_in (segment_of_part part) x ≡ false
 empty_none part x e =
-    let none : memory_size_of part ≡ 0 = eqb-true (memory_size_of part) 0 (not_false (memory_size_of part == 0) e) in
+    let none : memory_size_of part ≡ 0 = eqb-true (memory_size_of part) 0 (not-false (memory_size_of part == 0) e) in
     let short : length (part.stored ++ zeros part.zeros) ≡ 0 = part_size part ∙ none in
     ap (λ n. nat_le part.address x && nat_lt x (part.address + n)) short ∙ empty part.address
   where
@@ -62,10 +59,6 @@ pick t r d in_t in_r in_d = if in_t then Some t else (if in_r then Some r else (
 
 no_both : {A : Type 0} → true ≡ false → A
 no_both e = absurd (cc)
-
-or_false : (b : Bool) → (b || false) ≡ b
-or_false true = refl
-or_false false = refl
 
 module _ (a b c : ℕ) (t r d : List ℕ) where
   abbrev text_part : Segment

@@ -9,6 +9,10 @@ use Rattle.std.specs.Prelude.{◌&&◌, ◌↔◌, nat_lt}
 use Rattle.std.specs.Cmp.{IsStrictWeakOrder}
 use Rattle.std.specs.List.{AllByRecursion}
 use Rattle.std.specs.List.Sorted.{ties}
+use Rattle.rv_list_laws.proofs.EachLemmas.{each_map}
+use Rattle.rv_list_laws.proofs.FilterLemmas.{each_filter_passes, filter_of_map, flat_map_filter}
+use Rattle.rv_list_laws.proofs.SortedLemmas.{stable_kept}
+use Rattle.rv_list_laws.proofs.MapLemmas.{flat_map_map}
 use Rattle.rv_isa_laws.specs.Word.{Spells}
 use Rattle.rv_parcel.specs.Parcel.{StandsFor}
 use Rattle.rv_isa_laws.specs.Memory.{Mem}
@@ -22,7 +26,6 @@ use Rattle.rv_source_laws.specs.Located.{left, has_row}
 use Rattle.rv_source_laws.specs.Program.{Mapped, Program, program}
 use Rattle.rv_source_laws.specs.Lines.{form_at}
 use Rattle.rv_source_laws.specs.Fits.{IsRowOf, identity_of, identity_of_row}
-use Rattle.rv_source_laws.proofs.HomesLemmas.{all_map}
 use Rattle.rv_listing_laws.specs.Listing.{IsListing, row_text, row_bytes, entry, statement}
 use Rattle.rv_listing_laws.specs.Order.{compared}
 use Rattle.rv_listing_laws.proofs.LinesOnLemmas.{entry_some}
@@ -31,9 +34,9 @@ use Rattle.rv_chain_laws.specs.Contents.{IsLinked}
 use Rattle.rv_runs_laws.proofs.ContentsLemmas.{lines_length, are_regions, StandsInText, code_stands, data_stands}
 use Rattle.rv_runs_laws.proofs.LaidOutLemmas.{text_held}
 use Rattle.rv_chain_laws.specs.SourceListing.{is_listed, IsEntry, AreEntries, IsSourceListing}
-use Rattle.rv_runs_laws.proofs.AscendingLemmas.{all_kept, all_ordered, ascends_by, ascends_kept, filter_by, ordered, ordered_ascends, ordered_level, ordered_stable, sorted_from, stable_kept, tied}
+use Rattle.rv_runs_laws.proofs.AscendingLemmas.{all_ordered, ascends_by, ascends_kept, ordered, ordered_ascends, ordered_level, ordered_stable, sorted_from, tied}
 use Rattle.rv_runs_laws.proofs.EncodingsLemmas.{lines_shown}
-use Rattle.rv_runs_laws.proofs.EntriesLemmas.{rows_by, shown_by, flat_map_map, entries_of}
+use Rattle.rv_runs_laws.proofs.EntriesLemmas.{rows_by, entries_of}
 use Rattle.rv_runs_laws.proofs.OneListingLemmas.{one_source_listing}
 use Rattle.rv_runs_laws.proofs.SegmentsLemmas.{bytes_empty, bytes_behind_text, bytes_in_text}
 use Rattle.rv_runs_laws.proofs.RegionsLemmas.{row_of}
@@ -119,27 +122,27 @@ module _ (sources : List (List Statement)) (start : ℕ) (relax gc : Bool) (l : 
   pub source_listing : IsSourceListing p (flat_map shown in_order)
   source_listing =
       let showing : AllByRecursion (λ s. is_listed s ≡ true → IsEntry p s (shown s)) p.mapped =
-      all_map (λ s. s.located.home.executable ≡ true → StandsInText sources start relax gc l h reader s) (λ s. is_listed s ≡ true → IsEntry p s (shown s)) p.mapped listed_shown (code_stands sources start relax gc l h reader) in
+      each_map (λ s. s.located.home.executable ≡ true → StandsInText sources start relax gc l h reader s) (λ s. is_listed s ≡ true → IsEntry p s (shown s)) p.mapped listed_shown (code_stands sources start relax gc l h reader) in
       let blank : AllByRecursion (λ s. is_listed s ≡ false → shown s ≡ []) p.mapped =
-      all_map (λ s. s.located.home.executable ≡ false → l.map.text.end ≤ s.row.address) (λ s. is_listed s ≡ false → shown s ≡ []) p.mapped others_shown (data_stands sources start relax gc l h reader) in
-      let kept = all_kept (λ s. is_listed s ≡ true → IsEntry p s (shown s)) is_listed in_order (all_ordered before _ p.mapped showing) in
-      let all : AllByRecursion (λ s. IsEntry p s (shown s)) (filter is_listed in_order) = all_map _ (λ s. IsEntry p s (shown s)) (filter is_listed in_order) (λ s both. both.0 both.1) kept in
+      each_map (λ s. s.located.home.executable ≡ false → l.map.text.end ≤ s.row.address) (λ s. is_listed s ≡ false → shown s ≡ []) p.mapped others_shown (data_stands sources start relax gc l h reader) in
+      let kept = each_filter_passes (λ s. is_listed s ≡ true → IsEntry p s (shown s)) is_listed in_order (all_ordered before _ p.mapped showing) in
+      let all : AllByRecursion (λ s. IsEntry p s (shown s)) (filter is_listed in_order) = each_map _ (λ s. IsEntry p s (shown s)) (filter is_listed in_order) (λ s both. both.0 both.1) kept in
       record {
         statements = filter is_listed in_order;
         order = record {
           sorted = sorted_from before (filter is_listed in_order) (ascends_kept before is_listed in_order (ordered_ascends before before_ranks p.mapped));
           stable = stable_kept before is_listed p.mapped in_order (ordered_stable before before_ranks p.mapped);
         };
-        entries = subst (AreEntries p (filter is_listed in_order)) (sym (shown_by shown is_listed in_order (all_ordered before _ p.mapped blank)))
+        entries = subst (AreEntries p (filter is_listed in_order)) (sym (flat_map_filter shown is_listed in_order (all_ordered before _ p.mapped blank)))
             (entries_of p shown (filter is_listed in_order) all);
       }
 
   rows_stand : (r : Row) → filter (ties rows_before r) (map row_of in_order) ≡ filter (ties rows_before r) l.map.rows
   rows_stand r =
       let with_r : Mapped → Bool = λ s. ties rows_before r s.row in
-      filter_by (ties rows_before r) row_of in_order
+      filter_of_map (ties rows_before r) row_of in_order
       ∙ ap (map row_of) (ordered_level before with_r (λ s t. tied rows_before rows_ranks r s.row t.row) p.mapped)
-      ∙ sym (filter_by (ties rows_before r) row_of p.mapped)
+      ∙ sym (filter_of_map (ties rows_before r) row_of p.mapped)
       ∙ ap (filter (ties rows_before r)) rows_are
 
   image_listing : IsListing reader (linked_image l) l.map (flat_map shown in_order)

@@ -1,17 +1,17 @@
 -- Sources have one listing at a map.
 
-use Rattle.std.proofs.Common.{◌≡◌, ℕ, ◌+◌, Bool, true, false, List, [], ◌∷◌, ◌++◌, flat_map, filter, is_lt, refl, sym, ap, ◌∙◌, subst, arith, Option, Some, None, inl, inr}
+use Rattle.std.proofs.Common.{◌≡◌, ℕ, ◌+◌, Bool, List, [], ◌∷◌, ◌++◌, flat_map, filter, is_lt, refl, sym, ap, ◌∙◌, subst, arith, Option, Some}
 use Rattle.std.proofs.lemmas.List.Sorted.{ranks_by}
 use Rattle.std.specs.Cmp.{IsStrictWeakOrder}
-use Rattle.rv_isa.specs.declared.instruction.Inst.{Inst}
 use Rattle.rv_parcel.specs.declared.form.Compressed.{Compressed}
-use Rattle.rv_parcel.specs.Encoded.{IsLeast, IsLeastAs}
+use Rattle.rv_parcel.specs.Encoded.{IsLeastAs}
 use Rattle.rv_statement_laws.specs.Statement.{StatementKind, Label, Numbered, Instruction, Directs}
 use Rattle.rv_pseudo_laws.specs.Code.{Part, Closed, Open, Joined}
 use Rattle.rv_source_laws.specs.Program.{Mapped, Program}
 use Rattle.rv_source_laws.specs.Lines.{form_at, Line, Lie}
 use Rattle.rv_listing_laws.specs.Listing.{statement}
 use Rattle.rv_listing_laws.proofs.OrderedLemmas.{one_order, compared_total}
+use Rattle.rv_assemble_laws.proofs.EncodedLemmas.{least_one_as}
 use Rattle.rv_chain_laws.specs.Contents.{AreSized, ArePadding, HasSizes}
 use Rattle.rv_chain_laws.specs.SourceListing.{is_listed, by_row, line_text, IsEntry, AreEntries, IsSourceListing}
 use Rattle.rv_runs_laws.proofs.ContentsLemmas.{instructions_of as instructions}
@@ -20,17 +20,6 @@ use Rattle.rv_runs_laws.proofs.ContentsLemmas.{instructions_of as instructions}
 
 one_line : (l m : Line) → l.address ≡ m.address → l.bytes ≡ m.bytes → l.instruction ≡ m.instruction → l ≡ m
 one_line l m address bytes instruction = λ i. record { address = address i; bytes = bytes i; instruction = instruction i }
-
-one_size : (compressed : Bool) (i : Inst) (n k : ℕ) → IsLeast compressed i n → IsLeast compressed i k → n ≡ k
-one_size true i n k (inl (two, short)) (inl (two', short')) = two ∙ sym two'
-one_size true i n k (inl (two, short)) (inr (four, none)) = absurd (none short)
-one_size true i n k (inr (four, none)) (inl (two, short)) = absurd (none short)
-one_size true i n k (inr (four, none)) (inr (four', none')) = four ∙ sym four'
-one_size false i n k four four' = four ∙ sym four'
-
-one_size_as : (named : Option Compressed) (compressed : Bool) (i : Inst) (n k : ℕ) → IsLeastAs named compressed i n → IsLeastAs named compressed i k → n ≡ k
-one_size_as (Some c) compressed i n k two two' = two ∙ sym two'
-one_size_as None compressed i n k least least' = one_size compressed i n k least least'
 
 -- the first lines of two lists are one where they have the same size, and so are the others
 join : (l m : Line) (ls ms : List Line) (a : ℕ) → l.address ≡ a → m.address ≡ a → l.bytes ≡ m.bytes → instructions (l ∷ ls) ≡ instructions (m ∷ ms)
@@ -52,7 +41,7 @@ sized_one named c (Closed i ∷ ps) [] ms a stop s s' lie lie' same = absurd s
 sized_one named c (Closed i ∷ ps) (l ∷ ls) [] a stop s s' lie lie' same = absurd s'
 sized_one named c (Closed i ∷ ps) (l ∷ ls) (m ∷ ms) a stop (s, ss) (s', ss') (at, lie) (at', lie') same =
     let head : l.instruction ≡ m.instruction = cc in
-    let size : l.bytes ≡ m.bytes = one_size_as named c m.instruction l.bytes m.bytes (subst (λ j. IsLeastAs named c j l.bytes) head s) s' in
+    let size : l.bytes ≡ m.bytes = least_one_as named c m.instruction l.bytes m.bytes (subst (λ j. IsLeastAs named c j l.bytes) head s) s' in
     join l m ls ms a at at' size same (sized_one named c ps ls ms (a + l.bytes) stop ss ss' lie (onward l m ms a stop size lie'))
 sized_one named c (Open k i ∷ ps) [] ms a stop s s' lie lie' same = absurd s
 sized_one named c (Open k i ∷ ps) (l ∷ ls) [] a stop s s' lie lie' same = absurd s'

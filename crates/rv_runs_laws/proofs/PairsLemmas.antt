@@ -4,6 +4,7 @@ use Rattle.std.proofs.Common.{◌≡◌, ℕ, ◌+◌, ◌*◌, ◌/◌, ◌%◌
 use Rattle.std.specs.Prelude.{◌==◌, if◌then◌else◌, slice_index}
 use Rattle.std.proofs.lemmas.Bool.{eqb-false}
 use Rattle.std.proofs.lemmas.List.{get_or-set_other}
+use Rattle.rv_list_laws.proofs.NumbersLemmas.{mod_below, mod_twice}
 use Rattle.rv_isa.specs.declared.instruction.Inst.{Inst}
 use Rattle.rv_isa.specs.declared.instruction.Inst.TheVariants as inst
 use Rattle.rv_isa.specs.declared.instruction.IType.{IType}
@@ -32,14 +33,14 @@ use Rattle.rv_source_laws.specs.Meaning.{on_the_way, loads_from, stores_to, goes
 use Rattle.rv_runs_laws.proofs.NumbersLemmas.{leads, even_target, halfway, leads_on, on_way}
 use Rattle.rv_chain_laws.specs.Walks.{Does}
 use Rattle.rv_runs_laws.proofs.ShapesLemmas.{insts, does_as, two_lines}
-use Rattle.rv_runs_laws.proofs.RowsLemmas.{Row, Leads, SetsTo, below_mod, two_sets, row_jump, valid_parts}
+use Rattle.rv_runs_laws.proofs.RowsLemmas.{Row, Leads, SetsTo, two_sets, row_jump, valid_parts}
 
 -- the first instruction
 abbrev upper_part : ℕ → ℤ → Inst
 upper_part rd d = inst.Auipc (u_type rd (modulo 20 (hi d)))
 
 small_half : (a : ℕ) (d : ℤ) → halfway a d < 2 ^ 64
-small_half a d = below_mod _
+small_half a d = mod_below _
 
 -- what both halves come to
 whole_target : (pc address target : ℕ) → pc ≡ address → address < 2 ^ 64 → HasUpper (distance address target)
@@ -54,9 +55,6 @@ way_held pc address target at below has =
 
 mod_once : (a : ℕ) → a < 2 ^ 64 → a % 2 ^ 64 ≡ a
 mod_once a below = omega arith
-
-mod_twice : (a : ℕ) → a % 2 ^ 64 % 2 ^ 64 ≡ a % 2 ^ 64
-mod_twice a = omega arith
 
 -- ---- near
 
@@ -169,9 +167,6 @@ row_store operation rs2 rt target f address size lines other some r to =
         ap (λ p. record (with_register h rt (x % 2 ^ 64)) { pc = p }) pc
 
 -- ---- far
-
-even_half : (a : ℕ) → a % 2 ≡ 0 → a / 2 * 2 ≡ a
-even_half a e = omega arith
 
 half_target : (s target : ℕ) → s ≡ target % 2 ^ 64 → s % 2 ≡ 0 → (s / 2 * 2) % 2 ^ 64 ≡ target % 2 ^ 64
 half_target s target same even = omega arith

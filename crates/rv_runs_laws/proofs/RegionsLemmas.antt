@@ -5,13 +5,13 @@ use Rattle.std.proofs.lemmas.Bool.Decides.{nat_tests}
 use Rattle.std.proofs.lemmas.Bool.{cases_lt, or_cases, and_parts, ltb-true, leb-true}
 use Rattle.std.proofs.lemmas.List.{length-replicate, get_or-replicate}
 use Rattle.std.proofs.lemmas.List.Sums.{sum_by-cons}
-use Rattle.std.proofs.lemmas.Nat.{mul-mod_second}
 use Rattle.std.proofs.Math.Nat.{mod-eq-sub-div-mul, div-mul-le_self, mod-lt}
 use Rattle.std.specs.Prelude.{nat_le, nat_lt, if◌then◌else◌, flat_map, slice_index}
 use Rattle.std.specs.List.{AllByRecursion, list_any}
 use Rattle.rv_layout_laws.specs.Alignment.{aligned}
 use Rattle.rv_isa_laws.specs.Bytes.{zeros}
 use Rattle.rv_isa_laws.specs.Memory.{Mem}
+use Rattle.rv_layout_laws.proofs.AlignmentLemmas.{aligned_even}
 use Rattle.rv_map_laws.specs.declared.map.Row.{Row}
 use Rattle.rv_map_laws.specs.declared.map.Region.{Region}
 use Rattle.rv_source_laws.specs.Program.{Mapped}
@@ -163,11 +163,6 @@ module _ (bytes : Mapped → List ℕ) (m : Mem) where
 -- a section that begins at an even address wherever it stands
 abbrev pub BeginsEven : InputSection → Type 0
 BeginsEven b = b.alignment % 2 ≡ 0
-
-aligned_even : (n a : ℕ) → n % 2 ≡ 0 → aligned n a % 2 ≡ 0
-aligned_even n a even =
-    let q = (a + (n - 1)) / n in
-    sym (mul-mod_second q n 2) ∙ ap (λ k. q * k % 2) even ∙ (let e : q * 0 % 2 ≡ 0 = omega arith in e)
 
 -- an address has a zero on it and one after it, from a start on and before an end
 pub record IsBlank (m : Mem) (low high x : ℕ) : Type 0 where

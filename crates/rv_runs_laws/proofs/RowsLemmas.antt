@@ -4,6 +4,7 @@ use Rattle.std.proofs.Common.{◌≡◌, ℕ, ◌+◌, ◌-◌, ◌*◌, ◌%◌
 use Rattle.std.specs.Prelude.{map, option_map, ◌==◌, nat_lt, if◌then◌else◌, bit_and, bit_xor, slice_index}
 use Rattle.std.specs.List.{AllByRecursion}
 use Rattle.std.proofs.lemmas.Bool.{eqb-true}
+use Rattle.rv_list_laws.proofs.NumbersLemmas.{mod_below}
 use Rattle.rv_isa.specs.Kinds.{is_low_part}
 use Rattle.rv_isa.specs.declared.instruction.Inst.{Inst}
 use Rattle.rv_isa.specs.declared.instruction.Inst.TheVariants as inst
@@ -114,9 +115,6 @@ and_zero a = omega arith
 plus_zero : (a : ℕ) → a + 0 ≡ a
 plus_zero a = omega arith
 
-pub below_mod : (a : ℕ) → a % 2 ^ 64 < 2 ^ 64
-below_mod a = omega arith
-
 row_mv : (t : Bool) (rd rs : ℕ) (f : FieldValue) (address size : ℕ) (lines : List Line)
     → Row f address size (Closed (if t then inst.Add (r_type rd 0 rs) else addi rd rs (pos 0)) ∷ []) lines → SetsTo rd (λ h. register h rs) address size lines
 row_mv true rd rs f address size lines r =
@@ -131,7 +129,7 @@ row_shifts : (j : Inst) (amount rd rs : ℕ) (y z : ℕ → ℕ) (f : FieldValue
     → ((a : ℕ) → y (shifted_left a amount) ≡ z a) → SetsTo rd (λ h. z (register h rs)) address size lines
 row_shifts j amount rd rs y z f address size lines r second made =
     two_sets (slli rd rs amount) j rd (λ h. shifted_left (register h rs) amount) y (λ h. z (register h rs)) address size lines r.is r.lie r.below
-    (valid_parts f address size _ lines r).0.0 (λ h. below_mod (register h rs * 2 ^ (amount % 64))) (λ b h. refl) second
+    (valid_parts f address size _ lines r).0.0 (λ h. mod_below (register h rs * 2 ^ (amount % 64))) (λ b h. refl) second
     (λ h k. ap (λ n. n % 2 ^ 64) (made (register h rs)))
 
 pub row_unary : (rvc : Bool) (operation : UnaryOperation) (rd rs : ℕ) (f : FieldValue) (address size : ℕ) (lines : List Line)

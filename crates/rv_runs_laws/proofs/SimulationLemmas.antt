@@ -1,10 +1,11 @@
 -- Whenever memory holds a program, the run of the machine over it agrees with the run of the sources.
 
-use Rattle.std.proofs.Common.{◌≡◌, ◌⊎◌, inl, inr, ℕ, zero, suc, ◌+◌, ◌-◌, ◌%◌, ◌^◌, ◌<◌, ◌≤◌, Bool, true, false, List, [], ◌∷◌, length, get_or, replicate, Option, Some, None, refl, sym, ap, ◌∙◌, subst, arith, cond}
+use Rattle.std.proofs.Common.{◌≡◌, ◌⊎◌, inl, inr, ℕ, zero, suc, ◌+◌, ◌-◌, ◌%◌, ◌^◌, ◌<◌, ◌≤◌, Bool, true, false, List, ◌∷◌, length, get_or, replicate, Option, Some, None, refl, sym, ap, ◌∙◌, subst, arith}
 use Rattle.std.specs.Prelude.{◌&&◌, ◌==◌, nat_lt, nat_le, if◌then◌else◌}
-use Rattle.std.specs.List.{AllByRecursion, find}
+use Rattle.std.specs.List.{AllByRecursion}
 use Rattle.std.proofs.lemmas.Bool.{cases_Bool, and_parts, ltb-true, eqb-true, leb-true, leb-false, le-leb}
 use Rattle.std.proofs.lemmas.List.{length-set}
+use Rattle.rv_list_laws.proofs.FindLemmas.{find_test}
 use Rattle.rv_isa.specs.declared.instruction.Inst.{Inst}
 use Rattle.rv_isa_laws.specs.Memory.{Mem, Execute}
 use Rattle.rv_isa_laws.specs.Platform.{stack_end}
@@ -62,14 +63,6 @@ good_start entry input below even = record {
   whole = length-set (replicate 32 0) 2 stack_end;
   inside = below_set (replicate 32 0) 2 stack_end (omega arith) (zeros_below 32);
 }
-
-find_cons : {A : Type 0} (test : A → Bool) (t : Bool) (y : A) (o : Option A) (x : A) → test y ≡ t → (o ≡ Some x → test x ≡ true) → cond t (Some y) o ≡ Some x → test x ≡ true
-find_cons test true y o x e rest f = let same : y ≡ x = cc in subst (λ z. test z ≡ true) same e
-find_cons test false y o x e rest f = rest f
-
-pub find_holds : {A : Type 0} (test : A → Bool) (xs : List A) (x : A) → find test xs ≡ Some x → test x ≡ true
-find_holds test [] x e = absurd (cc)
-find_holds test (y ∷ ys) x e = find_cons test (test y) y (find test ys) x refl (find_holds test ys x) e
 
 -- what a place is by its tests
 outside_of : (t g : Bool) (o : Option Mapped) → (if t then (if g then Gap else starts_or_inside o) else Outside) ≡ Outside → t ≡ false
@@ -180,7 +173,7 @@ module _ {Spells StandsFor : ℕ → Inst → Type 0} (reader : Reader Spells St
     any_turn most left le ih h m s b fine Gap e = gap_turn most left h m s b fine.pc fine.even e
     any_turn most left le ih h m s b fine Inside e = inside_turn most left h m s
     any_turn most left le ih h m s b fine (Starts site) e =
-        let test = find_holds (λ (k : Mapped). nat_lt 0 k.row.bytes && (k.row.address == h.pc)) p.mapped site (starts_of (is_in p.map.text h.pc) _ (found p.mapped h.pc) site e) in
+        let test = find_test (λ (k : Mapped). nat_lt 0 k.row.bytes && (k.row.address == h.pc)) p.mapped site (starts_of (is_in p.map.text h.pc) _ (found p.mapped h.pc) site e) in
         let parts = and_parts (nat_lt 0 site.row.bytes) (site.row.address == h.pc) test in
         let some : 0 < site.row.bytes = ltb-true 0 site.row.bytes parts.0 in
         let holds = r.rows h.pc site fine.pc e in

@@ -1,8 +1,9 @@
 -- The word of every instruction in range fits 32 bits, and ends in 11 as each four-byte instruction does (ISA, 1.5).
 
-use Rattle.std.proofs.Common.{◌≡◌, ℕ, ◌+◌, ◌*◌, ◌/◌, ◌%◌, ◌^◌, ◌<◌, Bool, true, false, arith, ℤ, pos, negsuc, lit<}
+use Rattle.std.proofs.Common.{◌≡◌, ℕ, ◌+◌, ◌*◌, ◌/◌, ◌%◌, ◌^◌, ◌<◌, arith, ℤ, pos, negsuc}
 use Rattle.std.proofs.lemmas.Int.{ints}
 use Rattle.std.specs.Int.{from_bool}
+use Rattle.rv_list_laws.proofs.TruthLemmas.{bit_below}
 use Rattle.rv_isa.specs.declared.instruction.RType.{RType}
 use Rattle.rv_isa.specs.declared.instruction.IType.{IType}
 use Rattle.rv_isa.specs.declared.instruction.Shift.{Shift}
@@ -35,10 +36,6 @@ field_21 : (z : ℤ) → IsJumpOffset z → field 21 z < 2097152
 field_21 (pos n) (low, high, even) = omega (arith, ints)
 field_21 (negsuc n) (low, high, even) = omega (arith, ints)
 
-bit_below : (b : Bool) → from_bool b < 2
-bit_below false = lit< tt
-bit_below true = lit< tt
-
 register_wide : (opcode funct3 funct7 : ℕ) (x : RType) → opcode < 128 → opcode % 4 ≡ 3 → funct3 < 8 → funct7 < 128 → IsRType x → IsWideForm (Register opcode funct3 funct7 x)
 register_wide opcode funct3 funct7 x o l f g (rd, rs1, rs2) = (omega arith, omega arith)
 
@@ -67,9 +64,6 @@ branch_sum : (opcode funct3 rs1 rs2 a b c d : ℕ) → opcode < 128 → opcode %
     → (opcode + a * 2 ^ 7 + b * 2 ^ 8 + funct3 * 2 ^ 12 + rs1 * 2 ^ 15 + rs2 * 2 ^ 20 + c * 2 ^ 25 + d * 2 ^ 31 < 2 ^ 32)
     × ((opcode + a * 2 ^ 7 + b * 2 ^ 8 + funct3 * 2 ^ 12 + rs1 * 2 ^ 15 + rs2 * 2 ^ 20 + c * 2 ^ 25 + d * 2 ^ 31) % 4 ≡ 3)
 branch_sum opcode funct3 rs1 rs2 a b c d o l f r s p q u v = (omega arith, omega arith)
-
-below_mod_2 : (n : ℕ) → n % 2 < 2
-below_mod_2 n = omega arith
 
 branch_wide : (opcode funct3 : ℕ) (x : BType) → opcode < 128 → opcode % 4 ≡ 3 → funct3 < 8 → IsBType x → IsWideForm (Branch opcode funct3 x)
 branch_wide opcode funct3 x o l f (rs1, rs2, k) =

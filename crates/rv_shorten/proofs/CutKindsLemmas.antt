@@ -3,7 +3,7 @@
 use Rattle.std.proofs.Common.{◌≡◌, ℕ, zero, suc, ◌<◌, ◌≤◌, ◌≢◌, ◌⊎◌, inl, inr, nat_lt, Bool, true, false, cond, List, [], ◌∷◌, Option, Some, None, length, map, slice_index_or, refl, sym, ap, ◌∙◌, arith}
 use Rattle.std.specs.Prelude.{◌==◌}
 use Rattle.std.specs.List.{AllWithin}
-use Rattle.std.proofs.lemmas.Bool.{eq-eqb, ne_eqb, ltb-true, ltb-false, eqb-true}
+use Rattle.std.proofs.lemmas.Bool.{eq-eqb, ne_eqb, ltb-true, ltb-false}
 use Rattle.rv_isa.specs.declared.kind.Kind.{Kind}
 use Rattle.rv_isa.specs.declared.kind.Kind.TheVariants as kinds
 use Rattle.rv_link_laws.specs.Moves.{Move}
@@ -65,7 +65,3 @@ pub same_at : (cs : List Cut) (k : ℕ) (d e : Cut) → k < length cs → (slice
 same_at [] k d e inside = absurd (omega arith)
 same_at (c ∷ cs) zero d e inside = refl
 same_at (c ∷ cs) (suc k) d e inside = same_at cs k d e (omega arith)
-
-pub none_of_none : (cs : List Cut) → (length cs == 0) ≡ true → map move_of cs ≡ []
-none_of_none [] is = refl
-none_of_none (c ∷ cs) is = let none = eqb-true (length (c ∷ cs)) 0 is in absurd (omega arith)

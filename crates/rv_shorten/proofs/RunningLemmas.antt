@@ -1,12 +1,12 @@
 -- The bytes that are left of a section, run by run.
 
 use Rattle.std.proofs.Common.{◌≡◌, ℕ, zero, suc, ◌+◌, ◌-◌, ◌*◌, ◌/◌, ◌%◌, ◌^◌, ◌<◌, ◌≤◌, ◌⊎◌, inl, inr, true, List, [], ◌∷◌, ◌++◌, length, map, take, drop, refl, sym, ap, ◌∙◌, arith}
-use Rattle.std.specs.Int.{bytes_low_first, to_le_bytes, w64}
-use Rattle.std.proofs.Math.Nat.{div-div-eq-div-mul, pow-suc}
+use Rattle.std.specs.Int.{to_le_bytes, w64}
 use Rattle.std.proofs.Math.Seq.{take-add, take-append-add, drop-append-add}
 use Rattle.std.proofs.lemmas.Nat.{shr-shr}
 use Rattle.std.proofs.lemmas.List.{append_assoc, append-nil, take-append-drop, take_at, drop-drop, length-append, nil_from_length}
 use Rattle.rv_isa_laws.specs.Bytes.{little_endian}
+use Rattle.rv_isa_laws.proofs.BytesLemmas.{little_long, bytes-low-first}
 use Rattle.rv_link_laws.specs.Moves.{kept}
 use Rattle.rv_link_laws.specs.Shortened.{short_call}
 use Rattle.rv_shorten.specs.Cut.{Cut, cut_left, move_of}
@@ -15,10 +15,6 @@ use Rattle.rv_shorten.specs.Bytes.{room_before}
 use Rattle.rv_cut_laws.proofs.ShiftsLemmas.{first_cut, length_kept_from}
 
 -- ---- numbers
-
-pub length_little : (width n : ℕ) → length (little_endian width n) ≡ width
-length_little zero n = refl
-length_little (suc width) n = let rest = length_little width (n / 256) in omega arith
 
 -- the low bytes of a number, and those above them
 pub little_parts : (low width n : ℕ) → low ≤ width → little_endian width n ≡ little_endian low n ++ little_endian (width - low) (n / 2 ^ (8 * low))
@@ -33,23 +29,11 @@ little_parts (suc low) (suc width) n le =
     ∙ ap (λ m. n % 256 ∷ (little_endian low (n / 256) ++ little_endian (width - low) m)) above
     ∙ ap (λ w. n % 256 ∷ (little_endian low (n / 256) ++ little_endian w (n / 2 ^ (8 * suc low)))) (sym fewer)
 
--- as machine words have them
-low_first : (i width n m : ℕ) → m ≡ n / 256 ^ i → bytes_low_first i width n ≡ little_endian width m
-low_first i zero n m e = refl
-low_first zero (suc width) n m e =
-    let one : m ≡ n = e ∙ grind arith in
-    let rest = low_first 1 width n (m / 256) (rw one) in
-    cc
-low_first (suc i) (suc width) n m e =
-    let next : m / 256 ≡ n / 256 ^ suc (suc i) = rw e (div-div-eq-div-mul n (256 ^ suc i) 256 ∙ ap (λ k. n / k) (sym (pow-suc 256 (suc i)))) in
-    let rest = low_first (suc (suc i)) width n (m / 256) next in
-    rw (sym e) (ap (λ bs. m % 256 ∷ bs) rest)
-
 pub low_bytes : (width n : ℕ) → width ≤ 8 → take width (to_le_bytes w64 n) ≡ little_endian width n
 low_bytes width n le =
     let one : n ≡ n / 256 ^ 0 = grind arith in
-    ap (take width) (low_first 0 8 n n one ∙ little_parts width 8 n le)
-    ∙ take_at (little_endian width n) (little_endian (8 - width) (n / 2 ^ (8 * width))) width (length_little width n)
+    ap (take width) (bytes-low-first 0 8 n n one ∙ little_parts width 8 n le)
+    ∙ take_at (little_endian width n) (little_endian (8 - width) (n / 2 ^ (8 * width))) width (little_long width n)
 
 -- ---- the section
 
@@ -127,7 +111,7 @@ pub left_low : (at bytes word : ℕ) (cs : List Cut) (rest : List ℕ) → are_c
     → length (little_endian bytes word ++ kept at (map move_of cs) rest) ≤ bytes + length rest
 left_low at bytes word cs rest h =
     let all = length-append (little_endian bytes word) (kept at (map move_of cs) rest) in
-    let call = length_little bytes word in
+    let call = little_long bytes word in
     let section = length_kept_from at (at + length rest) (map move_of cs) rest h refl in
     omega arith
 

@@ -1,15 +1,16 @@
 -- What a pass has done so far, and what it has done in all.
 
-use Rattle.std.proofs.Common.{◌≡◌, ◌⊎◌, inl, inr, ℕ, suc, ◌+◌, ◌-◌, ◌*◌, ◌≤◌, ◌<◌, Bool, true, false, List, [], ◌∷◌, sum, length, set, slice_index, refl, ap, subst, sym, ◌∙◌, arith}
-use Rattle.std.proofs.lemmas.Bool.{cases_lt, cases_eq}
-use Rattle.std.proofs.lemmas.List.{set-get_or, get_or-set_same, get_or-set_other, get_or_past, drop_all}
+use Rattle.std.proofs.Common.{◌≡◌, ◌⊎◌, inl, inr, ℕ, suc, ◌+◌, ◌*◌, ◌≤◌, ◌<◌, Bool, true, false, List, [], ◌∷◌, sum, length, set, slice_index, refl, ap, subst, sym, ◌∙◌, arith}
+use Rattle.std.proofs.lemmas.Bool.{cases_eq}
+use Rattle.std.proofs.lemmas.List.{set-get_or, get_or-set_same, get_or-set_other, drop_all}
 use Rattle.rv_layout_laws.specs.declared.item.Item.{Item}
-use Rattle.rv_layout_laws.specs.Branches.{item_at, is_branch, largest, of_section, IsFamily, IsGood, Widenings, Unchanged, Widens, branches, Rounds, Widens_some, smallest_sizes, IsLeastGood}
+use Rattle.rv_layout_laws.specs.Branches.{item_at, is_branch, of_section, IsGood, Widenings, Unchanged, Widens, branches, Rounds, Widens_some, smallest_sizes, IsLeastGood}
 use Rattle.rv_layout_laws.proofs.WideningLemmas.{widened_least, rounds_widen, rounds_end, widenings_joined}
 use Rattle.std.proofs.lemmas.List.Sums.{count_by-le-length}
 use Rattle.rv_layout_laws.specs.Offsets.{rest}
+use Rattle.rv_layout_laws.proofs.OffsetsLemmas.{rest_more}
 use Rattle.rv_sizes.specs.Passes.{IsInput, around, AreRests, Stays, IsVisit}
-use Rattle.rv_sizes.proofs.PlacesLemmas.{own_size, rest_more, backward_ends}
+use Rattle.rv_sizes.proofs.PlacesLemmas.{own_size, backward_ends}
 
 -- so many widenings, and where there were none, each statement from low on and below high stays
 pub record Goes (items : List Item) (old now : List ℕ) (count low high : ℕ) : Type 0 where
@@ -42,23 +43,6 @@ goes_kept items old now new n i low high low' high' false goes visit e either =
       );
     } in
     subst (λ sizes. Goes items old sizes n low' high') (sym visit.0) kept
-
-pub step_up : (i j : ℕ) → 0 ≤ j → j < i + 1 → ((0 ≤ j) × (j < i)) ⊎ (j ≡ i)
-step_up i j a b = elim (cases_lt j i) [ inl before ↦ inl (a, before) | inr after ↦ inr (omega arith) ]
-
-pub step_down : (i high j : ℕ) → 0 < i → i - 1 ≤ j → j < high → ((i ≤ j) × (j < high)) ⊎ (j ≡ i - 1)
-step_down i high j some a b = elim (cases_lt j i) [ inl before ↦ inr (omega arith) | inr after ↦ inl (after, b) ]
-
-pub good_from : (items : List Item) (sizes : List ℕ) → IsFamily items sizes → ((j : ℕ) → j < length items → Stays items sizes j) → IsGood items sizes
-good_from items sizes f stays = record {
-  family = f;
-  reaching = λ i lt. elim (cases_lt i (length items)) [
-    | inl within ↦ stays i within lt
-    | inr past ↦
-        let none : largest (item_at items i).forms ≡ 0 = ap (λ (item : Item). largest item.forms) (get_or_past items i _ past) in
-        absurd (omega arith)
-  ];
-}
 
 -- ---- the first table
 

@@ -2,9 +2,9 @@
 
 use Rattle.std.proofs.Common.{◌≡◌, ◌⊎◌, inl, inr, ℕ, zero, suc, ◌+◌, ◌*◌, ◌^◌, ◌≤◌, ◌<◌, ◌==◌, ltb, Bool, true, false, if◌then◌else◌, List, [], ◌∷◌, length, set, take, drop, slice_index, sum, ℤ, pos, ◌-ℤ◌, refl, ap, subst, sym, ◌∙◌, arith}
 use Rattle.std.proofs.lemmas.Int.{ints}
-use Rattle.std.proofs.lemmas.Bool.{cases_lt, cases_eq, cases_Bool, eq-eqb, ne_eqb, lt-ltb, le-ltb, ltb-true, ltb-false}
-use Rattle.std.proofs.lemmas.List.{length-set, set-get_or, get_or-set_same, get_or-set_other, get_or_past, take-append-drop, drop_more, drop_all}
-use Rattle.std.proofs.lemmas.List.Sums.{sum_by-append, sum_by-cons}
+use Rattle.std.proofs.lemmas.Bool.{cases_lt, cases_eq, cases_Bool, eq-eqb, ne_eqb, lt-ltb, le-ltb, ltb-false}
+use Rattle.std.proofs.lemmas.List.{length-set, set-get_or, get_or-set_same, get_or-set_other}
+use Rattle.std.proofs.lemmas.List.Sums.{sum_by-cons}
 use Rattle.rv_layout_laws.specs.declared.item.Forms.{Forms}
 use Rattle.rv_layout_laws.specs.declared.item.Forms.TheVariants.{Settled, CompressedBranch, Branch, CompressedJump}
 use Rattle.rv_layout_laws.specs.declared.item.Item.{Item}
@@ -12,6 +12,7 @@ use Rattle.rv_layout_laws.specs.Offsets.{offset, Reaches, rest}
 use Rattle.rv_layout_laws.specs.Branches.{Offers, half, is_branch, item_at, largest, of_section, distance_of, IsFamily, MayWiden, ReachesBy}
 use Rattle.rv_layout_laws.proofs.ReachingLemmas.{offset_more}
 use Rattle.rv_layout_laws.proofs.WideningLemmas.{set_holds, doubled, none_between, offered_positive}
+use Rattle.rv_layout_laws.proofs.OffsetsLemmas.{rest_more, whole}
 use Rattle.rv_sizes.specs.Passes.{IsInput, around, IsTable, AreStarts, AreRests, IsJudged, Stays, IsVisit}
 
 -- ---- one section's sizes
@@ -48,19 +49,6 @@ own_size items sizes i lt same =
     at ∙ ap (λ (b : Bool). if b then slice_index sizes i else 0) (eq-eqb (item_at items i).section (item_at items i).section refl)
 
 -- ---- sums
-
-pub rest_more : (sizes : List ℕ) (i : ℕ) → rest sizes i ≡ slice_index sizes i + rest sizes (i + 1)
-rest_more sizes i = elim (cases_lt i (length sizes)) [
-  | inl within ↦ ap sum (drop_more sizes i 0 within) ∙ sum_by-cons (λ x. x) (slice_index sizes i) (drop (i + 1) sizes)
-  | inr past ↦
-      let here : rest sizes i ≡ 0 = ap sum (drop_all i sizes past) in
-      let next : rest sizes (i + 1) ≡ 0 = ap sum (drop_all (i + 1) sizes (omega arith)) in
-      let none : slice_index sizes i ≡ 0 = get_or_past sizes i 0 past in
-      omega arith
-]
-
-pub whole : (sizes : List ℕ) (i : ℕ) → offset sizes i + rest sizes i ≡ sum sizes
-whole sizes i = sym (sum_by-append (λ x. x) (take i sizes) (drop i sizes)) ∙ ap sum (take-append-drop i sizes)
 
 sum_bounded : (items : List Item) (s : ℕ) (sizes : List ℕ) → ((j : ℕ) → slice_index sizes j < 2 ^ 32) → sum (of_section s items sizes) ≤ length sizes * 2 ^ 32
 sum_bounded items s [] bounded = omega arith
@@ -350,9 +338,6 @@ rests_small items sections i sizes stands ends input same lt table rests =
     let more : rest (around items sizes i) i ≡ slice_index (around items sizes i) i + rest (around items sizes i) (i + 1) = rest_more (around items sizes i) i in
     let own : slice_index (around items sizes i) i ≡ slice_index sizes i = own_size items sizes i lt table.family.same_length in
     (is, (omega arith, small))
-
-pub told_up : (a b : ℕ) → ltb a b ≡ true → a < b
-told_up a b e = ltb-true a b e
 
 pub told_same : (item : Item) (away : ℤ) (size wider : ℕ) → IsJudged item away size wider → ltb size wider ≡ false → wider ≡ size
 told_same item away size wider judged e =

@@ -4,6 +4,7 @@ use Rattle.std.proofs.Common.{◌≡◌, ℕ, suc, Bool, true, false, List, [], 
 use Rattle.std.specs.Prelude.{not, ◌||◌, min, ⊤}
 use Rattle.std.specs.List.{AllByRecursion}
 use Rattle.std.proofs.lemmas.Bool.{or_parts, not-false}
+use Rattle.rv_list_laws.proofs.ElementsLemmas.{append_none_parts}
 use Rattle.rv_statement_laws.specs.Statement.{StatementKind, Label, Numbered, Instruction, Directs, Statement, Directive, Enters, Opens, Sets, Chooses}
 use Rattle.rv_unit_laws.specs.Contributions.{Contribution, Bytes, Zero_bytes, contribution}
 use Rattle.rv_unit_laws.specs.Sections.{Section, is_nobits, section_at, current_section}
@@ -34,10 +35,6 @@ Held s = IsHeld s.home s.kind
 
 -- ---- no code of a fault
 
-pub none_left : {X : Type 0} (xs ys : List X) → xs ++ ys ≡ [] → (xs ≡ []) × (ys ≡ [])
-none_left [] ys e = (refl, e)
-none_left (x ∷ xs) ys e = absurd (cc)
-
 pub no_test : (b : Bool) (code : ℕ) → faulty_if b code ≡ [] → b ≡ false
 no_test true code e = absurd (cc)
 no_test false code e = refl
@@ -65,14 +62,14 @@ module _ (all t : Tables) (k : ℕ) where
 
   stored : (before after : List ℕ) → before ++ (faulty_if (home.executable || is_nobits home) 15 ++ after) ≡ [] → (home.executable ≡ false) × (is_nobits home ≡ false)
   stored before after e =
-      let next = none_left before (faulty_if (home.executable || is_nobits home) 15 ++ after) e in
-      let test = none_left (faulty_if (home.executable || is_nobits home) 15) after next.1 in
+      let next = append_none_parts before (faulty_if (home.executable || is_nobits home) 15 ++ after) e in
+      let test = append_none_parts (faulty_if (home.executable || is_nobits home) 15) after next.1 in
       or_parts home.executable (is_nobits home) (no_test (home.executable || is_nobits home) 15 test.0)
 
   zeroed : (before after : List ℕ) → before ++ (faulty_if home.executable 15 ++ after) ≡ [] → home.executable ≡ false
   zeroed before after e =
-      let next = none_left before (faulty_if home.executable 15 ++ after) e in
-      let test = none_left (faulty_if home.executable 15) after next.1 in
+      let next = append_none_parts before (faulty_if home.executable 15 ++ after) e in
+      let test = append_none_parts (faulty_if home.executable 15) after next.1 in
       no_test home.executable 15 test.0
 
   contribution_held : (c : Contribution) → contribution_faults all t k c ≡ [] → ContributionHeld home c

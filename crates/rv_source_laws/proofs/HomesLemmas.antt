@@ -1,31 +1,14 @@
 -- Each statement stands in one of its file's sections.
 
-use Rattle.std.proofs.Common.{◌≡◌, ℕ, suc, Bool, true, false, List, [], ◌∷◌, ◌++◌, refl, sym, ap, ◌∙◌, Some}
-use Rattle.std.specs.Prelude.{if◌then◌else◌, filter, slice_get}
+use Rattle.std.proofs.Common.{◌≡◌, ℕ, suc, List, [], ◌∷◌, refl, sym, ap, ◌∙◌, Some}
+use Rattle.std.specs.Prelude.{slice_get}
 use Rattle.std.specs.List.{AllByRecursion}
+use Rattle.rv_list_laws.proofs.ElementsLemmas.{get_or_get}
 use Rattle.rv_statement_laws.specs.Statement.{StatementKind, Label, Numbered, Instruction, Directs, Statement, Enters, Opens}
 use Rattle.rv_unit_laws.specs.Sections.{Section, text_section, section_at}
 use Rattle.rv_unit_laws.specs.Tables.{Tables, after, after_all, stood, opened_of}
-use Rattle.rv_unit_laws.proofs.OpenedLemmas.{got_of, IsOpen, after_opened, after_open, stays_all}
+use Rattle.rv_unit_laws.proofs.OpenedLemmas.{IsOpen, after_opened, after_open, stays_all}
 use Rattle.rv_source_laws.specs.Located.{Located, located_from}
-
--- ---- lists
-
-pub all_filter : {X : Type 0} (P : X → Type 0) (test : X → Bool) (xs : List X) → AllByRecursion P xs → AllByRecursion P (filter test xs)
-all_filter P test [] h = tt
-all_filter P test (x ∷ xs) (p, ps) = go (test x) (all_filter P test xs ps)
-  where
-    go : (b : Bool) → AllByRecursion P (filter test xs) → AllByRecursion P (if b then x ∷ filter test xs else filter test xs)
-    go true rest = (p, rest)
-    go false rest = rest
-
-pub all_map : {X : Type 0} (P Q : X → Type 0) (xs : List X) → ((x : X) → P x → Q x) → AllByRecursion P xs → AllByRecursion Q xs
-all_map P Q [] f h = tt
-all_map P Q (x ∷ xs) f (p, ps) = (f x p, all_map P Q xs f ps)
-
-pub all_join : {X : Type 0} (P : X → Type 0) (xs ys : List X) → AllByRecursion P xs → AllByRecursion P ys → AllByRecursion P (xs ++ ys)
-all_join P [] ys h k = k
-all_join P (x ∷ xs) ys (p, ps) k = (p, all_join P xs ys ps k)
 
 -- ---- where a statement stands
 
@@ -46,7 +29,7 @@ IsHomeIn sections t = slice_get (sections t.file) t.section ≡ Some t.home
 pub home_now : (t : Tables) (k : ℕ) (ss : List Statement) (i : ℕ) → IsOpen (opened_of t) → i ≡ t.current → slice_get (opened_of (after_all t k ss)).sections i ≡ Some (section_at (opened_of t) i)
 home_now t k ss i (x, e) same =
     let at : slice_get (opened_of t).sections i ≡ Some x = ap (λ n. slice_get (opened_of t).sections n) same ∙ e in
-    stays_all t k ss (x, e) i (section_at (opened_of t) i) (at ∙ ap Some (sym (got_of (opened_of t).sections i text_section x at)))
+    stays_all t k ss (x, e) i (section_at (opened_of t) i) (at ∙ ap Some (sym (get_or_get (opened_of t).sections i text_section x at)))
 
 pub homes_from : (sections : ℕ → List Section) (file k : ℕ) (t : Tables) (ss : List Statement) → sections file ≡ (opened_of (after_all t k ss)).sections → IsOpen (opened_of t) → AllByRecursion (IsHomeIn sections) (located_from file k t ss)
 homes_from sections file k t [] same is_open = tt

@@ -4,6 +4,8 @@ use Rattle.std.proofs.Common.{◌≡◌, ℕ, suc, ◌+◌, Bool, true, false, L
 use Rattle.std.proofs.lemmas.Bool.{and_parts, not-true}
 use Rattle.std.specs.Prelude.{ℤ, Some, ◌&&◌, not, IsTrue, if◌then◌else◌, filter, flat_map}
 use Rattle.std.specs.List.{AllByRecursion}
+use Rattle.rv_list_laws.proofs.EachLemmas.{each_map, each_split}
+use Rattle.rv_list_laws.proofs.TruthLemmas.{and_first}
 use Rattle.rv_layout_laws.specs.Alignment.{aligned}
 use Rattle.rv_isa_laws.specs.Bytes.{zeros}
 use Rattle.rv_statement_laws.specs.Statement.{Statement}
@@ -25,7 +27,6 @@ use Rattle.rv_source_laws.specs.Resolves.{Resolves}
 use Rattle.rv_source_laws.specs.Sized.{Sized}
 use Rattle.rv_source_laws.specs.Shortened.{Shortened}
 use Rattle.rv_source_laws.specs.Start.{spelled}
-use Rattle.rv_source_laws.proofs.HomesLemmas.{all_map}
 use Rattle.rv_image_laws.specs.Linked.{Linked}
 use Rattle.rv_chain_laws.specs.Contents.{IsWritten, IsLinked, contents as source_contents}
 use Rattle.rv_runs_laws.proofs.HomesLemmas.{IsAtHome, homes, from_blocks, sections_in}
@@ -46,7 +47,7 @@ use Rattle.rv_sources_link_laws.proofs.names.GlobalsLemmas.{low_rows}
 use Rattle.rv_sources_link_laws.proofs.names.PairLemmas.{AreGiven}
 use Rattle.rv_sources_link_laws.proofs.statements.StatementsLemmas.{AreObjectsOf, AreMasked, renumbered, left_file, row_in, rows_from, mapped_at, all_rows}
 use Rattle.rv_sources_link_laws.proofs.statements.SettledLemmas.{settled_left}
-use Rattle.rv_sources_link_laws.proofs.sections.SectionsLemmas.{said, split}
+use Rattle.rv_sources_link_laws.proofs.sections.SectionsLemmas.{said}
 use Rattle.rv_sources_link_laws.proofs.statements.CodeOfLemmas.{IsFound, found_left, AreCodesOf, code_of, codes}
 use Rattle.rv_sources_link_laws.proofs.sections.PlacedLemmas.{IsFit}
 use Rattle.rv_sources_link_laws.proofs.sections.RegionsLemmas.{AreGood, IsRegion, region, greatest_same, good_join, good_file}
@@ -110,9 +111,6 @@ module _ (t : Tables) (laid : List LaidStatement) (number : Numbering) (o : Obje
           ap initial_bytes is.contents ∙ initial_none s.section_type (laid_end 0 (laid_in index laid)) _ f nothing ∙ sym none
 
 -- ---- flags
-
-first_true : (a b : Bool) → (a && b) ≡ true → a ≡ true
-first_true a b e = (and_parts a b e).0
 
 bss_front : (s : SourceSection) → goes_to_bss s ≡ true → (s.loaded ≡ true) × (s.executable ≡ false)
 bss_front s e =
@@ -206,9 +204,9 @@ module _ (sources : List (List Statement)) (os : List Object) (text_start : ℕ)
     good_files file (ss ∷ srcs) (o ∷ us) (is, k) (m, ms) (f, fs) (g, gs) rows (c, cs) r =
         let opened = (opened_of (tables ss)).sections in
         let sections = source_sections is.dropped ss in
-        let both = split Q (inputs_from is_loaded file o 0 o.sections) (inputs_of is_loaded (suc file) us) r in
+        let both = each_split Q (inputs_from is_loaded file o 0 o.sections) (inputs_of is_loaded (suc file) us) r in
         let are = subst (λ t. AreSectionsOf t is.laid is.number o.symbols 0 sections o.sections) (sym f.tables) is.sections in
-        let two = split IsRow (rows_from starts file is.laid) (all_rows starts (suc file) srcs us k) rows in
+        let two = each_split IsRow (rows_from starts file is.laid) (all_rows starts (suc file) srcs us k) rows in
         let whole : IsWhole p os starts file is.laid is.number o (worths file) = record {
           object = g.object;
           mapped = f.mapped;
@@ -218,7 +216,7 @@ module _ (sources : List (List Statement)) (os : List Object) (text_start : ℕ)
           given = given;
           worth = worths_are p os starts numbers file o is.number g;
           stands = f.stands;
-          itself = all_map (IsFound 1 is.laid) (λ z. laid_at is.laid z.located.ordinal ≡ Some z) is.laid (λ z k. k.1) (found_left 1 (at_start ss) ss is.dropped is.laid is.located);
+          itself = each_map (IsFound 1 is.laid) (λ z. laid_at is.laid z.located.ordinal ≡ Some z) is.laid (λ z k. k.1) (found_left 1 (at_start ss) ss is.dropped is.laid is.located);
           relocated = λ j x at loaded.
               subst (λ n. Q (record { file = file; object = o; index = n; section = x })) (let e : 0 + j ≡ j = omega arith in e)
               (relocated_at is_loaded Q file o 0 o.sections both.0 j x at loaded);
@@ -243,7 +241,7 @@ module _ (sources : List (List Statement)) (os : List Object) (text_start : ℕ)
   Written m = SizeFits p m × IsWritten p m (bytes_of m)
 
   text_good : AreGood p os starts bytes_of true Written (inputs objects.goes_to_text os) (source.input_sections goes_to_text sources l.map)
-  text_good = good_region bytes_of true Written objects.goes_to_text goes_to_text (λ s e. first_true s.loaded s.executable e)
+  text_good = good_region bytes_of true Written objects.goes_to_text goes_to_text (λ s e. and_first s.loaded s.executable e)
       text_same (λ t laid number o index s x is e f. text_holds t laid number o index s x is e)
       (λ file s z e home fit. fit.code (ap (λ y. y.executable) home ∙ (and_parts s.loaded s.executable e).1))
       (λ file s z e home fit. (fit.sized, fit.coded (ap (λ y. y.executable) home ∙ (and_parts s.loaded s.executable e).1)))

@@ -3,6 +3,7 @@
 use Rattle.std.proofs.Common.{◌≡◌, ℕ, suc, ◌+◌, ◌-◌, Bool, false, List, [], ◌∷◌, map, refl, sym, ap, ◌∙◌, subst, arith}
 use Rattle.std.specs.Prelude.{◌==◌, filter, slice_index_or}
 use Rattle.std.specs.List.{AllByRecursion}
+use Rattle.rv_list_laws.proofs.EachLemmas.{each_map}
 use Rattle.rv_statement_laws.specs.Statement.{Statement}
 use Rattle.rv_unit_laws.specs.Sections.{goes_to_text as source_text}
 use Rattle.rv_unit_laws.specs.Tables.{tables, at_start}
@@ -26,7 +27,6 @@ use Rattle.rv_sources_link_laws.proofs.sections.FilesLemmas.{AreFiles, files, st
 use Rattle.rv_sources_link_laws.proofs.calls.FinalsLemmas.{IsResized, AreCut, AreFinal, all_final, all_masked}
 use Rattle.rv_sources_link_laws.proofs.names.JoinedLemmas.{given, resolves}
 use Rattle.rv_sources_link_laws.proofs.LinkedLemmas.{linked}
-use Rattle.rv_sources_link_laws.proofs.moves.MovedLemmas.{all_map}
 use Rattle.rv_sources_link_laws.proofs.moves.PiecesLemmas.{ArePieces, text_is, have_bytes}
 use Rattle.rv_sources_link_laws.proofs.moves.PiecesOfLemmas.{laid_by, pieces, apart}
 use Rattle.rv_sources_link_laws.proofs.moves.ShrinkingLemmas.{shrunk_objects}
@@ -104,7 +104,7 @@ whole_from file (ss ∷ sources) (o ∷ os) (is, h) = (
     mv = λ z. z;
     laid = assembled_laid ss o is ∙ sym (map_same is.laid);
     stays = λ z. refl;
-    resized = all_map IsUncut (λ z. IsResized (λ j n. 8) z z) is.laid (λ z e. ((λ text call. e call), (λ call. refl))) (all_uncut ss o is);
+    resized = each_map IsUncut (λ z. IsResized (λ j n. 8) z z) is.laid (λ z e. ((λ text call. e call), (λ call. refl))) (all_uncut ss o is);
   },
   whole_from (suc file) sources os h,
 )

@@ -5,6 +5,9 @@ use Rattle.std.proofs.lemmas.Bool.{and_parts, eq-eqb, ne_eqb}
 use Rattle.std.proofs.lemmas.List.Folds.{list_any-append}
 use Rattle.std.specs.Prelude.{⊤, ◌&&◌, ◌||◌, ◌==◌, if◌then◌else◌, flat_map, option_and_then}
 use Rattle.std.specs.List.{AllByRecursion, slice_get, list_any}
+use Rattle.rv_list_laws.proofs.FilterLemmas.{each_filter}
+use Rattle.rv_list_laws.proofs.FindLemmas.{each_find}
+use Rattle.rv_list_laws.proofs.EachLemmas.{each_append}
 use Rattle.rv_layout_laws.specs.Sites.{padding_site, size_at}
 use Rattle.rv_text_laws.specs.Expression.{Primary}
 use Rattle.rv_statement_laws.specs.Statement.{Statement}
@@ -21,7 +24,6 @@ use Rattle.rv_source_laws.specs.Fits as source
 use Rattle.rv_image_laws.specs.Linked.{Linked}
 use Rattle.rv_source_laws.specs.Shortened as line
 use Rattle.rv_source_laws.specs.Shortened.{Placed, HaveBytes, text_of, full_length, placed_from, sites_at, has_compressed, aim_of}
-use Rattle.rv_source_laws.proofs.HomesLemmas.{all_filter}
 use Rattle.rv_chain_laws.specs.Contents.{IsLinked}
 use Rattle.rv_object_laws.specs.Object.{Section, Symbol, Object, size_of, stored}
 use Rattle.rv_link_laws.specs.CallSites.{base_in, start_padding, changes, site_of, sites_from, sites_of, is_entered}
@@ -43,11 +45,9 @@ use Rattle.rv_sources_link_laws.proofs.fields.TextPlacesLemmas.{stands_in, aim_a
 use Rattle.rv_sources_link_laws.proofs.sections.FilesLemmas.{AreFiles, statements_ours}
 use Rattle.rv_sources_link_laws.proofs.calls.FinalsLemmas.{IsResized, AreCut, AreFinal}
 use Rattle.rv_sources_link_laws.proofs.calls.FormsLemmas.{fitting}
-use Rattle.rv_sources_link_laws.proofs.names.KnownLemmas.{all_found}
 use Rattle.rv_sources_link_laws.proofs.moves.PiecesLemmas.{IsPiece, ArePieces, placed_at, text_is, piece_placed, piece_length, piece_start, line_at, line_of, lines}
 use Rattle.rv_sources_link_laws.proofs.moves.PiecesOfLemmas.{laid_by}
 use Rattle.rv_sources_link_laws.proofs.RelaxedLemmas as relaxed
-use Rattle.rv_assemble_laws.proofs.ListsLemmas.{join}
 use Rattle.rv_sources_link_laws.proofs.statements.SettledLemmas.{IsSettled, laid_are_in}
 use Rattle.rv_sources_link_laws.proofs.moves.ShrinkingLemmas.{AreAt, all_at}
 use Rattle.rv_sources_link_laws.proofs.moves.ShrunkLemmas as shrunk
@@ -277,7 +277,7 @@ module _ (sources : List (List Statement)) (os : List Object) (text_start : ℕ)
 
       at_home : (n : ℕ) (z : LaidStatement) → laid_at is.laid n ≡ Some z → z.located.section ≡ index → source_text z.located.home ≡ true
       at_home n z e there =
-          let settled_here = all_found (IsSettled sections) (λ z. z.located.ordinal == n) is.laid (all_settled ss o is) z e in
+          let settled_here = each_find (IsSettled sections) (λ z. z.located.ordinal == n) is.laid (all_settled ss o is) z e in
           let both : Some z.located.home ≡ Some s = sym settled_here.home ∙ ap (slice_get sections) there ∙ at_s in
           let same : z.located.home ≡ s = cc in
           ap source_text same ∙ text_s
@@ -294,8 +294,8 @@ module _ (sources : List (List Statement)) (os : List Object) (text_start : ℕ)
       make_one : Makes p starts at sizes os text (input index x)
       make_one b piece first =
           changed.sites_made p starts os text f (tables ss) here.tables o index x s text_s is.number is.laid zs x.alignment flag meant piece.final piece.stays none_inside whole bytes_are
-          hx.tile (laid_are_in sections index s is.laid at_s (all_settled ss o is)) (all_filter IsUncut (λ z. z.located.section == index) is.laid (all_uncut ss o is))
-          (all_filter (λ z. IsSound (tables ss) z.located) (λ z. z.located.section == index) is.laid (sound ss is.laid is.dropped is.good is.located)) hx.sizes (hx.numbered loaded) first
+          hx.tile (laid_are_in sections index s is.laid at_s (all_settled ss o is)) (each_filter IsUncut (λ z. z.located.section == index) is.laid (all_uncut ss o is))
+          (each_filter (λ z. IsSound (tables ss) z.located) (λ z. z.located.section == index) is.laid (sound ss is.laid is.dropped is.good is.located)) hx.sizes (hx.numbered loaded) first
           ∙ ap (flat_map (sites_at p text)) (lined_same zs ∙ ap (λ S. line_of p starts at sizes f piece.t piece.tables piece.final piece.stays first (laid_in index S)) (sym here.laid))
         where
           lined_same : (ys : List LaidStatement)
@@ -331,7 +331,7 @@ module _ (sources : List (List Statement)) (os : List Object) (text_start : ℕ)
   makes f [] (v ∷ vs) q a = absurd q
   makes f (ss ∷ ts) [] q a = absurd q
   makes f (ss ∷ ts) (v ∷ vs) (is, q) (a, as') =
-      join (Makes p starts at sizes os text) (inputs_from goes_to_text f v 0 v.sections) (inputs_of goes_to_text (suc f) vs) (file_makes f ss v is a) (makes (suc f) ts vs q as')
+      each_append (Makes p starts at sizes os text) (inputs_from goes_to_text f v 0 v.sections) (inputs_of goes_to_text (suc f) vs) (file_makes f ss v is a) (makes (suc f) ts vs q as')
 
   pub sites_equal : line.sites_of sources l.map ≡ sites_of os
   sites_equal = sites_same p starts at sizes os text 0 (inputs goes_to_text os) bs pieces_are (makes 1 sources os h all_here)

@@ -1,11 +1,12 @@
 -- Records one by one, and the statements that they say.
 
-use Rattle.std.proofs.Common.{◌≡◌, ℕ, ◌+◌, ◌<◌, ◌≤◌, Bool, true, List, [], ◌∷◌, ◌++◌, map, length, take, get_or, slice_get, Some, option_map, IsTrue, refl, sym, ◌∙◌, ap, ap₂, ⊎_elim, leb-true, le-leb, arith}
+use Rattle.std.proofs.Common.{◌≡◌, ℕ, ◌+◌, ◌<◌, ◌≤◌, List, [], ◌∷◌, ◌++◌, map, length, take, get_or, slice_get, Some, option_map, IsTrue, refl, sym, ◌∙◌, ap, ap₂, leb-true, le-leb, arith}
 use Rattle.std.specs.List.{list_all}
-use Rattle.std.proofs.lemmas.Bool.{cases_Bool, both_ways, and_from, and_parts}
-use Rattle.std.proofs.lemmas.List.Folds.{list_all_at, list_all-append}
+use Rattle.std.proofs.lemmas.Bool.{and_from, and_parts}
+use Rattle.std.proofs.lemmas.List.Folds.{list_all-append}
 use Rattle.std.proofs.lemmas.List.{map-append, length-map, length_push, map_push, get_or_push, get_or_append_left, take_more}
 use Rattle.std.proofs.lemmas.Option.{slice_get-map, get_or_from_slice_get, slice_get_within, slice_get_read}
+use Rattle.rv_list_laws.proofs.TestsLemmas.{passes_at}
 use Rattle.rv_statement_laws.specs.Statement as specs
 use Rattle.rv_statement.specs.View.{statement_kind, statement_of}
 use Rattle.rv_statement.specs.declared.statement.Statement.{Statement}
@@ -13,10 +14,6 @@ use Rattle.rv_statement.specs.declared.record.Words.{Words}
 use Rattle.rv_statement.specs.declared.record.Words.TheVariants as words
 use Rattle.rv_statement.specs.declared.record.Record.{Record}
 use Rattle.rv_statement.specs.Records.{packed_kind, statement_in, recorded, least_whole, has_its_part, has_its_whole, IsPacked}
-
--- each passes a test
-pub passes_at : {X : Type 0} (p : X → Bool) (xs : List X) (i : ℕ) (d : X) → IsTrue (list_all p xs) → i < length xs → p (get_or xs i d) ≡ true
-passes_at p xs i d all within = ⊎_elim (λ h. h) (λ h. absurd (both_ways _ (list_all_at p xs i d within h) all)) (cases_Bool (p (get_or xs i d)))
 
 -- one more is kept whole
 pub kept_more : (n m : ℕ) (rs : List Record) → m ≡ n + 1 → IsTrue (list_all (has_its_whole n) rs) → IsTrue (list_all (has_its_whole m) rs)

@@ -4,6 +4,8 @@ use Rattle.std.proofs.Common.{◌≡◌, ℕ, ◌<◌, ◌^◌, Bool, true, fals
 use Rattle.std.specs.Prelude.{reverse, slice_get, is_some, nat_lt, ◌&&◌, ◌==◌}
 use Rattle.std.specs.List.{AllByRecursion}
 use Rattle.std.specs.Str.{bytes_eq}
+use Rattle.rv_list_laws.proofs.EachLemmas.{each_by_index, get_each}
+use Rattle.rv_list_laws.proofs.TestsLemmas.{get_all}
 use Rattle.rv_text_laws.specs.Bytes.{digits_value}
 use Rattle.rv_text_laws.specs.Expression.{Primary, Literal, Symbol as Named, Here, Reference}
 use Rattle.rv_statement_laws.specs.Statement.{Statement}
@@ -19,10 +21,8 @@ use Rattle.rv_assemble_laws.specs.IsObjectOf.{IsNumbered}
 use Rattle.rv_assemble_laws.specs.ShownNames.{is_shown_use, AreShown, HasNames}
 use Rattle.rv_symbols.specs.SymbolUse.{is_meant_use, AreMeant}
 use Rattle.rv_symbols.specs.Numbers.{numbering_in}
-use Rattle.rv_symbols.proofs.DefiningLemmas.{by_index, laid_of, own_name}
-use Rattle.rv_symbols.proofs.NamingLemmas.{all_got}
+use Rattle.rv_symbols.proofs.DefiningLemmas.{laid_of, own_name}
 use Rattle.rv_assemble_laws.proofs.DefinedNamesLemmas.{names_some}
-use Rattle.rv_assemble_laws.proofs.ListsLemmas.{all_index}
 use Rattle.rv_symbols.proofs.NumberedLemmas.{undefined_stands}
 use Rattle.rv_symbols.proofs.UnnamedLemmas.{unnamed_stands}
 use Rattle.rv_symbols.proofs.StandingLemmas.{StandsAt, AreNumeric, uses_stand, found_of, reversed}
@@ -73,7 +73,7 @@ module _ (ss : List Statement) (laid : List LaidStatement) (located : map (λ s.
 
   -- a name that a map can show is not empty
   some_name : (j o : ℕ) (name : List ℕ) → slice_get rs j ≡ Some (record { ordinal = o; symbol = Named name }) → bytes_eq [] name ≡ false
-  some_name j o name e = go name (and_both (is_name name) true (all_got is_shown_use rs j (record { ordinal = o; symbol = Named name }) e shown)).0
+  some_name j o name e = go name (and_both (is_name name) true (get_all is_shown_use rs j (record { ordinal = o; symbol = Named name }) e shown)).0
     where
       go : (name : List ℕ) → is_name name ≡ true → bytes_eq [] name ≡ false
       go [] h = absurd (cc)
@@ -95,6 +95,6 @@ module _ (ss : List Statement) (laid : List LaidStatement) (located : map (λ s.
 
   pub numbered : AllByRecursion (IsNumbered t laid (numbering_in t laid) (symbols_of t laid)) rs
   numbered =
-      by_index (IsNumbered t laid (numbering_in t laid) (symbols_of t laid)) rs
-      (λ j r e. by_symbol j r.ordinal r.symbol e (all_got (is_meant_use t) rs j r e meant)
-      (all_index (λ (z : SymbolUse). StandsAt laid z.ordinal) rs j r e (uses_stand t laid (means ss laid located) 0 1 (at_start ss) ss laid refl located)))
+      each_by_index (IsNumbered t laid (numbering_in t laid) (symbols_of t laid)) rs
+      (λ j r e. by_symbol j r.ordinal r.symbol e (get_all (is_meant_use t) rs j r e meant)
+      (get_each (λ (z : SymbolUse). StandsAt laid z.ordinal) rs j r e (uses_stand t laid (means ss laid located) 0 1 (at_start ss) ss laid refl located)))

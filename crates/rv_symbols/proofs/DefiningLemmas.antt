@@ -1,10 +1,13 @@
 -- The symbols of a name are those of the statement that defines it.
 
-use Rattle.std.proofs.Common.{◌≡◌, ℕ, zero, suc, ◌+◌, ◌<◌, ◌^◌, Bool, true, false, List, [], ◌∷◌, map, refl, sym, ap, ◌∙◌, subst, arith, Option, Some, None}
+use Rattle.std.proofs.Common.{◌≡◌, ℕ, ◌+◌, ◌<◌, ◌^◌, Bool, true, false, List, [], ◌∷◌, map, refl, sym, ap, ◌∙◌, subst, arith, Option, Some, None}
 use Rattle.std.specs.Prelude.{◌&&◌, ◌||◌, ◌==◌, not, nat_lt, is_some, slice_get, if◌then◌else◌}
-use Rattle.std.specs.List.{AllByRecursion, find, list_any}
+use Rattle.std.specs.List.{AllByRecursion, list_any}
 use Rattle.std.specs.Str.{bytes_eq}
 use Rattle.std.proofs.lemmas.Bool.{eq-eqb, ltb-true, or_left, and_from}
+use Rattle.rv_list_laws.proofs.ElementsLemmas.{same_bytes}
+use Rattle.rv_list_laws.proofs.EachLemmas.{get_each, each_by_index}
+use Rattle.rv_list_laws.proofs.FindLemmas.{find_test, found_any, found_each}
 use Rattle.rv_map_laws.specs.Globals.{is_one_of}
 use Rattle.rv_text_laws.specs.Expression.{Symbol as Named}
 use Rattle.rv_text_laws.specs.Values.{Meaning, Known, InSection as InData, Open as OpenAddress, Refused, add}
@@ -13,7 +16,7 @@ use Rattle.rv_unit_laws.specs.Tables as laws
 use Rattle.rv_unit_laws.specs.Tables.{Tables, Labelled, Assignment, at_start, tables, definition_at, label_of, assigned_ever, assigned_before, is_location}
 use Rattle.rv_unit_laws.specs.Faults.{first_unit_fault}
 use Rattle.rv_unit_laws.proofs.FewLemmas.{no_fault_from}
-use Rattle.rv_unit_laws.proofs.FoundLemmas.{same_bytes, bytes_same, and_both}
+use Rattle.rv_unit_laws.proofs.FoundLemmas.{bytes_same, and_both}
 use Rattle.rv_unit_laws.proofs.BeforeLemmas.{before_start}
 use Rattle.rv_source_laws.specs.Located.{located_from}
 use Rattle.rv_source_laws.specs.Exports.{sets_first, defined_name}
@@ -24,56 +27,15 @@ use Rattle.rv_assemble_laws.specs.Symbols.{laid_at, after_statement, after_found
 use Rattle.rv_symbols.specs.Numbers.{numbering_in}
 use Rattle.rv_symbols.proofs.StandsLemmas.{statement_by}
 use Rattle.rv_assemble_laws.proofs.OrdinalsLemmas.{ordinal_by}
-use Rattle.rv_assemble_laws.proofs.ListsLemmas.{all_index}
 use Rattle.rv_symbols.proofs.OwnedLemmas.{own_stands, own_named, own_all}
 use Rattle.rv_assemble_laws.proofs.SingleLemmas.{OnlySet, AreNumbers, of_label, of_set, of_numbers}
 use Rattle.rv_assemble_laws.proofs.OneNameLemmas.{Is, IsSet, IsFound, one_name, labels_found, none_all}
 
 -- ---- lists
 
-pub by_index : {X : Type 0} (P : X → Type 0) (xs : List X) → ((i : ℕ) (x : X) → slice_get xs i ≡ Some x → P x) → AllByRecursion P xs
-by_index P [] h = tt
-by_index P (x ∷ xs) h = (h zero x refl, by_index P xs (λ i y e. h (suc i) y e))
-
 not_both : {A : Type 0} (b : Bool) → b ≡ true → b ≡ false → A
 not_both true e f = absurd (cc)
 not_both false e f = absurd (cc)
-
--- what is found passes its test
-found_passes : {X : Type 0} (test : X → Bool) (xs : List X) (x : X) → find test xs ≡ Some x → test x ≡ true
-found_passes test [] x e = absurd (cc)
-found_passes test (z ∷ xs) x e = go (test z) refl e (found_passes test xs x)
-  where
-    go : (b : Bool) → test z ≡ b → (if b then Some z else find test xs) ≡ Some x → (find test xs ≡ Some x → test x ≡ true) → test x ≡ true
-    go true f e ih =
-        let same : z ≡ x = cc in
-        subst (λ y. test y ≡ true) same f
-    go false f e ih = ih e
-
--- what is found is one of the list
-found_any : {X : Type 0} (test more : X → Bool) (xs : List X) (x : X) → find test xs ≡ Some x → more x ≡ true → list_any more xs ≡ true
-found_any test more [] x e m = absurd (cc)
-found_any test more (z ∷ xs) x e m = go (test z) e (λ f. found_any test more xs x f m)
-  where
-    go : (b : Bool) → (if b then Some z else find test xs) ≡ Some x → (find test xs ≡ Some x → list_any more xs ≡ true) → (more z || list_any more xs) ≡ true
-    go true e ih =
-        let same : z ≡ x = cc in
-        or_left (more z) (list_any more xs) (ap more same ∙ m)
-    go false e ih = behind (more z) (ih e)
-      where
-        behind : (b : Bool) → list_any more xs ≡ true → (b || list_any more xs) ≡ true
-        behind true f = refl
-        behind false f = f
-
-found_all : {X : Type 0} (P : X → Type 0) (test : X → Bool) (xs : List X) (x : X) → find test xs ≡ Some x → AllByRecursion P xs → P x
-found_all P test [] x e h = absurd (cc)
-found_all P test (z ∷ xs) x e (h, hs) = go (test z) e (λ f. found_all P test xs x f hs)
-  where
-    go : (b : Bool) → (if b then Some z else find test xs) ≡ Some x → (find test xs ≡ Some x → P x) → P x
-    go true e ih =
-        let same : z ≡ x = cc in
-        subst P same h
-    go false e ih = ih e
 
 -- what none is, none of the list is with more asked
 none_any : (name : List ℕ) (o : ℕ) (xs : List Assignment) → assigned_ever xs name ≡ None → list_any (λ s. (s.ordinal == o) && bytes_eq s.name name) xs ≡ false
@@ -115,11 +77,11 @@ module _ (ss : List Statement) (laid : List LaidStatement) (located : map (λ s.
     founds = labels_found name t 1 (at_start ss) ss laid located (no_fault_from ss free) (before_start ss 1) refl
 
     found_label : (i : ℕ) (s : LaidStatement) (n : List ℕ) → slice_get laid i ≡ Some s → s.located.kind ≡ Label n → bytes_eq n name ≡ true → (l : Labelled) × (label_of t.labels true 0 name ≡ Some l) × (l.ordinal ≡ s.located.ordinal)
-    found_label i s n at is f = all_index (IsFound name t) laid i s at founds n is f
+    found_label i s n at is f = get_each (IsFound name t) laid i s at founds n is f
 
     all_give : (d : laws.Definition) → ((i : ℕ) (s : LaidStatement) (n : List ℕ) → slice_get laid i ≡ Some s → s.located.kind ≡ Label n → bytes_eq n name ≡ true → Own d (InSection s.located.section s.offset))
         → ((ordinal : ℕ) → sets_first t.assignments ordinal name ≡ true → Own d (assigned_definition laid (assigned_ever t.assignments name))) → AllByRecursion (λ s. Gives d s s.located.kind) laid
-    all_give d label set = by_index (λ s. Gives d s s.located.kind) laid (λ i s at. go i s at s.located.kind refl)
+    all_give d label set = each_by_index (λ s. Gives d s s.located.kind) laid (λ i s at. go i s at s.located.kind refl)
       where
         go : (i : ℕ) (s : LaidStatement) → slice_get laid i ≡ Some s → (kind : StatementKind) → s.located.kind ≡ kind → Gives d s kind
         go i s at (Label n) is = (label i s n at is, tt)
@@ -205,8 +167,8 @@ module _ (ss : List Statement) (laid : List LaidStatement) (located : map (λ s.
         before : (found : Option Assignment) → assigned_before t.assignments a.ordinal name ≡ found → not (is_some found) ≡ true
         before None g = refl
         before (Some x) g =
-            let test = and_both (nat_lt x.ordinal a.ordinal) (bytes_eq x.name name) (found_passes (λ (s : Assignment). nat_lt s.ordinal a.ordinal && bytes_eq s.name name) t.assignments x g) in
-            let same : x ≡ a = found_all (λ (y : Assignment). bytes_eq y.name name ≡ true → y ≡ a) (λ s. nat_lt s.ordinal a.ordinal && bytes_eq s.name name) t.assignments x g only test.1 in
+            let test = and_both (nat_lt x.ordinal a.ordinal) (bytes_eq x.name name) (find_test (λ (s : Assignment). nat_lt s.ordinal a.ordinal && bytes_eq s.name name) t.assignments x g) in
+            let same : x ≡ a = found_each (λ (y : Assignment). bytes_eq y.name name ≡ true → y ≡ a) (λ s. nat_lt s.ordinal a.ordinal && bytes_eq s.name name) t.assignments x g only test.1 in
             below_self a.ordinal (ap (λ (y : Assignment). nat_lt y.ordinal a.ordinal) (sym same) ∙ test.0)
 
         first : sets_first t.assignments s.located.ordinal name ≡ true
@@ -214,7 +176,7 @@ module _ (ss : List Statement) (laid : List LaidStatement) (located : map (λ s.
             ap (λ n. sets_first t.assignments n name) is
             ∙ and_from (list_any (λ x. (x.ordinal == a.ordinal) && bytes_eq x.name name) t.assignments) _
             (found_any (λ (x : Assignment). bytes_eq x.name name) (λ x. (x.ordinal == a.ordinal) && bytes_eq x.name name) t.assignments a f
-            (and_from (a.ordinal == a.ordinal) (bytes_eq a.name name) (eq-eqb a.ordinal a.ordinal refl) (found_passes (λ (x : Assignment). bytes_eq x.name name) t.assignments a f)))
+            (and_from (a.ordinal == a.ordinal) (bytes_eq a.name name) (eq-eqb a.ordinal a.ordinal refl) (find_test (λ (x : Assignment). bytes_eq x.name name) t.assignments a f)))
             (before (assigned_before t.assignments a.ordinal name) refl)
 
         label : (j : ℕ) (q : LaidStatement) (n : List ℕ) → slice_get laid j ≡ Some q → q.located.kind ≡ Label n → bytes_eq n name ≡ true → Own d (InSection q.located.section q.offset)

@@ -6,17 +6,13 @@ use Rattle.std.specs.List.{find, list_any}
 use Rattle.std.specs.Str.{bytes_eq}
 use Rattle.std.proofs.lemmas.Bool.{ltb-true, ltb-false, lt-ltb, leb-true, le-leb, eqb-true, eq-eqb}
 use Rattle.std.proofs.lemmas.List.{take_more, map-append, reverse-append}
+use Rattle.rv_list_laws.proofs.ElementsLemmas.{same_bytes}
+use Rattle.rv_list_laws.proofs.TruthLemmas.{same_tests, or_false_back}
 use Rattle.rv_unit_laws.specs.Tables.{Assignment}
 use Rattle.rv_unit_tables.specs.declared.tables.Assignment.{Assignment as DeclaredSetting}
 use Rattle.rv_unit_tables.specs.Tables.{assignment_of}
 use Rattle.rv_source_laws.specs.Exports.{sets_first}
 use Rattle.rv_symbols.specs.Settings.{least, first_ordinal}
-use Rattle.rv_unit_laws.proofs.FoundLemmas.{same_bytes}
-
-same_tests : (a b : Bool) → (a ≡ true → b ≡ true) → (b ≡ true → a ≡ true) → a ≡ b
-same_tests true b f g = sym (f refl)
-same_tests false true f g = g refl
-same_tests false false f g = refl
 
 -- whether an ordinal is below another, at most the other, the other
 abbrev below : ℕ → Option ℕ → Bool
@@ -31,12 +27,8 @@ abbrev pub is_at : ℕ → Option ℕ → Bool
 is_at k None = false
 is_at k (Some m) = m == k
 
-or_false : (b : Bool) → b ≡ (b || false)
-or_false true = refl
-or_false false = refl
-
 least_below : (k o : ℕ) (f : Option ℕ) → nat_lt (least o f) k ≡ (nat_lt o k || below k f)
-least_below k o None = or_false (nat_lt o k)
+least_below k o None = or_false_back (nat_lt o k)
 least_below k o (Some m) = same_tests (nat_lt (min o m) k) (nat_lt o k || nat_lt m k) (λ e. to e (nat_lt o k) refl (nat_lt m k) refl) (from (nat_lt o k) refl (nat_lt m k) refl)
   where
     to : nat_lt (min o m) k ≡ true → (a : Bool) → nat_lt o k ≡ a → (b : Bool) → nat_lt m k ≡ b → (a || b) ≡ true

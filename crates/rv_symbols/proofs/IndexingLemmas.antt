@@ -1,7 +1,7 @@
 -- The indices of symbols.
 
 use Rattle.std.proofs.Common.{◌≡◌, ℕ, suc, ◌+◌, ◌^◌, ◌<◌, ◌≤◌, Bool, true, false, cond, List, [], ◌∷◌, ◌++◌, length, map, take, get_or, refl, sym, ap, ◌∙◌, subst, arith, Option, Some, None}
-use Rattle.std.specs.Prelude.{◌&&◌, ◌==◌, not, nat_lt, option_map, unwrap_or, position, IfSome, if◌then◌else◌}
+use Rattle.std.specs.Prelude.{◌&&◌, ◌==◌, not, nat_lt, option_map, unwrap_or, position, if◌then◌else◌}
 use Rattle.std.specs.Borrow.{Bor}
 use Rattle.std.specs.List.{position_or_len}
 use Rattle.std.specs.Str.{bytes_eq}
@@ -90,11 +90,6 @@ pub position_is : (name : List ℕ) (ks : List (Bor (List ℕ))) → position (�
 position_is name ks =
     sym (ap (λ n. cond (nat_lt n (length (map now_of ks))) (Some n) None) (position_map name ks)
     ∙ ap (λ n. cond (nat_lt (position_or_len (λ k. bytes_eq name k.now) ks) n) (Some (position_or_len (λ k. bytes_eq name k.now) ks)) None) (length-map ks now_of))
-
--- an index that is found is below the count
-pub found_within : (found : Option ℕ) (count : ℕ) → IfSome found (λ i. i < count) → unwrap_or found 0 ≤ count
-found_within None count h = omega arith
-found_within (Some i) count h = omega (arith, h)
 
 -- symbols and the names after them are as many as what they were made of
 pub few_after : (own : List DeclaredSymbol) (keys names : List (Bor (List ℕ))) (count : ℕ) → count ≡ length (map symbol_of own) → map now_of keys ≡ map now_of names → length own + length names < 2 ^ 32

@@ -1,21 +1,21 @@
 -- The names that statements define.
 
-use Rattle.std.proofs.Common.{◌≡◌, ℕ, zero, suc, ◌+◌, ◌*◌, ◌<◌, ◌≤◌, Bool, true, false, List, [], ◌∷◌, ◌++◌, length, map, take, drop, refl, sym, ap, ◌∙◌, arith, append_assoc, Some}
-use Rattle.std.specs.Prelude.{◌&&◌, ◌||◌, ◌==◌, nat_lt, not, filter, slice_get, if◌then◌else◌}
+use Rattle.std.proofs.Common.{◌≡◌, ℕ, ◌+◌, ◌*◌, ◌≤◌, Bool, true, false, List, [], ◌∷◌, ◌++◌, length, map, refl, sym, ap, ◌∙◌, arith, append_assoc}
+use Rattle.std.specs.Prelude.{◌&&◌, ◌||◌, ◌==◌, nat_lt, not, filter, if◌then◌else◌}
 use Rattle.std.specs.List.{list_all}
-use Rattle.std.proofs.lemmas.Bool.{and_parts, and_from}
+use Rattle.std.proofs.lemmas.Bool.{and_parts}
 use Rattle.std.proofs.lemmas.List.Folds.{list_any-append}
-use Rattle.rv_statement_laws.specs.Statement.{StatementKind, Label, Directs, Sets}
+use Rattle.rv_statement_laws.specs.Statement.{StatementKind}
 use Rattle.rv_map_laws.specs.Name.{is_name, is_name_byte}
-use Rattle.rv_source_laws.specs.Exports.{sets_first, defined_name}
+use Rattle.rv_source_laws.specs.Exports.{defined_name}
 use Rattle.rv_unit_laws.specs.Tables.{Tables}
 use Rattle.rv_object_laws.specs.declared.symbol.Definition.{Definition as Defined}
 use Rattle.rv_object_laws.specs.declared.symbol.Definition.TheVariants.{Undefined, Absolute, InSection, Skipped}
 use Rattle.rv_object_laws.specs.Object.{Symbol}
 use Rattle.rv_object_laws.specs.Valid.{is_string}
+use Rattle.rv_object_laws.proofs.ValidLemmas.{no_zero}
 use Rattle.rv_assemble_laws.specs.LaidStatements.{LaidStatement}
 use Rattle.rv_assemble_laws.specs.Symbols.{SymbolUse, local_symbol, shared_symbol, is_absolute, references, is_meant, unnamed_symbols, named_symbols, local_symbols}
-use Rattle.rv_assemble_laws.specs.ShownNames.{tree_names, said_names, are_shown}
 use Rattle.rv_symbols.specs.Source.{place_in}
 use Rattle.rv_symbols.specs.Found.{is_number, same_place, is_seen}
 
@@ -70,65 +70,10 @@ shared_local t shared d names name e g = sym (ap (λ l. map (λ name. shared_sym
 pub shared_one : (t : Tables) (shared : List ℕ → Bool) (d : Defined) (names : List (List ℕ)) (name : List ℕ) → name ∷ [] ≡ names → shared name ≡ true → shared_symbol t name d ∷ [] ≡ shared_names t shared d names
 shared_one t shared d names name e g = sym (ap (λ l. map (λ name. shared_symbol t name d) l) (if_same (shared name) true name g)) ∙ ap (shared_names t shared d) e
 
--- a map can show the name that a statement defines
-first_shown : (n : List ℕ) (more : List (List ℕ)) → are_shown (n ∷ more) ≡ true → is_name n ≡ true
-first_shown n more e = (and_parts (is_name n) (are_shown more) e).0
-
--- such a name has no zero byte
-byte_kept : (b : ℕ) → is_name_byte b ≡ true → not (b == 0) ≡ true
-byte_kept b h = grind arith
-
-bytes_kept : (bs : List ℕ) → list_all is_name_byte bs ≡ true → is_string bs ≡ true
-bytes_kept [] h = refl
-bytes_kept (b ∷ bs) h =
-    let both = and_parts (is_name_byte b) (list_all is_name_byte bs) h in
-    and_from (not (b == 0)) (is_string bs) (byte_kept b both.0) (bytes_kept bs both.1)
-
 pub name_is_string : (name : List ℕ) → is_name name ≡ true → is_string name ≡ true
-name_is_string name h = bytes_kept name (and_parts (nat_lt 0 (length name)) (list_all is_name_byte name) h).1
-
-one_of : (b : Bool) (n name : List ℕ) → name ∷ [] ≡ (if b then n ∷ [] else []) → name ≡ n
-one_of true n name e = cc
-one_of false n name e = absurd (cc)
-
-pub shown_defined : (t : Tables) (ordinal : ℕ) (kind : StatementKind) (name : List ℕ) → name ∷ [] ≡ defined_name t ordinal kind → are_shown (said_names kind) ≡ true → is_name name ≡ true
-shown_defined t ordinal (Label n) name e h =
-    let same : name ≡ n = cc in
-    ap is_name same ∙ first_shown n [] h
-shown_defined t ordinal (Directs (Sets n x)) name e h = ap is_name (one_of (sets_first t.assignments ordinal n) n name e) ∙ first_shown n (tree_names x ++ []) h
-shown_defined t ordinal _ name e h = absurd (cc)
-
--- what all pass, the one at an index passes
-pub all_got : {X : Type 0} (p : X → Bool) (xs : List X) (i : ℕ) (x : X) → slice_get xs i ≡ Some x → list_all p xs ≡ true → p x ≡ true
-all_got p [] zero x e h = absurd (cc)
-all_got p [] (suc i) x e h = absurd (cc)
-all_got p (y ∷ ys) zero x e h =
-    let same : y ≡ x = cc in
-    ap p (sym same) ∙ (and_parts (p y) (list_all p ys) h).0
-all_got p (y ∷ ys) (suc i) x e h = all_got p ys i x e (and_parts (p y) (list_all p ys) h).1
+name_is_string name h = no_zero name (and_parts (nat_lt 0 (length name)) (list_all is_name_byte name) h).1
 
 -- ---- one statement more
-
-pub drop_got : {X : Type 0} (xs : List X) (i : ℕ) (x : X) → slice_get xs i ≡ Some x → drop i xs ≡ x ∷ drop (suc i) xs
-drop_got [] zero x e = absurd (cc)
-drop_got [] (suc i) x e = absurd (cc)
-drop_got (y ∷ ys) zero x e =
-    let same : y ≡ x = cc in
-    ap (λ z. z ∷ ys) same
-drop_got (y ∷ ys) (suc i) x e = drop_got ys i x e
-
-pub take_got : {X : Type 0} (xs : List X) (i : ℕ) (x : X) → slice_get xs i ≡ Some x → take (suc i) xs ≡ take i xs ++ x ∷ []
-take_got [] zero x e = absurd (cc)
-take_got [] (suc i) x e = absurd (cc)
-take_got (y ∷ ys) zero x e =
-    let same : y ≡ x = cc in
-    ap (λ z. z ∷ []) same
-take_got (y ∷ ys) (suc i) x e = ap (λ l. y ∷ l) (take_got ys i x e)
-
-pub there_is : {X : Type 0} (xs : List X) (i : ℕ) → i < length xs → (x : X) × (slice_get xs i ≡ Some x)
-there_is [] i h = absurd (omega arith)
-there_is (x ∷ xs) zero h = (x, refl)
-there_is (x ∷ xs) (suc i) h = there_is xs i (omega arith)
 
 module _ (t : Tables) (laid : List LaidStatement) (rs : List SymbolUse) where
   eqb_swap : (a b : ℕ) → (a == b) ≡ (b == a)
@@ -178,19 +123,7 @@ pub named_at : (t : Tables) (names : List (List ℕ)) (index : ℕ) (s : LaidSta
     → names ≡ defined_name t s.located.ordinal s.located.kind
 named_at t names index s kind o k e = e ∙ ap (defined_name t (index + 1)) k ∙ ap (λ n. defined_name t n s.located.kind) (sym o)
 
-next : (i : ℕ) → suc i ≡ i + 1
-next i = omega arith
-
-pub drop_next : {X : Type 0} (xs : List X) (i : ℕ) (x : X) → slice_get xs i ≡ Some x → drop i xs ≡ x ∷ drop (i + 1) xs
-drop_next xs i x e = drop_got xs i x e ∙ ap (λ n. x ∷ drop n xs) (next i)
-
-pub take_next : {X : Type 0} (xs : List X) (i : ℕ) (x : X) → slice_get xs i ≡ Some x → take (i + 1) xs ≡ take i xs ++ x ∷ []
-take_next xs i x e = ap (λ n. take n xs) (sym (next i)) ∙ take_got xs i x e
-
 -- ---- how many
-
-pub one_more : (old now new i : ℕ) → now ≤ old + i → new ≤ now + 1 → new ≤ old + (i + 1)
-one_more old now new i h k = omega (arith, h, k)
 
 pub two_more : (now new i : ℕ) → now ≤ 2 * i → new ≤ now + 2 → new ≤ 2 * (i + 1)
 two_more now new i h k = omega (arith, h, k)

@@ -5,7 +5,10 @@ use Rattle.std.specs.Prelude.{◌⊎◌, ◌||◌, not, flat_map, position, slic
 use Rattle.std.specs.List.{list_any, position_or_len}
 use Rattle.std.specs.Str.{bytes_eq}
 use Rattle.std.proofs.lemmas.Bool.{lt-ltb, or_right, or_left}
-use Rattle.std.proofs.lemmas.List.Folds.{list_any-append}
+use Rattle.rv_list_laws.proofs.ElementsLemmas.{same_bytes, bytes_eq_swap, get_behind}
+use Rattle.rv_list_laws.proofs.TestsLemmas.{any_left, any_right}
+use Rattle.rv_list_laws.proofs.TakeDropLemmas.{drop_get}
+use Rattle.rv_list_laws.proofs.MapLemmas.{get_map}
 use Rattle.rv_map_laws.specs.Globals.{is_one_of}
 use Rattle.rv_text_laws.specs.Expression.{Symbol as Named}
 use Rattle.rv_statement_laws.specs.declared.directive.Binding.{Binding}
@@ -13,7 +16,7 @@ use Rattle.rv_statement_laws.specs.declared.directive.Binding.TheVariants.{Local
 use Rattle.rv_unit_laws.specs.Bindings as source
 use Rattle.rv_unit_laws.specs.Tables as laws
 use Rattle.rv_unit_laws.specs.Tables.{Tables}
-use Rattle.rv_unit_laws.proofs.FoundLemmas.{same_bytes, bytes_swap, bytes_same}
+use Rattle.rv_unit_laws.proofs.FoundLemmas.{bytes_same}
 use Rattle.rv_object_laws.specs.declared.symbol.Definition.TheVariants.{Undefined}
 use Rattle.rv_object_laws.specs.Object.{Symbol}
 use Rattle.rv_assemble_laws.specs.LaidStatements.{LaidStatement}
@@ -23,48 +26,25 @@ use Rattle.rv_symbols.specs.Numbers.{last_from, last_index, own_symbols, missing
 
 -- ---- look-ups in lists
 
-pub any_front : {X : Type 0} (p : X → Bool) (xs ys : List X) → list_any p xs ≡ true → list_any p (xs ++ ys) ≡ true
-any_front p xs ys e = list_any-append p xs ys ∙ or_left (list_any p xs) (list_any p ys) e
-
-pub any_behind : {X : Type 0} (p : X → Bool) (xs ys : List X) → list_any p ys ≡ true → list_any p (xs ++ ys) ≡ true
-any_behind p xs ys e = list_any-append p xs ys ∙ or_right (list_any p xs) (list_any p ys) e
-
 -- an element at an index passes
 abbrev pub Has : {X : Type 0} → List X → (X → Bool) → Option ℕ → Type 0
 Has {X} xs p found = (k : ℕ) × (x : X) × (found ≡ Some k) × (slice_get xs k ≡ Some x) × (p x ≡ true)
 
-pub front_got : {X : Type 0} (xs : List X) (i : ℕ) (x : X) (ys : List X) → drop i xs ≡ x ∷ ys → (slice_get xs i ≡ Some x) × (drop (suc i) xs ≡ ys)
-front_got [] zero x ys e = absurd (cc)
-front_got [] (suc i) x ys e = absurd (cc)
-front_got (z ∷ zs) zero x ys e = (cc, cc)
-front_got (z ∷ zs) (suc i) x ys e = front_got zs i x ys e
-
 last_has : (all : List Symbol) (p : Symbol → Bool) (i : ℕ) (xs : List Symbol) (found : Option ℕ) → drop i all ≡ xs → Has all p found ⊎ (list_any p xs ≡ true) → Has all p (last_from i p xs found)
 last_has all p i [] found e (inl h) = h
 last_has all p i [] found e (inr h) = absurd (cc)
-last_has all p i (x ∷ xs) found e h = go (p x) refl (last_has all p (suc i) xs (Some i) (front_got all i x xs e).1) (last_has all p (suc i) xs found (front_got all i x xs e).1) h
+last_has all p i (x ∷ xs) found e h = go (p x) refl (last_has all p (suc i) xs (Some i) (drop_get all i x xs e).1) (last_has all p (suc i) xs found (drop_get all i x xs e).1) h
   where
     go : (b : Bool) → p x ≡ b → (Has all p (Some i) ⊎ (list_any p xs ≡ true) → Has all p (last_from (suc i) p xs (Some i)))
         → (Has all p found ⊎ (list_any p xs ≡ true) → Has all p (last_from (suc i) p xs found)) → Has all p found ⊎ ((b || list_any p xs) ≡ true)
         → Has all p (last_from (suc i) p xs (if b then Some i else found))
-    go true f these other h = these (inl (i, x, refl, (front_got all i x xs e).0, f))
+    go true f these other h = these (inl (i, x, refl, (drop_get all i x xs e).0, f))
     go false f these other h = other h
 
 pub got_last : (p : Symbol → Bool) (xs : List Symbol) → list_any p xs ≡ true → (x : Symbol) × (slice_get xs (unwrap_or (last_index p xs) 0) ≡ Some x) × (p x ≡ true)
 got_last p xs e =
     let h = last_has xs p 0 xs None refl (inr e) in
     (h.1, ap (λ o. slice_get xs (unwrap_or o 0)) h.2 ∙ h.3, h.4)
-
-pub got_front : {X : Type 0} (xs ys : List X) (k : ℕ) (x : X) → slice_get xs k ≡ Some x → slice_get (xs ++ ys) k ≡ Some x
-got_front [] ys zero x e = absurd (cc)
-got_front [] ys (suc k) x e = absurd (cc)
-got_front (z ∷ zs) ys zero x e = e
-got_front (z ∷ zs) ys (suc k) x e = got_front zs ys k x e
-
-pub got_behind : {X : Type 0} (xs ys : List X) (k n : ℕ) → n ≡ length xs + k → slice_get (xs ++ ys) n ≡ slice_get ys k
-got_behind [] ys k n e = ap (slice_get ys) (let f : n ≡ k = omega arith in f)
-got_behind (z ∷ zs) ys k zero e = absurd (omega arith)
-got_behind (z ∷ zs) ys k (suc n) e = got_behind zs ys k n (omega arith)
 
 -- ---- bindings
 
@@ -110,24 +90,16 @@ any_flat f [] zero r n e h = absurd (cc)
 any_flat f [] (suc i) r n e h = absurd (cc)
 any_flat f (q ∷ qs) zero r n e h =
     let same : q ≡ r = cc in
-    any_front (λ m. bytes_eq m n) (f q) (flat_map f qs) (ap (λ y. is_one_of (f y) n) same ∙ h)
-any_flat f (q ∷ qs) (suc i) r n e h = any_behind (λ m. bytes_eq m n) (f q) (flat_map f qs) (any_flat f qs i r n e h)
+    any_left (λ m. bytes_eq m n) (f q) (flat_map f qs) (ap (λ y. is_one_of (f y) n) same ∙ h)
+any_flat f (q ∷ qs) (suc i) r n e h = any_right (λ m. bytes_eq m n) (f q) (flat_map f qs) (any_flat f qs i r n e h)
 
 swap_any : (n : List ℕ) (xs : List (List ℕ)) → is_one_of xs n ≡ true → list_any (bytes_eq n) xs ≡ true
 swap_any n [] e = absurd (cc)
 swap_any n (x ∷ xs) e = go (bytes_eq x n) refl e (swap_any n xs)
   where
     go : (b : Bool) → bytes_eq x n ≡ b → (b || is_one_of xs n) ≡ true → (is_one_of xs n ≡ true → list_any (bytes_eq n) xs ≡ true) → (bytes_eq n x || list_any (bytes_eq n) xs) ≡ true
-    go true f e ih = or_left (bytes_eq n x) _ (bytes_swap n x ∙ f)
+    go true f e ih = or_left (bytes_eq n x) _ (bytes_eq_swap n x ∙ f)
     go false f e ih = or_right (bytes_eq n x) _ (ih e)
-
-map_got : {A B : Type 0} (f : A → B) (xs : List A) (k : ℕ) (x : A) → slice_get xs k ≡ Some x → slice_get (map f xs) k ≡ Some (f x)
-map_got f [] zero x e = absurd (cc)
-map_got f [] (suc k) x e = absurd (cc)
-map_got f (y ∷ ys) zero x e =
-    let same : y ≡ x = cc in
-    ap (λ z. Some (f z)) same
-map_got f (y ∷ ys) (suc k) x e = map_got f ys k x e
 
 module _ (t : Tables) (laid : List LaidStatement) where
   abbrev rs : List SymbolUse
@@ -151,7 +123,7 @@ module _ (t : Tables) (laid : List LaidStatement) where
       let k = unwrap_or (position (bytes_eq name) names) 0 in
       let n : List ℕ = found.0 in
       let got : slice_get (symbols_of t laid) (length own + k) ≡ Some (shared_symbol t n Undefined) =
-      ap (λ l. slice_get l (length own + k)) whole ∙ got_behind own undefined k (length own + k) refl ∙ map_got (λ name. shared_symbol t name Undefined) names k n found.1 in
+      ap (λ l. slice_get l (length own + k)) whole ∙ get_behind own undefined k (length own + k) refl ∙ get_map (λ name. shared_symbol t name Undefined) names k n found.1 in
       subst (λ d. StandsFor t laid o (Named name) (slice_get (symbols_of t laid) (number_of d))) (sym none)
       (subst (λ x. StandsFor t laid o (Named name) x) (sym got) (
         named n found.2,

@@ -5,6 +5,10 @@ use Rattle.std.proofs.lemmas.Bool.{or_right, or_left}
 use Rattle.std.specs.Prelude.{◌||◌, not, filter, flat_map, slice_get, unwrap_or, if◌then◌else◌}
 use Rattle.std.specs.List.{AllByRecursion, list_any}
 use Rattle.std.specs.Str.{bytes_eq}
+use Rattle.rv_list_laws.proofs.ElementsLemmas.{same_bytes, get_front}
+use Rattle.rv_list_laws.proofs.TestsLemmas.{any_left, any_right}
+use Rattle.rv_list_laws.proofs.EachLemmas.{get_each, each_append, each_mapped}
+use Rattle.rv_list_laws.proofs.FilterLemmas.{each_filter_weaker}
 use Rattle.rv_map_laws.specs.Globals.{is_one_of}
 use Rattle.rv_text_laws.specs.Expression.{Symbol as Named}
 use Rattle.rv_statement_laws.specs.declared.directive.Binding.{Binding}
@@ -13,7 +17,6 @@ use Rattle.rv_unit_laws.specs.Bindings as source
 use Rattle.rv_unit_laws.specs.Bindings.{is_shared}
 use Rattle.rv_unit_laws.specs.Tables as laws
 use Rattle.rv_unit_laws.specs.Tables.{Tables}
-use Rattle.rv_unit_laws.proofs.FoundLemmas.{same_bytes}
 use Rattle.rv_source_laws.specs.Exports.{defined_name}
 use Rattle.rv_object_laws.specs.declared.symbol.Definition.{Definition as Defined}
 use Rattle.rv_object_laws.specs.declared.symbol.Definition.TheVariants.{InSection}
@@ -22,17 +25,7 @@ use Rattle.rv_assemble_laws.specs.LaidStatements.{LaidStatement}
 use Rattle.rv_object_laws.specs.Bindings.{is_weak}
 use Rattle.rv_assemble_laws.specs.Symbols.{references, statement_definition, local_symbol, outer_binding, shared_symbol, is_absolute, unnamed_symbols, named_symbols, local_symbols, exports_of, exports, symbols_of, IsOwn, IsDefinedBy, StandsFor, is_named}
 use Rattle.rv_symbols.specs.Numbers.{last_index, own_symbols, missing_names, number_by, numbering_in}
-use Rattle.rv_symbols.proofs.NumberedLemmas.{any_front, any_behind, got_last, got_front, shared_weak, whole}
-use Rattle.rv_assemble_laws.proofs.ListsLemmas.{all_index, join, mapped}
-
--- what holds of all, and more of those that are kept
-kept : {X : Type 0} (P Q : X → Type 0) (test : X → Bool) → ((x : X) → test x ≡ true → P x → Q x) → (xs : List X) → AllByRecursion P xs → AllByRecursion Q (filter test xs)
-kept P Q test more [] h = tt
-kept P Q test more (x ∷ xs) (p, ps) = go (test x) refl (kept P Q test more xs ps)
-  where
-    go : (b : Bool) → test x ≡ b → AllByRecursion Q (filter test xs) → AllByRecursion Q (if b then x ∷ filter test xs else filter test xs)
-    go true e rest = (more x e p, rest)
-    go false e rest = rest
+use Rattle.rv_symbols.proofs.NumberedLemmas.{got_last, shared_weak, whole}
 
 -- a name that its own file alone can mean is not weak
 own_strong : (b : Binding) → not (is_shared b) ≡ true → source.is_weak b ≡ false
@@ -60,9 +53,9 @@ module _ (t : Tables) (laid : List LaidStatement) (name : List ℕ) where
       let k = unwrap_or (last_index (is_named name) own) 0 in
       let n : numbering_in t laid o (Named name) ≡ k = ap (number_by own (missing_names t (references t laid)) laid (Named name)) f in
       let got : slice_get (symbols_of t laid) (numbering_in t laid o (Named name)) ≡ Some x =
-      ap (slice_get (symbols_of t laid)) n ∙ ap (λ l. slice_get l k) (whole t laid) ∙ got_front own _ k x found.1 in
+      ap (slice_get (symbols_of t laid)) n ∙ ap (λ l. slice_get l k) (whole t laid) ∙ get_front own _ k x found.1 in
       let told : (is_weak x.binding ≡ source.is_weak (t.bindings name)) × IsOwn laid d x =
-      all_index (λ x. is_named name x ≡ true → (is_weak x.binding ≡ source.is_weak (t.bindings name)) × IsOwn laid d x) own k x found.1 all found.2 in
+      get_each (λ x. is_named name x ≡ true → (is_weak x.binding ≡ source.is_weak (t.bindings name)) × IsOwn laid d x) own k x found.1 all found.2 in
       subst (λ y. StandsFor t laid o (Named name) y) (sym got) (same_bytes x.name name found.2, told.0, subst (λ h. IsDefinedBy laid (Named name) h x) (sym f) told.1)
 
   -- ---- a statement that defines the name has its symbol
@@ -117,25 +110,25 @@ module _ (t : Tables) (laid : List LaidStatement) (name : List ℕ) where
   local_at before [] (suc i) s e h = absurd (cc)
   local_at before (q ∷ rest) zero s e h =
       let same : q ≡ s = cc in
-      any_behind (is_named name) (unnamed_symbols t (references t laid) before q) _
-      (any_front (is_named name) (named_symbols t laid q) (local_symbols t laid (before ++ q ∷ []) rest) (subst (λ y. Names (named_symbols t laid y)) (sym same) h))
+      any_right (is_named name) (unnamed_symbols t (references t laid) before q) _
+      (any_left (is_named name) (named_symbols t laid q) (local_symbols t laid (before ++ q ∷ []) rest) (subst (λ y. Names (named_symbols t laid y)) (sym same) h))
   local_at before (q ∷ rest) (suc i) s e h =
-      any_behind (is_named name) (unnamed_symbols t (references t laid) before q) _ (any_behind (is_named name) (named_symbols t laid q) _ (local_at (before ++ q ∷ []) rest i s e h))
+      any_right (is_named name) (unnamed_symbols t (references t laid) before q) _ (any_right (is_named name) (named_symbols t laid q) _ (local_at (before ++ q ∷ []) rest i s e h))
 
   exports_at : (rest : List LaidStatement) (i : ℕ) (s : LaidStatement) → slice_get rest i ≡ Some s → Names (exports_of t laid s) → Names (flat_map (exports_of t laid) rest)
   exports_at [] zero s e h = absurd (cc)
   exports_at [] (suc i) s e h = absurd (cc)
   exports_at (q ∷ rest) zero s e h =
       let same : q ≡ s = cc in
-      any_front (is_named name) (exports_of t laid q) _ (subst (λ y. Names (exports_of t laid y)) (sym same) h)
-  exports_at (q ∷ rest) (suc i) s e h = any_behind (is_named name) (exports_of t laid q) _ (exports_at rest i s e h)
+      any_left (is_named name) (exports_of t laid q) _ (subst (λ y. Names (exports_of t laid y)) (sym same) h)
+  exports_at (q ∷ rest) (suc i) s e h = any_right (is_named name) (exports_of t laid q) _ (exports_at rest i s e h)
 
   pub own_named : (i : ℕ) (s : LaidStatement) → slice_get laid i ≡ Some s → is_one_of (defines s) name ≡ true → is_absolute (local_symbol name (place s)) ≡ false → Names own
   own_named i s e h a = go (is_shared (t.bindings name)) refl
     where
       go : (b : Bool) → is_shared (t.bindings name) ≡ b → Names own
-      go true g = any_behind (is_named name) (local_symbols t laid [] laid) (exports t laid) (exports_at laid i s e (shared_one s g (defines s) h))
-      go false g = any_front (is_named name) (local_symbols t laid [] laid) (exports t laid) (local_at [] laid i s e (local_one s a g (defines s) h))
+      go true g = any_right (is_named name) (local_symbols t laid [] laid) (exports t laid) (exports_at laid i s e (shared_one s g (defines s) h))
+      go false g = any_left (is_named name) (local_symbols t laid [] laid) (exports t laid) (local_at [] laid i s e (local_one s a g (defines s) h))
 
 -- ---- symbols by their statements
 
@@ -161,26 +154,26 @@ module _ (t : Tables) (laid : List LaidStatement) (Has : Symbol → Type 0) (Kno
 
   named_all : (s : LaidStatement) → AreKnown s → AllByRecursion Has (named_symbols t laid s)
   named_all s h =
-      kept Has Has (λ x. not (is_absolute x)) (λ x e p. p) _
-      (mapped Has (λ n. local_symbol n (here s)) _ (kept (λ n. Known n (here s)) (λ n. Has (local_symbol n (here s))) (λ n. not (is_shared (t.bindings n))) (λ n. local n (here s)) (names s) h))
+      each_filter_weaker Has Has (λ x. not (is_absolute x)) (λ x e p. p) _
+      (each_mapped Has (λ n. local_symbol n (here s)) _ (each_filter_weaker (λ n. Known n (here s)) (λ n. Has (local_symbol n (here s))) (λ n. not (is_shared (t.bindings n))) (λ n. local n (here s)) (names s) h))
 
   exported_all : (s : LaidStatement) → AreKnown s → AllByRecursion Has (exports_of t laid s)
   exported_all s h =
-      mapped Has (λ n. shared_symbol t n (here s)) _
-      (kept (λ n. Known n (here s)) (λ n. Has (shared_symbol t n (here s))) (λ n. is_shared (t.bindings n)) (λ n e. shared n (here s)) (names s) h)
+      each_mapped Has (λ n. shared_symbol t n (here s)) _
+      (each_filter_weaker (λ n. Known n (here s)) (λ n. Has (shared_symbol t n (here s))) (λ n. is_shared (t.bindings n)) (λ n e. shared n (here s)) (names s) h)
 
   local_all : (before rest : List LaidStatement) → AllByRecursion AreKnown rest → AllByRecursion Has (local_symbols t laid before rest)
   local_all before [] h = tt
   local_all before (s ∷ rest) (h, hs) =
-      join Has (unnamed_symbols t (references t laid) before s) _ (unnamed_all before s)
-      (join Has (named_symbols t laid s) _ (named_all s h) (local_all (before ++ s ∷ []) rest hs))
+      each_append Has (unnamed_symbols t (references t laid) before s) _ (unnamed_all before s)
+      (each_append Has (named_symbols t laid s) _ (named_all s h) (local_all (before ++ s ∷ []) rest hs))
 
   exports_all : (rest : List LaidStatement) → AllByRecursion AreKnown rest → AllByRecursion Has (flat_map (exports_of t laid) rest)
   exports_all [] h = tt
-  exports_all (s ∷ rest) (h, hs) = join Has (exports_of t laid s) _ (exported_all s h) (exports_all rest hs)
+  exports_all (s ∷ rest) (h, hs) = each_append Has (exports_of t laid s) _ (exported_all s h) (exports_all rest hs)
 
   pub each_own : AllByRecursion AreKnown laid → AllByRecursion Has (own_symbols t laid)
-  each_own h = join Has (local_symbols t laid [] laid) (exports t laid) (local_all [] laid h) (exports_all laid h)
+  each_own h = each_append Has (local_symbols t laid [] laid) (exports t laid) (local_all [] laid h) (exports_all laid h)
 
 -- those of a name stand where its statement does, and are weak where the name is
 pub own_all : (t : Tables) (laid : List LaidStatement) (name : List ℕ) (P : Defined → Type 0) → bytes_eq [] name ≡ false

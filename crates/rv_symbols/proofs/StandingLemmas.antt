@@ -1,12 +1,12 @@
 -- Where the statements stand that uses without names mean.
 
 use Rattle.std.proofs.Common.{◌≡◌, ℕ, suc, Bool, true, false, List, [], ◌∷◌, map, drop, refl, sym, ap, ◌∙◌, subst, inl, inr, Option, Some, None}
-use Rattle.rv_assemble_laws.proofs.ListsLemmas.{join}
-use Rattle.rv_symbols.proofs.NumberedLemmas.{front_got}
-use Rattle.rv_symbols.proofs.StandsLemmas.{cons_parts}
 use Rattle.std.specs.Prelude.{reverse, flat_map, slice_get, if◌then◌else◌}
 use Rattle.std.specs.List.{AllByRecursion, find}
 use Rattle.std.proofs.lemmas.List.{reverse-append}
+use Rattle.rv_list_laws.proofs.EachLemmas.{each_append, each_same}
+use Rattle.rv_list_laws.proofs.TakeDropLemmas.{drop_get}
+use Rattle.rv_list_laws.proofs.ElementsLemmas.{cons_parts}
 use Rattle.rv_text_laws.specs.Expression.{Primary}
 use Rattle.rv_text_laws.specs.Values.{Value}
 use Rattle.rv_statement_laws.specs.declared.directive.Choice.{Choice}
@@ -25,23 +25,19 @@ use Rattle.rv_symbols.proofs.OrderedLemmas.{Names, AreOf, of_laid_statement}
 abbrev pub StandsAt : List LaidStatement → ℕ → Type 0
 StandsAt laid ordinal = (i : ℕ) × (s : LaidStatement) × (slice_get laid i ≡ Some s) × (s.located.ordinal ≡ ordinal) × (s.located.placed ≡ true)
 
-all_same : {X : Type 0} (P : Type 0) (xs : List X) → P → AllByRecursion (λ x. P) xs
-all_same P [] h = tt
-all_same P (x ∷ xs) h = (h, all_same P xs h)
-
 -- a statement whose values name symbols has a place
 placed_by : (t u : Tables) (k n : ℕ) (s : LaidStatement) (kind : StatementKind) (placed : Bool) → placed ≡ is_placed u k kind
     → AllByRecursion (λ (r : SymbolUse). placed ≡ true) (flat_map references_in (map (laid_part n) (templates t s kind)))
 placed_by t u k n s (Label name) placed e = tt
 placed_by t u k n s (Numbered number) placed e = tt
-placed_by t u k n s (Instruction mnemonic operands) placed e = all_same (placed ≡ true) _ e
+placed_by t u k n s (Instruction mnemonic operands) placed e = each_same (placed ≡ true) _ e
 placed_by t u k n s (Directs (Enters section)) placed e = tt
 placed_by t u k n s (Directs (Opens name flags kind)) placed e = tt
 placed_by t u k n s (Directs (Binds binding names)) placed e = tt
 placed_by t u k n s (Directs (Sets name x)) placed e = tt
-placed_by t u k n s (Directs (Aligns_to_power x)) placed e = all_same (placed ≡ true) _ e
-placed_by t u k n s (Directs (Aligns_to_bytes x)) placed e = all_same (placed ≡ true) _ e
-placed_by t u k n s (Directs (Values width xs)) placed e = all_same (placed ≡ true) _ e
+placed_by t u k n s (Directs (Aligns_to_power x)) placed e = each_same (placed ≡ true) _ e
+placed_by t u k n s (Directs (Aligns_to_bytes x)) placed e = each_same (placed ≡ true) _ e
+placed_by t u k n s (Directs (Values width xs)) placed e = each_same (placed ≡ true) _ e
 placed_by t u k n s (Directs (Strings ended strings)) placed e = tt
 placed_by t u k n s (Directs (Zeros count)) placed e = tt
 placed_by t u k n s (Directs (Chooses choice)) placed e = tt
@@ -77,9 +73,9 @@ pub uses_stand : (t : Tables) (all : List LaidStatement) → Means t all → (i 
 uses_stand t all means i k u ss [] d e = tt
 uses_stand t all means i k u [] (s ∷ laid) d e = absurd (cc)
 uses_stand t all means i k u (x ∷ ss) (s ∷ laid) d e =
-    let at = front_got all i s laid d in
+    let at = drop_get all i s laid d in
     let now = (cons_parts _ _ _ _ e).0 in
-    join (λ (r : SymbolUse). StandsAt all r.ordinal) (references_of t s) (references t laid) (both t all means i s (references_of t s) at.0 (of_laid_statement t s) (placed_of t s u k x now))
+    each_append (λ (r : SymbolUse). StandsAt all r.ordinal) (references_of t s) (references t laid) (both t all means i s (references_of t s) at.0 (of_laid_statement t s) (placed_of t s u k x now))
     (uses_stand t all means (suc i) (suc k) (after u k x.kind) ss laid at.1 (cons_parts _ _ _ _ e).1)
 
 -- ---- numeric labels
@@ -126,7 +122,7 @@ pub numeric_stand : (all : List LaidStatement) (i k : ℕ) (u : Tables) (ss : Li
 numeric_stand all i k u [] laid d e h = h
 numeric_stand all i k u (x ∷ ss) [] d e h = absurd (cc)
 numeric_stand all i k u (x ∷ ss) (s ∷ laid) d e h =
-    let at = front_got all i s laid d in
+    let at = drop_get all i s laid d in
     let now = (cons_parts _ _ _ _ e).0 in
     numeric_stand all (suc i) (suc k) (after u k x.kind) ss laid at.1 (cons_parts _ _ _ _ e).1
     (numeric_after all u k x.kind (λ p. (i, s, at.0, ap (λ (l : Located). l.ordinal) now, ap (λ (l : Located). l.placed) now ∙ p)) h)
@@ -144,4 +140,4 @@ found_of P test (x ∷ ms) m e (h, hs) = go (test x) e (λ f. found_of P test ms
 
 pub reversed : (P : NumericLabel → Type 0) (ms : List NumericLabel) → AllByRecursion P ms → AllByRecursion P (reverse ms)
 reversed P [] h = tt
-reversed P (m ∷ ms) (h, hs) = subst (AllByRecursion P) (sym (reverse-append (m ∷ []) ms)) (join P (reverse ms) (m ∷ []) (reversed P ms hs) (h, tt))
+reversed P (m ∷ ms) (h, hs) = subst (AllByRecursion P) (sym (reverse-append (m ∷ []) ms)) (each_append P (reverse ms) (m ∷ []) (reversed P ms hs) (h, tt))

@@ -6,6 +6,9 @@ use Rattle.std.specs.List.{find}
 use Rattle.std.proofs.lemmas.Bool.{eq-eqb, ltb-true, ltb-false, ne_eqb}
 use Rattle.rv_statement_laws.specs.Statement.{Statement}
 use Rattle.std.proofs.lemmas.List.{at_drop_all}
+use Rattle.rv_list_laws.proofs.ElementsLemmas.{cons_parts}
+use Rattle.rv_list_laws.proofs.MapLemmas.{map_twice}
+use Rattle.std.proofs.lemmas.Option.{slice_get-map}
 use Rattle.rv_unit_laws.specs.Tables.{Tables, SectionOffset as Standing, at_start, after, stood, places_from}
 use Rattle.rv_unit_tables.specs.declared.section_offset.SectionOffset.{SectionOffset}
 use Rattle.rv_unit_tables.specs.Sections.{offset_of}
@@ -18,8 +21,7 @@ use Rattle.rv_object_laws.specs.declared.symbol.Definition.TheVariants.{InSectio
 use Rattle.rv_assemble_laws.specs.Symbols.{laid_at, after_found}
 use Rattle.rv_symbols.specs.declared.source.Source.{Source}
 use Rattle.rv_symbols.specs.Source.{place_in, IsSource}
-pub use Rattle.rv_assemble_laws.proofs.UseWeightsLemmas.{cons_parts}
-pub use Rattle.rv_unit_tables.proofs.OrderedLemmas.{some_at, got}
+pub use Rattle.rv_unit_tables.proofs.OrderedLemmas.{got}
 use Rattle.rv_assemble_laws.proofs.OrdinalsLemmas.{ordinal_by}
 
 -- the statement of an ordinal is that at its index
@@ -56,16 +58,6 @@ statement_next x laid h n i e =
 sections_are : (k : ℕ) (t : Tables) (ss : List Statement) → map (λ (l : Located). l.section) (located_from 1 k t ss) ≡ map (λ (p : Standing). p.section) (places_from t k ss)
 sections_are k t [] = refl
 sections_are k t (s ∷ ss) = ap (λ l. (stood t k s.kind).section ∷ l) (sections_are (suc k) (after t k s.kind) ss)
-
-map_twice : {A B C : Type 0} (f : A → B) (g : B → C) (xs : List A) → map g (map f xs) ≡ map (λ x. g (f x)) xs
-map_twice f g [] = refl
-map_twice f g (x ∷ xs) = ap (λ l. g (f x) ∷ l) (map_twice f g xs)
-
-pub got_map : {A B : Type 0} (f : A → B) (xs : List A) (i : ℕ) → slice_get (map f xs) i ≡ option_map f (slice_get xs i)
-got_map f [] zero = refl
-got_map f [] (suc i) = refl
-got_map f (x ∷ xs) zero = refl
-got_map f (x ∷ xs) (suc i) = got_map f xs i
 
 -- a section and an offset, where there are both
 abbrev pub both : Option SectionOffset → Option ℕ → Option (ℕ × ℕ)
@@ -112,8 +104,8 @@ count_is x laid h = sym (counts (λ (s : LaidStatement). s.located) laid) ∙ ap
 pub kind_is : (x : Source) (laid : List LaidStatement) → IsSource x laid → (i : ℕ) (s : LaidStatement) → slice_get laid i ≡ Some s
     → option_map (λ (y : Statement). y.kind) (slice_get (said x.unit.now) i) ≡ Some s.located.kind
 kind_is x laid h i s e =
-    sym (got_map (λ (y : Statement). y.kind) (said x.unit.now) i) ∙ ap (λ l. slice_get l i) (sym (kinds_are 1 (at_start (said x.unit.now)) (said x.unit.now)) ∙ ap (map (λ (l : Located). l.kind)) (sym h.located) ∙ map_twice (λ (s : LaidStatement). s.located) (λ (l : Located). l.kind) laid)
-    ∙ got_map (λ (s : LaidStatement). s.located.kind) laid i ∙ ap (option_map (λ (s : LaidStatement). s.located.kind)) e
+    sym (slice_get-map (λ (y : Statement). y.kind) (said x.unit.now) i) ∙ ap (λ l. slice_get l i) (sym (kinds_are 1 (at_start (said x.unit.now)) (said x.unit.now)) ∙ ap (map (λ (l : Located). l.kind)) (sym h.located) ∙ map_twice (λ (s : LaidStatement). s.located) (λ (l : Located). l.kind) laid)
+    ∙ slice_get-map (λ (s : LaidStatement). s.located.kind) laid i ∙ ap (option_map (λ (s : LaidStatement). s.located.kind)) e
 
 -- the offsets up to one more are low
 pub low_more : (laid : List LaidStatement) (i : ℕ) → ((j : ℕ) (s : LaidStatement) → j < i → slice_get laid j ≡ Some s → s.offset < 2 ^ 64) → ((s : LaidStatement) → slice_get laid i ≡ Some s → s.offset < 2 ^ 64)

@@ -6,11 +6,13 @@ use Rattle.std.specs.List.{AllByRecursion, list_any}
 use Rattle.std.specs.Str.{bytes_eq}
 use Rattle.std.proofs.lemmas.Bool.{and_parts, eqb-true, eq-eqb, or_right, or_left, and_from}
 use Rattle.std.proofs.lemmas.List.Folds.{list_any-append}
+use Rattle.rv_list_laws.proofs.ElementsLemmas.{same_bytes, get_front}
+use Rattle.rv_list_laws.proofs.TestsLemmas.{any_left, any_right}
+use Rattle.rv_list_laws.proofs.EachLemmas.{get_each}
 use Rattle.rv_text_laws.specs.Expression.{Primary, Literal, Symbol as Named, Here, Reference}
 use Rattle.rv_text_laws.specs.Values.{add}
 use Rattle.rv_unit_laws.specs.Tables as laws
 use Rattle.rv_unit_laws.specs.Tables.{Tables, gives_way}
-use Rattle.rv_unit_laws.proofs.FoundLemmas.{same_bytes}
 use Rattle.rv_object_laws.specs.declared.symbol.Definition.{Definition as Defined}
 use Rattle.rv_object_laws.specs.declared.symbol.Definition.TheVariants.{Undefined, Absolute, InSection, Skipped}
 use Rattle.rv_object_laws.specs.Object.{Symbol}
@@ -19,8 +21,7 @@ use Rattle.rv_object_laws.specs.Bindings.{is_weak}
 use Rattle.rv_assemble_laws.specs.Symbols.{SymbolUse, references, laid_at, local_symbol, is_unnamed, is_defined_at, is_meant, unnamed_symbols, named_symbols, local_symbols, exports, symbols_of, IsNamed, IsDefinedBy, StandsFor, stands_in}
 use Rattle.rv_symbols.specs.Numbers.{last_index, is_at_place, own_symbols, missing_names, own_number, place_number, number_by, numbering_in}
 use Rattle.rv_assemble_laws.proofs.DefinedNamesLemmas.{AreSome}
-use Rattle.rv_symbols.proofs.NumberedLemmas.{any_front, any_behind, got_last, got_front, whole}
-use Rattle.rv_assemble_laws.proofs.ListsLemmas.{all_index}
+use Rattle.rv_symbols.proofs.NumberedLemmas.{got_last, whole}
 use Rattle.rv_symbols.proofs.OwnedLemmas.{each_own}
 
 place_here : (section offset : ℕ) → is_at_place section offset (local_symbol [] (InSection section offset)) ≡ true
@@ -84,14 +85,14 @@ module _ (t : Tables) (laid : List LaidStatement) where
           → (seen q.located.section q.offset before ≡ true) ⊎ At q (local_symbols t laid before (s ∷ rest))
       go (inl h) = last (or_last (seen q.located.section q.offset before) (((q.located.section == s.located.section) && (q.offset == s.offset)) && meant s)
           (sym (list_any-append (λ y. ((q.located.section == y.located.section) && (q.offset == y.offset)) && meant y) before (s ∷ [])) ∙ h))
-      go (inr h) = inr (any_behind test (unnamed_symbols t (references t laid) before s) tail (any_behind test (named_symbols t laid s) (local_symbols t laid (before ++ s ∷ []) rest) h))
+      go (inr h) = inr (any_right test (unnamed_symbols t (references t laid) before s) tail (any_right test (named_symbols t laid s) (local_symbols t laid (before ++ s ∷ []) rest) h))
 
   own_has : (i : ℕ) (q : LaidStatement) → slice_get laid i ≡ Some q → meant q ≡ true → At q (own_symbols t laid)
   own_has i q e m = go (local_has [] laid i q e m)
     where
       go : (false ≡ true) ⊎ At q (local_symbols t laid [] laid) → At q (own_symbols t laid)
       go (inl h) = absurd (cc)
-      go (inr h) = any_front (is_at_place q.located.section q.offset) (local_symbols t laid [] laid) (exports t laid) h
+      go (inr h) = any_left (is_at_place q.located.section q.offset) (local_symbols t laid [] laid) (exports t laid) h
 
   -- a statement that a use without a name means
   is_meant_by : (rs : List SymbolUse) (j : ℕ) (r : SymbolUse) (s : LaidStatement) (d : laws.Definition) → slice_get rs j ≡ Some r → is_unnamed r.symbol ≡ true → laws.definition t r.ordinal r.symbol ≡ Some d
@@ -155,11 +156,11 @@ module _ (t : Tables) (laid : List LaidStatement) where
       let n : numbering_in t laid r.ordinal r.symbol ≡ unwrap_or (last_index test own) 0 =
       ap (number_by own (missing_names t (references t laid)) laid r.symbol) f ∙ own_is r.symbol d u ∙ ap (place_number own) laid_statement in
       let got : slice_get (symbols_of t laid) (numbering_in t laid r.ordinal r.symbol) ≡ Some x =
-      ap (slice_get (symbols_of t laid)) n ∙ ap (λ l. slice_get l (unwrap_or (last_index test own) 0)) (whole t laid) ∙ got_front own _ (unwrap_or (last_index test own) 0) x found.1 in
+      ap (slice_get (symbols_of t laid)) n ∙ ap (λ l. slice_get l (unwrap_or (last_index test own) 0)) (whole t laid) ∙ get_front own _ (unwrap_or (last_index test own) 0) x found.1 in
       let end : s.offset ≡ add s.offset d.plus = omega arith in
       subst (λ y. StandsFor t laid r.ordinal r.symbol y) (sym got) (
         nameless r.symbol r.ordinal d x u f parts.0,
-        all_index (λ x. bytes_eq x.name [] ≡ true → is_weak x.binding ≡ false) own (unwrap_or (last_index test own) 0) x found.1 (strong names) (ap (λ n. bytes_eq n []) parts.0)
+        get_each (λ x. bytes_eq x.name [] ≡ true → is_weak x.binding ≡ false) own (unwrap_or (last_index test own) 0) x found.1 (strong names) (ap (λ n. bytes_eq n []) parts.0)
             ∙ sym (keeps r.symbol u),
         subst (λ h. IsDefinedBy laid r.symbol h x) (sym f) (s, laid_statement, placed, parts.1 ∙ ap (InSection s.located.section) end),
       )

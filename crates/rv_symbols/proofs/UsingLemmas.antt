@@ -7,6 +7,10 @@ use Rattle.std.specs.Borrow.{Bor}
 use Rattle.std.specs.List.{list_any}
 use Rattle.std.specs.Str.{bytes_eq}
 use Rattle.std.proofs.lemmas.List.Folds.{list_any-append, list_all-append}
+use Rattle.rv_list_laws.proofs.ElementsLemmas.{bytes_eq_swap, get_index_or}
+use Rattle.std.proofs.lemmas.Option.{slice_get-map}
+use Rattle.rv_list_laws.proofs.TakeDropLemmas.{drop_next, take_next}
+use Rattle.rv_list_laws.proofs.TruthLemmas.{or_false}
 use Rattle.rv_map_laws.specs.Globals.{is_one_of}
 use Rattle.rv_map_laws.specs.Name.{is_name}
 use Rattle.rv_assemble_laws.specs.ShownNames.{primary_names, used_names, are_shown}
@@ -14,7 +18,6 @@ use Rattle.rv_text_laws.specs.Expression.{Primary, Literal, Symbol as Named, Her
 use Rattle.rv_statement.specs.View.{now_of}
 use Rattle.rv_unit_laws.specs.Tables as laws
 use Rattle.rv_unit_laws.specs.Tables.{Tables}
-use Rattle.rv_unit_laws.proofs.FoundLemmas.{bytes_swap}
 use Rattle.rv_unit.specs.Unit.{definition_of}
 use Rattle.rv_unit_tables.specs.declared.section_offset.Definition.{Definition}
 use Rattle.rv_assemble_laws.specs.Symbols.{SymbolUse, missing_name, distinct_from}
@@ -22,35 +25,29 @@ use Rattle.rv_symbols.specs.declared.symbol_use.SymbolUse.{SymbolUse as Declared
 use Rattle.rv_symbols.specs.SymbolUse.{use_of, uses_of}
 use Rattle.rv_symbols.specs.Numbers.{missing_names}
 use Rattle.rv_symbols.specs.Found.{definition_in, is_here, next_ordinal, IsNext, means, any_means, missing_by, with_names}
-use Rattle.rv_symbols.proofs.StandsLemmas.{got_map, some_at}
-use Rattle.rv_symbols.proofs.NamingLemmas.{drop_next, take_next}
 
 -- the use at an index
 pub use_at : (us : List DeclaredUse) (i : ℕ) (d : DeclaredUse) → i < length us → slice_get (uses_of us) i ≡ Some (use_of (slice_index_or us i d))
-use_at us i d inside = got_map use_of us i ∙ ap (option_map use_of) (some_at us i d inside)
+use_at us i d inside = slice_get-map use_of us i ∙ ap (option_map use_of) (get_index_or us i d inside)
 
 pub found_at : (t : Tables) (us : List DeclaredUse) (ds : List (Option Definition)) → map (option_map definition_of) ds ≡ map (definition_in t) (uses_of us) → (i : ℕ) (d : DeclaredUse) (n : Option Definition)
     → i < length us → i < length ds → option_map definition_of (slice_index_or ds i n) ≡ definition_in t (use_of (slice_index_or us i d))
 found_at t us ds e i d n inside within =
     let left : slice_get (map (option_map definition_of) ds) i ≡ Some (option_map definition_of (slice_index_or ds i n)) =
-    got_map (option_map definition_of) ds i ∙ ap (option_map (option_map definition_of)) (some_at ds i n within) in
+    slice_get-map (option_map definition_of) ds i ∙ ap (option_map (option_map definition_of)) (get_index_or ds i n within) in
     let right : slice_get (map (definition_in t) (uses_of us)) i ≡ Some (definition_in t (use_of (slice_index_or us i d))) =
-    got_map (definition_in t) (uses_of us) i ∙ ap (option_map (definition_in t)) (use_at us i d inside) in
+    slice_get-map (definition_in t) (uses_of us) i ∙ ap (option_map (definition_in t)) (use_at us i d inside) in
     let both : Some (option_map definition_of (slice_index_or ds i n)) ≡ Some (definition_in t (use_of (slice_index_or us i d))) = sym left ∙ ap (λ l. slice_get l i) e ∙ right in
     cc
 
 -- ---- marks
-
-or_none : (a : Bool) → (a || false) ≡ a
-or_none true = refl
-or_none false = refl
 
 pub mark_more : (t : Tables) (rs : List SymbolUse) (i : ℕ) (r : SymbolUse) (k : ℕ) (q : Primary) (found : Option laws.Definition) (old new : Bool) → slice_get rs i ≡ Some r → q ≡ r.symbol → found ≡ definition_in t r
     → new ≡ (old || means k q found) → old ≡ any_means t k (take i rs) → new ≡ any_means t k (take (i + 1) rs)
 mark_more t rs i r k q found old new at s f n o =
     n ∙ ap (λ b. b || means k q found) o
     ∙ ap (λ p. any_means t k (take i rs) || means k p found) s ∙ ap (λ d. any_means t k (take i rs) || means k r.symbol d) f
-    ∙ ap (λ b. any_means t k (take i rs) || b) (sym (or_none (means k r.symbol (definition_in t r))))
+    ∙ ap (λ b. any_means t k (take i rs) || b) (sym (or_false (means k r.symbol (definition_in t r))))
     ∙ sym (list_any-append (λ y. means k y.symbol (definition_in t y)) (take i rs) (r ∷ []))
     ∙ ap (any_means t k) (sym (take_next rs i r at))
 
@@ -79,13 +76,9 @@ missing_more t rs i r q found old new all at s f n h =
     ∙ ap (λ l. with_names old (flat_map (λ r. missing_name t r.ordinal r.symbol) l)) (sym (drop_next rs i r at))
     ∙ h
 
-one_swap : (xs : List (List ℕ)) (name : List ℕ) → list_any (λ x. bytes_eq name x) xs ≡ is_one_of xs name
-one_swap [] name = refl
-one_swap (x ∷ xs) name = ap (λ b. b || list_any (λ x. bytes_eq name x) xs) (bytes_swap name x) ∙ ap (λ b. bytes_eq x name || b) (one_swap xs name)
-
 any_map : (name : Bor (List ℕ)) (ks : List (Bor (List ℕ))) → list_any (λ k. bytes_eq name.now k.now) ks ≡ is_one_of (map now_of ks) name.now
 any_map name [] = refl
-any_map name (k ∷ ks) = ap (λ b. b || list_any (λ k. bytes_eq name.now k.now) ks) (bytes_swap name.now k.now) ∙ ap (λ b. bytes_eq k.now name.now || b) (any_map name ks)
+any_map name (k ∷ ks) = ap (λ b. b || list_any (λ k. bytes_eq name.now k.now) ks) (bytes_eq_swap name.now k.now) ∙ ap (λ b. bytes_eq k.now name.now || b) (any_map name ks)
 
 map_join : (xs : List (Bor (List ℕ))) (y : Bor (List ℕ)) → map now_of (xs ++ y ∷ []) ≡ map now_of xs ++ y.now ∷ []
 map_join [] y = refl
@@ -113,7 +106,7 @@ distinct (n ∷ ns) before had same = ap (λ b. with_names (if b then had else h
 
     more : (m : List ℕ) → is_one_of (had ++ n ∷ []) m ≡ is_one_of (n ∷ before) m
     more m =
-        list_any-append (λ x. bytes_eq x m) had (n ∷ []) ∙ ap (λ b. is_one_of had m || b) (or_none (bytes_eq n m)) ∙ or_swap (is_one_of had m) (bytes_eq n m)
+        list_any-append (λ x. bytes_eq x m) had (n ∷ []) ∙ ap (λ b. is_one_of had m || b) (or_false (bytes_eq n m)) ∙ or_swap (is_one_of had m) (bytes_eq n m)
         ∙ ap (λ b. bytes_eq n m || b) (same m)
 
     go : (b : Bool) → with_names had ns ≡ had ++ distinct_from before ns → with_names (had ++ n ∷ []) ns ≡ (had ++ n ∷ []) ++ distinct_from (n ∷ before) ns

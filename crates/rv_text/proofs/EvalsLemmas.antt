@@ -1,7 +1,6 @@
 -- The stack of values as the code holds it.
 
-use Rattle.std.proofs.Common.{◌≡◌, ℕ, ◌+◌, ◌<◌, ◌≤◌, true, List, [], ◌∷◌, ◌++◌, length, get_or, drop, map, reverse, refl, sym, ◌∙◌, ap, subst, arith, length-append, Option, Some, None, Result}
-use Rattle.std.specs.Prelude.{IfSome}
+use Rattle.std.proofs.Common.{◌≡◌, ℕ, ◌+◌, ◌<◌, ◌≤◌, true, List, [], ◌∷◌, ◌++◌, length, get_or, drop, map, reverse, refl, sym, ◌∙◌, ap, subst, arith, Result}
 use Rattle.std.proofs.lemmas.List.{map-append, reverse-append, at_drop_more, at_drop_all}
 use Rattle.std.proofs.lemmas.Bool.{and_parts, ltb-true}
 use Rattle.rv_text_laws.specs.declared.operator.UnaryOperator.{UnaryOperator}
@@ -29,9 +28,6 @@ pub tops_none : tops [] ≡ []
 unfolding tops
 tops_none = refl
 
-pub length_push : (items : List Part) (p : Part) → length (items ++ p ∷ []) ≡ length items + 1
-length_push items p = omega (arith, length-append items (p ∷ []))
-
 -- one node of those that fit
 pub one_fits : (n : Node) (ns : List Node) (count : ℕ) → nodes_fit (n ∷ ns) count ≡ true → node_fits n count ≡ true
 one_fits n ns count e = (and_parts (node_fits n count) (nodes_fit ns (count_after n count)) e).0
@@ -47,10 +43,6 @@ pub last_value : (items front : List Part) (p : Part) (v : Value) (others : List
 last_value items front p v others split is =
     let same : part_value p ∷ tops front ≡ v ∷ others = sym (tops_push front p) ∙ ap tops (sym split) ∙ is in
     cc
-
-pub some_more : {X : Type 0} (o : Option X) (P Q : X → Type 0) → ((x : X) → P x → Q x) → IfSome o P → IfSome o Q
-some_more None P Q f h = tt
-some_more (Some x) P Q f h = f x h
 
 -- what each node does to the stack
 pub push_step : (m : Primary → Meaning) (old new : List Part) (w : Part) (p : Primary) → new ≡ old ++ w ∷ [] → part_value w ≡ primary_value m p → tops new ≡ after_node m (Primary_node p) (tops old)

@@ -1,6 +1,7 @@
 -- The first tokens of an expression, one by one.
 
 use Rattle.std.proofs.Common.{◌≡◌, ℕ, Bool, true, cond, List, [], ◌∷◌, ◌++◌, Ok, sym, ◌∙◌, ap, arith}
+use Rattle.rv_list_laws.proofs.NumbersLemmas.{le_true}
 use Rattle.rv_text_laws.specs.declared.operator.Frame.{Frame}
 use Rattle.rv_text_laws.specs.declared.operator.Frame.TheVariants.{Prefix, Infix}
 use Rattle.rv_text_laws.specs.declared.operator.BinaryOperator.{BinaryOperator}
@@ -10,7 +11,7 @@ use Rattle.rv_text_laws.specs.Lexing as lexing
 use Rattle.rv_text_laws.specs.Expression.{Node, Primary, Primary_node, Binary_node, Follow, Begin, A_primary, A_prefix, An_operator, A_closing, A_comparison, Nothing_more, begins, follows, level_of}
 use Rattle.rv_text_laws.specs.ExpressionAt.{Stage, Wants, Has, Goes, Ends, step, step_wants, step_has, settle, end, close, read_from, expression_at}
 use Rattle.rv_text_laws.specs.ExpressionFault.{unclosed}
-use Rattle.rv_text_laws.proofs.ExpressionsLemmas.{goes, ends, le_true}
+use Rattle.rv_text_laws.proofs.ExpressionsLemmas.{goes, ends}
 use Rattle.rv_lexer.specs.declared.cursor.Cursor.{Cursor}
 use Rattle.rv_lexer.specs.Token.{token_of, kind_of}
 use Rattle.rv_lexer.specs.Left.{tokens_left}

@@ -1,13 +1,13 @@
 -- Reading an expression token by token, as the code holds what is read.
 
-use Rattle.std.proofs.Common.{◌≡◌, ℕ, ◌<◌, Bool, true, cond, List, [], ◌∷◌, length, Ok, Err, sym, ◌∙◌, ap, arith}
+use Rattle.std.proofs.Common.{◌≡◌, ℕ, Bool, true, cond, List, [], Ok, Err, sym, ◌∙◌, ap}
 use Rattle.rv_text_laws.specs.Lexing as lexing
 use Rattle.rv_text_laws.specs.Expression.{Tree, ReadsTree, Node, postfix}
 use Rattle.rv_text_laws.specs.SyntaxError as syntax
-use Rattle.rv_text_laws.specs.ExpressionAt.{Stage, Goes, Ends, Fails, step, read_from, expression_at}
+use Rattle.rv_text_laws.specs.ExpressionAt.{Stage, Ends, Fails, step, read_from, expression_at}
 use Rattle.rv_text_laws.specs.SyntaxError.{wrong}
 use Rattle.rv_text_laws.specs.Values.{nodes_fit}
-use Rattle.rv_text_laws.proofs.ExpressionsLemmas.{goes, ends, fails, expression_is}
+use Rattle.rv_text_laws.proofs.ExpressionsLemmas.{ends, fails, expression_is}
 use Rattle.rv_text_laws.proofs.ExpressionFoundLemmas.{expression_found}
 use Rattle.rv_text_laws.proofs.ExpressionValuesLemmas.{postfix_fits}
 use Rattle.rv_lexer.specs.declared.cursor.Cursor.{Cursor}
@@ -16,11 +16,6 @@ use Rattle.rv_fault.specs.SourceFault.{source_fault_number}
 use Rattle.rv_lexer.specs.Token.{token_of, kind_of}
 use Rattle.rv_lexer.specs.Left.{tokens_left}
 use Rattle.rv_lexer.specs.Cursor.{left, syntax_error_of}
-
--- a reading that goes on token by token
-pub went_on : (r : List ℕ → Bool) (so_far : syntax.Read (List Node)) (c d : Cursor) (s u : Stage) → so_far ≡ read_from r s (left c) → left c ≡ token_of c.next ∷ left d
-    → step r s (kind_of c.next.kind) ≡ Goes u → so_far ≡ read_from r u (left d)
-went_on r so_far c d s u so one e = so ∙ ap (read_from r s) one ∙ goes r s u (token_of c.next) (left d) e
 
 pub ended : (r : List ℕ → Bool) (so_far : syntax.Read (List Node)) (c : Cursor) (s : Stage) (ns : List Node) → so_far ≡ read_from r s (left c)
     → step r s (kind_of c.next.kind) ≡ Ends ns → so_far ≡ Ok (ns, left c)
@@ -41,9 +36,6 @@ pub read_fits : (r : List ℕ → Bool) (ts : List lexing.Token) (ns : List Node
 read_fits r ts ns rest e =
     let f = expression_found r ts ns rest e in
     ap (λ (l : List Node). nodes_fit l 0) f.2 ∙ postfix_fits f.0 f.1.ordered f.1.within
-
-pub shorter : (c d : Cursor) → left c ≡ token_of c.next ∷ left d → length (left d) < length (left c)
-shorter c d e = omega (arith, ap length e)
 
 -- the expression that is read, as the grammar has it
 pub parsed : (r : List ℕ → Bool) (ts before after rest : List lexing.Token) (ns : List Node) → expression_at r ts ≡ Ok (ns, rest) → ts ≡ before → after ≡ rest

@@ -1,6 +1,6 @@
 -- The finder of a string's atoms answers exactly what is spelled.
 
-use Rattle.std.proofs.Common.{◌≡◌, ℕ, suc, ◌<◌, ◌≤◌, Bool, true, false, ◌&&◌, ◌||◌, not, cond, ◌==◌, nat_lt, List, [], ◌∷◌, ◌++◌, length, take, drop, refl, sym, ◌∙◌, ap, subst, arith, Option, Some, None, option_map, ◌⊎◌, inl, inr}
+use Rattle.std.proofs.Common.{◌≡◌, ℕ, suc, ◌<◌, ◌≤◌, Bool, true, false, ◌&&◌, ◌||◌, not, cond, ◌==◌, nat_lt, List, [], ◌∷◌, ◌++◌, length, take, drop, refl, sym, ◌∙◌, ap, subst, arith, Option, Some, None, option_map, inl, inr}
 use Rattle.std.proofs.lemmas.Bool.{and_parts, and_from, eqb-true, ltb-true}
 use Rattle.std.proofs.lemmas.Bool.Decides.{nat_tests}
 use Rattle.std.proofs.lemmas.Option.{same_Some, none-some}
@@ -8,6 +8,7 @@ use Rattle.std.proofs.lemmas.List.{length-take-le}
 use Rattle.std.proofs.Math.Seq.{take-append_seam}
 use Rattle.std.proofs.Math.Dec.{eqb-suc-zero}
 use Rattle.std.specs.List.{list_all, prefix_len}
+use Rattle.rv_list_laws.proofs.TruthLemmas.{or_three}
 use Rattle.rv_text_laws.specs.Cut.{Finds}
 use Rattle.rv_text_laws.specs.Bytes.{is_digit, digit}
 use Rattle.rv_text_laws.specs.Strings.{Atom, Plain, Named, Octal, Hexadecimal, SpellsAtom, StopsAtom, atom_goes_on, named, is_plain}
@@ -29,12 +30,6 @@ and_false_from : (x y : Bool) → (x ≡ true → y ≡ false) → (x && y) ≡ 
 and_false_from true y h = h refl
 and_false_from false y h = refl
 
-one_of_three : (x y z : Bool) → (x || y || z) ≡ true → (x ≡ true) ⊎ ((y ≡ true) ⊎ (z ≡ true))
-one_of_three true y z h = inl refl
-one_of_three false true z h = inr (inl refl)
-one_of_three false false true h = inr (inr refl)
-one_of_three false false false h = cc
-
 -- a letter after a backslash
 letter_at : (e n m b : ℕ) (es : List ℕ) → e ≡ n → escape_at (n ∷ es) ≡ Some (Named m, 2) → m ≡ b → escape_at (e ∷ es) ≡ Some (Named b, 2)
 letter_at e n m b es same at is = ap (λ x. escape_at (x ∷ es)) same ∙ at ∙ ap (λ x. Some (Named x, 2)) is
@@ -48,7 +43,7 @@ named_at e b es =
     pick Good (e == 114) _ _ (λ t h. letter_at e 114 13 b es (eqb-true e 114 t) refl (same_Some 13 b h)) (λ _.
     pick Good (e == 116) _ _ (λ t h. letter_at e 116 9 b es (eqb-true e 116 t) refl (same_Some 9 b h)) (λ _.
     pick Good ((e == 92) || (e == 34) || (e == 39)) _ _
-    (λ t h. elim (one_of_three (e == 92) (e == 34) (e == 39) t) [
+    (λ t h. elim (or_three (e == 92) (e == 34) (e == 39) t) [
       | inl x ↦ itself 92 (eqb-true e 92 x) refl (same_Some e b h)
       | inr y ↦ elim y [ inl x ↦ itself 34 (eqb-true e 34 x) refl (same_Some e b h) | inr x ↦ itself 39 (eqb-true e 39 x) refl (same_Some e b h) ]
     ])

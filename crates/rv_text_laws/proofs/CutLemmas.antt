@@ -3,6 +3,7 @@
 use Rattle.std.proofs.Common.{◌≡◌, ℕ, zero, suc, ◌<◌, ◌≤◌, List, [], ◌∷◌, ◌++◌, length, take, drop, refl, sym, ◌∙◌, ap, subst, append_assoc, arith, length-append, length-drop, Option, Some, None}
 use Rattle.std.proofs.Math.Seq.{take-append_seam, drop-append_seam}
 use Rattle.std.proofs.lemmas.List.{take-append-drop, length-take-le}
+use Rattle.rv_list_laws.proofs.ElementsLemmas.{no_room}
 use Rattle.rv_text_laws.specs.Cut.{Piece, texts, Each, Cuts, NothingReads, cut_in, cut, Finds}
 
 -- the answers of one step of a cut
@@ -13,10 +14,6 @@ cut_in-none (suc room) at all e = rw (e, cut_in) refl
 cut_in-some : {K A : Type 0} (room : ℕ) (at : List A → Option (K × ℕ)) (all : List A) (k : K) (n : ℕ) → at all ≡ Some (k, n)
     → cut_in (suc room) at all ≡ (record { kind = k; text = take n all } ∷ (cut_in room at (drop n all)).0, (cut_in room at (drop n all)).1)
 cut_in-some room at all k n e = rw (e, cut_in) refl
-
--- an empty text in front of a list is none of its elements
-no_room : {A : Type 0} (text rest : List A) → length (text ++ rest) ≤ 0 → 0 < length text → ⊥
-no_room text rest le some = omega (arith, length-append text rest)
 
 -- a finder's answer, its text and the rest as parts of the list
 pub record Front (K A : Type 0) (Spells Stops : K → List A → Type 0) (all : List A) (k : K) (n : ℕ) : Type 0 where

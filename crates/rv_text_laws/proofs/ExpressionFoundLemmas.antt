@@ -2,6 +2,7 @@
 
 use Rattle.std.proofs.Common.{◌≡◌, ℕ, suc, ◌+◌, ◌<◌, ◌≤◌, Bool, true, false, cond, nat_le, nat_lt, List, [], ◌∷◌, ◌++◌, refl, sym, ◌∙◌, ap, subst, append_assoc, arith, Ok, ◌⊎◌, inl, inr}
 use Rattle.std.proofs.lemmas.Bool.{ltb-true, leb-true, leb-false}
+use Rattle.rv_list_laws.proofs.NumbersLemmas.{le_true}
 use Rattle.rv_text_laws.specs.declared.operator.BinaryOperator.{BinaryOperator}
 use Rattle.rv_text_laws.specs.declared.operator.Frame.{Frame}
 use Rattle.rv_text_laws.specs.declared.operator.Frame.TheVariants.{Parenthesis, Prefix, Infix}
@@ -9,7 +10,7 @@ use Rattle.rv_text_laws.specs.Lexing.{Token}
 use Rattle.rv_text_laws.specs.Expression.{Tree, Leaf, Unary, Paren, Binary, level_of, Begin, Follow, begins, follows, A_primary, A_prefix, An_opening, No_operand, An_operator, A_closing, A_comparison, Nothing_more, SpellsTree, IsAt, nesting, deepest, Node, Primary_node, Unary_node, Binary_node, postfix, ReadsTree}
 use Rattle.rv_text_laws.specs.ExpressionAt.{Stage, Wants, Has, depth, binds, settle, deeper, Step, Goes, Ends, Fails, step, step_wants, step_has, close, end, read_from, expression_at}
 use Rattle.rv_text_laws.specs.ExpressionFault.{unclosed}
-use Rattle.rv_text_laws.proofs.ExpressionsLemmas.{level_small, looser, le_true, goes, ends, fails}
+use Rattle.rv_text_laws.proofs.ExpressionsLemmas.{level_small, looser, goes, ends, fails}
 
 -- the last frame takes no operand before an operator of this level does
 abbrev Under : ℕ → List Frame → Type 0

@@ -2,9 +2,10 @@
 
 use Rattle.std.proofs.Common.{◌≡◌, ℕ, suc, ◌+◌, ◌-◌, ◌*◌, ◌≤◌, true, List, [], ◌∷◌, ◌++◌, refl, sym, ◌∙◌, ap, append_assoc, arith}
 use Rattle.std.proofs.lemmas.List.{append-nil}
+use Rattle.rv_list_laws.proofs.NumbersLemmas.{lt_true}
 use Rattle.rv_text_laws.specs.Expression.{Primary, Tree, Leaf, Unary, Paren, Binary, level_of, IsAt, nesting, deepest, Node, Unary_node, Binary_node, postfix}
 use Rattle.rv_text_laws.specs.Values.{Meaning, Value, value_of, after_nodes, most_values, nodes_fit}
-use Rattle.rv_text_laws.proofs.ExpressionsLemmas.{level_small, lt_true}
+use Rattle.rv_text_laws.proofs.ExpressionsLemmas.{level_small}
 
 -- the nodes of a tree, and further ones after them
 pub values_after : (m : Primary → Meaning) (t : Tree) (ns : List Node) (vs : List Value) → after_nodes m (postfix t ++ ns) vs ≡ after_nodes m ns (value_of m t ∷ vs)

@@ -2,6 +2,7 @@
 
 use Rattle.std.proofs.Common.{◌≡◌, ℕ, ◌≤◌, Bool, true, false, List, [], ◌∷◌, ◌++◌, append_assoc, Some, None, Ok, Err, refl, sym, ◌∙◌, ap, subst, arith, ◌⊎◌, inl, inr}
 use Rattle.std.proofs.lemmas.List.{append_cancel_right}
+use Rattle.rv_list_laws.proofs.NumbersLemmas.{le_true}
 use Rattle.rv_text_laws.specs.declared.punct.Punct.TheVariants.{Close}
 use Rattle.rv_text_laws.specs.declared.operator.Frame.{Frame}
 use Rattle.rv_text_laws.specs.declared.operator.Frame.TheVariants.{Parenthesis, Prefix, Infix}
@@ -11,7 +12,7 @@ use Rattle.rv_text_laws.specs.SyntaxError.{SyntaxError, wrong, Read}
 use Rattle.rv_text_laws.specs.Expression.{Literal, Tree, level_of, follows, A_closing, Nothing_more, SpellsTree, IsAt, nesting, deepest, Node, Primary_node, Unary_node, Binary_node, postfix, EndsBefore, ReadsTree}
 use Rattle.rv_text_laws.specs.ExpressionAt.{Stage, Wants, Has, settle, Step, Goes, Ends, Fails, step, step_has, close, end, read_from, expression_at, after_tokens, EndsAt}
 use Rattle.rv_text_laws.specs.ExpressionFault.{unclosed}
-use Rattle.rv_text_laws.proofs.ExpressionsLemmas.{le_true, goes, ends, fails, expression_is, taken_no_last}
+use Rattle.rv_text_laws.proofs.ExpressionsLemmas.{goes, ends, fails, expression_is, taken_no_last}
 use Rattle.rv_text_laws.proofs.ExpressionFoundLemmas.{expression_found}
 
 pub ended_more : (t : Token) (ts : List Token) → is_last t.kind ≡ false → is_ended (t ∷ ts) ≡ true → is_ended ts ≡ true

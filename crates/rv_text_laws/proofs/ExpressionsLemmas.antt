@@ -1,7 +1,7 @@
 -- What spells an expression is read as it.
 
-use Rattle.std.proofs.Common.{◌≡◌, ℕ, suc, ◌+◌, ◌<◌, ◌≤◌, Bool, true, false, nat_le, nat_lt, List, [], ◌∷◌, ◌++◌, refl, ◌∙◌, ap, append_assoc, arith, Ok, Err, inl, inr}
-use Rattle.std.proofs.lemmas.Bool.Decides.{nat_tests}
+use Rattle.std.proofs.Common.{◌≡◌, ℕ, suc, ◌+◌, ◌<◌, ◌≤◌, Bool, false, List, [], ◌∷◌, ◌++◌, refl, ◌∙◌, ap, append_assoc, arith, Ok, Err, inl, inr}
+use Rattle.rv_list_laws.proofs.NumbersLemmas.{le_true, le_false, lt_true}
 use Rattle.rv_text_laws.specs.declared.operator.BinaryOperator.{BinaryOperator}
 use Rattle.rv_text_laws.specs.declared.operator.BinaryOperator.TheVariants.{Multiply, Divide, Remainder, ShiftLeft, ShiftRight, Or, And, ExclusiveOr, Add, Subtract}
 use Rattle.rv_text_laws.specs.declared.operator.Frame.{Frame}
@@ -31,15 +31,6 @@ looser (Leaf p) l m le at = tt
 looser (Unary o x) l m le at = at
 looser (Paren x) l m le at = at
 looser (Binary o x y) l m le at = (omega (arith, at.0), at.1, at.2)
-
-pub le_true : (a b : ℕ) → a ≤ b → nat_le a b ≡ true
-le_true a b le = grind (arith, nat_tests)
-
-pub le_false : (a b : ℕ) → b < a → nat_le a b ≡ false
-le_false a b lt = grind (arith, nat_tests)
-
-pub lt_true : (a b : ℕ) → a < b → nat_lt a b ≡ true
-lt_true a b lt = grind (arith, nat_tests)
 
 -- what waits for an operand, and the nodes, once a tree is passed
 after : Tree → List Frame → List Node → List Frame × List Node

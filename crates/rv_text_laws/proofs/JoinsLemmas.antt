@@ -1,6 +1,6 @@
 -- Names with minus signs: the function answers what stands there, and the name is a part of the bytes.
 
-use Rattle.std.proofs.Common.{◌≡◌, ℕ, ◌+◌, ◌-◌, ◌≤◌, ◌==◌, Bool, true, false, cond, List, [], ◌∷◌, ◌++◌, length, take, drop, refl, sym, ◌∙◌, ap, subst, append_assoc, arith, length-append, Option, Some, None}
+use Rattle.std.proofs.Common.{◌≡◌, ℕ, ◌+◌, ◌-◌, ◌==◌, Bool, true, false, cond, List, [], ◌∷◌, ◌++◌, length, take, drop, refl, sym, ◌∙◌, ap, subst, append_assoc, arith, length-append, Option, Some, None}
 use Rattle.std.specs.Prelude.{option_map}
 use Rattle.std.proofs.lemmas.Bool.{eqb-true}
 use Rattle.std.proofs.lemmas.List.{append-nil}
@@ -47,11 +47,11 @@ pub parts_join : (offset : ℕ) (t : Token) (bytes : List ℕ) → t.start ≡ o
 parts_join offset t bytes at e = ap (λ (b : Bool). cond b (joined_bytes t.kind) None) (same_place t.start offset at) ∙ e
 
 -- one token
-behind_more : (offset : ℕ) (t : Token) (ts : List Token) (bytes : List ℕ) → joins offset t ≡ Some bytes
+pub behind_more : (offset : ℕ) (t : Token) (ts : List Token) (bytes : List ℕ) → joins offset t ≡ Some bytes
     → joined_after offset (t ∷ ts) ≡ (bytes ++ (joined_after t.stop ts).0, (joined_after t.stop ts).1)
 behind_more offset t ts bytes e = rw (e, joined_after) refl
 
-behind_none : (offset : ℕ) (t : Token) (ts : List Token) → joins offset t ≡ None → joined_after offset (t ∷ ts) ≡ ([], t ∷ ts)
+pub behind_none : (offset : ℕ) (t : Token) (ts : List Token) → joins offset t ≡ None → joined_after offset (t ∷ ts) ≡ ([], t ∷ ts)
 behind_none offset t ts e = rw (e, joined_after) refl
 
 -- what is spelled is answered
@@ -108,7 +108,7 @@ behind_found offset (t ∷ ts) = go (joins offset t) refl (behind_found t.stop t
 after_first : Token → List Token → List ℕ → List ℕ × List Token
 after_first t ts name = let after = joined_after t.stop ts in (name ++ after.0, after.1)
 
-first_is : (k : Kind) (name : List ℕ) → first_name k ≡ Some name → k ≡ Name name
+pub first_is : (k : Kind) (name : List ℕ) → first_name k ≡ Some name → k ≡ Name name
 first_is (Name n) name e = ap Name (same_some n name e)
 first_is _ name e = absurd (cc)
 
@@ -116,7 +116,7 @@ joined_first : (t : Token) (ts : List Token) (name : List ℕ) → t.kind ≡ Na
 unfolding joined_at after_first
 joined_first t ts name e = ap (λ (k : Kind). option_map (λ n. let after = joined_after t.stop ts in (n ++ after.0, after.1)) (first_name k)) e
 
-joined_none : (t : Token) (ts : List Token) → first_name t.kind ≡ None → joined_at (t ∷ ts) ≡ None
+pub joined_none : (t : Token) (ts : List Token) → first_name t.kind ≡ None → joined_at (t ∷ ts) ≡ None
 unfolding joined_at
 joined_none t ts e = ap (λ (o : Option (List ℕ)). option_map (λ n. let after = joined_after t.stop ts in (n ++ after.0, after.1)) o) e
 
@@ -228,14 +228,6 @@ joining_more at bytes all start stop t ts more j e =
           j.so_far ∙ ap (λ (r : List ℕ × List Token). Some (j.name ++ r.0, r.1)) (behind_more stop t ts more e)
           ∙ ap (λ (l : List ℕ). Some (l, (joined_after t.stop ts).1)) (sym (append_assoc j.name more (joined_after t.stop ts).0));
     }
-
--- the name is a part of the bytes
-pub joining_within : (at : ℕ) (bytes : List ℕ) (all : List Token) (start stop : ℕ) (ts : List Token) → Joining at bytes all start stop ts
-    → (at ≤ start) × (start ≤ stop) × (stop ≤ at + length bytes)
-joining_within at bytes all start stop ts j =
-    let size : length bytes ≡ length j.gap + (length j.name + length j.after) =
-    ap length j.whole ∙ length-append j.gap (j.name ++ j.after) ∙ ap (λ n. length j.gap + n) (length-append j.name j.after) in
-    (omega (arith, j.from), omega (arith, j.to), omega (arith, j.from, j.to, size))
 
 part_is : (at start stop : ℕ) (bytes gap name after : List ℕ) → bytes ≡ gap ++ (name ++ after) → start ≡ at + length gap → stop ≡ start + length name
     → take (stop - start) (drop (start - at) bytes) ≡ name

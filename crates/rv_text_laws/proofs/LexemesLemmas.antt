@@ -5,6 +5,7 @@ use Rattle.std.proofs.lemmas.Bool.{and_parts, eqb-true, or_parts, or_from}
 use Rattle.std.proofs.lemmas.Option.{none-some}
 use Rattle.std.proofs.Math.Seq.{take-append_seam, drop-append_seam}
 use Rattle.std.specs.List.{list_all, prefix_len}
+use Rattle.rv_list_laws.proofs.TruthLemmas.{and_false}
 use Rattle.rv_text_laws.specs.declared.punct.Punct.{Punct}
 use Rattle.rv_text_laws.specs.declared.punct.Punct.TheVariants.{Comma, Colon, Semicolon, Open, Close, Plus, Minus, Star, Slash, Percent, ShiftLeft, ShiftRight, Bar, Ampersand, Caret, Tilde, At, Equal, NotEqual, LessGreater, Less, Greater, LessEqual, GreaterEqual, DoubleSlash}
 use Rattle.rv_text_laws.specs.declared.class.Class.{Class}
@@ -150,17 +151,13 @@ escape_begins (Named byte) one h (e, whole, is) = (e ∷ [], whole)
 escape_begins (Octal digits) one h s = (digits, s.0)
 escape_begins (Hexadecimal digits) one h s = (120 ∷ digits, s.0)
 
-and_right : (x : Bool) → (x && false) ≡ false
-and_right true = refl
-and_right false = refl
-
 -- an apostrophe ends an escape
 apostrophe_stops : (a : Atom) (rest : List ℕ) → StopsAtom a (39 ∷ rest)
 unfolding digit
 apostrophe_stops (Plain byte) rest = refl
 apostrophe_stops (Named byte) rest = refl
-apostrophe_stops (Octal digits) rest = and_right (nat_lt (length digits) 3)
-apostrophe_stops (Hexadecimal digits) rest = and_right (nat_lt (length digits) 2)
+apostrophe_stops (Octal digits) rest = and_false (nat_lt (length digits) 3)
+apostrophe_stops (Hexadecimal digits) rest = and_false (nat_lt (length digits) 2)
 
 -- a finder of atoms, after a backslash
 atom_escape : (more : List ℕ) → atom_at (92 ∷ more) ≡ escape_at more

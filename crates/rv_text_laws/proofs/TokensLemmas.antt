@@ -1,6 +1,6 @@
 -- The tokens of a source: one list, the function's, and its steps.
 
-use Rattle.std.proofs.Common.{◌≡◌, ℕ, suc, ◌+◌, ◌≤◌, Bool, true, false, cond, ◌==◌, List, [], ◌∷◌, ◌++◌, length, take, drop, refl, sym, ◌∙◌, ap, arith, append_assoc, length-append, add_assoc, zero-add, Some, None}
+use Rattle.std.proofs.Common.{◌≡◌, ℕ, ◌+◌, Bool, true, false, cond, ◌==◌, List, [], ◌∷◌, ◌++◌, length, take, drop, refl, sym, ◌∙◌, ap, arith, append_assoc, length-append, add_assoc, zero-add, Some, None}
 use Rattle.std.proofs.lemmas.List.{append-nil}
 use Rattle.rv_text_laws.specs.Cut.{Piece, texts, cut}
 use Rattle.rv_text_laws.specs.Grammar.{Kind}
@@ -12,14 +12,6 @@ use Rattle.rv_text_laws.proofs.LexemesLemmas.{lexemes}
 pub newlines-append : (xs ys : List ℕ) → newlines (xs ++ ys) ≡ newlines xs + newlines ys
 newlines-append [] ys = sym (zero-add (newlines ys))
 newlines-append (x ∷ xs) ys = ap (λ n. cond (x == 10) 1 0 + n) (newlines-append xs ys) ∙ sym (add_assoc (cond (x == 10) 1 0) (newlines xs) (newlines ys))
-
-pub newlines-within : (xs : List ℕ) → newlines xs ≤ length xs
-newlines-within [] = omega arith
-newlines-within (x ∷ xs) = go (x == 10) (newlines-within xs)
-  where
-    go : (t : Bool) → newlines xs ≤ length xs → cond t 1 0 + newlines xs ≤ suc (length xs)
-    go true h = omega arith
-    go false h = omega arith
 
 -- the tokens of lexemes, by offsets as numbers
 placed_same : (before : List ℕ) (ps : List (Piece Kind ℕ)) (rest : List ℕ) (at line : ℕ) → at ≡ length before → line ≡ 1 + newlines before

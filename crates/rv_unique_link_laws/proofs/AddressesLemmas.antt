@@ -1,8 +1,9 @@
 -- What names and rows have by where loaded sections start.
 
 use Rattle.std.proofs.Common.{◌≡◌, ℕ, suc, ◌+◌, ◌%◌, ◌^◌, Bool, true, false, List, [], ◌∷◌, ◌++◌, map, refl, ap, ◌∙◌, Option, Some, None}
-use Rattle.std.specs.Prelude.{option_and_then, flat_map, nat_le, codes, if◌then◌else◌}
+use Rattle.std.specs.Prelude.{option_and_then, nat_le, codes, if◌then◌else◌}
 use Rattle.std.specs.List.{AllByRecursion, slice_get}
+use Rattle.rv_list_laws.proofs.EachLemmas.{flat_map_same}
 use Rattle.rv_map_laws.specs.Globals.{shown}
 use Rattle.rv_object_laws.specs.declared.row.Row.{Row}
 use Rattle.rv_object_laws.specs.declared.symbol.Definition.{Definition}
@@ -16,10 +17,6 @@ use Rattle.rv_link_laws.specs.Undefined.{is_loaded_at}
 use Rattle.rv_unique_link_laws.specs.Asked.{HavePlacedRows}
 use Rattle.rv_unique_link_laws.proofs.ExportsLemmas.{OfExport, of_chosen, all_chosen}
 use Rattle.rv_unique_link_laws.proofs.AgreedLemmas.{IsAgreed, AreAgreed}
-
-flat_same : {X Y : Type 0} (f g : X → List Y) (P : X → Type 0) → ((x : X) → P x → f x ≡ g x) → (xs : List X) → AllByRecursion P xs → flat_map f xs ≡ flat_map g xs
-flat_same f g P same [] h = refl
-flat_same f g P same (x ∷ xs) (own, h) = ap (λ l. l ++ flat_map f xs) (same x own) ∙ ap (λ l. g x ++ l) (flat_same f g P same xs h)
 
 module _ (s t : Starts) (file : ℕ) (o : Object) (agreed : IsAgreed s t file o) where
   pub defined_same : (d : Definition) → defined_address (s file) o d ≡ defined_address (t file) o d
@@ -69,7 +66,7 @@ module _ (s t : Starts) where
 
   pub all_globals : (os : List Object) → AreAgreed s t 1 os → globals_of s os ≡ globals_of t os
   all_globals os h =
-      flat_same (λ (e : Export). shown e.symbol.name (export_address s e)) (λ (e : Export). shown e.symbol.name (export_address t e)) (OfExport (IsAgreed s t))
+      flat_map_same (λ (e : Export). shown e.symbol.name (export_address s e)) (λ (e : Export). shown e.symbol.name (export_address t e)) (OfExport (IsAgreed s t))
       (λ e own. ap (shown e.symbol.name) (export_same e own)) (chosen_exports os) (all_chosen (IsAgreed s t) os h)
 
   pub all_entries : (os : List Object) → AreAgreed s t 1 os → entry_of s os ≡ entry_of t os

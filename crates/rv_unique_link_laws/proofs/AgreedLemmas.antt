@@ -1,15 +1,17 @@
 -- Sections that stand one behind another stand so in one way.
 
-use Rattle.std.proofs.Common.{◌≡◌, ℕ, suc, ◌+◌, ◌-◌, Bool, true, false, List, [], ◌∷◌, ◌++◌, refl, sym, ap, ◌∙◌, subst, Some, inl, inr}
-use Rattle.std.specs.Prelude.{◌⊎◌, not, ◌&&◌, nat_lt, if◌then◌else◌}
+use Rattle.std.proofs.Common.{◌≡◌, ℕ, suc, ◌+◌, ◌-◌, Bool, true, List, [], ◌∷◌, ◌++◌, refl, sym, ap, ◌∙◌, subst, Some, inl, inr}
+use Rattle.std.specs.Prelude.{◌⊎◌, nat_lt, if◌then◌else◌}
 use Rattle.std.specs.List.{AllByRecursion, slice_get}
+use Rattle.rv_list_laws.proofs.EachLemmas.{each_left, each_right}
+use Rattle.rv_list_laws.proofs.TruthLemmas.{one_case_of_four}
 use Rattle.rv_layout_laws.specs.Alignment.{aligned}
 use Rattle.rv_isa_laws.specs.Bytes.{zeros}
 use Rattle.rv_map_laws.specs.declared.map.Region.{Region}
 use Rattle.rv_object_laws.specs.Object.{Section, Object, size_of}
 use Rattle.rv_link_laws.specs.Moves.{moves, new_offset}
 use Rattle.rv_link_laws.specs.Inputs.{Starts, InputSection, has_no_bytes, goes_to_text, goes_to_rodata, goes_to_data, goes_to_bss, inputs_from, inputs_of, inputs, start_of, size, Stand, sections_end, Holds, gaps_of, greatest, contents}
-use Rattle.rv_unique_link_laws.proofs.FoundLemmas.{all_left, all_right, found_in}
+use Rattle.rv_unique_link_laws.proofs.FoundLemmas.{found_in}
 use Rattle.rv_unique_link_laws.proofs.ExportsLemmas.{OfFiles}
 
 -- ---- sections of one region
@@ -67,15 +69,6 @@ IsAgreed s t file o = (index : ℕ) (x : Section) → slice_get o.sections index
 abbrev pub AreAgreed : Starts → Starts → ℕ → List Object → Type 0
 AreAgreed s t = OfFiles (IsAgreed s t)
 
--- a loaded section goes to one of the regions
-some_region : (l e n w : Bool) → l ≡ true
-    → ((l && e) ≡ true) ⊎ (((l && not e && not n && not w) ≡ true) ⊎ (((l && not e && not n && w) ≡ true) ⊎ ((l && not e && n) ≡ true)))
-some_region true true n w h = inl refl
-some_region true false true w h = inr (inr (inr refl))
-some_region true false false true h = inr (inr (inl refl))
-some_region true false false false h = inr (inl refl)
-some_region false e n w h = absurd (cc)
-
 module _ (s t : Starts) where
   all_agree : (file : ℕ) (os : List Object) → AllByRecursion (StartsSame s t) (inputs_of goes_to_text file os) → AllByRecursion (StartsSame s t) (inputs_of goes_to_rodata file os)
       → AllByRecursion (StartsSame s t) (inputs_of goes_to_data file os) → AllByRecursion (StartsSame s t) (inputs_of goes_to_bss file os) → AreAgreed s t file os
@@ -83,13 +76,13 @@ module _ (s t : Starts) where
   all_agree file (o ∷ os) a b c d = (own, all_agree (suc file) os (right goes_to_text a) (right goes_to_rodata b) (right goes_to_data c) (right goes_to_bss d))
     where
       left : (goes : Section → Bool) → AllByRecursion (StartsSame s t) (inputs_of goes file (o ∷ os)) → AllByRecursion (StartsSame s t) (inputs_from goes file o 0 o.sections)
-      left goes h = all_left (StartsSame s t) (inputs_from goes file o 0 o.sections) (inputs_of goes (suc file) os) h
+      left goes h = each_left (StartsSame s t) (inputs_from goes file o 0 o.sections) (inputs_of goes (suc file) os) h
 
       right : (goes : Section → Bool) → AllByRecursion (StartsSame s t) (inputs_of goes file (o ∷ os)) → AllByRecursion (StartsSame s t) (inputs_of goes (suc file) os)
-      right goes h = all_right (StartsSame s t) (inputs_from goes file o 0 o.sections) (inputs_of goes (suc file) os) h
+      right goes h = each_right (StartsSame s t) (inputs_from goes file o 0 o.sections) (inputs_of goes (suc file) os) h
 
       own : IsAgreed s t file o
-      own index x at loaded = by (some_region x.loaded x.executable (has_no_bytes x.contents) x.writable loaded)
+      own index x at loaded = by (one_case_of_four x.loaded x.executable (has_no_bytes x.contents) x.writable loaded)
         where
           by : (goes_to_text x ≡ true) ⊎ ((goes_to_rodata x ≡ true) ⊎ ((goes_to_data x ≡ true) ⊎ (goes_to_bss x ≡ true))) → s file index ≡ t file index
           by (inl e) = found_in goes_to_text (StartsSame s t) file o index x at e (left goes_to_text a)

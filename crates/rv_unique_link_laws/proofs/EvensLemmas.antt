@@ -5,7 +5,9 @@ use Rattle.std.specs.Prelude.{IsTrue, ◌==◌, filter, unwrap_or, option_and_th
 use Rattle.std.specs.List.{AllByRecursion, list_all, slice_get}
 use Rattle.std.proofs.lemmas.Bool.{and_parts, eqb-true}
 use Rattle.std.proofs.lemmas.List.{length-append}
+use Rattle.rv_list_laws.proofs.EachLemmas.{each_left, each_right, each_get}
 use Rattle.rv_layout_laws.specs.Alignment.{aligned}
+use Rattle.rv_layout_laws.proofs.AlignmentLemmas.{aligned_even}
 use Rattle.rv_object_laws.specs.declared.symbol.Definition.{Definition}
 use Rattle.rv_object_laws.specs.declared.symbol.Definition.TheVariants as definitions
 use Rattle.rv_object_laws.specs.Object.{Contents, Relocation, Section, Object, size_of}
@@ -15,10 +17,9 @@ use Rattle.rv_link_laws.specs.Moves.{dropped, new_offset, full_padding, has_padd
 use Rattle.rv_link_laws.specs.Inputs.{Starts, InputSection, goes_to_text, inputs_from, inputs_of, inputs, begins_at, start_of, size, Stand}
 use Rattle.rv_link_laws.specs.Names.{Export, offset_address, defined_address, chosen, export_address, is_in_text, can_begin, begins_run, run_start, entry_of}
 use Rattle.rv_unique_link_laws.specs.Asked.{BeginsEven, IsSound}
-use Rattle.rv_unique_link_laws.proofs.FoundLemmas.{all_left, all_right, found_in}
+use Rattle.rv_unique_link_laws.proofs.FoundLemmas.{found_in}
 use Rattle.rv_unique_link_laws.proofs.ExportsLemmas.{OfFiles, of_chosen}
-use Rattle.rv_unique_link_laws.proofs.ValuesLemmas.{all_at}
-use Rattle.rv_unique_link_laws.proofs.MultiplesLemmas.{BeginsSo, aligned_even, all_begin}
+use Rattle.rv_unique_link_laws.proofs.MultiplesLemmas.{BeginsSo, all_begin}
 
 module _ (starts : Starts) where
   abbrev StartsEven : InputSection → Type 0
@@ -119,7 +120,7 @@ module _ (starts : Starts) (file : ℕ) (o : Object) (sound : IsSound o) (even :
       address : (x : Section) → slice_get o.sections section ≡ Some x → goes_to_text x ≡ true → offset % 2 ≡ 0 → ((starts file section + new_offset (moves (starts file section) x) offset) % 2 ^ 64) % 2 ≡ 0
       address x at text whole =
           let begin : starts file section % 2 ≡ 0 = found_in goes_to_text (StartsEven starts) file o section x at text even in
-          let padded = section_padded x (all_at (λ y. IsTrue (are_paddings y.executable y.contents y.relocations)) o.sections section x sound.paddings at) in
+          let padded = section_padded x (each_get (λ y. IsTrue (are_paddings y.executable y.contents y.relocations)) o.sections section x sound.paddings at) in
           let left : new_offset (moves (starts file section) x) offset % 2 ≡ 0 = minus_even offset (dropped (moves (starts file section) x) offset) whole (dropped_even (starts file section) 0 offset (alignments_of x) padded whole) in
           omega (arith, begin, left)
 
@@ -142,8 +143,8 @@ module _ (starts : Starts) where
   even_files : (file : ℕ) (os : List Object) → AllByRecursion IsSound os → AllByRecursion (StartsEven starts) (inputs_of goes_to_text file os) → OfFiles IsEvenFile file os
   even_files file [] h even = tt
   even_files file (o ∷ os) (sound, h) even = (
-    (sound, all_left (StartsEven starts) (inputs_from goes_to_text file o 0 o.sections) (inputs_of goes_to_text (suc file) os) even),
-    even_files (suc file) os h (all_right (StartsEven starts) (inputs_from goes_to_text file o 0 o.sections) (inputs_of goes_to_text (suc file) os) even),
+    (sound, each_left (StartsEven starts) (inputs_from goes_to_text file o 0 o.sections) (inputs_of goes_to_text (suc file) os) even),
+    even_files (suc file) os h (each_right (StartsEven starts) (inputs_from goes_to_text file o 0 o.sections) (inputs_of goes_to_text (suc file) os) even),
   )
 
   entry_even : (os : List Object) → OfFiles IsEvenFile 1 os → (a : ℕ) → entry_of starts os ≡ Some a → a % 2 ≡ 0

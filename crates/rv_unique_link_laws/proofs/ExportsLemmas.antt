@@ -3,12 +3,12 @@
 use Rattle.std.proofs.Common.{◌≡◌, ℕ, suc, Bool, true, false, cond, Some, List, [], ◌∷◌}
 use Rattle.std.specs.Prelude.{⊤, filter, bytes_eq, if◌then◌else◌}
 use Rattle.std.specs.List.{AllByRecursion}
+use Rattle.rv_list_laws.proofs.EachLemmas.{each_append}
+use Rattle.rv_list_laws.proofs.FindLemmas.{each_found}
 use Rattle.rv_object_laws.specs.declared.symbol.Binding.{Binding}
 use Rattle.rv_object_laws.specs.Object.{Symbol, Object}
 use Rattle.rv_object_laws.specs.Bindings.{is_global, is_weak, is_shared}
 use Rattle.rv_link_laws.specs.Names.{Export, is_export, exports_in, exports_from, exports_where, is_chosen, chosen_exports, candidates, chosen}
-use Rattle.rv_link_laws.proofs.TextInputsLemmas.{all_append}
-use Rattle.rv_link_laws.proofs.HeldLemmas.{all_found}
 
 module _ (P : ℕ → Object → Type 0) where
   -- files from a number on
@@ -31,7 +31,7 @@ module _ (P : ℕ → Object → Type 0) where
   in_files : (test : Binding → Bool) (file : ℕ) (os : List Object) → OfFiles file os → AllByRecursion OfExport (exports_from test file os)
   in_files test file [] h = tt
   in_files test file (o ∷ os) (own, h) =
-      all_append OfExport (exports_in test file o 0 o.symbols) (exports_from test (suc file) os) (in_symbols test file o 0 o.symbols own) (in_files test (suc file) os h)
+      each_append OfExport (exports_in test file o 0 o.symbols) (exports_from test (suc file) os) (in_symbols test file o 0 o.symbols own) (in_files test (suc file) os h)
 
   kept : (test : Export → Bool) (es : List Export) → AllByRecursion OfExport es → AllByRecursion OfExport (filter test es)
   kept test [] h = tt
@@ -45,8 +45,8 @@ module _ (P : ℕ → Object → Type 0) where
     -- what a name means
     pub of_chosen : (name : List ℕ) (e : Export) → chosen os name ≡ Some e → P e.file e.object
     of_chosen name e is =
-        all_found OfExport (λ x. bytes_eq x.symbol.name name) (candidates os) e
-        (all_append OfExport (exports_where is_global os) (exports_where is_weak os) (in_files is_global 1 os files) (in_files is_weak 1 os files)) is
+        each_found OfExport (λ x. bytes_eq x.symbol.name name) (candidates os) e
+        (each_append OfExport (exports_where is_global os) (exports_where is_weak os) (in_files is_global 1 os files) (in_files is_weak 1 os files)) is
 
     -- what names mean
     pub all_chosen : AllByRecursion OfExport (chosen_exports os)

@@ -1,29 +1,15 @@
 -- Input sections of objects, by their files and their indices there.
 
-use Rattle.std.proofs.Common.{◌≡◌, ℕ, zero, suc, ◌+◌, Bool, true, false, List, [], ◌∷◌, ◌++◌, refl, ap, ◌∙◌, subst, arith, Some}
+use Rattle.std.proofs.Common.{◌≡◌, ℕ, zero, suc, ◌+◌, Bool, true, false, List, [], ◌∷◌, refl, ap, ◌∙◌, subst, arith, Some}
 use Rattle.std.specs.Prelude.{⊤, if◌then◌else◌}
 use Rattle.std.specs.List.{AllByRecursion, slice_get}
+use Rattle.rv_list_laws.proofs.EachLemmas.{each_append}
 use Rattle.rv_object_laws.specs.Object.{Section, Object}
 use Rattle.rv_link_laws.specs.Inputs.{InputSection, inputs_from, inputs_of}
-use Rattle.rv_link_laws.proofs.TextInputsLemmas.{all_append}
 
 -- a section of an object
 abbrev pub input : ℕ → Object → ℕ → Section → InputSection
 input file o index s = record { file = file; object = o; index = index; section = s }
-
--- ---- lists
-
-pub all_left : {A : Type 0} (P : A → Type 0) (xs ys : List A) → AllByRecursion P (xs ++ ys) → AllByRecursion P xs
-all_left P [] ys h = tt
-all_left P (x ∷ xs) ys (one, h) = (one, all_left P xs ys h)
-
-pub all_right : {A : Type 0} (P : A → Type 0) (xs ys : List A) → AllByRecursion P (xs ++ ys) → AllByRecursion P ys
-all_right P [] ys h = h
-all_right P (x ∷ xs) ys (one, h) = all_right P xs ys h
-
-pub all_map : {A : Type 0} (P Q : A → Type 0) → ((x : A) → P x → Q x) → (xs : List A) → AllByRecursion P xs → AllByRecursion Q xs
-all_map P Q f [] h = tt
-all_map P Q f (x ∷ xs) (one, h) = (f x one, all_map P Q f xs h)
 
 -- ---- from all input sections to one
 
@@ -77,5 +63,5 @@ module _ (goes : Section → Bool) (P : InputSection → Type 0) where
   pub all_of : (file : ℕ) (os : List Object) → EachOf goes P file os → AllByRecursion P (inputs_of goes file os)
   all_of file [] each = tt
   all_of file (o ∷ os) (one, each) =
-      all_append P (inputs_from goes file o 0 o.sections) (inputs_of goes (suc file) os)
+      each_append P (inputs_from goes file o 0 o.sections) (inputs_of goes (suc file) os)
       (all_from file o one 0 o.sections (λ k s e. let plain : 0 + k ≡ k = omega arith in ap (slice_get o.sections) plain ∙ e)) (all_of (suc file) os each)

@@ -4,6 +4,7 @@ use Rattle.std.proofs.Common.{◌≡◌, ℕ, suc, ◌+◌, ◌-◌, ◌≤◌, 
 use Rattle.std.specs.Prelude.{IsTrue}
 use Rattle.std.specs.List.{AllByRecursion}
 use Rattle.std.proofs.lemmas.Bool.{and_from}
+use Rattle.rv_list_laws.proofs.EachLemmas.{each_from_both, each_get}
 use Rattle.rv_layout_laws.specs.declared.site.Site.{Site}
 use Rattle.rv_layout_laws.specs.Calls.{IsText}
 use Rattle.rv_object_laws.specs.Object.{Section, Object}
@@ -22,10 +23,8 @@ use Rattle.rv_cut_laws.proofs.ShortLemmas.{fit_stays, paddings_stay}
 use Rattle.rv_cut_laws.proofs.StaysLemmas.{all_fit, rows_stay}
 use Rattle.rv_cut_laws.proofs.LineLemmas.{AreSound, AllSound}
 use Rattle.rv_cut_laws.proofs.LaidLemmas.{walk_is}
-use Rattle.rv_link_laws.proofs.ListsLemmas.{all_both}
 use Rattle.rv_unique_link_laws.specs.Asked.{LeavesEven, IsSound}
 use Rattle.rv_unique_link_laws.proofs.FoundLemmas.{EachOf, all_of}
-use Rattle.rv_unique_link_laws.proofs.ValuesLemmas.{all_at}
 use Rattle.rv_unique_link_laws.proofs.EvensLemmas.{begins_even}
 use Rattle.rv_unique_link_laws.proofs.WithoutLemmas.{without_sound}
 
@@ -59,7 +58,7 @@ cut_sound o mss cuts sound = record {
   alignments = all_cut IsAligned IsAligned (λ s ms are h. h) o.sections mss cuts sound.alignments;
   inside = all_cut IsFit IsFit (λ s ms are h. fit_stays s ms h are) o.sections mss cuts sound.inside;
   paddings = all_cut (λ s. IsFit s × HasPaddings s) HasPaddings (λ s ms are h. paddings_stay s ms s.executable h.0 are h.1) o.sections mss cuts
-      (all_both IsFit HasPaddings (λ s. IsFit s × HasPaddings s) (λ s a b. (a, b)) o.sections sound.inside sound.paddings);
+      (each_from_both IsFit HasPaddings (λ s. IsFit s × HasPaddings s) (λ s a b. (a, b)) o.sections sound.inside sound.paddings);
   rows = rows_stay o.sections mss o.rows cuts (fits o.sections sound.inside) sound.rows;
 }
 
@@ -89,8 +88,8 @@ text_inputs whole file (o ∷ os) some each (sound, h) = (
     at = ap (object_at whole) (let e : file ≡ file + 0 = omega arith in e) ∙ each 0;
     there = at;
     text = text;
-    inside = all_at IsFit o.sections index s sound.inside at;
-    paddings = all_at HasPaddings o.sections index s sound.paddings at;
+    inside = each_get IsFit o.sections index s sound.inside at;
+    paddings = each_get HasPaddings o.sections index s sound.paddings at;
   },
   text_inputs whole (suc file) os (omega (arith, some)) (λ n. ap (object_at whole) (let e : suc file + n ≡ file + suc n = omega arith in e) ∙ each (suc n)) h,
 )

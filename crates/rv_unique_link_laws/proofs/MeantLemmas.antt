@@ -4,6 +4,7 @@ use Rattle.std.proofs.Common.{◌≡◌, ◌+◌, ℕ, suc, Bool, true, false, O
 use Rattle.std.specs.Prelude.{IsTrue, ◌||◌, option_and_then, if◌then◌else◌}
 use Rattle.std.specs.List.{AllByRecursion, slice_get}
 use Rattle.std.specs.Option.{option_or}
+use Rattle.rv_list_laws.proofs.EachLemmas.{each_left, each_right}
 use Rattle.rv_map_laws.specs.Globals.{global_address, linker_symbols}
 use Rattle.rv_map_laws.specs.Map.{Map}
 use Rattle.rv_object_laws.specs.declared.symbol.Definition.{Definition}
@@ -18,7 +19,7 @@ use Rattle.rv_link_laws.specs.Values.{target}
 use Rattle.rv_link_laws.specs.Undefined.{has_address, is_loaded_at, is_known, is_resolved, undefined_symbol, undefined_name, undefined_in, first_some, first_undefined}
 use Rattle.rv_link_laws.proofs.LinkerNamesLemmas.{some_address}
 use Rattle.rv_link_laws.proofs.ShownLemmas.{outer_some, outer_none}
-use Rattle.rv_unique_link_laws.proofs.FoundLemmas.{input, all_left, all_right}
+use Rattle.rv_unique_link_laws.proofs.FoundLemmas.{input}
 
 some_by : (b : Bool) (n : ℕ) → is_some (if b then Some n else None) ≡ true → b ≡ true
 some_by true n e = refl
@@ -89,8 +90,8 @@ module _ (os : List Object) (starts : Starts) (m : Map) where
   none_from file [] h = refl
   none_from file (o ∷ ps) h =
       ap (λ f. option_or f (first_some (λ q. first_some (undefined_in os q) q.sections) ps))
-      (none_in file o 0 o.sections (all_left HaveTargets (inputs_from is_loaded file o 0 o.sections) (inputs_of is_loaded (suc file) ps) h))
-      ∙ none_from (suc file) ps (all_right HaveTargets (inputs_from is_loaded file o 0 o.sections) (inputs_of is_loaded (suc file) ps) h)
+      (none_in file o 0 o.sections (each_left HaveTargets (inputs_from is_loaded file o 0 o.sections) (inputs_of is_loaded (suc file) ps) h))
+      ∙ none_from (suc file) ps (each_right HaveTargets (inputs_from is_loaded file o 0 o.sections) (inputs_of is_loaded (suc file) ps) h)
 
   pub none_undefined : AllByRecursion HaveTargets (inputs is_loaded os) → first_undefined os ≡ None
   none_undefined h = none_from 1 os h

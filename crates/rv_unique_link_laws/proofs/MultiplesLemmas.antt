@@ -1,9 +1,10 @@
 -- The multiples at which sections of the text begin are even.
 
-use Rattle.std.proofs.Common.{◌≡◌, ℕ, zero, suc, ◌+◌, ◌-◌, ◌*◌, ◌/◌, ◌%◌, ◌≤◌, true, max, List, [], ◌∷◌, refl, sym, ap, ◌∙◌, subst, arith}
+use Rattle.std.proofs.Common.{◌≡◌, ℕ, suc, ◌+◌, ◌-◌, ◌%◌, ◌≤◌, true, max, List, [], ◌∷◌, refl, sym, subst, arith}
 use Rattle.std.specs.Prelude.{IsTrue, if◌then◌else◌}
 use Rattle.std.specs.List.{AllByRecursion}
 use Rattle.std.proofs.Math.Nat.{div-mul-le_self}
+use Rattle.rv_list_laws.proofs.EachLemmas.{each_get}
 use Rattle.rv_layout_laws.specs.Alignment.{aligned}
 use Rattle.rv_object_laws.specs.Object.{Relocation, Section, Object}
 use Rattle.rv_object_laws.specs.Valid.{is_section_alignment}
@@ -13,7 +14,6 @@ use Rattle.rv_cut_laws.proofs.AlignedLemmas.{alignments, one_of}
 use Rattle.rv_cut_laws.proofs.PowersLemmas.{any_power}
 use Rattle.rv_unique_link_laws.specs.Asked.{IsSound}
 use Rattle.rv_unique_link_laws.proofs.FoundLemmas.{EachOf, all_of}
-use Rattle.rv_unique_link_laws.proofs.ValuesLemmas.{all_at}
 
 abbrev pub IsEven : ℕ → Type 0
 IsEven n = n % 2 ≡ 0
@@ -40,16 +40,6 @@ begins_even_at : (s : Section) → is_section_alignment s.alignment ≡ true →
 begins_even_at s e text =
     raised_even (alignments_of s) (max (if goes_to_text s then 2 else 1) s.alignment) (subst (λ b. IsEven (max (if b then 2 else 1) s.alignment)) (sym text) (own_even s.alignment e))
 
-times_even : (q a : ℕ) → a % 2 ≡ 0 → (q * a) % 2 ≡ 0
-times_even zero a e = omega arith
-times_even (suc q) a e =
-    let rest = times_even q a e in
-    let more : suc q * a ≡ q * a + a = omega arith in
-    ap (λ n. n % 2) more ∙ omega (arith, rest, e)
-
-pub aligned_even : (a n : ℕ) → a % 2 ≡ 0 → aligned a n % 2 ≡ 0
-aligned_even a n e = times_even ((n + (a - 1)) / a) a e
-
 pub aligned_near : (a n : ℕ) → aligned a n ≤ n + (a - 1)
 aligned_near a n = div-mul-le_self (n + (a - 1)) a
 
@@ -60,7 +50,7 @@ BeginsSo i = IsEven (begins_at i.section)
 begins_from : (file : ℕ) (os : List Object) → AllByRecursion IsSound os → EachOf goes_to_text BeginsSo file os
 begins_from file [] h = tt
 begins_from file (o ∷ os) (sound, h) = (
-  λ index s at text. begins_even_at s (all_at (λ x. IsTrue (is_section_alignment x.alignment)) o.sections index s sound.alignments at) text,
+  λ index s at text. begins_even_at s (each_get (λ x. IsTrue (is_section_alignment x.alignment)) o.sections index s sound.alignments at) text,
   begins_from (suc file) os h,
 )
 

@@ -3,12 +3,12 @@
 use Rattle.std.proofs.Common.{◌≡◌, ◌+◌, true, nat_le, List, [], ◌∷◌, Option, Some, None}
 use Rattle.std.specs.List.{AllByRecursion, list_all, slice_get}
 use Rattle.std.proofs.lemmas.Bool.{and_parts}
+use Rattle.rv_list_laws.proofs.EachLemmas.{each_weaker}
 use Rattle.rv_object_laws.specs.declared.row.Row.{Row}
 use Rattle.rv_object_laws.specs.Object.{Section, Object, size_of}
 use Rattle.rv_object_laws.specs.Valid.{is_row_in, are_rows}
 use Rattle.rv_link_laws.specs.Undefined.{is_loaded_at}
 use Rattle.rv_unique_link_laws.specs.Asked.{HasPlacedRows, HavePlacedRows, IsSound}
-use Rattle.rv_unique_link_laws.proofs.FoundLemmas.{all_map}
 
 row_loaded : (r : Row) (f : Option Section) → is_row_in r f ≡ true → is_loaded_at f ≡ true
 row_loaded r None e = absurd (cc)
@@ -21,4 +21,4 @@ rows_loaded sections (r ∷ rs) e =
     (row_loaded r (slice_get sections r.section) both.0, rows_loaded sections rs both.1)
 
 pub rows_placed : (os : List Object) → AllByRecursion IsSound os → HavePlacedRows os
-rows_placed os = all_map IsSound HasPlacedRows (λ o sound. rows_loaded o.sections o.rows sound.rows) os
+rows_placed os = each_weaker IsSound HasPlacedRows (λ o sound. rows_loaded o.sections o.rows sound.rows) os

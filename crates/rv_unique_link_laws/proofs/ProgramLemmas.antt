@@ -1,9 +1,11 @@
 -- The parts of two programs of the same objects are the same.
 
-use Rattle.std.proofs.Common.{◌≡◌, ℕ, List, [], ◌++◌, refl, sym, ap, ◌∙◌, subst, Option, Some, None}
-use Rattle.std.specs.Prelude.{Bool, true, false, IsTrue, is_some, ◌&&◌, not}
+use Rattle.std.proofs.Common.{◌≡◌, ℕ, List, [], ◌++◌, sym, ap, ◌∙◌, subst, Option, Some, None}
+use Rattle.std.specs.Prelude.{Bool, true, IsTrue, is_some, not}
 use Rattle.std.specs.List.{AllByRecursion}
 use Rattle.std.proofs.lemmas.Bool.{and_parts}
+use Rattle.rv_list_laws.proofs.EachLemmas.{each_from_both, each_weaker}
+use Rattle.rv_list_laws.proofs.TruthLemmas.{and_four_first}
 use Rattle.rv_map_laws.specs.Map.{Map}
 use Rattle.rv_map_laws.specs.declared.map.Region.{Region}
 use Rattle.rv_image_laws.specs.Linked.{Linked}
@@ -13,9 +15,7 @@ use Rattle.rv_link_laws.specs.Names.{Outer, outer_address, globals_of, shown_lin
 use Rattle.rv_link_laws.specs.Values.{target, value, IsRelocated, linked_bytes}
 use Rattle.rv_link_laws.specs.IsLinkOf.{is_loaded, outer_of, IsLinkOf}
 use Rattle.rv_link_laws.specs.Undefined.{first_undefined}
-use Rattle.rv_link_laws.proofs.ListsLemmas.{all_both}
 use Rattle.rv_unique_link_laws.specs.Asked.{HavePlacedRows}
-use Rattle.rv_unique_link_laws.proofs.FoundLemmas.{all_map}
 use Rattle.rv_unique_link_laws.proofs.AgreedLemmas.{StartsSame, AreAgreed, AreLaid, AreOne, gaps_same, contents_same, laid_same}
 use Rattle.rv_unique_link_laws.proofs.AddressesLemmas.{all_globals, all_entries, all_rows}
 use Rattle.rv_unique_link_laws.proofs.ValuesLemmas.{ValuesSame, all_values, bytes_same}
@@ -63,24 +63,20 @@ module _ (os : List Object) (start : ℕ) (l : Linked) (h : IsLinkOf os start l)
   pub linked_meant : first_undefined os ≡ None
   linked_meant =
       none_undefined os h.starts l.map
-      (all_map (λ i. AllByRecursion (IsRelocated (outer_of os l) h.starts os i) i.section.relocations) (HaveTargets os h.starts l.map)
-      (λ i own. all_map (IsRelocated (outer_of os l) h.starts os i) (λ r. IsTrue (is_some (target (outer_address os (globals_of h.starts os ++ shown_linker_symbols os l.map)) (h.starts i.file) i.object r.symbol)))
+      (each_weaker (λ i. AllByRecursion (IsRelocated (outer_of os l) h.starts os i) i.section.relocations) (HaveTargets os h.starts l.map)
+      (λ i own. each_weaker (IsRelocated (outer_of os l) h.starts os i) (λ r. IsTrue (is_some (target (outer_address os (globals_of h.starts os ++ shown_linker_symbols os l.map)) (h.starts i.file) i.object r.symbol)))
       (λ r is. subst (λ g. IsTrue (is_some (target (outer_address os g) (h.starts i.file) i.object r.symbol))) h.globals is.resolved) i.section.relocations own) (inputs is_loaded os) h.relocated)
 
 -- ---- two of them
-
-loads : (a b c d : Bool) → (a && b && c && d) ≡ true → a ≡ true
-loads true b c d e = refl
-loads false b c d e = absurd (cc)
 
 text_loads : (x : Section) → goes_to_text x ≡ true → x.loaded ≡ true
 text_loads x e = (and_parts x.loaded x.executable e).0
 
 rodata_loads : (x : Section) → goes_to_rodata x ≡ true → x.loaded ≡ true
-rodata_loads x e = loads x.loaded (not x.executable) (not (has_no_bytes x.contents)) (not x.writable) e
+rodata_loads x e = and_four_first x.loaded (not x.executable) (not (has_no_bytes x.contents)) (not x.writable) e
 
 data_loads : (x : Section) → goes_to_data x ≡ true → x.loaded ≡ true
-data_loads x e = loads x.loaded (not x.executable) (not (has_no_bytes x.contents)) x.writable e
+data_loads x e = and_four_first x.loaded (not x.executable) (not (has_no_bytes x.contents)) x.writable e
 
 module _ (os : List Object) (start : ℕ) (l m : Linked) (placed : HavePlacedRows os) (h : IsLinkOf os start l) (k : IsLinkOf os start m) (drops : l.map.drops ≡ m.map.drops) where
   one : AreOne os h.starts k.starts l.map.text m.map.text l.map.rodata m.map.rodata l.map.data m.map.data l.map.bss m.map.bss
@@ -103,11 +99,11 @@ module _ (os : List Object) (start : ℕ) (l m : Linked) (placed : HavePlacedRow
 
   same_contents : (goes : Section → Bool) → ((x : Section) → goes x ≡ true → x.loaded ≡ true) → AllByRecursion (StartsSame h.starts k.starts) (inputs goes os) → (r q : Region) → r ≡ q
       → contents (linked_bytes (outer_of os l) h.starts os) h.starts r.start (inputs goes os) ≡ contents (linked_bytes (outer_of os m) k.starts os) k.starts q.start (inputs goes os)
-  same_contents goes loads same r q is =
+  same_contents goes and_four_first same r q is =
       contents_same h.starts k.starts (linked_bytes (outer_of os l) h.starts os) (linked_bytes (outer_of os m) k.starts os) r.start (inputs goes os) same
-      (all_both (StartsSame h.starts k.starts) (ValuesSame h.starts k.starts (outer_of os m) os) (λ i. linked_bytes (outer_of os l) h.starts os i ≡ linked_bytes (outer_of os m) k.starts os i)
+      (each_from_both (StartsSame h.starts k.starts) (ValuesSame h.starts k.starts (outer_of os m) os) (λ i. linked_bytes (outer_of os l) h.starts os i ≡ linked_bytes (outer_of os m) k.starts os i)
       (λ i at values. ap (λ g. linked_bytes g h.starts os i) same_outer ∙ bytes_same h.starts k.starts (outer_of os m) os i at values) (inputs goes os) same
-      (all_values h.starts k.starts (outer_of os m) os goes loads one.agreed (linked_meant os start l h)))
+      (all_values h.starts k.starts (outer_of os m) os goes and_four_first one.agreed (linked_meant os start l h)))
       ∙ ap (λ x. contents (linked_bytes (outer_of os m) k.starts os) k.starts x.start (inputs goes os)) is
 
   same_map : l.map ≡ m.map

@@ -3,6 +3,7 @@
 use Rattle.std.proofs.Common.{◌≡◌, ℕ, ℤ, List, sym, ap, ◌∙◌, subst, Option, None}
 use Rattle.std.specs.Prelude.{IsTrue}
 use Rattle.std.specs.List.{AllByRecursion, list_all}
+use Rattle.rv_list_laws.proofs.EachLemmas.{each_from_both}
 use Rattle.rv_image_laws.specs.Linked.{Linked}
 use Rattle.rv_object_laws.specs.Object.{Relocation, Object}
 use Rattle.rv_link_laws.specs.Moves.{moves, has_room}
@@ -16,7 +17,6 @@ use Rattle.rv_link_laws.specs.Untaken.{IsTaken, IsUntaken, AreTaken, AreUntaken,
 use Rattle.rv_link_laws.specs.Refusals.{IsSameFault}
 use Rattle.rv_fault.specs.declared.link_fault.LinkFault.{LinkFault}
 use Rattle.rv_fault.specs.declared.link_fault.LinkFault.TheVariants.{Overflow, OddTarget, DanglingPcrel, AlignmentShort, Undefined, Duplicate, EntryMissing, ImageTooLarge, BadTextStart, TooManyFiles, OutOfMemory}
-use Rattle.rv_link_laws.proofs.ListsLemmas.{all_both}
 use Rattle.rv_unique_link_laws.proofs.AgreedLemmas.{StartsSame, stand_same, AreLaid, AreOne, laid_same}
 use Rattle.rv_unique_link_laws.proofs.ProgramLemmas.{every_same, values_between, linked_laid, linked_meant}
 use Rattle.rv_unique_link_laws.proofs.JudgedLemmas.{all_first, one_first, IsHeld, IsRefusedFor, refused_once, held_apart}
@@ -26,7 +26,7 @@ use Rattle.rv_unique_link_laws.proofs.JudgedLemmas.{all_first, one_first, IsHeld
 -- sections that start the same have the same room
 pub roomy_same : (s t : Starts) (os : List Object) (start : ℕ) → Stand s start (inputs goes_to_text os) → Stand t start (inputs goes_to_text os) → AreRoomy os s → AreRoomy os t
 roomy_same s t os start h k roomy =
-    all_both (StartsSame s t) (λ i. IsTrue (list_all has_room (moves (start_of s i) i.section))) (λ i. IsTrue (list_all has_room (moves (start_of t i) i.section)))
+    each_from_both (StartsSame s t) (λ i. IsTrue (list_all has_room (moves (start_of s i) i.section))) (λ i. IsTrue (list_all has_room (moves (start_of t i) i.section)))
     (λ i same room. subst (λ n. IsTrue (list_all has_room (moves n i.section))) same room) (inputs goes_to_text os) (stand_same s t start (inputs goes_to_text os) h k).0 roomy
 
 module _ (os : List Object) (start : ℕ) (p : Layout) (placed : IsLayout os start p) where

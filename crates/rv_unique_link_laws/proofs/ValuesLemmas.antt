@@ -1,8 +1,9 @@
 -- Values of relocations and bytes of sections by where loaded sections start.
 
-use Rattle.std.proofs.Common.{◌≡◌, ℕ, zero, suc, ◌+◌, ℤ, pos, Bool, true, false, Option, Some, None, option_map, List, [], ◌∷◌, refl, sym, ap, ◌∙◌, subst, arith}
+use Rattle.std.proofs.Common.{◌≡◌, ℕ, suc, ◌+◌, ℤ, pos, Bool, true, false, Option, Some, None, option_map, List, [], ◌∷◌, refl, sym, ap, ◌∙◌, subst, arith}
 use Rattle.std.specs.Prelude.{option_and_then, unwrap_or, if◌then◌else◌}
 use Rattle.std.specs.List.{AllByRecursion, slice_get}
+use Rattle.rv_list_laws.proofs.EachLemmas.{each_get}
 use Rattle.rv_isa.specs.Kinds.{is_low_part}
 use Rattle.rv_reloc_laws.specs.Values.{value_of}
 use Rattle.rv_object_laws.specs.declared.symbol.Definition.{Definition}
@@ -21,13 +22,6 @@ use Rattle.rv_unique_link_laws.proofs.AgreedLemmas.{StartsSame, IsAgreed, AreAgr
 use Rattle.rv_unique_link_laws.proofs.AddressesLemmas.{defined_same}
 
 -- ---- lists
-
-pub all_at : {X : Type 0} (P : X → Type 0) (xs : List X) (i : ℕ) (x : X) → AllByRecursion P xs → slice_get xs i ≡ Some x → P x
-all_at P [] i x h e = absurd (cc)
-all_at P (y ∷ ys) zero x (one, h) e =
-    let same : y ≡ x = cc in
-    subst P same one
-all_at P (y ∷ ys) (suc i) x (one, h) e = all_at P ys i x h e
 
 module _ (s t : Starts) (outer : Outer) (os : List Object) where
   -- ---- files
@@ -141,7 +135,7 @@ module _ (s t : Starts) (outer : Outer) (os : List Object) where
     values_from file (o ∷ ps) files (is, h) (none, k) = (each, values_from (suc file) ps files h k)
       where
         each : Each goes ValuesSame file o
-        each index x at goes_there = by x.loaded (loads x goes_there) (all_at (λ y. undefined_in os o y ≡ None) o.sections index x (each_none (undefined_in os o) o.sections none) at)
+        each index x at goes_there = by x.loaded (loads x goes_there) (each_get (λ y. undefined_in os o y ≡ None) o.sections index x (each_none (undefined_in os o) o.sections none) at)
           where
             by : (b : Bool) → b ≡ true → (if b then first_some (λ r. undefined_name os o r.symbol) x.relocations else None) ≡ None
                 → AllByRecursion (λ r. value outer s os (input file o index x) r ≡ value outer t os (input file o index x) r) x.relocations

@@ -25,10 +25,6 @@ pub one_none : (b : Bool) → b ≡ false → one_if b ≡ 0
 one_none true e = absurd (cc)
 one_none false e = refl
 
-pub one_some : (b : Bool) → 1 ≤ one_if b → b ≡ true
-one_some true h = refl
-one_some false h = absurd (omega (arith, h))
-
 -- a test that passes less
 pub one_less : (b c : Bool) → (b ≡ true → c ≡ true) → one_if b ≤ one_if c
 one_less true c f = let is : one_if c ≡ 1 = one_is c (f refl) in omega (arith, is)

@@ -7,20 +7,20 @@ use Rattle.std.specs.List.{AllByRecursion, list_any}
 use Rattle.std.specs.Str.{bytes_eq}
 use Rattle.std.proofs.lemmas.Bool.{eqb-true, eq-eqb, and_parts, and_right}
 use Rattle.std.proofs.lemmas.List.Folds.{list_any-append}
+use Rattle.rv_list_laws.proofs.ElementsLemmas.{same_bytes}
+use Rattle.rv_list_laws.proofs.FilterLemmas.{each_filter}
+use Rattle.rv_list_laws.proofs.EachLemmas.{each_append, each_mapped}
 use Rattle.rv_map_laws.specs.Globals.{is_one_of}
 use Rattle.rv_statement_laws.specs.Statement.{StatementKind, Directs, Sets}
 use Rattle.rv_text_laws.specs.Values.{Meaning, Known, InSection as InData, Open as OpenAddress, Refused}
 use Rattle.rv_unit_laws.specs.Bindings.{is_shared}
 use Rattle.rv_unit_laws.specs.Tables.{Tables, Assignment, assigned_ever}
-use Rattle.rv_unit_laws.proofs.FoundLemmas.{same_bytes}
 use Rattle.rv_source_laws.specs.Exports.{defined_name}
 use Rattle.rv_object_laws.specs.declared.symbol.Definition.{Definition as Defined}
 use Rattle.rv_object_laws.specs.declared.symbol.Definition.TheVariants.{Undefined, Absolute, InSection, Skipped}
 use Rattle.rv_object_laws.specs.Object.{Symbol}
 use Rattle.rv_assemble_laws.specs.LaidStatements.{LaidStatement}
 use Rattle.rv_unique_object_laws.proofs.CountsLemmas.{one_if, count, count_append, one_most, one_is, one_none, count_less, count_none, count_map, count_kept, count_dropped}
-use Rattle.rv_source_laws.proofs.HomesLemmas.{all_filter as kept}
-use Rattle.rv_assemble_laws.proofs.ListsLemmas.{join, mapped}
 
 -- ---- tests
 
@@ -86,12 +86,12 @@ module _ (t : Tables) (laid : List LaidStatement) where
 
     named_all : (s : LaidStatement) → Locals s → AllByRecursion P (named_symbols t laid s)
     named_all s h =
-        kept P (λ x. not (is_absolute x)) _ (mapped P (λ n. local_symbol n (place s)) _ (kept (λ n. P (local_symbol n (place s))) (λ n. not (is_shared (t.bindings n))) (names_of t s) h))
+        each_filter P (λ x. not (is_absolute x)) _ (each_mapped P (λ n. local_symbol n (place s)) _ (each_filter (λ n. P (local_symbol n (place s))) (λ n. not (is_shared (t.bindings n))) (names_of t s) h))
 
     exported_all : (xs : List LaidStatement) → AllByRecursion Globals xs → AllByRecursion P (flat_map (exports_of t laid) xs)
     exported_all [] h = tt
     exported_all (s ∷ xs) (h, hs) =
-        join P (exports_of t laid s) _ (mapped P (λ n. shared_symbol t n (place s)) _ (kept (λ n. P (shared_symbol t n (place s))) (λ n. is_shared (t.bindings n)) (names_of t s) h)) (exported_all xs hs)
+        each_append P (exports_of t laid s) _ (each_mapped P (λ n. shared_symbol t n (place s)) _ (each_filter (λ n. P (shared_symbol t n (place s))) (λ n. is_shared (t.bindings n)) (names_of t s) h)) (exported_all xs hs)
 
   -- ---- undefined ones
 
@@ -133,8 +133,8 @@ module _ (t : Tables) (laid : List LaidStatement) where
     locals_inner : (before xs : List LaidStatement) → AllByRecursion Inner (local_symbols t laid before xs)
     locals_inner before [] = tt
     locals_inner before (s ∷ xs) =
-        join Inner (unnamed_symbols t (references t laid) before s) _ (unnamed_inner before s)
-        (join Inner (named_symbols t laid s) _
+        each_append Inner (unnamed_symbols t (references t laid) before s) _ (unnamed_inner before s)
+        (each_append Inner (named_symbols t laid s) _
         (named_all Inner s (every (λ n. Inner (local_symbol n (place s))) (names_of t s) (λ n. and_right (bytes_eq n name) (is_undefined (place s)) (not_undefined s s.located.kind))))
         (locals_inner (before ++ s ∷ []) xs))
 
@@ -258,7 +258,7 @@ module _ (t : Tables) (laid : List LaidStatement) where
         let all = whole test in
         let locals = count_less test (is_named name) less (local_symbols t laid [] laid) in
         let globals = count_less test (is_named name) less (exports t laid) in
-        let outer = count_none test (undefined_symbols t laid) (mapped (λ x. test x ≡ false) (λ n. shared_symbol t n Undefined) names (every (λ n. test (shared_symbol t n Undefined) ≡ false) names (λ n. and_right (bytes_eq n name) false refl))) in
+        let outer = count_none test (undefined_symbols t laid) (each_mapped (λ x. test x ≡ false) (λ n. shared_symbol t n Undefined) names (every (λ n. test (shared_symbol t n Undefined) ≡ false) names (λ n. and_right (bytes_eq n name) false refl))) in
         let own = own_once once in
         omega (arith, all, locals, globals, outer, own)
 
@@ -362,5 +362,5 @@ module _ (t : Tables) (laid : List LaidStatement) where
         let all = whole here in
         let locals = locals_once [] laid shown in
         let globals = exports_nameless in
-        let outer = count_none here (undefined_symbols t laid) (mapped (λ x. here x ≡ false) (λ n. shared_symbol t n Undefined) names (every (λ n. here (shared_symbol t n Undefined) ≡ false) names (λ n. and_right (bytes_eq n []) false refl))) in
+        let outer = count_none here (undefined_symbols t laid) (each_mapped (λ x. here x ≡ false) (λ n. shared_symbol t n Undefined) names (every (λ n. here (shared_symbol t n Undefined) ≡ false) names (λ n. and_right (bytes_eq n []) false refl))) in
         omega (arith, all, locals, globals, outer)

@@ -4,6 +4,8 @@ use Rattle.std.proofs.Common.{◌≡◌, ℕ, ◌+◌, ◌≤◌, Bool, true, fa
 use Rattle.std.specs.Prelude.{◌==◌, nat_lt, Option, slice_get, if◌then◌else◌}
 use Rattle.std.specs.List.{AllByRecursion}
 use Rattle.std.proofs.lemmas.Bool.{le-ltb, eq-eqb}
+use Rattle.rv_list_laws.proofs.EachLemmas.{each_map}
+use Rattle.rv_list_laws.proofs.NumbersLemmas.{eq_swap}
 use Rattle.rv_text_laws.specs.Codes.{limit}
 use Rattle.rv_statement_laws.specs.Statement.{Statement}
 use Rattle.rv_unit_laws.specs.Sections.{Section}
@@ -11,7 +13,6 @@ use Rattle.rv_unit_laws.specs.Tables.{at_start, tables, opened_of, longest_secti
 use Rattle.rv_unit_laws.specs.Faults.{StatementFault, at_line}
 use Rattle.rv_source_laws.specs.Located.{located_from, located}
 use Rattle.rv_source_laws.specs.Sizes.{AreLeast}
-use Rattle.rv_source_laws.proofs.HomesLemmas.{all_map}
 use Rattle.rv_object_laws.specs.Object.{Object}
 use Rattle.rv_assemble_laws.specs.Refusals.{AreCodeSizes, grown, size_fault_from, IsTooLong}
 use Rattle.rv_assemble_laws.specs.LaidStatements.{LaidStatement, laid_in, end_of}
@@ -66,9 +67,6 @@ next_is true false e before s ss = absurd (cc)
 next_is false true e before s ss = absurd (cc)
 next_is false false e before s ss = refl
 
-turned : (a b : ℕ) → (a == b) ≡ (b == a)
-turned a b = grind (arith)
-
 fits : (sections : List Section) (before : ℕ → ℕ) (ss : List LaidStatement) → AllByRecursion (IsHome sections) ss → Fit sections before ss
     → size_fault_from before (map (λ s. s.located) ss) (map code_bytes ss) ≡ None
 fits sections before [] homes fit = refl
@@ -79,7 +77,7 @@ fits sections before (s ∷ ss) (home, homes) fit =
     let whole : code_end (before k + n) (laid_in k ss) ≤ longest_section = subst (λ b. next b (before k) s (laid_in k ss) ≤ longest_section) (eq-eqb k k refl) own in
     let here : before k + n ≤ longest_section = (let more = behind (before k + n) (laid_in k ss) in omega (arith, whole, more)) in
     let others : Fit sections (grown before k n) ss =
-    λ j there at. subst (λ e. e ≤ longest_section) (sym (next_is (k == j) (j == k) (turned k j) (before j) s (laid_in j ss))) (fit j there at) in
+    λ j there at. subst (λ e. e ≤ longest_section) (sym (next_is (k == j) (j == k) (eq_swap k j) (before j) s (laid_in j ss))) (fit j there at) in
     no_fault (before k + n) s.located.line (size_fault_from (grown before k n) (map (λ z. z.located) ss) (map code_bytes ss)) here
     ∙ fits sections (grown before k n) ss homes others
 
@@ -94,7 +92,7 @@ module _ (ss : List Statement) (o : Object) (h : IsObjectOf ss o) where
   all_fit : Fit (opened_of (tables ss)).sections (λ j. 0) h.laid
   all_fit j home at =
       short_by home home.executable refl (laid_in j h.laid)
-      (all_map _ _ (laid_in j h.laid) (λ s k. k.0) (said_in ss o h j home at)) (section_in ss o h j home at).1.short
+      (each_map _ _ (laid_in j h.laid) (λ s k. k.0) (said_in ss o h j home at)) (section_in ss o h j home at).1.short
 
   abbrev sizes : List ℕ
   sizes = map code_bytes h.laid

@@ -5,17 +5,18 @@ use Rattle.std.specs.Prelude.{not, ◌&&◌, ◌||◌, ◌==◌, nat_lt, is_some
 use Rattle.std.specs.List.{AllByRecursion, find, list_any}
 use Rattle.std.specs.Str.{bytes_eq}
 use Rattle.std.proofs.lemmas.Bool.{eqb-true, lt-ltb, ltb-true, ltb-false, and_parts}
+use Rattle.rv_list_laws.proofs.ElementsLemmas.{same_bytes}
+use Rattle.rv_list_laws.proofs.EachLemmas.{get_each}
 use Rattle.rv_statement_laws.specs.Statement.{StatementKind, Label, Directs, Statement, Sets}
 use Rattle.rv_unit_laws.specs.Tables.{Tables, Labelled, Assignment, at_start, tables, label_of, assigned_ever, assigned_before}
 use Rattle.rv_unit_laws.specs.Faults.{first_unit_fault}
 use Rattle.rv_unit_laws.proofs.FewLemmas.{no_fault_from}
-use Rattle.rv_unit_laws.proofs.FoundLemmas.{same_bytes, bytes_same}
+use Rattle.rv_unit_laws.proofs.FoundLemmas.{bytes_same}
 use Rattle.rv_unit_laws.proofs.BeforeLemmas.{before_start}
 use Rattle.rv_source_laws.specs.Located.{located_from}
 use Rattle.rv_source_laws.specs.Exports.{sets_first, defined_name}
 use Rattle.rv_assemble_laws.specs.LaidStatements.{LaidStatement}
 use Rattle.rv_assemble_laws.proofs.OrdinalsLemmas.{ordinal_by}
-use Rattle.rv_assemble_laws.proofs.ListsLemmas.{all_index}
 use Rattle.rv_assemble_laws.proofs.OneNameLemmas.{Is, IsFound, one_name, labels_found}
 use Rattle.rv_unique_object_laws.proofs.CountsLemmas.{one_if, count, count_append, one_most}
 use Rattle.rv_unique_object_laws.proofs.LoneSymbolsLemmas.{is_this, names_of}
@@ -107,7 +108,7 @@ module _ (ss : List Statement) (laid : List LaidStatement) (located : map (λ s.
 
   -- the label that is found for it
   label_at : (i : ℕ) (s : LaidStatement) → slice_get laid i ≡ Some s → s.located.kind ≡ Label name → (l : Labelled) × (label_of t.labels true 0 name ≡ Some l) × (l.ordinal ≡ s.located.ordinal)
-  label_at i s at is = all_index (IsFound name t) laid i s at founds name is (bytes_same name)
+  label_at i s at is = get_each (IsFound name t) laid i s at founds name is (bytes_same name)
 
   -- a label is not set
   label_alone : (o : ℕ) (l : Labelled) → label_of t.labels true 0 name ≡ Some l → sets_first t.assignments o name ≡ true → ⊥

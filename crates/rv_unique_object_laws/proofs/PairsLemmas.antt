@@ -4,10 +4,10 @@ use Rattle.std.proofs.Common.{◌≡◌, ℕ, Bool, true, false, List, [], ◌�
 use Rattle.std.specs.Prelude.{⊤, ◌==◌, map, slice_get, if◌then◌else◌}
 use Rattle.std.specs.List.{AllByRecursion}
 use Rattle.std.proofs.lemmas.Bool.{eq-eqb, eqb-true}
+use Rattle.rv_list_laws.proofs.ElementsLemmas.{cons_parts}
 use Rattle.rv_unit_laws.specs.Sections.{Section}
 use Rattle.rv_source_laws.specs.Located.{Located}
 use Rattle.rv_assemble_laws.specs.LaidStatements.{LaidStatement, laid_in}
-pub use Rattle.rv_assemble_laws.proofs.UseWeightsLemmas.{cons_parts}
 
 -- ---- pairs
 

@@ -3,6 +3,7 @@
 use Rattle.std.proofs.Common.{◌≡◌, ℕ, zero, suc, ◌+◌, Bool, true, false, List, [], ◌∷◌, map, length, refl, sym, ap, ◌∙◌, subst, Some, arith}
 use Rattle.std.specs.Prelude.{flat_map, slice_get, if◌then◌else◌}
 use Rattle.std.specs.List.{AllByRecursion}
+use Rattle.rv_list_laws.proofs.EachLemmas.{each_map}
 use Rattle.rv_text_laws.specs.Values.{Value}
 use Rattle.rv_statement_laws.specs.Statement.{StatementKind, Label, Numbered, Instruction, Directs, Statement, Expression, Directive, Sets, Aligns_to_power, Aligns_to_bytes, Values, Strings, Zeros}
 use Rattle.rv_unit_laws.specs.Sections.{Section as SourceSection, text_section}
@@ -10,7 +11,7 @@ use Rattle.rv_unit_laws.specs.Tables.{Tables, at_start, after, tables, opened_of
 use Rattle.rv_source_laws.specs.Located.{Located, located_from, is_placed}
 use Rattle.rv_source_laws.specs.Sizes.{code_padding, AreLeast}
 use Rattle.rv_source_laws.proofs.HeldLemmas.{IsHeld, Held, all_held}
-use Rattle.rv_source_laws.proofs.HomesLemmas.{all_map, homes_from}
+use Rattle.rv_source_laws.proofs.HomesLemmas.{homes_from}
 use Rattle.rv_object_laws.specs.Object.{Section, Symbol, Object}
 use Rattle.rv_assemble_laws.specs.Coded.{IsCode}
 use Rattle.rv_assemble_laws.specs.LaidStatements.{LaidStatement, expression_value, templates, laid_part, parts_of, part_bytes, laid_in, Tile, IsPaddedIn, DirectiveSize, HasSize}
@@ -18,21 +19,10 @@ use Rattle.rv_assemble_laws.specs.Refusals.{HasCodeSize, HasSizeAt, AreCodeSizes
 use Rattle.rv_assemble_laws.specs.IsObjectOf.{Numbering, IsSectionOf, AreSectionsOf, IsObjectOf}
 use Rattle.rv_assemble_laws.proofs.FaultlessLemmas.{no_first_fault}
 use Rattle.rv_assemble_laws.proofs.LeastAllLemmas.{Agree, least_all}
+use Rattle.rv_assemble_laws.proofs.LaidStatementsLemmas.{unplaced_by, of_located}
 use Rattle.rv_unique_object_laws.proofs.PairsLemmas.{IsHome, all_in, all_from}
 
 -- ---- statements without a place
-
-bare_by : (t : Tables) (k : ℕ) (kind : StatementKind) → is_placed t k kind ≡ false → (u : Tables) (s : LaidStatement) → templates u s kind ≡ []
-bare_by t k (Label name) e u s = absurd (cc)
-bare_by t k (Numbered number) e u s = absurd (cc)
-bare_by t k (Instruction mnemonic operands) e u s = absurd (cc)
-bare_by t k (Directs (Sets name x)) e u s = refl
-bare_by t k (Directs (Values width values)) e u s = absurd (cc)
-bare_by t k (Directs (Strings ended strings)) e u s = absurd (cc)
-bare_by t k (Directs (Zeros count)) e u s = absurd (cc)
-bare_by t k (Directs (Aligns_to_power x)) e u s = absurd (cc)
-bare_by t k (Directs (Aligns_to_bytes x)) e u s = absurd (cc)
-bare_by t k (Directs _) e u s = refl
 
 none_either : (b : Bool) → ◌≡◌ {A = ℕ} 0 (if b then 0 else 0)
 none_either true = refl
@@ -57,11 +47,7 @@ pub record IsUnplaced (l : Located) : Type 0 where
 
 unplaced_from : (k : ℕ) (t : Tables) (ss : List Statement) → AllByRecursion IsUnplaced (located_from 1 k t ss)
 unplaced_from k t [] = tt
-unplaced_from k t (s ∷ ss) = (record { bare = bare_by t k s.kind; idle = idle_by t k s.kind }, unplaced_from (suc k) (after t k s.kind) ss)
-
-of_located : (P : Located → Type 0) (laid : List LaidStatement) → AllByRecursion P (map (λ s. s.located) laid) → AllByRecursion (λ s. P s.located) laid
-of_located P [] h = tt
-of_located P (s ∷ ss) (h, hs) = (h, of_located P ss hs)
+unplaced_from k t (s ∷ ss) = (record { bare = unplaced_by t k s.kind; idle = idle_by t k s.kind }, unplaced_from (suc k) (after t k s.kind) ss)
 
 -- ---- what is said of a statement
 
@@ -201,7 +187,7 @@ module _ (ss : List Statement) (o : Object) (h : IsObjectOf ss o) where
       said_all t x.0.alignment 0 home (laid_in j h.laid) x.1.tile x.1.sizes (all_in Facts sections j home at h.laid at_home facts)
 
   sized_in : (j : ℕ) (home : SourceSection) → slice_get sections j ≡ Some home → AllByRecursion (λ s. HasSizeAt t s.located (code_bytes s)) (laid_in j h.laid)
-  sized_in j home at = all_map _ _ (laid_in j h.laid) (λ s k. said_code t (section_in j home at).0.alignment s k.1) (said_in j home at)
+  sized_in j home at = each_map _ _ (laid_in j h.laid) (λ s k. said_code t (section_in j home at).0.alignment s k.1) (said_in j home at)
 
   pub sizes_of_code : AreCodeSizes t ls (map code_bytes h.laid)
   sizes_of_code = subst (λ l. AreCodeSizes t l (map code_bytes h.laid)) h.located (code_sizes t h.laid (all_from _ sections h.laid at_home sized_in))

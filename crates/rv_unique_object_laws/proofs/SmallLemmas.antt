@@ -5,16 +5,15 @@ use Rattle.std.specs.Prelude.{flat_map}
 use Rattle.std.specs.List.{AllByRecursion}
 use Rattle.std.proofs.lemmas.Bool.{and_parts, ltb-true}
 use Rattle.rv_statement_laws.specs.Statement.{Statement}
-use Rattle.rv_unit_laws.specs.declared.section_type.SectionType.{SectionType}
-use Rattle.rv_unit_laws.specs.declared.section_type.SectionType.TheVariants as types
 use Rattle.rv_unit_laws.specs.Sections.{Section as SourceSection, Opened, most_sections}
 use Rattle.rv_unit_laws.specs.Tables.{Tables, at_start, with_section, after, after_all, tables, opened_of, longest_section}
 use Rattle.rv_unit_laws.proofs.EnteringLemmas.{sections_more, sections_count, entering}
 use Rattle.rv_unit_laws.proofs.OpenedLemmas.{entered_in, after_opened}
 use Rattle.rv_object_laws.specs.Object.{Section, Symbol, Object, size_of}
 use Rattle.rv_assemble_laws.specs.LaidStatements.{LaidStatement, end_of, part_bytes, parts, laid_in}
-use Rattle.rv_assemble_laws.specs.IsObjectOf.{Numbering, contents_of, IsSectionOf, AreSectionsOf, IsObjectOf}
+use Rattle.rv_assemble_laws.specs.IsObjectOf.{Numbering, IsSectionOf, AreSectionsOf, IsObjectOf}
 use Rattle.rv_assemble_laws.proofs.FilledLemmas.{filled}
+use Rattle.rv_assemble_laws.proofs.IsObjectOfLemmas.{stored_size}
 
 -- ---- few sections
 
@@ -52,11 +51,6 @@ few_sections ss o h =
 
 -- ---- short code
 
-contents_size : (kind : SectionType) (size : ℕ) (bytes : List ℕ) → size ≡ length bytes → size_of (contents_of kind size bytes) ≡ size
-contents_size types.Progbits size bytes e = sym e
-contents_size types.Note size bytes e = sym e
-contents_size types.Nobits size bytes e = refl
-
 abbrev pub IsShort : Section → Type 0
 IsShort x = (x.loaded && x.executable) ≡ true → size_of x.contents ≤ longest_section
 
@@ -65,7 +59,7 @@ one_short t all number symbols k home x h code =
     let laid = laid_in k all in
     let bytes = flat_map part_bytes (parts t laid) in
     let long : end_of 0 laid ≡ length bytes = filled t 0 laid h.tile ∙ (let n = length bytes in let e : 0 + n ≡ n = omega arith in e) in
-    let size : size_of x.contents ≡ end_of 0 laid = ap size_of h.contents ∙ contents_size home.section_type (end_of 0 laid) bytes long in
+    let size : size_of x.contents ≡ end_of 0 laid = ap size_of h.contents ∙ stored_size home.section_type (end_of 0 laid) bytes long in
     let short : end_of 0 laid ≤ longest_section = h.short (sym h.executable ∙ (and_parts x.loaded x.executable code).1) in
     subst (λ n. n ≤ longest_section) (sym size) short
 

@@ -1,8 +1,9 @@
 -- No name is both that of a label and one that is set.
 
-use Rattle.std.proofs.Common.{◌≡◌, ℕ, suc, Bool, true, false, cond, ◌&&◌, ◌||◌, nat_lt, List, [], ◌∷◌, ◌++◌, refl, sym, ap, ◌∙◌, subst, ◌⊎◌, inl, inr, option_map, Option, Some, None}
-use Rattle.std.specs.Prelude.{not, is_some, if◌then◌else◌}
+use Rattle.std.proofs.Common.{◌≡◌, ℕ, suc, Bool, true, false, cond, ◌&&◌, ◌||◌, nat_lt, List, [], ◌∷◌, ◌++◌, refl, sym, ap, ◌∙◌, subst, ◌⊎◌, inl, inr, Option, Some, None}
+use Rattle.std.specs.Prelude.{is_some, if◌then◌else◌}
 use Rattle.std.specs.Str.{bytes_eq}
+use Rattle.std.proofs.lemmas.Bool.{not-true}
 use Rattle.rv_text_laws.specs.Expression.{Literal, Symbol, Here, Reference}
 use Rattle.rv_text_laws.specs.Values.{Meaning, Known, InSection, Open, Refused, Value, Constant, Symbolic, Difference, Faulty, add}
 use Rattle.rv_statement_laws.specs.Statement.{StatementKind, Label, Numbered, Instruction, Directs, Statement, Expression, Directive, Sets}
@@ -39,16 +40,12 @@ apart_label t o n before h = by (is_defined t o n) refl
     by true e = h
     by false e = λ name. one name (bytes_eq n name) e refl (h name)
 
-not_true : (b : Bool) → not b ≡ true → b ≡ false
-not_true true e = absurd (cc)
-not_true false e = refl
-
 -- a name that may be set has no label
 free_name : (t : Tables) (o : ℕ) (n name : List ℕ) (m : Meaning) → IsBefore t o → bytes_eq n name ≡ true → may_set t o n m ≡ true → label_of t.labels true 0 name ≡ None
-free_name t o n name (InSection section offset) before same may = (undefined name t o n before same (not_true (is_defined t o n) may)).0
-free_name t o n name (Known k) before same may = (unplaced name t o n before same (not_true (has_location t o n) may)).0
-free_name t o n name Open before same may = (unplaced name t o n before same (not_true (has_location t o n) may)).0
-free_name t o n name (Refused code) before same may = (unplaced name t o n before same (not_true (has_location t o n) may)).0
+free_name t o n name (InSection section offset) before same may = (undefined name t o n before same (not-true (is_defined t o n) may)).0
+free_name t o n name (Known k) before same may = (unplaced name t o n before same (not-true (has_location t o n) may)).0
+free_name t o n name Open before same may = (unplaced name t o n before same (not-true (has_location t o n) may)).0
+free_name t o n name (Refused code) before same may = (unplaced name t o n before same (not-true (has_location t o n) may)).0
 
 apart_set : (t : Tables) (o : ℕ) (s : Assignment) → s.ordinal ≡ o → IsBefore t o → IsApart t → IsApart (with_assignment t (Some s))
 apart_set t o s at before h = by (may_set t s.ordinal s.name s.meaning) refl
@@ -161,7 +158,3 @@ label_defined t o at name l before apart found =
 pub other_defined : (t : Tables) (o at : ℕ) (name : List ℕ) → IsBefore t o → label_of t.labels true 0 name ≡ None → is_defined t at name ≡ is_some (assigned_before t.assignments at name)
 other_defined t o at name before none =
     ap (λ f. is_some f || is_some (assigned_before t.assignments at name)) (label_below t o at name before ∙ ap (below (λ (k : Labelled). k.ordinal) at) none)
-
-pub some_mapped : {A B : Type 0} (f : A → B) (o : Option A) → is_some o ≡ is_some (option_map f o)
-some_mapped f None = refl
-some_mapped f (Some x) = refl

@@ -1,15 +1,14 @@
 -- An expression whose constant is wanted has it by the statements before it alone, and by all of the source.
 
-use Rattle.std.proofs.Common.{◌≡◌, ℕ, ◌+◌, ◌<◌, ◌≤◌, true, false, List, length, drop, refl, sym, Option, Some, None}
+use Rattle.std.proofs.Common.{◌≡◌, ℕ, ◌+◌, ◌<◌, ◌≤◌, true, false, List, length, refl, sym, Option, Some, None}
 use Rattle.rv_text_laws.specs.Bytes.{digits_value}
 use Rattle.rv_text_laws.specs.Expression.{Literal, Symbol, Here, Reference}
 use Rattle.rv_text_laws.specs.Values.{Constant}
 use Rattle.rv_statement_laws.specs.Statement.{Statement, Expression}
-use Rattle.rv_unit_laws.specs.Tables.{Tables, SectionOffset, NumericLabel, at_start, tables, after_all, numeric_label_after, forward_in, meaning, value_by_tables, opened_of}
+use Rattle.rv_unit_laws.specs.Tables.{Tables, SectionOffset, NumericLabel, at_start, tables, numeric_label_after, forward_in, meaning, value_by_tables, opened_of}
 use Rattle.rv_unit_laws.proofs.BeforeLemmas.{before_all, before_start}
 use Rattle.rv_unit_laws.proofs.SettledLemmas.{Agree, is_settled, constant_same, constant_later}
 use Rattle.rv_unit.specs.Unit.{passed}
-use Rattle.rv_unit.proofs.PassedLemmas.{passed_rest}
 use Rattle.rv_unit.proofs.ScopedLemmas.{past_name, past_here, past_back}
 
 module _ (ss : List Statement) (i : ℕ) (p : SectionOffset) (within : i ≤ length ss) (inside : p.section < length (opened_of (passed ss i)).sections) where
@@ -32,7 +31,3 @@ module _ (ss : List Statement) (i : ℕ) (p : SectionOffset) (within : i ≤ len
 -- by all of the source
 pub constant_whole : (ss : List Statement) (at : ℕ) (p : SectionOffset) (e : Expression) (n : ℕ) → value_by_tables (tables ss) false at p e ≡ Constant n → value_by_tables (tables ss) true at p e ≡ Constant n
 constant_whole ss at p e n is = constant_later (tables ss) (1 + length ss) at (before_all (at_start ss) 1 ss (before_start ss 1)) p e n is
-
--- the tables of a source by those of its first statements
-pub whole_rest : (ss : List Statement) (i : ℕ) → i ≤ length ss → tables ss ≡ after_all (passed ss i) (i + 1) (drop i ss)
-whole_rest ss i within = passed_rest ss i within

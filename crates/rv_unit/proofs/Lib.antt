@@ -2,9 +2,9 @@ mod ApartLemmas
 mod LowestLemmas
 mod CheckedLemmas
 mod EachLemmas
-mod PassedLemmas
+pub mod PassedLemmas
 mod ScopedLemmas
-mod StandingLemmas
+pub mod StandingLemmas
 mod InstructionsLemmas
 mod SizedLemmas
 mod PlacesLemmas

@@ -1,7 +1,6 @@
 -- Values whose names have places, as none is set.
 
-use Rattle.std.proofs.lemmas.Bool.{eqb-true}
-use Rattle.std.proofs.Common.{◌≡◌, ◌==◌, ℕ, Bool, true, false, cond, List, [], ◌∷◌, length, refl, sym, ◌∙◌, ap, arith, Option, None, Some}
+use Rattle.std.proofs.Common.{◌≡◌, ℕ, Bool, true, false, cond, List, [], refl, ◌∙◌, ap, Option, None, Some}
 use Rattle.rv_text_laws.specs.Expression.{Node, Primary, Symbol, tree_of}
 use Rattle.rv_text_laws.specs.Values.{Meaning, Known, InSection, Open, Refused, Symbolic, meant}
 use Rattle.rv_text.specs.Expr.{lone_primary}
@@ -50,9 +49,3 @@ pub name_value : (t : Tables) (o : ℕ) (p : SectionOffset) (name : List ℕ) (n
 name_value t o p name ns none is =
     let found = symbolic_place (Symbol name) (named t true o name) (named_place t o name none) in
     (found.0, ap (λ (l : List Node). value_by_tables t true o p (tree_of l)) is ∙ lone_value (λ q. meaning t true o p q) (Symbol name) ∙ found.1)
-
-pub no_items : {X : Type 0} (xs : List X) (b : Bool) → b ≡ (length xs == 0) → b ≡ true → xs ≡ []
-no_items [] b is e = refl
-no_items (x ∷ xs) b is e =
-    let none : length (x ∷ xs) ≡ 0 = eqb-true (length (x ∷ xs)) 0 (sym is ∙ e) in
-    absurd (omega (arith, none))

@@ -3,6 +3,7 @@
 use Rattle.std.proofs.Common.{◌≡◌, ℕ, ◌+◌, ◌<◌, ◌≤◌, ◌==◌, ◌&&◌, false, true, List, length, take, drop, nat_lt, refl, sym, ap, ◌∙◌, subst, Option, Some, None}
 use Rattle.std.specs.Str.{bytes_eq}
 use Rattle.std.proofs.lemmas.Bool.{ltb-true}
+use Rattle.rv_list_laws.proofs.FindLemmas.{find_passes}
 use Rattle.rv_text_laws.specs.Bytes.{digits_value}
 use Rattle.rv_text_laws.specs.Expression.{Symbol, Here, Reference}
 use Rattle.rv_text_laws.specs.Values.{Open, Refused}
@@ -14,7 +15,7 @@ use Rattle.rv_text.specs.Nodes.{symbol_of}
 use Rattle.rv_unit_laws.specs.Tables as laws
 use Rattle.rv_unit_laws.proofs.BeforeLemmas.{IsBefore, before_all, before_start}
 use Rattle.rv_unit_laws.proofs.BoundLemmas.{bound_all}
-use Rattle.rv_unit_laws.proofs.OpenedLemmas.{IsStood, stood_all, stood_start, stands_same, open_inside, find_passes}
+use Rattle.rv_unit_laws.proofs.OpenedLemmas.{IsStood, stood_all, stood_start, stands_same, open_inside}
 use Rattle.rv_unit.specs.declared.unit.Unit.{Unit as SourceUnit}
 use Rattle.rv_unit_tables.specs.Tables.{tables_of}
 use Rattle.rv_unit.specs.Unit.{said, IsFilled, passed, comes_after}

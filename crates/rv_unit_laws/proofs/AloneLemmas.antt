@@ -7,6 +7,8 @@ use Rattle.std.specs.Option.{option_or}
 use Rattle.std.specs.Str.{bytes_eq}
 use Rattle.std.proofs.lemmas.Bool.{or_parts}
 use Rattle.std.proofs.lemmas.List.Folds.{find-append}
+use Rattle.rv_list_laws.proofs.ElementsLemmas.{same_bytes}
+use Rattle.rv_list_laws.proofs.OptionsLemmas.{none_by_test}
 use Rattle.rv_text_laws.specs.Values.{Value}
 use Rattle.rv_statement_laws.specs.declared.directive.Choice.{Choice}
 use Rattle.rv_statement_laws.specs.Statement.{Expression, Directive}
@@ -14,7 +16,6 @@ use Rattle.rv_unit_laws.specs.Sections.{Section, entered_by}
 use Rattle.rv_unit_laws.specs.Contributions.{Contribution, Nothing, contribution}
 use Rattle.rv_unit_laws.specs.Tables.{Tables, Labelled, here, value_by_tables, label_of, assigned_ever, is_defined, has_location, assigned_by, choice_in, with_assignment, with_section, with_chosen, with_contribution, after_directive, gives_location}
 use Rattle.rv_unit_laws.proofs.EnteringLemmas.{entering}
-use Rattle.rv_unit_laws.proofs.FoundLemmas.{same_bytes}
 use Rattle.rv_unit_laws.proofs.BeforeLemmas.{IsBefore, has_place_now, defined_now}
 
 -- ---- what a statement leaves alone
@@ -47,10 +48,6 @@ directive_same t k d =
 
 -- ---- a name that a statement defines
 
-none_of : {X : Type 0} (o : Option X) → is_some o ≡ false → o ≡ None
-none_of None e = refl
-none_of (Some x) e = absurd (cc)
-
 module _ (name : List ℕ) where
   more : (ls : List Labelled) (new : Labelled) → label_of (ls ++ new ∷ []) true 0 name ≡ option_or (label_of ls true 0 name) (label_of (new ∷ []) true 0 name)
   more ls new = find-append (λ (l : Labelled). bytes_eq l.name name && (true || nat_lt l.ordinal 0)) ls (new ∷ [])
@@ -69,9 +66,9 @@ module _ (name : List ℕ) where
     pub undefined : is_defined t k n ≡ false → (label_of t.labels true 0 name ≡ None) × (assigned_ever t.assignments name ≡ None)
     undefined e =
         let free = or_parts (is_some (label_of t.labels true 0 name)) (is_some (assigned_ever t.assignments name)) (sym (defined_now t k name before) ∙ ap (is_defined t k) (sym (same_bytes n name same)) ∙ e) in
-        (none_of (label_of t.labels true 0 name) free.0, none_of (assigned_ever t.assignments name) free.1)
+        (none_by_test (label_of t.labels true 0 name) free.0, none_by_test (assigned_ever t.assignments name) free.1)
 
     pub unplaced : has_location t k n ≡ false → (label_of t.labels true 0 name ≡ None) × (gives_location (assigned_ever t.assignments name) ≡ false)
     unplaced e =
         let free = or_parts (is_some (label_of t.labels true 0 name)) (gives_location (assigned_ever t.assignments name)) (sym (has_place_now t k name before) ∙ ap (has_location t k) (sym (same_bytes n name same)) ∙ e) in
-        (none_of (label_of t.labels true 0 name) free.0, free.1)
+        (none_by_test (label_of t.labels true 0 name) free.0, free.1)

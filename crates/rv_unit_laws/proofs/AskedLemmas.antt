@@ -15,8 +15,9 @@ use Rattle.rv_unit_laws.proofs.BeforeLemmas.{IsBefore, label_before, set_now, ha
 use Rattle.rv_unit_laws.proofs.EnteringLemmas.{place_more, or_last, sections_more, sections_count, entering, entered_new}
 use Rattle.rv_unit_laws.proofs.FoundLemmas.{bytes_same}
 use Rattle.rv_unit_laws.proofs.LaterLemmas.{Keeps}
-use Rattle.rv_unit_laws.proofs.OpenedLemmas.{IsOpen, got_of, entered_in, after_opened, stays_all, open_inside}
+use Rattle.rv_unit_laws.proofs.OpenedLemmas.{IsOpen, entered_in, after_opened, stays_all, open_inside}
 use Rattle.std.proofs.lemmas.Option.{slice_get-get_or}
+use Rattle.rv_list_laws.proofs.ElementsLemmas.{get_or_get}
 
 -- ---- names
 
@@ -40,7 +41,7 @@ location_kept t u o name h k =
 pub home_same : (t : Tables) (k : ℕ) (ss : List Statement) → IsOpen (opened_of t) → section_at (opened_of (after_all t k ss)) t.current ≡ current_section (opened_of t)
 home_same t k ss is_open =
     let at = slice_get-get_or (opened_of t).sections t.current text_section (open_inside (opened_of t) is_open) in
-    got_of (opened_of (after_all t k ss)).sections t.current text_section (current_section (opened_of t)) (stays_all t k ss is_open t.current (current_section (opened_of t)) at)
+    get_or_get (opened_of (after_all t k ss)).sections t.current text_section (current_section (opened_of t)) (stays_all t k ss is_open t.current (current_section (opened_of t)) at)
 
 -- a name that is known keeps its index
 known_next : (t : Tables) (found : Option Section) (name : List ℕ) (i : ℕ) → place_of_name (opened_of t).sections name ≡ Some i → place_of_name (opened_of (with_section t found)).sections name ≡ Some i

@@ -6,6 +6,9 @@ use Rattle.std.specs.List.{find, list_all, list_any}
 use Rattle.std.specs.Str.{bytes_eq}
 use Rattle.std.proofs.lemmas.Bool.{ltb-true, ltb-false, lt-ltb, and_parts}
 use Rattle.std.proofs.lemmas.List.Folds.{list_all-append}
+use Rattle.rv_list_laws.proofs.FindLemmas.{find_all, find_all_swapped, find_none_by}
+use Rattle.rv_list_laws.proofs.TestsLemmas.{any_all, all_weaker, any_same}
+use Rattle.rv_list_laws.proofs.ElementsLemmas.{same_bytes}
 use Rattle.rv_text_laws.specs.Values.{Meaning, Known, InSection, Open, Refused, Value, Constant, Symbolic, Difference, Faulty, add}
 use Rattle.rv_text_laws.specs.Expression.{Literal, Symbol, Here, Reference}
 use Rattle.rv_statement_laws.specs.Statement.{StatementKind, Label, Numbered, Instruction, Directs, Statement, Expression, Directive, Sets}
@@ -14,7 +17,6 @@ use Rattle.rv_unit_laws.specs.Sections.{Section, entered_by}
 use Rattle.rv_unit_laws.specs.Contributions.{Contribution, Nothing, Bytes, Zero_bytes, Alignment, contribution}
 use Rattle.rv_unit_laws.specs.Tables.{Tables, Labelled, NumericLabel, Assignment, at_start, here, after, after_directive, after_all, value_by_tables, assigned, assigned_by, choice_in, with_label, with_numeric_label, with_assignment, with_section, with_contribution, with_choice, with_chosen, label_of, assigned_before, assigned_ever, has_location, is_defined, may_set, is_location, gives_location}
 use Rattle.rv_unit_laws.proofs.EnteringLemmas.{with_new, entering}
-use Rattle.rv_unit_laws.proofs.FoundLemmas.{find_all, find_all_swapped, any_all, find_none, all_weaker, same_bytes}
 pub use Rattle.rv_unit_laws.specs.Tables.{gives_location as placed_latest}
 
 abbrev pub all_labels : ℕ → List Labelled → Bool
@@ -101,7 +103,7 @@ find_below at o p (x ∷ xs) h =
     by false c e later rest = rest
     by true true e later rest = sym (ap (λ d. if d then Some x else None) e)
     by true false e later rest =
-        find_none (λ y. p y && nat_lt (at y) o) (λ y. nat_lt (at x) (at y)) xs later (λ y l. passed (at y) (p y) e l)
+        find_none_by (λ y. p y && nat_lt (at y) o) (λ y. nat_lt (at x) (at y)) xs later (λ y l. passed (at y) (p y) e l)
         ∙ sym (ap (λ d. if d then Some x else None) e)
 
 -- the label of a name, if it stands before an ordinal
@@ -114,10 +116,6 @@ label_below t o at name h =
 and_assoc : (a b c : Bool) → ((a && b) && c) ≡ (a && (b && c))
 and_assoc true b c = refl
 and_assoc false b c = refl
-
-any_same : {X : Type 0} (p q : X → Bool) (xs : List X) → ((x : X) → p x ≡ q x) → list_any p xs ≡ list_any q xs
-any_same p q [] h = refl
-any_same p q (x ∷ xs) h = ap (λ b. b || list_any p xs) (h x) ∙ ap (λ r. q x || r) (any_same p q xs h)
 
 placed_now : (t : Tables) (o : ℕ) (name : List ℕ) → IsBefore t o
     → list_any (λ s. nat_lt s.ordinal o && bytes_eq s.name name && is_location s) t.assignments ≡ placed_ever t.assignments name
@@ -139,7 +137,7 @@ defined_now t o name h =
 
 -- nothing comes later than the statements so far
 pub none_later : (o number : ℕ) (numeric_labels : List NumericLabel) → all_numeric_labels o numeric_labels ≡ true → find (λ m. nat_lt o m.ordinal && (m.number == number)) numeric_labels ≡ None
-none_later o number numeric_labels h = find_none (λ m. nat_lt o m.ordinal && (m.number == number)) (λ m. nat_lt m.ordinal o) numeric_labels h (λ m l. later m.ordinal (m.number == number) l)
+none_later o number numeric_labels h = find_none_by (λ m. nat_lt o m.ordinal && (m.number == number)) (λ m. nat_lt m.ordinal o) numeric_labels h (λ m l. later m.ordinal (m.number == number) l)
   where
     later : (a : ℕ) (b : Bool) → nat_lt a o ≡ true → (nat_lt o a && b) ≡ false
     later a b l = by (nat_lt o a) refl

@@ -62,14 +62,6 @@ entering P t s known new full = go (place_of_name (opened_of t).sections s.name)
     go (Some n) e = known n e
     go None e = by_room (nat_lt (length t.extents) most_sections) refl
 
--- a section whose name was opened before
-pub entered_known : (t : Tables) (s : Section) (n : ℕ) → place_of_name (opened_of t).sections s.name ≡ Some n → with_section t (Some s) ≡ record t { current = n }
-entered_known t s n is = ap (entered_at t s) is
-
--- a name for which there is no more room
-pub entered_full : (t : Tables) (s : Section) → place_of_name (opened_of t).sections s.name ≡ None → nat_lt (length t.extents) most_sections ≡ false → with_section t (Some s) ≡ t
-entered_full t s is full = ap (entered_at t s) is ∙ ap (λ b. if b then with_new t s else t) full
-
 -- a new section
 pub entered_new : (t : Tables) (s : Section) → place_of_name (opened_of t).sections s.name ≡ None → nat_lt (length t.extents) most_sections ≡ true → with_section t (Some s) ≡ with_new t s
 entered_new t s is room = ap (entered_at t s) is ∙ ap (λ b. if b then with_new t s else t) room

@@ -1,19 +1,14 @@
 -- A source without a fault has no more statements than it may have.
 
-use Rattle.std.proofs.Common.{◌≡◌, ℕ, zero, suc, ◌≤◌, List, [], ◌∷◌, length, drop, refl, ap, arith, Option, Some, None}
+use Rattle.std.proofs.Common.{◌≡◌, ℕ, zero, suc, ◌≤◌, List, [], ◌∷◌, length, drop, refl, ap, Option, Some, None}
 use Rattle.std.specs.Prelude.{slice_get}
 use Rattle.std.proofs.lemmas.List.{drop_all}
+use Rattle.rv_list_laws.proofs.TakeDropLemmas.{none_past}
 use Rattle.rv_text_laws.specs.Codes.{limit}
 use Rattle.rv_statement_laws.specs.Limits.{most_statements}
 use Rattle.rv_statement_laws.specs.Statement.{Statement}
 use Rattle.rv_unit_laws.specs.Tables.{at_start, tables}
 use Rattle.rv_unit_laws.specs.Faults.{StatementFault, past_most, first_fault_from, first_unit_fault}
-
-none_past : {X : Type 0} (n : ℕ) (xs : List X) → drop n xs ≡ [] → length xs ≤ n
-none_past zero [] e = omega arith
-none_past zero (x ∷ xs) e = absurd (cc)
-none_past (suc n) [] e = omega arith
-none_past (suc n) (x ∷ xs) e = let l = none_past n xs e in omega (arith, l)
 
 few_within : (n : ℕ) (ss : List Statement) (others : Option StatementFault) → past_most (drop n ss) others ≡ None → (length ss ≤ n) × (others ≡ None)
 few_within n ss others e = go (drop n ss) refl e

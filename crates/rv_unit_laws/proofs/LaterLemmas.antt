@@ -4,6 +4,7 @@ use Rattle.std.proofs.Common.{◌≡◌, ℕ, suc, ◌<◌, Bool, true, false, c
 use Rattle.std.specs.Prelude.{if◌then◌else◌}
 use Rattle.std.specs.List.{find}
 use Rattle.std.proofs.lemmas.Bool.{ltb-true, lt-ltb, and_right}
+use Rattle.rv_list_laws.proofs.FindLemmas.{find_same, find_not_last}
 use Rattle.rv_text_laws.specs.Values.{Known, InSection, Open, Refused, Value, Constant, Symbolic, Difference, Faulty, add}
 use Rattle.rv_text_laws.specs.Expression.{Literal, Symbol, Here, Reference}
 use Rattle.rv_statement_laws.specs.Statement.{StatementKind, Label, Numbered, Instruction, Directs, Statement, Expression, Directive, Sets}
@@ -12,7 +13,6 @@ use Rattle.rv_unit_laws.specs.Sections.{Section, entered_by}
 use Rattle.rv_unit_laws.specs.Contributions.{Contribution, Nothing, Bytes, Zero_bytes, Alignment, contribution}
 use Rattle.rv_unit_laws.specs.Tables.{Tables, Labelled, NumericLabel, Assignment, here, after, after_directive, after_all, value_by_tables, assigned, assigned_by, choice_in, with_label, with_numeric_label, with_assignment, with_section, with_contribution, with_choice, with_chosen, is_defined, may_set}
 use Rattle.rv_unit_laws.proofs.EnteringLemmas.{with_new, entering}
-use Rattle.rv_unit_laws.proofs.FoundLemmas.{find_same}
 
 -- of what stands before the ordinal, a search finds the same in both
 pub record Keeps (t u : Tables) (o : ℕ) : Type 0 where
@@ -74,18 +74,13 @@ weaker t u o k = record {
       ∙ find_same (λ l. (p l && nat_lt l.ordinal o) && nat_lt l.ordinal (suc o)) (λ l. p l && nat_lt l.ordinal o) t.labels (λ l. both_after l.ordinal o (p l));
 }
 
--- a search passes over a last element that is not looked for
-not_found : {X : Type 0} (p : X → Bool) (xs : List X) (x : X) → p x ≡ false → find p (xs ++ x ∷ []) ≡ find p xs
-not_found p [] x missed = ap (λ b. cond b (Some x) None) missed
-not_found p (y ∷ ys) x missed = ap (cond (p y) (Some y)) (not_found p ys x missed)
-
 keeps_label : (t : Tables) (o : ℕ) (name : List ℕ) → Keeps t (with_label t o name) o
 keeps_label t o name = by (is_defined t o name)
   where
     by : (b : Bool) → Keeps t (if b then t else record t { labels = t.labels ++ record { name = name; ordinal = o; place = here t } ∷ [] }) o
     by true = keeps_same t t o refl refl refl
     by false = keeps_more t (record t { labels = t.labels ++ record { name = name; ordinal = o; place = here t } ∷ [] }) o refl refl
-        (λ p. not_found (λ l. p l && nat_lt l.ordinal o) t.labels (record { name = name; ordinal = o; place = here t }) (and_right (p (record { name = name; ordinal = o; place = here t })) (nat_lt o o) (not_before o)))
+        (λ p. find_not_last (λ l. p l && nat_lt l.ordinal o) t.labels (record { name = name; ordinal = o; place = here t }) (and_right (p (record { name = name; ordinal = o; place = here t })) (nat_lt o o) (not_before o)))
 
 keeps_numeric_label : (t : Tables) (o number : ℕ) → Keeps t (with_numeric_label t o number) o
 keeps_numeric_label t o number = record {

@@ -11,3 +11,5 @@ pub mod GrownLemmas
 pub mod AskedLemmas
 pub mod FewLemmas
 pub mod ShortLemmas
+pub mod OffsetsLemmas
+pub mod TablesLemmas

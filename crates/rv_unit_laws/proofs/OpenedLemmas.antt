@@ -2,8 +2,8 @@
 
 use Rattle.std.proofs.Common.{◌≡◌, ℕ, zero, suc, ◌<◌, ◌≤◌, Bool, true, false, ◌&&◌, nat_lt, List, [], ◌∷◌, ◌++◌, length, map, refl, sym, ap, ◌∙◌, subst, arith, Option, Some, None, get_or}
 use Rattle.std.specs.Prelude.{if◌then◌else◌, slice_get}
-use Rattle.std.specs.List.{find, list_all}
-use Rattle.std.proofs.lemmas.Bool.{ltb-true, lt-ltb, and_parts}
+use Rattle.std.specs.List.{list_all}
+use Rattle.std.proofs.lemmas.Bool.{ltb-true, lt-ltb}
 use Rattle.std.proofs.lemmas.List.Folds.{list_all-append}
 use Rattle.rv_statement_laws.specs.Statement.{StatementKind, Expression, Label, Numbered, Instruction, Directs, Statement, Directive}
 use Rattle.rv_statement_laws.specs.declared.directive.Choice.{Choice}
@@ -12,24 +12,9 @@ use Rattle.rv_unit_laws.specs.Sections.{Section, Opened, text_section, entered_b
 use Rattle.rv_unit_laws.specs.Contributions.{Contribution, Nothing, Bytes, Zero_bytes, Alignment, contribution}
 use Rattle.rv_unit_laws.specs.Tables.{Tables, Extent, SectionOffset, Labelled, NumericLabel, Assignment, at_start, here, stands, value_by_tables, assigned_by, choice_in, is_defined, may_set, with_label, with_assignment, with_section, with_contribution, with_choice, with_chosen, after_directive, after, after_all, opened_of, extended, changed_at, contributed, alignment_as, with_data}
 use Rattle.rv_unit_laws.proofs.EnteringLemmas.{place_inside, sections_more, sections_count, entering}
-use Rattle.rv_unit_laws.proofs.FoundLemmas.{all_weaker}
 use Rattle.std.proofs.lemmas.Option.{slice_get-get_or}
-
--- ---- lists
-
-pub got_of : {X : Type 0} (xs : List X) (i : ℕ) (d x : X) → slice_get xs i ≡ Some x → get_or xs i d ≡ x
-got_of [] i d x e = absurd (cc)
-got_of (y ∷ ys) zero d x e = cc
-got_of (y ∷ ys) (suc i) d x e = got_of ys i d x e
-
-got_front : {X : Type 0} (xs ys : List X) (i : ℕ) (x : X) → slice_get xs i ≡ Some x → slice_get (xs ++ ys) i ≡ Some x
-got_front [] ys i x e = absurd (cc)
-got_front (y ∷ xs) ys zero x e = e
-got_front (y ∷ xs) ys (suc i) x e = got_front xs ys i x e
-
-got_last : {X : Type 0} (xs : List X) (y : X) → slice_get (xs ++ y ∷ []) (length xs) ≡ Some y
-got_last [] y = refl
-got_last (x ∷ xs) y = got_last xs y
+use Rattle.rv_list_laws.proofs.TestsLemmas.{all_weaker}
+use Rattle.rv_list_laws.proofs.ElementsLemmas.{get_or_get, get_front, get_last}
 
 -- ---- the sections that are open
 
@@ -48,8 +33,8 @@ section_open t (Some s) is_open =
     entering (λ (u : Tables). IsOpen (opened_of u) × Stays (opened_of t) (opened_of u)) t s
     (λ n at. ((get_or ss n s, slice_get-get_or ss n s (place_inside ss s.name n at)), λ j x h. h))
     (λ room. (
-      (s, ap (λ l. slice_get l (length t.extents)) (sections_more t s) ∙ ap (λ n. slice_get (ss ++ s ∷ []) n) (sym (sections_count t)) ∙ got_last ss s),
-      λ j x h. ap (λ l. slice_get l j) (sections_more t s) ∙ got_front ss (s ∷ []) j x h,
+      (s, ap (λ l. slice_get l (length t.extents)) (sections_more t s) ∙ ap (λ n. slice_get (ss ++ s ∷ []) n) (sym (sections_count t)) ∙ get_last ss s),
+      λ j x h. ap (λ l. slice_get l j) (sections_more t s) ∙ get_front ss (s ∷ []) j x h,
     ))
     (is_open, λ j x h. h)
 
@@ -123,7 +108,7 @@ pub stands_same : (t : Tables) (k : ℕ) (ss : List Statement) (p : SectionOffse
 stands_same t k ss p is_open inside =
     let at = slice_get-get_or (opened_of t).sections p.section text_section inside in
     let later = stays_all t k ss is_open p.section (section_at (opened_of t) p.section) at in
-    ap (λ (s : Section). if s.executable then Open else InSection p.section p.offset) (got_of (opened_of (after_all t k ss)).sections p.section text_section (section_at (opened_of t) p.section) later)
+    ap (λ (s : Section). if s.executable then Open else InSection p.section p.offset) (get_or_get (opened_of (after_all t k ss)).sections p.section text_section (section_at (opened_of t) p.section) later)
 
 -- the current section is inside
 pub open_inside : (o : Opened) → IsOpen o → o.current < length o.sections
@@ -231,14 +216,3 @@ stood_all t o (s ∷ ss) h = stood_all (after t o s.kind) (suc o) ss (stood_afte
 
 pub stood_start : (ss : List Statement) → IsStood (at_start ss)
 stood_start ss = record { opened = (text_section, refl); inside = record { labels = refl; numeric_labels = refl } }
-
--- what is found stands inside
-pub find_passes : {X : Type 0} (p q : X → Bool) (xs : List X) (x : X) → list_all q xs ≡ true → find p xs ≡ Some x → q x ≡ true
-find_passes p q [] x h e = absurd (cc)
-find_passes p q (y ∷ ys) x h e =
-    let both = and_parts (q y) (list_all q ys) h in
-    by (p y) both.0 (λ f. find_passes p q ys x both.1 f) e
-  where
-    by : (b : Bool) → q y ≡ true → (find p ys ≡ Some x → q x ≡ true) → (if b then Some y else find p ys) ≡ Some x → q x ≡ true
-    by true now later e = let same : y ≡ x = cc in ap q (sym same) ∙ now
-    by false now later e = later e

@@ -8,7 +8,7 @@ use Rattle.rv_statement_laws.specs.Statement.{StatementKind, Label, Numbered, In
 use Rattle.rv_statement_laws.specs.declared.directive.Choice.{Choice}
 use Rattle.rv_unit_laws.specs.Sections.{Section, entered_by, current_section}
 use Rattle.rv_unit_laws.specs.Contributions.{Contribution, Nothing, Bytes, Zero_bytes, Alignment, contribution}
-use Rattle.rv_unit_laws.specs.Tables.{Tables, Extent, Assignment, at_start, here, value_by_tables, longest_section, within, padding, counted, or_none, contents_size, alignment_as, contributed, contribution_alignment, counted_in, changed_at, is_defined, may_set, with_assignment, with_section, with_data, with_contribution, with_choice, with_chosen, with_numeric_label, assigned_by, choice_in, after, after_directive, after_all, tables, opened_of, ends_of}
+use Rattle.rv_unit_laws.specs.Tables.{Tables, Extent, Assignment, at_start, here, value_by_tables, longest_section, within, padding, counted, or_none, contents_size, alignment_as, contributed, contribution_alignment, counted_in, changed_at, is_defined, may_set, with_assignment, with_section, with_data, with_contribution, with_choice, with_chosen, with_numeric_label, assigned_by, choice_in, after, after_directive, opened_of, ends_of}
 use Rattle.rv_unit_laws.proofs.EnteringLemmas.{entering, with_new}
 use Rattle.rv_unit_laws.proofs.GrownLemmas.{data_ends, end_new}
 
@@ -97,14 +97,7 @@ short_after t o (Numbered number) h = short_same t (with_numeric_label t o numbe
 short_after t o (Instruction mnemonic operands) h = h
 short_after t o (Directs d) h = short_directive t o d h
 
-pub short_all : (t : Tables) (o : ℕ) (ss : List Statement) → AreShort t → AreShort (after_all t o ss)
-short_all t o [] h = h
-short_all t o (s ∷ ss) h = short_all (after t o s.kind) (suc o) ss (short_after t o s.kind h)
-
 pub short_start : (ss : List Statement) → AreShort (at_start ss)
 short_start ss zero = omega arith
 short_start ss (suc zero) = omega arith
 short_start ss (suc (suc j)) = omega arith
-
-pub all_short : (ss : List Statement) → AreShort (tables ss)
-all_short ss = short_all (at_start ss) 1 ss (short_start ss)

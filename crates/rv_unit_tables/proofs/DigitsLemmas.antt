@@ -28,37 +28,6 @@ value-cut ds some =
     let count : n + 1 ≡ length ds = omega arith in
     ap (digits_value 10) (sym (take_whole ds) ∙ ap (λ m. take m ds) (sym count) ∙ take_more ds n 0 inside) ∙ value-last (take n ds) (get_or ds n 0)
 
--- two sums are equal where their last digits and what is before them are
-pub last_differs : (a b p q : ℕ) → (p % 10 ≡ q % 10 → ⊥) → (10 * a + p == 10 * b + q) ≡ false
-last_differs a b p q apart = by (10 * a + p == 10 * b + q) refl
-  where
-    by : (c : Bool) → (10 * a + p == 10 * b + q) ≡ c → c ≡ false
-    by false e = refl
-    by true e = absurd (apart (let same : 10 * a + p ≡ 10 * b + q = eqb-true (10 * a + p) (10 * b + q) e in omega arith))
-
-pub last_same : (a b p q : ℕ) → p % 10 ≡ q % 10 → (10 * a + p == 10 * b + q) ≡ (a + p / 10 == b + q / 10)
-last_same a b p q is = by (10 * a + p == 10 * b + q) (a + p / 10 == b + q / 10) refl refl
-  where
-    by : (c d : Bool) → (10 * a + p == 10 * b + q) ≡ c → (a + p / 10 == b + q / 10) ≡ d → c ≡ d
-    by true true e f = refl
-    by false false e f = refl
-    by true false e f =
-        let same : 10 * a + p ≡ 10 * b + q = eqb-true (10 * a + p) (10 * b + q) e in
-        absurd (eqb-false (a + p / 10) (b + q / 10) f (omega arith))
-    by false true e f =
-        let same : a + p / 10 ≡ b + q / 10 = eqb-true (a + p / 10) (b + q / 10) f in
-        absurd (eqb-false (10 * a + p) (10 * b + q) e (omega arith))
-
--- a step of the comparison: a digit less on both sides
-pub step_same : (a b la lb x y da db : ℕ) → a ≡ 10 * la + da → b ≡ 10 * lb + db → (x + da) % 10 ≡ (y + db) % 10 → (la + (x + da) / 10 == lb + (y + db) / 10) ≡ (a + x == b + y)
-step_same a b la lb x y da db ea eb is =
-    sym (last_same la lb (x + da) (y + db) is) ∙ ap (λ n. n == 10 * lb + (y + db)) (let e : 10 * la + (x + da) ≡ a + x = omega arith in e) ∙ ap (λ n. a + x == n) (let e : 10 * lb + (y + db) ≡ b + y = omega arith in e)
-
-pub step_differs : (a b la lb x y da db : ℕ) → a ≡ 10 * la + da → b ≡ 10 * lb + db → ((x + da) % 10 ≡ (y + db) % 10 → ⊥) → (a + x == b + y) ≡ false
-step_differs a b la lb x y da db ea eb apart =
-    ap (λ n. n == b + y) (let e : a + x ≡ 10 * la + (x + da) = omega arith in e) ∙ ap (λ n. 10 * la + (x + da) == n) (let e : b + y ≡ 10 * lb + (y + db) = omega arith in e)
-    ∙ last_differs la lb (x + da) (y + db) apart
-
 -- ---- digits mixed
 
 -- that number of digits is enough

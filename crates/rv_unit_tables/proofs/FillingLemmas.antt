@@ -1,19 +1,16 @@
 -- Tables that are filled statement by statement.
 
-use Rattle.std.proofs.Common.{◌≡◌, ℕ, suc, ◌+◌, List, [], ◌∷◌, ◌++◌, refl, sym, ap, ◌∙◌, subst, arith, append_assoc, append-nil}
+use Rattle.std.proofs.Common.{◌≡◌, ℕ, suc, ◌+◌, List, [], ◌∷◌, ◌++◌, sym, ap, ◌∙◌, subst, arith, append_assoc}
 use Rattle.rv_statement_laws.specs.Statement.{Statement}
 use Rattle.rv_unit_laws.specs.Options.{Options}
-use Rattle.rv_unit_laws.specs.Tables.{Tables, SectionOffset, at_start, after, after_all, tables, stood, places, places_from, options_from, all_options}
-use Rattle.rv_unit_laws.proofs.BeforeLemmas.{IsBefore, before_after, before_start}
+use Rattle.rv_unit_laws.specs.Tables.{Tables, SectionOffset, after, after_all, tables, stood, places, places_from, options_from, all_options}
+use Rattle.rv_unit_laws.proofs.BeforeLemmas.{IsBefore, before_after}
 
 -- `done` statements are done, and with what the rest changes the tables and the offsets are those of all
 pub record FillsTo (t : Tables) (done : ℕ) (rest all : List Statement) (so_far : List SectionOffset) : Type 0 where
   pub before : IsBefore t (done + 1)
   pub fills : after_all t (done + 1) rest ≡ tables all
   pub stand : so_far ++ places_from t (done + 1) rest ≡ places all
-
-pub fills_start : (t : Tables) (all : List Statement) → t ≡ at_start all → FillsTo t 0 all all []
-fills_start t all is = subst (λ u. FillsTo u 0 all all []) (sym is) (record { before = before_start all 1; fills = refl; stand = refl })
 
 pub fills_more : (t u : Tables) (done : ℕ) (s : Statement) (rest more all : List Statement) (so_far new : List SectionOffset) (p : SectionOffset) → FillsTo t done rest all so_far → rest ≡ s ∷ more → u ≡ after t (done + 1) s.kind → p ≡ stood t (done + 1) s.kind → new ≡ so_far ++ p ∷ []
     → FillsTo u (done + 1) more all new
@@ -30,12 +27,6 @@ fills_more t u done s rest more all so_far new p f is changed stands added = rec
     next : suc (done + 1) ≡ done + 1 + 1
     next = omega arith
 
-pub fills_tables : (t : Tables) (done : ℕ) (rest all : List Statement) (so_far : List SectionOffset) → FillsTo t done rest all so_far → rest ≡ [] → t ≡ tables all
-fills_tables t done rest all so_far f is = sym (ap (after_all t (done + 1)) is) ∙ f.fills
-
-pub fills_places : (t : Tables) (done : ℕ) (rest all : List Statement) (so_far : List SectionOffset) → FillsTo t done rest all so_far → rest ≡ [] → so_far ≡ places all
-fills_places t done rest all so_far f is = sym (append-nil so_far) ∙ sym (ap (λ r. so_far ++ places_from t (done + 1) r) is) ∙ f.stand
-
 -- the options so far and those of the rest
 pub options_more : (t u : Tables) (done : ℕ) (s : Statement) (rest more all : List Statement) (so_far new : List Options) → so_far ++ options_from t (done + 1) rest ≡ all_options all → rest ≡ s ∷ more → u ≡ after t (done + 1) s.kind
     → new ≡ so_far ++ t.options ∷ [] → new ++ options_from u (done + 1 + 1) more ≡ all_options all
@@ -44,6 +35,3 @@ options_more t u done s rest more all so_far new whole is changed added =
     ∙ ap (λ v. so_far ++ t.options ∷ options_from v (done + 1 + 1) more) changed
     ∙ ap (λ n. so_far ++ t.options ∷ options_from (after t (done + 1) s.kind) n more) (let e : done + 1 + 1 ≡ suc (done + 1) = omega arith in e)
     ∙ sym (ap (λ l. so_far ++ options_from t (done + 1) l) is) ∙ whole
-
-pub options_whole : (t : Tables) (done : ℕ) (rest all : List Statement) (so_far : List Options) → so_far ++ options_from t (done + 1) rest ≡ all_options all → rest ≡ [] → so_far ≡ all_options all
-options_whole t done rest all so_far whole is = sym (append-nil so_far) ∙ sym (ap (λ r. so_far ++ options_from t (done + 1) r) is) ∙ whole

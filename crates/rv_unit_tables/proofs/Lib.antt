@@ -1,4 +1,3 @@
-pub mod AtLemmas
 mod BoundLemmas
 mod DigitsLemmas
 mod GivesLemmas

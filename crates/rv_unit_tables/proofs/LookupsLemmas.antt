@@ -14,10 +14,11 @@ use Rattle.std.proofs.lemmas.List.Folds.{list_all-append}
 use Rattle.rv_unit_laws.specs.Sections.{Section, place_of_name}
 use Rattle.rv_unit_laws.specs.Tables as laws
 use Rattle.rv_unit_laws.specs.Tables.{gives_location}
-use Rattle.rv_unit_laws.proofs.FoundLemmas.{bytes_swap, same_bytes, find_all}
 use Rattle.rv_unit_laws.proofs.BeforeLemmas.{IsBefore, label_before, set_now, none_later, defined_now, has_place_now}
 use Rattle.rv_unit_laws.proofs.EnteringLemmas.{place_more, or_last}
 use Rattle.std.proofs.Math.ListN.{set}
+use Rattle.rv_list_laws.proofs.ElementsLemmas.{bytes_eq_swap, same_bytes}
+use Rattle.rv_list_laws.proofs.FindLemmas.{find_all}
 use Rattle.rv_unit_tables.specs.declared.section.Extent.{Extent}
 use Rattle.rv_unit_tables.specs.declared.tables.Label.{Label}
 use Rattle.rv_unit_tables.specs.Sections.{section_of, extent_section, extent_of}
@@ -32,15 +33,15 @@ label_found name (e ∷ es) = by (bytes_eq name e.0.now) (bytes_eq e.0.now name)
         → option_map (label_at name) (cond b (Some e.1) (lookup (λ (k : Bor (List ℕ)). bytes_eq name k.now) es)) ≡ cond (c && true) (Some (labelled_of e)) (laws.label_of (map labelled_of es) true 0 name)
     by true true p q rest = ap (λ n. Some (label_at n e.1)) (same_bytes name e.0.now p)
     by false false p q rest = rest
-    by true false p q rest = absurd (let s = sym p ∙ bytes_swap name e.0.now ∙ q in let t : true ≡ false = s in cc)
-    by false true p q rest = absurd (let s = sym p ∙ bytes_swap name e.0.now ∙ q in let t : false ≡ true = s in cc)
+    by true false p q rest = absurd (let s = sym p ∙ bytes_eq_swap name e.0.now ∙ q in let t : true ≡ false = s in cc)
+    by false true p q rest = absurd (let s = sym p ∙ bytes_eq_swap name e.0.now ∙ q in let t : false ≡ true = s in cc)
 
 -- the names of the first section
 pub indexed_first : (es : List (Bor (List ℕ) × ℕ)) (k : Bor (List ℕ)) (ss : List Section) (s : Section) → es ≡ (k, 0) ∷ [] → ss ≡ s ∷ [] → k.now ≡ s.name → (name : List ℕ)
     → lookup (λ (k : Bor (List ℕ)). bytes_eq name k.now) es ≡ place_of_name ss name
 indexed_first es k ss s only first same name =
     ap (lookup (λ (k : Bor (List ℕ)). bytes_eq name k.now)) only
-    ∙ ap (λ b. cond {A = Option ℕ} b (Some 0) None) (bytes_swap name k.now ∙ ap (λ n. bytes_eq n name) same)
+    ∙ ap (λ b. cond {A = Option ℕ} b (Some 0) None) (bytes_eq_swap name k.now ∙ ap (λ n. bytes_eq n name) same)
     ∙ by (bytes_eq s.name name) ∙ sym (ap (λ l. place_of_name l name) first)
   where
     by : (b : Bool) → cond {A = Option ℕ} b (Some 0) None ≡ (if b then Some 0 else None)
@@ -101,14 +102,6 @@ with_label_new t o name ls h is added =
     ap (λ l. record t { labels = l }) added
     ∙ sym (ap (λ b. if b then t else record t { labels = t.labels ++ record { name = name; ordinal = o; place = laws.here t } ∷ [] }) (defined_now t o name h ∙ is))
 
--- a name without a label is in no entry
-pub label_none : (name : List ℕ) (es : List (Bor (List ℕ) × Label)) (other : Bool) → (is_some (laws.label_of (map labelled_of es) true 0 name) || other) ≡ false → lookup (λ (k : Bor (List ℕ)). bytes_eq name k.now) es ≡ None
-label_none name es other h = by (lookup (λ (k : Bor (List ℕ)). bytes_eq name k.now) es) refl
-  where
-    by : (f : Option Label) → lookup (λ (k : Bor (List ℕ)). bytes_eq name k.now) es ≡ f → f ≡ None
-    by None e = refl
-    by (Some l) e = absurd (let some : true ≡ false = sym (ap (λ r. is_some r || other) (sym (label_found name es) ∙ ap (option_map (label_at name)) e)) ∙ h in cc)
-
 -- whether an assignment may be made
 pub taken_place : (t : laws.Tables) (s : laws.Assignment) (m : Meaning) (b : Bool) → s.meaning ≡ m → IsBefore t s.ordinal → laws.is_location (record s { meaning = m }) ≡ true
     → b ≡ (is_some (laws.label_of t.labels true 0 s.name) || is_some (laws.assigned_ever t.assignments s.name)) → not b ≡ laws.may_set t s.ordinal s.name m
@@ -123,13 +116,6 @@ taken_other t s (InSection section offset) b e h is same = absurd (cc)
 taken_other t s (Known n) b e h is same = ap not (same ∙ sym (has_place_now t s.ordinal s.name h))
 taken_other t s Open b e h is same = ap not (same ∙ sym (has_place_now t s.ordinal s.name h))
 taken_other t s (Refused code) b e h is same = ap not (same ∙ sym (has_place_now t s.ordinal s.name h))
-
-pub set_not : (t : laws.Tables) (s : laws.Assignment) → true ≡ not (laws.may_set t s.ordinal s.name s.meaning) → t ≡ laws.with_assignment t (Some s)
-set_not t s is = by (laws.may_set t s.ordinal s.name s.meaning) is
-  where
-    by : (b : Bool) → true ≡ not b → t ≡ (if b then record t { assignments = s ∷ t.assignments } else t)
-    by true e = absurd (cc)
-    by false e = refl
 
 pub set_one : (t : laws.Tables) (s : laws.Assignment) (more : List laws.Assignment) → laws.may_set t s.ordinal s.name s.meaning ≡ true → more ≡ s ∷ t.assignments → record t { assignments = more } ≡ laws.with_assignment t (Some s)
 set_one t s more is added = ap (λ l. record t { assignments = l }) added ∙ sym (ap (λ b. if b then record t { assignments = s ∷ t.assignments } else t) is)
@@ -240,12 +226,3 @@ put_back name (e ∷ es) new old found = by (bytes_eq name.now e.0.now) refl fou
     by false is later rest =
         ap (λ c. if c then (e.0, old) ∷ insert_entry same_name es name new else e ∷ insert_entry same_name (insert_entry same_name es name new) name old) is
         ∙ ap (λ l. e ∷ l) (rest later)
-
-pub set_defined : (a b : Bool) → b ≡ true → (a || b) ≡ true
-set_defined true b e = refl
-set_defined false b e = e
-
--- what is found is found as well once it is changed
-pub found_mapped : {X Y : Type 0} (f : X → Y) (found : Option X) → is_some found ≡ is_some (option_map f found)
-found_mapped f None = refl
-found_mapped f (Some x) = refl

@@ -1,60 +1,25 @@
 -- Numeric labels by their numbers, and in the order of their ordinals: one more, and what is found.
 
-use Rattle.std.proofs.Common.{◌≡◌, ℕ, suc, ◌+◌, ◌-◌, ◌<◌, ◌≤◌, Bool, true, false, cond, ◌&&◌, ◌==◌, nat_lt, List, [], ◌∷◌, ◌++◌, length, map, filter, refl, sym, ap, ◌∙◌, arith, Option, Some, option_map}
-use Rattle.std.specs.Prelude.{reverse, slice_get, unwrap_or, if◌then◌else◌}
+use Rattle.std.proofs.Common.{◌≡◌, ℕ, suc, ◌+◌, ◌<◌, ◌≤◌, Bool, true, false, cond, ◌&&◌, ◌==◌, nat_lt, List, [], ◌∷◌, ◌++◌, length, map, filter, refl, sym, ap, ◌∙◌, arith, Option, Some}
+use Rattle.std.specs.Prelude.{reverse, unwrap_or, if◌then◌else◌}
 use Rattle.std.specs.Option.{option_copied}
 use Rattle.std.specs.Borrow.{Bor}
-use Rattle.std.specs.List.{find, list_all}
+use Rattle.std.specs.List.{list_all}
 use Rattle.std.specs.List.Sorted.{IsNonDecreasingBy}
 use Rattle.std.specs.Map.{lookup}
 use Rattle.std.proofs.lemmas.Bool.{eqb-true, eq-eqb, ltb-true, le-ltb, and_parts}
-use Rattle.std.proofs.lemmas.List.{length-map, map-append, reverse-append, reverse-reverse}
-use Rattle.std.proofs.lemmas.Option.{slice_get-map}
+use Rattle.std.proofs.lemmas.List.{length-map, map-append, reverse-append}
 use Rattle.indexmap.specs.IndexMap.{insert_entry}
+use Rattle.rv_list_laws.proofs.FilterLemmas.{all_kept}
 use Rattle.rv_text_laws.specs.Bytes.{digits_value}
 use Rattle.rv_unit_laws.specs.Tables as laws
 use Rattle.rv_unit_laws.proofs.BeforeLemmas.{falls}
 use Rattle.rv_unit_tables.specs.declared.number.Number.{Number}
 use Rattle.rv_unit_tables.specs.declared.tables.NumericLabel.{NumericLabel}
 use Rattle.rv_unit_tables.specs.Tables.{numeric_label_at, numeric_labels_of, put_in_order, put_all_in_order, numeric_labels_in}
-use Rattle.rv_unit_tables.proofs.OrderedLemmas.{from_back, filter_reversed, map_reversed, rises_of, all_kept, rising}
+use Rattle.rv_unit_tables.proofs.OrderedLemmas.{rises_of, rising}
 
 -- ---- those of a number, of which the latest is last, where all of them stand with the latest first
-
-find_mapped : {X Y : Type 0} (g : X → Y) (p : Y → Bool) (xs : List X) → option_map g (find (λ x. p (g x)) xs) ≡ find p (map g xs)
-find_mapped g p [] = refl
-find_mapped {X} {Y} g p (x ∷ xs) = by (p (g x)) (find_mapped g p xs)
-  where
-    by : (b : Bool) → option_map g (find (λ y. p (g y)) xs) ≡ find p (map g xs) → option_map g (cond b (Some x) (find (λ y. p (g y)) xs)) ≡ cond b (Some (g x)) (find p (map g xs))
-    by true rest = refl
-    by false rest = rest
-
-find_both : {Y : Type 0} (p q : Y → Bool) (ys : List Y) → find p (filter q ys) ≡ find (λ y. p y && q y) ys
-find_both p q [] = refl
-find_both {Y} p q (y ∷ ys) = by (q y) (p y) refl (find_both p q ys)
-  where
-    others : List Y
-    others = filter q ys
-
-    rest_of : Option Y
-    rest_of = find (λ z. p z && q z) ys
-
-    by : (b c : Bool) → p y ≡ c → find p others ≡ rest_of → find p (cond b (y ∷ others) others) ≡ cond (c && b) (Some y) rest_of
-    by true true e rest = ap (λ t. cond t (Some y) (find p others)) e
-    by true false e rest = ap (λ t. cond t (Some y) (find p others)) e ∙ rest
-    by false true e rest = rest
-    by false false e rest = rest
-
-find_first : {Y : Type 0} (q : Y → Bool) (ys : List Y) → slice_get (filter q ys) 0 ≡ find q ys
-find_first q [] = refl
-find_first {Y} q (y ∷ ys) = by (q y) (find_first q ys)
-  where
-    by : (b : Bool) → slice_get (filter q ys) 0 ≡ find q ys → slice_get (cond b (y ∷ filter q ys) (filter q ys)) 0 ≡ cond b (Some y) (find q ys)
-    by true rest = refl
-    by false rest = rest
-
-last_first : {X Y : Type 0} (g : X → Y) (xs : List X) → option_map g (slice_get xs (length xs - 1)) ≡ slice_get (reverse (map g xs)) 0
-last_first g xs = sym (from_back (map g xs) ∙ ap (λ n. slice_get (map g xs) (n - 1)) (length-map xs g) ∙ slice_get-map g xs (length xs - 1))
 
 falls_kept : {Y : Type 0} (at : Y → ℕ) (q : Y → Bool) (ys : List Y) → falls at ys ≡ true → falls at (filter q ys) ≡ true
 falls_kept at q [] h = refl
@@ -65,18 +30,6 @@ falls_kept at q (y ∷ ys) h =
     by : (b : Bool) → list_all (λ z. nat_lt (at z) (at y)) (filter q ys) ≡ true → falls at (filter q ys) ≡ true → falls at (cond b (y ∷ filter q ys) (filter q ys)) ≡ true
     by true one rest = ap (λ b. b && falls at (filter q ys)) one ∙ rest
     by false one rest = rest
-
-pub latest_kept : {X Y : Type 0} (g : X → Y) (q : Y → Bool) (xs : List X) (ys : List Y) → reverse (map g xs) ≡ filter q ys → option_map g (slice_get xs (length xs - 1)) ≡ find q ys
-latest_kept g q xs ys kept = last_first g xs ∙ ap (λ l. slice_get l 0) kept ∙ find_first q ys
-
-pub before_kept : {X Y : Type 0} (g : X → Y) (p q : Y → Bool) (xs : List X) (ys : List Y) → reverse (map g xs) ≡ filter q ys → option_map g (find (λ x. p (g x)) (reverse xs)) ≡ find (λ y. p y && q y) ys
-before_kept g p q xs ys kept = find_mapped g p (reverse xs) ∙ ap (find p) (map_reversed g xs ∙ kept) ∙ find_both p q ys
-
-pub after_kept : {X Y : Type 0} (g : X → Y) (p q : Y → Bool) (xs : List X) (ys : List Y) → reverse (map g xs) ≡ filter q ys → option_map g (find (λ x. p (g x)) xs) ≡ find (λ y. p y && q y) (reverse ys)
-after_kept g p q xs ys kept =
-    find_mapped g p xs
-    ∙ ap (find p) (sym (reverse-reverse (map g xs)) ∙ ap reverse kept ∙ sym (filter_reversed q ys))
-    ∙ find_both p q (reverse ys)
 
 pub kept_rise : {X Y : Type 0} (g : X → Y) (at : Y → ℕ) (q : Y → Bool) (xs : List X) (ys : List Y) → falls at ys ≡ true → reverse (map g xs) ≡ filter q ys → IsNonDecreasingBy (λ x. at (g x)) xs
 kept_rise g at q xs ys fall kept = rising (λ x. at (g x)) xs (rises_of g at xs (ap (falls at) kept ∙ falls_kept at q ys fall))

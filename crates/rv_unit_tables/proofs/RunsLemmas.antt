@@ -7,8 +7,8 @@ use Rattle.std.specs.List.{find, list_all, AllWithin}
 use Rattle.std.specs.List.Sorted.{IsNonDecreasingBy, IsPartitionPoint}
 use Rattle.std.proofs.lemmas.Bool.{eqb-true, leb-true, leb-false, le-leb, ltb-true, lt-ltb, le-ltb, and_parts}
 use Rattle.std.proofs.lemmas.List.{map-id}
+use Rattle.rv_list_laws.proofs.FindLemmas.{find_same}
 use Rattle.rv_unit_laws.proofs.BeforeLemmas.{falls}
-use Rattle.rv_unit_laws.proofs.FoundLemmas.{find_same}
 use Rattle.rv_unit_tables.specs.declared.section_offset.SectionOffset.{SectionOffset}
 use Rattle.rv_unit_tables.specs.declared.tables.NumericLabel.{NumericLabel}
 use Rattle.rv_unit_tables.specs.declared.numeric_labels.Run.{Run}

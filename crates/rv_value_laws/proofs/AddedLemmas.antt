@@ -1,19 +1,22 @@
 -- What a statement without faults adds to its section of data: the bytes that the values of its expressions say.
 
-use Rattle.std.proofs.Common.{◌≡◌, ℕ, zero, suc, ◌+◌, ◌<◌, ◌≤◌, Bool, true, false, ◌||◌, nat_le, List, [], ◌∷◌, ◌++◌, length, refl, sym, ap, ◌∙◌, subst, arith, Option, Some, None}
+use Rattle.std.proofs.Common.{◌≡◌, ℕ, zero, suc, ◌+◌, ◌<◌, Bool, true, false, ◌||◌, List, [], ◌∷◌, ◌++◌, length, refl, sym, ap, ◌∙◌, subst, arith, Option, Some, None}
 use Rattle.std.specs.Prelude.{not, slice_index_or, if◌then◌else◌, ⊤, ◌^◌, nat_lt}
-use Rattle.std.proofs.lemmas.Bool.{leb-true, le-leb, not-false}
+use Rattle.std.proofs.lemmas.Bool.{not-false}
+use Rattle.rv_list_laws.proofs.ElementsLemmas.{append_none_parts}
 use Rattle.rv_text_laws.specs.Codes.{faulty_if}
 use Rattle.rv_text_laws.specs.Values.{Value, Constant, Symbolic, Difference, Faulty}
 use Rattle.rv_statement_laws.specs.Statement.{StatementKind, Label, Numbered, Instruction, Directs, Expression, Directive, Enters, Opens, Binds, Sets, Aligns_to_power, Aligns_to_bytes, Values, Strings, Zeros, Chooses, Ignored}
 use Rattle.rv_statement_laws.specs.declared.directive.Choice.{Choice}
 use Rattle.rv_unit_laws.specs.Sections.{Section, is_nobits, section_at, current_section, entered_by}
 use Rattle.rv_unit_laws.specs.Contributions.{Numbers, Texts, AlignmentForm, As_power, As_bytes, Contribution, Nothing, Bytes, Zero_bytes, Alignment, contribution}
-use Rattle.rv_unit_laws.specs.Tables.{Tables, Assignment, here, stood, value_by_tables, alignment_of, alignment_as, contribution_alignment, counted, or_none, within, padding, contributed, contents_size, longest_section, changed_at, counted_in, is_defined, may_set, with_assignment, with_section, with_data, with_contribution, with_choice, with_chosen, with_numeric_label, assigned_by, choice_in, after, after_directive, enters, opened_of, ends_of}
+use Rattle.rv_unit_laws.specs.Tables.{Tables, Assignment, here, stood, value_by_tables, alignment_of, alignment_as, contribution_alignment, counted, or_none, within, padding, contributed, contents_size, changed_at, counted_in, is_defined, may_set, with_assignment, with_section, with_data, with_contribution, with_choice, with_chosen, with_numeric_label, assigned_by, choice_in, after, after_directive, enters, opened_of, ends_of}
 use Rattle.rv_unit_laws.specs.Faults.{size_faults, number_faults, contents_faults, code_alignment_faults, past_section, alignment_faults, contribution_faults, directive_faults, faults}
 use Rattle.rv_unit_laws.proofs.EnteringLemmas.{with_new, entering}
 use Rattle.rv_unit_laws.proofs.GrownLemmas.{BeginsAt, puts, data_ends, end_new, end_behind}
-use Rattle.rv_source_laws.proofs.HeldLemmas.{none_left, no_test}
+use Rattle.rv_unit_laws.proofs.TablesLemmas.{within_fits}
+use Rattle.rv_source_laws.proofs.HeldLemmas.{no_test}
+use Rattle.rv_source_laws.proofs.TablesLemmas.{past_fits}
 
 abbrev pub contribution_in : StatementKind → Contribution
 contribution_in (Directs d) = contribution d
@@ -34,14 +37,6 @@ IsSound v begins (Zero_bytes count) = (n : ℕ) × (v count ≡ Constant n) × (
 IsSound v begins (Alignment form number) = BeginsAt (alignment_as form (v number)) begins
 
 -- ---- what no fault says
-
-past_fits : (executable : Bool) (offset bytes : ℕ) → executable ≡ false → past_section executable offset bytes ≡ [] → offset + bytes ≤ longest_section
-past_fits true offset bytes e none = absurd (cc)
-past_fits false offset bytes e none =
-    leb-true (offset + bytes) longest_section (not-false (nat_le (offset + bytes) longest_section) (no_test (not (nat_le (offset + bytes) longest_section)) 17 none))
-
-within_fits : (offset bytes : ℕ) → offset + bytes ≤ longest_section → within offset bytes ≡ bytes
-within_fits offset bytes fits = ap (λ b. if b then bytes else 0) (le-leb (offset + bytes) longest_section fits)
 
 a_count : (v : Value) → size_faults v ≡ [] → (n : ℕ) × (v ≡ Constant n) × (counted v ≡ Some n)
 a_count (Constant n) e = (n, refl, ap (λ b. if b then Some n else None) (not-false (nat_lt n (2 ^ 63)) (no_test (not (nat_lt n (2 ^ 63))) 14 e)))
@@ -155,12 +150,12 @@ module _ (all t : Tables) (k : ℕ)
   added : (c : Contribution) → home.executable ≡ false → contribution_faults all t k c ≡ [] → contributed first offset c ≡ own_bytes v offset c
   added Nothing other none = refl
   added (Bytes contents) other none =
-      let last = none_left (contents_faults v contents) (faulty_if (home.executable || is_nobits home) 15 ++ past_section home.executable offset (contents_size contents)) none in
-      let past = none_left (faulty_if (home.executable || is_nobits home) 15) (past_section home.executable offset (contents_size contents)) last.1 in
+      let last = append_none_parts (contents_faults v contents) (faulty_if (home.executable || is_nobits home) 15 ++ past_section home.executable offset (contents_size contents)) none in
+      let past = append_none_parts (faulty_if (home.executable || is_nobits home) 15) (past_section home.executable offset (contents_size contents)) last.1 in
       within_fits offset (contents_size contents) (past_fits home.executable offset (contents_size contents) other past.1)
   added (Zero_bytes count) other none =
-      let last = none_left (size_faults (w count)) (faulty_if home.executable 15 ++ past_faults (counted (w count))) none in
-      let over = none_left (faulty_if home.executable 15) (past_faults (counted (w count))) last.1 in
+      let last = append_none_parts (size_faults (w count)) (faulty_if home.executable 15 ++ past_faults (counted (w count))) none in
+      let over = append_none_parts (faulty_if home.executable 15) (past_faults (counted (w count))) last.1 in
       let is = a_count (w count) last.0 in
       let fits = past_fits home.executable offset is.0 other (sym (ap past_faults is.2) ∙ over.1) in
       ap (λ x. within offset (or_none (counted x))) (past count is.0 is.1 ∙ sym is.1) ∙ ap (λ n. within offset (or_none n)) is.2
@@ -168,7 +163,7 @@ module _ (all t : Tables) (k : ℕ)
       ∙ sym (ap (λ x. or_none (counted x)) (whole count is.0 is.1 ∙ sym is.1) ∙ ap or_none is.2)
   added (Alignment form number) other none =
       let alignment = alignment_as form (w number) in
-      let parts = none_left (number_faults form (w number)) (alignment_faults home offset alignment) none in
+      let parts = append_none_parts (number_faults form (w number)) (alignment_faults home offset alignment) none in
       let is = a_number form (w number) parts.0 in
       let fits = past_fits false offset (padding alignment offset) refl
       (sym (ap (λ c. if c then code_alignment_faults (is_nobits home) alignment else past_section false offset (padding alignment offset)) other) ∙ parts.1) in
@@ -180,13 +175,13 @@ module _ (all t : Tables) (k : ℕ)
   sound Nothing begins none multiple = tt
   sound (Bytes contents) begins none multiple = tt
   sound (Zero_bytes count) begins none multiple =
-      let last = none_left (size_faults (w count)) (faulty_if home.executable 15 ++ past_faults (counted (w count))) none in
+      let last = append_none_parts (size_faults (w count)) (faulty_if home.executable 15 ++ past_faults (counted (w count))) none in
       let is = a_count (w count) last.0 in
       let now = whole count is.0 is.1 in
       (is.0, now, ap counted (now ∙ sym is.1) ∙ is.2)
   sound (Alignment form number) begins none multiple =
       let alignment = alignment_as form (w number) in
-      let parts = none_left (number_faults form (w number)) (alignment_faults home offset alignment) none in
+      let parts = append_none_parts (number_faults form (w number)) (alignment_faults home offset alignment) none in
       let is = a_number form (w number) parts.0 in
       subst (λ x. BeginsAt (alignment_as form x) begins) (past number is.0 is.1 ∙ sym (whole number is.0 is.1)) multiple
 

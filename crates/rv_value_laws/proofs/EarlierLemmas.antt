@@ -3,6 +3,7 @@
 use Rattle.std.proofs.Common.{◌≡◌, ℕ, ◌<◌, Bool, true, false, ◌&&◌, ◌==◌, nat_lt, List, length, refl, sym, ap, ◌∙◌, Option, Some, None}
 use Rattle.std.specs.Str.{bytes_eq}
 use Rattle.std.proofs.lemmas.Bool.{ltb-true}
+use Rattle.rv_list_laws.proofs.FindLemmas.{find_passes}
 use Rattle.rv_text_laws.specs.Bytes.{digits_value}
 use Rattle.rv_text_laws.specs.Expression.{Primary, Literal, Symbol, Here, Reference}
 use Rattle.rv_text_laws.specs.Values.{Meaning, Open, Constant}
@@ -10,7 +11,7 @@ use Rattle.rv_statement_laws.specs.Statement.{Statement, Expression}
 use Rattle.rv_unit_laws.specs.Tables.{Tables, SectionOffset, Labelled, NumericLabel, after_all, stands, label_of, labelled, assigned_before, assigned_first, own_named, weakened, numeric_label_before, numeric_label_after, forward_in, backward_in, meaning, value_by_tables, opened_of}
 use Rattle.rv_unit_laws.proofs.BoundLemmas.{bound_all}
 use Rattle.rv_unit_laws.proofs.LaterLemmas.{Keeps, keeps_all}
-use Rattle.rv_unit_laws.proofs.OpenedLemmas.{IsStood, stands_same, find_passes}
+use Rattle.rv_unit_laws.proofs.OpenedLemmas.{IsStood, stands_same}
 use Rattle.rv_unit_laws.proofs.SettledLemmas.{Agree, is_settled, constant_same}
 
 module _ (t : Tables) (o : ℕ) (ss : List Statement) (whole : IsStood t) where

@@ -3,6 +3,7 @@
 use Rattle.std.proofs.Common.{◌≡◌, ℕ, suc, ◌+◌, Bool, true, false, ◌==◌, List, [], ◌∷◌, ◌++◌, refl, sym, ap, ◌∙◌, subst, Option, Some, None}
 use Rattle.std.specs.Prelude.{if◌then◌else◌}
 use Rattle.std.specs.List.{find, AllByRecursion}
+use Rattle.rv_list_laws.proofs.EachLemmas.{each_append}
 use Rattle.rv_text_laws.specs.Expression.{Primary, Literal, Symbol, Here, Reference}
 use Rattle.rv_text_laws.specs.Values.{Meaning, Known, InSection, Open, Refused, Value, Constant, Symbolic, Difference, Faulty, add}
 use Rattle.rv_statement_laws.specs.Statement.{StatementKind, Label, Numbered, Instruction, Directs, Statement, Expression, Directive, Sets}
@@ -16,7 +17,6 @@ use Rattle.rv_unit_laws.proofs.MeantLemmas.{HasMeaning, value_meant}
 use Rattle.rv_unit_laws.proofs.OpenedLemmas.{IsStood, stood_all}
 use Rattle.rv_source_laws.specs.Located.{Located, located_now, located_from, is_placed, is_placed_directive}
 use Rattle.rv_source_laws.specs.Program.{place_of}
-use Rattle.rv_source_laws.proofs.HomesLemmas.{all_join}
 use Rattle.rv_value_laws.proofs.WalkLemmas.{AreLast, last_next, found_now}
 
 -- a statement of a file stands at a place, and has a row if its section is loaded
@@ -50,7 +50,7 @@ module _ (all : Tables) (file : List Located) where
   at_label : (t : Tables) (k : ℕ) (name : List ℕ) → StandsAt file k (here t) → AreAt all file t → AreAt all file (with_label t k name)
   at_label t k name now h =
       at_if (is_defined t k name) t (record t { labels = t.labels ++ record { name = name; ordinal = k; place = here t } ∷ [] }) h (record {
-        labels = all_join (λ (l : Labelled). StandsAt file l.ordinal l.place) t.labels (record { name = name; ordinal = k; place = here t } ∷ []) h.labels (now, tt);
+        labels = each_append (λ (l : Labelled). StandsAt file l.ordinal l.place) t.labels (record { name = name; ordinal = k; place = here t } ∷ []) h.labels (now, tt);
         numeric_labels = h.numeric_labels;
         assignments = h.assignments;
       })

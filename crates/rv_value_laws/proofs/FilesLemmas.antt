@@ -5,6 +5,8 @@ use Rattle.std.specs.Prelude.{if◌then◌else◌, filter, drop, is_some, slice_
 use Rattle.std.specs.List.{find, AllByRecursion}
 use Rattle.std.proofs.lemmas.Bool.{eq-eqb, eqb-true, and_parts}
 use Rattle.std.proofs.lemmas.List.{length-map}
+use Rattle.rv_list_laws.proofs.EachLemmas.{each_append, each_map}
+use Rattle.rv_list_laws.proofs.FindLemmas.{find_past, find_front, find_alike}
 use Rattle.rv_map_laws.specs.declared.map.Row.{Row}
 use Rattle.rv_map_laws.specs.declared.map.SectionId.{SectionId}
 use Rattle.rv_statement_laws.specs.Statement.{Statement}
@@ -12,8 +14,6 @@ use Rattle.rv_unit_laws.specs.Tables.{Tables, at_start, tables, after}
 use Rattle.rv_source_laws.specs.Located.{Located, located_from, located_of, located, left_of, left, has_row}
 use Rattle.rv_source_laws.specs.Program.{MaybeMapped, Mapped, first_of, mapped_statements, seated, mapped_of}
 use Rattle.rv_source_laws.specs.Fits.{HasRows, identity_of_row, identity_of}
-use Rattle.rv_source_laws.proofs.HomesLemmas.{all_join, all_map}
-use Rattle.rv_value_laws.proofs.SearchesLemmas.{found_behind, found_front, found_seen, found_alike}
 use Rattle.rv_value_laws.proofs.WalkLemmas.{Runs, is_in}
 use Rattle.rv_value_laws.proofs.FollowLemmas.{located_in}
 
@@ -33,8 +33,8 @@ IsOther file l = l.file ≡ file → ⊥
 later_files : (file from : ℕ) (files : List (List Statement)) → (before : ℕ) × (from ≡ suc (file + before)) → AllByRecursion (IsOther file) (located_of from files)
 later_files file from [] more = tt
 later_files file from (ss ∷ files) (n, more) =
-    all_join (IsOther file) (file_of from ss) (located_of (suc from) files)
-    (all_map (λ l. l.file ≡ from) (IsOther file) (file_of from ss) (λ l is same. omega (arith, is, same, more)) (of_file from 1 (at_start ss) ss))
+    each_append (IsOther file) (file_of from ss) (located_of (suc from) files)
+    (each_map (λ l. l.file ≡ from) (IsOther file) (file_of from ss) (λ l is same. omega (arith, is, same, more)) (of_file from 1 (at_start ss) ss))
     (later_files file (suc from) files (suc n, (let e : suc from ≡ suc (file + suc n) = omega (arith, more) in e)))
 
 -- the statements of one file, with those of files before and after it
@@ -61,8 +61,8 @@ among from (xs ∷ files) (suc i) ss at =
       front = file_of from xs ++ h.front;
       back = h.back;
       is = ap (λ l. file_of from xs ++ l) h.is ∙ sym (append_assoc (file_of from xs) h.front (file_of (suc from + i) ss ++ h.back));
-      before = all_join (IsOther (suc from + i)) (file_of from xs) h.front
-          (all_map (λ l. l.file ≡ from) (IsOther (suc from + i)) (file_of from xs) (λ l is same. omega (arith, is, same)) (of_file from 1 (at_start xs) xs))
+      before = each_append (IsOther (suc from + i)) (file_of from xs) h.front
+          (each_map (λ l. l.file ≡ from) (IsOther (suc from + i)) (file_of from xs) (λ l is same. omega (arith, is, same)) (of_file from 1 (at_start xs) xs))
           h.before;
       behind = h.behind;
     })
@@ -78,7 +78,7 @@ pub all_files : (P : Located → Type 0) (from : ℕ) (files : List (List Statem
 all_files P from [] each = tt
 all_files P from (ss ∷ files) each =
     let e : from + 0 ≡ from = omega arith in
-    all_join P (file_of from ss) (located_of (suc from) files) (subst (λ f. AllByRecursion P (file_of f ss)) e (each 0 ss refl))
+    each_append P (file_of from ss) (located_of (suc from) files) (subst (λ f. AllByRecursion P (file_of f ss)) e (each 0 ss refl))
     (all_files P (suc from) files (λ i xs at. let f : from + suc i ≡ suc from + i = omega arith in subst (λ n. AllByRecursion P (file_of n xs)) f (each (suc i) xs at)))
 
 -- ---- searches and runs in one file
@@ -113,7 +113,7 @@ runs_among file section bytes n ss all h runs =
     (runs_front (is_in file section) bytes n (file_of file ss) h.back runs (outside h.back h.behind)))
   where
     outside : (ls : List Located) → AllByRecursion (IsOther file) ls → AllByRecursion (λ l. is_in file section l ≡ false) ls
-    outside ls others = all_map (IsOther file) (λ l. is_in file section l ≡ false) ls (λ l. no_other file (l.section == section) l) others
+    outside ls others = each_map (IsOther file) (λ l. is_in file section l ≡ false) ls (λ l. no_other file (l.section == section) l) others
 
 -- statements of which sections lost their addresses
 pub runs_left : (test : Located → Bool) (bytes : Located → ℕ) (drops : List SectionId) (n : ℕ) (ls : List Located) → ((l : Located) → test (left_of drops l) ≡ test l) → ((l : Located) → bytes (left_of drops l) ≡ bytes l)
@@ -131,10 +131,10 @@ is_statement file ordinal l = (l.file == file) && (l.ordinal == ordinal)
 pub found_among : (file ordinal : ℕ) (ss : List Statement) (all : List Located) (l : Located) → IsAmong file ss all → find (λ s. s.ordinal == ordinal) (file_of file ss) ≡ Some l → find (is_statement file ordinal) all ≡ Some l
 found_among file ordinal ss all l h found =
     ap (find (is_statement file ordinal)) h.is
-    ∙ found_behind (is_statement file ordinal) h.front (file_of file ss ++ h.back) (all_map (IsOther file) (λ x. is_statement file ordinal x ≡ false) h.front (λ x. no_other file (x.ordinal == ordinal) x) h.before)
-    ∙ found_front (is_statement file ordinal) (file_of file ss) h.back l
-    (found_alike (is_statement file ordinal) (λ s. s.ordinal == ordinal) (file_of file ss)
-    (all_map (λ x. x.file ≡ file) (λ x. is_statement file ordinal x ≡ (x.ordinal == ordinal)) (file_of file ss) (λ x is. ap (λ b. b && (x.ordinal == ordinal)) (eq-eqb x.file file is)) (of_file file 1 (at_start ss) ss))
+    ∙ find_past (is_statement file ordinal) h.front (file_of file ss ++ h.back) (each_map (IsOther file) (λ x. is_statement file ordinal x ≡ false) h.front (λ x. no_other file (x.ordinal == ordinal) x) h.before)
+    ∙ find_front (is_statement file ordinal) (file_of file ss) h.back l
+    (find_alike (is_statement file ordinal) (λ s. s.ordinal == ordinal) (file_of file ss)
+    (each_map (λ x. x.file ≡ file) (λ x. is_statement file ordinal x ≡ (x.ordinal == ordinal)) (file_of file ss) (λ x is. ap (λ b. b && (x.ordinal == ordinal)) (eq-eqb x.file file is)) (of_file file 1 (at_start ss) ss))
     ∙ found)
 
 -- ---- rows

@@ -1,14 +1,16 @@
 -- The rows of a section of data: each has the bytes of its statement, and stands that far behind the section's start where the
 -- statement stands in the section.
 
-use Rattle.std.proofs.Common.{◌≡◌, ℕ, zero, suc, ◌+◌, ◌-◌, ◌*◌, ◌/◌, ◌%◌, ◌<◌, Bool, true, false, ◌&&◌, List, [], ◌∷◌, ◌++◌, length, length-append, map, refl, sym, ap, ◌∙◌, subst, arith, Option, Some, None, option_map, IfSome}
+use Rattle.std.proofs.Common.{◌≡◌, ℕ, ◌+◌, ◌-◌, ◌*◌, ◌/◌, ◌%◌, Bool, true, false, ◌&&◌, List, [], ◌∷◌, ◌++◌, length, length-append, map, refl, sym, ap, ◌∙◌, subst, arith, Option, Some, None, option_map, IfSome}
 use Rattle.std.specs.Prelude.{if◌then◌else◌, filter, flat_map, unwrap_or, replicate}
 use Rattle.std.specs.List.{AllByRecursion}
-use Rattle.std.proofs.Math.Nat.{mod-add-div', mul_assoc, mul-suc, add-mul, add-mul-div_right}
+use Rattle.std.proofs.Math.Nat.{mod-add-div', mul_assoc, mul-suc}
 use Rattle.std.proofs.lemmas.Bool.{both_ways}
 use Rattle.std.proofs.lemmas.List.{length-replicate}
 use Rattle.rv_isa_laws.specs.Bytes.{little_endian}
+use Rattle.rv_isa_laws.proofs.BytesLemmas.{little_long}
 use Rattle.rv_layout_laws.specs.Alignment.{aligned}
+use Rattle.rv_layout_laws.proofs.AlignmentLemmas.{padding_on}
 use Rattle.rv_text_laws.specs.Values.{Value, Constant}
 use Rattle.rv_statement_laws.specs.Statement.{StatementKind, Label, Numbered, Instruction, Directs, Expression, Directive, Enters, Opens, Binds, Sets, Chooses, Ignored}
 use Rattle.rv_pseudo_laws.specs.Code.{Part}
@@ -31,12 +33,6 @@ use Rattle.rv_value_laws.proofs.WalkLemmas.{Runs}
 multiple : (a n : ℕ) → a % n ≡ 0 → a ≡ a / n * n
 multiple a n none = sym (mod-add-div' a n) ∙ ap (λ x. x + a / n * n) none ∙ (let e : 0 + a / n * n ≡ a / n * n = omega arith in e)
 
--- from a multiple of the alignment on, a padding is as from 0 on
-padding_on : (n q o : ℕ) → 0 < n → aligned n (q * n + o) ≡ q * n + aligned n o
-padding_on n q o some =
-    let e : q * n + o + (n - 1) ≡ o + (n - 1) + q * n = omega arith in
-    ap (λ x. x / n * n) e ∙ ap (λ x. x * n) (add-mul-div_right (o + (n - 1)) q some) ∙ add-mul ((o + (n - 1)) / n) q n ∙ (let f : aligned n o + q * n ≡ q * n + aligned n o = omega arith in f)
-
 less_both : (a x y : ℕ) → a + x - (a + y) ≡ x - y
 less_both a x y = omega arith
 
@@ -57,14 +53,10 @@ no_instructions true f a ps r is fits =
     let most = none.3 in
     omega (arith, count, most)
 
-length_number : (width n : ℕ) → length (little_endian width n) ≡ width
-length_number zero n = refl
-length_number (suc width) n = ap suc (length_number width (n / 256))
-
 length_numbers : (width : ℕ) (v : Expression → ℕ) (values : List Expression) → length (flat_map (λ e. little_endian width (v e)) values) ≡ width * length values
 length_numbers width v [] = let e : 0 ≡ width * 0 = omega arith in e
 length_numbers width v (e ∷ es) =
-    let one = length_number width (v e) in
+    let one = little_long width (v e) in
     let rest = length_numbers width v es in
     let both = length-append (little_endian width (v e)) (flat_map (λ x. little_endian width (v x)) es) in
     both ∙ ap (λ n. n + length (flat_map (λ x. little_endian width (v x)) es)) one ∙ ap (λ n. width + n) rest ∙ (let x : width + width * length es ≡ width * length es + width = omega arith in x) ∙ sym (mul-suc width (length es))

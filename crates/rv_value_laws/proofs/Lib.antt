@@ -4,7 +4,6 @@ pub mod AgreementLemmas
 pub mod ConstantsLemmas
 pub mod FitsLemmas
 pub mod FormsLemmas
-pub mod SearchesLemmas
 pub mod EarlierLemmas
 pub mod AddedLemmas
 pub mod WalkLemmas

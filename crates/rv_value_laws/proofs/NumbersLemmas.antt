@@ -5,6 +5,8 @@ use Rattle.std.specs.Prelude.{if◌then◌else◌, bytes_eq, is_some, nat_lt, re
 use Rattle.std.specs.List.{find, AllByRecursion}
 use Rattle.std.specs.Option.{option_or}
 use Rattle.std.proofs.lemmas.Bool.{and_parts}
+use Rattle.rv_list_laws.proofs.FindLemmas.{each_find}
+use Rattle.rv_list_laws.proofs.EachLemmas.{each_reversed, each_get}
 use Rattle.rv_text_laws.specs.Bytes.{digits_value}
 use Rattle.rv_text_laws.specs.Expression.{Primary, Literal, Symbol, Here, Reference, Tree, Leaf, Unary, Paren, Binary}
 use Rattle.rv_text_laws.specs.Values.{Meaning, Known, InSection, Open, Refused, Value, Constant, Symbolic, Difference, Faulty, value_of, add, subtract}
@@ -22,14 +24,12 @@ use Rattle.rv_source_laws.specs.Located.{Located, left_of, left, located, has_ro
 use Rattle.rv_source_laws.specs.Program.{MaybeMapped, Mapped, Program, program, mapped_statements, tables_in, place_of, address, address_at, home_address, address_by, unshown_address, chosen, resolved, form, value}
 use Rattle.rv_source_laws.specs.Fits.{Fits}
 use Rattle.rv_source_laws.proofs.LeftLemmas.{all_left}
-use Rattle.rv_source_laws.proofs.HomesLemmas.{all_map}
 use Rattle.rv_value_laws.specs.Plain.{plain}
 use Rattle.rv_value_laws.specs.Agreement.{IsMeant, HasItsNumber, Agree, HaveTheirNumbers, number_meant, numbers, HasForm}
 use Rattle.rv_value_laws.specs.Sites.{site_meaning, site_numbers, address_from, site_numbers_from, IsPlain, ArePlain}
 use Rattle.rv_value_laws.proofs.AgreementLemmas.{value_by_addresses, found_by_addresses}
-use Rattle.rv_value_laws.proofs.SearchesLemmas.{all_found, all_reversed}
 use Rattle.rv_value_laws.proofs.FilesLemmas.{file_of, of_file, all_files, all_statements, all_mapped, IsRowed, rowed}
-use Rattle.rv_value_laws.proofs.PlacesLemmas.{IsThere, IsAtPlace, StandsInData, IsSetInData, DataStands, IsKnown, known, base, tables_are, data_stands, all_get, all_both}
+use Rattle.rv_value_laws.proofs.PlacesLemmas.{IsThere, IsAtPlace, StandsInData, IsSetInData, DataStands, IsKnown, known, base, tables_are, data_stands, all_both}
 
 -- ---- addresses fit 64 bits
 
@@ -41,7 +41,7 @@ home_small statements file h = go (address_at statements file h.ordinal)
     go (Some a) = omega arith
 
 global_small : (globals : List Global) (name : List ℕ) → AllByRecursion (λ (g : Global). g.address < 2 ^ 64) globals → IfSome (global_address globals name) (λ x. x < 2 ^ 64)
-global_small globals name all = go (find (λ g. bytes_eq g.name name) globals) (all_found (λ (g : Global). g.address < 2 ^ 64) (λ g. bytes_eq g.name name) globals all)
+global_small globals name all = go (find (λ g. bytes_eq g.name name) globals) (each_find (λ (g : Global). g.address < 2 ^ 64) (λ g. bytes_eq g.name name) globals all)
   where
     go : (n : Option Global) → ((g : Global) → n ≡ Some g → g.address < 2 ^ 64) → IfSome (option_map (λ g. g.address) n) (λ x. x < 2 ^ 64)
     go None small = tt
@@ -159,20 +159,20 @@ module _ (base elsewhere : ℕ → ℕ) (p : Program) (s : Located) (stood : Dat
       let strong = weak_place (t.bindings name) (own_named t true s.ordinal name) i o is in
       rw strong.0
       (own_place base elsewhere p s.file (opened_of t) (Symbol name) (assigned_before t.assignments s.ordinal name) (assigned_ever t.assignments name) (label_of t.labels true s.ordinal name) i o
-      (all_found (IsSetInData base elsewhere p.statements s.file) (λ a. nat_lt a.ordinal s.ordinal && bytes_eq a.name name) t.assignments stood.assignments)
-      (all_found (IsSetInData base elsewhere p.statements s.file) (λ a. bytes_eq a.name name) t.assignments stood.assignments)
-      (all_found IsLabelled (λ l. bytes_eq l.name name && (true || nat_lt l.ordinal s.ordinal)) t.labels stood.labels)
+      (each_find (IsSetInData base elsewhere p.statements s.file) (λ a. nat_lt a.ordinal s.ordinal && bytes_eq a.name name) t.assignments stood.assignments)
+      (each_find (IsSetInData base elsewhere p.statements s.file) (λ a. bytes_eq a.name name) t.assignments stood.assignments)
+      (each_find IsLabelled (λ l. bytes_eq l.name name && (true || nat_lt l.ordinal s.ordinal)) t.labels stood.labels)
       strong.1)
   place_is Here i o is = place_stands base elsewhere p.statements s.file (opened_of t) s.ordinal (place_of s) i o stood.site is
   place_is (Reference digits true) i o is =
       let label : Option NumericLabel = numeric_label_after t.numeric_labels s.ordinal (digits_value 10 digits) in
       reference_place base elsewhere p s.file (opened_of t) (Reference digits true) label (forward_in (opened_of t) true label) i o
-      (all_found IsNumbered (λ l. nat_lt s.ordinal l.ordinal && (l.number == digits_value 10 digits)) (reverse t.numeric_labels) (all_reversed IsNumbered t.numeric_labels stood.numeric_labels))
+      (each_find IsNumbered (λ l. nat_lt s.ordinal l.ordinal && (l.number == digits_value 10 digits)) (reverse t.numeric_labels) (each_reversed IsNumbered t.numeric_labels stood.numeric_labels))
       (forward_is (opened_of t) label) (forward_never (opened_of t) label i o) is
   place_is (Reference digits false) i o is =
       let label : Option NumericLabel = numeric_label_before t.numeric_labels s.ordinal (digits_value 10 digits) in
       reference_place base elsewhere p s.file (opened_of t) (Reference digits false) label (backward_in (opened_of t) label) i o
-      (all_found IsNumbered (λ l. nat_lt l.ordinal s.ordinal && (l.number == digits_value 10 digits)) t.numeric_labels stood.numeric_labels)
+      (each_find IsNumbered (λ l. nat_lt l.ordinal s.ordinal && (l.number == digits_value 10 digits)) t.numeric_labels stood.numeric_labels)
       (backward_is (opened_of t) label) (backward_never (opened_of t) label i o) is
 
   name_is : (q : Primary) → IsMeant base (site_meaning p s q) (site_numbers p s q) × IsMeant base (site_meaning p s q) (site_numbers_from elsewhere p s q)
@@ -277,7 +277,7 @@ module _ (sources : List (List Statement)) (m : Map) (text_start : ℕ) (is_map 
             (subst (λ t. DataStands (base sources m text_start is_map fits i ss at elsewhere) elsewhere p (1 + i) t l.ordinal (place_of l)) (sym (tables_are sources m text_start is_map fits i ss at elsewhere))
             (data_stands sources m text_start is_map fits i ss at elsewhere l known_l placed)),
       ))
-      (known (1 + i) ss (all_get (λ ss. first_unit_fault ss ≡ None) sources i ss fits.good at) m.drops)
+      (known (1 + i) ss (each_get (λ ss. first_unit_fault ss ≡ None) sources i ss fits.good at) m.drops)
       (of_file (1 + i) 1 (at_start ss) ss)
 
   all_placed : AllByRecursion Placed (left m.drops sources)

@@ -5,6 +5,9 @@ use Rattle.std.specs.Prelude.{if◌then◌else◌, filter, is_some, slice_get, s
 use Rattle.std.specs.List.{find, AllByRecursion}
 use Rattle.std.proofs.lemmas.Bool.{and_parts, both_ways, eq-eqb, eqb-true}
 use Rattle.std.proofs.lemmas.Nat.{pow_pos}
+use Rattle.rv_list_laws.proofs.ElementsLemmas.{get_or_get}
+use Rattle.rv_list_laws.proofs.EachLemmas.{each_append, each_map, each_get}
+use Rattle.rv_list_laws.proofs.FindLemmas.{each_find, find_mapped}
 use Rattle.rv_statement_laws.specs.Statement.{Statement}
 use Rattle.rv_text_laws.specs.Values.{InSection, add}
 use Rattle.rv_map_laws.specs.Map.{Map, Global}
@@ -19,15 +22,15 @@ use Rattle.rv_unit_laws.specs.Faults.{first_unit_fault}
 use Rattle.rv_unit_laws.proofs.BeforeLemmas.{before_start}
 use Rattle.rv_unit_laws.proofs.FewLemmas.{no_fault_from}
 use Rattle.rv_unit_laws.proofs.GrownLemmas.{grown_all}
-use Rattle.rv_unit_laws.proofs.OpenedLemmas.{got_of, stood_start}
+use Rattle.rv_unit_laws.proofs.OpenedLemmas.{stood_start}
 use Rattle.rv_unit_laws.proofs.ShortLemmas.{short_start}
 use Rattle.rv_source_laws.specs.Located.{Located, located, left_of, left, has_row, without_address}
 use Rattle.rv_source_laws.specs.Program.{MaybeMapped, Mapped, Program, program, mapped_statements, mapped_of, tables_in, place_of, address_of, address_at, home_address, form}
 use Rattle.rv_source_laws.specs.Fits.{InputSection, SizeFits, Holds, begins_at, input_section, input_sections, input_sections_of, Follow, Stand, Fits}
 use Rattle.rv_source_laws.proofs.HeldLemmas.{IsHeld, Held, held_from}
-use Rattle.rv_source_laws.proofs.HomesLemmas.{IsHomeIn, homes_from, all_join, all_map}
+use Rattle.rv_source_laws.proofs.HomesLemmas.{IsHomeIn, homes_from}
 use Rattle.rv_source_laws.proofs.LeftLemmas.{held_left, all_left}
-use Rattle.rv_value_laws.proofs.SearchesLemmas.{all_found, found_passes, found_seen}
+use Rattle.rv_source_laws.proofs.LocatedLemmas.{without_executable}
 use Rattle.rv_value_laws.proofs.AddedLemmas.{contribution_in, own_bytes, IsSound, end_at}
 use Rattle.rv_value_laws.proofs.WalkLemmas.{IsReady, IsTold, Runs, is_in, bytes_in, value_in, told_from, runs_from}
 use Rattle.rv_value_laws.proofs.EntriesLemmas.{StandsAt, SetsAt, AreAt, at_all}
@@ -75,7 +78,7 @@ module _ (file : ℕ) (ss : List Statement) (good : first_unit_fault ss ≡ None
   together : (xs : List Located) → AllByRecursion (IsTold all ls) xs → AllByRecursion Held xs → AllByRecursion (IsHomeIn (λ f. (opened_of all).sections)) xs → AllByRecursion (IsKnown all ls drops) xs
   together [] a b c = tt
   together (x ∷ xs) (a, as') (b, bs) (c, cs) =
-      (record { told = a; held = b; home = sym (got_of (opened_of all).sections x.section text_section x.home c) }, together xs as' bs cs)
+      (record { told = a; held = b; home = sym (get_or_get (opened_of all).sections x.section text_section x.home c) }, together xs as' bs cs)
 
   pub known : AllByRecursion (IsKnown all ls drops) ls
   known = together ls told held homes
@@ -90,21 +93,12 @@ module _ (file : ℕ) (ss : List Statement) (good : first_unit_fault ss ≡ None
 
 -- ---- a file of a program whose map fits
 
-pub all_get : {X : Type 0} (P : X → Type 0) (xs : List X) (i : ℕ) (x : X) → AllByRecursion P xs → slice_get xs i ≡ Some x → P x
-all_get P [] i x all at = absurd (cc)
-all_get P (y ∷ ys) zero x (p, ps) at = let same : y ≡ x = cc in subst P same p
-all_get P (y ∷ ys) (suc i) x (p, ps) at = all_get P ys i x ps at
-
 all_join_file : (P : Located → Type 0) (xs ys zs : List Located) → AllByRecursion P xs → AllByRecursion P ys → AllByRecursion P zs → AllByRecursion P (xs ++ (ys ++ zs))
-all_join_file P xs ys zs a b c = all_join P xs (ys ++ zs) a (all_join P ys zs b c)
+all_join_file P xs ys zs a b c = each_append P xs (ys ++ zs) a (each_append P ys zs b c)
 
 pub all_both : {X : Type 0} (P Q R : X → Type 0) (xs : List X) → ((x : X) → P x → Q x → R x) → AllByRecursion P xs → AllByRecursion Q xs → AllByRecursion R xs
 all_both P Q R [] f h k = tt
 all_both P Q R (x ∷ xs) f (p, ps) (q, qs) = (f x p q, all_both P Q R xs f ps qs)
-
-without_executable : (dropped : Bool) (x : Section) → (without_address dropped x).executable ≡ x.executable
-without_executable true x = refl
-without_executable false x = refl
 
 text_is_executable : (xs : List Section) (j : ℕ) → (slice_index_or xs j text_section).executable ≡ false → slice_get xs j ≡ Some (slice_index_or xs j text_section)
 text_is_executable [] j e = absurd (cc)
@@ -176,7 +170,7 @@ module _ (sources : List (List Statement)) (m : Map) (text_start : ℕ) (is_map 
   es = mapped_statements (left m.drops sources) m.rows
 
   good_file : first_unit_fault ss ≡ None
-  good_file = all_get (λ ss. first_unit_fault ss ≡ None) sources i ss fits.good at
+  good_file = each_get (λ ss. first_unit_fault ss ≡ None) sources i ss fits.good at
 
   pub tables_are : tables_in p file ≡ t
   tables_are = ap (λ n. slice_index_or (map tables sources) n (at_start [])) (let e : 1 + i - 1 ≡ i = omega arith in e) ∙ table_at sources i (at_start []) ss at
@@ -203,9 +197,9 @@ module _ (sources : List (List Statement)) (m : Map) (text_start : ℕ) (is_map 
   known_all =
       subst (AllByRecursion Known) (sym whole_file.is)
       (all_join_file Known whole_file.front (file_of file ss) whole_file.back
-      (all_map (λ l. l.file ≡ file → ⊥) Known whole_file.front (λ l other is. absurd (other is)) whole_file.before)
-      (all_map (IsKnown t (file_of file ss) m.drops) Known (file_of file ss) (λ l h is. h) (known file ss good_file m.drops))
-      (all_map (λ l. l.file ≡ file → ⊥) Known whole_file.back (λ l other is. absurd (other is)) whole_file.behind))
+      (each_map (λ l. l.file ≡ file → ⊥) Known whole_file.front (λ l other is. absurd (other is)) whole_file.before)
+      (each_map (IsKnown t (file_of file ss) m.drops) Known (file_of file ss) (λ l h is. h) (known file ss good_file m.drops))
+      (each_map (λ l. l.file ≡ file → ⊥) Known whole_file.back (λ l other is. absurd (other is)) whole_file.behind))
 
   left_all : AllByRecursion (λ (e : MaybeMapped). Left e.located) es
   left_all = all_statements Left (left m.drops sources) m.rows (all_left Known Left m.drops (located sources) left_known known_all)
@@ -331,9 +325,9 @@ module _ (sources : List (List Statement)) (m : Map) (text_start : ℕ) (is_map 
   in_file : (ordinal : ℕ) (l : Located) → find (λ s. s.ordinal == ordinal) (file_of file ss) ≡ Some l → (e : MaybeMapped) × (find (λ (e : MaybeMapped). is_statement file ordinal e.located) es ≡ Some e) × (e.located ≡ left_of m.drops l)
   in_file ordinal l found =
       found_one (find (λ (e : MaybeMapped). is_statement file ordinal e.located) es) (left_of m.drops l)
-      (found_seen located_in (is_statement file ordinal) es
+      (find_mapped located_in (is_statement file ordinal) es
       ∙ ap (find (is_statement file ordinal)) (located_all (left m.drops sources) m.rows)
-      ∙ sym (found_seen (left_of m.drops) (is_statement file ordinal) (located sources))
+      ∙ sym (find_mapped (left_of m.drops) (is_statement file ordinal) (located sources))
       ∙ ap (option_map (left_of m.drops)) (found_among file ordinal ss (located sources) l whole_file found))
 
   place_there : (ordinal : ℕ) (place : SectionOffset) (plus : ℕ) → StandsAt (file_of file ss) ordinal place → (home_at place.section).executable ≡ false
@@ -342,18 +336,18 @@ module _ (sources : List (List Statement)) (m : Map) (text_start : ℕ) (is_map 
   place_there ordinal place plus (l, found, stands, placed) other =
       let (e, here, left_is) = in_file ordinal l found in
       let start = (start_of place.section).1 other in
-      let known_l = all_found (IsKnown t (file_of file ss) m.drops) (λ s. s.ordinal == ordinal) (file_of file ss) (known file ss good_file m.drops) l found in
+      let known_l = each_find (IsKnown t (file_of file ss) m.drops) (λ s. s.ordinal == ordinal) (file_of file ss) (known file ss good_file m.drops) l found in
       let short : l.offset ≤ longest_section = known_l.told.short in
-      let own : l.file ≡ file = all_found (λ s. s.file ≡ file) (λ s. s.ordinal == ordinal) (file_of file ss) (of_file file 1 (at_start ss) ss) l found in
+      let own : l.file ≡ file = each_find (λ s. s.file ≡ file) (λ s. s.ordinal == ordinal) (file_of file ss) (of_file file 1 (at_start ss) ss) l found in
       let section_is : e.located.section ≡ place.section = ap (λ (x : Located). x.section) left_is ∙ ap (λ (q : SectionOffset). q.section) stands in
       let offset_is : e.located.offset ≡ place.offset = ap (λ (x : Located). x.offset) left_is ∙ ap (λ (q : SectionOffset). q.offset) stands in
       let file_is : e.located.file ≡ file = ap (λ (x : Located). x.file) left_is ∙ own in
       let passes : is_in file place.section e.located ≡ true = ap (λ b. b && (e.located.section == place.section)) (eq-eqb e.located.file file file_is) ∙ eq-eqb e.located.section place.section section_is in
-      let row = all_found IsRowed (λ (e : MaybeMapped). is_statement file ordinal e.located) es rows_are e here in
-      let left_e = all_found (λ (e : MaybeMapped). Left e.located) (λ (e : MaybeMapped). is_statement file ordinal e.located) es left_all e here in
+      let row = each_find IsRowed (λ (e : MaybeMapped). is_statement file ordinal e.located) es rows_are e here in
+      let left_e = each_find (λ (e : MaybeMapped). Left e.located) (λ (e : MaybeMapped). is_statement file ordinal e.located) es left_all e here in
       let home = (home_of place.section e.located passes left_e).2 in
       let placed_e : e.located.placed ≡ true = ap (λ (x : Located). x.placed) left_is ∙ placed in
-      let stands_e = all_found (Stands (is_in file place.section) (base place.section)) (λ (e : MaybeMapped). is_statement file ordinal e.located) es start.stands e here passes in
+      let stands_e = each_find (Stands (is_in file place.section) (base place.section)) (λ (e : MaybeMapped). is_statement file ordinal e.located) es start.stands e here passes in
       let offset_here : l.offset ≡ place.offset = ap (λ (q : SectionOffset). q.offset) stands in (
         omega (arith, short, offset_here),
         subst (λ o. IsThere base elsewhere (option_map (λ x. add x plus) (option_and_then address_of o)) place.section (add place.offset plus)) (sym here)
@@ -386,9 +380,9 @@ module _ (sources : List (List Statement)) (m : Map) (text_start : ℕ) (is_map 
   data_stands l known_l placed =
       let at_places = entries file ss good_file m.drops in
       record {
-        labels = all_map (λ (x : Labelled). StandsAt (file_of file ss) x.ordinal x.place) (λ (x : Labelled). StandsInData base elsewhere es file (opened_of t) x.ordinal x.place) t.labels (λ x h. label_there x.ordinal x.place h) at_places.labels;
-        numeric_labels = all_map (λ (x : NumericLabel). StandsAt (file_of file ss) x.ordinal x.place) (λ (x : NumericLabel). StandsInData base elsewhere es file (opened_of t) x.ordinal x.place) t.numeric_labels (λ x h. label_there x.ordinal x.place h) at_places.numeric_labels;
-        assignments = all_map (SetsAt t (file_of file ss)) (IsSetInData base elsewhere es file) t.assignments set_there at_places.assignments;
+        labels = each_map (λ (x : Labelled). StandsAt (file_of file ss) x.ordinal x.place) (λ (x : Labelled). StandsInData base elsewhere es file (opened_of t) x.ordinal x.place) t.labels (λ x h. label_there x.ordinal x.place h) at_places.labels;
+        numeric_labels = each_map (λ (x : NumericLabel). StandsAt (file_of file ss) x.ordinal x.place) (λ (x : NumericLabel). StandsInData base elsewhere es file (opened_of t) x.ordinal x.place) t.numeric_labels (λ x h. label_there x.ordinal x.place h) at_places.numeric_labels;
+        assignments = each_map (SetsAt t (file_of file ss)) (IsSetInData base elsewhere es file) t.assignments set_there at_places.assignments;
         site = label_there l.ordinal (place_of l) (l, known_l.told.found, refl, placed);
-        globals = all_map IsGlobal (λ (g : Global). g.address < 2 ^ 64) m.globals (λ g h. h.1) is_map.globals;
+        globals = each_map IsGlobal (λ (g : Global). g.address < 2 ^ 64) m.globals (λ g h. h.1) is_map.globals;
       }

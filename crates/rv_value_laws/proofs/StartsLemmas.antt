@@ -1,9 +1,10 @@
 -- Where the sections of a region begin: each at a multiple of its alignment, and its rows follow from there.
 
-use Rattle.std.proofs.Common.{◌≡◌, ℕ, zero, suc, ◌+◌, ◌-◌, ◌*◌, ◌/◌, ◌%◌, Bool, true, false, List, [], ◌∷◌, ◌++◌, refl, sym, ap, ◌∙◌, subst, arith, Option, Some, None}
+use Rattle.std.proofs.Common.{◌≡◌, ℕ, zero, suc, ◌+◌, ◌-◌, ◌*◌, ◌/◌, ◌%◌, Bool, true, false, List, [], ◌∷◌, refl, sym, ap, ◌∙◌, subst, arith, Option, Some, None}
 use Rattle.std.specs.Prelude.{if◌then◌else◌, slice_get}
 use Rattle.std.specs.List.{AllByRecursion}
 use Rattle.std.proofs.Math.Nat.{mul-mod_left}
+use Rattle.rv_list_laws.proofs.EachLemmas.{each_split}
 use Rattle.rv_layout_laws.specs.Alignment.{aligned}
 use Rattle.rv_statement_laws.specs.Statement.{Statement}
 use Rattle.rv_map_laws.specs.declared.map.SectionId.{SectionId}
@@ -23,10 +24,6 @@ all_begin [] stop stand = tt
 all_begin (b ∷ bs) stop (follow, stand) =
     let start = aligned b.alignment stop in
     ((start, mul-mod_left ((stop + (b.alignment - 1)) / b.alignment) b.alignment, follow), all_begin bs (start + size (rows_of b)) stand)
-
-halves : {X : Type 0} (P : X → Type 0) (xs ys : List X) → AllByRecursion P (xs ++ ys) → AllByRecursion P xs × AllByRecursion P ys
-halves P [] ys h = (tt, h)
-halves P (x ∷ xs) ys (p, ps) = let more = halves P xs ys ps in ((p, more.0), more.1)
 
 -- what holds of all sections of a region holds of each that goes there
 module _ (P : InputSection → Type 0) (goes : Section → Bool) (drops : List SectionId) (mapped : List Mapped) where
@@ -63,7 +60,7 @@ module _ (P : InputSection → Type 0) (goes : Section → Bool) (drops : List S
   in_region file (xs ∷ files) zero j ss section all here at good =
       let same : xs ≡ ss = cc in
       let e : file + 0 ≡ file = omega arith in
-      let parts = halves P (input_sections_of_file goes drops (tables xs) mapped file 0 (opened_of (tables xs)).sections) (input_sections_of goes drops mapped (suc file) files) all in
+      let parts = each_split P (input_sections_of_file goes drops (tables xs) mapped file 0 (opened_of (tables xs)).sections) (input_sections_of goes drops mapped (suc file) files) all in
       let i : 0 + j ≡ j = omega arith in
       subst (λ f. P (input_section (tables ss) section mapped f j)) (sym e)
       (subst (λ ys. P (input_section (tables ys) section mapped file j)) same
@@ -73,6 +70,6 @@ module _ (P : InputSection → Type 0) (goes : Section → Bool) (drops : List S
       (ap (λ n. passes file n section) i ∙ ap (λ f. passes f j section) (sym e) ∙ good))))
   in_region file (xs ∷ files) (suc i) j ss section all here at good =
       let e : suc file + i ≡ file + suc i = omega arith in
-      let parts = halves P (input_sections_of_file goes drops (tables xs) mapped file 0 (opened_of (tables xs)).sections) (input_sections_of goes drops mapped (suc file) files) all in
+      let parts = each_split P (input_sections_of_file goes drops (tables xs) mapped file 0 (opened_of (tables xs)).sections) (input_sections_of goes drops mapped (suc file) files) all in
       subst (λ f. P (input_section (tables ss) section mapped f j)) e
       (in_region (suc file) files i j ss section parts.1 here at (ap (λ f. passes f j section) e ∙ good))

@@ -9,6 +9,7 @@ use Rattle.std.proofs.lemmas.List.Sums.{sum_by-cons, sum_by-append}
 use Rattle.std.specs.Prelude.{not, ◌&&◌, ◌||◌, ◌==◌, nat_lt, if◌then◌else◌, filter, option_and_then, cond, count_by}
 use Rattle.std.specs.Int.{w64, int_wrap}
 use Rattle.std.specs.List.{AllByRecursion, list_any, slice_get}
+use Rattle.rv_list_laws.proofs.EachLemmas.{each_append}
 use Rattle.rv_layout_laws.specs.Sites.{padding_site}
 use Rattle.rv_isa.specs.declared.kind.Kind.TheVariants as kinds
 use Rattle.rv_text_laws.specs.Expression.{Primary}
@@ -45,7 +46,6 @@ use Rattle.rv_sources_link_laws.proofs.fields.TextPlacesLemmas.{stands_in, aim_a
 use Rattle.rv_sources_link_laws.proofs.calls.LongCallsLemmas as long
 use Rattle.rv_sources_link_laws.proofs.calls.LongCallsLemmas.{IsLongCall}
 use Rattle.rv_sources_link_laws.proofs.statements.PadsLemmas.{IsPower, IsValidAlignment, by_power}
-use Rattle.rv_assemble_laws.proofs.ListsLemmas.{join}
 use Rattle.rv_sources_link_laws.proofs.statements.StatementsLemmas.{renumbered, row_in, mapped_at}
 use Rattle.rv_sources_link_laws.proofs.moves.WalkLemmas.{align_at, alignment_is, template_plain}
 
@@ -156,7 +156,7 @@ module _ (p : Program) (starts : Starts) (os : List Object) (text : List Placed)
     quiet_parts : (q ordinal : ℕ) (ts : List Template) → AllByRecursion IsCalm ts → AllByRecursion IsPlain ts → AllByRecursion (λ r. may r ≡ false) (relocations_from number q (map (laid_part ordinal) ts))
     quiet_parts q ordinal [] h k = tt
     quiet_parts q ordinal (w ∷ ts) (h, hs) (k, ks) =
-        join (λ r. may r ≡ false) (map (relocation_at number q) (template_fields ordinal w)) (relocations_from number (q + length (part_bytes (laid_part ordinal w))) (map (laid_part ordinal) ts))
+        each_append (λ r. may r ≡ false) (map (relocation_at number q) (template_fields ordinal w)) (relocations_from number (q + length (part_bytes (laid_part ordinal w))) (map (laid_part ordinal) ts))
         (may_not q (template_fields ordinal w) (template_calm ordinal w h) (template_plain ordinal w k)) (quiet_parts (q + length (part_bytes (laid_part ordinal w))) ordinal ts hs ks)
 
     pub stay : AllByRecursion IsCalm (assembled_templates t z z.located.kind) → AllByRecursion IsPlain (assembled_templates t z z.located.kind)

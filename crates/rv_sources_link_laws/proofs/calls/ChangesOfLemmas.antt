@@ -6,6 +6,7 @@ use Rattle.std.proofs.lemmas.Bool.{and_parts, eq-eqb, ne_eqb, le-leb, le-ltb, lt
 use Rattle.std.proofs.lemmas.List.Sums.{sum_by-cons}
 use Rattle.std.specs.Prelude.{◌&&◌, ◌||◌, ◌==◌, nat_lt, if◌then◌else◌, filter, flat_map, unwrap_or, option_and_then, cond, count_by}
 use Rattle.std.specs.List.{AllByRecursion, list_any, slice_get}
+use Rattle.rv_list_laws.proofs.EachLemmas.{each_split, each_append}
 use Rattle.rv_isa.specs.declared.kind.Kind.TheVariants as kinds
 use Rattle.rv_isa.specs.Kinds.{width_of}
 use Rattle.rv_text_laws.specs.Expression.{Primary}
@@ -44,8 +45,6 @@ use Rattle.rv_sources_link_laws.proofs.statements.MarkedLemmas.{part_fields}
 use Rattle.rv_sources_link_laws.proofs.statements.PadsLemmas.{power_valid, byte_valid, bare_before}
 use Rattle.rv_sources_link_laws.proofs.fields.TextPlacesLemmas.{stands_in, aim_at}
 use Rattle.rv_sources_link_laws.proofs.fields.RangesLemmas.{InRange, even_bytes, in_range}
-use Rattle.rv_sources_link_laws.proofs.sections.SectionsLemmas.{split}
-use Rattle.rv_assemble_laws.proofs.ListsLemmas.{join}
 use Rattle.rv_sources_link_laws.proofs.statements.SettledLemmas.{IsLaidIn}
 use Rattle.rv_sources_link_laws.proofs.statements.StatementsLemmas.{renumbered, mapped_at}
 use Rattle.rv_sources_link_laws.proofs.sections.StoodLemmas.{IsAside}
@@ -283,7 +282,7 @@ module _ (p : Program) (starts : Starts) (os : List Object) (text : List Placed)
         (subst (λ l. HasWords l (length front) (link_register m ops) h.goes.by) (sym stored_is) (has_words t z m ops h front rest))
 
     aside : AllByRecursion (IsAside q) zs
-    aside = subst (λ l. AllByRecursion (IsAside q) l) (sym sites_are) (join (IsAside q) pre (z ∷ ys) (lower pre low) (inl (let g : z.offset ≤ q = omega (arith, off) in g), higher ys (tile_from (q + z.bytes) ys tile)))
+    aside = subst (λ l. AllByRecursion (IsAside q) l) (sym sites_are) (each_append (IsAside q) pre (z ∷ ys) (lower pre low) (inl (let g : z.offset ≤ q = omega (arith, off) in g), higher ys (tile_from (q + z.bytes) ys tile)))
       where
         lower : (ws : List LaidStatement) → AllByRecursion (λ (y : LaidStatement). y.offset ≤ q) ws → AllByRecursion (IsAside q) ws
         lower [] k = tt
@@ -295,7 +294,7 @@ module _ (p : Program) (starts : Starts) (os : List Object) (text : List Placed)
 
     stands : StandsFor t all z.located.ordinal h.symbol (slice_get o.symbols (number z.located.ordinal h.symbol))
     stands =
-        let own = (split (λ w. AllByRecursion (IsNumbered t all number o.symbols) (references_in w)) (parts_of t z) (parts t ys) numbered).0 in
+        let own = (each_split (λ w. AllByRecursion (IsNumbered t all number o.symbols) (references_in w)) (parts_of t z) (parts t ys) numbered).0 in
         ((subst (λ l. AllByRecursion (λ w. AllByRecursion (IsNumbered t all number o.symbols) (references_in w)) l) own_parts own).0).0
 
     pub seated_at : (inside : IsLaidIn j s z) (uncut : IsUncut z) (sound : IsSound t z.located) (size : z.located.placed ≡ true → HasSize (expression_value t z.located) z multiple z.located.kind)
@@ -323,13 +322,13 @@ module _ (p : Program) (starts : Starts) (os : List Object) (text : List Placed)
       let range : AllByRecursion (InRange q z.bytes) own_rels = subst (λ n. AllByRecursion (InRange n z.bytes) (relocations_from number n (parts_of t z))) off (in_range t number j s code multiple z i bytes h) in (
         done z i u k bytes h (λ m ops e call w. seated_at front R pre q z ys long_front q_even sites_are low rels_are before stored_are off bytes tile n m ops e call w i u k h),
         dones (front ++ own) (R ++ own_rels) (pre ++ z ∷ []) (q + z.bytes) ys (omega (arith, long_front, bytes, more)) (omega (arith, q_even, even_here))
-            (sites_are ∙ sym (sites_assoc pre ys)) (join (λ (y : LaidStatement). y.offset ≤ q + z.bytes) pre (z ∷ []) (lows pre low) (let g : z.offset ≤ q + z.bytes = omega (arith, off) in g, tt))
+            (sites_are ∙ sym (sites_assoc pre ys)) (each_append (λ (y : LaidStatement). y.offset ≤ q + z.bytes) pre (z ∷ []) (lows pre low) (let g : z.offset ≤ q + z.bytes = omega (arith, off) in g, tt))
             (rels_are
             ∙ ap (λ l. R ++ l) (relocations_join t number q (parts_of t z) (parts t ys) ∙ ap (λ n. own_rels ++ relocations_from number (q + n) (parts t ys)) (sym bytes))
             ∙ sym (append_assoc R own_rels (rels (q + z.bytes) ys)))
-            (join (IsBefore (q + z.bytes)) R own_rels (before_more q z.bytes R before) (before_range q z.bytes own_rels range))
+            (each_append (IsBefore (q + z.bytes)) R own_rels (before_more q z.bytes R before) (before_range q z.bytes own_rels range))
             (stored_are ∙ ap (λ l. front ++ l) (bytes_append (parts_of t z) (parts t ys)) ∙ sym (append_assoc front own rest))
-            tile is us ks hs (split (λ w. AllByRecursion (IsNumbered t all number o.symbols) (references_in w)) (parts_of t z) (parts t ys) n).1,
+            tile is us ks hs (each_split (λ w. AllByRecursion (IsNumbered t all number o.symbols) (references_in w)) (parts_of t z) (parts t ys) n).1,
       )
     where
       sites_assoc : (pre ys : List LaidStatement) → (pre ++ z ∷ []) ++ ys ≡ pre ++ z ∷ ys

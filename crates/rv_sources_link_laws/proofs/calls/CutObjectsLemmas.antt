@@ -4,6 +4,8 @@ use Rattle.std.proofs.Common.{◌≡◌, ℕ, suc, ◌+◌, ◌-◌, Bool, true,
 use Rattle.std.proofs.lemmas.Bool.{and_parts, eqb-true, and_right}
 use Rattle.std.specs.Prelude.{⊤, ◌&&◌, ◌||◌, ◌==◌, if◌then◌else◌, filter, flat_map}
 use Rattle.std.specs.List.{AllByRecursion, list_any, slice_get}
+use Rattle.rv_list_laws.proofs.EachLemmas.{each_map}
+use Rattle.rv_list_laws.proofs.FilterLemmas.{each_filter}
 use Rattle.rv_statement_laws.specs.Statement.{Statement}
 use Rattle.rv_unit_laws.specs.Sections.{Section as SourceSection, goes_to_text as source_text}
 use Rattle.rv_unit_laws.specs.Tables.{Tables, tables}
@@ -15,7 +17,6 @@ use Rattle.rv_link_laws.specs.CallSites.{in_order}
 use Rattle.rv_link_laws.specs.Inputs.{goes_to_text}
 use Rattle.rv_link_laws.specs.Shortened.{Sizes, is_shortened, cut, cuts, cuts_at, cuts_in, shortened_text, shortened_section, shortened_sections, shortened_definition, shortened_symbol, shortened_row, shortened_object}
 use Rattle.rv_source_laws.specs.Shortened.{is_call_statement}
-use Rattle.rv_source_laws.proofs.HomesLemmas.{all_filter}
 use Rattle.rv_assemble_laws.specs.LaidStatements.{LaidStatement, LaidPart, expression_value, laid_in, HasSize}
 use Rattle.rv_assemble_laws.specs.Symbols.{references_in, exports}
 use Rattle.rv_assemble_laws.specs.IsObjectOf.{IsNumbered, ArePartsNumbered, row_of, rows_at}
@@ -86,7 +87,7 @@ module _ (ss : List Statement) (o : Object) (is : IsAssembled ss o) (uncut : All
       ∙ no_cuts (sizes z.located.section) x (text_same z.located.section z.located.home x h ∙ and_right z.located.home.loaded z.located.home.executable aside)
 
   still : AllByRecursion (λ z. z.located.home.executable ≡ false → cuts_in sizes o z.located.section ≡ []) is.laid
-  still = moved.all_map (IsSettled sections) (λ z. z.located.home.executable ≡ false → cuts_in sizes o z.located.section ≡ []) is.laid still_one all_settled
+  still = each_map (IsSettled sections) (λ z. z.located.home.executable ≡ false → cuts_in sizes o z.located.section ≡ []) is.laid still_one all_settled
 
   -- ---- symbols
 
@@ -142,8 +143,8 @@ module _ (ss : List Statement) (o : Object) (is : IsAssembled ss o) (uncut : All
       code = (and_parts s.loaded s.executable text).1
 
       sorted : AllByRecursion (λ z. walk.Sorted t is.number (sizes j) x.alignment z) zs
-      sorted = go zs inside (all_filter IsUncut (λ z. z.located.section == j) is.laid uncut) (all_filter (λ z. IsSound t z.located) (λ z. z.located.section == j) is.laid (sound ss is.laid is.dropped is.good is.located))
-          (all_filter (Fitting sizes) (λ z. z.located.section == j) is.laid fitting) h.sizes
+      sorted = go zs inside (each_filter IsUncut (λ z. z.located.section == j) is.laid uncut) (each_filter (λ z. IsSound t z.located) (λ z. z.located.section == j) is.laid (sound ss is.laid is.dropped is.good is.located))
+          (each_filter (Fitting sizes) (λ z. z.located.section == j) is.laid fitting) h.sizes
         where
           go : (ys : List LaidStatement) → AllByRecursion (IsLaidIn j s) ys → AllByRecursion IsUncut ys → AllByRecursion (λ z. IsSound t z.located) ys → AllByRecursion (Fitting sizes) ys
               → AllByRecursion (λ z. z.located.placed ≡ true → HasSize (expression_value t z.located) z x.alignment z.located.kind) ys → AllByRecursion (λ z. walk.Sorted t is.number (sizes j) x.alignment z) ys

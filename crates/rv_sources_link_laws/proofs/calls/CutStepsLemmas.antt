@@ -6,6 +6,8 @@ use Rattle.std.proofs.lemmas.Bool.{le-leb}
 use Rattle.std.proofs.lemmas.List.Sums.{sum_by-cons}
 use Rattle.std.specs.Prelude.{◌&&◌, ◌==◌, nat_lt, nat_le, min, if◌then◌else◌, flat_map}
 use Rattle.std.specs.List.{AllByRecursion}
+use Rattle.rv_list_laws.proofs.EachLemmas.{each_split, each_append}
+use Rattle.rv_list_laws.proofs.TakeDropLemmas.{drop_front}
 use Rattle.rv_isa.specs.declared.kind.Kind.{Kind}
 use Rattle.rv_isa.specs.declared.kind.Kind.TheVariants as kinds
 use Rattle.rv_unit_laws.specs.Tables.{Tables}
@@ -24,9 +26,6 @@ use Rattle.rv_sources_link_laws.proofs.calls.CalledLemmas.{short_coded}
 use Rattle.rv_sources_link_laws.proofs.calls.CutsLemmas.{link_of, is_cut, AreCalm, IsStill, IsCutCall}
 use Rattle.rv_sources_link_laws.proofs.calls.LongCallsLemmas as long
 use Rattle.rv_sources_link_laws.proofs.statements.PadsLemmas.{at}
-use Rattle.rv_sources_link_laws.proofs.sections.SectionsLemmas.{split}
-use Rattle.rv_assemble_laws.proofs.ListsLemmas.{join}
-use Rattle.rv_sources_link_laws.proofs.moves.SteppedLemmas.{drop_whole}
 use Rattle.rv_sources_link_laws.proofs.moves.WalkLemmas.{Ahead, dropped_none, lost_none, lost_before, kept_front, relocations_join}
 
 -- ---- cuts ahead
@@ -361,7 +360,7 @@ module _ (t : Tables) (number : Numbering) (sizes : Sizes) (multiple : ℕ) wher
         ∙ ap (λ n. take n (own ++ rest) ++ (text ++ kept (o + 8) later (drop (o + 8 - o) (own ++ rest)))) (let e : o - o ≡ 0 = omega arith in e)
         ∙ ap (λ l. l ++ (text ++ kept (o + 8) later (drop (o + 8 - o) (own ++ rest)))) (none_taken (own ++ rest))
         ∙ ap (λ n. text ++ kept (o + 8) later (drop n (own ++ rest))) ((let e : o + 8 - o ≡ z.bytes = omega (arith, whole) in e) ∙ bytes)
-        ∙ ap (λ l. text ++ kept (o + 8) later l) (drop_whole own rest)
+        ∙ ap (λ l. text ++ kept (o + 8) later l) (drop_front own rest)
         ∙ ap (λ n. text ++ kept (o + n) later rest) (sym whole)
         ∙ ap (λ l. text ++ l) (bytes_kept (o + z.bytes) (gone + (8 - sizes z.offset)) zs st)
         ∙ ap (λ l. l ++ flat_map part_bytes (parts t (map S zs)))
@@ -394,7 +393,7 @@ module _ (t : Tables) (number : Numbering) (sizes : Sizes) (multiple : ℕ) wher
     parts_still a c (p ∷ ps) shift h =
         let own = map (relocation_at number a) (template_fields p.ordinal p.template) in
         let next = a + length (part_bytes p) in
-        let both = split (λ r. is_shortened sizes r ≡ false) own (relocations_from number next ps) h in
+        let both = each_split (λ r. is_shortened sizes r ≡ false) own (relocations_from number next ps) h in
         let long : length (part_bytes p ++ flat_map part_bytes ps) ≡ length (part_bytes p) + length (flat_map part_bytes ps) = length-append (part_bytes p) (flat_map part_bytes ps) in
         let first : N a ≡ c = ap N (let e : a ≡ a + 0 = omega arith in e) ∙ shift 0 (omega arith) ∙ (let e : c + 0 ≡ c = omega arith in e) in
         map_join own (relocations_from number next ps)
@@ -489,12 +488,12 @@ module _ (t : Tables) (number : Numbering) (sizes : Sizes) (multiple : ℕ) wher
         → (o gone : ℕ) (zs : List LaidStatement) → Steps o gone zs → AllByRecursion P (parts t zs) → AllByRecursion P (parts t (map S zs))
     parts_kept P alike o gone [] st h = tt
     parts_kept P alike o gone (z ∷ zs) (off, bytes, low, inl (s, st)) h =
-        let both = split P (parts_of t z) (parts t zs) h in
-        join P (parts_of t (S z)) (parts t (map S zs)) (subst (λ l. AllByRecursion P l) (sym (own_still o gone z s)) both.0) (parts_kept P alike (o + z.bytes) gone zs st both.1)
+        let both = each_split P (parts_of t z) (parts t zs) h in
+        each_append P (parts_of t (S z)) (parts t (map S zs)) (subst (λ l. AllByRecursion P l) (sym (own_still o gone z s)) both.0) (parts_kept P alike (o + z.bytes) gone zs st both.1)
     parts_kept P alike o gone (z ∷ zs) (off, bytes, low, inr (s, st)) h =
-        let both = split P (parts_of t z) (parts t zs) h in
+        let both = each_split P (parts_of t z) (parts t zs) h in
         let own = subst (λ l. AllByRecursion P l) (long_part z s.cut) both.0 in
-        join P (parts_of t (S z)) (parts t (map S zs))
+        each_append P (parts_of t (S z)) (parts t (map S zs))
         (subst (λ l. AllByRecursion P l) (sym (own_cut o gone z s))
         (alike z.located.ordinal _ (short_call (sizes z.offset) (link_register s.cut.m s.cut.os)) (short_field z s.cut).kind (long.field t z multiple s.cut.m s.cut.os s.cut.is_kind s.cut.call s.cut.long kinds.CallPlt) (mark z) own.0, tt))
         (parts_kept P alike (o + z.bytes) (gone + (8 - sizes z.offset)) zs st both.1)

@@ -3,6 +3,7 @@
 use Rattle.std.proofs.Common.{◌≡◌, ℕ, zero, suc, ◌+◌, Bool, true, false, List, [], ◌∷◌, ◌++◌, length, map, refl, sym, ap, ◌∙◌, subst, Option, ◌⊎◌, inl, inr}
 use Rattle.std.specs.Prelude.{⊤, ◌&&◌, ◌==◌, nat_lt, if◌then◌else◌, unwrap_or}
 use Rattle.std.specs.List.{AllByRecursion}
+use Rattle.rv_list_laws.proofs.EachLemmas.{each_append}
 use Rattle.rv_isa.specs.declared.kind.Kind.{Kind}
 use Rattle.rv_isa.specs.declared.kind.Kind.TheVariants as kinds
 use Rattle.rv_isa.specs.declared.kind.Kind.TheVariants.{Abs32, Abs64, Add8, Add16, Add32, Add64, Sub8, Sub16, Sub32, Sub64}
@@ -29,7 +30,6 @@ use Rattle.rv_sources_link_laws.proofs.calls.LongCallsLemmas as long
 use Rattle.rv_sources_link_laws.proofs.calls.LongCallsLemmas.{IsLongCall, long_call}
 use Rattle.rv_sources_link_laws.proofs.statements.MarkedLemmas.{part_fields}
 use Rattle.rv_sources_link_laws.proofs.statements.PadsLemmas.{at, bare_before}
-use Rattle.rv_assemble_laws.proofs.ListsLemmas.{join}
 use Rattle.rv_sources_link_laws.proofs.statements.SettledLemmas.{IsLaidIn}
 use Rattle.rv_sources_link_laws.proofs.calls.UncutLemmas.{IsUncut}
 use Rattle.rv_sources_link_laws.proofs.fields.WholesLemmas.{IsSound}
@@ -129,7 +129,7 @@ code_calm t v z (p ∷ ps) (bytes ∷ coded) (h, hs) = (own p h, code_calm t v z
 
 module _ (number : Numbering) (sizes : Sizes) where
   calm_join : (xs ys : List Relocation) → AreCalm sizes xs → AreCalm sizes ys → AreCalm sizes (xs ++ ys)
-  calm_join xs ys h k = join (λ r. is_shortened sizes r ≡ false) xs ys h k
+  calm_join xs ys h k = each_append (λ r. is_shortened sizes r ≡ false) xs ys h k
 
   calm_fields : (o : ℕ) (fs : List Open) → NoCalls fs → AreCalm sizes (map (relocation_at number o) fs)
   calm_fields o [] h = tt

@@ -3,6 +3,7 @@
 use Rattle.std.proofs.Common.{◌≡◌, ℕ, suc, Bool, true, false, List, [], ◌∷◌, map, refl, sym, ap, ◌∙◌, subst}
 use Rattle.std.specs.Prelude.{⊤, if◌then◌else◌}
 use Rattle.std.specs.List.{AllByRecursion}
+use Rattle.rv_list_laws.proofs.EachLemmas.{each_split}
 use Rattle.rv_statement_laws.specs.declared.mnemonic.Mnemonic.{Mnemonic}
 use Rattle.rv_statement_laws.specs.Statement.{StatementKind, Label, Numbered, Instruction, Directs, Statement, Operand, Expression}
 use Rattle.rv_text_laws.specs.Values.{Value}
@@ -21,7 +22,6 @@ use Rattle.rv_sources_link_laws.proofs.sections.KeptLemmas.{IsKept, AreKept, Are
 use Rattle.rv_sources_link_laws.proofs.sections.MaskedLemmas.{source_sections}
 use Rattle.rv_sources_link_laws.proofs.sections.AssembledLemmas.{IsAssembled, AreAssembled}
 use Rattle.rv_sources_link_laws.proofs.statements.CountedLemmas.{bytes_with, size_before, IsCounted}
-use Rattle.rv_sources_link_laws.proofs.sections.SectionsLemmas.{split}
 use Rattle.rv_sources_link_laws.proofs.statements.SettledLemmas.{IsSettled, settled_left}
 use Rattle.rv_sources_link_laws.proofs.moves.ShrinkingLemmas.{shrunk_objects, moves_in}
 use Rattle.rv_sources_link_laws.proofs.moves.ShrinksLemmas.{Begun, begun_in, counted, objects_shrink, shrunk_is, shrunk_laid, shrunk_dropped}
@@ -168,7 +168,7 @@ all_final starts sizes file [] (o ∷ os) h us k c b = absurd h
 all_final starts sizes file (ss ∷ sources) [] h us k c b = absurd h
 all_final starts sizes file (ss ∷ sources) (o ∷ os) (is, h) [] k c b = absurd k
 all_final starts sizes file (ss ∷ sources) (o ∷ os) (is, h) (u ∷ us) (js, k) (c, cs) b =
-    let both = split (Begun starts) (inputs_from goes_to_text file u 0 u.sections) (inputs_of goes_to_text (suc file) us) b in
+    let both = each_split (Begun starts) (inputs_from goes_to_text file u 0 u.sections) (inputs_of goes_to_text (suc file) us) b in
     let begun = begun_in starts file u both.0 in (
       final_file (sizes file) ss o is u js c (starts file) (counted ss u js (starts file) begun) (shrunk_is ss u js (starts file) begun).laid (shrunk_laid ss u js (starts file) begun),
       all_final starts sizes (suc file) sources os h us k cs both.1,
@@ -185,5 +185,5 @@ all_masked drops starts sizes file [] (o ∷ os) h us k c masks b = absurd h
 all_masked drops starts sizes file (ss ∷ sources) [] h us k c masks b = absurd h
 all_masked drops starts sizes file (ss ∷ sources) (o ∷ os) (is, h) [] k c masks b = absurd k
 all_masked drops starts sizes file (ss ∷ sources) (o ∷ os) (is, h) (u ∷ us) (js, k) (c, cs) (own, masks) b =
-    let both = split (Begun starts) (inputs_from goes_to_text file u 0 u.sections) (inputs_of goes_to_text (suc file) us) b in
+    let both = each_split (Begun starts) (inputs_from goes_to_text file u 0 u.sections) (inputs_of goes_to_text (suc file) us) b in
     (shrunk_dropped ss u js (starts file) (begun_in starts file u both.0) ∙ c.dropped ∙ own, all_masked drops starts sizes (suc file) sources os h us k cs masks both.1)

@@ -5,6 +5,8 @@ use Rattle.std.proofs.lemmas.List.{append_assoc, append-nil}
 use Rattle.std.proofs.lemmas.Bool.{and_parts, eqb-true}
 use Rattle.std.specs.Prelude.{◌&&◌, ◌||◌, ◌==◌, IsTrue, nat_le, if◌then◌else◌, filter, flat_map, slice_index}
 use Rattle.std.specs.List.{AllByRecursion, slice_get, list_any}
+use Rattle.rv_list_laws.proofs.FilterLemmas.{each_filter}
+use Rattle.rv_list_laws.proofs.EachLemmas.{each_append}
 use Rattle.rv_layout_laws.specs.Sites.{padding_site, size_at}
 use Rattle.rv_statement_laws.specs.Statement.{StatementKind, Label, Numbered, Instruction, Directs, Statement}
 use Rattle.rv_unit_laws.specs.Sections.{Section as SourceSection, goes_to_text as source_text}
@@ -15,7 +17,6 @@ use Rattle.rv_layout_laws.specs.declared.site.SiteKind.TheVariants as spots
 use Rattle.rv_layout_laws.specs.Calls.{Offers, site_at as spot_at, is_call as is_call_spot}
 use Rattle.rv_source_laws.specs.Sized.{is_call_mnemonic}
 use Rattle.rv_source_laws.specs.Shortened.{is_call_statement, link_register}
-use Rattle.rv_source_laws.proofs.HomesLemmas.{all_filter}
 use Rattle.rv_object_laws.specs.Object.{Relocation, Section, Object, stored, size_of}
 use Rattle.rv_object_laws.specs.Valid.{held}
 use Rattle.rv_link_laws.specs.CallSites as objects
@@ -38,7 +39,6 @@ use Rattle.rv_sources_link_laws.proofs.calls.LongCallsLemmas as long
 use Rattle.rv_sources_link_laws.proofs.calls.LongCallsLemmas.{IsLongCall, long_call}
 use Rattle.rv_sources_link_laws.proofs.moves.PiecesOfLemmas.{size_is}
 use Rattle.rv_sources_link_laws.proofs.fields.RangesLemmas.{InRange, in_range}
-use Rattle.rv_assemble_laws.proofs.ListsLemmas.{join}
 use Rattle.rv_sources_link_laws.proofs.statements.SettledLemmas.{of_sections, IsLaidIn, laid_are_in}
 use Rattle.rv_sources_link_laws.proofs.moves.ShrinkingLemmas.{AreAt, all_at}
 use Rattle.rv_sources_link_laws.proofs.fields.TargetsLemmas.{section_of, all_settled, present_of}
@@ -151,7 +151,7 @@ module _ (os : List Object) where
             let a = start_padding i.section in
             let n = size_of i.section.contents in (
               (λ e. absurd (cc)),
-              join (Agrees link o) (map (site_of os i first) (changes os i)) (sites_from os (first + n) is)
+              each_append (Agrees link o) (map (site_of os i first) (changes os i)) (sites_from os (first + n) is)
                   (rels_behind i first (changes os i) (let g : o < off + a = omega (arith, low) in g)) (go (first + n) is (let g : o < off + a + n = omega (arith, low) in g)),
             )
 
@@ -180,7 +180,7 @@ module _ (os : List Object) where
 
       low_changes : AllByRecursion (λ (r : Relocation). r.place < size_of i.section.contents) (changes os i)
       low_changes = ordered_all (λ (r : Relocation). r.place < size_of i.section.contents) (filter (may_change os i) i.section.relocations)
-          (all_filter (λ (r : Relocation). r.place < size_of i.section.contents) (may_change os i) i.section.relocations h.low)
+          (each_filter (λ (r : Relocation). r.place < size_of i.section.contents) (may_change os i) i.section.relocations h.low)
 
       go : (b : Bool) → ((i.file == f) && (i.index == j)) ≡ b → (b || list_any (λ (i : InputSection). (i.file == f) && (i.index == j)) is) ≡ true
           → (list_any (λ (i : InputSection). (i.file == f) && (i.index == j)) is ≡ true → AllByRecursion (Agrees link (off + start_padding i.section + size_of i.section.contents + base_in is f j + place)) (sites_from os (off + start_padding i.section + size_of i.section.contents) is))
@@ -192,7 +192,7 @@ module _ (os : List Object) where
           subst (λ o. AllByRecursion (Agrees link o) (sites_from os off (i ∷ is)))
           ((let g : off + a + place ≡ off + (a + 0) + place = omega arith in g) ∙ ap (λ b. off + (a + (if b then 0 else n + w)) + place) (sym e)) (
             start_one (off + a + place),
-            join (Agrees link (off + a + place)) (map (site_of os i first) (changes os i)) (sites_from os (first + n) is)
+            each_append (Agrees link (off + a + place)) (map (site_of os i first) (changes os i)) (sites_from os (first + n) is)
                 (own link (off + a + place) i first place (changes os i) refl (ap (λ (y : Section). linked_by (stored y.contents) place) same ∙ linked))
                 (behind link (off + a + place) (first + n) is (let least : place < n = subst (λ (y : Section). place < size_of y.contents) (sym same) low in let g : off + a + place < off + a + n = omega (arith, least) in g)),
           )
@@ -200,7 +200,7 @@ module _ (os : List Object) where
           subst (λ o. AllByRecursion (Agrees link o) (sites_from os off (i ∷ is)))
           ((let g : off + a + n + w + place ≡ off + (a + (n + w)) + place = omega arith in g) ∙ ap (λ b. off + (a + (if b then 0 else n + w)) + place) (sym e)) (
             start_one (off + a + n + w + place),
-            join (Agrees link (off + a + n + w + place)) (map (site_of os i first) (changes os i)) (sites_from os (first + n) is)
+            each_append (Agrees link (off + a + n + w + place)) (map (site_of os i first) (changes os i)) (sites_from os (first + n) is)
                 (below link (off + a + n + w + place) i first (changes os i) (let g : off + a + n ≤ off + a + n + w + place = omega arith in g) low_changes) (next some),
           )
 
@@ -224,7 +224,7 @@ module _ (t : Tables) (number : Numbering) (j : ℕ) (s : SourceSection) (code :
       let own = relocations_from number q (parts_of t z) in
       subst (λ l. AllByRecursion (λ (r : Relocation). r.place < end_of (q + z.bytes) zs) l)
       (ap (λ n. own ++ relocations_from number (q + n) (parts t zs)) bytes ∙ sym (relocations_join t number q (parts_of t z) (parts t zs)))
-      (join (λ (r : Relocation). r.place < end_of (q + z.bytes) zs) own (relocations_from number (q + z.bytes) (parts t zs))
+      (each_append (λ (r : Relocation). r.place < end_of (q + z.bytes) zs) own (relocations_from number (q + z.bytes) (parts t zs))
       (place_low q z.bytes own (subst (λ n. AllByRecursion (InRange n z.bytes) (relocations_from number n (parts_of t z))) off (in_range t number j s code multiple z i bytes h)) (end_of (q + z.bytes) zs) (end_high (q + z.bytes) zs))
       (places_low (q + z.bytes) zs tile is hs))
 
@@ -313,7 +313,7 @@ module _ (os : List Object) where
   texts file [] (o ∷ us) h e = absurd h
   texts file (ss ∷ sources) [] h e = absurd h
   texts file (ss ∷ sources) (o ∷ us) (is, h) (e, es) =
-      join (IsText os) (inputs_from goes_to_text file o 0 o.sections) (inputs_of goes_to_text (suc file) us) (file_texts file ss o is e) (texts (suc file) sources us h es)
+      each_append (IsText os) (inputs_from goes_to_text file o 0 o.sections) (inputs_of goes_to_text (suc file) us) (file_texts file ss o is e) (texts (suc file) sources us h es)
 
   module _ (sources : List (List Statement)) (h : AreKept sources os) (kept : List ℕ) (offered : (i : ℕ) → Offers (spot_at (sites_of os) i).kind (slice_index kept i)) where
     pub fitting : (file : ℕ) (ss : List Statement) (o : Object) (is : IsKept ss o) → 1 ≤ file → object_at os file ≡ o → AllByRecursion (Fitting (sizes_by os kept file)) is.laid
@@ -363,6 +363,6 @@ module _ (os : List Object) where
                 let text : goes_to_text x ≡ true = ap (λ b. b && x.executable) k.loaded ∙ ap (λ b. s.loaded && b) k.executable ∙ e in
                 let linked = linking t is.number j s (and_parts s.loaded s.executable e).1 x.alignment (stored x.contents) [] 0 (laid_in j is.laid) refl
                 (stored_is t is.laid is.number o.symbols j s x (laid_in j is.laid) k e) k.tile inside
-                (all_filter IsUncut (λ z. z.located.section == j) is.laid (all_uncut ss o is)) (all_filter (λ z. IsSound t z.located) (λ z. z.located.section == j) is.laid (sound ss is.laid is.dropped is.good is.located)) k.sizes in
+                (each_filter IsUncut (λ z. z.located.section == j) is.laid (all_uncut ss o is)) (each_filter (λ z. IsSound t z.located) (λ z. z.located.section == j) is.laid (sound ss is.laid is.dropped is.good is.located)) k.sizes in
                 text_all x there text (laid_in j is.laid) inside
                 (subst (λ n. AllByRecursion (λ z. is_call_statement z.located.kind ≡ true → (linked_by (stored x.contents) z.offset ≡ link_of z.located.kind) × (z.offset < n)) (laid_in j is.laid)) (sym (size_is t is.laid is.number o j s (laid_in j is.laid) x k)) linked)

@@ -3,6 +3,7 @@
 use Rattle.std.proofs.Common.{◌≡◌, ℕ, ◌<◌, Bool, true, false, List, [], ◌∷◌, ◌++◌, length, refl, sym, ap, ◌∙◌, subst, arith, pos, Some, ◌⊎◌, inl, inr}
 use Rattle.std.proofs.lemmas.List.{append-nil}
 use Rattle.std.specs.Prelude.{◌&&◌, ◌==◌, if◌then◌else◌, unwrap_or}
+use Rattle.rv_list_laws.proofs.ElementsLemmas.{append_none_parts}
 use Rattle.rv_isa.specs.Kinds.{is_low_part}
 use Rattle.rv_isa.specs.declared.instruction.Inst.{Inst}
 use Rattle.rv_isa.specs.declared.kind.Kind.{Kind}
@@ -13,14 +14,13 @@ use Rattle.rv_text_laws.specs.Expression.{Primary}
 use Rattle.rv_text_laws.specs.Values.{Value, Meaning, Symbolic}
 use Rattle.rv_statement_laws.specs.declared.mnemonic.Mnemonic.{Mnemonic}
 use Rattle.rv_statement_laws.specs.Statement.{Instruction, Operand, Target, Expression}
-use Rattle.rv_pseudo_laws.specs.Code.{Part as CodePart, Joined, auipc, jalr, named_form, code}
+use Rattle.rv_pseudo_laws.specs.Code.{Joined, auipc, jalr, named_form, code}
 use Rattle.rv_pseudo_laws.specs.Filled.{are_closed}
 use Rattle.rv_parcel.specs.Encoded.{IsEncodedIn}
 use Rattle.rv_unit_laws.specs.Tables.{Tables}
 use Rattle.rv_source_laws.specs.Lines.{operand_of}
 use Rattle.rv_source_laws.specs.Sized.{is_call_mnemonic}
 use Rattle.rv_source_laws.specs.Shortened.{is_call_statement, link_register}
-use Rattle.rv_source_laws.proofs.HeldLemmas.{none_left}
 use Rattle.rv_link_laws.specs.Shortened.{short_call}
 use Rattle.rv_assemble_laws.specs.CodeFields.{symbol_field, low_field, field_of, relax_fields}
 use Rattle.rv_assemble_laws.specs.Coded.{constants, AreCodedParts, joined, instructions_in}
@@ -28,6 +28,7 @@ use Rattle.rv_pseudo_laws.specs.InstructionFaults.{operand_faults, scratch_fault
 use Rattle.rv_assemble_laws.specs.InstructionFaults.{instruction_faults, worths, is_label}
 use Rattle.rv_assemble_laws.specs.Templates.{Open, Coded, open_at}
 use Rattle.rv_assemble_laws.specs.LaidStatements.{LaidStatement, expression_value, coded_templates, HasSize}
+use Rattle.rv_assemble_laws.proofs.LeastCodeLemmas.{some_parts}
 use Rattle.rv_sources_link_laws.proofs.sections.AssembledLemmas.{assembled_templates}
 use Rattle.rv_sources_link_laws.proofs.calls.CalledLemmas.{IsCalled, called, short_part, short_coded, short_one}
 use Rattle.rv_sources_link_laws.proofs.statements.MarkedLemmas.{is_jump, marked, part_fields}
@@ -55,9 +56,6 @@ in_four : (i : Inst) (bytes : List ℕ) → IsEncodedIn i 4 bytes → bytes ≡ 
 in_four i bytes (inl (e, w)) = w
 in_four i bytes (inr (e, rest)) = absurd (omega (arith, e))
 
-some_same : (ps qs : List CodePart) → Some ps ≡ Some qs → ps ≡ qs
-some_same ps qs e = cc
-
 module _ (t : Tables) (z : LaidStatement) (multiple : ℕ) (m : Mnemonic) (os : List Operand) (is_kind : z.located.kind ≡ Instruction m os) (call : is_call_mnemonic m ≡ true) where
   abbrev v : Expression → Value
   v = expression_value t z.located
@@ -79,13 +77,13 @@ module _ (t : Tables) (z : LaidStatement) (multiple : ℕ) (m : Mnemonic) (os : 
       both = sym c.parts ∙ ap (λ n. code (constants v) rvc n m os) eight ∙ g.codes 8
 
       parts_are : c.ps ≡ Joined kind.CallPlt (auipc g.by) (jalr link g.by (pos 0)) ∷ []
-      parts_are = some_same c.ps (Joined kind.CallPlt (auipc g.by) (jalr link g.by (pos 0)) ∷ []) both
+      parts_are = some_parts c.ps (Joined kind.CallPlt (auipc g.by) (jalr link g.by (pos 0)) ∷ []) both
 
       faultless : operand_faults (worths v (is_label t z.located.ordinal)) m (Target g.to) ≡ []
       faultless =
           let all = subst (λ k. instruction_faults v (is_label t z.located.ordinal) k ≡ []) is_kind sound in
           other_fault (worths v (is_label t z.located.ordinal)) m os (Target g.to) g.operand
-          (none_left (scratch_faults m os) _ (none_of_its_own (has_operands_row (constants v) m os) (own_faults (worths v (is_label t z.located.ordinal)) m os) all)).1
+          (append_none_parts (scratch_faults m os) _ (none_of_its_own (has_operands_row (constants v) m os) (own_faults (worths v (is_label t z.located.ordinal)) m os) all)).1
 
       go : (coded : List (List ℕ)) → z.coded ≡ coded → AreCodedParts (named_form (constants v) m os) (rvc && are_closed c.ps) (Joined kind.CallPlt (auipc g.by) (jalr link g.by (pos 0)) ∷ []) coded → IsLongCall t z m os
       go [] e h = absurd h

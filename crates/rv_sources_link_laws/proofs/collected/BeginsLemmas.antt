@@ -4,6 +4,7 @@ use Rattle.std.proofs.Common.{◌≡◌, ℕ, ◌+◌, ◌%◌, Bool, true, fals
 use Rattle.std.proofs.lemmas.Bool.{and_parts, eq-eqb}
 use Rattle.std.specs.Prelude.{◌&&◌, ◌==◌, if◌then◌else◌, option_and_then, bytes_eq}
 use Rattle.std.specs.List.{AllByRecursion, slice_get}
+use Rattle.rv_list_laws.proofs.FindLemmas.{each_find}
 use Rattle.rv_map_laws.specs.declared.map.SectionId.{SectionId}
 use Rattle.rv_text_laws.specs.Values.{Meaning, Known, InSection as InData, Open as OpenAddress, Refused, add}
 use Rattle.rv_statement_laws.specs.Statement.{StatementKind, Label, Numbered, Instruction, Directs, Statement, Enters, Sets}
@@ -25,7 +26,6 @@ use Rattle.rv_sources_link_laws.proofs.calls.UncutLemmas.{uncut, sections_same}
 use Rattle.rv_sources_link_laws.proofs.collected.HereLemmas.{seen}
 use Rattle.rv_sources_link_laws.proofs.collected.MeantLemmas.{place_home}
 use Rattle.rv_sources_link_laws.proofs.fields.RangesLemmas.{even_bytes}
-use Rattle.rv_sources_link_laws.proofs.names.KnownLemmas.{all_found}
 use Rattle.rv_sources_link_laws.proofs.names.PairLemmas.{IsAlike, IsPair}
 use Rattle.rv_sources_link_laws.proofs.sections.AssembledLemmas.{Tile, IsSectionOf}
 use Rattle.rv_sources_link_laws.proofs.statements.EvensLemmas.{IsEven}
@@ -107,7 +107,7 @@ module _ (ss : List Statement) (o : Object) (is : IsObjectOf ss o) where
   found_aside : (a : Option LaidStatement) (ordinal plus : ℕ) → laid_at is.laid ordinal ≡ a → IsInData a → can_begin o (after_found a plus) ≡ false
   found_aside None ordinal plus e h = refl
   found_aside (Some z) ordinal plus e (aside, placed) =
-      let here = all_found (IsSettled sections) (λ z. z.located.ordinal == ordinal) is.laid all_settled z e in
+      let here = each_find (IsSettled sections) (λ z. z.located.ordinal == ordinal) is.laid all_settled z e in
       ap (λ b. b && (add z.offset plus % 2 == 0)) (text_is z here ∙ ap (λ b. z.located.home.loaded && b) aside ∙ never z.located.home.loaded)
     where
       never : (b : Bool) → (b && false) ≡ false
@@ -126,7 +126,7 @@ module _ (ss : List Statement) (o : Object) (is : IsObjectOf ss o) where
 
       go : (a : Option Assignment) → assigned_ever t.assignments name ≡ a → can_begin o (assigned_definition is.laid a) ≡ false
       go None e = refl
-      go (Some a) e = by a a.meaning (all_found (StandsInData is.laid) (λ s. bytes_eq s.name name) t.assignments is.places a e)
+      go (Some a) e = by a a.meaning (each_find (StandsInData is.laid) (λ s. bytes_eq s.name name) t.assignments is.places a e)
 
   label_begins : (z : LaidStatement) → IsSettled sections z → IsEven z → can_begin o (InSection z.located.section z.offset) ≡ goes_to_text z.located.home
   label_begins z here even = ap (λ b. b && (z.offset % 2 == 0)) (text_is z here) ∙ go (goes_to_text z.located.home) refl

@@ -7,6 +7,7 @@ use Rattle.std.specs.List.{list_any}
 use Rattle.std.proofs.lemmas.Bool.{cases_eq, eq-eqb, ne_eqb, true≢false, and_right}
 use Rattle.std.proofs.lemmas.List.{map-append}
 use Rattle.std.proofs.lemmas.List.Folds.{list_any-append}
+use Rattle.rv_list_laws.proofs.NumbersLemmas.{eq_suc}
 use Rattle.rv_map_laws.specs.declared.map.SectionId.{SectionId}
 use Rattle.rv_collect_laws.specs.Graph.{is_same, is_one_of}
 use Rattle.rv_statement_laws.specs.Statement.{Statement}
@@ -19,6 +20,7 @@ use Rattle.rv_object_laws.specs.Object.{Section, Object}
 use Rattle.rv_link_laws.specs.Inputs.{InputSection, inputs_from, inputs_of, inputs}
 use Rattle.rv_link_laws.specs.IsLinkOf.{is_loaded}
 use Rattle.rv_link_laws.specs.Collects.{id_of, loaded_sections, leads_to, is_at, refers as objects_refer}
+use Rattle.rv_link_laws.proofs.DanglingLemmas.{any_id}
 use Rattle.rv_assemble_laws.specs.LaidStatements.{LaidStatement, laid_in}
 use Rattle.rv_assemble_laws.specs.IsObjectOf.{AreSectionsOf, IsObjectOf}
 use Rattle.rv_sources_link_laws.specs.Joins.{AreObjectsOf}
@@ -63,17 +65,6 @@ later_none D k j o no_one n (x ∷ xs) lt = go x.loaded (later_none D k j o no_o
     go : (b : Bool) → list_any D more ≡ false → list_any D (if b then it ∷ more else more) ≡ false
     go true h = ap (λ b. b || list_any D more) (no_one n x lt) ∙ h
     go false h = h
-
-same_suc : (a b : ℕ) → (suc a == suc b) ≡ (a == b)
-same_suc a b =
-    elim (cases_eq a b) [
-      | inl e ↦ eq-eqb (suc a) (suc b) (ap suc e) ∙ sym (eq-eqb a b e)
-      | inr n ↦ ne_eqb (suc a) (suc b) (λ e. n (omega (arith, e))) ∙ sym (ne_eqb a b n)
-    ]
-
-any_ids : (q : SectionId → Bool) (xs : List InputSection) → list_any (λ i. q (id_of i)) xs ≡ list_any q (map id_of xs)
-any_ids q [] = refl
-any_ids q (x ∷ xs) = ap (λ b. q (id_of x) || b) (any_ids q xs)
 
 -- ---- all files
 
@@ -138,7 +129,7 @@ module _ (p : Program) (os : List Object) (s T : SectionId) (apart : is_same s T
     laid_same j e (z ∷ zs) =
         ap (λ b. (b && (suc z.located.section == s.section)) && own z || list_any B (map (seen s.file) zs)) (eq-eqb s.file s.file refl)
         ∙ ap (λ m. (suc z.located.section == m) && own z || list_any B (map (seen s.file) zs)) e
-        ∙ ap (λ b. b && own z || list_any B (map (seen s.file) zs)) (same_suc z.located.section j)
+        ∙ ap (λ b. b && own z || list_any B (map (seen s.file) zs)) (eq_suc z.located.section j)
         ∙ ap (λ b. (z.located.section == j) && own z || b) (laid_same j e zs)
         ∙ go (z.located.section == j)
       where
@@ -228,7 +219,7 @@ module _ (p : Program) (os : List Object) (s T : SectionId) (apart : is_same s T
           (sym e) (λ a m. file_same ss o is a m)
 
 has_ids : (os : List Object) (s : SectionId) → is_one_of (loaded_sections os) s ≡ true → list_any (λ i. is_same s (id_of i)) (inputs is_loaded os) ≡ true
-has_ids os s has = any_ids (is_same s) (inputs is_loaded os) ∙ has
+has_ids os s has = any_id (is_same s) (inputs is_loaded os) ∙ has
 
 pub refers_alike : (p : Program) (sources : List (List Statement)) (os : List Object) (h : AreObjectsOf sources os) (s T : SectionId) (apart : is_same s T ≡ false)
     → p.statements ≡ map bare (located_of 1 sources) → AreHere p 1 sources os h → AllMeant p os 1 sources os h

@@ -5,6 +5,7 @@ use Rattle.std.specs.Prelude.{◌||◌, ◌&&◌, flat_map, option_map, option_a
 use Rattle.std.specs.List.{AllByRecursion, list_any, slice_get}
 use Rattle.std.proofs.lemmas.Bool.{eqb-true}
 use Rattle.std.proofs.lemmas.List.Folds.{list_any-append}
+use Rattle.rv_list_laws.proofs.EachLemmas.{each_split}
 use Rattle.rv_map_laws.specs.declared.map.SectionId.{SectionId}
 use Rattle.rv_text_laws.specs.Expression.{Primary, Here}
 use Rattle.rv_statement_laws.specs.declared.mnemonic.Mnemonic.{Mnemonic}
@@ -27,7 +28,6 @@ use Rattle.rv_sources_link_laws.proofs.collected.MeantLemmas.{place_home, IsFirs
 use Rattle.rv_sources_link_laws.proofs.collected.BeginsLemmas.{lies_home}
 use Rattle.rv_sources_link_laws.proofs.collected.NamedLemmas.{names}
 use Rattle.rv_sources_link_laws.proofs.collected.EdgesLemmas.{test, in_part, parts_are, statement_is}
-use Rattle.rv_sources_link_laws.proofs.sections.SectionsLemmas.{split}
 use Rattle.rv_sources_link_laws.proofs.statements.SettledLemmas.{IsSettled, settled}
 use Rattle.rv_sources_link_laws.proofs.statements.StatementsLemmas.{renumbered}
 
@@ -66,7 +66,7 @@ module _ (p : Program) (os : List Object) (T : SectionId) (f : ℕ) (ss : List S
         → list_any (leads_to os T i) (map (relocation_at is.number place) xs) ≡ list_any (test p T f) xs
     fields_lead place [] h = refl
     fields_lead place (x ∷ xs) h =
-        let both = split N (use_of x.ordinal x.symbol) (flat_map (λ x. use_of x.ordinal x.symbol) xs) h in
+        let both = each_split N (use_of x.ordinal x.symbol) (flat_map (λ x. use_of x.ordinal x.symbol) xs) h in
         ap (λ b. b || list_any (leads_to os T i) (map (relocation_at is.number place) xs)) (one_leads place x both.0)
         ∙ ap (λ b. U x.ordinal x.symbol || b) (fields_lead place xs both.1)
 

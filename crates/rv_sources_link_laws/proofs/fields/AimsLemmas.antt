@@ -4,6 +4,8 @@ use Rattle.std.proofs.Common.{◌≡◌, ℕ, ◌+◌, Bool, true, false, List, 
 use Rattle.std.proofs.lemmas.Bool.{eqb-true, eq-eqb}
 use Rattle.std.specs.Prelude.{◌&&◌, ◌||◌, ◌==◌, if◌then◌else◌}
 use Rattle.std.specs.List.{AllByRecursion, find, list_any}
+use Rattle.rv_list_laws.proofs.FindLemmas.{each_find, find_join, find_front}
+use Rattle.rv_list_laws.proofs.OptionsLemmas.{option_map_none}
 use Rattle.rv_unit_laws.specs.Sections.{goes_to_text as source_text}
 use Rattle.rv_source_laws.specs.Located.{Located, has_row}
 use Rattle.rv_source_laws.specs.Program.{Program}
@@ -15,15 +17,9 @@ use Rattle.rv_link_laws.specs.Inputs.{Starts, InputSection}
 use Rattle.rv_link_laws.specs.Shortened.{Sizes}
 use Rattle.rv_assemble_laws.specs.LaidStatements.{LaidStatement, laid_in}
 use Rattle.rv_assemble_laws.specs.Symbols.{laid_at}
-use Rattle.rv_sources_link_laws.proofs.names.KnownLemmas.{all_found}
 use Rattle.rv_sources_link_laws.proofs.moves.PiecesLemmas.{IsPiece, ArePieces, own, placed_at, line_of, line_at, lines}
 use Rattle.rv_sources_link_laws.proofs.statements.SettledLemmas.{IsLaidIn}
-use Rattle.rv_sources_link_laws.proofs.fields.UppersLemmas.{find_join, find_front}
 pub use Rattle.rv_sources_link_laws.proofs.sections.StoodLemmas.{IsFirst}
-
-map_none : {X Y : Type 0} (f : X → Y) (o : Option X) → option_map f o ≡ None → o ≡ None
-map_none f None e = refl
-map_none f (Some x) e = absurd (cc)
 
 -- ---- a statement of an ordinal, in a section
 
@@ -153,7 +149,7 @@ module _ (p : Program) (starts : Starts) (at : ℕ → List LaidStatement) (size
   none_line off (i ∷ is) (b ∷ bs) (h, hs) (q, qs) =
       let first = off + start_padding i.section in
       find_join test (line_at p starts at sizes first i b h) (lines p starts at sizes (first + size_of i.section.contents) is bs hs)
-      (map_none (λ x. x.offset) (find test (line_at p starts at sizes first i b h)) (line_look first i b h ∙ ap (option_map (λ z. first + z.offset)) q))
+      (option_map_none (λ x. x.offset) (find test (line_at p starts at sizes first i b h)) (line_look first i b h ∙ ap (option_map (λ z. first + z.offset)) q))
       ∙ none_line (first + size_of i.section.contents) is bs hs qs
 
   -- or in one section
@@ -197,7 +193,7 @@ module _ (p : Program) (starts : Starts) (at : ℕ → List LaidStatement) (size
           ∙ ap (λ c. off + (x + (if c then 0 else y + base_in is f z.located.section)) + z.offset) (sym e))
       go false e g some next =
           let w = base_in is f z.located.section in
-          ap (option_map (λ x. x.offset)) (find_join test own_line more (map_none (λ x. x.offset) (find test own_line) (line_look first i b h ∙ ap (option_map (λ z. first + z.offset)) g)))
+          ap (option_map (λ x. x.offset)) (find_join test own_line more (option_map_none (λ x. x.offset) (find test own_line) (line_look first i b h ∙ ap (option_map (λ z. first + z.offset)) g)))
           ∙ next some
           ∙ ap Some ((let d : off + x + y + w + z.offset ≡ off + (x + (y + w)) + z.offset = omega arith in d)
           ∙ ap (λ c. off + (x + (if c then 0 else y + w)) + z.offset) (sym e))
@@ -253,7 +249,7 @@ module _ (p : Program) (starts : Starts) (at : ℕ → List LaidStatement) (size
             by None q = look_is i file ∙ q
             by (Some z) q =
                 let inside : IsLaidIn i.index h.s z =
-                all_found (λ z. IsLaidIn i.index h.s z) (passes n) (laid_in i.index (at f)) (subst (λ k. AllByRecursion (λ z. IsLaidIn i.index h.s z) (laid_in i.index (at k))) file h.inside) z q in
+                each_find (λ z. IsLaidIn i.index h.s z) (passes n) (laid_in i.index (at f)) (subst (λ k. AllByRecursion (λ z. IsLaidIn i.index h.s z) (laid_in i.index (at k))) file h.inside) z q in
                 let text : source_text z.located.home ≡ true = ap source_text inside.home ∙ h.text in
                 let is_z : answer (at f) n i.index (laid_at (at f) n) ≡ Some z = sym (found_in (at f) n i.index (at f) unique) ∙ q in
                 let e : true ≡ false = sym text ∙ aside z (of_answer (laid_at (at f) n) z is_z) in absurd (cc)

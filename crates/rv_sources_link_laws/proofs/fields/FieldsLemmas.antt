@@ -4,6 +4,8 @@ use Rattle.std.proofs.Common.{◌≡◌, ℕ, ◌+◌, true, List, [], ◌∷◌
 use Rattle.std.specs.Prelude.{ℤ, pos, ◌+ℤ◌, ◌==◌, if◌then◌else◌, flat_map, is_some, unwrap_or, option_map, option_and_then}
 use Rattle.std.specs.Int.{w64, int_wrap}
 use Rattle.std.specs.List.{AllByRecursion, slice_get}
+use Rattle.rv_list_laws.proofs.FilterLemmas.{each_filter}
+use Rattle.rv_list_laws.proofs.EachLemmas.{each_split, each_flat_map}
 use Rattle.rv_isa.specs.declared.kind.Kind.{Kind}
 use Rattle.rv_isa.specs.declared.kind.Kind.TheVariants.{Abs32, Abs64, Add8, Add16, Add32, Add64, Sub8, Sub16, Sub32, Sub64}
 use Rattle.rv_text_laws.specs.Expression.{Primary}
@@ -11,7 +13,6 @@ use Rattle.rv_unit_laws.specs.Sections.{Section as SourceSection}
 use Rattle.rv_unit_laws.specs.Tables.{Tables}
 use Rattle.rv_map_laws.specs.Limits.{IsGlobal}
 use Rattle.rv_source_laws.specs.Program.{Program, tables_in, address_at}
-use Rattle.rv_source_laws.proofs.HomesLemmas.{all_filter}
 use Rattle.rv_object_laws.specs.Object.{Relocation, Section, Object}
 use Rattle.rv_link_laws.specs.Moves.{alignments_of, moves, new_offset}
 use Rattle.rv_link_laws.specs.Inputs.{Starts, InputSection}
@@ -26,7 +27,7 @@ use Rattle.rv_sources_link_laws.proofs.statements.SettledLemmas.{IsSettled, IsLa
 use Rattle.rv_sources_link_laws.proofs.names.KnownLemmas.{still, outer_in, meant_of}
 use Rattle.rv_sources_link_laws.proofs.names.GlobalsLemmas.{IsLow}
 use Rattle.rv_sources_link_laws.proofs.fields.WholesLemmas.{IsSound, IsWhole}
-use Rattle.rv_sources_link_laws.proofs.sections.SectionsLemmas.{split, each, AtOffsets, AreAt, at_laid, of_parts, meant_in}
+use Rattle.rv_sources_link_laws.proofs.sections.SectionsLemmas.{AtOffsets, AreAt, at_laid, of_parts, meant_in}
 use Rattle.rv_sources_link_laws.proofs.moves.ShrunkLemmas.{parts_of, parts, HasShrunkSize, IsSectionOf, AreSectionsOf}
 
 module _ (p : Program) (os : List Object) (starts : Starts) (file : ℕ) (laid : List LaidStatement) (number : Numbering) (o : Object) (sections : List SourceSection)
@@ -104,7 +105,7 @@ module _ (p : Program) (os : List Object) (starts : Starts) (file : ℕ) (laid :
         → AllByRecursion (λ (f : Open). Q (relocation_at number offset f)) fs → AllByRecursion (λ (f : Open). K f.ordinal f.symbol) fs
     known_fields offset [] h r = tt
     known_fields offset (f ∷ fs) h (r, rs) =
-        let both = split (IsNumbered t laid number o.symbols) (use_of f.ordinal f.symbol) (flat_map (λ (f : Open). use_of f.ordinal f.symbol) fs) h in
+        let both = each_split (IsNumbered t laid number o.symbols) (use_of f.ordinal f.symbol) (flat_map (λ (f : Open). use_of f.ordinal f.symbol) fs) h in
         (known_field f.ordinal f.symbol both.0 r.resolved, known_fields offset fs both.1 rs)
 
     known_parts : (offset : ℕ) (qs : List LaidPart) → AllByRecursion (λ q. AllByRecursion (IsNumbered t laid number o.symbols) (references_in q)) qs
@@ -143,9 +144,9 @@ module _ (p : Program) (os : List Object) (starts : Starts) (file : ℕ) (laid :
 
     pub facts : AllByRecursion Facts own
     facts =
-        facts_from own (laid_are_in sections index section laid at settled) (is.sizes loaded) (each Known (parts_of t) own known)
+        facts_from own (laid_are_in sections index section laid at settled) (is.sizes loaded) (each_flat_map Known (parts_of t) own known)
         (at_laid (AreAt Q number) t 0 own is.tile placed_parts)
-        (each (λ q. AllByRecursion (IsNumbered t laid number o.symbols) (references_in q)) (parts_of t) own (is.numbered loaded))
-        (all_filter (IsLow starts file) (λ s. s.located.section == index) laid whole.low)
-        (all_filter (λ z. IsSound t z.located) (λ s. s.located.section == index) laid whole.sound)
-        (all_filter (λ z. laid_at laid z.located.ordinal ≡ Some z) (λ s. s.located.section == index) laid whole.itself)
+        (each_flat_map (λ q. AllByRecursion (IsNumbered t laid number o.symbols) (references_in q)) (parts_of t) own (is.numbered loaded))
+        (each_filter (IsLow starts file) (λ s. s.located.section == index) laid whole.low)
+        (each_filter (λ z. IsSound t z.located) (λ s. s.located.section == index) laid whole.sound)
+        (each_filter (λ z. laid_at laid z.located.ordinal ≡ Some z) (λ s. s.located.section == index) laid whole.itself)

@@ -4,6 +4,7 @@ use Rattle.std.proofs.Common.{◌≡◌, ℕ, ◌+◌, ◌%◌, ◌<◌, Bool, t
 use Rattle.std.proofs.lemmas.Bool.{eq-eqb, eqb-true, ne_eqb}
 use Rattle.std.specs.Prelude.{◌^◌, ℤ, pos, not, ◌&&◌, ◌==◌, if◌then◌else◌, is_some, unwrap_or, option_map, option_and_then}
 use Rattle.std.specs.List.{AllByRecursion, slice_get, find}
+use Rattle.rv_list_laws.proofs.FindLemmas.{each_find}
 use Rattle.rv_isa.specs.Kinds.{is_low_part}
 use Rattle.rv_isa.specs.declared.kind.Kind.{Kind}
 use Rattle.rv_text_laws.specs.Expression.{Here}
@@ -27,7 +28,7 @@ use Rattle.rv_assemble_laws.specs.Symbols.{laid_at, after_statement, StandsFor}
 use Rattle.rv_assemble_laws.specs.IsObjectOf.{Numbering, relocation_at, relocations_from}
 use Rattle.rv_sources_link_laws.proofs.statements.StatementsLemmas.{mapped_at, mapped_from, row_address, laid_section}
 use Rattle.rv_sources_link_laws.proofs.statements.SettledLemmas.{IsSettled}
-use Rattle.rv_sources_link_laws.proofs.names.KnownLemmas.{still, all_found, outer_in}
+use Rattle.rv_sources_link_laws.proofs.names.KnownLemmas.{still, outer_in}
 use Rattle.rv_sources_link_laws.proofs.statements.OrderedLemmas.{its_section}
 use Rattle.rv_sources_link_laws.proofs.names.GlobalsLemmas.{IsLow}
 use Rattle.rv_sources_link_laws.proofs.fields.WholesLemmas.{IsWhole}
@@ -153,10 +154,10 @@ module _ (p : Program) (os : List Object) (starts : Starts) (file : ℕ) (laid :
       offset = add s.offset 0
 
       here : IsSettled sections s
-      here = all_found (IsSettled sections) (λ y. y.located.ordinal == d.ordinal) laid settled s low_is.found_at
+      here = each_find (IsSettled sections) (λ y. y.located.ordinal == d.ordinal) laid settled s low_is.found_at
 
       below : has_row s.located ≡ true → starts file j + s.offset < 2 ^ 64
-      below = all_found (IsLow starts file) (λ y. y.located.ordinal == d.ordinal) laid whole.low s low_is.found_at
+      below = each_find (IsLow starts file) (λ y. y.located.ordinal == d.ordinal) laid whole.low s low_is.found_at
 
       stands : statement_section p file d.ordinal ≡ Some j
       stands = whole.stands d.ordinal ∙ ap (laid_section starts) low_is.found_at

@@ -1,14 +1,16 @@
 -- The relocations of a section, part by part: what each makes of its own bytes is all that there is to show.
 
 use Rattle.std.proofs.Common.{◌≡◌, ℕ, zero, suc, ◌+◌, ◌<◌, ◌≤◌, Bool, true, false, List, [], ◌∷◌, ◌++◌, length, take, drop, refl, sym, ap, ◌∙◌, subst, arith, length-append, map, Some, None, inl, inr}
-use Rattle.std.proofs.lemmas.List.{length-replicate, append_assoc}
+use Rattle.std.proofs.lemmas.List.{append_assoc}
 use Rattle.std.specs.Prelude.{⊤, ℤ, pos, ◌+ℤ◌, ◌^◌, flat_map, Option, unwrap_or, option_map, option_and_then}
 use Rattle.std.specs.Int.{w64, int_wrap}
 use Rattle.std.specs.List.{AllByRecursion}
+use Rattle.rv_list_laws.proofs.TakeDropLemmas.{take_front, drop_front}
 use Rattle.rv_isa.specs.declared.kind.Kind.{Kind}
 use Rattle.rv_isa.specs.declared.kind.Kind.TheVariants.{Abs32, Abs64, Add8, Add16, Add32, Add64, Sub8, Sub16, Sub32, Sub64}
 use Rattle.rv_isa.specs.Kinds.{width_of}
 use Rattle.rv_isa_laws.specs.Bytes.{little_endian, number_in, zeros}
+use Rattle.rv_isa_laws.proofs.BytesLemmas.{little_long, zeros_long}
 use Rattle.rv_reloc_laws.specs.Fields.{patched, written as field_written}
 use Rattle.rv_text_laws.specs.Expression.{Primary}
 use Rattle.rv_text_laws.specs.Values.{Meaning, Constant, Symbolic, Difference, Faulty, add, subtract}
@@ -19,17 +21,8 @@ use Rattle.rv_assemble_laws.specs.LaidStatements.{LaidPart, laid_part, part_byte
 use Rattle.rv_assemble_laws.specs.IsObjectOf.{Numbering, relocation_at, relocations_from}
 use Rattle.rv_link_laws.specs.Values.{patched_at, applied}
 use Rattle.rv_sources_link_laws.proofs.fields.NumbersLemmas.{worth, address_32, address_64, difference_8, difference_16, difference_32, difference_64}
-pub use Rattle.rv_filling_laws.proofs.AllLemmas.{little_long}
 
 -- ---- lists
-
-take_front : (xs ys : List ℕ) → take (length xs) (xs ++ ys) ≡ xs
-take_front [] ys = refl
-take_front (x ∷ xs) ys = ap (λ l. x ∷ l) (take_front xs ys)
-
-drop_front : (xs ys : List ℕ) → drop (length xs) (xs ++ ys) ≡ ys
-drop_front [] ys = refl
-drop_front (x ∷ xs) ys = drop_front xs ys
 
 pub take_drop : (n : ℕ) (xs : List ℕ) → take n xs ++ drop n xs ≡ xs
 take_drop zero [] = refl
@@ -96,9 +89,6 @@ is_data Sub16 = true
 is_data Sub32 = true
 is_data Sub64 = true
 is_data _ = false
-
-zeros_long : (n : ℕ) → length (zeros n) ≡ n
-zeros_long n = length-replicate {A = ℕ} n 0
 
 -- ---- the parts of a section
 

@@ -3,6 +3,7 @@
 use Rattle.std.proofs.Common.{◌≡◌, ℕ, zero, suc, ◌+◌, ◌%◌, ◌≤◌, ◌<◌, Bool, true, false, Option, List, [], ◌∷◌, ◌++◌, length, length-append, map, refl, sym, ap, ◌∙◌, subst, arith, ◌⊎◌, inl, inr}
 use Rattle.std.specs.Prelude.{⊤, ◌&&◌, flat_map, unwrap_or}
 use Rattle.std.specs.List.{AllByRecursion}
+use Rattle.rv_list_laws.proofs.EachLemmas.{each_append}
 use Rattle.rv_isa.specs.declared.kind.Kind.{Kind}
 use Rattle.rv_isa.specs.declared.kind.Kind.TheVariants as kinds
 use Rattle.rv_isa.specs.Kinds.{width_of}
@@ -16,17 +17,17 @@ use Rattle.rv_source_laws.proofs.HeldLemmas.{IsHeld}
 use Rattle.rv_object_laws.specs.Object.{Relocation}
 use Rattle.rv_object_laws.specs.Padding.{no_operations}
 use Rattle.rv_parcel.specs.declared.form.Compressed.{Compressed}
+use Rattle.rv_object_laws.proofs.NopsLemmas.{length_even}
 use Rattle.rv_assemble_laws.specs.Coded.{IsCodedPart, AreCodedParts}
 use Rattle.rv_assemble_laws.specs.Templates.{Template, Fixed, Datum, Coded, Open, template_fields, padding_templates}
 use Rattle.rv_assemble_laws.specs.LaidStatements.{LaidStatement, expression_value, laid_part, part_bytes, coded_templates, HasSize}
 use Rattle.rv_assemble_laws.specs.IsObjectOf.{Numbering, relocation_at, relocations_from}
+use Rattle.rv_filling_laws.proofs.AllLemmas.{encoded_long}
 use Rattle.rv_sources_link_laws.proofs.sections.AssembledLemmas.{assembled_templates, parts_of}
-use Rattle.rv_sources_link_laws.proofs.statements.CodingLemmas.{encoded_long, encoded_two_or_four, joined_long}
+use Rattle.rv_sources_link_laws.proofs.statements.CodingLemmas.{encoded_two_or_four, joined_long}
 use Rattle.rv_sources_link_laws.proofs.statements.FieldedLemmas.{part_kinds}
 use Rattle.rv_sources_link_laws.proofs.statements.MarkedLemmas.{part_fields}
-use Rattle.rv_sources_link_laws.proofs.statements.NopsLemmas.{nops_long}
 use Rattle.rv_sources_link_laws.proofs.statements.PadsLemmas.{IsPlainLaid, IsPadLaid, bare_before, sort_of}
-use Rattle.rv_assemble_laws.proofs.ListsLemmas.{join}
 use Rattle.rv_sources_link_laws.proofs.statements.SettledLemmas.{IsLaidIn}
 use Rattle.rv_sources_link_laws.proofs.moves.WalkLemmas.{power_some}
 
@@ -76,7 +77,7 @@ module _ (number : Numbering) where
       let rest = length (flat_map part_bytes (map (laid_part ordinal) ts)) in
       let both : length (part_bytes (laid_part ordinal q) ++ flat_map part_bytes (map (laid_part ordinal) ts)) ≡ own + rest = length-append (part_bytes (laid_part ordinal q)) (flat_map part_bytes (map (laid_part ordinal) ts)) in
       subst (λ n. AllByRecursion (InRange o n) (relocations_from number o (map (laid_part ordinal) (q ∷ ts)))) (sym both)
-      (join (InRange o (own + rest)) (map (relocation_at number o) (template_fields ordinal q)) (relocations_from number (o + own) (map (laid_part ordinal) ts))
+      (each_append (InRange o (own + rest)) (map (relocation_at number o) (template_fields ordinal q)) (relocations_from number (o + own) (map (laid_part ordinal) ts))
       (wider o own (own + rest) (map (relocation_at number o) (template_fields ordinal q)) (omega arith) (own_range o ordinal q h))
       (further o rest own (relocations_from number (o + own) (map (laid_part ordinal) ts)) (ranges (o + own) ordinal ts hs)))
 
@@ -114,7 +115,7 @@ coded_solid t v z named c (p ∷ ps) (bytes ∷ coded) (h, hs) = (part_solid t v
 padding_solid : (b : Bool) (ordinal bytes : ℕ) → bytes % 2 ≡ 0 → AllByRecursion IsSolid (padding_templates b ordinal bytes)
 padding_solid true ordinal zero even = tt
 padding_solid true ordinal (suc n) even =
-    let long : length (no_operations (suc n)) ≡ suc n = nops_long (suc n) even in
+    let long : length (no_operations (suc n)) ≡ suc n = length_even (suc n) even in
     (((omega arith, (let f : 0 < length (no_operations (suc n)) = omega (arith, long) in f)), tt), tt)
 padding_solid false ordinal bytes even = (tt, tt)
 

@@ -5,6 +5,8 @@ use Rattle.std.proofs.lemmas.Bool.{and_parts, eq-eqb}
 use Rattle.std.proofs.lemmas.List.Folds.{list_any-append}
 use Rattle.std.specs.Prelude.{⊤, not, ◌&&◌, ◌||◌, ◌==◌, if◌then◌else◌, option_and_then, bytes_eq, slice_index_or}
 use Rattle.std.specs.List.{AllByRecursion, list_any, slice_get}
+use Rattle.rv_list_laws.proofs.FindLemmas.{each_find}
+use Rattle.rv_list_laws.proofs.EachLemmas.{each_map}
 use Rattle.rv_text_laws.specs.Expression.{Primary, Symbol as Named, Literal, Here, Reference}
 use Rattle.rv_text_laws.specs.Values.{Meaning, Known, InSection as InData, Open as OpenAddress, Refused, add}
 use Rattle.rv_statement_laws.specs.Statement.{StatementKind, Label, Numbered, Instruction, Directs, Statement, Enters, Sets}
@@ -39,8 +41,7 @@ use Rattle.rv_sources_link_laws.proofs.names.MadeLemmas.{rises}
 use Rattle.rv_sources_link_laws.proofs.sections.FiledLemmas as filed
 use Rattle.rv_sources_link_laws.proofs.sections.FiledLemmas.{offsets_low}
 use Rattle.rv_sources_link_laws.proofs.calls.FinalsLemmas.{IsFinalFile, AreFinal}
-use Rattle.rv_sources_link_laws.proofs.names.KnownLemmas.{all_found}
-use Rattle.rv_sources_link_laws.proofs.moves.MovedLemmas.{all_map, IsBound, AddsInData, adds}
+use Rattle.rv_sources_link_laws.proofs.moves.MovedLemmas.{IsBound, AddsInData, adds}
 use Rattle.rv_sources_link_laws.proofs.statements.OrderedLemmas.{its_section}
 use Rattle.rv_sources_link_laws.proofs.moves.PiecesLemmas.{ArePieces, lines}
 use Rattle.rv_sources_link_laws.proofs.moves.PiecesOfLemmas.{size_is}
@@ -122,7 +123,7 @@ pub all_settled : (ss : List Statement) (o : Object) (is : IsKept ss o) → AllB
 all_settled ss o is = settled_left ss is.laid is.dropped is.good is.located
 
 pub firsts : (ss : List Statement) (o : Object) (is : IsKept ss o) → AllByRecursion (IsFirst is.laid) is.laid
-firsts ss o is = all_map (λ z. (1 ≤ z.located.ordinal) × IsFirst is.laid z) (IsFirst is.laid) is.laid (λ z k. k.1) (found_left 1 (at_start ss) ss is.dropped is.laid is.located)
+firsts ss o is = each_map (λ z. (1 ≤ z.located.ordinal) × IsFirst is.laid z) (IsFirst is.laid) is.laid (λ z k. k.1) (found_left 1 (at_start ss) ss is.dropped is.laid is.located)
 
 -- no statement stands beyond its section
 abbrev IsLow : Object → LaidStatement → Type 0
@@ -190,7 +191,7 @@ module _ (p : Program) (starts : Starts) (at : ℕ → List LaidStatement) (size
     place_at n z offset found placed same = go (source_text z.located.home) refl
       where
         k : IsSettled (source_sections is.dropped ss) z
-        k = all_found (IsSettled (source_sections is.dropped ss)) (λ z. z.located.ordinal == n) is.laid (all_settled ss o is) z found
+        k = each_find (IsSettled (source_sections is.dropped ss)) (λ z. z.located.ordinal == n) is.laid (all_settled ss o is) z found
 
         found_x : (x : Section) × (slice_get o.sections z.located.section ≡ Some x) × IsSectionOf (tables ss) is.laid is.number o.symbols z.located.section z.located.home (laid_in z.located.section is.laid) x
         found_x = section_of ss o is z.located.section z.located.home k.home
@@ -213,7 +214,7 @@ module _ (p : Program) (starts : Starts) (at : ℕ → List LaidStatement) (size
         go : (b : Bool) → source_text z.located.home ≡ b → text_to (Some (put f z.located.section offset)) ≡ aim_at line (aim f n)
         go true text =
             let low : offset ≤ size_of x.contents =
-            subst (λ m. m ≤ size_of x.contents) (sym (same text)) (all_found (IsLow o) (λ z. z.located.ordinal == n) is.laid (lows ss o is) z found x found_x.1) in
+            subst (λ m. m ≤ size_of x.contents) (sym (same text)) (each_find (IsLow o) (λ z. z.located.ordinal == n) is.laid (lows ss o is) z found x found_x.1) in
             let inside : is_text_place os (Some (put f z.located.section offset)) ≡ true = in_object ∙ flags ∙ text in
             let within : moving (home os (put f z.located.section offset)) offset ≡ offset = ap (λ y. moving y offset) home_is ∙ (let e : min offset (size_of x.contents) ≡ offset = omega (arith, low) in e) in
             let none : past_end (home os (put f z.located.section offset)) offset ≡ 0 = ap (λ y. past_end y offset) home_is ∙ (let e : offset - size_of x.contents ≡ 0 = omega (arith, low) in e) in
@@ -262,7 +263,7 @@ module _ (p : Program) (starts : Starts) (at : ℕ → List LaidStatement) (size
         → option_and_then (aim_at line) (defined_aim t (renumbered f z.located) kind) ≡ text_to (place_in f (statement_definition t is.laid z kind))
     aim_kind z (Label n) name itself labelled e = sym (place_at z.located.ordinal z z.offset itself (labelled n refl) (λ text. refl))
     aim_kind z (Directs (Sets n x)) name itself labelled e =
-        sym (assigned_place (assigned_ever t.assignments n) (λ a k. all_found (StandsInData is.laid) (λ s. bytes_eq s.name n) t.assignments is.places a k))
+        sym (assigned_place (assigned_ever t.assignments n) (λ a k. each_find (StandsInData is.laid) (λ s. bytes_eq s.name n) t.assignments is.places a k))
     aim_kind z (Numbered digits) name itself labelled e = absurd (cc)
     aim_kind z (Instruction m ops) name itself labelled e = absurd (cc)
     aim_kind z (Directs (Enters section)) name itself labelled e = absurd (cc)
@@ -364,7 +365,7 @@ module _ (p : Program) (starts : Starts) (at : ℕ → List LaidStatement) (size
           ∙ place_at f ss o is here d.ordinal z (add z.offset d.plus) found placed (λ text. stays text (adds (tables ss) is.laid is.places ordinal name d e))
         where
           low : source_text z.located.home ≡ true → z.offset ≤ longest_section
-          low text = all_found IsBound (λ z. z.located.ordinal == d.ordinal) is.laid (short_bounds ss o is) z found
+          low text = each_find IsBound (λ z. z.located.ordinal == d.ordinal) is.laid (short_bounds ss o is) z found
               (and_parts z.located.home.loaded z.located.home.executable text).1
 
           stays : source_text z.located.home ≡ true → AddsInData (tables ss) is.laid is.places d → add z.offset d.plus ≡ z.offset

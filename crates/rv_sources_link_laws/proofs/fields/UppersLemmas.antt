@@ -1,10 +1,13 @@
 -- The upper parts of distances: which statements of a section have one, and its value.
 
-use Rattle.std.proofs.Common.{◌≡◌, ℕ, ◌+◌, ◌<◌, ◌≤◌, Bool, true, false, List, [], ◌∷◌, ◌++◌, length, length-append, refl, sym, ap, ◌∙◌, subst, arith, map, Option, Some, None, ◌⊎◌, inl, inr}
+use Rattle.std.proofs.Common.{◌≡◌, ℕ, ◌+◌, ◌<◌, ◌≤◌, Bool, true, false, List, [], ◌∷◌, ◌++◌, length, refl, sym, ap, ◌∙◌, subst, arith, map, Option, Some, None, ◌⊎◌, inl, inr}
 use Rattle.std.proofs.lemmas.Bool.{eq-eqb, ne_eqb}
 use Rattle.std.proofs.lemmas.List.Sums.{sum_by-cons}
 use Rattle.std.specs.Prelude.{⊤, ℤ, ◌&&◌, ◌||◌, ◌==◌, if◌then◌else◌, flat_map, unwrap_or, option_and_then}
 use Rattle.std.specs.List.{AllByRecursion, slice_get, find, list_any}
+use Rattle.rv_list_laws.proofs.ElementsLemmas.{append_none_parts}
+use Rattle.rv_list_laws.proofs.EachLemmas.{each_map}
+use Rattle.rv_list_laws.proofs.FindLemmas.{find_join, find_front}
 use Rattle.rv_isa.specs.declared.instruction.Inst.{Inst}
 use Rattle.rv_isa.specs.declared.kind.Kind.{Kind}
 use Rattle.rv_isa.specs.declared.kind.Kind.TheVariants as kind
@@ -22,8 +25,6 @@ use Rattle.rv_map_laws.specs.Limits.{IsGlobal}
 use Rattle.rv_source_laws.specs.Located.{has_row}
 use Rattle.rv_source_laws.specs.Program.{Mapped, Program, tables_in, address_at, address as address_in, number as number_of}
 use Rattle.rv_source_laws.specs.Lines.{other_operand, operand_of, operand_number, target as target_in, distance, takes_upper, is_upper_at}
-use Rattle.rv_source_laws.proofs.HeldLemmas.{none_left}
-use Rattle.rv_source_laws.proofs.HomesLemmas.{all_map}
 use Rattle.rv_object_laws.specs.Object.{Relocation, Section, Object}
 use Rattle.rv_link_laws.specs.Moves.{alignments_of}
 use Rattle.rv_link_laws.specs.Inputs.{Starts}
@@ -34,9 +35,10 @@ use Rattle.rv_assemble_laws.specs.Coded.{constants, AreCodedParts, IsCode, part_
 use Rattle.rv_pseudo_laws.specs.InstructionFaults.{operand_faults, scratch_faults, own_faults, else_unplaced, has_row as has_operands_row}
 use Rattle.rv_assemble_laws.specs.InstructionFaults.{instruction_faults, worths, is_label}
 use Rattle.rv_assemble_laws.specs.Templates.{Template, Fixed, Datum, Coded, Open, open_at, value_fields, template_fields}
-use Rattle.rv_assemble_laws.specs.LaidStatements.{LaidStatement, LaidPart, expression_value, laid_part, part_bytes, coded_templates, laid_in}
+use Rattle.rv_assemble_laws.specs.LaidStatements.{LaidStatement, expression_value, laid_part, part_bytes, coded_templates, laid_in}
 use Rattle.rv_assemble_laws.specs.Symbols.{laid_at}
 use Rattle.rv_assemble_laws.specs.IsObjectOf.{Numbering, relocation_at, relocations_from}
+use Rattle.rv_assemble_laws.proofs.IsObjectOfLemmas.{relocations_join}
 use Rattle.rv_sources_link_laws.proofs.statements.StatementsLemmas.{mapped_at, mapped_from, row_address}
 use Rattle.rv_sources_link_laws.proofs.names.KnownLemmas.{outer_in}
 use Rattle.rv_sources_link_laws.proofs.statements.SettledLemmas.{IsSettled}
@@ -54,42 +56,6 @@ use Rattle.rv_sources_link_laws.proofs.moves.ShrunkLemmas.{parts_of, parts, shru
 pub none_of_its_own : (placed : Bool) (faults : List ℕ) → else_unplaced placed faults ≡ [] → faults ≡ []
 none_of_its_own placed [] e = refl
 none_of_its_own placed (code ∷ codes) e = absurd (cc)
-
--- ---- searches
-
-pub find_join : {X : Type 0} (test : X → Bool) (xs ys : List X) → find test xs ≡ None → find test (xs ++ ys) ≡ find test ys
-find_join test [] ys e = refl
-find_join test (z ∷ xs) ys e = go (test z) e (find_join test xs ys)
-  where
-    go : (b : Bool) → (if b then Some z else find test xs) ≡ None → (find test xs ≡ None → find test (xs ++ ys) ≡ find test ys)
-        → (if b then Some z else find test (xs ++ ys)) ≡ find test ys
-    go true f ih = absurd (cc)
-    go false f ih = ih f
-
-pub find_front : {X : Type 0} (test : X → Bool) (xs ys : List X) (r : X) → find test xs ≡ Some r → find test (xs ++ ys) ≡ Some r
-find_front test [] ys r e = absurd (cc)
-find_front test (z ∷ xs) ys r e = go (test z) e (find_front test xs ys r)
-  where
-    go : (b : Bool) → (if b then Some z else find test xs) ≡ Some r → (find test xs ≡ Some r → find test (xs ++ ys) ≡ Some r)
-        → (if b then Some z else find test (xs ++ ys)) ≡ Some r
-    go true f ih = f
-    go false f ih = ih f
-
-pub relocations_join : (number : Numbering) (offset : ℕ) (xs ys : List LaidPart)
-    → relocations_from number offset (xs ++ ys) ≡ relocations_from number offset xs ++ relocations_from number (offset + length (flat_map part_bytes xs)) ys
-relocations_join number offset [] ys = ap (λ n. relocations_from number n ys) (let e : offset ≡ offset + 0 = omega arith in e)
-relocations_join number offset (q ∷ xs) ys =
-    let next = offset + length (part_bytes q) in
-    let fs = map (relocation_at number offset) (template_fields q.ordinal q.template) in
-    let long : length (part_bytes q ++ flat_map part_bytes xs) ≡ length (part_bytes q) + length (flat_map part_bytes xs) = length-append (part_bytes q) (flat_map part_bytes xs) in
-    ap (λ l. fs ++ l) (relocations_join number next xs ys)
-    ∙ ap (λ n. fs ++ (relocations_from number next xs ++ relocations_from number n ys))
-    (let e : next + length (flat_map part_bytes xs) ≡ offset + length (part_bytes q ++ flat_map part_bytes xs) = omega (arith, long) in e)
-    ∙ sym (assoc fs (relocations_from number next xs) (relocations_from number (offset + length (flat_map part_bytes (q ∷ xs))) ys))
-  where
-    assoc : (as' bs cs : List Relocation) → (as' ++ bs) ++ cs ≡ as' ++ (bs ++ cs)
-    assoc [] bs cs = refl
-    assoc (r ∷ as') bs cs = ap (λ l. r ∷ l) (assoc as' bs cs)
 
 -- ---- fields that are no upper parts
 
@@ -303,7 +269,7 @@ module _ (p : Program) (os : List Object) (starts : Starts) (file : ℕ) (laid :
         fault_none oper f =
             let all = subst (λ k. instruction_faults (v z) (is_label T z.located.ordinal) k ≡ []) e h.sound in
             other_fault (worths (v z) (is_label T z.located.ordinal)) mnemonic os' oper f
-            (none_left (scratch_faults mnemonic os') _ (none_of_its_own (has_operands_row (constants (v z)) mnemonic os') (own_faults (worths (v z) (is_label T z.located.ordinal)) mnemonic os') all)).1
+            (append_none_parts (scratch_faults mnemonic os') _ (none_of_its_own (has_operands_row (constants (v z)) mnemonic os') (own_faults (worths (v z) (is_label T z.located.ordinal)) mnemonic os') all)).1
 
         pub operand_as : (oper : Operand) → other_operand os' ≡ Some oper → operand_of z.located.kind ≡ Some oper
         operand_as oper f = ap operand_of e ∙ f
@@ -443,7 +409,7 @@ module _ (p : Program) (os : List Object) (starts : Starts) (file : ℕ) (laid :
     later : (off : ℕ) (zs : List LaidStatement) → Tile T off zs → AllByRecursion (λ z. off ≤ z.offset) zs
     later off [] tile = tt
     later off (z ∷ zs) (here, size, tile) =
-        (omega (arith, here), all_map (λ y. off + z.bytes ≤ y.offset) (λ y. off ≤ y.offset) zs (λ y l. omega (arith, l)) (later (off + z.bytes) zs tile))
+        (omega (arith, here), each_map (λ y. off + z.bytes ≤ y.offset) (λ y. off ≤ y.offset) zs (λ y l. omega (arith, l)) (later (off + z.bytes) zs tile))
 
     abbrev pub IsOwn : ℕ → List LaidStatement → LaidStatement → Type 0
     IsOwn off zs z = (k : HasUpper z) → find (IsUpperAt z.offset) (relocations_from number off (parts T zs)) ≡ Some (relocation_at number z.offset k.field)

@@ -23,9 +23,9 @@ use Rattle.rv_assemble_laws.specs.Symbols.{laid_at}
 use Rattle.rv_assemble_laws.specs.InstructionFaults.{is_label}
 use Rattle.rv_assemble_laws.specs.Refusals.{code_fault, code_fault_from, code_faults_at, else_fault, statements_fault}
 use Rattle.rv_assemble_laws.specs.IsObjectOf.{Numbering, relocation_at}
+use Rattle.rv_assemble_laws.proofs.LaidStatementsLemmas.{of_located}
 use Rattle.rv_sources_link_laws.proofs.statements.StatementsLemmas.{mapped_from, laid_section}
 use Rattle.rv_sources_link_laws.proofs.sections.MaskedLemmas.{all_masked}
-use Rattle.rv_sources_link_laws.proofs.statements.SettledLemmas.{of_located}
 use Rattle.rv_sources_link_laws.proofs.names.LabelsLemmas.{labels_stand}
 use Rattle.rv_sources_link_laws.proofs.names.KnownLemmas.{outer_in}
 use Rattle.rv_sources_link_laws.proofs.names.PairLemmas.{AreGiven}

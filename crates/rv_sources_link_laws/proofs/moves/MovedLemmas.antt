@@ -4,6 +4,9 @@ use Rattle.std.proofs.Common.{◌≡◌, ℕ, ◌-◌, ◌≤◌, Bool, true, fa
 use Rattle.std.proofs.lemmas.List.{map-append}
 use Rattle.std.specs.Prelude.{◌&&◌, ◌==◌, if◌then◌else◌, filter, flat_map, bytes_eq, nat_lt}
 use Rattle.std.specs.List.{AllByRecursion, slice_get}
+use Rattle.rv_list_laws.proofs.FindLemmas.{each_find}
+use Rattle.std.proofs.lemmas.Option.{slice_get-map}
+use Rattle.rv_list_laws.proofs.EachLemmas.{each_map}
 use Rattle.rv_text_laws.specs.Bytes.{digits_value}
 use Rattle.rv_text_laws.specs.Expression.{Primary, Symbol as Named, Literal, Here, Reference}
 use Rattle.rv_text_laws.specs.Values.{Meaning, Known, InSection as InData, Open as OpenAddress, Refused, add}
@@ -21,12 +24,6 @@ use Rattle.rv_assemble_laws.specs.LaidStatements.{LaidStatement, LaidPart}
 use Rattle.rv_assemble_laws.specs.Symbols.{SymbolUse, references_in, laid_at, after_found, assigned_definition, statement_definition, shared_symbol, exports_of, IsNamed, IsOwn, IsOuter, IsDefinedBy, StandsFor}
 use Rattle.rv_assemble_laws.specs.IsObjectOf.{Numbering, IsNumbered, IsInData, StandsInData}
 use Rattle.rv_sources_link_laws.proofs.names.ExportedLemmas.{is_exported}
-use Rattle.rv_sources_link_laws.proofs.names.KnownLemmas.{all_found}
-use Rattle.rv_sources_link_laws.proofs.moves.ShrinkingLemmas.{slice_map}
-
-pub all_map : {X : Type 0} (P Q : X → Type 0) (xs : List X) → ((x : X) → P x → Q x) → AllByRecursion P xs → AllByRecursion Q xs
-all_map P Q [] f h = tt
-all_map P Q (x ∷ xs) f (h, hs) = (f x h, all_map P Q xs f hs)
 
 -- what holds of the statements of code: none stands beyond the longest section
 abbrev pub IsBound : LaidStatement → Type 0
@@ -71,12 +68,12 @@ module _ (t : Tables) (laid : List LaidStatement) (places : AllByRecursion (Stan
       ever = assigned_ever t.assignments name
 
       second : (l : Option Labelled) → labelled_definition l (defined_by ever) ≡ Some d → AddsInData d
-      second None e = of_assignment ever (λ a k. all_found (StandsInData laid) (λ s. bytes_eq s.name name) t.assignments places a k) d e
+      second None e = of_assignment ever (λ a k. each_find (StandsInData laid) (λ s. bytes_eq s.name name) t.assignments places a k) d e
       second (Some l) e = stood d l.ordinal e
 
       first : (x : Option Definition) → defined_by before ≡ x → first_definition x (labelled_definition (label_of t.labels true ordinal name) (defined_by ever)) ≡ Some d → AddsInData d
       first None k e = second (label_of t.labels true ordinal name) e
-      first (Some c) k e = of_assignment before (λ a k. all_found (StandsInData laid) (λ s. nat_lt s.ordinal ordinal && bytes_eq s.name name) t.assignments places a k) d (k ∙ e)
+      first (Some c) k e = of_assignment before (λ a k. each_find (StandsInData laid) (λ s. nat_lt s.ordinal ordinal && bytes_eq s.name name) t.assignments places a k) d (k ∙ e)
 
 module _ (t : Tables) (laid : List LaidStatement) (places : AllByRecursion (StandsInData laid) t.assignments) (bounds : AllByRecursion IsBound laid)
     (moves : ℕ → List Move) (still : AllByRecursion (λ z. z.located.home.executable ≡ false → moves z.located.section ≡ []) laid)
@@ -126,10 +123,10 @@ module _ (t : Tables) (laid : List LaidStatement) (places : AllByRecursion (Stan
           by false ih = ih
 
   still_at : (n : ℕ) (z : LaidStatement) → laid_at laid n ≡ Some z → z.located.home.executable ≡ false → moves z.located.section ≡ []
-  still_at n z e = all_found (λ z. z.located.home.executable ≡ false → moves z.located.section ≡ []) (λ z. z.located.ordinal == n) laid still z e
+  still_at n z e = each_find (λ z. z.located.home.executable ≡ false → moves z.located.section ≡ []) (λ z. z.located.ordinal == n) laid still z e
 
   bound_at : (n : ℕ) (z : LaidStatement) → laid_at laid n ≡ Some z → IsBound z
-  bound_at n z e = all_found IsBound (λ z. z.located.ordinal == n) laid bounds z e
+  bound_at n z e = each_find IsBound (λ z. z.located.ordinal == n) laid bounds z e
 
   -- a place after a statement moves with the statement
   place_moves : (z : LaidStatement) (plus : ℕ) → (z.located.home.executable ≡ false → moves z.located.section ≡ []) → IsBound z → (plus ≡ 0) ⊎ (z.located.home.executable ≡ false)
@@ -199,12 +196,12 @@ module _ (t : Tables) (laid : List LaidStatement) (places : AllByRecursion (Stan
 
   pub uses_same : (number : Numbering) (symbols : List Symbol) (p : LaidPart)
       → AllByRecursion (IsNumbered t laid number symbols) (references_in p) → AllByRecursion (IsNumbered t laid' number (map moved_symbol symbols)) (references_in p)
-  uses_same number symbols p h = all_map (IsNumbered t laid number symbols) (IsNumbered t laid' number (map moved_symbol symbols)) (references_in p) use_same h
+  uses_same number symbols p h = each_map (IsNumbered t laid number symbols) (IsNumbered t laid' number (map moved_symbol symbols)) (references_in p) use_same h
     where
       use_same : (r : SymbolUse) → IsNumbered t laid number symbols r → IsNumbered t laid' number (map moved_symbol symbols) r
       use_same r h =
           let n = number r.ordinal r.symbol in
-          subst (λ x. StandsFor t laid' r.ordinal r.symbol x) (sym (slice_map moved_symbol symbols n)) (stands_same r.ordinal r.symbol (slice_get symbols n) h)
+          subst (λ x. StandsFor t laid' r.ordinal r.symbol x) (sym (slice_get-map moved_symbol symbols n)) (stands_same r.ordinal r.symbol (slice_get symbols n) h)
 
   -- ---- exported symbols
 
@@ -234,7 +231,7 @@ module _ (t : Tables) (laid : List LaidStatement) (places : AllByRecursion (Stan
   definition_moves z (Numbered number) = here_moves z
   definition_moves z (Instruction m os) = here_moves z
   definition_moves z (Directs (Sets name e)) =
-      assigned_moves (assigned_ever t.assignments name) (λ a k. all_found (StandsInData laid) (λ s. bytes_eq s.name name) t.assignments places a k)
+      assigned_moves (assigned_ever t.assignments name) (λ a k. each_find (StandsInData laid) (λ s. bytes_eq s.name name) t.assignments places a k)
   definition_moves z (Directs (Enters section)) = here_moves z
   definition_moves z (Directs _) = here_moves z
 
@@ -259,7 +256,7 @@ module _ (t : Tables) (laid : List LaidStatement) (places : AllByRecursion (Stan
   located_same (z ∷ zs) = ap (λ l. l ∷ map (λ (z : LaidStatement). z.located) (map mv zs)) (stays z) ∙ ap (λ l. z.located ∷ l) (located_same zs)
 
   pub places_same : (as' : List Assignment) → AllByRecursion (StandsInData laid) as' → AllByRecursion (StandsInData laid') as'
-  places_same as' h = all_map (StandsInData laid) (StandsInData laid') as' (λ a k l. subst IsInData (sym (statement_same a.ordinal)) (go (laid_at laid a.ordinal) (k l))) h
+  places_same as' h = each_map (StandsInData laid) (StandsInData laid') as' (λ a k l. subst IsInData (sym (statement_same a.ordinal)) (go (laid_at laid a.ordinal) (k l))) h
     where
       go : (y : Option LaidStatement) → IsInData y → IsInData (option_map mv y)
       go None k = tt

@@ -5,6 +5,7 @@ use Rattle.std.proofs.lemmas.Bool.{and_parts, eq-eqb}
 use Rattle.std.proofs.lemmas.List.Sums.{sum_by-cons}
 use Rattle.std.specs.Prelude.{⊤, ◌&&◌, ◌==◌, IsTrue, if◌then◌else◌}
 use Rattle.std.specs.List.{AllByRecursion}
+use Rattle.rv_list_laws.proofs.EachLemmas.{each_append}
 use Rattle.rv_unit_laws.specs.Sections.{Section as SourceSection, goes_to_text as source_text}
 use Rattle.rv_unit_laws.specs.Tables.{Tables}
 use Rattle.rv_source_laws.specs.Located.{Located, has_row}
@@ -20,7 +21,6 @@ use Rattle.rv_link_laws.specs.Shortened.{Sizes}
 use Rattle.rv_assemble_laws.specs.LaidStatements.{LaidStatement, expression_value, laid_in, end_of}
 use Rattle.rv_sources_link_laws.proofs.sections.AssembledLemmas.{Tile}
 use Rattle.rv_sources_link_laws.proofs.calls.FinalsLemmas.{IsFinal}
-use Rattle.rv_assemble_laws.proofs.ListsLemmas.{join}
 use Rattle.rv_sources_link_laws.proofs.statements.SettledLemmas.{IsLaidIn}
 use Rattle.rv_sources_link_laws.proofs.statements.StatementsLemmas.{renumbered, mapped_at, mapped_from}
 
@@ -223,6 +223,6 @@ module _ (p : Program) (starts : Starts) (at : ℕ → List LaidStatement) (size
       let here : (n : ℕ) → sizes i.file i.index n ≡ size (first + n) = λ n.
       q n ∙ ap (λ b. size (off + (start_padding i.section + (if b then 0 else size_of i.section.contents + base_in is i.file i.index)) + n)) (both_same i.file i.index)
       ∙ ap size (let x = start_padding i.section in let e : off + (x + 0) + n ≡ off + x + n = omega arith in e) in
-      join (λ x. IsTrue (is_call_statement x.site.located.kind) → x.site.row.bytes ≡ size x.offset) (line_at first i b h) (lines (first + size_of i.section.contents) is bs hs)
+      each_append (λ x. IsTrue (is_call_statement x.site.located.kind) → x.site.row.bytes ≡ size x.offset) (line_at first i b h) (lines (first + size_of i.section.contents) is bs hs)
       (bytes_are i.file h.t h.tables h.final h.stays i.index h.s h.text (sizes i.file) size first here (own i) h.inside h.finals)
       (have_bytes size (first + size_of i.section.contents) is bs hs as' (later_line size off i is is a qs))

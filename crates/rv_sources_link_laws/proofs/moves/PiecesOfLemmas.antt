@@ -4,23 +4,23 @@ use Rattle.std.proofs.Common.{◌≡◌, ℕ, zero, suc, ◌+◌, ◌≤◌, Boo
 use Rattle.std.proofs.lemmas.Bool.{and_parts, ne_eqb}
 use Rattle.std.specs.Prelude.{◌&&◌, ◌==◌, if◌then◌else◌, flat_map}
 use Rattle.std.specs.List.{AllByRecursion, slice_get}
+use Rattle.rv_list_laws.proofs.FilterLemmas.{each_filter}
+use Rattle.rv_list_laws.proofs.EachLemmas.{each_append}
 use Rattle.rv_layout_laws.specs.Alignment.{aligned}
 use Rattle.rv_statement_laws.specs.Statement.{Statement}
-use Rattle.rv_unit_laws.specs.declared.section_type.SectionType.{SectionType}
-use Rattle.rv_unit_laws.specs.declared.section_type.SectionType.TheVariants as types
 use Rattle.rv_unit_laws.specs.Sections.{Section as SourceSection, goes_to_text as source_text}
 use Rattle.rv_unit_laws.specs.Tables.{Tables, tables, opened_of}
 use Rattle.rv_source_laws.specs.Located.{Located, without_address}
 use Rattle.rv_source_laws.specs.Program.{Program}
 use Rattle.rv_source_laws.specs.Fits as source
-use Rattle.rv_source_laws.proofs.HomesLemmas.{all_filter}
 use Rattle.rv_map_laws.specs.declared.map.SectionId.{SectionId}
 use Rattle.rv_collect_laws.specs.Graph.{is_dropped}
 use Rattle.rv_object_laws.specs.Object.{Section, Object, size_of}
 use Rattle.rv_link_laws.specs.Inputs.{Starts, InputSection, goes_to_text, inputs_from, inputs_of, begins_at}
 use Rattle.rv_link_laws.specs.Shortened.{Sizes}
 use Rattle.rv_assemble_laws.specs.LaidStatements.{LaidStatement, part_bytes, laid_in, end_of}
-use Rattle.rv_assemble_laws.specs.IsObjectOf.{Numbering, contents_of}
+use Rattle.rv_assemble_laws.specs.IsObjectOf.{Numbering}
+use Rattle.rv_assemble_laws.proofs.IsObjectOfLemmas.{stored_size}
 use Rattle.rv_sources_link_laws.proofs.sections.MaskedLemmas.{masked_sections, source_sections, stays}
 use Rattle.rv_sources_link_laws.proofs.statements.OrderedLemmas.{filled}
 use Rattle.rv_sources_link_laws.proofs.sections.KeptLemmas.{IsKept, AreKept, AreMasked}
@@ -28,7 +28,6 @@ use Rattle.rv_sources_link_laws.proofs.sections.AssembledLemmas.{Tile, parts, Is
 use Rattle.rv_sources_link_laws.proofs.sections.FilesLemmas.{IsFile, AreFiles}
 use Rattle.rv_sources_link_laws.proofs.calls.FinalsLemmas.{IsFinal, IsFinalFile, AreFinal}
 use Rattle.rv_sources_link_laws.proofs.moves.PiecesLemmas.{IsPiece, ArePieces, pieces_join, is_same, Apart}
-use Rattle.rv_assemble_laws.proofs.ListsLemmas.{join}
 use Rattle.rv_sources_link_laws.proofs.statements.SettledLemmas.{settled_left, IsLaidIn, laid_are_in}
 use Rattle.rv_sources_link_laws.proofs.moves.ShrinksLemmas.{tidy_at}
 use Rattle.rv_sources_link_laws.proofs.moves.ShrunkLemmas as shrunk
@@ -46,11 +45,6 @@ laid_by (ss ∷ sources) (o ∷ os) (is, h) zero = is.laid
 laid_by (ss ∷ sources) (o ∷ os) (is, h) (suc i) = laid_by sources os h i
 
 -- ---- a section
-
-stored_size : (kind : SectionType) (count : ℕ) (bytes : List ℕ) → count ≡ length bytes → size_of (contents_of kind count bytes) ≡ count
-stored_size types.Progbits count bytes e = sym e
-stored_size types.Note count bytes e = sym e
-stored_size types.Nobits count bytes e = refl
 
 pub size_is : (t : Tables) (laid : List LaidStatement) (number : Numbering) (o : Object) (index : ℕ) (s : SourceSection) (zs : List LaidStatement) (x : Section) → IsSectionOf t laid number o.symbols index s zs x → size_of x.contents ≡ end_of 0 zs
 size_is t laid number o index s zs x h =
@@ -107,7 +101,7 @@ module _ (p : Program) (starts : Starts) (at : ℕ → List LaidStatement) (size
           size = size_is t is.laid is.number o index s (laid_in index is.laid) x h ∙ ap (λ S. end_of 0 (laid_in index S)) (sym here);
           inside = subst (λ S. AllByRecursion (λ z. IsLaidIn index s z) (laid_in index S)) (sym here) (laid_are_in sections index s is.laid at_s (settled_left ss is.laid is.dropped is.good is.located));
           finals = subst (λ S. AllByRecursion (λ z. IsFinal t (sizes file) z (c.final z)) (laid_in index S)) (sym here)
-              (all_filter (λ z. IsFinal t (sizes file) z (c.final z)) (λ z. z.located.section == index) is.laid c.finals);
+              (each_filter (λ z. IsFinal t (sizes file) z (c.final z)) (λ z. z.located.section == index) is.laid c.finals);
         }
 
     pieces_from : (index : ℕ) (sss : List SourceSection) (xs : List Section) → AreSectionsOf t is.laid is.number o.symbols index (masked_sections is.dropped index sss) xs
@@ -191,7 +185,7 @@ module _ (p : Program) (starts : Starts) (at : ℕ → List LaidStatement) (size
   all_from : (file low : ℕ) (os : List Object) → low ≤ file → From low (inputs_of goes_to_text file os)
   all_from file low [] l = tt
   all_from file low (o ∷ os) l =
-      join (λ (j : InputSection). low ≤ j.file) (inputs_from goes_to_text file o 0 o.sections) (inputs_of goes_to_text (suc file) os)
+      each_append (λ (j : InputSection). low ≤ j.file) (inputs_from goes_to_text file o 0 o.sections) (inputs_of goes_to_text (suc file) os)
       (weaker (inputs_from goes_to_text file o 0 o.sections) (own_from file o 0 0 o.sections (omega arith))) (all_from (suc file) low os (omega (arith, l)))
     where
       weaker : (is : List InputSection) → Own file 0 is → From low is
@@ -221,7 +215,7 @@ module _ (p : Program) (starts : Starts) (at : ℕ → List LaidStatement) (size
       go : (b : Bool) → Apart p starts at sizes (inputs_from goes_to_text file o (suc index) xs ++ rest)
           → Apart p starts at sizes ((if b then own ∷ inputs_from goes_to_text file o (suc index) xs else inputs_from goes_to_text file o (suc index) xs) ++ rest)
       go true ih = (
-        join (λ j. is_same p starts at sizes own j ≡ false) (inputs_from goes_to_text file o (suc index) xs) rest
+        each_append (λ j. is_same p starts at sizes own j ≡ false) (inputs_from goes_to_text file o (suc index) xs) rest
             (apart_index own (inputs_from goes_to_text file o (suc index) xs) (own_from file o (suc index) (suc index) xs (omega arith))) (apart_file own rest h),
         ih,
       )

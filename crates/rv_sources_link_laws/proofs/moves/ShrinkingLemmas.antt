@@ -5,6 +5,9 @@ use Rattle.std.proofs.lemmas.Bool.{and_parts}
 use Rattle.std.proofs.lemmas.List.{map-append}
 use Rattle.std.specs.Prelude.{⊤, ◌^◌, not, ◌&&◌, ◌==◌, IsTrue, is_some, unwrap_or, option_and_then, filter, if◌then◌else◌, bytes_eq, slice_index_or}
 use Rattle.std.specs.List.{AllByRecursion, find, slice_get}
+use Rattle.rv_list_laws.proofs.FindLemmas.{each_find}
+use Rattle.rv_list_laws.proofs.EachLemmas.{each_append}
+use Rattle.std.proofs.lemmas.Option.{slice_get-map}
 use Rattle.rv_isa.specs.Kinds.{is_low_part}
 use Rattle.rv_isa.specs.declared.kind.Kind.{Kind}
 use Rattle.rv_isa.specs.declared.kind.Kind.TheVariants as kinds
@@ -24,8 +27,7 @@ use Rattle.rv_link_laws.specs.Values.{target, own_value, is_high, high_at, value
 use Rattle.rv_link_laws.specs.IsLinkOf.{moves_at}
 use Rattle.rv_sources_link_laws.proofs.fields.PatchesLemmas.{take_drop}
 use Rattle.rv_sources_link_laws.proofs.names.ExportedLemmas.{is_exported, exported}
-use Rattle.rv_sources_link_laws.proofs.names.KnownLemmas.{still, all_found}
-use Rattle.rv_assemble_laws.proofs.ListsLemmas.{join}
+use Rattle.rv_sources_link_laws.proofs.names.KnownLemmas.{still}
 
 -- ---- what it is
 
@@ -101,13 +103,6 @@ shrunk_input starts i = record {
   section = shrunk_section (starts i.file i.index) i.section;
 }
 
--- ---- lists
-
-pub slice_map : {X Y : Type 0} (h : X → Y) (xs : List X) (i : ℕ) → slice_get (map h xs) i ≡ option_map h (slice_get xs i)
-slice_map h [] i = refl
-slice_map h (x ∷ xs) zero = refl
-slice_map h (x ∷ xs) (suc i) = slice_map h xs i
-
 -- ---- nothing moves in it
 
 filter_none : (ms : List Move) (rs : List Relocation) → filter has_padding (shrunk_relocations ms rs) ≡ []
@@ -176,7 +171,7 @@ module _ (f : ℕ → ℕ) (o : Object) where
 
     pub target_same : (symbol : Option ℕ) → target g f o' symbol ≡ target g f o symbol
     target_same None = refl
-    target_same (Some index) = ap (option_and_then (symbol_address g f o')) (slice_map (shrunk_symbol f o) o.symbols index) ∙ go (slice_get o.symbols index)
+    target_same (Some index) = ap (option_and_then (symbol_address g f o')) (slice_get-map (shrunk_symbol f o) o.symbols index) ∙ go (slice_get o.symbols index)
       where
         go : (x : Option Symbol) → option_and_then (symbol_address g f o') (option_map (shrunk_symbol f o) x) ≡ option_and_then (symbol_address g f o) x
         go None = refl
@@ -406,12 +401,12 @@ module _ (starts : Starts) (os : List Object) where
   here_from : (test : Binding → Bool) (file : ℕ) (us : List Object) → 1 ≤ file → AreAt os file us → AllByRecursion IsHere (exports_from test file us)
   here_from test file [] h e = tt
   here_from test file (o ∷ us) h (e, es) =
-      join IsHere (exports_in test file o 0 o.symbols) (exports_from test (suc file) us) (here_in test file o 0 o.symbols h e) (here_from test (suc file) us (omega arith) es)
+      each_append IsHere (exports_in test file o 0 o.symbols) (exports_from test (suc file) us) (here_in test file o 0 o.symbols h e) (here_from test (suc file) us (omega arith) es)
 
   chosen_here : (name : List ℕ) (e : Export) → chosen os name ≡ Some e → IsHere e
   chosen_here name e found =
-      all_found IsHere (λ e. bytes_eq e.symbol.name name) (candidates os)
-      (join IsHere (exports_where is_global os) (exports_where is_weak os) (here_from is_global 1 os (omega arith) (all_at os)) (here_from is_weak 1 os (omega arith) (all_at os))) e found
+      each_find IsHere (λ e. bytes_eq e.symbol.name name) (candidates os)
+      (each_append IsHere (exports_where is_global os) (exports_where is_weak os) (here_from is_global 1 os (omega arith) (all_at os)) (here_from is_weak 1 os (omega arith) (all_at os))) e found
 
   abbrev place_of : Option Export → Option Place
   place_of c = option_and_then (λ e. place_in e.file e.symbol.definition) c
@@ -477,7 +472,7 @@ module _ (starts : Starts) (os : List Object) where
         → paired g starts os' file (shrunk_object (starts file) o) symbol ≡ paired g starts os file o symbol
     paired_same file o h e None = refl
     paired_same file o h e (Some index) =
-        ap (λ y. value_at g starts os' (option_and_then (symbol_place os' file) y)) (slice_map (shrunk_symbol (starts file) o) o.symbols index) ∙ go (slice_get o.symbols index)
+        ap (λ y. value_at g starts os' (option_and_then (symbol_place os' file) y)) (slice_get-map (shrunk_symbol (starts file) o) o.symbols index) ∙ go (slice_get o.symbols index)
       where
         go : (x : Option Symbol) → value_at g starts os' (option_and_then (symbol_place os' file) (option_map (shrunk_symbol (starts file) o) x)) ≡ value_at g starts os (option_and_then (symbol_place os file) x)
         go None = refl

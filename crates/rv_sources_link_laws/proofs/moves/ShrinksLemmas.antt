@@ -4,6 +4,8 @@ use Rattle.std.proofs.Common.{◌≡◌, ℕ, suc, ◌+◌, ◌%◌, Bool, true,
 use Rattle.std.proofs.lemmas.Bool.{eqb-true, eq-eqb}
 use Rattle.std.specs.Prelude.{◌&&◌, ◌==◌, if◌then◌else◌, filter, flat_map, bytes_eq}
 use Rattle.std.specs.List.{AllByRecursion, slice_get}
+use Rattle.rv_list_laws.proofs.FindLemmas.{each_find}
+use Rattle.rv_list_laws.proofs.EachLemmas.{each_split, each_append, each_map}
 use Rattle.rv_layout_laws.specs.Alignment.{aligned}
 use Rattle.rv_text_laws.specs.Values.{Meaning, Known, InSection as InData, Open as OpenAddress, Refused, add}
 use Rattle.rv_statement_laws.specs.Statement.{StatementKind, Label, Numbered, Instruction, Directs, Statement, Enters, Sets}
@@ -27,14 +29,10 @@ use Rattle.rv_sources_link_laws.proofs.sections.MaskedLemmas.{source_sections}
 use Rattle.rv_sources_link_laws.proofs.sections.AssembledLemmas.{IsSectionOf, AreSectionsOf, IsAssembled, AreAssembled}
 use Rattle.rv_sources_link_laws.proofs.statements.SettledLemmas.{IsSettled, laid_are_in, of_sections}
 use Rattle.rv_sources_link_laws.proofs.names.ExportedLemmas.{exported}
-use Rattle.rv_sources_link_laws.proofs.names.KnownLemmas.{all_found}
-use Rattle.rv_sources_link_laws.proofs.sections.SectionsLemmas.{split}
-use Rattle.rv_assemble_laws.proofs.ListsLemmas.{join}
 use Rattle.rv_sources_link_laws.proofs.fields.WholesLemmas.{relocated_at}
 use Rattle.rv_sources_link_laws.proofs.sections.FiledLemmas as filed
 use Rattle.rv_sources_link_laws.proofs.statements.OrderedLemmas.{its_source}
 use Rattle.rv_sources_link_laws.proofs.moves.MovedLemmas as moved
-use Rattle.rv_sources_link_laws.proofs.moves.MovedLemmas.{all_map}
 use Rattle.rv_sources_link_laws.proofs.moves.ShrunkLemmas as shrunk
 use Rattle.rv_sources_link_laws.proofs.moves.ShrinkingLemmas.{shrunk_section, sections_from, moves_in, shrunk_definition, shrunk_symbol, shrunk_row, shrunk_object, shrunk_objects, section_is, exported_same}
 use Rattle.rv_sources_link_laws.proofs.moves.ShrunkLinkLemmas.{IsTidy, BeginsSame, AllBegin}
@@ -94,12 +92,12 @@ module _ (ss : List Statement) (o : Object) (is : IsAssembled ss o) (f : ℕ →
       go (Some x) = refl
 
   settled_at : (n : ℕ) (z : LaidStatement) → laid_at is.laid n ≡ Some z → IsSettled sections z
-  settled_at n z e = all_found (IsSettled sections) (λ z. z.located.ordinal == n) is.laid all_settled z e
+  settled_at n z e = each_find (IsSettled sections) (λ z. z.located.ordinal == n) is.laid all_settled z e
 
   -- ---- symbols
 
   still : AllByRecursion (λ z. z.located.home.executable ≡ false → moves_in f o z.located.section ≡ []) is.laid
-  still = all_map (IsSettled sections) (λ z. z.located.home.executable ≡ false → moves_in f o z.located.section ≡ []) is.laid (λ z k aside. still_in z.located.section z.located.home k.home aside) all_settled
+  still = each_map (IsSettled sections) (λ z. z.located.home.executable ≡ false → moves_in f o z.located.section ≡ []) is.laid (λ z k aside. still_in z.located.section z.located.home k.home aside) all_settled
 
   uses_same : (p : LaidPart) → AllByRecursion (IsNumbered t is.laid is.number o.symbols) (references_in p) → AllByRecursion (IsNumbered t laid' is.number o'.symbols) (references_in p)
   uses_same p h =
@@ -219,7 +217,7 @@ module _ (ss : List Statement) (o : Object) (is : IsAssembled ss o) (f : ℕ →
   definition_begins z (Numbered number) k even = place_begins z k even
   definition_begins z (Instruction m os) k even = place_begins z k even
   definition_begins z (Directs (Sets name e)) k even =
-      assigned_begins (assigned_ever t.assignments name) (λ a k. all_found (StandsInData is.laid) (λ s. bytes_eq s.name name) t.assignments is.places a k)
+      assigned_begins (assigned_ever t.assignments name) (λ a k. each_find (StandsInData is.laid) (λ s. bytes_eq s.name name) t.assignments is.places a k)
   definition_begins z (Directs (Enters section)) k even = place_begins z k even
   definition_begins z (Directs _) k even = place_begins z k even
 
@@ -230,7 +228,7 @@ module _ (ss : List Statement) (o : Object) (is : IsAssembled ss o) (f : ℕ →
   exports_begin : (zs : List LaidStatement) → AllByRecursion (IsSettled sections) zs → AllByRecursion AreEven zs → AllByRecursion (BeginsSame f o) (flat_map (exports_of t is.laid) zs)
   exports_begin [] h k = tt
   exports_begin (z ∷ zs) (h, hs) (k, ks) =
-      join (BeginsSame f o) (exports_of t is.laid z) (flat_map (exports_of t is.laid) zs)
+      each_append (BeginsSame f o) (exports_of t is.laid z) (flat_map (exports_of t is.laid) zs)
       (named_begins (statement_definition t is.laid z z.located.kind) (definition_begins z z.located.kind h k) (names_where is_shared t z.located)) (exports_begin zs hs ks)
 
   pub begins_same : AllByRecursion (BeginsSame f o) (exported o)
@@ -292,7 +290,7 @@ module _ (starts : Starts) where
   objects_shrink file [] (o ∷ os) h b = absurd h
   objects_shrink file (ss ∷ sources) [] h b = absurd h
   objects_shrink file (ss ∷ sources) (o ∷ os) (is, h) b =
-      let both = split (Begun starts) (inputs_from goes_to_text file o 0 o.sections) (inputs_of goes_to_text (suc file) os) b in
+      let both = each_split (Begun starts) (inputs_from goes_to_text file o 0 o.sections) (inputs_of goes_to_text (suc file) os) b in
       (shrunk_is ss o is (starts file) (begun_in starts file o both.0), objects_shrink (suc file) sources os h both.1)
 
   pub all_begin : (file : ℕ) (sources : List (List Statement)) (os : List Object) → AreAssembled sources os → AllByRecursion (Begun starts) (inputs_of goes_to_text file os) → AllBegin starts file os
@@ -300,7 +298,7 @@ module _ (starts : Starts) where
   all_begin file [] (o ∷ os) h b = absurd h
   all_begin file (ss ∷ sources) [] h b = absurd h
   all_begin file (ss ∷ sources) (o ∷ os) (is, h) b =
-      let both = split (Begun starts) (inputs_from goes_to_text file o 0 o.sections) (inputs_of goes_to_text (suc file) os) b in
+      let both = each_split (Begun starts) (inputs_from goes_to_text file o 0 o.sections) (inputs_of goes_to_text (suc file) os) b in
       (begins_same ss o is (starts file) (begun_in starts file o both.0), all_begin (suc file) sources os h both.1)
 
   abbrev Tidy : InputSection → Type 0
@@ -325,8 +323,8 @@ module _ (starts : Starts) where
   all_tidy goes file [] (o ∷ os) h b = absurd h
   all_tidy goes file (ss ∷ sources) [] h b = absurd h
   all_tidy goes file (ss ∷ sources) (o ∷ os) (is, h) b =
-      let both = split (Begun starts) (inputs_from goes_to_text file o 0 o.sections) (inputs_of goes_to_text (suc file) os) b in
-      join Tidy (inputs_from goes file o 0 o.sections) (inputs_of goes (suc file) os)
+      let both = each_split (Begun starts) (inputs_from goes_to_text file o 0 o.sections) (inputs_of goes_to_text (suc file) os) b in
+      each_append Tidy (inputs_from goes file o 0 o.sections) (inputs_of goes (suc file) os)
       (tidy_from goes file o 0 o.sections
       (λ j x at. subst (λ n. IsTidy (starts file n) x) (let e : j ≡ 0 + j = omega arith in e) (tidy_at ss o is (starts file) (begun_in starts file o both.0) j x at)))
       (all_tidy goes (suc file) sources os h both.1)

@@ -6,6 +6,8 @@ use Rattle.std.proofs.lemmas.List.{map-append}
 use Rattle.std.specs.Prelude.{⊤, not, ◌&&◌, ◌||◌, nat_le, nat_lt, max, IsTrue, is_some, option_and_then, filter, flat_map, if◌then◌else◌, bytes_eq, codes}
 use Rattle.std.specs.List.{AllByRecursion, list_all, list_any, slice_get}
 use Rattle.std.specs.Option.{option_or}
+use Rattle.rv_list_laws.proofs.FindLemmas.{each_find}
+use Rattle.rv_list_laws.proofs.EachLemmas.{each_append}
 use Rattle.rv_map_laws.specs.Globals.{AreDistinct, global_address, shown, linker_symbols}
 use Rattle.rv_layout_laws.specs.Alignment.{aligned}
 use Rattle.rv_isa_laws.specs.Bytes.{zeros}
@@ -24,8 +26,6 @@ use Rattle.rv_link_laws.specs.Names.{Export, Outer, is_defined, is_export, expor
 use Rattle.rv_link_laws.specs.Values.{initial_bytes, linked_bytes, IsRelocated}
 use Rattle.rv_link_laws.specs.IsLinkOf.{moves_at, map_row, row_in, inserted_row, by_ordinal, rows_of, is_loaded, outer_of, IsLinkOf}
 use Rattle.rv_sources_link_laws.proofs.names.ExportedLemmas.{is_exported, exported}
-use Rattle.rv_sources_link_laws.proofs.names.KnownLemmas.{all_found}
-use Rattle.rv_assemble_laws.proofs.ListsLemmas.{join}
 use Rattle.rv_sources_link_laws.proofs.moves.ShrinkingLemmas.{shrunk_contents, shrunk_section, sections_from, moves_in, shrunk_definition, shrunk_row, shrunk_object, shrunk_objects, shrunk_input, shrunk_export, IsBlind, none_left, stays, moves_none, section_is, defined_same, exports_same, chosen_same, AreAt, all_at, relocated_all, linked_same}
 
 -- what a section owes so that its moves change no other
@@ -203,7 +203,7 @@ module _ (starts : Starts) where
       → AllByRecursion Begins (exports_from test file us)
   begin_from test shares file [] h = tt
   begin_from test shares file (o ∷ us) (h, hs) =
-      join Begins (exports_in test file o 0 o.symbols) (exports_from test (suc file) us) (begin_in test shares file o 0 o.symbols h) (begin_from test shares (suc file) us hs)
+      each_append Begins (exports_in test file o 0 o.symbols) (exports_from test (suc file) us) (begin_in test shares file o 0 o.symbols h) (begin_from test shares (suc file) us hs)
 
   global_shared : (b : Binding) → is_global b ≡ true → is_shared b ≡ true
   global_shared bindings.Local e = e
@@ -220,8 +220,8 @@ module _ (starts : Starts) where
     where
       begins : (e : Export) → chosen os (codes "_start") ≡ Some e → Begins e
       begins e found =
-          all_found Begins (λ e. bytes_eq e.symbol.name (codes "_start")) (candidates os)
-          (join Begins (exports_where is_global os) (exports_where is_weak os) (begin_from is_global global_shared 1 os h) (begin_from is_weak weak_shared 1 os h)) e found
+          each_find Begins (λ e. bytes_eq e.symbol.name (codes "_start")) (candidates os)
+          (each_append Begins (exports_where is_global os) (exports_where is_weak os) (begin_from is_global global_shared 1 os h) (begin_from is_weak weak_shared 1 os h)) e found
 
       go : (c : Option Export) → ((e : Export) → c ≡ Some e → Begins e) → option_and_then (run_start starts) (option_map moved c) ≡ option_and_then (run_start starts) c
       go None k = refl
@@ -310,7 +310,7 @@ module _ (starts : Starts) where
     are_inputs : (goes : Section → Bool) (file : ℕ) (us : List Object) → 1 ≤ file → AreAt os file us → AllByRecursion IsInput (inputs_of goes file us)
     are_inputs goes file [] h e = tt
     are_inputs goes file (o ∷ us) h (e, es) =
-        join IsInput (inputs_from goes file o 0 o.sections) (inputs_of goes (suc file) us) (are_from goes file o 0 o.sections h e) (are_inputs goes (suc file) us (omega arith) es)
+        each_append IsInput (inputs_from goes file o 0 o.sections) (inputs_of goes (suc file) us) (are_from goes file o 0 o.sections h e) (are_inputs goes (suc file) us (omega arith) es)
 
     contents_same : (stop : ℕ) (is : List InputSection) → AllByRecursion IsInput is → AllByRecursion Tidy is
         → contents (linked_bytes g starts (shrunk_objects starts 1 os)) starts stop (map mv is) ≡ contents (linked_bytes g starts os) starts stop is

@@ -4,6 +4,7 @@ use Rattle.std.proofs.Common.{◌≡◌, ℕ, zero, suc, ◌+◌, ◌-◌, ◌%�
 use Rattle.std.proofs.lemmas.Bool.{and_parts, and_left}
 use Rattle.std.specs.Prelude.{◌&&◌, max, if◌then◌else◌, filter, flat_map}
 use Rattle.std.specs.List.{AllByRecursion}
+use Rattle.rv_list_laws.proofs.EachLemmas.{each_split, each_append}
 use Rattle.rv_layout_laws.specs.Alignment.{aligned}
 use Rattle.rv_isa_laws.specs.Bytes.{zeros}
 use Rattle.rv_statement_laws.specs.Statement.{StatementKind, Label, Numbered, Instruction, Directs, Enters, Opens, Binds, Sets, Aligns_to_power, Aligns_to_bytes, Values, Strings, Zeros, Chooses, Ignored}
@@ -24,8 +25,7 @@ use Rattle.rv_assemble_laws.proofs.FilledLemmas.{bytes_append}
 use Rattle.rv_sources_link_laws.proofs.statements.OrderedLemmas.{filled}
 use Rattle.rv_sources_link_laws.proofs.sections.AssembledLemmas.{parts_of, parts, assembled_templates, Tile, IsSectionOf}
 use Rattle.rv_sources_link_laws.proofs.statements.SettledLemmas.{IsLaidIn}
-use Rattle.rv_sources_link_laws.proofs.sections.SectionsLemmas.{split, multiple_from}
-use Rattle.rv_assemble_laws.proofs.ListsLemmas.{join}
+use Rattle.rv_sources_link_laws.proofs.sections.SectionsLemmas.{multiple_from}
 use Rattle.rv_sources_link_laws.proofs.moves.ShrunkLemmas as shrunk
 use Rattle.rv_sources_link_laws.proofs.moves.ShrinkingLemmas.{shrunk_relocations, shrunk_contents, shrunk_section, none_left}
 use Rattle.rv_sources_link_laws.proofs.moves.ShrunkLinkLemmas.{IsTidy}
@@ -111,8 +111,8 @@ module _ (t : Tables) where
   parts_stay : (P : LaidPart → Type 0) → ((ordinal : ℕ) (bytes : List ℕ) → P (laid_part ordinal (Fixed bytes))) → (zs : List LaidStatement) → AllByRecursion P (parts t zs) → AllByRecursion P (shrunk.parts t zs)
   parts_stay P fixed [] h = tt
   parts_stay P fixed (z ∷ zs) h =
-      let both = split P (parts_of t z) (parts t zs) h in
-      join P (shrunk.parts_of t z) (shrunk.parts t zs)
+      let both = each_split P (parts_of t z) (parts t zs) h in
+      each_append P (shrunk.parts_of t z) (shrunk.parts t zs)
       (parts_alike P fixed z.located.ordinal (shrunk.shrunk_templates t z z.located.kind) (assembled_templates t z z.located.kind) (alike t z z.located.kind) both.0) (parts_stay P fixed zs both.1)
 
 -- ---- contents

@@ -5,11 +5,14 @@ use Rattle.std.proofs.lemmas.List.{append-nil}
 use Rattle.std.proofs.lemmas.Bool.{ltb-true, ltb-false}
 use Rattle.std.specs.Prelude.{not, nat_lt, max, if◌then◌else◌, filter, flat_map}
 use Rattle.std.specs.List.{AllByRecursion}
+use Rattle.rv_list_laws.proofs.EachLemmas.{each_split, each_append}
+use Rattle.rv_list_laws.proofs.TakeDropLemmas.{drop_front}
 use Rattle.rv_layout_laws.specs.Alignment.{aligned}
 use Rattle.rv_unit_laws.specs.Sections.{Section as SourceSection}
 use Rattle.rv_unit_laws.specs.Tables.{Tables}
 use Rattle.rv_object_laws.specs.Object.{Relocation}
 use Rattle.rv_object_laws.specs.Padding.{no_operations}
+use Rattle.rv_object_laws.proofs.NopsLemmas.{length_even}
 use Rattle.rv_link_laws.specs.Moves.{Move, new_offset, kept, has_padding, alignment_of, plan}
 use Rattle.rv_link_laws.specs.Inputs.{raised}
 use Rattle.rv_assemble_laws.specs.Templates.{Fixed, Open, template_fields}
@@ -17,9 +20,6 @@ use Rattle.rv_assemble_laws.specs.LaidStatements.{LaidStatement, LaidPart, expre
 use Rattle.rv_sources_link_laws.proofs.sections.AssembledLemmas.{parts_of, parts, assembled_templates}
 use Rattle.rv_assemble_laws.specs.IsObjectOf.{Numbering, relocation_at, relocations_from}
 use Rattle.rv_assemble_laws.proofs.FilledLemmas.{bytes_append}
-use Rattle.rv_sources_link_laws.proofs.sections.SectionsLemmas.{split}
-use Rattle.rv_assemble_laws.proofs.ListsLemmas.{join}
-use Rattle.rv_sources_link_laws.proofs.statements.NopsLemmas.{nops_long}
 use Rattle.rv_sources_link_laws.proofs.moves.ShrunkLemmas as shrunk
 use Rattle.rv_sources_link_laws.proofs.moves.ShrinkingLemmas.{shrunk_relocation, shrunk_relocations}
 use Rattle.rv_sources_link_laws.proofs.statements.PadsLemmas.{by_power}
@@ -30,16 +30,11 @@ use Rattle.rv_sources_link_laws.proofs.moves.WalkLemmas.{Ahead, plan_ahead, alig
 
 padding_long : (o b : ℕ) → b % 2 ≡ 0 → b ≡ length (flat_map part_bytes (map (laid_part o) (shrunk.padding_templates true b)))
 padding_long o zero even = refl
-padding_long o (suc n) even = sym (ap length (append-nil (no_operations (suc n))) ∙ nops_long (suc n) even)
+padding_long o (suc n) even = sym (ap length (append-nil (no_operations (suc n))) ∙ length_even (suc n) even)
 
 padding_said : (o b : ℕ) → flat_map part_bytes (map (laid_part o) (shrunk.padding_templates true b)) ≡ no_operations b
 padding_said o zero = refl
 padding_said o (suc n) = append-nil (no_operations (suc n))
-
-pub drop_whole : (own rest : List ℕ) → drop (length own) (own ++ rest) ≡ rest
-drop_whole [] [] = refl
-drop_whole [] (x ∷ rest) = refl
-drop_whole (x ∷ own) rest = drop_whole own rest
 
 -- ---- relocations
 
@@ -179,7 +174,7 @@ module _ (t : Tables) (number : Numbering) (section : SourceSection) (multiple :
       ∙ ap (λ n. take n (own ++ rest) ++ (no_operations L ++ kept (o + z.bytes) (after L) (drop (o + z.bytes - o) (own ++ rest)))) (let e : o - o ≡ 0 = omega arith in e)
       ∙ ap (λ l. l ++ (no_operations L ++ kept (o + z.bytes) (after L) (drop (o + z.bytes - o) (own ++ rest)))) (none_taken (own ++ rest))
       ∙ ap (λ n. no_operations L ++ kept (o + z.bytes) (after L) (drop n (own ++ rest))) ((let e : o + z.bytes - o ≡ z.bytes = omega arith in e) ∙ bytes)
-      ∙ ap (λ l. no_operations L ++ kept (o + z.bytes) (after L) l) (drop_whole own rest)
+      ∙ ap (λ l. no_operations L ++ kept (o + z.bytes) (after L) l) (drop_front own rest)
       ∙ ap (λ n. no_operations n ++ kept (o + z.bytes) (after n) rest) s.chosen
       ∙ ap (λ l. no_operations s.least ++ l) (bytes_kept (o + z.bytes) (gone + (z.bytes - s.least)) zs st)
       ∙ ap (λ l. l ++ flat_map part_bytes (shrunk.parts t (map S zs))) (sym (padding_said z.located.ordinal s.least) ∙ ap (flat_map part_bytes) (sym (own_pad o gone z s)))
@@ -232,7 +227,7 @@ module _ (t : Tables) (number : Numbering) (section : SourceSection) (multiple :
       unmarked : (ordinal n b : ℕ) (later : List LaidPart) → b % 2 ≡ 0
           → relocations_from number (n + b) later ≡ relocations_from number n (map (laid_part ordinal) (shrunk.padding_templates true b) ++ later)
       unmarked ordinal n zero later even = ap (λ m. relocations_from number m later) (let e : n + 0 ≡ n = omega arith in e)
-      unmarked ordinal n (suc b) later even = ap (λ m. relocations_from number (n + m) later) (sym (nops_long (suc b) even))
+      unmarked ordinal n (suc b) later even = ap (λ m. relocations_from number (n + m) later) (sym (length_even (suc b) even))
 
   -- sizes
   pub sizes_kept : (o gone : ℕ) (zs : List LaidStatement) → Steps o gone zs
@@ -254,11 +249,11 @@ module _ (t : Tables) (number : Numbering) (section : SourceSection) (multiple :
       → AllByRecursion P (parts t zs) → AllByRecursion P (shrunk.parts t (map S zs))
   parts_kept P fixed o gone [] st h = tt
   parts_kept P fixed o gone (z ∷ zs) (off, bytes, low, evens, inl (s, st)) h =
-      let both = split P (parts_of t z) (parts t zs) h in
-      join P (shrunk.parts_of t (S z)) (shrunk.parts t (map S zs)) (subst (λ l. AllByRecursion P l) (sym (own_plain o gone z s)) both.0) (parts_kept P fixed (o + z.bytes) gone zs st both.1)
+      let both = each_split P (parts_of t z) (parts t zs) h in
+      each_append P (shrunk.parts_of t (S z)) (shrunk.parts t (map S zs)) (subst (λ l. AllByRecursion P l) (sym (own_plain o gone z s)) both.0) (parts_kept P fixed (o + z.bytes) gone zs st both.1)
   parts_kept P fixed o gone (z ∷ zs) (off, bytes, low, evens, inr (s, st)) h =
-      let both = split P (parts_of t z) (parts t zs) h in
-      join P (shrunk.parts_of t (S z)) (shrunk.parts t (map S zs)) (subst (λ l. AllByRecursion P l) (sym (own_pad o gone z s)) (of_padding s.least))
+      let both = each_split P (parts_of t z) (parts t zs) h in
+      each_append P (shrunk.parts_of t (S z)) (shrunk.parts t (map S zs)) (subst (λ l. AllByRecursion P l) (sym (own_pad o gone z s)) (of_padding s.least))
       (parts_kept P fixed (o + z.bytes) (gone + (z.bytes - s.least)) zs st both.1)
     where
       of_padding : (b : ℕ) → AllByRecursion P (map (laid_part z.located.ordinal) (shrunk.padding_templates true b))

@@ -4,46 +4,29 @@ use Rattle.std.proofs.Common.{◌≡◌, ℕ, suc, ◌+◌, ◌-◌, ◌%◌, �
 use Rattle.std.proofs.lemmas.List.{append_assoc}
 use Rattle.std.proofs.lemmas.Bool.{and_parts, lt-ltb, ltb-true, le-leb, lt-leb}
 use Rattle.std.proofs.lemmas.List.Sums.{sum_by-cons}
-use Rattle.std.specs.Prelude.{◌&&◌, ◌==◌, nat_lt, nat_le, min, if◌then◌else◌, filter, flat_map}
+use Rattle.std.specs.Prelude.{◌&&◌, nat_lt, nat_le, min, if◌then◌else◌, filter, flat_map}
 use Rattle.std.specs.List.{AllByRecursion}
 use Rattle.rv_layout_laws.specs.Alignment.{aligned}
-use Rattle.rv_isa.specs.declared.kind.Kind.{Kind}
-use Rattle.rv_isa.specs.declared.kind.Kind.TheVariants.{Align, Abs32, Abs64, Add8, Add16, Add32, Add64, Sub8, Sub16, Sub32, Sub64}
+use Rattle.rv_isa.specs.declared.kind.Kind.TheVariants.{Align}
 use Rattle.rv_text_laws.specs.Values.{Value, Constant, Symbolic, Difference, Faulty}
 use Rattle.rv_unit_laws.specs.Sections.{Section as SourceSection}
 use Rattle.rv_unit_laws.specs.Tables.{Tables, padding}
 use Rattle.rv_object_laws.specs.Object.{Relocation}
 use Rattle.rv_object_laws.specs.Padding.{no_operations, operations_in}
 use Rattle.rv_object_laws.specs.Valid.{is_align}
+use Rattle.rv_object_laws.proofs.NopsLemmas.{length_even}
 use Rattle.rv_link_laws.specs.Moves.{Move, dropped, new_offset, kept, full_padding, has_padding, alignment_of, inserted, by_place, plan, lost, lost_in}
-use Rattle.rv_assemble_laws.specs.Templates.{Template, Fixed, Datum, Coded, Open, value_fields, template_fields, absolute_kind, add_kind, subtract_kind, align_field}
+use Rattle.rv_assemble_laws.specs.Templates.{Template, Fixed, Datum, Coded, Open, value_fields, template_fields, align_field}
 use Rattle.rv_assemble_laws.specs.LaidStatements.{LaidStatement, LaidPart, laid_part, part_bytes}
 use Rattle.rv_sources_link_laws.proofs.sections.AssembledLemmas.{parts_of, parts, assembled_templates}
 pub use Rattle.rv_sources_link_laws.proofs.sections.AssembledLemmas.{Tile}
 use Rattle.rv_assemble_laws.specs.IsObjectOf.{Numbering, relocation_at, relocations_from}
+use Rattle.rv_assemble_laws.proofs.TemplatesLemmas.{absolute_plain, add_plain, subtract_plain}
 use Rattle.rv_sources_link_laws.proofs.statements.FieldedLemmas.{IsPlain}
 use Rattle.rv_sources_link_laws.proofs.statements.FittingLemmas.{padding_moves}
-use Rattle.rv_sources_link_laws.proofs.statements.NopsLemmas.{nops_long}
 use Rattle.rv_sources_link_laws.proofs.statements.PadsLemmas.{IsPower, by_power, at, padded, IsPlainLaid, IsPadLaid}
 
 -- ---- fields that are no alignments
-
-data_kind : (b : Bool) (k q : Kind) → is_align k ≡ false → is_align q ≡ false → is_align (if b then k else q) ≡ false
-data_kind true k q e f = e
-data_kind false k q e f = f
-
-absolute_plain : (width : ℕ) → is_align (absolute_kind width) ≡ false
-absolute_plain width = data_kind (width == 4) Abs32 Abs64 refl refl
-
-add_plain : (width : ℕ) → is_align (add_kind width) ≡ false
-add_plain width =
-    data_kind (width == 1) Add8 (if width == 2 then Add16 else if width == 4 then Add32 else Add64) refl
-    (data_kind (width == 2) Add16 (if width == 4 then Add32 else Add64) refl (data_kind (width == 4) Add32 Add64 refl refl))
-
-subtract_plain : (width : ℕ) → is_align (subtract_kind width) ≡ false
-subtract_plain width =
-    data_kind (width == 1) Sub8 (if width == 2 then Sub16 else if width == 4 then Sub32 else Sub64) refl
-    (data_kind (width == 2) Sub16 (if width == 4 then Sub32 else Sub64) refl (data_kind (width == 4) Sub32 Sub64 refl refl))
 
 abbrev ArePlain : List Open → Type 0
 ArePlain fs = AllByRecursion (λ (f : Open). is_align f.kind ≡ false) fs
@@ -410,7 +393,7 @@ module _ (t : Tables) (number : Numbering) where
               (subst (λ n. n ≤ z.bytes) (sym of_a) (subst (λ n. aligned h.a stands - stands ≤ n) (sym h.full) both.0), ap (λ n. n % 2) of_a ∙ both.1)
 
           text_long : length (no_operations L) ≡ L
-          text_long = nops_long L room.1
+          text_long = length_even L room.1
 
           ahead' : Ahead (o + z.bytes) T'
           ahead' = plan_ahead (o + z.bytes) start (gone + (z.bytes - L)) (pads (o + z.bytes) zs) (pads_past (o + z.bytes) zs)

@@ -4,6 +4,7 @@ use Rattle.std.proofs.Common.{◌≡◌, ℕ, ◌%◌, Bool, true, false, List, 
 use Rattle.std.proofs.lemmas.Bool.{eq-eqb}
 use Rattle.std.specs.Prelude.{◌&&◌, ◌==◌, if◌then◌else◌, option_and_then, bytes_eq}
 use Rattle.std.specs.List.{AllByRecursion, slice_get}
+use Rattle.rv_list_laws.proofs.FindLemmas.{each_find}
 use Rattle.rv_text_laws.specs.Values.{Meaning, Known, InSection as InData, Open as OpenAddress, Refused, add}
 use Rattle.rv_statement_laws.specs.Statement.{StatementKind, Label, Numbered, Instruction, Directs, Statement, Enters, Sets}
 use Rattle.rv_unit_laws.specs.Sections.{Section as SourceSection, goes_to_text}
@@ -23,7 +24,6 @@ use Rattle.rv_assemble_laws.specs.IsObjectOf.{IsInData, StandsInData}
 use Rattle.rv_sources_link_laws.proofs.sections.MaskedLemmas.{source_sections}
 use Rattle.rv_sources_link_laws.proofs.statements.StatementsLemmas.{statement_at}
 use Rattle.rv_sources_link_laws.proofs.statements.SettledLemmas.{IsSettled, settled_left}
-use Rattle.rv_sources_link_laws.proofs.names.KnownLemmas.{all_found}
 use Rattle.rv_sources_link_laws.proofs.names.PairLemmas.{IsAlike, IsPair}
 use Rattle.rv_sources_link_laws.proofs.statements.OrderedLemmas.{its_section}
 use Rattle.rv_sources_link_laws.proofs.sections.FilesLemmas.{IsFile}
@@ -60,7 +60,7 @@ module _ (p : Program) (starts : Starts) (file : ℕ) (ss : List Statement) (o :
   found_aside : (a : Option LaidStatement) (ordinal plus : ℕ) → laid_at is.laid ordinal ≡ a → IsInData a → can_begin o (after_found a plus) ≡ false
   found_aside None ordinal plus e h = refl
   found_aside (Some s) ordinal plus e (aside, placed) =
-      let here = all_found (IsSettled sections) (λ s. s.located.ordinal == ordinal) is.laid (settled_left ss is.laid is.dropped is.good is.located) s e in
+      let here = each_find (IsSettled sections) (λ s. s.located.ordinal == ordinal) is.laid (settled_left ss is.laid is.dropped is.good is.located) s e in
       ap (λ b. b && (add s.offset plus % 2 == 0)) (text_is s here ∙ ap (λ b. s.located.home.loaded && b) aside ∙ never s.located.home.loaded)
     where
       never : (b : Bool) → (b && false) ≡ false
@@ -79,7 +79,7 @@ module _ (p : Program) (starts : Starts) (file : ℕ) (ss : List Statement) (o :
 
       go : (a : Option Assignment) → assigned_ever t.assignments name ≡ a → can_begin o (assigned_definition is.laid a) ≡ false
       go None e = refl
-      go (Some a) e = by a a.meaning (all_found (StandsInData is.laid) (λ s. bytes_eq s.name name) t.assignments is.places a e)
+      go (Some a) e = by a a.meaning (each_find (StandsInData is.laid) (λ s. bytes_eq s.name name) t.assignments is.places a e)
 
   -- ---- a statement
 

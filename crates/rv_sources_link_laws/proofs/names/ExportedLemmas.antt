@@ -5,6 +5,7 @@ use Rattle.std.proofs.lemmas.List.{append-nil}
 use Rattle.std.proofs.lemmas.List.Elements.{filter-append}
 use Rattle.std.specs.Prelude.{◌&&◌, not, if◌then◌else◌, filter, flat_map}
 use Rattle.std.specs.List.{list_any}
+use Rattle.rv_list_laws.proofs.TruthLemmas.{and_false}
 use Rattle.rv_text_laws.specs.Values.{Meaning, Known, InSection as InData, Open as OpenAddress, Refused}
 use Rattle.rv_statement_laws.specs.Statement.{StatementKind, Label, Numbered, Instruction, Directs, Statement, Enters, Sets}
 use Rattle.rv_statement_laws.specs.declared.directive.Binding.{Binding as SourceBinding}
@@ -55,16 +56,11 @@ locals_none t laid before (s ∷ rest) =
     (none_local (λ name. statement_definition t laid s s.located.kind) (λ x. not (is_absolute x)) (names_where (λ b. not (is_shared b)) t s.located))
     (locals_none t laid (before ++ s ∷ []) rest))
 
--- what has no definition is no other file's
-never : (b : Bool) → (b && false) ≡ false
-never true = refl
-never false = refl
-
 undefined_none : (t : Tables) (names : List (List ℕ)) → filter is_exported (map (λ name. shared_symbol t name Undefined) names) ≡ []
 undefined_none t [] = refl
 undefined_none t (name ∷ names) =
     let others = filter is_exported (map (λ name. shared_symbol t name Undefined) names) in
-    ap (λ b. if b then shared_symbol t name Undefined ∷ others else others) (never (symbols.is_shared (outer_binding (t.bindings name)))) ∙ undefined_none t names
+    ap (λ b. if b then shared_symbol t name Undefined ∷ others else others) (and_false (symbols.is_shared (outer_binding (t.bindings name)))) ∙ undefined_none t names
 
 outer_shared : (b : SourceBinding) → symbols.is_shared (outer_binding b) ≡ true
 outer_shared Local = refl

@@ -3,6 +3,7 @@
 use Rattle.std.proofs.Common.{◌≡◌, ℕ, ◌+◌, ◌%◌, ◌<◌, Bool, true, false, List, [], ◌∷◌, refl, sym, ap, ◌∙◌, arith, Option, Some, None}
 use Rattle.std.specs.Prelude.{◌^◌, ◌&&◌, if◌then◌else◌, option_map, option_and_then, bytes_eq}
 use Rattle.std.specs.List.{AllByRecursion}
+use Rattle.rv_list_laws.proofs.FindLemmas.{each_find}
 use Rattle.rv_text_laws.specs.Values.{Meaning, Known, InSection as InData, Open as OpenAddress, Refused, add}
 use Rattle.rv_statement_laws.specs.Statement.{StatementKind, Label, Numbered, Instruction, Directs, Statement, Enters, Sets}
 use Rattle.rv_unit_laws.specs.Sections.{Section as SourceSection}
@@ -25,7 +26,7 @@ use Rattle.rv_assemble_laws.specs.IsObjectOf.{IsInData, StandsInData}
 use Rattle.rv_sources_link_laws.proofs.sections.MaskedLemmas.{source_sections}
 use Rattle.rv_sources_link_laws.proofs.statements.StatementsLemmas.{row_in, rows_from, statement_at, row_address}
 use Rattle.rv_sources_link_laws.proofs.statements.SettledLemmas.{IsSettled, settled_left}
-use Rattle.rv_sources_link_laws.proofs.names.KnownLemmas.{all_found, still, own_agrees}
+use Rattle.rv_sources_link_laws.proofs.names.KnownLemmas.{still, own_agrees}
 use Rattle.rv_sources_link_laws.proofs.names.PairLemmas.{IsPair}
 use Rattle.rv_sources_link_laws.proofs.statements.OrderedLemmas.{its_section}
 use Rattle.rv_sources_link_laws.proofs.sections.FilesLemmas.{plain_of, IsFile}
@@ -104,7 +105,7 @@ module _ (p : Program) (starts : Starts) (file : ℕ) (ss : List Statement) (o :
     where
       go : (a : Option Assignment) → assigned_ever t.assignments name ≡ a → defined_address (starts file) o (assigned_definition is.laid a) ≡ set_address p.statements file a
       go None e = refl
-      go (Some a) e = assigned_address a (all_found (StandsInData is.laid) (λ s. bytes_eq s.name name) t.assignments is.places a e)
+      go (Some a) e = assigned_address a (each_find (StandsInData is.laid) (λ s. bytes_eq s.name name) t.assignments is.places a e)
 
   -- ---- a statement
 

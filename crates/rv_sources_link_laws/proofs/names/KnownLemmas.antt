@@ -1,9 +1,10 @@
 -- A symbol of an object has the address of what its statement means by it.
 
-use Rattle.std.proofs.Common.{◌≡◌, ℕ, ◌+◌, ◌-◌, ◌%◌, ◌<◌, Bool, true, false, List, [], ◌∷◌, refl, sym, ap, ◌∙◌, subst, arith, Option, Some, None}
+use Rattle.std.proofs.Common.{◌≡◌, ℕ, ◌+◌, ◌-◌, ◌%◌, ◌<◌, Bool, true, false, List, [], refl, sym, ap, ◌∙◌, subst, arith, Option, Some, None}
 use Rattle.std.specs.Prelude.{◌^◌, not, ◌&&◌, ◌==◌, if◌then◌else◌, is_some, unwrap_or, option_map, option_and_then, bytes_eq}
 use Rattle.std.specs.List.{AllByRecursion, find, slice_get}
 use Rattle.std.specs.Option.{option_or}
+use Rattle.rv_list_laws.proofs.FindLemmas.{each_find}
 use Rattle.rv_map_laws.specs.Globals.{global_address}
 use Rattle.rv_text_laws.specs.Expression.{Primary, Symbol as Named, Literal, Here, Reference}
 use Rattle.rv_text_laws.specs.Values.{add}
@@ -29,14 +30,6 @@ use Rattle.rv_sources_link_laws.proofs.statements.StatementsLemmas.{row_address}
 use Rattle.rv_sources_link_laws.proofs.statements.SettledLemmas.{IsSettled}
 use Rattle.rv_sources_link_laws.proofs.moves.ShrunkLemmas.{IsSectionOf, AreSectionsOf}
 
-pub all_found : {X : Type 0} (P : X → Type 0) (test : X → Bool) (xs : List X) → AllByRecursion P xs → (x : X) → find test xs ≡ Some x → P x
-all_found P test [] h x e = absurd (cc)
-all_found P test (y ∷ ys) (h, hs) x e = go (test y) e (λ f. all_found P test ys hs x f)
-  where
-    go : (b : Bool) → (if b then Some y else find test ys) ≡ Some x → (find test ys ≡ Some x → P x) → P x
-    go true f later = let same : y ≡ x = cc in subst P same h
-    go false f later = later f
-
 pub still : (x : Section) → alignments_of x ≡ [] → (base offset : ℕ) → new_offset (moves base x) offset ≡ offset
 still x none base offset =
     ap (λ rs. new_offset (plan base 0 rs) offset) none ∙ (let e : offset - 0 ≡ offset = omega arith in e)
@@ -55,7 +48,7 @@ module _ (statements : List MaybeMapped) (starts : Starts) (file : ℕ) (t : Tab
   pub own_agrees : (s : LaidStatement) (d : Definition) → laid_at laid d.ordinal ≡ Some s → s.located.placed ≡ true
       → defined_address (starts file) o (after_statement s d.plus) ≡ home_address statements file d
   own_agrees s d found placed =
-      let here = all_found (IsSettled sections) (λ s. s.located.ordinal == d.ordinal) laid settled s found in
+      let here = each_find (IsSettled sections) (λ s. s.located.ordinal == d.ordinal) laid settled s found in
       let section = its_section (IsSectionOf t laid number o.symbols) laid s.located.section sections o.sections s.located.home are here.home in
       let x = section.0 in
       let start = starts file s.located.section in
@@ -151,7 +144,7 @@ module _ (p : Program) (os : List Object) (given : AreGiven p os) (low : AllByRe
       go None f e = zero_low (is_weak_name (t.bindings name) && not (is_some (chosen p name))) n e
       go (Some g) f e =
           let same : g.address ≡ n = cc in
-          subst (λ m. m < 2 ^ 64) same (all_found IsGlobal (λ g. bytes_eq g.name name) p.map.globals low g f).1
+          subst (λ m. m < 2 ^ 64) same (each_find IsGlobal (λ g. bytes_eq g.name name) p.map.globals low g f).1
   outer_low (Literal k) n e = absurd (cc)
   outer_low Here n e = absurd (cc)
   outer_low (Reference digits forward) n e = absurd (cc)

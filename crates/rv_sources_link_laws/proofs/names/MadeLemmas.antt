@@ -2,6 +2,7 @@
 
 use Rattle.std.proofs.Common.{◌≡◌, ℕ, suc, Bool, List, [], ◌∷◌, refl, sym, ap, subst, arith, map}
 use Rattle.std.specs.List.{AllByRecursion}
+use Rattle.rv_list_laws.proofs.EachLemmas.{each_split}
 use Rattle.rv_statement_laws.specs.Statement.{Statement}
 use Rattle.rv_unit_laws.specs.Tables.{Tables, tables, at_start, after}
 use Rattle.rv_map_laws.specs.Limits.{IsRow}
@@ -15,7 +16,6 @@ use Rattle.rv_assemble_laws.specs.LaidStatements.{LaidStatement}
 use Rattle.rv_sources_link_laws.proofs.names.GlobalsLemmas.{IsLow, low_rows}
 use Rattle.rv_sources_link_laws.proofs.names.PairLemmas.{Rise, IsPair, AreMade}
 use Rattle.rv_sources_link_laws.proofs.sections.FilesLemmas.{IsFile, AreFiles}
-use Rattle.rv_sources_link_laws.proofs.sections.SectionsLemmas.{split}
 use Rattle.rv_sources_link_laws.proofs.statements.StatementsLemmas.{rows_from, statement_at, all_statements, all_rows}
 use Rattle.rv_sources_link_laws.proofs.moves.ShrunkLemmas.{IsObjectOf, AreObjectsOf}
 
@@ -41,7 +41,7 @@ module _ (R : source.Export → objects.Export → Type 0) (p : Program) (starts
   all_made pairs file [] (o ∷ os) h f r = absurd h
   all_made pairs file (ss ∷ srcs) [] h f r = absurd h
   all_made pairs file (ss ∷ srcs) (o ∷ os) (is, h) (f, fs) r =
-      let rows = split IsRow (rows_from starts file is.laid) (all_rows starts (suc file) srcs os h) r in (
+      let rows = each_split IsRow (rows_from starts file is.laid) (all_rows starts (suc file) srcs os h) r in (
         map (statement_at starts file) is.laid,
         all_statements starts (suc file) srcs os h,
         refl,

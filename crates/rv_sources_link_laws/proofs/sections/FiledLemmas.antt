@@ -1,7 +1,6 @@
 -- The sections and the statements of an object of a source, one by the other.
 
 use Rattle.std.proofs.Common.{◌≡◌, ℕ, ◌+◌, ◌≤◌, List, [], ◌∷◌, sym, ap, ◌∙◌, arith, Some}
-use Rattle.std.specs.Prelude.{flat_map}
 use Rattle.std.specs.List.{AllByRecursion, slice_get}
 use Rattle.rv_statement_laws.specs.Statement.{Statement}
 use Rattle.rv_unit_laws.specs.Sections.{Section as SourceSection}
@@ -12,7 +11,6 @@ use Rattle.rv_sources_link_laws.proofs.sections.MaskedLemmas.{source_sections}
 use Rattle.rv_sources_link_laws.proofs.sections.AssembledLemmas.{Tile, IsSectionOf, IsAssembled}
 use Rattle.rv_sources_link_laws.proofs.moves.MovedLemmas.{IsBound}
 use Rattle.rv_sources_link_laws.proofs.statements.OrderedLemmas.{its_section}
-use Rattle.rv_assemble_laws.proofs.ListsLemmas.{join}
 use Rattle.rv_sources_link_laws.proofs.statements.SettledLemmas.{IsSettled, settled_left, of_sections, IsLaidIn, laid_are_in}
 
 -- a statement lies in its section
@@ -21,10 +19,6 @@ offsets_low t o [] tile = (omega arith, tt)
 offsets_low t o (z ∷ zs) (off, bytes, tile) =
     let (low, rest) = offsets_low t (o + z.bytes) zs tile in
     (omega (arith, low), (omega (arith, low, off), rest))
-
-pub all_flat : {X Y : Type 0} (P : Y → Type 0) (g : X → List Y) (xs : List X) → AllByRecursion (λ x. AllByRecursion P (g x)) xs → AllByRecursion P (flat_map g xs)
-all_flat P g [] h = tt
-all_flat P g (x ∷ xs) (h, hs) = join P (g x) (flat_map g xs) h (all_flat P g xs hs)
 
 -- ---- a file
 

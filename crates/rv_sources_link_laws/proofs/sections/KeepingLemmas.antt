@@ -18,6 +18,7 @@ use Rattle.rv_source_laws.specs.Compressed.{is_code, names_parcel, is_compressed
 use Rattle.rv_source_laws.specs.Sizes.{AreLeast}
 use Rattle.rv_source_laws.specs.Exports.{names_where}
 use Rattle.rv_source_laws.proofs.LeftLemmas.{text_left}
+use Rattle.rv_source_laws.proofs.LocatedLemmas.{without_executable}
 use Rattle.rv_object_laws.specs.declared.row.Row.{Row}
 use Rattle.rv_object_laws.specs.declared.symbol.Definition.{Definition as Defined}
 use Rattle.rv_object_laws.specs.declared.symbol.Definition.TheVariants.{Undefined, Absolute, InSection, Skipped}
@@ -31,7 +32,7 @@ use Rattle.rv_assemble_laws.specs.Symbols.{SymbolUse, references_in, laid_at, af
 use Rattle.rv_assemble_laws.specs.IsObjectOf.{Numbering, row_of, rows_at, relocations_from, contents_of, IsNumbered, ArePartsNumbered, IsSectionOf, AreSectionsOf, IsInData, StandsInData, IsObjectOf}
 use Rattle.rv_sources_link_laws.specs.Joins.{AreObjectsOf}
 use Rattle.rv_sources_link_laws.proofs.names.ExportedLemmas.{exported_are}
-use Rattle.rv_sources_link_laws.proofs.sections.MaskedLemmas.{masked_sections, executable_stays}
+use Rattle.rv_sources_link_laws.proofs.sections.MaskedLemmas.{masked_sections}
 use Rattle.rv_sources_link_laws.proofs.sections.StoodLemmas.{IsStood, stood}
 use Rattle.rv_sources_link_laws.proofs.sections.KeptLemmas.{IsKept, AreKept, AreMasked}
 
@@ -127,7 +128,7 @@ module _ (dropped : ℕ → Bool) where
 
   place_masked : (y : Option LaidStatement) → IsInData y → IsInData (option_map mask y)
   place_masked None h = tt
-  place_masked (Some z) (aside, placed) = (executable_stays (dropped z.located.section) z.located.home ∙ aside, placed)
+  place_masked (Some z) (aside, placed) = (without_executable (dropped z.located.section) z.located.home ∙ aside, placed)
 
   places_masked : (S : List LaidStatement) (sets : List Assignment) → AllByRecursion (StandsInData S) sets → AllByRecursion (StandsInData (mask_all S)) sets
   places_masked S [] h = tt
@@ -173,7 +174,7 @@ module _ (dropped : ℕ → Bool) where
     templates_same z (Numbered number) = refl
     templates_same z (Instruction m os) = code_same z (unwrap_or (code (constants (expression_value t z.located)) z.located.options.rvc z.bytes m os) []) z.coded
     templates_same z (Directs d) =
-        ap (λ b. contribution_templates b z.located.ordinal (expression_value t z.located) (contribution d) z.bytes) (executable_stays (dropped z.located.section) z.located.home)
+        ap (λ b. contribution_templates b z.located.ordinal (expression_value t z.located) (contribution d) z.bytes) (without_executable (dropped z.located.section) z.located.home)
 
     parts_same : (z : LaidStatement) → parts_of t (mask z) ≡ parts_of t z
     parts_same z = ap (map (laid_part z.located.ordinal)) (templates_same z z.located.kind)
@@ -192,7 +193,7 @@ module _ (dropped : ℕ → Bool) where
 
     padded : (z : LaidStatement) (a : Option ℕ) → IsPaddedIn z.located.home.executable z a → IsPaddedIn (mask z).located.home.executable (mask z) a
     padded z a h =
-        subst (λ b. IsPaddedIn b (mask z) a) (sym (executable_stays (dropped z.located.section) z.located.home)) (padded_same z.located.home.executable z a h)
+        subst (λ b. IsPaddedIn b (mask z) a) (sym (without_executable (dropped z.located.section) z.located.home)) (padded_same z.located.home.executable z a h)
 
     size_same : (v : Expression → Value) (z : LaidStatement) (multiple : ℕ) (kind : StatementKind) → HasSize v z multiple kind → HasSize v (mask z) multiple kind
     size_same v z multiple (Label name) h = h
@@ -305,7 +306,7 @@ module _ (dropped : ℕ → Bool) where
       go false e false l ih = ih
 
   flag_same : (b : Bool) (l : Located) → is_compressed_code (record l { home = without_address b l.home }) ≡ is_compressed_code l
-  flag_same b l = ap (λ x. (l.options.rvc || names_parcel l.kind) && is_code x l.kind) (executable_stays b l.home)
+  flag_same b l = ap (λ x. (l.options.rvc || names_parcel l.kind) && is_code x l.kind) (without_executable b l.home)
 
   flags_same : (zs : List LaidStatement) → list_any (λ s. is_compressed_code s.located) (mask_all zs) ≡ list_any (λ s. is_compressed_code s.located) zs
   flags_same [] = refl

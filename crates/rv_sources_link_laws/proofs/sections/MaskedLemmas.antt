@@ -1,6 +1,6 @@
 -- The sections and the statements of a source of which collection dropped some sections: only their addresses are gone.
 
-use Rattle.std.proofs.Common.{◌≡◌, ℕ, zero, suc, ◌+◌, Bool, true, false, List, [], ◌∷◌, length, refl, ap, ◌∙◌, arith, map, Some}
+use Rattle.std.proofs.Common.{◌≡◌, ℕ, zero, suc, ◌+◌, Bool, true, false, List, [], ◌∷◌, refl, ap, ◌∙◌, arith, map, Some}
 use Rattle.std.specs.List.{AllByRecursion, slice_get}
 use Rattle.rv_statement_laws.specs.Statement.{Statement}
 use Rattle.rv_unit_laws.specs.Sections.{Section}
@@ -23,10 +23,6 @@ pub no_section_masked : (index : ℕ) (sections : List Section) → masked_secti
 no_section_masked index [] = refl
 no_section_masked index (s ∷ ss) = ap (λ l. s ∷ l) (no_section_masked (suc index) ss)
 
-pub masked_length : (dropped : ℕ → Bool) (index : ℕ) (sections : List Section) → length (masked_sections dropped index sections) ≡ length sections
-masked_length dropped index [] = refl
-masked_length dropped index (s ∷ ss) = ap suc (masked_length dropped (suc index) ss)
-
 masked_from : (dropped : ℕ → Bool) (index j : ℕ) (sections : List Section) (s : Section) → slice_get sections j ≡ Some s
     → slice_get (masked_sections dropped index sections) j ≡ Some (without_address (dropped (index + j)) s)
 masked_from dropped index j [] s e = absurd (cc)
@@ -45,10 +41,6 @@ masked_at dropped j sections s e =
 pub stays : (dropped : Bool) (s : Section) → (without_address dropped s).loaded ≡ true → without_address dropped s ≡ s
 stays true s e = absurd (cc)
 stays false s e = refl
-
-pub executable_stays : (dropped : Bool) (s : Section) → (without_address dropped s).executable ≡ s.executable
-executable_stays true s = refl
-executable_stays false s = refl
 
 -- ---- statements
 

@@ -4,6 +4,8 @@ use Rattle.std.proofs.Common.{◌≡◌, ℕ, ◌%◌, ◌<◌, true, false, Lis
 use Rattle.std.proofs.lemmas.Bool.{and_parts}
 use Rattle.std.specs.Prelude.{ℤ, ◌==◌, flat_map, is_some, option_and_then}
 use Rattle.std.specs.List.{AllByRecursion, slice_get}
+use Rattle.rv_list_laws.proofs.FilterLemmas.{each_filter}
+use Rattle.rv_list_laws.proofs.EachLemmas.{each_append, each_flat_map}
 use Rattle.rv_text_laws.specs.Expression.{Primary}
 use Rattle.rv_statement_laws.specs.Statement.{StatementKind, Label, Numbered, Instruction, Directs, Expression, Values}
 use Rattle.rv_unit_laws.specs.Sections.{Section as SourceSection}
@@ -14,7 +16,6 @@ use Rattle.rv_source_laws.specs.Program.{Mapped, Program, tables_in, address_at,
 use Rattle.rv_source_laws.specs.Fits.{SizeFits}
 use Rattle.rv_source_laws.specs.Start.{spelled}
 use Rattle.rv_source_laws.proofs.HeldLemmas.{IsHeld}
-use Rattle.rv_source_laws.proofs.HomesLemmas.{all_filter}
 use Rattle.rv_chain_laws.specs.Contents.{IsWritten}
 use Rattle.rv_object_laws.specs.Object.{Section, Object}
 use Rattle.rv_link_laws.specs.Moves.{alignments_of, moves, plan, kept}
@@ -35,8 +36,7 @@ use Rattle.rv_sources_link_laws.proofs.statements.OperandsLemmas.{worth_at}
 use Rattle.rv_sources_link_laws.proofs.fields.FieldsLemmas.{new, same, worth, s, worths, relocations_are, K, Known, known, Facts, facts}
 use Rattle.rv_sources_link_laws.proofs.fields.UppersLemmas.{IsOwn, owns}
 use Rattle.rv_sources_link_laws.proofs.fields.FilledCodeLemmas.{filled_code}
-use Rattle.rv_assemble_laws.proofs.ListsLemmas.{join}
-use Rattle.rv_sources_link_laws.proofs.sections.SectionsLemmas.{each, HasAddressIn, HasAddress, all_valued, meant_in, said, suits_by, spelled_by, coded_by}
+use Rattle.rv_sources_link_laws.proofs.sections.SectionsLemmas.{HasAddressIn, HasAddress, all_valued, meant_in, said, suits_by, spelled_by, coded_by}
 use Rattle.rv_sources_link_laws.proofs.statements.SuitsLemmas as suits
 use Rattle.rv_sources_link_laws.proofs.statements.CodeOfLemmas.{IsCodeOf}
 use Rattle.rv_sources_link_laws.proofs.statements.FittingLemmas.{IsFilled, IsFilledCode, fits, is_written}
@@ -73,7 +73,7 @@ module _ (p : Program) (os : List Object) (starts : Starts) (file : ℕ) (laid :
     abbrev KnownPart : LaidPart → Type 0
     KnownPart q = Known p os starts file laid number o sections low are settled (all_worths file) whole plain address index section x is at none loaded relocated q
 
-    -- each field of code lies in its part
+    -- each_flat_map field of code lies in its part
     roomy_of : (z : LaidStatement) → IsLaidIn index section z → (z.located.placed ≡ true → HasShrunkSize (expression_value t z.located) z x.alignment z.located.kind)
         → AllByRecursion (λ q. HasRoom q.template) (parts_of t z)
     roomy_of z here sized = of_ordinal z.located.ordinal (shrunk_templates t z z.located.kind) (roomy t z x.alignment here.bare sized)
@@ -85,7 +85,7 @@ module _ (p : Program) (os : List Object) (starts : Starts) (file : ℕ) (laid :
     all_roomy : (zs : List LaidStatement) → AllByRecursion (IsLaidIn index section) zs → AllByRecursion (λ z. z.located.placed ≡ true → HasShrunkSize (expression_value t z.located) z x.alignment z.located.kind) zs
         → AllByRecursion (λ q. HasRoom q.template) (parts t zs)
     all_roomy [] h sz = tt
-    all_roomy (z ∷ zs) (h, hs) (sz, szs) = join (λ q. HasRoom q.template) (parts_of t z) (parts t zs) (roomy_of z h sz) (all_roomy zs hs szs)
+    all_roomy (z ∷ zs) (h, hs) (sz, szs) = each_append (λ q. HasRoom q.template) (parts_of t z) (parts t zs) (roomy_of z h sz) (all_roomy zs hs szs)
 
     abbrev own_worth : ℕ → Open → ℤ
     own_worth = worth_at (outer_in p os) starts os file o index x none number
@@ -194,5 +194,5 @@ module _ (p : Program) (os : List Object) (starts : Starts) (file : ℕ) (laid :
         → AllByRecursion (λ z. has_row z.located ≡ true → IsFit p starts bytes all_worths file z) own
     section_fits begins =
         all_fit begins own (facts p os starts file laid number o sections low are settled (all_worths file) whole plain address index section x is at none loaded relocated) (owns p os starts file laid number o sections low are settled (all_worths file) whole plain address index section x is at none loaded relocated 0 own is.tile (facts p os starts file laid number o sections low are settled (all_worths file) whole plain address index section x is at none loaded relocated))
-        (all_filter (IsCodeOf starts (λ n z. said p n (all_worths n) z) bytes file) (λ s. s.located.section == index) laid codes)
-        (each (λ q. IsTemplate q.template) (parts_of t) own is.fields)
+        (each_filter (IsCodeOf starts (λ n z. said p n (all_worths n) z) bytes file) (λ s. s.located.section == index) laid codes)
+        (each_flat_map (λ q. IsTemplate q.template) (parts_of t) own is.fields)

@@ -6,6 +6,7 @@ use Rattle.std.proofs.Math.Nat.{add-mul-mod_self_right}
 use Rattle.std.proofs.lemmas.Nat.{div-add-mod'}
 use Rattle.std.specs.Prelude.{⊤, ℤ, ◌&&◌, max, if◌then◌else◌, flat_map, is_some, unwrap_or, option_map, option_and_then}
 use Rattle.std.specs.List.{AllByRecursion, list_all}
+use Rattle.rv_list_laws.proofs.EachLemmas.{each_split}
 use Rattle.rv_layout_laws.specs.Alignment.{aligned}
 use Rattle.rv_isa_laws.specs.Bytes.{little_endian, zeros}
 use Rattle.rv_text_laws.specs.Expression.{Primary}
@@ -32,26 +33,12 @@ use Rattle.rv_sources_link_laws.proofs.statements.SuitsLemmas as suits
 use Rattle.rv_object_laws.specs.Padding.{no_operations, operations_in}
 use Rattle.rv_sources_link_laws.proofs.moves.ShrunkLemmas.{padding_templates, IsPaddedIn, parts_of, parts, Tile, shrunk_templates, HasShrunkSize}
 
--- ---- lists
-
-pub split : {X : Type 0} (P : X → Type 0) (xs ys : List X) → AllByRecursion P (xs ++ ys) → AllByRecursion P xs × AllByRecursion P ys
-split P [] ys h = (tt, h)
-split P (x ∷ xs) ys (h, hs) = let rest = split P xs ys hs in ((h, rest.0), rest.1)
-
-pub each : {X Y : Type 0} (P : Y → Type 0) (f : X → List Y) (xs : List X) → AllByRecursion P (flat_map f xs) → AllByRecursion (λ x. AllByRecursion P (f x)) xs
-each P f [] h = tt
-each P f (x ∷ xs) h = let parts = split P (f x) (flat_map f xs) h in (parts.0, each P f xs parts.1)
-
 -- ---- relocations of parts
 
 -- what holds of parts that follow one another, each at its offset
 abbrev pub AtOffsets : (ℕ → LaidPart → Type 0) → ℕ → List LaidPart → Type 0
 AtOffsets R offset [] = ⊤
 AtOffsets R offset (p ∷ ps) = R offset p × AtOffsets R (offset + length (part_bytes p)) ps
-
-pub at_each : (R : ℕ → LaidPart → Type 0) (P : LaidPart → Type 0) → ((n : ℕ) (p : LaidPart) → R n p → P p) → (offset : ℕ) (ps : List LaidPart) → AtOffsets R offset ps → AllByRecursion P ps
-at_each R P step offset [] h = tt
-at_each R P step offset (p ∷ ps) (h, hs) = (step offset p h, at_each R P step (offset + length (part_bytes p)) ps hs)
 
 split_at : (R : ℕ → LaidPart → Type 0) (offset : ℕ) (xs ys : List LaidPart) → AtOffsets R offset (xs ++ ys)
     → AtOffsets R offset xs × AtOffsets R (offset + length (flat_map part_bytes xs)) ys
@@ -86,7 +73,7 @@ module _ (Q : Relocation → Type 0) (number : Numbering) where
   pub of_parts : (offset : ℕ) (ps : List LaidPart) → AllByRecursion Q (relocations_from number offset ps) → AtOffsets AreAt offset ps
   of_parts offset [] h = tt
   of_parts offset (p ∷ ps) h =
-      let both = split Q (map (relocation_at number offset) (template_fields p.ordinal p.template)) (relocations_from number (offset + length (part_bytes p)) ps) h in
+      let both = each_split Q (map (relocation_at number offset) (template_fields p.ordinal p.template)) (relocations_from number (offset + length (part_bytes p)) ps) h in
       (of_fields offset (template_fields p.ordinal p.template) both.0, of_parts (offset + length (part_bytes p)) ps both.1)
 
 -- ---- multiples

@@ -4,13 +4,14 @@ use Rattle.std.proofs.Common.{◌≡◌, ℕ, ◌+◌, ◌≤◌, Bool, true, fa
 use Rattle.std.proofs.lemmas.Bool.{and_parts, eqb-true, eq-eqb, le-ltb}
 use Rattle.std.specs.Prelude.{⊤, not, ◌&&◌, ◌||◌, ◌==◌, nat_lt, if◌then◌else◌, filter, flat_map, bytes_eq}
 use Rattle.std.specs.List.{AllByRecursion, list_any}
+use Rattle.rv_list_laws.proofs.EachLemmas.{each_map, each_append}
+use Rattle.rv_list_laws.proofs.FindLemmas.{each_find}
 use Rattle.rv_text_laws.specs.Values.{Meaning, Known, InSection as InData, Open as OpenAddress, Refused}
 use Rattle.rv_statement_laws.specs.Statement.{StatementKind, Label, Numbered, Instruction, Directs, Statement, Enters, Sets}
 use Rattle.rv_unit_laws.specs.Bindings.{is_shared}
 use Rattle.rv_unit_laws.specs.Sections.{goes_to_text as source_text}
 use Rattle.rv_unit_laws.specs.Tables.{Tables, Assignment, tables, at_start, assigned_ever}
 use Rattle.rv_source_laws.specs.Exports.{names_where}
-use Rattle.rv_source_laws.proofs.HomesLemmas.{all_map}
 use Rattle.rv_object_laws.specs.declared.symbol.Definition.{Definition as Defined}
 use Rattle.rv_object_laws.specs.declared.symbol.Definition.TheVariants.{Undefined, Absolute, InSection, Skipped}
 use Rattle.rv_object_laws.specs.Object.{Symbol, Object}
@@ -18,8 +19,6 @@ use Rattle.rv_link_laws.specs.CallSites.{is_inside, is_entered}
 use Rattle.rv_assemble_laws.specs.LaidStatements.{LaidStatement, laid_in}
 use Rattle.rv_assemble_laws.specs.Symbols.{laid_at, after_found, assigned_definition, statement_definition, local_symbol, shared_symbol, references, unnamed_symbols, named_symbols, local_symbols, exports_of, exports, undefined_symbols, is_absolute, is_meant, are_together, distinct_from, missing_name}
 use Rattle.rv_assemble_laws.specs.IsObjectOf.{IsInData, StandsInData, IsObjectOf}
-use Rattle.rv_sources_link_laws.proofs.names.KnownLemmas.{all_found}
-use Rattle.rv_assemble_laws.proofs.ListsLemmas.{join}
 use Rattle.rv_sources_link_laws.proofs.statements.CodeOfLemmas.{IsFound, found_from}
 
 -- a statement is the first of its ordinal
@@ -71,7 +70,7 @@ module _ (t : Tables) (S : List LaidStatement) (places : AllByRecursion (StandsI
   laid_stood z (Label name) u = here_stood z u
   laid_stood z (Numbered number) u = here_stood z u
   laid_stood z (Instruction m os) u = here_stood z u
-  laid_stood z (Directs (Sets name e)) u = assigned_stood (assigned_ever t.assignments name) (λ a k. all_found (StandsInData S) (λ s. bytes_eq s.name name) t.assignments places a k)
+  laid_stood z (Directs (Sets name e)) u = assigned_stood (assigned_ever t.assignments name) (λ a k. each_find (StandsInData S) (λ s. bytes_eq s.name name) t.assignments places a k)
   laid_stood z (Directs (Enters section)) u = here_stood z u
   laid_stood z (Directs _) u = here_stood z u
 
@@ -95,28 +94,28 @@ module _ (t : Tables) (S : List LaidStatement) (places : AllByRecursion (StandsI
   all_locals : (before rest : List LaidStatement) → AllByRecursion (IsFirst S) rest → AllByRecursion Stood (local_symbols t S before rest)
   all_locals before [] u = tt
   all_locals before (z ∷ rest) (u, us) =
-      join Stood (unnamed_symbols t (references t S) before z) (named_symbols t S z ++ local_symbols t S (before ++ z ∷ []) rest)
+      each_append Stood (unnamed_symbols t (references t S) before z) (named_symbols t S z ++ local_symbols t S (before ++ z ∷ []) rest)
       (unnamed_stood (is_meant t (references t S) z && not (list_any (λ q. are_together z q && is_meant t (references t S) q) before)) z u)
-      (join Stood (named_symbols t S z) (local_symbols t S (before ++ z ∷ []) rest)
+      (each_append Stood (named_symbols t S z) (local_symbols t S (before ++ z ∷ []) rest)
       (locals_stood (statement_definition t S z z.located.kind) (laid_stood z z.located.kind u) (λ x. not (is_absolute x)) (names_where (λ b. not (is_shared b)) t z.located))
       (all_locals (before ++ z ∷ []) rest us))
 
   all_exports : (rest : List LaidStatement) → AllByRecursion (IsFirst S) rest → AllByRecursion Stood (flat_map (exports_of t S) rest)
   all_exports [] u = tt
   all_exports (z ∷ rest) (u, us) =
-      join Stood (exports_of t S z) (flat_map (exports_of t S) rest) (shared_stood (statement_definition t S z z.located.kind) (laid_stood z z.located.kind u) (names_where is_shared t z.located)) (all_exports rest us)
+      each_append Stood (exports_of t S z) (flat_map (exports_of t S) rest) (shared_stood (statement_definition t S z z.located.kind) (laid_stood z z.located.kind u) (names_where is_shared t z.located)) (all_exports rest us)
 
 pub stood : (ss : List Statement) (o : Object) (is : IsObjectOf ss o) → AllByRecursion (λ x. IsStood is.laid x.definition) o.symbols
 stood ss o is =
     let t = tables ss in
     subst (λ l. AllByRecursion (λ (x : Symbol). IsStood is.laid x.definition) l) (sym is.symbols)
-    (join (λ (x : Symbol). IsStood is.laid x.definition) (local_symbols t is.laid [] is.laid) (exports t is.laid ++ undefined_symbols t is.laid)
+    (each_append (λ (x : Symbol). IsStood is.laid x.definition) (local_symbols t is.laid [] is.laid) (exports t is.laid ++ undefined_symbols t is.laid)
     (all_locals t is.laid is.places [] is.laid firsts)
-    (join (λ (x : Symbol). IsStood is.laid x.definition) (exports t is.laid) (undefined_symbols t is.laid) (all_exports t is.laid is.places is.laid firsts)
+    (each_append (λ (x : Symbol). IsStood is.laid x.definition) (exports t is.laid) (undefined_symbols t is.laid) (all_exports t is.laid is.places is.laid firsts)
     (shared_stood t is.laid is.places Undefined tt (distinct_from [] (flat_map (λ r. missing_name t r.ordinal r.symbol) (references t is.laid))))))
   where
     firsts : AllByRecursion (IsFirst is.laid) is.laid
-    firsts = all_map (IsFound 1 is.laid) (IsFirst is.laid) is.laid (λ z k. k.1)
+    firsts = each_map (IsFound 1 is.laid) (IsFirst is.laid) is.laid (λ z k. k.1)
         (found_from 1 (at_start ss) ss is.laid is.located)
 
 -- ---- none stands inside a call

@@ -4,11 +4,11 @@ use Rattle.std.proofs.Common.{◌≡◌, ℕ, zero, suc, ◌+◌, ◌-◌, ◌�
 use Rattle.std.proofs.lemmas.Bool.{eq-eqb, ne_eqb}
 use Rattle.std.specs.Prelude.{⊤, if◌then◌else◌}
 use Rattle.std.specs.List.{AllByRecursion}
+use Rattle.rv_list_laws.proofs.EachLemmas.{each_map}
 use Rattle.rv_statement_laws.specs.Statement.{Statement}
 use Rattle.rv_unit_laws.specs.Tables.{Tables, at_start, after}
 use Rattle.rv_source_laws.specs.Located.{masked, located_now, located_from}
 use Rattle.rv_source_laws.specs.Program.{Mapped}
-use Rattle.rv_source_laws.proofs.HomesLemmas.{all_map}
 use Rattle.rv_object_laws.specs.Object.{Object}
 use Rattle.rv_link_laws.specs.Inputs.{Starts}
 use Rattle.rv_assemble_laws.specs.LaidStatements.{LaidStatement}
@@ -27,7 +27,7 @@ found_left k t ss dropped [] e = tt
 found_left k t [] dropped (s ∷ laid) e = absurd (cc)
 found_left k t (x ∷ ss) dropped (s ∷ laid) e = (
   (omega (arith, own), ap (λ b. if b then Some s else laid_at laid s.located.ordinal) (eq-eqb s.located.ordinal s.located.ordinal refl)),
-  all_map (IsFound (suc k) laid) (IsFound k (s ∷ laid)) laid later (found_left (suc k) (after t k x.kind) ss dropped laid (let rest : map (λ s. s.located) laid ≡ map (masked dropped) (located_from 1 (suc k) (after t k x.kind) ss) = cc in rest)),
+  each_map (IsFound (suc k) laid) (IsFound k (s ∷ laid)) laid later (found_left (suc k) (after t k x.kind) ss dropped laid (let rest : map (λ s. s.located) laid ≡ map (masked dropped) (located_from 1 (suc k) (after t k x.kind) ss) = cc in rest)),
 )
   where
     own : s.located.ordinal ≡ k
@@ -50,7 +50,7 @@ module _ (starts : Starts) (says : ℕ → LaidStatement → List ℕ) where
   found_by [] (o ∷ os) h i = absurd h
   found_by (ss ∷ sources) [] h i = absurd h
   found_by (ss ∷ sources) (o ∷ os) (is, h) zero =
-      all_map (IsFound 1 is.laid) (IsFound 0 is.laid) is.laid (λ z f. (omega arith, f.1)) (found_left 1 (at_start ss) ss is.dropped is.laid is.located)
+      each_map (IsFound 1 is.laid) (IsFound 0 is.laid) is.laid (λ z f. (omega arith, f.1)) (found_left 1 (at_start ss) ss is.dropped is.laid is.located)
   found_by (ss ∷ sources) (o ∷ os) (is, h) (suc i) = found_by sources os h i
 
   -- ---- a function that gives each laid statement's code for its statement
@@ -86,6 +86,6 @@ module _ (starts : Starts) (says : ℕ → LaidStatement → List ℕ) where
     pub codes : AreCodesOf code_of 1 sources os h
     codes =
         codes_from code_of 1 sources os h
-        (λ i. all_map (IsFound 0 (laid_by starts sources os h i)) (IsCodeOf code_of (1 + i)) (laid_by starts sources os h i)
+        (λ i. each_map (IsFound 0 (laid_by starts sources os h i)) (IsCodeOf code_of (1 + i)) (laid_by starts sources os h i)
         (λ z found. ap (λ n. code_found (1 + i) (laid_at (laid_by starts sources os h n) z.located.ordinal)) (let e : 1 + i - 1 ≡ i = omega arith in e) ∙ ap (code_found (1 + i)) found.1)
         (found_by sources os h i))

@@ -11,13 +11,11 @@ use Rattle.rv_isa.specs.declared.kind.Kind.TheVariants.{Relax}
 use Rattle.rv_isa.specs.Kinds.{width_of}
 use Rattle.rv_isa.specs.Ranges.{IsValid}
 use Rattle.rv_isa.specs.Operations.{format_of}
-use Rattle.rv_isa_laws.specs.Word.{form, word}
 use Rattle.rv_reloc_laws.specs.Fields.{patched}
 use Rattle.rv_reloc_laws.specs.Operands.{with_value}
 use Rattle.rv_reloc_laws.specs.Ranges.{Takes}
 use Rattle.rv_parcel.specs.Encoded.{IsLeast, IsEncodedIn, IsLeastAs, IsEncodedAs}
 use Rattle.rv_parcel.specs.declared.form.Compressed.{Compressed}
-use Rattle.rv_parcel.specs.Parcel.{parcel}
 use Rattle.rv_pseudo_laws.specs.Code.{Part, Closed, Open, Joined}
 use Rattle.rv_pseudo_laws.specs.Filled.{FieldValue, filled, are_closed, part_bytes, code_bytes, AreTaken}
 use Rattle.rv_pseudo_laws.proofs.FillingLemmas.{filling_valid}
@@ -28,8 +26,9 @@ use Rattle.rv_assemble_laws.specs.Coded.{IsCodedPart, AreCodedParts, joined, par
 use Rattle.rv_assemble_laws.specs.Templates.{Open as OpenField}
 use Rattle.rv_filling_laws.specs.Parts.{fills_call_pair}
 use Rattle.rv_filling_laws.proofs.OneLemmas.{open_filled, call_filled, call_width}
-use Rattle.rv_sources_link_laws.proofs.fields.PatchesLemmas.{little_long, patched_here, filled_fields}
+use Rattle.rv_sources_link_laws.proofs.fields.PatchesLemmas.{patched_here, filled_fields}
 pub use Rattle.rv_filling_laws.specs.Parts.{AreFew}
+use Rattle.rv_filling_laws.proofs.AllLemmas.{encoded_long}
 
 -- ---- the bytes of an instruction
 
@@ -37,14 +36,6 @@ two_or_four : (c : Bool) (i : Inst) (bytes : ℕ) → IsLeast c i bytes → (byt
 two_or_four true i bytes (inl h) = inl h.0
 two_or_four true i bytes (inr h) = inr h.0
 two_or_four false i bytes h = inr h
-
-pub encoded_long : (i : Inst) (n : ℕ) (bytes : List ℕ) → IsEncodedIn i n bytes → length bytes ≡ n
-encoded_long i n bytes (inl (e, w)) = ap length w ∙ little_long 4 (word (form i)) ∙ sym e
-encoded_long i n bytes (inr (e, (q, short, w))) = ap length w ∙ little_long 2 q ∙ sym e
-
-pub encoded_long_as : (named : Option Compressed) (i : Inst) (n : ℕ) (bytes : List ℕ) → IsEncodedAs named i n bytes → length bytes ≡ n
-encoded_long_as (Some c) i n bytes (two, line, is, w) = ap length w ∙ little_long 2 (parcel c) ∙ sym two
-encoded_long_as None i n bytes h = encoded_long i n bytes h
 
 two_or_four_as : (named : Option Compressed) (c : Bool) (i : Inst) (bytes : ℕ) → IsLeastAs named c i bytes → (bytes ≡ 2) ⊎ (bytes ≡ 4)
 two_or_four_as (Some x) c i bytes h = inl h

@@ -3,20 +3,18 @@
 use Rattle.std.proofs.Common.{◌≡◌, ℕ, zero, suc, ◌≤◌, Bool, true, false, List, [], ◌∷◌, ◌++◌, length, map, refl, sym, subst, arith, Option, Some, None}
 use Rattle.std.specs.Prelude.{⊤, ◌&&◌, if◌then◌else◌, unwrap_or}
 use Rattle.std.specs.List.{AllByRecursion}
-use Rattle.rv_isa.specs.declared.instruction.Format.{Format}
-use Rattle.rv_isa.specs.declared.instruction.Format.TheVariants as format
 use Rattle.rv_isa.specs.declared.instruction.Inst.{Inst}
 use Rattle.rv_isa.specs.declared.kind.Kind.{Kind}
 use Rattle.rv_isa.specs.declared.kind.Kind.TheVariants as kind
 use Rattle.rv_isa.specs.Kinds.{width_of, is_low_part}
 use Rattle.rv_isa.specs.Operations.{format_of}
+use Rattle.rv_isa.proofs.KindsLemmas.{width_low}
 use Rattle.rv_text_laws.specs.Values.{Value, Constant, Symbolic, Difference, Faulty}
 use Rattle.rv_statement_laws.specs.declared.pseudo.Function.TheVariants.{Hi, Lo, PcrelHi, PcrelLo}
 use Rattle.rv_statement_laws.specs.Statement.{StatementKind, Label, Numbered, Instruction, Directs, Expression, Operand, Register, Value as Of_value, Applied, Target, Accesses, Word, Quoted}
 use Rattle.rv_parcel.specs.declared.form.Compressed.{Compressed}
 use Rattle.rv_pseudo_laws.specs.Code.{Part as CodePart, Closed, Open as Open_part, Joined, named_form}
 use Rattle.rv_pseudo_laws.specs.Filled.{are_closed}
-use Rattle.rv_pseudo_laws.specs.Valid.{fills}
 use Rattle.rv_unit_laws.specs.Contributions.{Numbers, Texts, Contribution, Nothing, Bytes, Zero_bytes, Alignment, contribution}
 use Rattle.rv_unit_laws.specs.Tables.{Tables, Definition, definition}
 use Rattle.rv_source_laws.specs.Located.{Located}
@@ -27,9 +25,11 @@ use Rattle.rv_sources_link_laws.proofs.statements.MarkedLemmas.{is_marked, part_
 use Rattle.rv_assemble_laws.specs.Coded.{constants, IsCodedPart, AreCodedParts}
 use Rattle.rv_assemble_laws.specs.Templates.{Template, Fixed, Datum, Coded, Open}
 use Rattle.rv_assemble_laws.specs.LaidStatements.{LaidStatement, expression_value, coded_templates}
+use Rattle.rv_assemble_laws.proofs.ValidLemmas.{fills_plain}
+use Rattle.rv_filling_laws.proofs.AllLemmas.{encoded_long}
 use Rattle.rv_sources_link_laws.proofs.statements.SettledLemmas.{IsBare}
 use Rattle.rv_sources_link_laws.proofs.fields.PatchesLemmas.{HasRoom}
-use Rattle.rv_sources_link_laws.proofs.statements.CodingLemmas.{encoded_long, joined_long}
+use Rattle.rv_sources_link_laws.proofs.statements.CodingLemmas.{joined_long}
 use Rattle.rv_sources_link_laws.proofs.moves.ShrunkLemmas.{padding_templates, shrunk_templates, HasShrunkSize, contribution_templates}
 
 -- ---- the fields of a part
@@ -96,19 +96,6 @@ part_kinds P t v s (Joined k i j) f g r =
     (by_kind P k (field_of t v s.ordinal (operand_of s.kind) k) (g k i j refl) (field_kind t v s.ordinal (operand_of s.kind) k))
     (relaxing P s.options.relax s.ordinal r)
 
--- ---- which kinds
-
--- no field of an instruction is an alignment
-fills_plain : (f : Format) (k : Kind) → fills f k ≡ true → is_align k ≡ false
-fills_plain f kind.Align e = no f e
-  where
-    no : (f : Format) → fills f kind.Align ≡ true → is_align kind.Align ≡ false
-    no (format.Branch operation x) e = absurd (cc)
-    no (format.Upper operation x) e = absurd (cc)
-    no f e = absurd (cc)
-fills_plain f kind.None e = refl
-fills_plain f k e = refl
-
 -- ---- all templates of a statement
 
 module _ (P : Template → Type 0) (fixed : (bytes : List ℕ) → P (Fixed bytes)) (datum : (width : ℕ) (v : Value) → P (Datum width v)) where
@@ -154,10 +141,6 @@ module _ (P : Template → Type 0) (fixed : (bytes : List ℕ) → P (Fixed byte
         go false e = subst (λ l. AllByRecursion P l) (sym (bare e t z)) tt
 
 -- ---- they have room, and are no alignments
-
-width_low : (k : Kind) → width_of k ≤ 8
-width_low kind.None = omega arith
-width_low k = omega arith
 
 room_part : (t : Tables) (v : Expression → Value) (s : Located) (named : Option Compressed) (c : Bool) (p : CodePart) (bytes : List ℕ) → IsCodedPart named c p bytes → HasRoom (Coded bytes (part_fields t v s p))
 room_part t v s named c (Closed i) bytes h = tt

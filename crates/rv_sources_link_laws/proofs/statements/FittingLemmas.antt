@@ -1,19 +1,20 @@
 -- A row that suits its statement fits it.
 
-use Rattle.std.proofs.Common.{◌≡◌, ℕ, suc, ◌+◌, ◌-◌, ◌*◌, ◌/◌, ◌%◌, ◌<◌, Bool, true, false, List, [], ◌∷◌, length, refl, sym, ap, ◌∙◌, subst, arith, Option, Some, None, ◌⊎◌, inl, inr, length-append, add-zero}
+use Rattle.std.proofs.Common.{◌≡◌, ℕ, suc, ◌+◌, ◌-◌, ◌*◌, ◌/◌, ◌%◌, Bool, true, false, List, [], ◌∷◌, length, refl, sym, ap, ◌∙◌, subst, arith, Option, Some, None, ◌⊎◌, inl, inr, length-append, add-zero}
 use Rattle.std.proofs.lemmas.Bool.{and_from}
-use Rattle.std.proofs.Math.Nat.{mul-add-div_right, add-mul}
 use Rattle.std.proofs.lemmas.Nat.{div-add-mod'}
 use Rattle.std.proofs.lemmas.List.{length-replicate}
 use Rattle.std.specs.Prelude.{⊤, ℤ, map, ◌&&◌, IsTrue, flat_map, is_some, unwrap_or, option_map, if◌then◌else◌}
 use Rattle.std.specs.List.{list_all}
 use Rattle.rv_layout_laws.specs.Alignment.{aligned}
 use Rattle.rv_isa_laws.specs.Bytes.{little_endian}
+use Rattle.rv_isa_laws.proofs.BytesLemmas.{little_long}
 use Rattle.rv_text_laws.specs.Expression.{Primary}
 use Rattle.rv_text_laws.specs.Values.{Value, Constant, Symbolic, Difference, Faulty}
 use Rattle.rv_parcel.specs.declared.form.Compressed.{Compressed}
 use Rattle.rv_parcel.specs.declared.parcel.ParcelOperation.TheVariants as parcels
 use Rattle.rv_parcel.specs.Parcel.{expansion as meant}
+use Rattle.rv_layout_laws.proofs.AlignmentLemmas.{padding_on}
 use Rattle.rv_statement_laws.specs.declared.mnemonic.Mnemonic.{Mnemonic}
 use Rattle.rv_statement_laws.specs.declared.mnemonic.Mnemonic.TheVariants.{Registers, Parcel}
 use Rattle.rv_statement_laws.specs.Statement.{StatementKind, Label, Numbered, Instruction, Directs, Expression, Operand, Register, Target, Directive, Sets, Aligns_to_power, Aligns_to_bytes, Values, Strings, Zeros}
@@ -36,7 +37,6 @@ use Rattle.rv_sources_link_laws.proofs.statements.QuietLemmas.{formed}
 use Rattle.rv_sources_link_laws.proofs.statements.NopsLemmas.{padding_row, padding_lines, padding_said, padding_lies, padding_sized, padding_encoded}
 use Rattle.rv_sources_link_laws.proofs.statements.SuitsLemmas.{IsMultiple, SuitsPadding, SuitsDirective, Suits, directive_said, code_said}
 use Rattle.rv_runs_laws.proofs.AscendingLemmas.{true_false}
-use Rattle.rv_filling_laws.proofs.AllLemmas.{little_long as little_length}
 
 -- ---- constants
 
@@ -56,17 +56,12 @@ no_row r b n = (tt, n, omega arith, omega arith, (let e : r.bytes % 2 ≡ 0 = om
 values_length : (v : Expression → ℕ) (width : ℕ) (es : List Expression) → length (flat_map (λ e. little_endian width (v e)) es) ≡ width * length es
 values_length v width [] = omega arith
 values_length v width (e ∷ es) =
-    let own = little_length width (v e) in
+    let own = little_long width (v e) in
     let rest = values_length v width es in
     let m : width * suc (length es) ≡ width + width * length es = omega arith in
     length-append (little_endian width (v e)) (flat_map (λ e. little_endian width (v e)) es) ∙ ap (λ n. n + length (flat_map (λ e. little_endian width (v e)) es)) own ∙ ap (λ n. width + n) rest ∙ sym m
 
 -- ---- padding
-
-aligned_moves : (a q x : ℕ) → 0 < a → aligned a (q * a + x) ≡ q * a + aligned a x
-aligned_moves a q x h =
-    let more : q * a + x + (a - 1) ≡ q * a + (x + (a - 1)) = omega arith in
-    ap (λ n. n / a * a) more ∙ ap (λ n. n * a) (mul-add-div_right h q (x + (a - 1))) ∙ add-mul q ((x + (a - 1)) / a) a
 
 pub padding_moves : (alignment : Option ℕ) (start offset : ℕ) → IsMultiple alignment start → padding alignment (start + offset) ≡ padding alignment offset
 padding_moves None start offset h = refl
@@ -74,7 +69,7 @@ padding_moves (Some a) start offset (some, h) =
     let q = start / a in
     let whole : q * a ≡ start = sym (add-zero (q * a)) ∙ ap (λ n. q * a + n) (sym h) ∙ div-add-mod' start a in
     let moved : aligned a (start + offset) ≡ start + aligned a offset =
-    ap (λ n. aligned a (n + offset)) (sym whole) ∙ aligned_moves a q offset some ∙ ap (λ n. n + aligned a offset) whole in
+    ap (λ n. aligned a (n + offset)) (sym whole) ∙ padding_on a q offset some ∙ ap (λ n. n + aligned a offset) whole in
     ap (λ n. n - (start + offset)) moved ∙ (let e : start + aligned a offset - (start + offset) ≡ aligned a offset - offset = omega arith in e)
 
 -- ---- a laid statement

@@ -1,6 +1,6 @@
 -- A padding in code is instructions without effect, of four bytes each and of two at its end.
 
-use Rattle.std.proofs.Common.{◌≡◌, ℕ, zero, suc, ◌+◌, ◌*◌, ◌/◌, ◌%◌, Bool, true, false, List, [], ◌∷◌, ◌++◌, length, length-append, map, refl, sym, ap, ◌∙◌, subst, arith, Some, pos, inl, inr, lit<, None}
+use Rattle.std.proofs.Common.{◌≡◌, ℕ, zero, suc, ◌+◌, ◌*◌, ◌/◌, ◌%◌, Bool, true, false, List, [], ◌∷◌, ◌++◌, map, refl, sym, ap, ◌∙◌, subst, arith, Some, pos, inl, inr, lit<, None}
 use Rattle.std.proofs.lemmas.List.{length-replicate}
 use Rattle.std.proofs.lemmas.Int.{ints}
 use Rattle.std.proofs.lemmas.Bool.{leb-true, leb-false}
@@ -126,23 +126,3 @@ padding_row value address row even count =
       omega (arith, even, count),
       even,
     )
-
--- ---- lengths
-
-fours_long : (n : ℕ) → length (four_each n) ≡ 4 * n
-fours_long zero = refl
-fours_long (suc n) = let ih = fours_long n in omega (arith, ih)
-
--- so many bytes
-pub nops_long : (bytes : ℕ) → bytes % 2 ≡ 0 → length (no_operations bytes) ≡ bytes
-nops_long bytes even =
-    let two : List ℕ = if nat_le 2 (bytes % 4) then 0x01 ∷ 0 ∷ [] else [] in
-    let last : length two ≡ two_of (nat_le 2 (bytes % 4)) = go (nat_le 2 (bytes % 4)) in
-    let both = length-append (four_each (bytes / 4)) two in
-    let front = fours_long (bytes / 4) in
-    let whole = (rest_of bytes even).0 in
-    both ∙ omega (arith, last, front, whole)
-  where
-    go : (b : Bool) → length {A = ℕ} (if b then 0x01 ∷ 0 ∷ [] else []) ≡ two_of b
-    go true = refl
-    go false = refl

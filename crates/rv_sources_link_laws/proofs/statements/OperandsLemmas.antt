@@ -1,9 +1,12 @@
 -- What operands stand for, and what the link makes of their fields.
 
-use Rattle.std.proofs.Common.{◌≡◌, ℕ, ◌+◌, ◌%◌, Bool, true, false, List, [], ◌∷◌, refl, sym, ap, ◌∙◌, subst, arith, Option, Some, None}
+use Rattle.std.proofs.Common.{◌≡◌, ℕ, ◌+◌, ◌%◌, Bool, true, false, List, [], ◌∷◌, refl, sym, ap, ◌∙◌, subst, Option, Some, None}
 use Rattle.std.proofs.lemmas.Int.{int_wrap-add_right, int_wrap-add_same}
 use Rattle.std.specs.Prelude.{◌^◌, ℤ, pos, neg_ℤ, ◌+ℤ◌, ◌-ℤ◌, not, flat_map, is_some, unwrap_or, option_map, if◌then◌else◌}
 use Rattle.std.specs.Int.{w64, int_wrap, cast_signed}
+use Rattle.rv_list_laws.proofs.ElementsLemmas.{append_none_parts}
+use Rattle.std.proofs.lemmas.Bool.{not-false}
+use Rattle.rv_list_laws.proofs.NumbersLemmas.{mod_twice}
 use Rattle.rv_isa.specs.Kinds.{is_low_part}
 use Rattle.rv_isa.specs.declared.kind.Kind.{Kind}
 use Rattle.rv_isa.specs.declared.kind.Kind.TheVariants as kind
@@ -15,7 +18,7 @@ use Rattle.rv_statement_laws.specs.Statement.{Operand, Register, Value as Of_val
 use Rattle.rv_reloc_laws.specs.Values.{value_of}
 use Rattle.rv_source_laws.specs.Lines.{constant_of, other_operand, distance}
 use Rattle.rv_source_laws.specs.Program.{resolved}
-use Rattle.rv_source_laws.proofs.HeldLemmas.{none_left, no_test}
+use Rattle.rv_source_laws.proofs.HeldLemmas.{no_test}
 use Rattle.rv_object_laws.specs.Object.{Section, Object}
 use Rattle.rv_link_laws.specs.Moves.{alignments_of, moves, new_offset}
 use Rattle.rv_link_laws.specs.Inputs.{Starts}
@@ -27,12 +30,8 @@ use Rattle.rv_assemble_laws.specs.Templates.{Open, open_at}
 use Rattle.rv_assemble_laws.specs.IsObjectOf.{Numbering, relocation_at}
 use Rattle.rv_sources_link_laws.proofs.names.KnownLemmas.{still}
 use Rattle.rv_sources_link_laws.proofs.statements.RowsLemmas.{is_distance}
-use Rattle.rv_runs_laws.proofs.LaidOutLemmas.{not_false as no_not}
 
 -- ---- numbers
-
-mod_twice : (n : ℕ) → n % 2 ^ 64 % 2 ^ 64 ≡ n % 2 ^ 64
-mod_twice n = omega arith
 
 wrapped_once : (n : ℕ) → int_wrap w64 (pos n) ≡ int_wrap w64 (pos (n % 2 ^ 64))
 unfolding int_wrap
@@ -138,19 +137,19 @@ labelled_by l (Difference q r plus) e = absurd (cc)
 labelled_by l (Faulty c) e = absurd (cc)
 
 pub label_symbolic : (l : Primary → Bool) (m : Mnemonic) (v : Value) → distance_faults m (worth l v) ≡ [] → IsLabelled l v
-label_symbolic l m v e = labelled_by l v (no_not (is_labelled (worth l v)) (no_test (not (is_labelled (worth l v))) _ (none_left _ _ e).0))
+label_symbolic l m v e = labelled_by l v (not-false (is_labelled (worth l v)) (no_test (not (is_labelled (worth l v))) _ (append_none_parts _ _ e).0))
 
 -- the faults of the one operand that is no register
 pub other_fault : (w : Expression → Worth) (m : Mnemonic) (os : List Operand) (o : Operand) → other_operand os ≡ Some o
     → flat_map (operand_faults w m) os ≡ [] → operand_faults w m o ≡ []
 other_fault w m [] o e h = absurd (cc)
 other_fault w m (Register r ∷ os) o e h = other_fault w m os o e h
-other_fault w m (Of_value x ∷ os) o e h = let same : Of_value x ≡ o = cc in subst (λ q. operand_faults w m q ≡ []) same (none_left (operand_faults w m (Of_value x)) _ h).0
-other_fault w m (Applied f x ∷ os) o e h = let same : Applied f x ≡ o = cc in subst (λ q. operand_faults w m q ≡ []) same (none_left (operand_faults w m (Applied f x)) _ h).0
-other_fault w m (Target x ∷ os) o e h = let same : Target x ≡ o = cc in subst (λ q. operand_faults w m q ≡ []) same (none_left (operand_faults w m (Target x)) _ h).0
-other_fault w m (Accesses x ∷ os) o e h = let same : Accesses x ≡ o = cc in subst (λ q. operand_faults w m q ≡ []) same (none_left (operand_faults w m (Accesses x)) _ h).0
-other_fault w m (Word x ∷ os) o e h = let same : Word x ≡ o = cc in subst (λ q. operand_faults w m q ≡ []) same (none_left (operand_faults w m (Word x)) _ h).0
-other_fault w m (Quoted x ∷ os) o e h = let same : Quoted x ≡ o = cc in subst (λ q. operand_faults w m q ≡ []) same (none_left (operand_faults w m (Quoted x)) _ h).0
+other_fault w m (Of_value x ∷ os) o e h = let same : Of_value x ≡ o = cc in subst (λ q. operand_faults w m q ≡ []) same (append_none_parts (operand_faults w m (Of_value x)) _ h).0
+other_fault w m (Applied f x ∷ os) o e h = let same : Applied f x ≡ o = cc in subst (λ q. operand_faults w m q ≡ []) same (append_none_parts (operand_faults w m (Applied f x)) _ h).0
+other_fault w m (Target x ∷ os) o e h = let same : Target x ≡ o = cc in subst (λ q. operand_faults w m q ≡ []) same (append_none_parts (operand_faults w m (Target x)) _ h).0
+other_fault w m (Accesses x ∷ os) o e h = let same : Accesses x ≡ o = cc in subst (λ q. operand_faults w m q ≡ []) same (append_none_parts (operand_faults w m (Accesses x)) _ h).0
+other_fault w m (Word x ∷ os) o e h = let same : Word x ≡ o = cc in subst (λ q. operand_faults w m q ≡ []) same (append_none_parts (operand_faults w m (Word x)) _ h).0
+other_fault w m (Quoted x ∷ os) o e h = let same : Quoted x ≡ o = cc in subst (λ q. operand_faults w m q ≡ []) same (append_none_parts (operand_faults w m (Quoted x)) _ h).0
 
 -- ---- the numbers of values
 

@@ -28,6 +28,7 @@ use Rattle.rv_parse_laws.specs.Syntax.{with_constant}
 use Rattle.rv_pseudo_laws.specs.Li.{li}
 use Rattle.rv_pseudo_laws.specs.Code.{Part, Closed, Open, Joined, Constants, i_type, s_type, b_type, u_type, shift_by, jalr, jal, auipc, unary, inverted, branch, jump, near, far, through, zero_branch, swapped_branch, by_number, by_part, signed_12, upper_20, constant_number, by_amount, by_constant, by_form, parcel_form, short_branch, code}
 use Rattle.rv_pseudo_laws.specs.Filled.{are_closed}
+use Rattle.rv_pseudo_laws.proofs.FilledLemmas.{all_closed}
 use Rattle.rv_source_laws.specs.Program.{in_operand}
 use Rattle.rv_source_laws.specs.Lines.{other_operand}
 use Rattle.rv_filling_laws.specs.Parts.{fills_call_pair}
@@ -95,10 +96,6 @@ AreRow v os (Some ps) = IsRow v os ps
 abbrev AreShaped : Constants → Operand → Option (List Part) → Type 0
 AreShaped v o None = ⊤
 AreShaped v o (Some ps) = Shape v (Some o) ps
-
-all_closed : (xs : List Inst) → are_closed (map Closed xs) ≡ true
-all_closed [] = refl
-all_closed (x ∷ xs) = all_closed xs
 
 -- ---- one operand among registers
 

@@ -21,6 +21,7 @@ use Rattle.rv_assemble_laws.specs.Refusals.{statements_fault}
 use Rattle.rv_assemble_laws.specs.LaidStatements.{LaidStatement, LaidPart, part_bytes, laid_in, end_of}
 use Rattle.rv_assemble_laws.proofs.FaultlessLemmas.{no_first_fault}
 use Rattle.rv_link_laws.specs.Inputs.{Starts}
+use Rattle.rv_assemble_laws.proofs.LaidStatementsLemmas.{of_located}
 use Rattle.rv_sources_link_laws.proofs.fields.PatchesLemmas.{written_from}
 use Rattle.rv_sources_link_laws.proofs.statements.StatementsLemmas.{row_in, mapped_at, mapped_from}
 use Rattle.rv_sources_link_laws.proofs.sections.MaskedLemmas.{source_sections, no_section_masked, masked_at, all_masked, none_masked}
@@ -106,10 +107,6 @@ pub record IsSettled (sections : List Section) (s : LaidStatement) : Type 0 wher
   pub labelled : IsLabelled s.located
   pub kind : IsKind s.located
   pub instructed : IsInstructed s.located
-
-pub of_located : (P : Located → Type 0) (laid : List LaidStatement) → AllByRecursion P (map (λ s. s.located) laid) → AllByRecursion (λ s. P s.located) laid
-of_located P [] h = tt
-of_located P (s ∷ ss) (h, hs) = (h, of_located P ss hs)
 
 settled_by : (sections : List Section) (laid : List LaidStatement) → AllByRecursion (λ s. IsHomeIn (λ f. sections) s.located) laid → AllByRecursion (λ s. Held s.located) laid
     → AllByRecursion (λ s. IsBare s.located) laid → AllByRecursion (λ s. IsLabelled s.located) laid → AllByRecursion (λ s. IsKind s.located) laid

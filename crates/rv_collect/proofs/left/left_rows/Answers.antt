@@ -1,10 +1,11 @@
 use Rattle.std.proofs.Common.{◌<◌, ◌∷◌, ◌+◌, [], Bool, not, length, map, filter, drop, get_or}
 use Rattle.std.proofs.lemmas.List.{get_or_default}
 use Rattle.std.specs.Prelude.{if◌then◌else◌}
+use Rattle.rv_list_laws.proofs.ElementsLemmas.{append_some_more}
 use Rattle.rv_object_laws.specs.declared.row.Row.{Row}
 use Rattle.rv_object_types.specs.Sections.{section_of}
 use Rattle.rv_collect.specs.Drops.{drops_in}
-use Rattle.rv_collect.proofs.LeftLemmas.{some_more, rows_left}
+use Rattle.rv_collect.proofs.LeftLemmas.{rows_left}
 use Rattle.rv_collect.proofs.left.left_rows.Goals as goal
 
 abbrev no_row : Row
@@ -17,5 +18,5 @@ loop-row-preserved c =
     let x = get_or xs i no_row in
     let inside : i < length xs = c.loop-row-test.true in
     let keeps : Row → Bool = λ r. not (drops_in (map section_of c.args.sections.now) c.args.marks.now r.section) in
-    some_more c.loop-row.left.items c.put_row.new.left.items (if keeps x then x ∷ [] else []) (filter keeps (drop (i + 1) xs)) (filter keeps (drop i xs)) (filter keeps xs) c.in_ok-put_row.ensures
+    append_some_more c.loop-row.left.items c.put_row.new.left.items (if keeps x then x ∷ [] else []) (filter keeps (drop (i + 1) xs)) (filter keeps (drop i xs)) (filter keeps xs) c.in_ok-put_row.ensures
     (rows_left keeps xs i x inside (get_or_default xs i no_row x inside)) c.loop-row.invariant

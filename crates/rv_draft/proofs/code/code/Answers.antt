@@ -2,6 +2,7 @@ use Rattle.std.proofs.Common.{◌≡◌, suc, ◌+◌, ◌<◌, ◌≤◌, [], �
 use Rattle.std.specs.Prelude.{slice_get, slice_index, slice_index_or, IfOk}
 use Rattle.std.proofs.lemmas.Result.{err_from_is_err_and}
 use Rattle.std.proofs.lemmas.List.{length-map}
+use Rattle.std.proofs.lemmas.Option.{slice_get_within}
 use Rattle.rv_statement.specs.Statements.{statements_of}
 use Rattle.rv_statement.specs.View.{statement_of}
 use Rattle.rv_unit_tables.specs.declared.section_offset.SectionOffset.{SectionOffset}
@@ -11,12 +12,13 @@ use Rattle.rv_unit_laws.specs.Tables.{at_start, tables, value_by_tables as value
 use Rattle.rv_source_laws.specs.Located.{located_from}
 use Rattle.rv_instruction.specs.Code.{MayHave}
 use Rattle.rv_unit_laws.specs.Options.{Options}
+use Rattle.rv_unit.proofs.StandingLemmas.{places_count}
 use Rattle.rv_draft.specs.Added.{IsAdded, IsAllCode, Adds}
 use Rattle.rv_draft.specs.Lengths.{code_length, code_lengths}
 use Rattle.rv_draft.specs.Sized.{bytes_of_sizes}
 use Rattle.rv_draft.proofs.CodeLengthsLemmas.{length_of_size, lengths_count, length_there, near_same}
 use Rattle.rv_draft.proofs.JoinedLemmas.{take_next, take_none, take_past}
-use Rattle.rv_layout.proofs.StandingLemmas.{StandsAt, stands_at, places_count, got_inside, located_at, stated_none}
+use Rattle.rv_layout.proofs.StandingLemmas.{StandsAt, stands_at, located_at, stated_none}
 use Rattle.rv_layout.specs.Code.{IsExtentAt}
 use Rattle.rv_layout.proofs.ExtentsLemmas.{place_inside, faults_in, faults_there, code_there}
 use Rattle.rv_draft.specs.declared.code.SectionCode.{SectionCode}
@@ -46,7 +48,7 @@ add-requires c =
     let inside : i < length (said u) = subst (λ n. i < n) (c.len-index-end.ensures ∙ ap (λ l. length (statements_of l)) c.statements-statements.ensures) c.loop-index-test.true in
     let is : slice_get (said u) i ≡ Some x = subst (λ l. slice_get (statements_of l) i ≡ Some x) c.statements-statements.ensures c.read.ensures in
     let at : StandsAt u i x p = stands_at u i x (record { section = 0; offset = 0 }) p c.args.unit.now.filled is (ap (λ l. get_or l i (record { section = 0; offset = 0 })) c.places-places.ensures) in
-    let stands = got_inside (map extent_section u.tables.extents.items) p.section (located_at (said u) i x).home at.home in
+    let stands = slice_get_within (map extent_section u.tables.extents.items) p.section (located_at (said u) i x).home at.home in
     let on : c.rvc-compressed.result ≡ (located_at (said u) i x).options.rvc =
     c.rvc-compressed.ensures ∙ ap (λ (o : Options). o.rvc) (c.options_at.ensures inside) in
     let all = located_from 1 1 (at_start (said u)) (said u) in

@@ -5,8 +5,9 @@ use Rattle.rv_statement.specs.View.{statement_of}
 use Rattle.rv_unit_laws.specs.Options.{Options}
 use Rattle.rv_unit_tables.specs.declared.section_offset.SectionOffset.{SectionOffset}
 use Rattle.rv_unit.specs.Unit.{said}
+use Rattle.rv_unit.proofs.StandingLemmas.{places_count}
 use Rattle.rv_layout.specs.Code.{IsExtentAt}
-use Rattle.rv_layout.proofs.StandingLemmas.{StandsAt, stands_at, places_count, located_at, stated_none}
+use Rattle.rv_layout.proofs.StandingLemmas.{StandsAt, stands_at, located_at, stated_none}
 use Rattle.rv_layout.proofs.ExtentsLemmas.{place_inside}
 use Rattle.rv_draft.proofs.FirstCodeLemmas.{compressed_as, all_decide, decided, left_to_others, none_decides}
 use Rattle.rv_draft.proofs.compressed.has_compressed.Goals as goal

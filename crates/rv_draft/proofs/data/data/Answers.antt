@@ -1,10 +1,10 @@
 use Rattle.std.proofs.Common.{◌≡◌, ◌+◌, ◌<◌, ◌≤◌, ◌++◌, take, drop, sym, ap, subst, length, ◌∙◌, refl, Some}
 use Rattle.std.specs.Prelude.{slice_get}
+use Rattle.rv_list_laws.proofs.TakeDropLemmas.{take_written}
 use Rattle.rv_statement.specs.Statements.{statements_of}
 use Rattle.rv_statement.specs.View.{statement_of}
 use Rattle.rv_unit.specs.Unit.{said}
 use Rattle.rv_draft.specs.DataParts.{IsDataTo}
-use Rattle.rv_draft.proofs.GrowingLemmas.{written_back}
 use Rattle.rv_layout.proofs.StandingLemmas.{stated_none}
 use Rattle.rv_draft.proofs.DataSoFarLemmas.{data_begin, data_all}
 use Rattle.rv_draft.proofs.data.data.Goals as goal
@@ -47,7 +47,7 @@ loop-index-preserved c =
     let found = c.put_next.new.fields.items in
     let value : c.as_mut_slice.result.now ≡ old = c.as_mut_slice.ensures.value in
     let count : length new ≡ length c.as_mut_slice.result.now = c.in_ok-put_next.ensures.count in
-    let back : take c.loop-index.sections.len (new ++ drop (length new) old) ≡ new = written_back new old c.loop-index.sections.len (count ∙ ap length value) (count ∙ c.as_mut_slice.ensures.len) in (
+    let back : take c.loop-index.sections.len (new ++ drop (length new) old) ≡ new = take_written new old c.loop-index.sections.len (count ∙ ap length value) (count ∙ c.as_mut_slice.ensures.len) in (
       ap (λ b. b.now) c.pass.ensures.unit ∙ same,
       c.pass.ensures.passes i within c.loop-index.invariant.1,
       (λ codes have.

@@ -2,6 +2,8 @@ use Rattle.std.proofs.Common.{◌≡◌, ◌+◌, ◌<◌, length, map, drop, ge
 use Rattle.std.specs.Prelude.{slice_index_or, slice_get}
 use Rattle.std.proofs.lemmas.List.{drop_more, length-map}
 use Rattle.std.proofs.lemmas.Result.{on_ok_weaker}
+use Rattle.std.proofs.lemmas.Option.{slice_get_within}
+use Rattle.rv_list_laws.proofs.MapLemmas.{get_map_is}
 use Rattle.rv_statement.specs.View.{statement_of}
 use Rattle.rv_unit_tables.specs.declared.section_offset.SectionOffset.{SectionOffset}
 use Rattle.rv_unit.specs.Unit.{said, passed, IsFilled}
@@ -11,11 +13,12 @@ use Rattle.rv_unit_laws.specs.Sections.{Section}
 use Rattle.rv_unit_laws.specs.Tables.{at_start, tables, stood}
 use Rattle.rv_source_laws.specs.Located.{located_from}
 use Rattle.rv_unit.specs.declared.item.Item.{Item}
+use Rattle.rv_unit.proofs.StandingLemmas.{places_count}
 use Rattle.rv_draft.specs.Coded.{IsCodedAt}
 use Rattle.rv_draft.specs.DataParts.{is_filled}
 use Rattle.rv_draft.specs.Draft.{field_of}
-use Rattle.rv_layout.proofs.StandingLemmas.{StandsAt, stands_at, places_count, got_inside, located_at}
-use Rattle.rv_draft.proofs.DataSoFarLemmas.{got_as, puts_at, code_at, code_of, coded_here, bytes_here, data_more, code_more, room_for, item_low}
+use Rattle.rv_layout.proofs.StandingLemmas.{StandsAt, stands_at, located_at}
+use Rattle.rv_draft.proofs.DataSoFarLemmas.{puts_at, code_at, code_of, coded_here, bytes_here, data_more, code_more, room_for, item_low}
 use Rattle.rv_draft.proofs.MadeLemmas.{made_left, made_spot}
 use Rattle.rv_draft.proofs.data.put_next.Goals as goal
 
@@ -33,7 +36,7 @@ bounds-sections-place c =
     let x = statement_of c.args.statement.now in
     let p : SectionOffset = slice_index_or c.places.result.now i (record { section = 0; offset = 0 }) in
     let at : StandsAt u i x p = stands_at u i x (record { section = 0; offset = 0 }) p c.args.unit.now.filled c.requires.said (ap (λ l. get_or l i (record { section = 0; offset = 0 })) c.places.ensures) in
-    let stands = got_inside (map extent_section u.tables.extents.items) p.section (located_at (said u) i x).home at.home in
+    let stands = slice_get_within (map extent_section u.tables.extents.items) p.section (located_at (said u) i x).home at.home in
     subst (λ n. p.section < n) (length-map u.tables.extents.items extent_section ∙ sym (ap length c.sections.ensures)) stands
 
 pub put_statement-requires : goal.put_statement-requires
@@ -45,7 +48,7 @@ put_statement-requires c =
     let none : Item = record { section = 0; offset = 0; bytes = 0; line = 0; shown = false; instructions = 0 } in
     let item : Item = slice_index_or c.args.items.now i none in
     let at : StandsAt u i x p = stands_at u i x (record { section = 0; offset = 0 }) p c.args.unit.now.filled c.requires.said (ap (λ l. get_or l i (record { section = 0; offset = 0 })) c.places.ensures) in
-    let stands = got_inside (map extent_section u.tables.extents.items) p.section (located_at (said u) i x).home at.home in
+    let stands = slice_get_within (map extent_section u.tables.extents.items) p.section (located_at (said u) i x).home at.home in
     record {
       room = room_for (said u) c.args.items.now i x item c.requires.laid at.here (drop_more c.args.items.now i none c.requires.item);
       section = subst (λ n. p.section < n) (length-map u.tables.extents.items extent_section ∙ sym c.requires.each) stands;
@@ -85,7 +88,7 @@ returns-then-extent-clause-data c =
     let at : StandsAt u i x p = stands_at u i x (record { section = 0; offset = 0 }) p c.args.unit.now.filled c.requires.said (ap (λ l. get_or l i (record { section = 0; offset = 0 })) c.places.ensures) in
     let st = located_at ss i x in
     let here : slice_get (map extent_section c.sections.result.now) p.section ≡ Some st.home = ap (λ l. slice_get (map extent_section l) p.section) c.sections.ensures ∙ at.home in
-    let home = got_as extent_section c.sections.result.now p.section _ st.home here in
+    let home = get_map_is extent_section c.sections.result.now p.section _ st.home here in
     let next = drop_more c.args.items.now i none c.requires.item in
     let options = c.options_at-options.ensures c.requires.within in
     on_ok_weaker c.put_code.result
@@ -123,7 +126,7 @@ returns-clause-data c =
     let at : StandsAt u i x p = stands_at u i x (record { section = 0; offset = 0 }) p c.args.unit.now.filled c.requires.said (ap (λ l. get_or l i (record { section = 0; offset = 0 })) c.places.ensures) in
     let st = located_at ss i x in
     let here : slice_get (map extent_section c.sections.result.now) p.section ≡ Some st.home = ap (λ l. slice_get (map extent_section l) p.section) c.sections.ensures ∙ at.home in
-    let home = got_as extent_section c.sections.result.now p.section _ st.home here in
+    let home = get_map_is extent_section c.sections.result.now p.section _ st.home here in
     let told = c.in_ok-put_statement.ensures in
     let same = c.requires.same in
     let scope = c.requires.next in

@@ -1,12 +1,12 @@
 use Rattle.std.proofs.Common.{rules, ◌≡◌, ◌++◌, ◌∙◌, ◌+◌, ◌<◌, ◌≤◌, length, map, drop, subst, sym, ap, append-nil}
 use Rattle.std.proofs.lemmas.List.{length-map}
+use Rattle.rv_list_laws.proofs.MapLemmas.{drop_map_read, flat_more, flat_done}
 use Rattle.rv_text_laws.specs.Values.{Value}
 use Rattle.rv_text.specs.Expr.{tree_of_expr}
 use Rattle.rv_statement_laws.specs.Statement.{Expression}
 use Rattle.rv_statement_laws.specs.Widths.{width_bytes}
 use Rattle.rv_assemble_laws.specs.Templates.{value_bytes}
 use Rattle.rv_instruction.specs.Scoped.{values_at}
-use Rattle.rv_draft.proofs.JoinedLemmas.{left_map, flat_more, flat_done}
 use Rattle.rv_draft.proofs.FieldsSoFarLemmas.{fields_more, fields_done, place_more}
 use Rattle.rv_draft.proofs.data.put_values.Goals as goal
 
@@ -17,7 +17,7 @@ loop-value-preserved c =
     let spot = c.args.spot.now in
     let width = width_bytes c.args.width in
     let inside : i < length xs = search rules in
-    let here = left_map tree_of_expr xs i c.value-item.result inside c.value-item.is in
+    let here = drop_map_read tree_of_expr xs i c.value-item.result inside c.value-item.is in
     let x = tree_of_expr c.value-item.result in
     let next : c.loop-value.place + c.width_in_bytes-place.result ≡ c.loop-value.place + width = ap (λ n. c.loop-value.place + n) c.width_in_bytes-place.ensures.value in
     record {

@@ -1,6 +1,7 @@
 use Rattle.std.proofs.Common.{◌≡◌, ◌+◌, ◌<◌, ◌≤◌, ◌^◌, ℕ, ◌∷◌, [], true, false, Some, length, drop, get_or, reverse, sym, ap, subst, ◌∙◌, arith, length-append}
 use Rattle.std.specs.Prelude.{slice_get, slice_index, slice_index_or, ◌&&◌}
 use Rattle.std.proofs.lemmas.List.{reverse-reverse, length-set, at_drop_all}
+use Rattle.rv_list_laws.proofs.TakeDropLemmas.{reverse_some_left, drop_zero}
 use Rattle.rv_statement.specs.Statements.{statements_of}
 use Rattle.rv_statement.specs.View.{statement_of}
 use Rattle.rv_unit_tables.specs.declared.section_offset.SectionOffset.{SectionOffset}
@@ -8,17 +9,18 @@ use Rattle.rv_unit.specs.Unit.{said, passed, IsFilled}
 use Rattle.rv_unit_tables.specs.Sections.{offset_of}
 use Rattle.rv_unit_laws.specs.Tables.{stood, tables, value_by_tables as value_of}
 use Rattle.rv_source_laws.specs.Located.{is_placed}
+use Rattle.rv_unit.proofs.StandingLemmas.{places_count}
 use Rattle.rv_draft.specs.Items.{IsItem, grown}
 use Rattle.rv_draft.specs.declared.item.CodeSize.{CodeSize}
 use Rattle.rv_draft.specs.Sized.{IsSized, bytes_of_sizes, size_bytes}
 use Rattle.rv_layout.specs.Code.{IsExtentAt}
 use Rattle.rv_draft.specs.Measured.{HasRoom}
-use Rattle.rv_layout.proofs.StandingLemmas.{StandsAt, stands_at, places_count, located_at}
-use Rattle.rv_draft.proofs.TakenLemmas.{some_left, rest_is, next_is, mapped_next}
+use Rattle.rv_layout.proofs.StandingLemmas.{StandsAt, stands_at, located_at}
+use Rattle.rv_draft.proofs.TakenLemmas.{rest_is, next_is, mapped_next}
 use Rattle.rv_draft.proofs.ItemizedLemmas.{item_at, room_at, sized_at, grown_by, low_by}
 use Rattle.rv_layout.proofs.ExtentsLemmas.{stands_inside, place_inside}
 use Rattle.rv_draft.proofs.RoomyLemmas.{err_always}
-use Rattle.rv_draft.proofs.RoomsLemmas.{drop_none, rooms_begin, rooms_more, roomy_now}
+use Rattle.rv_draft.proofs.RoomsLemmas.{rooms_begin, rooms_more, roomy_now}
 use Rattle.rv_draft.proofs.SoFarItemsLemmas.{AreItemsSoFar, items_begin, items_more, items_all}
 use Rattle.rv_draft.proofs.SoFarSizedLemmas.{AreSizedSoFar, IsSizedAt, sized_begin, sized_more, sized_all}
 use Rattle.rv_draft.proofs.items.items.Goals as goal
@@ -34,7 +36,7 @@ loop-index-init c =
           subst (λ l. AreItemsSoFar ss 0 (λ j. slice_index c.in_ok-ends.ends.items j) l) (sym c.in_ok-items.ensures.items)
           (items_begin ss (λ j. slice_index c.in_ok-ends.ends.items j) none);
       sized = subst (λ l. AreSizedSoFar (tables ss) ss c.args.sizes.items 0 l) (sym c.in_ok-items.ensures.items) (sized_begin (tables ss) ss c.args.sizes.items);
-      left = ap reverse c.reverse.ensures.items ∙ reverse-reverse c.args.sizes.items ∙ sym (drop_none c.args.sizes.items);
+      left = ap reverse c.reverse.ensures.items ∙ reverse-reverse c.args.sizes.items ∙ sym (drop_zero c.args.sizes.items);
       sections = c.in_ok-ends.ensures.count ∙ ap length c.sections-extents.ensures;
       count = ap length c.in_ok-items.ensures.items;
       room = λ good sizes. rooms_begin ss c.args.sizes.items (λ j. slice_index c.in_ok-ends.ends.items j) sizes none;
@@ -74,7 +76,7 @@ take_size-code-requires c =
     let u = c.args.unit.now in
     let i = c.loop-index.index in
     let inside : i < length (said u) = subst (λ n. i < n) (c.len-index-end.ensures ∙ ap (λ l. length (statements_of l)) c.statements-statements.ensures) c.loop-index-test.true in
-    some_left c.args.sizes.items c.loop-index.sizes.items i (subst (λ n. i < n) (sym c.requires.sizes) inside) c.loop-index.invariant.left
+    reverse_some_left c.args.sizes.items c.loop-index.sizes.items i (subst (λ n. i < n) (sym c.requires.sizes) inside) c.loop-index.invariant.left
 
 pub read-statement-requires : goal.read-statement-requires
 read-statement-requires c = subst (λ n. c.loop-index.index < n) c.len-index-end.ensures c.loop-index-test.true

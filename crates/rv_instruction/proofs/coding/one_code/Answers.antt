@@ -1,17 +1,18 @@
 use Rattle.std.proofs.Common.{sym, ◌∙◌}
+use Rattle.rv_list_laws.proofs.OptionsLemmas.{if_some_weaker}
 use Rattle.rv_statement.specs.View.{statement_of}
 use Rattle.rv_assemble_laws.specs.Coded.{constants}
 use Rattle.rv_instruction.specs.Code.{alone, alone_coded}
 use Rattle.rv_instruction.specs.Scoped.{values_at, labels_at}
 use Rattle.rv_instruction.proofs.StatementKindsLemmas.{codes_of}
-use Rattle.rv_instruction.proofs.OneInstructionLemmas.{some_more, coded_alone}
+use Rattle.rv_instruction.proofs.OneInstructionLemmas.{coded_alone}
 use Rattle.rv_instruction.proofs.NamedLemmas.{none_named}
 use Rattle.rv_instruction.proofs.EncodingLemmas.{shapes_alone}
 use Rattle.rv_instruction.proofs.coding.one_code.Goals as goal
 
 pub returns-then-names_parcel-clause-codes : goal.returns-then-names_parcel-clause-codes
 returns-then-names_parcel-clause-codes c =
-    some_more _ _ (λ e codes index filled stands bytes may. codes index filled stands c.args.compressed bytes) c.named_one.result c.named_one.ensures.codes
+    if_some_weaker _ _ (λ e codes index filled stands bytes may. codes index filled stands c.args.compressed bytes) c.named_one.result c.named_one.ensures.codes
 
 pub returns-in-Some-clause-codes : goal.returns-in-Some-clause-codes
 returns-in-Some-clause-codes c = λ index filled stands bytes may.

@@ -9,7 +9,8 @@ use Rattle.rv_unit_tables.specs.declared.section_offset.SectionOffset.{SectionOf
 use Rattle.rv_unit.specs.Unit.{said, IsFilled}
 use Rattle.rv_unit_tables.specs.Sections.{offset_of}
 use Rattle.rv_unit_laws.specs.Options.{Options}
-use Rattle.rv_layout.proofs.StandingLemmas.{StandsAt, stands_at, places_count, located_at, stated_none}
+use Rattle.rv_unit.proofs.StandingLemmas.{places_count}
+use Rattle.rv_layout.proofs.StandingLemmas.{StandsAt, stands_at, located_at, stated_none}
 use Rattle.rv_layout.specs.Code.{IsExtentAt}
 use Rattle.rv_layout.proofs.ExtentsLemmas.{place_inside, code_there}
 use Rattle.rv_layout.proofs.measure.measured.Goals as goal

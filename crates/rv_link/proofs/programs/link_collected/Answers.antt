@@ -10,7 +10,8 @@ use Rattle.rv_resolve.proofs.AlikeLemmas.{names_left}
 use Rattle.rv_fault.specs.declared.link_fault.LinkFault.TheVariants.{OutOfMemory}
 use Rattle.rv_link.specs.Left.{HasNoLink, IsLinkOfLeft}
 use Rattle.rv_link_laws.specs.TextStart.{AreWithin}
-use Rattle.rv_link.proofs.LeftLemmas.{doubled, many_left, some_dropped, some_unlinked}
+use Rattle.rv_link_laws.proofs.WithoutLemmas.{as_many_objects}
+use Rattle.rv_link.proofs.LeftLemmas.{doubled, some_dropped, some_unlinked}
 use Rattle.rv_link.proofs.programs.link_collected.Goals as goal
 
 pub returns-in_err-collection-clause-refuses : goal.returns-in_err-collection-clause-refuses
@@ -37,7 +38,7 @@ link_left-requires-clause-within c =
     let kept = c.in_ok-kept.kept.items in
     let drops = drops_of os c.in_ok-collection.collection in
     let many : length c.deref.result.now ≡ length c.args.objects.now =
-    ap length c.deref.ensures.value ∙ sym (length-map kept object_of) ∙ ap length c.in_ok-kept.ensures ∙ many_left drops os ∙ length-map c.args.objects.now object_of in
+    ap length c.deref.ensures.value ∙ sym (length-map kept object_of) ∙ ap length c.in_ok-kept.ensures ∙ as_many_objects drops os ∙ length-map c.args.objects.now object_of in
     subst (λ n. AreWithin n c.args.options.text_start) (sym many) c.requires.within
 
 pub link_left-requires-clause-names : goal.link_left-requires-clause-names

@@ -1,9 +1,10 @@
 use Rattle.std.proofs.Common.{◌<◌, ◌+◌, ◌*◌, ◌^◌, length, rules}
+use Rattle.rv_list_laws.proofs.MapLemmas.{get_map_some}
 use Rattle.rv_object_types.specs.Sections.{section_of}
 use Rattle.rv_object_types.specs.View.{object_of}
 use Rattle.rv_link_sites.specs.Line.{ended}
 use Rattle.rv_link_sites.specs.Text.{objects_of}
-use Rattle.rv_link_sites.proofs.WalksLemmas.{some_mapped, section_low, section_ends, section_more}
+use Rattle.rv_link_sites.proofs.WalksLemmas.{section_low, section_ends, section_more}
 use Rattle.rv_link_sites.proofs.walk.put_object.Goals as goal
 
 pub put_at-requires-clause-low : goal.put_at-requires-clause-low
@@ -16,7 +17,7 @@ loop-index-preserved c =
     let o = object_of c.args.object.now in
     let os = objects_of c.args.text.now in
     let inside : c.loop-index.index < length c.args.object.now.sections.items = search rules in
-    let there = some_mapped section_of c.args.object.now.sections.items c.loop-index.index inside in
+    let there = get_map_some section_of c.args.object.now.sections.items c.loop-index.index inside in
     let ends = c.in_ok-stop.ensures.end there.0 there.1 in
     record {
       sites = section_more c.loop-index.stop c.loop-index.index o.sections there.0 there.1 c.in_ok-stop.stop ends os (c.args.file + 1) o c.loop-index.sites.items c.put_at.new.sites.items _

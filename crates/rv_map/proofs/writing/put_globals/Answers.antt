@@ -1,10 +1,12 @@
 use Rattle.std.proofs.Common.{ℕ, List, map, flat_map, refl, subst}
 use Rattle.std.proofs.lemmas.List.Elements.{All-more}
+use Rattle.rv_list_laws.proofs.TakeDropLemmas.{joined_bytes_done}
+use Rattle.rv_list_laws.proofs.EachLemmas.{each_map_passed}
 use Rattle.rv_map.specs.declared.map.Global.{Global}
 use Rattle.rv_map_laws.specs.Limits.{IsGlobal}
 use Rattle.rv_map.specs.Views.{global_of}
 use Rattle.rv_map_laws.specs.Text.{line_text, global_line}
-use Rattle.rv_map.proofs.StepsLemmas.{step, done, all_passed}
+use Rattle.rv_map.proofs.StepsLemmas.{step}
 use Rattle.rv_map.proofs.writing.put_globals.Goals as goal
 
 abbrev lines : List Global → List ℕ
@@ -23,7 +25,7 @@ loop-global-preserved c = record {
 }
 
 pub returns-clause-written : goal.returns-clause-written
-returns-clause-written c = done lines refl c.args.globals.now c.loop-global.global-index c.loop-global-test.false _ _ c.loop-global.invariant.written
+returns-clause-written c = joined_bytes_done lines refl c.args.globals.now c.loop-global.global-index c.loop-global-test.false _ _ c.loop-global.invariant.written
 
 pub returns-clause-known : goal.returns-clause-known
-returns-clause-known c = all_passed IsGlobal global_of c.args.globals.now c.loop-global.global-index c.loop-global-test.false c.loop-global.invariant.known
+returns-clause-known c = each_map_passed IsGlobal global_of c.args.globals.now c.loop-global.global-index c.loop-global-test.false c.loop-global.invariant.known

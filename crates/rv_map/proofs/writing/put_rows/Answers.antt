@@ -1,7 +1,8 @@
 use Rattle.std.proofs.lemmas.List.Elements.{All-more}
+use Rattle.rv_list_laws.proofs.EachLemmas.{each_passed}
 use Rattle.rv_map_laws.specs.Limits.{IsRow}
 use Rattle.rv_map_laws.specs.Text.{row_line}
-use Rattle.rv_map.proofs.StepsLemmas.{line_step, lines_done, each_passed}
+use Rattle.rv_map.proofs.StepsLemmas.{line_step, lines_done}
 use Rattle.rv_map.proofs.writing.put_rows.Goals as goal
 
 pub loop-row-preserved : goal.loop-row-preserved

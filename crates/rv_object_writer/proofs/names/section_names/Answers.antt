@@ -1,12 +1,12 @@
 use Rattle.std.proofs.Common.{◌≡◌, ◌<◌, ◌+◌, ◌++◌, ◌∙◌, [], ◌∷◌, ℕ, List, length, map, drop, get_or, refl, sym, ap, subst, append-nil, rules, codes}
 use Rattle.std.proofs.lemmas.List.{drop_all}
+use Rattle.rv_list_laws.proofs.TakeDropLemmas.{drop_read_or}
 use Rattle.rv_object_file_laws.specs.Written.{UnplacedSection, unseen, strings_of}
 use Rattle.rv_object_writer.specs.declared.piece.Body.TheVariants.{Bytes}
 use Rattle.rv_object_writer.specs.declared.piece.Piece.{Piece as DeclaredPiece}
 use Rattle.rv_object_writer.specs.Pieces.{piece_of}
 use Rattle.rv_object_writer.specs.Strings.{IsStringTable, with_string}
 use Rattle.rv_object_writer.proofs.NamingLemmas.{name_more}
-use Rattle.rv_object_writer.proofs.StepsLemmas.{left}
 use Rattle.rv_object_writer.proofs.names.section_names.Goals as goal
 
 abbrev no_piece : DeclaredPiece
@@ -34,7 +34,7 @@ loop-piece-preserved c =
       with_string ss x.name.now,
       c.in_ok-put.ensures ss c.loop-piece.invariant.1,
       (name_more ss x.name.now rest
-          ∙ ap (λ l. ss ++ unseen ss (map (λ (p : UnplacedSection). p.name) (map piece_of l) ++ key ∷ [])) (sym (left xs i x no_piece inside refl))
+          ∙ ap (λ l. ss ++ unseen ss (map (λ (p : UnplacedSection). p.name) (map piece_of l) ++ key ∷ [])) (sym (drop_read_or xs i x no_piece inside refl))
           ∙ c.loop-piece.invariant.2),
     )
 

@@ -1,11 +1,11 @@
 use Rattle.std.proofs.Common.{◌≡◌, ◌<◌, ◌+◌, ◌++◌, ◌∙◌, [], ◌∷◌, ℕ, List, length, map, drop, refl, sym, ap, subst, append-nil, rules}
 use Rattle.std.proofs.lemmas.List.{drop_all}
+use Rattle.rv_list_laws.proofs.TakeDropLemmas.{drop_read_or}
 use Rattle.rv_object_laws.specs.Object.{Symbol}
 use Rattle.rv_object_types.specs.Parts.{symbol_of}
 use Rattle.rv_object_file_laws.specs.Written.{unseen, strings_of}
 use Rattle.rv_object_writer.specs.Strings.{IsStringTable, with_string}
 use Rattle.rv_object_writer.proofs.NamingLemmas.{name_more}
-use Rattle.rv_object_writer.proofs.StepsLemmas.{left}
 use Rattle.rv_object_writer.proofs.names.symbol_names.Goals as goal
 
 pub loop-symbol-init : goal.loop-symbol-init
@@ -23,7 +23,7 @@ loop-symbol-preserved c =
       with_string ss name,
       c.in_ok-put.ensures ss c.loop-symbol.invariant.1,
       (name_more ss name rest
-          ∙ ap (λ l. ss ++ unseen ss (map (λ (s : Symbol). s.name) (map symbol_of l))) (sym (left xs i x x inside c.symbol-item.is))
+          ∙ ap (λ l. ss ++ unseen ss (map (λ (s : Symbol). s.name) (map symbol_of l))) (sym (drop_read_or xs i x x inside c.symbol-item.is))
           ∙ c.loop-symbol.invariant.2),
     )
 

@@ -1,12 +1,12 @@
 use Rattle.std.proofs.Common.{◌<◌, ◌^◌, ◌∙◌, ◌++◌, List, [], ◌∷◌, map, ap, refl, subst}
 use Rattle.std.proofs.lemmas.List.{map_push}
 use Rattle.std.proofs.lemmas.List.Elements.{All-more}
+use Rattle.rv_list_laws.proofs.EachLemmas.{each_map_passed}
 use Rattle.rv_object_laws.specs.Object.{Section as PlainSection, size_of}
 use Rattle.rv_object_types.specs.declared.section.Section.{Section}
 use Rattle.rv_object_types.specs.Sections.{section_of}
 use Rattle.rv_object_file_laws.specs.Written.{section_piece, UnplacedSection as PlainPiece}
 use Rattle.rv_object_writer.specs.Pieces.{piece_of}
-use Rattle.rv_object_writer.proofs.KnownLemmas.{all_passed}
 use Rattle.rv_object_writer.proofs.StepsLemmas.{step}
 use Rattle.rv_object_writer.proofs.pieces.put_sections.Goals as goal
 
@@ -30,4 +30,4 @@ loop-section-preserved c =
 
 pub returns-clause-sizes : goal.returns-clause-sizes
 returns-clause-sizes c =
-    all_passed IsSmall section_of c.args.sections.now c.loop-section.section-index c.loop-section-test.false c.loop-section.invariant.1
+    each_map_passed IsSmall section_of c.args.sections.now c.loop-section.section-index c.loop-section-test.false c.loop-section.invariant.1

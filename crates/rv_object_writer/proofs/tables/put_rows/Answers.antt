@@ -1,9 +1,10 @@
 use Rattle.std.proofs.Common.{ℕ, List, refl}
+use Rattle.rv_list_laws.proofs.TakeDropLemmas.{joined_done}
 use Rattle.rv_object_laws.specs.declared.row.Row.{Row}
 use Rattle.rv_object_file_laws.specs.Rows.{row_bytes}
 use Rattle.rv_object_file_laws.specs.Written.{row_record}
 use Rattle.rv_object_writer.specs.Pieces.{rows_bytes}
-use Rattle.rv_object_writer.proofs.StepsLemmas.{step, done}
+use Rattle.rv_object_writer.proofs.StepsLemmas.{step}
 use Rattle.rv_object_writer.proofs.tables.put_rows.Goals as goal
 
 abbrev written : Row → List ℕ
@@ -15,4 +16,4 @@ loop-row-preserved c =
     c.in_ok-put_row.ensures c.loop-row.invariant
 
 pub returns : goal.returns
-returns c = done rows_bytes refl c.args.rows.now c.loop-row.row-index c.loop-row-test.false _ _ c.loop-row.invariant
+returns c = joined_done rows_bytes refl c.args.rows.now c.loop-row.row-index c.loop-row-test.false _ _ c.loop-row.invariant

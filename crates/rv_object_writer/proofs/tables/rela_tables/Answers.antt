@@ -1,11 +1,11 @@
 use Rattle.std.proofs.Common.{List, subst}
 use Rattle.std.proofs.lemmas.List.Elements.{All-more}
 use Rattle.std.specs.List.{AllByRecursion}
+use Rattle.rv_list_laws.proofs.EachLemmas.{each_map_passed}
 use Rattle.rv_object_laws.specs.Object.{Section as PlainSection}
 use Rattle.rv_object_types.specs.declared.section.Section.{Section}
 use Rattle.rv_object_types.specs.Sections.{section_of}
 use Rattle.rv_object_file_laws.specs.Known.{IsRelocation}
-use Rattle.rv_object_writer.proofs.KnownLemmas.{all_passed}
 use Rattle.rv_object_writer.proofs.StepsLemmas.{relas_step}
 use Rattle.rv_object_writer.proofs.tables.rela_tables.Goals as goal
 
@@ -25,4 +25,4 @@ loop-i-preserved c =
     )
 
 pub returns-clause-known : goal.returns-clause-known
-returns-clause-known c = all_passed AreKnown section_of c.args.sections.now c.loop-i.i c.loop-i-test.false c.loop-i.invariant.1
+returns-clause-known c = each_map_passed AreKnown section_of c.args.sections.now c.loop-i.i c.loop-i-test.false c.loop-i.invariant.1

@@ -1,11 +1,11 @@
 use Rattle.std.proofs.Common.{ℕ, List, map, refl}
 use Rattle.std.proofs.lemmas.List.Elements.{All-more}
+use Rattle.rv_list_laws.proofs.EachLemmas.{each_map_passed}
 use Rattle.rv_elf_laws.specs.Records.{rela_bytes}
 use Rattle.rv_object_types.specs.declared.relocation.Relocation.{Relocation}
 use Rattle.rv_object_types.specs.Parts.{relocation_of}
 use Rattle.rv_object_file_laws.specs.Known.{IsRelocation}
 use Rattle.rv_object_file_laws.specs.Written.{rela_of, relocations_bytes}
-use Rattle.rv_object_writer.proofs.KnownLemmas.{all_passed}
 use Rattle.rv_object_writer.proofs.StepsLemmas.{step}
 use Rattle.rv_object_writer.proofs.tables.relocations_table.Goals as goal
 
@@ -25,5 +25,5 @@ loop-relocation-preserved c = (
 
 pub returns-clause-known : goal.returns-clause-known
 returns-clause-known c =
-    all_passed IsRelocation relocation_of c.args.relocations.now c.loop-relocation.relocation-index c.loop-relocation-test.false
+    each_map_passed IsRelocation relocation_of c.args.relocations.now c.loop-relocation.relocation-index c.loop-relocation-test.false
     c.loop-relocation.invariant.1

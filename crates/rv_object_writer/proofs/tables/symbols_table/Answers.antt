@@ -1,12 +1,12 @@
 use Rattle.std.proofs.Common.{List, map, refl, subst}
 use Rattle.std.specs.Prelude.{flat_map}
 use Rattle.std.proofs.lemmas.List.Elements.{All-more}
+use Rattle.rv_list_laws.proofs.EachLemmas.{each_map_passed}
 use Rattle.rv_elf_laws.specs.Records.{symbol_bytes}
 use Rattle.rv_object_types.specs.declared.symbol.Symbol.{Symbol}
 use Rattle.rv_object_types.specs.Parts.{symbol_of}
 use Rattle.rv_object_file_laws.specs.Known.{IsSymbol}
 use Rattle.rv_object_file_laws.specs.Written.{symbol_record}
-use Rattle.rv_object_writer.proofs.KnownLemmas.{all_passed}
 use Rattle.rv_object_writer.proofs.StepsLemmas.{step}
 use Rattle.rv_object_writer.proofs.tables.symbols_table.Goals as goal
 
@@ -26,4 +26,4 @@ loop-symbol-preserved c =
 
 pub returns-clause-known : goal.returns-clause-known
 returns-clause-known c =
-    all_passed IsSymbol symbol_of c.args.symbols.now c.loop-symbol.symbol-index c.loop-symbol-test.false c.loop-symbol.invariant.1
+    each_map_passed IsSymbol symbol_of c.args.symbols.now c.loop-symbol.symbol-index c.loop-symbol-test.false c.loop-symbol.invariant.1

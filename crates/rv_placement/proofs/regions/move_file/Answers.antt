@@ -1,7 +1,8 @@
 use Rattle.std.proofs.Common.{rules, ◌<◌, length, map}
+use Rattle.rv_list_laws.proofs.OptionsLemmas.{if_none}
 use Rattle.rv_shorten.specs.Sections.{short_section_of}
 use Rattle.rv_placement.specs.Walk.{goes, ended}
-use Rattle.rv_placement.proofs.WalksLemmas.{file_far, if_none}
+use Rattle.rv_placement.proofs.WalksLemmas.{file_far}
 use Rattle.rv_placement.proofs.regions.move_file.Goals as goal
 
 pub returns-in_err-stop-clause-far : goal.returns-in_err-stop-clause-far

@@ -1,10 +1,11 @@
 use Rattle.std.proofs.Common.{◌<◌, ◌≡◌, ◌∙◌, length, map, get_or, sym, ap, subst}
 use Rattle.std.specs.Vec.{with_items}
 use Rattle.std.proofs.lemmas.List.{with_items_is}
+use Rattle.rv_list_laws.proofs.OptionsLemmas.{if_none}
 use Rattle.rv_shorten.specs.Sections.{short_section_of}
 use Rattle.rv_shorten.specs.View.{short_object_of}
 use Rattle.rv_placement.specs.Walk.{goes, started, ended, ended_files}
-use Rattle.rv_placement.proofs.WalksLemmas.{files_far, each_file, files_moved, files_ended, files_each, as_many, length-started, if_none}
+use Rattle.rv_placement.proofs.WalksLemmas.{files_far, each_file, files_moved, files_ended, files_each, as_many, length-started}
 use Rattle.rv_placement.proofs.regions.move_files.Goals as goal
 
 pub move_file-requires-clause-each : goal.move_file-requires-clause-each

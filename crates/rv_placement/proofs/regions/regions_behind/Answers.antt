@@ -1,8 +1,8 @@
 use Rattle.std.proofs.Common.{◌∙◌, ap, map, length}
+use Rattle.rv_list_laws.proofs.OptionsLemmas.{if_none}
 use Rattle.rv_shorten.specs.View.{short_object_of}
 use Rattle.rv_placement.specs.declared.destination.Destination.TheVariants.{Rodata, Data}
 use Rattle.rv_placement.specs.Walk.{goes, lists_of}
-use Rattle.rv_placement.proofs.WalksLemmas.{if_none}
 use Rattle.rv_placement.proofs.BehindLemmas.{rodata_far, data_far, length-files}
 use Rattle.rv_placement.proofs.regions.regions_behind.Goals as goal
 

@@ -1,6 +1,8 @@
 use Rattle.std.proofs.Common.{◌∙◌, ◌<◌, List, ap, sym, subst, map, ◌++◌}
 use Rattle.std.specs.Global.{Vec}
 use Rattle.std.specs.List.{AllZip}
+use Rattle.rv_list_laws.proofs.MapLemmas.{inside_same_maps}
+use Rattle.rv_list_laws.proofs.OptionsLemmas.{of_if_some}
 use Rattle.rv_link_laws.specs.Inputs.{goes_to_text}
 use Rattle.rv_link_laws.specs.Moves.{Move}
 use Rattle.rv_shorten.specs.Sections.{short_section_of}
@@ -10,8 +12,8 @@ use Rattle.rv_relax.specs.declared.section_paddings.SectionPaddings.{SectionPadd
 use Rattle.rv_relax.specs.Kept.{kept_in, moves_of}
 use Rattle.rv_placement.specs.Walk.{ended, ended_files, text_starts, gapped, IsKept}
 use Rattle.rv_placement.proofs.WalksLemmas.{files_far}
-use Rattle.rv_relax.proofs.ToldLemmas.{same_inside, same_at}
-use Rattle.rv_placement.proofs.TextsLemmas.{told, told_none, object_ends, object_starts, object_gaps, object_kept}
+use Rattle.rv_relax.proofs.ToldLemmas.{same_at}
+use Rattle.rv_placement.proofs.TextsLemmas.{told_none, object_ends, object_starts, object_gaps, object_kept}
 use Rattle.rv_placement.proofs.text.put_files.Goals as goal
 
 abbrev of_plans : Vec SectionPaddings → List (List Move)
@@ -27,7 +29,7 @@ returns-in-None-clause-far c =
     c.index-objects-i.is (subst (λ l. 0x3ff0_0000 < ended goes_to_text c.loop-i.stop (map short_section_of l)) (c.as_slice-sections.ensures.value ∙ ap (λ o. o.sections.items) (sym c.index-objects-i.is)) far) c.loop-i.invariant.1
 
 pub bounds-plans-i : goal.bounds-plans-i
-bounds-plans-i c = same_inside of_plans of_object c.args.plans.now c.args.objects.now c.requires.plans c.loop-i.i c.loop-i-test.true
+bounds-plans-i c = inside_same_maps of_plans of_object c.args.plans.now c.args.objects.now c.requires.plans c.loop-i.i c.loop-i-test.true
 
 pub put_file-requires-clause-plans : goal.put_file-requires-clause-plans
 put_file-requires-clause-plans c =
@@ -44,7 +46,7 @@ loop-i-preserved c =
     let inside = c.loop-i-test.true in
     let is = c.index-objects-i.is in
     let same = c.as_slice-sections.ensures.value ∙ ap (λ o. o.sections.items) (sym c.index-objects-i.is) in
-    let placed = told _ c.in_ok-end.field-0 c.in-Some.end c.in-Some.is c.in_ok-end.ensures.placed in
+    let placed = of_if_some _ c.in_ok-end.field-0 c.in-Some.end c.in-Some.is c.in_ok-end.ensures.placed in
     let ends = placed.0 ∙ ap (λ l. ended goes_to_text stop (map short_section_of l)) same in
     let starts = placed.2 ∙ ap (λ l. text_starts stop (map short_section_of l)) same in
     let kept = subst (λ l. AllZip IsKept (map short_section_of l) c.put_file.new.places.items) same placed.3 in

@@ -1,10 +1,11 @@
 use Rattle.std.proofs.Common.{rules, ◌≡◌, ◌∙◌, ap, sym, true, false}
+use Rattle.rv_list_laws.proofs.OptionsLemmas.{of_if_some}
 use Rattle.rv_layout_laws.specs.Alignment.{aligned}
 use Rattle.rv_link_laws.specs.Inputs.{goes_to_text}
 use Rattle.rv_shorten.specs.Sections.{short_section_of}
 use Rattle.rv_placement.specs.Walk.{start_behind}
 use Rattle.rv_placement.proofs.AlignedLemmas.{moves_still}
-use Rattle.rv_placement.proofs.TextsLemmas.{told, put_at, put_text, next_other, start_other, gap_other}
+use Rattle.rv_placement.proofs.TextsLemmas.{put_at, put_text, next_other, start_other, gap_other}
 use Rattle.rv_placement.proofs.text.put_section.Goals as goal
 
 pub returns-then-not-is_text-clause-placed : goal.returns-then-not-is_text-clause-placed
@@ -30,6 +31,6 @@ returns-in-Some-clause-placed c =
     let text : goes_to_text s ≡ true = search rules in
     let start = c.next_multiple-start.result in
     let is : start ≡ start_behind c.args.stop s = c.next_multiple-start.ensures ∙ ap (λ a. aligned a c.args.stop) c.multiple_of.ensures.value in
-    let placed = told _ c.in_ok-end.field-0 c.in-Some.end c.in-Some.is c.in_ok-end.ensures.placed in
+    let placed = of_if_some _ c.in_ok-end.field-0 c.in-Some.end c.in-Some.is c.in_ok-end.ensures.placed in
     let all = put_text c.args.stop start c.in-Some.end s c.args.places.now.items c.put_code.new.places.items c.args.gaps.now.items c.put_gap.new.gaps.items text is placed.0 placed.2 c.in_ok-put_gap.ensures in
     (all.0, placed.1, all.1, all.2)

@@ -1,6 +1,7 @@
 use Rattle.std.proofs.Common.{◌+◌, ◌-◌, ◌<◌, ◌≤◌, length, arith, sym}
+use Rattle.rv_list_laws.proofs.NumbersLemmas.{step_down}
 use Rattle.rv_relax.proofs.DroppingLemmas.{none_left}
-use Rattle.rv_relax.proofs.GoingLemmas.{goes_begins, goes_shortened, goes_kept, step_down}
+use Rattle.rv_relax.proofs.GoingLemmas.{goes_begins, goes_shortened, goes_kept}
 use Rattle.rv_relax.proofs.passes.shorten_backwards.Goals as goal
 
 pub loop-i-init : goal.loop-i-init

@@ -1,5 +1,6 @@
 use Rattle.std.proofs.Common.{◌+◌, refl, arith, sym, subst}
-use Rattle.rv_relax.proofs.GoingLemmas.{Goes, goes_begins, goes_shortened, goes_kept, step_up}
+use Rattle.rv_list_laws.proofs.NumbersLemmas.{step_up}
+use Rattle.rv_relax.proofs.GoingLemmas.{Goes, goes_begins, goes_shortened, goes_kept}
 use Rattle.rv_relax.proofs.passes.shorten_forwards.Goals.{then-visit_forwards, else-visit_forwards}
 use Rattle.rv_relax.proofs.passes.shorten_forwards.Goals as goal
 

@@ -1,12 +1,13 @@
 use Rattle.std.proofs.Common.{◌++◌, List, map, sym, ap, ◌∙◌}
 use Rattle.std.specs.Global.{Vec}
 use Rattle.std.specs.List.{slice_get}
+use Rattle.rv_list_laws.proofs.MapLemmas.{inside_same_maps}
 use Rattle.rv_link_laws.specs.Moves.{Move}
 use Rattle.rv_shorten.specs.declared.object.ShortObject.{ShortObject}
 use Rattle.rv_relax.specs.declared.section_paddings.SectionPaddings.{SectionPaddings}
 use Rattle.rv_relax.specs.Kept.{kept_in, moves_of}
 use Rattle.rv_relax.specs.Told.{told_sections}
-use Rattle.rv_relax.proofs.ToldLemmas.{same_inside, same_at, passed_one, found_one, told_in}
+use Rattle.rv_relax.proofs.ToldLemmas.{same_at, passed_one, found_one, told_in}
 use Rattle.rv_relax.proofs.told.found_in_all.Goals as goal
 
 abbrev of_plans : Vec SectionPaddings → List (List Move)
@@ -16,7 +17,7 @@ abbrev of_object : ShortObject → List (List Move)
 of_object o = map kept_in o.sections.items
 
 pub bounds-plans-i : goal.bounds-plans-i
-bounds-plans-i c = same_inside of_plans of_object c.args.plans.now c.args.objects.now c.requires c.loop-i.i c.loop-i-test.true
+bounds-plans-i c = inside_same_maps of_plans of_object c.args.plans.now c.args.objects.now c.requires c.loop-i.i c.loop-i-test.true
 
 pub found_among-requires : goal.found_among-requires
 found_among-requires c =

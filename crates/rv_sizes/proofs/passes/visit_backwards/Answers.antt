@@ -1,10 +1,11 @@
 use Rattle.std.proofs.lemmas.Int.{ints}
 use Rattle.std.proofs.Common.{pos, ◌-ℤ◌, if◌then◌else◌, ap, ◌≡◌, ◌+◌, ltb, length, slice_index, ℕ, slice_set, to_z, of_z, w64, arith, refl, sym, subst, ◌∙◌}
+use Rattle.std.proofs.lemmas.Bool.{ltb-true}
 use Rattle.rv_layout_laws.specs.declared.item.Item.{Item}
 use Rattle.rv_layout_laws.specs.Branches.{item_at}
 use Rattle.rv_layout_laws.specs.Offsets.{rest}
 use Rattle.rv_sizes.specs.Passes.{AreRests, IsJudged, around}
-use Rattle.rv_sizes.proofs.PlacesLemmas.{rests_small, table_small, backward_is, backward_table, backward_ends, judged_offered, judged_there, visit_told, told_up, told_same}
+use Rattle.rv_sizes.proofs.PlacesLemmas.{rests_small, table_small, backward_is, backward_table, backward_ends, judged_offered, judged_there, visit_told, told_same}
 use Rattle.rv_sizes.proofs.passes.visit_backwards.Goals as goal
 
 pub overflow_add-left : goal.overflow_add-left
@@ -73,7 +74,7 @@ returns-clause-visit c =
     (λ branch. backward_is c.args.items.now (length c.args.ends.now) c.args.i c.args.sizes.now c.args.stands.now (slice_index c.args.ends.now (item_at c.args.items.now c.args.i).section + c.from.result)
     c.requires.input c.requires.within c.requires.table is branch c.distance_backwards.result away)
     (ltb (slice_index c.args.sizes.now c.args.i) c.judged_size-wider.result)
-    (told_up (slice_index c.args.sizes.now c.args.i) c.judged_size-wider.result)
+    (ltb-true (slice_index c.args.sizes.now c.args.i) c.judged_size-wider.result)
     (told_same (item_at c.args.items.now c.args.i) c.distance_backwards.result (slice_index c.args.sizes.now c.args.i) c.judged_size-wider.result judged)
 
 pub returns-clause-table : goal.returns-clause-table

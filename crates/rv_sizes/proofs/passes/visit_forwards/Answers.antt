@@ -1,9 +1,10 @@
 use Rattle.std.proofs.lemmas.Int.{ints}
 use Rattle.std.proofs.Common.{pos, ◌-ℤ◌, if◌then◌else◌, ap, ◌≡◌, ◌+◌, ltb, length, slice_index, ℕ, slice_set, w64, to_z, of_z, arith, refl, sym, subst}
+use Rattle.std.proofs.lemmas.Bool.{ltb-true}
 use Rattle.rv_layout_laws.specs.declared.item.Item.{Item}
 use Rattle.rv_layout_laws.specs.Branches.{item_at}
 use Rattle.rv_sizes.specs.Passes.{AreStarts, IsJudged}
-use Rattle.rv_sizes.proofs.PlacesLemmas.{start_small, table_small, forward_is, forward_table, forward_ends, judged_offered, judged_there, visit_told, told_up, told_same}
+use Rattle.rv_sizes.proofs.PlacesLemmas.{start_small, table_small, forward_is, forward_table, forward_ends, judged_offered, judged_there, visit_told, told_same}
 use Rattle.rv_sizes.proofs.passes.visit_forwards.Goals as goal
 
 pub distance_forwards-requires-clause-start : goal.distance_forwards-requires-clause-start
@@ -42,7 +43,7 @@ returns-clause-visit c =
     (λ branch. forward_is c.args.items.now (length c.args.ends.now) c.args.i c.args.sizes.now c.args.stands.now (slice_index c.args.ends.now (item_at c.args.items.now c.args.i).section)
     c.requires.input c.requires.within c.requires.table start.0 branch c.distance_forwards.result away)
     (ltb (slice_index c.args.sizes.now c.args.i) c.judged_size-wider.result)
-    (told_up (slice_index c.args.sizes.now c.args.i) c.judged_size-wider.result)
+    (ltb-true (slice_index c.args.sizes.now c.args.i) c.judged_size-wider.result)
     (told_same (item_at c.args.items.now c.args.i) c.distance_forwards.result (slice_index c.args.sizes.now c.args.i) c.judged_size-wider.result judged)
 
 pub returns-clause-table : goal.returns-clause-table

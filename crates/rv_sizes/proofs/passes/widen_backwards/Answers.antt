@@ -1,6 +1,7 @@
 use Rattle.std.proofs.Common.{◌≡◌, le_refl, ◌+◌, ◌-◌, ◌<◌, ◌≤◌, length, arith, sym, subst}
+use Rattle.rv_list_laws.proofs.NumbersLemmas.{step_down}
 use Rattle.rv_sizes.specs.Passes.{IsInput}
-use Rattle.rv_sizes.proofs.GoingLemmas.{goes_begins, goes_widened, goes_kept, step_down, none_left}
+use Rattle.rv_sizes.proofs.GoingLemmas.{goes_begins, goes_widened, goes_kept, none_left}
 use Rattle.rv_sizes.proofs.passes.widen_backwards.Goals as goal
 
 pub loop-i-init : goal.loop-i-init

@@ -1,6 +1,7 @@
 use Rattle.std.proofs.Common.{◌+◌, arith, sym, subst}
+use Rattle.rv_list_laws.proofs.NumbersLemmas.{step_up}
 use Rattle.rv_sizes.specs.Passes.{IsInput}
-use Rattle.rv_sizes.proofs.GoingLemmas.{Goes, goes_begins, goes_widened, goes_kept, step_up}
+use Rattle.rv_sizes.proofs.GoingLemmas.{Goes, goes_begins, goes_widened, goes_kept}
 use Rattle.rv_sizes.proofs.passes.widen_forwards.Goals.{then-visit_forwards, else-visit_forwards}
 use Rattle.rv_sizes.proofs.passes.widen_forwards.Goals as goal
 

@@ -9,12 +9,15 @@ use Rattle.rv_unit.specs.Unit.{said}
 use Rattle.rv_assemble_laws.specs.ShownNames.{said_names, are_shown}
 use Rattle.std.proofs.lemmas.List.{map-append}
 use Rattle.std.proofs.lemmas.Option.{slice_get_within}
+use Rattle.rv_list_laws.proofs.TestsLemmas.{get_all}
+use Rattle.rv_list_laws.proofs.ElementsLemmas.{get_some}
+use Rattle.rv_list_laws.proofs.TakeDropLemmas.{drop_next, take_next}
 use Rattle.rv_assemble_laws.specs.LaidStatements.{LaidStatement}
 use Rattle.rv_assemble_laws.specs.Symbols.{references, is_meant, local_symbols, exports_of}
 use Rattle.rv_symbols.specs.Source.{tables_of, place_in}
 use Rattle.rv_symbols.specs.Found.{same_place, is_seen, any_means}
 use Rattle.rv_symbols.proofs.StandsLemmas.{ordinal_is, kind_at, laid_inside, laid_past, count_is, low_more}
-use Rattle.rv_symbols.proofs.NamingLemmas.{all_got, there_is, drop_next, take_next, locals_more, seen_more, two_more}
+use Rattle.rv_symbols.proofs.NamingLemmas.{locals_more, seen_more, two_more}
 use Rattle.rv_symbols.proofs.own.own_symbols.Goals as goal
 
 next_few : (now new i : ℕ) → now ≤ i → new ≤ now + 1 → new ≤ i + 1
@@ -26,7 +29,7 @@ put_both-requires-clause-shown c =
     let ss = said c.args.source.now.unit.now in
     let y = statement_of c.read.result.now in
     let at : slice_get ss i ≡ Some y = ap (λ l. slice_get (statements_of l) i) (sym c.statements-statements.ensures) ∙ c.read.ensures in
-    all_got (λ (s : Statement). are_shown (said_names s.kind)) ss i y at c.requires.names
+    get_all (λ (s : Statement). are_shown (said_names s.kind)) ss i y at c.requires.names
 
 pub loop-i-preserved : goal.loop-i-preserved
 loop-i-preserved c =
@@ -43,7 +46,7 @@ loop-i-preserved c =
       few = two_more (length c.loop-i.symbols.items) (length c.put_both.new.symbols.items) i c.loop-i.invariant.few c.in_ok-put_both.ensures.few;
       few_exported = next_few (length c.loop-i.exported.items) (length c.put_both.new.exported.items) i c.loop-i.invariant.few_exported c.in_ok-put_both.ensures.few_exported;
       exported = λ laid h.
-          let found = there_is laid i (laid_inside x laid h i inside) in
+          let found = get_some laid i (laid_inside x laid h i inside) in
           let s : LaidStatement = found.0 in
           let old = map symbol_of c.loop-i.exported.items in
           ap (λ l. l ++ flat_map (exports_of t laid) (drop (i + 1) laid)) (c.in_ok-put_both.ensures.exported laid s h found.1 (kind_at x laid h i s found.1 y at))
@@ -52,7 +55,7 @@ loop-i-preserved c =
           ∙ c.loop-i.invariant.exported laid h;
       symbols = λ laid h marks.
           let rs = references t laid in
-          let found = there_is laid i (laid_inside x laid h i inside) in
+          let found = get_some laid i (laid_inside x laid h i inside) in
           let s : LaidStatement = found.0 in
           let m : get_or meant i false ≡ is_meant t rs s = marks i within ∙ ap (λ n. any_means t n rs) (sym (ordinal_is x laid h i s found.1)) in
           ap (λ l. map symbol_of c.put_both.new.symbols.items ++ local_symbols t laid l (drop (i + 1) laid)) (take_next laid i s found.1)
@@ -61,7 +64,7 @@ loop-i-preserved c =
           (ap (λ l. map symbol_of c.loop-i.symbols.items ++ local_symbols t laid (take i laid) l) (sym (drop_next laid i s found.1)) ∙ c.loop-i.invariant.symbols laid h marks);
       seen = λ laid h marks q.
           let rs = references t laid in
-          let found = there_is laid i (laid_inside x laid h i inside) in
+          let found = get_some laid i (laid_inside x laid h i inside) in
           let s : LaidStatement = found.0 in
           let m : get_or meant i false ≡ is_meant t rs s = marks i within ∙ ap (λ n. any_means t n rs) (sym (ordinal_is x laid h i s found.1)) in
           seen_more t laid rs (take i laid) s (get_or meant i false) (contains same_place c.loop-i.seen q) (contains same_place c.put_both.new.seen q) q m (c.loop-i.invariant.seen laid h marks q)

@@ -1,12 +1,12 @@
 use Rattle.std.proofs.Common.{◌≡◌, Some, false, ◌<◌, ◌≤◌, ◌+◌, ◌-◌, [], ◌++◌, length, map, drop, get_or, sym, ap, ◌∙◌, subst, append-nil, arith, rules}
 use Rattle.std.specs.Prelude.{option_map}
 use Rattle.std.proofs.lemmas.List.{length-map, at_drop_all}
+use Rattle.rv_list_laws.proofs.TakeDropLemmas.{drop_next}
 use Rattle.rv_unit_laws.specs.Tables.{tables}
 use Rattle.rv_unit.specs.Unit.{said, definition_of, IsFilled, IsScope}
 use Rattle.rv_symbols.specs.declared.symbol_use.SymbolUse.{SymbolUse}
 use Rattle.rv_symbols.specs.SymbolUse.{use_of, uses_of}
 use Rattle.rv_symbols.specs.Found.{definition_in, is_here, next_ordinal, IsNext, Rises}
-use Rattle.rv_symbols.proofs.NamingLemmas.{drop_next}
 use Rattle.rv_symbols.proofs.UsingLemmas.{use_at, found_more, next_within, next_own}
 use Rattle.rv_symbols.proofs.uses.definitions.Goals as goal
 

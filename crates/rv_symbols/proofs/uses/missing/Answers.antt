@@ -1,12 +1,12 @@
 use Rattle.std.proofs.Common.{◌≡◌, ◌<◌, ◌≤◌, [], None, length, map, drop, get_or, refl, sym, ap, ◌∙◌, subst, rules}
 use Rattle.std.specs.Prelude.{option_map, flat_map}
 use Rattle.std.proofs.lemmas.List.{length-map, at_drop_all}
+use Rattle.rv_list_laws.proofs.TestsLemmas.{get_all}
 use Rattle.rv_text.specs.Nodes.{symbol_of}
 use Rattle.rv_statement.specs.View.{now_of}
 use Rattle.rv_unit.specs.Unit.{definition_of}
 use Rattle.rv_assemble_laws.specs.Symbols.{missing_name}
 use Rattle.rv_assemble_laws.specs.ShownNames.{is_shown_use}
-use Rattle.rv_symbols.proofs.NamingLemmas.{all_got}
 use Rattle.rv_symbols.specs.SymbolUse.{use_of, uses_of}
 use Rattle.rv_symbols.specs.Found.{with_names}
 use Rattle.rv_symbols.proofs.UsingLemmas.{use_at, found_at, missing_more, few_more, missing_are}
@@ -28,7 +28,7 @@ loop-i-preserved c =
           few_more (uses_of us) i (use_of (get_or us i d)) (symbol_of (get_or us i d).symbol) (length c.loop-i.names.keys) (length c.put_missing.new.names.keys)
           (use_at us i d inside) refl c.in_ok-put_missing.ensures.few c.loop-i.invariant.few;
       shown = λ h.
-          c.in_ok-put_missing.ensures.shown (all_got is_shown_use (uses_of us) i (use_of (get_or us i d)) (use_at us i d inside) h) (c.loop-i.invariant.shown h);
+          c.in_ok-put_missing.ensures.shown (get_all is_shown_use (uses_of us) i (use_of (get_or us i d)) (use_at us i d inside) h) (c.loop-i.invariant.shown h);
     }
 
 pub returns-clause-names : goal.returns-clause-names

@@ -1,11 +1,12 @@
 -- Node by node.
 use Rattle.std.proofs.Common.{◌∙◌, sym, ap, map, List}
+use Rattle.rv_list_laws.proofs.OptionsLemmas.{if_some_map}
 use Rattle.rv_text_laws.specs.Values as values
 use Rattle.rv_text_laws.specs.Expression as expression
 use Rattle.rv_text_laws.proofs.TreesLemmas.{nodes_value}
 use Rattle.rv_text.specs.Nodes.{node_of, nodes_of}
 use Rattle.rv_text.specs.Eval.{tops}
-use Rattle.rv_text.proofs.EvalsLemmas.{some_more, tops_none, last_value, no_node}
+use Rattle.rv_text.proofs.EvalsLemmas.{tops_none, last_value, no_node}
 use Rattle.rv_text.proofs.evaluation.value_of_few.Goals as goal
 
 pub loop-node-init : goal.loop-node-init
@@ -14,7 +15,7 @@ loop-node-init g c = λ m means.
     (sym (c.in_ok-step_few.ensures m means ∙ ap (values.after_node m (node_of c.args.nodes.now.first)) (ap tops c.new-stack.ensures ∙ tops_none)))
 
 pub returns : goal.returns
-returns g c = some_more c.pop_few.result _ _
+returns g c = if_some_map c.pop_few.result _ _
     (λ part split m means.
     let v = nodes_value m (nodes_of c.args.nodes.now) c.requires.fits in
     last_value c.loop-node.stack.items c.pop_few.new.stack.items part (values.value_of m (expression.tree_of (nodes_of c.args.nodes.now))) v.0 split

@@ -1,7 +1,7 @@
 use Rattle.std.proofs.Common.{◌∙◌, ◌++◌, ap, [], ◌∷◌}
 use Rattle.std.specs.Option.{option_map_or}
 use Rattle.std.specs.Str.{bytes_eq}
-use Rattle.rv_unit_laws.proofs.FoundLemmas.{same_bytes}
+use Rattle.rv_list_laws.proofs.ElementsLemmas.{same_bytes}
 use Rattle.rv_unit_tables.specs.Tables.{assignments_at}
 use Rattle.rv_unit_tables.proofs.OrderedLemmas.{kept_more}
 use Rattle.rv_unit_tables.proofs.assignments.add_assigned.Goals as goal

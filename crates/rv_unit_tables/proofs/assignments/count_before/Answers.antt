@@ -1,8 +1,8 @@
 use Rattle.std.proofs.Common.{nat_lt, slice_index_or, rules, of_calls}
 use Rattle.std.proofs.lemmas.Fn.{always_returns_same}
 use Rattle.std.proofs.lemmas.Bool.{ltb-true, ltb-false}
+use Rattle.rv_list_laws.proofs.SortedLemmas.{partitioned_before}
 use Rattle.rv_unit_tables.specs.declared.tables.Assignment.{Assignment}
-use Rattle.rv_unit_tables.proofs.OrderedLemmas.{partitioned_before}
 use Rattle.rv_unit_tables.proofs.assignments.count_before.Goals as goal
 
 pub returns-clause-point : goal.returns-clause-point

@@ -1,7 +1,7 @@
 use Rattle.std.proofs.Common.{ℕ, nat_lt, slice_index_or, rules, of_calls}
 use Rattle.std.proofs.lemmas.Fn.{always_returns_same}
 use Rattle.std.proofs.lemmas.Bool.{ltb-true, ltb-false}
-use Rattle.rv_unit_tables.proofs.OrderedLemmas.{partitioned_before}
+use Rattle.rv_list_laws.proofs.SortedLemmas.{partitioned_before}
 use Rattle.rv_unit_tables.proofs.numeric_labels.count_before.Goals as goal
 
 pub returns-clause-point : goal.returns-clause-point

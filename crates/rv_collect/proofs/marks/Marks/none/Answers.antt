@@ -1,8 +1,8 @@
 use Rattle.std.proofs.Common.{◌≡◌, ◌≤◌, ◌++◌, ◌∷◌, ◌+◌, ◌∙◌, [], Bool, List, length, map, drop, rules, ap, sym, append-nil}
 use Rattle.std.specs.Global.{Vec}
 use Rattle.std.proofs.lemmas.List.{at_drop_all, map_push}
-use Rattle.rv_collect.proofs.LeftLemmas.{left}
-use Rattle.rv_collect.proofs.LeftLemmas.{one_more}
+use Rattle.rv_list_laws.proofs.TakeDropLemmas.{drop_read}
+use Rattle.rv_list_laws.proofs.ElementsLemmas.{append_one_more}
 use Rattle.rv_collect.proofs.RowsLemmas.{empty_row, none_marked, none_like, row_in}
 use Rattle.rv_collect.specs.Drops.{mark_in}
 use Rattle.rv_collect.proofs.marks.Marks.none.Goals as goal
@@ -17,9 +17,9 @@ loop-object-preserved c =
     let x = c.object-item.result in
     let files = c.loop-object.files.items in
     let row : c.in_ok-row.row.items ≡ empty_row x = search rules in
-    one_more (rows files) (rows c.push.new.self.items) (empty_row x) (map empty_row (drop (i + 1) xs)) (map empty_row (drop i xs)) (map empty_row xs)
+    append_one_more (rows files) (rows c.push.new.self.items) (empty_row x) (map empty_row (drop (i + 1) xs)) (map empty_row (drop i xs)) (map empty_row xs)
     (ap rows c.in_ok-push.ensures.items ∙ map_push (λ (r : Vec Bool). r.items) files c.in_ok-row.row ∙ ap (λ r. rows files ++ r ∷ []) row)
-    (ap (map empty_row) (left xs i x c.loop-object-test.true c.object-item.is)) c.loop-object.invariant
+    (ap (map empty_row) (drop_read xs i x c.loop-object-test.true c.object-item.is)) c.loop-object.invariant
 
 pub returns-clause-none : goal.returns-clause-none
 returns-clause-none c = λ file index.

@@ -1,8 +1,8 @@
 use Rattle.std.proofs.Common.{◌≡◌, ◌<◌, ◌≤◌, ◌+◌, length, map, rules, arith, ap, ◌∙◌}
 use Rattle.std.proofs.lemmas.List.{length-append}
+use Rattle.rv_list_laws.proofs.ElementsLemmas.{get_read}
 use Rattle.rv_object_types.specs.View.{object_of}
 use Rattle.rv_collect.specs.Drops.{id_at}
-use Rattle.rv_collect.proofs.LeftLemmas.{at_index}
 use Rattle.rv_collect.proofs.WalkLemmas.{next_marked, followed_on, still_marked, all_followed}
 use Rattle.rv_collect.proofs.walk.Walk.follow.Goals as goal
 
@@ -12,14 +12,14 @@ mark_targets-requires-clause-has c =
     let q = c.index-section.result.now in
     let inside : c.loop-next.next < length w.queue.items = search rules in
     let walk = c.loop-next.invariant.walk in
-    walk.has (id_at q.0 q.1) (next_marked (map object_of c.args.objects.now) w c.loop-next.next q walk (at_index w.queue.items c.loop-next.next q inside c.index-section.ensures))
+    walk.has (id_at q.0 q.1) (next_marked (map object_of c.args.objects.now) w c.loop-next.next q walk (get_read w.queue.items c.loop-next.next q inside c.index-section.ensures))
 
 pub mark_targets-requires-clause-marked : goal.mark_targets-requires-clause-marked
 mark_targets-requires-clause-marked c =
     let w = c.loop-next.self in
     let q = c.index-section.result.now in
     let inside : c.loop-next.next < length w.queue.items = search rules in
-    next_marked (map object_of c.args.objects.now) w c.loop-next.next q c.loop-next.invariant.walk (at_index w.queue.items c.loop-next.next q inside c.index-section.ensures)
+    next_marked (map object_of c.args.objects.now) w c.loop-next.next q c.loop-next.invariant.walk (get_read w.queue.items c.loop-next.next q inside c.index-section.ensures)
 
 pub loop-next-preserved : goal.loop-next-preserved
 loop-next-preserved c =
@@ -34,7 +34,7 @@ loop-next-preserved c =
     record {
       walk = c.in_ok-mark_targets.ensures.walk;
       begun = λ t lies. still_marked os w new t grows (c.loop-next.invariant.begun t lies);
-      followed = followed_on os w new n q grows (at_index w.queue.items n q inside c.index-section.ensures) c.loop-next.invariant.followed c.in_ok-mark_targets.ensures.followed;
+      followed = followed_on os w new n q grows (get_read w.queue.items n q inside c.index-section.ensures) c.loop-next.invariant.followed c.in_ok-mark_targets.ensures.followed;
       within = omega (arith, inside, long);
     }
 

@@ -1,6 +1,7 @@
 use Rattle.std.proofs.Common.{◌≡◌, ◌∙◌, ◌+◌, ◌%◌, ◌^◌, ap, sym, Some, None}
 use Rattle.rv_placement.specs.Placement.{placed_at}
-use Rattle.rv_link_values.proofs.PlacesLemmas.{not_placed, section_of_input, moved_is}
+use Rattle.rv_placement.proofs.FoundLemmas.{not_placed}
+use Rattle.rv_link_values.proofs.PlacesLemmas.{section_of_input, moved_is}
 use Rattle.rv_link_values.proofs.values.Values.moved.Goals as goal
 
 pub returns-in-Some : goal.returns-in-Some

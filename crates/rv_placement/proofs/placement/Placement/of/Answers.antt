@@ -1,6 +1,7 @@
 use Rattle.std.proofs.Common.{◌≡◌, ◌∙◌, ◌≤◌, ◌<◌, ◌++◌, ℕ, List, length, map, ap, sym, subst, refl, arith}
 use Rattle.std.specs.Vec.{with_items}
 use Rattle.std.proofs.lemmas.List.{with_items_is}
+use Rattle.rv_list_laws.proofs.OptionsLemmas.{of_if_some}
 use Rattle.rv_isa_laws.specs.Platform.{memory_limit}
 use Rattle.rv_link_laws.specs.Layout.{IsTooLarge}
 use Rattle.rv_shorten.specs.declared.object.ShortObject.{ShortObject}
@@ -10,7 +11,7 @@ use Rattle.rv_placement.specs.declared.placement.Placement.{Placement}
 use Rattle.rv_placement.specs.Placement.{IsPlacement}
 use Rattle.rv_placement.specs.Walk.{lists_of, behind_files, gapped_files}
 use Rattle.rv_placement.proofs.BehindLemmas.{data_up, bss_up}
-use Rattle.rv_placement.proofs.TextsLemmas.{told, told_none}
+use Rattle.rv_placement.proofs.TextsLemmas.{told_none}
 use Rattle.rv_placement.proofs.PlacedLemmas.{each_list, is_placement, text_too_large, behind_too_large, memory_too_large}
 use Rattle.rv_placement.proofs.RoomsStandLemmas.{has_room_anywhere, placed_roomy}
 use Rattle.rv_placement.proofs.placement.Placement.of.Goals as goal
@@ -32,12 +33,12 @@ returns-in_default-clause-refuses c = (
 
 pub regions_behind-requires-clause-each : goal.regions_behind-requires-clause-each
 regions_behind-requires-clause-each c =
-    let placed = told _ c.in_ok-found.found c.in-Some.end c.in-Some.is c.in_ok-found.ensures.placed in
+    let placed = of_if_some _ c.in_ok-found.found c.in-Some.end c.in-Some.is c.in_ok-found.ensures.placed in
     ap (λ l. map length (lists_of l)) c.as_mut_slice.ensures.value ∙ each_list c.put_files.new.files.items (map short_object_of c.as_slice-objects.result.now) placed.3
 
 pub returns-in_default-regions_behind-clause-refuses : goal.returns-in_default-regions_behind-clause-refuses
 returns-in_default-regions_behind-clause-refuses c =
-    let placed = told _ c.in_ok-found.found c.in-Some.end c.in-Some.is c.in_ok-found.ensures.placed in (
+    let placed = of_if_some _ c.in_ok-found.found c.in-Some.end c.in-Some.is c.in_ok-found.ensures.placed in (
       subst (λ l. IsTooLarge (map short_object_of l) c.args.text_start) c.as_slice-objects.ensures.value
           (behind_too_large (map short_object_of c.as_slice-objects.result.now) c.args.text_start c.in-Some.end placed.0 c.in_default-regions_behind.ensures.far),
       has_room_anywhere c.args.plan.now.objects.items c.args.text_start c.requires.roomy,
@@ -45,7 +46,7 @@ returns-in_default-regions_behind-clause-refuses c =
 
 pub memory_of-requires : goal.memory_of-requires
 memory_of-requires c =
-    let placed = told _ c.in_ok-found.found c.in-Some.end c.in-Some.is c.in_ok-found.ensures.placed in
+    let placed = of_if_some _ c.in_ok-found.found c.in-Some.end c.in-Some.is c.in_ok-found.ensures.placed in
     let r = c.in-Some-regions_behind.behind in
     let h = c.in-Some-regions_behind.ensures.behind in
     let os = map short_object_of c.as_slice-objects.result.now in
@@ -57,7 +58,7 @@ memory_of-requires c =
 
 pub returns-then-memory_of-gt-MEMORY_LIMIT-clause-refuses : goal.returns-then-memory_of-gt-MEMORY_LIMIT-clause-refuses
 returns-then-memory_of-gt-MEMORY_LIMIT-clause-refuses c =
-    let placed = told _ c.in_ok-found.found c.in-Some.end c.in-Some.is c.in_ok-found.ensures.placed in
+    let placed = of_if_some _ c.in_ok-found.found c.in-Some.end c.in-Some.is c.in_ok-found.ensures.placed in
     let r = c.in-Some-regions_behind.behind in (
       subst (λ l. IsTooLarge (map short_object_of l) c.args.text_start) c.as_slice-objects.ensures.value
           (memory_too_large (map short_object_of c.as_slice-objects.result.now) c.args.text_start (record { start = c.args.text_start; end = c.in-Some.end }) r.rodata r.data r.bss refl placed.0 c.in-Some-regions_behind.ensures.behind
@@ -67,7 +68,7 @@ returns-then-memory_of-gt-MEMORY_LIMIT-clause-refuses c =
 
 pub returns-clause-placement : goal.returns-clause-placement
 returns-clause-placement c =
-    let placed = told _ c.in_ok-found.found c.in-Some.end c.in-Some.is c.in_ok-found.ensures.placed in
+    let placed = of_if_some _ c.in_ok-found.found c.in-Some.end c.in-Some.is c.in_ok-found.ensures.placed in
     let r = c.in-Some-regions_behind.behind in
     let os = map short_object_of c.as_slice-objects.result.now in
     let v = c.put_files.new.files in

@@ -1,11 +1,12 @@
 use Rattle.std.proofs.Common.{◌≡◌, true, false, option_map, is_some, sym, subst, ap, ◌∙◌}
 use Rattle.std.proofs.lemmas.Map.Text.{btree_map_updates_str}
+use Rattle.rv_list_laws.proofs.OptionsLemmas.{copied_some, is_some_map, none_by_test}
 use Rattle.rv_object_types.specs.Parts.{symbol_of}
 use Rattle.rv_object_laws.specs.Bindings.{is_weak}
 use Rattle.rv_link_laws.specs.Names.{is_export}
 use Rattle.rv_resolve.specs.Chosen.{seen, first_named}
 use Rattle.rv_resolve.specs.Names.{exported_of, AnswersFirst}
-use Rattle.rv_resolve.proofs.TableLemmas.{none_more, known_more, answers_more, copied_some, still_some, is_none}
+use Rattle.rv_resolve.proofs.TableLemmas.{none_more, known_more, answers_more}
 use Rattle.rv_resolve.proofs.definitions.Definitions.put_weak_one.Goals as goal
 
 pub returns-then-not-is_weak_definition : goal.returns-then-not-is_weak_definition
@@ -18,7 +19,7 @@ pub returns-then-is_some : goal.returns-then-is_some
 returns-then-is_some c = λ ds h name.
     let s = seen (symbol_of c.args.symbol.now) in
     let known : is_some (first_named ds s.name) ≡ true =
-    sym (still_some exported_of (first_named ds s.name)) ∙ ap is_some (sym (h s.name) ∙ sym c.get.ensures.value) ∙ copied_some c.get.result ∙ sym c.is_some.ensures ∙ c.if-is_some.true in
+    sym (is_some_map exported_of (first_named ds s.name)) ∙ ap is_some (sym (h s.name) ∙ sym c.get.ensures.value) ∙ copied_some c.get.result ∙ sym c.is_some.ensures ∙ c.if-is_some.true in
     h name ∙ ap (option_map exported_of) (sym (known_more is_weak c.args.file c.args.index s ds known name))
 
 pub returns : goal.returns
@@ -26,6 +27,6 @@ returns c = λ ds h name.
     let s = seen (symbol_of c.args.symbol.now) in
     let exported : is_export is_weak (symbol_of c.args.symbol.now) ≡ true = sym c.is_weak_definition.ensures ∙ c.if-not-is_weak_definition.false in
     let free : is_some (first_named ds s.name) ≡ false =
-    sym (still_some exported_of (first_named ds s.name)) ∙ ap is_some (sym (h s.name) ∙ sym c.get.ensures.value) ∙ copied_some c.get.result ∙ sym c.is_some.ensures ∙ c.if-is_some.false in
+    sym (is_some_map exported_of (first_named ds s.name)) ∙ ap is_some (sym (h s.name) ∙ sym c.get.ensures.value) ∙ copied_some c.get.result ∙ sym c.is_some.ensures ∙ c.if-is_some.false in
     answers_more is_weak c.args.file c.args.index s ds exported name _ _ (btree_map_updates_str s.name c.args.self.now.by_name c.insert.new.self _ c.in_ok-insert.ensures.updates name)
-    (is_none (first_named ds s.name) free) (h name)
+    (none_by_test (first_named ds s.name) free) (h name)

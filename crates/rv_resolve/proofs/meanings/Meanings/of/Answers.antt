@@ -1,14 +1,14 @@
 use Rattle.std.proofs.Common.{◌<◌, ◌≤◌, ◌+◌, ◌++◌, ◌∷◌, ◌∙◌, [], Option, List, length, map, drop, rules, ap, sym, append-nil}
 use Rattle.std.specs.Global.{Vec}
 use Rattle.std.proofs.lemmas.List.{at_drop_all, map_push}
+use Rattle.rv_list_laws.proofs.ElementsLemmas.{append_pushed}
+use Rattle.rv_list_laws.proofs.TakeDropLemmas.{drop_read}
 use Rattle.rv_object_types.specs.declared.object.Object.{Object as DeclaredObject}
 use Rattle.rv_object_types.specs.View.{object_of}
 use Rattle.rv_resolve.specs.declared.definitions.Exported.{Exported}
 use Rattle.rv_resolve.specs.Chosen.{Seen, seen_of, definitions}
 use Rattle.rv_resolve.specs.Names.{outside}
 use Rattle.rv_resolve.proofs.LoadingLemmas.{seen_symbols}
-use Rattle.rv_resolve.proofs.RowsLemmas.{one_pushed}
-use Rattle.rv_link_laws.proofs.StepsLemmas.{left}
 use Rattle.rv_resolve.proofs.meanings.Meanings.of.Goals as goal
 
 abbrev rows_of : List (Vec (Option Exported)) → List (List (Option Exported))
@@ -31,9 +31,9 @@ loop-file-preserved c = λ h.
     let known = ap (λ (l : List (Vec (Option Exported))). rows_of l ++ all (seen_of (map object_of (drop i xs)))) c.as_slice.ensures.value ∙ c.loop-file.invariant h in
     let row = c.in_ok-row.ensures ds h (all (seen_of (map object_of (drop i xs))), known) ∙ ap (λ l. map (outside ds) (seen_symbols l)) symbols in
     let rows = c.loop-file.files.items in
-    one_pushed (rows_of rows) (rows_of c.push.new.self.items) _ (all (seen_of (map object_of (drop (i + 1) xs)))) (all (seen_of (map object_of xs))) (map (outside ds) (seen_symbols x.symbols.items))
+    append_pushed (rows_of rows) (rows_of c.push.new.self.items) _ (all (seen_of (map object_of (drop (i + 1) xs)))) (all (seen_of (map object_of xs))) (map (outside ds) (seen_symbols x.symbols.items))
     (ap rows_of c.in_ok-push.ensures.items ∙ map_push (λ (r : Vec (Option Exported)). r.items) rows c.in_ok-row.row ∙ ap (λ r. rows_of rows ++ r ∷ []) row)
-    (ap (λ l. all (seen_of (map object_of l))) (left xs i x inside c.index-objects-file.is)) (c.loop-file.invariant h)
+    (ap (λ l. all (seen_of (map object_of l))) (drop_read xs i x inside c.index-objects-file.is)) (c.loop-file.invariant h)
 
 pub returns : goal.returns
 returns c = λ h.

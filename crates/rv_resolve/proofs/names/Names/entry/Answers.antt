@@ -1,5 +1,6 @@
 use Rattle.std.proofs.Common.{◌≡◌, ◌+◌, ◌∙◌, None, option_map, map, ap, sym}
 use Rattle.std.specs.Prelude.{option_and_then, if◌then◌else◌}
+use Rattle.rv_list_laws.proofs.OptionsLemmas.{option_map_none}
 use Rattle.rv_link_laws.specs.Names.{chosen, defined_address, run_start}
 use Rattle.rv_placement.specs.Placement.{starts_of}
 use Rattle.rv_shorten.specs.View.{short_object_of}
@@ -7,7 +8,6 @@ use Rattle.rv_resolve.specs.Names.{meant_of}
 use Rattle.rv_link_laws.proofs.EntryLemmas.{start_name}
 use Rattle.rv_resolve.proofs.EntryLemmas.{start_kept}
 use Rattle.rv_resolve.proofs.MeantLemmas.{kept_held}
-use Rattle.rv_resolve.proofs.TableLemmas.{still_none}
 use Rattle.rv_resolve.proofs.names.Names.entry.Goals as goal
 
 pub returns-then-can_begin : goal.returns-then-can_begin
@@ -36,4 +36,4 @@ returns-in-None c = λ start h stands.
     let os = map short_object_of c.args.objects.now in
     let starts = starts_of c.args.placement.now in
     let found : option_map meant_of (chosen os start_name) ≡ None = sym (c.start.ensures h) ∙ c.in-None.is in
-    sym (ap (option_and_then (run_start starts)) (still_none meant_of (chosen os start_name) found))
+    sym (ap (option_and_then (run_start starts)) (option_map_none meant_of (chosen os start_name) found))

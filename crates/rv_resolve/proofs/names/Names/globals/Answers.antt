@@ -1,12 +1,12 @@
 use Rattle.std.proofs.Common.{◌≡◌, ◌<◌, ◌≤◌, ◌++◌, ◌∙◌, length, map, get_or, rules, ap, sym, subst, append-nil}
 use Rattle.std.proofs.lemmas.List.{length-map, at_drop_all}
+use Rattle.rv_list_laws.proofs.MapLemmas.{get_or_viewed, get_map_read}
 use Rattle.rv_map.specs.Views.{global_of}
 use Rattle.rv_link_laws.specs.Names.{globals_of, shown_linker_symbols}
 use Rattle.rv_link_laws.specs.Layout.{regions_of}
 use Rattle.rv_placement.specs.Placement.{starts_of, layout_of}
 use Rattle.rv_shorten.specs.View.{short_object_of}
 use Rattle.rv_resolve.proofs.AddingLemmas.{files_shown, file_more}
-use Rattle.rv_link_laws.proofs.StepsLemmas.{viewed, there}
 use Rattle.rv_resolve.proofs.names.Names.globals.Goals as goal
 
 pub loop-file-preserved : goal.loop-file-preserved
@@ -20,9 +20,9 @@ loop-file-preserved c = record {
       let o = short_object_of x in
       let inside : i < length xs = search rules in
       let inside' : i < length os = subst (λ n. i < n) (sym (length-map xs short_object_of)) inside in
-      let is : o ≡ get_or os i o = viewed short_object_of xs i x inside c.index-objects-file.is in
+      let is : o ≡ get_or os i o = get_or_viewed short_object_of xs i x inside c.index-objects-file.is in
       file_more os c.args.placement.now i o (map global_of c.loop-file.globals.items) (map global_of c.put_globals.new.globals.items) _ inside' is (c.loop-file.invariant.shown start h stands)
-      (c.in_ok-put_globals.ensures.added start h stands (there short_object_of xs i x inside c.index-objects-file.is));
+      (c.in_ok-put_globals.ensures.added start h stands (get_map_read short_object_of xs i x inside c.index-objects-file.is));
 }
 
 pub returns-clause-known : goal.returns-clause-known

@@ -1,4 +1,5 @@
 use Rattle.std.proofs.Common.{◌≡◌, ◌∙◌, None, option_map, map, ap, sym}
+use Rattle.rv_list_laws.proofs.OptionsLemmas.{option_map_none}
 use Rattle.rv_link_laws.specs.Names.{chosen, can_begin}
 use Rattle.rv_shorten.specs.View.{short_object_of}
 use Rattle.rv_resolve.specs.declared.names.Meant.{Meant}
@@ -6,7 +7,6 @@ use Rattle.rv_link_laws.specs.Entry.{is_entry}
 use Rattle.rv_resolve.specs.Names.{meant_of}
 use Rattle.rv_link_laws.proofs.EntryLemmas.{start_name}
 use Rattle.rv_resolve.proofs.MeantLemmas.{kept_held}
-use Rattle.rv_resolve.proofs.TableLemmas.{still_none}
 use Rattle.rv_resolve.proofs.names.Names.has_entry.Goals as goal
 
 pub returns-in-Some : goal.returns-in-Some
@@ -20,4 +20,4 @@ pub returns-in-None : goal.returns-in-None
 returns-in-None c = λ h.
     let os = map short_object_of c.args.objects.now in
     let found : option_map meant_of (chosen os start_name) ≡ None = sym (c.start.ensures h) ∙ c.in-None.is in
-    sym (ap is_entry (still_none meant_of (chosen os start_name) found))
+    sym (ap is_entry (option_map_none meant_of (chosen os start_name) found))

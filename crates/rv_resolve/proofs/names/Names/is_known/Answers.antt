@@ -1,5 +1,6 @@
 use Rattle.std.proofs.Common.{◌≡◌, None, map, option_map, ap, sym, ◌∙◌}
 use Rattle.std.specs.Prelude.{◌||◌}
+use Rattle.rv_list_laws.proofs.OptionsLemmas.{option_map_none}
 use Rattle.rv_map_laws.specs.Globals.{is_one_of}
 use Rattle.rv_object_types.specs.Parts.{symbol_of}
 use Rattle.rv_object_laws.specs.Bindings.{is_weak}
@@ -9,7 +10,6 @@ use Rattle.rv_resolve.specs.declared.names.Meant.{Meant}
 use Rattle.rv_resolve.specs.Names.{meant_of}
 use Rattle.rv_link_laws.specs.Undefined.{has_address, is_known, linker_names}
 use Rattle.rv_resolve.proofs.MeantLemmas.{kept_held}
-use Rattle.rv_resolve.proofs.TableLemmas.{still_none}
 use Rattle.rv_resolve.proofs.names.Names.is_known.Goals as goal
 
 pub returns-in-Some : goal.returns-in-Some
@@ -25,5 +25,5 @@ returns-in-None c = λ o s h at there unsure named bound.
     let found : option_map meant_of (chosen os s.name) ≡ None = sym (c.meant_outside.ensures o s h at there unsure) ∙ c.in-None.is in
     c.is_given.ensures
     ∙ sym
-    (ap (is_known s) (still_none meant_of (chosen os s.name) found) ∙ ap (λ n. is_one_of linker_names n || is_weak s.binding) named
+    (ap (is_known s) (option_map_none meant_of (chosen os s.name) found) ∙ ap (λ n. is_one_of linker_names n || is_weak s.binding) named
     ∙ ap (λ b. is_one_of linker_names own.name || is_weak b) bound)

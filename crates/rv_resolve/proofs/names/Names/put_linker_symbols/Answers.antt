@@ -1,10 +1,10 @@
 use Rattle.std.proofs.Common.{◌∷◌, ◌++◌, ◌∙◌, [], Bool, is_some, ap, map, ◌+◌}
 use Rattle.std.specs.Prelude.{not, codes, filter}
+use Rattle.rv_list_laws.proofs.FilterLemmas.{filtered_more}
 use Rattle.rv_map_laws.specs.Map.{Global}
 use Rattle.rv_map.specs.Views.{global_of}
 use Rattle.rv_map_laws.specs.Globals.{global}
 use Rattle.rv_link_laws.specs.Names.{chosen}
-use Rattle.rv_resolve.proofs.AddingLemmas.{filtered_more}
 use Rattle.rv_resolve.proofs.names.Names.put_linker_symbols.Goals as goal
 
 pub returns-clause-known : goal.returns-clause-known

@@ -1,5 +1,6 @@
 use Rattle.std.proofs.Common.{◌≡◌, ◌<◌, ◌≤◌, ◌∙◌, None, length, map, option_map, rules, ap, sym, subst}
 use Rattle.std.proofs.lemmas.List.{at_drop_all}
+use Rattle.rv_list_laws.proofs.MapLemmas.{get_map_read}
 use Rattle.rv_object_laws.specs.Object.{Object}
 use Rattle.rv_link_laws.specs.Names.{outer_address}
 use Rattle.rv_shorten.specs.View.{short_object_of}
@@ -8,7 +9,6 @@ use Rattle.rv_link_laws.specs.Undefined.{first_some, undefined_in, first_undefin
 use Rattle.rv_resolve.specs.Resolved.{AreResolved}
 use Rattle.rv_link_laws.proofs.FirstSomeLemmas.{none_here, one_here}
 use Rattle.rv_resolve.proofs.ResolvedLemmas.{all_resolved}
-use Rattle.rv_link_laws.proofs.StepsLemmas.{there}
 use Rattle.rv_resolve.proofs.names.Names.undefined.Goals as goal
 
 pub loop-file-preserved : goal.loop-file-preserved
@@ -19,7 +19,7 @@ loop-file-preserved c = λ h.
     let is = c.index-objects-file.is in
     let inside : i < length xs = search rules in
     none_here (λ (o : Object). first_some (undefined_in (map short_object_of xs) o) o.sections) short_object_of xs i x inside is
-    (sym (c.undefined_in.ensures h (there short_object_of xs i x inside is)) ∙ ap (option_map name_bytes) c.in-None.is)
+    (sym (c.undefined_in.ensures h (get_map_read short_object_of xs i x inside is)) ∙ ap (option_map name_bytes) c.in-None.is)
     ∙ c.loop-file.invariant h
 
 pub returns-in-Some-clause-first : goal.returns-in-Some-clause-first
@@ -30,7 +30,7 @@ returns-in-Some-clause-first c = λ h.
     let is = c.index-objects-file.is in
     let inside : i < length xs = search rules in
     one_here (λ (o : Object). first_some (undefined_in (map short_object_of xs) o) o.sections) short_object_of xs i x _ inside is
-    (sym (c.undefined_in.ensures h (there short_object_of xs i x inside is)) ∙ ap (option_map name_bytes) c.in-Some.is)
+    (sym (c.undefined_in.ensures h (get_map_read short_object_of xs i x inside is)) ∙ ap (option_map name_bytes) c.in-Some.is)
     ∙ c.loop-file.invariant h
 
 pub returns-clause-resolved : goal.returns-clause-resolved

@@ -2,7 +2,8 @@ use Rattle.std.proofs.Common.{arith}
 use Rattle.std.proofs.lemmas.List.{length-append}
 use Rattle.rv_shorten.specs.Bytes.{left_bytes, run_bytes}
 use Rattle.rv_isa_laws.specs.Bytes.{little_endian}
-use Rattle.rv_shorten.proofs.RunningLemmas.{length_little, run_taken}
+use Rattle.rv_isa_laws.proofs.BytesLemmas.{little_long}
+use Rattle.rv_shorten.proofs.RunningLemmas.{run_taken}
 use Rattle.rv_shorten.proofs.bytes.LeftBytes.take.Goals as goal
 
 pub returns-clause-parts : goal.returns-clause-parts
@@ -15,4 +16,4 @@ returns-clause-parts c =
 pub returns-clause-len : goal.returns-clause-len
 unfolding run_bytes
 returns-clause-len c =
-    omega (arith, length-append (little_endian c.args.of_call c.args.self.now.word) c.split_at.result.0.now, length_little c.args.of_call c.args.self.now.word, c.split_at.ensures.front_len)
+    omega (arith, length-append (little_endian c.args.of_call c.args.self.now.word) c.split_at.result.0.now, little_long c.args.of_call c.args.self.now.word, c.split_at.ensures.front_len)

@@ -1,6 +1,7 @@
 use Rattle.std.proofs.Common.{◌≡◌, ◌+◌, ◌<◌, ◌≤◌, ap, sym, subst, ◌∙◌, length, get_or, arith, Some, None}
 use Rattle.std.specs.Prelude.{slice_get, slice_index_or}
 use Rattle.std.proofs.lemmas.List.{drop_all}
+use Rattle.rv_list_laws.proofs.TakeDropLemmas.{drop_next}
 use Rattle.rv_fault.specs.SourceFault.{source_fault_number}
 use Rattle.rv_statement.specs.Statements.{statements_of}
 use Rattle.rv_statement.specs.View.{statement_of}
@@ -8,7 +9,6 @@ use Rattle.rv_unit_laws.specs.Faults as faults
 use Rattle.rv_unit_laws.specs.Tables as laws
 use Rattle.rv_unit_laws.proofs.FewLemmas.{first_of_few}
 use Rattle.rv_unit_tables.specs.declared.section_offset.SectionOffset.{SectionOffset}
-use Rattle.rv_unit_tables.proofs.AtLemmas.{drop_listed}
 use Rattle.rv_unit.specs.Unit.{said, passed, IsStatementOf}
 use Rattle.rv_unit.proofs.StandingLemmas.{is_at, places_count, depth_next}
 use Rattle.rv_unit.proofs.CheckedLemmas.{check_more, check_found, check_lowest}
@@ -43,7 +43,7 @@ returns-in-Some c =
     let first : IsStatementOf u i (i + 1) p x.kind = is_at u i x p (record { section = 0; offset = 0 }) u.filled listed (ap (λ l. get_or l i (record { section = 0; offset = 0 })) c.places-places.ensures) in
     let at : IsStatementOf u i c.ordinal_of.result p x.kind = subst (λ o. IsStatementOf u i o p x.kind) (sym c.ordinal_of.ensures) first in
     let found = c.fault.ensures i at c.loop-index.invariant.0 in
-    sym (check_found ss i (source_fault_number c.in-Some.code) x (drop_listed ss i x listed) (check_lowest ss i x c.fault.result (Some c.in-Some.code) found c.in-Some.is))
+    sym (check_found ss i (source_fault_number c.in-Some.code) x (drop_next ss i x listed) (check_lowest ss i x c.fault.result (Some c.in-Some.code) found c.in-Some.is))
     ∙ c.loop-index.invariant.2 ∙ sym (first_of_few ss u.few)
 
 pub loop-index-preserved : goal.loop-index-preserved
@@ -61,7 +61,7 @@ loop-index-preserved c =
     let below = c.loop-index.invariant.1 in (
       depth_next u i (i + 1) p x.kind c.loop-index.depth c.depth_after-depth.result first c.loop-index.invariant.0 c.depth_after-depth.ensures.depth,
       omega (arith, below, c.depth_after-depth.ensures.bound),
-      sym (check_more ss i x (drop_listed ss i x listed) low at.more) ∙ c.loop-index.invariant.2,
+      sym (check_more ss i x (drop_next ss i x listed) low at.more) ∙ c.loop-index.invariant.2,
     )
 
 pub returns : goal.returns

@@ -1,5 +1,5 @@
 use Rattle.std.proofs.Common.{◌≡◌, ◌==◌, ◌∙◌, ap, arith, length, vec_len}
-use Rattle.rv_unit.proofs.PlacesLemmas.{no_items}
+use Rattle.rv_list_laws.proofs.ElementsLemmas.{no_items}
 use Rattle.rv_unit.proofs.unit.Unit.sets_none.Goals as goal
 
 pub returns : goal.returns

@@ -8,17 +8,18 @@ use Rattle.indexmap.specs.IndexMap.{insert_entry}
 use Rattle.indexmap.proofs.CallerLemmas.{insert_entry-new}
 use Rattle.rv_unit_laws.specs.Tables.{label_of, assigned_ever}
 use Rattle.rv_unit_tables.specs.Tables.{tables_of, labelled_of, label_at, assignment_of}
-use Rattle.rv_unit_tables.proofs.LookupsLemmas.{with_label_old, with_label_new, label_found, same_name, put_back, set_defined, found_mapped}
+use Rattle.rv_unit_tables.proofs.LookupsLemmas.{with_label_old, with_label_new, label_found, same_name, put_back}
 use Rattle.rv_unit_tables.proofs.tables.Tables.add_label.Goals as goal
-use Rattle.std.proofs.lemmas.Bool.{or_left, or_from}
+use Rattle.std.proofs.lemmas.Bool.{or_left, or_from, or_right}
+use Rattle.rv_list_laws.proofs.OptionsLemmas.{is_some_map_back}
 
 pub returns-then-is_some-clause-tables : goal.returns-then-is_some-clause-tables
 returns-then-is_some-clause-tables c = λ i h.
     let t = tables_of c.args.self.now in
     let is : is_some c.assignment.result ≡ true = search rules in
     with_label_old t c.args.ordinal c.args.name.now h
-    (set_defined (is_some (label_of t.labels true 0 c.args.name.now)) (is_some (assigned_ever t.assignments c.args.name.now))
-    (ap is_some (sym (c.assignment.ensures i)) ∙ sym (found_mapped assignment_of c.assignment.result) ∙ is))
+    (or_right (is_some (label_of t.labels true 0 c.args.name.now)) (is_some (assigned_ever t.assignments c.args.name.now))
+    (ap is_some (sym (c.assignment.ensures i)) ∙ sym (is_some_map_back assignment_of c.assignment.result) ∙ is))
 
 pub returns-in-Some-clause-tables : goal.returns-in-Some-clause-tables
 returns-in-Some-clause-tables c = λ i h.
@@ -43,7 +44,7 @@ returns-clause-tables c = λ i h.
     let free : (is_some (label_of t.labels true 0 name) || is_some (assigned_ever t.assignments name)) ≡ false =
     or_from (is_some (label_of t.labels true 0 name)) (is_some (assigned_ever t.assignments name))
     (ap is_some (sym (label_found name es) ∙ ap (option_map (label_at name)) none))
-    (ap is_some (sym (c.assignment.ensures i)) ∙ sym (found_mapped assignment_of c.assignment.result) ∙ unset) in
+    (ap is_some (sym (c.assignment.ensures i)) ∙ sym (is_some_map_back assignment_of c.assignment.result) ∙ unset) in
     with_label_new t c.args.ordinal name (map labelled_of c.insert.new.self.entries) h free
     (ap (map labelled_of) (c.in_ok-before.ensures.entries ∙ insert_entry-new (λ (a b : Bor (List ℕ)). bytes_eq a.now b.now) c.args.self.now.labels c.args.name (record { ordinal = c.args.ordinal; place = c.here-place.result }) none)
     ∙ map-append labelled_of es ((c.args.name, record { ordinal = c.args.ordinal; place = c.here-place.result }) ∷ [])

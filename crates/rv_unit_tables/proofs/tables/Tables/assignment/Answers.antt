@@ -2,9 +2,10 @@ use Rattle.std.proofs.Common.{◌∙◌, ◌-◌, ap, sym, [], length, filter, o
 use Rattle.std.specs.Prelude.{slice_get}
 use Rattle.std.specs.Option.{option_map_or, option_copied}
 use Rattle.std.specs.Str.{bytes_eq}
+use Rattle.rv_list_laws.proofs.FindLemmas.{last_found}
 use Rattle.rv_unit_tables.specs.declared.tables.Assignment.{Assignment}
 use Rattle.rv_unit_tables.specs.Tables.{assignment_of}
-use Rattle.rv_unit_tables.proofs.OrderedLemmas.{last_found, assigned_at}
+use Rattle.rv_unit_tables.proofs.OrderedLemmas.{assigned_at}
 use Rattle.rv_unit_tables.proofs.tables.Tables.assignment.Goals as goal
 
 pub returns-in-Some : goal.returns-in-Some

@@ -3,9 +3,10 @@ use Rattle.std.specs.List.{find}
 use Rattle.std.specs.Prelude.{reverse}
 use Rattle.std.specs.Option.{option_map_or, option_copied}
 use Rattle.std.specs.Str.{bytes_eq}
+use Rattle.rv_list_laws.proofs.FindLemmas.{before_found}
 use Rattle.rv_unit_tables.specs.declared.tables.Assignment.{Assignment}
 use Rattle.rv_unit_tables.specs.Tables.{assignment_of}
-use Rattle.rv_unit_tables.proofs.OrderedLemmas.{in_order, before_found, assigned_at}
+use Rattle.rv_unit_tables.proofs.OrderedLemmas.{in_order, assigned_at}
 use Rattle.rv_unit_tables.proofs.tables.Tables.assignment_before.Goals as goal
 
 pub returns-in-Some : goal.returns-in-Some

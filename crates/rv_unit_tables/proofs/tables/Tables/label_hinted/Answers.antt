@@ -2,7 +2,7 @@ use Rattle.std.proofs.Common.{rules, ◌≡◌, ◌∙◌, List, ℕ, Some, true
 use Rattle.std.specs.Borrow.{Bor}
 use Rattle.std.specs.Map.{lookup}
 use Rattle.std.specs.Str.{bytes_eq}
-use Rattle.rv_unit_laws.proofs.FoundLemmas.{same_bytes}
+use Rattle.rv_list_laws.proofs.ElementsLemmas.{same_bytes}
 use Rattle.rv_unit_tables.specs.Tables.{label_at}
 use Rattle.rv_unit_tables.proofs.LookupsLemmas.{label_found}
 use Rattle.rv_unit_tables.proofs.tables.Tables.label_hinted.Goals as goal

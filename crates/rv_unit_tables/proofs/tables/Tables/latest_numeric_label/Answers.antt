@@ -1,10 +1,11 @@
 use Rattle.std.proofs.Common.{◌∙◌, ◌-◌, ◌==◌, ap, [], length, option_map}
 use Rattle.std.specs.Prelude.{slice_get, unwrap_or}
 use Rattle.std.specs.Option.{option_copied}
+use Rattle.rv_list_laws.proofs.FindLemmas.{latest_kept}
 use Rattle.rv_text_laws.specs.Bytes.{digits_value}
 use Rattle.rv_unit_laws.specs.Tables as laws
 use Rattle.rv_unit_tables.specs.Tables.{numbered_at, numeric_label_at, numeric_labels_in}
-use Rattle.rv_unit_tables.proofs.NumberedLemmas.{latest_kept, numbered_with}
+use Rattle.rv_unit_tables.proofs.NumberedLemmas.{numbered_with}
 use Rattle.rv_unit_tables.proofs.tables.Tables.latest_numeric_label.Goals as goal
 
 pub returns-in-Some : goal.returns-in-Some

@@ -3,11 +3,12 @@ use Rattle.std.specs.List.{find}
 use Rattle.std.specs.List.Sorted.{IsNonDecreasingBy}
 use Rattle.std.specs.Prelude.{unwrap_or}
 use Rattle.std.specs.Option.{option_copied}
+use Rattle.rv_list_laws.proofs.FindLemmas.{after_kept}
 use Rattle.rv_text_laws.specs.Bytes.{digits_value}
 use Rattle.rv_unit_laws.specs.Tables as laws
 use Rattle.rv_unit_tables.specs.declared.tables.NumericLabel.{NumericLabel}
 use Rattle.rv_unit_tables.specs.Tables.{numbered_at, numeric_label_at, numeric_labels_in}
-use Rattle.rv_unit_tables.proofs.NumberedLemmas.{after_kept, kept_rise, numbered_with}
+use Rattle.rv_unit_tables.proofs.NumberedLemmas.{kept_rise, numbered_with}
 use Rattle.rv_unit_tables.proofs.tables.Tables.numeric_label_after.Goals as goal
 
 pub returns-in-Some : goal.returns-in-Some

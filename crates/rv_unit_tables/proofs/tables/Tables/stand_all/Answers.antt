@@ -1,11 +1,11 @@
 use Rattle.std.proofs.Common.{◌≡◌, ◌+◌, ◌∙◌, ap, map, drop, [], ◌∷◌}
 use Rattle.std.proofs.lemmas.List.{map-append}
+use Rattle.rv_list_laws.proofs.TakeDropLemmas.{drop_next}
 use Rattle.rv_statement.specs.Statements.{statements_of}
 use Rattle.rv_statement.specs.View.{statement_of}
 use Rattle.rv_unit_tables.specs.Options.{options_of}
 use Rattle.rv_unit_tables.specs.Sections.{offset_of}
 use Rattle.rv_unit_tables.specs.Tables.{tables_of}
-use Rattle.rv_unit_tables.proofs.AtLemmas.{drop_listed}
 use Rattle.rv_unit_tables.proofs.FillingLemmas.{fills_more, options_more}
 use Rattle.rv_unit_tables.proofs.tables.Tables.stand_all.Goals as goal
 
@@ -14,7 +14,7 @@ loop-index-preserved c =
     let i = c.loop-index.index in
     let ss = statements_of c.args.statements.now in
     let x = statement_of c.read-statement.result.now in
-    let next : drop i ss ≡ x ∷ drop (i + 1) ss = drop_listed ss i x c.read-statement.ensures in (
+    let next : drop i ss ≡ x ∷ drop (i + 1) ss = drop_next ss i x c.read-statement.ensures in (
       (λ start indexed.
           let f = c.loop-index.invariant.0 start indexed in
           let good = c.loop-index.invariant.1 start indexed in

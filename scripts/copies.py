@@ -16,7 +16,7 @@ from collections import defaultdict
 from pathlib import Path
 
 TOP = Path(__file__).resolve().parent.parent
-MOST_COPIES = 20
+MOST_COPIES = 8
 LIBRARY_OF_LISTS = "rv_list_laws"
 NO_LEMMAS = ("Lib.antt", "Answers.antt", "Invariants.antt")
 USE = re.compile(r"^(?:(?:unfoldable |pub )*)use ([\w.]+?)(?:\.\{([^}]*)\})?(?: as (\S+))?\s*$", re.M)

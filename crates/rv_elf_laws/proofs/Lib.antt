@@ -1,0 +1,2 @@
+pub mod RecordsLemmas
+pub mod SectionsLemmas
