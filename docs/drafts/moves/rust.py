@@ -267,10 +267,7 @@ def finish(top):
             if made.returncode: print(f"warning: rt fmt of {c}: {(made.stdout + made.stderr).strip()[-300:]}")
     page = subprocess.run([sys.executable, "scripts/trusted.py", "--page"], cwd=top, check=True, capture_output=True, text=True).stdout
     (top / "docs/DEFINITIONS.md").write_text(page, encoding="utf-8")
-    before = len((top / "scripts/storeys.txt").read_text().splitlines()), sum(int(l.split()[2]) for l in (top / "scripts/storeys.txt").read_text().splitlines())
-    subprocess.run([sys.executable, "scripts/storeys.py", "--write"], cwd=top, capture_output=True)
-    lines = (top / "scripts/storeys.txt").read_text().splitlines()
-    print(f"storeys: {before[1]} lines of {before[0]} pairs, now {sum(int(l.split()[2]) for l in lines)} of {len(lines)}")
+    print(subprocess.run([sys.executable, "scripts/storeys.py"], cwd=top, capture_output=True, text=True).stdout)
 
 
 def names_of_code(m, crate, gone=()):
