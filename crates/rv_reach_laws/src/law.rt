@@ -3,7 +3,7 @@
 ghost use Rattle.rv_reach_laws.specs.Reach.{ShortBranchesReach, ShortCallsReach};
 
 /// Whatever paddings regrow, the field of each call of which relaxation leaves `jal` or `c.j` takes its value: in any
-/// objects, whoever made them, with all their sections or without some of them.
+/// objects that keep what every object keeps, whoever made them, with all their sections or without some of them.
 pub fn short_calls_reach()
     ensures { ShortCallsReach }
 {}
