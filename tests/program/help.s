@@ -101,20 +101,37 @@ Arguments:
   <FILE>...  An executable, or sources that are built together; - is standard input
 
 Options:
-      --limit <N>  The most instructions to execute, as 500k or 10M [default: RV_LIMIT, else 1000G]
-      --report     Says how the run ended, and shows the registers and the latest instructions
-      --map <F>    The map of an executable, for its symbols and lines
-      --explain    Shows below a fault where it stands and why, as on a terminal
-  -h, --help       Print help
+      --limit <N>       The most instructions to execute, as 500k or 10M [default: RV_LIMIT, else 1000G]
+      --report          Says how the run ended, and shows the registers and the latest instructions
+      --json            Writes JSON, an object a line
+      --state <FILE>    Writes as JSON how the run ended: registers, count, digests of memory and console
+      --map <F>         The map of an executable, for its symbols and lines
+      --explain         Shows below a fault where it stands and why, as on a terminal
+      --until <SYMBOL>  Ends the run before the instruction of a symbol, or of an address as 0x10008
+      --stderr          Writes what the guest writes to descriptor 2 to standard error
+  -h, --help            Print help
 
 Examples:
   rv run prog.s
   rv run driver.s answer.s
   rv run --limit 10M prog < input
   rv run --report --map prog.map prog
+  rv run --state prog.json --until f prog.s
   rv run - < prog.s
 
 Standard input is the guest's input, and its console is standard output.
+
+The object of --state has end, status of an exit, address of the end, pc, registers, instructions
+executed, and memory and console, both SHA-256 in hexadecimal. That of the console is of all that
+the guest wrote; that of memory of each page of 4096 bytes that is not all zeros, by address: its
+address in 8 bytes, the lowest first, and its bytes. No file is written where no guest ran.
+
+That of --report --json has end, status, address, access (kind, bytes), at, registers, segments
+(start, end, rights) and latest; an instruction there has address, symbol, distance, file, line and
+instruction. It stands on standard error, without 'rv: END'.
+
+Of a run that --until ends, the end is Reached, and the exit status 0. A number above 2^53 is a
+text of its digits, and what is not known is null.
 #--- trace.txt
 Runs a program and shows each instruction
 
@@ -124,20 +141,29 @@ Arguments:
   <FILE>...  An executable, or sources that are built together; - is standard input
 
 Options:
-      --from <N>   The number of the first instruction that is shown [default: 1]
-      --count <N>  How many instructions are shown; the run ends after them
-  -o <FILE>        Writes the lines to a file instead of standard error
-      --map <F>    The map of an executable, for its symbols and lines
-      --limit <N>  The most instructions to execute, as 500k or 10M [default: RV_LIMIT, else 1000G]
-  -h, --help       Print help
+      --from <N>        The number of the first instruction that is shown [default: 1]
+      --count <N>       How many instructions are shown; the run ends after them
+  -o <FILE>             Writes the lines to a file instead of standard error
+      --plain           Leaves out numbers, addresses and names of files, so that two traces can be compared
+      --map <F>         The map of an executable, for its symbols and lines
+      --limit <N>       The most instructions to execute, as 500k or 10M [default: RV_LIMIT, else 1000G]
+      --until <SYMBOL>  Ends the run before the instruction of a symbol, or of an address as 0x10008
+      --stderr          Writes what the guest writes to descriptor 2 to standard error
+  -h, --help            Print help
 
 Examples:
   rv trace prog.s
   rv trace --from 1000 --count 20 prog.s
   rv trace -o prog.trace --map prog.map prog
+  rv trace --plain --until f prog.s
 
 A line has the instruction's number, address, symbol, bytes and text, what it wrote, where it
-loaded or stored, and at the first instruction of a line of the source that line.
+loaded or stored, or the bytes of input that a call took, and at the first instruction of a line of
+the source that line.
+
+With --plain it has the symbol, the mnemonic with its registers, and the rest; an address of the
+program is a symbol, with the distance in data, or stack less the distance from its end, and the
+value of lui and auipc is 'part'. So a program at another address has the same lines.
 #--- stats.txt
 Runs a program and counts what it executes
 
@@ -147,11 +173,14 @@ Arguments:
   <FILE>...  An executable, or sources that are built together; - is standard input
 
 Options:
-      --lines        Shows how often each line was executed
-      --lcov <FILE>  Writes how often each line was executed as lcov does
-      --map <F>      The map of an executable, for its symbols and lines
-      --limit <N>    The most instructions to execute, as 500k or 10M [default: RV_LIMIT, else 1000G]
-  -h, --help         Print help
+      --lines           Shows how often each line was executed
+      --lcov <FILE>     Writes how often each line was executed as lcov does
+      --json            Writes JSON, an object a line
+      --map <F>         The map of an executable, for its symbols and lines
+      --limit <N>       The most instructions to execute, as 500k or 10M [default: RV_LIMIT, else 1000G]
+      --until <SYMBOL>  Ends the run before the instruction of a symbol, or of an address as 0x10008
+      --stderr          Writes what the guest writes to descriptor 2 to standard error
+  -h, --help            Print help
 
 Examples:
   rv stats prog.s
@@ -159,6 +188,10 @@ Examples:
   rv stats --lcov prog.info prog.s
 
 The counts stand on standard error, and genhtml draws the file that --lcov names.
+
+The object of --json has instructions, compressed, loads, bytes_read, stores, bytes_written,
+branches_taken, branches_not_taken, deepest_stack, kinds, mnemonics, calls (address, symbol,
+distance, count), end, status of an exit, and with --lines lines (file, line, count).
 #--- build.txt
 Builds an executable from sources
 
@@ -271,18 +304,20 @@ Example:
 #--- size.txt
 Prints the sizes of files: code and constants, variables, zeros
 
-Usage: rv size <FILE>...
+Usage: rv size [OPTIONS] <FILE>...
 
 Arguments:
   <FILE>...  Objects and executables
 
 Options:
+      --json  Writes JSON, an object a line
   -h, --help  Print help
 
 Example:
   rv size prog.o other.o prog
 
 Several files have a line of their total.
+The objects of --json have file, text, data and bss, and no total.
 #--- nm.txt
 Prints the names of a file and where they stand
 
@@ -293,11 +328,14 @@ Arguments:
 
 Options:
       --map <F>  The map of the executable, which has its names
+      --json     Writes JSON, an object a line
   -h, --help     Print help
 
 Examples:
   rv nm prog.o
   rv nm --map prog.map prog
+
+The objects of --json have name, letter, and value or null.
 #--- elf.txt
 Prints the header, sections, segments, relocations and symbols of a file
 
@@ -344,6 +382,7 @@ Arguments:
 
 Options:
       --format <FORMAT>  gcc: lines as compilers write them, for editors; json: an object a line
+      --json             Writes JSON, an object a line
       --text-start <N>   The address of the text, decimal or 0x and hexadecimal [default: 0x10000]
       --no-relax         Leaves every call its eight bytes
       --gc-sections      Leaves out sections to which nothing leads from the entry

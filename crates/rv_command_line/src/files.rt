@@ -3,7 +3,7 @@
 use crate::numbers::{number, text_start};
 use crate::operands::{Flag, Operands, Refusal, Text, Texts};
 use crate::words::Help;
-use rv_job::{AskedCode, AskedImage, ImageFormat, Job, TextFormat};
+use rv_job::{AskedCode, AskedImage, ImageFormat, Job, OutputFormat, TextFormat};
 
 pub(crate) const OBJDUMP: Help = Help {
     name: "objdump",
@@ -72,12 +72,14 @@ pub(crate) const SIZE: Help = Help {
     after_help: "Example:
   rv size prog.o other.o prog
 
-Several files have a line of their total.",
+Several files have a line of their total.
+The objects of --json have file, text, data and bss, and no total.",
 };
 
 pub(crate) fn size<'a>(operands: &mut Operands<'_, 'a>) -> Result<Job<'a>, Refusal> {
     let files = Texts::alone("FILE", "Objects and executables");
     Ok(Job::Size {
+        format: output_format(operands, json())?,
         files: operands.all(files)?,
     })
 }
@@ -87,12 +89,15 @@ pub(crate) const NAMES: Help = Help {
     about: "Prints the names of a file and where they stand",
     after_help: "Examples:
   rv nm prog.o
-  rv nm --map prog.map prog",
+  rv nm --map prog.map prog
+
+The objects of --json have name, letter, and value or null.",
 };
 
 pub(crate) fn names<'a>(operands: &mut Operands<'_, 'a>) -> Result<Job<'a>, Refusal> {
     Ok(Job::Names {
         map: operands.optional(map_with_names())?,
+        format: output_format(operands, json())?,
         file: operands.required(file())?,
     })
 }
@@ -108,6 +113,22 @@ pub(crate) fn elf<'a>(operands: &mut Operands<'_, 'a>) -> Result<Job<'a>, Refusa
     Ok(Job::Elf {
         file: operands.required(Text::alone("FILE", "An object or an executable"))?,
     })
+}
+
+/// That objects of JSON are written.
+pub(crate) fn json() -> Flag {
+    Flag::long("json", "Writes JSON, an object a line")
+}
+
+/// The format that an option asks for.
+pub(crate) fn output_format(
+    operands: &mut Operands<'_, '_>,
+    json: Flag,
+) -> Result<OutputFormat, Refusal> {
+    if operands.flag(json)? {
+        return Ok(OutputFormat::Json);
+    }
+    Ok(OutputFormat::Text)
 }
 
 fn executable() -> Text {

@@ -82,8 +82,17 @@ impl Flag {
 
     /// It may be there where this other is not.
     pub(crate) fn against(self, other: Text) -> Flag {
+        self.needed(Need::Against(other.0.id))
+    }
+
+    /// It may be there where this other is.
+    pub(crate) fn beside(self, other: Flag) -> Flag {
+        self.needed(Need::Beside(other.0.id))
+    }
+
+    fn needed(self, need: Need) -> Flag {
         let mut entry = self.0;
-        entry.need = Need::Against(other.0.id);
+        entry.need = need;
         Flag(entry)
     }
 }
@@ -111,11 +120,6 @@ impl Text {
     /// It has to be there unless this other is.
     pub(crate) fn unless(self, other: Flag) -> Text {
         self.needed(Need::Unless(other.0.id))
-    }
-
-    /// It may be there where this other is.
-    pub(crate) fn beside(self, other: Flag) -> Text {
-        self.needed(Need::Beside(other.0.id))
     }
 
     fn needed(self, need: Need) -> Text {

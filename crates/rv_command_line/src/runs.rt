@@ -1,10 +1,11 @@
 //! The words that run a guest.
 
 use crate::builds::explain;
-use crate::numbers::{amount, count, decimal, number};
+use crate::files::{json, output_format};
+use crate::numbers::{amount, count, decimal, number, text_start};
 use crate::operands::{Flag, Operands, Refusal, Text, Texts};
 use crate::words::Help;
-use rv_job::{Asked, Coverage, Job, Shown};
+use rv_job::{Asked, Coverage, Job, Results, Shown, Until};
 use std::alloc::Global;
 
 /// The most instructions that are executed unless the words or the environment say otherwise.
@@ -18,25 +19,53 @@ pub(crate) const RUN: Help = Help {
   rv run driver.s answer.s
   rv run --limit 10M prog < input
   rv run --report --map prog.map prog
+  rv run --state prog.json --until f prog.s
   rv run - < prog.s
 
-Standard input is the guest's input, and its console is standard output.",
+Standard input is the guest's input, and its console is standard output.
+
+The object of --state has end, status of an exit, address of the end, pc, registers, instructions
+executed, and memory and console, both SHA-256 in hexadecimal. That of the console is of all that
+the guest wrote; that of memory of each page of 4096 bytes that is not all zeros, by address: its
+address in 8 bytes, the lowest first, and its bytes. No file is written where no guest ran.
+
+That of --report --json has end, status, address, access (kind, bytes), at, registers, segments
+(start, end, rights) and latest; an instruction there has address, symbol, distance, file, line and
+instruction. It stands on standard error, without 'rv: END'.
+
+Of a run that --until ends, the end is Reached, and the exit status 0. A number above 2^53 is a
+text of its digits, and what is not known is null.",
 };
 
 pub(crate) fn run<'a>(operands: &mut Operands<'_, 'a>) -> Result<Job<'a>, Refusal> {
     let limit = limit(operands)?;
+    let results = results(operands)?;
+    let map = operands.optional(map())?;
+    let explains = operands.flag(explain())?;
+    let asked = asked(operands, map, limit, explains)?;
+    let is_placed = results.report.is_some() || asked.until.is_some();
+    if asked.map.is_some() && !is_placed {
+        return Err(Refusal::Wanted("--map goes with --report or --until"));
+    }
+    if is_placed || results.state.is_some() || asked.parts_errors {
+        return Ok(Job::Watch(asked, results));
+    }
+    Ok(Job::Run(asked))
+}
+
+/// What is told of a run once it has ended.
+fn results<'a>(operands: &mut Operands<'_, 'a>) -> Result<Results<'a>, Refusal> {
     let reports = Flag::long(
         "report",
         "Says how the run ended, and shows the registers and the latest instructions",
     );
     let is_report = operands.flag(reports)?;
-    let map = operands.optional(map().beside(reports))?;
-    let explains = operands.flag(explain())?;
-    let asked = asked(operands, map, limit, explains)?;
-    if is_report {
-        return Ok(Job::Report(asked));
-    }
-    Ok(Job::Run(asked))
+    let format = output_format(operands, json().beside(reports))?;
+    let state = "Writes as JSON how the run ended: registers, count, digests of memory and console";
+    Ok(Results {
+        report: is_report.then_some(format),
+        state: operands.optional(Text::long("state", "FILE", state))?,
+    })
 }
 
 /// What is done without words: a source on standard input is run.
@@ -47,6 +76,8 @@ pub(crate) fn default_run<'a>(alloc: Global, given: Option<&str>) -> Result<Job<
         map: None,
         map_first: false,
         limit: default_limit(alloc, given)?,
+        until: None,
+        parts_errors: false,
         explains: false,
     }))
 }
@@ -58,9 +89,15 @@ pub(crate) const TRACE: Help = Help {
   rv trace prog.s
   rv trace --from 1000 --count 20 prog.s
   rv trace -o prog.trace --map prog.map prog
+  rv trace --plain --until f prog.s
 
 A line has the instruction's number, address, symbol, bytes and text, what it wrote, where it
-loaded or stored, and at the first instruction of a line of the source that line.",
+loaded or stored, or the bytes of input that a call took, and at the first instruction of a line of
+the source that line.
+
+With --plain it has the symbol, the mnemonic with its registers, and the rest; an address of the
+program is a symbol, with the distance in data, or stack less the distance from its end, and the
+value of lui and auipc is 'part'. So a program at another address has the same lines.",
 };
 
 pub(crate) fn trace<'a>(operands: &mut Operands<'_, 'a>) -> Result<Job<'a>, Refusal> {
@@ -71,10 +108,13 @@ pub(crate) fn trace<'a>(operands: &mut Operands<'_, 'a>) -> Result<Job<'a>, Refu
         "FILE",
         "Writes the lines to a file instead of standard error",
     );
+    let plain =
+        "Leaves out numbers, addresses and names of files, so that two traces can be compared";
     let shown = Shown {
         first,
         count,
         output: operands.optional(output)?,
+        plain: operands.flag(Flag::long("plain", plain))?,
     };
     Ok(Job::Trace(looked_at(operands)?, shown))
 }
@@ -96,7 +136,11 @@ pub(crate) const STATS: Help = Help {
   rv stats --lines prog.s
   rv stats --lcov prog.info prog.s
 
-The counts stand on standard error, and genhtml draws the file that --lcov names.",
+The counts stand on standard error, and genhtml draws the file that --lcov names.
+
+The object of --json has instructions, compressed, loads, bytes_read, stores, bytes_written,
+branches_taken, branches_not_taken, deepest_stack, kinds, mnemonics, calls (address, symbol,
+distance, count), end, status of an exit, and with --lines lines (file, line, count).",
 };
 
 pub(crate) fn stats<'a>(operands: &mut Operands<'_, 'a>) -> Result<Job<'a>, Refusal> {
@@ -109,6 +153,7 @@ pub(crate) fn stats<'a>(operands: &mut Operands<'_, 'a>) -> Result<Job<'a>, Refu
     let coverage = Coverage {
         lines: operands.flag(lines)?,
         lcov: operands.optional(lcov)?,
+        format: output_format(operands, json())?,
     };
     Ok(Job::Stats(looked_at(operands)?, coverage))
 }
@@ -165,6 +210,9 @@ fn asked<'a>(
     limit: u64,
     explains: bool,
 ) -> Result<Asked<'a>, Refusal> {
+    let until = until(operands)?;
+    let apart = "Writes what the guest writes to descriptor 2 to standard error";
+    let parts_errors = operands.flag(Flag::long("stderr", apart))?;
     let (file, others) = operands.first_and_others(files())?;
     Ok(Asked {
         file,
@@ -172,6 +220,21 @@ fn asked<'a>(
         map: given,
         map_first: operands.is_before_all(map(), files()),
         limit,
+        until,
+        parts_errors,
         explains,
     })
+}
+
+/// Where the run is to end.
+fn until<'a>(operands: &mut Operands<'_, 'a>) -> Result<Option<Until<'a>>, Refusal> {
+    let help = "Ends the run before the instruction of a symbol, or of an address as 0x10008";
+    let Some(text) = operands.optional(Text::long("until", "SYMBOL", help))? else {
+        return Ok(None);
+    };
+    if !text.starts_with("0x") {
+        return Ok(Some(Until::Symbol(text)));
+    }
+    let wanted = "an address is 0x and hexadecimal, below 2^64";
+    Ok(Some(Until::Address(number(text_start(text), wanted)?)))
 }

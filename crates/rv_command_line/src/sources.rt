@@ -1,6 +1,7 @@
 //! The words that say something of sources, of codes, and of the words themselves.
 
 use crate::builds::{link_options, sources};
+use crate::files::json;
 use crate::operands::{Flag, Operands, Refusal, Text};
 use crate::words::Help;
 use rv_fault_texts::explanation;
@@ -18,11 +19,16 @@ Status 0 where the sources can be built, and 1 where they have a fault.",
 
 pub(crate) fn check<'a>(operands: &mut Operands<'_, 'a>) -> Result<Job<'a>, Refusal> {
     let help = "gcc: lines as compilers write them, for editors; json: an object a line";
-    let format = operands.optional(Text::long("format", "FORMAT", help))?;
+    let named = Text::long("format", "FORMAT", help);
+    let format = operands.optional(named)?;
+    let format = match operands.flag(json().against(named))? {
+        true => ReportFormat::Json,
+        false => report_format(format)?,
+    };
     let options = link_options(operands)?;
     Ok(Job::Check {
         options,
-        format: report_format(format)?,
+        format,
         sources: operands.all(sources())?,
     })
 }

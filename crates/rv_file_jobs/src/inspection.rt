@@ -2,6 +2,7 @@
 
 use rv_fault::{Fault, FileFault};
 use rv_inspect::{ElfLines, NameLines, SizeTable};
+use rv_job::OutputFormat;
 use rv_system::{
     JobError, System, check_fit, fault_line, file_bytes, image_in, map_in, print, print_parts,
 };
@@ -9,9 +10,16 @@ use std::alloc::{AllocError, Global};
 
 /// Prints the sizes of files, which are read in their order; the exit status.
 #[inline(never)]
-pub fn sizes<S: System>(system: &mut S, files: &[&str]) -> Result<u8, JobError> {
+pub fn sizes<S: System>(
+    system: &mut S,
+    files: &[&str],
+    format: OutputFormat,
+) -> Result<u8, JobError> {
     let alloc: Global = system.alloc();
-    let mut table = SizeTable::new(alloc)?;
+    let mut table = match format {
+        OutputFormat::Text => SizeTable::new(alloc)?,
+        OutputFormat::Json => SizeTable::of_objects(alloc),
+    };
     for name in files {
         let file = file_bytes(system, name)?;
         match table.add(name, file.as_slice()) {
@@ -26,38 +34,59 @@ pub fn sizes<S: System>(system: &mut S, files: &[&str]) -> Result<u8, JobError> 
 
 /// Prints the names of a file, or those that the map of an executable has; the exit status.
 #[inline(never)]
-pub fn names<S: System>(system: &mut S, map: Option<&str>, name: &str) -> Result<u8, JobError> {
+pub fn names<S: System>(
+    system: &mut S,
+    map: Option<&str>,
+    name: &str,
+    format: OutputFormat,
+) -> Result<u8, JobError> {
     match map {
-        Some(map) => names_by_map(system, map, name),
-        None => names_of_file(system, name),
+        Some(map) => names_by_map(system, map, name, format),
+        None => names_of_file(system, name, format),
     }
 }
 
 /// Prints the names of a file by its symbol table; the exit status.
-fn names_of_file<S: System>(system: &mut S, name: &str) -> Result<u8, JobError> {
+fn names_of_file<S: System>(
+    system: &mut S,
+    name: &str,
+    format: OutputFormat,
+) -> Result<u8, JobError> {
     let alloc: Global = system.alloc();
     let file = file_bytes(system, name)?;
     match NameLines::of_file(alloc, file.as_slice()) {
-        Ok(Some(lines)) => print_names(system, lines),
+        Ok(Some(lines)) => print_names(system, lines, format),
         Ok(None) => Err(JobError::Line(format!(in alloc; "{name}: no symbols")?)),
         Err(fault) => Err(refused(alloc, name, fault)?),
     }
 }
 
 /// Prints the names that the map of an executable has; the exit status.
-fn names_by_map<S: System>(system: &mut S, map_name: &str, name: &str) -> Result<u8, JobError> {
+fn names_by_map<S: System>(
+    system: &mut S,
+    map_name: &str,
+    name: &str,
+    format: OutputFormat,
+) -> Result<u8, JobError> {
     let alloc: Global = system.alloc();
     let text = file_bytes(system, map_name)?;
     let exe = file_bytes(system, name)?;
     let map = map_in(alloc, map_name, text.as_slice())?;
     let image = image_in(alloc, name, exe.as_slice())?;
     check_fit(alloc, map_name, &map, name, &image)?;
-    print_names(system, NameLines::of_map(alloc, &map)?)
+    print_names(system, NameLines::of_map(alloc, &map)?, format)
 }
 
 /// Prints names; the exit status.
-fn print_names<S: System>(system: &mut S, mut lines: NameLines<'_>) -> Result<u8, JobError> {
-    print_parts(system, false, |text| lines.next(text))?;
+fn print_names<S: System>(
+    system: &mut S,
+    mut lines: NameLines<'_>,
+    format: OutputFormat,
+) -> Result<u8, JobError> {
+    match format {
+        OutputFormat::Text => print_parts(system, false, |text| lines.next(text))?,
+        OutputFormat::Json => print_parts(system, false, |text| lines.next_object(text))?,
+    }
     Ok(0)
 }
 

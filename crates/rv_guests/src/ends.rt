@@ -14,11 +14,18 @@ const NOT_EXITED: u8 = 125;
 pub fn report_end<S: System>(system: &mut S, end: &End) -> u8
     ensures { result ≡ run_status end.now }
 {
+    if !matches!(end, End::Exited(_)) {
+        system.tell(end_line(end).as_str());
+    }
+    status_of(end)
+}
+
+/// The exit status of a run.
+pub fn status_of(end: &End) -> u8
+    ensures { result ≡ run_status end.now }
+{
     match end {
         End::Exited(code) => *code,
-        _ => {
-            system.tell(end_line(end).as_str());
-            NOT_EXITED
-        }
+        _ => NOT_EXITED,
     }
 }

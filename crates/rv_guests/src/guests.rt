@@ -12,16 +12,24 @@ pub enum GuestInput {
     Empty,
 }
 
+/// Where what a guest writes goes.
+#[derive(Clone, Copy, PartialEq, Eq)]
+pub enum GuestOutput {
+    Standard,
+    Errors,
+}
+
 /// A system that runs guests, which read and write its standard streams as they ask.
 pub trait Guests: System {
     /// Runs an image, at most `limit` instructions.
     fn run(&mut self, image: Image, input: GuestInput, limit: u64) -> Result<End, RunFault>;
 
-    /// Runs a machine as `run` does, and has a watcher look at each step.
+    /// Runs a machine as `run` does, but for where it writes, and has a watcher look at each step.
     fn watch<T: Watcher<Paged>>(
         &mut self,
         machine: &mut Watched<Paged>,
         input: GuestInput,
+        output: GuestOutput,
         watcher: &mut T,
         limit: u64,
     ) -> Result<End, WatchFault>;

@@ -16,6 +16,6 @@ mod ends;
 mod guests;
 mod messages;
 
-pub use ends::report_end;
-pub use guests::{GuestInput, Guests};
+pub use ends::{report_end, status_of};
+pub use guests::{GuestInput, GuestOutput, Guests};
 pub use messages::{end_line, run_line};

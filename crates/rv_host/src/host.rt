@@ -1,8 +1,8 @@
 //! The files of the disk and the standard streams of the process.
 
-use rv_guests::{GuestInput, Guests};
+use rv_guests::{GuestInput, GuestOutput, Guests};
 use rv_image::Image;
-use rv_machine::{End, Io, RunFault, WatchFault, Watched, Watcher, run_io, run_watched};
+use rv_machine::{End, GuestOut, Io, RunFault, WatchFault, Watched, Watcher, run_io, run_watched};
 use rv_memory::Paged;
 use rv_paint::painted;
 use rv_streams::{ReadFault, read_whole};
@@ -132,19 +132,40 @@ impl Guests for Host<'_> {
         &mut self,
         machine: &mut Watched<Paged>,
         input: GuestInput,
+        output: GuestOutput,
         watcher: &mut T,
         limit: u64,
     ) -> Result<End, WatchFault> {
-        let mut output = Io::new(self.rt.stdout());
-        match input {
-            GuestInput::Standard => {
-                let mut input = Io::new(self.rt.stdin());
-                run_watched(machine, &mut input, &mut output, watcher, limit)
+        match output {
+            GuestOutput::Standard => {
+                let mut output = Io::new(self.rt.stdout());
+                watch_over(self.rt, machine, input, &mut output, watcher, limit)
             }
-            GuestInput::Empty => {
-                let mut input = Io::new(io::empty());
-                run_watched(machine, &mut input, &mut output, watcher, limit)
+            GuestOutput::Errors => {
+                let mut output = Io::new(self.rt.stderr());
+                watch_over(self.rt, machine, input, &mut output, watcher, limit)
             }
+        }
+    }
+}
+
+/// Runs a machine that writes to a stream, and has a watcher look at each step.
+fn watch_over<W: GuestOut, T: Watcher<Paged>>(
+    rt: &HostRuntime,
+    machine: &mut Watched<Paged>,
+    input: GuestInput,
+    output: &mut W,
+    watcher: &mut T,
+    limit: u64,
+) -> Result<End, WatchFault> {
+    match input {
+        GuestInput::Standard => {
+            let mut input = Io::new(rt.stdin());
+            run_watched(machine, &mut input, output, watcher, limit)
+        }
+        GuestInput::Empty => {
+            let mut input = Io::new(io::empty());
+            run_watched(machine, &mut input, output, watcher, limit)
         }
     }
 }

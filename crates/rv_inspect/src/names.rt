@@ -7,8 +7,10 @@ use crate::parts::{bytes_of, count_symbols, section_named, symbol_at, symbol_tab
 use rv_elf::{ElfView, SHN_UNDEF, string_in};
 use rv_elf_laws::Symbol;
 use rv_fault::FileFault;
+use rv_json::{name, number_or_null};
 use rv_map::{Global as MapGlobal, Map};
 use rv_map_laws::Region;
+use serde_json::json;
 use std::alloc::{AllocError, Global};
 
 /// The lower half of `st_info`: the symbol stands for a section (gABI, STT_SECTION).
@@ -63,6 +65,16 @@ impl<'a> NameLines<'a> {
     fn of(mut names: Vec<Named<'a>>) -> Result<Self, AllocError> {
         names.sort_by_key(|named| named.name)?;
         Ok(NameLines { names, added: 0 })
+    }
+
+    /// Adds the next name as an object of JSON in a line; false where none is left.
+    pub fn next_object(&mut self, text: &mut Vec<u8>) -> Result<bool, AllocError> {
+        let Some(named) = self.names.get(self.added) else {
+            return Ok(false);
+        };
+        put_object(text, named)?;
+        self.added = self.added.saturating_add(1);
+        Ok(true)
     }
 
     /// Adds the next line; false where none is left.
@@ -150,6 +162,16 @@ fn is_shown(symbol: &Symbol, name: &[u8]) -> bool {
     let kind = symbol.st_info % 16;
     let is_own = name.starts_with(b".L") || name.starts_with(b"$d") || name.starts_with(b"$x");
     kind != STT_SECTION && kind != STT_FILE && !name.is_empty() && !is_own
+}
+
+/// Adds the object of a name: its letter, and its value or null.
+fn put_object(text: &mut Vec<u8>, named: &Named<'_>) -> Result<(), AllocError> {
+    let alloc = *text.allocator();
+    let shown = name(alloc, named.name)?;
+    let letter = name(alloc, &[named.letter])?;
+    let value = number_or_null(alloc, named.value)?;
+    let object = json!(in alloc; { "name": shown, "letter": letter, "value": value })?;
+    rv_json::put_line(alloc, text, &object)
 }
 
 /// Adds the line of a name.

@@ -6,6 +6,8 @@ use crate::parts::section_at;
 use rv_elf::{ElfView, PF_W, PT_LOAD, SHF_ALLOC, SHF_EXECINSTR, SHF_WRITE, SHT_NOBITS};
 use rv_elf_laws::{ProgramHeader, SectionHeader};
 use rv_fault::FileFault;
+use rv_json::number;
+use serde_json::json;
 use std::alloc::{AllocError, Global};
 
 /// The bytes that a file has in memory, by what they are.
@@ -110,6 +112,8 @@ pub struct SizeTable {
     total: Size,
     several: bool,
     any: bool,
+    /// Whether the lines are objects of JSON.
+    json: bool,
 }
 
 impl SizeTable {
@@ -121,7 +125,19 @@ impl SizeTable {
             total: NOTHING,
             several: false,
             any: false,
+            json: false,
         })
+    }
+
+    /// A table whose lines are objects of JSON: without heading and total.
+    pub fn of_objects(alloc: Global) -> Self {
+        SizeTable {
+            text: Vec::new(alloc),
+            total: NOTHING,
+            several: false,
+            any: false,
+            json: true,
+        }
     }
 
     /// Adds the line of a file, or answers its first fault.
@@ -130,7 +146,11 @@ impl SizeTable {
         self.total = self.total.plus(size);
         self.several = self.any;
         self.any = true;
-        put_line(&mut self.text, &size, name.as_bytes())?;
+        if self.json {
+            put_object(&mut self.text, &size, name)?;
+        } else {
+            put_line(&mut self.text, &size, name.as_bytes())?;
+        }
         Ok(())
     }
 
@@ -140,14 +160,30 @@ impl SizeTable {
             text,
             total,
             several,
+            json,
             ..
         } = self;
         let mut text = text;
-        if several {
+        if several && !json {
             put_line(&mut text, &total, b"(TOTALS)")?;
         }
         Ok(text)
     }
+}
+
+/// Adds the object of a file.
+fn put_object(text: &mut Vec<u8>, size: &Size, name: &str) -> Result<(), AllocError> {
+    let alloc = *text.allocator();
+    let code = number(alloc, size.text)?;
+    let variables = number(alloc, size.data)?;
+    let zeros = number(alloc, size.bss)?;
+    let object = json!(in alloc; {
+        "file": name,
+        "text": code,
+        "data": variables,
+        "bss": zeros
+    })?;
+    rv_json::put_line(alloc, text, &object)
 }
 
 /// Adds a line.

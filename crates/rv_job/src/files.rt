@@ -42,6 +42,15 @@ pub enum TextFormat {
     MemoryText,
 }
 
+/// How a job writes what it tells.
+#[derive(Clone, Copy, Debug, PartialEq, Eq, Drop)]
+pub enum OutputFormat {
+    /// For people.
+    Text,
+    /// Objects of JSON, each in a line.
+    Json,
+}
+
 /// How what is found in sources is written.
 #[derive(Clone, Copy, Debug, PartialEq, Eq, Drop)]
 pub enum ReportFormat {

@@ -1,7 +1,7 @@
 //! What the program can be asked for.
 
-use crate::files::{AskedCode, AskedImage, ReportFormat};
-use crate::runs::{Asked, Coverage, Shown};
+use crate::files::{AskedCode, AskedImage, OutputFormat, ReportFormat};
+use crate::runs::{Asked, Coverage, Results, Shown};
 use rv_link::LinkOptions;
 
 /// What the command line asks for.
@@ -9,8 +9,8 @@ use rv_link::LinkOptions;
 pub enum Job<'a> {
     /// Runs an executable, or sources.
     Run(Asked<'a>),
-    /// Runs, and says how the run ended.
-    Report(Asked<'a>),
+    /// Runs step by step, and tells of the end what is asked.
+    Watch(Asked<'a>, Results<'a>),
     /// Runs, and writes a line for each instruction.
     Trace(Asked<'a>, Shown<'a>),
     /// Runs, and counts what is executed.
@@ -74,11 +74,13 @@ pub enum Job<'a> {
     /// Prints the sizes of files.
     Size {
         files: Vec<&'a str>,
+        format: OutputFormat,
     },
     /// Prints the names of a file, or of the map of an executable.
     Names {
         map: Option<&'a str>,
         file: &'a str,
+        format: OutputFormat,
     },
     /// Prints the headers and tables of a file.
     Elf {

@@ -15,7 +15,7 @@ mod job;
 mod options;
 mod runs;
 
-pub use files::{AskedCode, AskedImage, ImageFormat, ReportFormat, TextFormat};
+pub use files::{AskedCode, AskedImage, ImageFormat, OutputFormat, ReportFormat, TextFormat};
 pub use job::{Job, Shell};
 pub use options::{TEXT_START, default_options};
-pub use runs::{Asked, Coverage, Shown};
+pub use runs::{Asked, Coverage, Results, Shown, Until};

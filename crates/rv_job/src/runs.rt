@@ -1,5 +1,6 @@
 //! What is asked of runs.
 
+use crate::files::OutputFormat;
 use std::alloc::{AllocError, Global};
 
 /// What a run is of, as the words say it.
@@ -15,8 +16,29 @@ pub struct Asked<'a> {
     pub map_first: bool,
     /// The most instructions to execute.
     pub limit: u64,
+    /// Where the run is to end, if it comes there.
+    pub until: Option<Until<'a>>,
+    /// Whether what the guest writes to descriptor 2 goes to standard error.
+    pub parts_errors: bool,
     /// Whether a fault of the source is explained.
     pub explains: bool,
+}
+
+/// The instruction before which a run is to end.
+#[derive(Clone, Copy, Drop)]
+pub enum Until<'a> {
+    /// That of a symbol.
+    Symbol(&'a str),
+    Address(u64),
+}
+
+/// What is told of a run once it has ended.
+#[derive(Clone, Copy, Drop)]
+pub struct Results<'a> {
+    /// The format of the report, where one is asked for.
+    pub report: Option<OutputFormat>,
+    /// The file for the last state.
+    pub state: Option<&'a str>,
 }
 
 impl<'a> Asked<'a> {
@@ -43,6 +65,8 @@ pub struct Shown<'a> {
     pub count: Option<u64>,
     /// The file; standard error where none is named.
     pub output: Option<&'a str>,
+    /// Whether numbers, addresses and names of files are left out.
+    pub plain: bool,
 }
 
 /// What counts are written beside those of all instructions.
@@ -52,4 +76,6 @@ pub struct Coverage<'a> {
     pub lines: bool,
     /// The file for a tracefile of lcov.
     pub lcov: Option<&'a str>,
+    /// How the counts are written.
+    pub format: OutputFormat,
 }

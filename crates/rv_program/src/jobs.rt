@@ -8,16 +8,16 @@ use rv_build_jobs::{assemble, build_files, link_files, load_program, print_map, 
 use rv_command_line::completions;
 use rv_file_jobs::{code, dump, elf, names, objdump, raw, sizes, write_image};
 use rv_guests::Guests;
-use rv_job::{Asked, Coverage, Job, Shell, Shown};
+use rv_job::{Asked, Coverage, Job, Results, Shell, Shown};
 use rv_source_jobs::{check_files, explain, list};
 use rv_system::{JobError, System, print};
-use rv_watched_jobs::{run_with_report, stats, trace};
+use rv_watched_jobs::{run_with_results, stats, trace};
 
 /// Does a job; the exit status.
 pub(crate) fn run_job<S: Guests>(system: &mut S, job: &Job<'_>) -> Result<u8, JobError> {
     match job {
         Job::Run(asked) => run(system, asked),
-        Job::Report(asked) => look_back(system, asked),
+        Job::Watch(asked, results) => look_back(system, asked, results),
         Job::Trace(asked, shown) => show_steps(system, asked, shown),
         Job::Stats(asked, coverage) => count(system, asked, coverage),
         Job::Build {
@@ -58,8 +58,8 @@ pub(crate) fn run_job<S: Guests>(system: &mut S, job: &Job<'_>) -> Result<u8, Jo
             sources,
         } => list(system, sources.as_slice(), *options, *all),
         Job::Dump { file } => dump(system, file),
-        Job::Size { files } => sizes(system, files.as_slice()),
-        Job::Names { map, file } => names(system, *map, file),
+        Job::Size { files, format } => sizes(system, files.as_slice(), *format),
+        Job::Names { map, file, format } => names(system, *map, file, *format),
         Job::Elf { file } => elf(system, file),
         Job::Check {
             options,
@@ -72,10 +72,14 @@ pub(crate) fn run_job<S: Guests>(system: &mut S, job: &Job<'_>) -> Result<u8, Jo
     }
 }
 
-/// Runs, and says how the run ended; the exit status.
-fn look_back<S: Guests>(system: &mut S, asked: &Asked<'_>) -> Result<u8, JobError> {
+/// Runs, and tells how the run ended as far as that is asked; the exit status.
+fn look_back<S: Guests>(
+    system: &mut S,
+    asked: &Asked<'_>,
+    results: &Results<'_>,
+) -> Result<u8, JobError> {
     let (program, image) = load_program(system, asked)?;
-    run_with_report(system, asked, program, image)
+    run_with_results(system, asked, results, program, image)
 }
 
 /// Runs, and writes a line for each instruction; the exit status.

@@ -1,6 +1,6 @@
 //! A system that stands in for the real one, and fails where it is told to.
 
-use rv_guests::{GuestInput, Guests};
+use rv_guests::{GuestInput, GuestOutput, Guests};
 use rv_image::Image;
 use rv_machine::{End, Io, RunFault, WatchFault, Watched, Watcher, run_io, run_watched};
 use rv_memory::Paged;
@@ -211,6 +211,7 @@ impl Guests for Fake<'_> {
         &mut self,
         machine: &mut Watched<Paged>,
         _: GuestInput,
+        _: GuestOutput,
         watcher: &mut T,
         limit: u64,
     ) -> Result<End, WatchFault> {

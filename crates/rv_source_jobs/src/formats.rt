@@ -2,7 +2,8 @@
 
 use rv_fault::{Fault, SourceFault};
 use rv_fault_texts::Remark;
-use serde_json::{Value, json};
+use rv_json::{number_or_null, text_or_null};
+use serde_json::json;
 use std::alloc::{AllocError, Global};
 
 /// A fault's code, as `E14`, its name, and the place where it stands, as far as they are known.
@@ -60,8 +61,8 @@ pub(crate) fn put_json(
     let heading = heading_of(alloc, names, fault, remark)?;
     let file = text_or_null(alloc, heading.file)?;
     let code = text_or_null(alloc, heading.code.as_deref())?;
-    let line = number_or_null(heading.line);
-    let column = number_or_null(heading.column);
+    let line = number_or_null(alloc, heading.line)?;
+    let column = number_or_null(alloc, heading.column)?;
     let severity = severity(fault);
     let message = message(&heading, remark);
     let found = json!(in alloc; {
@@ -74,22 +75,6 @@ pub(crate) fn put_json(
     })?;
     text.push_str(found.to_string(alloc)?.as_str())?;
     text.push_str("\n")
-}
-
-/// A text of JSON, or null.
-fn text_or_null(alloc: Global, text: Option<&str>) -> Result<Value, AllocError> {
-    match text {
-        Some(text) => Value::try_from_str(alloc, text),
-        None => Ok(Value::Null),
-    }
-}
-
-/// A number of JSON, or null.
-fn number_or_null(number: Option<u64>) -> Value {
-    match number {
-        Some(number) => Value::from(number),
-        None => Value::Null,
-    }
 }
 
 /// How grave a finding is.

@@ -1,11 +1,14 @@
 -- What the counts of a run sum over its events.
 
-use Rattle.std.specs.Prelude.{ℕ, ◌+◌, ◌-◌, ◌^◌, ◌==◌, min, Bool, true, false, if◌then◌else◌, List, fold, Option, Some, None}
+use Rattle.std.specs.Prelude.{ℕ, ◌==◌, Bool, true, false, if◌then◌else◌, List, fold, Option, Some, None}
+use Rattle.rv_isa.specs.Operations.{format_of}
 use Rattle.rv_isa_laws.specs.Hart.{End, Exited, Breakpoint}
 use Rattle.rv_isa_laws.specs.Run.{Fetched, Got, NoRight, NoInstruction}
 use Rattle.rv_event_laws.specs.declared.access.Access.{Access}
 use Rattle.rv_event_laws.specs.Event.{Event}
+use Rattle.rv_trace.specs.declared.kinds.Kinds.{Kinds}
 use Rattle.rv_trace.specs.declared.totals.Totals.{Totals}
+use Rattle.rv_trace.specs.Kinds.{instruction_kind, more, no_kinds, with_kind}
 
 -- an instruction is executed where its step goes on, or ends the run by what it means, and not by
 -- an access that fails
@@ -37,9 +40,11 @@ abbrev pub access_bytes : Option Access → ℕ
 access_bytes None = 0
 access_bytes (Some x) = x.bytes
 
--- sums stay at 2 ^ 64 - 1 where they would be more
-abbrev pub more : ℕ → ℕ → ℕ
-more sum added = min (sum + added) (2 ^ 64 - 1)
+-- the kinds with that of what was fetched
+abbrev pub with_kind_in : Fetched → Kinds → Kinds
+with_kind_in (Got i bytes) k = with_kind k (instruction_kind (format_of i))
+with_kind_in NoRight k = k
+with_kind_in NoInstruction k = k
 
 abbrev pub with_event : Totals → Event → Totals
 with_event t e =
@@ -52,11 +57,20 @@ with_event t e =
       read = more t.read (access_bytes e.read);
       stores = more t.stores (accesses_in e.stored);
       written = more t.written (access_bytes e.stored);
+      kinds = if executed then with_kind_in e.fetched t.kinds else t.kinds;
     }
 
 abbrev pub nothing : Totals
 nothing =
-    record { executed = 0; compressed = 0; loads = 0; read = 0; stores = 0; written = 0 }
+    record {
+      executed = 0;
+      compressed = 0;
+      loads = 0;
+      read = 0;
+      stores = 0;
+      written = 0;
+      kinds = no_kinds;
+    }
 
 abbrev pub totals_of : List Event → Totals
 totals_of seen = fold with_event nothing seen

@@ -18,9 +18,9 @@ struct Executed {
 
 /// A statement and how often it was executed.
 #[derive(Clone, Copy, Drop)]
-struct Covered {
-    row: Row,
-    count: u64,
+pub(crate) struct Covered {
+    pub row: Row,
+    pub count: u64,
 }
 
 /// A line for each statement that has instructions, by file and number: `FILE:LINE COUNT`; then how many of them were never
@@ -121,7 +121,7 @@ pub(crate) fn put_file(
 }
 
 /// The statements that have instructions by file and number, each with how often it was executed.
-fn coverage(
+pub(crate) fn coverage(
     alloc: Global,
     counts: &Counts,
     places: &Places<'_>,

@@ -88,8 +88,10 @@ fn index_of(number: u64) -> Option<usize> {
 /// What is known of a program's addresses; nothing where it has no map.
 #[derive(Drop)]
 pub struct Places<'a> {
-    /// By address.
+    /// By address; of those of one address the first is shown.
     symbols: Vec<Symbol<'a>>,
+    /// Those that the linker defines.
+    bounds: Vec<Symbol<'a>>,
     /// Those with bytes, by address.
     rows: Vec<Row>,
     regions: Vec<Region>,
@@ -104,7 +106,7 @@ impl<'a> Places<'a> {
         if let Some(map) = map {
             places.add_globals(map)?;
             places.add_all_labels(alloc, map, sources)?;
-            places.order_symbols(alloc)?;
+            places.symbols.sort_by_key(|symbol| symbol.address)?;
             places.add_rows(map)?;
             places.add_regions(map)?;
         }
@@ -116,6 +118,7 @@ impl<'a> Places<'a> {
     fn nothing(alloc: Global) -> Self {
         Places {
             symbols: Vec::new(alloc),
+            bounds: Vec::new(alloc),
             rows: Vec::new(alloc),
             regions: Vec::new(alloc),
             sources: Vec::new(alloc),
@@ -160,11 +163,14 @@ impl<'a> Places<'a> {
 
     fn add_globals(&mut self, map: &'a Map) -> Result<(), AllocError> {
         for global in &map.globals {
-            if !is_bound(global.name.as_slice()) {
-                self.symbols.push(Symbol {
-                    name: global.name.as_slice(),
-                    address: global.address,
-                })?;
+            let symbol = Symbol {
+                name: global.name.as_slice(),
+                address: global.address,
+            };
+            if is_bound(symbol.name) {
+                self.bounds.push(symbol)?;
+            } else {
+                self.symbols.push(symbol)?;
             }
         }
         Ok(())
@@ -227,20 +233,6 @@ impl<'a> Places<'a> {
         Ok(())
     }
 
-    /// Sorts the symbols by address, and keeps the first of those of an address.
-    fn order_symbols(&mut self, alloc: Global) -> Result<(), AllocError> {
-        self.symbols.sort_by_key(|symbol| symbol.address)?;
-        let mut kept: Vec<Symbol<'a>> = Vec::new(alloc);
-        for symbol in &self.symbols {
-            match kept.last() {
-                Some(last) if last.address == symbol.address => {}
-                _ => kept.push(*symbol)?,
-            }
-        }
-        self.symbols = kept;
-        Ok(())
-    }
-
     fn add_rows(&mut self, map: &Map) -> Result<(), AllocError> {
         for row in &map.rows {
             if row.bytes > 0 {
@@ -269,11 +261,45 @@ impl<'a> Places<'a> {
 
     /// The name of the region that has an address.
     pub(crate) fn region_at(&self, address: u64) -> Option<&'static str> {
+        let (name, _) = self.region_of(address)?;
+        Some(name)
+    }
+
+    /// The name and the first address of the region that has an address.
+    pub(crate) fn region_of(&self, address: u64) -> Option<(&'static str, u64)> {
         let index = self
             .regions
             .iter()
             .position(|region| region.start <= address && address < region.end)?;
-        REGIONS.get(index).copied()
+        Some((*REGIONS.get(index)?, self.regions.get(index)?.start))
+    }
+
+    /// The symbol at the highest address at or below one, of several there the first.
+    fn last_symbol(&self, address: u64) -> Option<Symbol<'a>> {
+        let behind = self
+            .symbols
+            .partition_point(|symbol| symbol.address <= address);
+        let highest = self.symbols.get(behind.checked_sub(1)?)?.address;
+        let first = self
+            .symbols
+            .partition_point(|symbol| symbol.address < highest);
+        self.symbols.get(first).copied()
+    }
+
+    /// The address of a symbol; of several with its name the lowest.
+    pub fn address_of(&self, name: &[u8]) -> Option<u64> {
+        match self.symbols.iter().find(|symbol| symbol.name == name) {
+            Some(symbol) => Some(symbol.address),
+            None => None,
+        }
+    }
+
+    /// The name that the linker defines at an address.
+    pub(crate) fn bound_at(&self, address: u64) -> Option<&'a [u8]> {
+        match self.bounds.iter().find(|symbol| symbol.address == address) {
+            Some(symbol) => Some(symbol.name),
+            None => None,
+        }
     }
 
     /// The nearest symbol at or below an address, in the address's region.
@@ -282,14 +308,7 @@ impl<'a> Places<'a> {
             .regions
             .iter()
             .find(|region| region.start <= address && address < region.end)?;
-        let found = match self
-            .symbols
-            .binary_search_by_key(&address, |symbol| symbol.address)
-        {
-            Ok(index) => Some(index),
-            Err(index) => index.checked_sub(1),
-        };
-        let symbol = self.symbols.get(found?)?;
+        let symbol = self.last_symbol(address)?;
         if symbol.address < region.start {
             return None;
         }

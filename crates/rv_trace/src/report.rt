@@ -1,6 +1,6 @@
 //! Why a run ended: where, by which access, with what in the registers, and which instructions came before.
 
-ghost use Rattle.std.specs.Prelude.{◌≡◌, ◌%◌, ◌^◌, length};
+ghost use Rattle.std.specs.Prelude.{◌≡◌, ◌+◌, ◌%◌, ◌^◌, length};
 
 use crate::access::{AccessKind, access_of};
 use crate::columns::{fill_column, put, put_decimal, put_fixed, put_near};
@@ -38,6 +38,26 @@ impl Latest {
             count: 0,
         }
     }
+
+    /// Notes the address of an instruction.
+    #[inline]
+    pub(crate) fn note(&mut self, address: u64)
+        ensures { self.new.count ≡ (self.old.count + 1) % 2 ^ 64 }
+    {
+        self.addresses[(self.count % 16) as usize] = address;
+        self.count = self.count.wrapping_add(1);
+    }
+
+    /// How many addresses are kept.
+    pub(crate) fn shown(&self) -> u64 {
+        self.count.min(16)
+    }
+
+    /// An address by its number from 0, the last one at the end.
+    pub(crate) fn address(&self, number: u64) -> u64 {
+        let number = self.count.wrapping_sub(self.shown()).wrapping_add(number);
+        self.addresses[(number % 16) as usize]
+    }
 }
 
 impl<M: Memory> Watcher<M> for Latest {
@@ -50,19 +70,18 @@ impl<M: Memory> Watcher<M> for Latest {
 
     #[inline]
     fn after(&mut self, event: &Event, _: &Watched<M>) -> Result<(), ShowFault> {
-        self.addresses[(self.count % 16) as usize] = event.pc;
-        self.count = self.count.wrapping_add(1);
+        self.note(event.pc);
         Ok(())
     }
 }
 
 /// Addresses with the same rights.
 #[derive(Clone, Copy, Drop)]
-struct Bounds {
-    start: u64,
-    end: u64,
+pub(crate) struct Bounds {
+    pub start: u64,
+    pub end: u64,
     /// As a segment's flags.
-    flags: u32,
+    pub flags: u32,
 }
 
 /// The segments of a program and its stack.
@@ -79,6 +98,23 @@ impl Segments {
         Ok(Segments { bounds })
     }
 
+    /// All of them.
+    pub(crate) fn all(&self) -> &[Bounds] {
+        self.bounds.as_slice()
+    }
+
+    /// The first address of each and the one after the last, by ascending addresses; without those of no bytes.
+    pub(crate) fn ordered(&self, alloc: Global) -> Result<Vec<(u64, u64)>, AllocError> {
+        let mut ordered = Vec::new(alloc);
+        for bounds in &self.bounds {
+            if bounds.start < bounds.end {
+                ordered.push((bounds.start, bounds.end))?;
+            }
+        }
+        ordered.sort_by_key(|range: &(u64, u64)| range.0)?;
+        Ok(ordered)
+    }
+
     /// The nearest end of a segment at or below an address; 0 where there is none.
     fn end_before(&self, address: u64) -> u64 {
         let mut nearest: u64 = 0;
@@ -91,7 +127,7 @@ impl Segments {
     }
 
     /// The segment that has an address.
-    fn at(&self, address: u64) -> Option<&Bounds> {
+    pub(crate) fn at(&self, address: u64) -> Option<&Bounds> {
         self.bounds.iter().find(|bounds| {
             address.wrapping_sub(bounds.start) < bounds.end.wrapping_sub(bounds.start)
         })
@@ -222,13 +258,13 @@ fn put_failed<M: Memory>(
         return Ok(());
     };
     put(text, "access\n  ")?;
-    put(text, what.0)?;
+    put(text, what.kind)?;
     put(text, " of ")?;
-    put_decimal(text, what.1)?;
+    put_decimal(text, what.bytes)?;
     put(text, " bytes at ")?;
     put_fixed(text, address, 8)?;
     put_symbol(text, known.0, address)?;
-    put_why(text, known, end, address, what.1)?;
+    put_why(text, known, end, address, what.bytes)?;
     text.push(b'\n')?;
     Ok(())
 }
@@ -323,23 +359,36 @@ fn put_behind(text: &mut Vec<u8>, name: &[u8], distance: u64) -> Result<(), Allo
 }
 
 /// What a failed access was, and its bytes.
-fn failed<M: Memory>(end: &End, machine: &Watched<M>) -> Option<(&'static str, u64)> {
+#[derive(Clone, Copy, Drop)]
+pub(crate) struct Failed {
+    pub kind: &'static str,
+    pub bytes: u64,
+}
+
+/// The access that failed, where one did.
+pub(crate) fn failed<M: Memory>(end: &End, machine: &Watched<M>) -> Option<Failed> {
     match end {
-        End::FetchOutside(_) => Some(("fetch", 2)),
+        End::FetchOutside(_) => Some(Failed {
+            kind: "fetch",
+            bytes: 2,
+        }),
         End::LoadText(_)
         | End::LoadOutside(_)
         | End::StoreText(_)
         | End::StoreOutside(_)
         | End::MisalignedAtomic(_) => {
             let access = access_of(inst_at(machine)?)?;
-            let name = match access.kind {
+            let kind = match access.kind {
                 AccessKind::Load => "load",
                 AccessKind::Store => "store",
                 AccessKind::LoadReserved => "lr",
                 AccessKind::StoreConditional => "sc",
                 AccessKind::Update => "amo",
             };
-            Some((name, access.bytes))
+            Some(Failed {
+                kind,
+                bytes: access.bytes,
+            })
         }
         _ => None,
     }
@@ -400,7 +449,7 @@ fn put_bounds(text: &mut Vec<u8>, places: &Places<'_>, bounds: &Bounds) -> Resul
 }
 
 /// The rights of a segment to read, to write and to execute, as `r--`.
-fn rights(flags: u32) -> &'static str {
+pub(crate) fn rights(flags: u32) -> &'static str {
     match flags % 8 {
         0 => "---",
         1 => "--x",
@@ -421,11 +470,8 @@ fn put_latest<M: Memory>(
     places: &Places<'_>,
 ) -> Result<(), AllocError> {
     put(text, "latest instructions\n")?;
-    let shown = latest.count.min(16);
-    for back in 0..shown {
-        let number = latest.count.wrapping_sub(shown).wrapping_add(back);
-        let address = latest.addresses[(number % 16) as usize];
-        put_place(text, machine, places, address)?;
+    for number in 0..latest.shown() {
+        put_place(text, machine, places, latest.address(number))?;
     }
     Ok(())
 }

@@ -5,41 +5,29 @@ use crate::counts::Counts;
 use crate::places::Places;
 use crate::totals::Totals;
 use crate::visited::VisitedInstruction;
-use rv_isa::{Format, Inst, mnemonic};
+use rv_isa::{Format, mnemonic};
 use rv_map::put_hexadecimal;
 use std::alloc::{AllocError, Global};
 
-/// What instructions are for, in the order in which the text has them.
-const KINDS: [&str; 7] = [
-    "arithmetic",
-    "load",
-    "store",
-    "atomic",
-    "branch",
-    "jump",
-    "other",
-];
-
 /// Sums over the instructions of a run.
 #[derive(Clone, Copy, Drop)]
-struct Sums {
-    taken: u64,
-    untaken: u64,
-    kinds: [u64; 7],
+pub(crate) struct Sums {
+    pub taken: u64,
+    pub untaken: u64,
 }
 
 /// A mnemonic and how often it was executed.
 #[derive(Clone, Copy, Drop)]
-struct Tally {
-    name: &'static str,
-    count: u64,
+pub(crate) struct Tally {
+    pub name: &'static str,
+    pub count: u64,
 }
 
 /// An address and how often it was called.
 #[derive(Clone, Copy, Drop)]
-struct Called {
-    address: u64,
-    count: u64,
+pub(crate) struct Called {
+    pub address: u64,
+    pub count: u64,
 }
 
 /// What a run did, counted: a line each for all instructions, compressed ones, loads, stores, branches and the stack; then
@@ -53,17 +41,17 @@ pub fn counts_text(
     let sums = sums_of(counts.instructions());
     let totals = counts.totals();
     put_sums(&mut text, &totals, &sums, counts.deepest())?;
-    put_kinds(&mut text, &sums, totals.executed)?;
+    put_kinds(&mut text, &totals)?;
     put_mnemonics(alloc, &mut text, counts.instructions(), totals.executed)?;
     put_calls(alloc, &mut text, counts.instructions(), places)?;
     Ok(text)
 }
 
 /// Adds the lines of the kinds of instructions.
-fn put_kinds(text: &mut Vec<u8>, sums: &Sums, executed: u64) -> Result<(), AllocError> {
+fn put_kinds(text: &mut Vec<u8>, totals: &Totals) -> Result<(), AllocError> {
     put(text, "by kind\n")?;
-    for (name, count) in KINDS.iter().zip(sums.kinds.iter()) {
-        put_part(text, name, *count, executed)?;
+    for (name, count) in totals.kinds.named() {
+        put_part(text, name, count, totals.executed)?;
     }
     Ok(())
 }
@@ -149,11 +137,10 @@ fn put_called(text: &mut Vec<u8>, called: &Called, places: &Places<'_>) -> Resul
     Ok(())
 }
 
-fn sums_of(instructions: &[VisitedInstruction]) -> Sums {
+pub(crate) fn sums_of(instructions: &[VisitedInstruction]) -> Sums {
     let mut sums = Sums {
         taken: 0,
         untaken: 0,
-        kinds: [0; 7],
     };
     for visited in instructions {
         add_visited(&mut sums, visited);
@@ -163,14 +150,12 @@ fn sums_of(instructions: &[VisitedInstruction]) -> Sums {
 
 /// Adds what the executions of an instruction did.
 fn add_visited(sums: &mut Sums, visited: &VisitedInstruction) {
-    let count = visited.count;
-    let kind = kind_of(visited.inst);
-    if let Some(sum) = sums.kinds.get_mut(kind) {
-        add(sum, count);
-    }
     if let Format::Branch(_, _) = visited.inst.format() {
         add(&mut sums.taken, visited.taken);
-        add(&mut sums.untaken, count.saturating_sub(visited.taken));
+        add(
+            &mut sums.untaken,
+            visited.count.saturating_sub(visited.taken),
+        );
     }
 }
 
@@ -178,24 +163,11 @@ fn add(sum: &mut u64, count: u64) {
     *sum = sum.saturating_add(count);
 }
 
-/// The index of an instruction's kind in `KINDS`.
-fn kind_of(inst: Inst) -> usize {
-    match inst.format() {
-        Format::Registers(_, _)
-        | Format::Immediate(_, _)
-        | Format::Shift(_, _)
-        | Format::Upper(_, _) => 0,
-        Format::Load(_, _) => 1,
-        Format::Store(_, _) => 2,
-        Format::LoadReserved(_, _) | Format::Atomic(_, _, _) => 3,
-        Format::Branch(_, _) => 4,
-        Format::Jal(_) | Format::Jalr(_) => 5,
-        Format::Fence(_) | Format::Ecall | Format::Ebreak => 6,
-    }
-}
-
 /// The mnemonics by how often they were executed, then by name.
-fn tallies(alloc: Global, instructions: &[VisitedInstruction]) -> Result<Vec<Tally>, AllocError> {
+pub(crate) fn tallies(
+    alloc: Global,
+    instructions: &[VisitedInstruction],
+) -> Result<Vec<Tally>, AllocError> {
     let mut tallies = Vec::new(alloc);
     add_tallies(&mut tallies, instructions)?;
     Ok(tallies)
@@ -228,7 +200,10 @@ fn add_to(tallies: &mut Vec<Tally>, name: &'static str, count: u64) -> Result<()
 }
 
 /// The addresses that were called by how often they were, then by address.
-fn calls(alloc: Global, instructions: &[VisitedInstruction]) -> Result<Vec<Called>, AllocError> {
+pub(crate) fn calls(
+    alloc: Global,
+    instructions: &[VisitedInstruction],
+) -> Result<Vec<Called>, AllocError> {
     let mut calls = Vec::new(alloc);
     add_calls(&mut calls, instructions)?;
     Ok(calls)

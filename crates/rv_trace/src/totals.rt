@@ -13,9 +13,11 @@ ghost use Rattle.rv_trace.specs.Totals.{
   accesses_in,
   access_bytes,
   with_event,
+  with_kind_in,
   nothing,
 };
 
+use crate::kinds::{Kinds, kind_of};
 use rv_event_laws::Access;
 use rv_machine::{End, Event, Fetched};
 
@@ -31,6 +33,8 @@ pub(crate) struct Totals {
     pub stores: u64,
     /// The bytes of the stores.
     pub written: u64,
+    /// The instructions by what they are for.
+    pub kinds: Kinds,
 }
 
 impl Totals {
@@ -45,6 +49,7 @@ impl Totals {
             read: 0,
             stores: 0,
             written: 0,
+            kinds: Kinds::nothing(),
         }
     }
 
@@ -62,6 +67,7 @@ impl Totals {
             read: self.read.saturating_add(bytes_in(event.read)),
             stores: self.stores.saturating_add(accesses(event.stored)),
             written: self.written.saturating_add(bytes_in(event.stored)),
+            kinds: with_executed(self.kinds, executed, event.fetched),
         }
     }
 }
@@ -106,6 +112,20 @@ fn is_compressed(fetched: Fetched) -> bool
     match fetched {
         Fetched::Got(_, bytes) => bytes == 2,
         Fetched::NoRight | Fetched::NoInstruction => false,
+    }
+}
+
+/// The kinds with that of what was fetched, where it was executed.
+#[inline]
+fn with_executed(kinds: Kinds, executed: bool, fetched: Fetched) -> Kinds
+    ensures { result ≡ if executed then with_kind_in (fetched_of fetched) kinds else kinds }
+{
+    if !executed {
+        return kinds;
+    }
+    match fetched {
+        Fetched::Got(inst, _) => kinds.with(kind_of(inst)),
+        Fetched::NoRight | Fetched::NoInstruction => kinds,
     }
 }
 

@@ -7,13 +7,14 @@
 ghost use Rattle.std.specs.Prelude.{◌≡◌, ⊤};
 ghost use Rattle.rv_trace.specs.Shown.{is_full};
 
-use crate::columns::{fill_column, set_fixed, set_low_digits};
+use crate::columns::{fill_column, put, put_fixed, set_fixed, set_low_digits};
 use crate::counter::{Counter, DIGITS};
+use crate::moved::put_span;
 use crate::pattern::{BEFORE_SOURCE, Effects, Patterns};
 use crate::places::Places;
 use crate::visited::{VisitedInstructions, bits_at};
 use rv_image::Image;
-use rv_machine::{Event, ShowFault, Watched, Watcher};
+use rv_machine::{Event, ShowFault, Span, Watched, Watcher};
 use rv_memory::Memory;
 use std::alloc::{AllocError, Global};
 use std::io::Write;
@@ -107,7 +108,12 @@ impl<'a, L: Write> Trace<'a, L> {
     }
 
     /// Adds the line of an instruction that was executed: the text of its event.
-    fn put_event(&mut self, visited: usize, event: &Event) -> Result<(), AllocError> {
+    fn put_event<M: Memory>(
+        &mut self,
+        visited: usize,
+        event: &Event,
+        memory: &M,
+    ) -> Result<(), AllocError> {
         let Some(pattern) = self.patterns.get(visited) else {
             return Ok(());
         };
@@ -117,10 +123,14 @@ impl<'a, L: Write> Trace<'a, L> {
         let Some(line) = self.kept.as_mut_slice().get_mut(start..) else {
             return Ok(());
         };
-        if fill(line, effects, event) {
+        let is_full = fill(line, effects, event);
+        if is_full && event.taken.count == 0 {
             return Ok(());
         }
         self.kept.truncate(start.saturating_add(effects.no_access));
+        if event.taken.count > 0 {
+            put_taken(&mut self.kept, event.taken, memory)?;
+        }
         put_rest(&mut self.kept, start, self.patterns.rest(pattern))
     }
 }
@@ -144,6 +154,30 @@ fn fill(line: &mut [u8], effects: &Effects, event: &Event) -> bool
         set_low_digits(line, effects.stored, access.digits(), told.number);
     }
     true
+}
+
+/// Adds where the input that a call took stands, and its bytes in their order.
+#[inline(never)]
+fn put_taken<M: Memory>(text: &mut Vec<u8>, taken: Span, memory: &M) -> Result<(), AllocError> {
+    put(text, " [")?;
+    put_fixed(text, taken.address, 8)?;
+    put(text, "] <-")?;
+    put_bytes(text, taken, memory)
+}
+
+/// Adds the bytes of memory in hexadecimal, a blank before each.
+pub(crate) fn put_bytes<M: Memory>(
+    text: &mut Vec<u8>,
+    span: Span,
+    memory: &M,
+) -> Result<(), AllocError> {
+    let mut bytes = Vec::new(*text.allocator());
+    put_span(&mut bytes, memory, span)?;
+    for byte in &bytes {
+        text.push(b' ')?;
+        put_fixed(text, u64::from(*byte), 1)?;
+    }
+    Ok(())
 }
 
 /// Adds a text that begins with blanks for the number of its line, and the number; where the text begins.
@@ -191,7 +225,7 @@ impl<M: Memory, L: Write> Watcher<M> for Trace<'_, L> {
     }
 
     #[inline]
-    fn after(&mut self, event: &Event, _: &Watched<M>) -> Result<(), ShowFault> {
+    fn after(&mut self, event: &Event, machine: &Watched<M>) -> Result<(), ShowFault> {
         // the line of an instruction that ended the run is the last
         if event.end.is_some() {
             return Ok(());
@@ -200,7 +234,7 @@ impl<M: Memory, L: Write> Watcher<M> for Trace<'_, L> {
             return Ok(());
         };
         self.open = None;
-        self.put_event(visited, event)?;
+        self.put_event(visited, event, machine.memory())?;
         if self.kept.len() >= KEPT {
             return self.write_kept();
         }

@@ -1,16 +1,17 @@
-//! The jobs of the program that run a guest and look at it: reports of why it ended, traces, and counts.
+//! The jobs of the program that run a guest and look at it: reports of why it ended, its last state, traces, and counts.
 //!
-//! Main functions: `run_with_report`, `trace`, `stats`. That a run that is looked at is the run, and that the machine of a
+//! Main functions: `run_with_results`, `trace`, `stats`. That a run that is looked at is the run, and that the machine of a
 //! report is in its last state, is said by the clause of `run_watched`; the texts are those of `rv_trace`. It
 //! knows neither the words of a command line nor how a program is built.
 //!
 //! ```text
 //! // rv run --report a.s
 //! let (program, image) = load_program(system, asked)?;
-//! let status = run_with_report(system, asked, program, image)?;
+//! let status = run_with_results(system, asked, results, program, image)?;
 //! ```
 #![tactic(auto)]
 
+mod stepping;
 mod watching;
 
-pub use watching::{Program, run_with_report, stats, trace};
+pub use watching::{Program, run_with_results, stats, trace};

@@ -1,18 +1,19 @@
-//! Runs that are looked at: reports of why they ended, traces, and counts.
+//! Runs that are looked at: reports of why they ended, their last states, traces, and counts.
 //!
 //! Of a program that was built from sources the map and the texts are at hand, so its symbols, files and lines are shown; of
 //! an executable those of the map that the words name for it, if any.
 
-use rv_guests::{GuestInput, Guests, report_end, run_line};
+use crate::stepping::Guest;
+use rv_guests::{Guests, report_end, run_line, status_of};
 use rv_image::Image;
-use rv_job::{Asked, Coverage, Shown};
-use rv_machine::{End, ShowFault, WatchFault, Watched, Watcher};
+use rv_job::{Asked, Coverage, OutputFormat, Results, Shown};
+use rv_machine::{End, ShowFault, WatchFault, Watched};
 use rv_map::Map;
 use rv_memory::Paged;
 use rv_system::{JobError, Purpose, System, cannot, fault_line, write};
 use rv_trace::{
-    Counts, Latest, Places, Segments, Source, Trace, counts_text, lcov_text, lines_text,
-    report_text,
+    Counts, Ending, Last, Places, PlainTrace, Segments, Source, Trace, counts_json, counts_text,
+    lcov_text, lines_text, report_json, report_text, state_text,
 };
 use std::alloc::{AllocError, Global};
 use std::io::Write;
@@ -48,25 +49,88 @@ impl Program {
     }
 }
 
-/// Runs a program, and says how the run ended and what it left; the exit status.
+/// Runs a program, and tells how the run ended and what it left, as far as that is asked; the exit status.
 #[inline(never)]
-pub fn run_with_report<S: Guests>(
+pub fn run_with_results<S: Guests>(
     system: &mut S,
     asked: &Asked<'_>,
+    results: &Results<'_>,
     program: Program,
     image: Image,
 ) -> Result<u8, JobError> {
     let alloc: Global = system.alloc();
     let places = program.places(alloc, asked)?;
+    let guest = Guest::of(alloc, asked, &places)?;
     let segments = Segments::of(alloc, &image)?;
-    let mut latest = Latest::new();
+    let mut last = Last::new();
     let mut machine = machine_of(alloc, image)?;
-    let watched = watch(system, &mut machine, asked, &mut latest, asked.limit);
-    let end = ended(alloc, watched, "-")?;
-    let text = report_text(alloc, &machine, &latest, &places, &segments, &end)?;
-    let status = report_end(system, &end);
-    put_lines(system, text.as_slice())?;
+    let watched = guest.watch(system, &mut machine, &mut last, asked.limit);
+    let ending = ended(alloc, watched, "-")?;
+    let report = report(
+        alloc,
+        results.report,
+        &machine,
+        &last,
+        (&places, &segments),
+        ending,
+    )?;
+    let state = state(alloc, results, &machine, last, &segments, ending)?;
+    let status = report_ending(system, ending, results.report);
+    put_lines(system, report.as_slice())?;
+    if let Some(name) = results.state {
+        write(system, name, Purpose::ToRead, state.as_slice())?;
+    }
     Ok(status)
+}
+
+/// The last state of a run where it is asked for; else nothing.
+fn state(
+    alloc: Global,
+    results: &Results<'_>,
+    machine: &Watched<Paged>,
+    last: Last,
+    segments: &Segments,
+    ending: Ending,
+) -> Result<Vec<u8>, AllocError> {
+    if results.state.is_none() {
+        return Ok(Vec::new(alloc));
+    }
+    state_text(alloc, machine, last, segments, ending)
+}
+
+/// The report of a run in the format that is asked for; nothing where none is.
+fn report(
+    alloc: Global,
+    format: Option<OutputFormat>,
+    machine: &Watched<Paged>,
+    last: &Last,
+    known: (&Places<'_>, &Segments),
+    ending: Ending,
+) -> Result<Vec<u8>, AllocError> {
+    let (places, segments) = known;
+    let end = match ending {
+        Ending::By(end) => end,
+        // it shows as little as one at the limit
+        Ending::Reached => End::Limit,
+    };
+    match format {
+        None => Ok(Vec::new(alloc)),
+        Some(OutputFormat::Text) => {
+            report_text(alloc, machine, last.latest(), places, segments, &end)
+        }
+        Some(OutputFormat::Json) => {
+            report_json(alloc, machine, last.latest(), places, segments, ending)
+        }
+    }
+}
+
+/// Says how a run ended where the guest did not exit, unless an object of JSON says it; the exit status.
+fn report_ending<S: Guests>(system: &mut S, ending: Ending, format: Option<OutputFormat>) -> u8 {
+    match ending {
+        Ending::Reached => 0,
+        Ending::By(end) if format == Some(OutputFormat::Json) => status_of(&end),
+        Ending::By(end) => report_end(system, &end),
+    }
 }
 
 /// Runs a program and counts what it executes; the exit status.
@@ -80,21 +144,37 @@ pub fn stats<S: Guests>(
 ) -> Result<u8, JobError> {
     let alloc: Global = system.alloc();
     let places = program.places(alloc, asked)?;
+    let guest = Guest::of(alloc, asked, &places)?;
     let mut counts = Counts::new(alloc, &image)?;
     let mut machine = machine_of(alloc, image)?;
-    let watched = watch(system, &mut machine, asked, &mut counts, asked.limit);
-    let end = ended(alloc, watched, "-")?;
-    let mut text = counts_text(alloc, &counts, &places)?;
-    if coverage.lines {
-        text.extend_from_slice(lines_text(alloc, &counts, &places)?.as_slice())?;
-    }
+    let watched = guest.watch(system, &mut machine, &mut counts, asked.limit);
+    let ending = ended(alloc, watched, "-")?;
+    let text = counted(alloc, &counts, &places, coverage, ending)?;
     let tracefile = tracefile(alloc, &counts, &places, coverage)?;
-    let status = report_end(system, &end);
+    let status = report_ending(system, ending, Some(coverage.format));
     put_lines(system, text.as_slice())?;
     if let Some(name) = coverage.lcov {
         write(system, name, Purpose::ToRead, tracefile.as_slice())?;
     }
     Ok(status)
+}
+
+/// The counts in the format that is asked for.
+fn counted(
+    alloc: Global,
+    counts: &Counts,
+    places: &Places<'_>,
+    coverage: &Coverage<'_>,
+    ending: Ending,
+) -> Result<Vec<u8>, AllocError> {
+    if coverage.format == OutputFormat::Json {
+        return counts_json(alloc, counts, places, ending, coverage.lines);
+    }
+    let mut text = counts_text(alloc, counts, places)?;
+    if coverage.lines {
+        text.extend_from_slice(lines_text(alloc, counts, places)?.as_slice())?;
+    }
+    Ok(text)
 }
 
 /// The tracefile of lcov where one is asked for; else nothing.
@@ -121,47 +201,86 @@ pub fn trace<S: Guests>(
 ) -> Result<u8, JobError> {
     let alloc: Global = system.alloc();
     let places = program.places(alloc, asked)?;
-    trace_by(system, asked, shown, image, &places)
-}
-
-/// Runs an image and writes a line for each instruction, with what is known of its addresses; the exit status.
-fn trace_by<S: Guests>(
-    system: &mut S,
-    asked: &Asked<'_>,
-    shown: &Shown<'_>,
-    image: Image,
-    places: &Places<'_>,
-) -> Result<u8, JobError> {
-    let alloc: Global = system.alloc();
-    let name = shown.output.unwrap_or("-");
-    let Ok(mut lines) = system.lines(shown.output) else {
-        return Err(cannot(alloc, "write", name)?);
-    };
-    let mut trace = Trace::new(alloc, &image, places, &mut lines, shown.first)?;
-    let mut machine = machine_of(alloc, image)?;
+    let guest = Guest::of(alloc, asked, &places)?;
     let last = last_shown(shown);
-    let watched = watch(
-        system,
-        &mut machine,
-        asked,
-        &mut trace,
-        asked.limit.min(last),
-    );
-    let finished = match watched {
-        // no line is told in part
-        Err(WatchFault::Watcher(ShowFault::OutOfMemory)) => return Err(JobError::Memory),
-        _ => trace.finish(),
+    let limit = asked.limit.min(last);
+    let traced = if shown.plain {
+        plain_lines(system, &guest, shown, image, (&places, limit))?
+    } else {
+        whole_lines(system, &guest, shown, image, (&places, limit))?
     };
-    let end = ended(alloc, watched, name)?;
-    match finished {
+    let name = shown.output.unwrap_or("-");
+    let ending = ended(alloc, traced.watched, name)?;
+    match traced.finished {
         Ok(()) => {}
         Err(fault) => return Err(show_line(alloc, fault, name)?),
     }
     // all the lines that were asked for are written
-    if matches!(end, End::Limit) && last <= asked.limit {
+    if matches!(ending, Ending::By(End::Limit)) && last <= asked.limit {
         return Ok(0);
     }
-    Ok(report_end(system, &end))
+    Ok(report_ending(system, ending, None))
+}
+
+/// What came of a traced run.
+#[derive(Clone, Copy, Drop)]
+struct Traced {
+    watched: Result<Ending, WatchFault>,
+    /// Whether the last lines were written.
+    finished: Result<(), ShowFault>,
+}
+
+/// Runs an image and writes a whole line for each instruction.
+fn whole_lines<S: Guests>(
+    system: &mut S,
+    guest: &Guest,
+    shown: &Shown<'_>,
+    image: Image,
+    known: (&Places<'_>, u64),
+) -> Result<Traced, JobError> {
+    let alloc: Global = system.alloc();
+    let (places, limit) = known;
+    let Ok(mut lines) = system.lines(shown.output) else {
+        return Err(cannot(alloc, "write", shown.output.unwrap_or("-"))?);
+    };
+    let mut trace = Trace::new(alloc, &image, places, &mut lines, shown.first)?;
+    let mut machine = machine_of(alloc, image)?;
+    let watched = guest.watch(system, &mut machine, &mut trace, limit);
+    match watched {
+        // no line is told in part
+        Err(WatchFault::Watcher(ShowFault::OutOfMemory)) => Err(JobError::Memory),
+        _ => Ok(Traced {
+            watched,
+            finished: trace.finish(),
+        }),
+    }
+}
+
+/// Runs an image and writes a plain line for each instruction.
+fn plain_lines<S: Guests>(
+    system: &mut S,
+    guest: &Guest,
+    shown: &Shown<'_>,
+    image: Image,
+    known: (&Places<'_>, u64),
+) -> Result<Traced, JobError> {
+    let alloc: Global = system.alloc();
+    let (places, limit) = known;
+    let Ok(mut lines) = system.lines(shown.output) else {
+        return Err(cannot(alloc, "write", shown.output.unwrap_or("-"))?);
+    };
+    let segments = Segments::of(alloc, &image)?;
+    let mut trace = PlainTrace::new(alloc, places, &segments, &mut lines, shown.first);
+    let mut machine = machine_of(alloc, image)?;
+    let watched = guest.watch(system, &mut machine, &mut trace, limit);
+    match watched {
+        // no line is told in part
+        Err(WatchFault::Watcher(ShowFault::OutOfMemory)) => Err(JobError::Memory),
+        _ => Ok(Traced {
+            watched,
+            finished: trace.finish(),
+        }),
+    }
 }
 
 /// The number of the last instruction that has a line; 2^64 - 1 where no count is given.
@@ -178,26 +297,14 @@ fn machine_of(alloc: Global, image: Image) -> Result<Watched<Paged>, AllocError>
     Ok(Watched::new(Paged::new(alloc, image)?, entry))
 }
 
-/// Runs a machine over the guest's streams.
-fn watch<S: Guests, T: Watcher<Paged>>(
-    system: &mut S,
-    machine: &mut Watched<Paged>,
-    asked: &Asked<'_>,
-    watcher: &mut T,
-    limit: u64,
-) -> Result<End, WatchFault> {
-    let input = if asked.has_input() {
-        GuestInput::Empty
-    } else {
-        GuestInput::Standard
-    };
-    system.watch(machine, input, watcher, limit)
-}
-
 /// How a run ended, or the line that says why it came to no end.
-fn ended(alloc: Global, watched: Result<End, WatchFault>, name: &str) -> Result<End, JobError> {
+fn ended(
+    alloc: Global,
+    watched: Result<Ending, WatchFault>,
+    name: &str,
+) -> Result<Ending, JobError> {
     match watched {
-        Ok(end) => Ok(end),
+        Ok(ending) => Ok(ending),
         Err(fault) => Err(watch_line(alloc, fault, name)?),
     }
 }

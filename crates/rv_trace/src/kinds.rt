@@ -1,0 +1,121 @@
+//! What instructions are for, and how many of each kind were executed.
+
+ghost use Rattle.std.specs.Prelude.{◌≡◌};
+ghost use Rattle.rv_isa.specs.Operations.{format_of};
+ghost use Rattle.rv_trace.specs.Kinds.{instruction_kind, no_kinds, with_kind};
+
+use rv_isa::{Format, Inst};
+
+/// What an instruction is for.
+#[derive(Clone, Copy, Debug, PartialEq, Eq, Drop)]
+pub(crate) enum InstructionKind {
+    Arithmetic,
+    Load,
+    Store,
+    Atomic,
+    Branch,
+    Jump,
+    Other,
+}
+
+/// How many instructions of each kind were executed.
+#[derive(Clone, Copy, Drop)]
+pub(crate) struct Kinds {
+    pub arithmetic: u64,
+    pub load: u64,
+    pub store: u64,
+    pub atomic: u64,
+    pub branch: u64,
+    pub jump: u64,
+    pub other: u64,
+}
+
+/// The kind of an instruction.
+#[inline]
+pub(crate) fn kind_of(inst: Inst) -> InstructionKind
+    ensures { result ≡ instruction_kind (format_of inst) }
+{
+    match inst.format() {
+        Format::Registers(_, _) => InstructionKind::Arithmetic,
+        Format::Immediate(_, _) => InstructionKind::Arithmetic,
+        Format::Shift(_, _) => InstructionKind::Arithmetic,
+        Format::Upper(_, _) => InstructionKind::Arithmetic,
+        Format::Load(_, _) => InstructionKind::Load,
+        Format::Store(_, _) => InstructionKind::Store,
+        Format::LoadReserved(_, _) => InstructionKind::Atomic,
+        Format::Atomic(_, _, _) => InstructionKind::Atomic,
+        Format::Branch(_, _) => InstructionKind::Branch,
+        Format::Jal(_) => InstructionKind::Jump,
+        Format::Jalr(_) => InstructionKind::Jump,
+        Format::Fence(_) => InstructionKind::Other,
+        Format::Ecall => InstructionKind::Other,
+        Format::Ebreak => InstructionKind::Other,
+    }
+}
+
+impl Kinds {
+    /// Of no instruction.
+    pub(crate) fn nothing() -> Self
+        ensures { result ≡ no_kinds }
+    {
+        Kinds {
+            arithmetic: 0,
+            load: 0,
+            store: 0,
+            atomic: 0,
+            branch: 0,
+            jump: 0,
+            other: 0,
+        }
+    }
+
+    /// With one more of a kind.
+    #[inline]
+    pub(crate) fn with(self, kind: InstructionKind) -> Self
+        ensures { result ≡ with_kind self kind }
+    {
+        match kind {
+            InstructionKind::Arithmetic => Kinds {
+                arithmetic: self.arithmetic.saturating_add(1),
+                ..self
+            },
+            InstructionKind::Load => Kinds {
+                load: self.load.saturating_add(1),
+                ..self
+            },
+            InstructionKind::Store => Kinds {
+                store: self.store.saturating_add(1),
+                ..self
+            },
+            InstructionKind::Atomic => Kinds {
+                atomic: self.atomic.saturating_add(1),
+                ..self
+            },
+            InstructionKind::Branch => Kinds {
+                branch: self.branch.saturating_add(1),
+                ..self
+            },
+            InstructionKind::Jump => Kinds {
+                jump: self.jump.saturating_add(1),
+                ..self
+            },
+            InstructionKind::Other => Kinds {
+                other: self.other.saturating_add(1),
+                ..self
+            },
+        }
+    }
+
+    /// Each kind by its name, in the order in which texts have them.
+    pub(crate) fn named(&self) -> [(&'static str, u64); 7] {
+        [
+            ("arithmetic", self.arithmetic),
+            ("load", self.load),
+            ("store", self.store),
+            ("atomic", self.atomic),
+            ("branch", self.branch),
+            ("jump", self.jump),
+            ("other", self.other),
+        ]
+    }
+}

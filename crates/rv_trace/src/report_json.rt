@@ -1,0 +1,155 @@
+//! A report as programs read it.
+
+use crate::ending::Ending;
+use crate::last::registers;
+use crate::lines::put_file;
+use crate::places::Places;
+use crate::report::{Failed, Latest, Segments, failed, rights};
+use crate::visited::{bits_at, inst_of};
+use rv_disasm::{Targets, put_instruction};
+use rv_json::{name, number, number_or_null, put_line};
+use rv_machine::Watched;
+use rv_memory::Memory;
+use serde_json::{Value, json, push};
+use std::alloc::{AllocError, Global};
+
+/// How a run ended, as an object of JSON in a line: what [`report_text`](crate::report_text) says, and the end.
+pub fn report_json<M: Memory>(
+    alloc: Global,
+    machine: &Watched<M>,
+    latest: &Latest,
+    places: &Places<'_>,
+    segments: &Segments,
+    ending: Ending,
+) -> Result<Vec<u8>, AllocError> {
+    let end = ending.name();
+    let status = number_or_null(alloc, ending.status())?;
+    let address = number_or_null(alloc, ending.address())?;
+    let access = access(alloc, machine, ending)?;
+    let at = place(alloc, machine, places, machine.pc())?;
+    let registers = registers(alloc, machine)?;
+    let segments = segments_of(alloc, segments)?;
+    let latest = latest_of(alloc, machine, latest, places)?;
+    let report = json!(in alloc; {
+        "end": end,
+        "status": status,
+        "address": address,
+        "access": access,
+        "at": at,
+        "registers": registers,
+        "segments": segments,
+        "latest": latest
+    })?;
+    let mut text = Vec::new(alloc);
+    put_line(alloc, &mut text, &report)?;
+    Ok(text)
+}
+
+/// The access that failed: what it was, and its bytes; null where none did.
+fn access<M: Memory>(
+    alloc: Global,
+    machine: &Watched<M>,
+    ending: Ending,
+) -> Result<Value, AllocError> {
+    let Ending::By(end) = ending else {
+        return Ok(Value::Null);
+    };
+    match failed(&end, machine) {
+        None => Ok(Value::Null),
+        Some(Failed { kind, bytes }) => json!(in alloc; { "kind": kind, "bytes": bytes }),
+    }
+}
+
+/// An address with its symbol, its statement and the instruction that stands there, as far as they are known.
+fn place<M: Memory>(
+    alloc: Global,
+    machine: &Watched<M>,
+    places: &Places<'_>,
+    address: u64,
+) -> Result<Value, AllocError> {
+    let (symbol, distance) = near(alloc, places, address)?;
+    let (file, line) = statement(alloc, places, address)?;
+    let instruction = instruction(alloc, machine, address)?;
+    let address = number(alloc, address)?;
+    json!(in alloc; {
+        "address": address,
+        "symbol": symbol,
+        "distance": distance,
+        "file": file,
+        "line": line,
+        "instruction": instruction
+    })
+}
+
+/// The nearest symbol of an address, and how many bytes it is behind it.
+pub(crate) fn near(
+    alloc: Global,
+    places: &Places<'_>,
+    address: u64,
+) -> Result<(Value, Value), AllocError> {
+    match places.symbol_at(address) {
+        Some(near) => Ok((name(alloc, near.name)?, number(alloc, near.distance)?)),
+        None => Ok((Value::Null, Value::Null)),
+    }
+}
+
+/// The file and the line of the statement at an address.
+fn statement(
+    alloc: Global,
+    places: &Places<'_>,
+    address: u64,
+) -> Result<(Value, Value), AllocError> {
+    match places.row_at(address) {
+        Some(row) => Ok((file(alloc, places, row.file)?, number(alloc, row.line)?)),
+        None => Ok((Value::Null, Value::Null)),
+    }
+}
+
+/// The name of a file, or its number as a text where it has none.
+pub(crate) fn file(alloc: Global, places: &Places<'_>, number: u64) -> Result<Value, AllocError> {
+    let mut text = Vec::new(alloc);
+    put_file(&mut text, places, number)?;
+    name(alloc, text.as_slice())
+}
+
+/// The text of the instruction at an address, or null where none stands there.
+fn instruction<M: Memory>(
+    alloc: Global,
+    machine: &Watched<M>,
+    address: u64,
+) -> Result<Value, AllocError> {
+    let Some(inst) = bits_at(machine.memory(), address).and_then(inst_of) else {
+        return Ok(Value::Null);
+    };
+    let mut text = Vec::new(alloc);
+    put_instruction(&mut text, Targets::Addresses(address), inst)?;
+    name(alloc, text.as_slice())
+}
+
+/// The segments and the stack.
+fn segments_of(alloc: Global, segments: &Segments) -> Result<Value, AllocError> {
+    let mut list = Vec::new(alloc);
+    for bounds in segments.all() {
+        let start = number(alloc, bounds.start)?;
+        let end = number(alloc, bounds.end)?;
+        let rights = rights(bounds.flags);
+        let segment = json!(in alloc; { "start": start, "end": end, "rights": rights })?;
+        push(&mut list, segment)?;
+    }
+    Ok(Value::Array(list))
+}
+
+/// The latest instructions, the last one at the end.
+fn latest_of<M: Memory>(
+    alloc: Global,
+    machine: &Watched<M>,
+    latest: &Latest,
+    places: &Places<'_>,
+) -> Result<Value, AllocError> {
+    let mut list = Vec::new(alloc);
+    for back in 0..latest.shown() {
+        let value = place(alloc, machine, places, latest.address(back))?;
+        push(&mut list, value)?;
+    }
+    Ok(Value::Array(list))
+}
