@@ -206,6 +206,7 @@ Options:
       --text-start <N>  The address of the text, decimal or 0x and hexadecimal [default: 0x10000]
       --no-relax        Leaves every call its eight bytes
       --gc-sections     Leaves out sections to which nothing leads from the entry
+      --pad-ends        Puts 8 zeros behind constants and variables, as GCC loads past an object's end
       --explain         Shows below a fault where it stands and why, as on a terminal
   -h, --help            Print help
 
@@ -250,6 +251,7 @@ Options:
       --text-start <N>  The address of the text, decimal or 0x and hexadecimal [default: 0x10000]
       --no-relax        Leaves every call its eight bytes
       --gc-sections     Leaves out sections to which nothing leads from the entry
+      --pad-ends        Puts 8 zeros behind constants and variables, as GCC loads past an object's end
       --explain         Shows below a fault where it stands and why, as on a terminal
   -h, --help            Print help
 
@@ -267,6 +269,7 @@ Options:
       --text-start <N>  The address of the text, decimal or 0x and hexadecimal [default: 0x10000]
       --no-relax        Leaves every call its eight bytes
       --gc-sections     Leaves out sections to which nothing leads from the entry
+      --pad-ends        Puts 8 zeros behind constants and variables, as GCC loads past an object's end
       --explain         Shows below a fault where it stands and why, as on a terminal
   -h, --help            Print help
 

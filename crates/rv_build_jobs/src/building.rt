@@ -3,6 +3,7 @@
 //! A job writes no file before all that it writes is made.
 
 use crate::loading::{given_sources, is_elf};
+use crate::padding::Inputs;
 use crate::refusing::{refused_objects, refused_sources};
 use rv_chain::{
     Built, Fault, LinkOptions, assemble_object, build, build_exe, link_objects, link_objects_exe,
@@ -10,8 +11,7 @@ use rv_chain::{
 use rv_guests::{GuestInput, Guests, report_end, run_line};
 use rv_job::{Asked, default_options};
 use rv_system::{
-    JobError, Purpose, System, borrowed, file_bytes, files_bytes, given_bytes, image_in, print,
-    write,
+    JobError, Purpose, System, borrowed, file_bytes, given_bytes, image_in, print, write,
 };
 use std::alloc::{AllocError, Global};
 
@@ -96,18 +96,24 @@ pub fn build_files<S: System>(
     system: &mut S,
     exe: &str,
     map: Option<&str>,
-    names: &[&str],
+    inputs: &Inputs<'_>,
     options: LinkOptions,
     explains: bool,
 ) -> Result<u8, JobError> {
     if map.is_some() {
-        let built = build_with_map(system, names, options, explains)?;
+        let built = build_with_map(system, inputs, options, explains)?;
         return write_built(system, exe, map, &built);
     }
     let alloc: Global = system.alloc();
-    let read = files_bytes(system, names)?;
+    let read = inputs.sources(system)?;
     let sources = borrowed(alloc, read.as_slice())?;
-    let built = executable(system, names, sources.as_slice(), options, explains)?;
+    let built = executable(
+        system,
+        inputs.names(),
+        sources.as_slice(),
+        options,
+        explains,
+    )?;
     write(system, exe, Purpose::ToRun, built.as_slice())?;
     Ok(0)
 }
@@ -115,14 +121,20 @@ pub fn build_files<S: System>(
 /// Reads the sources in their order and builds them: the executable and its map.
 fn build_with_map<S: System>(
     system: &mut S,
-    names: &[&str],
+    inputs: &Inputs<'_>,
     options: LinkOptions,
     explains: bool,
 ) -> Result<Built, JobError> {
     let alloc: Global = system.alloc();
-    let read = files_bytes(system, names)?;
+    let read = inputs.sources(system)?;
     let sources = borrowed(alloc, read.as_slice())?;
-    built(system, names, sources.as_slice(), options, explains)
+    built(
+        system,
+        inputs.names(),
+        sources.as_slice(),
+        options,
+        explains,
+    )
 }
 
 /// The executable that sources build, and its map.
@@ -143,11 +155,11 @@ pub(crate) fn built<S: System>(
 #[inline(never)]
 pub fn print_map<S: System>(
     system: &mut S,
-    sources: &[&str],
+    inputs: &Inputs<'_>,
     options: LinkOptions,
     explains: bool,
 ) -> Result<u8, JobError> {
-    let built = build_with_map(system, sources, options, explains)?;
+    let built = build_with_map(system, inputs, options, explains)?;
     print(system, built.map.as_slice())?;
     Ok(0)
 }
@@ -203,12 +215,12 @@ pub fn link_files<S: System>(
     system: &mut S,
     exe: &str,
     map: Option<&str>,
-    names: &[&str],
+    inputs: &Inputs<'_>,
     options: LinkOptions,
     explains: bool,
 ) -> Result<u8, JobError> {
     let alloc: Global = system.alloc();
-    let read = files_bytes(system, names)?;
+    let read = inputs.objects(system)?;
     let objects = borrowed(alloc, read.as_slice())?;
     let refused = if map.is_some() {
         match link_objects(alloc, objects.as_slice(), options) {
@@ -227,7 +239,7 @@ pub fn link_files<S: System>(
     Err(refused_objects(
         system,
         &refused,
-        names,
+        inputs.names(),
         objects.as_slice(),
         options,
         explains,

@@ -7,13 +7,16 @@
 //!
 //! ```text
 //! // rv build -o a a.s
-//! let status = build_files(system, "a", None, &["a.s"], default_options(), false)?;
+//! let inputs = Inputs::of(alloc, &["a.s"], false)?;
+//! let status = build_files(system, "a", None, &inputs, default_options(), false)?;
 //! ```
 #![tactic(auto)]
 
 mod building;
 mod loading;
+mod padding;
 mod refusing;
 
 pub use building::{assemble, build_files, link_files, print_map, run};
 pub use loading::load_program;
+pub use padding::Inputs;

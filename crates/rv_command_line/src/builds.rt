@@ -16,10 +16,14 @@ pub(crate) const BUILD: Help = Help {
 };
 
 pub(crate) fn build<'a>(operands: &mut Operands<'_, 'a>) -> Result<Job<'a>, Refusal> {
+    let exe = operands.required(executable())?;
+    let map = operands.optional(written_map())?;
+    let options = link_options(operands)?;
     Ok(Job::Build {
-        exe: operands.required(executable())?,
-        map: operands.optional(written_map())?,
-        options: link_options(operands)?,
+        exe,
+        map,
+        options,
+        pads_ends: pad_ends(operands, options)?,
         explains: operands.flag(explain())?,
         sources: operands.all(sources())?,
     })
@@ -34,10 +38,14 @@ pub(crate) const LINK: Help = Help {
 
 pub(crate) fn link<'a>(operands: &mut Operands<'_, 'a>) -> Result<Job<'a>, Refusal> {
     let objects = Texts::alone("OBJ", "The objects, in the order of their sections");
+    let exe = operands.required(executable())?;
+    let map = operands.optional(written_map())?;
+    let options = link_options(operands)?;
     Ok(Job::Link {
-        exe: operands.required(executable())?,
-        map: operands.optional(written_map())?,
-        options: link_options(operands)?,
+        exe,
+        map,
+        options,
+        pads_ends: pad_ends(operands, options)?,
         explains: operands.flag(explain())?,
         objects: operands.all(objects)?,
     })
@@ -51,8 +59,10 @@ pub(crate) const MAP: Help = Help {
 };
 
 pub(crate) fn map<'a>(operands: &mut Operands<'_, 'a>) -> Result<Job<'a>, Refusal> {
+    let options = link_options(operands)?;
     Ok(Job::Map {
-        options: link_options(operands)?,
+        options,
+        pads_ends: pad_ends(operands, options)?,
         explains: operands.flag(explain())?,
         sources: operands.all(sources())?,
     })
@@ -75,6 +85,16 @@ pub(crate) fn explain() -> Flag {
 /// The sources of a word that takes several.
 pub(crate) fn sources() -> Texts {
     Texts::alone("SRC", "The sources, in the order of their sections")
+}
+
+/// Whether the ends of regions are padded.
+fn pad_ends(operands: &mut Operands<'_, '_>, options: LinkOptions) -> Result<bool, Refusal> {
+    let help = "Puts 8 zeros behind constants and variables, as GCC loads past an object's end";
+    let pads = operands.flag(Flag::long("pad-ends", help))?;
+    if pads && options.gc {
+        return Err(Refusal::Wanted("--gc-sections leaves out what --pad-ends adds"));
+    }
+    Ok(pads)
 }
 
 /// What one can choose of a link.

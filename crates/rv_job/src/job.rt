@@ -20,6 +20,8 @@ pub enum Job<'a> {
         exe: &'a str,
         map: Option<&'a str>,
         options: LinkOptions,
+        /// Whether the ends of regions are padded.
+        pads_ends: bool,
         sources: Vec<&'a str>,
         /// Whether a fault is explained.
         explains: bool,
@@ -38,6 +40,8 @@ pub enum Job<'a> {
         exe: &'a str,
         map: Option<&'a str>,
         options: LinkOptions,
+        /// Whether the ends of regions are padded.
+        pads_ends: bool,
         objects: Vec<&'a str>,
         /// Whether a fault is explained.
         explains: bool,
@@ -45,6 +49,8 @@ pub enum Job<'a> {
     /// Prints the map.
     Map {
         options: LinkOptions,
+        /// Whether the ends of regions are padded.
+        pads_ends: bool,
         sources: Vec<&'a str>,
         /// Whether a fault is explained.
         explains: bool,

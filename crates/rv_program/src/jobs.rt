@@ -4,7 +4,7 @@
 //! each line without starting a process. Each job is a function of its own in the program (`inline(never)`), so that to run
 //! a small guest takes few pages of it.
 
-use rv_build_jobs::{assemble, build_files, link_files, load_program, print_map, run};
+use rv_build_jobs::{Inputs, assemble, build_files, link_files, load_program, print_map, run};
 use rv_command_line::completions;
 use rv_file_jobs::{code, dump, elf, names, objdump, raw, sizes, write_image};
 use rv_guests::Guests;
@@ -24,9 +24,13 @@ pub(crate) fn run_job<S: Guests>(system: &mut S, job: &Job<'_>) -> Result<u8, Jo
             exe,
             map,
             options,
+            pads_ends,
             sources,
             explains,
-        } => build_files(system, exe, *map, sources.as_slice(), *options, *explains),
+        } => {
+            let inputs = Inputs::of(system.alloc(), sources.as_slice(), *pads_ends)?;
+            build_files(system, exe, *map, &inputs, *options, *explains)
+        }
         Job::Assemble {
             object,
             source,
@@ -37,14 +41,22 @@ pub(crate) fn run_job<S: Guests>(system: &mut S, job: &Job<'_>) -> Result<u8, Jo
             exe,
             map,
             options,
+            pads_ends,
             objects,
             explains,
-        } => link_files(system, exe, *map, objects.as_slice(), *options, *explains),
+        } => {
+            let inputs = Inputs::of(system.alloc(), objects.as_slice(), *pads_ends)?;
+            link_files(system, exe, *map, &inputs, *options, *explains)
+        }
         Job::Map {
             options,
+            pads_ends,
             sources,
             explains,
-        } => print_map(system, sources.as_slice(), *options, *explains),
+        } => {
+            let inputs = Inputs::of(system.alloc(), sources.as_slice(), *pads_ends)?;
+            print_map(system, &inputs, *options, *explains)
+        }
         Job::Objdump {
             map,
             exe,
