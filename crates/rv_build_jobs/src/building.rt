@@ -5,6 +5,7 @@
 use crate::loading::{given_sources, is_elf};
 use crate::padding::Inputs;
 use crate::refusing::{refused_objects, refused_sources};
+use crate::rows::warn_of_rows;
 use rv_chain::{
     Built, Fault, LinkOptions, assemble_object, build, build_exe, link_objects, link_objects_exe,
 };
@@ -224,7 +225,10 @@ pub fn link_files<S: System>(
     let objects = borrowed(alloc, read.as_slice())?;
     let refused = if map.is_some() {
         match link_objects(alloc, objects.as_slice(), options) {
-            Ok(built) => return write_built(system, exe, map, &built),
+            Ok(built) => {
+                warn_of_rows(system, inputs.names(), built.map.as_slice())?;
+                return write_built(system, exe, map, &built);
+            }
             Err(fault) => fault,
         }
     } else {

@@ -16,6 +16,7 @@ mod building;
 mod loading;
 mod padding;
 mod refusing;
+mod rows;
 
 pub use building::{assemble, build_files, link_files, print_map, run};
 pub use loading::load_program;
