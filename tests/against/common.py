@@ -122,13 +122,13 @@ def keep(folder, seed, way, end, options):
     print(f"{seed} {way}: {end}, kept in {kept}", flush=True)
 
 
-def csmith_options(document, count):
-    """The words of a comparison over csmith's programs, of which it takes so many unless told otherwise."""
+def csmith_options(document, count, limit=20_000_000):
+    """The words of a comparison over csmith's programs: how many it takes, and up to which limit, unless told otherwise."""
     words = argparse.ArgumentParser(description=document.split("\n")[0])
     words.add_argument("--first", type=int, default=1, metavar="SEED")
     words.add_argument("--count", type=int, default=count, metavar="N")
     words.add_argument("--jobs", type=int, default=processors(), metavar="N")
-    words.add_argument("--limit", type=int, default=20_000_000, metavar="N")
+    words.add_argument("--limit", type=int, default=limit, metavar="N")
     words.add_argument("--keep", metavar="FOLDER")
     words.add_argument("--rv", default=str(RV), metavar="RV")
     return words.parse_args()
