@@ -37,6 +37,8 @@ at
   a.s:6: lw a0, 4(t0)
 access
   load of 4 bytes at 000000000000000c, in no segment
+cure
+  load the address first, as by la, and stay inside what stands there
 registers
   zero 0000000000000000
   ra   0000000000000000
@@ -75,8 +77,8 @@ segments
   0000000000011000 0000000000011010 rw- .bss
   000000003ff00000 0000000040000000 rw- the stack
 latest instructions
-  0000000000010000 _start               auipc a1,0x1
-  0000000000010004 _start+0x4           addi a1,a1,0
-  0000000000010008 _start+0x8           addi a1,a1,4
-  000000000001000c _start+0xc           addi t0,zero,8
-  0000000000010010 _start+0x10          lw a0,4(t0)
+  0000000000010000 _start               auipc a1,0x1  # a.s:3: _start: la a1, buf
+  0000000000010004 _start+0x4           mv a1,a1
+  0000000000010008 _start+0x8           add a1,a1,4  # a.s:4: addi a1, a1, 4
+  000000000001000c _start+0xc           li t0,8  # a.s:5: li t0, 8
+  0000000000010010 _start+0x10          lw a0,4(t0)  # a.s:6: lw a0, 4(t0)

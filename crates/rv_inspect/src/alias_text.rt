@@ -11,12 +11,56 @@ use crate::instruction_text::{
 };
 use crate::parcel_text::put_parcel;
 use crate::scope::Scope;
+use rv_compress::read;
 use rv_isa::{
     BType, BranchOperation, Fence, Format, IType, ImmediateOperation, Inst, JType, RType, Reg,
     RegisterOperation, Shift, ShiftOperation,
 };
 use rv_parcel::Compressed;
 use std::alloc::AllocError;
+
+/// Adds the text of the instruction at an address that these bits spell, by its shortest name; but as in listings a blank
+/// is before the operands, and a target is an address with `0x`.
+pub fn put_shortest(
+    text: &mut Vec<u8>,
+    address: u64,
+    bits: u32,
+    inst: Inst,
+) -> Result<(), AllocError> {
+    let scope = Scope {
+        name: b"",
+        start: 0,
+        end: 0,
+        is_object: false,
+        own: &[],
+        all: &[],
+        is_bare: true,
+    };
+    let start = text.len();
+    let parcel = if bits % 4 == 3 {
+        None
+    } else {
+        read((bits % 0x1_0000) as u16)
+    };
+    match parcel {
+        Some(parcel) => put_parcel_alias(text, &scope, address, &parcel, &inst)?,
+        None => put_alias(text, &scope, address, &inst)?,
+    }
+    set_blank(text, start);
+    Ok(())
+}
+
+/// Puts a blank in the place of the tab before the operands of what is added to a text from here on.
+fn set_blank(text: &mut Vec<u8>, start: usize) {
+    for place in start..text.len() {
+        if let Some(byte) = text.get_mut(place) {
+            if *byte == b'\t' {
+                *byte = b' ';
+                return;
+            }
+        }
+    }
+}
 
 /// Adds the text of the parcel at an address, which stands for an instruction.
 pub(crate) fn put_parcel_alias(

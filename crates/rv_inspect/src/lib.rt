@@ -48,6 +48,7 @@ mod segment_lines;
 mod size;
 mod symbol_lines;
 
+pub use alias_text::put_shortest;
 pub use disassembly::{CodeFile, CodeLines, Style};
 pub use elf::ElfLines;
 pub use names::NameLines;

@@ -20,6 +20,8 @@ pub(crate) struct Scope<'a> {
     pub(crate) own: &'a [Label<'a>],
     /// All names, by their places.
     pub(crate) all: &'a [Label<'a>],
+    /// Whether addresses stand alone, as in listings: `0x10008`.
+    pub(crate) is_bare: bool,
 }
 
 /// Adds an address and where that is: `10008 <f+0x8>`.
@@ -28,6 +30,9 @@ pub(crate) fn put_address(
     scope: &Scope<'_>,
     address: u64,
 ) -> Result<(), AllocError> {
+    if scope.is_bare {
+        return put_columns(text, &[Text(b"0x"), Hexadecimal(address, 0)]);
+    }
     put_columns(text, &[Hexadecimal(address, 0), Text(b" ")])?;
     let is_own = scope.is_object && scope.start <= address && address < scope.end;
     let labels = if is_own { scope.own } else { scope.all };

@@ -4,7 +4,7 @@ use crate::access::{Access, access_of, destination};
 use crate::columns::{fill_column, put, put_blanks, put_decimal, put_fixed, put_near};
 use crate::places::Places;
 use crate::visited::VisitedInstruction;
-use rv_disasm::{Targets, put_instruction};
+use rv_inspect::put_shortest;
 use rv_isa::{Inst, Reg};
 use std::alloc::{AllocError, Global};
 
@@ -138,7 +138,7 @@ fn put_bare(
         put_fixed(text, u64::from(*byte), 1)?;
     }
     fill_column(text, bytes, BYTES)?;
-    put_instruction(text, Targets::Addresses(visited.pc), visited.inst)
+    put_shortest(text, visited.pc, visited.bits, visited.inst)
 }
 
 /// Adds the symbol of an address and blanks up to the next column.

@@ -4,12 +4,15 @@ ghost use Rattle.std.specs.Prelude.{◌≡◌, ◌+◌, ◌%◌, ◌^◌, length
 
 use crate::access::{AccessKind, access_of};
 use crate::columns::{fill_column, put, put_decimal, put_fixed, put_near};
+use crate::cure::put_cure;
+use crate::memory_lines::{put_stack, put_words_around};
 use crate::pattern::put_line;
 use crate::places::Places;
+use crate::refusals::Refusals;
 use crate::visited::{bits_at, inst_of};
-use rv_disasm::{Targets, put_instruction};
 use rv_image::{Image, STACK_BYTES, STACK_START};
-use rv_isa::{Inst, Reg};
+use rv_inspect::put_shortest;
+use rv_isa::{Format, Inst, Reg};
 use rv_machine::{End, Event, ShowFault, Watched, Watcher};
 use rv_memory::Memory;
 use std::alloc::{AllocError, Global};
@@ -28,6 +31,8 @@ pub struct Latest {
     addresses: [u64; 16],
     /// How many instructions were told.
     count: u64,
+    /// The calls that were refused.
+    refusals: Refusals,
 }
 
 impl Latest {
@@ -36,6 +41,7 @@ impl Latest {
         Latest {
             addresses: [0; 16],
             count: 0,
+            refusals: Refusals::NONE,
         }
     }
 
@@ -69,7 +75,8 @@ impl<M: Memory> Watcher<M> for Latest {
     }
 
     #[inline]
-    fn after(&mut self, event: &Event, _: &Watched<M>) -> Result<(), ShowFault> {
+    fn after(&mut self, event: &Event, machine: &Watched<M>) -> Result<(), ShowFault> {
+        self.refusals.note(event, machine);
         self.note(event.pc);
         Ok(())
     }
@@ -165,7 +172,13 @@ pub fn report_text<M: Memory>(
     put_exit(&mut text, end)?;
     put_at(&mut text, machine, places)?;
     put_failed(&mut text, machine, (places, segments), end)?;
+    if let Some(address) = end.address() {
+        put_words_around(&mut text, machine, places, address)?;
+    }
+    latest.refusals.put_lines(&mut text, places)?;
+    put_cure(&mut text, end)?;
     put_registers(&mut text, machine, places)?;
+    put_stack(&mut text, machine, places)?;
     put_segments(&mut text, places, segments)?;
     put_latest(&mut text, machine, latest, places)?;
     Ok(text)
@@ -189,6 +202,7 @@ fn put_at<M: Memory>(
 ) -> Result<(), AllocError> {
     put(text, "at\n")?;
     put_place(text, machine, places, machine.pc())?;
+    text.push(b'\n')?;
     if let Some(row) = places.row_at(machine.pc()) {
         put(text, "  ")?;
         put_line(text, places, row)?;
@@ -240,11 +254,34 @@ fn put_place<M: Memory>(
         None => put(text, "no instruction: the bytes may not be executed")?,
         Some(bits) => match inst_of(bits) {
             None => put(text, "no instruction: the bytes spell none")?,
-            Some(inst) => put_instruction(text, Targets::Addresses(address), inst)?,
+            Some(inst) => {
+                put_shortest(text, address, bits, inst)?;
+                put_target(text, places, address, inst)?;
+            }
         },
     }
-    text.push(b'\n')?;
     Ok(())
+}
+
+/// Adds the symbol to which a branch or a jump at an address leads, where there is one, as `<f>`.
+fn put_target(
+    text: &mut Vec<u8>,
+    places: &Places<'_>,
+    address: u64,
+    inst: Inst,
+) -> Result<(), AllocError> {
+    let offset = match inst.format() {
+        Format::Branch(_, x) => x.offset,
+        Format::Jal(x) => x.offset,
+        _ => return Ok(()),
+    };
+    let target = address.wrapping_add_signed(i64::from(offset));
+    let Some(near) = places.symbol_at(target) else {
+        return Ok(());
+    };
+    put(text, " <")?;
+    put_near(text, Some(near))?;
+    put(text, ">")
 }
 
 /// Adds the access that failed, where one did.
@@ -270,7 +307,11 @@ fn put_failed<M: Memory>(
 }
 
 /// Adds the symbol that an address points into, after a blank, where there is one.
-fn put_symbol(text: &mut Vec<u8>, places: &Places<'_>, address: u64) -> Result<(), AllocError> {
+pub(crate) fn put_symbol(
+    text: &mut Vec<u8>,
+    places: &Places<'_>,
+    address: u64,
+) -> Result<(), AllocError> {
     if let Some(near) = places.symbol_at(address) {
         text.push(b' ')?;
         put_near(text, Some(near))?;
@@ -419,7 +460,7 @@ fn put_register<M: Memory>(
 }
 
 /// Adds a number in decimal, after a blank, where it is small; 0 is plain as it stands.
-fn put_small(text: &mut Vec<u8>, value: u64) -> Result<(), AllocError> {
+pub(crate) fn put_small(text: &mut Vec<u8>, value: u64) -> Result<(), AllocError> {
     let negated = value.wrapping_neg();
     if value == 0 || SMALL <= value && SMALL <= negated {
         return Ok(());
@@ -471,7 +512,21 @@ fn put_latest<M: Memory>(
 ) -> Result<(), AllocError> {
     put(text, "latest instructions\n")?;
     for number in 0..latest.shown() {
-        put_place(text, machine, places, latest.address(number))?;
+        let address = latest.address(number);
+        put_place(text, machine, places, address)?;
+        put_source(text, places, address)?;
     }
+    Ok(())
+}
+
+/// Adds the line of the source that an instruction begins, where it begins one, and a line feed.
+fn put_source(text: &mut Vec<u8>, places: &Places<'_>, address: u64) -> Result<(), AllocError> {
+    if let Some(row) = places.row_at(address) {
+        if places.begins_line(row, address) {
+            put(text, "  # ")?;
+            put_line(text, places, row)?;
+        }
+    }
+    text.push(b'\n')?;
     Ok(())
 }
