@@ -30,11 +30,11 @@ bar
 a.s:3: E8 UnknownDirective
     .dta
     ^^^^
-  .dta is the name of no directive
+  .dta is the name of no directive: .data is spelt almost so
 a.s:9: E6 UnknownMnemonic
     foo
     ^^^
-  foo is the name of no instruction
+  foo is the name of no instruction: a label ends with a colon, foo:
 a.s:8: E15 WrongSection
     .word 4
     ^^^^^
@@ -44,9 +44,9 @@ a.s:8: E15 WrongSection
 b.s:2: E9 UnsupportedHere
     .macro twice reg
     ^^^^^^
-  .macro is left out of this language, at least with these operands
+  .macro is left out of this language: write its lines where it is used, or make it a function
 b.s:8: E6 UnknownMnemonic
     bar
     ^^^
-  bar is the name of no instruction
+  bar is the name of no instruction: a label ends with a colon, bar:
 2 faults

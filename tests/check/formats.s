@@ -45,13 +45,13 @@ nop
 _start: ret
 lost: ret
 #--- gcc
-a.s:3:9: error: the string that begins here has no end, or an escape that there is not [E2]
+a.s:3:9: error: the string has an escape that there is not: \n, \t, \\, \" and \x41 are some [E2]
 a.s:2:24: error: addi takes -2048 to 2047 here, 5000 is too large; li a0, 5000 loads it [E14]
-b.s:1:1: error: foo is the name of no instruction [E6]
+b.s:1:1: error: foo is the name of no instruction: a label ends with a colon, foo: [E6]
 #--- json
-{"code":"E2","column":9,"file":"a.s","line":3,"message":"the string that begins here has no end, or an escape that there is not","severity":"error"}
+{"code":"E2","column":9,"file":"a.s","line":3,"message":"the string has an escape that there is not: \\n, \\t, \\\\, \\\" and \\x41 are some","severity":"error"}
 {"code":"E14","column":24,"file":"a.s","line":2,"message":"addi takes -2048 to 2047 here, 5000 is too large; li a0, 5000 loads it","severity":"error"}
-{"code":"E6","column":1,"file":"b.s","line":1,"message":"foo is the name of no instruction","severity":"error"}
+{"code":"E6","column":1,"file":"b.s","line":1,"message":"foo is the name of no instruction: a label ends with a colon, foo:","severity":"error"}
 #--- link.gcc
 c.s:3:6: error: the name means nothing here: a source has to define it in a loaded section, with .globl [L5]
 #--- entry.json

@@ -6,4 +6,4 @@
 #--- a.s
 {{22 * foo\n}}
 #--- wanted
-{{20 * a.s:\#: E6 UnknownMnemonic\n    foo\n    ^^^\n  foo is the name of no instruction\n}}20 faults, and more
+{{20 * a.s:\#: E6 UnknownMnemonic\n    foo\n    ^^^\n  foo is the name of no instruction: a label ends with a colon, foo:\n}}20 faults, and more

@@ -24,11 +24,11 @@ a.s:3: E7 BadOperands
 a.s:8: E6 UnknownMnemonic
     bar
     ^^^
-  bar is the name of no instruction
+  bar is the name of no instruction: a label ends with a colon, bar:
 a.s:9: E9 UnsupportedHere
     .comm x, 4
     ^^^^^
-  .comm is left out of this language, at least with these operands
+  .comm is left out of this language: a label and .zero in .bss do it, with .globl
 a.s:2: E13 NotConstant
     .set nmi, handler
     ^^^^^^^^^^^^^^^^^
@@ -36,5 +36,5 @@ a.s:2: E13 NotConstant
 a.s:12: E13 NotConstant
     li a0, later
            ^^^^^
-  later is no number that is known at this line, and a number has to stand here
+  later is no number that is known at this line, and a number has to stand here; la a0, later loads a label's address
 5 faults

@@ -24,7 +24,7 @@ a.s:3: E6 UnknownMnemonic
 a.s:3: E7 BadOperands
     f: foo a0; addi a1, a1, 1, 2
                              ^
-  addi does not take a comma here
+  addi does not take a comma here; the form is addi rd, rs1, number
 a.s:4: E4 DivisionByZero
     .set k, 1 / 0
                 ^
@@ -44,5 +44,5 @@ a.s:7: E14 ImmediateRange
 b.s:2: E6 UnknownMnemonic
     g: frob
        ^^^^
-  frob is the name of no instruction
+  frob is the name of no instruction: a label ends with a colon, frob:
 7 faults

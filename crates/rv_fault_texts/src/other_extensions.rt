@@ -180,6 +180,11 @@ pub(crate) fn words_of_unknown(name: &[u8]) -> &'static str {
     }
 }
 
+/// Whether a name is that of an instruction which this language leaves out, or of one without its width.
+pub(crate) fn is_of_extension(name: &[u8]) -> bool {
+    owner_of(name).is_some()
+}
+
 /// What has the instruction of a name, where it is in the table.
 fn owner_of(name: &[u8]) -> Option<Owner> {
     match NAMES.binary_search_by_key(&name, |row| row.0.as_bytes()) {

@@ -1,8 +1,13 @@
 //! What is said of a fault of a source: what stands there, and what may.
 
 use crate::excerpt::put_bytes;
+use crate::forms::form_of;
+use crate::meant::{
+    put_form, put_meant_directive, put_meant_instruction, put_meant_number, put_meant_register,
+};
 use crate::names::{has_gaps, is_access, is_zero, range_of};
-use crate::other_extensions::words_of_unknown;
+use crate::other_extensions::{is_of_extension, words_of_unknown};
+use crate::other_words::left_out_instead;
 use crate::parcel_numbers::{numbers_of, parcel_named};
 use crate::place::{Expected, FaultPlace};
 use crate::tokens::part;
@@ -35,6 +40,8 @@ struct Subject<'a> {
     expected: Expected,
     /// The line of the first definition of the name that the carets show, else 0.
     first_line: u32,
+    /// The statement stands behind a semicolon.
+    is_behind_semicolon: bool,
 }
 
 /// Adds the sentence of a fault.
@@ -55,17 +62,57 @@ pub fn put_sentence(
         mnemonic,
         first,
         second,
-        shown: part(source, place.shown.start, place.shown.stop),
+        shown: line_of(part(source, place.shown.start, place.shown.stop)),
         is_before: place.shown.start < place.statement.start || is_label(source, place),
         is_loaded,
         expected: place.expected,
         first_line: place.first_line,
+        is_behind_semicolon: part(source, 0, place.whole.start)
+            .trim_ascii_end()
+            .ends_with(b";"),
     };
     if place.ends && code == SourceCode::BadOperands {
-        put_bytes(text, subject.mnemonic)?;
-        return text.push_str(" cannot end here: an operand or a parenthesis is missing");
+        return put_cut_short(alloc, text, &subject);
     }
     put_words(alloc, text, code, place.known, &subject)
+}
+
+/// The bytes up to a line feed: what has no end goes on in the next line.
+fn line_of(bytes: &[u8]) -> &[u8] {
+    match bytes.iter().position(|byte| *byte == b'\n') {
+        Some(end) => part(bytes, 0, end),
+        None => bytes,
+    }
+}
+
+/// Adds what is said of a statement that ends too soon.
+fn put_cut_short(
+    alloc: Global,
+    text: &mut String,
+    subject: &Subject<'_>,
+) -> Result<(), AllocError> {
+    put_bytes(text, subject.mnemonic)?;
+    let opened = count_of(subject.statement, b'(');
+    if count_of(subject.statement, b')') < opened {
+        return text.push_str(" cannot end here: ) is missing");
+    }
+    text.push_str(" cannot end here")?;
+    if subject.first.starts_with(b"$") && put_meant_register(alloc, text, subject.first)? {
+        return Ok(());
+    }
+    text.push_str(": an operand is missing")?;
+    put_form(text, subject.mnemonic)
+}
+
+/// How often a byte stands in a text.
+fn count_of(bytes: &[u8], wanted: u8) -> usize {
+    let mut count = 0usize;
+    for byte in bytes {
+        if *byte == wanted {
+            count = count.saturating_add(1);
+        }
+    }
+    count
 }
 
 /// Whether the carets show a label behind which no statement stands.
@@ -104,23 +151,35 @@ fn put_words(
 ) -> Result<(), AllocError> {
     match code {
         SourceCode::BadToken => put_bad_token(text, subject.shown),
-        SourceCode::BadOperands => put_bad_operand(text, known, subject),
+        SourceCode::BadByte => put_bad_byte(text, subject.shown),
+        SourceCode::BadOperands => put_bad_operand(alloc, text, known, subject),
         SourceCode::ImmediateRange => put_range(alloc, text, known, subject),
         SourceCode::NotConstant => {
             put_shown(text, known, subject, "a value here")?;
             text.push_str(
                 " is no number that is known at this line, and a number has to stand here",
-            )
+            )?;
+            if known {
+                put_meant_number(alloc, text, subject.mnemonic, subject.first, subject.shown)?;
+            }
+            Ok(())
         }
         SourceCode::UnknownMnemonic => {
-            put_shown_and(text, subject, words_of_unknown(subject.shown))
+            put_shown_and(text, subject, words_of_unknown(subject.shown))?;
+            if is_of_extension(subject.shown) {
+                return Ok(());
+            }
+            if subject.is_behind_semicolon {
+                return text.push_str(": behind ; a statement begins, and behind # a comment");
+            }
+            let behind = after(subject.statement, subject.shown);
+            put_meant_instruction(alloc, text, subject.shown, word(behind))
         }
-        SourceCode::UnknownDirective => put_shown_and(
-            text,
-            subject,
-            " is the name of no directive",
-        ),
-        SourceCode::UnsupportedHere => put_unsupported(text, subject),
+        SourceCode::UnknownDirective => {
+            put_shown_and(text, subject, " is the name of no directive")?;
+            put_meant_directive(alloc, text, subject.shown)
+        }
+        SourceCode::UnsupportedHere => put_unsupported(alloc, text, subject),
         SourceCode::DuplicateLabel => put_duplicate(alloc, text, known, subject),
         SourceCode::UndefinedLocal => put_undefined_local(text, known, subject),
         SourceCode::ScratchRegister => {
@@ -177,9 +236,6 @@ fn put_undefined_local(
 /// What is said of a fault whatever stands there.
 fn plain_words(code: SourceCode) -> &'static str {
     match code {
-        SourceCode::BadByte => {
-            "outside strings and comments a source has printed ASCII characters alone"
-        }
         SourceCode::NestingTooDeep => "64 parentheses and signs inside one another are the most",
         SourceCode::DivisionByZero => "a division by 0 has no value; another number may stand here",
         SourceCode::ShiftTooLarge => "a shift goes by 0 to 63",
@@ -216,48 +272,86 @@ fn put_shown_and(text: &mut String, subject: &Subject<'_>, after: &str) -> Resul
     text.push_str(after)
 }
 
+/// Adds what is said of a byte that no source has.
+fn put_bad_byte(text: &mut String, shown: &[u8]) -> Result<(), AllocError> {
+    text.push_str("outside strings and comments a source has printed ASCII characters alone")?;
+    match shown.first() {
+        Some(0xE2) => text.push_str(": \" and - of the keyboard, not of a word processor"),
+        Some(0xC2) => text.push_str(": a plain blank, not one that keeps words together"),
+        Some(0xEF) => text.push_str(": save the file without a byte order mark"),
+        _ => Ok(()),
+    }
+}
+
 /// Adds what is said of a token that there is not.
 fn put_bad_token(text: &mut String, shown: &[u8]) -> Result<(), AllocError> {
     match shown.first() {
+        Some(b'"') if has_end(shown) => text.push_str(
+            "the string has an escape that there is not: \\n, \\t, \\\\, \\\" and \\x41 are some",
+        ),
         Some(b'"') => text.push_str(
-            "the string that begins here has no end, or an escape that there is not",
+            "the string that begins here has no end: \" closes it, in the same line",
         ),
         Some(b'\'') => text.push_str("the character that begins here has no end, or is none"),
         Some(b'/') => text.push_str("the comment that begins here has no end"),
-        Some(b'0') if shown.iter().all(|byte| byte.is_ascii_digit()) => {
-            put_bytes(text, shown)?;
-            text.push_str(" is no number: after 0 at its front the digits are octal, 0 to 7")
-        }
+        Some(b'[') => text.push_str("[ begins nothing here: an address is number(register)"),
         Some(digit) if digit.is_ascii_digit() => {
             put_bytes(text, shown)?;
-            text.push_str(
-                " is no number: one is below 2^64 and has digits alone, after 0x hexadecimal ones",
-            )
+            text.push_str(why_no_number(shown))
         }
         _ => text.push_str("no word or sign of the language begins so"),
     }
 }
 
+/// Whether a string has the quote that closes it.
+fn has_end(shown: &[u8]) -> bool {
+    2 <= shown.len() && shown.ends_with(b"\"") && !shown.ends_with(b"\\\"")
+}
+
+/// Why a word that begins with a digit is no number.
+fn why_no_number(shown: &[u8]) -> &'static str {
+    let has_digits_alone = shown.iter().all(|byte| byte.is_ascii_digit());
+    match (shown.first(), shown.last()) {
+        (Some(b'0'), _) if has_digits_alone => {
+            " is no number: after 0 at its front the digits are octal, 0 to 7"
+        }
+        _ if has_digits_alone => " is no number: one is below 2^64, 18446744073709551616",
+        (_, Some(b'h' | b'H')) => " is no number: hexadecimal digits stand behind 0x, without h",
+        _ if shown.iter().any(|byte| *byte == b'_') => " is no number: digits stand without _",
+        _ => { " is no number: one is below 2^64 and has digits alone, after 0x hexadecimal ones" }
+    }
+}
+
 /// Adds what is said of what is left out: the name of the statement, or an operand.
-fn put_unsupported(text: &mut String, subject: &Subject<'_>) -> Result<(), AllocError> {
+fn put_unsupported(
+    alloc: Global,
+    text: &mut String,
+    subject: &Subject<'_>,
+) -> Result<(), AllocError> {
     // a number is left out where no register in parentheses comes after it
     if subject.expected == Expected::Parenthesis {
-        return put_bad_operand(text, true, subject);
+        return put_bad_operand(alloc, text, true, subject);
     }
-    if subject.shown == subject.mnemonic {
-        return put_shown_and(
-            text,
-            subject,
-            " is left out of this language, at least with these operands",
-        );
+    if subject.shown != subject.mnemonic {
+        put_bytes(text, subject.mnemonic)?;
+        text.push_str(" with ")?;
     }
-    put_bytes(text, subject.mnemonic)?;
-    text.push_str(" with ")?;
-    put_shown_and(text, subject, " is left out of this language")
+    put_shown_and(text, subject, " is left out of this language")?;
+    match left_out_instead(subject.shown) {
+        Some(words) => {
+            text.push_str(": ")?;
+            text.push_str(words)
+        }
+        None if subject.shown == subject.mnemonic => text.push_str(
+            ", at least with these operands",
+        ),
+        None => Ok(()),
+    }
 }
 
 /// Adds what is said of an operand that a statement does not take.
 fn put_bad_operand(
+    alloc: Global,
     text: &mut String,
     known: bool,
     subject: &Subject<'_>,
@@ -265,14 +359,40 @@ fn put_bad_operand(
     if subject.is_before {
         return put_shown_and(text, subject, " cannot be a label: it is a register's name");
     }
+    match subject.expected {
+        Expected::Comma => {
+            text.push_str("a comma is missing before ")?;
+            return put_shown(text, known, subject, "this");
+        }
+        Expected::Parenthesis => {
+            text.push_str("( is missing before ")?;
+            put_shown(text, known, subject, "this")?;
+            return put_form(text, subject.mnemonic);
+        }
+        _ => {}
+    }
     put_bytes(text, subject.mnemonic)?;
     text.push_str(" does not take ")?;
     put_shown(text, known, subject, "these operands")?;
-    if known {
-        text.push_str(" here")?;
+    if !known {
+        return put_form(text, subject.mnemonic);
+    }
+    text.push_str(" here")?;
+    if subject.expected != Expected::Name || form_of(subject.mnemonic).is_none() {
         text.push_str(expected_words(subject.expected))?;
     }
-    Ok(())
+    if is_for_register(subject.expected) && put_meant_register(alloc, text, subject.shown)? {
+        return Ok(());
+    }
+    put_form(text, subject.mnemonic)
+}
+
+/// Whether a register may stand there.
+fn is_for_register(expected: Expected) -> bool {
+    matches!(
+        expected,
+        Expected::Register | Expected::RegisterOrNumber | Expected::OtherRegister
+    )
 }
 
 /// What may stand where a wrong operand does.
