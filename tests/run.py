@@ -23,9 +23,10 @@ RV = TESTS.parent / "rv"
 SECONDS = 60
 LINE = re.compile(r"# (?P<key>[a-z]+(?: has| at [0-9a-f]+| [.\w$-]+(?: \w+)?)?|no map): ?(?P<value>.*)")
 KEYS = (
-    "rv options input environment limit exit end console fault status error errors out text rodata data map listing section "
-    "alignment size same patch cut"
+    "rv options input environment limit instructions exit end console fault status error errors out text rodata data map "
+    "listing section alignment size same patch cut"
 ).split()
+WORD = re.compile(r"# ([a-z]+):.*")
 SEGMENTS = {"text": 1, "rodata": 4, "data": 6}
 BEGIN_RUN = {"exit", "end", "console"}
 
@@ -54,7 +55,10 @@ def repeated(text):
 
 
 def expectations(lines):
-    """The keys and values among the comment lines of a head, in their order."""
+    """The keys and values among the comment lines of a head, in their order; a line that begins as a key does is one."""
+    for it in lines:
+        if (word := WORD.fullmatch(it)) and word[1] not in KEYS:
+            sys.exit(f"{it}: {word[1]} is no key of a case")
     found = (LINE.fullmatch(it) for it in lines)
     return [(it["key"], it["value"]) for it in found if it and (it["key"].split()[0] in KEYS or it["key"] == "no map")]
 
@@ -146,7 +150,7 @@ def calls(files, head):
     build = [word, "-o", "exe", "--map", "map", *options, *files]
     if not keys & BEGIN_RUN:
         return [(build, head)]
-    limit = [word for key, value in head if key == "limit" for word in ("--limit", value)]
+    limit = [word for key, value in head if key in ("limit", "instructions") for word in ("--limit", value)]
     of_run = [it for it in head if it[0] in {*BEGIN_RUN, "input"}]
     return [(build, [it for it in head if it not in of_run]), (["run", *limit, "exe"], of_run)]
 

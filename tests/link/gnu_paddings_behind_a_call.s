@@ -1,6 +1,6 @@
 # Sections of text one behind the other: paddings by where each begins, with what refers to what is behind them. GNU
-# as 2.40, -march=rv64imac -mrelax, wrote the objects of the sources below, and GNU ld 2.40 makes of them what stands
-# here: tests/against/link_cases.py.
+# as 2.40, -march=rv64imac -mrelax, wrote the objects of the sources below, and GNU ld 2.40 makes of them what
+# stands here: tests/against/link_cases.py.
 # options: --no-relax
 # text: 01009700 0000e780 e0020000 00000000 00000000 00000000 00000000 00000000 010009a0 01c11300 00001300 00000100 17050000 13050500 17150000 0325d5fc 82800000 00000000 00000000 00000000 00000000 00000000 00000000
 # rodata:

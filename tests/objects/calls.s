@@ -1,5 +1,5 @@
-# The objects of these sources link to the executable and the map that the sources build, with short calls and
-# without: calls that are shortened and calls that may not be, and a difference over each kind. The program exits with
+# The objects of these sources link to the executable and the map that the sources build, with short calls
+# and without: calls that are shortened and calls that may not be, and a difference over each kind. The program exits with
 # the bytes of its first call, which may be shortened, and 16 times those of its second: 4 + 16 * 8, or 8 + 16 * 8.
 # rv: as -o calls.o calls.s
 # rv: build -o built --map built.map calls.s

@@ -1,5 +1,5 @@
-# The objects of these sources link to the executable and the map that the sources build, with short calls and
-# without: the data of one name a constant of the last.
+# The objects of these sources link to the executable and the map that the sources build, with short calls
+# and without: the data of one name a constant of the last.
 # rv: as -o second.o second.s
 # rv: as -o data.o data.s
 # rv: as -o first.o first.s

@@ -1,5 +1,5 @@
-# The objects of these sources link to the executable and the map that the sources build, with short calls and
-# without: a program that writes a text.
+# The objects of these sources link to the executable and the map that the sources build, with short calls
+# and without: a program that writes a text.
 # rv: as -o hello.o hello.s
 # rv: build -o built --map built.map hello.s
 # status: 0

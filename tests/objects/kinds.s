@@ -1,5 +1,5 @@
-# The objects of these sources link to the executable and the map that the sources build, with short calls and
-# without: sections of every kind, a padding in code, constants that others may name, and a difference.
+# The objects of these sources link to the executable and the map that the sources build, with short calls
+# and without: sections of every kind, a padding in code, constants that others may name, and a difference.
 # rv: as -o kinds.o kinds.s
 # rv: build -o built --map built.map kinds.s
 # status: 0

@@ -1,5 +1,5 @@
-# The objects of these sources link to the executable and the map that the sources build, with short calls and
-# without: a program whose loop has the name of a global one of the other file, which goes on. It exits with 11: 3 and
+# The objects of these sources link to the executable and the map that the sources build, with short calls
+# and without: a program whose loop has the name of a global one of the other file, which goes on. It exits with 11: 3 and
 # two times 4. Without the second the link is refused, and with an `f` of its own.
 # rv: as -o first.o first.s
 # rv: as -o second.o second.s
