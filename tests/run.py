@@ -23,8 +23,8 @@ RV = TESTS.parent / "rv"
 SECONDS = 60
 LINE = re.compile(r"# (?P<key>[a-z]+(?: has| at [0-9a-f]+| [.\w$-]+(?: \w+)?)?|no map): ?(?P<value>.*)")
 KEYS = (
-    "rv options input environment limit instructions exit end console fault status error errors out text rodata data map "
-    "listing section alignment size same patch cut"
+    "rv options input environment limit instructions exit end console fault status error errors out text rodata data "
+    "map listing section alignment size same patch cut"
 ).split()
 WORD = re.compile(r"# ([a-z]+):.*")
 SEGMENTS = {"text": 1, "rodata": 4, "data": 6}
@@ -55,7 +55,7 @@ def repeated(text):
 
 
 def expectations(lines):
-    """The keys and values among the comment lines of a head, in their order; a line that begins as a key does is one."""
+    """The keys and values among the comment lines of a head, in order; a line that begins as a key does is one."""
     for it in lines:
         if (word := WORD.fullmatch(it)) and word[1] not in KEYS:
             sys.exit(f"{it}: {word[1]} is no key of a case")

@@ -123,7 +123,7 @@ def keep(folder, seed, way, end, options):
 
 
 def csmith_options(document, count, limit=20_000_000):
-    """The words of a comparison over csmith's programs: how many it takes, and up to which limit, unless told otherwise."""
+    """The words of a comparison over csmith's programs: how many it takes, up to which limit, by default."""
     words = argparse.ArgumentParser(description=document.split("\n")[0])
     words.add_argument("--first", type=int, default=1, metavar="SEED")
     words.add_argument("--count", type=int, default=count, metavar="N")

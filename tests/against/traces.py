@@ -2,17 +2,17 @@
 
 usage: compare.py traces [--first SEED] [--count N] [--jobs N] [--limit N] [--keep FOLDER] [--rv RV]
 
-It takes 40 programs from seed 1 on unless told otherwise, each as GCC compiles it in five ways, with a stack of its own,
-since qemu puts sp elsewhere. GNU's tools link them. Up to --limit instructions, by default 50,000:
+It takes 40 programs from seed 1 on by default, each as GCC compiles it in five ways, with a stack of its own, since
+qemu puts sp elsewhere. GNU's tools link them. Up to --limit instructions, by default 50,000:
 
   registers  pc and all registers before each instruction are those that qemu shows (-singlestep -d cpu,nochain), where
              the model's are changed by `rv trace` alone
   memory     the loads of the trace show what its stores and the executable left, and the digest of the memory that they
              leave is that of `rv run --state`, as are the registers, pc and the number of instructions
 
-Each program ends as `same`, as `differs`, with a line that says where, as `past end`, where rv stops at a load that goes on
-behind a segment, or as `none` where no tool makes it. The last line is 'differs=0' where no program differs, and only then
-the status is 0.
+Each program ends as `same`, as `differs`, with a line that says where, as `past end`, where rv stops at a load that
+goes on behind a segment, or as `none` where no tool makes it. The last line is 'differs=0' where no program differs,
+and only then the status is 0.
 """
 
 import hashlib

@@ -40,4 +40,4 @@ foo
 {"letter":"A","name":"far","value":"9007199254740993"}
 {"letter":"A","name":"near","value":9007199254740992}
 #--- faults
-{"code":"E6","column":1,"file":"c.s","line":3,"message":"foo is the name of no instruction","severity":"error"}
+{"code":"E6","column":1,"file":"c.s","line":3,"message":"foo is the name of no instruction: a label ends with a colon, foo:","severity":"error"}

@@ -20,4 +20,5 @@ section .rv.rows - 8: 07000000 01000000 01000000 01000000 00000000 00000000 0400
 #--- c.s
 .globl _start
 _start: nop
-label: .set place, label
+.data
+label: .set place, .

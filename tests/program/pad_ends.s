@@ -4,7 +4,7 @@
 # end: LoadOutside 11001
 # rv: build --pad-ends -o exe --map map a.s
 # rodata: 6100000000000000 00
-# data: 02 0000000000000000 0000000000000000
+# data: 02 0000000000000000
 # map: rodata 11000 11009
 # map: data 12000 12009
 # map: bss 12009 12019

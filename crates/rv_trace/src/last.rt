@@ -54,7 +54,7 @@ impl<M: Memory> Watcher<M> for Last {
     fn after(&mut self, event: &Event, machine: &Watched<M>) -> Result<(), ShowFault> {
         self.totals = self.totals.with(event);
         add_span(&mut self.console, machine.memory(), event.put);
-        self.latest.note(event.pc);
+        self.latest.note(event, machine);
         Ok(())
     }
 }

@@ -45,12 +45,13 @@ impl Latest {
         }
     }
 
-    /// Notes the address of an instruction.
+    /// Notes the address of an instruction, and a call that is refused.
     #[inline]
-    pub(crate) fn note(&mut self, address: u64)
+    pub(crate) fn note<M: Memory>(&mut self, event: &Event, machine: &Watched<M>)
         ensures { self.new.count ≡ (self.old.count + 1) % 2 ^ 64 }
     {
-        self.addresses[(self.count % 16) as usize] = address;
+        self.refusals.note(event, machine);
+        self.addresses[(self.count % 16) as usize] = event.pc;
         self.count = self.count.wrapping_add(1);
     }
 
@@ -76,8 +77,7 @@ impl<M: Memory> Watcher<M> for Latest {
 
     #[inline]
     fn after(&mut self, event: &Event, machine: &Watched<M>) -> Result<(), ShowFault> {
-        self.refusals.note(event, machine);
-        self.note(event.pc);
+        self.note(event, machine);
         Ok(())
     }
 }
@@ -291,7 +291,7 @@ fn put_failed<M: Memory>(
     known: (&Places<'_>, &Segments),
     end: &End,
 ) -> Result<(), AllocError> {
-    let (Some(address), Some(what)) = (end.address(), failed(end, machine)) else {
+    let (Some(address), Some(what)) = (end.address(), failed_access(end, machine)) else {
         return Ok(());
     };
     put(text, "access\n  ")?;
@@ -407,7 +407,7 @@ pub(crate) struct Failed {
 }
 
 /// The access that failed, where one did.
-pub(crate) fn failed<M: Memory>(end: &End, machine: &Watched<M>) -> Option<Failed> {
+pub(crate) fn failed_access<M: Memory>(end: &End, machine: &Watched<M>) -> Option<Failed> {
     match end {
         End::FetchOutside(_) => Some(Failed {
             kind: "fetch",

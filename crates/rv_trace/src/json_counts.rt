@@ -2,9 +2,9 @@
 
 use crate::counts::Counts;
 use crate::ending::Ending;
+use crate::json_report::{file, near};
 use crate::lines::{Covered, coverage};
 use crate::places::Places;
-use crate::report_json::{file, near};
 use crate::summary::{Sums, calls, sums_of, tallies};
 use crate::totals::Totals;
 use rv_json::{number, number_or_null, put_line};

@@ -4,7 +4,7 @@ use crate::ending::Ending;
 use crate::last::registers;
 use crate::lines::put_file;
 use crate::places::Places;
-use crate::report::{Failed, Latest, Segments, failed, rights};
+use crate::report::{Failed, Latest, Segments, failed_access, rights};
 use crate::visited::{bits_at, inst_of};
 use rv_disasm::{Targets, put_instruction};
 use rv_json::{name, number, number_or_null, put_line};
@@ -54,7 +54,7 @@ fn access<M: Memory>(
     let Ending::By(end) = ending else {
         return Ok(Value::Null);
     };
-    match failed(&end, machine) {
+    match failed_access(&end, machine) {
         None => Ok(Value::Null),
         Some(Failed { kind, bytes }) => json!(in alloc; { "kind": kind, "bytes": bytes }),
     }
