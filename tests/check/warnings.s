@@ -29,9 +29,6 @@ lonely: ret
 jalr zero, 0(ra)
 #--- wanted
 text 44, rodata 0, data 4, bss 0 bytes
-a.s:9: warning: nothing in this source refers to unused
-    unused: la a1, used
-    ^^^^^^
 a.s:3: warning: nothing leads here: the line before jumps away, and there is no label
     nop
     ^^^
@@ -41,6 +38,9 @@ a.s:5: warning: the address is no multiple of the width, as sp is one of 16
 a.s:7: warning: the address is no multiple of the width, as sp is one of 16
     sd a0, -12(sp)
             ^^
+a.s:9: warning: nothing in this source refers to unused
+    unused: la a1, used
+    ^^^^^^
 a.s:10: warning: this is the address of v today: la follows it when it moves
     li a1, 0x11000
            ^^^^^^^

@@ -18,10 +18,13 @@ use rv_fault_texts::{
     put_sentence, section_before, without_macro, without_sort,
 };
 use rv_link::LinkOptions;
+use rv_warnings::put_warnings;
 use std::alloc::{AllocError, Global};
 
 /// The most faults that are shown.
 const MOST_FAULTS: usize = 20;
+/// The most warnings of a source that are shown.
+const MOST_WARNINGS: usize = 20;
 
 /// What is wrong with sources, in their order, or what they come to; `names` are those of the files. An error is want of
 /// memory.
@@ -37,15 +40,54 @@ pub fn check(
     match build(alloc, sources, options) {
         Ok(built) => {
             let closing = closing_of(alloc, sources, built.map.as_slice())?;
+            let warnings = all_warnings(alloc, sources, built.map.as_slice(), closing.warnings)?;
             Ok(Report {
                 first: None,
                 others: Vec::new(alloc),
-                warnings: closing.warnings,
+                warnings,
                 closing: closing.sizes,
             })
         }
         Err(Fault::Memory) => Err(Fault::Memory),
         Err(fault) => refused(alloc, names, sources, fault, options),
+    }
+}
+
+/// The warnings of sources, those by their words and those by what their statements do, line by line.
+fn all_warnings(
+    alloc: Global,
+    sources: &[&[u8]],
+    map: &[u8],
+    by_words: Vec<Remark>,
+) -> Result<Vec<Remark>, AllocError> {
+    let mut warnings = by_words;
+    let is_alone = sources.len() == 1;
+    let mut file = 0usize;
+    for source in sources {
+        let most = MOST_WARNINGS.saturating_sub(count_in(warnings.as_slice(), file));
+        put_warnings(alloc, file, source, map, is_alone, most, &mut warnings)?;
+        file = file.saturating_add(1);
+    }
+    warnings.sort_by_key(|warning: &Remark| spot_of(warning))?;
+    Ok(warnings)
+}
+
+/// How many warnings are of a source.
+fn count_in(warnings: &[Remark], file: usize) -> usize {
+    let mut count = 0usize;
+    for warning in warnings {
+        if spot_of(warning).0 == file {
+            count = count.saturating_add(1);
+        }
+    }
+    count
+}
+
+/// The source, the line and the column of a warning.
+fn spot_of(warning: &Remark) -> (usize, u32, usize) {
+    match &warning.spot {
+        Some(spot) => (spot.file, spot.line, spot.column),
+        None => (0, 0, 0),
     }
 }
 

@@ -1,0 +1,105 @@
+//! Loads and stores off a multiple of their width, where the register of their address holds what is known.
+
+use crate::effect::is_zero;
+use crate::facts::Facts;
+use crate::registers::{Held, Registers};
+use rv_isa::{LoadOperation, Reg, StoreOperation};
+use rv_statement::{Operation, Plain, StatementKind, Statements};
+use std::alloc::{AllocError, Global};
+
+/// An access whose address is known but for that of a label.
+#[derive(Clone, Copy, Drop)]
+pub(crate) struct KnownAccess {
+    /// The index of its statement.
+    pub index: usize,
+    /// Where its bytes begin.
+    pub held: Held,
+    pub width: u64,
+}
+
+/// The loads and stores of several bytes at addresses that are known.
+pub(crate) fn known_accesses(
+    alloc: Global,
+    facts: &Facts<'_>,
+) -> Result<Vec<KnownAccess>, AllocError> {
+    let mut accesses = Vec::new(alloc);
+    put_accesses(facts, &mut accesses)?;
+    Ok(accesses)
+}
+
+fn put_accesses(facts: &Facts<'_>, accesses: &mut Vec<KnownAccess>) -> Result<(), AllocError> {
+    let mut registers = Registers::unknown();
+    let mut room = Statements::room();
+    let statements = facts.unit.statements();
+    for index in 0..statements.len() {
+        let statement = statements.read(index, &mut room);
+        if let Some((width, held)) = access_of(facts, &registers, &statement.kind) {
+            accesses.push(KnownAccess { index, held, width })?;
+        }
+        registers.pass(facts, &statement.kind);
+    }
+    Ok(())
+}
+
+/// The width of a load or a store of several bytes, and where they begin, where that is known.
+fn access_of<'a>(
+    facts: &Facts<'a>,
+    registers: &Registers,
+    kind: &StatementKind<'a>,
+) -> Option<(u64, Held)> {
+    let (width, base, offset) = match kind {
+        StatementKind::Plain(plain) => {
+            let (width, base) = plain_access(*plain)?;
+            (width, base, 0)
+        }
+        StatementKind::With(operation, expression) => {
+            let (width, base) = access_with(*operation)?;
+            (width, base, facts.number(expression)?)
+        }
+        _ => return None,
+    };
+    if width == 1 || is_zero(base) {
+        return None;
+    }
+    match registers.held(base) {
+        Held::Number(number) => Some((width, Held::Number(number.wrapping_add(offset)))),
+        Held::Place(label, distance) => {
+            Some((width, Held::Place(label, distance.wrapping_add(offset))))
+        }
+        _ => None,
+    }
+}
+
+fn plain_access(plain: Plain) -> Option<(u64, Reg)> {
+    match plain {
+        Plain::Load(operation, _, base) => Some((loaded(operation), base)),
+        Plain::Store(operation, _, base) => Some((stored(operation), base)),
+        _ => None,
+    }
+}
+
+fn access_with(operation: Operation) -> Option<(u64, Reg)> {
+    match operation {
+        Operation::Load(operation, _, base) => Some((loaded(operation), base)),
+        Operation::Store(operation, _, base) => Some((stored(operation), base)),
+        _ => None,
+    }
+}
+
+fn loaded(operation: LoadOperation) -> u64 {
+    match operation {
+        LoadOperation::Lb | LoadOperation::Lbu => 1,
+        LoadOperation::Lh | LoadOperation::Lhu => 2,
+        LoadOperation::Lw | LoadOperation::Lwu => 4,
+        LoadOperation::Ld => 8,
+    }
+}
+
+fn stored(operation: StoreOperation) -> u64 {
+    match operation {
+        StoreOperation::Sb => 1,
+        StoreOperation::Sh => 2,
+        StoreOperation::Sw => 4,
+        StoreOperation::Sd => 8,
+    }
+}

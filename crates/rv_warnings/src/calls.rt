@@ -1,0 +1,71 @@
+//! Calls of the environment that there are not, where their numbers are known.
+
+use crate::effect::{Flow, flow_of};
+use crate::facts::Facts;
+use crate::registers::{Held, Registers};
+use crate::warning::{Doubt, Warning, put};
+use rv_isa::Reg;
+use rv_statement::Statements;
+use std::alloc::AllocError;
+
+/// The calls: a read, a write, and the exit.
+const READ: u64 = 63;
+
+const WRITE: u64 = 64;
+
+const EXIT: u64 = 93;
+
+/// Adds the calls by a number, or of a file, that there is not; and the first whose number nothing sets. `sets_number` says
+/// whether some source of the program sets one.
+pub(crate) fn put_calls(
+    facts: &Facts<'_>,
+    sets_number: bool,
+    found: &mut Vec<Warning>,
+) -> Result<(), AllocError> {
+    let mut registers = Registers::unknown();
+    let mut is_told = false;
+    let mut room = Statements::room();
+    let statements = facts.unit.statements();
+    for index in 0..statements.len() {
+        let statement = statements.read(index, &mut room);
+        if matches!(flow_of(&statement.kind), Flow::Environment)
+            && let Some(doubt) = doubt_of_call(&registers, sets_number)
+        {
+            let is_again = is_told && matches!(doubt, Doubt::NoNumber);
+            if !is_again {
+                put(found, doubt, index)?;
+            }
+            is_told = is_told || matches!(doubt, Doubt::NoNumber);
+        }
+        registers.pass(facts, &statement.kind);
+    }
+    Ok(())
+}
+
+/// What may be wrong with a call where the registers hold this.
+fn doubt_of_call(registers: &Registers, sets_number: bool) -> Option<Doubt> {
+    let call = Reg::from_low_bits(17);
+    if !sets_number || matches!(registers.held(call), Held::Start) {
+        return Some(Doubt::NoNumber);
+    }
+    let file = registers.number(Reg::from_low_bits(10));
+    match (registers.number(call)?, file) {
+        (EXIT, _) | (READ, Some(0)) | (WRITE, Some(1 | 2)) => None,
+        (number @ (READ | WRITE), Some(file)) => Some(Doubt::WrongFile(number, file)),
+        (READ | WRITE, None) => None,
+        (number, _) => Some(Doubt::UnknownCall(number)),
+    }
+}
+
+/// Whether a call where the registers hold this ends the run.
+pub(crate) fn is_exit(registers: &Registers) -> bool {
+    registers.number(Reg::from_low_bits(17)) == Some(EXIT)
+}
+
+/// Whether a run goes on behind a call where the registers hold this.
+pub(crate) fn goes_on(registers: &Registers) -> bool {
+    match registers.number(Reg::from_low_bits(17)) {
+        Some(number) => number == READ || number == WRITE,
+        None => false,
+    }
+}

@@ -1,0 +1,301 @@
+//! What a function owes its caller: ra and s0 to s11 as they were, and at its own calls a stack pointer of 16 (psABI,
+//! "Integer Calling Convention").
+//!
+//! A function goes from its label to the next one in its section. It owes that only where it returns, and not where a run
+//! begins; a register is saved where it is stored at sp or loaded from there, or kept elsewhere before it is written.
+
+use crate::calls::is_exit;
+use crate::effect::{Flow, flow_of, kept_by, operation_of, written_by};
+use crate::facts::Facts;
+use crate::registers::Registers;
+use crate::warning::{Doubt, Warning, put};
+use rv_isa::{ImmediateOperation, Reg};
+use rv_statement::{Operation, Plain, StatementKind, Statements};
+use std::alloc::{AllocError, Global};
+
+/// A function as far as it was looked at.
+#[derive(Drop)]
+struct Function {
+    section: u32,
+    /// It has a caller.
+    owes: bool,
+    returns: bool,
+    /// It saves what it has to by a call, as GCC does by `-msave-restore`.
+    saves_by_call: bool,
+    /// The registers that are saved, each at the bit of its number.
+    saved: u32,
+    /// The registers that were written before they were saved, and where.
+    lost: Vec<(Reg, usize)>,
+    /// How far sp is from where it was at the beginning, where that is known, modulo 2^64.
+    moved: Option<u64>,
+    /// No instruction leads to the next statement.
+    is_cut_off: bool,
+}
+
+impl Function {
+    fn new(alloc: Global, section: u32) -> Self {
+        Function {
+            section,
+            owes: true,
+            returns: false,
+            saves_by_call: false,
+            saved: 0,
+            lost: Vec::new(alloc),
+            moved: Some(0),
+            is_cut_off: true,
+        }
+    }
+
+    /// Begins another one.
+    fn begin(&mut self, section: u32, owes: bool) {
+        self.section = section;
+        self.owes = owes;
+        self.returns = false;
+        self.saves_by_call = false;
+        self.saved = 0;
+        self.lost.clear();
+        self.moved = Some(0);
+        self.is_cut_off = true;
+    }
+
+    /// Adds what it loses, where it returns.
+    fn finish(&self, found: &mut Vec<Warning>) -> Result<(), AllocError> {
+        if !self.owes || !self.returns || self.saves_by_call {
+            return Ok(());
+        }
+        for (register, index) in &self.lost {
+            if !self.has_saved(*register) {
+                put(found, doubt_of(*register), *index)?;
+            }
+        }
+        Ok(())
+    }
+
+    /// Whether a register is saved.
+    fn has_saved(&self, register: Reg) -> bool {
+        self.saved & bit(register) != 0
+    }
+
+    /// Whether a register was written before.
+    fn has_lost(&self, register: Reg) -> bool {
+        self.lost
+            .iter()
+            .any(|lost| lost.0.number() == register.number())
+    }
+
+    /// Looks at an instruction.
+    fn pass<'a>(
+        &mut self,
+        facts: &Facts<'a>,
+        kind: &StatementKind<'a>,
+        index: usize,
+    ) -> Result<(), AllocError> {
+        self.save(kind);
+        if let Some(register) = written_by(kind) {
+            self.write(register, index)?;
+            if register.number() == Reg::SP.number() {
+                self.moved = moved_by(facts, self.moved, kind);
+            }
+        }
+        self.go(kind);
+        Ok(())
+    }
+
+    /// Notes a register that an instruction saves, or loads as it was saved.
+    fn save(&mut self, kind: &StatementKind<'_>) {
+        let is_at_stack = is_at_stack(kind);
+        if let Some(register) = kept_by(kind)
+            && (is_at_stack || !self.has_lost(register))
+        {
+            self.saved |= bit(register);
+        }
+        if let Some(register) = written_by(kind)
+            && is_at_stack
+        {
+            self.saved |= bit(register);
+        }
+    }
+
+    /// Notes a register that is written, where the caller wants it again.
+    fn write(&mut self, register: Reg, index: usize) -> Result<(), AllocError> {
+        if is_owed(register) && !self.has_saved(register) && !self.has_lost(register) {
+            self.lost.push((register, index))?;
+        }
+        Ok(())
+    }
+
+    /// Goes where an instruction goes.
+    fn go(&mut self, kind: &StatementKind<'_>) {
+        let flow = flow_of(kind);
+        self.is_cut_off = matches!(flow, Flow::Jump | Flow::Return | Flow::Break);
+        self.returns = self.returns || matches!(flow, Flow::Return);
+        if self.is_cut_off {
+            self.moved = None;
+        }
+        if let Some(Operation::Call(link)) = operation_of(kind) {
+            self.saves_by_call = self.saves_by_call || link.number() == 5;
+        }
+    }
+}
+
+/// Adds the registers that functions lose, and the calls where sp is no multiple of 16.
+pub(crate) fn put_conventions(
+    alloc: Global,
+    facts: &Facts<'_>,
+    found: &mut Vec<Warning>,
+) -> Result<(), AllocError> {
+    let mut function = Function::new(alloc, 0);
+    let mut registers = Registers::unknown();
+    let mut room = Statements::room();
+    let statements = facts.unit.statements();
+    for index in 0..statements.len() {
+        let statement = statements.read(index, &mut room);
+        if let Some(section) = code_section(facts, index) {
+            put_passed(
+                facts,
+                &statement.kind,
+                (index, section),
+                &mut function,
+                found,
+            )?;
+            function.is_cut_off = function.is_cut_off || exits(&registers, &statement.kind);
+        }
+        registers.pass(facts, &statement.kind);
+    }
+    function.finish(found)
+}
+
+/// The section of a statement, where that has code.
+fn code_section(facts: &Facts<'_>, index: usize) -> Option<u32> {
+    let section = facts.section(index)?;
+    if facts.is_code(section) {
+        Some(section)
+    } else {
+        None
+    }
+}
+
+/// Looks at a statement, by its index and section, and adds what the function before it loses where it begins one.
+fn put_passed<'a>(
+    facts: &Facts<'a>,
+    kind: &StatementKind<'a>,
+    at: (usize, u32),
+    function: &mut Function,
+    found: &mut Vec<Warning>,
+) -> Result<(), AllocError> {
+    let (index, section) = at;
+    if section != function.section || begins(facts, kind, function.is_cut_off) {
+        function.finish(found)?;
+        function.begin(section, !is_entry(facts, kind));
+    }
+    if is_call_off(kind, function.moved) {
+        put(found, Doubt::StackOff, index)?;
+    }
+    match kind {
+        StatementKind::Plain(_) | StatementKind::With(..) | StatementKind::WithFunction(..) => {
+            function.pass(facts, kind, index)
+        }
+        _ => Ok(()),
+    }
+}
+
+/// Whether a run begins at a statement.
+fn is_entry(facts: &Facts<'_>, kind: &StatementKind<'_>) -> bool {
+    match kind {
+        StatementKind::Label(name) => facts.is_entry(name),
+        _ => false,
+    }
+}
+
+/// Whether a statement is the call that ends a run.
+fn exits(registers: &Registers, kind: &StatementKind<'_>) -> bool {
+    matches!(flow_of(kind), Flow::Environment) && is_exit(registers)
+}
+
+/// Whether a statement is the label of a function.
+fn begins(facts: &Facts<'_>, kind: &StatementKind<'_>, is_cut_off: bool) -> bool {
+    match kind {
+        StatementKind::Label(name) => facts.begins_function(name, is_cut_off),
+        _ => false,
+    }
+}
+
+/// Whether a statement is a call where sp, so far from where it was, is no multiple of 16.
+fn is_call_off(kind: &StatementKind<'_>, moved: Option<u64>) -> bool {
+    match moved {
+        Some(moved) => moved % 16 != 0 && matches!(flow_of(kind), Flow::Call),
+        None => false,
+    }
+}
+
+/// How far sp is from where it was after an instruction that writes it.
+fn moved_by<'a>(facts: &Facts<'a>, moved: Option<u64>, kind: &StatementKind<'a>) -> Option<u64> {
+    let StatementKind::With(operation, expression) = kind else {
+        return None;
+    };
+    if !is_stack_sum(*operation) {
+        return None;
+    }
+    Some(moved?.wrapping_add(facts.number(expression)?))
+}
+
+/// Whether an operation adds a number to sp.
+fn is_stack_sum(operation: Operation) -> bool {
+    match operation {
+        Operation::Immediate(ImmediateOperation::Addi, _, from) => {
+            from.number() == Reg::SP.number()
+        }
+        _ => false,
+    }
+}
+
+/// Whether a statement is a load or a store at sp.
+fn is_at_stack(kind: &StatementKind<'_>) -> bool {
+    let base = match kind {
+        StatementKind::Plain(plain) => plain_base(*plain),
+        _ => base_of(operation_of(kind)),
+    };
+    match base {
+        Some(base) => base.number() == Reg::SP.number(),
+        None => false,
+    }
+}
+
+/// The base of a load or a store without an offset.
+fn plain_base(plain: Plain) -> Option<Reg> {
+    match plain {
+        Plain::Load(_, _, base) => Some(base),
+        Plain::Store(_, _, base) => Some(base),
+        Plain::Parcel(_, _, second) => Some(second),
+        _ => None,
+    }
+}
+
+/// The base of a load or a store with an offset.
+fn base_of(operation: Option<Operation>) -> Option<Reg> {
+    match operation? {
+        Operation::Load(_, _, base) => Some(base),
+        Operation::Store(_, _, base) => Some(base),
+        Operation::Parcel(_, _, second) => Some(second),
+        _ => None,
+    }
+}
+
+/// Whether a caller wants a register as it was: ra, and s0 to s11.
+fn is_owed(register: Reg) -> bool {
+    matches!(register.number(), 1 | 8 | 9 | 18..=27)
+}
+
+/// What may be wrong with a write to a register.
+fn doubt_of(register: Reg) -> Doubt {
+    if register.number() == Reg::RA.number() {
+        Doubt::LostReturn
+    } else {
+        Doubt::LostRegister(register)
+    }
+}
+
+/// The bit of a register.
+fn bit(register: Reg) -> u32 {
+    1u32.wrapping_shl(u32::from(register.number()))
+}

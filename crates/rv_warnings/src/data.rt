@@ -1,0 +1,116 @@
+//! Data that is not as it is written: numbers without room, and sections that are not loaded.
+
+use crate::effect::is_instruction;
+use crate::facts::Facts;
+use crate::warning::{Doubt, Warning, put};
+use rv_statement::{Opening, StatementKind, Statements, Width};
+use rv_text::Expr;
+use rv_unit::Section;
+use std::alloc::AllocError;
+
+/// Adds the numbers in data that have no room there.
+pub(crate) fn put_cut(facts: &Facts<'_>, found: &mut Vec<Warning>) -> Result<(), AllocError> {
+    let mut room = Statements::room();
+    let statements = facts.unit.statements();
+    for index in 0..statements.len() {
+        let statement = statements.read(index, &mut room);
+        if let Some(doubt) = cut_in(facts, &statement.kind) {
+            put(found, doubt, index)?;
+        }
+    }
+    Ok(())
+}
+
+/// The first number of a statement that has no room.
+fn cut_in<'a>(facts: &Facts<'a>, kind: &StatementKind<'a>) -> Option<Doubt> {
+    match kind {
+        StatementKind::Value(width, expression) => cut_of(facts, *width, expression),
+        StatementKind::Values(width, expressions) => {
+            for expression in expressions {
+                let found = cut_of(facts, *width, expression);
+                if found.is_some() {
+                    return found;
+                }
+            }
+            None
+        }
+        _ => None,
+    }
+}
+
+/// A number that has no room in so many bytes, with a sign or without.
+fn cut_of<'a>(facts: &Facts<'a>, width: Width, expression: &Expr<'a>) -> Option<Doubt> {
+    let number = facts.number(expression)?;
+    let most: u64 = match width {
+        Width::Byte => 0xFF,
+        Width::Half => 0xFFFF,
+        Width::Word => 0xFFFF_FFFF,
+        Width::Double => return None,
+    };
+    let least = (most / 2).wrapping_add(1).wrapping_neg();
+    if most < number && number < least {
+        Some(Doubt::Cut(width, number))
+    } else {
+        None
+    }
+}
+
+/// Adds the sections whose bytes are not loaded, for want of flags.
+pub(crate) fn put_unloaded(facts: &Facts<'_>, found: &mut Vec<Warning>) -> Result<(), AllocError> {
+    let mut opened: Option<usize> = None;
+    let mut room = Statements::room();
+    let statements = facts.unit.statements();
+    for index in 0..statements.len() {
+        let statement = statements.read(index, &mut room);
+        match &statement.kind {
+            StatementKind::Enters(_) => opened = None,
+            StatementKind::Opens(opening) => {
+                opened = if is_unloaded(opening) {
+                    Some(index)
+                } else {
+                    None
+                };
+            }
+            kind => {
+                if let Some(first) = opened
+                    && has_bytes(kind)
+                {
+                    put(found, Doubt::Unloaded, first)?;
+                    opened = None;
+                }
+            }
+        }
+    }
+    Ok(())
+}
+
+/// Whether a section is opened without flags, and its name has none; those of notes, debuggers and tools are to be so.
+fn is_unloaded(opening: &Opening<'_>) -> bool {
+    if opening.flags.is_some() || opening.kind.is_some() || is_of_tools(opening.name) {
+        return false;
+    }
+    !Section::of(opening.name, None, None).loaded
+}
+
+/// Whether a section is for tools.
+fn is_of_tools(name: &[u8]) -> bool {
+    name.starts_with(b".note")
+        || name.starts_with(b".debug")
+        || name.starts_with(b".comment")
+        || name.starts_with(b".stab")
+        || name.starts_with(b".riscv")
+        || name.starts_with(b".gnu")
+}
+
+/// Whether a statement has bytes.
+fn has_bytes(kind: &StatementKind<'_>) -> bool {
+    let is_data = matches!(
+        kind,
+        StatementKind::Value(..)
+            | StatementKind::Values(..)
+            | StatementKind::Ascii(_)
+            | StatementKind::Asciz(_)
+            | StatementKind::Zeros(_)
+    );
+    is_data || is_instruction(kind)
+}
