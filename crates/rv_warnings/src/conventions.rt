@@ -26,6 +26,10 @@ struct Function {
     saved: u32,
     /// The registers that were written before they were saved, and where.
     lost: Vec<(Reg, usize)>,
+    /// How many of them were when the latest label or branch was passed.
+    block: usize,
+    /// The latest instruction was a call.
+    is_after_call: bool,
     /// How far sp is from where it was at the beginning, where that is known, modulo 2^64.
     moved: Option<u64>,
     /// No instruction leads to the next statement.
@@ -41,6 +45,8 @@ impl Function {
             saves_by_call: false,
             saved: 0,
             lost: Vec::new(alloc),
+            block: 0,
+            is_after_call: false,
             moved: Some(0),
             is_cut_off: true,
         }
@@ -54,8 +60,19 @@ impl Function {
         self.saves_by_call = false;
         self.saved = 0;
         self.lost.clear();
+        self.block = 0;
+        self.is_after_call = false;
         self.moved = Some(0);
         self.is_cut_off = true;
+    }
+
+    /// Passes a label. A call before it may be of what does not return, and then nothing was lost on the way there.
+    fn end_block(&mut self) {
+        if self.is_after_call {
+            self.lost.truncate(self.block);
+        }
+        self.block = self.lost.len();
+        self.is_after_call = false;
     }
 
     /// Adds what it loses, where it returns.
@@ -132,6 +149,13 @@ impl Function {
         if self.is_cut_off {
             self.moved = None;
         }
+        self.is_after_call = matches!(flow, Flow::Call);
+        match flow {
+            // nothing is lost on a way that ends
+            Flow::Break => self.lost.truncate(self.block),
+            Flow::Branch => self.block = self.lost.len(),
+            _ => {}
+        }
         if let Some(Operation::Call(link)) = operation_of(kind) {
             self.saves_by_call = self.saves_by_call || link.number() == 5;
         }
@@ -162,6 +186,7 @@ pub(crate) fn put_conventions(
         }
         registers.pass(facts, &statement.kind);
     }
+    function.end_block();
     function.finish(found)
 }
 
@@ -184,6 +209,9 @@ fn put_passed<'a>(
     found: &mut Vec<Warning>,
 ) -> Result<(), AllocError> {
     let (index, section) = at;
+    if matches!(kind, StatementKind::Label(_) | StatementKind::Numbered(_)) {
+        function.end_block();
+    }
     if section != function.section || begins(facts, kind, function.is_cut_off) {
         function.finish(found)?;
         function.begin(section, !is_entry(facts, kind));
