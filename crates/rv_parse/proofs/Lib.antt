@@ -8,6 +8,7 @@ pub mod ParcelsLemmas
 pub mod OpeningsLemmas
 pub mod OpenedLemmas
 pub mod StatementsLemmas
+pub mod OffsetsLemmas
 pub mod RefusalsLemmas
 pub mod LinesLemmas
 pub mod PastLineLemmas

@@ -3,3 +3,4 @@ pub mod Left
 pub mod Slots
 pub mod Opened
 pub mod Lines
+pub mod Offsets

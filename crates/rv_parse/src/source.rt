@@ -5,7 +5,7 @@
 
 ghost use Rattle.std.specs.Prelude.{◌≡◌, ◌<◌, ◌≤◌, ℕ, List, [], IfOk, IfErr, IfSome, length, map, take, false, ◌+◌};
 ghost use Rattle.rv_lexer.specs.Token.{token_of, kind_of};
-ghost use Rattle.rv_text_laws.specs.Lexing.{newlines};
+ghost use Rattle.rv_text_laws.specs.Lexing.{Token as SpecToken, Lexes, newlines};
 ghost use Rattle.rv_parse_laws.specs.Syntax.{is_end, Says};
 ghost use Rattle.rv_text_laws.specs.Codes.{limit};
 ghost use Rattle.rv_statement_laws.specs.Statement.{Statement as SpecStatement};
@@ -18,13 +18,14 @@ ghost use Rattle.rv_parse_laws.specs.Reading.{Reads};
 ghost use Rattle.rv_statement_laws.specs.Limits.{most_statements};
 ghost use Rattle.rv_parse_laws.specs.Refusals.{SaysUpTo};
 ghost use Rattle.rv_parse.specs.Lines.{past_line};
+ghost use Rattle.rv_parse.specs.Offsets.{BeginIn};
 ghost use Rattle.rv_lexer.specs.Left.{tokens_left};
 ghost use Rattle.rv_statement.specs.View.{statement_kind, statement_of};
 ghost use Rattle.rv_statement.specs.Statements.{statements_of};
 ghost use Rattle.rv_lexer.specs.Cursor.{left, syntax_error_of, Answers};
 ghost use Rattle.rv_parse.specs.Left.{StopsAt, RefusesTokens, RefusedAt, RefusedWith};
 
-use crate::list::StatementList;
+use crate::list::{PlacedStatements, StatementList};
 use crate::opening::{Opened, wrong_opening};
 use crate::statement::statement;
 use memchr::{memchr_iter, memrchr};
@@ -134,7 +135,9 @@ fn statements<'a, L: StatementList<'a>>(
     lexer: Lexer<'a>,
     list: L,
 ) -> Result<L, ReadError>
-    requires { L.said list ≡ [] }
+    requires none { L.said list ≡ [] }
+    requires begin { (ts : List SpecToken) → L.begin_in list ts }
+    ensures begin { IfOk result (λ v. L.begin_in v (tokens_left lexer.entry)) }
     ensures says { IfOk result (λ v. SaysUpTo (tokens_left lexer.entry) [] (L.said v)) }
     ensures within { IfOk result (λ v. length (L.said v) ≤ most_statements) }
     ensures refuses { IfErr result (λ e. RefusesTokens (tokens_left lexer.entry) e) }
@@ -186,8 +189,11 @@ fn placed<'a, L: StatementList<'a>>(
     source: &'a [u8],
     list: L,
 ) -> Result<L, ReadError>
-    requires { L.said list ≡ [] }
+    requires none { L.said list ≡ [] }
+    requires begin { (ts : List SpecToken) → L.begin_in list ts }
     ensures reads { IfOk result (λ v. Reads source.now (L.said v)) }
+    ensures begin { IfOk result
+        (λ v. (ts : List SpecToken) × Lexes source.now ts × L.begin_in v ts) }
     ensures refuses { IfErr result (λ e. RefusedAt source.now e) }
 {
     if LONGEST_SOURCE < source.len() {
@@ -242,19 +248,21 @@ pub fn parse_compact(alloc: Global, source: &[u8]) -> Result<Statements<'_>, Sou
     ensures reads { IfOk result (λ v. Reads source.now (statements_of v)) }
     ensures refuses { IfErr result (λ e. RefusedWith source.now e) }
 {
-    match parse_placed(alloc, source) {
+    match placed(alloc, source, Statements::new(alloc, source)) {
         Ok(statements) => Ok(statements),
         Err(error) => Err(without_place(error)),
     }
 }
 
-/// The statements of a source, as [`parse_compact`] reads them. A fault keeps the offset of its byte, in the source that is
-/// not too long.
-pub fn parse_placed(alloc: Global, source: &[u8]) -> Result<Statements<'_>, ReadError>
-    ensures reads { IfOk result (λ v. Reads source.now (statements_of v)) }
+/// The statements of a source, as [`parse`] reads them, and where each begins. A fault keeps the offset of its byte, in a
+/// source that is not too long.
+pub fn parse_placed(alloc: Global, source: &[u8]) -> Result<PlacedStatements<'_>, ReadError>
+    ensures reads { IfOk result (λ v. Reads source.now (map statement_of v.statements.items)) }
+    ensures begin { IfOk result
+        (λ v. BeginIn source.now (map statement_of v.statements.items) v.offsets.items) }
     ensures refuses { IfErr result (λ e. RefusedAt source.now e) }
 {
-    placed(alloc, source, Statements::new(alloc, source))
+    placed(alloc, source, PlacedStatements::new(alloc))
 }
 
 /// A source has the same statements in either list.

@@ -10,6 +10,7 @@ use Rattle.rv_parse.proofs.source.statements.Given as goal
 abbrev pub invariant-loop-cursor : goal.invariant-loop-cursor
 invariant-loop-cursor g l = record {
   says : SaysUpTo (tokens_left l.fn.lexer) (left l.cursor) (g.L.StatementList.said l.statements);
+  begin : g.L.StatementList.begin_in l.statements (tokens_left l.fn.lexer);
   counted : length (g.L.StatementList.said l.statements) ≡ l.count;
   within : l.count ≤ most_statements;
   knows : Knows l.opened.set (g.L.StatementList.said l.statements);
