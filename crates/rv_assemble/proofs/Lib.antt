@@ -17,4 +17,7 @@ pub mod SectionsSoFarLemmas
 pub mod UsesLemmas
 pub mod JoiningLemmas
 pub mod RefusedLemmas
+pub mod OrdinalsLemmas
+pub mod NumberingLemmas
+pub mod PlacedLemmas
 mod RowsFromLemmas

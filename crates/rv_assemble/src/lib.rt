@@ -4,6 +4,7 @@
 //! relocations, symbols and rows; or the first fault of the source. The object lends the names of the source.
 //! Main contract: [`assemble`]: in `object` the object is that of the statements that the bytes read as (`IsObjectOf`), in
 //! `refuses` the fault is the first one of the source (`IsFirstFault`), unless memory ran out.
+//! [`first_fault`] also says where that stands: at a byte, or in which statement, and where this begins (`IsPlaced`).
 //! It must not know addresses, other sources, or how objects are written to files.
 //!
 //! ```text
@@ -20,12 +21,14 @@
 
 mod indices;
 mod object;
+mod placed;
 mod relocations;
 mod rows;
 mod sections;
 mod source;
 mod symbols;
 
+pub use placed::{Culprit, PlacedFault, first_fault};
 pub use rv_object_types::Object;
 pub use rv_text::{SourceCode, SourceFault};
 pub use source::assemble;
