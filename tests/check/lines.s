@@ -1,5 +1,4 @@
-# Several statements in a line: the wrong token of one is shown, and of a later fault the statement that has it whatever the
-# others are; where any of them may have it, all of the line. The name of a label is none of an instruction.
+# Several statements in a line: each fault is shown in its own. The name of a label is none of an instruction.
 # rv: check a.s
 # status: 1
 # errors:
@@ -16,14 +15,14 @@ a.s:1: E6 UnknownMnemonic
   c.flw is an instruction of the F extension, which this language leaves out
 a.s:2: E15 WrongSection
     .data; ecall; .text
-    ^^^^^^^^^^^^^^^^^^^
-  a statement of this line cannot stand in this section: instructions go to .text, data to .data or .rodata
+           ^^^^^
+  ecall cannot stand in this section: instructions go to .text, data to .data or .rodata
 a.s:3: E14 ImmediateRange
     nop; lw a0, 4096(sp); nop
                 ^^^^
   lw takes -2048 to 2047 here, 4096 is too large
 a.s:4: E12 UndefinedLocal
     j 1f; j 2f; 1: nop
-    ^^^^^^^^^^^^^^^^^^
-  what this refers to is no label of this source
+            ^^
+  2f has no label: digits with b want it before, with f after this line
 4 faults

@@ -31,8 +31,8 @@ a.s:9: E9 UnsupportedHere
   .comm is left out of this language: a label and .zero in .bss do it, with .globl
 a.s:2: E13 NotConstant
     .set nmi, handler
-    ^^^^^^^^^^^^^^^^^
-  a value here is no number that is known at this line, and a number has to stand here
+              ^^^^^^^
+  handler is no number that is known at this line, and a number has to stand here
 a.s:12: E13 NotConstant
     li a0, later
            ^^^^^

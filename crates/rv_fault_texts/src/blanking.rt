@@ -21,10 +21,7 @@ pub fn blank(draft: &mut [u8], code: SourceCode, place: &FaultPlace) -> bool {
             put_zero(draft, Place { start, stop });
             true
         }
-        None => {
-            let cut = cut_of(draft, code, place);
-            blank_bytes(draft, cut)
-        }
+        None => blank_bytes(draft, cut_of(place)),
     }
 }
 
@@ -60,17 +57,9 @@ fn is_fault_of_value(code: SourceCode) -> bool {
     )
 }
 
-/// What is blanked: the statement with what is wrong in it, or a label with its colon where that is wrong.
-fn cut_of(draft: &[u8], code: SourceCode, place: &FaultPlace) -> Place {
+/// What is blanked: the statement, with its labels where one of them is wrong.
+fn cut_of(place: &FaultPlace) -> Place {
     let in_labels = place.shown.start < place.statement.start;
-    if in_labels && code == SourceCode::DuplicateLabel {
-        let rest = part(draft, place.shown.stop, draft.len());
-        let colon = memchr(b':', rest).unwrap_or(0);
-        return Place {
-            start: place.shown.start,
-            stop: place.shown.stop.saturating_add(colon).saturating_add(1),
-        };
-    }
     let start = if in_labels {
         place.whole.start
     } else {

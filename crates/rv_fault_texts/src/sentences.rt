@@ -34,8 +34,8 @@ struct Subject<'a> {
     shown: &'a [u8],
     /// The carets show a label before the statement.
     is_before: bool,
-    /// `li` loads what the carets show.
-    is_loaded: bool,
+    /// What the carets show has no name in it.
+    is_number: bool,
     /// What may stand there.
     expected: Expected,
     /// The line of the first definition of the name that the carets show, else 0.
@@ -51,7 +51,6 @@ pub fn put_sentence(
     source: &[u8],
     code: SourceCode,
     place: &FaultPlace,
-    is_loaded: bool,
 ) -> Result<(), AllocError> {
     let statement = part(source, place.statement.start, place.statement.stop);
     let mnemonic = word(statement);
@@ -64,7 +63,7 @@ pub fn put_sentence(
         second,
         shown: line_of(part(source, place.shown.start, place.shown.stop)),
         is_before: place.shown.start < place.statement.start || is_label(source, place),
-        is_loaded,
+        is_number: place.is_number,
         expected: place.expected,
         first_line: place.first_line,
         is_behind_semicolon: part(source, 0, place.whole.start)
@@ -462,7 +461,7 @@ fn put_load(text: &mut String, subject: &Subject<'_>) -> Result<(), AllocError> 
     if !is_zero(subject.second) {
         return text.push_str("; li loads it, and add adds it");
     }
-    if !subject.is_loaded || LONGEST_CURE < subject.shown.len() {
+    if !subject.is_number || LONGEST_CURE < subject.shown.len() {
         return text.push_str("; li loads it");
     }
     text.push_str("; li ")?;

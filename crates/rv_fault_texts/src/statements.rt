@@ -1,10 +1,11 @@
-//! The statement of a number in a source, and the symbol that it refers to.
+//! The tokens of one statement of a source, and the symbol to which it refers.
 
 use crate::names::{is_operator, is_register};
-use crate::tokens::{LineToken, Sort, all_tokens, is_end, text_of, unlabelled};
+use crate::tokens::{LineToken, Sort, text_of, tokens_at};
+use rv_parse::{ReadError, parse_placed};
 use std::alloc::{AllocError, Global};
 
-/// The token by which the statement of a number, from 1, refers to a symbol: that of this name if there is one, else the
+/// The token by which the statement of an ordinal, from 1, refers to a symbol: that of this name if there is one, else the
 /// first; of a lower part of a distance its operator.
 pub fn symbol_at(
     alloc: Global,
@@ -13,20 +14,19 @@ pub fn symbol_at(
     name: &[u8],
     is_lower: bool,
 ) -> Result<Option<LineToken>, AllocError> {
-    let tokens = all_tokens(alloc, source)?;
-    let mut last = 0usize;
-    for group in tokens.as_slice().split(is_end) {
-        let statement = unlabelled(group);
-        let labels = group.len().saturating_sub(statement.len()) / 2;
-        last = last.saturating_add(labels);
-        if !statement.is_empty() {
-            last = last.saturating_add(1);
-            if last == ordinal as usize {
-                return Ok(symbol_in(source, statement, name, is_lower));
-            }
+    let parsed = match parse_placed(alloc, source) {
+        Ok(parsed) => parsed,
+        Err(ReadError::At(_)) => return Ok(None),
+        Err(ReadError::OutOfMemory) => return Err(AllocError),
+    };
+    let index = (ordinal as usize).saturating_sub(1);
+    match (parsed.offsets.get(index), parsed.statements.get(index)) {
+        (Some(offset), Some(statement)) => {
+            let tokens = tokens_at(alloc, source, *offset, statement.line)?;
+            Ok(symbol_in(source, tokens.as_slice(), name, is_lower))
         }
+        _ => Ok(None),
     }
-    Ok(None)
 }
 
 /// The token by which a statement refers to a symbol.

@@ -3,7 +3,7 @@
 ghost use Rattle.std.specs.Prelude.{◌<◌};
 
 use crate::excerpt::Place;
-use rv_lexer::{Lexer, Punct, TokenKind};
+use rv_lexer::{Lexer, Punct, Token, TokenKind};
 use std::alloc::{AllocError, Global};
 
 /// Sources from this size on are not looked into: places fit 32 bits.
@@ -51,6 +51,19 @@ pub struct LineToken {
     pub value: u64,
 }
 
+impl LineToken {
+    /// A token of a text that begins at an offset of the source, behind so many lines.
+    fn of(token: &Token<'_>, offset: usize, lines: u32) -> LineToken {
+        LineToken {
+            sort: sort_of(token.kind),
+            start: offset.saturating_add(token.start as usize),
+            stop: offset.saturating_add(token.stop as usize),
+            line: lines.saturating_add(token.line),
+            value: value_of(token.kind),
+        }
+    }
+}
+
 /// The bytes between two offsets, where there are such.
 pub fn part(bytes: &[u8], start: usize, stop: usize) -> &[u8] {
     if start <= stop && stop <= bytes.len() {
@@ -66,7 +79,7 @@ pub(crate) fn text_of<'a>(source: &'a [u8], token: &LineToken) -> &'a [u8] {
 }
 
 /// The tokens of a line, from 1; none of a line that there is not.
-pub fn tokens_of_line(
+pub(crate) fn tokens_of_line(
     alloc: Global,
     source: &[u8],
     line: u32,
@@ -97,19 +110,44 @@ fn tokens_of_lines(
             break;
         }
         if first <= token.line {
-            tokens.push(LineToken {
-                sort: sort_of(token.kind),
-                start: token.start as usize,
-                stop: token.stop as usize,
-                line: token.line,
-                value: value_of(token.kind),
-            })?;
+            tokens.push(LineToken::of(&token, 0, 0))?;
         }
         if is_last(token.kind) {
             break;
         }
     }
     Ok(tokens)
+}
+
+/// The tokens of the label or of the statement that begins at an offset in a line, without its end.
+pub(crate) fn tokens_at(
+    alloc: Global,
+    source: &[u8],
+    offset: usize,
+    line: u32,
+) -> Result<Vec<LineToken>, AllocError> {
+    let mut tokens = Vec::new(alloc);
+    let text = part(source, offset, source.len());
+    if TOO_LARGE <= text.len() {
+        return Ok(tokens);
+    }
+    let mut lexer = Lexer::new(text);
+    for _ in 0..=text.len() {
+        let token = LineToken::of(&lexer.token(), offset, line.saturating_sub(1));
+        if ends(token.sort) {
+            break;
+        }
+        tokens.push(token)?;
+        if token.sort == Sort::Colon {
+            break;
+        }
+    }
+    Ok(tokens)
+}
+
+/// Whether no token of a statement is of this sort, nor comes after one.
+fn ends(sort: Sort) -> bool {
+    matches!(sort, Sort::End | Sort::BadByte | Sort::BadToken)
 }
 
 /// The value of a number, else 0.
@@ -129,7 +167,7 @@ pub(crate) fn place(token: &LineToken) -> Place {
 }
 
 /// From the first of some tokens to the last.
-pub fn span(tokens: &[LineToken]) -> Option<Place> {
+pub(crate) fn span(tokens: &[LineToken]) -> Option<Place> {
     let first = tokens.first()?;
     let last = tokens.last()?;
     Some(Place {
@@ -189,7 +227,7 @@ pub(crate) fn is_line_feed(byte: &u8) -> bool {
 }
 
 /// Whether a token ends a statement.
-pub fn is_end(token: &LineToken) -> bool {
+pub(crate) fn is_end(token: &LineToken) -> bool {
     token.sort == Sort::End
 }
 

@@ -8,9 +8,9 @@ ghost use Rattle.rv_statement.specs.View.{now_of};
 ghost use Rattle.rv_report.specs.Check.{BeginsWithFaultOf, HasFirst};
 
 use crate::linking::link_remark;
-use crate::placing::{is_loaded_by_li, place_of};
+use crate::placing::place_of;
 use crate::report::{Finding, Report};
-use rv_assemble::assemble;
+use rv_assemble::{PlacedFault, first_fault};
 use rv_chain::build;
 use rv_fault::{Fault, SourceCode, SourceFault};
 use rv_fault_texts::{
@@ -124,27 +124,22 @@ pub fn remark_of(
     options: LinkOptions,
 ) -> Result<Remark, Fault> {
     match fault {
-        Fault::Source(file, SourceFault::At { code, line }) => {
-            source_remark(alloc, sources, *file, *code, *line)
-        }
+        Fault::Source(file, SourceFault::At { .. }) => source_remark(alloc, sources, *file),
         Fault::Link(link) => link_remark(alloc, names, sources, link, options),
         _ => Ok(Remark::new(alloc)),
     }
 }
 
 /// What is said of the first fault of a source, whose file counts from 1.
-fn source_remark(
-    alloc: Global,
-    sources: &[&[u8]],
-    file: u32,
-    code: SourceCode,
-    line: u32,
-) -> Result<Remark, Fault> {
+fn source_remark(alloc: Global, sources: &[&[u8]], file: u32) -> Result<Remark, Fault> {
     let Some(source) = sources.get((file as usize).saturating_sub(1)) else {
         return Ok(Remark::new(alloc));
     };
-    let place = place_of(alloc, source, code, line)?;
-    remark_at(alloc, source, file, code, line, &place)
+    let Some(fault) = first_fault(alloc, source)? else {
+        return Ok(Remark::new(alloc));
+    };
+    let place = place_of(alloc, source, &fault)?;
+    remark_at(alloc, source, file, &fault, &place)
 }
 
 /// Adds the faults after the first, which is in this file; one more than are shown tells that there are more.
@@ -190,20 +185,20 @@ fn put_faults_of(
         if MOST_FAULTS <= others.len() {
             return Ok(());
         }
-        let Some((code, line)) = first_fault(alloc, draft)? else {
+        let Some(fault) = first_fault(alloc, draft)? else {
             return Ok(());
         };
-        let place = place_of(alloc, draft, code, line)?;
-        let cause = cause_of(alloc, source, draft, code, line, &place, &omitted)?;
+        let place = place_of(alloc, draft, &fault)?;
+        let cause = cause_of(alloc, source, draft, &fault, &place, &omitted)?;
         if !is_there && cause == Cause::Own {
-            others.push(finding(alloc, source, file, code, line, &place)?)?;
+            others.push(finding(alloc, source, file, &fault, &place)?)?;
         }
         is_there = false;
         let Some(place) = place else {
             return Ok(());
         };
-        omitted.put(alloc, source, code, line, &place)?;
-        if !leave(alloc, draft, code, line, &place, cause)? {
+        omitted.put(alloc, source, &fault, &place)?;
+        if !leave(alloc, draft, &fault, &place, cause)? {
             return Ok(());
         }
     }
@@ -225,12 +220,11 @@ impl<'a> Omitted<'a> {
         &mut self,
         alloc: Global,
         source: &'a [u8],
-        code: SourceCode,
-        line: u32,
+        fault: &PlacedFault,
         place: &FaultPlace,
     ) -> Result<(), AllocError> {
-        if code == SourceCode::UnknownDirective {
-            self.unknown.push(line)?;
+        if fault.code == SourceCode::UnknownDirective {
+            self.unknown.push(fault.line)?;
         }
         put_refused_names(alloc, source, place, &mut self.refused)
     }
@@ -252,13 +246,13 @@ fn cause_of(
     alloc: Global,
     source: &[u8],
     draft: &[u8],
-    code: SourceCode,
-    line: u32,
+    fault: &PlacedFault,
     place: &Option<FaultPlace>,
     omitted: &Omitted<'_>,
 ) -> Result<Cause, AllocError> {
+    let code = fault.code;
     if code == SourceCode::WrongSection
-        && may_follow(alloc, draft, line, omitted.unknown.as_slice())?
+        && may_follow(alloc, draft, fault.line, omitted.unknown.as_slice())?
     {
         return Ok(Cause::Directive);
     }
@@ -280,20 +274,19 @@ fn may_follow(alloc: Global, draft: &[u8], line: u32, unknown: &[u32]) -> Result
 fn leave(
     alloc: Global,
     draft: &mut [u8],
-    code: SourceCode,
-    line: u32,
+    fault: &PlacedFault,
     place: &FaultPlace,
     cause: Cause,
 ) -> Result<bool, AllocError> {
     if cause == Cause::Directive {
-        let left = without_sort(alloc, draft, line, place)?;
+        let left = without_sort(alloc, draft, fault.line, place)?;
         return Ok(overwrite(draft, left.as_slice()));
     }
     if is_of_macro(draft, place) {
         let left = without_macro(alloc, draft, place)?;
         return Ok(overwrite(draft, left.as_slice()));
     }
-    Ok(blank(draft, code, place))
+    Ok(blank(draft, fault.code, place))
 }
 
 /// Gives a draft other bytes; whether that changes one.
@@ -308,27 +301,21 @@ fn overwrite(draft: &mut [u8], bytes: &[u8]) -> bool {
     changed
 }
 
-/// The first fault of a source.
-fn first_fault(alloc: Global, source: &[u8]) -> Result<Option<(SourceCode, u32)>, Fault> {
-    match assemble(alloc, source) {
-        Ok(_) => Ok(None),
-        Err(SourceFault::At { code, line }) => Ok(Some((code, line))),
-        Err(SourceFault::OutOfMemory) => Err(Fault::Memory),
-    }
-}
-
 /// A fault of a source, with what is said of it.
 fn finding(
     alloc: Global,
     source: &[u8],
     file: u32,
-    code: SourceCode,
-    line: u32,
+    fault: &PlacedFault,
     place: &Option<FaultPlace>,
 ) -> Result<Finding, Fault> {
-    let remark = remark_at(alloc, source, file, code, line, place)?;
+    let remark = remark_at(alloc, source, file, fault, place)?;
+    let fault = SourceFault::At {
+        code: fault.code,
+        line: fault.line,
+    };
     Ok(Finding {
-        fault: Fault::Source(file, SourceFault::At { code, line }),
+        fault: Fault::Source(file, fault),
         remark,
     })
 }
@@ -338,17 +325,16 @@ fn remark_at(
     alloc: Global,
     source: &[u8],
     file: u32,
-    code: SourceCode,
-    line: u32,
+    fault: &PlacedFault,
     place: &Option<FaultPlace>,
 ) -> Result<Remark, Fault> {
     let mut remark = Remark::new(alloc);
     let Some(place) = place else {
         return Ok(remark);
     };
-    let is_loaded = code == SourceCode::ImmediateRange && is_loaded_by_li(alloc, source, place)?;
-    remark.show((file as usize).saturating_sub(1), source, line, place.shown)?;
-    put_sentence(alloc, &mut remark.sentence, source, code, place, is_loaded)?;
+    let index = (file as usize).saturating_sub(1);
+    remark.show(index, source, fault.line, place.shown)?;
+    put_sentence(alloc, &mut remark.sentence, source, fault.code, place)?;
     Ok(remark)
 }
 
