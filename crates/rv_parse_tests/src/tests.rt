@@ -123,4 +123,8 @@ fn expands(rt: HostRuntime) {
     assert!(rt; expanded(alloc, b"la a0, x", None) == Ok(2));
     assert!(rt; expanded(alloc, b"sw a0, x, a0", None) == Err(10));
     assert!(rt; expanded(alloc, b"lw a0, %pcrel_lo(x)(a1)", None) == Ok(1));
+    assert!(rt; expanded(alloc, b"c.mv a0, a1", None) == Ok(1));
+    assert!(rt; expanded(alloc, b"c.addi a0, 5", Some(5)) == Ok(1));
+    assert!(rt; expanded(alloc, b"c.addi a0, 32", Some(32)) == Err(14));
+    assert!(rt; expanded(alloc, b"c.lw a0, %lo(x)(a1)", Some(4)) == Ok(1));
 }
