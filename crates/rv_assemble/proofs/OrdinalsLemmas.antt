@@ -238,3 +238,9 @@ pub refused_for : (ss : List Statement) (code ordinal : ℕ) → length ss ≤ m
 refused_for ss code ordinal few alone =
     let found = refused_at (IsAtLine ss) ss few (λ i n s got is. record { index = i; statement = s; got = got; ordinal_is = is; line_is = refl }) (record { code = code; line = ordinal }) alone in
     (found.0, record { at = found.1.1; fault = found.1.0; alone = alone })
+
+-- statements without a fault under their ordinals have none at their own lines
+pub sound_at_home : (ss : List Statement) → length ss ≤ most_statements → statements_fault (by_ordinal ss) ≡ None → statements_fault ss ≡ None
+sound_at_home ss few is =
+    none_alike (IsAtLine ss) (statements_fault (by_ordinal ss)) (statements_fault ss)
+    (statements (IsAtLine ss) ss few (λ i n s got at. record { index = i; statement = s; got = got; ordinal_is = at; line_is = refl })) is

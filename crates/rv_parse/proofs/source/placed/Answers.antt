@@ -1,4 +1,6 @@
-use Rattle.std.proofs.Common.{refl, sym, arith}
+use Rattle.std.proofs.Common.{refl, sym, subst, arith}
+use Rattle.rv_text_laws.specs.Lexing.{Lexes}
+use Rattle.rv_text_laws.proofs.TokensLemmas.{given}
 use Rattle.rv_parse_laws.proofs.WholeLemmas.{reads_as}
 use Rattle.rv_parse.proofs.PastLineLemmas.{past_none}
 use Rattle.rv_parse.proofs.RefusalsLemmas.{limit_refused, line_first, line_alone, token_before, token_alone}
@@ -7,6 +9,10 @@ use Rattle.rv_parse.proofs.source.placed.Goals as goal
 
 pub returns-in-None-clause-reads : goal.returns-in-None-clause-reads
 returns-in-None-clause-reads g c = reads_as c.args.source.now _ _ c.if-source-gt-LONGEST_SOURCE.false (past_none c.args.source.now (sym c.in-None.ensures.place)) c.in-Ok.ensures.within (c.new.ensures.whole (omega (arith, c.if-source-gt-LONGEST_SOURCE.false))) c.in-Ok.ensures.says
+
+pub returns-in-None-clause-begin : goal.returns-in-None-clause-begin
+returns-in-None-clause-begin g c =
+    (_, subst (Lexes c.args.source.now) (sym (c.new.ensures.whole (omega (arith, c.if-source-gt-LONGEST_SOURCE.false)))) (given c.args.source.now), c.in-Ok.ensures.begin)
 
 pub returns-in-Some-clause-refuses : goal.returns-in-Some-clause-refuses
 returns-in-Some-clause-refuses g c =
