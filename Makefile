@@ -68,6 +68,7 @@ rv_refused: crates.txt $(FILES)
 
 check: rv
 	tests/run.py
+	tests/agreeing.py
 	tests/damaged.py
 	tests/explained.py
 	tests/documents.py

@@ -18,7 +18,7 @@ TOP = Path(__file__).resolve().parent.parent
 RV = TOP / "rv"
 # What is typed, and what the last word is completed to.
 ROWS = [
-    ("rv b", "build"),
+    ("rv b", "batch build"),
     ("rv ma", "map"),
     ("rv --v", "--version"),
     ("rv e", "elf explain"),

@@ -7,6 +7,10 @@
 # out is: trace.txt
 # rv: stats --help
 # out is: stats.txt
+# rv: test --help
+# out is: test.txt
+# rv: batch --help
+# out is: batch.txt
 # rv: build --help
 # out is: build.txt
 # rv: as --help
@@ -46,6 +50,8 @@ Commands:
   run          Runs an executable, or builds sources and runs them
   trace        Runs a program and shows each instruction
   stats        Runs a program and counts what it executes
+  test         Runs cases: sources with what must come of them
+  batch        Answers calls, an object of JSON a line, in one process
   build        Builds an executable from sources
   as           Assembles a source to an object
   ld           Links objects to an executable
@@ -72,6 +78,8 @@ Examples:
   rv run --report prog.s                    says why a run ended
   rv trace prog.s                           shows each instruction of a run
   rv stats --lines prog.s                   counts what a run executes
+  rv test cases/                            runs programs with what must come of them
+  rv batch < calls                          answers many calls in one process
   rv build -o prog --map prog.map prog.s    writes the executable and its map
   rv as -o prog.o prog.s                    writes the object of a source
   rv ld -o prog prog.o other.o              links objects
@@ -192,6 +200,42 @@ The counts stand on standard error, and genhtml draws the file that --lcov names
 The object of --json has instructions, compressed, loads, bytes_read, stores, bytes_written,
 branches_taken, branches_not_taken, deepest_stack, kinds, mnemonics, calls (address, symbol,
 distance, count), end, status of an exit, and with --lines lines (file, line, count).
+#--- test.txt
+Runs cases: sources with what must come of them
+
+Usage: rv test [OPTIONS] <FILE>...
+
+Arguments:
+  <FILE>...  Cases, or folders of cases
+
+Options:
+      --limit <N>     The most instructions to execute, as 500k or 10M [default: RV_LIMIT, else 1000G]
+      --json          Writes an object of JSON a line for each case, and one for the sum
+      --junit <FILE>  Writes a report in the XML of JUnit as well
+  -h, --help          Print help
+
+Examples:
+  rv test sum.s
+  rv test --limit 10M --junit report.xml cases/
+
+A case says in the comments at its head what must come, as '# exit: 7' or '# console: 10\n'; in a
+folder NAME.in and NAME.out are the input and the console of NAME.s.
+
+Status 0 where all cases pass, and 1 where one fails.
+#--- batch.txt
+Answers calls, an object of JSON a line, in one process
+
+Usage: rv batch [OPTIONS]
+
+Options:
+      --limit <N>  The most instructions to execute, as 500k or 10M [default: RV_LIMIT, else 1000G]
+  -h, --help       Print help
+
+Example:
+  rv batch --limit 1M < calls > answers
+
+A call as {"id": 1, "sources": [TEXT], "input": TEXT, "limit": N, "want": ["console", "end"]}
+has its answer on the line of the same number, with the status that 'rv run' would have.
 #--- build.txt
 Builds an executable from sources
 

@@ -1,2 +1,1 @@
 pub mod AssemblerOptions
-pub mod Numbers

@@ -1,11 +1,12 @@
 //! The words that build, assemble and link.
 
 use crate::assembler_options::{is_code_option, is_machine_option};
-use crate::numbers::{number, text_start};
+use crate::numbers::number;
 use crate::operands::{Flag, Operands, Refusal, Text, Texts};
 use crate::words::Help;
 use rv_job::{Job, TEXT_START};
 use rv_link::LinkOptions;
+use rv_numbers::text_start;
 use std::alloc::{AllocError, Global};
 
 pub(crate) const BUILD: Help = Help {

@@ -15,6 +15,8 @@ const HELP: &str = "Examples:
   rv run --report prog.s                    says why a run ended
   rv trace prog.s                           shows each instruction of a run
   rv stats --lines prog.s                   counts what a run executes
+  rv test cases/                            runs programs with what must come of them
+  rv batch < calls                          answers many calls in one process
   rv build -o prog --map prog.map prog.s    writes the executable and its map
   rv as -o prog.o prog.s                    writes the object of a source
   rv ld -o prog prog.o other.o              links objects

@@ -1,9 +1,10 @@
 //! The words over files: what stands in them, and images of executables.
 
-use crate::numbers::{number, text_start};
+use crate::numbers::number;
 use crate::operands::{Flag, Operands, Refusal, Text, Texts};
 use crate::words::Help;
 use rv_job::{AskedCode, AskedImage, ImageFormat, Job, OutputFormat, TextFormat};
+use rv_numbers::text_start;
 
 pub(crate) const OBJDUMP: Help = Help {
     name: "objdump",

@@ -15,6 +15,7 @@
 
 mod assembler_options;
 mod builds;
+mod cases;
 mod commands;
 mod files;
 mod numbers;
@@ -25,6 +26,5 @@ mod shells;
 mod sources;
 mod words;
 
-pub use numbers::{decimal, text_start};
 pub use parsing::parse_job;
 pub use shells::completions;

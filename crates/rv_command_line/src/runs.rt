@@ -2,10 +2,11 @@
 
 use crate::builds::explain;
 use crate::files::{json, output_format};
-use crate::numbers::{amount, count, decimal, number, text_start};
+use crate::numbers::{count, number};
 use crate::operands::{Flag, Operands, Refusal, Text, Texts};
 use crate::words::Help;
 use rv_job::{Asked, Coverage, Job, Results, Shown, Until};
+use rv_numbers::{amount, decimal, text_start};
 use std::alloc::Global;
 
 /// The most instructions that are executed unless the words or the environment say otherwise.
@@ -162,7 +163,7 @@ pub(crate) fn stats<'a>(operands: &mut Operands<'_, 'a>) -> Result<Job<'a>, Refu
 const COUNT: &str = "a count is a decimal number below 2^64";
 
 /// The most instructions that are executed.
-fn limit(operands: &mut Operands<'_, '_>) -> Result<u64, Refusal> {
+pub(crate) fn limit(operands: &mut Operands<'_, '_>) -> Result<u64, Refusal> {
     let help = "The most instructions to execute, as 500k or 10M [default: RV_LIMIT, else 1000G]";
     match operands.optional(Text::long("limit", "N", help))? {
         Some(text) => number(

@@ -4,7 +4,7 @@
 //! of them knows a word or an operand that another does not.
 
 use crate::operands::{Entry, Operands, Refusal};
-use crate::{builds, files, runs, sources};
+use crate::{builds, cases, files, runs, sources};
 use rv_job::Job;
 use std::alloc::{AllocError, Global};
 
@@ -14,6 +14,8 @@ pub(crate) enum Word {
     Run,
     Trace,
     Stats,
+    Test,
+    Batch,
     Build,
     Assemble,
     Link,
@@ -42,10 +44,12 @@ pub(crate) struct Help {
 }
 
 /// All words, in the order of the help.
-pub(crate) const WORDS: [Word; 18] = [
+pub(crate) const WORDS: [Word; 20] = [
     Word::Run,
     Word::Trace,
     Word::Stats,
+    Word::Test,
+    Word::Batch,
     Word::Build,
     Word::Assemble,
     Word::Link,
@@ -80,6 +84,8 @@ impl Word {
             Word::Run => runs::RUN,
             Word::Trace => runs::TRACE,
             Word::Stats => runs::STATS,
+            Word::Test => cases::TEST,
+            Word::Batch => cases::BATCH,
             Word::Build => builds::BUILD,
             Word::Assemble => builds::ASSEMBLE,
             Word::Link => builds::LINK,
@@ -104,6 +110,8 @@ impl Word {
             Word::Run => runs::run(operands),
             Word::Trace => runs::trace(operands),
             Word::Stats => runs::stats(operands),
+            Word::Test => cases::test(operands),
+            Word::Batch => cases::batch(operands),
             Word::Build => builds::build(operands),
             Word::Assemble => builds::assemble(operands),
             Word::Link => builds::link(operands),

@@ -9,8 +9,8 @@ use rv_streams::{ReadFault, read_whole};
 use rv_system::{FILE_LIMIT, Purpose, System};
 use std::alloc::{AllocError, Global};
 use std::env::{self, Env, FillError, VarError};
-use std::fs::File;
-use std::io::{self, IsTerminal, Stderr, Write};
+use std::fs::{File, metadata, read_dir};
+use std::io::{self, ErrorKind, IsTerminal, Read, Stderr, Write};
 use std::os::unix::fs::PermissionsExt;
 
 /// The system itself.
@@ -61,6 +61,17 @@ impl System for Host<'_> {
 
     fn input(&mut self, limit: usize) -> Result<Vec<u8>, ReadFault> {
         read_whole(self.rt.alloc(), &mut self.rt.stdin(), limit)
+    }
+
+    fn next_input(&mut self, piece: &mut [u8]) -> io::Result<usize> {
+        self.rt.stdin().read(piece)
+    }
+
+    fn folder(&mut self, name: &str) -> Result<Option<Vec<String>>, ReadFault> {
+        match metadata(self.rt, name) {
+            Ok(about) if about.is_dir() => Ok(Some(names_in(self.rt, name)?)),
+            _ => Ok(None),
+        }
     }
 
     fn write(&mut self, name: &str, purpose: Purpose, bytes: &[u8]) -> io::Result<()> {
@@ -167,6 +178,30 @@ fn watch_over<W: GuestOut, T: Watcher<Paged>>(
             let mut input = Io::new(io::empty());
             run_watched(machine, &mut input, output, watcher, limit)
         }
+    }
+}
+
+/// The names in a folder.
+fn names_in(rt: &HostRuntime, folder: &str) -> Result<Vec<String>, ReadFault> {
+    let entries = match read_dir(rt, folder) {
+        Ok(entries) => entries,
+        Err(error) => return Err(unread(error.kind())),
+    };
+    let mut names = Vec::new(rt.alloc());
+    for entry in entries {
+        match entry {
+            Ok(entry) => names.push(String::from_str(rt.alloc(), entry.file_name())?)?,
+            Err(error) => return Err(unread(error.kind())),
+        }
+    }
+    Ok(names)
+}
+
+/// Why a folder is not read.
+fn unread(kind: ErrorKind) -> ReadFault {
+    match kind {
+        ErrorKind::OutOfMemory => ReadFault::Memory,
+        _ => ReadFault::Failed,
     }
 }
 

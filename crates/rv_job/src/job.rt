@@ -1,5 +1,6 @@
 //! What the program can be asked for.
 
+use crate::cases::AskedCases;
 use crate::files::{AskedCode, AskedImage, OutputFormat, ReportFormat};
 use crate::runs::{Asked, Coverage, Results, Shown};
 use rv_link::LinkOptions;
@@ -15,6 +16,13 @@ pub enum Job<'a> {
     Trace(Asked<'a>, Shown<'a>),
     /// Runs, and counts what is executed.
     Stats(Asked<'a>, Coverage<'a>),
+    /// Runs cases, and says of which what came is what must come.
+    Test(AskedCases<'a>),
+    /// Answers calls, an object of JSON a line.
+    Batch {
+        /// The most instructions of a run, where a call says nothing.
+        limit: u64,
+    },
     /// Writes the executable, and the map where a file is named for it.
     Build {
         exe: &'a str,

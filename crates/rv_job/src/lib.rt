@@ -10,11 +10,13 @@
 //! ```
 #![tactic(auto)]
 
+mod cases;
 mod files;
 mod job;
 mod options;
 mod runs;
 
+pub use cases::AskedCases;
 pub use files::{AskedCode, AskedImage, ImageFormat, OutputFormat, ReportFormat, TextFormat};
 pub use job::{Job, Shell};
 pub use options::{TEXT_START, default_options};

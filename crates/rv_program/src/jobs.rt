@@ -4,7 +4,9 @@
 //! each line without starting a process. Each job is a function of its own in the program (`inline(never)`), so that to run
 //! a small guest takes few pages of it.
 
+use rv_batch_jobs::answer_calls;
 use rv_build_jobs::{Inputs, assemble, build_files, link_files, load_program, print_map, run};
+use rv_case_jobs::run_cases;
 use rv_command_line::completions;
 use rv_file_jobs::{code, dump, elf, names, objdump, raw, sizes, write_image};
 use rv_guests::Guests;
@@ -20,6 +22,8 @@ pub(crate) fn run_job<S: Guests>(system: &mut S, job: &Job<'_>) -> Result<u8, Jo
         Job::Watch(asked, results) => look_back(system, asked, results),
         Job::Trace(asked, shown) => show_steps(system, asked, shown),
         Job::Stats(asked, coverage) => count(system, asked, coverage),
+        Job::Test(asked) => run_cases(system, asked),
+        Job::Batch { limit } => answer_calls(system, *limit),
         Job::Build {
             exe,
             map,

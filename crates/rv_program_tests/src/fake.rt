@@ -132,6 +132,14 @@ impl System for Fake<'_> {
         }
     }
 
+    fn next_input(&mut self, _: &mut [u8]) -> io::Result<usize> {
+        Ok(0)
+    }
+
+    fn folder(&mut self, _: &str) -> Result<Option<Vec<String>>, ReadFault> {
+        Ok(None)
+    }
+
     fn write(&mut self, _: &str, purpose: Purpose, _: &[u8]) -> io::Result<()> {
         if self.scene.closed {
             return Err(io::Error::from(ErrorKind::PermissionDenied));

@@ -3,7 +3,7 @@
 use rv_fault::{Fault, SourceFault};
 use rv_fault_texts::Remark;
 use rv_json::{number_or_null, text_or_null};
-use serde_json::json;
+use serde_json::{Value, json};
 use std::alloc::{AllocError, Global};
 
 /// A fault's code, as `E14`, its name, and the place where it stands, as far as they are known.
@@ -58,6 +58,18 @@ pub(crate) fn put_json(
     fault: Option<&Fault>,
     remark: &Remark,
 ) -> Result<(), AllocError> {
+    let found = finding_value(alloc, names, fault, remark)?;
+    text.push_str(found.to_string(alloc)?.as_str())?;
+    text.push_str("\n")
+}
+
+/// A fault, or a warning, as an object of JSON; what is not known of it is null.
+pub fn finding_value(
+    alloc: Global,
+    names: &[&str],
+    fault: Option<&Fault>,
+    remark: &Remark,
+) -> Result<Value, AllocError> {
     let heading = heading_of(alloc, names, fault, remark)?;
     let file = text_or_null(alloc, heading.file)?;
     let code = text_or_null(alloc, heading.code.as_deref())?;
@@ -65,16 +77,14 @@ pub(crate) fn put_json(
     let column = number_or_null(alloc, heading.column)?;
     let severity = severity(fault);
     let message = message(&heading, remark);
-    let found = json!(in alloc; {
+    json!(in alloc; {
         "file": file,
         "line": line,
         "column": column,
         "severity": severity,
         "code": code,
         "message": message
-    })?;
-    text.push_str(found.to_string(alloc)?.as_str())?;
-    text.push_str("\n")
+    })
 }
 
 /// How grave a finding is.

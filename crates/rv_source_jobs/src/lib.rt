@@ -18,4 +18,5 @@ mod listing;
 
 pub use checking::check_files;
 pub use explaining::explain;
+pub use formats::finding_value;
 pub use listing::list;

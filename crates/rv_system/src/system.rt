@@ -3,6 +3,8 @@
 //! Files and streams go through one trait, so that tests see each status and each line without starting a process. It
 //! has no ghost state, so what a command line gives and takes is tested and not proved.
 
+ghost use Rattle.std.specs.Prelude.{◌≤◌, length, IfOk};
+
 use rv_streams::ReadFault;
 use std::alloc::{AllocError, Global};
 use std::io::{self, Write};
@@ -29,6 +31,13 @@ pub trait System {
 
     /// The bytes of standard input, up to a limit.
     fn input(&mut self, limit: usize) -> Result<Vec<u8>, ReadFault>;
+
+    /// The next bytes of standard input, at the front of a piece, as many as have come; none at its end.
+    fn next_input(&mut self, piece: &mut [u8]) -> io::Result<usize>
+        ensures { IfOk result (λ count. count ≤ length piece.new) };
+
+    /// The names in a folder; none where there is no such folder.
+    fn folder(&mut self, name: &str) -> Result<Option<Vec<String>>, ReadFault>;
 
     /// Writes a file anew.
     fn write(&mut self, name: &str, purpose: Purpose, bytes: &[u8]) -> io::Result<()>;

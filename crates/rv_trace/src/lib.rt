@@ -2,7 +2,7 @@
 //!
 //! It takes a machine that [`run_watched`](rv_machine::run_watched) runs, and what is known of the program's addresses
 //! ([`Places`], from its map and its sources), and gives texts: the instructions executed one by one ([`Trace`]), how often
-//! each was ([`Counts`], `counts_text`, `lines_text`, `lcov_text`), and why the run ended ([`Latest`], `report_text`).
+//! each was ([`Counts`], `counts_text`, `lines_text`, `lcov_text`), how many there were ([`Executed`]), and why the run ended ([`Latest`], `report_text`).
 //!
 //! Main contracts: that of `run_watched`, by which a run that is watched is the run of the machine, and each watcher is told
 //! exactly its events; and that of [`Counts`], whose sums are those over the events (`specs/Totals`). What the texts show of
@@ -27,6 +27,7 @@ mod cure;
 mod depth;
 mod digest;
 mod ending;
+mod executed;
 mod json_counts;
 mod json_report;
 mod kinds;
@@ -46,6 +47,7 @@ mod visited;
 
 pub use counts::Counts;
 pub use ending::Ending;
+pub use executed::Executed;
 pub use json_counts::counts_json;
 pub use json_report::report_json;
 pub use last::{Last, state_text};

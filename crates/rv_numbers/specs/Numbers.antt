@@ -1,4 +1,4 @@
--- Numbers as the words of a command line write them (this program's own).
+-- Numbers as people write them (this program's own).
 
 use Rattle.std.specs.Prelude.{◌≡◌, ◌⊎◌, ℕ, ◌<◌, ◌^◌, List, ◌++◌, codes}
 use Rattle.std.specs.Str.Parse.{IsNumeral, digits_value}

@@ -1,0 +1,249 @@
+//! The answer of one call.
+
+use crate::call::{Call, CallError, GivenSource, Program};
+use crate::given::{Given, Held, value_of};
+use crate::members::{put_end, put_end_line, put_faults, put_text};
+use rv_chain::{build, build_exe};
+use rv_guests::status_of;
+use rv_job::default_options;
+use rv_json::number;
+use rv_kept_runs::{KeptFault, run_counted, run_kept};
+use rv_machine::Outcome;
+use rv_system::{JobError, System, fault_line, image_in};
+use serde_json::{Map, Value, put};
+use std::alloc::{AllocError, Global};
+
+/// The status of a call that is refused.
+const REFUSED: u8 = 1;
+/// The status of a line that asks for nothing.
+const USAGE: u8 = 2;
+
+/// The answer of a line; `limit` stands for what it does not say.
+pub(crate) fn answer<S: System>(
+    system: &mut S,
+    line: &[u8],
+    limit: u64,
+) -> Result<Value, AllocError> {
+    let alloc: Global = system.alloc();
+    let mut members = Map::new(alloc);
+    let value = match Value::from_slice(alloc, line) {
+        Ok(value) => value,
+        Err(error) if error.is_memory() => return refused(alloc, members, "out of memory", REFUSED),
+        Err(_) => return wrong(alloc, members, &CallError::NotJson),
+    };
+    let Some(object) = value.as_object() else {
+        return wrong(alloc, members, &CallError::NoObject);
+    };
+    if let Some(id) = value.get("id") {
+        put(&mut members, alloc, "id", id.clone()?)?;
+    }
+    let call = match Call::of(alloc, object, limit) {
+        Ok(call) => call,
+        Err(error) => return wrong(alloc, members, &error),
+    };
+    match answer_call(system, &call, &mut members) {
+        Ok(status) => done(alloc, members, status),
+        Err(JobError::Line(line)) => refused(alloc, members, line.as_str(), REFUSED),
+        Err(JobError::Memory) => refused(alloc, members, "out of memory", REFUSED),
+        Err(JobError::Closed) => refused(alloc, members, "standard output is closed", REFUSED),
+    }
+}
+
+/// The answer of a line that asks for nothing.
+fn wrong(
+    alloc: Global,
+    members: Map<String, Value>,
+    error: &CallError,
+) -> Result<Value, AllocError> {
+    let status = match error {
+        CallError::Memory => REFUSED,
+        _ => USAGE,
+    };
+    let line = format!(in alloc; "{error}")?;
+    refused(alloc, members, line.as_str(), status)
+}
+
+/// The answer of a call that is refused with this line.
+fn refused(
+    alloc: Global,
+    mut members: Map<String, Value>,
+    line: &str,
+    status: u8,
+) -> Result<Value, AllocError> {
+    put_text(alloc, &mut members, "error", line)?;
+    done(alloc, members, status)
+}
+
+/// The answer with its status.
+fn done(alloc: Global, mut members: Map<String, Value>, status: u8) -> Result<Value, AllocError> {
+    put(
+        &mut members,
+        alloc,
+        "status",
+        Value::from(u64::from(status)),
+    )?;
+    Ok(Value::Object(members))
+}
+
+/// Builds and runs what a call is of, and adds what it wants; the status.
+fn answer_call<S: System>(
+    system: &mut S,
+    call: &Call<'_>,
+    members: &mut Map<String, Value>,
+) -> Result<u8, JobError> {
+    match &call.program {
+        Program::Sources(sources) => answer_sources(system, call, sources.as_slice(), members),
+        Program::Executable(given) => {
+            let exe = given.held(system)?;
+            let name = if let Given::File(name) = given {
+                *name
+            } else {
+                "executable"
+            };
+            answer_executable(system, call, name, exe.as_slice(), members)
+        }
+    }
+}
+
+/// Builds sources, and runs what they come to where something of the run is wanted; the status.
+fn answer_sources<S: System>(
+    system: &mut S,
+    call: &Call<'_>,
+    sources: &[GivenSource<'_>],
+    members: &mut Map<String, Value>,
+) -> Result<u8, JobError> {
+    let alloc: Global = system.alloc();
+    let held = held_texts(system, sources)?;
+    let mut texts: Vec<&[u8]> = Vec::new(alloc);
+    for text in &held {
+        texts.push(text.as_slice())?;
+    }
+    let owned = names_of(alloc, sources)?;
+    let mut names: Vec<&str> = Vec::new(alloc);
+    for name in &owned {
+        names.push(name.as_str())?;
+    }
+    if call.wants.faults {
+        put_faults(
+            alloc,
+            members,
+            names.as_slice(),
+            texts.as_slice(),
+            default_options(),
+        )?;
+    }
+    let exe = executable(system, call, names.as_slice(), texts.as_slice(), members)?;
+    let name = names.first().copied().unwrap_or("");
+    answer_executable(system, call, name, exe.as_slice(), members)
+}
+
+/// What sources build; their map is added where it is wanted.
+fn executable<S: System>(
+    system: &S,
+    call: &Call<'_>,
+    names: &[&str],
+    texts: &[&[u8]],
+    members: &mut Map<String, Value>,
+) -> Result<Vec<u8>, JobError> {
+    let alloc: Global = system.alloc();
+    if !call.wants.map {
+        return match build_exe(alloc, texts, default_options()) {
+            Ok(exe) => Ok(exe),
+            Err(fault) => Err(fault_line(alloc, &fault, names)?),
+        };
+    }
+    match build(alloc, texts, default_options()) {
+        Ok(built) => {
+            put(
+                members,
+                alloc,
+                "map",
+                value_of(alloc, built.map.as_slice())?,
+            )?;
+            Ok(built.exe)
+        }
+        Err(fault) => Err(fault_line(alloc, &fault, names)?),
+    }
+}
+
+/// The bytes of sources.
+fn held_texts<'v, S: System>(
+    system: &mut S,
+    sources: &[GivenSource<'v>],
+) -> Result<Vec<Held<'v>>, JobError> {
+    let mut held = Vec::new(system.alloc());
+    for source in sources {
+        held.push(source.text.held(system)?)?;
+    }
+    Ok(held)
+}
+
+/// The names of sources: those that the call gives, those of files, else `1.s`, `2.s` ..
+fn names_of(alloc: Global, sources: &[GivenSource<'_>]) -> Result<Vec<String>, AllocError> {
+    let mut names = Vec::new(alloc);
+    for (index, source) in sources.iter().enumerate() {
+        let number = index.saturating_add(1);
+        names.push(match (source.name, source.text) {
+            (Some(name), _) | (None, Given::File(name)) => String::from_str(alloc, name)?,
+            _ => format!(in alloc; "{number}.s")?,
+        })?;
+    }
+    Ok(names)
+}
+
+/// Runs an executable where something of the run is wanted, and adds that; the status.
+fn answer_executable<S: System>(
+    system: &mut S,
+    call: &Call<'_>,
+    name: &str,
+    exe: &[u8],
+    members: &mut Map<String, Value>,
+) -> Result<u8, JobError> {
+    if !call.wants.runs() {
+        return Ok(0);
+    }
+    let alloc: Global = system.alloc();
+    let input = call.input.held(system)?;
+    let image = image_in(alloc, name, exe)?;
+    if !call.wants.count {
+        let ran = run_kept(alloc, image, input.as_slice(), call.limit);
+        return put_outcome(alloc, call, members, ran);
+    }
+    match run_counted(alloc, image, input.as_slice(), call.limit) {
+        Ok((outcome, count)) => {
+            put(members, alloc, "count", number(alloc, count)?)?;
+            put_outcome(alloc, call, members, Ok(outcome))
+        }
+        Err(fault) => put_outcome(alloc, call, members, Err(fault)),
+    }
+}
+
+/// Adds what is wanted of a run; the status.
+fn put_outcome(
+    alloc: Global,
+    call: &Call<'_>,
+    members: &mut Map<String, Value>,
+    ran: Result<Outcome, KeptFault>,
+) -> Result<u8, JobError> {
+    let outcome = match ran {
+        Ok(outcome) => outcome,
+        Err(KeptFault::Memory) => return Err(JobError::Memory),
+        Err(KeptFault::ConsoleLimit) => {
+            let fault = KeptFault::ConsoleLimit;
+            return Err(JobError::Line(format!(in alloc; "{fault}")?));
+        }
+    };
+    if call.wants.console {
+        put(
+            members,
+            alloc,
+            "console",
+            value_of(alloc, outcome.console.as_slice())?,
+        )?;
+    }
+    if call.wants.end {
+        put_end(alloc, members, &outcome.end)?;
+    }
+    put_end_line(alloc, members, &outcome.end)?;
+    Ok(status_of(&outcome.end))
+}

@@ -1,0 +1,65 @@
+//! What a call wants of its program.
+
+use crate::call::CallError;
+use serde_json::Value;
+
+/// What a call wants.
+#[derive(Clone, Copy, Debug, PartialEq, Eq, Drop)]
+pub(crate) struct Wants {
+    /// What the run has written.
+    pub console: bool,
+    /// How the run ended.
+    pub end: bool,
+    /// How many instructions the run executed.
+    pub count: bool,
+    /// The map of what the sources build.
+    pub map: bool,
+    /// All that is wrong with the sources.
+    pub faults: bool,
+}
+
+impl Wants {
+    /// Nothing.
+    fn nothing() -> Wants {
+        Wants {
+            console: false,
+            end: false,
+            count: false,
+            map: false,
+            faults: false,
+        }
+    }
+
+    /// What a call wants that says nothing of it.
+    pub(crate) fn default_wants() -> Wants {
+        Wants {
+            console: true,
+            end: true,
+            ..Wants::nothing()
+        }
+    }
+
+    /// What a list of names says.
+    pub(crate) fn of(value: &Value) -> Result<Wants, CallError> {
+        let mut wants = Wants::nothing();
+        let Some(names) = value.as_array() else {
+            return Err(CallError::NoList("want"));
+        };
+        for name in names {
+            match name.as_str() {
+                Some("console") => wants.console = true,
+                Some("end") => wants.end = true,
+                Some("count") => wants.count = true,
+                Some("map") => wants.map = true,
+                Some("faults") => wants.faults = true,
+                _ => return Err(CallError::UnknownWant),
+            }
+        }
+        Ok(wants)
+    }
+
+    /// Whether the program is run.
+    pub(crate) fn runs(&self) -> bool {
+        self.console || self.end || self.count
+    }
+}

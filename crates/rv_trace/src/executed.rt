@@ -1,0 +1,45 @@
+//! How many instructions a run executes, where nothing else of it is asked for.
+
+ghost use Rattle.std.specs.Prelude.{◌≡◌};
+ghost use Rattle.rv_trace.specs.Totals.{totals_of};
+
+use crate::totals::Totals;
+use rv_machine::{Event, ShowFault, Watched, Watcher};
+use rv_memory::Memory;
+
+/// The number of the instructions that a run has executed, as [`counts_text`](crate::counts_text) shows it.
+#[derive(Drop)]
+pub struct Executed {
+    totals: Totals,
+}
+
+impl Executed {
+    /// That of a run that has not begun.
+    pub fn new() -> Self {
+        Executed {
+            totals: Totals::nothing(),
+        }
+    }
+
+    /// The number so far.
+    pub fn count(&self) -> u64
+        ensures { result ≡ self.now.totals.executed }
+    {
+        self.totals.executed
+    }
+}
+
+impl<M: Memory> Watcher<M> for Executed {
+    ghost has_seen = { λ executed seen. executed.totals ≡ totals_of seen };
+
+    #[inline]
+    fn before(&mut self, _: &Watched<M>) -> Result<(), ShowFault> {
+        Ok(())
+    }
+
+    #[inline]
+    fn after(&mut self, event: &Event, _: &Watched<M>) -> Result<(), ShowFault> {
+        self.totals = self.totals.with(event);
+        Ok(())
+    }
+}
