@@ -6,10 +6,10 @@ use Rattle.std.proofs.lemmas.Bool.{and_parts, leb-true, ltb-true, ltb-false}
 use Rattle.std.specs.Prelude.{if◌then◌else◌, slice_index_or}
 use Rattle.rv_list_laws.proofs.NumbersLemmas.{low_power}
 use Rattle.rv_text_laws.specs.Values.{Value, Constant, Symbolic, Difference, Faulty}
-use Rattle.rv_statement_laws.specs.Statement.{StatementKind, Label, Numbered, Instruction, Directs, Statement, Expression, Directive}
+use Rattle.rv_statement_laws.specs.Statement.{StatementKind, Label, Numbered, Instruction, Directs, Statement, Expression, Directive, AlignmentForm, As_power, As_bytes}
 use Rattle.rv_statement_laws.specs.declared.directive.Choice.{Choice}
 use Rattle.rv_unit_laws.specs.Sections.{Section, entered_by}
-use Rattle.rv_unit_laws.specs.Contributions.{AlignmentForm, As_power, As_bytes, Contribution, Nothing, Bytes, Zero_bytes, Alignment, contribution}
+use Rattle.rv_unit_laws.specs.Contributions.{Contribution, Nothing, Bytes, Alignment, contribution}
 use Rattle.rv_unit_laws.specs.Tables.{Tables, Assignment, at_start, here, value_by_tables, is_power, greatest_alignment, alignment_as, or_none, contributed, changed_at, is_defined, may_set, with_assignment, with_section, with_data, with_contribution, with_choice, with_chosen, assigned_by, choice_in, after, after_directive, after_all, tables, alignments_of}
 use Rattle.rv_unit_laws.proofs.EnteringLemmas.{entering}
 use Rattle.rv_unit_laws.proofs.GrownLemmas.{IsPower, alignment_new, data_alignments, grown_all}
@@ -66,7 +66,6 @@ low_data t bytes alignment l h = subst AreLow (sym (data_alignments t bytes alig
 low_contribution : (t : Tables) (v : Expression → Value) (c : Contribution) → IsLow t → IsLow (with_contribution t v c)
 low_contribution t v Nothing h = h
 low_contribution t v (Bytes contents) h = low_data t (contributed v (here t).offset (Bytes contents)) None (omega arith) h
-low_contribution t v (Zero_bytes count) h = low_data t (contributed v (here t).offset (Zero_bytes count)) None (omega arith) h
 low_contribution t v (Alignment form number) h = low_data t (contributed v (here t).offset (Alignment form number)) (alignment_as form (v number)) (form_low form (v number)) h
 
 low_directive : (t : Tables) (k : ℕ) (d : Directive) → IsLow t → IsLow (after_directive t k d)

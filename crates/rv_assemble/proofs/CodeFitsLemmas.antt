@@ -13,12 +13,12 @@ use Rattle.rv_isa_laws.specs.Word.{word, form}
 use Rattle.rv_isa_laws.proofs.BytesLemmas.{little_long, zeros_long}
 use Rattle.rv_text_laws.specs.Values.{Value, Constant, Symbolic, Difference, Faulty}
 use Rattle.rv_statement_laws.specs.declared.pseudo.Function.TheVariants.{Hi, Lo, PcrelHi, PcrelLo}
-use Rattle.rv_statement_laws.specs.Statement.{StatementKind, Label, Numbered, Instruction, Directs, Expression, Operand, Register, Value as Of_value, Applied, Target, Accesses, Word, Quoted}
+use Rattle.rv_statement_laws.specs.Statement.{StatementKind, Label, Numbered, Instruction, Directs, Expression, Operand, Register, Value as Of_value, Applied, Target, Accesses, Word, Quoted, Values, Strings, Zeros}
 use Rattle.rv_pseudo_laws.specs.Code.{Part as CodePart, Closed, Open as OpenPart, Joined, named_form, code}
 use Rattle.rv_pseudo_laws.specs.Filled.{are_closed}
 use Rattle.rv_parcel.specs.declared.form.Compressed.{Compressed}
 use Rattle.rv_parcel.specs.Encoded.{IsEncodedIn}
-use Rattle.rv_unit_laws.specs.Contributions.{Numbers, Texts, Contribution, Nothing, Bytes, Zero_bytes, Alignment, contribution}
+use Rattle.rv_unit_laws.specs.Contributions.{Contribution, Nothing, Bytes, Alignment, contribution}
 use Rattle.rv_unit_laws.specs.Sections.{Section}
 use Rattle.rv_unit_laws.specs.Tables.{Tables, Definition, definition}
 use Rattle.rv_source_laws.specs.Located.{Located}
@@ -159,9 +159,9 @@ padding_fits false ordinal bytes h = (inl tt, tt)
 contribution_fits : (executable : Bool) (ordinal bytes : ℕ) (v : Expression → Value) (c : Contribution) → (executable ≡ true → HasRoom c bytes) → AreTemplates ordinal (contribution_templates executable ordinal v c bytes)
     → AllByRecursion Holds (map (laid_part ordinal) (contribution_templates executable ordinal v c bytes))
 contribution_fits executable ordinal bytes v Nothing r h = tt
-contribution_fits executable ordinal bytes v (Bytes (Numbers width es)) r h = values_fit ordinal width v es h
-contribution_fits executable ordinal bytes v (Bytes (Texts ended strings)) r h = (inl tt, tt)
-contribution_fits executable ordinal bytes v (Zero_bytes count) r h = (inl tt, tt)
+contribution_fits executable ordinal bytes v (Bytes (Values width es)) r h = values_fit ordinal width v es h
+contribution_fits executable ordinal bytes v (Bytes (Strings ended strings)) r h = (inl tt, tt)
+contribution_fits executable ordinal bytes v (Bytes (Zeros count)) r h = (inl tt, tt)
 contribution_fits executable ordinal bytes v (Alignment f number) r h = padding_fits executable ordinal bytes r
 
 -- ---- statements

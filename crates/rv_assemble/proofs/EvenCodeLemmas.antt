@@ -12,7 +12,7 @@ use Rattle.rv_text_laws.specs.Values.{Value}
 use Rattle.rv_statement_laws.specs.Statement.{StatementKind, Label, Numbered, Instruction, Directs, Expression}
 use Rattle.rv_pseudo_laws.specs.Code.{Part as CodePart, Closed, Open as OpenPart, Joined, named_form}
 use Rattle.rv_pseudo_laws.specs.Filled.{are_closed}
-use Rattle.rv_unit_laws.specs.Contributions.{Contribution, Nothing, Bytes, Zero_bytes, Alignment, contribution}
+use Rattle.rv_unit_laws.specs.Contributions.{Contribution, Nothing, Bytes, Alignment, contribution}
 use Rattle.rv_unit_laws.specs.Sections.{Section}
 use Rattle.rv_unit_laws.specs.Tables.{Tables}
 use Rattle.rv_assemble_laws.specs.CodeFields.{part_fields}
@@ -61,7 +61,6 @@ contribution_even : (home : Section) (executable : Bool) (ordinal bytes : ℕ) (
     → AllByRecursion IsEvenPart (map (laid_part ordinal) (contribution_templates executable ordinal v c bytes))
 contribution_even home executable ordinal bytes v Nothing code here held room = tt
 contribution_even home executable ordinal bytes v (Bytes contents) code here held room = absurd (let e = held.0 in cc)
-contribution_even home executable ordinal bytes v (Zero_bytes count) code here held room = absurd (cc)
 contribution_even home executable ordinal bytes v (Alignment f number) code here held room = padding_even executable ordinal bytes here room
 
 kind_even : (t : Tables) (home : Section) (s : LaidStatement) (multiple : ℕ) (kind : StatementKind) → home.executable ≡ true → s.located.home.executable ≡ true → IsHeld home kind → HasSize (expression_value t s.located) s multiple kind

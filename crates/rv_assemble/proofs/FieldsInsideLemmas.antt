@@ -10,8 +10,8 @@ use Rattle.rv_list_laws.proofs.ElementsLemmas.{append_none_parts}
 use Rattle.rv_list_laws.proofs.EachLemmas.{each_append}
 use Rattle.rv_isa.specs.Kinds.{width_of}
 use Rattle.rv_text_laws.specs.Values.{Value}
-use Rattle.rv_statement_laws.specs.Statement.{StatementKind, Label, Numbered, Instruction, Directs, Expression}
-use Rattle.rv_unit_laws.specs.Contributions.{Contribution, Nothing, Bytes, Zero_bytes, Alignment, contribution}
+use Rattle.rv_statement_laws.specs.Statement.{StatementKind, Label, Numbered, Instruction, Directs, Expression, Values, Strings, Zeros}
+use Rattle.rv_unit_laws.specs.Contributions.{Contribution, Nothing, Bytes, Alignment, contribution}
 use Rattle.rv_unit_laws.specs.Sections.{Section, is_nobits}
 use Rattle.rv_unit_laws.specs.Tables.{Tables}
 use Rattle.rv_object_laws.specs.Object.{Contents, Relocation, size_of}
@@ -39,8 +39,9 @@ padding_bare false ordinal bytes none = (refl, tt)
 contribution_bare : (home : Section) (executable : Bool) (v : Expression → Value) (ordinal bytes : ℕ) (c : Contribution) → is_nobits home ≡ true → ContributionHeld home c → (executable ≡ true → bytes ≡ 0)
     → AllByRecursion HasNoField (map (laid_part ordinal) (contribution_templates executable ordinal v c bytes))
 contribution_bare home executable v ordinal bytes Nothing e h none = tt
-contribution_bare home executable v ordinal bytes (Bytes contents) e h none = absurd (let f : is_nobits home ≡ false = h.1 in cc)
-contribution_bare home executable v ordinal bytes (Zero_bytes count) e h none = (refl, tt)
+contribution_bare home executable v ordinal bytes (Bytes (Values width values)) e h none = absurd (let f : is_nobits home ≡ false = h.1 in cc)
+contribution_bare home executable v ordinal bytes (Bytes (Strings ended strings)) e h none = absurd (let f : is_nobits home ≡ false = h.1 in cc)
+contribution_bare home executable v ordinal bytes (Bytes (Zeros count)) e h none = (refl, tt)
 contribution_bare home executable v ordinal bytes (Alignment f number) e h none = padding_bare executable ordinal bytes none
 
 statement_bare : (home : Section) (t : Tables) (s : LaidStatement) (kind : StatementKind) → is_nobits home ≡ true → IsHeld home kind → (s.located.home.executable ≡ true → s.bytes ≡ 0)

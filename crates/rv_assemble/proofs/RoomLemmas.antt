@@ -4,8 +4,8 @@ use Rattle.std.proofs.Common.{◌≡◌, ℕ, zero, suc, ◌-◌, ◌%◌, ◌^�
 use Rattle.std.proofs.Math.Nat.{pow-suc}
 use Rattle.std.specs.Prelude.{⊤}
 use Rattle.rv_text_laws.specs.Values.{Value}
-use Rattle.rv_statement_laws.specs.Statement.{Expression, Directive, Enters, Opens, Binds, Sets, Aligns_to_power, Aligns_to_bytes, Values, Strings, Zeros, Chooses, Ignored}
-use Rattle.rv_unit_laws.specs.Contributions.{Contribution, Nothing, Bytes, Zero_bytes, Alignment, contribution}
+use Rattle.rv_statement_laws.specs.Statement.{Expression, Directive, Enters, Opens, Binds, Sets, Chooses, Ignored, Aligns, Emits}
+use Rattle.rv_unit_laws.specs.Contributions.{Contribution, Nothing, Bytes, Alignment, contribution}
 use Rattle.rv_unit_laws.specs.Tables.{alignment_of, contribution_alignment, or_none}
 use Rattle.rv_unit_laws.proofs.GrownLemmas.{AlignsToPower, directive_aligned}
 use Rattle.rv_source_laws.specs.Sizes.{code_padding}
@@ -29,7 +29,6 @@ contribution_low : (v : Expression → Value) (c : Contribution) → or_none (co
 contribution_low v (Alignment f number) = form_low f (v number)
 contribution_low v Nothing = omega arith
 contribution_low v (Bytes contents) = omega arith
-contribution_low v (Zero_bytes count) = omega arith
 
 pub room_of : (v : Expression → Value) (d : Directive) → IsRoom (code_padding (alignment_of v d))
 room_of v d = room_by (alignment_of v d) (directive_aligned v d) (contribution_low v (contribution d))
@@ -44,15 +43,11 @@ padded_room false v s d e h = absurd (cc)
 abbrev pub HasRoom : Contribution → ℕ → Type 0
 HasRoom Nothing bytes = ⊤
 HasRoom (Bytes contents) bytes = ⊤
-HasRoom (Zero_bytes count) bytes = ⊤
 HasRoom (Alignment f number) bytes = IsRoom bytes
 
 pub directive_room : (v : Expression → Value) (s : LaidStatement) (multiple : ℕ) (d : Directive) → s.located.home.executable ≡ true → DirectiveSize v s multiple d → HasRoom (contribution d) s.bytes
-directive_room v s multiple (Aligns_to_power x) e (a, b, c) = padded_room s.located.home.executable v s (Aligns_to_power x) e c
-directive_room v s multiple (Aligns_to_bytes x) e (a, b, c) = padded_room s.located.home.executable v s (Aligns_to_bytes x) e c
-directive_room v s multiple (Values width xs) e h = tt
-directive_room v s multiple (Strings ended strings) e h = tt
-directive_room v s multiple (Zeros count) e h = tt
+directive_room v s multiple (Aligns form x) e (a, b, c) = padded_room s.located.home.executable v s (Aligns form x) e c
+directive_room v s multiple (Emits contents) e h = tt
 directive_room v s multiple (Enters section) e h = tt
 directive_room v s multiple (Opens name flags kind) e h = tt
 directive_room v s multiple (Binds binding names) e h = tt

@@ -13,9 +13,9 @@ use Rattle.rv_text_laws.specs.Bytes.{digits_value}
 use Rattle.rv_text_laws.specs.Expression.{Primary, Literal, Symbol, Here, Reference, Tree, Leaf, Unary, Paren, Binary}
 use Rattle.rv_text_laws.specs.Values.{Value, Constant, Symbolic, Difference, Faulty}
 use Rattle.rv_statement_laws.specs.declared.pseudo.Function.TheVariants.{Hi, Lo, PcrelHi, PcrelLo}
-use Rattle.rv_statement_laws.specs.Statement.{StatementKind, Label, Numbered, Instruction, Directs, Statement, Expression, Operand, Register, Value as Of_value, Applied, Target, Accesses, Word, Quoted}
+use Rattle.rv_statement_laws.specs.Statement.{StatementKind, Label, Numbered, Instruction, Directs, Statement, Expression, Operand, Register, Value as Of_value, Applied, Target, Accesses, Word, Quoted, Values, Strings, Zeros}
 use Rattle.rv_pseudo_laws.specs.Code.{Part as CodePart, Closed, Open as OpenPart, Joined, code}
-use Rattle.rv_unit_laws.specs.Contributions.{Numbers, Texts, Contribution, Nothing, Bytes, Zero_bytes, Alignment, contribution}
+use Rattle.rv_unit_laws.specs.Contributions.{Contribution, Nothing, Bytes, Alignment, contribution}
 use Rattle.rv_unit_laws.specs.Tables.{Tables, SectionOffset, NumericLabel, at_start, after, tables, meaning, numeric_label_after, numeric_label_before, forward_in, backward_in, numeric_definition, opened_of, Definition, definition}
 use Rattle.rv_source_laws.specs.Located.{Located, located_from}
 use Rattle.rv_source_laws.specs.Program.{place_of, in_operand, in_contribution}
@@ -92,9 +92,9 @@ module _ (t : Tables) where
   of_contribution : (l : Located) (bytes : ℕ) (c : Contribution) → are_shown (flat_map tree_names (in_contribution c)) ≡ true
       → list_all is_known (flat_map references_in (map (laid_part l.ordinal) (contribution_templates l.home.executable l.ordinal (expression_value t l) c bytes))) ≡ true
   of_contribution l bytes Nothing h = refl
-  of_contribution l bytes (Bytes (Numbers width values)) h = of_values l width values h
-  of_contribution l bytes (Bytes (Texts ended strings)) h = refl
-  of_contribution l bytes (Zero_bytes count) h = refl
+  of_contribution l bytes (Bytes (Values width values)) h = of_values l width values h
+  of_contribution l bytes (Bytes (Strings ended strings)) h = refl
+  of_contribution l bytes (Bytes (Zeros count)) h = refl
   of_contribution l bytes (Alignment f number) h = of_padding l.home.executable l.ordinal bytes
 
   -- ---- code

@@ -2,7 +2,7 @@
 
 use Rattle.std.proofs.Common.{List, [], ◌∷◌, map, ◌≡◌, ℕ, false, refl}
 use Rattle.std.specs.List.{AllByRecursion}
-use Rattle.rv_statement_laws.specs.Statement.{StatementKind, Label, Numbered, Instruction, Directs, Sets, Aligns_to_power, Aligns_to_bytes, Values, Strings, Zeros}
+use Rattle.rv_statement_laws.specs.Statement.{StatementKind, Label, Numbered, Instruction, Directs, Sets, Aligns, Emits}
 use Rattle.rv_unit_laws.specs.Tables.{Tables}
 use Rattle.rv_source_laws.specs.Located.{Located, is_placed}
 use Rattle.rv_assemble_laws.specs.LaidStatements.{LaidStatement, templates}
@@ -16,9 +16,6 @@ unplaced_by t k (Label name) e u s = absurd (cc)
 unplaced_by t k (Numbered number) e u s = absurd (cc)
 unplaced_by t k (Instruction mnemonic operands) e u s = absurd (cc)
 unplaced_by t k (Directs (Sets name x)) e u s = refl
-unplaced_by t k (Directs (Values width values)) e u s = absurd (cc)
-unplaced_by t k (Directs (Strings ended strings)) e u s = absurd (cc)
-unplaced_by t k (Directs (Zeros count)) e u s = absurd (cc)
-unplaced_by t k (Directs (Aligns_to_power x)) e u s = absurd (cc)
-unplaced_by t k (Directs (Aligns_to_bytes x)) e u s = absurd (cc)
+unplaced_by t k (Directs (Emits contents)) e u s = absurd (cc)
+unplaced_by t k (Directs (Aligns form x)) e u s = absurd (cc)
 unplaced_by t k (Directs _) e u s = refl

@@ -19,3 +19,4 @@ pub mod IsObjectOfLemmas
 pub mod LaidStatementsLemmas
 pub mod TemplatesLemmas
 pub mod ValidLemmas
+pub mod DataTemplatesLemmas

@@ -10,7 +10,7 @@ use Rattle.std.proofs.lemmas.List.Folds.{find-append}
 use Rattle.rv_list_laws.proofs.ElementsLemmas.{same_bytes}
 use Rattle.rv_text_laws.specs.Expression.{Literal, Symbol, Here, Reference}
 use Rattle.rv_text_laws.specs.Values.{Known, InSection, Open, Refused, Value, Constant, Symbolic, Difference, Faulty, add}
-use Rattle.rv_statement_laws.specs.Statement.{StatementKind, Label, Numbered, Instruction, Directs, Statement, Expression, Directive, Enters, Opens, Binds, Sets, Aligns_to_power, Aligns_to_bytes, Values, Strings, Zeros, Chooses, Ignored}
+use Rattle.rv_statement_laws.specs.Statement.{StatementKind, Label, Numbered, Instruction, Directs, Statement, Expression, Directive, Enters, Opens, Binds, Sets, Chooses, Ignored, Aligns, Emits}
 use Rattle.rv_unit_laws.specs.Sections.{entered_by}
 use Rattle.rv_unit_laws.specs.Tables.{Tables, Labelled, Assignment, here, value_by_tables, label_of, assigned_ever, is_location, gives_location, is_defined, has_location, may_set, assigned, assigned_by, with_assignment, with_label, with_section, after_directive, after, after_all}
 use Rattle.rv_unit_laws.proofs.AloneLemmas.{Same, section_same, directive_same, own_label, other_label, undefined, unplaced}
@@ -195,11 +195,8 @@ module _ (name : List ℕ) (all : List LaidStatement) where
       go (Enters section) at = opened (Enters section)
       go (Opens section flags kind) at = opened (Opens section flags kind)
       go (Binds binding names) at = h
-      go (Aligns_to_power x) at = h
-      go (Aligns_to_bytes x) at = h
-      go (Values width xs) at = h
-      go (Strings ended strings) at = h
-      go (Zeros count) at = h
+      go (Aligns form x) at = h
+      go (Emits contents) at = h
       go (Chooses choice) at = h
       go Ignored at = h
 

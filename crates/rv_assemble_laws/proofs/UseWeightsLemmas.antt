@@ -24,11 +24,11 @@ use Rattle.rv_statement_laws.specs.declared.pseudo.ZeroBranchOperation.{ZeroBran
 use Rattle.rv_statement_laws.specs.declared.pseudo.ZeroBranchOperation.TheVariants.{Beqz, Bnez, Bgez, Bltz, Blez, Bgtz}
 use Rattle.rv_statement_laws.specs.declared.pseudo.SwappedBranchOperation.{SwappedBranchOperation}
 use Rattle.rv_statement_laws.specs.declared.pseudo.SwappedBranchOperation.TheVariants.{Bgt, Ble, Bgtu, Bleu}
-use Rattle.rv_statement_laws.specs.Statement.{StatementKind, Label, Numbered, Instruction, Directs, Statement, Operand, Register, Value as Of_value, Applied, Target, Accesses, Word, Quoted, Expression}
+use Rattle.rv_statement_laws.specs.Statement.{StatementKind, Label, Numbered, Instruction, Directs, Statement, Operand, Register, Value as Of_value, Applied, Target, Accesses, Word, Quoted, Expression, Values, Strings, Zeros}
 use Rattle.rv_parse_laws.specs.Syntax.{with_constant}
 use Rattle.rv_pseudo_laws.specs.Code.{Part as CodePart, Closed, Open as OpenPart, Joined, Constants, by_number, by_part, signed_12, upper_20, constant_number, by_constant, i_type, s_type, u_type, shift_by, jalr, unary, branch, near, far, through, zero_branch, swapped_branch, short_branch, named_form, code}
 use Rattle.rv_pseudo_laws.specs.Li.{li}
-use Rattle.rv_unit_laws.specs.Contributions.{Contribution, Nothing, Bytes, Zero_bytes, Alignment, Numbers, Texts, contribution}
+use Rattle.rv_unit_laws.specs.Contributions.{Contribution, Nothing, Bytes, Alignment, contribution}
 use Rattle.rv_unit_laws.specs.Tables.{Tables, Definition, definition, meaning, after}
 use Rattle.rv_source_laws.specs.Located.{Located, located_from}
 use Rattle.rv_source_laws.specs.Lines.{other_operand, operand_of}
@@ -38,7 +38,7 @@ use Rattle.rv_assemble_laws.specs.Coded.{constants}
 use Rattle.rv_assemble_laws.specs.ShownNames.{primary_names, tree_names, own_names, said_names, used_names}
 use Rattle.rv_assemble_laws.specs.LaidStatements.{LaidStatement, expression_value, laid_part, coded_templates, templates, parts_of}
 use Rattle.rv_assemble_laws.specs.Symbols.{SymbolUse, use_of, references_in, references_of, references}
-use Rattle.rv_assemble_laws.specs.Templates.{Open, Template, value_fields, padding_templates, contents_templates, contribution_templates}
+use Rattle.rv_assemble_laws.specs.Templates.{Open, Template, Datum, value_fields, padding_templates, contribution_templates}
 use Rattle.rv_assemble_laws.specs.Small.{weight, all_said}
 use Rattle.rv_assemble_laws.proofs.WeightsLemmas.{weight_append}
 use Rattle.rv_assemble_laws.proofs.ValueWeightsLemmas.{symbol_heft, value_heft, by_value}
@@ -293,10 +293,10 @@ module _ (t : Tables) (s : Located) where
   data_light width (Difference q r plus) = omega arith
   data_light width (Faulty c) = omega arith
 
-  numbers_light : (width : ℕ) (es : List Expression) → Parts (contents_templates (expression_value t s) (Numbers width es)) ≤ weight (flat_map tree_names es)
+  numbers_light : (width : ℕ) (es : List Expression) → Parts (map (λ e. Datum width (expression_value t s e)) es) ≤ weight (flat_map tree_names es)
   numbers_light width [] = omega arith
   numbers_light width (e ∷ es) =
-      let a = use_append (uses (value_fields s.ordinal width (expression_value t s e))) (flat_map references_in (map (laid_part s.ordinal) (contents_templates (expression_value t s) (Numbers width es)))) in
+      let a = use_append (uses (value_fields s.ordinal width (expression_value t s e))) (flat_map references_in (map (laid_part s.ordinal) (map (λ e. Datum width (expression_value t s e)) es))) in
       let b = data_light width (expression_value t s e) in
       let c = by_value (λ q. meaning t true s.ordinal (place_of s) q) e in
       let d = numbers_light width es in
@@ -310,9 +310,9 @@ module _ (t : Tables) (s : Located) where
 
   contribution_light : (code : Bool) (c : Contribution) (bytes : ℕ) → Parts (contribution_templates code s.ordinal (expression_value t s) c bytes) ≤ weight (flat_map tree_names (in_contribution c))
   contribution_light code Nothing bytes = omega arith
-  contribution_light code (Bytes (Numbers width es)) bytes = numbers_light width es
-  contribution_light code (Bytes (Texts ended strings)) bytes = omega arith
-  contribution_light code (Zero_bytes count) bytes = omega arith
+  contribution_light code (Bytes (Values width es)) bytes = numbers_light width es
+  contribution_light code (Bytes (Strings ended strings)) bytes = omega arith
+  contribution_light code (Bytes (Zeros count)) bytes = omega arith
   contribution_light code (Alignment by number) bytes = let none = padding_light code bytes in omega (arith, none)
 
 -- ---- statements

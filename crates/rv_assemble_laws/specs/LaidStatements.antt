@@ -2,9 +2,9 @@
 -- (gABI, "Sections").
 
 use Rattle.std.specs.Prelude.{◌≡◌, ℕ, ◌+◌, ◌*◌, ◌%◌, ◌<◌, Bool, true, false, ◌==◌, ⊤, List, [], ◌∷◌, length, filter, flat_map, map, Option, Some, None, unwrap_or}
-use Rattle.rv_text_laws.specs.Values.{Value, Constant}
-use Rattle.rv_statement_laws.specs.Statement.{StatementKind, Label, Numbered, Instruction, Directs, Expression, Directive, Aligns_to_power, Aligns_to_bytes, Values, Strings, Zeros}
-use Rattle.rv_unit_laws.specs.Tables.{Tables, value_by_tables, alignment_of, padding, string_bytes}
+use Rattle.rv_text_laws.specs.Values.{Value}
+use Rattle.rv_statement_laws.specs.Statement.{StatementKind, Label, Numbered, Instruction, Directs, Expression, Directive, Aligns, Emits}
+use Rattle.rv_unit_laws.specs.Tables.{Tables, value_by_tables, alignment_of, padding, HasDataSize}
 use Rattle.rv_unit_laws.specs.Contributions.{contribution}
 use Rattle.rv_object_laws.specs.Padding.{operations_in}
 use Rattle.rv_pseudo_laws.specs.Code.{Part as CodePart, code}
@@ -103,15 +103,10 @@ IsPadded s multiple v alignment =
     × IsPaddedIn s.located.home.executable s alignment
 
 abbrev pub DirectiveSize : (Expression → Value) → LaidStatement → ℕ → Directive → Type 0
-DirectiveSize v s multiple (Values width values) =
-    (s.instructions ≡ 0) × (s.bytes ≡ width * length values)
-DirectiveSize v s multiple (Strings ended strings) =
-    (s.instructions ≡ 0) × (s.bytes ≡ length (string_bytes ended strings))
-DirectiveSize v s multiple (Zeros count) = (s.instructions ≡ 0) × (v count ≡ Constant s.bytes)
-DirectiveSize v s multiple (Aligns_to_power e) =
-    IsPadded s multiple (v e) (alignment_of v (Aligns_to_power e))
-DirectiveSize v s multiple (Aligns_to_bytes e) =
-    IsPadded s multiple (v e) (alignment_of v (Aligns_to_bytes e))
+DirectiveSize v s multiple (Emits contents) =
+    (s.instructions ≡ 0) × HasDataSize v contents s.bytes
+DirectiveSize v s multiple (Aligns form e) =
+    IsPadded s multiple (v e) (alignment_of v (Aligns form e))
 DirectiveSize v s multiple _ = (s.bytes ≡ 0) × (s.instructions ≡ 0)
 
 -- the bytes of a statement of a section that begins at such a multiple, and how many instructions

@@ -8,8 +8,8 @@ use Rattle.rv_isa.specs.declared.kind.Kind.TheVariants.{Align, Abs32, Abs64, Add
 use Rattle.rv_isa_laws.specs.Bytes.{little_endian, zeros}
 use Rattle.rv_text_laws.specs.Expression.{Primary}
 use Rattle.rv_text_laws.specs.Values.{Value, Constant, Symbolic, Difference, Faulty}
-use Rattle.rv_statement_laws.specs.Statement.{Expression}
-use Rattle.rv_unit_laws.specs.Contributions.{Contents, Numbers, Texts, Contribution, Nothing, Bytes, Zero_bytes, Alignment}
+use Rattle.rv_statement_laws.specs.Statement.{Expression, Data, Values, Strings, Zeros}
+use Rattle.rv_unit_laws.specs.Contributions.{Contribution, Nothing, Bytes, Alignment}
 use Rattle.rv_unit_laws.specs.Tables.{string_bytes}
 use Rattle.rv_object_laws.specs.Padding.{no_operations}
 
@@ -125,15 +125,16 @@ padding_templates false ordinal bytes = Fixed (zeros bytes) ∷ []
 
 -- ---- the templates of directives
 
-abbrev pub contents_templates : (Expression → Value) → Contents → List Template
-contents_templates v (Numbers width values) = map (λ e. Datum width (v e)) values
-contents_templates v (Texts ended strings) = Fixed (string_bytes ended strings) ∷ []
+abbrev pub data_templates : (Expression → Value) → Data → ℕ → List Template
+data_templates v (Values width values) bytes = map (λ e. Datum width (v e)) values
+data_templates v (Strings ended strings) bytes = Fixed (string_bytes ended strings) ∷ []
+data_templates v (Zeros count) bytes = Fixed (zeros bytes) ∷ []
 
 -- of a directive of this ordinal, in a section of code or of data
 abbrev pub contribution_templates :
     (executable : Bool) (ordinal : ℕ) → (Expression → Value) → Contribution → ℕ → List Template
 contribution_templates executable ordinal v Nothing bytes = []
-contribution_templates executable ordinal v (Bytes contents) bytes = contents_templates v contents
-contribution_templates executable ordinal v (Zero_bytes count) bytes = Fixed (zeros bytes) ∷ []
+contribution_templates executable ordinal v (Bytes contents) bytes =
+    data_templates v contents bytes
 contribution_templates executable ordinal v (Alignment form number) bytes =
     padding_templates executable ordinal bytes

@@ -10,7 +10,7 @@ use Rattle.rv_isa_laws.specs.Bytes.{zeros}
 use Rattle.rv_parcel.specs.declared.form.Compressed.{Compressed}
 use Rattle.rv_text_laws.specs.Values.{Value, Constant, Symbolic, Difference, Faulty}
 use Rattle.rv_statement_laws.specs.declared.mnemonic.Mnemonic.{Mnemonic}
-use Rattle.rv_statement_laws.specs.Statement.{StatementKind, Label, Numbered, Instruction, Directs, Statement, Operand, Expression, Directive, Enters, Sets, Aligns_to_power, Aligns_to_bytes, Values, Strings, Zeros}
+use Rattle.rv_statement_laws.specs.Statement.{StatementKind, Label, Numbered, Instruction, Directs, Statement, Operand, Expression, Directive, Enters, Sets, Values, Strings, Zeros, As_power, As_bytes, Aligns, Emits}
 use Rattle.rv_unit_laws.specs.Contributions.{contribution}
 use Rattle.rv_unit_laws.specs.Sections.{Section, is_nobits, section_at, current_section}
 use Rattle.rv_unit_laws.specs.Tables.{Tables, SectionOffset, at_start, here, value_by_tables, power_alignment, byte_alignment, alignment_of, padding, string_bytes, after, tables, stood, opened_of, alignments_of}
@@ -184,11 +184,10 @@ module _ (all : Tables) (s : Located) (x : Item) (begins : ℕ) (found : List Co
 
   directive_bytes : (d : Directive) → PlacedDirective s.placed d → Sized (Directs d) → Absent → found ≡ [] → x.bytes ≡ length (flat_map part_bytes (Parts (Directs d)))
   directive_bytes (Sets name e) is size absent none = set_bytes s.placed refl name e size absent
-  directive_bytes (Values w vs) is size absent none = (size is).1 ∙ sym (values_long w vs)
-  directive_bytes (Strings ended strings) is size absent none = (size is).1 ∙ ap length (sym (append-nil (string_bytes ended strings)))
-  directive_bytes (Zeros count) is size absent none = sym (zeros_long x.bytes)
-  directive_bytes (Aligns_to_power e) is size absent none = aligned_bytes (Aligns_to_power e) (alignment_of worth (Aligns_to_power e)) none (size is).1.1
-  directive_bytes (Aligns_to_bytes e) is size absent none = aligned_bytes (Aligns_to_bytes e) (alignment_of worth (Aligns_to_bytes e)) none (size is).1.1
+  directive_bytes (Emits (Values w vs)) is size absent none = (size is).1 ∙ sym (values_long w vs)
+  directive_bytes (Emits (Strings ended strings)) is size absent none = (size is).1 ∙ ap length (sym (append-nil (string_bytes ended strings)))
+  directive_bytes (Emits (Zeros count)) is size absent none = sym (zeros_long x.bytes)
+  directive_bytes (Aligns form e) is size absent none = aligned_bytes (Aligns form e) (alignment_of worth (Aligns form e)) none (size is).1.1
   directive_bytes _ is size absent none = absent is
 
   said_bytes : (says : StatementKind) → PlacedAs s.placed says → Sized says → Absent → Own says → x.bytes ≡ length (flat_map part_bytes (Parts says))
@@ -202,15 +201,10 @@ module _ (all : Tables) (s : Located) (x : Item) (begins : ℕ) (found : List Co
 
   directive_code : (d : Directive) → s.home.executable ≡ true → PlacedDirective s.placed d → Sized (Directs d) → DirectiveHeld s.home d → found ≡ []
       → flat_map part_bytes (Parts (Directs d)) ≡ no_operations (pads (Directs d))
-  directive_code (Values w vs) code is size held none = absurd (both_ways s.home.executable held.0 code)
-  directive_code (Strings ended strings) code is size held none = absurd (both_ways s.home.executable held.0 code)
-  directive_code (Zeros count) code is size held none = absurd (both_ways s.home.executable held code)
-  directive_code (Aligns_to_power e) code is size held none =
+  directive_code (Emits contents) code is size held none = absurd (both_ways s.home.executable held.0 code)
+  directive_code (Aligns form e) code is size held none =
       padding_whole s.home.executable x.bytes code
-      ∙ ap no_operations (padded_bytes s.home.executable (Aligns_to_power e) (alignment_of worth (Aligns_to_power e)) code none (size is).1.1)
-  directive_code (Aligns_to_bytes e) code is size held none =
-      padding_whole s.home.executable x.bytes code
-      ∙ ap no_operations (padded_bytes s.home.executable (Aligns_to_bytes e) (alignment_of worth (Aligns_to_bytes e)) code none (size is).1.1)
+      ∙ ap no_operations (padded_bytes s.home.executable (Aligns form e) (alignment_of worth (Aligns form e)) code none (size is).1.1)
   directive_code _ code is size held none = ap no_operations (sym (no_pad s.home.executable))
 
   said_code : (says : StatementKind) → s.home.executable ≡ true → PlacedAs s.placed says → Sized says → Own says → IsHeld s.home says → flat_map part_bytes (Parts says) ≡ code_of says
@@ -262,20 +256,18 @@ module _ (all : Tables) (s : Located) (x : Item) (begins : ℕ) (found : List Co
   code_fields (Label name) e held = refl
   code_fields (Numbered number) e held = refl
   code_fields (Instruction mnemonic operands) e held = refl
-  code_fields (Directs (Values w vs)) e held = absurd (both_ways s.home.executable held.0 e)
-  code_fields (Directs (Strings ended strings)) e held = refl
-  code_fields (Directs (Aligns_to_power n)) e held = ap (λ b. Fields (map (laid_part s.ordinal) (padding_templates b s.ordinal x.bytes))) (sym e)
-  code_fields (Directs (Aligns_to_bytes n)) e held = ap (λ b. Fields (map (laid_part s.ordinal) (padding_templates b s.ordinal x.bytes))) (sym e)
+  code_fields (Directs (Emits (Values w vs))) e held = absurd (both_ways s.home.executable held.0 e)
+  code_fields (Directs (Emits (Strings ended strings))) e held = refl
+  code_fields (Directs (Aligns form n)) e held = ap (λ b. Fields (map (laid_part s.ordinal) (padding_templates b s.ordinal x.bytes))) (sym e)
   code_fields (Directs _) e held = refl
 
   no_fields : (says : StatementKind) → s.home.executable ≡ false → is_filled s.home ≡ false → IsHeld s.home says → Fields (Parts says) ≡ []
   no_fields (Label name) other e held = refl
   no_fields (Numbered number) other e held = refl
   no_fields (Instruction mnemonic operands) other e held = absurd (both_ways s.home.executable other held.0)
-  no_fields (Directs (Values w vs)) other e held = absurd (both_ways (is_filled s.home) e (data_filled s.home.executable (is_nobits s.home) held.0 held.1))
-  no_fields (Directs (Strings ended strings)) other e held = refl
-  no_fields (Directs (Aligns_to_power n)) other e held = ap (λ b. Fields (map (laid_part s.ordinal) (padding_templates b s.ordinal x.bytes))) other
-  no_fields (Directs (Aligns_to_bytes n)) other e held = ap (λ b. Fields (map (laid_part s.ordinal) (padding_templates b s.ordinal x.bytes))) other
+  no_fields (Directs (Emits (Values w vs))) other e held = absurd (both_ways (is_filled s.home) e (data_filled s.home.executable (is_nobits s.home) held.0 held.1))
+  no_fields (Directs (Emits (Strings ended strings))) other e held = refl
+  no_fields (Directs (Aligns form n)) other e held = ap (λ b. Fields (map (laid_part s.ordinal) (padding_templates b s.ordinal x.bytes))) other
   no_fields (Directs _) other e held = refl
 
   abbrev Chosen : Bool → Bool → StatementKind → List LaidPart
@@ -308,13 +300,9 @@ module _ (all : Tables) (s : Located) (x : Item) (begins : ℕ) (found : List Co
 
   directive_size : (d : Directive) → s.placed ≡ true → PlacedDirective s.placed d → IsSized worth s.home.executable x begins (code_size (pads (Directs d)) found) (Directs d) → found ≡ [] → HasSize worth laid_statement begins (Directs d)
   directive_size (Sets name e) there is h none = (h.1, no_count (Directs (Sets name e)) (no_pad s.home.executable) none h.0)
-  directive_size (Values w vs) there is h none = (no_count (Directs (Values w vs)) (no_pad s.home.executable) none h.0, h.1)
-  directive_size (Strings ended strings) there is h none = (no_count (Directs (Strings ended strings)) (no_pad s.home.executable) none h.0, h.1)
-  directive_size (Zeros count) there is h none = (no_count (Directs (Zeros count)) (no_pad s.home.executable) none h.0, h.1)
-  directive_size (Aligns_to_power e) there is h none =
-      let padded = padded_in s.home.executable (Aligns_to_power e) refl none h.0 h.1.1 in (h.1.0, padded.0, padded.1)
-  directive_size (Aligns_to_bytes e) there is h none =
-      let padded = padded_in s.home.executable (Aligns_to_bytes e) refl none h.0 h.1.1 in (h.1.0, padded.0, padded.1)
+  directive_size (Emits contents) there is h none = (no_count (Directs (Emits contents)) (no_pad s.home.executable) none h.0, h.1)
+  directive_size (Aligns form e) there is h none =
+      let padded = padded_in s.home.executable (Aligns form e) refl none h.0 h.1.1 in (h.1.0, padded.0, padded.1)
   directive_size _ there is h none = absurd (both_ways s.placed is there)
 
   said_size : (says : StatementKind) → s.placed ≡ true → PlacedAs s.placed says → IsSized worth s.home.executable x begins (code_size (pads says) found) says → Own says → HasSize worth laid_statement begins says
@@ -327,31 +315,30 @@ module _ (all : Tables) (s : Located) (x : Item) (begins : ℕ) (found : List Co
 
   -- templates
 
-  all_templates : (says : StatementKind) → ((w : ℕ) (vs : List Expression) → says ≡ Directs (Values w vs) → AllByRecursion (λ e. HasField w (worth e)) vs)
+  all_templates : (says : StatementKind) → ((w : ℕ) (vs : List Expression) → says ≡ Directs (Emits (Values w vs)) → AllByRecursion (λ e. HasField w (worth e)) vs)
       → AllByRecursion (λ (p : LaidPart). IsTemplate p.template) (Parts says)
   all_templates (Label name) h = tt
   all_templates (Numbered number) h = tt
   all_templates (Instruction mnemonic operands) h =
       coded_are s.ordinal (part_fields all worth s) (unwrap_or (code (constants worth) s.options.rvc x.bytes mnemonic operands) []) (coded_by found)
-  all_templates (Directs (Values w vs)) h = go vs (h w vs refl)
+  all_templates (Directs (Emits (Values w vs))) h = go vs (h w vs refl)
     where
       go : (es : List Expression) → AllByRecursion (λ e. HasField w (worth e)) es → AllByRecursion (λ (p : LaidPart). IsTemplate p.template) (map (laid_part s.ordinal) (map (λ e. Datum w (worth e)) es))
       go [] k = tt
       go (e ∷ es) k = (k.0, go es k.1)
-  all_templates (Directs (Strings ended strings)) h = (tt, tt)
-  all_templates (Directs (Zeros count)) h = (tt, tt)
-  all_templates (Directs (Aligns_to_power e)) h = padding_are s.home.executable x.bytes
-  all_templates (Directs (Aligns_to_bytes e)) h = padding_are s.home.executable x.bytes
+  all_templates (Directs (Emits (Strings ended strings))) h = (tt, tt)
+  all_templates (Directs (Emits (Zeros count))) h = (tt, tt)
+  all_templates (Directs (Aligns form e)) h = padding_are s.home.executable x.bytes
   all_templates (Directs _) h = tt
 
 -- ---- the fields of values
 
 abbrev pub HaveFields : Tables → Located → Type 0
 HaveFields all l =
-    (w : ℕ) (vs : List Expression) → l.kind ≡ Directs (Values w vs) → AllByRecursion (λ e. HasField w (expression_value all l e)) vs
+    (w : ℕ) (vs : List Expression) → l.kind ≡ Directs (Emits (Values w vs)) → AllByRecursion (λ e. HasField w (expression_value all l e)) vs
 
 abbrev pub IsWideKind : StatementKind → Type 0
-IsWideKind says = (w : ℕ) (vs : List Expression) → says ≡ Directs (Values w vs) → IsWidth w
+IsWideKind says = (w : ℕ) (vs : List Expression) → says ≡ Directs (Emits (Values w vs)) → IsWidth w
 
 wide : (w : ℕ) → IsWidth w → faulty_if (nat_lt w 4) 13 ≡ [] → IsWide w
 wide w (inl e) none = absurd (both_ways (nat_lt w 4) (no_test (nat_lt w 4) 13 none) (ap (λ n. nat_lt n 4) e))
@@ -375,7 +362,7 @@ have_fields w v (e ∷ es) is none =
 
 fields_one : (all t : Tables) (k : ℕ) (s : Statement) → faults all t k s.kind ≡ [] → IsWideKind s.kind → HaveFields all (located_now 1 k t s)
 fields_one all t k s none wide w vs e =
-    let sound : faults all t k (Directs (Values w vs)) ≡ [] = subst (λ says. faults all t k says ≡ []) e none in
+    let sound : faults all t k (Directs (Emits (Values w vs))) ≡ [] = subst (λ says. faults all t k says ≡ []) e none in
     let own = append_none_parts (flat_map (λ x. value_faults w (value_by_tables all true k (here t) x)) vs)
     (faulty_if ((current_section (opened_of t)).executable || is_nobits (current_section (opened_of t))) 15 ++ past_section (current_section (opened_of t)).executable (here t).offset (w * length vs)) sound in
     subst (λ says. AllByRecursion (λ x. HasField w (value_by_tables all true k (stood t k says) x)) vs) (sym e)
@@ -414,7 +401,7 @@ module _ (all t : Tables) (k : ℕ) (whole : (e : Expression) (n : ℕ) → valu
   abbrev Spare : StatementKind → Section → Type 0
   Spare says home = is_nobits home ≡ true → statement_padding home.executable (λ e. value_by_tables all true k (stood t k says) e) says ≡ 0
 
-  power_spare : (e : Expression) → directive_faults all t k (Aligns_to_power e) ≡ [] → Spare (Directs (Aligns_to_power e)) current
+  power_spare : (e : Expression) → directive_faults all t k (Aligns As_power e) ≡ [] → Spare (Directs (Aligns As_power e)) current
   power_spare e none empty =
       let w = value_by_tables all false k (here t) e in
       let parts = append_none_parts (power_faults w) (alignment_faults current (here t).offset (power_alignment w)) none in
@@ -422,7 +409,7 @@ module _ (all t : Tables) (k : ℕ) (whole : (e : Expression) (n : ℕ) → valu
       ap (λ a. if current.executable then code_padding a else 0) (ap power_alignment (whole e n is ∙ sym is))
       ∙ spare_by current.executable (is_nobits current) (here t).offset (power_alignment w) parts.1 empty
 
-  bytes_spare : (e : Expression) → directive_faults all t k (Aligns_to_bytes e) ≡ [] → Spare (Directs (Aligns_to_bytes e)) current
+  bytes_spare : (e : Expression) → directive_faults all t k (Aligns As_bytes e) ≡ [] → Spare (Directs (Aligns As_bytes e)) current
   bytes_spare e none empty =
       let w = value_by_tables all false k (here t) e in
       let parts = append_none_parts (bytes_faults w) (alignment_faults current (here t).offset (byte_alignment w)) none in
@@ -435,10 +422,10 @@ module _ (all t : Tables) (k : ℕ) (whole : (e : Expression) (n : ℕ) → valu
   none_spare false = refl
 
   directive_spare : (d : Directive) → directive_faults all t k d ≡ [] → Spare (Directs d) (section_at (opened_of (after t k (Directs d))) (stood t k (Directs d)).section)
-  directive_spare (Aligns_to_power e) none =
-      subst (λ o. Spare (Directs (Aligns_to_power e)) (section_at o t.current)) (sym (after_opened t k (Directs (Aligns_to_power e)))) (power_spare e none)
-  directive_spare (Aligns_to_bytes e) none =
-      subst (λ o. Spare (Directs (Aligns_to_bytes e)) (section_at o t.current)) (sym (after_opened t k (Directs (Aligns_to_bytes e)))) (bytes_spare e none)
+  directive_spare (Aligns As_power e) none =
+      subst (λ o. Spare (Directs (Aligns As_power e)) (section_at o t.current)) (sym (after_opened t k (Directs (Aligns As_power e)))) (power_spare e none)
+  directive_spare (Aligns As_bytes e) none =
+      subst (λ o. Spare (Directs (Aligns As_bytes e)) (section_at o t.current)) (sym (after_opened t k (Directs (Aligns As_bytes e)))) (bytes_spare e none)
   directive_spare d none = λ empty. none_spare (section_at (opened_of (after t k (Directs d))) (stood t k (Directs d)).section).executable
 
   said_spare : (says : StatementKind) → faults all t k says ≡ [] → Spare says (section_at (opened_of (after t k says)) (stood t k says).section)

@@ -6,7 +6,7 @@ use Rattle.std.specs.Prelude.{slice_index_or, if◌then◌else◌}
 use Rattle.rv_list_laws.proofs.EachLemmas.{each_dropped}
 use Rattle.rv_list_laws.proofs.ElementsLemmas.{index_or_get}
 use Rattle.rv_list_laws.proofs.TakeDropLemmas.{drop_zero, drop_inside}
-use Rattle.rv_statement_laws.specs.Statement.{StatementKind, Label, Numbered, Instruction, Directs, Statement, Expression, Directive, Sets, Aligns_to_power, Aligns_to_bytes, Values, Strings, Zeros}
+use Rattle.rv_statement_laws.specs.Statement.{StatementKind, Label, Numbered, Instruction, Directs, Statement, Expression, Directive, Sets, Aligns, Emits}
 use Rattle.rv_text_laws.specs.Values.{Value}
 use Rattle.rv_text_laws.specs.Codes.{limit}
 use Rattle.rv_unit_laws.specs.Sections.{Section, Opened, text_section, section_at, current_section}
@@ -55,11 +55,8 @@ rooms_begin ss sizes ends good zeros = record {
 
 stood_directive : (t : Tables) (k : ℕ) (d : Directive) → is_placed_directive t k d ≡ true → (stood t k (Directs d) ≡ here t) × (opened_of (after t k (Directs d)) ≡ opened_of t)
 stood_directive t k (Sets name e) placed = (refl, after_opened t k (Directs (Sets name e)))
-stood_directive t k (Aligns_to_power e) placed = (refl, after_opened t k (Directs (Aligns_to_power e)))
-stood_directive t k (Aligns_to_bytes e) placed = (refl, after_opened t k (Directs (Aligns_to_bytes e)))
-stood_directive t k (Values width values) placed = (refl, after_opened t k (Directs (Values width values)))
-stood_directive t k (Strings ended strings) placed = (refl, after_opened t k (Directs (Strings ended strings)))
-stood_directive t k (Zeros count) placed = (refl, after_opened t k (Directs (Zeros count)))
+stood_directive t k (Aligns form e) placed = (refl, after_opened t k (Directs (Aligns form e)))
+stood_directive t k (Emits contents) placed = (refl, after_opened t k (Directs (Emits contents)))
 stood_directive t k _ placed = absurd (cc)
 
 stood_here : (t : Tables) (k : ℕ) (says : StatementKind) → is_placed t k says ≡ true → (stood t k says ≡ here t) × (opened_of (after t k says) ≡ opened_of t)
@@ -76,11 +73,8 @@ padded_as false own x begins alignment h = h
 
 directive_as : (v : Expression → Value) (b : Bool) (own : CodeSize) (x : Item) (begins : ℕ) (d : Directive) → IsSizedDirective v b own x begins d → IsSizedDirective v b own (stretch x.offset x.bytes) begins d
 directive_as v b own x begins (Sets name e) h = h
-directive_as v b own x begins (Values width values) h = h
-directive_as v b own x begins (Strings ended strings) h = h
-directive_as v b own x begins (Zeros count) h = h
-directive_as v b own x begins (Aligns_to_power e) h = (h.0, padded_as b own x begins (alignment_of v (Aligns_to_power e)) h.1)
-directive_as v b own x begins (Aligns_to_bytes e) h = (h.0, padded_as b own x begins (alignment_of v (Aligns_to_bytes e)) h.1)
+directive_as v b own x begins (Emits contents) h = h
+directive_as v b own x begins (Aligns form e) h = (h.0, padded_as b own x begins (alignment_of v (Aligns form e)) h.1)
 directive_as v b own x begins _ h = tt
 
 size_as : (v : Expression → Value) (b : Bool) (x : Item) (begins : ℕ) (own : CodeSize) (says : StatementKind) → IsSized v b x begins own says → IsSize v b begins x.offset own says x.bytes

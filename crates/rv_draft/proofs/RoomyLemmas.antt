@@ -8,11 +8,11 @@ use Rattle.std.specs.Prelude.{IfErr, Result, Ok, Err, not, flat_map, slice_index
 use Rattle.rv_list_laws.proofs.ElementsLemmas.{append_none_parts}
 use Rattle.rv_layout_laws.specs.Alignment.{aligned}
 use Rattle.rv_text_laws.specs.Values.{Value, Constant, Symbolic, Difference, Faulty}
-use Rattle.rv_statement_laws.specs.Statement.{StatementKind, Label, Numbered, Instruction, Directs, Expression, Directive, Sets, Aligns_to_power, Aligns_to_bytes, Values, Strings, Zeros}
+use Rattle.rv_statement_laws.specs.Statement.{StatementKind, Label, Numbered, Instruction, Directs, Expression, Directive, Sets, Values, Strings, Zeros, As_power, As_bytes, Aligns, Emits}
 use Rattle.rv_unit_laws.specs.Sections.{Section, is_nobits, current_section}
 use Rattle.rv_unit_laws.specs.Tables.{Tables, here, value_by_tables, alignment_of, power_alignment, byte_alignment, counted, or_none, within, padding, data_bytes, string_bytes, longest_section, after, opened_of, ends_of}
 use Rattle.rv_text_laws.specs.Codes.{faulty_if}
-use Rattle.rv_unit_laws.specs.Faults.{size_faults, power_faults, bytes_faults, value_faults, code_alignment_faults, past_section, alignment_faults, directive_faults, faults}
+use Rattle.rv_unit_laws.specs.Faults.{size_faults, power_faults, bytes_faults, value_faults, code_alignment_faults, past_section, alignment_faults, data_faults, directive_faults, faults}
 use Rattle.rv_unit_laws.proofs.GrownLemmas.{BeginsAt, puts, end_behind}
 use Rattle.rv_unit_laws.proofs.TablesLemmas.{within_fits}
 use Rattle.rv_assemble_laws.specs.Coded.{is_constant}
@@ -147,27 +147,27 @@ module _ (all t : Tables) (k begins offset : ℕ) (own : CodeSize) (low : offset
       past_fits false (here t).offset (padding alignment (here t).offset) refl
       (sym (ap (λ c. if c then code_alignment_faults (is_nobits home) alignment else past_section false (here t).offset (padding alignment (here t).offset)) other) ∙ none)
 
-  values_here : (width : ℕ) (values : List Expression) → directive_faults all t k (Values width values) ≡ [] → Here (Directs (Values width values))
+  values_here : (width : ℕ) (values : List Expression) → data_faults all t k (Values width values) ≡ [] → Here (Directs (Emits (Values width values)))
   values_here width values none =
       let later = append_none_parts (flat_map (λ e. value_faults width (value_by_tables all true k (here t) e)) values) (faulty_if (home.executable || is_nobits home) 15 ++ past_section home.executable (here t).offset (width * length values)) none in
       let last = append_none_parts (faulty_if (home.executable || is_nobits home) 15) (past_section home.executable (here t).offset (width * length values)) later.1 in
       let other = (or_parts home.executable (is_nobits home) (no_test (home.executable || is_nobits home) 15 last.0)).0 in
       let fits = past_fits home.executable (here t).offset (width * length values) other last.1 in
-      let same : data_bytes first (here t).offset (Values width values) ≡ width * length values = within_fits (here t).offset (width * length values) fits in
+      let same : data_bytes first (here t).offset (Emits (Values width values)) ≡ width * length values = within_fits (here t).offset (width * length values) fits in
       let less = before other in
-      put_here (Values width values) other refl (omega (arith, fits)) (omega (arith, same, fits)) (λ n h. omega (arith, h, same, less))
+      put_here (Emits (Values width values)) other refl (omega (arith, fits)) (omega (arith, same, fits)) (λ n h. omega (arith, h, same, less))
 
-  strings_here : (ended : Bool) (strings : List (List ℕ)) → directive_faults all t k (Strings ended strings) ≡ [] → Here (Directs (Strings ended strings))
+  strings_here : (ended : Bool) (strings : List (List ℕ)) → data_faults all t k (Strings ended strings) ≡ [] → Here (Directs (Emits (Strings ended strings)))
   strings_here ended strings none =
       let count = length (string_bytes ended strings) in
       let last = append_none_parts (faulty_if (home.executable || is_nobits home) 15) (past_section home.executable (here t).offset count) none in
       let other = (or_parts home.executable (is_nobits home) (no_test (home.executable || is_nobits home) 15 last.0)).0 in
       let fits = past_fits home.executable (here t).offset count other last.1 in
-      let same : data_bytes first (here t).offset (Strings ended strings) ≡ count = within_fits (here t).offset count fits in
+      let same : data_bytes first (here t).offset (Emits (Strings ended strings)) ≡ count = within_fits (here t).offset count fits in
       let less = before other in
-      put_here (Strings ended strings) other refl (omega (arith, fits)) (omega (arith, same, fits)) (λ n h. omega (arith, h, same, less))
+      put_here (Emits (Strings ended strings)) other refl (omega (arith, fits)) (omega (arith, same, fits)) (λ n h. omega (arith, h, same, less))
 
-  zeros_here : (count : Expression) → directive_faults all t k (Zeros count) ≡ [] → Here (Directs (Zeros count))
+  zeros_here : (count : Expression) → data_faults all t k (Zeros count) ≡ [] → Here (Directs (Emits (Zeros count)))
   zeros_here count none =
       let w = value_by_tables all false k (here t) count in
       let past_faults : Option ℕ → List ℕ = λ o. elim o [ None ↦ [] | Some n ↦ past_section home.executable (here t).offset n ] in
@@ -178,9 +178,9 @@ module _ (all t : Tables) (k begins offset : ℕ) (own : CodeSize) (low : offset
       let found : counted w ≡ Some n = ap counted is.is ∙ ap (λ b. if b then Some n else None) is.below in
       let fits = past_fits home.executable (here t).offset n other (sym (ap past_faults found) ∙ last.1) in
       let less = before other in
-      let same : data_bytes first (here t).offset (Zeros count) ≡ n =
+      let same : data_bytes first (here t).offset (Emits (Zeros count)) ≡ n =
       ap (λ x. within (here t).offset (or_none (counted x))) (past count n is.is) ∙ ap (λ b. within (here t).offset (or_none (if b then Some n else None))) is.below ∙ within_fits (here t).offset n fits in
-      put_here (Zeros count) other refl (n, whole count n is.is, omega (arith, fits)) (omega (arith, same, fits))
+      put_here (Emits (Zeros count)) other refl (n, whole count n is.is, omega (arith, fits)) (omega (arith, same, fits))
       (λ m h. let f : m ≡ n = constant_is m n (sym h ∙ whole count n is.is) in omega (arith, f, same, less))
     where
       constant_is : (m n : ℕ) → Constant m ≡ Constant n → m ≡ n
@@ -218,7 +218,7 @@ module _ (all t : Tables) (k begins offset : ℕ) (own : CodeSize) (low : offset
           let same = bytes ∙ within_fits (here t).offset (padding alignment (here t).offset) fits in
           put_here d other puts size (omega (arith, same, fits)) (λ n h. let f = data_size home.executable n other (padded n h) in omega (arith, f, less, same))
 
-  power_here : (e : Expression) → BeginsAt (alignment_of first (Aligns_to_power e)) begins → directive_faults all t k (Aligns_to_power e) ≡ [] → Fits → Here (Directs (Aligns_to_power e))
+  power_here : (e : Expression) → BeginsAt (alignment_of first (Aligns As_power e)) begins → directive_faults all t k (Aligns As_power e) ≡ [] → Fits → Here (Directs (Aligns As_power e))
   power_here e multiples none fits =
       let w = value_by_tables all false k (here t) e in
       let parts = append_none_parts (power_faults w) (alignment_faults home (here t).offset (power_alignment w)) none in
@@ -227,10 +227,10 @@ module _ (all t : Tables) (k begins offset : ℕ) (own : CodeSize) (low : offset
       let sooner : power_alignment (first e) ≡ power_alignment w = ap power_alignment (past e n is ∙ sym is) in
       let multiples' : BeginsAt (power_alignment (v e)) begins = subst (λ a. BeginsAt a begins) (sooner ∙ sym now) multiples in
       let none' : alignment_faults home (here t).offset (power_alignment (v e)) ≡ [] = ap (alignment_faults home (here t).offset) now ∙ parts.1 in
-      aligned_here (Aligns_to_power e) (power_alignment (v e)) refl multiples' none' (ap (λ a. within (here t).offset (padding a (here t).offset)) (sooner ∙ sym now))
+      aligned_here (Aligns As_power e) (power_alignment (v e)) refl multiples' none' (ap (λ a. within (here t).offset (padding a (here t).offset)) (sooner ∙ sym now))
       (ap is_constant (whole e n is), padding_here home.executable refl (power_alignment (v e)) multiples' none') (λ m h. h.1) fits
 
-  bytes_here : (e : Expression) → BeginsAt (alignment_of first (Aligns_to_bytes e)) begins → directive_faults all t k (Aligns_to_bytes e) ≡ [] → Fits → Here (Directs (Aligns_to_bytes e))
+  bytes_here : (e : Expression) → BeginsAt (alignment_of first (Aligns As_bytes e)) begins → directive_faults all t k (Aligns As_bytes e) ≡ [] → Fits → Here (Directs (Aligns As_bytes e))
   bytes_here e multiples none fits =
       let w = value_by_tables all false k (here t) e in
       let parts = append_none_parts (bytes_faults w) (alignment_faults home (here t).offset (byte_alignment w)) none in
@@ -239,17 +239,17 @@ module _ (all t : Tables) (k begins offset : ℕ) (own : CodeSize) (low : offset
       let sooner : byte_alignment (first e) ≡ byte_alignment w = ap byte_alignment (past e n is ∙ sym is) in
       let multiples' : BeginsAt (byte_alignment (v e)) begins = subst (λ a. BeginsAt a begins) (sooner ∙ sym now) multiples in
       let none' : alignment_faults home (here t).offset (byte_alignment (v e)) ≡ [] = ap (alignment_faults home (here t).offset) now ∙ parts.1 in
-      aligned_here (Aligns_to_bytes e) (byte_alignment (v e)) refl multiples' none' (ap (λ a. within (here t).offset (padding a (here t).offset)) (sooner ∙ sym now))
+      aligned_here (Aligns As_bytes e) (byte_alignment (v e)) refl multiples' none' (ap (λ a. within (here t).offset (padding a (here t).offset)) (sooner ∙ sym now))
       (ap is_constant (whole e n is), padding_here home.executable refl (byte_alignment (v e)) multiples' none') (λ m h. h.1) fits
 
   directive_here : (d : Directive) → is_placed_directive t k d ≡ true → (puts d ≡ true → BeginsAt (alignment_of first d) begins) → (here t).offset ≤ stop (Directs d)
       → directive_faults all t k d ≡ [] → Fits → Here (Directs d)
   directive_here (Sets name e) placed multiples more none fits = none_here (Directs (Sets name e)) tt (λ n h. h) more
-  directive_here (Values width values) placed multiples more none fits = values_here width values none
-  directive_here (Strings ended strings) placed multiples more none fits = strings_here ended strings none
-  directive_here (Zeros count) placed multiples more none fits = zeros_here count none
-  directive_here (Aligns_to_power e) placed multiples more none fits = power_here e (multiples refl) none fits
-  directive_here (Aligns_to_bytes e) placed multiples more none fits = bytes_here e (multiples refl) none fits
+  directive_here (Emits (Values width values)) placed multiples more none fits = values_here width values none
+  directive_here (Emits (Strings ended strings)) placed multiples more none fits = strings_here ended strings none
+  directive_here (Emits (Zeros count)) placed multiples more none fits = zeros_here count none
+  directive_here (Aligns As_power e) placed multiples more none fits = power_here e (multiples refl) none fits
+  directive_here (Aligns As_bytes e) placed multiples more none fits = bytes_here e (multiples refl) none fits
   directive_here _ placed multiples more none fits = absurd (cc)
 
   pub statement_here : (says : StatementKind) → is_placed t k says ≡ true → ((d : Directive) → says ≡ Directs d → puts d ≡ true → BeginsAt (alignment_of first d) begins)

@@ -2,7 +2,7 @@
 
 use Rattle.std.proofs.Common.{◌≡◌, ℕ, Bool, true, false, Option}
 use Rattle.rv_text_laws.specs.Values.{Value}
-use Rattle.rv_statement_laws.specs.Statement.{StatementKind, Label, Numbered, Instruction, Directs, Expression, Directive, Enters, Opens, Binds, Sets, Aligns_to_power, Aligns_to_bytes, Values, Strings, Zeros, Chooses, Ignored}
+use Rattle.rv_statement_laws.specs.Statement.{StatementKind, Label, Numbered, Instruction, Directs, Expression, Directive, Enters, Opens, Binds, Sets, Chooses, Ignored, Aligns, Emits}
 use Rattle.rv_unit_laws.specs.Tables.{alignment_of}
 use Rattle.rv_draft.specs.declared.item.CodeSize.{CodeSize}
 use Rattle.rv_unit.specs.declared.item.Item.{Item}
@@ -15,11 +15,8 @@ padded false own x begins a h = h
 
 sized_directive : (v : Expression → Value) (b : Bool) (own : CodeSize) (x : Item) (begins : ℕ) (d : Directive) → IsSizedDirective v b own (stretch x.offset x.bytes) begins d → IsSizedDirective v b own x begins d
 sized_directive v b own x begins (Sets name e) h = h
-sized_directive v b own x begins (Values width values) h = h
-sized_directive v b own x begins (Strings ended strings) h = h
-sized_directive v b own x begins (Zeros count) h = h
-sized_directive v b own x begins (Aligns_to_power e) h = (h.0, padded b own x begins (alignment_of v (Aligns_to_power e)) h.1)
-sized_directive v b own x begins (Aligns_to_bytes e) h = (h.0, padded b own x begins (alignment_of v (Aligns_to_bytes e)) h.1)
+sized_directive v b own x begins (Emits contents) h = h
+sized_directive v b own x begins (Aligns form e) h = (h.0, padded b own x begins (alignment_of v (Aligns form e)) h.1)
 sized_directive v b own x begins (Enters standard) h = h
 sized_directive v b own x begins (Opens name flags kind) h = h
 sized_directive v b own x begins (Binds binding names) h = h

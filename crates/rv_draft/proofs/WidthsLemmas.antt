@@ -4,7 +4,7 @@ use Rattle.std.proofs.Common.{◌≡◌, ℕ, zero, suc, inl, inr, List, [], ◌
 use Rattle.std.specs.List.{AllByRecursion}
 use Rattle.rv_isa_laws.specs.Bytes.{little_endian, zeros}
 use Rattle.rv_statement.specs.Records.{plain_in, statement_in, recorded}
-use Rattle.rv_statement_laws.specs.Statement.{Expression, Directs, Ignored, Values, Statement as SpecStatement}
+use Rattle.rv_statement_laws.specs.Statement.{Expression, Directs, Ignored, Statement as SpecStatement, Values, Emits}
 use Rattle.rv_statement.specs.Statements.{statements_of}
 use Rattle.rv_statement_laws.specs.Widths.{width_bytes}
 use Rattle.rv_statement.specs.View.{plain_of, with_expression, with_function, statement_kind, statement_of}
@@ -38,15 +38,15 @@ no_number widths.Half = refl
 no_number widths.Word = refl
 no_number widths.Double = refl
 
-plain_no : (p : Plain) (w : ℕ) (vs : List Expression) → plain_of p ≡ Directs (Values w vs) → ⊥
+plain_no : (p : Plain) (w : ℕ) (vs : List Expression) → plain_of p ≡ Directs (Emits (Values w vs)) → ⊥
 plain_no (plains.Registers operation rd rs1 rs2) w vs e = absurd (cc)
 plain_no _ w vs e = absurd (cc)
 
-with_no : (operation : Operation) (x : Expression) (w : ℕ) (vs : List Expression) → with_expression operation x ≡ Directs (Values w vs) → ⊥
+with_no : (operation : Operation) (x : Expression) (w : ℕ) (vs : List Expression) → with_expression operation x ≡ Directs (Emits (Values w vs)) → ⊥
 with_no (operations.Li rd) x w vs e = absurd (cc)
 with_no _ x w vs e = absurd (cc)
 
-function_no : (operation : Operation) (function : Function) (x : Expression) (w : ℕ) (vs : List Expression) → with_function operation function x ≡ Directs (Values w vs) → ⊥
+function_no : (operation : Operation) (function : Function) (x : Expression) (w : ℕ) (vs : List Expression) → with_function operation function x ≡ Directs (Emits (Values w vs)) → ⊥
 function_no (operations.Li rd) function x w vs e = absurd (cc)
 function_no _ function x w vs e = absurd (cc)
 

@@ -3,7 +3,7 @@
 use Rattle.std.specs.Prelude.{◌≡◌, ℕ, ◌+◌, ◌*◌, ◌≤◌, Bool, true, false, not, ◌&&◌, ⊤, List, [], ◌∷◌, ◌++◌, flat_map, map, drop, length, if◌then◌else◌}
 use Rattle.std.specs.Global.{Vec}
 use Rattle.rv_text_laws.specs.Values.{Value}
-use Rattle.rv_statement_laws.specs.Statement.{StatementKind, Label, Numbered, Instruction, Directs, Expression, Statement, Aligns_to_power, Aligns_to_bytes, Values}
+use Rattle.rv_statement_laws.specs.Statement.{StatementKind, Label, Numbered, Instruction, Directs, Expression, Statement, Values, Aligns, Emits}
 use Rattle.rv_unit_laws.specs.Contributions.{contribution}
 use Rattle.rv_unit_laws.specs.Sections.{Section, is_nobits}
 use Rattle.rv_unit_laws.specs.Tables.{Tables, at_start, tables, longest_section}
@@ -48,7 +48,7 @@ fields_said loaded section offset ps = if loaded then fields_from section offset
 -- values of data end where a section may end
 abbrev pub HasRoomFor : StatementKind → ℕ → Type 0
 HasRoomFor says offset =
-    (width : ℕ) (values : List Expression) → says ≡ Directs (Values width values)
+    (width : ℕ) (values : List Expression) → says ≡ Directs (Emits (Values width values))
     → offset + width * length values ≤ longest_section
 
 -- ---- the statements of a source
@@ -61,8 +61,7 @@ data_parts t s =
 
 -- whether a statement is an alignment
 abbrev pub is_alignment : StatementKind → Bool
-is_alignment (Directs (Aligns_to_power e)) = true
-is_alignment (Directs (Aligns_to_bytes e)) = true
+is_alignment (Directs (Aligns form e)) = true
 is_alignment says = false
 
 -- the parts of padding in code

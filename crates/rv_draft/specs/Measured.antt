@@ -2,7 +2,7 @@
 
 use Rattle.std.specs.Prelude.{◌≡◌, ℕ, ◌+◌, ◌*◌, ◌≤◌, Bool, true, false, ⊤, length, Option}
 use Rattle.rv_text_laws.specs.Values.{Value, Constant}
-use Rattle.rv_statement_laws.specs.Statement.{StatementKind, Label, Numbered, Instruction, Directs, Expression, Directive, Aligns_to_power, Aligns_to_bytes, Values, Strings, Zeros}
+use Rattle.rv_statement_laws.specs.Statement.{StatementKind, Label, Numbered, Instruction, Directs, Expression, Directive, Data, Values, Strings, Zeros, Aligns, Emits}
 use Rattle.rv_unit_laws.specs.Tables.{alignment_of, padding, string_bytes, longest_section}
 use Rattle.rv_unit_tables.specs.declared.section.Extent.{Extent}
 use Rattle.rv_assemble_laws.specs.Coded.{is_constant}
@@ -48,18 +48,18 @@ CanAlign v executable begins offset alignment =
 abbrev pub CanCount : Value → Type 0
 CanCount v = (n : ℕ) × (v ≡ Constant n) × (n ≤ longest_section)
 
+-- data has a size that a section can have, by the values of its expressions
+abbrev pub CanHold : (Expression → Value) → Data → Type 0
+CanHold v (Values width values) = width * length values ≤ longest_section
+CanHold v (Strings ended strings) = length (string_bytes ended strings) ≤ longest_section
+CanHold v (Zeros count) = CanCount (v count)
+
 -- a statement has a size, by the values of its expressions: in a section of code or not, that asks
 -- to begin at this multiple, after `offset` bytes
 abbrev pub CanSizeDirective : (Expression → Value) → Bool → ℕ → ℕ → Directive → Type 0
-CanSizeDirective v executable begins offset (Values width values) =
-    width * length values ≤ longest_section
-CanSizeDirective v executable begins offset (Strings ended strings) =
-    length (string_bytes ended strings) ≤ longest_section
-CanSizeDirective v executable begins offset (Zeros count) = CanCount (v count)
-CanSizeDirective v executable begins offset (Aligns_to_power e) =
-    CanAlign (v e) executable begins offset (alignment_of v (Aligns_to_power e))
-CanSizeDirective v executable begins offset (Aligns_to_bytes e) =
-    CanAlign (v e) executable begins offset (alignment_of v (Aligns_to_bytes e))
+CanSizeDirective v executable begins offset (Emits contents) = CanHold v contents
+CanSizeDirective v executable begins offset (Aligns form e) =
+    CanAlign (v e) executable begins offset (alignment_of v (Aligns form e))
 CanSizeDirective v executable begins offset _ = ⊤
 
 abbrev pub CanSize : (Expression → Value) → Bool → ℕ → ℕ → StatementKind → Type 0

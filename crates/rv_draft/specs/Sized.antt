@@ -1,9 +1,9 @@
 -- The sizes of statements as their items have them, by the values of their expressions.
 
-use Rattle.std.specs.Prelude.{◌≡◌, ℕ, suc, ◌*◌, Bool, true, false, ⊤, List, [], ◌∷◌, length, Option}
-use Rattle.rv_text_laws.specs.Values.{Value, Constant}
-use Rattle.rv_statement_laws.specs.Statement.{StatementKind, Label, Numbered, Instruction, Directs, Statement, Expression, Directive, Sets, Aligns_to_power, Aligns_to_bytes, Values, Strings, Zeros}
-use Rattle.rv_unit_laws.specs.Tables.{Tables, after, alignment_of, padding, string_bytes, alignment_at}
+use Rattle.std.specs.Prelude.{◌≡◌, ℕ, suc, Bool, true, false, ⊤, List, [], ◌∷◌, Option}
+use Rattle.rv_text_laws.specs.Values.{Value}
+use Rattle.rv_statement_laws.specs.Statement.{StatementKind, Label, Numbered, Instruction, Directs, Statement, Expression, Directive, Sets, Aligns, Emits}
+use Rattle.rv_unit_laws.specs.Tables.{Tables, after, alignment_of, padding, HasDataSize, alignment_at}
 use Rattle.rv_source_laws.specs.Located.{located_now}
 use Rattle.rv_assemble_laws.specs.Coded.{is_constant}
 use Rattle.rv_draft.specs.declared.item.CodeSize.{CodeSize}
@@ -28,15 +28,9 @@ IsAligned v executable size i begins alignment =
 abbrev pub IsSizedDirective :
     (Expression → Value) → Bool → CodeSize → Item → ℕ → Directive → Type 0
 IsSizedDirective v executable size i begins (Sets name e) = i.bytes ≡ 0
-IsSizedDirective v executable size i begins (Values width values) =
-    i.bytes ≡ width * length values
-IsSizedDirective v executable size i begins (Strings ended strings) =
-    i.bytes ≡ length (string_bytes ended strings)
-IsSizedDirective v executable size i begins (Zeros count) = v count ≡ Constant i.bytes
-IsSizedDirective v executable size i begins (Aligns_to_power e) =
-    IsAligned (v e) executable size i begins (alignment_of v (Aligns_to_power e))
-IsSizedDirective v executable size i begins (Aligns_to_bytes e) =
-    IsAligned (v e) executable size i begins (alignment_of v (Aligns_to_bytes e))
+IsSizedDirective v executable size i begins (Emits contents) = HasDataSize v contents i.bytes
+IsSizedDirective v executable size i begins (Aligns form e) =
+    IsAligned (v e) executable size i begins (alignment_of v (Aligns form e))
 IsSizedDirective v executable size i begins _ = ⊤
 
 -- an instruction has the size of its code, and each statement has as many instructions as its code

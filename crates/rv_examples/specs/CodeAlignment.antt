@@ -6,7 +6,7 @@
 --     ecall
 
 use Rattle.std.specs.Prelude.{List, [], ◌∷◌, Some, None, codes}
-use Rattle.rv_statement_laws.specs.Statement.{Directs, Statement, Opens, Aligns_to_power}
+use Rattle.rv_statement_laws.specs.Statement.{Directs, Statement, Opens, As_power, Aligns}
 use Rattle.rv_map_laws.specs.Map.{Map}
 use Rattle.rv_examples.specs.Exit7.{on_line, constant, row, region, exit7_map}
 use Rattle.rv_examples.specs.Data.{call}
@@ -15,7 +15,7 @@ abbrev pub two_sections : List Statement
 two_sections =
     on_line 1 call
     ∷ on_line 2 (Directs (Opens (codes ".text.b") (Some (codes "ax")) None))
-    ∷ on_line 3 (Directs (Aligns_to_power (constant 4)))
+    ∷ on_line 3 (Directs (Aligns As_power (constant 4)))
     ∷ on_line 4 call
     ∷ []
 

@@ -9,7 +9,7 @@ use Rattle.rv_statement_laws.specs.declared.directive.Standard.TheVariants.{Data
 use Rattle.rv_statement_laws.specs.declared.mnemonic.Mnemonic.TheVariants.{Upper, Ecall}
 use Rattle.rv_isa.specs.declared.operation.UpperOperation.TheVariants.{Lui}
 use Rattle.rv_statement_laws.specs.declared.directive.Binding.TheVariants as bindings
-use Rattle.rv_statement_laws.specs.Statement.{StatementKind, Label, Numbered, Instruction, Directs, Statement, Expression, Register, Value, Enters, Opens, Binds, Sets, Aligns_to_power, Aligns_to_bytes, Values, Strings, Zeros}
+use Rattle.rv_statement_laws.specs.Statement.{StatementKind, Label, Numbered, Instruction, Directs, Statement, Expression, Register, Value, Enters, Opens, Binds, Sets, Values, Strings, Zeros, As_power, As_bytes, Aligns, Emits}
 use Rattle.rv_map_laws.specs.Globals.{global}
 use Rattle.rv_map_laws.specs.Map.{Map}
 use Rattle.rv_examples.specs.Exit7.{on_line, constant, norvc, globl, load, row, region}
@@ -51,7 +51,7 @@ hello =
     ∷ on_line 11 call
     ∷ on_line 12 (Directs (Opens (codes ".rodata") None None))
     ∷ on_line 13 (Label (codes "msg"))
-    ∷ on_line 14 (Directs (Strings false (codes "hello" ∷ [])))
+    ∷ on_line 14 (Directs (Emits (Strings false (codes "hello" ∷ []))))
     ∷ []
 
 abbrev pub hello_map : Map
@@ -130,22 +130,22 @@ figures =
     ∷ on_line 4 (Directs (Enters Data))
     ∷ on_line 5 (Directs (Sets (codes "limit") (constant 7)))
     ∷ on_line 6 (Label (codes "table"))
-    ∷ on_line 7 (Directs (Values 1 (constant 1 ∷ symbol (codes "limit") ∷ [])))
-    ∷ on_line 8 (Directs (Aligns_to_power (constant 2)))
+    ∷ on_line 7 (Directs (Emits (Values 1 (constant 1 ∷ symbol (codes "limit") ∷ []))))
+    ∷ on_line 8 (Directs (Aligns As_power (constant 2)))
     ∷ on_line 9 (Numbered 1)
     ∷ on_line 10
     (Directs
-    (Values 4
+    (Emits (Values 4
     (Unary Negate (constant 1) ∷ Leaf (Reference (codes "1") false) ∷ symbol (codes "_end") ∷
-    [])))
+    []))))
     ∷ on_line 11 (Directs (Sets (codes "limit") (constant 9)))
     ∷ on_line 12 (Directs (Sets (codes "here") (Binary Add (Leaf Here) (constant 2))))
-    ∷ on_line 13 (Directs (Values 2 (symbol (codes "limit") ∷ [])))
-    ∷ on_line 14 (Directs (Values 8 (symbol (codes "here") ∷ [])))
+    ∷ on_line 13 (Directs (Emits (Values 2 (symbol (codes "limit") ∷ []))))
+    ∷ on_line 14 (Directs (Emits (Values 8 (symbol (codes "here") ∷ []))))
     ∷ on_line 15 (Directs (Enters Bss))
-    ∷ on_line 16 (Directs (Aligns_to_bytes (constant 8)))
+    ∷ on_line 16 (Directs (Aligns As_bytes (constant 8)))
     ∷ on_line 17 (Label (codes "room"))
-    ∷ on_line 18 (Directs (Zeros (symbol (codes "limit"))))
+    ∷ on_line 18 (Directs (Emits (Zeros (symbol (codes "limit")))))
     ∷ on_line 19 (Directs (Binds bindings.Local (codes "table" ∷ [])))
     ∷ []
 
@@ -212,14 +212,14 @@ differences =
     ∷ on_line 5 (Directs (Enters Data))
     ∷ on_line 6 (Label (codes "a"))
     ∷ on_line 7
-    (Directs (Values 1 (Binary Add (constant 2) (Binary Or (constant 3) (constant 4)) ∷ [])))
-    ∷ on_line 8 (Directs (Aligns_to_power (constant 2)))
+    (Directs (Emits (Values 1 (Binary Add (constant 2) (Binary Or (constant 3) (constant 4)) ∷ []))))
+    ∷ on_line 8 (Directs (Aligns As_power (constant 2)))
     ∷ on_line 9 (Label (codes "b"))
     ∷ on_line 10
     (Directs
-    (Values 4
+    (Emits (Values 4
     (Binary Subtract (symbol (codes "b")) (symbol (codes "a")) ∷
-    Binary ShiftLeft (Binary Remainder (constant 5) (constant 3)) (constant 2) ∷ [])))
+    Binary ShiftLeft (Binary Remainder (constant 5) (constant 3)) (constant 2) ∷ []))))
     ∷ []
 
 abbrev pub differences_map : Map

@@ -16,7 +16,7 @@ use Rattle.rv_isa.specs.declared.operation.ShiftOperation.TheVariants.{Slli}
 use Rattle.rv_isa.specs.declared.operation.UpperOperation.TheVariants.{Lui, Auipc}
 use Rattle.rv_isa.specs.declared.operation.LoadOperation.TheVariants.{Ld}
 use Rattle.rv_isa.specs.declared.operation.StoreOperation.TheVariants.{Sd}
-use Rattle.rv_statement_laws.specs.Statement.{StatementKind, Label, Instruction, Directs, Statement, Expression, Register, Value, Applied, Target, Enters, Opens, Sets, Aligns_to_power, Chooses}
+use Rattle.rv_statement_laws.specs.Statement.{StatementKind, Label, Instruction, Directs, Statement, Expression, Register, Value, Applied, Target, Enters, Opens, Sets, Chooses, As_power, Aligns}
 use Rattle.rv_unit_laws.specs.Faults.{StatementFault}
 use Rattle.rv_examples.specs.Exit7.{on_line, constant, norvc}
 use Rattle.rv_examples.specs.Data.{call, symbol}
@@ -138,13 +138,13 @@ compressed s = on_line 1 s ∷ []
 -- `.align 3` in code at line 2, and a statement after it
 abbrev pub after_padding : StatementKind → List Statement
 after_padding s =
-    on_line 1 norvc ∷ on_line 2 (Directs (Aligns_to_power (constant 3))) ∷ on_line 3 s ∷ []
+    on_line 1 norvc ∷ on_line 2 (Directs (Aligns As_power (constant 3))) ∷ on_line 3 s ∷ []
 
 -- `.align 2` in a section of code without bytes
 abbrev pub padding_without_bytes : List Statement
 padding_without_bytes =
     on_line 1 (Directs (Opens (codes "later") (Some (codes "ax")) (Some (codes "nobits"))))
-    ∷ on_line 2 (Directs (Aligns_to_power (constant 2)))
+    ∷ on_line 2 (Directs (Aligns As_power (constant 2)))
     ∷ []
 
 -- compressed code is off at line 3, and on again at line 5

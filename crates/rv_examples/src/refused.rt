@@ -6,7 +6,7 @@ ghost use Rattle.rv_text_laws.specs.declared.operator.BinaryOperator.TheVariants
 ghost use Rattle.rv_text_laws.specs.Expression.{Leaf, Binary, Reference};
 ghost use Rattle.rv_parcel.specs.declared.parcel.ParcelOperation.TheVariants.{Addi, Lui, Slli};
 ghost use Rattle.rv_statement_laws.specs.declared.pseudo.Function.TheVariants.{Lo, PcrelLo};
-ghost use Rattle.rv_statement_laws.specs.Statement.{Directs, Values};
+ghost use Rattle.rv_statement_laws.specs.Statement.{Directs, Values, Emits};
 ghost use Rattle.rv_examples.specs.Exit7.{exit7, load, constant};
 ghost use Rattle.rv_examples.specs.Data.{hello, figures, differences, symbol};
 ghost use Rattle.rv_examples.specs.Refused.{fault, lone, adds, minus, shifts, shifts_word, ands, uppers, loads, x, away, jumps, moves, extends, loads_address, loads_symbol, stores_symbol, calls, jumps_by, adds_part, shifts_part, li_part, upper_part, upper_distance, jumps_back, after_set, before_set, before_label, after_location, compressed, after_padding, padding_without_bytes, options, two_faults, directive_later};
@@ -165,7 +165,7 @@ pub fn open_code_is_sound()
 pub fn padding_is_code()
     ensures first { statements_fault (after_padding (adds (constant 5000)))
         ≡ fault immediate_range 3 }
-    ensures before { statements_fault (after_padding (Directs (Values 4 (constant 1 ∷ []))))
+    ensures before { statements_fault (after_padding (Directs (Emits (Values 4 (constant 1 ∷ [])))))
         ≡ fault wrong_section 3 }
     ensures without { statements_fault padding_without_bytes ≡ fault wrong_section 2 }
 {}

@@ -8,7 +8,7 @@ use Rattle.rv_text.specs.declared.expr.Expr.{Expr}
 use Rattle.rv_text.specs.Expr.{tree_of_expr}
 use Rattle.rv_statement_laws.specs.declared.directive.Width.{Width}
 use Rattle.rv_statement_laws.specs.declared.directive.DirectiveWord.TheVariants as words
-use Rattle.rv_statement_laws.specs.Statement.{Operand, Value, Values, StatementKind, Directs}
+use Rattle.rv_statement_laws.specs.Statement.{Operand, Value, StatementKind, Directs, Values, Emits}
 use Rattle.rv_statement.specs.View.{now_of, quoted}
 use Rattle.rv_statement_laws.specs.Widths.{width_bytes}
 use Rattle.rv_parse_laws.specs.Syntax.{is_comma, Slot, A_symbol, A_string, A_value, A_comma, front_begins, operand_slots, directed, names_in, strings_in, values_in}
@@ -158,9 +158,9 @@ several_fail width ts us x (refusals.At w) first h = data_is width ts us x first
 several_fail width ts us x refusals.OutOfMemory first h = tt
 
 pub several_said : (width : Width) (ts us rest : List Token) (x : Expr) (xs : List Expr) → value_operand_at roles.Directive ts ≡ Ok (operand_of_value x, us)
-    → prepended (operand_of_value x ∷ []) (further_items values us) ≡ Ok (map operand_of_value xs, rest) → data_at width ts ≡ Ok (Directs (Values (width_bytes width) (map tree_of_expr xs)), rest)
+    → prepended (operand_of_value x ∷ []) (further_items values us) ≡ Ok (map operand_of_value xs, rest) → data_at width ts ≡ Ok (Directs (Emits (Values (width_bytes width) (map tree_of_expr xs))), rest)
 several_said width ts us rest x xs first h =
-    data_is width ts us x first ∙ ap (seen_as (data_said width)) h ∙ ap (λ (es : List Tree). Ok (Directs (Values (width_bytes width) es), rest)) (all_values xs)
+    data_is width ts us x first ∙ ap (seen_as (data_said width)) h ∙ ap (λ (es : List Tree). Ok (Directs (Emits (Values (width_bytes width) es)), rest)) (all_values xs)
 
 single_end : (us : List Token) → front_begins (A_comma values) us ≡ false → further_items values us ≡ ended_at values us
 single_end [] h = refl
@@ -175,5 +175,5 @@ pub one_wrong : (width : Width) (ts us : List Token) (x : Expr) (w : SyntaxError
 one_wrong width ts us x w first single h = data_is width ts us x first ∙ rw (single_end us single, h) refl
 
 pub one_said : (width : Width) (ts us rest : List Token) (x : Expr) → value_operand_at roles.Directive ts ≡ Ok (operand_of_value x, us) → front_begins (A_comma values) us ≡ false
-    → end_at values us ≡ Ok rest → data_at width ts ≡ Ok (Directs (Values (width_bytes width) (tree_of_expr x ∷ [])), rest)
+    → end_at values us ≡ Ok rest → data_at width ts ≡ Ok (Directs (Emits (Values (width_bytes width) (tree_of_expr x ∷ []))), rest)
 one_said width ts us rest x first single h = data_is width ts us x first ∙ rw (single_end us single, h) refl

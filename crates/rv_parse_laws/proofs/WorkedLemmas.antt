@@ -26,7 +26,7 @@ use Rattle.rv_statement_laws.specs.declared.pseudo.SwappedBranchOperation.TheVar
 use Rattle.rv_isa.specs.declared.operation.LoadOperation.TheVariants.{Lw}
 use Rattle.rv_isa.specs.declared.operation.StoreOperation.TheVariants.{Sd}
 use Rattle.rv_statement_laws.specs.declared.directive.Binding.TheVariants.{Local, Global, Weak}
-use Rattle.rv_statement_laws.specs.Statement.{Register, Value, Applied, Target, Enters, Opens, Binds, Sets, Aligns_to_power, Aligns_to_bytes, Values, Strings, Zeros, Chooses as Choosing, Ignored, StatementKind, Label, Numbered, Instruction, Directs, Statement}
+use Rattle.rv_statement_laws.specs.Statement.{Register, Value, Applied, Target, Enters, Opens, Binds, Sets, Chooses as Choosing, Ignored, StatementKind, Label, Numbered, Instruction, Directs, Statement, Values, Strings, Zeros, As_power, As_bytes, Aligns, Emits}
 use Rattle.rv_parse_laws.specs.Words.{function_words, left_out_words, instruction_words, atomic_operations, atomic_forms, form_with, mnemonic_named, directive_words, directive_named, beginning, choices, left_out_options, section_types, register_names, register}
 use Rattle.rv_parse_laws.specs.Syntax.{is_symbol, access_sets, is_section_name, SourcePart, Says}
 use Rattle.rv_parse_laws.specs.Opening.{is_opened}
@@ -99,19 +99,19 @@ good_lines =
     (codes ".globl a, b", Directs (Binds Global (codes "a" ∷ codes "b" ∷ []))) ∷
     (codes ".local a", Directs (Binds Local (codes "a" ∷ []))) ∷
     (codes ".weak a, b", Directs (Binds Weak (codes "a" ∷ codes "b" ∷ []))) ∷
-    (codes ".byte 1, x+2", Directs (Values 1 (Leaf (Literal 1) ∷ Binary Add (Leaf (Symbol (codes "x"))) (Leaf (Literal 2)) ∷ []))) ∷
-    (codes ".half 1f", Directs (Values 2 (Leaf (Reference (codes "1") true) ∷ []))) ∷
-    (codes ".4byte 1", Directs (Values 4 (Leaf (Literal 1) ∷ []))) ∷
-    (codes ".quad 1", Directs (Values 8 (Leaf (Literal 1) ∷ []))) ∷
-    (codes ".ascii \"a\"", Directs (Strings false (codes "a" ∷ []))) ∷
-    (codes ".asciz \"a\", \"b\\n\"", Directs (Strings true (codes "a" ∷ (98 ∷ 10 ∷ []) ∷ []))) ∷
+    (codes ".byte 1, x+2", Directs (Emits (Values 1 (Leaf (Literal 1) ∷ Binary Add (Leaf (Symbol (codes "x"))) (Leaf (Literal 2)) ∷ [])))) ∷
+    (codes ".half 1f", Directs (Emits (Values 2 (Leaf (Reference (codes "1") true) ∷ [])))) ∷
+    (codes ".4byte 1", Directs (Emits (Values 4 (Leaf (Literal 1) ∷ [])))) ∷
+    (codes ".quad 1", Directs (Emits (Values 8 (Leaf (Literal 1) ∷ [])))) ∷
+    (codes ".ascii \"a\"", Directs (Emits (Strings false (codes "a" ∷ [])))) ∷
+    (codes ".asciz \"a\", \"b\\n\"", Directs (Emits (Strings true (codes "a" ∷ (98 ∷ 10 ∷ []) ∷ [])))) ∷
     (codes ".option norvc", Directs (Choosing Norvc)) ∷
     (codes ".type a0, @x (", Directs Ignored) ∷
     (codes ".cfi_def_cfa 1", Directs Ignored) ∷
     (codes ".equ x, .", Directs (Sets (codes "x") (Leaf Here))) ∷
-    (codes ".align 3", Directs (Aligns_to_power (Leaf (Literal 3)))) ∷
-    (codes ".balign 8", Directs (Aligns_to_bytes (Leaf (Literal 8)))) ∷
-    (codes ".space 3", Directs (Zeros (Leaf (Literal 3)))) ∷
+    (codes ".align 3", Directs (Aligns As_power (Leaf (Literal 3)))) ∷
+    (codes ".balign 8", Directs (Aligns As_bytes (Leaf (Literal 8)))) ∷
+    (codes ".space 3", Directs (Emits (Zeros (Leaf (Literal 3))))) ∷
     (codes ".bss", Directs (Enters Bss)) ∷
     (codes "08:", Numbered 8) ∷
     (codes "010 : x", Numbered 10) ∷

@@ -33,7 +33,7 @@ use Rattle.rv_isa.specs.declared.operation.AccessSet.{AccessSet}
 use Rattle.rv_statement_laws.specs.declared.directive.DirectiveWord.{DirectiveWord}
 use Rattle.rv_statement_laws.specs.declared.directive.DirectiveWord.TheVariants as words
 use Rattle.rv_statement_laws.specs.declared.directive.Choice.{Choice}
-use Rattle.rv_statement_laws.specs.Statement.{Expression, Operand, Register, Value, Applied, Target, Accesses, Word, Quoted, Directive, Enters, Opens, Binds, Sets, Aligns_to_power, Aligns_to_bytes, Values, Strings, Zeros, Chooses as Choosing, Ignored, StatementKind, Label, Numbered, Instruction, Directs}
+use Rattle.rv_statement_laws.specs.Statement.{Expression, Operand, Register, Value, Applied, Target, Accesses, Word, Quoted, Directive, Enters, Opens, Binds, Sets, Chooses as Choosing, Ignored, StatementKind, Label, Numbered, Instruction, Directs, Values, Strings, Zeros, As_power, As_bytes, Aligns, Emits}
 use Rattle.rv_statement_laws.specs.Widths.{width_bytes}
 pub use Rattle.rv_isa.specs.Registers.{is_register}
 use Rattle.rv_parse_laws.specs.Words.{register, function_words, named_in, choices, beginning}
@@ -572,12 +572,12 @@ directed words.Section (Word name ∷ Quoted flags ∷ Word kind ∷ size) =
     Opens name (Some flags) (Some kind)
 directed (words.Binds binding) os = Binds binding (names_in os)
 directed words.Set (Word name ∷ Value e ∷ []) = Sets name e
-directed words.AlignToPower (Value e ∷ []) = Aligns_to_power e
-directed words.AlignToBytes (Value e ∷ []) = Aligns_to_bytes e
-directed (words.Value width) os = Values (width_bytes width) (values_in os)
-directed words.Ascii os = Strings false (strings_in os)
-directed words.Asciz os = Strings true (strings_in os)
-directed words.Zero (Value e ∷ []) = Zeros e
+directed words.AlignToPower (Value e ∷ []) = Aligns As_power e
+directed words.AlignToBytes (Value e ∷ []) = Aligns As_bytes e
+directed (words.Value width) os = Emits (Values (width_bytes width) (values_in os))
+directed words.Ascii os = Emits (Strings false (strings_in os))
+directed words.Asciz os = Emits (Strings true (strings_in os))
+directed words.Zero (Value e ∷ []) = Emits (Zeros e)
 directed words.Option (Word name ∷ []) = option_directive (named_in choices name)
 directed _ os = Ignored
 

@@ -15,7 +15,7 @@ use Rattle.rv_statement_laws.specs.declared.pseudo.Function.TheVariants.{Hi, Lo,
 use Rattle.rv_statement_laws.specs.Statement.{StatementKind, Label, Numbered, Instruction, Directs, Operand, Value as Of_value, Applied, Target, Expression}
 use Rattle.rv_pseudo_laws.specs.Code.{Part as CodePart, Closed, Open as Open_part, Joined, named_form, code}
 use Rattle.rv_pseudo_laws.specs.Filled.{are_closed}
-use Rattle.rv_unit_laws.specs.Contributions.{Numbers, Texts, Contribution, Nothing, Bytes, Zero_bytes, Alignment, contribution}
+use Rattle.rv_unit_laws.specs.Contributions.{Contribution, Nothing, Bytes, Alignment, contribution}
 use Rattle.rv_unit_laws.specs.Tables.{Tables, Definition, definition}
 use Rattle.rv_source_laws.specs.Located.{Located}
 use Rattle.rv_source_laws.specs.Lines.{operand_of}
@@ -29,6 +29,7 @@ use Rattle.rv_assemble_laws.specs.Templates.{Template, Fixed, Datum, Coded, Open
 use Rattle.rv_assemble_laws.specs.LaidStatements.{LaidStatement, LaidPart, expression_value, laid_part, part_bytes, coded_templates, templates, parts_of, parts, Tile}
 use Rattle.rv_assemble_laws.specs.Symbols.{use_of, references_in}
 use Rattle.rv_assemble_laws.specs.IsObjectOf.{Numbering, relocation_at, relocations_from, IsNumbered, ArePartsNumbered}
+use Rattle.rv_assemble_laws.proofs.DataTemplatesLemmas.{each_datum}
 use Rattle.rv_sources_link_laws.proofs.moves.WalkLemmas.{relocations_join}
 use Rattle.rv_sources_link_laws.proofs.calls.UncutLemmas.{IsUncut}
 use Rattle.rv_link_laws.specs.Lists.{In}
@@ -78,15 +79,9 @@ padding_calm true ordinal zero = tt
 padding_calm true ordinal (suc n) = ((refl, tt), tt)
 padding_calm false ordinal bytes = (tt, tt)
 
-data_calm : (width : ℕ) (v : Expression → Value) (es : List Expression) → AllByRecursion IsCalm (map (λ e. Datum width (v e)) es)
-data_calm width v [] = tt
-data_calm width v (e ∷ es) = (tt, data_calm width v es)
-
 directive_calm : (executable : Bool) (ordinal : ℕ) (v : Expression → Value) (c : Contribution) (bytes : ℕ) → AllByRecursion IsCalm (contribution_templates executable ordinal v c bytes)
 directive_calm executable ordinal v Nothing bytes = tt
-directive_calm executable ordinal v (Bytes (Numbers width es)) bytes = data_calm width v es
-directive_calm executable ordinal v (Bytes (Texts ended strings)) bytes = (tt, tt)
-directive_calm executable ordinal v (Zero_bytes count) bytes = (tt, tt)
+directive_calm executable ordinal v (Bytes contents) bytes = each_datum IsCalm (λ bytes. tt) (λ width value. tt) v contents bytes
 directive_calm executable ordinal v (Alignment counts number) bytes = padding_calm executable ordinal bytes
 
 -- those of code

@@ -20,11 +20,11 @@ use Rattle.rv_parcel.specs.declared.form.Compressed.{Compressed}
 use Rattle.rv_parcel.specs.Parcel.{parcel, StandsFor}
 use Rattle.rv_isa_laws.specs.Reader.{Reader}
 use Rattle.rv_isa_laws.specs.Run.{NoInstruction, Got, fetch}
-use Rattle.rv_statement_laws.specs.Statement.{StatementKind, Label, Numbered, Instruction, Directs, Statement, Expression, Directive, Sets}
+use Rattle.rv_statement_laws.specs.Statement.{StatementKind, Label, Numbered, Instruction, Directs, Statement, Expression, Directive, Sets, Values, Strings, Zeros}
 use Rattle.rv_statement_laws.specs.declared.directive.Binding.{Binding}
 use Rattle.rv_pseudo_laws.specs.Code.{Part}
 use Rattle.rv_unit_laws.specs.Bindings.{is_global, is_weak}
-use Rattle.rv_unit_laws.specs.Contributions.{Contribution, Nothing, Bytes, Zero_bytes, Alignment, contribution}
+use Rattle.rv_unit_laws.specs.Contributions.{Contribution, Nothing, Bytes, Alignment, contribution}
 use Rattle.rv_unit_laws.specs.Options.{Options}
 use Rattle.rv_unit_laws.specs.Sections.{Section, is_nobits, goes_to_text, goes_to_rodata, goes_to_data, goes_to_bss}
 use Rattle.rv_unit_laws.specs.Tables.{Tables, tables, alignments_of}
@@ -149,7 +149,6 @@ module _ (p : Program) (file ordinal section offset line : ℕ) (home : Section)
   contribution_data : (d : Directive) (c : Contribution) → contribution d ≡ c → ContributionFits p (at (Directs d)) d c → Sized (spelled p) (at (Directs d))
   contribution_data d Nothing e fits = absurd fits
   contribution_data d (Bytes contents) e fits = sym fits.1
-  contribution_data d (Zero_bytes count) e fits = sym fits.1
   contribution_data d (Alignment form value) e fits =
       ap (λ (c : Contribution). length (spelled_contribution (number p (at (Directs d))) c row.bytes)) e ∙ length-replicate {A = ℕ} row.bytes 0
 
@@ -172,7 +171,6 @@ module _ (p : Program) (file ordinal section offset line : ℕ) (home : Section)
       → IsRowOf (expansion p (at (Directs d))) row
   contribution_code d Nothing fits held e = absurd fits
   contribution_code d (Bytes contents) fits held e = true_false home.executable e held.0
-  contribution_code d (Zero_bytes count) fits held e = true_false home.executable e held
   contribution_code d (Alignment form value) fits held e = padding_code home.executable p (at (Directs d)) d e fits
 
   directive_code : (d : Directive) → SizeFits p (at (Directs d)) → DirectiveHeld home d → home.executable ≡ true → IsRowOf (expansion p (at (Directs d))) row
@@ -188,8 +186,9 @@ module _ (p : Program) (file ordinal section offset line : ℕ) (home : Section)
   -- a row without bytes in the file has zeros
   contribution_zeros : (v : Expression → ℕ) (c : Contribution) → ContributionHeld home c → is_nobits home ≡ true → (n : ℕ) → slice_index (spelled_contribution v c row.bytes) n ≡ 0
   contribution_zeros v Nothing held e n = refl
-  contribution_zeros v (Bytes contents) held e n = true_false (is_nobits home) e held.1
-  contribution_zeros v (Zero_bytes count) held e n = zero_index (v count) n
+  contribution_zeros v (Bytes (Values width values)) held e n = true_false (is_nobits home) e held.1
+  contribution_zeros v (Bytes (Strings ended strings)) held e n = true_false (is_nobits home) e held.1
+  contribution_zeros v (Bytes (Zeros count)) held e n = zero_index (v count) n
   contribution_zeros v (Alignment form value) held e n = zero_index row.bytes n
 
   statement_zeros : (says : StatementKind) → IsHeld home says → is_nobits home ≡ true → (n : ℕ) → slice_index (spelled p (at says)) n ≡ 0

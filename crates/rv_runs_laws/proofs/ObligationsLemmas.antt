@@ -13,7 +13,7 @@ use Rattle.rv_isa_laws.specs.Meaning.{effect}
 use Rattle.rv_text_laws.specs.Expression.{Primary}
 use Rattle.rv_text_laws.specs.Values.{Value, Constant, Symbolic, Difference, Faulty}
 use Rattle.rv_statement_laws.specs.declared.mnemonic.Mnemonic.{Mnemonic}
-use Rattle.rv_statement_laws.specs.Statement.{StatementKind, Label, Numbered, Instruction, Directs, Directive, Sets, Aligns_to_power, Aligns_to_bytes, Expression, Operand, Applied, Target}
+use Rattle.rv_statement_laws.specs.Statement.{StatementKind, Label, Numbered, Instruction, Directs, Directive, Sets, Expression, Operand, Applied, Target, Aligns}
 use Rattle.rv_statement_laws.specs.declared.pseudo.Function.TheVariants.{Hi, Lo, PcrelLo}
 use Rattle.rv_pseudo_laws.specs.Code.{Part, Closed}
 use Rattle.rv_pseudo_laws.specs.Filled.{FieldValue, filled}
@@ -184,8 +184,7 @@ module _ (p : Program) (s : Mapped) (lines : List Line) (are : AreLines p s line
   parts_at k is = ap (parts_by_size (constants p s.located) s.located.options.rvc s.row.bytes) is
 
   does_directive : (d : Directive) → s.located.kind ≡ Directs d → Does (meaning p s) (cost p s) s.row.address lines
-  does_directive (Aligns_to_power exponent) is = does_alignment (Aligns_to_power exponent) _ is (parts_at (Directs (Aligns_to_power exponent)) is) (λ h. refl)
-  does_directive (Aligns_to_bytes alignment) is = does_alignment (Aligns_to_bytes alignment) _ is (parts_at (Directs (Aligns_to_bytes alignment)) is) (λ h. refl)
+  does_directive (Aligns form exponent) is = does_alignment (Aligns form exponent) _ is (parts_at (Directs (Aligns form exponent)) is) (λ h. refl)
   does_directive (Sets name e) is = nothing (parts_at (Directs (Sets name e)) is)
   does_directive d is = absurd (not_shown (has_values p s) (field_value p s) s.row.address (parts p s) (insts lines) (parts_at (Directs d) is) are.0)
 

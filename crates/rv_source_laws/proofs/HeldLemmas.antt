@@ -1,24 +1,27 @@
 -- In a source without faults each statement stands in a section that can hold it.
 
 use Rattle.std.proofs.Common.{◌≡◌, ℕ, suc, Bool, true, false, List, [], ◌∷◌, ◌++◌, refl, sym, subst, Option, Some, None}
-use Rattle.std.specs.Prelude.{not, ◌||◌, min, ⊤}
+use Rattle.std.specs.Prelude.{not, ◌||◌, ◌*◌, min, ⊤, length, flat_map}
 use Rattle.std.specs.List.{AllByRecursion}
 use Rattle.std.proofs.lemmas.Bool.{or_parts, not-false}
 use Rattle.rv_list_laws.proofs.ElementsLemmas.{append_none_parts}
-use Rattle.rv_statement_laws.specs.Statement.{StatementKind, Label, Numbered, Instruction, Directs, Statement, Directive, Enters, Opens, Sets, Chooses}
-use Rattle.rv_unit_laws.specs.Contributions.{Contribution, Bytes, Zero_bytes, contribution}
+use Rattle.rv_statement_laws.specs.Statement.{StatementKind, Label, Numbered, Instruction, Directs, Statement, Directive, Enters, Opens, Sets, Chooses, Data, Values, Strings, Zeros}
+use Rattle.rv_unit_laws.specs.Contributions.{Contribution, Bytes, contribution}
 use Rattle.rv_unit_laws.specs.Sections.{Section, is_nobits, section_at, current_section}
-use Rattle.rv_unit_laws.specs.Tables.{Tables, at_start, here, value_by_tables, counted, contents_size, after, tables, stood, opened_of}
+use Rattle.rv_unit_laws.specs.Tables.{Tables, at_start, here, value_by_tables, counted, string_bytes, after, tables, stood, opened_of}
 use Rattle.rv_text_laws.specs.Codes.{faulty_if, lowest}
-use Rattle.rv_unit_laws.specs.Faults.{StatementFault, at_line, size_faults, contents_faults, past_section, contribution_faults, directive_faults, faults, first_fault_from, first_unit_fault}
+use Rattle.rv_unit_laws.specs.Faults.{StatementFault, at_line, value_faults, size_faults, past_section, contribution_faults, directive_faults, faults, first_fault_from, first_unit_fault}
 use Rattle.rv_source_laws.specs.Located.{Located, located_from}
 use Rattle.rv_unit_laws.proofs.OpenedLemmas.{after_opened}
 use Rattle.rv_unit_laws.proofs.FewLemmas.{no_fault_from}
 
 -- instructions stand in sections of code that have bytes in the file, data in others, and those with bytes in the file in sections that have some
+abbrev pub DataHeld : Section → Data → Type 0
+DataHeld home (Zeros count) = ⊤
+DataHeld home _ = is_nobits home ≡ false
+
 abbrev pub ContributionHeld : Section → Contribution → Type 0
-ContributionHeld home (Bytes contents) = (home.executable ≡ false) × (is_nobits home ≡ false)
-ContributionHeld home (Zero_bytes count) = home.executable ≡ false
+ContributionHeld home (Bytes contents) = (home.executable ≡ false) × DataHeld home contents
 ContributionHeld home _ = ⊤
 
 abbrev pub DirectiveHeld : Section → Directive → Type 0
@@ -73,10 +76,12 @@ module _ (all t : Tables) (k : ℕ) where
       no_test home.executable 15 test.0
 
   contribution_held : (c : Contribution) → contribution_faults all t k c ≡ [] → ContributionHeld home c
-  contribution_held (Bytes contents) e =
-      stored (contents_faults (λ e. value_by_tables all true k (here t) e) contents) (past_section home.executable (here t).offset (contents_size contents)) e
-  contribution_held (Zero_bytes count) e =
-      zeroed (size_faults (value_by_tables all false k (here t) count)) (elim (counted (value_by_tables all false k (here t) count)) [ None ↦ [] | Some n ↦ past_section home.executable (here t).offset n ]) e
+  contribution_held (Bytes (Values width values)) e =
+      stored (flat_map (λ e. value_faults width (value_by_tables all true k (here t) e)) values) (past_section home.executable (here t).offset (width * length values)) e
+  contribution_held (Bytes (Strings ended strings)) e =
+      stored [] (past_section home.executable (here t).offset (length (string_bytes ended strings))) e
+  contribution_held (Bytes (Zeros count)) e =
+      (zeroed (size_faults (value_by_tables all false k (here t) count)) (elim (counted (value_by_tables all false k (here t) count)) [ None ↦ [] | Some n ↦ past_section home.executable (here t).offset n ]) e, tt)
   contribution_held _ e = tt
 
   directive_held : (d : Directive) → Good d → DirectiveHeld home d

@@ -5,8 +5,8 @@ use Rattle.std.specs.Prelude.{slice_get}
 use Rattle.std.specs.List.{AllByRecursion}
 use Rattle.rv_map_laws.specs.declared.map.SectionId.{SectionId}
 use Rattle.rv_collect_laws.specs.Graph.{is_dropped}
-use Rattle.rv_statement_laws.specs.Statement.{StatementKind, Label, Numbered, Instruction, Directs}
-use Rattle.rv_unit_laws.specs.Contributions.{Contribution, Bytes, Zero_bytes, contribution}
+use Rattle.rv_statement_laws.specs.Statement.{StatementKind, Label, Numbered, Instruction, Directs, Values, Strings, Zeros}
+use Rattle.rv_unit_laws.specs.Contributions.{Contribution, Bytes, contribution}
 use Rattle.rv_unit_laws.specs.Sections.{Section, goes_to_text}
 use Rattle.rv_source_laws.specs.Located.{Located, without_address, left_of}
 use Rattle.rv_source_laws.proofs.HeldLemmas.{ContributionHeld, IsHeld, Held}
@@ -21,8 +21,9 @@ all_left P Q drops (s ∷ ss) f (p, ps) = (f s p, all_left P Q drops ss f ps)
 
 contribution_left : (dropped : Bool) (home : Section) (c : Contribution) → ContributionHeld home c → ContributionHeld (without_address dropped home) c
 contribution_left false home c h = h
-contribution_left true home (Bytes contents) h = h
-contribution_left true home (Zero_bytes count) h = h
+contribution_left true home (Bytes (Values width values)) h = h
+contribution_left true home (Bytes (Strings ended strings)) h = h
+contribution_left true home (Bytes (Zeros count)) h = h
 contribution_left true home _ h = tt
 
 pub is_held_left : (dropped : Bool) (home : Section) (says : StatementKind) → IsHeld home says → IsHeld (without_address dropped home) says

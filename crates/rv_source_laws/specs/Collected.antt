@@ -13,8 +13,8 @@ use Rattle.rv_collect_laws.specs.Graph.{Graph}
 use Rattle.rv_text_laws.specs.Expression.{Primary}
 use Rattle.rv_text_laws.specs.Values.{Value, Symbolic, Difference}
 use Rattle.rv_statement_laws.specs.declared.pseudo.Function.TheVariants.{PcrelLo}
-use Rattle.rv_statement_laws.specs.Statement.{StatementKind, Instruction, Directs, Statement, Operand, Value as Of_value, Applied, Target}
-use Rattle.rv_unit_laws.specs.Contributions.{Numbers, Contribution, Bytes, contribution}
+use Rattle.rv_statement_laws.specs.Statement.{StatementKind, Instruction, Directs, Statement, Operand, Value as Of_value, Applied, Target, Values}
+use Rattle.rv_unit_laws.specs.Contributions.{Contribution, Bytes, contribution}
 use Rattle.rv_unit_laws.specs.Sections.{Section, goes_to_text}
 use Rattle.rv_unit_laws.specs.Tables.{Definition, tables, definition, opened_of}
 use Rattle.rv_source_laws.specs.Located.{Located, located}
@@ -93,7 +93,7 @@ operand_refers p t s (Target e) = address_refers (means p t s) (form p s e)
 operand_refers p t s _ = false
 
 abbrev pub contribution_refers : Program → SectionId → Located → Contribution → Bool
-contribution_refers p t s (Bytes (Numbers width values)) =
+contribution_refers p t s (Bytes (Values width values)) =
     list_any (λ e. value_refers (means p t s) (form p s e)) values
 contribution_refers p t s _ = false
 

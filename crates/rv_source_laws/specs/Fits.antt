@@ -9,7 +9,7 @@ use Rattle.rv_statement_laws.specs.Statement.{StatementKind, Label, Numbered, In
 use Rattle.rv_statement_laws.specs.declared.pseudo.Function.TheVariants.{PcrelLo}
 use Rattle.rv_pseudo_laws.specs.Code.{Part}
 use Rattle.rv_pseudo_laws.specs.Filled.{are_closed, code_bytes, AreTaken}
-use Rattle.rv_unit_laws.specs.Contributions.{Contribution, Nothing, Bytes, Zero_bytes, Alignment, contribution}
+use Rattle.rv_unit_laws.specs.Contributions.{Contribution, Nothing, Bytes, Alignment, contribution}
 use Rattle.rv_unit_laws.specs.Sections.{Section, goes_to_text, goes_to_rodata, goes_to_data, goes_to_bss}
 use Rattle.rv_unit_laws.specs.Tables.{Tables, tables, alignment_of, padding, opened_of, alignment_at}
 use Rattle.rv_unit_laws.specs.Faults.{first_unit_fault}
@@ -93,7 +93,6 @@ IsPadding p s d = IsPaddingIn s.located.home.executable p s d
 abbrev pub ContributionFits : Program → Mapped → Directive → Contribution → Type 0
 ContributionFits p s d Nothing = ⊥
 ContributionFits p s d (Bytes contents) = IsDataRow p s
-ContributionFits p s d (Zero_bytes count) = IsDataRow p s
 ContributionFits p s d (Alignment form number) = IsPadding p s d
 
 abbrev pub DirectiveFits : Program → Mapped → Directive → Type 0

@@ -7,14 +7,12 @@ use Rattle.std.specs.Int.{w64, int_wrap}
 use Rattle.std.specs.List.{find}
 use Rattle.rv_isa.specs.Kinds.{is_low_part}
 use Rattle.rv_isa.specs.declared.instruction.Inst.{Inst}
-use Rattle.rv_isa.specs.declared.kind.Kind.{Kind}
-use Rattle.rv_isa.specs.declared.kind.Kind.TheVariants as kind
 use Rattle.rv_isa_laws.specs.Arithmetic.{signed}
 use Rattle.rv_isa_laws.specs.Halves.{hi, lo}
 use Rattle.rv_text_laws.specs.Values.{Value, Constant, Symbolic}
 use Rattle.rv_statement_laws.specs.declared.mnemonic.Mnemonic.TheVariants.{Upper, Load, Store, La}
 use Rattle.rv_statement_laws.specs.declared.pseudo.Function.TheVariants.{Hi, Lo, PcrelHi, PcrelLo}
-use Rattle.rv_statement_laws.specs.Statement.{StatementKind, Label, Numbered, Instruction, Directs, Operand, Register, Value as Of_value, Applied, Target, Expression, Directive, Sets, Aligns_to_power, Aligns_to_bytes}
+use Rattle.rv_statement_laws.specs.Statement.{StatementKind, Label, Numbered, Instruction, Directs, Operand, Register, Value as Of_value, Applied, Target, Expression, Directive, Sets, Aligns}
 use Rattle.rv_pseudo_laws.specs.Li.{addi}
 use Rattle.rv_parcel.specs.declared.form.Compressed.{Compressed}
 use Rattle.rv_pseudo_laws.specs.Code.{Part, Closed, Constants, named_form, code}
@@ -44,8 +42,7 @@ padding_parts bytes = replicate (bytes / 4 + bytes % 4 / 2) (Closed no_operation
 -- a place has no code; data are no instructions
 abbrev pub directive_parts : Directive → ℕ → Option (List Part)
 directive_parts (Sets name e) bytes = Some []
-directive_parts (Aligns_to_power exponent) bytes = Some (padding_parts bytes)
-directive_parts (Aligns_to_bytes alignment) bytes = Some (padding_parts bytes)
+directive_parts (Aligns form exponent) bytes = Some (padding_parts bytes)
 directive_parts _ bytes = None
 
 -- the code of a statement whose row has so many bytes

@@ -21,7 +21,7 @@ use Rattle.rv_statement_laws.specs.declared.pseudo.ZeroBranchOperation.{ZeroBran
 use Rattle.rv_statement_laws.specs.declared.pseudo.ZeroBranchOperation.TheVariants.{Beqz, Bnez, Bgez, Bltz, Blez, Bgtz}
 use Rattle.rv_statement_laws.specs.declared.pseudo.SwappedBranchOperation.{SwappedBranchOperation}
 use Rattle.rv_statement_laws.specs.declared.pseudo.SwappedBranchOperation.TheVariants.{Bgt, Ble, Bgtu, Bleu}
-use Rattle.rv_statement_laws.specs.Statement.{StatementKind, Label, Numbered, Instruction, Directs, Operand, Register, Value, Applied, Target, Expression, Directive, Aligns_to_power, Aligns_to_bytes}
+use Rattle.rv_statement_laws.specs.Statement.{StatementKind, Label, Numbered, Instruction, Directs, Operand, Register, Value, Applied, Target, Expression, Directive, Aligns}
 use Rattle.rv_source_laws.specs.Program.{Mapped, Program, number, has_values}
 use Rattle.rv_source_laws.specs.Lines.{other_operand, operand_number, distance, gives}
 use Rattle.rv_source_laws.specs.Holes.{hole}
@@ -153,8 +153,7 @@ else_alone None instruction bytes h = alone_effect instruction bytes h
 
 -- an alignment goes on after its padding
 abbrev pub directive_effect : Directive → ℕ → Hart → Effect
-directive_effect (Aligns_to_power exponent) bytes h = Goes (advanced h bytes)
-directive_effect (Aligns_to_bytes alignment) bytes h = Goes (advanced h bytes)
+directive_effect (Aligns form exponent) bytes h = Goes (advanced h bytes)
 directive_effect _ bytes h = Breaks
 
 -- a statement that isn't executed has no bytes in the text, and so is never run

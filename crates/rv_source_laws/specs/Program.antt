@@ -8,11 +8,11 @@ use Rattle.std.specs.Option.{option_or}
 use Rattle.rv_map_laws.specs.Globals.{global_address}
 use Rattle.rv_text_laws.specs.Expression.{Primary, Symbol}
 use Rattle.rv_text_laws.specs.Values.{Value, Constant, Symbolic, Difference, Faulty, add, subtract}
-use Rattle.rv_statement_laws.specs.Statement.{StatementKind, Label, Numbered, Instruction, Directs, Statement, Expression, Operand, Value as Of_value, Applied, Target}
+use Rattle.rv_statement_laws.specs.Statement.{StatementKind, Label, Numbered, Instruction, Directs, Statement, Expression, Operand, Value as Of_value, Applied, Target, Values, Zeros}
 use Rattle.rv_statement_laws.specs.declared.pseudo.Function.TheVariants.{PcrelLo}
 use Rattle.rv_statement_laws.specs.declared.directive.Binding.{Binding}
 use Rattle.rv_unit_laws.specs.Bindings.{is_shared, is_global, is_weak}
-use Rattle.rv_unit_laws.specs.Contributions.{Numbers, Contribution, Bytes, Zero_bytes, Alignment, contribution}
+use Rattle.rv_unit_laws.specs.Contributions.{Contribution, Bytes, Alignment, contribution}
 use Rattle.rv_unit_laws.specs.Tables.{Tables, SectionOffset, Definition, tables, at_start, definition, sure_definition, value_by_tables as value_in_file}
 use Rattle.rv_map_laws.specs.Map.{Map}
 use Rattle.rv_map_laws.specs.declared.map.Row.{Row}
@@ -189,8 +189,8 @@ in_operand (Target e) = e ∷ []
 in_operand _ = []
 
 abbrev pub in_contribution : Contribution → List Expression
-in_contribution (Bytes (Numbers width values)) = values
-in_contribution (Zero_bytes count) = count ∷ []
+in_contribution (Bytes (Values width values)) = values
+in_contribution (Bytes (Zeros count)) = count ∷ []
 in_contribution (Alignment form number) = number ∷ []
 in_contribution _ = []
 

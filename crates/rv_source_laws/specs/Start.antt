@@ -5,8 +5,8 @@ use Rattle.std.specs.Prelude.{ℕ, ◌+◌, ◌-◌, Bool, ◌&&◌, ◌||◌, n
 use Rattle.std.specs.List.{find}
 pub use Rattle.rv_isa_laws.specs.Bytes.{little_endian}
 use Rattle.rv_isa_laws.specs.Memory.{Mem, Right, Read, Write, Execute}
-use Rattle.rv_statement_laws.specs.Statement.{StatementKind, Label, Numbered, Instruction, Directs, Expression}
-use Rattle.rv_unit_laws.specs.Contributions.{Contents, Numbers, Texts, Contribution, Nothing, Bytes, Zero_bytes, Alignment, contribution}
+use Rattle.rv_statement_laws.specs.Statement.{StatementKind, Label, Numbered, Instruction, Directs, Expression, Data, Values, Strings, Zeros}
+use Rattle.rv_unit_laws.specs.Contributions.{Contribution, Nothing, Bytes, Alignment, contribution}
 use Rattle.rv_unit_laws.specs.Tables.{string_bytes}
 use Rattle.rv_map_laws.specs.Map.{Map}
 use Rattle.rv_map_laws.specs.declared.map.Region.{Region}
@@ -20,16 +20,17 @@ is_within start stop a = nat_le start a && nat_lt a stop
 abbrev pub is_in : Region → ℕ → Bool
 is_in region a = is_within region.start region.end a
 
-abbrev pub spelled_contents : (Expression → ℕ) → Contents → List ℕ
-spelled_contents v (Numbers width values) = flat_map (λ e. little_endian width (v e)) values
-spelled_contents v (Texts ended strings) = string_bytes ended strings
+-- the bytes of data, by the values of expressions
+abbrev pub spelled_data : (Expression → ℕ) → Data → List ℕ
+spelled_data v (Values width values) = flat_map (λ e. little_endian width (v e)) values
+spelled_data v (Strings ended strings) = string_bytes ended strings
+spelled_data v (Zeros count) = replicate (v count) 0
 
 -- what a directive contributes to data in this count of bytes, by the values of expressions; an
 -- alignment's padding is zeros
 abbrev pub spelled_contribution : (Expression → ℕ) → Contribution → ℕ → List ℕ
 spelled_contribution v Nothing bytes = []
-spelled_contribution v (Bytes contents) bytes = spelled_contents v contents
-spelled_contribution v (Zero_bytes count) bytes = replicate (v count) 0
+spelled_contribution v (Bytes contents) bytes = spelled_data v contents
 spelled_contribution v (Alignment form number) bytes = replicate bytes 0
 
 -- the bytes that a statement spells in data; the text holds none

@@ -10,7 +10,7 @@ use Rattle.rv_statement_laws.specs.declared.directive.Choice.TheVariants.{Norvc}
 use Rattle.rv_statement_laws.specs.declared.directive.Standard.TheVariants.{Text, Data}
 use Rattle.rv_statement_laws.specs.declared.mnemonic.Mnemonic.TheVariants.{Ecall}
 use Rattle.rv_statement_laws.specs.declared.directive.Binding.TheVariants as bindings
-use Rattle.rv_statement_laws.specs.Statement.{StatementKind, Label, Instruction, Directs, Statement, Expression, Enters, Opens, Binds, Sets, Aligns_to_bytes, Chooses, Values}
+use Rattle.rv_statement_laws.specs.Statement.{StatementKind, Label, Instruction, Directs, Statement, Expression, Enters, Opens, Binds, Sets, Chooses, Values, As_bytes, Aligns, Emits}
 use Rattle.rv_unit_laws.specs.Tables.{at_start}
 use Rattle.rv_source_laws.specs.Located.{Located, located_from}
 use Rattle.rv_map_laws.specs.Map.{Map, Global as Shown}
@@ -49,10 +49,10 @@ first_source =
     ∷ on_line 3 (Instruction Ecall [])
     ∷ on_line 4 (Directs (Enters Data))
     ∷ on_line 5 (Label (codes "v"))
-    ∷ on_line 5 (Directs (Values 4 (name (codes "f") ∷ [])))
-    ∷ on_line 6 (Directs (Values 8 (Binary Add (name (codes "v")) (Leaf (Literal 4)) ∷ [])))
-    ∷ on_line 7 (Directs (Values 4 (Binary Subtract (name (codes "f")) (name (codes "g")) ∷ [])))
-    ∷ on_line 8 (Directs (Values 8 (Leaf Here ∷ [])))
+    ∷ on_line 5 (Directs (Emits (Values 4 (name (codes "f") ∷ []))))
+    ∷ on_line 6 (Directs (Emits (Values 8 (Binary Add (name (codes "v")) (Leaf (Literal 4)) ∷ []))))
+    ∷ on_line 7 (Directs (Emits (Values 4 (Binary Subtract (name (codes "f")) (name (codes "g")) ∷ []))))
+    ∷ on_line 8 (Directs (Emits (Values 8 (Leaf Here ∷ []))))
     ∷ []
 
 --     .globl f, g, c
@@ -72,18 +72,18 @@ second_source =
     on_line 1 (Directs (Binds bindings.Global (codes "f" ∷ codes "g" ∷ codes "c" ∷ [])))
     ∷ on_line 2 (Directs (Enters Data))
     ∷ on_line 3 (Label (codes "v"))
-    ∷ on_line 3 (Directs (Values 1 (Leaf (Literal 7) ∷ [])))
+    ∷ on_line 3 (Directs (Emits (Values 1 (Leaf (Literal 7) ∷ []))))
     ∷ on_line 4 (Label (codes "f"))
-    ∷ on_line 4 (Directs (Values 1 (Leaf (Literal 8) ∷ [])))
+    ∷ on_line 4 (Directs (Emits (Values 1 (Leaf (Literal 8) ∷ []))))
     ∷ on_line 5 (Label (codes "g"))
-    ∷ on_line 5 (Directs (Values 4 (name (codes "v") ∷ [])))
+    ∷ on_line 5 (Directs (Emits (Values 4 (name (codes "v") ∷ []))))
     ∷ on_line 6 (Directs (Sets (codes "c") (Leaf (Literal 5))))
     ∷ on_line 7 (Directs (Opens (codes ".note.tool") (Some []) (Some (codes "note"))))
-    ∷ on_line 8 (Directs (Values 1 (Leaf (Literal 9) ∷ [])))
+    ∷ on_line 8 (Directs (Emits (Values 1 (Leaf (Literal 9) ∷ []))))
     ∷ on_line 9 (Directs (Enters Text))
     ∷ on_line 10 (Directs (Chooses Norvc))
     ∷ on_line 11 (Instruction Ecall [])
-    ∷ on_line 12 (Directs (Aligns_to_bytes (Leaf (Literal 8))))
+    ∷ on_line 12 (Directs (Aligns As_bytes (Leaf (Literal 8))))
     ∷ []
 
 -- ---- the objects

@@ -173,17 +173,17 @@ statement_kind (kinds.Binds binding names) =
     specs.Directs (specs.Binds binding (map now_of names.items))
 statement_kind (kinds.Sets setting) = specs.Directs (setting_of (box_value setting))
 statement_kind (kinds.AlignsToPower exponent) =
-    specs.Directs (specs.Aligns_to_power (tree_of_expr exponent))
+    specs.Directs (specs.Aligns specs.As_power (tree_of_expr exponent))
 statement_kind (kinds.AlignsToBytes bytes) =
-    specs.Directs (specs.Aligns_to_bytes (tree_of_expr bytes))
+    specs.Directs (specs.Aligns specs.As_bytes (tree_of_expr bytes))
 statement_kind (kinds.Value width one) =
-    specs.Directs (specs.Values (width_bytes width) (tree_of_expr one ∷ []))
+    specs.Directs (specs.Emits (specs.Values (width_bytes width) (tree_of_expr one ∷ [])))
 statement_kind (kinds.Values width values) =
-    specs.Directs (specs.Values (width_bytes width) (map tree_of_expr values.items))
+    specs.Directs (specs.Emits (specs.Values (width_bytes width) (map tree_of_expr values.items)))
 statement_kind (kinds.Ascii strings) =
-    specs.Directs (specs.Strings false (map quoted strings.items))
-statement_kind (kinds.Asciz strings) = specs.Directs (specs.Strings true (map quoted strings.items))
-statement_kind (kinds.Zeros count) = specs.Directs (specs.Zeros (tree_of_expr count))
+    specs.Directs (specs.Emits (specs.Strings false (map quoted strings.items)))
+statement_kind (kinds.Asciz strings) = specs.Directs (specs.Emits (specs.Strings true (map quoted strings.items)))
+statement_kind (kinds.Zeros count) = specs.Directs (specs.Emits (specs.Zeros (tree_of_expr count)))
 statement_kind (kinds.Chooses choice) = specs.Directs (specs.Chooses choice)
 statement_kind kinds.Ignored = specs.Directs specs.Ignored
 

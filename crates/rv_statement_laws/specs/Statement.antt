@@ -30,6 +30,22 @@ pub data Operand : Type 0 where
   -- the bytes of a string
   Quoted : (bytes : List ℕ) → Operand
 
+-- what a directive adds to a section of data
+pub data Data : Type 0 where
+  -- `.byte` to `.quad`: values of 1, 2, 4 or 8 bytes each
+  Values : (width : ℕ) (values : List Expression) → Data
+  -- the bytes of strings: `.ascii`, or `.asciz` and `.string` with a zero byte behind each
+  Strings : (ended : Bool) (strings : List (List ℕ)) → Data
+  -- `.zero`, `.space` and `.skip`: so many zero bytes
+  Zeros : (count : Expression) → Data
+
+-- how the number of an alignment is meant
+pub data AlignmentForm : Type 0 where
+  -- `.align` and `.p2align`: as a power of two
+  As_power : AlignmentForm
+  -- `.balign`: in bytes
+  As_bytes : AlignmentForm
+
 pub data Directive : Type 0 where
   -- `.text`, `.data`, `.rodata` and `.bss`
   Enters : (section : Standard) → Directive
@@ -39,16 +55,10 @@ pub data Directive : Type 0 where
   Binds : (binding : Binding) (names : List (List ℕ)) → Directive
   -- `.set` and `.equ`
   Sets : (name : List ℕ) (expression : Expression) → Directive
-  -- `.align` and `.p2align`: to this power of two
-  Aligns_to_power : (exponent : Expression) → Directive
-  -- `.balign`: to so many bytes
-  Aligns_to_bytes : (bytes : Expression) → Directive
-  -- `.byte` to `.quad`: values of 1, 2, 4 or 8 bytes each
-  Values : (width : ℕ) (values : List Expression) → Directive
-  -- the bytes of strings: `.ascii`, or `.asciz` and `.string` with a zero byte behind each
-  Strings : (ended : Bool) (strings : List (List ℕ)) → Directive
-  -- `.zero`, `.space` and `.skip`: so many zero bytes
-  Zeros : (count : Expression) → Directive
+  -- `.align`, `.p2align` and `.balign`
+  Aligns : (form : AlignmentForm) (number : Expression) → Directive
+  -- the directives of data
+  Emits : (contents : Data) → Directive
   -- `.option`
   Chooses : (choice : Choice) → Directive
   -- a directive without effect

@@ -11,7 +11,7 @@ use Rattle.rv_list_laws.proofs.FindLemmas.{find_test, found_any, found_each}
 use Rattle.rv_map_laws.specs.Globals.{is_one_of}
 use Rattle.rv_text_laws.specs.Expression.{Symbol as Named}
 use Rattle.rv_text_laws.specs.Values.{Meaning, Known, InSection as InData, Open as OpenAddress, Refused, add}
-use Rattle.rv_statement_laws.specs.Statement.{StatementKind, Label, Numbered, Instruction, Directs, Statement, Expression, Enters, Opens, Binds, Sets, Aligns_to_power, Aligns_to_bytes, Values, Strings, Zeros, Chooses, Ignored}
+use Rattle.rv_statement_laws.specs.Statement.{StatementKind, Label, Numbered, Instruction, Directs, Statement, Expression, Enters, Opens, Binds, Sets, Chooses, Ignored, Aligns, Emits}
 use Rattle.rv_unit_laws.specs.Tables as laws
 use Rattle.rv_unit_laws.specs.Tables.{Tables, Labelled, Assignment, at_start, tables, definition_at, label_of, assigned_ever, assigned_before, is_location}
 use Rattle.rv_unit_laws.specs.Faults.{first_unit_fault}
@@ -101,11 +101,8 @@ module _ (ss : List Statement) (laid : List LaidStatement) (located : map (λ s.
                   ),
               tt,
             )
-        go i s at (Directs (Aligns_to_power x)) is = tt
-        go i s at (Directs (Aligns_to_bytes x)) is = tt
-        go i s at (Directs (Values width xs)) is = tt
-        go i s at (Directs (Strings ended strings)) is = tt
-        go i s at (Directs (Zeros count)) is = tt
+        go i s at (Directs (Aligns form x)) is = tt
+        go i s at (Directs (Emits contents)) is = tt
         go i s at (Directs (Chooses choice)) is = tt
         go i s at (Directs Ignored) is = tt
 

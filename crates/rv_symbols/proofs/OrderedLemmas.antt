@@ -9,15 +9,15 @@ use Rattle.rv_isa.specs.declared.kind.Kind.{Kind}
 use Rattle.rv_text_laws.specs.Expression.{Primary, Here}
 use Rattle.rv_text_laws.specs.Values.{Value, Constant, Symbolic, Difference, Faulty}
 use Rattle.rv_statement_laws.specs.declared.pseudo.Function.TheVariants.{Hi, Lo, PcrelHi, PcrelLo}
-use Rattle.rv_statement_laws.specs.Statement.{StatementKind, Label, Numbered, Instruction, Directs, Statement, Expression, Operand, Register, Value as Of_value, Applied, Target, Accesses, Word, Quoted}
+use Rattle.rv_statement_laws.specs.Statement.{StatementKind, Label, Numbered, Instruction, Directs, Statement, Expression, Operand, Register, Value as Of_value, Applied, Target, Accesses, Word, Quoted, Values, Strings, Zeros}
 use Rattle.rv_pseudo_laws.specs.Code.{Part as CodePart, Closed, Open as OpenPart, Joined, code}
-use Rattle.rv_unit_laws.specs.Contributions.{Numbers, Texts, Contribution, Nothing, Bytes, Zero_bytes, Alignment, contribution}
+use Rattle.rv_unit_laws.specs.Contributions.{Contribution, Nothing, Bytes, Alignment, contribution}
 use Rattle.rv_unit_laws.specs.Tables.{Tables, Definition, definition, after}
 use Rattle.rv_source_laws.specs.Located.{Located, located_from}
 use Rattle.rv_source_laws.specs.Lines.{operand_of}
 use Rattle.rv_assemble_laws.specs.CodeFields.{symbol_field, low_field, low_field_at, label_field, field_of, relax_fields, part_fields}
 use Rattle.rv_assemble_laws.specs.Coded.{constants}
-use Rattle.rv_assemble_laws.specs.Templates.{Template, Open, value_fields, padding_templates, contents_templates, contribution_templates}
+use Rattle.rv_assemble_laws.specs.Templates.{Template, Open, value_fields, Datum, padding_templates, contribution_templates}
 use Rattle.rv_assemble_laws.specs.LaidStatements.{LaidStatement, laid_part, parts_of, expression_value, coded_templates, templates}
 use Rattle.rv_assemble_laws.specs.Symbols.{SymbolUse, use_of, references_in, references_of, references}
 use Rattle.rv_symbols.specs.Found.{is_here, Rises}
@@ -98,7 +98,7 @@ of_data t n width (Symbolic symbol at plus) = (inl refl, tt)
 of_data t n width (Difference symbol minus plus) = (inl refl, (inl refl, tt))
 of_data t n width (Faulty code) = tt
 
-of_values : (t : Tables) (n width : ℕ) (v : Expression → Value) (es : List Expression) → Parts t n (contents_templates v (Numbers width es))
+of_values : (t : Tables) (n width : ℕ) (v : Expression → Value) (es : List Expression) → Parts t n (map (λ e. Datum width (v e)) es)
 of_values t n width v [] = tt
 of_values t n width v (e ∷ es) = of_join t n (uses (value_fields n width (v e))) _ (of_data t n width (v e)) (of_values t n width v es)
 
@@ -109,9 +109,9 @@ of_padding t n false bytes = tt
 
 of_contribution : (t : Tables) (executable : Bool) (n : ℕ) (v : Expression → Value) (c : Contribution) (bytes : ℕ) → Parts t n (contribution_templates executable n v c bytes)
 of_contribution t executable n v Nothing bytes = tt
-of_contribution t executable n v (Bytes (Numbers width es)) bytes = of_values t n width v es
-of_contribution t executable n v (Bytes (Texts ended strings)) bytes = tt
-of_contribution t executable n v (Zero_bytes count) bytes = tt
+of_contribution t executable n v (Bytes (Values width es)) bytes = of_values t n width v es
+of_contribution t executable n v (Bytes (Strings ended strings)) bytes = tt
+of_contribution t executable n v (Bytes (Zeros count)) bytes = tt
 of_contribution t executable n v (Alignment by number) bytes = of_padding t n executable bytes
 
 of_code : (t : Tables) (v : Expression → Value) (s : Located) (ps : List CodePart) (coded : List (List ℕ)) → Parts t s.ordinal (coded_templates (part_fields t v s) ps coded)

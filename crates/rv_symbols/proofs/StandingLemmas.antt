@@ -10,7 +10,7 @@ use Rattle.rv_list_laws.proofs.ElementsLemmas.{cons_parts}
 use Rattle.rv_text_laws.specs.Expression.{Primary}
 use Rattle.rv_text_laws.specs.Values.{Value}
 use Rattle.rv_statement_laws.specs.declared.directive.Choice.{Choice}
-use Rattle.rv_statement_laws.specs.Statement.{StatementKind, Label, Numbered, Instruction, Directs, Statement, Expression, Directive, Enters, Opens, Binds, Sets, Aligns_to_power, Aligns_to_bytes, Values, Strings, Zeros, Chooses, Ignored}
+use Rattle.rv_statement_laws.specs.Statement.{StatementKind, Label, Numbered, Instruction, Directs, Statement, Expression, Directive, Enters, Opens, Binds, Sets, Chooses, Ignored, Aligns, Emits}
 use Rattle.rv_unit_laws.specs.Sections.{Section, entered_by}
 use Rattle.rv_unit_laws.specs.Contributions.{Contribution, Nothing, contribution}
 use Rattle.rv_unit_laws.specs.Tables.{Tables, Definition, NumericLabel, Assignment, definition, here, value_by_tables, is_defined, may_set, assigned_by, choice_in, with_assignment, with_section, with_chosen, with_contribution, after_directive, after, after_all}
@@ -35,11 +35,8 @@ placed_by t u k n s (Directs (Enters section)) placed e = tt
 placed_by t u k n s (Directs (Opens name flags kind)) placed e = tt
 placed_by t u k n s (Directs (Binds binding names)) placed e = tt
 placed_by t u k n s (Directs (Sets name x)) placed e = tt
-placed_by t u k n s (Directs (Aligns_to_power x)) placed e = each_same (placed ≡ true) _ e
-placed_by t u k n s (Directs (Aligns_to_bytes x)) placed e = each_same (placed ≡ true) _ e
-placed_by t u k n s (Directs (Values width xs)) placed e = each_same (placed ≡ true) _ e
-placed_by t u k n s (Directs (Strings ended strings)) placed e = tt
-placed_by t u k n s (Directs (Zeros count)) placed e = tt
+placed_by t u k n s (Directs (Aligns form x)) placed e = each_same (placed ≡ true) _ e
+placed_by t u k n s (Directs (Emits contents)) placed e = each_same (placed ≡ true) _ e
 placed_by t u k n s (Directs (Chooses choice)) placed e = tt
 placed_by t u k n s (Directs Ignored) placed e = tt
 

@@ -4,9 +4,9 @@
 use Rattle.std.proofs.Common.{◌≡◌, ℕ, ◌+◌, Bool, true, false, List, [], ◌∷◌, refl, sym, ap, ◌∙◌, subst, Option}
 use Rattle.std.specs.List.{AllByRecursion}
 use Rattle.rv_text_laws.specs.Values.{Value, Constant}
-use Rattle.rv_statement_laws.specs.Statement.{StatementKind, Label, Numbered, Instruction, Directs, Expression, Directive, Values, Strings, Zeros, Aligns_to_power, Aligns_to_bytes}
+use Rattle.rv_statement_laws.specs.Statement.{StatementKind, Label, Numbered, Instruction, Directs, Expression, Directive, Data, Values, Strings, Zeros, Aligns, Emits}
 use Rattle.rv_unit_laws.specs.Sections.{Section}
-use Rattle.rv_unit_laws.specs.Tables.{Tables, alignment_of, padding}
+use Rattle.rv_unit_laws.specs.Tables.{Tables, alignment_of, padding, HasDataSize}
 use Rattle.rv_object_laws.specs.Padding.{operations_in}
 use Rattle.rv_source_laws.specs.Located.{Located}
 use Rattle.rv_source_laws.proofs.HeldLemmas.{IsHeld}
@@ -25,18 +25,18 @@ padded_one false s q alignment at (n, i) (m, j) = (n ∙ ap (padding alignment) 
 constant_one : (n m : ℕ) → Constant n ≡ Constant m → n ≡ m
 constant_one n m e = cc
 
+data_one : (v : Expression → Value) (n m : ℕ) (contents : Data) → HasDataSize v contents n → HasDataSize v contents m → n ≡ m
+data_one v n m (Values width values) h k = h ∙ sym k
+data_one v n m (Strings ended strings) h k = h ∙ sym k
+data_one v n m (Zeros count) h k = constant_one n m (sym h ∙ k)
+
 -- a directive's, in data by where it stands
 pub directive_one : (v : Expression → Value) (s q : LaidStatement) (a b : ℕ) (d : Directive) → s.located ≡ q.located → (s.located.home.executable ≡ false → s.offset ≡ q.offset)
     → DirectiveSize v s a d → DirectiveSize v q b d → (s.bytes ≡ q.bytes) × (s.instructions ≡ q.instructions)
-directive_one v s q a b (Values width values) l at (i, n) (j, m) = (n ∙ sym m, i ∙ sym j)
-directive_one v s q a b (Strings ended strings) l at (i, n) (j, m) = (n ∙ sym m, i ∙ sym j)
-directive_one v s q a b (Zeros count) l at (i, n) (j, m) = (constant_one s.bytes q.bytes (sym n ∙ m), i ∙ sym j)
-directive_one v s q a b (Aligns_to_power x) l at (c, m, h) (d, n, k) =
-    padded_one s.located.home.executable s q (alignment_of v (Aligns_to_power x)) at h
-    (subst (λ (z : Located). IsPaddedIn z.home.executable q (alignment_of v (Aligns_to_power x))) (sym l) k)
-directive_one v s q a b (Aligns_to_bytes x) l at (c, m, h) (d, n, k) =
-    padded_one s.located.home.executable s q (alignment_of v (Aligns_to_bytes x)) at h
-    (subst (λ (z : Located). IsPaddedIn z.home.executable q (alignment_of v (Aligns_to_bytes x))) (sym l) k)
+directive_one v s q a b (Emits contents) l at (i, n) (j, m) = (data_one v s.bytes q.bytes contents n m, i ∙ sym j)
+directive_one v s q a b (Aligns form x) l at (c, m, h) (d, n, k) =
+    padded_one s.located.home.executable s q (alignment_of v (Aligns form x)) at h
+    (subst (λ (z : Located). IsPaddedIn z.home.executable q (alignment_of v (Aligns form x))) (sym l) k)
 directive_one v s q a b d l at h k = (h.0 ∙ sym k.0, h.1 ∙ sym k.1)
 
 -- ---- the statements of two objects

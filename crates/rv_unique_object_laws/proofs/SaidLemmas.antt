@@ -5,7 +5,7 @@ use Rattle.std.specs.Prelude.{flat_map, slice_get, if◌then◌else◌}
 use Rattle.std.specs.List.{AllByRecursion}
 use Rattle.rv_list_laws.proofs.EachLemmas.{each_map}
 use Rattle.rv_text_laws.specs.Values.{Value}
-use Rattle.rv_statement_laws.specs.Statement.{StatementKind, Label, Numbered, Instruction, Directs, Statement, Expression, Directive, Sets, Aligns_to_power, Aligns_to_bytes, Values, Strings, Zeros}
+use Rattle.rv_statement_laws.specs.Statement.{StatementKind, Label, Numbered, Instruction, Directs, Statement, Expression, Directive, Sets, Aligns, Emits}
 use Rattle.rv_unit_laws.specs.Sections.{Section as SourceSection, text_section}
 use Rattle.rv_unit_laws.specs.Tables.{Tables, at_start, after, tables, opened_of, alignment_of}
 use Rattle.rv_source_laws.specs.Located.{Located, located_from, is_placed}
@@ -34,11 +34,8 @@ idle_by t k (Label name) e b v rvc = absurd (cc)
 idle_by t k (Numbered number) e b v rvc = absurd (cc)
 idle_by t k (Instruction mnemonic operands) e b v rvc = absurd (cc)
 idle_by t k (Directs (Sets name x)) e b v rvc = none_either b
-idle_by t k (Directs (Values width values)) e b v rvc = absurd (cc)
-idle_by t k (Directs (Strings ended strings)) e b v rvc = absurd (cc)
-idle_by t k (Directs (Zeros count)) e b v rvc = absurd (cc)
-idle_by t k (Directs (Aligns_to_power x)) e b v rvc = absurd (cc)
-idle_by t k (Directs (Aligns_to_bytes x)) e b v rvc = absurd (cc)
+idle_by t k (Directs (Emits contents)) e b v rvc = absurd (cc)
+idle_by t k (Directs (Aligns form x)) e b v rvc = absurd (cc)
 idle_by t k (Directs _) e b v rvc = none_either b
 
 pub record IsUnplaced (l : Located) : Type 0 where
@@ -92,11 +89,8 @@ module _ (t : Tables) where
   -- a directive has no bytes in code but those of an alignment
   directive_code : (v : Expression → Value) (s : LaidStatement) (a : ℕ) (d : Directive) → IsHeld s.located.home (Directs d) → DirectiveSize v s a d
       → s.located.home.executable ≡ true → s.bytes ≡ code_padding (alignment_of v d)
-  directive_code v s a (Values width values) held h code = absurd (let both : true ≡ false = sym code ∙ held.0 in cc)
-  directive_code v s a (Strings ended strings) held h code = absurd (let both : true ≡ false = sym code ∙ held.0 in cc)
-  directive_code v s a (Zeros count) held h code = absurd (let both : true ≡ false = sym code ∙ held in cc)
-  directive_code v s a (Aligns_to_power x) held (c, m, h) code = (subst (λ b. IsPaddedIn b s (alignment_of v (Aligns_to_power x))) code h).0
-  directive_code v s a (Aligns_to_bytes x) held (c, m, h) code = (subst (λ b. IsPaddedIn b s (alignment_of v (Aligns_to_bytes x))) code h).0
+  directive_code v s a (Emits contents) held h code = absurd (let both : true ≡ false = sym code ∙ held.0 in cc)
+  directive_code v s a (Aligns form x) held (c, m, h) code = (subst (λ b. IsPaddedIn b s (alignment_of v (Aligns form x))) code h).0
   directive_code v s a d held h code = h.0
 
   code_size : (s : LaidStatement) (a : ℕ) (kind : StatementKind) → IsHeld s.located.home kind → HasSize (expression_value t s.located) s a kind

@@ -5,7 +5,7 @@ use Rattle.std.proofs.lemmas.Bool.{leb-true, le-leb}
 use Rattle.std.specs.Prelude.{min, not, ◌&&◌, ◌||◌}
 use Rattle.rv_unit_laws.specs.Sections.{Section, is_nobits}
 use Rattle.rv_text_laws.specs.Codes.{faulty_if}
-use Rattle.rv_unit_laws.specs.Faults.{past_section}
+use Rattle.rv_unit_laws.specs.Faults.{stored_faults}
 
 shown : (offset n : ℕ) → nat_le (offset + min n (2 ^ 64 - 1)) (2 ^ 28) ≡ nat_le (offset + n) (2 ^ 28)
 shown offset n = by (nat_le (offset + n) (2 ^ 28)) refl
@@ -21,9 +21,5 @@ shown offset n = by (nat_le (offset + n) (2 ^ 28)) refl
     by true e = let within : offset + n ≤ 2 ^ 28 = leb-true (offset + n) (2 ^ 28) e in le-leb (offset + min n (2 ^ 64 - 1)) (2 ^ 28) (omega arith)
     by false e = missed (nat_le (offset + min n (2 ^ 64 - 1)) (2 ^ 28)) e refl
 
--- the faults of data, but for those of its values
-abbrev pub data_faults : Section → ℕ → ℕ → List ℕ
-data_faults section offset bytes = faulty_if (section.executable || is_nobits section) 15 ++ past_section section.executable offset bytes
-
-pub data_shown : (section : Section) (offset n : ℕ) → data_faults section offset (min n (2 ^ 64 - 1)) ≡ data_faults section offset n
+pub data_shown : (section : Section) (offset n : ℕ) → stored_faults section offset (min n (2 ^ 64 - 1)) ≡ stored_faults section offset n
 data_shown section offset n = ap (λ b. faulty_if (section.executable || is_nobits section) 15 ++ faulty_if (not section.executable && not b) 17) (shown offset n)

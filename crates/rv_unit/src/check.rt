@@ -6,7 +6,7 @@
 ghost use Rattle.std.specs.Prelude.{◌≡◌, ℕ, ◌+◌, ◌<◌, ◌≤◌, ◌^◌, ◌-◌, List, [], Some, flat_map, map, true, length, option_map};
 ghost use Rattle.rv_text.specs.Expr.{tree_of_expr};
 ghost use Rattle.rv_statement_laws.specs.Limits.{most_statements};
-ghost use Rattle.rv_statement_laws.specs.Statement.{Operand as SpecOperand, Instruction, Label, Directs, Zeros, Aligns_to_power, Aligns_to_bytes, Values, Strings};
+ghost use Rattle.rv_statement_laws.specs.Statement.{Operand as SpecOperand, Instruction, Label, Directs, Values, Strings, Zeros, As_power, As_bytes, Aligns, Emits};
 ghost use Rattle.rv_statement_laws.specs.declared.mnemonic.Mnemonic.{Mnemonic as SpecMnemonic};
 ghost use Rattle.rv_statement_laws.specs.Widths.{width_bytes};
 ghost use Rattle.rv_statement.specs.View.{quoted, setting_of, statement_kind};
@@ -90,9 +90,9 @@ impl<'a> Unit<'a> {
         count: &Expr<'a>,
     ) -> Option<SourceCode>
         ensures { (index : ℕ) →
-            IsStatementOf self.now index ordinal place (Directs (Zeros (tree_of_expr count.now)))
+            IsStatementOf self.now index ordinal place (Directs (Emits (Zeros (tree_of_expr count.now))))
             → IsLowest result
-            (directive_faults_at self.now index (Zeros (tree_of_expr count.now))) }
+            (directive_faults_at self.now index (Emits (Zeros (tree_of_expr count.now)))) }
     {
         let value = self.early_value(ordinal, place, count);
         zero_fault(self.tables.section_at(place.section), place.offset, &value)
@@ -107,9 +107,9 @@ impl<'a> Unit<'a> {
     ) -> Option<SourceCode>
         ensures { (index : ℕ) →
             IsStatementOf self.now index ordinal place
-            (Directs (Aligns_to_power (tree_of_expr exponent.now)))
+            (Directs (Aligns As_power (tree_of_expr exponent.now)))
             → IsLowest result
-            (directive_faults_at self.now index (Aligns_to_power (tree_of_expr exponent.now))) }
+            (directive_faults_at self.now index (Aligns As_power (tree_of_expr exponent.now))) }
     {
         let value = self.early_value(ordinal, place, exponent);
         let found = power_fault(&value);
@@ -132,9 +132,9 @@ impl<'a> Unit<'a> {
     ) -> Option<SourceCode>
         ensures { (index : ℕ) →
             IsStatementOf self.now index ordinal place
-            (Directs (Aligns_to_bytes (tree_of_expr bytes.now)))
+            (Directs (Aligns As_bytes (tree_of_expr bytes.now)))
             → IsLowest result
-            (directive_faults_at self.now index (Aligns_to_bytes (tree_of_expr bytes.now))) }
+            (directive_faults_at self.now index (Aligns As_bytes (tree_of_expr bytes.now))) }
     {
         let value = self.early_value(ordinal, place, bytes);
         let found = bytes_fault(&value);
@@ -226,10 +226,10 @@ impl<'a> Unit<'a> {
     ) -> Option<SourceCode>
         ensures { (index : ℕ) →
             IsStatementOf self.now index ordinal place
-            (Directs (Values (width_bytes width) (map tree_of_expr values.now)))
+            (Directs (Emits (Values (width_bytes width) (map tree_of_expr values.now))))
             → IsLowest result
             (directive_faults_at self.now index
-            (Values (width_bytes width) (map tree_of_expr values.now))) }
+            (Emits (Values (width_bytes width) (map tree_of_expr values.now)))) }
     {
         let each = self.fault_of_each(ordinal, place, width, values);
         let bytes = values_size(width, values.len());
@@ -247,9 +247,9 @@ impl<'a> Unit<'a> {
         strings: &[&[u8]],
     ) -> Option<SourceCode>
         ensures { (index o : ℕ) →
-            IsStatementOf self.now index o place (Directs (Strings ended (map quoted strings.now)))
+            IsStatementOf self.now index o place (Directs (Emits (Strings ended (map quoted strings.now))))
             → IsLowest result
-            (directive_faults_at self.now index (Strings ended (map quoted strings.now))) }
+            (directive_faults_at self.now index (Emits (Strings ended (map quoted strings.now)))) }
     {
         let bytes = strings_size(ended, strings);
         data_fault(self.tables.section_at(place.section), place.offset, bytes)

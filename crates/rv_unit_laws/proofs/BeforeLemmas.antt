@@ -14,7 +14,7 @@ use Rattle.rv_text_laws.specs.Expression.{Literal, Symbol, Here, Reference}
 use Rattle.rv_statement_laws.specs.Statement.{StatementKind, Label, Numbered, Instruction, Directs, Statement, Expression, Directive, Sets}
 use Rattle.rv_statement_laws.specs.declared.directive.Choice.{Choice}
 use Rattle.rv_unit_laws.specs.Sections.{Section, entered_by}
-use Rattle.rv_unit_laws.specs.Contributions.{Contribution, Nothing, Bytes, Zero_bytes, Alignment, contribution}
+use Rattle.rv_unit_laws.specs.Contributions.{Contribution, Nothing, Bytes, Alignment, contribution}
 use Rattle.rv_unit_laws.specs.Tables.{Tables, Labelled, NumericLabel, Assignment, at_start, here, after, after_directive, after_all, value_by_tables, assigned, assigned_by, choice_in, with_label, with_numeric_label, with_assignment, with_section, with_contribution, with_choice, with_chosen, label_of, assigned_before, assigned_ever, has_location, is_defined, may_set, is_location, gives_location}
 use Rattle.rv_unit_laws.proofs.EnteringLemmas.{with_new, entering}
 pub use Rattle.rv_unit_laws.specs.Tables.{gives_location as placed_latest}
@@ -280,7 +280,6 @@ before_chosen t (Some choice) o h = before_choice t choice o h
 before_contribution : (t : Tables) (v : Expression → Value) (c : Contribution) (o : ℕ) → IsBefore t o → IsBefore (with_contribution t v c) o
 before_contribution t v Nothing o h = h
 before_contribution t v (Bytes contents) o h = before_sections t (with_contribution t v (Bytes contents)) o refl refl refl h
-before_contribution t v (Zero_bytes count) o h = before_sections t (with_contribution t v (Zero_bytes count)) o refl refl refl h
 before_contribution t v (Alignment form number) o h = before_sections t (with_contribution t v (Alignment form number)) o refl refl refl h
 
 before_directive : (t : Tables) (o : ℕ) (d : Directive) → IsBefore t o → IsBefore (after_directive t o d) (suc o)

@@ -8,10 +8,10 @@ use Rattle.std.proofs.lemmas.Nat.{pow-add, pow_pos}
 use Rattle.std.proofs.lemmas.List.{map-append, length-map}
 use Rattle.std.specs.Prelude.{⊤, if◌then◌else◌, slice_index_or}
 use Rattle.rv_text_laws.specs.Values.{Value, Constant, Symbolic, Difference, Faulty}
-use Rattle.rv_statement_laws.specs.Statement.{StatementKind, Label, Numbered, Instruction, Directs, Statement, Expression, Directive, Aligns_to_power, Aligns_to_bytes, Values, Strings, Zeros}
+use Rattle.rv_statement_laws.specs.Statement.{StatementKind, Label, Numbered, Instruction, Directs, Statement, Expression, Directive, AlignmentForm, As_power, As_bytes, Aligns, Emits}
 use Rattle.rv_statement_laws.specs.declared.directive.Choice.{Choice}
 use Rattle.rv_unit_laws.specs.Sections.{Section, text_section, current_section, entered_by}
-use Rattle.rv_unit_laws.specs.Contributions.{AlignmentForm, As_power, As_bytes, Contribution, Nothing, Bytes, Zero_bytes, Alignment, contribution}
+use Rattle.rv_unit_laws.specs.Contributions.{Contribution, Nothing, Bytes, Alignment, contribution}
 use Rattle.rv_unit_laws.specs.Tables.{Tables, Assignment, at_start, here, value_by_tables, is_power, is_power_below, greatest_alignment, alignment_of, power_alignment, byte_alignment, alignment_as, contribution_alignment, or_none, data_bytes, contributed, counted_in, changed_at, is_defined, may_set, with_assignment, with_section, with_data, with_contribution, with_choice, with_chosen, with_numeric_label, assigned_by, choice_in, after, after_directive, after_all, opened_of, ends_of, alignments_of, Extent, least_alignment, empty_extent, extended}
 use Rattle.rv_unit_laws.proofs.EnteringLemmas.{with_new, sections_count, entering}
 
@@ -250,7 +250,6 @@ grows_data t bytes alignment power = record {
 grows_contribution : (t : Tables) (v : Expression → Value) (c : Contribution) → Grows t (with_contribution t v c)
 grows_contribution t v Nothing = grows_same t t refl
 grows_contribution t v (Bytes contents) = grows_data t (contributed v (here t).offset (Bytes contents)) None tt
-grows_contribution t v (Zero_bytes count) = grows_data t (contributed v (here t).offset (Zero_bytes count)) None tt
 grows_contribution t v (Alignment form number) =
     grows_data t (contributed v (here t).offset (Alignment form number)) (alignment_as form (v number)) (form_aligned form (v number))
 
@@ -323,11 +322,8 @@ abbrev pub puts : Directive → Bool
 puts d = contributes (contribution d)
 
 is_put : (t : Tables) (o : ℕ) (d : Directive) → puts d ≡ true → IsPut t o d
-is_put t o (Aligns_to_power e) h = refl
-is_put t o (Aligns_to_bytes e) h = refl
-is_put t o (Values width values) h = refl
-is_put t o (Strings ended strings) h = refl
-is_put t o (Zeros count) h = refl
+is_put t o (Aligns form e) h = refl
+is_put t o (Emits contents) h = refl
 is_put t o _ h = absurd (cc)
 
 -- the end of a section of data after a directive that contributes to it

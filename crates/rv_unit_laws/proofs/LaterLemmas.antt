@@ -10,7 +10,7 @@ use Rattle.rv_text_laws.specs.Expression.{Literal, Symbol, Here, Reference}
 use Rattle.rv_statement_laws.specs.Statement.{StatementKind, Label, Numbered, Instruction, Directs, Statement, Expression, Directive, Sets}
 use Rattle.rv_statement_laws.specs.declared.directive.Choice.{Choice}
 use Rattle.rv_unit_laws.specs.Sections.{Section, entered_by}
-use Rattle.rv_unit_laws.specs.Contributions.{Contribution, Nothing, Bytes, Zero_bytes, Alignment, contribution}
+use Rattle.rv_unit_laws.specs.Contributions.{Contribution, Nothing, Bytes, Alignment, contribution}
 use Rattle.rv_unit_laws.specs.Tables.{Tables, Labelled, NumericLabel, Assignment, here, after, after_directive, after_all, value_by_tables, assigned, assigned_by, choice_in, with_label, with_numeric_label, with_assignment, with_section, with_contribution, with_choice, with_chosen, is_defined, may_set}
 use Rattle.rv_unit_laws.proofs.EnteringLemmas.{with_new, entering}
 
@@ -131,7 +131,6 @@ keeps_chosen t (Some choice) o = keeps_choice t choice o
 keeps_contribution : (t : Tables) (v : Expression → Value) (c : Contribution) (o : ℕ) → Keeps t (with_contribution t v c) o
 keeps_contribution t v Nothing o = keeps_same t t o refl refl refl
 keeps_contribution t v (Bytes contents) o = keeps_same t (with_contribution t v (Bytes contents)) o refl refl refl
-keeps_contribution t v (Zero_bytes count) o = keeps_same t (with_contribution t v (Zero_bytes count)) o refl refl refl
 keeps_contribution t v (Alignment form number) o = keeps_same t (with_contribution t v (Alignment form number)) o refl refl refl
 
 keeps_directive : (t : Tables) (o : ℕ) (d : Directive) → Keeps t (after_directive t o d) o

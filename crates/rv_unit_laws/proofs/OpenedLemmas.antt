@@ -9,7 +9,7 @@ use Rattle.rv_statement_laws.specs.Statement.{StatementKind, Expression, Label, 
 use Rattle.rv_statement_laws.specs.declared.directive.Choice.{Choice}
 use Rattle.rv_text_laws.specs.Values.{Open, InSection, Value}
 use Rattle.rv_unit_laws.specs.Sections.{Section, Opened, text_section, entered_by, section_at}
-use Rattle.rv_unit_laws.specs.Contributions.{Contribution, Nothing, Bytes, Zero_bytes, Alignment, contribution}
+use Rattle.rv_unit_laws.specs.Contributions.{Contribution, Nothing, Bytes, Alignment, contribution}
 use Rattle.rv_unit_laws.specs.Tables.{Tables, Extent, SectionOffset, Labelled, NumericLabel, Assignment, at_start, here, stands, value_by_tables, assigned_by, choice_in, is_defined, may_set, with_label, with_assignment, with_section, with_contribution, with_choice, with_chosen, after_directive, after, after_all, opened_of, extended, changed_at, contributed, alignment_as, with_data}
 use Rattle.rv_unit_laws.proofs.EnteringLemmas.{place_inside, sections_more, sections_count, entering}
 use Rattle.std.proofs.lemmas.Option.{slice_get-get_or}
@@ -75,7 +75,6 @@ chosen_opened t (Some choice) = choice_opened t choice
 contribution_opened : (t : Tables) (v : Expression → Value) (c : Contribution) → opened_of (with_contribution t v c) ≡ opened_of t
 contribution_opened t v Nothing = refl
 contribution_opened t v (Bytes contents) = data_opened t (contributed v (here t).offset (Bytes contents)) None
-contribution_opened t v (Zero_bytes count) = data_opened t (contributed v (here t).offset (Zero_bytes count)) None
 contribution_opened t v (Alignment form number) = data_opened t (contributed v (here t).offset (Alignment form number)) (alignment_as form (v number))
 
 directive_opened : (t : Tables) (k : ℕ) (d : Directive) → opened_of (after_directive t k d) ≡ opened_of (with_section t (entered_by d))

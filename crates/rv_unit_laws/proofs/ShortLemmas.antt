@@ -7,8 +7,8 @@ use Rattle.rv_text_laws.specs.Values.{Value}
 use Rattle.rv_statement_laws.specs.Statement.{StatementKind, Label, Numbered, Instruction, Directs, Statement, Expression, Directive}
 use Rattle.rv_statement_laws.specs.declared.directive.Choice.{Choice}
 use Rattle.rv_unit_laws.specs.Sections.{Section, entered_by, current_section}
-use Rattle.rv_unit_laws.specs.Contributions.{Contribution, Nothing, Bytes, Zero_bytes, Alignment, contribution}
-use Rattle.rv_unit_laws.specs.Tables.{Tables, Extent, Assignment, at_start, here, value_by_tables, longest_section, within, padding, counted, or_none, contents_size, alignment_as, contributed, contribution_alignment, counted_in, changed_at, is_defined, may_set, with_assignment, with_section, with_data, with_contribution, with_choice, with_chosen, with_numeric_label, assigned_by, choice_in, after, after_directive, opened_of, ends_of}
+use Rattle.rv_unit_laws.specs.Contributions.{Contribution, Nothing, Bytes, Alignment, contribution}
+use Rattle.rv_unit_laws.specs.Tables.{Tables, Extent, Assignment, at_start, here, value_by_tables, longest_section, within, padding, data_size, alignment_as, contributed, contribution_alignment, counted_in, changed_at, is_defined, may_set, with_assignment, with_section, with_data, with_contribution, with_choice, with_chosen, with_numeric_label, assigned_by, choice_in, after, after_directive, opened_of, ends_of}
 use Rattle.rv_unit_laws.proofs.EnteringLemmas.{entering, with_new}
 use Rattle.rv_unit_laws.proofs.GrownLemmas.{data_ends, end_new}
 
@@ -26,8 +26,7 @@ within_short offset bytes low = by (nat_le (offset + bytes) longest_section) ref
 
 contributed_short : (v : Expression → Value) (offset : ℕ) (c : Contribution) → offset ≤ longest_section → offset + contributed v offset c ≤ longest_section
 contributed_short v offset Nothing low = omega (arith, low)
-contributed_short v offset (Bytes contents) low = within_short offset (contents_size contents) low
-contributed_short v offset (Zero_bytes count) low = within_short offset (or_none (counted (v count))) low
+contributed_short v offset (Bytes contents) low = within_short offset (data_size v contents) low
 contributed_short v offset (Alignment form number) low = within_short offset (padding (alignment_as form (v number)) offset) low
 
 counted_short : (section : Section) (offset bytes : ℕ) → offset + bytes ≤ longest_section → offset + counted_in section bytes ≤ longest_section
@@ -53,7 +52,6 @@ short_data t bytes alignment h low j =
 short_contribution : (t : Tables) (v : Expression → Value) (c : Contribution) → AreShort t → AreShort (with_contribution t v c)
 short_contribution t v Nothing h = h
 short_contribution t v (Bytes contents) h = short_data t (contributed v (here t).offset (Bytes contents)) None h (contributed_short v (here t).offset (Bytes contents) (h t.current))
-short_contribution t v (Zero_bytes count) h = short_data t (contributed v (here t).offset (Zero_bytes count)) None h (contributed_short v (here t).offset (Zero_bytes count) (h t.current))
 short_contribution t v (Alignment form number) h =
     short_data t (contributed v (here t).offset (Alignment form number)) (contribution_alignment v (Alignment form number)) h (contributed_short v (here t).offset (Alignment form number) (h t.current))
 

@@ -1,17 +1,17 @@
 -- The faults of labels and directives, and of instructions outside code; the first of them (GNU as,
 -- "Pseudo Ops", for what directives take).
 
-use Rattle.std.specs.Prelude.{ℕ, suc, ◌+◌, ◌^◌, Bool, true, false, not, ◌&&◌, ◌||◌, ◌==◌, nat_lt, nat_le, List, [], ◌∷◌, ◌++◌, length, drop, flat_map, Option, Some, None, is_some, if◌then◌else◌}
+use Rattle.std.specs.Prelude.{◌*◌, ℕ, suc, ◌+◌, ◌^◌, Bool, true, false, not, ◌&&◌, ◌||◌, ◌==◌, nat_lt, nat_le, List, [], ◌∷◌, ◌++◌, length, drop, flat_map, Option, Some, None, is_some, if◌then◌else◌}
 use Rattle.rv_text_laws.specs.Codes.{duplicate_label, not_constant, immediate_range, wrong_section, option_stack, limit, faulty_if, lowest}
 use Rattle.rv_text_laws.specs.Values.{Value, Constant, Symbolic, Difference, Faulty}
 use Rattle.rv_statement_laws.specs.Limits.{most_statements}
-use Rattle.rv_statement_laws.specs.Statement.{StatementKind, Label, Numbered, Instruction, Directs, Statement, Expression, Directive, Enters, Opens, Sets, Chooses}
+use Rattle.rv_statement_laws.specs.Statement.{StatementKind, Label, Numbered, Instruction, Directs, Statement, Directive, Enters, Opens, Sets, Chooses, Data, Values, Strings, Zeros, AlignmentForm, As_power, As_bytes}
 use Rattle.rv_statement_laws.specs.declared.directive.Choice.{Choice}
 use Rattle.rv_statement_laws.specs.declared.directive.Choice.TheVariants.{Pop}
 use Rattle.rv_text_laws.specs.Expression.{Here}
 use Rattle.rv_unit_laws.specs.Sections.{Section, is_nobits, current_section, place_of_name, most_sections, entered_by}
-use Rattle.rv_unit_laws.specs.Contributions.{Contents, Numbers, Texts, AlignmentForm, As_power, As_bytes, Contribution, Nothing, Bytes, Zero_bytes, Alignment, contribution}
-use Rattle.rv_unit_laws.specs.Tables.{Tables, at_start, after, tables, here, value_by_tables, has_location, is_defined, is_power, greatest_alignment, longest_section, alignment_as, contents_size, counted, padding, opened_of}
+use Rattle.rv_unit_laws.specs.Contributions.{Contribution, Nothing, Bytes, Alignment, contribution}
+use Rattle.rv_unit_laws.specs.Tables.{Tables, at_start, after, tables, here, value_by_tables, has_location, is_defined, is_power, greatest_alignment, longest_section, alignment_as, string_bytes, counted, padding, opened_of}
 
 -- a value where a constant is wanted
 abbrev pub constant_faults : Value → List ℕ
@@ -93,22 +93,28 @@ abbrev pub number_faults : AlignmentForm → Value → List ℕ
 number_faults As_power v = power_faults v
 number_faults As_bytes v = bytes_faults v
 
-abbrev pub contents_faults : (Expression → Value) → Contents → List ℕ
-contents_faults v (Numbers width values) = flat_map (λ e. value_faults width (v e)) values
-contents_faults v (Texts ended strings) = []
+-- of so many bytes of data after `offset` others of a section that has to have bytes in the file
+abbrev pub stored_faults : Section → ℕ → ℕ → List ℕ
+stored_faults section offset bytes =
+    faulty_if (section.executable || is_nobits section) wrong_section
+    ++ past_section section.executable offset bytes
 
--- the codes of the faults of what a directive contributes: `t` are the tables before it, `all`
--- those of the whole source
-abbrev pub contribution_faults : Tables → Tables → ℕ → Contribution → List ℕ
-contribution_faults all t ordinal Nothing = []
-contribution_faults all t ordinal (Bytes contents) =
-    let section = current_section (opened_of t) in
-    contents_faults (λ e. value_by_tables all true ordinal (here t) e) contents
-    ++ (faulty_if (section.executable || is_nobits section) wrong_section
-    ++ past_section section.executable (here t).offset (contents_size contents))
-contribution_faults all t ordinal (Zero_bytes count) =
+-- the codes of the faults of data: `t` are the tables before it, `all` those of the whole source
+abbrev pub data_faults : Tables → Tables → ℕ → Data → List ℕ
+data_faults all t ordinal (Values width values) =
+    flat_map (λ e. value_faults width (value_by_tables all true ordinal (here t) e)) values
+    ++ stored_faults (current_section (opened_of t)) (here t).offset (width * length values)
+data_faults all t ordinal (Strings ended strings) =
+    stored_faults (current_section (opened_of t)) (here t).offset
+    (length (string_bytes ended strings))
+data_faults all t ordinal (Zeros count) =
     zero_faults (current_section (opened_of t)) (here t).offset
     (value_by_tables all false ordinal (here t) count)
+
+-- those of what a directive contributes
+abbrev pub contribution_faults : Tables → Tables → ℕ → Contribution → List ℕ
+contribution_faults all t ordinal Nothing = []
+contribution_faults all t ordinal (Bytes contents) = data_faults all t ordinal contents
 contribution_faults all t ordinal (Alignment form number) =
     let v = value_by_tables all false ordinal (here t) number in
     number_faults form v

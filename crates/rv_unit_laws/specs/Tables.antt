@@ -6,7 +6,7 @@
 -- statements. The bindings of names stand there from the start: sizes count at once,
 -- and a distance from a weak label is no constant, wherever `.weak` stands.
 
-use Rattle.std.specs.Prelude.{ℕ, zero, suc, ◌+◌, ◌-◌, ◌*◌, ◌^◌, Bool, true, false, not, ◌&&◌, ◌||◌, ◌==◌, nat_lt, nat_le, max, List, [], ◌∷◌, ◌++◌, length, map, flat_map, reverse, Option, Some, None, is_some, slice_index_or, if◌then◌else◌}
+use Rattle.std.specs.Prelude.{◌≡◌, ℕ, zero, suc, ◌+◌, ◌-◌, ◌*◌, ◌^◌, Bool, true, false, not, ◌&&◌, ◌||◌, ◌==◌, nat_lt, nat_le, max, List, [], ◌∷◌, ◌++◌, length, map, flat_map, reverse, Option, Some, None, is_some, slice_index_or, if◌then◌else◌}
 use Rattle.std.specs.List.{find, list_any}
 use Rattle.std.specs.Str.{bytes_eq}
 use Rattle.rv_layout_laws.specs.Alignment.{aligned}
@@ -14,13 +14,13 @@ use Rattle.rv_text_laws.specs.Bytes.{digits_value}
 use Rattle.rv_text_laws.specs.Expression.{Primary, Literal, Symbol, Here, Reference}
 use Rattle.rv_text_laws.specs.Codes.{undefined_local, not_constant}
 use Rattle.rv_text_laws.specs.Values.{Meaning, Known, InSection, Open, Refused, Value, Constant, Symbolic, add, value_of}
-use Rattle.rv_statement_laws.specs.Statement.{StatementKind, Label, Numbered, Instruction, Directs, Statement, Expression, Directive, Sets, Chooses}
+use Rattle.rv_statement_laws.specs.Statement.{StatementKind, Label, Numbered, Instruction, Directs, Statement, Expression, Directive, Sets, Chooses, Data, Values, Strings, Zeros, AlignmentForm, As_power, As_bytes}
 use Rattle.rv_statement_laws.specs.declared.directive.Choice.{Choice}
 use Rattle.rv_unit_laws.specs.Sections.{Section, Opened, text_section, most_sections, place_of_name, entered_by, section_at}
 use Rattle.rv_unit_laws.specs.Options.{Options, first_options, options_then, kept_then}
 use Rattle.rv_statement_laws.specs.declared.directive.Binding.{Binding}
 use Rattle.rv_unit_laws.specs.Bindings.{Bindings, bindings_after, bindings_of, is_weak}
-use Rattle.rv_unit_laws.specs.Contributions.{Contents, Numbers, Texts, AlignmentForm, As_power, As_bytes, Contribution, Nothing, Bytes, Zero_bytes, Alignment, contribution}
+use Rattle.rv_unit_laws.specs.Contributions.{Contribution, Nothing, Bytes, Alignment, contribution}
 
 -- where something stands: the index of its section in the source, and the bytes of data before it
 -- there
@@ -320,13 +320,21 @@ counted _ = None
 abbrev pub string_bytes : Bool → List (List ℕ) → List ℕ
 string_bytes ended strings = flat_map (λ s. s ++ (if ended then 0 ∷ [] else [])) strings
 
-abbrev pub contents_size : Contents → ℕ
-contents_size (Numbers width values) = width * length values
-contents_size (Texts ended strings) = length (string_bytes ended strings)
-
 abbrev pub or_none : Option ℕ → ℕ
 or_none None = 0
 or_none (Some n) = n
+
+-- the bytes of data, by the values of expressions: none where a count is faulty
+abbrev pub data_size : (Expression → Value) → Data → ℕ
+data_size v (Values width values) = width * length values
+data_size v (Strings ended strings) = length (string_bytes ended strings)
+data_size v (Zeros count) = or_none (counted (v count))
+
+-- data has so many bytes
+abbrev pub HasDataSize : (Expression → Value) → Data → ℕ → Type 0
+HasDataSize v (Values width values) bytes = bytes ≡ width * length values
+HasDataSize v (Strings ended strings) bytes = bytes ≡ length (string_bytes ended strings)
+HasDataSize v (Zeros count) bytes = v count ≡ Constant bytes
 
 -- the bytes at an offset where they don't pass the longest section, else none
 abbrev pub within : ℕ → ℕ → ℕ
@@ -341,8 +349,7 @@ padding (Some alignment) offset = aligned alignment offset - offset
 -- refused, so no end of a section passes 32 bits.
 abbrev pub contributed : (Expression → Value) → ℕ → Contribution → ℕ
 contributed v offset Nothing = 0
-contributed v offset (Bytes contents) = within offset (contents_size contents)
-contributed v offset (Zero_bytes count) = within offset (or_none (counted (v count)))
+contributed v offset (Bytes contents) = within offset (data_size v contents)
 contributed v offset (Alignment form number) =
     within offset (padding (alignment_as form (v number)) offset)
 

@@ -13,7 +13,7 @@ ghost use Rattle.rv_text.specs.Nodes.{symbol_of};
 ghost use Rattle.rv_text.specs.Expr.{tree_of_expr};
 ghost use Rattle.rv_text.specs.Eval.{meaning_of, value_told, IsOutcome};
 ghost use Rattle.rv_statement_laws.specs.Limits.{most_statements};
-ghost use Rattle.rv_statement_laws.specs.Statement.{Aligns_to_power, Aligns_to_bytes, Zeros};
+ghost use Rattle.rv_statement_laws.specs.Statement.{Zeros, As_power, As_bytes, Aligns, Emits};
 ghost use Rattle.rv_statement.specs.Statements.{statements_of};
 ghost use Rattle.rv_statement.specs.View.{statement_kind, opening_of};
 ghost use Rattle.rv_unit_laws.specs.Bindings.{bound_by};
@@ -155,7 +155,7 @@ impl<'a> Tables<'a> {
     fn add_zeros(&mut self, count: &Expr<'a>)
         ensures tables { IsIndexed self.old → (o : ℕ) → IsBefore (tables_of self.old) o →
             tables_of self.new
-            ≡ laws.after_directive (tables_of self.old) o (Zeros (tree_of_expr count.now)) }
+            ≡ laws.after_directive (tables_of self.old) o (Emits (Zeros (tree_of_expr count.now))) }
         ensures indexed { IsIndexed self.old → IsIndexed self.new }
     {
         let bytes = counted(self.value(count));
@@ -167,7 +167,7 @@ impl<'a> Tables<'a> {
         ensures tables { IsIndexed self.old → (o : ℕ) → IsBefore (tables_of self.old) o →
             tables_of self.new
             ≡ laws.after_directive (tables_of self.old) o
-            (Aligns_to_power (tree_of_expr exponent.now)) }
+            (Aligns As_power (tree_of_expr exponent.now)) }
         ensures indexed { IsIndexed self.old → IsIndexed self.new }
     {
         let alignment = power_alignment(self.value(exponent));
@@ -179,7 +179,7 @@ impl<'a> Tables<'a> {
         ensures tables { IsIndexed self.old → (o : ℕ) → IsBefore (tables_of self.old) o →
             tables_of self.new
             ≡ laws.after_directive (tables_of self.old) o
-            (Aligns_to_bytes (tree_of_expr bytes.now)) }
+            (Aligns As_bytes (tree_of_expr bytes.now)) }
         ensures indexed { IsIndexed self.old → IsIndexed self.new }
     {
         let alignment = byte_alignment(self.value(bytes));

@@ -1,17 +1,17 @@
 -- What a statement without faults adds to its section of data: the bytes that the values of its expressions say.
 
-use Rattle.std.proofs.Common.{◌≡◌, ℕ, zero, suc, ◌+◌, ◌<◌, Bool, true, false, ◌||◌, List, [], ◌∷◌, ◌++◌, length, refl, sym, ap, ◌∙◌, subst, arith, Option, Some, None}
-use Rattle.std.specs.Prelude.{not, slice_index_or, if◌then◌else◌, ⊤, ◌^◌, nat_lt}
+use Rattle.std.proofs.Common.{◌≡◌, ℕ, zero, suc, ◌+◌, ◌*◌, ◌<◌, Bool, true, false, ◌||◌, List, [], ◌∷◌, ◌++◌, length, refl, sym, ap, ◌∙◌, subst, arith, Option, Some, None}
+use Rattle.std.specs.Prelude.{not, flat_map, slice_index_or, if◌then◌else◌, ⊤, ◌^◌, nat_lt}
 use Rattle.std.proofs.lemmas.Bool.{not-false}
 use Rattle.rv_list_laws.proofs.ElementsLemmas.{append_none_parts}
 use Rattle.rv_text_laws.specs.Codes.{faulty_if}
 use Rattle.rv_text_laws.specs.Values.{Value, Constant, Symbolic, Difference, Faulty}
-use Rattle.rv_statement_laws.specs.Statement.{StatementKind, Label, Numbered, Instruction, Directs, Expression, Directive, Enters, Opens, Binds, Sets, Aligns_to_power, Aligns_to_bytes, Values, Strings, Zeros, Chooses, Ignored}
+use Rattle.rv_statement_laws.specs.Statement.{StatementKind, Label, Numbered, Instruction, Directs, Expression, Directive, Enters, Opens, Binds, Sets, Chooses, Ignored, Data, Values, Strings, Zeros, AlignmentForm, As_power, As_bytes, Aligns, Emits}
 use Rattle.rv_statement_laws.specs.declared.directive.Choice.{Choice}
 use Rattle.rv_unit_laws.specs.Sections.{Section, is_nobits, section_at, current_section, entered_by}
-use Rattle.rv_unit_laws.specs.Contributions.{Numbers, Texts, AlignmentForm, As_power, As_bytes, Contribution, Nothing, Bytes, Zero_bytes, Alignment, contribution}
-use Rattle.rv_unit_laws.specs.Tables.{Tables, Assignment, here, stood, value_by_tables, alignment_of, alignment_as, contribution_alignment, counted, or_none, within, padding, contributed, contents_size, changed_at, counted_in, is_defined, may_set, with_assignment, with_section, with_data, with_contribution, with_choice, with_chosen, with_numeric_label, assigned_by, choice_in, after, after_directive, enters, opened_of, ends_of}
-use Rattle.rv_unit_laws.specs.Faults.{size_faults, number_faults, contents_faults, code_alignment_faults, past_section, alignment_faults, contribution_faults, directive_faults, faults}
+use Rattle.rv_unit_laws.specs.Contributions.{Contribution, Nothing, Bytes, Alignment, contribution}
+use Rattle.rv_unit_laws.specs.Tables.{Tables, Assignment, here, stood, value_by_tables, alignment_of, alignment_as, contribution_alignment, counted, or_none, within, padding, contributed, string_bytes, data_size, changed_at, counted_in, is_defined, may_set, with_assignment, with_section, with_data, with_contribution, with_choice, with_chosen, with_numeric_label, assigned_by, choice_in, after, after_directive, enters, opened_of, ends_of}
+use Rattle.rv_unit_laws.specs.Faults.{value_faults, size_faults, number_faults, stored_faults, data_faults, code_alignment_faults, past_section, alignment_faults, contribution_faults, directive_faults, faults}
 use Rattle.rv_unit_laws.proofs.EnteringLemmas.{with_new, entering}
 use Rattle.rv_unit_laws.proofs.GrownLemmas.{BeginsAt, puts, data_ends, end_new, end_behind}
 use Rattle.rv_unit_laws.proofs.TablesLemmas.{within_fits}
@@ -25,15 +25,18 @@ contribution_in _ = Nothing
 -- the bytes of a contribution at an offset, by the values of expressions
 abbrev pub own_bytes : (Expression → Value) → ℕ → Contribution → ℕ
 own_bytes v offset Nothing = 0
-own_bytes v offset (Bytes contents) = contents_size contents
-own_bytes v offset (Zero_bytes count) = or_none (counted (v count))
+own_bytes v offset (Bytes contents) = data_size v contents
 own_bytes v offset (Alignment form number) = padding (alignment_as form (v number)) offset
+
+-- the count of data is one
+abbrev pub HasCount : (Expression → Value) → Data → Type 0
+HasCount v (Zeros count) = (n : ℕ) × (v count ≡ Constant n) × (counted (v count) ≡ Some n)
+HasCount v _ = ⊤
 
 -- its count is one, and its alignment divides that of its section
 abbrev pub IsSound : (Expression → Value) → (begins : ℕ) → Contribution → Type 0
 IsSound v begins Nothing = ⊤
-IsSound v begins (Bytes contents) = ⊤
-IsSound v begins (Zero_bytes count) = (n : ℕ) × (v count ≡ Constant n) × (counted (v count) ≡ Some n)
+IsSound v begins (Bytes contents) = HasCount v contents
 IsSound v begins (Alignment form number) = BeginsAt (alignment_as form (v number)) begins
 
 -- ---- what no fault says
@@ -117,11 +120,8 @@ end_elsewhere t k (Directs (Binds binding names)) j apart = end_same t k (Direct
 end_elsewhere t k (Directs (Sets name e)) j apart = end_same t k (Directs (Sets name e)) j refl
 end_elsewhere t k (Directs (Chooses choice)) j apart = end_same t k (Directs (Chooses choice)) j refl
 end_elsewhere t k (Directs Ignored) j apart = end_same t k (Directs Ignored) j refl
-end_elsewhere t k (Directs (Aligns_to_power e)) j apart = end_put t k (Alignment As_power e) j apart
-end_elsewhere t k (Directs (Aligns_to_bytes e)) j apart = end_put t k (Alignment As_bytes e) j apart
-end_elsewhere t k (Directs (Values width values)) j apart = end_put t k (Bytes (Numbers width values)) j apart
-end_elsewhere t k (Directs (Strings ended strings)) j apart = end_put t k (Bytes (Texts ended strings)) j apart
-end_elsewhere t k (Directs (Zeros count)) j apart = end_put t k (Zero_bytes count) j apart
+end_elsewhere t k (Directs (Aligns form e)) j apart = end_put t k (Alignment form e) j apart
+end_elsewhere t k (Directs (Emits contents)) j apart = end_put t k (Bytes contents) j apart
 
 -- ---- one statement
 
@@ -147,13 +147,18 @@ module _ (all t : Tables) (k : ℕ)
   past_faults None = []
   past_faults (Some n) = past_section home.executable offset n
 
-  added : (c : Contribution) → home.executable ≡ false → contribution_faults all t k c ≡ [] → contributed first offset c ≡ own_bytes v offset c
-  added Nothing other none = refl
-  added (Bytes contents) other none =
-      let last = append_none_parts (contents_faults v contents) (faulty_if (home.executable || is_nobits home) 15 ++ past_section home.executable offset (contents_size contents)) none in
-      let past = append_none_parts (faulty_if (home.executable || is_nobits home) 15) (past_section home.executable offset (contents_size contents)) last.1 in
-      within_fits offset (contents_size contents) (past_fits home.executable offset (contents_size contents) other past.1)
-  added (Zero_bytes count) other none =
+  -- after the faults of its values, of data that has to have bytes in the file
+  stored_added : (before : List ℕ) (bytes : ℕ) → home.executable ≡ false → before ++ stored_faults home offset bytes ≡ [] → within offset bytes ≡ bytes
+  stored_added before bytes other none =
+      let last = append_none_parts before (stored_faults home offset bytes) none in
+      let over = append_none_parts (faulty_if (home.executable || is_nobits home) 15) (past_section home.executable offset bytes) last.1 in
+      within_fits offset bytes (past_fits home.executable offset bytes other over.1)
+
+  data_added : (contents : Data) → home.executable ≡ false → data_faults all t k contents ≡ [] → within offset (data_size first contents) ≡ data_size v contents
+  data_added (Values width values) other none =
+      stored_added (flat_map (λ e. value_faults width (v e)) values) (width * length values) other none
+  data_added (Strings ended strings) other none = stored_added [] (length (string_bytes ended strings)) other none
+  data_added (Zeros count) other none =
       let last = append_none_parts (size_faults (w count)) (faulty_if home.executable 15 ++ past_faults (counted (w count))) none in
       let over = append_none_parts (faulty_if home.executable 15) (past_faults (counted (w count))) last.1 in
       let is = a_count (w count) last.0 in
@@ -161,6 +166,10 @@ module _ (all t : Tables) (k : ℕ)
       ap (λ x. within offset (or_none (counted x))) (past count is.0 is.1 ∙ sym is.1) ∙ ap (λ n. within offset (or_none n)) is.2
       ∙ within_fits offset is.0 fits
       ∙ sym (ap (λ x. or_none (counted x)) (whole count is.0 is.1 ∙ sym is.1) ∙ ap or_none is.2)
+
+  added : (c : Contribution) → home.executable ≡ false → contribution_faults all t k c ≡ [] → contributed first offset c ≡ own_bytes v offset c
+  added Nothing other none = refl
+  added (Bytes contents) other none = data_added contents other none
   added (Alignment form number) other none =
       let alignment = alignment_as form (w number) in
       let parts = append_none_parts (number_faults form (w number)) (alignment_faults home offset alignment) none in
@@ -171,14 +180,18 @@ module _ (all t : Tables) (k : ℕ)
       ∙ within_fits offset (padding alignment offset) fits
       ∙ ap (λ x. padding (alignment_as form x) offset) (is.1 ∙ sym (whole number is.0 is.1))
 
-  sound : (c : Contribution) (begins : ℕ) → contribution_faults all t k c ≡ [] → BeginsAt (contribution_alignment first c) begins → IsSound v begins c
-  sound Nothing begins none multiple = tt
-  sound (Bytes contents) begins none multiple = tt
-  sound (Zero_bytes count) begins none multiple =
+  data_counted : (contents : Data) → data_faults all t k contents ≡ [] → HasCount v contents
+  data_counted (Values width values) none = tt
+  data_counted (Strings ended strings) none = tt
+  data_counted (Zeros count) none =
       let last = append_none_parts (size_faults (w count)) (faulty_if home.executable 15 ++ past_faults (counted (w count))) none in
       let is = a_count (w count) last.0 in
       let now = whole count is.0 is.1 in
       (is.0, now, ap counted (now ∙ sym is.1) ∙ is.2)
+
+  sound : (c : Contribution) (begins : ℕ) → contribution_faults all t k c ≡ [] → BeginsAt (contribution_alignment first c) begins → IsSound v begins c
+  sound Nothing begins none multiple = tt
+  sound (Bytes contents) begins none multiple = data_counted contents none
   sound (Alignment form number) begins none multiple =
       let alignment = alignment_as form (w number) in
       let parts = append_none_parts (number_faults form (w number)) (alignment_faults home offset alignment) none in
@@ -242,8 +255,5 @@ module _ (all t : Tables) (k : ℕ)
     adds (Directs (Sets name e)) none other = none_here (Directs (Sets name e)) refl refl
     adds (Directs (Chooses choice)) none other = none_here (Directs (Chooses choice)) refl refl
     adds (Directs Ignored) none other = none_here (Directs Ignored) refl refl
-    adds (Directs (Aligns_to_power e)) none other = put_here (Aligns_to_power e) refl refl (other refl) none
-    adds (Directs (Aligns_to_bytes e)) none other = put_here (Aligns_to_bytes e) refl refl (other refl) none
-    adds (Directs (Values width values)) none other = put_here (Values width values) refl refl (other refl) none
-    adds (Directs (Strings ended strings)) none other = put_here (Strings ended strings) refl refl (other refl) none
-    adds (Directs (Zeros count)) none other = put_here (Zeros count) refl refl (other refl) none
+    adds (Directs (Aligns form e)) none other = put_here (Aligns form e) refl refl (other refl) none
+    adds (Directs (Emits contents)) none other = put_here (Emits contents) refl refl (other refl) none

@@ -9,7 +9,7 @@ use Rattle.rv_text_laws.specs.Values.{Meaning, Known, InSection, Open, Refused, 
 use Rattle.rv_statement_laws.specs.Statement.{StatementKind, Label, Numbered, Instruction, Directs, Statement, Expression, Directive, Sets}
 use Rattle.rv_statement_laws.specs.declared.directive.Choice.{Choice}
 use Rattle.rv_unit_laws.specs.Sections.{Section, section_at, entered_by}
-use Rattle.rv_unit_laws.specs.Contributions.{Contribution, Nothing, Bytes, Zero_bytes, Alignment, contribution}
+use Rattle.rv_unit_laws.specs.Contributions.{Contribution, Nothing, Bytes, Alignment, contribution}
 use Rattle.rv_unit_laws.specs.Tables.{Tables, SectionOffset, Labelled, NumericLabel, Assignment, here, stood, stands, meaning, value_by_tables, assigned, assigned_by, choice_in, gives_location, is_defined, may_set, with_label, with_numeric_label, with_assignment, with_section, with_contribution, with_choice, with_chosen, after, after_directive, after_all, opened_of}
 use Rattle.rv_unit_laws.proofs.AskedLemmas.{home_same}
 use Rattle.rv_unit_laws.proofs.EnteringLemmas.{with_new, entering}
@@ -111,7 +111,6 @@ module _ (all : Tables) (file : List Located) where
   at_contribution : (t : Tables) (v : Expression → Value) (c : Contribution) → AreAt all file t → AreAt all file (with_contribution t v c)
   at_contribution t v Nothing h = h
   at_contribution t v (Bytes contents) h = at_same t (with_contribution t v (Bytes contents)) refl refl refl h
-  at_contribution t v (Zero_bytes count) h = at_same t (with_contribution t v (Zero_bytes count)) refl refl refl h
   at_contribution t v (Alignment form number) h = at_same t (with_contribution t v (Alignment form number)) refl refl refl h
 
   at_named : (t : Tables) (k : ℕ) (d : Directive) → IsHome t → (is_placed_directive t k d ≡ true → StandsAt file k (stood t k (Directs d))) → AreAt all file t

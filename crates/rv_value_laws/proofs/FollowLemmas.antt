@@ -11,21 +11,21 @@ use Rattle.rv_isa_laws.specs.Bytes.{little_endian}
 use Rattle.rv_isa_laws.proofs.BytesLemmas.{little_long}
 use Rattle.rv_layout_laws.specs.Alignment.{aligned}
 use Rattle.rv_layout_laws.proofs.AlignmentLemmas.{padding_on}
-use Rattle.rv_text_laws.specs.Values.{Value, Constant}
-use Rattle.rv_statement_laws.specs.Statement.{StatementKind, Label, Numbered, Instruction, Directs, Expression, Directive, Enters, Opens, Binds, Sets, Chooses, Ignored}
+use Rattle.rv_text_laws.specs.Values.{Value}
+use Rattle.rv_statement_laws.specs.Statement.{StatementKind, Label, Numbered, Instruction, Directs, Expression, Directive, Enters, Opens, Binds, Sets, Chooses, Ignored, Data, Values, Strings, Zeros}
 use Rattle.rv_pseudo_laws.specs.Code.{Part}
 use Rattle.rv_pseudo_laws.specs.Filled.{FieldValue, filled}
 use Rattle.rv_map_laws.specs.declared.map.Row.{Row}
-use Rattle.rv_unit_laws.specs.Contributions.{Contents, Numbers, Texts, Contribution, Nothing, Bytes, Zero_bytes, Alignment, contribution}
-use Rattle.rv_unit_laws.specs.Tables.{padding, alignment_as, contribution_alignment, counted, or_none, contents_size}
+use Rattle.rv_unit_laws.specs.Contributions.{Contribution, Nothing, Bytes, Alignment, contribution}
+use Rattle.rv_unit_laws.specs.Tables.{padding, alignment_as, contribution_alignment, counted, or_none, data_size}
 use Rattle.rv_unit_laws.proofs.GrownLemmas.{BeginsAt}
 use Rattle.rv_source_laws.specs.Located.{Located}
 use Rattle.rv_source_laws.specs.Program.{MaybeMapped, Mapped, Program, seated, mapped_of, address, resolved, form, number, has_values}
 use Rattle.rv_source_laws.specs.Lines.{constants, parts_by_size, field_value}
-use Rattle.rv_source_laws.specs.Start.{spelled_contents, spelled_said, spelled_contribution}
+use Rattle.rv_source_laws.specs.Start.{spelled_data, spelled_said, spelled_contribution}
 use Rattle.rv_source_laws.specs.Fits.{IsRowOf, IsPaddingIn, ContributionFits, DirectiveFits, StatementFits, SizeFits, Follow}
 use Rattle.rv_source_laws.proofs.HeldLemmas.{IsHeld}
-use Rattle.rv_value_laws.proofs.AddedLemmas.{contribution_in, own_bytes, IsSound}
+use Rattle.rv_value_laws.proofs.AddedLemmas.{HasCount, contribution_in, own_bytes, IsSound}
 use Rattle.rv_value_laws.proofs.WalkLemmas.{Runs}
 
 -- ---- paddings
@@ -61,10 +61,6 @@ length_numbers width v (e ∷ es) =
     let both = length-append (little_endian width (v e)) (flat_map (λ x. little_endian width (v x)) es) in
     both ∙ ap (λ n. n + length (flat_map (λ x. little_endian width (v x)) es)) one ∙ ap (λ n. width + n) rest ∙ (let x : width + width * length es ≡ width * length es + width = omega arith in x) ∙ sym (mul-suc width (length es))
 
-length_contents : (v : Expression → ℕ) (contents : Contents) → length (spelled_contents v contents) ≡ contents_size contents
-length_contents v (Numbers width values) = length_numbers width v values
-length_contents v (Texts ended strings) = refl
-
 module _ (p : Program) (s : Mapped) (a begins : ℕ) (begins_there : a % begins ≡ 0) (there : s.row.address ≡ a + s.located.offset) (other : s.located.home.executable ≡ false) where
   abbrev v : Expression → Value
   v e = form p s.located e
@@ -76,16 +72,20 @@ module _ (p : Program) (s : Mapped) (a begins : ℕ) (begins_there : a % begins 
       no_instructions (has_values p s) (field_value p s) s.row.address (parts_by_size (constants p s.located) s.located.options.rvc s.row.bytes s.located.kind) s.row
       (ap (parts_by_size (constants p s.located) s.located.options.rvc s.row.bytes) is ∙ no_parts) fits
 
+  -- data spells as many bytes as it has
+  spelled_long : (contents : Data) → HasCount v contents → length (spelled_data (number p s) contents) ≡ data_size v contents
+  spelled_long (Values width values) sound = length_numbers width (number p s) values
+  spelled_long (Strings ended strings) sound = refl
+  spelled_long (Zeros count) sound =
+      length-replicate {A = ℕ} (number p s count) 0
+      ∙ ap (λ x. unwrap_or (resolved (λ q. address p s.located q) x) 0) sound.1
+      ∙ sym (ap or_none sound.2)
+
   contributed_bytes : (d : Directive) (c : Contribution) → s.located.kind ≡ Directs d → contribution d ≡ c → ContributionFits p s d c → IsSound v begins c → s.row.bytes ≡ own_bytes v s.located.offset c
   contributed_bytes d Nothing is e fits sound = absurd fits
   contributed_bytes d (Bytes contents) is e fits sound =
       fits.1 ∙ ap (λ k. length (spelled_said (number p s) k s.row.bytes)) is ∙ ap (λ c. length (spelled_contribution (number p s) c s.row.bytes)) e
-      ∙ length_contents (number p s) contents
-  contributed_bytes d (Zero_bytes count) is e fits sound =
-      fits.1 ∙ ap (λ k. length (spelled_said (number p s) k s.row.bytes)) is ∙ ap (λ c. length (spelled_contribution (number p s) c s.row.bytes)) e
-      ∙ length-replicate {A = ℕ} (number p s count) 0
-      ∙ ap (λ x. unwrap_or (resolved (λ q. address p s.located q) x) 0) sound.1
-      ∙ sym (ap or_none sound.2)
+      ∙ spelled_long contents sound
   contributed_bytes d (Alignment counts number) is e fits sound =
       let padded : IsPaddingIn false p s d = subst (λ b. IsPaddingIn b p s d) other fits in
       padded.1 ∙ ap (λ c. padding (contribution_alignment v c) s.row.address) e

@@ -6,7 +6,7 @@ use Rattle.std.specs.List.{find, AllByRecursion}
 use Rattle.std.proofs.lemmas.Bool.{eq-eqb, eqb-true, and_parts}
 use Rattle.rv_text_laws.specs.Values.{Meaning, Known, InSection, Open, Refused, Value, Constant, Symbolic, Difference, Faulty, add}
 use Rattle.rv_text_laws.specs.Expression.{Primary, Literal, Symbol, Here, Reference}
-use Rattle.rv_statement_laws.specs.Statement.{StatementKind, Label, Numbered, Instruction, Directs, Statement, Expression, Directive, Enters, Opens, Binds, Sets, Aligns_to_power, Aligns_to_bytes, Values, Strings, Zeros, Chooses, Ignored}
+use Rattle.rv_statement_laws.specs.Statement.{StatementKind, Label, Numbered, Instruction, Directs, Statement, Expression, Directive, Enters, Opens, Binds, Sets, Chooses, Ignored, Aligns, Emits}
 use Rattle.rv_unit_laws.specs.Sections.{section_at}
 use Rattle.rv_unit_laws.specs.Contributions.{Nothing, contribution}
 use Rattle.rv_unit_laws.specs.Tables.{Tables, SectionOffset, here, stood, value_by_tables, longest_section, after, after_all, opened_of, enters, alignment_at, alignments_of, alignment_of, gives_location, assigned}
@@ -67,15 +67,12 @@ short_if false p q h k = k
 -- the alignment of a directive divides that of its section
 multiple_at : (t : Tables) (k : ℕ) (d : Directive) (ss : List Statement) → ArePowers (alignments_of t) → IsStood t
     → BeginsAt (alignment_of (value_by_tables t false k (here t)) d) (alignment_at (after_all (after t k (Directs d)) (suc k) ss) (stood t k (Directs d)).section)
-multiple_at t k (Aligns_to_power e) ss powers whole = begins_multiple t k (suc k) (Aligns_to_power e) ss refl powers (open_inside (opened_of t) whole.opened)
-multiple_at t k (Aligns_to_bytes e) ss powers whole = begins_multiple t k (suc k) (Aligns_to_bytes e) ss refl powers (open_inside (opened_of t) whole.opened)
+multiple_at t k (Aligns form e) ss powers whole = begins_multiple t k (suc k) (Aligns form e) ss refl powers (open_inside (opened_of t) whole.opened)
 multiple_at t k (Enters standard) ss powers whole = tt
 multiple_at t k (Opens name flags kind) ss powers whole = tt
 multiple_at t k (Binds binding names) ss powers whole = tt
 multiple_at t k (Sets name e) ss powers whole = tt
-multiple_at t k (Values width values) ss powers whole = tt
-multiple_at t k (Strings ended strings) ss powers whole = tt
-multiple_at t k (Zeros count) ss powers whole = tt
+multiple_at t k (Emits contents) ss powers whole = tt
 multiple_at t k (Chooses choice) ss powers whole = tt
 multiple_at t k Ignored ss powers whole = tt
 

@@ -11,7 +11,7 @@ use Rattle.rv_isa.specs.declared.kind.Kind.TheVariants as kinds
 use Rattle.rv_isa.specs.Kinds.{width_of}
 use Rattle.rv_text_laws.specs.Expression.{Primary}
 use Rattle.rv_statement_laws.specs.declared.mnemonic.Mnemonic.{Mnemonic}
-use Rattle.rv_statement_laws.specs.Statement.{StatementKind, Label, Numbered, Instruction, Directs, Operand, Enters, Opens, Binds, Sets, Aligns_to_power, Aligns_to_bytes, Values, Strings, Zeros, Chooses, Ignored}
+use Rattle.rv_statement_laws.specs.Statement.{StatementKind, Label, Numbered, Instruction, Directs, Operand, Enters, Opens, Binds, Sets, Chooses, Ignored, Aligns, Emits}
 use Rattle.rv_unit_laws.specs.Sections.{Section as SourceSection, goes_to_text as source_text}
 use Rattle.rv_unit_laws.specs.Tables.{Tables, alignment_of as source_alignment}
 use Rattle.rv_source_laws.specs.Located.{Located, has_row}
@@ -42,7 +42,7 @@ use Rattle.rv_sources_link_laws.proofs.statements.FieldedLemmas.{IsPlain, sized_
 use Rattle.rv_sources_link_laws.proofs.calls.LongCallsLemmas as long
 use Rattle.rv_sources_link_laws.proofs.calls.LongCallsLemmas.{IsLongCall, long_call}
 use Rattle.rv_sources_link_laws.proofs.statements.MarkedLemmas.{part_fields}
-use Rattle.rv_sources_link_laws.proofs.statements.PadsLemmas.{power_valid, byte_valid, bare_before}
+use Rattle.rv_sources_link_laws.proofs.statements.PadsLemmas.{form_valid, bare_before}
 use Rattle.rv_sources_link_laws.proofs.fields.TextPlacesLemmas.{stands_in, aim_at}
 use Rattle.rv_sources_link_laws.proofs.fields.RangesLemmas.{InRange, even_bytes, in_range}
 use Rattle.rv_sources_link_laws.proofs.statements.SettledLemmas.{IsLaidIn}
@@ -127,15 +127,10 @@ module _ (p : Program) (starts : Starts) (os : List Object) (text : List Placed)
             where
               quiet_call : (y : Placed) (m : Mnemonic) (ops : List Operand) → is_call_mnemonic m ≡ false → [] ≡ sites_by p text y (Instruction m ops)
               quiet_call y m ops g = ap (λ b. if b && y.site.located.options.relax then call_sites p text y (is_compressible p y.site.located m ops) (option_map (program_form p y.site.located) (target_in ops)) else []) (sym g)
-      one_placed (Directs (Values width es)) e held size' = no_data held.0
-      one_placed (Directs (Strings ended strings)) e held size' = no_data held.0
-      one_placed (Directs (Zeros count)) e held size' = no_data held
-      one_placed (Directs (Aligns_to_power w)) e held (constant, divides, size') =
-          change.aligns p starts os text f t same_tables o j x s code number all multiple flag meant final stays z (Aligns_to_power w) e inside.home refl
-          (source_alignment (expression_value t z.located) (Aligns_to_power w)) refl (power_valid (expression_value t z.located w)) size'
-      one_placed (Directs (Aligns_to_bytes w)) e held (constant, divides, size') =
-          change.aligns p starts os text f t same_tables o j x s code number all multiple flag meant final stays z (Aligns_to_bytes w) e inside.home refl
-          (source_alignment (expression_value t z.located) (Aligns_to_bytes w)) refl (byte_valid (expression_value t z.located w)) size'
+      one_placed (Directs (Emits contents)) e held size' = no_data held.0
+      one_placed (Directs (Aligns form w)) e held (constant, divides, size') =
+          change.aligns p starts os text f t same_tables o j x s code number all multiple flag meant final stays z (Aligns form w) e inside.home refl
+          (source_alignment (expression_value t z.located) (Aligns form w)) refl (form_valid form (expression_value t z.located w)) size'
       one_placed (Directs (Enters opened)) e held size' = bare (Directs (Enters opened)) e refl (λ first. refl)
       one_placed (Directs (Opens name flags k)) e held size' = bare (Directs (Opens name flags k)) e refl (λ first. refl)
       one_placed (Directs (Binds binding names)) e held size' = bare (Directs (Binds binding names)) e refl (λ first. refl)

@@ -9,7 +9,7 @@ use Rattle.rv_isa.specs.declared.kind.Kind.TheVariants as kinds
 use Rattle.rv_isa.specs.declared.kind.Kind.TheVariants.{Abs32, Abs64, Add8, Add16, Add32, Add64, Sub8, Sub16, Sub32, Sub64}
 use Rattle.rv_text_laws.specs.Values.{Value, Constant, Symbolic, Difference, Faulty}
 use Rattle.rv_statement_laws.specs.declared.mnemonic.Mnemonic.{Mnemonic}
-use Rattle.rv_statement_laws.specs.Statement.{StatementKind, Label, Numbered, Instruction, Directs, Operand, Expression, Enters, Opens, Binds, Sets, Aligns_to_power, Aligns_to_bytes, Values, Strings, Zeros, Chooses, Ignored}
+use Rattle.rv_statement_laws.specs.Statement.{StatementKind, Label, Numbered, Instruction, Directs, Operand, Expression, Enters, Opens, Binds, Sets, Chooses, Ignored, Aligns, Emits}
 use Rattle.rv_pseudo_laws.specs.Code.{Part as CodePart, Closed, Open as Open_part, Joined, code}
 use Rattle.rv_unit_laws.specs.Sections.{Section as SourceSection}
 use Rattle.rv_unit_laws.specs.Tables.{Tables, alignment_of}
@@ -20,9 +20,10 @@ use Rattle.rv_link_laws.specs.CallSites as objects
 use Rattle.rv_link_laws.specs.Shortened.{Sizes, is_shortened}
 use Rattle.rv_assemble_laws.specs.CodeFields.{relax_fields}
 use Rattle.rv_assemble_laws.specs.Coded.{constants}
-use Rattle.rv_assemble_laws.specs.Templates.{Template, Fixed, Datum, Coded, Open, value_fields, template_fields, absolute_kind, add_kind, subtract_kind, padding_templates}
+use Rattle.rv_assemble_laws.specs.Templates.{Template, Fixed, Datum, Coded, Open, value_fields, template_fields, absolute_kind, add_kind, subtract_kind, data_templates, padding_templates}
 use Rattle.rv_assemble_laws.specs.LaidStatements.{LaidStatement, expression_value, laid_part, part_bytes, coded_templates, HasSize, IsPadded, IsPaddedIn}
 use Rattle.rv_assemble_laws.specs.IsObjectOf.{Numbering, relocation_at, relocations_from}
+use Rattle.rv_assemble_laws.proofs.DataTemplatesLemmas.{each_datum}
 use Rattle.rv_sources_link_laws.proofs.sections.AssembledLemmas.{assembled_templates}
 use Rattle.rv_sources_link_laws.proofs.calls.CalledLemmas.{IsForm, IsUncalled, uncalled}
 use Rattle.rv_sources_link_laws.proofs.statements.FieldedLemmas.{part_kinds}
@@ -108,10 +109,6 @@ pub padding_calm : (b : Bool) (ordinal bytes : ℕ) → AllByRecursion IsCalm (p
 padding_calm true ordinal zero = tt
 padding_calm true ordinal (suc n) = ((refl, tt), tt)
 padding_calm false ordinal bytes = (tt, tt)
-
-pub data_calm : (width : ℕ) (v : Expression → Value) (es : List Expression) → AllByRecursion IsCalm (map (λ e. Datum width (v e)) es)
-data_calm width v [] = tt
-data_calm width v (e ∷ es) = (tt, data_calm width v es)
 
 -- of a statement without calls
 pub code_calm : (t : Tables) (v : Expression → Value) (z : LaidStatement) (ps : List CodePart) (coded : List (List ℕ)) → AllByRecursion IsUncalled ps
@@ -214,22 +211,19 @@ module _ (t : Tables) (number : Numbering) (sizes : Sizes) (multiple : ℕ) (sec
             (code_calm t v z size.ps z.coded (uncalled (constants v) z.located.options.rvc z.bytes m os size.ps call size.parts)));
         sized = λ n placed. size;
       })
-  sort_placed (Directs (Values width es)) e size = inl (record { calm = refl; whole = λ c. absurd (cc); same = λ n. refl; none = none_of (map (λ e. Datum width (v e)) es) (data_calm width v es); sized = λ n placed. size })
-  sort_placed (Directs (Strings ended strings)) e size = inl (record { calm = refl; whole = λ c. absurd (cc); same = λ n. refl; none = tt; sized = λ n placed. size })
-  sort_placed (Directs (Zeros count)) e size = inl (record { calm = refl; whole = λ c. absurd (cc); same = λ n. refl; none = tt; sized = λ n placed. size })
-  sort_placed (Directs (Aligns_to_power x)) e size = inl (record {
+  sort_placed (Directs (Emits contents)) e size = inl (record {
     calm = refl;
     whole = λ c. absurd (cc);
     same = λ n. refl;
-    none = none_of (padding_templates z.located.home.executable z.located.ordinal z.bytes) (padding_calm z.located.home.executable z.located.ordinal z.bytes);
-    sized = λ n placed. padded_still (alignment_of v (Aligns_to_power x)) (v x) n size;
+    none = none_of (data_templates v contents z.bytes) (each_datum IsCalm (λ bytes. tt) (λ width value. tt) v contents z.bytes);
+    sized = λ n placed. size;
   })
-  sort_placed (Directs (Aligns_to_bytes x)) e size = inl (record {
+  sort_placed (Directs (Aligns form x)) e size = inl (record {
     calm = refl;
     whole = λ c. absurd (cc);
     same = λ n. refl;
     none = none_of (padding_templates z.located.home.executable z.located.ordinal z.bytes) (padding_calm z.located.home.executable z.located.ordinal z.bytes);
-    sized = λ n placed. padded_still (alignment_of v (Aligns_to_bytes x)) (v x) n size;
+    sized = λ n placed. padded_still (alignment_of v (Aligns form x)) (v x) n size;
   })
   sort_placed (Directs (Enters opened)) e size = inl (record { calm = refl; whole = λ c. absurd (cc); same = λ n. refl; none = tt; sized = λ n placed. size })
   sort_placed (Directs (Opens name flags k)) e size = inl (record { calm = refl; whole = λ c. absurd (cc); same = λ n. refl; none = tt; sized = λ n placed. size })

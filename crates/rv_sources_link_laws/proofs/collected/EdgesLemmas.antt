@@ -9,10 +9,10 @@ use Rattle.rv_map_laws.specs.declared.map.SectionId.{SectionId}
 use Rattle.rv_text_laws.specs.Expression.{Here}
 use Rattle.rv_text_laws.specs.Values.{Value, Constant, Symbolic, Difference, Faulty}
 use Rattle.rv_statement_laws.specs.declared.mnemonic.Mnemonic.{Mnemonic}
-use Rattle.rv_statement_laws.specs.Statement.{StatementKind, Label, Numbered, Instruction, Directs, Expression, Operand}
+use Rattle.rv_statement_laws.specs.Statement.{StatementKind, Label, Numbered, Instruction, Directs, Expression, Operand, Values, Strings, Zeros}
 use Rattle.rv_parcel.specs.declared.form.Compressed.{Compressed}
 use Rattle.rv_pseudo_laws.specs.Code.{Part as CodePart, Closed, Open as OpenPart, Joined, named_form}
-use Rattle.rv_unit_laws.specs.Contributions.{Numbers, Texts, Contribution, Nothing, Bytes, Zero_bytes, Alignment, contribution}
+use Rattle.rv_unit_laws.specs.Contributions.{Contribution, Nothing, Bytes, Alignment, contribution}
 use Rattle.rv_unit_laws.specs.Tables.{Tables}
 use Rattle.rv_source_laws.specs.Lines.{operand_of, other_operand}
 use Rattle.rv_source_laws.specs.Located.{Located}
@@ -74,9 +74,9 @@ module _ (p : Program) (T : SectionId) (f : ℕ) where
 
     contribution_is : (x : Bool) (c : Contribution) (bytes : ℕ) → in_templates n (contribution_templates x n (expression_value (tables_in p f) l) c bytes) ≡ contribution_refers p T s c
     contribution_is x Nothing bytes = refl
-    contribution_is x (Bytes (Numbers width values)) bytes = data_are width (expression_value (tables_in p f) l) values
-    contribution_is x (Bytes (Texts ended strings)) bytes = refl
-    contribution_is x (Zero_bytes count) bytes = refl
+    contribution_is x (Bytes (Values width values)) bytes = data_are width (expression_value (tables_in p f) l) values
+    contribution_is x (Bytes (Strings ended strings)) bytes = refl
+    contribution_is x (Bytes (Zeros count)) bytes = refl
     contribution_is x (Alignment form number) bytes = padding_none x bytes
 
   module _ (z : LaidStatement) (multiple : ℕ) (no_self : names p T f z.located.ordinal (Some Here) ≡ false) where

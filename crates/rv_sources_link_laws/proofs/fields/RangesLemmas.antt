@@ -8,7 +8,7 @@ use Rattle.rv_isa.specs.declared.kind.Kind.{Kind}
 use Rattle.rv_isa.specs.declared.kind.Kind.TheVariants as kinds
 use Rattle.rv_isa.specs.Kinds.{width_of}
 use Rattle.rv_text_laws.specs.Values.{Value}
-use Rattle.rv_statement_laws.specs.Statement.{StatementKind, Label, Numbered, Instruction, Directs, Expression, Enters, Opens, Binds, Sets, Aligns_to_power, Aligns_to_bytes, Values, Strings, Zeros, Chooses, Ignored}
+use Rattle.rv_statement_laws.specs.Statement.{StatementKind, Label, Numbered, Instruction, Directs, Expression, Enters, Opens, Binds, Sets, Chooses, Ignored, Aligns, Emits}
 use Rattle.rv_pseudo_laws.specs.Code.{Part as CodePart, Closed, Open as Open_part, Joined}
 use Rattle.rv_pseudo_laws.specs.Filled.{are_closed}
 use Rattle.rv_unit_laws.specs.Sections.{Section as SourceSection}
@@ -129,11 +129,8 @@ module _ (t : Tables) (section : SourceSection) (multiple : ℕ) (z : LaidStatem
   solid (Instruction m os) held size even =
       subst (λ o. AllByRecursion IsSolid (coded_templates (part_fields t (expression_value t z.located) z.located) (unwrap_or o []) z.coded)) (sym size.parts)
       (coded_solid t (expression_value t z.located) z _ (z.located.options.rvc && are_closed size.ps) size.ps z.coded size.coded_as)
-  solid (Directs (Values width es)) held size even = no_data held.0
-  solid (Directs (Strings ended strings)) held size even = no_data held.0
-  solid (Directs (Zeros count)) held size even = no_data held
-  solid (Directs (Aligns_to_power e)) held size even = padding_solid z.located.home.executable z.located.ordinal z.bytes even
-  solid (Directs (Aligns_to_bytes e)) held size even = padding_solid z.located.home.executable z.located.ordinal z.bytes even
+  solid (Directs (Emits contents)) held size even = no_data held.0
+  solid (Directs (Aligns form e)) held size even = padding_solid z.located.home.executable z.located.ordinal z.bytes even
   solid (Directs (Enters opened)) held size even = tt
   solid (Directs (Opens name flags k)) held size even = tt
   solid (Directs (Binds binding names)) held size even = tt

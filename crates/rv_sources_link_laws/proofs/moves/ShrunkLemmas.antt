@@ -4,11 +4,11 @@
 use Rattle.std.specs.Prelude.{◌≡◌, ℕ, zero, suc, ◌*◌, ◌%◌, ◌≤◌, true, Bool, false, ⊤, List, [], ◌∷◌, flat_map, map, length, Option, None, unwrap_or, if◌then◌else◌}
 use Rattle.std.specs.List.{AllByRecursion}
 use Rattle.rv_isa_laws.specs.Bytes.{zeros}
-use Rattle.rv_text_laws.specs.Values.{Value, Constant}
-use Rattle.rv_statement_laws.specs.Statement.{StatementKind, Label, Numbered, Instruction, Directs, Statement, Expression, Directive, Aligns_to_power, Aligns_to_bytes, Values, Strings, Zeros}
-use Rattle.rv_unit_laws.specs.Contributions.{Contribution, Nothing, Bytes, Zero_bytes, Alignment, contribution}
+use Rattle.rv_text_laws.specs.Values.{Value}
+use Rattle.rv_statement_laws.specs.Statement.{StatementKind, Label, Numbered, Instruction, Directs, Statement, Expression, Directive, Aligns, Emits}
+use Rattle.rv_unit_laws.specs.Contributions.{Contribution, Nothing, Bytes, Alignment, contribution}
 use Rattle.rv_unit_laws.specs.Sections.{Section as SourceSection, is_nobits, goes_to_text}
-use Rattle.rv_unit_laws.specs.Tables.{Tables, at_start, tables, alignment_of, alignment_at, padding, string_bytes}
+use Rattle.rv_unit_laws.specs.Tables.{Tables, at_start, tables, alignment_of, alignment_at, padding, HasDataSize}
 use Rattle.rv_pseudo_laws.specs.Code.{code}
 use Rattle.rv_source_laws.specs.Located.{located_from, masked}
 use Rattle.rv_source_laws.specs.Fits.{needs_no_padding}
@@ -19,7 +19,7 @@ use Rattle.rv_sources_link_laws.proofs.names.ExportedLemmas.{exported}
 use Rattle.rv_assemble_laws.specs.Coded.{is_constant, constants, IsCode}
 use Rattle.rv_assemble_laws.specs.Refusals.{statements_fault}
 use Rattle.rv_assemble_laws.specs.Symbols.{exports}
-use Rattle.rv_assemble_laws.specs.Templates.{Template, Fixed, IsTemplate, contents_templates}
+use Rattle.rv_assemble_laws.specs.Templates.{Template, Fixed, IsTemplate, data_templates}
 use Rattle.rv_map_laws.specs.declared.map.SectionId.{SectionId}
 use Rattle.rv_collect_laws.specs.Graph.{is_dropped}
 use Rattle.rv_sources_link_laws.proofs.sections.MaskedLemmas.{source_sections}
@@ -37,8 +37,7 @@ padding_templates false bytes = Fixed (zeros bytes) ∷ []
 
 abbrev pub contribution_templates : Bool → (Expression → Value) → Contribution → ℕ → List Template
 contribution_templates executable v Nothing bytes = []
-contribution_templates executable v (Bytes contents) bytes = contents_templates v contents
-contribution_templates executable v (Zero_bytes count) bytes = Fixed (zeros bytes) ∷ []
+contribution_templates executable v (Bytes contents) bytes = data_templates v contents bytes
 contribution_templates executable v (Alignment form number) bytes = padding_templates executable bytes
 
 abbrev pub shrunk_templates : Tables → LaidStatement → StatementKind → List Template
@@ -70,11 +69,8 @@ abbrev pub IsShrunkPadded : LaidStatement → ℕ → Value → Option ℕ → T
 IsShrunkPadded s multiple v alignment = (is_constant v ≡ true) × IsMultiple alignment multiple × IsPaddedIn s.located.home.executable s alignment
 
 abbrev pub DirectiveSize : (Expression → Value) → LaidStatement → ℕ → Directive → Type 0
-DirectiveSize v s multiple (Values width values) = (s.instructions ≡ 0) × (s.bytes ≡ width * length values)
-DirectiveSize v s multiple (Strings ended strings) = (s.instructions ≡ 0) × (s.bytes ≡ length (string_bytes ended strings))
-DirectiveSize v s multiple (Zeros count) = (s.instructions ≡ 0) × (v count ≡ Constant s.bytes)
-DirectiveSize v s multiple (Aligns_to_power e) = IsShrunkPadded s multiple (v e) (alignment_of v (Aligns_to_power e))
-DirectiveSize v s multiple (Aligns_to_bytes e) = IsShrunkPadded s multiple (v e) (alignment_of v (Aligns_to_bytes e))
+DirectiveSize v s multiple (Emits contents) = (s.instructions ≡ 0) × HasDataSize v contents s.bytes
+DirectiveSize v s multiple (Aligns form e) = IsShrunkPadded s multiple (v e) (alignment_of v (Aligns form e))
 DirectiveSize v s multiple _ = (s.bytes ≡ 0) × (s.instructions ≡ 0)
 
 abbrev pub HasShrunkSize : (Expression → Value) → LaidStatement → ℕ → StatementKind → Type 0

@@ -7,7 +7,7 @@ use Rattle.std.specs.List.{AllByRecursion}
 use Rattle.rv_list_laws.proofs.EachLemmas.{each_split, each_append}
 use Rattle.rv_layout_laws.specs.Alignment.{aligned}
 use Rattle.rv_isa_laws.specs.Bytes.{zeros}
-use Rattle.rv_statement_laws.specs.Statement.{StatementKind, Label, Numbered, Instruction, Directs, Enters, Opens, Binds, Sets, Aligns_to_power, Aligns_to_bytes, Values, Strings, Zeros, Chooses, Ignored}
+use Rattle.rv_statement_laws.specs.Statement.{StatementKind, Label, Numbered, Instruction, Directs, Enters, Opens, Binds, Sets, Chooses, Ignored, Aligns, Emits}
 use Rattle.rv_unit_laws.specs.declared.section_type.SectionType.{SectionType}
 use Rattle.rv_unit_laws.specs.declared.section_type.SectionType.TheVariants as types
 use Rattle.rv_unit_laws.specs.Sections.{Section as SourceSection, is_nobits_type, goes_to_text as source_text}
@@ -72,11 +72,8 @@ alike : (t : Tables) (z : LaidStatement) (kind : StatementKind) → Alike (shrun
 alike t z (Label name) = inl refl
 alike t z (Numbered number) = inl refl
 alike t z (Instruction m os) = inl refl
-alike t z (Directs (Aligns_to_power e)) = padding_alike z.located.home.executable z.located.ordinal z.bytes
-alike t z (Directs (Aligns_to_bytes e)) = padding_alike z.located.home.executable z.located.ordinal z.bytes
-alike t z (Directs (Values width es)) = inl refl
-alike t z (Directs (Strings ended strings)) = inl refl
-alike t z (Directs (Zeros count)) = inl refl
+alike t z (Directs (Aligns form e)) = padding_alike z.located.home.executable z.located.ordinal z.bytes
+alike t z (Directs (Emits contents)) = inl refl
 alike t z (Directs (Enters opened)) = inl refl
 alike t z (Directs (Opens name flags k)) = inl refl
 alike t z (Directs (Binds binding names)) = inl refl

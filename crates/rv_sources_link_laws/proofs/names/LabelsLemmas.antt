@@ -7,7 +7,7 @@ use Rattle.std.proofs.lemmas.Bool.{not-true}
 use Rattle.rv_text_laws.specs.Bytes.{digits_value}
 use Rattle.rv_text_laws.specs.Expression.{Primary, Literal, Symbol, Here, Reference}
 use Rattle.rv_text_laws.specs.Values.{Known, InSection, Open, Refused, Value, Constant, Symbolic, Difference, Faulty, add}
-use Rattle.rv_statement_laws.specs.Statement.{StatementKind, Label, Numbered, Instruction, Directs, Statement, Directive, Enters, Opens, Binds, Sets, Aligns_to_power, Aligns_to_bytes, Values, Strings, Zeros, Chooses, Ignored}
+use Rattle.rv_statement_laws.specs.Statement.{StatementKind, Label, Numbered, Instruction, Directs, Statement, Directive, Enters, Opens, Binds, Sets, Chooses, Ignored, Aligns, Emits}
 use Rattle.rv_unit_laws.specs.Sections.{entered_by}
 use Rattle.rv_unit_laws.specs.Tables.{Tables, Labelled, NumericLabel, Assignment, Definition, here, value_by_tables, label_of, assigned_before, assigned_ever, is_defined, has_location, may_set, assigned, assigned_by, with_assignment, with_label, with_section, after_directive, after, after_all, at_start, tables, definition, assigned_definition, first_definition, labelled_definition, numeric_definition, numeric_label_after, numeric_label_before}
 use Rattle.rv_unit_laws.proofs.AloneLemmas.{Same, section_same, directive_same, other_label, undefined, unplaced}
@@ -121,11 +121,8 @@ module _ (name : List ℕ) where
       go (Enters section) = opened (Enters section)
       go (Opens section flags kind) = opened (Opens section flags kind)
       go (Binds binding names) = h
-      go (Aligns_to_power x) = h
-      go (Aligns_to_bytes x) = h
-      go (Values width xs) = h
-      go (Strings ended strings) = h
-      go (Zeros count) = h
+      go (Aligns form x) = h
+      go (Emits contents) = h
       go (Chooses choice) = h
       go Ignored = h
 

@@ -7,7 +7,7 @@ use Rattle.rv_map_laws.specs.declared.map.SectionId.{SectionId}
 use Rattle.rv_collect_laws.specs.Graph.{is_dropped}
 use Rattle.rv_text_laws.specs.Expression.{Primary}
 use Rattle.rv_text_laws.specs.Values.{Value, Meaning, Known, InSection as InData, Open as OpenAddress, Refused}
-use Rattle.rv_statement_laws.specs.Statement.{StatementKind, Label, Numbered, Instruction, Directs, Statement, Expression, Enters, Sets, Aligns_to_power, Aligns_to_bytes, Values, Strings, Zeros}
+use Rattle.rv_statement_laws.specs.Statement.{StatementKind, Label, Numbered, Instruction, Directs, Statement, Expression, Enters, Sets, Aligns, Emits}
 use Rattle.rv_unit_laws.specs.Bindings.{is_shared}
 use Rattle.rv_unit_laws.specs.Contributions.{contribution}
 use Rattle.rv_unit_laws.specs.Sections.{Section as SourceSection}
@@ -199,11 +199,8 @@ module _ (dropped : ℕ → Bool) where
     size_same v z multiple (Label name) h = h
     size_same v z multiple (Numbered number) h = h
     size_same v z multiple (Instruction m os) h = h
-    size_same v z multiple (Directs (Values width es)) h = h
-    size_same v z multiple (Directs (Strings ended strings)) h = h
-    size_same v z multiple (Directs (Zeros count)) h = h
-    size_same v z multiple (Directs (Aligns_to_power e)) (x, y, h) = (x, y, padded z (alignment_of v (Aligns_to_power e)) h)
-    size_same v z multiple (Directs (Aligns_to_bytes e)) (x, y, h) = (x, y, padded z (alignment_of v (Aligns_to_bytes e)) h)
+    size_same v z multiple (Directs (Emits contents)) h = h
+    size_same v z multiple (Directs (Aligns form e)) (x, y, h) = (x, y, padded z (alignment_of v (Aligns form e)) h)
     size_same v z multiple (Directs (Enters section)) h = h
     size_same v z multiple (Directs _) h = h
 

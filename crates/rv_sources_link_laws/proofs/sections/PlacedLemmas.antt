@@ -7,7 +7,7 @@ use Rattle.std.specs.List.{AllByRecursion, slice_get}
 use Rattle.rv_list_laws.proofs.FilterLemmas.{each_filter}
 use Rattle.rv_list_laws.proofs.EachLemmas.{each_append, each_flat_map}
 use Rattle.rv_text_laws.specs.Expression.{Primary}
-use Rattle.rv_statement_laws.specs.Statement.{StatementKind, Label, Numbered, Instruction, Directs, Expression, Values}
+use Rattle.rv_statement_laws.specs.Statement.{StatementKind, Label, Numbered, Instruction, Directs, Expression, Values, Emits}
 use Rattle.rv_unit_laws.specs.Sections.{Section as SourceSection}
 use Rattle.rv_unit_laws.specs.Tables.{Tables}
 use Rattle.rv_map_laws.specs.Limits.{IsGlobal}
@@ -172,14 +172,14 @@ module _ (p : Program) (os : List Object) (starts : Starts) (file : ℕ) (laid :
         multiple None divides = tt
         multiple (Some n) (some, divides) = (some, ap (λ j. starts file j % n) h.inside.stands ∙ begins n some divides)
 
-        values : (width : ℕ) (es : List Expression) → z.located.kind ≡ Directs (Values width es) → has_values p (mapped_at starts file z) ≡ true
+        values : (width : ℕ) (es : List Expression) → z.located.kind ≡ Directs (Emits (Values width es)) → has_values p (mapped_at starts file z) ≡ true
         values width es k =
             let v = expression_value t z.located in
             let ordinal = z.located.ordinal in
             ap (has_values_by p (mapped_at starts file z)) k
             ∙ all_valued (meant_in p file) ordinal width v es
             (subst (λ kind. AllByRecursion (λ q. IsTemplate q.template) (map (laid_part ordinal) (shrunk_templates t z kind))) k template)
-            (has_parts (map (laid_part ordinal) (shrunk_templates t z (Directs (Values width es))))
+            (has_parts (map (laid_part ordinal) (shrunk_templates t z (Directs (Emits (Values width es)))))
             (subst (λ kind. AllByRecursion KnownPart (map (laid_part ordinal) (shrunk_templates t z kind))) k h.knows))
 
     all_fit : ((m : ℕ) → 0 < m → x.alignment % m ≡ 0 → starts file index % m ≡ 0) → (zs : List LaidStatement)

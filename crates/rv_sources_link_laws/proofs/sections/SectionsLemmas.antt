@@ -11,7 +11,7 @@ use Rattle.rv_layout_laws.specs.Alignment.{aligned}
 use Rattle.rv_isa_laws.specs.Bytes.{little_endian, zeros}
 use Rattle.rv_text_laws.specs.Expression.{Primary}
 use Rattle.rv_text_laws.specs.Values.{Value, Constant, Symbolic, Difference, Faulty, add, subtract}
-use Rattle.rv_statement_laws.specs.Statement.{StatementKind, Label, Numbered, Instruction, Directs, Expression, Enters, Opens, Binds, Sets, Aligns_to_power, Aligns_to_bytes, Values, Strings, Zeros, Chooses, Ignored}
+use Rattle.rv_statement_laws.specs.Statement.{StatementKind, Label, Numbered, Instruction, Directs, Expression, Enters, Opens, Binds, Sets, Chooses, Ignored, Values, Strings, Zeros, Aligns, Emits}
 use Rattle.rv_pseudo_laws.specs.Code.{Part as CodePart, code as code_parts}
 use Rattle.rv_unit_laws.specs.Tables.{Tables, alignment_of, sure_definition, string_bytes}
 use Rattle.rv_map_laws.specs.declared.map.Row.{Row as MapRow}
@@ -144,7 +144,7 @@ suits_padding s row a b i false (x, y) = (b ∙ x, i ∙ y)
 pub suits_by : (s : LaidStatement) (file multiple start : ℕ) (row : MapRow) (v : Expression → Value) (valued : Bool) (kind : StatementKind)
     → row.bytes ≡ s.bytes → row.instructions ≡ s.instructions → row.address ≡ start + s.offset
     → ((a : Option ℕ) → IsMultiple a multiple → suits.IsMultiple a start)
-    → ((width : ℕ) (values : List Expression) → kind ≡ Directs (Values width values) → valued ≡ true)
+    → ((width : ℕ) (values : List Expression) → kind ≡ Directs (Emits (Values width values)) → valued ≡ true)
     → IsPlacedKind kind → HasShrunkSize v s multiple kind → suits.Suits v valued s.located.home s.located.options.rvc s.coded row s.offset start kind
 suits_by s file multiple start row v valued (Label name) b i at m values placed (x, y) = (b ∙ x, i ∙ y)
 suits_by s file multiple start row v valued (Numbered number) b i at m values placed (x, y) = (b ∙ x, i ∙ y)
@@ -155,13 +155,11 @@ suits_by s file multiple start row v valued (Instruction mnemonic operands) b i 
   size = b ∙ h.size;
   count = i ∙ h.count;
 }
-suits_by s file multiple start row v valued (Directs (Values width es)) b i at m values placed (x, y) = (i ∙ x, values width es refl, b ∙ y)
-suits_by s file multiple start row v valued (Directs (Strings ended strings)) b i at m values placed (x, y) = (i ∙ x, b ∙ y)
-suits_by s file multiple start row v valued (Directs (Zeros count)) b i at m values placed (x, y) = (i ∙ x, y ∙ ap Constant (sym b))
-suits_by s file multiple start row v valued (Directs (Aligns_to_power e)) b i at m values placed (x, y, z) =
-    (x, at, m (alignment_of v (Aligns_to_power e)) y, suits_padding s row (alignment_of v (Aligns_to_power e)) b i s.located.home.executable z)
-suits_by s file multiple start row v valued (Directs (Aligns_to_bytes e)) b i at m values placed (x, y, z) =
-    (x, at, m (alignment_of v (Aligns_to_bytes e)) y, suits_padding s row (alignment_of v (Aligns_to_bytes e)) b i s.located.home.executable z)
+suits_by s file multiple start row v valued (Directs (Emits (Values width es))) b i at m values placed (x, y) = (i ∙ x, values width es refl, b ∙ y)
+suits_by s file multiple start row v valued (Directs (Emits (Strings ended strings))) b i at m values placed (x, y) = (i ∙ x, tt, b ∙ y)
+suits_by s file multiple start row v valued (Directs (Emits (Zeros count))) b i at m values placed (x, y) = (i ∙ x, tt, y ∙ ap Constant (sym b))
+suits_by s file multiple start row v valued (Directs (Aligns form e)) b i at m values placed (x, y, z) =
+    (x, at, m (alignment_of v (Aligns form e)) y, suits_padding s row (alignment_of v (Aligns form e)) b i s.located.home.executable z)
 suits_by s file multiple start row v valued (Directs (Sets name e)) b i at m values placed (x, y) = (b ∙ x, i ∙ y)
 suits_by s file multiple start row v valued (Directs (Enters section)) b i at m values placed h = absurd placed
 suits_by s file multiple start row v valued (Directs (Opens name flags kind)) b i at m values placed h = absurd placed
@@ -197,13 +195,11 @@ module _ (p : Program) (file : ℕ) where
     spelled_by starts s multiple (Label name) held aside size = refl
     spelled_by starts s multiple (Numbered number) held aside size = refl
     spelled_by starts s multiple (Instruction mnemonic operands) held aside size = let e : true ≡ false = sym held.0 ∙ aside in absurd (cc)
-    spelled_by starts s multiple (Directs (Values width es)) held aside size = values_spelled (worth s.located.section) s.offset s.located.ordinal width (expression_value (tables_in p file) s.located) es
-    spelled_by starts s multiple (Directs (Strings ended strings)) held aside size = sym (append-nil (string_bytes ended strings))
-    spelled_by starts s multiple (Directs (Zeros count)) held aside (x, y) =
+    spelled_by starts s multiple (Directs (Emits (Values width es))) held aside size = values_spelled (worth s.located.section) s.offset s.located.ordinal width (expression_value (tables_in p file) s.located) es
+    spelled_by starts s multiple (Directs (Emits (Strings ended strings))) held aside size = sym (append-nil (string_bytes ended strings))
+    spelled_by starts s multiple (Directs (Emits (Zeros count))) held aside (x, y) =
         ap (λ v. zeros (unwrap_or (resolved (meant_in s.located.ordinal) v) 0)) y ∙ sym (append-nil (zeros s.bytes))
-    spelled_by starts s multiple (Directs (Aligns_to_power e)) held aside size =
-        sym (append-nil (zeros s.bytes)) ∙ ap (λ b. written_from (written meant_in (worth s.located.section)) s.offset (map (laid_part s.located.ordinal) (padding_templates b s.bytes))) (sym aside)
-    spelled_by starts s multiple (Directs (Aligns_to_bytes e)) held aside size =
+    spelled_by starts s multiple (Directs (Aligns form e)) held aside size =
         sym (append-nil (zeros s.bytes)) ∙ ap (λ b. written_from (written meant_in (worth s.located.section)) s.offset (map (laid_part s.located.ordinal) (padding_templates b s.bytes))) (sym aside)
     spelled_by starts s multiple (Directs (Enters section)) held aside size = refl
     spelled_by starts s multiple (Directs (Opens name flags kind)) held aside size = refl
@@ -234,12 +230,8 @@ module _ (p : Program) (file : ℕ) where
     coded_by s multiple (Instruction mnemonic operands) held code size =
         coded_parts (worth s.located.section) (part_fields (tables_in p file) (expression_value (tables_in p file) s.located) s.located) s.offset s.located.ordinal
         (unwrap_or (code_parts (constants (expression_value (tables_in p file) s.located)) s.located.options.rvc s.bytes mnemonic operands) []) s.coded
-    coded_by s multiple (Directs (Values width es)) held code size = let e : true ≡ false = sym code ∙ held.0 in absurd (cc)
-    coded_by s multiple (Directs (Strings ended strings)) held code size = let e : true ≡ false = sym code ∙ held.0 in absurd (cc)
-    coded_by s multiple (Directs (Zeros count)) held code size = let e : true ≡ false = sym code ∙ held in absurd (cc)
-    coded_by s multiple (Directs (Aligns_to_power e)) held code size =
-        padding_coded (worth s.located.section) s.offset s.located.ordinal s.bytes ∙ ap (λ b. written_from (written meant_in (worth s.located.section)) s.offset (map (laid_part s.located.ordinal) (padding_templates b s.bytes))) (sym code)
-    coded_by s multiple (Directs (Aligns_to_bytes e)) held code size =
+    coded_by s multiple (Directs (Emits contents)) held code size = let e : true ≡ false = sym code ∙ held.0 in absurd (cc)
+    coded_by s multiple (Directs (Aligns form e)) held code size =
         padding_coded (worth s.located.section) s.offset s.located.ordinal s.bytes ∙ ap (λ b. written_from (written meant_in (worth s.located.section)) s.offset (map (laid_part s.located.ordinal) (padding_templates b s.bytes))) (sym code)
     coded_by s multiple (Directs (Enters section)) held code size = refl
     coded_by s multiple (Directs (Opens name flags kind)) held code size = refl

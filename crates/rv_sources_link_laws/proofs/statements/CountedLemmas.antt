@@ -4,7 +4,7 @@
 use Rattle.std.proofs.Common.{◌≡◌, ℕ, ◌+◌, ◌-◌, ◌%◌, ◌<◌, Bool, true, false, List, [], ◌∷◌, length, refl, sym, ap, ◌∙◌, subst, Option, inl, inr}
 use Rattle.std.specs.Prelude.{if◌then◌else◌, flat_map, map}
 use Rattle.std.specs.List.{AllByRecursion}
-use Rattle.rv_statement_laws.specs.Statement.{StatementKind, Expression, Label, Numbered, Instruction, Directs, Aligns_to_power, Aligns_to_bytes, Values, Strings, Zeros, Enters, Opens, Binds, Sets, Chooses, Ignored}
+use Rattle.rv_statement_laws.specs.Statement.{StatementKind, Expression, Label, Numbered, Instruction, Directs, Enters, Opens, Binds, Sets, Chooses, Ignored, Aligns, Emits}
 use Rattle.rv_text_laws.specs.Values.{Value}
 use Rattle.rv_unit_laws.specs.Contributions.{contribution}
 use Rattle.rv_unit_laws.specs.Sections.{Section as SourceSection}
@@ -17,8 +17,9 @@ use Rattle.rv_object_laws.specs.Padding.{no_operations}
 use Rattle.rv_assemble_laws.specs.LaidStatements.{LaidStatement, expression_value, laid_part, part_bytes, HasSize, IsPaddedIn}
 use Rattle.rv_sources_link_laws.proofs.sections.AssembledLemmas.{parts_of, assembled_templates, Tile}
 use Rattle.rv_assemble_laws.specs.IsObjectOf.{Numbering}
+use Rattle.rv_assemble_laws.proofs.DataTemplatesLemmas.{each_datum}
 use Rattle.rv_sources_link_laws.proofs.statements.SettledLemmas.{IsBare, IsLaidIn}
-use Rattle.rv_sources_link_laws.proofs.statements.FieldedLemmas.{IsPlain, data_each, sized_each, plain_part}
+use Rattle.rv_sources_link_laws.proofs.statements.FieldedLemmas.{IsPlain, sized_each, plain_part}
 use Rattle.rv_sources_link_laws.proofs.moves.ShrunkLemmas as shrunk
 use Rattle.rv_sources_link_laws.proofs.moves.SteppedLemmas.{Steps}
 
@@ -59,11 +60,8 @@ module _ (t : Tables) (ms : List Move) (z : LaidStatement) (multiple : ℕ) wher
   counts (Numbered number) size stays = sym (stays tt)
   counts (Instruction m os) size stays =
       sym (stays (sized_each IsPlain (λ bytes. tt) (λ width value. tt) t z multiple (plain_part t (expression_value t z.located) z.located) (Instruction m os) size))
-  counts (Directs (Aligns_to_power e)) size stays = align_by z.located.home.executable (alignment_of (expression_value t z.located) (Aligns_to_power e)) size.2 stays
-  counts (Directs (Aligns_to_bytes e)) size stays = align_by z.located.home.executable (alignment_of (expression_value t z.located) (Aligns_to_bytes e)) size.2 stays
-  counts (Directs (Values width es)) size stays = sym (stays (data_each IsPlain (λ bytes. tt) (λ width value. tt) width (expression_value t z.located) es))
-  counts (Directs (Strings ended strings)) size stays = sym (stays (tt, tt))
-  counts (Directs (Zeros count)) size stays = sym (stays (tt, tt))
+  counts (Directs (Aligns form e)) size stays = align_by z.located.home.executable (alignment_of (expression_value t z.located) (Aligns form e)) size.2 stays
+  counts (Directs (Emits contents)) size stays = sym (stays (each_datum IsPlain (λ bytes. tt) (λ width value. tt) (expression_value t z.located) contents z.bytes))
   counts (Directs (Enters opened)) size stays = sym (stays tt)
   counts (Directs (Opens name flags k)) size stays = sym (stays tt)
   counts (Directs (Binds binding names)) size stays = sym (stays tt)
@@ -78,15 +76,8 @@ bare_before : (t : Tables) (z : LaidStatement) (kind : StatementKind) → ((y : 
 bare_before t z (Label name) h = refl
 bare_before t z (Numbered number) h = refl
 bare_before t z (Instruction m os) h = h z
-bare_before t z (Directs (Values width es)) h = h z
-bare_before t z (Directs (Strings ended strings)) h = h z
-bare_before t z (Directs (Zeros count)) h = h z
-bare_before t z (Directs (Aligns_to_power e)) h = absurd (never z.located.home.executable (h (record z { bytes = 1 })))
-  where
-    never : (b : Bool) → shrunk.padding_templates b 1 ≡ [] → ⊥
-    never true e = absurd (cc)
-    never false e = absurd (cc)
-bare_before t z (Directs (Aligns_to_bytes e)) h = absurd (never z.located.home.executable (h (record z { bytes = 1 })))
+bare_before t z (Directs (Emits contents)) h = h z
+bare_before t z (Directs (Aligns form e)) h = absurd (never z.located.home.executable (h (record z { bytes = 1 })))
   where
     never : (b : Bool) → shrunk.padding_templates b 1 ≡ [] → ⊥
     never true e = absurd (cc)

@@ -5,7 +5,7 @@ use Rattle.std.proofs.lemmas.Bool.{and_parts}
 use Rattle.std.specs.Prelude.{◌&&◌, flat_map, map}
 use Rattle.std.specs.List.{AllByRecursion, slice_get}
 use Rattle.rv_text_laws.specs.Values.{Value}
-use Rattle.rv_statement_laws.specs.Statement.{StatementKind, Label, Numbered, Instruction, Directs, Statement, Expression, Enters, Opens, Binds, Sets, Aligns_to_power, Aligns_to_bytes, Values, Strings, Zeros, Chooses, Ignored}
+use Rattle.rv_statement_laws.specs.Statement.{StatementKind, Label, Numbered, Instruction, Directs, Statement, Expression, Enters, Opens, Binds, Sets, Chooses, Ignored, Aligns, Emits}
 use Rattle.rv_pseudo_laws.specs.Filled.{are_closed}
 use Rattle.rv_unit_laws.specs.Sections.{Section as SourceSection, goes_to_text}
 use Rattle.rv_unit_laws.specs.Tables.{Tables, tables, alignment_of}
@@ -33,17 +33,10 @@ even_by s section multiple v (Label name) held code home size = none_even s.byte
 even_by s section multiple v (Numbered number) held code home size = none_even s.bytes size.0
 even_by s section multiple v (Instruction mnemonic operands) held code home size =
     ap (λ n. n % 2) size.size ∙ (all_few _ (s.located.options.rvc && are_closed size.ps) size.ps s.coded size.coded_as).2
-even_by s section multiple v (Directs (Values width es)) held code home size = let e : true ≡ false = sym code ∙ held.0 in absurd (cc)
-even_by s section multiple v (Directs (Strings ended strings)) held code home size = let e : true ≡ false = sym code ∙ held.0 in absurd (cc)
-even_by s section multiple v (Directs (Zeros count)) held code home size = let e : true ≡ false = sym code ∙ held in absurd (cc)
-even_by s section multiple v (Directs (Aligns_to_power e)) held code home (x, y, z) = go s.located.home.executable (ap (λ x. x.executable) home ∙ code) z
+even_by s section multiple v (Directs (Emits contents)) held code home size = let e : true ≡ false = sym code ∙ held.0 in absurd (cc)
+even_by s section multiple v (Directs (Aligns form e)) held code home (x, y, z) = go s.located.home.executable (ap (λ x. x.executable) home ∙ code) z
   where
-    go : (b : Bool) → b ≡ true → IsPaddedIn b s (alignment_of v (Aligns_to_power e)) → s.bytes % 2 ≡ 0
-    go true e (n, even, k) = even
-    go false e h = absurd (cc)
-even_by s section multiple v (Directs (Aligns_to_bytes e)) held code home (x, y, z) = go s.located.home.executable (ap (λ x. x.executable) home ∙ code) z
-  where
-    go : (b : Bool) → b ≡ true → IsPaddedIn b s (alignment_of v (Aligns_to_bytes e)) → s.bytes % 2 ≡ 0
+    go : (b : Bool) → b ≡ true → IsPaddedIn b s (alignment_of v (Aligns form e)) → s.bytes % 2 ≡ 0
     go true e (n, even, k) = even
     go false e h = absurd (cc)
 even_by s section multiple v (Directs (Enters opened)) held code home size = none_even s.bytes size.0

@@ -15,7 +15,7 @@ use Rattle.rv_statement_laws.specs.Statement.{StatementKind, Label, Numbered, In
 use Rattle.rv_parcel.specs.declared.form.Compressed.{Compressed}
 use Rattle.rv_pseudo_laws.specs.Code.{Part as CodePart, Closed, Open as Open_part, Joined, named_form}
 use Rattle.rv_pseudo_laws.specs.Filled.{are_closed}
-use Rattle.rv_unit_laws.specs.Contributions.{Numbers, Texts, Contribution, Nothing, Bytes, Zero_bytes, Alignment, contribution}
+use Rattle.rv_unit_laws.specs.Contributions.{Contribution, Nothing, Bytes, Alignment, contribution}
 use Rattle.rv_unit_laws.specs.Tables.{Tables, Definition, definition}
 use Rattle.rv_source_laws.specs.Located.{Located}
 use Rattle.rv_source_laws.specs.Lines.{operand_of}
@@ -26,6 +26,7 @@ use Rattle.rv_assemble_laws.specs.Coded.{constants, IsCodedPart, AreCodedParts}
 use Rattle.rv_assemble_laws.specs.Templates.{Template, Fixed, Datum, Coded, Open}
 use Rattle.rv_assemble_laws.specs.LaidStatements.{LaidStatement, expression_value, coded_templates}
 use Rattle.rv_assemble_laws.proofs.ValidLemmas.{fills_plain}
+use Rattle.rv_assemble_laws.proofs.DataTemplatesLemmas.{each_datum}
 use Rattle.rv_filling_laws.proofs.AllLemmas.{encoded_long}
 use Rattle.rv_sources_link_laws.proofs.statements.SettledLemmas.{IsBare}
 use Rattle.rv_sources_link_laws.proofs.fields.PatchesLemmas.{HasRoom}
@@ -99,10 +100,6 @@ part_kinds P t v s (Joined k i j) f g r =
 -- ---- all templates of a statement
 
 module _ (P : Template → Type 0) (fixed : (bytes : List ℕ) → P (Fixed bytes)) (datum : (width : ℕ) (v : Value) → P (Datum width v)) where
-  pub data_each : (width : ℕ) (v : Expression → Value) (es : List Expression) → AllByRecursion P (map (λ e. Datum width (v e)) es)
-  data_each width v [] = tt
-  data_each width v (e ∷ es) = (datum width (v e), data_each width v es)
-
   padded : (b : Bool) (bytes : ℕ) → AllByRecursion P (padding_templates b bytes)
   padded true zero = tt
   padded true (suc n) = (fixed _, tt)
@@ -110,9 +107,7 @@ module _ (P : Template → Type 0) (fixed : (bytes : List ℕ) → P (Fixed byte
 
   pub directed : (b : Bool) (v : Expression → Value) (c : Contribution) (bytes : ℕ) → AllByRecursion P (contribution_templates b v c bytes)
   directed b v Nothing bytes = tt
-  directed b v (Bytes (Numbers width es)) bytes = data_each width v es
-  directed b v (Bytes (Texts ended strings)) bytes = (fixed _, tt)
-  directed b v (Zero_bytes count) bytes = (fixed _, tt)
+  directed b v (Bytes contents) bytes = each_datum P fixed datum v contents bytes
   directed b v (Alignment as_form number) bytes = padded b bytes
 
   module _ (t : Tables) (z : LaidStatement) (multiple : ℕ)

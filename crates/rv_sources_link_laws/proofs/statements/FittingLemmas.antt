@@ -17,7 +17,7 @@ use Rattle.rv_parcel.specs.Parcel.{expansion as meant}
 use Rattle.rv_layout_laws.proofs.AlignmentLemmas.{padding_on}
 use Rattle.rv_statement_laws.specs.declared.mnemonic.Mnemonic.{Mnemonic}
 use Rattle.rv_statement_laws.specs.declared.mnemonic.Mnemonic.TheVariants.{Registers, Parcel}
-use Rattle.rv_statement_laws.specs.Statement.{StatementKind, Label, Numbered, Instruction, Directs, Expression, Operand, Register, Target, Directive, Sets, Aligns_to_power, Aligns_to_bytes, Values, Strings, Zeros}
+use Rattle.rv_statement_laws.specs.Statement.{StatementKind, Label, Numbered, Instruction, Directs, Expression, Operand, Register, Target, Directive, Sets, Values, Strings, Zeros, Aligns, Emits}
 use Rattle.rv_pseudo_laws.specs.Code.{Part, Closed, Constants, named_form, code}
 use Rattle.rv_pseudo_laws.specs.Filled.{FieldValue, filled, are_closed, AreTaken}
 use Rattle.rv_unit_laws.specs.Options.{Options}
@@ -234,16 +234,15 @@ module _ (p : Program) (file ordinal section offset line : ℕ) (options : Optio
       (is_true _ valued, bytes ∙ sym (padding_moves (alignment_of f d) start before multiple) ∙ ap (λ n. padding (alignment_of f d) n) (sym place), none)
 
   directive_fits : (d : Directive) → SuitsDirective f (has_values p (at (Directs d))) home row before start d → SizeFits p (at (Directs d))
-  directive_fits (Values width values) (none, valued, bytes) = (is_true _ valued, bytes ∙ sym (values_length (number p (at (Directs (Values width values)))) width values), none)
-  directive_fits (Strings ended strings) (none, bytes) = (is_true true refl, bytes, none)
-  directive_fits (Zeros count) (none, is) =
+  directive_fits (Emits (Values width values)) (none, valued, bytes) =
+      (is_true _ valued, bytes ∙ sym (values_length (number p (at (Directs (Emits (Values width values))))) width values), none)
+  directive_fits (Emits (Strings ended strings)) (none, valued, bytes) = (is_true true refl, bytes, none)
+  directive_fits (Emits (Zeros count)) (none, valued, is) =
       let constant : is_constant (f count) ≡ true = ap is_constant is in
-      let n : number p (at (Directs (Zeros count))) count ≡ row.bytes = ap (λ v. unwrap_or (resolved a v) 0) is in
-      (is_true _ (valued_alone count (Zeros count) refl constant), sym n ∙ sym (length-replicate {A = ℕ} (number p (at (Directs (Zeros count))) count) 0), none)
-  directive_fits (Aligns_to_power e) (constant, place, multiple, h) =
-      alignment_fits (Aligns_to_power e) (valued_alone e (Aligns_to_power e) refl constant) refl place multiple home.executable h
-  directive_fits (Aligns_to_bytes e) (constant, place, multiple, h) =
-      alignment_fits (Aligns_to_bytes e) (valued_alone e (Aligns_to_bytes e) refl constant) refl place multiple home.executable h
+      let n : number p (at (Directs (Emits (Zeros count)))) count ≡ row.bytes = ap (λ v. unwrap_or (resolved a v) 0) is in
+      (is_true _ (valued_alone count (Emits (Zeros count)) refl constant), sym n ∙ sym (length-replicate {A = ℕ} (number p (at (Directs (Emits (Zeros count)))) count) 0), none)
+  directive_fits (Aligns form e) (constant, place, multiple, h) =
+      alignment_fits (Aligns form e) (valued_alone e (Aligns form e) refl constant) refl place multiple home.executable h
   directive_fits (Sets name e) (bytes, none) = no_row row bytes none
   directive_fits _ h = absurd h
 
@@ -272,13 +271,9 @@ module _ (p : Program) (file ordinal section offset line : ℕ) (options : Optio
 
   directive_written : (d : Directive) → SuitsDirective f (has_values p (at (Directs d))) home row before start d → DirectiveHeld home d → home.executable ≡ true
       → IsWritten p (at (Directs d)) (directive_said d row.bytes)
-  directive_written (Values width values) h held yes' = true_false home.executable yes' held.0
-  directive_written (Strings ended strings) h held yes' = true_false home.executable yes' held.0
-  directive_written (Zeros count) h held yes' = true_false home.executable yes' held
-  directive_written (Aligns_to_power e) (constant, place, multiple, h) held yes' =
-      alignment_written (Aligns_to_power e) (valued_alone e (Aligns_to_power e) refl constant) refl home.executable yes' h
-  directive_written (Aligns_to_bytes e) (constant, place, multiple, h) held yes' =
-      alignment_written (Aligns_to_bytes e) (valued_alone e (Aligns_to_bytes e) refl constant) refl home.executable yes' h
+  directive_written (Emits contents) h held yes' = true_false home.executable yes' held.0
+  directive_written (Aligns form e) (constant, place, multiple, h) held yes' =
+      alignment_written (Aligns form e) (valued_alone e (Aligns form e) refl constant) refl home.executable yes' h
   directive_written (Sets name e) (bytes, none) held yes' = nothing_written p (at (Directs (Sets name e))) refl refl bytes
   directive_written _ h held yes' = absurd h
 

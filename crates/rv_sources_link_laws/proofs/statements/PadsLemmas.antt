@@ -7,18 +7,19 @@ use Rattle.std.specs.Prelude.{⊤, ◌^◌, ◌&&◌, ◌||◌, ◌==◌, nat_lt
 use Rattle.std.specs.List.{AllByRecursion}
 use Rattle.rv_isa_laws.specs.Bytes.{zeros}
 use Rattle.rv_text_laws.specs.Values.{Value, Constant, Symbolic, Difference, Faulty}
-use Rattle.rv_statement_laws.specs.Statement.{StatementKind, Label, Numbered, Instruction, Directs, Expression, Enters, Opens, Binds, Sets, Aligns_to_power, Aligns_to_bytes, Values, Strings, Zeros, Chooses, Ignored}
+use Rattle.rv_statement_laws.specs.Statement.{StatementKind, Label, Numbered, Instruction, Directs, Expression, Enters, Opens, Binds, Sets, Chooses, Ignored, AlignmentForm, As_power, As_bytes, Aligns, Emits}
 use Rattle.rv_unit_laws.specs.Sections.{Section as SourceSection}
-use Rattle.rv_unit_laws.specs.Tables.{Tables, is_power_below, power_alignment, byte_alignment, alignment_of, padding}
+use Rattle.rv_unit_laws.specs.Tables.{Tables, is_power_below, power_alignment, byte_alignment, alignment_as, alignment_of, padding}
 use Rattle.rv_source_laws.specs.Fits.{needs_no_padding}
 use Rattle.rv_source_laws.proofs.HeldLemmas.{IsHeld}
 use Rattle.rv_object_laws.specs.Padding.{no_operations, operations_in}
 use Rattle.rv_assemble_laws.specs.Templates.{Fixed, Coded, align_field, padding_templates}
 use Rattle.rv_assemble_laws.specs.LaidStatements.{LaidStatement, expression_value, laid_part, part_bytes, IsMultiple, IsPaddedIn, HasSize}
+use Rattle.rv_assemble_laws.proofs.DataTemplatesLemmas.{each_datum}
 use Rattle.rv_sources_link_laws.proofs.sections.AssembledLemmas.{assembled_templates, parts_of}
 use Rattle.rv_sources_link_laws.proofs.moves.ShrunkLemmas as shrunk
 use Rattle.rv_sources_link_laws.proofs.statements.SettledLemmas.{IsBare, IsLaidIn}
-use Rattle.rv_sources_link_laws.proofs.statements.FieldedLemmas.{IsPlain, data_each, sized_each, plain_part}
+use Rattle.rv_sources_link_laws.proofs.statements.FieldedLemmas.{IsPlain, sized_each, plain_part}
 use Rattle.rv_sources_link_laws.proofs.statements.EvensLemmas.{even_by}
 
 -- ---- alignments
@@ -62,7 +63,7 @@ of_exponent (suc (suc (suc (suc (suc (suc (suc (suc (suc (suc (suc zero)))))))))
 of_exponent (suc (suc (suc (suc (suc (suc (suc (suc (suc (suc (suc (suc zero)))))))))))) h a e = inr (inr (inr (inr (inr (inr (inr (inr (inr (inr (inr e))))))))))
 of_exponent (suc (suc (suc (suc (suc (suc (suc (suc (suc (suc (suc (suc (suc j))))))))))))) h a e = absurd (omega (arith, h))
 
-pub power_valid : (v : Value) → IsValidAlignment (power_alignment v)
+power_valid : (v : Value) → IsValidAlignment (power_alignment v)
 power_valid (Constant k) = go (nat_lt k 13) refl
   where
     go : (b : Bool) → nat_lt k 13 ≡ b → IsValidAlignment (if b then Some (2 ^ k) else None)
@@ -80,7 +81,7 @@ exponent_of (suc k) n e = go (n == 2 ^ k) refl e (exponent_of k n)
     go true f e later = (k, eqb-true n (2 ^ k) f)
     go false f e later = later e
 
-pub byte_valid : (v : Value) → IsValidAlignment (byte_alignment v)
+byte_valid : (v : Value) → IsValidAlignment (byte_alignment v)
 byte_valid (Constant n) = go (is_power_below 63 n && nat_le n 4096) refl
   where
     by : (j : ℕ) → n ≡ 2 ^ j → n ≤ 4096 → (b : Bool) → nat_lt j 13 ≡ b → (n ≤ 2) ⊎ IsPower n
@@ -97,6 +98,10 @@ byte_valid (Constant n) = go (is_power_below 63 n && nat_le n 4096) refl
 byte_valid (Symbolic q at plus) = tt
 byte_valid (Difference q r plus) = tt
 byte_valid (Faulty c) = tt
+
+pub form_valid : (form : AlignmentForm) (v : Value) → IsValidAlignment (alignment_as form v)
+form_valid As_power v = power_valid v
+form_valid As_bytes v = byte_valid v
 
 -- ---- the two sorts of statements
 
@@ -138,15 +143,8 @@ pub bare_before : (kind : StatementKind) → ((all : Tables) (z : LaidStatement)
 bare_before (Label name) h all z = refl
 bare_before (Numbered number) h all z = refl
 bare_before (Instruction m os) h all z = h all z
-bare_before (Directs (Values width es)) h all z = h all z
-bare_before (Directs (Strings ended strings)) h all z = h all z
-bare_before (Directs (Zeros count)) h all z = h all z
-bare_before (Directs (Aligns_to_power e)) h all z = absurd (never z.located.home.executable (h all (padded 0 1 z)))
-  where
-    never : (b : Bool) → shrunk.padding_templates b 1 ≡ [] → ⊥
-    never true e = absurd (cc)
-    never false e = absurd (cc)
-bare_before (Directs (Aligns_to_bytes e)) h all z = absurd (never z.located.home.executable (h all (padded 0 1 z)))
+bare_before (Directs (Emits contents)) h all z = h all z
+bare_before (Directs (Aligns form e)) h all z = absurd (never z.located.home.executable (h all (padded 0 1 z)))
   where
     never : (b : Bool) → shrunk.padding_templates b 1 ≡ [] → ⊥
     never true e = absurd (cc)
@@ -242,19 +240,14 @@ module _ (t : Tables) (section : SourceSection) (multiple : ℕ) (z : LaidStatem
     sized = λ n same placed. size;
     even = λ code. even_by z section multiple v (Instruction m os) held code home size;
   })
-  sort_placed (Directs (Values width es)) held size = inl (record {
+  sort_placed (Directs (Emits contents)) held size = inl (record {
     same = λ n. refl;
-    none = data_each IsPlain (λ bytes. tt) (λ width value. tt) width v es;
+    none = each_datum IsPlain (λ bytes. tt) (λ width value. tt) v contents z.bytes;
     sized = λ n same placed. size;
     even = λ code. no_code held.0 code;
   })
-  sort_placed (Directs (Strings ended strings)) held size = inl (record { same = λ n. refl; none = (tt, tt); sized = λ n same placed. size; even = λ code. no_code held.0 code })
-  sort_placed (Directs (Zeros count)) held size = inl (record { same = λ n. refl; none = (tt, tt); sized = λ n same placed. size; even = λ code. no_code held code })
-  sort_placed (Directs (Aligns_to_power e)) held (constant, divides, size) =
-      align_by (Directs (Aligns_to_power e)) (alignment_of v (Aligns_to_power e)) (power_valid (v e)) divides refl (λ n. refl) (λ n b. refl)
-      (λ n h. (constant, divides, h)) (λ n b h. (constant, divides, h)) z.located.home.executable refl size
-  sort_placed (Directs (Aligns_to_bytes e)) held (constant, divides, size) =
-      align_by (Directs (Aligns_to_bytes e)) (alignment_of v (Aligns_to_bytes e)) (byte_valid (v e)) divides refl (λ n. refl) (λ n b. refl)
+  sort_placed (Directs (Aligns form e)) held (constant, divides, size) =
+      align_by (Directs (Aligns form e)) (alignment_of v (Aligns form e)) (form_valid form (v e)) divides refl (λ n. refl) (λ n b. refl)
       (λ n h. (constant, divides, h)) (λ n b h. (constant, divides, h)) z.located.home.executable refl size
   sort_placed (Directs (Enters opened)) held size = inl (record { same = λ n. refl; none = tt; sized = λ n same placed. size; even = λ code. ap (λ n. n % 2) size.0 })
   sort_placed (Directs (Opens name flags k)) held size = inl (record { same = λ n. refl; none = tt; sized = λ n same placed. size; even = λ code. ap (λ n. n % 2) size.0 })

@@ -7,7 +7,7 @@ use Rattle.std.proofs.lemmas.List.Sums.{sum_by-cons}
 use Rattle.std.specs.Prelude.{⊤, ◌&&◌, ◌==◌, if◌then◌else◌, flat_map}
 use Rattle.std.specs.List.{AllByRecursion, slice_get}
 use Rattle.rv_statement_laws.specs.declared.mnemonic.Mnemonic.{Mnemonic}
-use Rattle.rv_statement_laws.specs.Statement.{StatementKind, Label, Numbered, Instruction, Directs, Statement, Operand, Enters, Opens, Binds, Sets, Aligns_to_power, Aligns_to_bytes, Values, Strings, Zeros, Chooses, Ignored}
+use Rattle.rv_statement_laws.specs.Statement.{StatementKind, Label, Numbered, Instruction, Directs, Statement, Operand, Enters, Opens, Binds, Sets, Chooses, Ignored, Aligns, Emits}
 use Rattle.rv_unit_laws.specs.Sections.{Section, text_section}
 use Rattle.rv_unit_laws.specs.Tables.{Tables, at_start, after, tables, opened_of}
 use Rattle.rv_source_laws.specs.Located.{Located, located_from, is_placed, masked, has_row}
@@ -35,11 +35,8 @@ unplaced_by t k (Label name) e all z = absurd (cc)
 unplaced_by t k (Numbered number) e all z = absurd (cc)
 unplaced_by t k (Instruction mnemonic operands) e all z = absurd (cc)
 unplaced_by t k (Directs (Sets name x)) e all z = refl
-unplaced_by t k (Directs (Values width values)) e all z = absurd (cc)
-unplaced_by t k (Directs (Strings ended strings)) e all z = absurd (cc)
-unplaced_by t k (Directs (Zeros count)) e all z = absurd (cc)
-unplaced_by t k (Directs (Aligns_to_power x)) e all z = absurd (cc)
-unplaced_by t k (Directs (Aligns_to_bytes x)) e all z = absurd (cc)
+unplaced_by t k (Directs (Emits contents)) e all z = absurd (cc)
+unplaced_by t k (Directs (Aligns form x)) e all z = absurd (cc)
 unplaced_by t k (Directs _) e all z = refl
 
 abbrev pub IsBare : Located → Type 0

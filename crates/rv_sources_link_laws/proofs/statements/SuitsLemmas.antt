@@ -1,10 +1,10 @@
 -- What the row of a statement owes to it, in terms of the values of its expressions.
 
-use Rattle.std.specs.Prelude.{List, ◌≡◌, ℕ, ℤ, unwrap_or, ◌+◌, ◌*◌, ◌%◌, Bool, true, false, [], length, Option, if◌then◌else◌}
-use Rattle.rv_text_laws.specs.Values.{Value, Constant}
-use Rattle.rv_statement_laws.specs.Statement.{StatementKind, Label, Numbered, Instruction, Directs, Expression, Directive, Sets, Aligns_to_power, Aligns_to_bytes, Values, Strings, Zeros}
+use Rattle.std.specs.Prelude.{List, ◌≡◌, ℕ, ℤ, unwrap_or, ◌+◌, ◌%◌, Bool, true, false, ⊤, [], Option, if◌then◌else◌}
+use Rattle.rv_text_laws.specs.Values.{Value}
+use Rattle.rv_statement_laws.specs.Statement.{StatementKind, Label, Numbered, Instruction, Directs, Expression, Directive, Sets, Data, Values, Aligns, Emits}
 use Rattle.rv_unit_laws.specs.Sections.{Section}
-use Rattle.rv_unit_laws.specs.Tables.{alignment_of, padding, string_bytes}
+use Rattle.rv_unit_laws.specs.Tables.{alignment_of, padding, HasDataSize}
 use Rattle.rv_map_laws.specs.declared.map.Row.{Row}
 use Rattle.rv_source_laws.specs.Fits.{needs_no_padding}
 use Rattle.rv_object_laws.specs.Padding.{no_operations, operations_in}
@@ -23,15 +23,16 @@ SuitsPadding false row offset alignment = (row.bytes ≡ padding alignment offse
 abbrev pub SuitsAlignment : Value → Section → Row → ℕ → ℕ → Option ℕ → Type 0
 SuitsAlignment v home row offset start alignment = (is_constant v ≡ true) × (row.address ≡ start + offset) × IsMultiple alignment start × SuitsPadding home.executable row offset alignment
 
+-- values of data have all of them values
+abbrev pub IsValued : Data → Bool → Type 0
+IsValued (Values width values) valued = valued ≡ true
+IsValued _ valued = ⊤
+
 -- by what stands in its expressions, whether all of these have values, its section, its row, and its section's start
 abbrev pub SuitsDirective : (Expression → Value) → Bool → Section → Row → ℕ → ℕ → Directive → Type 0
-SuitsDirective f valued home row offset start (Values width values) =
-    (row.instructions ≡ 0) × (valued ≡ true) × (row.bytes ≡ width * length values)
-SuitsDirective f valued home row offset start (Strings ended strings) =
-    (row.instructions ≡ 0) × (row.bytes ≡ length (string_bytes ended strings))
-SuitsDirective f valued home row offset start (Zeros count) = (row.instructions ≡ 0) × (f count ≡ Constant row.bytes)
-SuitsDirective f valued home row offset start (Aligns_to_power e) = SuitsAlignment (f e) home row offset start (alignment_of f (Aligns_to_power e))
-SuitsDirective f valued home row offset start (Aligns_to_bytes e) = SuitsAlignment (f e) home row offset start (alignment_of f (Aligns_to_bytes e))
+SuitsDirective f valued home row offset start (Emits contents) =
+    (row.instructions ≡ 0) × IsValued contents valued × HasDataSize f contents row.bytes
+SuitsDirective f valued home row offset start (Aligns form e) = SuitsAlignment (f e) home row offset start (alignment_of f (Aligns form e))
 SuitsDirective f valued home row offset start (Sets name e) = (row.bytes ≡ 0) × (row.instructions ≡ 0)
 SuitsDirective f valued home row offset start _ = ⊥
 
@@ -44,8 +45,7 @@ Suits f valued home rvc coded row offset start (Directs directive) = SuitsDirect
 
 -- the bytes of a statement in code, whose fields take at an offset what is given
 abbrev pub directive_said : Directive → ℕ → List ℕ
-directive_said (Aligns_to_power e) bytes = no_operations bytes
-directive_said (Aligns_to_bytes e) bytes = no_operations bytes
+directive_said (Aligns form e) bytes = no_operations bytes
 directive_said _ bytes = []
 
 abbrev pub code_said : (ℕ → Open → ℤ) → (Part → List Open) → (Expression → Value) → Bool → (offset bytes : ℕ) → List (List ℕ) → StatementKind → List ℕ

@@ -1,7 +1,7 @@
 use Rattle.std.proofs.Common.{◌≡◌, ◌∙◌, ◌+◌, ap, sym, subst, map, true, false, Some, option_map}
 use Rattle.std.specs.Prelude.{box_value}
 use Rattle.rv_text.specs.Expr.{tree_of_expr}
-use Rattle.rv_statement_laws.specs.Statement.{Strings, Applied, Directs, Enters}
+use Rattle.rv_statement_laws.specs.Statement.{Applied, Directs, Enters, Strings, Emits}
 use Rattle.rv_statement.specs.declared.statement.Opening.{Opening}
 use Rattle.rv_statement.specs.View.{now_of, quoted, opening_of, statement_kind, operand_in}
 use Rattle.rv_unit_laws.specs.Faults as faults
@@ -66,8 +66,8 @@ returns-in-Ascii c = λ i at depth.
     let k = c.in-Ascii.is in
     let now = subst (λ k. IsStatementOf u i c.args.ordinal c.args.place (statement_kind k)) k at in
     subst (λ k. IsLowest c.fault_of_strings.result (faults.faults all t (i + 1) (statement_kind k))) (sym k)
-    (subst (λ xs. IsLowest c.fault_of_strings.result (faults.directive_faults all t (i + 1) (Strings false (map quoted xs)))) c.deref-in-Ascii.ensures.value
-    (c.fault_of_strings.ensures i c.args.ordinal (subst (λ xs. IsStatementOf u i c.args.ordinal c.args.place (Directs (Strings false (map quoted xs)))) (sym c.deref-in-Ascii.ensures.value) now)))
+    (subst (λ xs. IsLowest c.fault_of_strings.result (faults.directive_faults all t (i + 1) (Emits (Strings false (map quoted xs))))) c.deref-in-Ascii.ensures.value
+    (c.fault_of_strings.ensures i c.args.ordinal (subst (λ xs. IsStatementOf u i c.args.ordinal c.args.place (Directs (Emits (Strings false (map quoted xs))))) (sym c.deref-in-Ascii.ensures.value) now)))
 
 pub returns-in-Asciz : goal.returns-in-Asciz
 returns-in-Asciz c = λ i at depth.
@@ -77,8 +77,8 @@ returns-in-Asciz c = λ i at depth.
     let k = c.in-Asciz.is in
     let now = subst (λ k. IsStatementOf u i c.args.ordinal c.args.place (statement_kind k)) k at in
     subst (λ k. IsLowest c.fault_of_strings-in-Asciz.result (faults.faults all t (i + 1) (statement_kind k))) (sym k)
-    (subst (λ xs. IsLowest c.fault_of_strings-in-Asciz.result (faults.directive_faults all t (i + 1) (Strings true (map quoted xs)))) c.deref-in-Asciz.ensures.value
-    (c.fault_of_strings-in-Asciz.ensures i c.args.ordinal (subst (λ xs. IsStatementOf u i c.args.ordinal c.args.place (Directs (Strings true (map quoted xs)))) (sym c.deref-in-Asciz.ensures.value) now)))
+    (subst (λ xs. IsLowest c.fault_of_strings-in-Asciz.result (faults.directive_faults all t (i + 1) (Emits (Strings true (map quoted xs))))) c.deref-in-Asciz.ensures.value
+    (c.fault_of_strings-in-Asciz.ensures i c.args.ordinal (subst (λ xs. IsStatementOf u i c.args.ordinal c.args.place (Directs (Emits (Strings true (map quoted xs))))) (sym c.deref-in-Asciz.ensures.value) now)))
 
 pub returns-in-Enters : goal.returns-in-Enters
 returns-in-Enters c = λ i at depth.

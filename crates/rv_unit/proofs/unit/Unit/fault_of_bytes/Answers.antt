@@ -1,7 +1,7 @@
 use Rattle.std.proofs.Common.{◌∙◌, ◌+◌, subst, refl, false}
 use Rattle.rv_text_laws.specs.Values.{Value}
 use Rattle.rv_text.specs.Expr.{tree_of_expr}
-use Rattle.rv_statement_laws.specs.Statement.{StatementKind, Directs, Aligns_to_bytes}
+use Rattle.rv_statement_laws.specs.Statement.{StatementKind, Directs, As_bytes, Aligns}
 use Rattle.rv_unit_laws.specs.Faults as faults
 use Rattle.rv_unit_laws.specs.Sections.{current_section}
 use Rattle.rv_unit_laws.specs.Tables as laws
@@ -16,7 +16,7 @@ returns c = λ i at.
     let u = c.args.self.now in
     let t = passed (said u) i in
     let e = tree_of_expr c.args.bytes.now in
-    let kind : StatementKind = Directs (Aligns_to_bytes e) in
+    let kind : StatementKind = Directs (Aligns As_bytes e) in
     let worth : laws.SectionOffset → Value = λ q. laws.value_by_tables (laws.tables (said u)) false (i + 1) q e in
     let r = c.alignment_fault.result in
     let here = at_here u i c.args.ordinal c.args.place kind at refl in

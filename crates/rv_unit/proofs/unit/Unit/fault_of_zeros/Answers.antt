@@ -1,7 +1,7 @@
 use Rattle.std.proofs.Common.{◌∙◌, ◌+◌, subst, refl, false}
 use Rattle.rv_text_laws.specs.Values.{Value}
 use Rattle.rv_text.specs.Expr.{tree_of_expr}
-use Rattle.rv_statement_laws.specs.Statement.{StatementKind, Directs, Zeros}
+use Rattle.rv_statement_laws.specs.Statement.{StatementKind, Directs, Zeros, Emits}
 use Rattle.rv_unit_laws.specs.Faults as faults
 use Rattle.rv_unit_laws.specs.Tables as laws
 use Rattle.rv_unit_tables.specs.Sections.{section_of}
@@ -15,7 +15,7 @@ returns c = λ i at.
     let u = c.args.self.now in
     let t = passed (said u) i in
     let e = tree_of_expr c.args.count.now in
-    let kind : StatementKind = Directs (Zeros e) in
+    let kind : StatementKind = Directs (Emits (Zeros e)) in
     let worth : laws.SectionOffset → Value = λ q. laws.value_by_tables (laws.tables (said u)) false (i + 1) q e in
     let found = c.zero_fault.ensures 0 _ (c.early_value-value.ensures (i + 1) at.filled at.ordinal) in
     subst (λ k. IsLowest c.zero_fault.result (faults.zero_faults k (laws.here t).offset (worth (laws.here t)))) (c.section_at.ensures ∙ at_home u i c.args.ordinal c.args.place kind at refl)
