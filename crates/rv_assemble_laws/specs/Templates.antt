@@ -125,16 +125,16 @@ padding_templates false ordinal bytes = Fixed (zeros bytes) ∷ []
 
 -- ---- the templates of directives
 
-abbrev pub data_templates : (Expression → Value) → Data → ℕ → List Template
-data_templates v (Values width values) bytes = map (λ e. Datum width (v e)) values
-data_templates v (Strings ended strings) bytes = Fixed (string_bytes ended strings) ∷ []
-data_templates v (Zeros count) bytes = Fixed (zeros bytes) ∷ []
+abbrev pub templates_of_data : (Expression → Value) → Data → ℕ → List Template
+templates_of_data v (Values width values) bytes = map (λ e. Datum width (v e)) values
+templates_of_data v (Strings ended strings) bytes = Fixed (string_bytes ended strings) ∷ []
+templates_of_data v (Zeros count) bytes = Fixed (zeros bytes) ∷ []
 
 -- of a directive of this ordinal, in a section of code or of data
 abbrev pub contribution_templates :
     (executable : Bool) (ordinal : ℕ) → (Expression → Value) → Contribution → ℕ → List Template
 contribution_templates executable ordinal v Nothing bytes = []
 contribution_templates executable ordinal v (Bytes contents) bytes =
-    data_templates v contents bytes
+    templates_of_data v contents bytes
 contribution_templates executable ordinal v (Alignment form number) bytes =
     padding_templates executable ordinal bytes

@@ -20,7 +20,7 @@ use Rattle.rv_link_laws.specs.CallSites as objects
 use Rattle.rv_link_laws.specs.Shortened.{Sizes, is_shortened}
 use Rattle.rv_assemble_laws.specs.CodeFields.{relax_fields}
 use Rattle.rv_assemble_laws.specs.Coded.{constants}
-use Rattle.rv_assemble_laws.specs.Templates.{Template, Fixed, Datum, Coded, Open, value_fields, template_fields, absolute_kind, add_kind, subtract_kind, data_templates, padding_templates}
+use Rattle.rv_assemble_laws.specs.Templates.{Template, Fixed, Datum, Coded, Open, value_fields, template_fields, absolute_kind, add_kind, subtract_kind, templates_of_data, padding_templates}
 use Rattle.rv_assemble_laws.specs.LaidStatements.{LaidStatement, expression_value, laid_part, part_bytes, coded_templates, HasSize, IsPadded, IsPaddedIn}
 use Rattle.rv_assemble_laws.specs.IsObjectOf.{Numbering, relocation_at, relocations_from}
 use Rattle.rv_assemble_laws.proofs.DataTemplatesLemmas.{each_datum}
@@ -215,7 +215,7 @@ module _ (t : Tables) (number : Numbering) (sizes : Sizes) (multiple : ℕ) (sec
     calm = refl;
     whole = λ c. absurd (cc);
     same = λ n. refl;
-    none = none_of (data_templates v contents z.bytes) (each_datum IsCalm (λ bytes. tt) (λ width value. tt) v contents z.bytes);
+    none = none_of (templates_of_data v contents z.bytes) (each_datum IsCalm (λ bytes. tt) (λ width value. tt) v contents z.bytes);
     sized = λ n placed. size;
   })
   sort_placed (Directs (Aligns form x)) e size = inl (record {

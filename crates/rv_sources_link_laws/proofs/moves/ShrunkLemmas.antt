@@ -19,7 +19,7 @@ use Rattle.rv_sources_link_laws.proofs.names.ExportedLemmas.{exported}
 use Rattle.rv_assemble_laws.specs.Coded.{is_constant, constants, IsCode}
 use Rattle.rv_assemble_laws.specs.Refusals.{statements_fault}
 use Rattle.rv_assemble_laws.specs.Symbols.{exports}
-use Rattle.rv_assemble_laws.specs.Templates.{Template, Fixed, IsTemplate, data_templates}
+use Rattle.rv_assemble_laws.specs.Templates.{Template, Fixed, IsTemplate, templates_of_data}
 use Rattle.rv_map_laws.specs.declared.map.SectionId.{SectionId}
 use Rattle.rv_collect_laws.specs.Graph.{is_dropped}
 use Rattle.rv_sources_link_laws.proofs.sections.MaskedLemmas.{source_sections}
@@ -37,7 +37,7 @@ padding_templates false bytes = Fixed (zeros bytes) ∷ []
 
 abbrev pub contribution_templates : Bool → (Expression → Value) → Contribution → ℕ → List Template
 contribution_templates executable v Nothing bytes = []
-contribution_templates executable v (Bytes contents) bytes = data_templates v contents bytes
+contribution_templates executable v (Bytes contents) bytes = templates_of_data v contents bytes
 contribution_templates executable v (Alignment form number) bytes = padding_templates executable bytes
 
 abbrev pub shrunk_templates : Tables → LaidStatement → StatementKind → List Template
