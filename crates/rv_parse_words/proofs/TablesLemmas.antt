@@ -1,10 +1,11 @@
 -- A look-up in a table among the names of the word's length or of its second byte alone.
 
-use Rattle.std.proofs.Common.{◌≡◌, ℕ, Bool, true, false, List, [], ◌∷◌, length, Some, None, refl, sym, ◌∙◌, ap, subst}
+use Rattle.std.proofs.Common.{◌≡◌, ℕ, zero, suc, ◌+◌, ◌%◌, ◌<◌, Bool, true, false, List, [], ◌∷◌, length, map, get_or, Some, None, refl, sym, ◌∙◌, ap, subst, arith}
 use Rattle.std.specs.Prelude.{◌==◌, ◌||◌, ◌&&◌, if◌then◌else◌}
 use Rattle.std.specs.Str.{bytes_eq}
 use Rattle.std.proofs.lemmas.Bool.{eq-eqb, eqb-true, and_parts}
 use Rattle.std.proofs.lemmas.Slice.Eq.{bytes_eq-Decides}
+use Rattle.rv_statement_laws.specs.declared.directive.DirectiveWord.{DirectiveWord}
 use Rattle.rv_parse_laws.specs.Words.{named_in, instruction_words, directive_words}
 use Rattle.rv_parse_words.specs.View.{second}
 
@@ -38,8 +39,27 @@ of_this_key key table n word e = subst (λ k. named_in (of_key key k table) word
 pub of_this_length : (n : ℕ) (word : List ℕ) → length word ≡ n → named_in (of_key length n instruction_words) word ≡ named_in instruction_words word
 of_this_length n word e = of_this_key length instruction_words n word e
 
-pub of_this_second : (n : ℕ) (word : List ℕ) → second word ≡ n → named_in (of_key second n directive_words) word ≡ named_in directive_words word
-of_this_second n word e = of_this_key second directive_words n word e
+-- the last five bits of the second byte
+abbrev pub place : List ℕ → ℕ
+place word = second word % 32
+
+pub of_this_place : (n : ℕ) (word : List ℕ) → place word ≡ n → named_in (of_key place n directive_words) word ≡ named_in directive_words word
+of_this_place n word e = of_this_key place directive_words n word e
+
+-- so many lists of directives, from a place on
+abbrev pub lists_from : ℕ → ℕ → List (List (List ℕ × DirectiveWord))
+lists_from n zero = []
+lists_from n (suc count) = of_key place n directive_words ∷ lists_from (suc n) count
+
+pub list_at : {B : Type 0} (f : B → List (List ℕ × DirectiveWord)) (xs : List B) (d : B) (n count i : ℕ) → map f xs ≡ lists_from n count → i < count → f (get_or xs i d) ≡ of_key place (i + n) directive_words
+list_at f xs d n zero i e less = absurd (omega (arith, less))
+list_at f [] d n (suc count) i e less = absurd (cc)
+list_at f (x ∷ xs) d n (suc count) zero e less =
+    let first : f x ≡ of_key place n directive_words = cc in
+    first ∙ ap (λ m. of_key place m directive_words) (let same : n ≡ 0 + n = omega arith in same)
+list_at f (x ∷ xs) d n (suc count) (suc i) e less =
+    let others : map f xs ≡ lists_from (suc n) count = cc in
+    list_at f xs d (suc n) count i others (omega (arith, less)) ∙ ap (λ m. of_key place m directive_words) (let same : i + suc n ≡ suc i + n = omega arith in same)
 
 -- the keys that names have
 abbrev pub is_one_of : List ℕ → ℕ → Bool
@@ -72,17 +92,3 @@ pub of_no_length : (word : List ℕ) → is_one_of (1 ∷ 2 ∷ 3 ∷ 4 ∷ 5 �
 of_no_length word h =
     sym (by_key length instruction_words word)
     ∙ ap (λ rows. named_in rows word) (none_of length (1 ∷ 2 ∷ 3 ∷ 4 ∷ 5 ∷ 6 ∷ 7 ∷ 8 ∷ 9 ∷ 10 ∷ []) instruction_words (length word) lengths h)
-
--- the second bytes of directives
-abbrev pub second_bytes : List ℕ
-second_bytes = 116 ∷ 100 ∷ 114 ∷ 98 ∷ 115 ∷ 103 ∷ 108 ∷ 119 ∷ 101 ∷ 97 ∷ 112 ∷ 104 ∷ 50 ∷ 52 ∷ 56 ∷ 113 ∷ 122 ∷ 111 ∷ 102 ∷ 105 ∷ []
-
-seconds : have_keys second second_bytes directive_words ≡ true
-unfolding directive_words
-seconds = refl
-
--- no directive has another second byte
-pub of_no_second : (word : List ℕ) → is_one_of second_bytes (second word) ≡ false → named_in directive_words word ≡ None
-of_no_second word h =
-    sym (by_key second directive_words word)
-    ∙ ap (λ rows. named_in rows word) (none_of second second_bytes directive_words (second word) seconds h)

@@ -1,9 +1,9 @@
 //! The words that may begin a statement.
 //!
-//! Mnemonics stand in one table for each length, and directives in one for each second byte: a look-up compares a
-//! word with few. An atomic has no row of its own: it is an operation and an ending for its width and its order, since
-//! all of them in one table would be 88 rows that say the same. The tables are data, so one contract on the look-up
-//! covers every row.
+//! Mnemonics stand in one table for each length, and directives in one table of short lists, by their second byte: a
+//! look-up compares a word with few. An atomic has no row of its own: it is an operation and an ending for its width
+//! and its order, since all of them in one table would be 88 rows that say the same. The tables are data, so one
+//! contract on the look-up covers every row.
 
 ghost use Rattle.std.specs.Prelude.{◌≡◌, map, ◌||◌, ◌&&◌, option_map, is_some, codes};
 ghost use Rattle.std.specs.Option.{option_or};
@@ -478,104 +478,82 @@ pub fn function_named(word: &[u8]) -> Option<Function>
     named_in(&FUNCTIONS, word)
 }
 
-/// The directives with `t` behind their point.
-const DIRECTIVES_T: [(&str, DirectiveWord); 2] = [
-    (".text", DirectiveWord::Enters(Standard::Text)),
-    (".type", DirectiveWord::Ignored),
-];
-
-/// The directives with `d` behind their point.
-const DIRECTIVES_D: [(&str, DirectiveWord); 2] = [
-    (".data", DirectiveWord::Enters(Standard::Data)),
-    (".dword", DirectiveWord::Value(Width::Double)),
-];
-
-/// The directives with `r` behind their point.
-const DIRECTIVES_R: [(&str, DirectiveWord); 1] = [(
-    ".rodata",
-    DirectiveWord::Enters(Standard::Rodata),
-)];
-
-/// The directives with `b` behind their point.
-const DIRECTIVES_B: [(&str, DirectiveWord); 3] = [
-    (".bss", DirectiveWord::Enters(Standard::Bss)),
-    (".balign", DirectiveWord::AlignToBytes),
-    (".byte", DirectiveWord::Value(Width::Byte)),
-];
-
-/// The directives with `s` behind their point.
-const DIRECTIVES_S: [(&str, DirectiveWord); 6] = [
-    (".section", DirectiveWord::Section),
-    (".set", DirectiveWord::Set),
-    (".string", DirectiveWord::Asciz),
-    (".space", DirectiveWord::Zero),
-    (".skip", DirectiveWord::Zero),
-    (".size", DirectiveWord::Ignored),
-];
-
-/// The directives with `g` behind their point.
-const DIRECTIVES_G: [(&str, DirectiveWord); 2] = [
-    (".globl", DirectiveWord::Binds(Binding::Global)),
-    (".global", DirectiveWord::Binds(Binding::Global)),
-];
-
-/// The directives with `l` behind their point.
-const DIRECTIVES_L: [(&str, DirectiveWord); 1] = [(".local", DirectiveWord::Binds(Binding::Local))];
-
-/// The directives with `w` behind their point.
-const DIRECTIVES_W: [(&str, DirectiveWord); 2] = [
-    (".weak", DirectiveWord::Binds(Binding::Weak)),
-    (".word", DirectiveWord::Value(Width::Word)),
-];
-
-/// The directives with `e` behind their point.
-const DIRECTIVES_E: [(&str, DirectiveWord); 1] = [(".equ", DirectiveWord::Set)];
-
-/// The directives with `a` behind their point.
-const DIRECTIVES_A: [(&str, DirectiveWord); 4] = [
-    (".align", DirectiveWord::AlignToPower),
-    (".ascii", DirectiveWord::Ascii),
-    (".asciz", DirectiveWord::Asciz),
-    (".attribute", DirectiveWord::Ignored),
-];
-
-/// The directives with `p` behind their point.
-const DIRECTIVES_P: [(&str, DirectiveWord); 2] = [
-    (".p2align", DirectiveWord::AlignToPower),
-    (".protected", DirectiveWord::Ignored),
-];
-
-/// The directives with `h` behind their point.
-const DIRECTIVES_H: [(&str, DirectiveWord); 2] = [
-    (".half", DirectiveWord::Value(Width::Half)),
-    (".hidden", DirectiveWord::Ignored),
-];
-
-/// The directives with `2` behind their point.
-const DIRECTIVES_2: [(&str, DirectiveWord); 1] = [(".2byte", DirectiveWord::Value(Width::Half))];
-
-/// The directives with `4` behind their point.
-const DIRECTIVES_4: [(&str, DirectiveWord); 1] = [(".4byte", DirectiveWord::Value(Width::Word))];
-
-/// The directives with `8` behind their point.
-const DIRECTIVES_8: [(&str, DirectiveWord); 1] = [(".8byte", DirectiveWord::Value(Width::Double))];
-
-/// The directives with `q` behind their point.
-const DIRECTIVES_Q: [(&str, DirectiveWord); 1] = [(".quad", DirectiveWord::Value(Width::Double))];
-
-/// The directives with `z` behind their point.
-const DIRECTIVES_Z: [(&str, DirectiveWord); 1] = [(".zero", DirectiveWord::Zero)];
-
-/// The directives with `o` behind their point.
-const DIRECTIVES_O: [(&str, DirectiveWord); 1] = [(".option", DirectiveWord::Option)];
-
-/// The directives with `f` behind their point.
-const DIRECTIVES_F: [(&str, DirectiveWord); 1] = [(".file", DirectiveWord::Ignored)];
-
-/// The directives with `i` behind their point.
-const DIRECTIVES_I: [(&str, DirectiveWord); 2] = [
-    (".ident", DirectiveWord::Ignored),
-    (".internal", DirectiveWord::Ignored),
+/// The directives, by the last five bits of the byte behind their point: a letter's place in the alphabet, with `2`,
+/// `4` and `8` beside `r`, `t` and `x`.
+const DIRECTIVES: [&[(&str, DirectiveWord)]; 32] = [
+    &[],
+    &[
+        (".align", DirectiveWord::AlignToPower),
+        (".ascii", DirectiveWord::Ascii),
+        (".asciz", DirectiveWord::Asciz),
+        (".attribute", DirectiveWord::Ignored),
+    ],
+    &[
+        (".bss", DirectiveWord::Enters(Standard::Bss)),
+        (".balign", DirectiveWord::AlignToBytes),
+        (".byte", DirectiveWord::Value(Width::Byte)),
+    ],
+    &[],
+    &[
+        (".data", DirectiveWord::Enters(Standard::Data)),
+        (".dword", DirectiveWord::Value(Width::Double)),
+    ],
+    &[(".equ", DirectiveWord::Set)],
+    &[(".file", DirectiveWord::Ignored)],
+    &[
+        (".globl", DirectiveWord::Binds(Binding::Global)),
+        (".global", DirectiveWord::Binds(Binding::Global)),
+    ],
+    &[
+        (".half", DirectiveWord::Value(Width::Half)),
+        (".hidden", DirectiveWord::Ignored),
+    ],
+    &[
+        (".ident", DirectiveWord::Ignored),
+        (".internal", DirectiveWord::Ignored),
+    ],
+    &[],
+    &[],
+    &[(".local", DirectiveWord::Binds(Binding::Local))],
+    &[],
+    &[],
+    &[(".option", DirectiveWord::Option)],
+    &[
+        (".p2align", DirectiveWord::AlignToPower),
+        (".protected", DirectiveWord::Ignored),
+    ],
+    &[(".quad", DirectiveWord::Value(Width::Double))],
+    &[
+        (".rodata", DirectiveWord::Enters(Standard::Rodata)),
+        (".2byte", DirectiveWord::Value(Width::Half)),
+    ],
+    &[
+        (".section", DirectiveWord::Section),
+        (".set", DirectiveWord::Set),
+        (".string", DirectiveWord::Asciz),
+        (".space", DirectiveWord::Zero),
+        (".skip", DirectiveWord::Zero),
+        (".size", DirectiveWord::Ignored),
+    ],
+    &[
+        (".text", DirectiveWord::Enters(Standard::Text)),
+        (".4byte", DirectiveWord::Value(Width::Word)),
+        (".type", DirectiveWord::Ignored),
+    ],
+    &[],
+    &[],
+    &[
+        (".weak", DirectiveWord::Binds(Binding::Weak)),
+        (".word", DirectiveWord::Value(Width::Word)),
+    ],
+    &[(".8byte", DirectiveWord::Value(Width::Double))],
+    &[],
+    &[(".zero", DirectiveWord::Zero)],
+    &[],
+    &[],
+    &[],
+    &[],
+    &[],
 ];
 
 /// Call frame information, whatever follows the common front.
@@ -610,29 +588,9 @@ fn second(word: &[u8]) -> u8
 fn listed_directive(word: &[u8]) -> Option<DirectiveWord>
     ensures { result ≡ named_in directive_words word.now }
 {
-    match second(word) {
-        b't' => named_in(&DIRECTIVES_T, word),
-        b'd' => named_in(&DIRECTIVES_D, word),
-        b'r' => named_in(&DIRECTIVES_R, word),
-        b'b' => named_in(&DIRECTIVES_B, word),
-        b's' => named_in(&DIRECTIVES_S, word),
-        b'g' => named_in(&DIRECTIVES_G, word),
-        b'l' => named_in(&DIRECTIVES_L, word),
-        b'w' => named_in(&DIRECTIVES_W, word),
-        b'e' => named_in(&DIRECTIVES_E, word),
-        b'a' => named_in(&DIRECTIVES_A, word),
-        b'p' => named_in(&DIRECTIVES_P, word),
-        b'h' => named_in(&DIRECTIVES_H, word),
-        b'2' => named_in(&DIRECTIVES_2, word),
-        b'4' => named_in(&DIRECTIVES_4, word),
-        b'8' => named_in(&DIRECTIVES_8, word),
-        b'q' => named_in(&DIRECTIVES_Q, word),
-        b'z' => named_in(&DIRECTIVES_Z, word),
-        b'o' => named_in(&DIRECTIVES_O, word),
-        b'f' => named_in(&DIRECTIVES_F, word),
-        b'i' => named_in(&DIRECTIVES_I, word),
-        _ => None,
-    }
+    let lists: &[&[(&str, DirectiveWord)]; 32] = &DIRECTIVES;
+    let key = usize::from(second(word) % 32);
+    named_in(lists[key], word)
 }
 
 /// The directive that the word is.
