@@ -2,17 +2,14 @@
 
 use Rattle.std.specs.Prelude.{⊤, ℕ, suc, ◌+◌, ◌-◌, ◌&&◌, nat_lt, List, [], ◌∷◌, take, drop, if◌then◌else◌}
 use Rattle.rv_layout_laws.specs.declared.site.Site.{Site}
-use Rattle.rv_layout_laws.specs.Calls.{is_call, bytes_of}
+use Rattle.rv_layout_laws.specs.Calls.{is_call}
+use Rattle.rv_layout_laws.specs.Sites.{site_end}
 use Rattle.rv_object_laws.specs.Object.{Section, Object, size_of, stored}
 use Rattle.rv_link_laws.specs.Moves.{Move}
 use Rattle.rv_link_laws.specs.Inputs.{goes_to_text}
 use Rattle.rv_link_laws.specs.CallSites.{link_register}
 use Rattle.rv_link_laws.specs.Shortened.{short_call}
 use Rattle.rv_cut_laws.specs.Cutting.{cut_object, AllCut}
-
--- the offset of the byte after a site: after the padding at its start, a section begins there
-abbrev pub site_end : Site → ℕ
-site_end s = s.offset + bytes_of s.kind
 
 -- the sites of a section of so many bytes, which begins at an offset
 abbrev pub count_within : (first size : ℕ) → List Site → ℕ

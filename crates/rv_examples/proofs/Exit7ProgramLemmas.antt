@@ -28,7 +28,8 @@ use Rattle.rv_source_laws.proofs.SettlingLemmas.{settled_least}
 use Rattle.rv_unit_laws.specs.Tables.{at_start}
 use Rattle.rv_source_laws.specs.Shortened.{text_of, sites_of, HaveBytes, Shortened}
 use Rattle.rv_chain_laws.specs.Contents.{IsLinked}
-use Rattle.rv_layout_laws.specs.Calls.{Offers, site_at, MayShorten, IsClosed, Unchanged, LeadsOutside, IsText}
+use Rattle.rv_layout_laws.specs.Calls.{Offers, site_at, MayShorten, IsClosed, LeadsOutside, IsText}
+use Rattle.rv_layout_laws.specs.Steps.{Unchanged}
 use Rattle.rv_layout_laws.proofs.ShorteningLemmas.{shortened_greatest}
 use Rattle.rv_source_laws.specs.SourceRun.{source_run}
 use Rattle.rv_runs_laws.proofs.ContentsLemmas.{linked_agrees}

@@ -1,3 +1,5 @@
+pub mod StepsLemmas
+pub mod JumpSizesLemmas
 pub mod ReachingLemmas
 pub mod WideningLemmas
 pub mod DroppingLemmas
@@ -6,3 +8,4 @@ pub mod RegrowingLemmas
 pub mod WorkedLemmas
 pub mod AlignmentLemmas
 pub mod OffsetsLemmas
+pub mod TablesLemmas

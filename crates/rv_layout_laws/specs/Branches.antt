@@ -1,11 +1,12 @@
 -- The sizes of branches: the least family in which each form below a statement's largest reaches
 -- (GNU as, "RISC-V-Directives"; ISA manual, "Conditional Branches").
 
-use Rattle.std.specs.Prelude.{◌≡◌, ◌⊎◌, ℕ, suc, ◌^◌, ◌≤◌, ◌<◌, ◌==◌, Bool, true, false, List, [], ◌∷◌, length, set, map, slice_index, slice_index_or, count_by, ℤ, pos, if◌then◌else◌}
+use Rattle.std.specs.Prelude.{◌≡◌, ◌⊎◌, ℕ, ◌^◌, ◌≤◌, ◌<◌, ◌==◌, Bool, true, false, List, [], ◌∷◌, length, map, slice_index, slice_index_or, count_by, ℤ, pos, if◌then◌else◌}
 use Rattle.rv_layout_laws.specs.declared.item.Forms.{Forms}
 use Rattle.rv_layout_laws.specs.declared.item.Forms.TheVariants.{Settled, CompressedBranch, Branch, CompressedJump}
 use Rattle.rv_layout_laws.specs.declared.item.Item.{Item}
 use Rattle.rv_layout_laws.specs.Offsets.{distance, AtMost, Reaches}
+use Rattle.rv_layout_laws.specs.Steps.{IsFamilyOf, SingleSteps, StepRounds}
 
 -- a size that the forms have
 abbrev pub Offers : Forms → ℕ → Type 0
@@ -60,9 +61,9 @@ ReachesBy items sizes i size =
     let item = item_at items i in
     Reaches (half item.forms size) item.addend (distance_of items sizes i)
 
-pub record IsFamily (items : List Item) (sizes : List ℕ) : Type 0 where
-  pub same_length : length sizes ≡ length items
-  pub offered : (i : ℕ) → Offers (item_at items i).forms (slice_index sizes i)
+-- a size for each statement, and each one that its forms have
+abbrev pub IsFamily : List Item → List ℕ → Type 0
+IsFamily items = IsFamilyOf (length items) (λ i. Offers (item_at items i).forms)
 
 -- each form below the statement's largest reaches; the largest is taken without a test
 pub record IsGood (items : List Item) (sizes : List ℕ) : Type 0 where
@@ -86,18 +87,12 @@ pub record MayWiden (items : List Item) (sizes : List ℕ) (i wider : ℕ) : Typ
       → ReachesBy items sizes i size → ⊥
 
 -- sizes that come from others by so many widenings, one after the other, in any order
-pub data Widenings (items : List Item) (from : List ℕ) : List ℕ → ℕ → Type 0 where
-  Unchanged : Widenings items from from 0
-  Widens : (sizes : List ℕ) (n i wider : ℕ) → Widenings items from sizes n →
-      MayWiden items sizes i wider
-      → Widenings items from (set sizes i wider) (suc n)
+abbrev pub Widenings : (items : List Item) (from : List ℕ) → List ℕ → ℕ → Type 0
+Widenings items = SingleSteps (MayWiden items)
 
 -- and by so many rounds, each of one widening or more
-pub data Rounds (items : List Item) (from : List ℕ) : List ℕ → ℕ → Type 0 where
-  Begins : Rounds items from from 0
-  Widens_some : (old new : List ℕ) (r n : ℕ) → Rounds items from old r →
-      Widenings items old new n → 0 < n
-      → Rounds items from new (suc r)
+abbrev pub Rounds : (items : List Item) (from : List ℕ) → List ℕ → ℕ → Type 0
+Rounds items = StepRounds (MayWiden items)
 
 abbrev pub smallest_sizes : List Item → List ℕ
 smallest_sizes items = map (λ item. smallest item.forms) items

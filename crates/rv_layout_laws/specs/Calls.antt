@@ -1,11 +1,12 @@
 -- The sizes of calls after relaxation: the greatest family in which no call has a shorter form that
 -- reaches (psABI, "Linker Relaxation": function call relaxation, alignment relaxation).
 
-use Rattle.std.specs.Prelude.{◌≡◌, ◌⊎◌, ℕ, suc, ◌+◌, ◌-◌, ◌^◌, ◌≤◌, ◌<◌, ◌==◌, min, Bool, true, false, IsTrue, List, [], ◌∷◌, length, set, map, slice_index, slice_index_or, count_by, ⊤, pos, ◌-ℤ◌, if◌then◌else◌}
+use Rattle.std.specs.Prelude.{◌≡◌, ◌⊎◌, ℕ, ◌+◌, ◌-◌, ◌^◌, ◌≤◌, ◌<◌, ◌==◌, min, Bool, true, false, IsTrue, List, [], ◌∷◌, length, map, slice_index, slice_index_or, count_by, ⊤, pos, ◌-ℤ◌, if◌then◌else◌}
 use Rattle.rv_layout_laws.specs.declared.site.Site.{Site}
 use Rattle.rv_layout_laws.specs.declared.site.SiteKind.{SiteKind}
 use Rattle.rv_layout_laws.specs.declared.site.SiteKind.TheVariants.{Call, Padding}
 use Rattle.rv_layout_laws.specs.Offsets.{AtMost, Reaches}
+use Rattle.rv_layout_laws.specs.Steps.{IsFamilyOf, SingleSteps, StepRounds}
 
 -- the bytes of a site before relaxation
 abbrev pub bytes_of : SiteKind → ℕ
@@ -56,9 +57,9 @@ abbrev pub ReachesBy : List Site → List ℕ → ℕ → ℕ → Type 0
 ReachesBy sites kept i size =
     let site = site_at sites i in ReachesFrom sites kept site.offset site.kind size
 
-pub record IsFamily (sites : List Site) (kept : List ℕ) : Type 0 where
-  pub same_length : length kept ≡ length sites
-  pub offered : (i : ℕ) → Offers (site_at sites i).kind (slice_index kept i)
+-- what is kept of each site, and each time what can be kept of it
+abbrev pub IsFamily : List Site → List ℕ → Type 0
+IsFamily sites = IsFamilyOf (length sites) (λ i. Offers (site_at sites i).kind)
 
 -- a call may take a shorter form that reaches
 pub record MayShorten (sites : List Site) (kept : List ℕ) (i shorter : ℕ) : Type 0 where
@@ -78,18 +79,12 @@ abbrev pub calls : List Site → ℕ
 calls sites = count_by (λ site. is_call site.kind) sites
 
 -- sizes that come from others by so many shortenings, one after the other, in any order
-pub data Shortenings (sites : List Site) (from : List ℕ) : List ℕ → ℕ → Type 0 where
-  Unchanged : Shortenings sites from from 0
-  Shortens : (kept : List ℕ) (n i shorter : ℕ) → Shortenings sites from kept n →
-      MayShorten sites kept i shorter
-      → Shortenings sites from (set kept i shorter) (suc n)
+abbrev pub Shortenings : (sites : List Site) (from : List ℕ) → List ℕ → ℕ → Type 0
+Shortenings sites = SingleSteps (MayShorten sites)
 
 -- and by so many rounds, each of one shortening or more
-pub data Rounds (sites : List Site) (from : List ℕ) : List ℕ → ℕ → Type 0 where
-  Begins : Rounds sites from from 0
-  Shortens_some : (old new : List ℕ) (r n : ℕ) → Rounds sites from old r →
-      Shortenings sites old new n → 0 < n
-      → Rounds sites from new (suc r)
+abbrev pub Rounds : (sites : List Site) (from : List ℕ) → List ℕ → ℕ → Type 0
+Rounds sites = StepRounds (MayShorten sites)
 
 abbrev pub whole_sizes : List Site → List ℕ
 whole_sizes sites = map (λ site. bytes_of site.kind) sites

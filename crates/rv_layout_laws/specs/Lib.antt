@@ -1,4 +1,6 @@
 pub mod Offsets
+pub mod Steps
+pub mod Tables
 pub mod Branches
 pub mod Calls
 pub mod Paddings

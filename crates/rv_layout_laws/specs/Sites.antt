@@ -1,9 +1,14 @@
--- The sites of a text: an alignment in code as one, and what a family keeps of a call.
+-- The sites of a text: where each ends, an alignment in code as one, and what a family keeps of a
+-- call.
 
-use Rattle.std.specs.Prelude.{ℕ, ◌&&◌, ◌==◌, List, [], ◌∷◌, if◌then◌else◌}
+use Rattle.std.specs.Prelude.{ℕ, ◌+◌, ◌&&◌, ◌==◌, List, [], ◌∷◌, if◌then◌else◌}
 use Rattle.rv_layout_laws.specs.declared.site.Site.{Site}
 use Rattle.rv_layout_laws.specs.declared.site.SiteKind.TheVariants as sites
-use Rattle.rv_layout_laws.specs.Calls.{is_call}
+use Rattle.rv_layout_laws.specs.Calls.{bytes_of, is_call}
+
+-- the offset of the byte after a site: after the padding at its start, a section begins there
+abbrev pub site_end : Site → ℕ
+site_end s = s.offset + bytes_of s.kind
 
 abbrev pub padding_site : (offset bytes alignment : ℕ) → Site
 padding_site offset bytes alignment = record {

@@ -11,13 +11,18 @@
 //!   and no other such family is greater anywhere (`specs/Calls`). Distances count alignments in full.
 //! - The paddings that then regrow are the least that align, and take no call out of reach (`specs/Paddings`).
 //!
+//! Widening and shortening are one theory (`specs/Steps`): a step changes one part; no step passes a good or a closed family,
+//! each adds to a weight that is bounded, and where none is left the family is good or closed. So it is the least or the
+//! greatest one. A pass keeps a table of where parts stand that is exact between two steps (`specs/Tables`).
+//!
 //! Main contracts: `widening_ends_at_the_least`, `shortening_ends_at_the_greatest`, `regrown_calls_reach`. Of code there are
 //! the types that definitions and code share: `Item`, a statement as its size goes by it, and `Site`, a part of the text
-//! that may keep only its first bytes. Must not know statements, objects, or how a pass goes over them.
+//! that may keep only its first bytes. Must not know statements, objects, or in which order a pass goes over them.
 //!
 //! ```text
 //! specs/Offsets   offset, distance, reach       specs/Calls     sites, what they drop, closed, greatest
 //! specs/Branches  items, good, least            specs/Paddings  least paddings, what regrows
+//! specs/Steps     families, steps, rounds       specs/Tables    tables of a pass
 //! ```
 //!
 //! Source: psABI, "Linker Relaxation"; ISA manual, "Control Transfer Instructions".

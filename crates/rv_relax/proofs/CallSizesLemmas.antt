@@ -1,6 +1,6 @@
 -- What a plan tells of calls is what relaxation keeps of them.
 
-use Rattle.std.proofs.Common.{◌≡◌, ◌⊎◌, inl, inr, ℕ, suc, Bool, true, false, cond, List, [], ◌∷◌, ◌++◌, Some, None, map, slice_index, refl, sym, ap, ◌∙◌}
+use Rattle.std.proofs.Common.{◌≡◌, inl, inr, ℕ, suc, Bool, true, false, cond, List, [], ◌∷◌, ◌++◌, Some, None, map, slice_index, refl, sym, ap, ◌∙◌}
 use Rattle.std.specs.Prelude.{◌==◌, ◌&&◌, ◌+◌, nat_lt, Result, Ok, Err, IfOk}
 use Rattle.std.specs.List.{flat_map}
 use Rattle.rv_isa.specs.declared.kind.Kind.{Kind}
@@ -10,6 +10,7 @@ use Rattle.rv_layout_laws.specs.declared.site.SiteKind.{SiteKind}
 use Rattle.rv_layout_laws.specs.declared.site.SiteKind.TheVariants.{Call, Padding}
 use Rattle.rv_layout_laws.specs.Calls.{Offers, site_at, IsGreatestClosed, is_call as is_call_site}
 use Rattle.rv_layout_laws.specs.Sites.{size_at}
+use Rattle.rv_layout_laws.proofs.JumpSizesLemmas.{IsJumpSize}
 use Rattle.rv_object_laws.specs.Object.{Relocation, Section, Object}
 use Rattle.rv_link_laws.specs.Moves.{Move}
 use Rattle.rv_link_laws.specs.Inputs.{goes_to_text}
@@ -27,22 +28,18 @@ use Rattle.rv_relax.specs.CallSizes.{call_bytes, calls_in, calls_among, calls_fr
 
 -- ---- sizes of calls
 
--- that a call can have
-abbrev IsSize : ℕ → Type 0
-IsSize n = (n ≡ 8) ⊎ ((n ≡ 4) ⊎ (n ≡ 2))
-
-of_offered : (k : SiteKind) (n : ℕ) → is_call_site k ≡ true → Offers k n → IsSize n
+of_offered : (k : SiteKind) (n : ℕ) → is_call_site k ≡ true → Offers k n → IsJumpSize n
 of_offered (Call call) n is (inl whole) = inl whole
 of_offered (Call call) n is (inr (inl jal)) = inr (inl jal)
 of_offered (Call call) n is (inr (inr jump)) = inr (inr jump.0)
 of_offered (Padding padding) n is h = absurd (cc)
 
-pub sized : (sites : List Site) (kept : List ℕ) → ((i : ℕ) → Offers (site_at sites i).kind (slice_index kept i)) → (offset : ℕ) → IsSize (size_at sites kept offset)
+pub sized : (sites : List Site) (kept : List ℕ) → ((i : ℕ) → Offers (site_at sites i).kind (slice_index kept i)) → (offset : ℕ) → IsJumpSize (size_at sites kept offset)
 sized [] kept offered offset = inl refl
 sized (s ∷ ss) [] offered offset = inl refl
 sized (s ∷ ss) (k ∷ kept) offered offset = by (is_call_site s.kind) (s.offset == offset) refl (sized ss kept (λ i. offered (suc i)) offset)
   where
-    by : (call here : Bool) → call ≡ is_call_site s.kind → IsSize (size_at ss kept offset) → IsSize (cond (call && here) k (size_at ss kept offset))
+    by : (call here : Bool) → call ≡ is_call_site s.kind → IsJumpSize (size_at ss kept offset) → IsJumpSize (cond (call && here) k (size_at ss kept offset))
     by true true is later = of_offered s.kind k (sym is) (offered 0)
     by true false is later = later
     by false here is later = later
@@ -83,12 +80,12 @@ whole_kind kinds.Set32 h = absurd (cc)
 whole_kind kinds.Pcrel32 h = absurd (cc)
 
 -- the kind of a call that keeps so many bytes
-kept_bytes : (k : Kind) (n : ℕ) → is_call k ≡ true → IsSize n → bytes_left (cond (true && nat_lt n 8) (cond (n == 2) kinds.RvcJump kinds.Jal) k) ≡ n
+kept_bytes : (k : Kind) (n : ℕ) → is_call k ≡ true → IsJumpSize n → bytes_left (cond (true && nat_lt n 8) (cond (n == 2) kinds.RvcJump kinds.Jal) k) ≡ n
 kept_bytes k n is (inl whole) = ap (λ m. bytes_left (cond (true && nat_lt m 8) (cond (m == 2) kinds.RvcJump kinds.Jal) k)) whole ∙ whole_kind k is ∙ sym whole
 kept_bytes k n is (inr (inl jal)) = ap (λ m. bytes_left (cond (true && nat_lt m 8) (cond (m == 2) kinds.RvcJump kinds.Jal) k)) jal ∙ sym jal
 kept_bytes k n is (inr (inr jump)) = ap (λ m. bytes_left (cond (true && nat_lt m 8) (cond (m == 2) kinds.RvcJump kinds.Jal) k)) jump ∙ sym jump
 
-one : (sizes : Sizes) (cut kept : List Move) (r : Relocation) → IsSize (sizes r.place) → cut_kind cut r ≡ shortened_kind sizes r → as_list (told_at Calls cut kept r) ≡ call_bytes sizes r
+one : (sizes : Sizes) (cut kept : List Move) (r : Relocation) → IsJumpSize (sizes r.place) → cut_kind cut r ≡ shortened_kind sizes r → as_list (told_at Calls cut kept r) ≡ call_bytes sizes r
 one sizes cut kept r size same = by (is_call r.kind) refl
   where
     by : (call : Bool) → call ≡ is_call r.kind → as_list (cond call (Some (bytes_left (cut_kind cut r))) None) ≡ cond call (sizes r.place ∷ []) []
@@ -100,7 +97,7 @@ one sizes cut kept r size same = by (is_call r.kind) refl
 -- ---- a section
 
 -- the calls among relocations, where each has the kind of its size
-each : (sizes : Sizes) (cut kept : List Move) (rs : List Relocation) → ((place : ℕ) → IsSize (sizes place)) → map (cut_kind cut) rs ≡ map (shortened_kind sizes) rs
+each : (sizes : Sizes) (cut kept : List Move) (rs : List Relocation) → ((place : ℕ) → IsJumpSize (sizes place)) → map (cut_kind cut) rs ≡ map (shortened_kind sizes) rs
     → flat_map (λ r. as_list (told_at Calls cut kept r)) rs ≡ flat_map (call_bytes sizes) rs
 each sizes cut kept [] size same = refl
 each sizes cut kept (r ∷ rs) size same =
@@ -109,7 +106,7 @@ each sizes cut kept (r ∷ rs) size same =
     ap (λ l. l ++ flat_map (λ q. as_list (told_at Calls cut kept q)) rs) (one sizes cut kept r (size r.place) first)
     ∙ ap (λ l. call_bytes sizes r ++ l) (each sizes cut kept rs size rest)
 
-section_told : (sizes : Sizes) (s : ShortSection) → ((place : ℕ) → IsSize (sizes place))
+section_told : (sizes : Sizes) (s : ShortSection) → ((place : ℕ) → IsJumpSize (sizes place))
     → (goes_to_text (whole_section_of s) ≡ true → map (cut_kind (moves_in s)) (whole_section_of s).relocations ≡ map (shortened_kind sizes) (whole_section_of s).relocations)
     → told_section Calls s ≡ calls_in sizes (whole_section_of s)
 section_told sizes s size same = by (goes_to_text (whole_section_of s)) refl
@@ -128,12 +125,12 @@ kinds_left sizes cut ms (r ∷ rs) same =
     let rest : map (cut_relocation cut) rs ≡ map (shortened_relocation sizes ms) rs = cc in
     ap (λ (q : Relocation). q.kind ∷ map (cut_kind cut) rs) first ∙ ap (λ l. shortened_kind sizes r ∷ l) (kinds_left sizes cut ms rs rest)
 
-shortened_one : (sizes : Sizes) (s : ShortSection) → ((place : ℕ) → IsSize (sizes place)) → short_section_of s ≡ shortened_section sizes (whole_section_of s) → told_section Calls s ≡ calls_in sizes (whole_section_of s)
+shortened_one : (sizes : Sizes) (s : ShortSection) → ((place : ℕ) → IsJumpSize (sizes place)) → short_section_of s ≡ shortened_section sizes (whole_section_of s) → told_section Calls s ≡ calls_in sizes (whole_section_of s)
 shortened_one sizes s size same = section_told sizes s size (λ text.
     kinds_left sizes (moves_in s) (cuts sizes (whole_section_of s)) (whole_section_of s).relocations
     (ap (λ (q : Section). q.relocations) (same ∙ ap (λ b. cond b (shortened_text sizes (whole_section_of s)) (whole_section_of s)) text)))
 
-shortened_sections_told : (sizes : ℕ → Sizes) (index : ℕ) (ss : List ShortSection) → ((index place : ℕ) → IsSize (sizes index place)) → map short_section_of ss ≡ shortened_sections sizes index (map whole_section_of ss)
+shortened_sections_told : (sizes : ℕ → Sizes) (index : ℕ) (ss : List ShortSection) → ((index place : ℕ) → IsJumpSize (sizes index place)) → map short_section_of ss ≡ shortened_sections sizes index (map whole_section_of ss)
     → told_sections Calls ss ≡ calls_among sizes index (map whole_section_of ss)
 shortened_sections_told sizes index [] size same = refl
 shortened_sections_told sizes index (s ∷ ss) size same =
@@ -142,7 +139,7 @@ shortened_sections_told sizes index (s ∷ ss) size same =
     ap (λ l. l ++ told_sections Calls ss) (shortened_one (sizes index) s (size index) first)
     ∙ ap (λ l. calls_in (sizes index) (whole_section_of s) ++ l) (shortened_sections_told sizes (suc index) ss size rest)
 
-shortened_told : (sizes : ℕ → ℕ → Sizes) (file : ℕ) (os : List ShortObject) → ((file index place : ℕ) → IsSize (sizes file index place)) → map short_object_of os ≡ shortened_from sizes file (map whole_object_of os)
+shortened_told : (sizes : ℕ → ℕ → Sizes) (file : ℕ) (os : List ShortObject) → ((file index place : ℕ) → IsJumpSize (sizes file index place)) → map short_object_of os ≡ shortened_from sizes file (map whole_object_of os)
     → told_objects Calls os ≡ calls_from sizes file (map whole_object_of os)
 shortened_told sizes file [] size same = refl
 shortened_told sizes file (o ∷ os) size same =
@@ -192,7 +189,7 @@ told_whole os left whole same = whole_told 1 left (same ∙ sym whole) ∙ ap (c
 
 pub told_shortened : (os : List Object) (left : List ShortObject) (kept : List ℕ) → IsGreatestClosed (sites_of os) kept → map whole_object_of left ≡ os → map short_object_of left ≡ shortened kept os → AreCallSizes true os (told_objects Calls left)
 told_shortened os left kept greatest whole same =
-    let size : (file index place : ℕ) → IsSize (sizes_by os kept file index place) = λ file index place. sized (sites_of os) kept greatest.closed.family.offered (base os file index + place) in (
+    let size : (file index place : ℕ) → IsJumpSize (sizes_by os kept file index place) = λ file index place. sized (sites_of os) kept greatest.closed.family.offered (base os file index + place) in (
       kept,
       greatest,
       shortened_told (sizes_by os kept) 1 left size (same ∙ ap (shortened_from (sizes_by os kept) 1) (sym whole)) ∙ ap (calls_from (sizes_by os kept) 1) whole,

@@ -4,11 +4,6 @@ pub mod StableLemmas
 pub mod PlannedLemmas
 pub mod KeptLemmas
 pub mod ByPlaceLemmas
-pub mod DroppingLemmas
-pub mod JudgingLemmas
-pub mod TablesLemmas
-pub mod GoingLemmas
-pub mod LaidLemmas
 pub mod PlacingLemmas
 pub mod PiecedLemmas
 pub mod OrderLemmas

@@ -6,8 +6,8 @@ use Rattle.rv_layout_laws.specs.declared.site.Site.{Site}
 use Rattle.rv_layout_laws.specs.declared.site.SiteKind.{SiteKind}
 use Rattle.rv_layout_laws.specs.declared.site.SiteKind.TheVariants.{Call, Padding}
 use Rattle.rv_layout_laws.specs.Calls.{is_call, site_at, InOrder, IsOutside, LeadsOutside}
-use Rattle.rv_cut_laws.specs.Walk.{site_end}
-use Rattle.rv_relax.specs.Passes.{IsInput, LeadsLow}
+use Rattle.rv_layout_laws.specs.Sites.{site_end}
+use Rattle.rv_call_sizes.specs.Passes.{IsInput, LeadsLow}
 use Rattle.rv_relax.specs.Placed.{ArePlaced, are_in_line, is_outside, leads_low, leads_outside}
 
 -- ---- what is tested stands

@@ -1,6 +1,5 @@
 pub mod Kept
 pub mod Paddings
-pub mod Passes
 pub mod Pieces
 pub mod Placed
 pub mod Plan

@@ -1,7 +1,7 @@
 -- The sites of a text, as `Placed` has them: what `IsInput` says, site by site, as tests.
 
 use Rattle.std.specs.Prelude.{◌≡◌, ℕ, ◌*◌, ◌^◌, ◌≤◌, Bool, true, not, ◌&&◌, ◌||◌, nat_le, List, [], ◌∷◌}
-use Rattle.rv_cut_laws.specs.Walk.{site_end}
+use Rattle.rv_layout_laws.specs.Sites.{site_end}
 use Rattle.rv_layout_laws.specs.declared.site.Site.{Site}
 use Rattle.rv_layout_laws.specs.declared.site.SiteKind.{SiteKind}
 use Rattle.rv_layout_laws.specs.declared.site.SiteKind.TheVariants.{Call, Padding}

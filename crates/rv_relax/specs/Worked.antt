@@ -1,10 +1,7 @@
--- Sections and sites for worked numbers.
+-- Sections for worked numbers.
 
-use Rattle.std.specs.Prelude.{ℕ, pos, true, false, List, [], ◌∷◌, None}
-use Rattle.rv_layout_laws.specs.Sites.{padding_site}
+use Rattle.std.specs.Prelude.{ℕ, pos, true, List, [], ◌∷◌, None}
 use Rattle.rv_isa.specs.declared.kind.Kind.TheVariants as kinds
-use Rattle.rv_layout_laws.specs.declared.site.Site.{Site}
-use Rattle.rv_layout_laws.specs.declared.site.SiteKind.TheVariants as sites
 use Rattle.rv_object_laws.specs.Object.{Relocation, Section, Progbits}
 use Rattle.rv_object_laws.specs.Padding.{no_operations}
 use Rattle.rv_link_laws.specs.Moves.{Move}
@@ -28,14 +25,3 @@ code_with rs = record {
 -- of a padding this many bytes are kept
 abbrev pub kept_of : ℕ → ℕ → ℕ → Move
 kept_of place full left = record { place = place; full = full; text = no_operations left }
-
--- a `call` at an offset of a text to another
-abbrev pub call_to : (offset target : ℕ) → Site
-call_to offset target = record {
-  offset = offset;
-  kind = sites.Call (record { target = target; addend = pos 0; compressed = false });
-}
-
--- `_start: call f; call f; call f; li a7, 93; ecall` and then `f: ret`
-abbrev pub calls_to_f : List Site
-calls_to_f = padding_site 0 0 2 ∷ call_to 0 32 ∷ call_to 8 32 ∷ call_to 16 32 ∷ []

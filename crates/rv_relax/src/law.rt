@@ -2,9 +2,8 @@
 
 ghost use Rattle.std.specs.Prelude.{◌≡◌, [], ◌∷◌, true, false};
 ghost use Rattle.std.specs.List.{list_all};
-ghost use Rattle.rv_layout_laws.specs.Calls.{IsGreatestClosed};
 ghost use Rattle.rv_link_laws.specs.Moves.{has_room, kept, lost, moves, new_offset};
-ghost use Rattle.rv_relax.specs.Worked.{align_at, calls_to_f, code_with, kept_of};
+ghost use Rattle.rv_relax.specs.Worked.{align_at, code_with, kept_of};
 
 /// Two bytes of code, and then an alignment to 8 with 6 bytes of padding. In a section that starts at a multiple of 8 all of
 /// it is needed; at an address with the remainder 2 four bytes are, with the remainder 6 none.
@@ -33,9 +32,4 @@ pub fn two_alignments()
         ≡ kept_of 4 6 4 ∷ kept_of 14 2 0 ∷ [] }
     ensures gone { moves 66 (code_with (align_at 2 6 ∷ align_at 8 2 ∷ []))
         ≡ kept_of 2 6 4 ∷ kept_of 8 2 0 ∷ [] }
-{}
-
-/// Three calls, each of 8 bytes, and 8 bytes between them and their target: `jal` reaches, so each keeps 4.
-pub fn three_calls()
-    ensures { IsGreatestClosed calls_to_f (0 ∷ 4 ∷ 4 ∷ 4 ∷ []) }
 {}

@@ -1,10 +1,8 @@
 //! The plan of a text: what the linker keeps of calls and of paddings, and where bytes come to stand.
 //!
 //! A call has eight bytes, and a shorter form where its target is near (R_RISCV_RELAX). Which calls are shortened is decided
-//! for a whole text at once: the sizes are the greatest with which no call has a shorter form that reaches, distances counted
-//! with every padding in full (`rv_layout_laws`, `IsGreatestClosed`). [`Plan`] takes objects with the sites of their text
-//! ([`Placed`]) and finds them in passes, forwards and backwards in turn, over tables of numbers: no byte moves, and the passes
-//! are at most twice the calls and one. Where relaxation is off each call keeps its eight bytes.
+//! for a whole text at once, over the sites of its text and with every padding in full (`rv_call_sizes`). Where relaxation is
+//! off each call keeps its eight bytes.
 //!
 //! An alignment in code (R_RISCV_ALIGN) brings as much padding as it can ever need. With these sizes each keeps the least that
 //! aligns its end, written anew as instructions without effect; the rest goes, and all that stands behind it moves. A section
@@ -12,14 +10,15 @@
 //! an address.
 //!
 //! Main contract: `Plan::of` gives the plan of what relaxation leaves of objects (`Relaxes`, `rv_link_laws`), in which the
-//! paddings of each section are its `moves`, or `AlignmentShort` where one lacks bytes. A plan has no byte of the text. It
-//! lends its objects, less what is cut of their calls (`rv_shorten`), and what is kept of the paddings of each of their
-//! sections ([`SectionPaddings`]): new offsets, the bytes that are kept, which go straight to where they are wanted, and the
-//! instructions that go. By number it tells how long each call and each alignment is, and where an offset of the text is.
+//! paddings of each section are its `moves`, or `AlignmentShort` where one lacks bytes. A plan takes objects with the sites of
+//! their text ([`Placed`]) and has no byte of it. It lends the objects, less what is cut of their calls (`rv_shorten`), and
+//! what is kept of the paddings of each of their sections ([`SectionPaddings`]): new offsets, the bytes that are kept, which
+//! go straight to where they are wanted, and the instructions that go. By number it tells how long each call and each
+//! alignment is, and where an offset of the text is.
 //!
 //! Offsets of a text have 128 bits, since each of its sections may have 2^64 - 1 bytes.
 //!
-//! It must not know symbols, values of relocations, or where sections come to stand.
+//! It must not know symbols, values of relocations, how sizes of calls are found, or where sections come to stand.
 //!
 //! ```text
 //! let placed = Placed::of(&objects, sites);
@@ -41,18 +40,14 @@ mod bytes;
 mod law;
 mod losses;
 mod paddings;
-mod passes;
 mod pieces;
 mod placed;
-mod places;
 mod plan;
-mod reach;
 mod section_paddings;
-mod sizes;
 mod told;
 
 pub use alignments::{asked_alignment, full_padding, has_padding};
-pub use law::{one_alignment, three_calls, two_alignments};
+pub use law::{one_alignment, two_alignments};
 pub use placed::Placed;
 pub use plan::Plan;
 pub use section_paddings::SectionPaddings;

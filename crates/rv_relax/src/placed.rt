@@ -6,7 +6,7 @@
 ghost use Rattle.std.specs.Prelude.{◌≡◌, map};
 ghost use Rattle.rv_object_types.specs.View.{object_of};
 ghost use Rattle.rv_link_laws.specs.CallSites.{sites_of};
-ghost use Rattle.rv_relax.specs.Passes.{IsInput};
+ghost use Rattle.rv_call_sizes.specs.Passes.{IsInput};
 ghost use Rattle.rv_relax.specs.Placed.{ArePlaced};
 
 use rv_layout_laws::Site;

@@ -19,7 +19,7 @@ ghost use Rattle.rv_relax.specs.declared.told.Counted.TheVariants.{Calls};
 
 use crate::placed::Placed;
 use crate::section_paddings::SectionPaddings;
-use crate::sizes::{Sizes, find_sizes};
+use rv_call_sizes::CallSizes;
 use rv_fault::LinkFault;
 use rv_object_types::Object;
 use rv_shorten::{ShortObject, ShortSection, shorten, whole};
@@ -63,7 +63,7 @@ impl<'o, 'a> Cut<'o, 'a> {
     {
         let objects = placed.objects();
         let sites = placed.sites();
-        let Sizes { kept, rounds } = find_sizes(alloc, sites)?;
+        let CallSizes { kept, rounds } = CallSizes::greatest(alloc, sites)?;
         let objects = shorten(alloc, objects, sites, &kept)?;
         Ok(Cut { objects, rounds })
     }

@@ -1,3 +1,3 @@
 pub mod PlacesLemmas
-pub mod GoingLemmas
+pub mod FirstTableLemmas
 pub mod PackingLemmas

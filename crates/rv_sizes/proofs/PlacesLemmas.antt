@@ -1,18 +1,19 @@
 -- What a pass that sets one statement's size leaves as it is.
 
-use Rattle.std.proofs.Common.{◌≡◌, ◌⊎◌, inl, inr, ℕ, zero, suc, ◌+◌, ◌*◌, ◌^◌, ◌≤◌, ◌<◌, ◌==◌, ltb, Bool, true, false, if◌then◌else◌, List, [], ◌∷◌, length, set, take, drop, slice_index, sum, ℤ, pos, ◌-ℤ◌, refl, ap, subst, sym, ◌∙◌, arith}
-use Rattle.std.proofs.lemmas.Int.{ints}
-use Rattle.std.proofs.lemmas.Bool.{cases_lt, cases_eq, cases_Bool, eq-eqb, ne_eqb, lt-ltb, le-ltb, ltb-false}
+use Rattle.std.proofs.Common.{◌≡◌, ◌⊎◌, inl, inr, ℕ, zero, suc, ◌+◌, ◌*◌, ◌^◌, ◌≤◌, ◌<◌, ◌==◌, ltb, Bool, true, false, if◌then◌else◌, List, [], ◌∷◌, length, set, take, drop, slice_index, sum, ℤ, refl, ap, subst, sym, ◌∙◌, arith}
+use Rattle.std.proofs.lemmas.Bool.{cases_eq, eq-eqb, ne_eqb, ltb-false}
 use Rattle.std.proofs.lemmas.List.{length-set, set-get_or, get_or-set_same, get_or-set_other}
 use Rattle.std.proofs.lemmas.List.Sums.{sum_by-cons}
-use Rattle.rv_layout_laws.specs.declared.item.Forms.{Forms}
-use Rattle.rv_layout_laws.specs.declared.item.Forms.TheVariants.{Settled, CompressedBranch, Branch, CompressedJump}
 use Rattle.rv_layout_laws.specs.declared.item.Item.{Item}
 use Rattle.rv_layout_laws.specs.Offsets.{offset, Reaches, rest}
-use Rattle.rv_layout_laws.specs.Branches.{Offers, half, is_branch, item_at, largest, of_section, distance_of, IsFamily, MayWiden, ReachesBy}
+use Rattle.rv_layout_laws.specs.Branches.{Offers, half, is_branch, item_at, largest, of_section, distance_of, IsFamily, MayWiden}
+use Rattle.rv_layout_laws.specs.Steps.{Changed, Kept}
+use Rattle.rv_layout_laws.specs.Tables.{forwards_away, backwards_away}
 use Rattle.rv_layout_laws.proofs.ReachingLemmas.{offset_more}
-use Rattle.rv_layout_laws.proofs.WideningLemmas.{set_holds, doubled, none_between, offered_positive}
-use Rattle.rv_layout_laws.proofs.OffsetsLemmas.{rest_more, whole}
+use Rattle.rv_layout_laws.proofs.OffsetsLemmas.{rest_more}
+use Rattle.rv_layout_laws.proofs.StepsLemmas.{set_holds, set_family}
+use Rattle.rv_layout_laws.proofs.TablesLemmas.{LeavesOthers, forwards_table, backwards_table, forwards_is, backwards_is, offset_most, rest_most, table_most}
+use Rattle.rv_layout_laws.proofs.WideningLemmas.{doubled, doubles, is_branch_below}
 use Rattle.rv_sizes.specs.Passes.{IsInput, around, IsTable, AreStarts, AreRests, IsJudged, Stays, IsVisit}
 
 -- ---- one section's sizes
@@ -61,13 +62,15 @@ sum_bounded (item ∷ items) s (size ∷ sizes) bounded =
     sum_by-cons (λ x. x) (if item.section == s then size else 0) (of_section s items sizes) in
     omega arith
 
+sum_small : (items : List Item) (sizes : List ℕ) (s : ℕ) → length sizes ≡ length items → length items < 2 ^ 30 → ((j : ℕ) → slice_index sizes j < 2 ^ 32) → sum (of_section s items sizes) ≤ 2 ^ 62
+sum_small items sizes s same few bounded = omega (arith, sum_bounded items s sizes bounded)
+
 -- both stay small
 pub places_small : (items : List Item) (sizes : List ℕ) (s i : ℕ) → length sizes ≡ length items → length items < 2 ^ 30 → ((j : ℕ) → slice_index sizes j < 2 ^ 32)
     → (offset (of_section s items sizes) i ≤ 2 ^ 62) × (rest (of_section s items sizes) i ≤ 2 ^ 62)
 places_small items sizes s i same few bounded =
-    let all : sum (of_section s items sizes) ≤ length sizes * 2 ^ 32 = sum_bounded items s sizes bounded in
-    let parts : offset (of_section s items sizes) i + rest (of_section s items sizes) i ≡ sum (of_section s items sizes) = whole (of_section s items sizes) i in
-    (omega arith, omega arith)
+    let all : sum (of_section s items sizes) ≤ 2 ^ 62 = sum_small items sizes s same few bounded in
+    (omega (arith, offset_most (of_section s items sizes) i), omega (arith, rest_most (of_section s items sizes) i))
 
 -- ---- one step
 
@@ -77,36 +80,19 @@ sized items sizes i wider s lt same =
     section_at s items (set sizes i wider) i lt (length-set sizes i wider ∙ same)
     ∙ ap (λ (v : ℕ). if (item_at items i).section == s then v else 0) (get_or-set_same sizes i wider 0 (omega arith))
 
-stepped_family : (items : List Item) (sizes : List ℕ) (i wider : ℕ) → IsFamily items sizes → Offers (item_at items i).forms wider → IsFamily items (set sizes i wider)
-stepped_family items sizes i wider f o = record {
-  same_length = length-set sizes i wider ∙ f.same_length;
-  offered = set_holds (λ k size. Offers (item_at items k).forms size) sizes i wider f.offered o;
+leaves : (items : List Item) (sizes : List ℕ) (i wider : ℕ) → LeavesOthers i (around items sizes) (around items (set sizes i wider))
+leaves items sizes i wider = record {
+  before = λ j le. ap sum (take_kept (item_at items j).section items sizes i wider j le);
+  behind = λ j lt. ap sum (drop_kept (item_at items j).section items sizes i wider j lt);
 }
 
 -- forwards, statement i gets its start
 pub forward_table : (items : List Item) (i : ℕ) (sizes stands : List ℕ) (start wider : ℕ) → i < length items → Offers (item_at items i).forms wider → wider < 2 ^ 32
     → IsTable items i sizes stands → start ≡ offset (around items sizes i) i → IsTable items (i + 1) (set sizes i wider) (set stands i start)
 forward_table items i sizes stands start wider lt o small table is = record {
-  family = stepped_family items sizes i wider table.family o;
+  family = set_family sizes i wider table.family o;
   bounded = set_holds (λ k size. size < 2 ^ 32) sizes i wider table.bounded small;
-  same_length = length-set stands i start ∙ table.same_length;
-  starts = λ j before. elim (cases_eq j i) [
-    | inl same ↦
-        let read : slice_index (set stands i start) j ≡ start = ap (slice_index (set stands i start)) same ∙ get_or-set_same stands i start 0 (omega (arith, table.same_length)) in
-        let moved : offset (around items (set sizes i wider) j) j ≡ offset (around items sizes j) j = ap sum (take_kept (item_at items j).section items sizes i wider j (omega arith)) in
-        let there : offset (around items sizes i) i ≡ offset (around items sizes j) j = ap (λ k. offset (around items sizes k) k) (sym same) in
-        omega arith
-    | inr other ↦
-        let read : slice_index (set stands i start) j ≡ slice_index stands j = get_or-set_other stands i j start 0 other in
-        let was : slice_index stands j ≡ offset (around items sizes j) j = table.starts j (omega arith) in
-        let moved : offset (around items (set sizes i wider) j) j ≡ offset (around items sizes j) j = ap sum (take_kept (item_at items j).section items sizes i wider j (omega arith)) in
-        omega arith
-  ];
-  rests = λ j after within.
-      let read : slice_index (set stands i start) j ≡ slice_index stands j = get_or-set_other stands i j start 0 (λ e. omega arith) in
-      let was : slice_index stands j ≡ rest (around items sizes j) j = table.rests j (omega arith) within in
-      let moved : rest (around items (set sizes i wider) j) j ≡ rest (around items sizes j) j = ap sum (drop_kept (item_at items j).section items sizes i wider j (omega arith)) in
-      omega arith;
+  table = forwards_table start lt (leaves items sizes i wider) table.table is;
 }
 
 ended : (ends : List ℕ) (own s start wider before after : ℕ) → start ≡ slice_index ends own → slice_index ends s ≡ before → s < length ends
@@ -137,32 +123,17 @@ forward_ends items i sizes ends start wider lt same is starts s within =
 -- backwards, statement i gets what is left from it on
 pub backward_table : (items : List Item) (i : ℕ) (sizes stands : List ℕ) (left wider : ℕ) → i < length items → Offers (item_at items i).forms wider → wider < 2 ^ 32
     → IsTable items (i + 1) sizes stands → left ≡ rest (around items sizes i) (i + 1) + wider → IsTable items i (set sizes i wider) (set stands i left)
-backward_table items i sizes stands left wider lt o small table is = record {
-  family = stepped_family items sizes i wider table.family o;
-  bounded = set_holds (λ k size. size < 2 ^ 32) sizes i wider table.bounded small;
-  same_length = length-set stands i left ∙ table.same_length;
-  starts = λ j before.
-      let read : slice_index (set stands i left) j ≡ slice_index stands j = get_or-set_other stands i j left 0 (λ e. omega arith) in
-      let was : slice_index stands j ≡ offset (around items sizes j) j = table.starts j (omega arith) in
-      let moved : offset (around items (set sizes i wider) j) j ≡ offset (around items sizes j) j = ap sum (take_kept (item_at items j).section items sizes i wider j (omega arith)) in
-      omega arith;
-  rests = λ j after within. elim (cases_eq j i) [
-    | inl same ↦
-        let read : slice_index (set stands i left) j ≡ left = ap (slice_index (set stands i left)) same ∙ get_or-set_same stands i left 0 (omega (arith, table.same_length)) in
-        let own : slice_index (around items (set sizes i wider) i) i ≡ wider =
-        own_size items (set sizes i wider) i lt (length-set sizes i wider ∙ table.family.same_length) ∙ get_or-set_same sizes i wider 0 (omega (arith, table.family.same_length)) in
-        let more : rest (around items (set sizes i wider) i) i ≡ slice_index (around items (set sizes i wider) i) i + rest (around items (set sizes i wider) i) (i + 1) =
-        rest_more (around items (set sizes i wider) i) i in
-        let kept : rest (around items (set sizes i wider) i) (i + 1) ≡ rest (around items sizes i) (i + 1) = ap sum (drop_kept (item_at items i).section items sizes i wider (i + 1) (omega arith)) in
-        let there : rest (around items (set sizes i wider) i) i ≡ rest (around items (set sizes i wider) j) j = ap (λ k. rest (around items (set sizes i wider) k) k) (sym same) in
-        omega arith
-    | inr other ↦
-        let read : slice_index (set stands i left) j ≡ slice_index stands j = get_or-set_other stands i j left 0 other in
-        let was : slice_index stands j ≡ rest (around items sizes j) j = table.rests j (omega arith) within in
-        let moved : rest (around items (set sizes i wider) j) j ≡ rest (around items sizes j) j = ap sum (drop_kept (item_at items j).section items sizes i wider j (omega arith)) in
-        omega arith
-  ];
-}
+backward_table items i sizes stands left wider lt o small table is =
+    let own : slice_index (around items (set sizes i wider) i) i ≡ wider =
+    own_size items (set sizes i wider) i lt (length-set sizes i wider ∙ table.family.same_length) ∙ get_or-set_same sizes i wider 0 (omega (arith, table.family.same_length)) in
+    let more : rest (around items (set sizes i wider) i) i ≡ slice_index (around items (set sizes i wider) i) i + rest (around items (set sizes i wider) i) (i + 1) =
+    rest_more (around items (set sizes i wider) i) i in
+    let kept : rest (around items (set sizes i wider) i) (i + 1) ≡ rest (around items sizes i) (i + 1) = ap sum (drop_kept (item_at items i).section items sizes i wider (i + 1) (omega arith)) in
+    record {
+      family = set_family sizes i wider table.family o;
+      bounded = set_holds (λ k size. size < 2 ^ 32) sizes i wider table.bounded small;
+      table = backwards_table left lt (leaves items sizes i wider) table.table (omega arith);
+    }
 
 pub backward_ends : (items : List Item) (i : ℕ) (sizes ends : List ℕ) (start wider : ℕ) → i < length items → length sizes ≡ length items
     → start ≡ slice_index ends (item_at items i).section → AreRests items (i + 1) sizes ends → AreRests items i (set sizes i wider) (set ends (item_at items i).section (start + wider))
@@ -177,70 +148,19 @@ backward_ends items i sizes ends start wider lt same is starts s within =
 
 -- ---- distances
 
--- forwards: the start of a target behind, what is left from one ahead
 pub forward_is : (items : List Item) (sections i : ℕ) (sizes stands : List ℕ) (start : ℕ) → IsInput items sections → i < length items → IsTable items i sizes stands
-    → start ≡ offset (around items sizes i) i → is_branch (item_at items i).forms ≡ true → (away : ℤ)
-    → away ≡ (if ltb (item_at items i).target i then pos (slice_index stands (item_at items i).target) -ℤ pos start else pos (slice_index stands i) -ℤ pos (slice_index stands (item_at items i).target))
-    → away ≡ distance_of items sizes i
-forward_is items sections i sizes stands start input lt table is branch away e =
-    let target : ℕ = (item_at items i).target in
-    let same : (item_at items (item_at items i).target).section ≡ (item_at items i).section = (input.within i lt).same_section branch in
-    let there : (item_at items i).target < length items = (input.within i lt).has_target in
-    elim (cases_lt (item_at items i).target i) [
-      | inl behind ↦
-          let chosen : (if ltb (item_at items i).target i then pos (slice_index stands (item_at items i).target) -ℤ pos start else pos (slice_index stands i) -ℤ pos (slice_index stands (item_at items i).target))
-          ≡ pos (slice_index stands (item_at items i).target) -ℤ pos start =
-          ap (λ (b : Bool). if b then pos (slice_index stands (item_at items i).target) -ℤ pos start else pos (slice_index stands i) -ℤ pos (slice_index stands (item_at items i).target)) (lt-ltb (item_at items i).target i behind) in
-          let at : slice_index stands (item_at items i).target ≡ offset (around items sizes i) (item_at items i).target =
-          table.starts (item_at items i).target behind ∙ ap (λ s. offset (of_section s items sizes) (item_at items i).target) same in
-          e ∙ chosen ∙ omega (arith, ints)
-      | inr ahead ↦
-          let chosen : (if ltb (item_at items i).target i then pos (slice_index stands (item_at items i).target) -ℤ pos start else pos (slice_index stands i) -ℤ pos (slice_index stands (item_at items i).target))
-          ≡ pos (slice_index stands i) -ℤ pos (slice_index stands (item_at items i).target) =
-          ap (λ (b : Bool). if b then pos (slice_index stands (item_at items i).target) -ℤ pos start else pos (slice_index stands i) -ℤ pos (slice_index stands (item_at items i).target)) (le-ltb (item_at items i).target i ahead) in
-          let at : slice_index stands (item_at items i).target ≡ rest (around items sizes i) (item_at items i).target =
-          table.rests (item_at items i).target ahead there ∙ ap (λ s. rest (of_section s items sizes) (item_at items i).target) same in
-          let own : slice_index stands i ≡ rest (around items sizes i) i = table.rests i (omega arith) lt in
-          let first : offset (around items sizes i) i + rest (around items sizes i) i ≡ sum (around items sizes i) = whole (around items sizes i) i in
-          let second : offset (around items sizes i) (item_at items i).target + rest (around items sizes i) (item_at items i).target ≡ sum (around items sizes i) = whole (around items sizes i) (item_at items i).target in
-          e ∙ chosen ∙ omega (arith, ints)
-    ]
+    → start ≡ offset (around items sizes i) i → is_branch (item_at items i).forms ≡ true → forwards_away stands start i (item_at items i).target ≡ distance_of items sizes i
+forward_is items sections i sizes stands start input lt table is branch =
+    forwards_is (length items) i (item_at items i).target start (around items sizes) stands table.table lt (input.within i lt).has_target
+    (ap (λ s. of_section s items sizes) ((input.within i lt).same_section branch)) is
 
--- backwards: the start of a target behind, what is left from one ahead
 pub backward_is : (items : List Item) (sections i : ℕ) (sizes stands : List ℕ) (left : ℕ) → IsInput items sections → i < length items → IsTable items (i + 1) sizes stands
-    → left ≡ rest (around items sizes i) i → is_branch (item_at items i).forms ≡ true → (away : ℤ)
-    → away ≡ (if ltb i (item_at items i).target then pos left -ℤ pos (slice_index stands (item_at items i).target) else pos (slice_index stands (item_at items i).target) -ℤ pos (slice_index stands i))
-    → away ≡ distance_of items sizes i
-backward_is items sections i sizes stands left input lt table is branch away e =
-    let same : (item_at items (item_at items i).target).section ≡ (item_at items i).section = (input.within i lt).same_section branch in
-    let there : (item_at items i).target < length items = (input.within i lt).has_target in
-    elim (cases_lt i (item_at items i).target) [
-      | inl ahead ↦
-          let chosen : (if ltb i (item_at items i).target then pos left -ℤ pos (slice_index stands (item_at items i).target) else pos (slice_index stands (item_at items i).target) -ℤ pos (slice_index stands i))
-          ≡ pos left -ℤ pos (slice_index stands (item_at items i).target) =
-          ap (λ (b : Bool). if b then pos left -ℤ pos (slice_index stands (item_at items i).target) else pos (slice_index stands (item_at items i).target) -ℤ pos (slice_index stands i)) (lt-ltb i (item_at items i).target ahead) in
-          let at : slice_index stands (item_at items i).target ≡ rest (around items sizes i) (item_at items i).target =
-          table.rests (item_at items i).target (omega arith) there ∙ ap (λ s. rest (of_section s items sizes) (item_at items i).target) same in
-          let first : offset (around items sizes i) i + rest (around items sizes i) i ≡ sum (around items sizes i) = whole (around items sizes i) i in
-          let second : offset (around items sizes i) (item_at items i).target + rest (around items sizes i) (item_at items i).target ≡ sum (around items sizes i) = whole (around items sizes i) (item_at items i).target in
-          e ∙ chosen ∙ omega (arith, ints)
-      | inr behind ↦
-          let chosen : (if ltb i (item_at items i).target then pos left -ℤ pos (slice_index stands (item_at items i).target) else pos (slice_index stands (item_at items i).target) -ℤ pos (slice_index stands i))
-          ≡ pos (slice_index stands (item_at items i).target) -ℤ pos (slice_index stands i) =
-          ap (λ (b : Bool). if b then pos left -ℤ pos (slice_index stands (item_at items i).target) else pos (slice_index stands (item_at items i).target) -ℤ pos (slice_index stands i)) (le-ltb i (item_at items i).target behind) in
-          let at : slice_index stands (item_at items i).target ≡ offset (around items sizes i) (item_at items i).target =
-          table.starts (item_at items i).target (omega arith) ∙ ap (λ s. offset (of_section s items sizes) (item_at items i).target) same in
-          let own : slice_index stands i ≡ offset (around items sizes i) i = table.starts i (omega arith) in
-          e ∙ chosen ∙ omega (arith, ints)
-    ]
+    → left ≡ rest (around items sizes i) i → is_branch (item_at items i).forms ≡ true → backwards_away stands left i (item_at items i).target ≡ distance_of items sizes i
+backward_is items sections i sizes stands left input lt table is branch =
+    backwards_is (length items) i (item_at items i).target left (around items sizes) stands table.table (input.within i lt).has_target
+    (ap (λ s. of_section s items sizes) ((input.within i lt).same_section branch)) is
 
 -- ---- what is judged
-
-pub settled_stays : (forms : Forms) (size : ℕ) → is_branch forms ≡ false → Offers forms size → size < largest forms → ⊥
-settled_stays (Settled bytes) size e o lt = omega arith
-settled_stays CompressedBranch size e o lt = (cc)
-settled_stays Branch size e o lt = (cc)
-settled_stays CompressedJump size e o lt = (cc)
 
 -- what is judged of a statement that is read, at the distance that is computed
 pub judged_there : (items : List Item) (i : ℕ) (item : Item) (away said : ℤ) (size wider : ℕ) → item ≡ item_at items i → said ≡ away → IsJudged item said size wider → IsJudged (item_at items i) away size wider
@@ -252,32 +172,11 @@ pub visited : (items : List Item) (sizes : List ℕ) (i : ℕ) → IsFamily item
     → (is_branch (item_at items i).forms ≡ true → away ≡ distance_of items sizes i)
     → ((wider ≡ slice_index sizes i) × Stays items sizes i) ⊎ ((wider ≡ 2 * slice_index sizes i) × MayWiden items sizes i wider)
 visited items sizes i f away wider judged is =
+    let there : slice_index sizes i < largest (item_at items i).forms → away ≡ distance_of items sizes i = λ below. is (is_branch_below (item_at items i).forms (slice_index sizes i) (f.offered i) below) in
+    let At : ℤ → Type 0 = Reaches (half (item_at items i).forms (slice_index sizes i)) (item_at items i).addend in
     elim judged [
-      | inl kept ↦ inl (
-        kept.0,
-        λ lt. elim (cases_Bool (is_branch (item_at items i).forms)) [
-          | inl branch ↦ subst (Reaches (half (item_at items i).forms (slice_index sizes i)) (item_at items i).addend) (is branch) (kept.1 lt)
-          | inr settled ↦ absurd (settled_stays (item_at items i).forms (slice_index sizes i) settled (f.offered i) lt)
-        ],
-      )
-      | inr grown ↦ elim (cases_Bool (is_branch (item_at items i).forms)) [
-        | inr settled ↦ absurd (settled_stays (item_at items i).forms (slice_index sizes i) settled (f.offered i) grown.1.0)
-        | inl branch ↦
-            let below : slice_index sizes i < largest (item_at items i).forms = grown.1.0 in
-            let some : 0 < slice_index sizes i = offered_positive (item_at items i).forms (slice_index sizes i) (f.offered i) below in
-            let twice : wider ≡ 2 * slice_index sizes i = grown.0 in
-            inr (
-              grown.0,
-              record {
-                grows = omega arith;
-                offered = subst (Offers (item_at items i).forms) (sym grown.0) (doubled (item_at items i).forms (slice_index sizes i) (f.offered i) below);
-                short = λ other o le lt reach.
-                    let same : other ≡ slice_index sizes i = none_between (item_at items i).forms (slice_index sizes i) other (f.offered i) o le (omega arith) in
-                    let here : ReachesBy items sizes i (slice_index sizes i) = subst (ReachesBy items sizes i) same reach in
-                    grown.1.1 (subst (Reaches (half (item_at items i).forms (slice_index sizes i)) (item_at items i).addend) (sym (is branch)) here);
-              },
-            )
-      ]
+      | inl kept ↦ inl (kept.0, λ below. subst At (there below) (kept.1 below))
+      | inr grown ↦ inr (grown.0, subst (MayWiden items sizes i) (sym grown.0) (doubles items sizes i f grown.1.0 (λ here. grown.1.1 (subst At (sym (there grown.1.0)) here))))
     ]
 
 pub judged_offered : (items : List Item) (sizes : List ℕ) (i : ℕ) → IsFamily items sizes → (away : ℤ) (wider : ℕ) → IsJudged (item_at items i) away (slice_index sizes i) wider
@@ -296,12 +195,12 @@ visit_told items sizes i f away wider judged is true up down =
     let grows : slice_index sizes i < wider = up refl in
     elim (visited items sizes i f away wider judged is) [
       | inl kept ↦ let same : wider ≡ slice_index sizes i = kept.0 in absurd (omega arith)
-      | inr may ↦ (wider, (may.1, refl))
+      | inr may ↦ Changed wider may.1
     ]
 visit_told items sizes i f away wider judged is false up down =
     let same : wider ≡ slice_index sizes i = down refl in
     elim (visited items sizes i f away wider judged is) [
-      | inl kept ↦ (ap (set sizes i) same ∙ set-get_or sizes i 0, kept.1)
+      | inl kept ↦ subst (λ now. IsVisit items i sizes now false) (sym (ap (set sizes i) same ∙ set-get_or sizes i 0)) (Kept kept.1)
       | inr may ↦ let grows : slice_index sizes i < wider = may.1.grows in absurd (omega arith)
     ]
 
@@ -317,17 +216,7 @@ start_small items sections i sizes stands ends input same lt table starts =
 
 pub table_small : (items : List Item) (sections i : ℕ) (sizes stands : List ℕ) → IsInput items sections → IsTable items i sizes stands → (j : ℕ) → j < length items → slice_index stands j ≤ 2 ^ 62
 table_small items sections i sizes stands input table j within =
-    let both = places_small items sizes (item_at items j).section j table.family.same_length input.few table.bounded in
-    elim (cases_lt j i) [
-      | inl before ↦
-          let is : slice_index stands j ≡ offset (around items sizes j) j = table.starts j before in
-          let small : offset (around items sizes j) j ≤ 2 ^ 62 = both.0 in
-          omega arith
-      | inr after ↦
-          let is : slice_index stands j ≡ rest (around items sizes j) j = table.rests j after within in
-          let small : rest (around items sizes j) j ≤ 2 ^ 62 = both.1 in
-          omega arith
-    ]
+    table_most (length items) i (2 ^ 62) (around items sizes) stands table.table (λ k. sum_small items sizes (item_at items k).section table.family.same_length input.few table.bounded) j within
 
 pub rests_small : (items : List Item) (sections i : ℕ) (sizes stands ends : List ℕ) → IsInput items sections → sections ≡ length ends → i < length items → IsTable items (i + 1) sizes stands → AreRests items (i + 1) sizes ends
     → (slice_index ends (item_at items i).section ≡ rest (around items sizes i) (i + 1)) × ((rest (around items sizes i) i ≡ slice_index ends (item_at items i).section + slice_index sizes i) × (rest (around items sizes i) i ≤ 2 ^ 62))

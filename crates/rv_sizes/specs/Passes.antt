@@ -1,9 +1,11 @@
 -- What the tables hold while a pass goes over the statements: each statement's start, or what is
 -- left from it on.
 
-use Rattle.std.specs.Prelude.{◌≡◌, ◌⊎◌, ℕ, ◌*◌, ◌^◌, ◌≤◌, ◌<◌, Bool, true, List, length, set, slice_index, ℤ, MatchBool}
+use Rattle.std.specs.Prelude.{◌≡◌, ◌⊎◌, ℕ, ◌*◌, ◌^◌, ◌<◌, Bool, true, List, length, slice_index, ℤ}
 use Rattle.rv_layout_laws.specs.declared.item.Item.{Item}
 use Rattle.rv_layout_laws.specs.Offsets.{offset, rest, Reaches}
+use Rattle.rv_layout_laws.specs.Steps.{IsLook}
+use Rattle.rv_layout_laws.specs.Tables.{IsTableAt}
 use Rattle.rv_layout_laws.specs.Branches.{half, is_branch, item_at, largest, of_section, IsFamily, MayWiden, ReachesBy}
 
 -- a statement stands in one of so many sections, and its target is a statement of that section
@@ -26,10 +28,7 @@ around items sizes i = of_section (item_at items i).section items sizes
 pub record IsTable (items : List Item) (i : ℕ) (sizes stands : List ℕ) : Type 0 where
   pub family : IsFamily items sizes
   pub bounded : (j : ℕ) → slice_index sizes j < 2 ^ 32
-  pub same_length : length stands ≡ length items
-  pub starts : (j : ℕ) → j < i → slice_index stands j ≡ offset (around items sizes j) j
-  pub rests : (j : ℕ) → i ≤ j → j < length items →
-      slice_index stands j ≡ rest (around items sizes j) j
+  pub table : IsTableAt (length items) i (around items sizes) stands
 
 -- the bytes of each section before statement i, and from it on
 abbrev pub AreStarts : List Item → ℕ → List ℕ → List ℕ → Type 0
@@ -55,7 +54,4 @@ Stays items sizes i =
 
 -- what looking at statement i does, and tells
 abbrev pub IsVisit : List Item → ℕ → (old new : List ℕ) → Bool → Type 0
-IsVisit items i old new widened =
-    MatchBool widened
-    ((wider : ℕ) × (MayWiden items old i wider × (new ≡ set old i wider)))
-    ((new ≡ old) × Stays items old i)
+IsVisit items = IsLook (MayWiden items) (Stays items)

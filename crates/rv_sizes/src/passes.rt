@@ -4,7 +4,8 @@
 //! ahead of it by what is left from them on (`specs/Passes`). Both are exact while sizes change in between, so a pass
 //! forwards sees what the statements before it have become, and one backwards what those after it have.
 
-ghost use Rattle.std.specs.Prelude.{◌≡◌, ℕ, ◌+◌, ◌*◌, ◌^◌, ◌<◌, ◌≤◌, ◌≤ℤ◌, pos, neg_ℤ, ◌-ℤ◌, ltb, length, slice_index, if◌then◌else◌};
+ghost use Rattle.std.specs.Prelude.{◌≡◌, ℕ, ◌+◌, ◌*◌, ◌^◌, ◌<◌, ◌≤◌, ◌≤ℤ◌, pos, neg_ℤ, ◌-ℤ◌, not, length, slice_index, if◌then◌else◌};
+ghost use Rattle.rv_layout_laws.specs.Tables.{forwards_away, backwards_away};
 ghost use Rattle.rv_layout_laws.specs.Branches.{IsFamily, IsGood, IsLeastGood, Widenings, branches, smallest_sizes};
 ghost use Rattle.rv_sizes.specs.Passes.{AreRests, AreStarts, IsInput, IsTable, IsVisit};
 
@@ -27,9 +28,7 @@ fn distance_forwards(target: usize, i: usize, start: u64, stands: &[u64]) -> i64
     requires start { start ≤ 2 ^ 62 }
     requires own { slice_index stands.now i ≤ 2 ^ 62 }
     requires there { slice_index stands.now target ≤ 2 ^ 62 }
-    ensures value { result
-        ≡ (if ltb target i then pos (slice_index stands.now target) -ℤ pos start
-        else pos (slice_index stands.now i) -ℤ pos (slice_index stands.now target)) }
+    ensures value { result ≡ forwards_away stands.now start i target }
     ensures low { neg_ℤ (pos (2 ^ 62)) ≤ℤ result }
     ensures high { result ≤ℤ pos (2 ^ 62) }
 {
@@ -46,9 +45,7 @@ fn distance_backwards(target: usize, i: usize, left: u64, stands: &[u64]) -> i64
     requires left { left ≤ 2 ^ 62 }
     requires own { slice_index stands.now i ≤ 2 ^ 62 }
     requires there { slice_index stands.now target ≤ 2 ^ 62 }
-    ensures value { result
-        ≡ (if ltb i target then pos left -ℤ pos (slice_index stands.now target)
-        else pos (slice_index stands.now target) -ℤ pos (slice_index stands.now i)) }
+    ensures value { result ≡ backwards_away stands.now left i target }
     ensures low { neg_ℤ (pos (2 ^ 62)) ≤ℤ result }
     ensures high { result ≤ℤ pos (2 ^ 62) }
 {
@@ -185,6 +182,26 @@ fn widen_backwards(items: &Items, sizes: &mut [u32], stands: &mut [u64], ends: &
     widened
 }
 
+/// Goes over the statements in one direction, widens those that do not reach, and tells how many it widened.
+fn widen(
+    items: &Items,
+    forwards: bool,
+    sizes: &mut [u32],
+    stands: &mut [u64],
+    ends: &mut [u64],
+) -> usize
+    requires input { IsInput items.now (length ends.old) }
+    requires table { IsTable items.now (if forwards then 0 else length items.now) sizes.old stands.old }
+    ensures widenings { Widenings items.now sizes.old sizes.new result }
+    ensures settled { result ≡ 0 → IsGood items.now sizes.new }
+    ensures table { IsTable items.now (if not forwards then 0 else length items.now) sizes.new stands.new }
+{
+    if forwards {
+        return widen_forwards(items, sizes, stands, ends);
+    }
+    widen_backwards(items, sizes, stands, ends)
+}
+
 /// Widens in passes, forwards and backwards in turn, until one finds nothing to widen, and tells how many there were.
 pub(crate) fn settle(
     items: &Items,
@@ -200,14 +217,12 @@ pub(crate) fn settle(
 {
     place_from_end(items, sizes, stands, ends);
     let mut rounds = 0;
+    let mut forwards = true;
     'rounds: loop {
         rounds += 1;
-        if widen_forwards(items, sizes, stands, ends) == 0 {
+        if widen(items, forwards, sizes, stands, ends) == 0 {
             return rounds;
         }
-        rounds += 1;
-        if widen_backwards(items, sizes, stands, ends) == 0 {
-            return rounds;
-        }
+        forwards = !forwards;
     }
 }

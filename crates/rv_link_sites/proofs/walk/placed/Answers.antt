@@ -7,7 +7,7 @@ use Rattle.rv_object_laws.specs.Object.{Object}
 use Rattle.rv_object_types.specs.View.{object_of}
 use Rattle.rv_link_laws.specs.CallSites.{sites_of}
 use Rattle.rv_link_laws.specs.Within.{IsWithin, LeadsWithin}
-use Rattle.rv_relax.specs.Passes.{IsInput, LeadsLow}
+use Rattle.rv_call_sizes.specs.Passes.{IsInput, LeadsLow}
 use Rattle.rv_link_sites.specs.Line.{ended_files}
 use Rattle.rv_link_sites.specs.Text.{objects_of}
 use Rattle.rv_link_sites.proofs.TargetsLemmas.{is_text, are_within}

@@ -5,7 +5,7 @@ use Rattle.rv_layout_laws.specs.Branches.{item_at}
 use Rattle.rv_layout_laws.specs.Offsets.{rest}
 use Rattle.rv_sizes.specs.Passes.{AreRests, IsInput, around}
 use Rattle.rv_sizes.proofs.PlacesLemmas.{places_small}
-use Rattle.rv_sizes.proofs.GoingLemmas.{RestsFrom, rests_step, own_rest, ends_step, none_left}
+use Rattle.rv_sizes.proofs.FirstTableLemmas.{RestsFrom, rests_step, own_rest, ends_step, none_left}
 use Rattle.rv_sizes.proofs.passes.place_from_end.Goals as goal
 
 pub loop-i-init : goal.loop-i-init

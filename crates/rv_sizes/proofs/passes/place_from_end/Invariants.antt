@@ -1,6 +1,6 @@
 use Rattle.std.proofs.Common.{◌≡◌, ◌≤◌, length}
 use Rattle.rv_sizes.specs.Passes.{AreRests, IsInput}
-use Rattle.rv_sizes.proofs.GoingLemmas.{RestsFrom}
+use Rattle.rv_sizes.proofs.FirstTableLemmas.{RestsFrom}
 use Rattle.rv_sizes.proofs.passes.place_from_end.Given as goal
 
 abbrev pub invariant-loop-i : goal.invariant-loop-i

@@ -1,7 +1,8 @@
 use Rattle.std.proofs.lemmas.Int.{ints}
-use Rattle.std.proofs.Common.{pos, ◌-ℤ◌, if◌then◌else◌, ap, ◌≡◌, ◌+◌, ltb, length, slice_index, ℕ, slice_set, to_z, of_z, w64, arith, refl, sym, subst, ◌∙◌}
+use Rattle.std.proofs.Common.{ap, ◌≡◌, ◌+◌, ltb, length, slice_index, ℕ, slice_set, to_z, of_z, w64, arith, refl, sym, subst, ◌∙◌}
 use Rattle.std.proofs.lemmas.Bool.{ltb-true}
 use Rattle.rv_layout_laws.specs.declared.item.Item.{Item}
+use Rattle.rv_layout_laws.specs.Tables.{backwards_away}
 use Rattle.rv_layout_laws.specs.Branches.{item_at}
 use Rattle.rv_layout_laws.specs.Offsets.{rest}
 use Rattle.rv_sizes.specs.Passes.{AreRests, IsJudged, around}
@@ -64,15 +65,11 @@ returns-clause-visit c =
     let left = rests_small c.args.items.now (length c.args.ends.now) c.args.i c.args.sizes.now c.args.stands.now c.args.ends.now c.requires.input refl c.requires.within c.requires.table c.requires.rests in
     let is : slice_index c.args.ends.now (item_at c.args.items.now c.args.i).section + c.from.result ≡ rest (around c.args.items.now c.args.sizes.now c.args.i) c.args.i =
     ap (λ n. slice_index c.args.ends.now (item_at c.args.items.now c.args.i).section + n) c.from.ensures ∙ sym left.1.0 in
-    let away : c.distance_backwards.result
-    ≡ (if ltb c.args.i (item_at c.args.items.now c.args.i).target
-    then pos (slice_index c.args.ends.now (item_at c.args.items.now c.args.i).section + c.from.result) -ℤ pos (slice_index c.args.stands.now (item_at c.args.items.now c.args.i).target)
-    else pos (slice_index c.args.stands.now (item_at c.args.items.now c.args.i).target) -ℤ pos (slice_index c.args.stands.now c.args.i)) =
-    subst (λ (item : Item). c.distance_backwards.result ≡ (if ltb c.args.i item.target then pos (slice_index c.args.ends.now item.section + c.from.result) -ℤ pos (slice_index c.args.stands.now item.target)
-    else pos (slice_index c.args.stands.now item.target) -ℤ pos (slice_index c.args.stands.now c.args.i))) c.get-item.ensures c.distance_backwards.ensures.value in
+    let away : c.distance_backwards.result ≡ backwards_away c.args.stands.now (slice_index c.args.ends.now (item_at c.args.items.now c.args.i).section + c.from.result) c.args.i (item_at c.args.items.now c.args.i).target =
+    subst (λ (item : Item). c.distance_backwards.result ≡ backwards_away c.args.stands.now (slice_index c.args.ends.now item.section + c.from.result) c.args.i item.target) c.get-item.ensures c.distance_backwards.ensures.value in
     visit_told c.args.items.now c.args.sizes.now c.args.i c.requires.table.family c.distance_backwards.result c.judged_size-wider.result judged
-    (λ branch. backward_is c.args.items.now (length c.args.ends.now) c.args.i c.args.sizes.now c.args.stands.now (slice_index c.args.ends.now (item_at c.args.items.now c.args.i).section + c.from.result)
-    c.requires.input c.requires.within c.requires.table is branch c.distance_backwards.result away)
+    (λ branch. away ∙ backward_is c.args.items.now (length c.args.ends.now) c.args.i c.args.sizes.now c.args.stands.now (slice_index c.args.ends.now (item_at c.args.items.now c.args.i).section + c.from.result)
+    c.requires.input c.requires.within c.requires.table is branch)
     (ltb (slice_index c.args.sizes.now c.args.i) c.judged_size-wider.result)
     (ltb-true (slice_index c.args.sizes.now c.args.i) c.judged_size-wider.result)
     (told_same (item_at c.args.items.now c.args.i) c.distance_backwards.result (slice_index c.args.sizes.now c.args.i) c.judged_size-wider.result judged)

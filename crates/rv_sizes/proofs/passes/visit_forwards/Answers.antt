@@ -1,7 +1,8 @@
 use Rattle.std.proofs.lemmas.Int.{ints}
-use Rattle.std.proofs.Common.{pos, ◌-ℤ◌, if◌then◌else◌, ap, ◌≡◌, ◌+◌, ltb, length, slice_index, ℕ, slice_set, w64, to_z, of_z, arith, refl, sym, subst}
+use Rattle.std.proofs.Common.{ap, ◌≡◌, ◌+◌, ltb, length, slice_index, ℕ, slice_set, w64, to_z, of_z, arith, refl, sym, subst}
 use Rattle.std.proofs.lemmas.Bool.{ltb-true}
 use Rattle.rv_layout_laws.specs.declared.item.Item.{Item}
+use Rattle.rv_layout_laws.specs.Tables.{forwards_away}
 use Rattle.rv_layout_laws.specs.Branches.{item_at}
 use Rattle.rv_sizes.specs.Passes.{AreStarts, IsJudged}
 use Rattle.rv_sizes.proofs.PlacesLemmas.{start_small, table_small, forward_is, forward_table, forward_ends, judged_offered, judged_there, visit_told, told_same}
@@ -34,14 +35,11 @@ returns-clause-visit c =
     let judged : IsJudged (item_at c.args.items.now c.args.i) c.distance_forwards.result (slice_index c.args.sizes.now c.args.i) c.judged_size-wider.result =
     judged_there c.args.items.now c.args.i c.get-item.result c.distance_forwards.result _ (slice_index c.args.sizes.now c.args.i) c.judged_size-wider.result c.get-item.ensures fits c.judged_size-wider.ensures in
     let start = start_small c.args.items.now (length c.args.ends.now) c.args.i c.args.sizes.now c.args.stands.now c.args.ends.now c.requires.input refl c.requires.within c.requires.table c.requires.starts in
-    let away : c.distance_forwards.result
-    ≡ (if ltb (item_at c.args.items.now c.args.i).target c.args.i then pos (slice_index c.args.stands.now (item_at c.args.items.now c.args.i).target) -ℤ pos (slice_index c.args.ends.now (item_at c.args.items.now c.args.i).section)
-    else pos (slice_index c.args.stands.now c.args.i) -ℤ pos (slice_index c.args.stands.now (item_at c.args.items.now c.args.i).target)) =
-    subst (λ (item : Item). c.distance_forwards.result ≡ (if ltb item.target c.args.i then pos (slice_index c.args.stands.now item.target) -ℤ pos (slice_index c.args.ends.now item.section)
-    else pos (slice_index c.args.stands.now c.args.i) -ℤ pos (slice_index c.args.stands.now item.target))) c.get-item.ensures c.distance_forwards.ensures.value in
+    let away : c.distance_forwards.result ≡ forwards_away c.args.stands.now (slice_index c.args.ends.now (item_at c.args.items.now c.args.i).section) c.args.i (item_at c.args.items.now c.args.i).target =
+    subst (λ (item : Item). c.distance_forwards.result ≡ forwards_away c.args.stands.now (slice_index c.args.ends.now item.section) c.args.i item.target) c.get-item.ensures c.distance_forwards.ensures.value in
     visit_told c.args.items.now c.args.sizes.now c.args.i c.requires.table.family c.distance_forwards.result c.judged_size-wider.result judged
-    (λ branch. forward_is c.args.items.now (length c.args.ends.now) c.args.i c.args.sizes.now c.args.stands.now (slice_index c.args.ends.now (item_at c.args.items.now c.args.i).section)
-    c.requires.input c.requires.within c.requires.table start.0 branch c.distance_forwards.result away)
+    (λ branch. away ∙ forward_is c.args.items.now (length c.args.ends.now) c.args.i c.args.sizes.now c.args.stands.now (slice_index c.args.ends.now (item_at c.args.items.now c.args.i).section)
+    c.requires.input c.requires.within c.requires.table start.0 branch)
     (ltb (slice_index c.args.sizes.now c.args.i) c.judged_size-wider.result)
     (ltb-true (slice_index c.args.sizes.now c.args.i) c.judged_size-wider.result)
     (told_same (item_at c.args.items.now c.args.i) c.distance_forwards.result (slice_index c.args.sizes.now c.args.i) c.judged_size-wider.result judged)

@@ -1,7 +1,8 @@
 use Rattle.std.proofs.Common.{◌+◌, arith, sym, subst}
 use Rattle.rv_list_laws.proofs.NumbersLemmas.{step_up}
-use Rattle.rv_sizes.specs.Passes.{IsInput}
-use Rattle.rv_sizes.proofs.GoingLemmas.{Goes, goes_begins, goes_widened, goes_kept}
+use Rattle.rv_layout_laws.specs.Branches.{MayWiden}
+use Rattle.rv_layout_laws.proofs.StepsLemmas.{Goes, goes_begins, goes_changed, goes_kept}
+use Rattle.rv_sizes.specs.Passes.{IsInput, Stays}
 use Rattle.rv_sizes.proofs.passes.widen_forwards.Goals.{then-visit_forwards, else-visit_forwards}
 use Rattle.rv_sizes.proofs.passes.widen_forwards.Goals as goal
 
@@ -10,7 +11,7 @@ loop-i-init c = record {
   input = subst (IsInput c.args.items.now) (sym c.clear.ensures.length) c.requires.input;
   table = c.requires.table;
   starts = λ s lt. c.clear.ensures.cleared s;
-  goes = goes_begins c.args.items.now c.args.sizes.now 0 0 (omega arith);
+  goes = goes_begins c.args.sizes.now 0 0 (omega arith);
   few = omega arith;
 }
 
@@ -21,13 +22,11 @@ loop-i-preserved c = record {
   starts = c.visit_forwards.ensures.starts;
   goes = elim c.if-visit_forwards.branch [
     | then-visit_forwards w ↦
-        subst (λ n. Goes c.args.items.now c.args.sizes.now c.visit_forwards.new.sizes n 0 (c.loop-i.i + 1)) (sym w.widened-is)
-        (goes_widened c.args.items.now c.args.sizes.now c.loop-i.sizes c.visit_forwards.new.sizes c.loop-i.widened c.loop-i.i 0 c.loop-i.i 0 (c.loop-i.i + 1)
-        c.visit_forwards.result c.loop-i.invariant.goes c.visit_forwards.ensures.visit w.if-visit_forwards.true)
+        subst (λ n. Goes (MayWiden c.args.items.now) (Stays c.args.items.now) c.args.sizes.now c.visit_forwards.new.sizes n 0 (c.loop-i.i + 1)) (sym w.widened-is)
+        (goes_changed 0 (c.loop-i.i + 1) c.loop-i.invariant.goes c.visit_forwards.ensures.visit w.if-visit_forwards.true)
     | else-visit_forwards w ↦
-        subst (λ n. Goes c.args.items.now c.args.sizes.now c.visit_forwards.new.sizes n 0 (c.loop-i.i + 1)) (sym w.widened-is)
-        (goes_kept c.args.items.now c.args.sizes.now c.loop-i.sizes c.visit_forwards.new.sizes c.loop-i.widened c.loop-i.i 0 c.loop-i.i 0 (c.loop-i.i + 1)
-        c.visit_forwards.result c.loop-i.invariant.goes c.visit_forwards.ensures.visit w.if-visit_forwards.false (step_up c.loop-i.i))
+        subst (λ n. Goes (MayWiden c.args.items.now) (Stays c.args.items.now) c.args.sizes.now c.visit_forwards.new.sizes n 0 (c.loop-i.i + 1)) (sym w.widened-is)
+        (goes_kept 0 (c.loop-i.i + 1) c.loop-i.invariant.goes c.visit_forwards.ensures.visit w.if-visit_forwards.false (step_up c.loop-i.i))
   ];
   few = elim c.if-visit_forwards.branch [
     | then-visit_forwards w ↦ omega (arith, w.widened-is)

@@ -1,5 +1,5 @@
 use Rattle.std.proofs.Common.{sym, subst, ◌∙◌}
-use Rattle.rv_relax.specs.Passes.{IsInput}
+use Rattle.rv_call_sizes.specs.Passes.{IsInput}
 use Rattle.rv_relax.specs.Plan.{placed_objects}
 use Rattle.rv_relax.proofs.PlacingLemmas.{input_from}
 use Rattle.rv_relax.proofs.placed.Placed.sites.Goals as goal

@@ -1,0 +1,54 @@
+-- What a call's size becomes at a distance, and what that says of the family.
+
+use Rattle.std.proofs.Common.{◌≡◌, ◌↔◌, inl, inr, ⊎_elim, ℕ, ◌<◌, Bool, true, false, IsTrue, List, slice_index, ℤ, pos, ◌-ℤ◌, subst, sym, arith}
+use Rattle.rv_layout_laws.specs.declared.site.Site.{Site}
+use Rattle.rv_layout_laws.specs.declared.site.Call.{Call as CallSite}
+use Rattle.rv_layout_laws.specs.declared.site.SiteKind.TheVariants.{Call}
+use Rattle.rv_layout_laws.specs.Offsets.{Reaches}
+use Rattle.rv_layout_laws.specs.Calls.{Offers, half, site_at, new_offset, ReachesFrom, IsFamily, MayShorten}
+use Rattle.rv_call_sizes.specs.Passes.{HasForm, MayTake, IsJudged, CannotShrink, IsTurn}
+
+-- ---- a call
+
+pub taken : (call : CallSite) (away : ℤ) (size shorter : ℕ) (addend distance : ℤ) (r : Bool) → shorter < size → HasForm call shorter → addend ≡ call.addend → distance ≡ away
+    → IsTrue r ↔ Reaches (half shorter) addend distance → IsTrue r ↔ MayTake call away size shorter
+taken call away size shorter addend distance r less form a d t = (
+  λ h. record { shrinks = less; offered = form; reaching = subst (λ z. Reaches (half shorter) z away) a (subst (Reaches (half shorter) addend) d (t.0 h)) },
+  λ may. t.1 (subst (λ z. Reaches (half shorter) z distance) (sym a) (subst (Reaches (half shorter) call.addend) (sym d) may.reaching)),
+)
+
+pub four_is_shortest : (call : CallSite) → call.compressed ≡ false → CannotShrink call 4
+four_is_shortest call not shorter lt form = ⊎_elim (λ a. omega arith) (λ b. ⊎_elim (λ c. omega arith) (λ d. let is : call.compressed ≡ true = d.1 in cc) b) form
+
+-- ---- a site
+
+may_shorten : (sites : List Site) (kept : List ℕ) (i : ℕ) (call : CallSite) (away : ℤ) (shorter : ℕ) → (site_at sites i).kind ≡ Call call
+    → away ≡ pos (new_offset sites kept call.target) -ℤ pos (new_offset sites kept (site_at sites i).offset) → MayTake call away (slice_index kept i) shorter → MayShorten sites kept i shorter
+may_shorten sites kept i call away shorter is e may = record {
+  shrinks = may.shrinks;
+  offered = subst (λ kind. Offers kind shorter) (sym is) may.offered;
+  reaching = subst (λ kind. ReachesFrom sites kept (site_at sites i).offset kind shorter) (sym is) (subst (Reaches (half shorter) call.addend) e may.reaching);
+}
+
+may_take : (sites : List Site) (kept : List ℕ) (i : ℕ) (call : CallSite) (away : ℤ) (shorter : ℕ) → (site_at sites i).kind ≡ Call call
+    → away ≡ pos (new_offset sites kept call.target) -ℤ pos (new_offset sites kept (site_at sites i).offset) → MayShorten sites kept i shorter → MayTake call away (slice_index kept i) shorter
+may_take sites kept i call away shorter is e may =
+    let there : ReachesFrom sites kept (site_at sites i).offset (Call call) shorter = subst (λ kind. ReachesFrom sites kept (site_at sites i).offset kind shorter) is may.reaching in
+    record {
+      shrinks = may.shrinks;
+      offered = subst (λ kind. Offers kind shorter) is may.offered;
+      reaching = subst (Reaches (half shorter) call.addend) (sym e) there;
+    }
+
+pub turn_call : (sites : List Site) (kept : List ℕ) (i : ℕ) (call : CallSite) (away : ℤ) (new : ℕ) → (site_at sites i).kind ≡ Call call
+    → away ≡ pos (new_offset sites kept call.target) -ℤ pos (new_offset sites kept (site_at sites i).offset) → IsJudged call away (slice_index kept i) new → IsTurn sites kept i new
+turn_call sites kept i call away new is e judged = elim judged [
+  | inl same ↦ inl (same.0, λ shorter may. same.1 shorter (may_take sites kept i call away shorter is e may))
+  | inr may ↦ inr (may_shorten sites kept i call away new is e may)
+]
+
+pub turn_offered : (sites : List Site) (kept : List ℕ) (i new : ℕ) → IsFamily sites kept → IsTurn sites kept i new → Offers (site_at sites i).kind new
+turn_offered sites kept i new f turn = elim turn [
+  | inl same ↦ subst (Offers (site_at sites i).kind) (sym same.0) (f.offered i)
+  | inr may ↦ may.offered
+]

@@ -1,0 +1,4 @@
+pub mod DroppingLemmas
+pub mod JudgingLemmas
+pub mod TablesLemmas
+pub mod LaidLemmas
