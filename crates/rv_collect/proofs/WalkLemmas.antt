@@ -14,7 +14,7 @@ use Rattle.rv_link_laws.specs.Collects.{graph_of, entry_place, lies_in, refers}
 use Rattle.rv_collect_laws.specs.Graph.{is_same, is_one_of, Graph, Has, IsClosed, IsLeastClosed, Marking, Unmarked, Begins, Follows}
 use Rattle.rv_collect_laws.proofs.MarksLemmas.{ends_least, marks_few}
 use Rattle.rv_collect_laws.proofs.SectionsLemmas.{same_is, same_laws, in_more, in_now}
-use Rattle.rv_resolve.specs.Names.{place_of}
+use Rattle.rv_names.specs.Names.{place_of}
 use Rattle.rv_collect.specs.declared.walk.Walk.{Walk}
 use Rattle.rv_collect.specs.Drops.{id_at}
 use Rattle.rv_collect.specs.Targets.{leads_in, target_in}

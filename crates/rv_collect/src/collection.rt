@@ -6,15 +6,15 @@ ghost use Rattle.rv_object_types.specs.Sections.{section_of};
 ghost use Rattle.rv_object_types.specs.View.{object_of};
 ghost use Rattle.rv_link_laws.specs.Collects.{Collects};
 ghost use Rattle.rv_link_laws.specs.Without.{without};
-ghost use Rattle.rv_resolve.specs.Names.{IsNames};
+ghost use Rattle.rv_names.specs.Names.{IsNames};
 ghost use Rattle.rv_collect.specs.Drops.{drops_in, dropped_from, id_at};
 
 use crate::left::{is_dropped, left_object};
 use crate::marks::Marks;
 use crate::walk::Walk;
 use rv_map_laws::SectionId;
+use rv_names::Names;
 use rv_object_types::{Object, Section};
-use rv_resolve::Names;
 use std::alloc::{AllocError, Global};
 
 /// Which sections of objects stay.

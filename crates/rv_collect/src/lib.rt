@@ -1,6 +1,6 @@
 //! Collection: which sections of objects a program needs, and the objects without the others (`--gc-sections`).
 //!
-//! It takes objects (`rv_object_types`) and what their names mean (`rv_resolve`). It gives a [`Collection`]: which sections with an
+//! It takes objects (`rv_object_types`) and what their names mean (`rv_names`). It gives a [`Collection`]: which sections with an
 //! address stay. It begins with the section that `_start` stands in and goes from each section to those in which the symbols of
 //! its relocations stand, whatever the relocations are ([`Collection::of`]). Then [`Collection::drops`] lists the others, for
 //! the map, and [`Collection::left`] makes the objects without them, that a link goes on with.

@@ -10,15 +10,15 @@ ghost use Rattle.rv_object_laws.specs.Object.{Object as SaidObject};
 ghost use Rattle.rv_object_types.specs.Parts.{relocation_of};
 ghost use Rattle.rv_object_types.specs.View.{object_of};
 ghost use Rattle.rv_link_laws.specs.Collects.{entry_place, graph_of, lies_in};
-ghost use Rattle.rv_resolve.specs.Names.{IsNames, place_of};
+ghost use Rattle.rv_names.specs.Names.{IsNames, place_of};
 ghost use Rattle.rv_link_laws.specs.Undefined.{is_loaded_at};
 ghost use Rattle.rv_collect.specs.Drops.{id_at};
 ghost use Rattle.rv_collect.specs.Targets.{leads_in, target_in};
 ghost use Rattle.rv_collect_laws.specs.Graph.{Has};
 
 use crate::marks::Marks;
+use rv_names::Names;
 use rv_object_types::{Object, Relocation};
-use rv_resolve::Names;
 use std::alloc::{AllocError, Global};
 
 /// The sections that are marked so far.

@@ -2,10 +2,9 @@
 
 use rv_assemble::assemble;
 use rv_fault::LinkFault;
-use rv_link_sites::placed;
-use rv_relax::Plan;
+use rv_names::Names;
+use rv_relax::{Placed, Plan};
 use rv_reloc::{Kind, patch, value};
-use rv_resolve::Names;
 use std::test::Fail;
 
 #[test]
@@ -32,7 +31,7 @@ fn plans(rt: HostRuntime) -> Result<(), Fail> {
     let alloc = rt.alloc();
     let objects = vec![in alloc; assemble(alloc, CALLS)?]?;
     let names = Names::of(alloc, &objects)?;
-    let text = placed(alloc, &objects, &names)?;
+    let text = Placed::of(alloc, &objects, &names)?;
     let plan = Plan::of(alloc, &text, true)?;
     // each call is a `jal`, so all behind it moves
     for (i, size) in [(0, 4), (1, 4), (2, 4), (3, 0)] {

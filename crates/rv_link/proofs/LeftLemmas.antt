@@ -23,9 +23,9 @@ use Rattle.rv_link_laws.proofs.TextLineLemmas.{whole_text}
 use Rattle.rv_object_types.proofs.WholeLemmas.{are_whole}
 use Rattle.rv_link_laws.proofs.WholeLemmas.{whole_left}
 use Rattle.rv_link_laws.proofs.WithoutLemmas.{without_none, as_many_objects}
-use Rattle.rv_resolve.specs.Chosen.{seen, seen_of}
+use Rattle.rv_names.specs.Chosen.{seen, seen_of}
 use Rattle.rv_link_laws.specs.Exports.{first_again}
-use Rattle.rv_resolve.proofs.AlikeLemmas.{same_names, seen_left}
+use Rattle.rv_names.proofs.AlikeLemmas.{same_names, seen_left}
 use Rattle.rv_fault.specs.declared.link_fault.LinkFault.{LinkFault}
 use Rattle.rv_fault.specs.declared.link_fault.LinkFault.TheVariants.{Overflow, OddTarget, DanglingPcrel, AlignmentShort, Undefined, Duplicate, EntryMissing, ImageTooLarge, BadTextStart, TooManyFiles, OutOfMemory}
 use Rattle.rv_link.specs.Left.{HasNoLink, IsLinkOfLeft}

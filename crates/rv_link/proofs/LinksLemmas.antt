@@ -23,7 +23,6 @@ use Rattle.rv_relax.specs.Kept.{moves_of}
 use Rattle.rv_placement.specs.declared.placement.PlacedSection.{PlacedSection}
 use Rattle.rv_placement.specs.declared.placement.Placement.{Placement}
 use Rattle.rv_placement.specs.Placement.{starts_of, start_in, placed_in, placed_at, are_roomy_in, are_roomy, IsPlacement, layout_of}
-use Rattle.rv_resolve.specs.declared.names.Names.{Names}
 use Rattle.rv_link.specs.declared.regions.Regions.{Regions}
 use Rattle.rv_link.specs.Regions.{AreGrown, HasLinkNames}
 use Rattle.rv_link.specs.Made.{made}
@@ -87,9 +86,9 @@ has_its_room os start p placed roomy file o index s at there =
 
 -- ---- the whole
 
-pub is_link : (drops : List SectionId) (os : List Object) (start : ℕ) (names : Names) (p : Placement) (entry : ℕ) (r : Regions) → length os ≤ most_files → start % 4096 ≡ 0 → start < stack_start → HasLinkNames os names → IsPlacement os start p → are_roomy p ≡ true
+pub is_link : (drops : List SectionId) (os : List Object) (start : ℕ) (p : Placement) (entry : ℕ) (r : Regions) → length os ≤ most_files → start % 4096 ≡ 0 → start < stack_start → HasLinkNames os → IsPlacement os start p → are_roomy p ≡ true
     → entry_of (starts_of p) os ≡ Some entry → entry % 2 ≡ 0 → AreGrown os p (λ goes. []) r → IsMap (made drops os p entry r).map → IsLinkOf os start (made drops os p entry r)
-is_link drops os start names p entry r few page low named placed roomy begins even grown readable =
+is_link drops os start p entry r few page low named placed roomy begins even grown readable =
     let resolved = named.resolved (starts_of p) (record (regions_of (layout_of p)) { globals = shown_globals os (layout_of p) }) refl in
     record {
       few = few;

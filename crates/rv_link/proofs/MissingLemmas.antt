@@ -27,7 +27,7 @@ use Rattle.rv_link_laws.specs.Refusals.{HasNoProgram}
 use Rattle.rv_link_laws.proofs.DanglingLemmas.{nothing_left}
 use Rattle.rv_link_laws.specs.Entry.{is_entry, has_entry}
 use Rattle.rv_link_laws.specs.Undefined.{undefined_name, first_some, undefined_in, first_undefined}
-use Rattle.rv_resolve.proofs.AlikeLemmas.{same_names}
+use Rattle.rv_names.proofs.AlikeLemmas.{same_names}
 use Rattle.rv_fault.specs.declared.link_fault.LinkFault.TheVariants.{Undefined, EntryMissing}
 use Rattle.rv_link_laws.specs.TextStart.{AreWithin}
 use Rattle.rv_link.proofs.LeftLemmas.{some_leaves}

@@ -9,9 +9,7 @@ use Rattle.rv_link_laws.specs.Inputs.{Starts, InputSection, goes_to_text, goes_t
 use Rattle.rv_link_laws.specs.Untaken.{AreTaken, IsFirstUntaken}
 use Rattle.rv_map_laws.specs.Map.{Map}
 use Rattle.rv_link_laws.specs.Names.{object_at, outer_address, globals_of, global_names, shown_linker_symbols}
-use Rattle.rv_resolve.specs.declared.names.Names.{Names}
-use Rattle.rv_resolve.specs.Names.{IsNames}
-use Rattle.rv_resolve.specs.Resolved.{AreResolved}
+use Rattle.rv_addresses.specs.Resolved.{AreResolved}
 use Rattle.rv_link_laws.specs.Undefined.{first_undefined}
 use Rattle.rv_link_laws.specs.IsLinkOf.{is_loaded}
 use Rattle.rv_placement.specs.declared.placement.Placement.{Placement}
@@ -68,23 +66,20 @@ pub record AreGrown (os : List Object) (p : Placement)
 -- ---- passes
 
 -- names that have one definition for all files at most, and a meaning wherever they are referred to
-pub record HasLinkNames (os : List Object) (names : Names) : Type 0 where
-  pub table : IsNames os names
+pub record HasLinkNames (os : List Object) : Type 0 where
   pub once : AreDistinct (global_names os)
   pub meant : first_undefined os ≡ None
   pub resolved : (starts : Starts) (m : Map)
       → m.globals ≡ globals_of starts os ++ shown_linker_symbols os m
       → AreResolved starts os (outer_address os m.globals)
 
--- names of objects whose sections stand from some address on
-pub record IsPlaced (os : List Object) (names : Names) (p : Placement) : Type 0 where
-  pub table : IsNames os names
+-- objects whose sections stand from some address on
+pub record IsPlaced (os : List Object) (p : Placement) : Type 0 where
   pub first : ℕ
   pub placed : IsPlacement os first p
 
 -- and have room for their paddings
-pub record IsReady (os : List Object) (names : Names) (p : Placement) : Type 0 where
-  pub table : IsNames os names
+pub record IsReady (os : List Object) (p : Placement) : Type 0 where
   pub first : ℕ
   pub placed : IsPlacement os first p
   pub roomy : are_roomy p ≡ true

@@ -9,32 +9,29 @@ ghost use Rattle.rv_link_laws.specs.IsLinkOf.{rows_of};
 ghost use Rattle.rv_link_laws.specs.Layout.{shown_globals};
 ghost use Rattle.rv_shorten.specs.View.{short_object_of};
 ghost use Rattle.rv_placement.specs.Placement.{starts_of, IsPlacement, layout_of};
-ghost use Rattle.rv_resolve.specs.Names.{IsNames};
+ghost use Rattle.rv_addresses.specs.Resolution.{all};
 ghost use Rattle.rv_link_laws.specs.Details.{if_wanted};
 
+use rv_addresses::Resolution;
 use rv_map::Global as MapGlobal;
 use rv_map_laws::Row as MapRow;
 use rv_placement::Placement;
-use rv_resolve::Names;
 use rv_shorten::ShortObject;
 use std::alloc::{AllocError, Global};
 
 /// The global names of the map of placed objects; none where they are not wanted.
 pub(crate) fn globals(
     alloc: Global,
-    objects: &[ShortObject<'_, '_>],
-    names: &Names<'_>,
+    resolution: &Resolution<'_, '_, '_, '_>,
     placement: &Placement<'_>,
     wanted: bool,
 ) -> Result<Vec<MapGlobal>, AllocError>
-    ensures { (start : ℕ) → IsNames (map short_object_of objects.now) names.now
-        → IsPlacement (map short_object_of objects.now) start placement.now
+    ensures { (start : ℕ) → IsPlacement (all resolution.now) start placement.now
         → IfOk result (λ globals. map global_of globals.items
-        ≡ if_wanted wanted
-        (shown_globals (map short_object_of objects.now) (layout_of placement.now))) }
+        ≡ if_wanted wanted (shown_globals (all resolution.now) (layout_of placement.now))) }
 {
     if wanted {
-        return names.globals(alloc, objects, placement);
+        return resolution.globals(alloc, placement);
     }
     Ok(Vec::new(alloc))
 }

@@ -4,7 +4,7 @@
 //! (`rv_image`): the bytes of its regions with each relocation applied, and its map. Nothing here knows of statements.
 //!
 //! Main contract: [`link`] answers only a program that `IsProgramOf` the objects (`rv_link_laws`): the link of what collection
-//! and relaxation leave of them, where these are on. First, names get their meaning, once (`rv_resolve`). Then sections are dropped
+//! and relaxation leave of them, where these are on. First, names get their meaning, once (`rv_names`). Then sections are dropped
 //! to which nothing leads from the entry (`rv_collect`): the passes behind get objects without them. Then the plan is made
 //! (`rv_relax`): which calls may become short (`rv_link_sites`), which do, and what is kept of each padding. No size changes after
 //! that. All later passes ask the plan: whether paddings have room, places (`rv_placement`), values (`rv_link_values`), fields

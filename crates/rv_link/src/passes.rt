@@ -20,7 +20,8 @@ ghost use Rattle.rv_map_laws.specs.Limits.{IsDrop, IsMap};
 ghost use Rattle.rv_link.specs.Made.{made};
 ghost use Rattle.rv_link.specs.Left.{IsLinkWith};
 ghost use Rattle.rv_link_laws.specs.Details.{with_details};
-ghost use Rattle.rv_resolve.specs.Names.{IsDuplicate, IsNames};
+ghost use Rattle.rv_names.specs.Names.{IsDuplicate, IsNames};
+ghost use Rattle.rv_addresses.specs.Resolution.{all};
 ghost use Rattle.rv_link_laws.specs.Exports.{first_duplicate};
 ghost use Rattle.rv_link_laws.specs.Undefined.{first_undefined};
 ghost use Rattle.rv_fault.specs.declared.link_fault.LinkFault.TheVariants.{EntryMissing, OutOfMemory};
@@ -31,15 +32,16 @@ ghost use Rattle.rv_link.specs.Regions.{AreGrown, HasLinkNames, IsReady, IsPlace
 use crate::details::{globals as globals_of_map, rows as rows_of_map};
 use crate::fixed::Fixed;
 use crate::regions::Regions;
+use rv_addresses::Resolution;
 use rv_fault::LinkFault;
 use rv_image::{Linked, STACK_START};
 use rv_link_values::Values;
 use rv_map::Map;
 use rv_map_laws::SectionId;
+use rv_names::{Names, ResolveFault};
 use rv_object_types::Object;
 use rv_placement::Placement;
 use rv_relax::Plan;
-use rv_resolve::{Names, ResolveFault};
 use rv_shorten::ShortObject;
 use std::alloc::{AllocError, Global};
 
@@ -64,21 +66,20 @@ pub(crate) fn link_by_plan(
     ensures refuses { IfErr result (IsUnlinked (planned_objects plan.now) start) }
 {
     let objects = plan.objects.as_slice();
-    resolve(alloc, objects, names)?;
-    if !names.has_entry(objects) {
+    let resolved = Resolution { objects, names };
+    resolve(alloc, &resolved)?;
+    if !resolved.has_entry() {
         return Err(LinkFault::EntryMissing);
     }
     if !plan.is_roomy() {
         return Err(LinkFault::AlignmentShort);
     }
     let placement = place(alloc, plan, start)?;
-    let entry = entry(names, objects, &placement)?;
+    let entry = entry(&resolved, &placement)?;
     // all addresses are fixed: those of sections, of what is kept of them, and of names
-    let regions = fill(alloc, objects, &placement, names)?;
+    let regions = fill(alloc, &resolved, &placement)?;
     // all bytes are fixed; what is left is to show them
-    let linked = finish(
-        alloc, objects, names, drops, placement, entry, regions, details,
-    )?;
+    let linked = finish(alloc, &resolved, drops, placement, entry, regions, details)?;
     Ok(linked)
 }
 
@@ -108,16 +109,11 @@ pub(crate) fn named<'a>(alloc: Global, objects: &[Object<'a>]) -> Result<Names<'
 }
 
 /// No reference is to a name without a meaning.
-fn resolve(
-    alloc: Global,
-    objects: &[ShortObject<'_, '_>],
-    names: &Names<'_>,
-) -> Result<(), LinkFault>
-    requires { IsNames (map short_object_of objects.now) names.now }
-    ensures named { OnOk result (HasLinkNames (map short_object_of objects.now) names.now) }
-    ensures refuses { IfErr result (AreUnnamed (map short_object_of objects.now)) }
+fn resolve(alloc: Global, resolution: &Resolution<'_, '_, '_, '_>) -> Result<(), LinkFault>
+    ensures named { OnOk result (HasLinkNames (all resolution.now)) }
+    ensures refuses { IfErr result (AreUnnamed (all resolution.now)) }
 {
-    match names.undefined(objects) {
+    match resolution.undefined() {
         Some(name) => Err(undefined(alloc, name)?),
         None => Ok(()),
     }
@@ -161,18 +157,17 @@ fn place<'p>(alloc: Global, plan: &'p Plan<'_, '_>, start: u64) -> Result<Placem
 
 /// Where a run begins: at an even address, as that of each even place of code is.
 fn entry(
-    names: &Names<'_>,
-    objects: &[ShortObject<'_, '_>],
+    resolution: &Resolution<'_, '_, '_, '_>,
     placement: &Placement<'_>,
 ) -> Result<u64, LinkFault>
-    requires { IsPlaced (map short_object_of objects.now) names.now placement.now }
+    requires { IsPlaced (all resolution.now) placement.now }
     ensures entry { IfOk result
-        (λ a. entry_of (starts_of placement.now) (map short_object_of objects.now) ≡ Some a) }
+        (λ a. entry_of (starts_of placement.now) (all resolution.now) ≡ Some a) }
     ensures even { IfOk result (λ a. a % 2 ≡ 0) }
     ensures refuses { IfErr result (λ fault. (fault ≡ EntryMissing)
-        × IsOddEntry (map short_object_of objects.now) (layout_of placement.now)) }
+        × IsOddEntry (all resolution.now) (layout_of placement.now)) }
 {
-    match names.entry(objects, placement) {
+    match resolution.entry(placement) {
         Some(entry) => {
             if entry % 2 == 0 {
                 Ok(entry)
@@ -187,18 +182,16 @@ fn entry(
 /// The bytes of the regions of placed objects.
 fn fill(
     alloc: Global,
-    objects: &[ShortObject<'_, '_>],
+    resolution: &Resolution<'_, '_, '_, '_>,
     placement: &Placement<'_>,
-    names: &Names<'_>,
 ) -> Result<Regions, LinkFault>
-    requires { IsReady (map short_object_of objects.now) names.now placement.now }
-    ensures filled { IfOk result
-        (AreGrown (map short_object_of objects.now) placement.now (λ goes. [])) }
-    ensures refuses { IfErr result (AreUnfilled (map short_object_of objects.now) placement.now) }
+    requires { IsReady (all resolution.now) placement.now }
+    ensures filled { IfOk result (AreGrown (all resolution.now) placement.now (λ goes. [])) }
+    ensures refuses { IfErr result (AreUnfilled (all resolution.now) placement.now) }
 {
-    let values = Values::of(alloc, objects, placement, names)?;
+    let values = Values::of(alloc, resolution, placement)?;
     let fixed = Fixed {
-        objects,
+        objects: resolution.objects,
         placement,
         values: &values,
     };
@@ -208,28 +201,27 @@ fn fill(
 /// The program of placed objects, whose regions are filled, and its map, with names and rows where they are wanted.
 fn finish(
     alloc: Global,
-    objects: &[ShortObject<'_, '_>],
-    names: &Names<'_>,
+    resolution: &Resolution<'_, '_, '_, '_>,
     drops: Vec<SectionId>,
     placement: Placement<'_>,
     entry: u64,
     regions: Regions,
     details: bool,
 ) -> Result<Linked, LinkFault>
-    requires few { length objects.now ≤ most_files }
-    requires placed { IsPlaced (map short_object_of objects.now) names.now placement }
-    requires grown { AreGrown (map short_object_of objects.now) placement (λ goes. []) regions }
+    requires few { length (resolution.now).objects.now ≤ most_files }
+    requires placed { IsPlaced (all resolution.now) placement }
+    requires grown { AreGrown (all resolution.now) placement (λ goes. []) regions }
     requires even { entry % 2 ≡ 0 }
     requires drops { All (λ d. IsDrop d) drops.items }
     ensures made { IfOk result
         (λ l. linked_of l ≡ with_details details
-        (made drops.items (map short_object_of objects.now) placement.entry entry regions)) }
+        (made drops.items (all resolution.now) placement.entry entry regions)) }
     ensures readable { IfOk result (λ _. IsMap
-        (made drops.items (map short_object_of objects.now) placement.entry entry regions).map) }
+        (made drops.items (all resolution.now) placement.entry entry regions).map) }
     ensures refuses { IfErr result (λ fault. fault ≡ OutOfMemory) }
 {
-    let globals = globals_of_map(alloc, objects, names, &placement, details)?;
-    let rows = rows_of_map(alloc, objects, &placement, details)?;
+    let globals = globals_of_map(alloc, resolution, &placement, details)?;
+    let rows = rows_of_map(alloc, resolution.objects, &placement, details)?;
     let map = Map {
         text: placement.text,
         rodata: placement.rodata,
@@ -246,7 +238,7 @@ fn finish(
         rodata: regions.rodata,
         data: regions.data,
         map,
-        rvc: has_compressed(objects),
+        rvc: has_compressed(resolution.objects),
     })
 }
 

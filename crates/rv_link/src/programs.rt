@@ -6,7 +6,7 @@ ghost use Rattle.rv_map_laws.specs.Limits.{IsDrop};
 ghost use Rattle.rv_object_types.specs.View.{object_of};
 ghost use Rattle.rv_link_laws.specs.IsProgramOf.{IsProgramOf};
 ghost use Rattle.rv_link_laws.specs.Refusals.{HasNoProgram};
-ghost use Rattle.rv_resolve.specs.Names.{IsNames};
+ghost use Rattle.rv_names.specs.Names.{IsNames};
 ghost use Rattle.rv_link.specs.Left.{HasNoLink, IsLinkOfLeft};
 ghost use Rattle.rv_link_laws.specs.TextStart.{AreWithin};
 ghost use Rattle.rv_link_laws.specs.Details.{IsProgramWith, IsProgramWithoutDetails};
@@ -18,8 +18,8 @@ use rv_collect::Collection;
 use rv_fault::LinkFault;
 use rv_image::Linked;
 use rv_map_laws::SectionId;
+use rv_names::Names;
 use rv_object_types::Object;
-use rv_resolve::Names;
 use std::alloc::Global;
 
 /// Links objects into a program, whose text starts at an address. The objects are lent.

@@ -4,14 +4,13 @@ ghost use Rattle.std.specs.Prelude.{◌≡◌, map, IfOk, IfErr};
 ghost use Rattle.rv_object_types.specs.View.{object_of};
 ghost use Rattle.rv_link_laws.specs.Shortened.{Relaxes};
 ghost use Rattle.rv_relax.specs.Plan.{planned_objects};
-ghost use Rattle.rv_resolve.specs.Names.{IsNames};
+ghost use Rattle.rv_names.specs.Names.{IsNames};
 ghost use Rattle.rv_fault.specs.declared.link_fault.LinkFault.TheVariants.{OutOfMemory};
 
 use rv_fault::LinkFault;
-use rv_link_sites::placed;
+use rv_names::Names;
 use rv_object_types::Object;
-use rv_relax::Plan;
-use rv_resolve::Names;
+use rv_relax::{Placed, Plan};
 use std::alloc::Global;
 
 /// The plan of objects, whose names mean this, where relaxation is on or not. They are lent: no byte of them moves before the
@@ -31,6 +30,6 @@ pub(crate) fn relaxed<'o, 'a>(
         // where no call may be shortened, nobody asks where calls lead
         return Ok(Plan::whole(alloc, objects)?);
     }
-    let placed = placed(alloc, objects, names)?;
+    let placed = Placed::of(alloc, objects, names)?;
     Ok(placed.into_plan(alloc)?)
 }

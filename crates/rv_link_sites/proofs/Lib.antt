@@ -1,3 +1,4 @@
+pub mod StableLemmas
 pub mod SpelledLemmas
 pub mod SortedLemmas
 pub mod AloneLemmas

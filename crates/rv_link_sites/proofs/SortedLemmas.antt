@@ -14,7 +14,7 @@ use Rattle.rv_object_laws.specs.Valid.{held, are_all_apart}
 use Rattle.rv_link_laws.specs.Inputs.{InputSection}
 use Rattle.rv_link_laws.specs.CallSites.{inserted_change, in_order, may_change, changes}
 use Rattle.rv_link_laws.proofs.ChangesLemmas.{are_clear, all_ordered, AllClear, all_clear}
-use Rattle.rv_relax.proofs.StableLemmas.{same, same_true, AreAtLeast, Rises, at_least_lower, rises_sorted, one_alone}
+use Rattle.rv_link_sites.proofs.StableLemmas.{same, same_true, AreAtLeast, Rises, at_least_lower, rises_sorted, one_alone}
 use Rattle.rv_link_sites.specs.Between.{Rise}
 
 abbrev place : Relocation → ℕ

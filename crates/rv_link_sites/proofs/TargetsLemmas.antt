@@ -16,7 +16,7 @@ use Rattle.rv_link_laws.specs.CallSites.{start_padding, home, moving, past_end, 
 use Rattle.rv_link_laws.specs.Within.{LeadsWithin, IsWithin}
 use Rattle.rv_link_laws.specs.Layout.{section_in, object_section}
 use Rattle.rv_link_sites.proofs.CodeObjectsLemmas.{sites_text, sites_within}
-use Rattle.rv_resolve.specs.Names.{place_of}
+use Rattle.rv_names.specs.Names.{place_of}
 use Rattle.rv_link_sites.specs.declared.line.Line.{Line}
 use Rattle.rv_link_sites.specs.Line.{end_from, next, ended, ended_files, IsLine}
 use Rattle.rv_link_sites.specs.Text.{text_target}

@@ -10,7 +10,7 @@ use Rattle.rv_link_laws.specs.Moves.{full_padding, has_padding}
 use Rattle.rv_link_laws.specs.Inputs.{InputSection, goes_to_text}
 use Rattle.rv_link_laws.specs.Names.{Place}
 use Rattle.rv_link_laws.specs.CallSites.{is_call, are_call_words, is_entered, is_text_place, target_place, text_offset, excess, constant, is_compressible}
-use Rattle.rv_resolve.specs.Names.{IsNames}
+use Rattle.rv_names.specs.Names.{IsNames}
 use Rattle.rv_link_sites.specs.declared.text.Target.{Target}
 use Rattle.rv_link_sites.specs.declared.text.Text.{Text}
 use Rattle.rv_link_sites.specs.declared.changes.Input.{Input}

@@ -72,13 +72,6 @@ fn later(so_far: Option<u64>, relocation: &Relocation) -> Option<u64>
     }
 }
 
-/// Whether a relocation is a call.
-pub(crate) fn is_call(kind: Kind) -> bool
-    ensures { result ≡ laws.is_call kind }
-{
-    matches!(kind, Kind::Call | Kind::CallPlt)
-}
-
 /// Whether a relocation allows that the call at its place is shortened.
 fn is_relax(kind: Kind) -> bool
     ensures { result ≡ laws.is_relax kind }
@@ -149,7 +142,7 @@ pub(crate) fn is_allowed(before: Before, relocation: &Relocation, after: &[Reloc
         → result ≡ allows (rs ++ relocation_of relocation.now ∷ map relocation_of after.now)
         (relocation_of relocation.now) }
 {
-    if !is_call(relocation.kind) {
+    if !relocation.is_call() {
         return false;
     }
     if !is_alone(before, relocation, after) {

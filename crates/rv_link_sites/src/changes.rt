@@ -23,12 +23,9 @@ use crate::entries::Entries;
 use crate::line::start_padding;
 use crate::order::by_place;
 use crate::text::Text;
-use crate::words::are_call_words;
+use crate::words::{are_call_words, link_register};
 use rv_layout_laws::{Call, Padding, Site, SiteKind};
 use rv_object_types::{Object, Relocation, Section};
-use rv_placement::begins_at;
-use rv_relax::{asked_alignment, full_padding, has_padding};
-use rv_shorten::link_register;
 use std::alloc::{AllocError, Global};
 
 /// A section of text, by its file and its index there, both from 0.
@@ -150,11 +147,11 @@ fn put_change(
         (relocation_of relocation.now) ∷ []
         else [])) }
 {
-    if has_padding(relocation) {
+    if relocation.has_padding() {
         let site = padding_site(
             first + u128::from(relocation.place),
-            full_padding(relocation),
-            asked_alignment(relocation),
+            relocation.full_padding(),
+            relocation.asked_alignment(),
         );
         sites.push(site)?;
         return Ok(());
@@ -221,7 +218,7 @@ pub(crate) fn put_section(
     let padding = start_padding(input.section);
     let size = input.section.contents.size();
     let first = stop + u128::from(padding);
-    let site = padding_site(stop, padding, begins_at(input.section));
+    let site = padding_site(stop, padding, input.section.begins_at());
     sites.push(site)?;
     let sorted = by_place(alloc, &input.section.relocations)?;
     put_changes(sites, text, input, first, &sorted)?;

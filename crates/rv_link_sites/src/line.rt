@@ -7,8 +7,6 @@ ghost use Rattle.rv_link_laws.specs.CallSites as laws;
 ghost use Rattle.rv_link_sites.specs.Line as walk;
 
 use rv_object_types::{Object, Section};
-use rv_placement::begins_at;
-use rv_shorten::is_text;
 use std::alloc::{AllocError, Global};
 
 /// Where the sections of objects stand in the line.
@@ -26,7 +24,7 @@ pub(crate) fn start_padding(section: &Section<'_>) -> u64
     ensures value { result ≡ laws.start_padding (section_of section.now) }
     ensures small { result ≤ 4094 }
 {
-    begins_at(section).saturating_sub(2)
+    section.begins_at().saturating_sub(2)
 }
 
 /// Where a section's first byte stands behind an end of the line, and the end after it.
@@ -36,7 +34,7 @@ fn stand(section: &Section<'_>, stop: u128) -> (u128, u128)
     ensures end { result.1 ≡ walk.next stop (section_of section.now) }
     ensures near { result.1 ≤ stop + (2 ^ 64 + 4094) }
 {
-    if !is_text(section) {
+    if !section.is_text() {
         return (stop, stop);
     }
     let first = stop + u128::from(start_padding(section));

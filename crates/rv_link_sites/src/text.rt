@@ -9,13 +9,12 @@ ghost use Rattle.rv_link_laws.specs.Inputs.{InputSection};
 ghost use Rattle.rv_link_laws.specs.CallSites.{base, target_place};
 ghost use Rattle.rv_link_laws.specs.Names as laws;
 ghost use Rattle.rv_link_laws.specs.Layout.{object_section};
-ghost use Rattle.rv_resolve.specs.Names.{IsNames, place_of};
+ghost use Rattle.rv_names.specs.Names.{IsNames, place_of};
 ghost use Rattle.rv_link_sites.specs.Text.{IsLaidText, objects_of, text_target};
 
 use crate::line::Line;
+use rv_names::Names;
 use rv_object_types::{Object, Relocation};
-use rv_resolve::Names;
-use rv_shorten::is_text;
 use std::alloc::{AllocError, Global};
 
 /// The text of objects in one line.
@@ -41,7 +40,7 @@ fn is_in_text(objects: &[Object<'_>], file: usize, section: usize) -> bool
 {
     match objects.get(file) {
         Some(object) => match object.sections.get(section) {
-            Some(section) => is_text(section),
+            Some(section) => section.is_text(),
             None => false,
         },
         None => false,

@@ -1,12 +1,13 @@
 //! The sites of the text of objects.
 
-ghost use Rattle.std.specs.Prelude.{◌≡◌, ◌+◌, ◌*◌, ◌≤◌, ◌^◌, ◌++◌, ◌<◌, Some, map, length, IfOk, OnOk};
+ghost use Rattle.std.specs.Prelude.{◌≡◌, ℕ, ◌+◌, ◌*◌, ◌≤◌, ◌^◌, ◌++◌, ◌<◌, Some, map, length, IfOk, OnOk};
 ghost use Rattle.std.specs.List.{slice_get};
 ghost use Rattle.rv_object_laws.specs.Object.{Section};
 ghost use Rattle.rv_object_types.specs.View.{object_of};
+ghost use Rattle.rv_layout_laws.specs.Calls.{site_at};
 ghost use Rattle.rv_link_laws.specs.CallSites.{sites_of};
-ghost use Rattle.rv_relax.specs.Plan.{placed_objects};
-ghost use Rattle.rv_resolve.specs.Names.{IsNames};
+ghost use Rattle.rv_link_laws.specs.Within.{IsWithin};
+ghost use Rattle.rv_names.specs.Names.{IsNames};
 ghost use Rattle.rv_link_sites.specs.Entries.{AreEntries};
 ghost use Rattle.rv_link_sites.specs.Line as walk;
 ghost use Rattle.rv_link_sites.specs.Text.{IsLaidText, objects_of};
@@ -15,25 +16,30 @@ use crate::changes::{Input, put_section};
 use crate::entries::Entries;
 use crate::text::Text;
 use rv_layout_laws::Site;
+use rv_names::Names;
 use rv_object_types::Object;
-use rv_relax::Placed;
-use rv_resolve::Names;
-use rv_shorten::is_text;
 use std::alloc::{AllocError, Global};
 
-/// Objects, whose names mean this, with the sites of their text.
-pub fn placed<'o, 'a>(
+/// The sites of the text of objects, whose names mean this. The text has at most 9 * 2^123 bytes, as a list has less than 2^63
+/// numbers.
+///
+/// # Errors
+///
+/// Want of memory.
+pub fn sites(
     alloc: Global,
-    objects: &'o [Object<'a>],
+    objects: &[Object<'_>],
     names: &Names<'_>,
-) -> Result<Placed<'o, 'a>, AllocError>
+) -> Result<Vec<Site>, AllocError>
     requires { IsNames (map object_of objects.now) names.now }
-    ensures { IfOk result (λ placed. placed_objects placed ≡ map object_of objects.now) }
+    ensures sites { IfOk result (λ sites. sites.items ≡ sites_of (map object_of objects.now)) }
+    ensures within { IfOk result
+        (λ sites. (i : ℕ) → IsWithin (9 * 2 ^ 123) (site_at sites.items i)) }
 {
     let text = Text::of(alloc, objects, names)?;
     let mut sites = Vec::new(alloc);
     put_all(alloc, &mut sites, &text)?;
-    Ok(Placed::of(objects, sites))
+    Ok(sites)
 }
 
 /// Adds the sites of all objects.
@@ -103,7 +109,7 @@ fn put_at(
         (walk.input (file + 1) (object_of object.now) index s)) }
 {
     let section = &object.sections[index];
-    if !is_text(section) {
+    if !section.is_text() {
         return Ok(stop);
     }
     let input = Input {

@@ -3,10 +3,9 @@
 
 use crate::files::{ALIGN, CALL_OF_FIRST, RELAX, file, place};
 use rv_fault::LinkFault;
-use rv_link_sites::placed;
+use rv_names::Names;
 use rv_object::{Object, read};
 use rv_relax::{Placed, Plan};
-use rv_resolve::Names;
 use std::alloc::{AllocError, Global};
 use std::test::Fail;
 
@@ -51,7 +50,7 @@ pub(crate) fn text<'o, 'a>(
     let Ok(names) = Names::of(alloc, objects) else {
         return Ok(None);
     };
-    Ok(Some(placed(alloc, objects, &names)?))
+    Ok(Some(Placed::of(alloc, objects, &names)?))
 }
 
 /// Whether a plan has these sizes of calls and of alignments, and no more.

@@ -16,7 +16,7 @@ use Rattle.rv_placement.specs.declared.placement.PlacedSection.{PlacedSection}
 use Rattle.rv_placement.specs.declared.placement.Placement.{Placement}
 use Rattle.rv_placement.specs.Placement.{starts_of, start_in, placed_at, IsPlacement}
 use Rattle.rv_placement.proofs.FoundLemmas.{not_placed}
-use Rattle.rv_resolve.specs.Names.{place_of}
+use Rattle.rv_names.specs.Names.{place_of}
 use Rattle.rv_link_values.specs.Highs.{high_in, high_of}
 use Rattle.rv_link_values.specs.Values.{IsInputAt}
 

@@ -1,14 +1,13 @@
 -- What the values of placed objects answer (`rv_link_laws`, specs/Values), and which relocations
 -- have none (RISC-V ELF psABI, "PC-Relative Symbol Addresses").
 
-use Rattle.std.specs.Prelude.{◌≡◌, ℕ, ◌+◌, List, map, Some}
+use Rattle.std.specs.Prelude.{◌≡◌, ℕ, ◌+◌, List, Some}
 use Rattle.std.specs.List.{slice_get}
 use Rattle.rv_object_laws.specs.Object.{Object}
 use Rattle.rv_link_laws.specs.Inputs.{InputSection}
-use Rattle.rv_shorten.specs.View.{short_object_of}
+use Rattle.rv_addresses.specs.Resolution.{all}
 use Rattle.rv_placement.specs.declared.placement.Placement.{Placement}
 use Rattle.rv_placement.specs.Placement.{IsPlacement}
-use Rattle.rv_resolve.specs.Names.{IsNames}
 use Rattle.rv_link_values.specs.declared.values.Values.{Values}
 use Rattle.rv_link_values.specs.Highs.{found, high_of}
 
@@ -21,9 +20,8 @@ pub record IsInputAt (os : List Object) (file index : ℕ) (i : InputSection) : 
 
 -- these are the values of objects that are placed so
 pub record IsValues (os : List Object) (p : Placement) (v : Values) : Type 0 where
-  pub objects : map short_object_of v.objects.now ≡ os
+  pub objects : all v.resolution.now ≡ os
   pub placement : v.placement.now ≡ p
-  pub names : IsNames os v.names.now
   -- the text begins anywhere
   pub start : ℕ
   pub placed : IsPlacement os start p

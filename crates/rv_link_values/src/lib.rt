@@ -1,7 +1,7 @@
 //! What the relocations of placed objects are worth.
 //!
-//! It takes objects, less what is cut of their calls (`rv_shorten`), where their sections stand (`rv_placement`) and what their
-//! names mean (`rv_resolve`), and gives the [`Values`] of their relocations: that of the psABI's calculation (`rv_reloc`), and for
+//! It takes what is left of objects with what their names mean (`rv_addresses`), and where their sections stand (`rv_placement`),
+//! and gives the [`Values`] of their relocations: that of the psABI's calculation (`rv_reloc`), and for
 //! the low part of a distance that of the high part to which its symbol points.
 //!
 //! Main contract: `Values::value` answers the value that `rv_link_laws` defines (`specs/Values`, `value`), or refuses exactly a
@@ -9,8 +9,8 @@
 //! become, nor statements.
 //!
 //! ```text
-//! let values = Values::of(alloc, &objects, &placement, &names)?;     // finds the high parts, once
-//! let section = &objects[0].sections[0];
+//! let values = Values::of(alloc, &resolution, &placement)?;                // finds the high parts, once
+//! let section = &resolution.objects[0].sections[0];
 //! let relocation = section.relocation(&section.whole.relocations[0]);
 //! let value = values.value(0, 0, &relocation)?;                      // Err(Dangling), if it has none
 //! rv_reloc::patch(&mut field, relocation.kind, value)?;

@@ -1,6 +1,6 @@
 //! The values of relocations.
 
-ghost use Rattle.std.specs.Prelude.{◌≡◌, ◌+◌, ◌%◌, ◌^◌, ℕ, List, map, option_map, unwrap_or, Some, IfOk, IfErr};
+ghost use Rattle.std.specs.Prelude.{◌≡◌, ◌+◌, ◌%◌, ◌^◌, ℕ, List, option_map, unwrap_or, Some, IfOk, IfErr};
 ghost use Rattle.std.specs.List.{slice_get};
 ghost use Rattle.rv_isa.specs.Kinds.{is_low_part};
 ghost use Rattle.rv_object_laws.specs.Object.{Object as PlainObject};
@@ -9,27 +9,25 @@ ghost use Rattle.rv_link_laws.specs.Inputs.{InputSection};
 ghost use Rattle.rv_link_laws.specs.Values as laws;
 ghost use Rattle.rv_link_laws.specs.Layout.{outer_in};
 ghost use Rattle.rv_link_laws.specs.Untaken.{IsValueOf, IsDangling};
-ghost use Rattle.rv_shorten.specs.View.{short_object_of};
 ghost use Rattle.rv_placement.specs.declared.placement.Placement.{Placement as Placed};
 ghost use Rattle.rv_placement.specs.Placement.{placed_at, starts_of, IsPlacement, layout_of};
-ghost use Rattle.rv_resolve.specs.Names.{IsNames, place_of};
+ghost use Rattle.rv_names.specs.Names.{place_of};
+ghost use Rattle.rv_addresses.specs.Resolution.{all};
 ghost use Rattle.rv_link_values.specs.Values.{IsInputAt, IsValues};
 
 use crate::fault::ValueFault;
 use crate::high::Highs;
+use rv_addresses::Resolution;
 use rv_isa::Kind;
 use rv_object_types::Relocation;
 use rv_placement::{PlacedSection, Placement};
-use rv_resolve::Names;
-use rv_shorten::ShortObject;
 use std::alloc::{AllocError, Global};
 
 /// What the relocations of placed objects are worth.
 #[derive(Drop)]
 pub struct Values<'p, 'o, 'a, 'n> {
-    pub(crate) objects: &'p [ShortObject<'o, 'a>],
+    pub(crate) resolution: &'p Resolution<'p, 'o, 'a, 'n>,
     pub(crate) placement: &'p Placement<'p>,
-    pub(crate) names: &'p Names<'n>,
     pub(crate) highs: Highs,
 }
 
@@ -56,19 +54,16 @@ impl<'p, 'o, 'a, 'n> Values<'p, 'o, 'a, 'n> {
     /// Those of objects, with their sections placed, and of what their names mean.
     pub fn of(
         alloc: Global,
-        objects: &'p [ShortObject<'o, 'a>],
+        resolution: &'p Resolution<'p, 'o, 'a, 'n>,
         placement: &'p Placement<'p>,
-        names: &'p Names<'n>,
     ) -> Result<Values<'p, 'o, 'a, 'n>, AllocError>
-        ensures { (start : ℕ) → IsNames (map short_object_of objects.now) names.now
-            → IsPlacement (map short_object_of objects.now) start placement.now
-            → IfOk result (IsValues (map short_object_of objects.now) placement.now) }
+        ensures { (start : ℕ) → IsPlacement (all resolution.now) start placement.now
+            → IfOk result (IsValues (all resolution.now) placement.now) }
     {
-        let highs = Highs::of(alloc, objects, placement)?;
+        let highs = Highs::of(alloc, resolution.objects, placement)?;
         Ok(Values {
-            objects,
+            resolution,
             placement,
-            names,
             highs,
         })
     }
@@ -121,8 +116,8 @@ impl<'p, 'o, 'a, 'n> Values<'p, 'o, 'a, 'n> {
     {
         match symbol {
             Some(index) => self
-                .names
-                .address(self.objects, self.placement, file, index)
+                .resolution
+                .address(self.placement, file, index)
                 .unwrap_or(0),
             None => 0,
         }
@@ -147,7 +142,7 @@ impl<'p, 'o, 'a, 'n> Values<'p, 'o, 'a, 'n> {
             → result ≡ laws.paired (outer_in os (layout_of p)) (starts_of p) os (file + 1) o symbol }
     {
         let index = symbol?;
-        let (file, section, offset) = self.names.place(self.objects, file, index)?;
+        let (file, section, offset) = self.resolution.place(file, index)?;
         self.value_at(file, section, offset)
     }
 

@@ -1,1 +1,2 @@
+pub mod AlignmentsLemmas
 pub mod WholeLemmas

@@ -1,3 +1,4 @@
+pub mod Alignments
 pub mod Parts
 pub mod Sections
 pub mod View

@@ -5,7 +5,8 @@
 //! What a reader of files tests, each value of these types keeps (`rv_object_laws/specs/Valid`): powers of two as
 //! alignments, fields inside their sections, indices below counts.
 //!
-//! Padding in code is written and counted here, as the assembler and the linker both do it.
+//! Padding in code is written and counted here, as the assembler and the linker both do it, and sections tell whether they go to
+//! the text ([`Section::is_text`]) and at which multiple they begin ([`Section::begins_at`]).
 //!
 //! It knows neither statements nor addresses.
 //!
@@ -17,6 +18,7 @@
 //! Source: System V gABI, "Sections", "Symbol Table", "Relocation"; RISC-V ELF psABI, "Relocations".
 #![tactic(auto)]
 
+mod alignment;
 mod contents;
 mod law;
 mod object;

@@ -1,5 +1,8 @@
 //! Relocations.
 
+ghost use Rattle.std.specs.Prelude.{◌≡◌};
+ghost use Rattle.rv_link_laws.specs.CallSites.{is_call};
+
 use rv_isa::Kind;
 
 /// A field that the linker fills in (gABI, "Relocation"; psABI, "Relocations").
@@ -13,4 +16,13 @@ pub struct Relocation {
     pub symbol: Option<u32>,
     /// What is added: the psABI's A.
     pub addend: i64,
+}
+
+impl Relocation {
+    /// Whether it is a call.
+    pub fn is_call(&self) -> bool
+        ensures { result ≡ is_call (self.now).kind }
+    {
+        matches!(self.kind, Kind::Call | Kind::CallPlt)
+    }
 }

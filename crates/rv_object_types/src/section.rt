@@ -1,6 +1,7 @@
 //! Sections of an object.
 
-ghost use Rattle.std.specs.Prelude.{IsTrue, map};
+ghost use Rattle.std.specs.Prelude.{◌≡◌, IsTrue, map};
+ghost use Rattle.rv_link_laws.specs.Inputs.{goes_to_text};
 ghost use Rattle.rv_object_types.specs.Parts.{relocation_of, contents_of};
 ghost use Rattle.rv_object_laws.specs.Valid.{is_section_alignment, is_string, keeps_name, is_even, is_loaded_alone, fit_inside, are_paddings};
 
@@ -40,4 +41,15 @@ pub struct Section<'a> {
     /// Each padding lies there as well, in code at an even offset, and meets no field.
     pub ghost paddings: { IsTrue
         (are_paddings executable (contents_of contents) (map relocation_of relocations.items)) },
+}
+
+impl Section<'_> {
+    ghost use Rattle.rv_object_types.specs.Sections.{section_of};
+
+    /// Whether it goes to the text.
+    pub fn is_text(&self) -> bool
+        ensures { result ≡ goes_to_text (section_of self.now) }
+    {
+        self.loaded && self.executable
+    }
 }

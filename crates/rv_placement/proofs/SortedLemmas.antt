@@ -10,7 +10,7 @@ use Rattle.std.proofs.lemmas.Map.Keys.{le_from_is_le}
 use Rattle.rv_object_laws.specs.declared.row.Row.{Row}
 use Rattle.rv_link_laws.specs.IsLinkOf.{inserted_row, by_ordinal}
 use Rattle.rv_shorten.specs.declared.object.ShortObject.{ShortObject}
-use Rattle.rv_relax.proofs.StableLemmas.{inserted_by, ordered_by, sorted_is, all_ordered as all_ordered_by}
+use Rattle.rv_link_sites.proofs.StableLemmas.{inserted_by, ordered_by, sorted_is, all_ordered as all_ordered_by}
 use Rattle.rv_placement.specs.Moved.{moved_row, moved_rows}
 
 abbrev pub ordinal : Row → ℕ

@@ -1,5 +1,4 @@
 pub mod Moved
 pub mod Placement
-pub mod Alignments
 pub mod Walk
 pub mod Fault

@@ -2,19 +2,13 @@
 
 ghost use Rattle.std.specs.Prelude.{◌≡◌, ◌<◌, ◌≤◌, ◌^◌, map, max};
 ghost use Rattle.rv_layout_laws.specs.Alignment.{aligned};
-ghost use Rattle.rv_object_types.specs.Parts.{relocation_of};
-ghost use Rattle.rv_object_types.specs.Sections.{section_of};
-ghost use Rattle.rv_link_laws.specs.Moves as moves;
 ghost use Rattle.rv_link_laws.specs.Inputs as inputs;
 ghost use Rattle.rv_shorten.specs.Sections.{short_section_of};
 ghost use Rattle.rv_shorten.specs.View.{short_object_of};
-ghost use Rattle.rv_placement.specs.Alignments as laws;
 ghost use Rattle.rv_placement.specs.Walk as walk;
 
 use crate::destination::{Destination, goes_to};
-use rv_object_types::{Relocation, Section};
-use rv_relax::{asked_alignment, has_padding};
-use rv_shorten::{ShortObject, ShortSection, is_text};
+use rv_shorten::{ShortObject, ShortSection};
 
 /// The least multiple of an alignment that is not below an address.
 pub(crate) fn next_multiple(alignment: u64, address: u64) -> u64
@@ -26,52 +20,13 @@ pub(crate) fn next_multiple(alignment: u64, address: u64) -> u64
     (address + (alignment - 1)) / alignment * alignment
 }
 
-/// The multiple for which a relocation asks; 0 where it is no alignment with bytes of padding.
-fn asked(relocation: &Relocation) -> u64
-    ensures value { result ≡ laws.asked (relocation_of relocation.now) }
-    ensures small { result ≤ 4096 }
-{
-    if has_padding(relocation) {
-        asked_alignment(relocation)
-    } else {
-        0
-    }
-}
-
-/// The greatest of a number and the multiples for which relocations ask.
-fn raised(alignment: u64, relocations: &[Relocation]) -> u64
-    requires small { alignment ≤ 4096 }
-    ensures value { result ≡ laws.raised_by (map relocation_of relocations.now) alignment }
-    ensures small { result ≤ 4096 }
-    ensures more { alignment ≤ result }
-{
-    let mut greatest = alignment;
-    for relocation in relocations {
-        greatest = greatest.max(asked(relocation));
-    }
-    greatest
-}
-
-/// The multiple at which a section begins.
-pub fn begins_at(section: &Section<'_>) -> u64
-    ensures value { result ≡ inputs.begins_at (section_of section.now) }
-    ensures some { 0 < result }
-    ensures small { result ≤ 4096 }
-{
-    if is_text(section) {
-        raised(section.alignment.max(2), section.relocations.as_slice())
-    } else {
-        section.alignment.max(1)
-    }
-}
-
 /// The multiple at which what is left of a section begins: that of the section as it was.
 pub(crate) fn multiple_of(section: &ShortSection<'_, '_>) -> u64
     ensures value { result ≡ inputs.begins_at (short_section_of section.now) }
     ensures some { 0 < result }
     ensures small { result ≤ 4096 }
 {
-    begins_at(section.whole)
+    section.whole.begins_at()
 }
 
 /// The multiple of a section that goes to a region; 1 of others.

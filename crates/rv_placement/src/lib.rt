@@ -27,7 +27,6 @@ mod regions;
 mod rows;
 mod text;
 
-pub use alignment::begins_at;
 pub use fault::PlacementFault;
 pub use law::sections_stand;
 pub use placement::{PlacedSection, Placement};

@@ -17,7 +17,7 @@ use crate::placement::PlacedSection;
 use rv_image::STACK_START;
 use rv_map_laws::Region;
 use rv_relax::SectionPaddings;
-use rv_shorten::{ShortObject, ShortSection, is_text};
+use rv_shorten::{ShortObject, ShortSection};
 use std::alloc::{AllocError, Global};
 
 /// Adds the place of a section that has none in the text.
@@ -94,7 +94,7 @@ fn put_section<'p>(
     ensures far { IfOk result (λ found. IfNone found
         (stack_start < next goes_to_text stop (short_section_of section.now))) }
 {
-    if !is_text(section.whole) {
+    if !section.whole.is_text() {
         put_other(places, section, plan)?;
         return Ok(Some(stop));
     }

@@ -10,7 +10,7 @@ use Rattle.rv_object_types.specs.Parts.{relocation_of}
 use Rattle.rv_object_laws.specs.Valid.{is_align, are_apart, are_all_apart}
 use Rattle.rv_link_laws.specs.Moves.{full_padding, has_padding, inserted, by_place}
 use Rattle.rv_cut_laws.proofs.ApartLemmas.{are_clear, clear, all_by_place}
-use Rattle.rv_relax.proofs.StableLemmas.{inserted_by, ordered_by}
+use Rattle.rv_link_sites.proofs.StableLemmas.{inserted_by, ordered_by}
 
 abbrev pub place_of : DeclaredRelocation → ℕ
 place_of r = r.place

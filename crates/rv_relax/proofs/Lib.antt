@@ -1,6 +1,5 @@
 pub mod SortingLemmas
 pub mod MovedLemmas
-pub mod StableLemmas
 pub mod PlannedLemmas
 pub mod KeptLemmas
 pub mod ByPlaceLemmas

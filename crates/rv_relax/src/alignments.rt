@@ -5,43 +5,13 @@ ghost use Rattle.std.specs.List.{filter};
 ghost use Rattle.rv_layout_laws.specs.Alignment.{aligned};
 ghost use Rattle.rv_object_types.specs.Parts.{relocation_of};
 ghost use Rattle.rv_object_laws.specs.Valid.{are_all_apart};
-ghost use Rattle.rv_link_laws.specs.Moves.{alignment_of, by_place, full_padding as full_padding_of, has_padding as has_padding_of};
+ghost use Rattle.rv_link_laws.specs.Moves.{by_place, has_padding};
 ghost use Rattle.rv_cut_laws.specs.Cutting.{cut_relocation};
 ghost use Rattle.rv_shorten.specs.Sections.{moves_in, short_section_of};
 
-use rv_isa::Kind;
 use rv_object_types::Relocation;
 use rv_shorten::ShortSection;
 use std::alloc::{AllocError, Global};
-
-/// The bytes of the padding that stands at an alignment.
-pub fn full_padding(alignment: &Relocation) -> u64
-    ensures { result ≡ full_padding_of (relocation_of alignment.now) }
-{
-    if alignment.addend < 0 {
-        0
-    } else {
-        alignment.addend as u64
-    }
-}
-
-/// The powers of two for which an alignment can ask.
-const ALIGNMENTS: [u64; 12] = [2, 4, 8, 16, 32, 64, 128, 256, 512, 1024, 2048, 4096];
-
-/// The power of two for which an alignment asks: the least above its bytes of padding.
-pub fn asked_alignment(alignment: &Relocation) -> u64
-    ensures value { result ≡ alignment_of (relocation_of alignment.now) }
-    ensures some { 0 < result }
-    ensures low { result ≤ 4096 }
-{
-    let full = full_padding(alignment);
-    for power in ALIGNMENTS {
-        if full < power {
-            return power;
-        }
-    }
-    4096
-}
 
 /// The bytes from an address to the next multiple of an alignment.
 pub(crate) fn least_padding(alignment: u32, address: u64) -> u32
@@ -56,13 +26,6 @@ pub(crate) fn least_padding(alignment: u32, address: u64) -> u32
     (u64::from(alignment) - over) as u32
 }
 
-/// Whether a relocation is an alignment with bytes of padding.
-pub fn has_padding(relocation: &Relocation) -> bool
-    ensures { result ≡ has_padding_of (relocation_of relocation.now) }
-{
-    matches!(relocation.kind, Kind::Align) && full_padding(relocation) > 0
-}
-
 /// Adds a relocation of a section as it has moved, if it is an alignment with bytes of padding.
 fn put(
     found: &mut Vec<Relocation>,
@@ -72,12 +35,12 @@ fn put(
     ensures { OnOk result
         (let moved = cut_relocation (moves_in section.now) (relocation_of relocation.now) in
         map relocation_of found.new.items
-        ≡ (if has_padding_of moved
+        ≡ (if has_padding moved
         then map relocation_of found.old.items ++ moved ∷ []
         else map relocation_of found.old.items)) }
 {
     // a move makes no alignment of another relocation, nor the reverse
-    if !has_padding(relocation) {
+    if !relocation.has_padding() {
         return Ok(());
     }
     found.push(section.relocation(relocation))?;
@@ -90,7 +53,7 @@ fn with_padding(
     section: &ShortSection<'_, '_>,
 ) -> Result<Vec<Relocation>, AllocError>
     ensures { IfOk result (λ found. map relocation_of found.items
-        ≡ filter has_padding_of (short_section_of section.now).relocations) }
+        ≡ filter has_padding (short_section_of section.now).relocations) }
 {
     let mut found = Vec::new(alloc);
     for relocation in &section.whole.relocations {
@@ -106,7 +69,7 @@ pub(crate) fn alignments(
 ) -> Result<Vec<Relocation>, AllocError>
     requires { are_all_apart (short_section_of section.now).relocations ≡ true }
     ensures { IfOk result (λ sorted. reverse (map relocation_of sorted.items)
-        ≡ by_place (filter has_padding_of (short_section_of section.now).relocations)) }
+        ≡ by_place (filter has_padding (short_section_of section.now).relocations)) }
 {
     let mut sorted = with_padding(alloc, section)?;
     // linear where they stand in order already

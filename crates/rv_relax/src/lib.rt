@@ -18,10 +18,11 @@
 //!
 //! Offsets of a text have 128 bits, since each of its sections may have 2^64 - 1 bytes.
 //!
-//! It must not know symbols, values of relocations, how sizes of calls are found, or where sections come to stand.
+//! Names it only hands on, to find the sites. It must not know symbols, values of relocations, how sizes of calls are found, or
+//! where sections come to stand.
 //!
 //! ```text
-//! let placed = Placed::of(&objects, sites);
+//! let placed = Placed::of(alloc, &objects, &names)?;          // the sites by rv_link_sites
 //! let plan = Plan::of(alloc, &placed, true)?;
 //! let bytes = plan.call_size(0) + plan.pad(0);
 //! let offset = plan.new_offset(offset);
@@ -46,7 +47,6 @@ mod plan;
 mod section_paddings;
 mod told;
 
-pub use alignments::{asked_alignment, full_padding, has_padding};
 pub use law::{one_alignment, two_alignments};
 pub use placed::Placed;
 pub use plan::Plan;

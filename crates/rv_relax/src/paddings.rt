@@ -6,7 +6,7 @@ ghost use Rattle.rv_link_laws.specs.Moves.{plan};
 ghost use Rattle.rv_cut_laws.specs.Alignments.{are_alignments};
 ghost use Rattle.rv_relax.specs.Paddings.{are_in_order, move_of};
 
-use crate::alignments::{asked_alignment, full_padding, least_padding};
+use crate::alignments::least_padding;
 use rv_object_types::Relocation;
 use rv_shorten::Piece;
 use std::alloc::{AllocError, Global};
@@ -27,9 +27,9 @@ pub(crate) fn paddings(
     while rest > 0 {
         rest -= 1;
         let alignment = &alignments[rest];
-        let full = full_padding(alignment) as u32;
+        let full = alignment.full_padding() as u32;
         let stands = alignment.place - gone;
-        let least = least_padding(asked_alignment(alignment) as u32, stands);
+        let least = least_padding(alignment.asked_alignment() as u32, stands);
         let left = least - least % 2;
         paddings.push(Piece {
             place: alignment.place,

@@ -3,14 +3,18 @@
 //! What is found over numbers knows no object: the sites are those of a text by ghost fields. What the passes ask of them are
 //! tests (`ArePlaced`), since it has alternatives, which no ghost field may have.
 
-ghost use Rattle.std.specs.Prelude.{◌≡◌, map};
+ghost use Rattle.std.specs.Prelude.{◌≡◌, map, IfOk};
 ghost use Rattle.rv_object_types.specs.View.{object_of};
 ghost use Rattle.rv_link_laws.specs.CallSites.{sites_of};
 ghost use Rattle.rv_call_sizes.specs.Passes.{IsInput};
+ghost use Rattle.rv_names.specs.Names.{IsNames};
 ghost use Rattle.rv_relax.specs.Placed.{ArePlaced};
 
 use rv_layout_laws::Site;
+use rv_link_sites::sites;
+use rv_names::Names;
 use rv_object_types::Object;
+use std::alloc::{AllocError, Global};
 
 /// Objects with their text in order, as far as its size can change: the calls that may be shortened, each with the place that
 /// it leads to, the alignments, and the starts of sections. All stand on one line, on which each padding has its bytes in full.
@@ -28,13 +32,21 @@ pub struct Placed<'o, 'a> {
 impl<'o, 'a> Placed<'o, 'a> {
     ghost use Rattle.rv_relax.specs.Plan.{placed_objects};
 
-    /// Objects whose text has these sites.
-    pub fn of(objects: &'o [Object<'a>], sites: Vec<Site>) -> Placed<'o, 'a>
-        requires line { sites.items ≡ sites_of (map object_of objects.now) }
-        requires input { IsInput sites.items }
-        ensures { placed_objects result ≡ map object_of objects.now }
+    /// Objects, whose names mean this, with the sites of their text.
+    ///
+    /// # Errors
+    ///
+    /// Want of memory.
+    pub fn of(
+        alloc: Global,
+        objects: &'o [Object<'a>],
+        names: &Names<'_>,
+    ) -> Result<Placed<'o, 'a>, AllocError>
+        requires { IsNames (map object_of objects.now) names.now }
+        ensures { IfOk result (λ placed. placed_objects placed ≡ map object_of objects.now) }
     {
-        Placed { objects, sites }
+        let sites = sites(alloc, objects, names)?;
+        Ok(Placed { objects, sites })
     }
 
     /// The objects.

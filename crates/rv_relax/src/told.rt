@@ -9,12 +9,11 @@ ghost use Rattle.rv_relax.specs.Kept.{kept_in, moves_of};
 ghost use Rattle.rv_relax.specs.Told as said;
 ghost use Rattle.rv_relax.specs.declared.told.Counted.TheVariants as kinds;
 
-use crate::alignments::has_padding;
 use crate::plan::Plan;
 use crate::section_paddings::SectionPaddings;
 use rv_isa::Kind;
 use rv_object_types::Relocation;
-use rv_shorten::{ShortObject, ShortSection, is_call, is_text};
+use rv_shorten::{ShortObject, ShortSection};
 
 /// What is counted in a text.
 #[derive(Clone, Copy, Drop)]
@@ -47,7 +46,7 @@ fn bytes_left(kind: Kind) -> u32
 fn call_bytes(section: &ShortSection<'_, '_>, relocation: &Relocation) -> Option<u32>
     ensures { result ≡ said.call_told (moves_in section.now) (relocation_of relocation.now) }
 {
-    if !is_call(relocation.kind) {
+    if !relocation.is_call() {
         return None;
     }
     Some(bytes_left(section.relocation(relocation).kind))
@@ -65,7 +64,7 @@ fn pad_bytes(
     if !matches!(relocation.kind, Kind::Align) {
         return None;
     }
-    if !has_padding(relocation) {
+    if !relocation.has_padding() {
         return Some(0);
     }
     Some(plan.pad(section.relocation(relocation).place))
@@ -109,7 +108,7 @@ fn found_in(
     requires { moves_of plan.now ≡ kept_in section.now }
     ensures { said.IsFound (said.told_section counted section.now) left.old left.new result }
 {
-    if !is_text(section.whole) {
+    if !section.whole.is_text() {
         return None;
     }
     for relocation in &section.whole.relocations {
@@ -173,7 +172,7 @@ fn passed(
     ensures low { (standing.new).before + (standing.new).left
         ≤ (standing.old).before + (standing.old).left }
 {
-    if !is_text(section.whole) {
+    if !section.whole.is_text() {
         return None;
     }
     let Standing { before, left } = *standing;

@@ -31,7 +31,6 @@ mod pieces;
 mod relocations;
 mod section;
 mod sites;
-mod words;
 
 pub use bytes::LeftBytes;
 pub use lent::whole;
@@ -39,7 +38,4 @@ pub use object::ShortObject;
 pub use objects::shorten;
 pub use piece::Piece;
 pub use pieces::{count_before, dropped_before};
-pub use relocations::is_call;
 pub use section::ShortSection;
-pub use sites::is_text;
-pub use words::{link_register, word_at};

@@ -2,7 +2,6 @@
 
 ghost use Rattle.std.specs.Prelude.{◌≡◌, true, map};
 ghost use Rattle.rv_object_types.specs.Parts.{relocation_of};
-ghost use Rattle.rv_link_laws.specs.CallSites.{is_call as is_call_kind};
 ghost use Rattle.rv_shorten.specs.Cut.{are_in_order, move_of};
 ghost use Rattle.rv_cut_laws.specs.Cutting.{cut_kind, cut_relocation};
 
@@ -12,19 +11,12 @@ use crate::pieces::count_before;
 use rv_isa::Kind;
 use rv_object_types::Relocation;
 
-/// Whether a relocation of this kind is a call.
-pub fn is_call(kind: Kind) -> bool
-    ensures { result ≡ is_call_kind kind }
-{
-    matches!(kind, Kind::Call | Kind::CallPlt)
-}
-
 /// The kind of a relocation afterwards.
 fn new_kind(cuts: &[Cut], relocation: &Relocation) -> Kind
     requires { are_in_order 0 0 cuts.now ≡ true }
     ensures { result ≡ cut_kind (map move_of cuts.now) (relocation_of relocation.now) }
 {
-    if !is_call(relocation.kind) {
+    if !relocation.is_call() {
         return relocation.kind;
     }
     let index = count_before(cuts, relocation.place);

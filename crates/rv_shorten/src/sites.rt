@@ -6,7 +6,6 @@
 ghost use Rattle.std.specs.Prelude.{◌≡◌, ◌+◌, ◌-◌, ◌≤◌, ◌++◌, [], true, length, map, IfOk, OnOk};
 ghost use Rattle.rv_object_laws.specs.Object as said;
 ghost use Rattle.rv_object_types.specs.Sections.{section_of};
-ghost use Rattle.rv_link_laws.specs.Inputs.{goes_to_text};
 ghost use Rattle.rv_layout_laws.specs.Calls as calls;
 ghost use Rattle.rv_shorten.specs.Cut.{are_in_order, move_of};
 ghost use Rattle.rv_cut_laws.specs.Cutting.{AllCut, are_cuts, cut_sections};
@@ -16,17 +15,10 @@ ghost use Rattle.rv_shorten.specs.SiteCuts as site_cuts;
 
 use crate::cut::Cut;
 use crate::section::ShortSection;
-use crate::words::link_register;
 use rv_layout_laws::{Site, SiteKind};
+use rv_link_sites::link_register;
 use rv_object_types::Section;
 use std::alloc::{AllocError, Global};
-
-/// Whether a section goes to the text.
-pub fn is_text(section: &Section<'_>) -> bool
-    ensures { result ≡ goes_to_text (section_of section.now) }
-{
-    section.loaded && section.executable
-}
 
 /// Whether a site is a call.
 fn is_call(site: &Site) -> bool
@@ -77,7 +69,7 @@ fn passed(section: &Section<'_>, sites: &[Site]) -> usize
     ensures value { result ≡ walk.passed (section_of section.now) sites.now }
     ensures low { result ≤ length sites.now }
 {
-    if !is_text(section) {
+    if !section.is_text() {
         return 0;
     }
     match sites {

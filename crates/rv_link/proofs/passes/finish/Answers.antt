@@ -10,7 +10,7 @@ use Rattle.rv_link.proofs.passes.finish.Goals as goal
 
 pub returns-clause-readable : goal.returns-clause-readable
 returns-clause-readable c =
-    let os = map short_object_of c.args.objects.now in
+    let os = map short_object_of c.args.resolution.now.objects.now in
     let p = c.args.placement in
     let stands = c.requires.placed in
     let regions = regions_known os stands.first p stands.placed in
@@ -21,7 +21,7 @@ returns-clause-readable c =
       bss = regions.3;
       entry = omega arith;
       gaps = gaps_known os stands.first p stands.placed;
-      globals = globals_known c.args.objects.now stands.first p stands.placed;
+      globals = globals_known c.args.resolution.now.objects.now stands.first p stands.placed;
       drops = recursion_from_All IsDrop c.args.drops.items c.requires.drops;
-      rows = rows_known c.args.objects.now stands.first p stands.placed (omega (arith, c.requires.few, length-map c.args.objects.now short_object_of));
+      rows = rows_known c.args.resolution.now.objects.now stands.first p stands.placed (omega (arith, c.requires.few, length-map c.args.resolution.now.objects.now short_object_of));
     }

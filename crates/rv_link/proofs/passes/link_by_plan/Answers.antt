@@ -4,10 +4,9 @@ use Rattle.std.proofs.lemmas.List.{length-map}
 use Rattle.rv_image.specs.Views.{linked_of}
 use Rattle.rv_shorten.specs.declared.object.ShortObject.{ShortObject}
 use Rattle.rv_shorten.specs.View.{short_object_of}
-use Rattle.rv_resolve.specs.declared.names.Names.{Names}
 use Rattle.rv_link_laws.specs.Entry.{has_entry}
 use Rattle.rv_link_laws.specs.Refusals.{ComesToPlaces, IsUnlinked}
-use Rattle.rv_resolve.specs.Names.{IsNames}
+use Rattle.rv_names.specs.Names.{IsNames}
 use Rattle.rv_placement.specs.declared.placement.Placement.{Placement}
 use Rattle.rv_placement.specs.Placement.{layout_of, IsPlacement}
 use Rattle.rv_placement.proofs.LayoutsLemmas.{has_layout}
@@ -27,15 +26,15 @@ placed_of : (start : ℕ) (p : Placement) (xs ys : List ShortObject) → xs ≡ 
 placed_of start p xs ys same placed = subst (λ l. IsPlacement (map short_object_of l) start p) (sym same) placed
 
 -- what has come to the places
-come : (start : ℕ) (xs ys : List ShortObject) (names : Names) → xs ≡ ys → AreWithin (length (map short_object_of ys)) start → HasLinkNames (map short_object_of xs) names → has_entry (map short_object_of xs) ≡ true
+come : (start : ℕ) (xs ys : List ShortObject) → xs ≡ ys → AreWithin (length (map short_object_of ys)) start → HasLinkNames (map short_object_of xs) → has_entry (map short_object_of xs) ≡ true
     → ComesToPlaces (map short_object_of xs) start
-come start xs ys names same within named begins = ((subst (λ l. AreWithin (length (map short_object_of l)) start) (sym same) within, (named.once, named.meant)), begins)
+come start xs ys same within named begins = ((subst (λ l. AreWithin (length (map short_object_of l)) start) (sym same) within, (named.once, named.meant)), begins)
 
 over_same : (start : ℕ) (fault : LinkFault) (xs ys : List ShortObject) → xs ≡ ys → IsUnlinked (map short_object_of xs) start fault → IsUnlinked (map short_object_of ys) start fault
 over_same start fault xs ys same h = subst (λ l. IsUnlinked (map short_object_of l) start fault) same h
 
-pub resolve-requires : goal.resolve-requires
-resolve-requires c = subst (λ l. IsNames (map short_object_of l) c.args.names.now) (sym c.as_slice-objects.ensures.value) c.requires.names
+pub invariant_of-resolved : goal.invariant_of-resolved
+invariant_of-resolved c = record { named = subst (λ l. IsNames (map short_object_of l) c.args.names.now) (sym c.as_slice-objects.ensures.value) c.requires.names }
 
 pub place-requires-clause-page : goal.place-requires-clause-page
 place-requires-clause-page c = c.requires.within.1.0
@@ -45,14 +44,12 @@ place-requires-clause-low c = c.requires.within.1.1
 
 pub entry-requires : goal.entry-requires
 entry-requires c = record {
-  table = c.in_ok-resolve.ensures.named.table;
   first = c.args.start;
   placed = placed_of c.args.start c.in_ok-placement.placement _ _ c.as_slice-objects.ensures.value c.in_ok-placement.ensures.placed;
 }
 
 pub fill-requires : goal.fill-requires
 fill-requires c = record {
-  table = c.in_ok-resolve.ensures.named.table;
   first = c.args.start;
   placed = placed_of c.args.start c.in_ok-placement.placement _ _ c.as_slice-objects.ensures.value c.in_ok-placement.ensures.placed;
   roomy = c.in_ok-placement.ensures.room;
@@ -67,7 +64,6 @@ finish-requires-clause-few c =
 
 pub finish-requires-clause-placed : goal.finish-requires-clause-placed
 finish-requires-clause-placed c = record {
-  table = c.in_ok-resolve.ensures.named.table;
   first = c.args.start;
   placed = placed_of c.args.start c.in_ok-placement.placement _ _ c.as_slice-objects.ensures.value c.in_ok-placement.ensures.placed;
 }
@@ -83,7 +79,7 @@ returns-clause-links c =
     subst (λ l. IsLinkWith (map short_object_of l) c.args.start drops c.args.details (linked_of c.in_ok-linked.linked)) same
     (record {
       whole = made drops os p c.in_ok-entry.entry r;
-      linked = is_link drops os c.args.start c.args.names.now p c.in_ok-entry.entry r w.0 w.1.0 w.1.1 c.in_ok-resolve.ensures.named (placed_of c.args.start p _ _ same c.in_ok-placement.ensures.placed) c.in_ok-placement.ensures.room
+      linked = is_link drops os c.args.start p c.in_ok-entry.entry r w.0 w.1.0 w.1.1 c.in_ok-resolve.ensures.named (placed_of c.args.start p _ _ same c.in_ok-placement.ensures.placed) c.in_ok-placement.ensures.room
           c.in_ok-entry.ensures.entry c.in_ok-entry.ensures.even c.in_ok-regions.ensures.filled c.in_ok-linked.ensures.readable;
       dropped = refl;
       shown = c.in_ok-linked.ensures.made;
@@ -93,8 +89,8 @@ pub returns-then-not-is_roomy-clause-refuses : goal.returns-then-not-is_roomy-cl
 returns-then-not-is_roomy-clause-refuses c =
     let same = c.as_slice-objects.ensures.value in
     let named = c.in_ok-resolve.ensures.named in
-    let begins = sym (c.has_entry.ensures named.table) ∙ c.if-not-has_entry.false in
-    let so = come c.args.start _ _ c.args.names.now same c.requires.within named begins in
+    let begins = sym c.has_entry.ensures ∙ c.if-not-has_entry.false in
+    let so = come c.args.start _ _ same c.requires.within named begins in
     let none = sym c.is_roomy.ensures ∙ c.if-not-is_roomy.true in
     let layout = has_layout (map short_object_of c.args.plan.now.objects.items) c.args.start in (
       subst (λ l. ComesToPlaces (map short_object_of l) c.args.start) same so,
@@ -106,7 +102,7 @@ returns-then-not-has_entry-clause-refuses c =
     let same = c.as_slice-objects.ensures.value in
     let named = c.in_ok-resolve.ensures.named in
     subst (λ l. IsUnlinked (map short_object_of l) c.args.start EntryMissing) same
-    ((subst (λ l. AreWithin (length (map short_object_of l)) c.args.start) (sym same) c.requires.within, (named.once, named.meant)), inl (sym (c.has_entry.ensures named.table) ∙ c.if-not-has_entry.true))
+    ((subst (λ l. AreWithin (length (map short_object_of l)) c.args.start) (sym same) c.requires.within, (named.once, named.meant)), inl (sym c.has_entry.ensures ∙ c.if-not-has_entry.true))
 
 pub returns-in_err-resolve-clause-refuses : goal.returns-in_err-resolve-clause-refuses
 returns-in_err-resolve-clause-refuses c =
@@ -121,8 +117,8 @@ pub returns-in_err-placement-clause-refuses : goal.returns-in_err-placement-clau
 returns-in_err-placement-clause-refuses c =
     let same = c.as_slice-objects.ensures.value in
     let named = c.in_ok-resolve.ensures.named in
-    let begins = sym (c.has_entry.ensures named.table) ∙ c.if-not-has_entry.false in
-    let so = come c.args.start _ _ c.args.names.now same c.requires.within named begins in
+    let begins = sym c.has_entry.ensures ∙ c.if-not-has_entry.false in
+    let so = come c.args.start _ _ same c.requires.within named begins in
     let found = err_from_is_err_and c.from_residual-in_err-placement.result c.from_residual-in_err-placement.ensures.1 in
     rw (found.1, found.2)
     (not_placed (map short_object_of c.args.plan.now.objects.items) c.args.start c.in_err-placement.field-0.0 (subst (λ l. ComesToPlaces (map short_object_of l) c.args.start) same so) c.in_err-placement.ensures.refuses)
@@ -133,8 +129,8 @@ returns-in_err-entry-clause-refuses c =
     let os = map short_object_of c.as_slice-objects.result.now in
     let p = c.in_ok-placement.placement in
     let named = c.in_ok-resolve.ensures.named in
-    let begins = sym (c.has_entry.ensures named.table) ∙ c.if-not-has_entry.false in
-    let so = come c.args.start _ _ c.args.names.now same c.requires.within named begins in
+    let begins = sym c.has_entry.ensures ∙ c.if-not-has_entry.false in
+    let so = come c.args.start _ _ same c.requires.within named begins in
     let found = err_from_is_err_and c.from_residual-in_err-entry.result c.from_residual-in_err-entry.ensures.1 in
     let odd = c.in_err-entry.ensures.refuses in
     rw (found.1, found.2)
@@ -147,8 +143,8 @@ returns-in_err-regions-clause-refuses c =
     let os = map short_object_of c.as_slice-objects.result.now in
     let p = c.in_ok-placement.placement in
     let named = c.in_ok-resolve.ensures.named in
-    let begins = sym (c.has_entry.ensures named.table) ∙ c.if-not-has_entry.false in
-    let so = come c.args.start _ _ c.args.names.now same c.requires.within named begins in
+    let begins = sym c.has_entry.ensures ∙ c.if-not-has_entry.false in
+    let so = come c.args.start _ _ same c.requires.within named begins in
     let found = err_from_is_err_and c.from_residual-in_err-regions.result c.from_residual-in_err-regions.ensures.1 in
     rw (found.1, found.2)
     (over_same c.args.start c.in_err-regions.field-0.0 _ _ same

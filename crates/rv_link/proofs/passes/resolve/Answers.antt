@@ -3,8 +3,7 @@ use Rattle.rv_link.proofs.passes.resolve.Goals as goal
 
 pub returns-in-None-clause-named : goal.returns-in-None-clause-named
 returns-in-None-clause-named c = record {
-  table = c.requires;
-  once = c.requires.distinct;
-  meant = sym (c.in-None.ensures.first c.requires);
-  resolved = c.in-None.ensures.resolved c.requires;
+  once = c.args.resolution.now.named.distinct;
+  meant = sym c.in-None.ensures.first;
+  resolved = c.in-None.ensures.resolved;
 }

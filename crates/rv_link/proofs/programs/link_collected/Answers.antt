@@ -5,8 +5,8 @@ use Rattle.rv_image.specs.Views.{linked_of}
 use Rattle.rv_object_types.specs.View.{object_of}
 use Rattle.rv_link_laws.specs.Without.{without}
 use Rattle.rv_collect.specs.Marks.{drops_of}
-use Rattle.rv_resolve.specs.Names.{IsNames}
-use Rattle.rv_resolve.proofs.AlikeLemmas.{names_left}
+use Rattle.rv_names.specs.Names.{IsNames}
+use Rattle.rv_names.proofs.AlikeLemmas.{names_left}
 use Rattle.rv_fault.specs.declared.link_fault.LinkFault.TheVariants.{OutOfMemory}
 use Rattle.rv_link.specs.Left.{HasNoLink, IsLinkOfLeft}
 use Rattle.rv_link_laws.specs.TextStart.{AreWithin}

@@ -4,7 +4,7 @@ use Rattle.std.proofs.lemmas.Result.{err_from_is_err_and, IfOk-weaker, IfErr-wea
 use Rattle.rv_object_types.specs.View.{object_of}
 use Rattle.rv_image.specs.Views.{linked_of}
 use Rattle.rv_relax.specs.Plan.{planned_objects}
-use Rattle.rv_resolve.proofs.AlikeLemmas.{still_names}
+use Rattle.rv_names.proofs.AlikeLemmas.{still_names}
 use Rattle.rv_link.specs.Left.{HasNoLink, IsLinkOfLeft, IsLinkWith}
 use Rattle.rv_link_laws.specs.TextStart.{AreWithin}
 use Rattle.rv_link_laws.specs.Refusals.{IsUnlinked}

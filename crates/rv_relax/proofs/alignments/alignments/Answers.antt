@@ -5,7 +5,7 @@ use Rattle.rv_link_laws.specs.Moves.{by_place}
 use Rattle.rv_shorten.specs.Sections.{short_section_of}
 use Rattle.rv_relax.proofs.ByPlaceLemmas.{place_of, AreTold, all_told, map_ordered}
 use Rattle.rv_relax.proofs.SortingLemmas.{backwards, backwards_back}
-use Rattle.rv_relax.proofs.StableLemmas.{sorted_is}
+use Rattle.rv_link_sites.proofs.StableLemmas.{sorted_is}
 use Rattle.rv_relax.proofs.alignments.alignments.Goals as goal
 
 pub returns : goal.returns

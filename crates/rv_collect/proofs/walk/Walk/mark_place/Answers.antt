@@ -1,7 +1,7 @@
 use Rattle.std.proofs.Common.{◌∙◌, map, option_map, ap, sym, subst}
 use Rattle.rv_object_types.specs.View.{object_of}
 use Rattle.rv_link_laws.specs.Collects.{lies_in}
-use Rattle.rv_resolve.specs.Names.{place_of}
+use Rattle.rv_names.specs.Names.{place_of}
 use Rattle.rv_collect.specs.Drops.{id_at}
 use Rattle.rv_collect.specs.Walk.{IsMarked}
 use Rattle.rv_collect.proofs.WalkLemmas.{place_lies, lies_one}

@@ -1,0 +1,7 @@
+mod AddingLemmas
+mod CutsLemmas
+mod EntryLemmas
+mod ExportedLemmas
+mod KnownLemmas
+mod MeantLemmas
+mod ResolvedLemmas
