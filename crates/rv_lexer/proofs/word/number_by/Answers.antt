@@ -39,9 +39,11 @@ loop-byte-preserved c =
     let h = (goal.at.loop-byte-preserved c).After-from in
     let low : value h < c.args.base = omega (arith, c.digit-digit.ensures) in
     let good : is_digit c.args.base (get_or c.args.digits.now c.loop-byte.byte-index 0) ≡ true = lt-ltb (value h) c.args.base low in
-    let next : c.loop-byte.number * c.args.base + value h ≡ c.in_ok-number.number = omega (arith, product h, c.in_ok-number.ensures, c.in_ok-checked_mul.ensures, c.from-in-loop-byte.ensures, c.digit-digit.ensures) in
-    (next_digit c.args.base c.loop-byte.number c.loop-byte.byte-index c.args.digits.now (here h) c.loop-byte.invariant.0 good
-    ∙ ap (λ m. number_on c.args.base m (drop (c.loop-byte.byte-index + 1) c.args.digits.now)) next, omega (arith, c.in_ok-number.ensures))
+    let next : c.loop-byte.number * c.args.base + value h ≡ c.in_ok-number.number = omega (arith, product h, c.in_ok-number.ensures, c.in_ok-checked_mul.ensures, c.from-in-loop-byte.ensures, c.digit-digit.ensures) in (
+      next_digit c.args.base c.loop-byte.number c.loop-byte.byte-index c.args.digits.now (here h) c.loop-byte.invariant.0 good
+          ∙ ap (λ m. number_on c.args.base m (drop (c.loop-byte.byte-index + 1) c.args.digits.now)) next,
+      omega (arith, c.in_ok-number.ensures),
+    )
 
 pub returns : goal.returns
 returns c =

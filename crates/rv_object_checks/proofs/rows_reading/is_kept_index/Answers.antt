@@ -16,8 +16,8 @@ module _ (c : After-is_some) where
 
   has_place : c.is_some.result ≡ is_some (place_at c.args.tables.now.names.view.file.now c.args.index)
   has_place =
-    let file = c.args.tables.now.names.view.file.now in
-    c.is_some.ensures ∙ ap is_some (c.index.ensures ∙ ap (λ places. get_or places c.args.index c.index.result.now) c.args.tables.now.placed ∙ placed_at file c.args.index c.index.result.now below)
+      let file = c.args.tables.now.names.view.file.now in
+      c.is_some.ensures ∙ ap is_some (c.index.ensures ∙ ap (λ places. get_or places c.args.index c.index.result.now) c.args.tables.now.placed ∙ placed_at file c.args.index c.index.result.now below)
 
 pub returns-then-index-len-clause-kept : goal.returns-then-index-len-clause-kept
 returns-then-index-len-clause-kept c =

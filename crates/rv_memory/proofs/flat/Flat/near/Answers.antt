@@ -24,17 +24,17 @@ module _ (c : After-index-segment) where
 
   within : c.args.i < length c.args.self.now.segments.items
   within =
-    let wide = c.requires.known place (omega (arith, c.if-at-stretch.false)) in
-    omega (arith, wide.within, length-map c.args.self.now.segments.items segment_of)
+      let wide = c.requires.known place (omega (arith, c.if-at-stretch.false)) in
+      omega (arith, wide.within, length-map c.args.self.now.segments.items segment_of)
 
   there : slice_get segments c.args.i ≡ Some segment
   there = element c.args.self.now.segments.items c.args.i c.index-segment.result.now within c.index-segment.ensures
 
   near : IsNear segment c.args.address place c.args.bytes (right_of c.args.right)
   near =
-    let e = element-or c.args.self.now.segments.items c.args.i c.index-segment.result.now within c.index-segment.ensures in
-    near-is segments c.args.i c.args.stretch.start c.args.stretch.room c.args.bytes c.args.address place segment (right_of c.args.right)
-    c.requires.known (omega (arith, c.if-at-stretch.false)) (omega (arith, c.requires.width)) e refl (omega arith) (omega arith) c.index-segment.result.now.ends
+      let e = element-or c.args.self.now.segments.items c.args.i c.index-segment.result.now within c.index-segment.ensures in
+      near-is segments c.args.i c.args.stretch.start c.args.stretch.room c.args.bytes c.args.address place segment (right_of c.args.right)
+      c.requires.known (omega (arith, c.if-at-stretch.false)) (omega (arith, c.requires.width)) e refl (omega arith) (omega arith) c.index-segment.result.now.ends
 
   bytes : bytes_at (memory_of segments) c.args.address c.args.bytes ≡ take c.args.bytes (drop place segment.bytes)
   bytes = bytes-within segments c.args.i segment c.args.address place c.args.bytes c.args.self.now.apart there c.index-segment.result.now.ends near.place near.fits
