@@ -5,13 +5,15 @@ use Rattle.std.proofs.lemmas.Result.{on_ok_weaker}
 use Rattle.std.proofs.lemmas.Option.{slice_get_within}
 use Rattle.rv_list_laws.proofs.MapLemmas.{get_map_is}
 use Rattle.rv_statement.specs.View.{statement_of}
+use Rattle.rv_statement_laws.specs.Statement.{Statement}
+use Rattle.rv_unit_tables.specs.declared.section.Extent.{Extent}
 use Rattle.rv_unit_tables.specs.declared.section_offset.SectionOffset.{SectionOffset}
 use Rattle.rv_unit.specs.Unit.{said, passed, IsFilled}
 use Rattle.rv_unit_tables.specs.Sections.{extent_section, offset_of}
 use Rattle.rv_unit_laws.specs.Options.{Options}
 use Rattle.rv_unit_laws.specs.Sections.{Section}
 use Rattle.rv_unit_laws.specs.Tables.{at_start, tables, stood}
-use Rattle.rv_source_laws.specs.Located.{located_from}
+use Rattle.rv_source_laws.specs.Located.{Located, located_from}
 use Rattle.rv_unit.specs.declared.item.Item.{Item}
 use Rattle.rv_unit.proofs.StandingLemmas.{places_count}
 use Rattle.rv_draft.specs.Coded.{IsCodedAt}
@@ -20,7 +22,39 @@ use Rattle.rv_draft.specs.Draft.{field_of}
 use Rattle.rv_layout.proofs.StandingLemmas.{StandsAt, stands_at, located_at}
 use Rattle.rv_draft.proofs.DataSoFarLemmas.{puts_at, code_at, code_of, coded_here, bytes_here, data_more, code_more, room_for, item_low}
 use Rattle.rv_draft.proofs.MadeLemmas.{made_left, made_spot}
+use Rattle.rv_draft.proofs.data.put_next.Goals.{After-sections}
 use Rattle.rv_draft.proofs.data.put_next.Goals as goal
+
+-- The statement where it stands, its section and its item.
+module _ (c : After-sections) where
+  abbrev statement : Statement
+  statement = statement_of c.args.statement.now
+
+  abbrev place : SectionOffset
+  place = slice_index_or c.places.result.now c.args.index (record { section = 0; offset = 0 })
+
+  abbrev none : Item
+  none = record { section = 0; offset = 0; bytes = 0; line = 0; shown = false; instructions = 0 }
+
+  abbrev item : Item
+  item = slice_index_or c.args.items.now c.args.index none
+
+  abbrev located : Located
+  located = located_at (said c.args.unit.now) c.args.index statement
+
+  standing : StandsAt c.args.unit.now c.args.index statement place
+  standing = stands_at c.args.unit.now c.args.index statement (record { section = 0; offset = 0 }) place c.args.unit.now.filled c.requires.said (ap (λ l. get_or l c.args.index (record { section = 0; offset = 0 })) c.places.ensures)
+
+  section_low : place.section < length (map extent_section c.args.unit.now.tables.extents.items)
+  section_low = slice_get_within (map extent_section c.args.unit.now.tables.extents.items) place.section located.home standing.home
+
+  home_is : (d : Extent) → extent_section (get_or c.sections.result.now place.section d) ≡ located.home
+  home_is d =
+      let here : slice_get (map extent_section c.sections.result.now) place.section ≡ Some located.home = ap (λ l. slice_get (map extent_section l) place.section) c.sections.ensures ∙ standing.home in
+      get_map_is extent_section c.sections.result.now place.section d located.home here
+
+  item_next : drop c.args.index c.args.items.now ≡ item ∷ drop (c.args.index + 1) c.args.items.now
+  item_next = drop_more c.args.items.now c.args.index none c.requires.item
 
 pub bounds-places-index : goal.bounds-places-index
 bounds-places-index c =
@@ -31,27 +65,15 @@ bounds-places-index c =
 
 pub bounds-sections-place : goal.bounds-sections-place
 bounds-sections-place c =
-    let u = c.args.unit.now in
-    let i = c.args.index in
-    let x = statement_of c.args.statement.now in
-    let p : SectionOffset = slice_index_or c.places.result.now i (record { section = 0; offset = 0 }) in
-    let at : StandsAt u i x p = stands_at u i x (record { section = 0; offset = 0 }) p c.args.unit.now.filled c.requires.said (ap (λ l. get_or l i (record { section = 0; offset = 0 })) c.places.ensures) in
-    let stands = slice_get_within (map extent_section u.tables.extents.items) p.section (located_at (said u) i x).home at.home in
-    subst (λ n. p.section < n) (length-map u.tables.extents.items extent_section ∙ sym (ap length c.sections.ensures)) stands
+    let h = (goal.at.bounds-sections-place c).After-sections in
+    subst (λ n. (place h).section < n) (length-map c.args.unit.now.tables.extents.items extent_section ∙ sym (ap length c.sections.ensures)) (section_low h)
 
 pub put_statement-requires : goal.put_statement-requires
 put_statement-requires c =
-    let u = c.args.unit.now in
-    let i = c.args.index in
-    let x = statement_of c.args.statement.now in
-    let p : SectionOffset = slice_index_or c.places.result.now i (record { section = 0; offset = 0 }) in
-    let none : Item = record { section = 0; offset = 0; bytes = 0; line = 0; shown = false; instructions = 0 } in
-    let item : Item = slice_index_or c.args.items.now i none in
-    let at : StandsAt u i x p = stands_at u i x (record { section = 0; offset = 0 }) p c.args.unit.now.filled c.requires.said (ap (λ l. get_or l i (record { section = 0; offset = 0 })) c.places.ensures) in
-    let stands = slice_get_within (map extent_section u.tables.extents.items) p.section (located_at (said u) i x).home at.home in
+    let h = (goal.at.put_statement-requires c).After-sections in
     record {
-      room = room_for (said u) c.args.items.now i x item c.requires.laid at.here (drop_more c.args.items.now i none c.requires.item);
-      section = subst (λ n. p.section < n) (length-map u.tables.extents.items extent_section ∙ sym c.requires.each) stands;
+      room = room_for (said c.args.unit.now) c.args.items.now c.args.index (statement h) (item h) c.requires.laid (standing h).here (item_next h);
+      section = subst (λ n. (place h).section < n) (length-map c.args.unit.now.tables.extents.items extent_section ∙ sym c.requires.each) (section_low h);
     }
 
 pub ordinal-requires : goal.ordinal-requires
@@ -59,37 +81,28 @@ ordinal-requires c = let within = c.requires.within in let few = c.requires.few 
 
 pub put_code-requires : goal.put_code-requires
 put_code-requires c =
+    let h = (goal.at.put_code-requires c).After-sections in
     let u = c.args.unit.now in
     let ss = said u in
     let i = c.args.index in
-    let x = statement_of c.args.statement.now in
-    let p : SectionOffset = slice_index_or c.places.result.now i (record { section = 0; offset = 0 }) in
-    let none : Item = record { section = 0; offset = 0; bytes = 0; line = 0; shown = false; instructions = 0 } in
-    let item : Item = slice_index_or c.args.items.now i none in
-    let at : StandsAt u i x p = stands_at u i x (record { section = 0; offset = 0 }) p c.args.unit.now.filled c.requires.said (ap (λ l. get_or l i (record { section = 0; offset = 0 })) c.places.ensures) in
-    let next = drop_more c.args.items.now i none c.requires.item in
     let options = c.options_at-options.ensures c.requires.within in
     let all = located_from 1 1 (at_start ss) ss in
     record {
-      fits = item_low ss c.args.items.now i x item c.requires.laid at.here next;
-      made = made_spot _ u i x c.rvc.result item.bytes c.requires.same c.args.unit.now.filled c.requires.next at (c.rvc.ensures ∙ ap (λ (o : Options). o.rvc) options)
-          (made_left (tables ss) all c.args.items.now i (located_at ss i x) (drop (i + 1) all) item (drop (i + 1) c.args.items.now) c.requires.made at.next next);
+      fits = item_low ss c.args.items.now i (statement h) (item h) c.requires.laid (standing h).here (item_next h);
+      made = made_spot _ u i (statement h) c.rvc.result (item h).bytes c.requires.same u.filled c.requires.next (standing h) (c.rvc.ensures ∙ ap (λ (o : Options). o.rvc) options)
+          (made_left (tables ss) all c.args.items.now i (located h) (drop (i + 1) all) (item h) (drop (i + 1) c.args.items.now) c.requires.made (standing h).next (item_next h));
     }
 
 pub returns-then-extent-clause-data : goal.returns-then-extent-clause-data
 returns-then-extent-clause-data c =
-    let u = c.args.unit.now in
-    let ss = said u in
+    let h = (goal.at.returns-then-extent-clause-data c).After-sections in
+    let ss = said c.args.unit.now in
     let i = c.args.index in
-    let x = statement_of c.args.statement.now in
-    let p : SectionOffset = slice_index_or c.places.result.now i (record { section = 0; offset = 0 }) in
-    let none : Item = record { section = 0; offset = 0; bytes = 0; line = 0; shown = false; instructions = 0 } in
-    let item : Item = slice_index_or c.args.items.now i none in
-    let at : StandsAt u i x p = stands_at u i x (record { section = 0; offset = 0 }) p c.args.unit.now.filled c.requires.said (ap (λ l. get_or l i (record { section = 0; offset = 0 })) c.places.ensures) in
-    let st = located_at ss i x in
-    let here : slice_get (map extent_section c.sections.result.now) p.section ≡ Some st.home = ap (λ l. slice_get (map extent_section l) p.section) c.sections.ensures ∙ at.home in
-    let home = get_map_is extent_section c.sections.result.now p.section _ st.home here in
-    let next = drop_more c.args.items.now i none c.requires.item in
+    let x = statement h in
+    let p = place h in
+    let at = standing h in
+    let st = located h in
+    let home = home_is h _ in
     let options = c.options_at-options.ensures c.requires.within in
     on_ok_weaker c.put_code.result
     (λ told start codes have so_far.
@@ -105,38 +118,35 @@ returns-then-extent-clause-data c =
       compressed = sym (c.rvc.ensures ∙ ap (λ (o : Options). o.rvc) options);
       relax = sym (c.relax.ensures ∙ ap (λ (o : Options). o.relax) options);
     })
-    (bytes_here ss c.args.items.now codes i x item have at.here next)
+    (bytes_here ss c.args.items.now codes i x (item h) have at.here (item_next h))
     (subst (λ w. IsCodedAt (tables (said w)) st coded) (sym same) (coded_here ss c.args.items.now codes i x have at.here)) in
-    code_more ss c.args.items.now codes start i x item c.args.sections.now c.args.sections.now c.args.fields.now.items c.put_code.new.fields.items at.here next
+    code_more ss c.args.items.now codes start i x (item h) c.args.sections.now c.args.sections.now c.args.fields.now.items c.put_code.new.fields.items at.here (item_next h)
     (sym (ap (λ (h : Section). h.executable) home) ∙ c.if-extent.true) refl
-    (code_at (tables (said c.args.scope.now.unit.now)) (tables ss) (offset_of p) (stood (passed ss i) (i + 1) x.kind) _ st.home st item coded (map field_of c.args.fields.now.items) (map field_of c.put_code.new.fields.items)
+    (code_at (tables (said c.args.scope.now.unit.now)) (tables ss) (offset_of p) (stood (passed ss i) (i + 1) x.kind) _ st.home st (item h) coded (map field_of c.args.fields.now.items) (map field_of c.put_code.new.fields.items)
     (ap (λ w. tables (said w)) same) at.place home own)
     so_far)
     c.put_code.ensures
 
 pub returns-clause-data : goal.returns-clause-data
 returns-clause-data c =
-    let u = c.args.unit.now in
-    let ss = said u in
+    let h = (goal.at.returns-clause-data c).After-sections in
+    let ss = said c.args.unit.now in
     let i = c.args.index in
-    let x = statement_of c.args.statement.now in
-    let p : SectionOffset = slice_index_or c.places.result.now i (record { section = 0; offset = 0 }) in
-    let none : Item = record { section = 0; offset = 0; bytes = 0; line = 0; shown = false; instructions = 0 } in
-    let item : Item = slice_index_or c.args.items.now i none in
-    let at : StandsAt u i x p = stands_at u i x (record { section = 0; offset = 0 }) p c.args.unit.now.filled c.requires.said (ap (λ l. get_or l i (record { section = 0; offset = 0 })) c.places.ensures) in
-    let st = located_at ss i x in
-    let here : slice_get (map extent_section c.sections.result.now) p.section ≡ Some st.home = ap (λ l. slice_get (map extent_section l) p.section) c.sections.ensures ∙ at.home in
-    let home = get_map_is extent_section c.sections.result.now p.section _ st.home here in
+    let x = statement h in
+    let p = place h in
+    let at = standing h in
+    let st = located h in
+    let home = home_is h _ in
     let told = c.in_ok-put_statement.ensures in
     let same = c.requires.same in
     let scope = c.requires.next in
     λ start codes have so_far.
     let filled = subst IsFilled (sym same) c.args.unit.now.filled in
-    data_more ss c.args.items.now codes start i x item c.args.sections.now c.put_statement.new.sections c.args.fields.now.items c.put_statement.new.fields.items
-    at.here (drop_more c.args.items.now i none c.requires.item)
+    data_more ss c.args.items.now codes start i x (item h) c.args.sections.now c.put_statement.new.sections c.args.fields.now.items c.put_statement.new.fields.items
+    at.here (item_next h)
     (sym (ap (λ (h : Section). h.executable) home) ∙ c.if-extent.false)
     (λ f.
-    puts_at (tables (said c.args.scope.now.unit.now)) (tables ss) (i + 1) c.ordinal.result (offset_of p) (stood (passed ss i) (i + 1) x.kind) _ st.home x.kind item
+    puts_at (tables (said c.args.scope.now.unit.now)) (tables ss) (i + 1) c.ordinal.result (offset_of p) (stood (passed ss i) (i + 1) x.kind) _ st.home x.kind (item h)
     c.args.sections.now c.put_statement.new.sections c.args.fields.now.items c.put_statement.new.fields.items
     (ap (λ w. tables (said w)) same) c.ordinal.ensures at.place home
     (record { grows = told.bytes (ap is_filled home ∙ f) i filled scope; fields = told.fields (ap is_filled home ∙ f) i filled scope }))
