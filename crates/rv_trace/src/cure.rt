@@ -23,9 +23,8 @@ pub(crate) fn put_cure(text: &mut Vec<u8>, end: &End) -> Result<(), AllocError> 
 
 /// What stands in an entry behind the beginning of its cure.
 fn last_part(entry: &'static str) -> &'static str {
-    let mut last = entry;
-    for part in entry.split(CURE) {
-        last = part;
+    match entry.split_once(CURE) {
+        Some((_, cure)) => cure,
+        None => entry,
     }
-    last
 }

@@ -134,8 +134,9 @@ impl<M: Memory, L: Write> Watcher<M> for PlainTrace<'_, L> {
         let Some(inst) = bits_at(machine.memory(), pc).and_then(inst_of) else {
             return Ok(());
         };
+        let is_call = matches!(&inst, Inst::Ecall);
         self.open = Some(Opened { pc, inst });
-        if matches!(inst, Inst::Ecall) {
+        if is_call {
             return self.write_kept();
         }
         Ok(())
@@ -205,13 +206,14 @@ fn put_effects<M: Memory>(
     memory: &M,
 ) -> Result<(), AllocError> {
     let (inst, event) = executed;
+    let is_part = sets_part(&inst);
     let access = access_of(inst);
     let mut width = BEFORE_EFFECT;
     if let Some(setting) = event.set {
         fill_column(text, start, width)?;
         put(text, setting.register.abi_name())?;
         put(text, " <- ")?;
-        put_set(text, known, inst, setting.value)?;
+        put_set(text, known, is_part, setting.value)?;
         width = 0;
     }
     if let Some(access) = &access {
@@ -226,17 +228,22 @@ fn put_effects<M: Memory>(
     Ok(())
 }
 
-/// Adds the value that an instruction set.
+/// Whether an instruction sets the upper part of a value alone.
+fn sets_part(inst: &Inst) -> bool {
+    matches!((*inst).format(), Format::Upper(_, _))
+}
+
+/// Adds the value that an instruction set; of a part of one that it is one.
 fn put_set(
     text: &mut Vec<u8>,
     known: &Known<'_>,
-    inst: Inst,
+    is_part: bool,
     value: u64,
 ) -> Result<(), AllocError> {
-    match inst.format() {
-        Format::Upper(_, _) => put(text, "part"),
-        _ => put_value(text, known, value, 8),
+    if is_part {
+        return put(text, "part");
     }
+    put_value(text, known, value, 8)
 }
 
 /// Adds where an instruction loaded or stored, and what is stored there, in a column.

@@ -255,27 +255,34 @@ fn put_place<M: Memory>(
         Some(bits) => match inst_of(bits) {
             None => put(text, "no instruction: the bytes spell none")?,
             Some(inst) => {
+                let target = target_of(address, &inst);
                 put_shortest(text, address, bits, inst)?;
-                put_target(text, places, address, inst)?;
+                put_target(text, places, target)?;
             }
         },
     }
     Ok(())
 }
 
-/// Adds the symbol to which a branch or a jump at an address leads, where there is one, as `<f>`.
+/// Where a branch or a jump at an address leads.
+fn target_of(address: u64, inst: &Inst) -> Option<u64> {
+    let offset = match (*inst).format() {
+        Format::Branch(_, x) => x.offset,
+        Format::Jal(x) => x.offset,
+        _ => return None,
+    };
+    Some(address.wrapping_add_signed(i64::from(offset)))
+}
+
+/// Adds the symbol of the address to which an instruction leads, where there is one, as `<f>`.
 fn put_target(
     text: &mut Vec<u8>,
     places: &Places<'_>,
-    address: u64,
-    inst: Inst,
+    target: Option<u64>,
 ) -> Result<(), AllocError> {
-    let offset = match inst.format() {
-        Format::Branch(_, x) => x.offset,
-        Format::Jal(x) => x.offset,
-        _ => return Ok(()),
+    let Some(target) = target else {
+        return Ok(());
     };
-    let target = address.wrapping_add_signed(i64::from(offset));
     let Some(near) = places.symbol_at(target) else {
         return Ok(());
     };
