@@ -17,7 +17,7 @@ use Rattle.rv_object_types.specs.declared.relocation.Relocation.{Relocation as D
 use Rattle.rv_object_types.specs.declared.section.Section.{Section as DeclaredSection}
 use Rattle.rv_object_laws.specs.Object as objects
 use Rattle.rv_object_laws.specs.Object.{Relocation, Section, Object, Contents, stored, size_of}
-use Rattle.rv_object_types.specs.Parts.{relocation_of}
+use Rattle.rv_object_types.specs.Parts.{relocation_of, zeros_relocation}
 use Rattle.rv_object_types.specs.Sections.{section_of}
 use Rattle.rv_object_laws.specs.Valid.{is_align, padding_of, is_padding, is_padding_of, fits_inside, are_all_apart}
 use Rattle.rv_link_laws.specs.Moves.{has_padding, full_padding, alignment_of}
@@ -28,7 +28,7 @@ use Rattle.rv_cut_laws.proofs.ApartLemmas.{padding_lies}
 use Rattle.rv_link_sites.specs.Between.{is_allowed}
 use Rattle.rv_link_sites.specs.declared.text.Target.{Target}
 use Rattle.rv_link_sites.specs.Text.{IsLying, can_shorten, call_of, text_target}
-use Rattle.rv_link_sites.proofs.LoopsLemmas.{nothing, at, relocations_left}
+use Rattle.rv_link_sites.proofs.LoopsLemmas.{at, relocations_left}
 
 -- ---- what allows it
 
@@ -192,7 +192,7 @@ section_apart s text = of_code s.executable (and_parts s.loaded s.executable tex
     of_code false e h = absurd (cc)
 
 pub fine_at : (s : DeclaredSection) (sorted : List Declared) (k : ℕ) → goes_to_text (section_of s) ≡ true → IsPermutation s.relocations.items sorted → k < length sorted → IsFine (section_of s) (at sorted k)
-fine_at s sorted k text same inside = All-get_or (IsFine (section_of s)) sorted k nothing inside (All-permutation (IsFine (section_of s)) s.relocations.items sorted same (section_fine s text))
+fine_at s sorted k text same inside = All-get_or (IsFine (section_of s)) sorted k zeros_relocation inside (All-permutation (IsFine (section_of s)) s.relocations.items sorted same (section_fine s text))
 
 pub field_low : (s : Section) (x : Declared) → IsFine s x → size_of s.contents < 2 ^ 64 → 0 < width_of x.kind → x.place + width_of x.kind < 2 ^ 64
 field_low s x h low some = by h.ending
@@ -205,7 +205,7 @@ field_low s x h low some = by h.ending
 
 module _ (sorted : List Declared) (k : ℕ) (inside : k < length sorted) where
   pub taken : map relocation_of (take (k + 1) sorted) ≡ map relocation_of (take k sorted) ++ relocation_of (at sorted k) ∷ []
-  taken = ap (map relocation_of) (take_more sorted k nothing inside) ∙ map-append relocation_of (take k sorted) (at sorted k ∷ [])
+  taken = ap (map relocation_of) (take_more sorted k zeros_relocation inside) ∙ map-append relocation_of (take k sorted) (at sorted k ∷ [])
 
   pub whole : map relocation_of (take k sorted) ++ relocation_of (at sorted k) ∷ map relocation_of (drop (k + 1) sorted) ≡ map relocation_of sorted
   whole =

@@ -1,7 +1,7 @@
 -- The loops over relocations: those that are left of a list, and what is found among them.
 
 use Rattle.std.proofs.Common.{◌≡◌, ℕ, ◌+◌, ◌<◌, ◌≤◌, Bool, true, false, ◌&&◌, ◌||◌, cond, List, [], ◌∷◌, Option, Some, None, length, map, drop, get_or, nat_cmp, nat_le, refl, sym, ap, ◌∙◌, arith}
-use Rattle.std.specs.Prelude.{◌==◌, option_map, pos}
+use Rattle.std.specs.Prelude.{◌==◌, option_map}
 use Rattle.std.specs.Bool.{OnTrue}
 use Rattle.std.specs.Ordering.{is_le}
 use Rattle.std.specs.List.{find, list_any, take_while, IsAllAdjacentAnswer}
@@ -13,25 +13,20 @@ use Rattle.std.proofs.lemmas.Map.Keys.{le_from_is_le}
 use Rattle.std.proofs.lemmas.Bool.{eq-eqb, lt-ltb, le-ltb, leb-true, leb-false}
 use Rattle.std.proofs.Math.Bool.{and-true}
 use Rattle.rv_list_laws.proofs.TakeDropLemmas.{drop_read_or}
-use Rattle.rv_isa.specs.declared.kind.Kind.TheVariants as kinds
 use Rattle.rv_isa.specs.Kinds.{width_of}
 use Rattle.rv_object_types.specs.declared.relocation.Relocation.{Relocation as Declared}
 use Rattle.rv_object_laws.specs.Object.{Relocation}
-use Rattle.rv_object_types.specs.Parts.{relocation_of}
+use Rattle.rv_object_types.specs.Parts.{relocation_of, zeros_relocation}
 use Rattle.rv_link_laws.specs.CallSites.{is_relax, has_relax}
 use Rattle.rv_link_sites.specs.Between.{Rise, has_field, next_field}
 use Rattle.rv_link_sites.proofs.SortedLemmas.{place_of}
 use Rattle.rv_link_sites.proofs.AloneLemmas.{rise_lower, no_relax}
 
--- what a slice has past its end
-abbrev pub nothing : Declared
-nothing = record { place = 0; kind = kinds.None; symbol = None; addend = pos 0 }
-
 abbrev pub at : List Declared → ℕ → Declared
-at xs i = get_or xs i nothing
+at xs i = get_or xs i zeros_relocation
 
 pub relocations_left : (xs : List Declared) (i : ℕ) → i < length xs → map relocation_of (drop i xs) ≡ relocation_of (at xs i) ∷ map relocation_of (drop (i + 1) xs)
-relocations_left xs i inside = ap (map relocation_of) (drop_read_or xs i (at xs i) nothing inside refl)
+relocations_left xs i inside = ap (map relocation_of) (drop_read_or xs i (at xs i) zeros_relocation inside refl)
 
 -- ---- fields
 

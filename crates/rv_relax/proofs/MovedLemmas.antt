@@ -5,11 +5,10 @@ use Rattle.std.specs.List.{filter}
 use Rattle.std.proofs.lemmas.List.{append_assoc, drop_more}
 use Rattle.rv_object_types.specs.declared.relocation.Relocation.{Relocation as DeclaredRelocation}
 use Rattle.rv_object_laws.specs.Object.{Relocation}
-use Rattle.rv_object_types.specs.Parts.{relocation_of}
+use Rattle.rv_object_types.specs.Parts.{relocation_of, zeros_relocation}
 use Rattle.rv_link_laws.specs.Moves.{Move, full_padding, has_padding}
 use Rattle.rv_cut_laws.specs.Cutting.{cut_relocation}
 use Rattle.rv_cut_laws.proofs.PaddingsLemmas.{align_stays}
-use Rattle.rv_relax.proofs.SortingLemmas.{nothing}
 
 -- what has padding keeps it
 pub has_padding_still : (ms : List Move) (r : Relocation) → has_padding (cut_relocation ms r) ≡ has_padding r
@@ -36,10 +35,10 @@ put_first : (b : Bool) (r : Relocation) (found more : List Relocation) → cond 
 put_first true r found more = append_assoc found (r ∷ []) more
 put_first false r found more = refl
 
-pub found_more : (ms : List Move) (rs : List DeclaredRelocation) (i : ℕ) (found new whole : List Relocation) → i < length rs → new ≡ with_one found (cut_relocation ms (relocation_of (slice_index_or rs i nothing)))
+pub found_more : (ms : List Move) (rs : List DeclaredRelocation) (i : ℕ) (found new whole : List Relocation) → i < length rs → new ≡ with_one found (cut_relocation ms (relocation_of (slice_index_or rs i zeros_relocation)))
     → found ++ padded_of ms (drop i rs) ≡ whole → new ++ padded_of ms (drop (i + 1) rs) ≡ whole
 found_more ms rs i found new whole inside is so_far =
-    let r = cut_relocation ms (relocation_of (slice_index_or rs i nothing)) in
+    let r = cut_relocation ms (relocation_of (slice_index_or rs i zeros_relocation)) in
     let more = padded_of ms (drop (i + 1) rs) in
     ap (λ l. l ++ more) is ∙ put_first (has_padding r) r found more
-    ∙ sym (ap (λ l. found ++ padded_of ms l) (drop_more rs i nothing inside)) ∙ so_far
+    ∙ sym (ap (λ l. found ++ padded_of ms l) (drop_more rs i zeros_relocation inside)) ∙ so_far

@@ -12,10 +12,10 @@ use Rattle.rv_relax.specs.Pieces.{Piece}
 use Rattle.rv_relax.specs.Paddings.{move_of, is_next, are_in_order}
 use Rattle.rv_cut_laws.specs.Alignments.{are_alignments}
 use Rattle.rv_object_types.specs.declared.relocation.Relocation.{Relocation as DeclaredRelocation}
-use Rattle.rv_object_types.specs.Parts.{relocation_of}
+use Rattle.rv_object_types.specs.Parts.{relocation_of, zeros_relocation}
 use Rattle.rv_object_laws.proofs.NopsLemmas.{same_even}
 use Rattle.rv_cut_laws.proofs.AlignmentsLemmas.{IsNextAlignment}
-use Rattle.rv_relax.proofs.SortingLemmas.{nothing, backwards, last_first}
+use Rattle.rv_relax.proofs.SortingLemmas.{backwards, last_first}
 
 -- the least padding of an alignment
 abbrev pub least_of : ℕ → ℕ → Relocation → ℕ
@@ -51,10 +51,10 @@ one_behind stop past least r ps one so_far more h =
 
 -- the alignment before an index is the first of those that are left
 pub at_hand : (stop : ℕ) (xs : List DeclaredRelocation) (k at : ℕ) → k + 1 ≡ at → k < length xs → are_alignments stop (backwards (take at xs)) ≡ true
-    → are_alignments stop (relocation_of (slice_index_or xs k nothing) ∷ backwards (take k xs)) ≡ true
+    → are_alignments stop (relocation_of (slice_index_or xs k zeros_relocation) ∷ backwards (take k xs)) ≡ true
 at_hand stop xs k at is inside h =
-    sym (ap (are_alignments stop) (last_first xs k nothing inside)) ∙ ap (λ n. are_alignments stop (backwards (take n xs))) is ∙ h
+    sym (ap (are_alignments stop) (last_first xs k zeros_relocation inside)) ∙ ap (λ n. are_alignments stop (backwards (take n xs))) is ∙ h
 
 pub plan_at : (start gone : ℕ) (xs : List DeclaredRelocation) (k at : ℕ) → k + 1 ≡ at → k < length xs
-    → plan start gone (relocation_of (slice_index_or xs k nothing) ∷ backwards (take k xs)) ≡ plan start gone (backwards (take at xs))
-plan_at start gone xs k at is inside = sym (ap (plan start gone) (last_first xs k nothing inside)) ∙ ap (λ n. plan start gone (backwards (take n xs))) is
+    → plan start gone (relocation_of (slice_index_or xs k zeros_relocation) ∷ backwards (take k xs)) ≡ plan start gone (backwards (take at xs))
+plan_at start gone xs k at is inside = sym (ap (plan start gone) (last_first xs k zeros_relocation inside)) ∙ ap (λ n. plan start gone (backwards (take n xs))) is

@@ -1,16 +1,11 @@
 -- Alignments in the order of their places, from a list that stands from the last to the first.
 
 use Rattle.std.proofs.Common.{◌≡◌, ℕ, ◌+◌, ◌<◌, List, [], ◌∷◌, ◌++◌, length, map, take, slice_index_or, refl, ap, ◌∙◌}
-use Rattle.std.specs.Prelude.{reverse, None, pos}
+use Rattle.std.specs.Prelude.{reverse}
 use Rattle.std.proofs.lemmas.List.{map_push, reverse-append, take_more}
 use Rattle.rv_object_types.specs.declared.relocation.Relocation.{Relocation as DeclaredRelocation}
-use Rattle.rv_isa.specs.declared.kind.Kind.TheVariants as kinds
 use Rattle.rv_object_laws.specs.Object.{Relocation}
-use Rattle.rv_object_types.specs.Parts.{relocation_of}
-
--- what a slice has past its end
-abbrev pub nothing : DeclaredRelocation
-nothing = record { place = 0; kind = kinds.None; symbol = None; addend = pos 0 }
+use Rattle.rv_object_types.specs.Parts.{relocation_of, zeros_relocation}
 
 abbrev pub backwards : List DeclaredRelocation → List Relocation
 backwards xs = reverse (map relocation_of xs)

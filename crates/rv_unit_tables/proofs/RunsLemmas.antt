@@ -9,6 +9,7 @@ use Rattle.std.proofs.lemmas.Bool.{eqb-true, leb-true, leb-false, le-leb, ltb-tr
 use Rattle.std.proofs.lemmas.List.{map-id}
 use Rattle.rv_list_laws.proofs.FindLemmas.{find_same}
 use Rattle.rv_unit_laws.proofs.BeforeLemmas.{falls}
+use Rattle.rv_unit_tables.specs.Sections.{zeros_offset}
 use Rattle.rv_unit_tables.specs.declared.section_offset.SectionOffset.{SectionOffset}
 use Rattle.rv_unit_tables.specs.declared.tables.NumericLabel.{NumericLabel}
 use Rattle.rv_unit_tables.specs.declared.numeric_labels.Run.{Run}
@@ -56,7 +57,7 @@ runs_longer (r ∷ rs) count some runs =
 
 -- a run that has begun
 place_in : (r : Run) (rs : List Run) (index : ℕ) → r.first ≤ index → place_by_runs (r ∷ rs) index ≡ r.place
-place_in r rs index begun = ap (λ b. option_map_or (λ (q : Run). q.place) (cond b (Some r) (find (λ (q : Run). nat_le q.first index) rs)) (record { section = 0; offset = 0 })) (le-leb r.first index begun)
+place_in r rs index begun = ap (λ b. option_map_or (λ (q : Run). q.place) (cond b (Some r) (find (λ (q : Run). nat_le q.first index) rs)) zeros_offset) (le-leb r.first index begun)
 
 -- the last label is of the last run
 pub place_last : (rs : List Run) (p : SectionOffset) (count index : ℕ) → option_map (λ (r : Run). r.place) (slice_get rs 0) ≡ Some p → are_runs rs count ≡ true → count ≤ index + 1 → place_by_runs rs index ≡ p
@@ -153,4 +154,4 @@ ordinals_rise rs os rise = λ i j d le inside.
     subst (λ n. slice_index_or os i d ≤ n) high (subst (λ n. n ≤ (slice_index_or (labels_from rs 0 os) j (label_of d)).ordinal) low in_order)
   where
     label_of : ℕ → NumericLabel
-    label_of o = record { ordinal = o; place = record { section = 0; offset = 0 } }
+    label_of o = record { ordinal = o; place = zeros_offset }

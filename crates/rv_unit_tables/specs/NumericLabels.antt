@@ -4,6 +4,7 @@
 use Rattle.std.specs.Prelude.{ℕ, suc, Bool, ◌==◌, ◌&&◌, nat_lt, nat_le, IsTrue, List, [], ◌∷◌, length, reverse}
 use Rattle.std.specs.Option.{option_map_or}
 use Rattle.std.specs.List.{find}
+use Rattle.rv_unit_tables.specs.Sections.{zeros_offset}
 use Rattle.rv_unit_tables.specs.declared.section_offset.SectionOffset.{SectionOffset}
 use Rattle.rv_unit_tables.specs.declared.tables.NumericLabel.{NumericLabel}
 use Rattle.rv_unit_tables.specs.declared.numeric_labels.Run.{Run}
@@ -19,7 +20,7 @@ are_runs (r ∷ rs) count = nat_lt r.first count && are_runs rs r.first
 abbrev pub place_by_runs : List Run → ℕ → SectionOffset
 place_by_runs runs index =
     option_map_or (λ (r : Run). r.place) (find (λ (r : Run). nat_le r.first index) runs)
-    (record { section = 0; offset = 0 })
+    zeros_offset
 
 abbrev pub label_by_runs : List Run → ℕ → ℕ → NumericLabel
 label_by_runs runs index ordinal = record { ordinal = ordinal; place = place_by_runs runs index }

@@ -24,3 +24,7 @@ offset_of p = record { section = p.section; offset = p.offset }
 abbrev pub extent_of : Extent → tables.Extent
 extent_of e =
     record { section = section_of e.section; bytes = e.bytes; alignment = e.alignment }
+
+-- what stands for a missing place
+abbrev pub zeros_offset : SectionOffset
+zeros_offset = record { section = 0; offset = 0 }

@@ -8,7 +8,7 @@ use Rattle.rv_statement.specs.View.{statement_of}
 use Rattle.rv_statement_laws.specs.Statement.{Statement}
 use Rattle.rv_unit_tables.specs.declared.section_offset.SectionOffset.{SectionOffset}
 use Rattle.rv_unit.specs.Unit.{said, IsFilled}
-use Rattle.rv_unit_tables.specs.Sections.{extent_section, offset_of}
+use Rattle.rv_unit_tables.specs.Sections.{extent_section, offset_of, zeros_offset}
 use Rattle.rv_unit_laws.specs.Tables.{at_start, tables, value_by_tables as value_of}
 use Rattle.rv_source_laws.specs.Located.{Located, located_from}
 use Rattle.rv_instruction.specs.Code.{MayHave}
@@ -30,13 +30,13 @@ use Rattle.rv_draft.proofs.code.code.Goals as goal
 -- The statement's index is below their number, and its place is in a section.
 module _ (c : In-loop-index) where
   abbrev place : SectionOffset
-  place = slice_index_or c.places-places.result.now c.loop-index.index (record { section = 0; offset = 0 })
+  place = slice_index_or c.places-places.result.now c.loop-index.index zeros_offset
 
   inside : c.loop-index.index < length (said c.args.unit.now)
   inside = subst (λ n. c.loop-index.index < n) (c.len-index-end.ensures ∙ ap (λ l. length (statements_of l)) c.statements-statements.ensures) c.loop-index-test.true
 
   stands : place.section < length c.args.unit.now.tables.extents.items
-  stands = place_inside c.args.unit.now c.loop-index.index (record { section = 0; offset = 0 }) place c.args.unit.now.filled inside (ap (λ l. get_or l c.loop-index.index (record { section = 0; offset = 0 })) c.places-places.ensures)
+  stands = place_inside c.args.unit.now c.loop-index.index zeros_offset place c.args.unit.now.filled inside (ap (λ l. get_or l c.loop-index.index zeros_offset) c.places-places.ensures)
 
 -- The statement that is read, where it stands, its section and its options.
 module _ (c : After-read) where
@@ -44,7 +44,7 @@ module _ (c : After-read) where
   statement = statement_of c.read.result.now
 
   abbrev home : SectionOffset
-  home = slice_index_or c.places-places.result.now c.loop-index.index (record { section = 0; offset = 0 })
+  home = slice_index_or c.places-places.result.now c.loop-index.index zeros_offset
 
   abbrev located : Located
   located = located_at (said c.args.unit.now) c.loop-index.index statement
@@ -52,7 +52,7 @@ module _ (c : After-read) where
   standing : StandsAt c.args.unit.now c.loop-index.index statement home
   standing =
       let is : slice_get (said c.args.unit.now) c.loop-index.index ≡ Some statement = subst (λ l. slice_get (statements_of l) c.loop-index.index ≡ Some statement) c.statements-statements.ensures c.read.ensures in
-      stands_at c.args.unit.now c.loop-index.index statement (record { section = 0; offset = 0 }) home c.args.unit.now.filled is (ap (λ l. get_or l c.loop-index.index (record { section = 0; offset = 0 })) c.places-places.ensures)
+      stands_at c.args.unit.now c.loop-index.index statement zeros_offset home c.args.unit.now.filled is (ap (λ l. get_or l c.loop-index.index zeros_offset) c.places-places.ensures)
 
   extent : IsExtentAt c.args.unit.now.tables.extents.items home.section c.extent_at-extent.result
   extent = subst (λ l. IsExtentAt l home.section c.extent_at-extent.result) c.sections-extents.ensures c.extent_at-extent.ensures

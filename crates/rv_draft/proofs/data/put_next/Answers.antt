@@ -1,4 +1,4 @@
-use Rattle.std.proofs.Common.{◌≡◌, ◌+◌, ◌<◌, length, map, drop, get_or, refl, sym, ap, subst, ◌∙◌, false, Some, arith}
+use Rattle.std.proofs.Common.{◌≡◌, ◌+◌, ◌<◌, length, map, drop, get_or, refl, sym, ap, subst, ◌∙◌, Some, arith}
 use Rattle.std.specs.Prelude.{slice_index_or, slice_get}
 use Rattle.std.proofs.lemmas.List.{drop_more, length-map}
 use Rattle.std.proofs.lemmas.Result.{on_ok_weaker}
@@ -6,10 +6,11 @@ use Rattle.std.proofs.lemmas.Option.{slice_get_within}
 use Rattle.rv_list_laws.proofs.MapLemmas.{get_map_is}
 use Rattle.rv_statement.specs.View.{statement_of}
 use Rattle.rv_statement_laws.specs.Statement.{Statement}
+use Rattle.rv_unit.specs.Items.{zeros_item}
 use Rattle.rv_unit_tables.specs.declared.section.Extent.{Extent}
 use Rattle.rv_unit_tables.specs.declared.section_offset.SectionOffset.{SectionOffset}
 use Rattle.rv_unit.specs.Unit.{said, passed, IsFilled}
-use Rattle.rv_unit_tables.specs.Sections.{extent_section, offset_of}
+use Rattle.rv_unit_tables.specs.Sections.{extent_section, offset_of, zeros_offset}
 use Rattle.rv_unit_laws.specs.Options.{Options}
 use Rattle.rv_unit_laws.specs.Sections.{Section}
 use Rattle.rv_unit_laws.specs.Tables.{at_start, tables, stood}
@@ -31,10 +32,10 @@ module _ (c : After-sections) where
   statement = statement_of c.args.statement.now
 
   abbrev place : SectionOffset
-  place = slice_index_or c.places.result.now c.args.index (record { section = 0; offset = 0 })
+  place = slice_index_or c.places.result.now c.args.index zeros_offset
 
   abbrev none : Item
-  none = record { section = 0; offset = 0; bytes = 0; line = 0; shown = false; instructions = 0 }
+  none = zeros_item
 
   abbrev item : Item
   item = slice_index_or c.args.items.now c.args.index none
@@ -43,7 +44,7 @@ module _ (c : After-sections) where
   located = located_at (said c.args.unit.now) c.args.index statement
 
   standing : StandsAt c.args.unit.now c.args.index statement place
-  standing = stands_at c.args.unit.now c.args.index statement (record { section = 0; offset = 0 }) place c.args.unit.now.filled c.requires.said (ap (λ l. get_or l c.args.index (record { section = 0; offset = 0 })) c.places.ensures)
+  standing = stands_at c.args.unit.now c.args.index statement zeros_offset place c.args.unit.now.filled c.requires.said (ap (λ l. get_or l c.args.index zeros_offset) c.places.ensures)
 
   section_low : place.section < length (map extent_section c.args.unit.now.tables.extents.items)
   section_low = slice_get_within (map extent_section c.args.unit.now.tables.extents.items) place.section located.home standing.home

@@ -7,7 +7,7 @@ use Rattle.rv_statement.specs.Statements.{statements_of}
 use Rattle.rv_statement.specs.View.{statement_of}
 use Rattle.rv_unit_tables.specs.declared.section_offset.SectionOffset.{SectionOffset}
 use Rattle.rv_unit.specs.Unit.{said, IsFilled}
-use Rattle.rv_unit_tables.specs.Sections.{offset_of}
+use Rattle.rv_unit_tables.specs.Sections.{offset_of, zeros_offset}
 use Rattle.rv_unit_laws.specs.Options.{Options}
 use Rattle.rv_unit.proofs.StandingLemmas.{places_count}
 use Rattle.rv_layout.proofs.StandingLemmas.{StandsAt, stands_at, located_at, stated_none}
@@ -32,10 +32,10 @@ pub extent_at-extent-requires : goal.extent_at-extent-requires
 extent_at-extent-requires c =
     let u = c.args.unit.now in
     let i = c.loop-index.index in
-    let p : SectionOffset = slice_index_or c.places-places.result.now i (record { section = 0; offset = 0 }) in
+    let p : SectionOffset = slice_index_or c.places-places.result.now i zeros_offset in
     let inside : i < length (said u) = subst (λ n. i < n) (c.len-index-end.ensures ∙ ap (λ s. length (statements_of s)) c.statements-statements.ensures) c.loop-index-test.true in
     let stands : p.section < length u.tables.extents.items =
-    place_inside u i (record { section = 0; offset = 0 }) p c.args.unit.now.filled inside (ap (λ l. get_or l i (record { section = 0; offset = 0 })) c.places-places.ensures) in
+    place_inside u i zeros_offset p c.args.unit.now.filled inside (ap (λ l. get_or l i zeros_offset) c.places-places.ensures) in
     subst (λ l. p.section < length l) (sym c.sections-extents.ensures) stands
 
 pub read-statement-requires : goal.read-statement-requires
@@ -55,10 +55,10 @@ loop-index-preserved c =
     let u = c.args.unit.now in
     let i = c.loop-index.index in
     let x = statement_of c.read-statement.result.now in
-    let p : SectionOffset = slice_index_or c.places-places.result.now i (record { section = 0; offset = 0 }) in
+    let p : SectionOffset = slice_index_or c.places-places.result.now i zeros_offset in
     let inside : i < length (said u) = subst (λ n. i < n) (c.len-index-end.ensures ∙ ap (λ s. length (statements_of s)) c.statements-statements.ensures) c.loop-index-test.true in
     let is : slice_get (said u) i ≡ Some x = subst (λ s. slice_get (statements_of s) i ≡ Some x) c.statements-statements.ensures c.read-statement.ensures in
-    let at : StandsAt u i x p = stands_at u i x (record { section = 0; offset = 0 }) p c.args.unit.now.filled is (ap (λ l. get_or l i (record { section = 0; offset = 0 })) c.places-places.ensures) in
+    let at : StandsAt u i x p = stands_at u i x zeros_offset p c.args.unit.now.filled is (ap (λ l. get_or l i zeros_offset) c.places-places.ensures) in
     let rvc = c.rvc-compressed.result in
     let same = c.loop-index.invariant.0 in
     let filled = subst IsFilled (sym same) c.args.unit.now.filled in

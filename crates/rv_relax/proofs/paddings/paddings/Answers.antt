@@ -1,9 +1,9 @@
 use Rattle.std.proofs.Common.{◌≡◌, ◌+◌, ◌-◌, ◌%◌, ◌<◌, ◌∷◌, [], ◌++◌, length, map, take, slice_index_or, refl, sym, ap, ◌∙◌, arith, append-nil}
 use Rattle.rv_layout_laws.specs.Alignment.{aligned}
-use Rattle.rv_object_types.specs.Parts.{relocation_of}
+use Rattle.rv_object_types.specs.Parts.{relocation_of, zeros_relocation}
 use Rattle.rv_link_laws.specs.Moves.{alignment_of, full_padding, plan}
 use Rattle.rv_relax.specs.Paddings.{are_in_order, move_of}
-use Rattle.rv_relax.proofs.SortingLemmas.{nothing, backwards}
+use Rattle.rv_relax.proofs.SortingLemmas.{backwards}
 use Rattle.rv_cut_laws.proofs.AlignmentsLemmas.{next_alignment, other_alignments}
 use Rattle.rv_relax.proofs.PlannedLemmas.{at_hand, plan_at, least_of, planned, one_behind}
 use Rattle.rv_relax.proofs.paddings.paddings.Goals as goal
@@ -14,7 +14,7 @@ overflow_cast-full c =
     let at = c.loop-rest.rest in
     let is : at - 1 + 1 ≡ at = omega (arith, c.loop-rest-test.true) in
     let inside : at - 1 < length xs = omega (arith, c.loop-rest.invariant.0, c.loop-rest-test.true) in
-    let r = relocation_of (slice_index_or xs (at - 1) nothing) in
+    let r = relocation_of (slice_index_or xs (at - 1) zeros_relocation) in
     let rs = backwards (take (at - 1) xs) in
     let stop = c.loop-rest.invariant.2.0 in
     let all = at_hand stop xs (at - 1) at is inside c.loop-rest.invariant.2.1 in
@@ -27,7 +27,7 @@ overflow_sub-stands c =
     let at = c.loop-rest.rest in
     let is : at - 1 + 1 ≡ at = omega (arith, c.loop-rest-test.true) in
     let inside : at - 1 < length xs = omega (arith, c.loop-rest.invariant.0, c.loop-rest-test.true) in
-    let r = relocation_of (slice_index_or xs (at - 1) nothing) in
+    let r = relocation_of (slice_index_or xs (at - 1) zeros_relocation) in
     let rs = backwards (take (at - 1) xs) in
     let stop = c.loop-rest.invariant.2.0 in
     let all = at_hand stop xs (at - 1) at is inside c.loop-rest.invariant.2.1 in
@@ -40,7 +40,7 @@ overflow_add-gone c =
     let at = c.loop-rest.rest in
     let is : at - 1 + 1 ≡ at = omega (arith, c.loop-rest-test.true) in
     let inside : at - 1 < length xs = omega (arith, c.loop-rest.invariant.0, c.loop-rest-test.true) in
-    let r = relocation_of (slice_index_or xs (at - 1) nothing) in
+    let r = relocation_of (slice_index_or xs (at - 1) zeros_relocation) in
     let rs = backwards (take (at - 1) xs) in
     let stop = c.loop-rest.invariant.2.0 in
     let all = at_hand stop xs (at - 1) at is inside c.loop-rest.invariant.2.1 in
@@ -53,7 +53,7 @@ overflow_add-dropped c =
     let at = c.loop-rest.rest in
     let is : at - 1 + 1 ≡ at = omega (arith, c.loop-rest-test.true) in
     let inside : at - 1 < length xs = omega (arith, c.loop-rest.invariant.0, c.loop-rest-test.true) in
-    let r = relocation_of (slice_index_or xs (at - 1) nothing) in
+    let r = relocation_of (slice_index_or xs (at - 1) zeros_relocation) in
     let rs = backwards (take (at - 1) xs) in
     let stop = c.loop-rest.invariant.2.0 in
     let all = at_hand stop xs (at - 1) at is inside c.loop-rest.invariant.2.1 in
@@ -70,7 +70,7 @@ loop-rest-preserved c =
     let at = c.loop-rest.rest in
     let is : at - 1 + 1 ≡ at = omega (arith, c.loop-rest-test.true) in
     let inside : at - 1 < length xs = omega (arith, c.loop-rest.invariant.0, c.loop-rest-test.true) in
-    let r = relocation_of (slice_index_or xs (at - 1) nothing) in
+    let r = relocation_of (slice_index_or xs (at - 1) zeros_relocation) in
     let rs = backwards (take (at - 1) xs) in
     let stop = c.loop-rest.invariant.2.0 in
     let all = at_hand stop xs (at - 1) at is inside c.loop-rest.invariant.2.1 in

@@ -1,13 +1,12 @@
 use Rattle.std.proofs.Common.{◌≡◌, ◌<◌, ◌≤◌, ◌++◌, true, length, slice_index_or, get_or, sym, ap, subst, ◌∙◌}
 use Rattle.std.specs.List.{slice_get}
 use Rattle.rv_list_laws.proofs.ElementsLemmas.{index_or_read}
-use Rattle.rv_object_types.specs.Parts.{relocation_of}
+use Rattle.rv_object_types.specs.Parts.{relocation_of, zeros_relocation}
 use Rattle.rv_object_types.specs.Sections.{section_of}
 use Rattle.rv_link_laws.specs.Inputs.{goes_to_text}
 use Rattle.rv_shorten.specs.Sections.{moves_in}
 use Rattle.rv_relax.specs.Kept.{kept_in}
 use Rattle.rv_relax.specs.Told.{as_list, told_at}
-use Rattle.rv_relax.proofs.SortingLemmas.{nothing}
 use Rattle.rv_relax.proofs.ToldLemmas.{told_by, section_told, found_one, passed_all}
 use Rattle.rv_relax.proofs.told.found_in.Goals as goal
 
@@ -18,10 +17,10 @@ returns-in-Some c = λ more.
     let xs = s.whole.now.relocations.items in
     let i = c.loop-relocation.relocation-index in
     let rs = c.deref-relocation-items.result.now in
-    let x = slice_index_or rs i nothing in
+    let x = slice_index_or rs i zeros_relocation in
     let same = c.deref-relocation-items.ensures.value in
     let inside : i < length xs = subst (λ l. i < length l) same c.loop-relocation-test.true in
-    let is : x ≡ get_or xs i x = index_or_read rs i nothing c.loop-relocation-test.true ∙ ap (λ l. get_or l i x) same in
+    let is : x ≡ get_or xs i x = index_or_read rs i zeros_relocation c.loop-relocation-test.true ∙ ap (λ l. get_or l i x) same in
     let told : c.bytes_at.result ≡ told_at c.args.counted (moves_in s) (kept_in s) (relocation_of x) = c.bytes_at.ensures ∙ ap (λ ms. told_at c.args.counted (moves_in s) ms (relocation_of x)) c.requires in
     let text : goes_to_text (section_of s.whole.now) ≡ true = sym c.is_text.ensures ∙ c.if-not-is_text.false in
     ap (λ l. slice_get (l ++ more) c.args.left.now) (sym (section_told c.args.counted s text))

@@ -1,25 +1,20 @@
-use Rattle.std.proofs.Common.{◌<◌, None, length, map, option_map, get_or, rules, ap, sym, pos, ◌∙◌}
+use Rattle.std.proofs.Common.{◌<◌, length, map, option_map, get_or, rules, ap, sym, ◌∙◌}
 use Rattle.std.proofs.lemmas.List.{get_or_default}
-use Rattle.rv_isa.specs.declared.kind.Kind.TheVariants as kinds
-use Rattle.rv_object_types.specs.declared.relocation.Relocation.{Relocation as DeclaredRelocation}
 use Rattle.rv_object_laws.specs.Object.{Relocation}
-use Rattle.rv_object_types.specs.Parts.{relocation_of}
+use Rattle.rv_object_types.specs.Parts.{relocation_of, zeros_relocation}
 use Rattle.rv_shorten.specs.View.{short_object_of}
 use Rattle.rv_addresses.specs.Meant.{name_bytes}
 use Rattle.rv_link_laws.specs.Undefined.{undefined_name}
 use Rattle.rv_link_laws.proofs.FirstSomeLemmas.{none_here, one_here}
 use Rattle.rv_addresses.proofs.resolution.Resolution.undefined_among.Goals as goal
 
-abbrev no_relocation : DeclaredRelocation
-no_relocation = record { place = 0; kind = kinds.None; symbol = None; addend = pos 0 }
-
 pub loop-relocation-preserved : goal.loop-relocation-preserved
 loop-relocation-preserved c = λ at.
     let i = c.loop-relocation.relocation-index in
     let xs = c.args.relocations.now in
     let inside : i < length xs = search rules in
-    none_here (λ (r : Relocation). undefined_name (map short_object_of c.args.self.now.objects.now) (short_object_of c.args.object.now) r.symbol) relocation_of xs i (get_or xs i no_relocation) inside
-    (get_or_default xs i no_relocation (get_or xs i no_relocation) inside)
+    none_here (λ (r : Relocation). undefined_name (map short_object_of c.args.self.now.objects.now) (short_object_of c.args.object.now) r.symbol) relocation_of xs i (get_or xs i zeros_relocation) inside
+    (get_or_default xs i zeros_relocation (get_or xs i zeros_relocation) inside)
     (sym (c.undefined_name.ensures at) ∙ ap (option_map name_bytes) c.in-None.is)
     ∙ c.loop-relocation.invariant at
 
@@ -28,7 +23,7 @@ returns-in-Some c = λ at.
     let i = c.loop-relocation.relocation-index in
     let xs = c.args.relocations.now in
     let inside : i < length xs = search rules in
-    one_here (λ (r : Relocation). undefined_name (map short_object_of c.args.self.now.objects.now) (short_object_of c.args.object.now) r.symbol) relocation_of xs i (get_or xs i no_relocation) _ inside
-    (get_or_default xs i no_relocation (get_or xs i no_relocation) inside)
+    one_here (λ (r : Relocation). undefined_name (map short_object_of c.args.self.now.objects.now) (short_object_of c.args.object.now) r.symbol) relocation_of xs i (get_or xs i zeros_relocation) _ inside
+    (get_or_default xs i zeros_relocation (get_or xs i zeros_relocation) inside)
     (sym (c.undefined_name.ensures at) ∙ ap (option_map name_bytes) c.in-Some.is)
     ∙ c.loop-relocation.invariant at

@@ -8,6 +8,7 @@ use Rattle.rv_statement.specs.View.{statement_of}
 use Rattle.rv_unit_laws.specs.Faults as faults
 use Rattle.rv_unit_laws.specs.Tables as laws
 use Rattle.rv_unit_laws.proofs.FewLemmas.{first_of_few}
+use Rattle.rv_unit_tables.specs.Sections.{zeros_offset}
 use Rattle.rv_unit_tables.specs.declared.section_offset.SectionOffset.{SectionOffset}
 use Rattle.rv_unit.specs.Unit.{said, passed, IsStatementOf}
 use Rattle.rv_unit.proofs.StandingLemmas.{is_at, places_count, depth_next}
@@ -38,9 +39,9 @@ returns-in-Some c =
     let ss = said u in
     let i = c.loop-index.index in
     let x = statement_of c.read-statement.result.now in
-    let p : SectionOffset = slice_index_or c.places-places.result.now i (record { section = 0; offset = 0 }) in
+    let p : SectionOffset = slice_index_or c.places-places.result.now i zeros_offset in
     let listed : slice_get ss i ≡ Some x = ap (λ s. slice_get (statements_of s) i) (sym c.statements-statements.ensures) ∙ c.read-statement.ensures in
-    let first : IsStatementOf u i (i + 1) p x.kind = is_at u i x p (record { section = 0; offset = 0 }) u.filled listed (ap (λ l. get_or l i (record { section = 0; offset = 0 })) c.places-places.ensures) in
+    let first : IsStatementOf u i (i + 1) p x.kind = is_at u i x p zeros_offset u.filled listed (ap (λ l. get_or l i zeros_offset) c.places-places.ensures) in
     let at : IsStatementOf u i c.ordinal_of.result p x.kind = subst (λ o. IsStatementOf u i o p x.kind) (sym c.ordinal_of.ensures) first in
     let found = c.fault.ensures i at c.loop-index.invariant.0 in
     sym (check_found ss i (source_fault_number c.in-Some.code) x (drop_next ss i x listed) (check_lowest ss i x c.fault.result (Some c.in-Some.code) found c.in-Some.is))
@@ -52,9 +53,9 @@ loop-index-preserved c =
     let ss = said u in
     let i = c.loop-index.index in
     let x = statement_of c.read-statement.result.now in
-    let p : SectionOffset = slice_index_or c.places-places.result.now i (record { section = 0; offset = 0 }) in
+    let p : SectionOffset = slice_index_or c.places-places.result.now i zeros_offset in
     let listed : slice_get ss i ≡ Some x = ap (λ s. slice_get (statements_of s) i) (sym c.statements-statements.ensures) ∙ c.read-statement.ensures in
-    let first : IsStatementOf u i (i + 1) p x.kind = is_at u i x p (record { section = 0; offset = 0 }) u.filled listed (ap (λ l. get_or l i (record { section = 0; offset = 0 })) c.places-places.ensures) in
+    let first : IsStatementOf u i (i + 1) p x.kind = is_at u i x p zeros_offset u.filled listed (ap (λ l. get_or l i zeros_offset) c.places-places.ensures) in
     let at : IsStatementOf u i c.ordinal_of.result p x.kind = subst (λ o. IsStatementOf u i o p x.kind) (sym c.ordinal_of.ensures) first in
     let found = c.fault.ensures i at c.loop-index.invariant.0 in
     let low = check_lowest ss i x c.fault.result None found c.in-None.is in

@@ -3,6 +3,7 @@ use Rattle.std.specs.Prelude.{reverse, slice_get}
 use Rattle.std.specs.Option.{option_map_or}
 use Rattle.std.specs.List.{find}
 use Rattle.std.proofs.lemmas.Option.{slice_get_within}
+use Rattle.rv_unit_tables.specs.Sections.{zeros_offset}
 use Rattle.rv_unit_tables.specs.declared.numeric_labels.Run.{Run}
 use Rattle.rv_unit_tables.specs.NumericLabels.{are_runs}
 use Rattle.rv_unit_tables.proofs.OrderedLemmas.{got}
@@ -40,5 +41,5 @@ returns c =
     let runs = c.run_of.ensures (length os) (subst (λ l. are_runs (reverse l) (length os) ≡ true) (sym c.as_slice-2.ensures.value) c.self.invariant) in
     let found : c.run_of.result ≡ Some c.in_ok-run.run' = search rules in
     label_found (reverse rs) os c.args.self.now i c.in_ok-ordinal.ordinal c.in_ok-run.run'.place c.self.view_is (sym at ∙ some)
-    (ap (λ o. option_map_or (λ (r : Run). r.place) o (record { section = 0; offset = 0 }))
+    (ap (λ o. option_map_or (λ (r : Run). r.place) o zeros_offset)
     (ap (λ l. find (λ (r : Run). nat_le r.first i) (reverse l)) (sym c.as_slice-2.ensures.value) ∙ sym runs ∙ found))
