@@ -14,7 +14,7 @@ use Rattle.rv_unit_laws.specs.Tables.{Tables, Assignment, at_start, here, value_
 use Rattle.rv_unit_laws.proofs.EnteringLemmas.{entering}
 use Rattle.rv_unit_laws.proofs.GrownLemmas.{IsPower, alignment_new, data_alignments, grown_all}
 use Rattle.rv_object_laws.specs.Valid.{is_section_alignment}
-use Rattle.rv_layout.proofs.BesideLemmas.{low_if}
+use Rattle.rv_draft.proofs.BesideLemmas.{low_if}
 
 -- ---- no alignment is greater
 

@@ -31,7 +31,7 @@ use Rattle.rv_assemble_laws.specs.Templates.{Template, Datum, Open, absolute_kin
 use Rattle.rv_assemble_laws.specs.LaidStatements.{LaidStatement, LaidPart, laid_part, part_bytes, parts_of, parts, expression_value as values, coded_templates, templates, HasSize}
 use Rattle.rv_assemble_laws.proofs.ValidLemmas.{fills_plain}
 use Rattle.rv_assemble_laws.proofs.TemplatesLemmas.{absolute_plain, add_plain, subtract_plain}
-use Rattle.rv_layout.proofs.LengthsLemmas.{pair_long}
+use Rattle.rv_draft.proofs.SameLengthsLemmas.{pair_long}
 use Rattle.rv_assemble.proofs.SettledLemmas.{IsIn}
 use Rattle.rv_assemble.proofs.RoomLemmas.{IsRoom, HasRoom, directive_room}
 

@@ -14,8 +14,8 @@ use Rattle.rv_unit_laws.specs.declared.section_type.SectionType.{SectionType}
 use Rattle.rv_unit_laws.specs.declared.section_type.SectionType.TheVariants as types
 use Rattle.rv_unit_laws.specs.Sections.{Section as SourceSection, is_nobits_type}
 use Rattle.rv_unit_laws.specs.Tables.{Tables, at_start, after, tables, opened_of, alignments_of}
-use Rattle.rv_unit_tables.specs.declared.section.Extent.{Extent}
-use Rattle.rv_unit_tables.specs.Sections.{extent_section}
+use Rattle.rv_unit.specs.declared.section.Extent.{Extent}
+use Rattle.rv_unit.specs.Sections.{extent_section}
 use Rattle.rv_source_laws.specs.Located.{Located, located_now, located_from, has_row}
 use Rattle.rv_object_types.specs.declared.relocation.Relocation.{Relocation as DeclaredRelocation}
 use Rattle.rv_object_laws.specs.declared.row.Row.{Row}

@@ -22,7 +22,7 @@ use Rattle.rv_assemble_laws.specs.LaidStatements.{LaidStatement, LaidPart, expre
 use Rattle.rv_assemble_laws.proofs.FilledLemmas.{filled}
 use Rattle.rv_source_laws.proofs.HeldLemmas.{ContributionHeld, IsHeld}
 use Rattle.rv_object_laws.proofs.NopsLemmas.{length_even}
-use Rattle.rv_layout.proofs.LengthsLemmas.{pair_long}
+use Rattle.rv_draft.proofs.SameLengthsLemmas.{pair_long}
 use Rattle.rv_assemble.proofs.SettledLemmas.{IsIn}
 use Rattle.rv_assemble.proofs.RoomLemmas.{IsRoom, HasRoom, directive_room}
 use Rattle.rv_assemble.proofs.CodeFitsLemmas.{encoded_long}

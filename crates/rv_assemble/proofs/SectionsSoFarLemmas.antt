@@ -6,8 +6,8 @@ use Rattle.std.specs.Global.{Vec}
 use Rattle.std.specs.List.{AllByRecursion}
 use Rattle.std.specs.Prelude.{slice_set}
 use Rattle.rv_list_laws.proofs.TakeDropLemmas.{drop_read, drop_slice_set}
-use Rattle.rv_unit_tables.specs.declared.section.Extent.{Extent}
-use Rattle.rv_unit_tables.specs.Sections.{extent_section}
+use Rattle.rv_unit.specs.declared.section.Extent.{Extent}
+use Rattle.rv_unit.specs.Sections.{extent_section}
 use Rattle.rv_object_types.specs.declared.relocation.Relocation.{Relocation as DeclaredRelocation}
 use Rattle.rv_object_types.specs.declared.section.Section.{Section as DeclaredSection}
 use Rattle.rv_object_laws.specs.Object.{Section}

@@ -5,8 +5,8 @@ use Rattle.std.specs.Prelude.{◌≡◌, ℕ, ◌+◌, ◌==◌, true, List, [],
 use Rattle.std.specs.Global.{Vec}
 use Rattle.rv_text_laws.specs.Expression.{Primary}
 use Rattle.rv_unit_laws.specs.Sections.{Section as SourceSection}
-use Rattle.rv_unit_tables.specs.declared.section.Extent.{Extent}
-use Rattle.rv_unit_tables.specs.Sections.{extent_section}
+use Rattle.rv_unit.specs.declared.section.Extent.{Extent}
+use Rattle.rv_unit.specs.Sections.{extent_section}
 use Rattle.rv_object_laws.specs.declared.row.Row.{Row}
 use Rattle.rv_object_types.specs.declared.relocation.Relocation.{Relocation as DeclaredRelocation}
 use Rattle.rv_object_laws.specs.Object.{Relocation, Section}

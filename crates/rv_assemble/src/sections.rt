@@ -1,7 +1,7 @@
 //! The sections of an object.
 
 ghost use Rattle.std.specs.Prelude.{◌≡◌, IfOk, map};
-ghost use Rattle.rv_unit_tables.specs.Sections.{extent_section};
+ghost use Rattle.rv_unit.specs.Sections.{extent_section};
 ghost use Rattle.rv_object_types.specs.Parts.{contents_of as made_of, relocation_of};
 ghost use Rattle.rv_object_types.specs.Sections.{section_of};
 ghost use Rattle.rv_assemble_laws.specs.IsObjectOf.{contents_of};

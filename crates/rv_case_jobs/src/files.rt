@@ -1,7 +1,6 @@
 //! The files of cases: those that the words name, and those of folders.
 
-use rv_streams::ReadFault;
-use rv_system::{JobError, System, cannot};
+use rv_system::{JobError, ReadFault, System, cannot};
 use std::alloc::{AllocError, Global};
 
 /// The files of a case.

@@ -32,7 +32,7 @@ use Rattle.rv_fault.specs.declared.link_fault.LinkFault.{LinkFault}
 use Rattle.rv_fault.specs.declared.link_fault.LinkFault.TheVariants as links
 use Rattle.rv_link_laws.specs.TextStart.{IsTextStart}
 use Rattle.rv_link_laws.specs.Refusals.{ArePast, HasNoProgram}
-use Rattle.rv_raw_link_laws.specs.Listed.{IsShortListing, listed, HaveNoFault, HaveAProgram}
+use Rattle.rv_raw_theorems.specs.Listed.{IsShortListing, listed, HaveNoFault, HaveAProgram}
 use Rattle.rv_fault.specs.declared.fault.Fault.{Fault}
 use Rattle.rv_fault.specs.declared.fault.Fault.TheVariants.{Source, File, Link, Memory}
 use Rattle.rv_fault.specs.Fault.{IsNamed}

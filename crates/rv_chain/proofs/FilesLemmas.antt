@@ -11,17 +11,17 @@ use Rattle.rv_object_laws.specs.Valid.{is_section_alignment, fit_inside, are_pad
 use Rattle.rv_object_file_laws.specs.Parts.{is_kept, kept, row_records}
 use Rattle.rv_object_file_laws.specs.FirstFault.{first_fault}
 use Rattle.rv_object_file_laws.specs.ObjectOf.{ObjectOf, section_in, row_in}
-use Rattle.rv_object_checks.specs.Found.{section_at, sections_from}
+use Rattle.rv_object_reader.specs.Found.{section_at, sections_from}
 use Rattle.rv_object_reader.proofs.ValidSectionsLemmas.{IsValid, section_valid}
 use Rattle.rv_object_reader.proofs.ValidSymbolsLemmas.{object_rows}
 use Rattle.rv_fault.specs.declared.link_fault.LinkFault.{LinkFault}
 use Rattle.rv_link_laws.specs.TextStart.{AreWithin}
 use Rattle.rv_link_laws.specs.Refusals.{ArePast, HasNoProgram, IsSameFault}
-use Rattle.rv_unique_link_laws.specs.Asked.{IsSound}
+use Rattle.rv_unique_link_theorems.specs.Asked.{IsSound}
 use Rattle.rv_fault.specs.declared.fault.Fault.TheVariants.{Source, File, Link, Memory}
 use Rattle.rv_fault.specs.Fault.{IsNamed}
 use Rattle.rv_chain_laws.specs.Objects.{IsObjectIn, AreEach, AreObjectsIn}
-use Rattle.rv_object_checks.proofs.SectionsFromLemmas.{sections_are}
+use Rattle.rv_object_reader.proofs.SectionsFromLemmas.{sections_are}
 use Rattle.rv_chain.specs.LinkRefusals.{IsFirstUnread, AreReadUnlinked}
 use Rattle.rv_chain.specs.OneFault.{FilesForMemory, FilesForOne, FilesHaveOneFault}
 use Rattle.rv_chain.proofs.EachLemmas.{same_each, count_each, in_middle, all_each, one_first}

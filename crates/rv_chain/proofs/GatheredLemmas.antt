@@ -17,7 +17,7 @@ use Rattle.rv_object_types.specs.View.{object_of}
 use Rattle.rv_link_laws.specs.Shortened.{Relaxes}
 use Rattle.rv_link_laws.specs.Without.{without}
 use Rattle.rv_chain_laws.specs.Headline.{AllRead}
-use Rattle.rv_sources_link_laws.specs.Joins.{AreObjectsOf}
+use Rattle.rv_sources_link_theorems.specs.Joins.{AreObjectsOf}
 use Rattle.rv_assemble_laws.specs.FirstFault.{IsFirstFault}
 use Rattle.rv_chain_laws.specs.Objects.{AreEach, AreObjectsFrom}
 use Rattle.rv_fault.specs.declared.link_fault.LinkFault.{LinkFault}
@@ -25,7 +25,7 @@ use Rattle.rv_fault.specs.declared.link_fault.LinkFault.TheVariants as faults
 use Rattle.rv_fault.specs.Fault.{of_link}
 use Rattle.rv_link_laws.specs.TextStart.{IsTextStart}
 use Rattle.rv_object_types.proofs.WholeLemmas.{are_whole}
-use Rattle.rv_reach_laws.specs.Reach.{is_short_call, is_chosen_branch, ShortCallsReach, ShortBranchesReach, ShortFormsReach}
+use Rattle.rv_reach_theorems.specs.Reach.{is_short_call, is_chosen_branch, ShortCallsReach, ShortBranchesReach, ShortFormsReach}
 use Rattle.rv_chain.specs.Refusals.{IsRefusedAt, IsFirstRefused, IsRefusedIn, AreUnlinked, IsRefusedFor}
 
 pub one_more : (Is : List ℕ → Object → Type 0) (all : List (List ℕ)) (os : List Object) (bytes : List ℕ) (o : Object) → AreEach Is all os → Is bytes o → AreEach Is (all ++ bytes ∷ []) (os ++ o ∷ [])

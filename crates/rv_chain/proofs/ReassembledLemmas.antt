@@ -14,7 +14,7 @@ use Rattle.rv_listing_laws.specs.declared.code.Code.{Code}
 use Rattle.rv_listing_laws.specs.declared.code.Code.TheVariants.{Word, Parcel}
 use Rattle.rv_listing_laws.specs.Raw.{raw_bytes, is_executable}
 use Rattle.rv_chain_laws.specs.Headline.{AllRead}
-use Rattle.rv_reassembly_laws.specs.Reassembles.{RawListingsReassemble}
+use Rattle.rv_raw_theorems.specs.Reassembles.{RawListingsReassemble}
 use Rattle.rv_chain_laws.specs.Building.{IsProgramFrom}
 use Rattle.rv_chain.specs.Reassembled.{Reassembles}
 

@@ -13,7 +13,7 @@ use Rattle.rv_assemble_laws.specs.FirstFault.{IsFirstFault}
 use Rattle.rv_fault.specs.declared.link_fault.LinkFault.{LinkFault}
 use Rattle.rv_link_laws.specs.TextStart.{AreWithin}
 use Rattle.rv_chain_laws.specs.Headline.{AllRead}
-use Rattle.rv_reach_laws.specs.Reach.{ShortFormsReach}
+use Rattle.rv_reach_theorems.specs.Reach.{ShortFormsReach}
 use Rattle.rv_fault.specs.declared.fault.Fault.{Fault}
 use Rattle.rv_fault.specs.declared.fault.Fault.TheVariants.{Source, File, Link, Memory}
 use Rattle.rv_fault.specs.Fault.{IsNamed}

@@ -6,7 +6,7 @@ use Rattle.rv_map_laws.specs.Map.{Map}
 use Rattle.rv_map_laws.specs.Text.{map_text}
 use Rattle.rv_source_laws.specs.Fits.{Fits}
 use Rattle.rv_source_laws.specs.Program.{program}
-use Rattle.rv_value_laws.specs.Sites.{ArePlain}
+use Rattle.rv_value_theorems.specs.Sites.{ArePlain}
 use Rattle.rv_chain_laws.specs.Headline.{AllRead}
 
 -- what the texts read as, at the map that these bytes show: each value is plain arithmetic

@@ -21,12 +21,12 @@ use rv_fault::Fault;
 use rv_image::{Linked, write_exec};
 use rv_link::{LinkOptions, within_limits};
 use rv_object_types::Object;
-use rv_reach_laws::{short_branches_reach, short_calls_reach};
-use rv_reassembly_laws::raw_listings_reassemble;
-use rv_runs_laws::{linked_runs_agree, listing_is_the_sources};
-use rv_sources_link_laws::{linked_objects_are_flagged, objects_of_sources_link};
+use rv_raw_theorems::raw_listings_reassemble;
+use rv_reach_theorems::{short_branches_reach, short_calls_reach};
+use rv_runs_theorems::{linked_runs_agree, listing_is_the_sources};
+use rv_sources_link_theorems::{linked_objects_are_flagged, objects_of_sources_link};
 use rv_text::SourceFault;
-use rv_value_laws::values_are_plain;
+use rv_value_theorems::values_are_plain;
 use std::alloc::Global;
 
 /// Assembles and links a list of sources: the executable and its map.

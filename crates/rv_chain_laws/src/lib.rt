@@ -6,7 +6,7 @@
 //! program owes to it (`Contents`) and what memory owes to it (`Realizes`); what the instructions of a statement come
 //! to (`Walks`); the listing of sources, in which no byte occurs (`SourceListing`); and what is said of files of
 //! objects (`Objects`), of links and builds (`Linking`, `Building`), of their listings (`Listed`) and of runs
-//! (`Running`). `rv_runs_laws` has the law.
+//! (`Running`). `rv_runs_theorems` has the law.
 //!
 //! Nothing here runs.
 //!

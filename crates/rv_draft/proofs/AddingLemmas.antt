@@ -18,7 +18,7 @@ use Rattle.rv_instruction.specs.Code.{near_forms_of, HasCode, Codes}
 use Rattle.rv_draft.specs.Added.{IsAdded, Adds}
 use Rattle.rv_draft.specs.Compressed.{is_code_kind}
 use Rattle.rv_draft.specs.Code.{GrowsBy, bytes_in, code_bytes, code_size, full_fault, full_at}
-use Rattle.rv_layout.specs.Code.{statement_padding}
+use Rattle.rv_draft.specs.Contents.{statement_padding}
 use Rattle.rv_draft.specs.declared.code.Coder.{Coder}
 
 pub adds_fault : (old new : Coder) (section : ℕ) (executable rvc : Bool) (bytes wanted : ℕ) (v : Expression → values.Value) (l : Primary → Bool) (s : Statement) (fault : SourceFault)

@@ -26,8 +26,8 @@ use Rattle.rv_instruction.specs.Opened.{are_free, LeavesNone}
 use Rattle.rv_draft.specs.declared.data.Spot.{Spot}
 use Rattle.rv_draft.specs.declared.fields.Choices.{Choices}
 use Rattle.rv_unit.specs.declared.item.Item.{Item}
-use Rattle.rv_layout.specs.Code.{bytes_coded, IsCoded}
-use Rattle.rv_layout.proofs.LengthsLemmas.{part_long}
+use Rattle.rv_draft.specs.Contents.{bytes_coded, IsCoded}
+use Rattle.rv_draft.proofs.SameLengthsLemmas.{part_long}
 use Rattle.rv_assemble_laws.proofs.LeastCodeLemmas.{some_parts}
 use Rattle.rv_draft.specs.Coded.{IsCodedAt, HasBytes}
 use Rattle.rv_draft.specs.DataParts.{is_alignment, padding_said, code_said}

@@ -15,8 +15,8 @@ use Rattle.rv_source_laws.proofs.HomesLemmas.{homes_from}
 use Rattle.rv_assemble_laws.specs.Refusals.{code_faults_at}
 use Rattle.rv_assemble_laws.specs.LaidStatements.{expression_value}
 use Rattle.rv_instruction.specs.Code.{near_forms_of, MayHave}
-use Rattle.rv_layout.specs.Code.{statement_padding, data_of, beside_of}
-use Rattle.rv_layout.specs.Measure.{HasLength, IsSize, AreSizes}
+use Rattle.rv_draft.specs.Contents.{statement_padding, data_of, beside_of}
+use Rattle.rv_draft.specs.Measure.{HasLength, IsSize, AreSizes}
 use Rattle.rv_draft.specs.Lengths.{IsLength, AreLengths, code_length, code_lengths}
 use Rattle.rv_assemble_laws.proofs.LeastAllLemmas.{Agree, least_all}
 

@@ -20,7 +20,7 @@ use Rattle.rv_draft.specs.declared.field.OpenField.{OpenField}
 use Rattle.rv_draft.specs.declared.item.CodeSize.{CodeSize}
 use Rattle.rv_unit.specs.declared.item.Item.{Item}
 use Rattle.rv_draft.specs.Code.{GrowsBy, bytes_in, code_size, sizes_of}
-use Rattle.rv_layout.specs.Code.{statement_padding, padding_at, bytes_coded}
+use Rattle.rv_draft.specs.Contents.{statement_padding, padding_at, bytes_coded}
 use Rattle.rv_draft.specs.Coded.{IsCodedAt, AreCoded}
 use Rattle.rv_draft.specs.DataParts.{is_filled, data_said, fields_said, data_parts, code_said, open_fields, data_bytes, laid_statements, HasRoomFor, HaveCode, IsLaid, IsDataTo, IsData}
 use Rattle.rv_draft.specs.Draft.{field_of}
@@ -29,7 +29,7 @@ use Rattle.rv_draft.specs.Seated.{laid_of, first_code, other_codes, laid_from}
 use Rattle.rv_draft.specs.Sized.{IsSized, AreSized, first_size, other_sizes}
 use Rattle.rv_draft.specs.Spots.{HasBytesOf}
 use Rattle.rv_draft.proofs.EvensLemmas.{none_more}
-use Rattle.rv_layout.proofs.StandingLemmas.{located_at, stated_next}
+use Rattle.rv_draft.proofs.StandingLemmas.{located_at, stated_next}
 
 -- ---- the bytes of sections never fall
 

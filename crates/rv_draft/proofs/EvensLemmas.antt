@@ -12,7 +12,7 @@ use Rattle.rv_object_laws.specs.Padding.{no_operations}
 use Rattle.rv_source_laws.specs.Sizes.{code_padding}
 use Rattle.rv_assemble_laws.specs.LaidStatements.{expression_value}
 use Rattle.rv_instruction.specs.declared.encoded.Coded.{Coded}
-use Rattle.rv_layout.specs.Code.{statement_padding, padding_at, bytes_coded}
+use Rattle.rv_draft.specs.Contents.{statement_padding, padding_at, bytes_coded}
 use Rattle.rv_draft.specs.Code.{code_bytes}
 use Rattle.rv_object_laws.proofs.NopsLemmas.{length_even}
 

@@ -15,16 +15,16 @@ use Rattle.rv_statement.specs.declared.statement.StatementKind.{StatementKind}
 use Rattle.rv_statement.specs.declared.statement.StatementKind.TheVariants as kinds
 use Rattle.rv_unit_laws.specs.Sections.{Section}
 use Rattle.rv_unit_laws.specs.Tables.{at_start}
-use Rattle.rv_unit_tables.specs.declared.section_offset.SectionOffset.{SectionOffset}
-use Rattle.rv_unit_tables.specs.declared.section.Extent.{Extent}
+use Rattle.rv_unit.specs.declared.section_offset.SectionOffset.{SectionOffset}
+use Rattle.rv_unit.specs.declared.section.Extent.{Extent}
 use Rattle.rv_unit.specs.declared.unit.Unit.{Unit as SourceUnit}
 use Rattle.rv_unit.specs.Unit.{said}
 use Rattle.rv_source_laws.specs.Located.{Located, located_from}
 use Rattle.rv_source_laws.specs.Compressed.{is_code, names_parcel, is_compressed_code, is_compressed}
 use Rattle.rv_draft.specs.Compressed.{is_code_kind, is_parcel_plain, is_parcel_operation, names_parcel_kind}
-use Rattle.rv_layout.specs.Code.{IsExtentAt}
-use Rattle.rv_layout.proofs.ExtentsLemmas.{home_at}
-use Rattle.rv_layout.proofs.StandingLemmas.{StandsAt, located_at}
+use Rattle.rv_draft.specs.Contents.{IsExtentAt}
+use Rattle.rv_draft.proofs.ExtentsLemmas.{home_at}
+use Rattle.rv_draft.proofs.StandingLemmas.{StandsAt, located_at}
 use Rattle.rv_draft.proofs.WholeLemmas.{one_file}
 
 -- ---- what is code

@@ -32,7 +32,7 @@ use Rattle.rv_assemble_laws.specs.Fields.{Field, fields_from, fields_at}
 use Rattle.rv_instruction.specs.declared.encoded.Coded.{Coded as CodedPart}
 use Rattle.rv_instruction.specs.Code.{coded_by, instructions_of, IsCodeOf}
 use Rattle.rv_unit.specs.declared.item.Item.{Item}
-use Rattle.rv_layout.specs.Code.{statement_padding, padding_at, IsCoded}
+use Rattle.rv_draft.specs.Contents.{statement_padding, padding_at, IsCoded}
 use Rattle.rv_draft.specs.Code.{code_bytes as bytes_of_code, code_size, size_instructions, sizes_of}
 use Rattle.rv_draft.specs.Coded.{AreCoded}
 use Rattle.rv_draft.specs.DataParts.{is_filled, data_said, fields_said, data_parts, code_said, open_fields}

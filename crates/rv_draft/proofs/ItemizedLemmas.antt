@@ -7,11 +7,11 @@ use Rattle.std.proofs.lemmas.Bool.{eqb-true, eqb-false, cases_eq}
 use Rattle.rv_statement_laws.specs.Statement.{Statement}
 use Rattle.rv_unit_laws.specs.Sections.{Section}
 use Rattle.rv_unit_laws.specs.Tables.{Tables, SectionOffset as Standing, tables, value_by_tables, stood, alignments_of}
-use Rattle.rv_unit_tables.specs.declared.section_offset.SectionOffset.{SectionOffset}
-use Rattle.rv_unit_tables.specs.declared.section.Extent.{Extent}
+use Rattle.rv_unit.specs.declared.section_offset.SectionOffset.{SectionOffset}
+use Rattle.rv_unit.specs.declared.section.Extent.{Extent}
 use Rattle.rv_unit.specs.declared.unit.Unit.{Unit as SourceUnit}
-use Rattle.rv_unit_tables.specs.Sections.{offset_of, extent_section}
-use Rattle.rv_unit_tables.proofs.LookupsLemmas.{alignments_are}
+use Rattle.rv_unit.specs.Sections.{offset_of, extent_section}
+use Rattle.rv_unit.proofs.LookupsLemmas.{alignments_are}
 use Rattle.rv_unit.specs.Unit.{said, passed, IsFilled}
 use Rattle.rv_source_laws.specs.Located.{is_placed}
 use Rattle.rv_assemble_laws.specs.LaidStatements.{expression_value}
@@ -19,11 +19,11 @@ use Rattle.rv_draft.specs.declared.item.CodeSize.{CodeSize}
 use Rattle.rv_unit.specs.declared.item.Item.{Item}
 use Rattle.rv_draft.specs.Items.{IsItem, grown}
 use Rattle.rv_draft.specs.Sized.{IsSized}
-use Rattle.rv_layout.specs.Code.{IsExtentAt}
-use Rattle.rv_layout.proofs.ExtentsLemmas.{home_at}
+use Rattle.rv_draft.specs.Contents.{IsExtentAt}
+use Rattle.rv_draft.proofs.ExtentsLemmas.{home_at}
 use Rattle.rv_draft.specs.Measured.{HasRoom}
 use Rattle.rv_draft.proofs.RoomyLemmas.{IsRoomy}
-use Rattle.rv_layout.proofs.StandingLemmas.{StandsAt, located_at}
+use Rattle.rv_draft.proofs.StandingLemmas.{StandsAt, located_at}
 use Rattle.rv_draft.proofs.SoFarSizedLemmas.{IsSizedAt}
 
 -- ---- the bytes of each section

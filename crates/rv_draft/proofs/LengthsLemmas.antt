@@ -8,10 +8,10 @@ use Rattle.rv_layout_laws.specs.declared.item.Forms.{Forms}
 use Rattle.rv_source_laws.specs.Sizes.{near_forms}
 use Rattle.rv_instruction.specs.declared.encoded.Coded.{Coded}
 use Rattle.rv_instruction.specs.Code.{HasCode, near_forms_of}
-use Rattle.rv_layout.specs.Code.{bytes_coded, statement_padding, IsCoded}
-use Rattle.rv_layout.proofs.LengthsLemmas.{code_long}
+use Rattle.rv_draft.specs.Contents.{bytes_coded, statement_padding, IsCoded}
+use Rattle.rv_draft.proofs.SameLengthsLemmas.{code_long}
 use Rattle.rv_draft.specs.Coded.{HasBytes}
-use Rattle.rv_layout.specs.Measure.{HasLength}
+use Rattle.rv_draft.specs.Measure.{HasLength}
 
 -- ---- of one that was added
 

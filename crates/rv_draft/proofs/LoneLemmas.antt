@@ -31,7 +31,7 @@ use Rattle.rv_assemble_laws.specs.Templates.{Open as OpenField}
 use Rattle.rv_assemble_laws.specs.LaidStatements.{expression_value}
 use Rattle.rv_instruction.specs.declared.encoded.Coded.{Coded}
 use Rattle.rv_instruction.specs.Code.{Shape, shape_in, shape_of}
-use Rattle.rv_layout.specs.Code.{IsCoded}
+use Rattle.rv_draft.specs.Contents.{IsCoded}
 use Rattle.rv_draft.specs.declared.data.Spot.{Spot}
 use Rattle.rv_draft.specs.declared.fields.Choices.{Choices}
 use Rattle.rv_unit.specs.declared.item.Item.{Item}

@@ -7,7 +7,7 @@ use Rattle.rv_text_laws.specs.Values.{Value}
 use Rattle.rv_statement_laws.specs.Statement.{StatementKind, Label, Numbered, Instruction, Directs, Expression, Statement}
 use Rattle.rv_text_laws.specs.Codes.{lowest}
 use Rattle.rv_unit_laws.specs.Tables.{Tables, SectionOffset as Standing, at_start, after, tables, value_by_tables, alignment_at}
-use Rattle.rv_unit_tables.specs.Sections.{offset_of}
+use Rattle.rv_unit.specs.Sections.{offset_of}
 use Rattle.rv_unit.specs.declared.unit.Unit.{Unit as SourceUnit}
 use Rattle.rv_unit.specs.Unit.{said, IsFilled, IsScope}
 use Rattle.rv_source_laws.specs.Located.{Located, located, located_now, located_from, is_placed}
@@ -20,15 +20,15 @@ use Rattle.rv_draft.specs.declared.data.Spot.{Spot}
 use Rattle.rv_draft.specs.declared.item.CodeSize.{CodeSize}
 use Rattle.rv_unit.specs.declared.item.Item.{Item}
 use Rattle.rv_draft.specs.Added.{IsWhole}
-use Rattle.rv_layout.specs.Code.{bytes_coded, statement_padding, padding_at, IsCoded}
+use Rattle.rv_draft.specs.Contents.{bytes_coded, statement_padding, padding_at, IsCoded}
 use Rattle.rv_draft.specs.Code.{bytes_of_codes, code_size, sizes_of}
 use Rattle.rv_draft.specs.Coded.{AreCoded, HasBytes}
 use Rattle.rv_draft.specs.DataParts.{AreMade, IsMade}
 use Rattle.rv_draft.specs.Lengths.{AreLengths}
 use Rattle.rv_draft.specs.Sized.{AreSized, IsSized}
 use Rattle.rv_draft.specs.Spots.{value_in, IsMadeAt}
-use Rattle.rv_layout.proofs.StandingLemmas.{StandsAt, located_at}
-use Rattle.rv_layout.proofs.ExtentsLemmas.{faults_in, faults_there}
+use Rattle.rv_draft.proofs.StandingLemmas.{StandsAt, located_at}
+use Rattle.rv_draft.proofs.ExtentsLemmas.{faults_in, faults_there}
 use Rattle.rv_draft.proofs.WholeLemmas.{one_file}
 
 -- an instruction has the bytes of its code, which it was asked for

@@ -27,7 +27,7 @@ use Rattle.rv_unit.proofs.PassedLemmas.{passed_rest}
 use Rattle.rv_draft.specs.Items.{IsItem, grown}
 use Rattle.rv_draft.specs.Sized.{IsItemPadded, IsSizedDirective, IsSized, bytes_of_sizes, size_bytes}
 use Rattle.rv_draft.specs.Measured.{stretch, IsSize}
-use Rattle.rv_layout.proofs.StandingLemmas.{located_at, stated_next}
+use Rattle.rv_draft.proofs.StandingLemmas.{located_at, stated_next}
 use Rattle.rv_draft.proofs.SoFarItemsLemmas.{passed_next}
 use Rattle.rv_draft.proofs.SoFarSizedLemmas.{IsSizedAt}
 use Rattle.rv_draft.proofs.SoundLemmas.{sound_at}

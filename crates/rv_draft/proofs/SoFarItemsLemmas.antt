@@ -8,7 +8,7 @@ use Rattle.rv_unit.specs.Unit.{passed}
 use Rattle.rv_source_laws.specs.Located.{Located, located_now}
 use Rattle.rv_unit.specs.declared.item.Item.{Item}
 use Rattle.rv_draft.specs.Items.{IsItem, AreItems, grown}
-use Rattle.rv_layout.proofs.StandingLemmas.{located_at}
+use Rattle.rv_draft.proofs.StandingLemmas.{located_at}
 
 -- the tables after one statement more
 passed_left : (k : ℕ) (t : Tables) (ss : List Statement) (i : ℕ) (s : Statement) (rest : List Statement) → drop i ss ≡ s ∷ rest → after_all t k (take (suc i) ss) ≡ after (after_all t k (take i ss)) (i + k) s.kind

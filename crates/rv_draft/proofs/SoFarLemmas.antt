@@ -15,7 +15,7 @@ use Rattle.rv_assemble_laws.specs.Coded.{IsCode}
 use Rattle.rv_assemble_laws.specs.Refusals.{code_faults_at, code_fault_from, size_fault_from, else_fault, grown, HasCodeSize, AreCodeSizes}
 use Rattle.rv_assemble_laws.specs.LaidStatements.{expression_value}
 use Rattle.rv_draft.specs.Code.{bytes_in, code_bytes, code_size, sizes_of, bytes_of_sizes, bytes_of_codes, section_code, full_fault, full_at}
-use Rattle.rv_layout.specs.Code.{bytes_coded, statement_padding, padding_at, IsCoded}
+use Rattle.rv_draft.specs.Contents.{bytes_coded, statement_padding, padding_at, IsCoded}
 use Rattle.rv_draft.specs.Coded.{AreCoded}
 use Rattle.rv_draft.specs.Added.{IsAdded, IsCodeSoFar, IsWhole, IsLong}
 use Rattle.rv_draft.specs.declared.code.Coder.{Coder}

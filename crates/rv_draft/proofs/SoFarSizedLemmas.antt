@@ -10,7 +10,7 @@ use Rattle.rv_assemble_laws.specs.LaidStatements.{expression_value}
 use Rattle.rv_draft.specs.declared.item.CodeSize.{CodeSize}
 use Rattle.rv_unit.specs.declared.item.Item.{Item}
 use Rattle.rv_draft.specs.Sized.{IsSized, AreSized}
-use Rattle.rv_layout.proofs.StandingLemmas.{located_at}
+use Rattle.rv_draft.proofs.StandingLemmas.{located_at}
 use Rattle.rv_draft.proofs.SoFarItemsLemmas.{passed_next}
 
 -- the sizes of the items so far, with those of what is left, are those of all items

@@ -13,9 +13,9 @@ use Rattle.rv_statement_laws.specs.Statement.{Expression, Statement}
 use Rattle.rv_text_laws.specs.Codes.{lowest}
 use Rattle.rv_unit_laws.specs.Faults.{StatementFault}
 use Rattle.rv_unit_laws.specs.Tables.{Tables, SectionOffset as Standing, at_start, tables, value_by_tables, stood}
-use Rattle.rv_unit_tables.specs.declared.section_offset.SectionOffset.{SectionOffset}
+use Rattle.rv_unit.specs.declared.section_offset.SectionOffset.{SectionOffset}
 use Rattle.rv_unit.specs.declared.unit.Unit.{Unit as SourceUnit}
-use Rattle.rv_unit_tables.specs.Sections.{offset_of}
+use Rattle.rv_unit.specs.Sections.{offset_of}
 use Rattle.rv_unit.specs.Unit.{said, passed}
 use Rattle.rv_source_laws.specs.Located.{Located, located, located_from}
 use Rattle.rv_source_laws.specs.Sizes.{AreLeast}
@@ -25,13 +25,13 @@ use Rattle.rv_draft.specs.Added.{IsAdded, IsAllCode, IsCodeFault, IsCodeSoFar, I
 use Rattle.rv_draft.specs.declared.code.Coder.{Coder}
 use Rattle.rv_draft.specs.declared.code.SectionCode.{SectionCode}
 use Rattle.rv_draft.proofs.SoFarLemmas.{next_code, wrong_code}
-use Rattle.rv_layout.specs.Code.{padding_at}
+use Rattle.rv_draft.specs.Contents.{padding_at}
 use Rattle.rv_draft.specs.Code.{code_size, bytes_of_sizes, size_bytes}
 use Rattle.rv_draft.specs.Lengths.{HasLengthAt}
-use Rattle.rv_layout.specs.Measure.{IsSize, AreSizes}
+use Rattle.rv_draft.specs.Measure.{IsSize, AreSizes}
 use Rattle.rv_draft.specs.declared.item.CodeSize.{CodeSize}
 use Rattle.rv_draft.proofs.LengthsLemmas.{added_length}
-use Rattle.rv_layout.proofs.StandingLemmas.{StandsAt, located_at}
+use Rattle.rv_draft.proofs.StandingLemmas.{StandsAt, located_at}
 
 -- the code of the first `i` statements of a source
 abbrev pub CodeTo : List Statement → ℕ → Coder → Type 0

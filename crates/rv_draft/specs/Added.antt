@@ -13,7 +13,7 @@ use Rattle.rv_unit_laws.specs.Tables.{Tables, tables}
 use Rattle.rv_source_laws.specs.Located.{Located, located}
 use Rattle.rv_assemble_laws.specs.Refusals.{code_fault_from, size_fault_from, code_fault, else_fault, AreCodeSizes, IsTooLong}
 use Rattle.rv_draft.specs.Code.{GrowsBy, bytes_in, code_bytes, code_size, sizes_of, bytes_of_codes, section_code, full_fault, full_at}
-use Rattle.rv_layout.specs.Code.{statement_padding, IsCoded}
+use Rattle.rv_draft.specs.Contents.{statement_padding, IsCoded}
 use Rattle.rv_draft.specs.Coded.{AreCoded}
 use Rattle.rv_instruction.specs.declared.encoded.Coded.{Coded}
 use Rattle.rv_instruction.specs.Code.{near_forms_of}

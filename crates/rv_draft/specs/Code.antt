@@ -9,7 +9,7 @@ use Rattle.rv_object_laws.specs.Padding.{no_operations, operations_in}
 use Rattle.rv_source_laws.specs.Located.{Located}
 use Rattle.rv_instruction.specs.declared.encoded.Coded.{Coded}
 use Rattle.rv_instruction.specs.Code.{instructions_of}
-use Rattle.rv_layout.specs.Code.{bytes_coded, padding_at}
+use Rattle.rv_draft.specs.Contents.{bytes_coded, padding_at}
 use Rattle.rv_draft.specs.declared.item.CodeSize.{CodeSize}
 
 -- the bytes of a section by its place among the sections

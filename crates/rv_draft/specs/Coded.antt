@@ -6,7 +6,7 @@ use Rattle.rv_unit_laws.specs.Tables.{Tables}
 use Rattle.rv_source_laws.specs.Located.{Located}
 use Rattle.rv_assemble_laws.specs.LaidStatements.{expression_value}
 use Rattle.rv_instruction.specs.declared.encoded.Coded.{Coded}
-use Rattle.rv_layout.specs.Code.{bytes_coded, IsCoded}
+use Rattle.rv_draft.specs.Contents.{bytes_coded, IsCoded}
 
 -- the code of a statement where it stands
 abbrev pub IsCodedAt : Tables → Located → List Coded → Type 0

@@ -6,8 +6,8 @@ use Rattle.rv_source_laws.specs.Located.{Located}
 use Rattle.rv_assemble_laws.specs.Refusals.{code_faults_at}
 use Rattle.rv_assemble_laws.specs.LaidStatements.{expression_value}
 use Rattle.rv_instruction.specs.Code.{MayHave}
-use Rattle.rv_layout.specs.Code.{padding_at, data_of}
-use Rattle.rv_layout.specs.Measure.{HasLength}
+use Rattle.rv_draft.specs.Contents.{padding_at, data_of}
+use Rattle.rv_draft.specs.Measure.{HasLength}
 
 -- a statement without forms of several lengths has so many bytes of code and padding
 abbrev pub HasLengthAt : Tables → Located → ℕ → Type 0

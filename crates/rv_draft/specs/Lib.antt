@@ -2,11 +2,13 @@ pub mod Added
 pub mod Code
 pub mod Coded
 pub mod Compressed
+pub mod Contents
 pub mod DataParts
 pub mod Draft
 pub mod Items
 pub mod Lengths
 pub mod Lone
+pub mod Measure
 pub mod Measured
 pub mod Seated
 pub mod Sized

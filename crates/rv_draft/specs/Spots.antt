@@ -6,7 +6,7 @@ use Rattle.rv_isa.specs.declared.kind.Kind.{Kind}
 use Rattle.rv_text_laws.specs.Values.{Value}
 use Rattle.rv_statement_laws.specs.Statement.{StatementKind, Expression}
 use Rattle.rv_unit_laws.specs.Tables.{tables}
-use Rattle.rv_unit_tables.specs.Sections.{offset_of}
+use Rattle.rv_unit.specs.Sections.{offset_of}
 use Rattle.rv_unit.specs.Unit.{said, IsFilled, IsScope}
 use Rattle.rv_source_laws.specs.Located.{Located}
 use Rattle.rv_source_laws.specs.Program.{place_of}
@@ -23,7 +23,7 @@ use Rattle.rv_instruction.specs.declared.encoded.Coded.{Coded}
 use Rattle.rv_draft.specs.declared.fields.Choices.{Choices}
 use Rattle.rv_unit.specs.declared.item.Item.{Item}
 use Rattle.rv_draft.specs.Code.{GrowsBy}
-use Rattle.rv_layout.specs.Code.{IsCoded}
+use Rattle.rv_draft.specs.Contents.{IsCoded}
 use Rattle.rv_draft.specs.Coded.{HasBytes}
 use Rattle.rv_draft.specs.Seated.{laid_of}
 use Rattle.rv_draft.specs.DataParts.{data_said, fields_said, code_said}

@@ -5,7 +5,7 @@ ghost use Rattle.rv_unit.specs.Unit.{said};
 ghost use Rattle.rv_source_laws.specs.Compressed as laws;
 ghost use Rattle.rv_draft.specs.Compressed.{is_code_kind, names_parcel_kind};
 
-use rv_layout::extent_at;
+use crate::extents::extent_at;
 use rv_statement::{Operation, Plain, StatementKind, Statements};
 use rv_unit::Unit;
 

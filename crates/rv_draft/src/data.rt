@@ -13,7 +13,7 @@ ghost use Rattle.rv_text.specs.Nodes.{symbol_of};
 ghost use Rattle.rv_statement_laws.specs.Widths.{width_bytes};
 ghost use Rattle.rv_statement.specs.View.{quoted, statement_kind, statement_of};
 ghost use Rattle.rv_unit_laws.specs.Tables.{at_start, tables, string_bytes, longest_section};
-ghost use Rattle.rv_unit_tables.specs.Sections.{section_of};
+ghost use Rattle.rv_unit.specs.Sections.{section_of};
 ghost use Rattle.rv_unit.specs.Faults.{ForValue};
 ghost use Rattle.rv_unit.specs.Unit.{said, IsScope};
 ghost use Rattle.rv_source_laws.specs.Located.{located_from};

@@ -15,7 +15,7 @@ use crate::compressed::has_compressed;
 use crate::data::{Filled, data};
 use crate::field::OpenField;
 use crate::items::items;
-use rv_layout::Layout;
+use crate::layout::Layout;
 use rv_text::SourceFault;
 use rv_unit::{Item, Unit};
 use std::alloc::Global;

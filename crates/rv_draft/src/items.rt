@@ -20,9 +20,9 @@ ghost use Rattle.rv_instruction.specs.Scoped.{values_at, is_placed_at, AtNext, S
 ghost use Rattle.rv_draft.specs.Sized.{AreSized, bytes_of_sizes};
 ghost use Rattle.rv_draft.specs.Measured.{CanCount, PadsIn, CanPadIn, AlignsIn, CanAlignIn, IsSizeIn, CanSizeIn, HasRoomIn, IsSizedIn};
 
+use crate::extents::extent_at;
 use crate::item::CodeSize;
 use rv_instruction::constant;
-use rv_layout::extent_at;
 use rv_statement::{Statement, StatementKind, Statements};
 use rv_statement_laws::Width;
 use rv_text::{SourceCode, SourceFault, Value};

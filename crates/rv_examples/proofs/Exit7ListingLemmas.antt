@@ -10,7 +10,7 @@ use Rattle.rv_pseudo_laws.specs.Li.{addi}
 use Rattle.rv_pseudo_laws.specs.Code.{Closed}
 use Rattle.rv_source_laws.specs.Program.{Program, program}
 use Rattle.rv_chain_laws.specs.SourceListing.{is_listed, by_row, IsSourceListing}
-use Rattle.rv_runs_laws.proofs.AscendingLemmas.{sorted_from}
+use Rattle.rv_runs_theorems.proofs.AscendingLemmas.{sorted_from}
 
 abbrev p : Program
 p = program (exit7 ∷ []) exit7_map

@@ -32,7 +32,7 @@ use Rattle.rv_layout_laws.specs.Calls.{Offers, site_at, MayShorten, IsClosed, Le
 use Rattle.rv_layout_laws.specs.Steps.{Unchanged}
 use Rattle.rv_layout_laws.proofs.ShorteningLemmas.{shortened_greatest}
 use Rattle.rv_source_laws.specs.SourceRun.{source_run}
-use Rattle.rv_runs_laws.proofs.ContentsLemmas.{linked_agrees}
+use Rattle.rv_runs_theorems.proofs.ContentsLemmas.{linked_agrees}
 
 -- `li a0, 7` and `li a7, 93`
 abbrev first : Inst

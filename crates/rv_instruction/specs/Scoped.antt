@@ -8,8 +8,8 @@ use Rattle.rv_text.specs.declared.evaluation.Value.{Value}
 use Rattle.rv_text.specs.Eval.{IsOutcome}
 use Rattle.rv_statement_laws.specs.Statement.{StatementKind, Expression}
 use Rattle.rv_unit_laws.specs.Tables.{tables, value_by_tables, stood}
-use Rattle.rv_unit_tables.specs.declared.section_offset.SectionOffset.{SectionOffset}
-use Rattle.rv_unit_tables.specs.Sections.{offset_of}
+use Rattle.rv_unit.specs.declared.section_offset.SectionOffset.{SectionOffset}
+use Rattle.rv_unit.specs.Sections.{offset_of}
 use Rattle.rv_unit.specs.declared.scope.Scope.{Scope}
 use Rattle.rv_unit.specs.Unit.{said, passed, IsFilled, IsScope}
 use Rattle.rv_parcel.specs.declared.form.Compressed.{Compressed}

@@ -1,6 +1,6 @@
 //! Branches and jumps as their sizes see them: the forms that they have, and where they lead.
 //!
-//! The sizes of branches depend on one another, so a statement says only its forms and its target here. `rv_layout`
+//! The sizes of branches depend on one another, so a statement says only its forms and its target here. `rv_draft`
 //! finds the one least family of sizes.
 //!
 //! Source: RISC-V Unprivileged ISA 20191213, chapters 2.5 and 16; GNU as, "RISC-V-Directives".

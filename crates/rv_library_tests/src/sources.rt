@@ -1,6 +1,6 @@
 //! What a source says.
 
-use rv_layout::Layout;
+use rv_draft::Layout;
 use rv_parse::{Statement, parse};
 use rv_text::{Lexer, Meaning, SourceFault, TokenKind, Value, eval, parse_expr};
 use rv_unit::Unit;

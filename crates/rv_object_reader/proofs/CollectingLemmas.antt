@@ -1,7 +1,7 @@
 -- The lists of relocations, one for each kept section, as the sections of the file are gone through.
 
 use Rattle.std.proofs.Common.{◌≡◌, ℕ, ◌+◌, ◌-◌, ◌<◌, ◌==◌, Bool, true, false, ◌&&◌, List, [], ◌∷◌, ◌++◌, length, map, filter, set, get_or, Option, Some, None, refl, ap, sym, ◌∙◌, arith, cond}
-use Rattle.rv_object_checks.specs.SectionsFrom.{from_cut}
+use Rattle.rv_object_reader.specs.SectionsFrom.{from_cut}
 use Rattle.std.specs.List.{slice_get, AllByRecursion}
 use Rattle.std.specs.Global.{Vec}
 use Rattle.std.proofs.lemmas.Bool.{and_parts, and_from, cond-true, cond-false}
@@ -15,10 +15,10 @@ use Rattle.rv_elf_laws.specs.Sections.{section_count, section_header_of, file_co
 use Rattle.rv_object_types.specs.declared.relocation.Relocation.{Relocation as DeclaredRelocation}
 use Rattle.rv_object_laws.specs.Object.{Relocation}
 use Rattle.rv_object_types.specs.Parts.{relocation_of}
-use Rattle.rv_object_checks.specs.Found.{section_at, sections_from, place_among_kept, place_at}
+use Rattle.rv_object_reader.specs.Found.{section_at, sections_from, place_among_kept, place_at}
 use Rattle.rv_object_file_laws.specs.FirstFault.{is_linked, is_rela_linked, first_fault}
 use Rattle.rv_object_file_laws.specs.Parts.{FileSection, sections, kept, kept_at, kept_before, is_kept, is_loaded, is_rela, is_section, is_symbol_table, symbol_table, relocates, relocations_in}
-use Rattle.rv_object_checks.proofs.SectionsFromLemmas.{sections_are}
+use Rattle.rv_object_reader.proofs.SectionsFromLemmas.{sections_are}
 use Rattle.rv_object_reader.specs.Collected.{list_so_far, lists_so_far, lists_of, lists_in}
 use Rattle.rv_object_reader.proofs.GoodRelocationsLemmas.{collected, collected_append, collected_here, collected_other}
 use Rattle.rv_object_reader.proofs.KeptLemmas.{kept_place, map_kept, map_unkept, says_at}

@@ -6,10 +6,10 @@ use Rattle.std.proofs.lemmas.Bool.{cond-true, cond-false, eqb-true, true≢false
 use Rattle.std.proofs.lemmas.Bool.Decides.{nat_tests}
 use Rattle.rv_elf_laws.specs.Sections.{section_header_of, section_count}
 use Rattle.rv_object_file_laws.specs.Parts.{FileSection, kept, is_kept, is_index, kept_before, kept_at}
-use Rattle.rv_object_checks.specs.Found.{section_at, sections_from}
+use Rattle.rv_object_reader.specs.Found.{section_at, sections_from}
 use Rattle.rv_object_reader.proofs.WalkLemmas.{AllPassed, FoundPassed, fine, HeaderSays, header_says}
 use Rattle.rv_object_file_laws.specs.FirstFault.{first_fault}
-use Rattle.rv_object_checks.proofs.SectionsFromLemmas.{sections_are}
+use Rattle.rv_object_reader.proofs.SectionsFromLemmas.{sections_are}
 
 -- sections whose indices rise, from this one on
 abbrev pub Ascends : ℕ → List FileSection → Type 0

@@ -9,14 +9,14 @@ use Rattle.rv_elf_laws.specs.declared.symbol.Symbol.{Symbol as SymbolRecord}
 use Rattle.rv_elf_laws.specs.FirstFault.{first_true}
 use Rattle.rv_elf_laws.specs.Sections.{section_count}
 use Rattle.rv_object_laws.specs.declared.row.Row.{Row}
-use Rattle.rv_object_checks.specs.Found.{section_at, sections_from, place_among_kept, place_at}
+use Rattle.rv_object_reader.specs.Found.{section_at, sections_from, place_among_kept, place_at}
 use Rattle.rv_object_file_laws.specs.FirstFault.{has_binding, has_home, symbol_tests, is_row_of, row_tests, first_fault}
 use Rattle.rv_object_file_laws.specs.Parts.{FileSection, sections, is_kept, is_index, kept_at, kept_before, row_records}
 use Rattle.rv_object_file_laws.specs.Rows.{RowRecord}
 use Rattle.rv_object_reader.proofs.FirstTrueLemmas.{all_false}
 use Rattle.rv_object_reader.proofs.ValidSymbolsLemmas.{IsGoodRow, good_rows}
-pub use Rattle.rv_object_checks.proofs.RecordsLemmas.{records_cut as records_next, records_behind}
-use Rattle.rv_object_checks.proofs.SectionsFromLemmas.{sections_are}
+pub use Rattle.rv_object_reader.proofs.RecordsLemmas.{records_cut as records_next, records_behind}
+use Rattle.rv_object_reader.proofs.SectionsFromLemmas.{sections_are}
 
 -- ---- tables
 

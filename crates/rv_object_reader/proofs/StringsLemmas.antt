@@ -9,7 +9,7 @@ use Rattle.std.proofs.lemmas.List.{length-drop, get_or-drop}
 use Rattle.memchr.specs.Find.{IsFirst, Passes, is_byte}
 use Rattle.rv_elf_laws.specs.declared.section_header.SectionHeader.{SectionHeader}
 use Rattle.rv_elf_laws.specs.Sections.{before_zero, string_at, names_section, indexed_contents}
-use Rattle.rv_object_checks.specs.Names.{names_table}
+use Rattle.rv_object_reader.specs.Names.{names_table}
 use Rattle.rv_object_file_laws.specs.Parts.{name_at, name_of}
 use Rattle.rv_elf.proofs.StringsLemmas.{no_zero, zero_at}
 

@@ -10,10 +10,10 @@ use Rattle.rv_elf_laws.specs.declared.section_header.SectionHeader.{SectionHeade
 use Rattle.rv_elf_laws.specs.FirstFault.{first_true}
 use Rattle.rv_elf_laws.specs.Records.{symbol_at}
 use Rattle.rv_elf_laws.specs.Sections.{records, section_count, section_header_of, file_contents}
-use Rattle.rv_object_checks.specs.Found.{section_at, sections_from}
+use Rattle.rv_object_reader.specs.Found.{section_at, sections_from}
 use Rattle.rv_object_file_laws.specs.FirstFault.{section_tests, is_linked, is_rela_linked, symbol_count, first_fault}
 use Rattle.rv_object_file_laws.specs.Parts.{FileSection, is_section, is_loaded, is_symbol_table, is_rela, symbol_table, symbols_of, symbol_records}
-use Rattle.rv_object_checks.proofs.SectionsFromLemmas.{sections_are}
+use Rattle.rv_object_reader.proofs.SectionsFromLemmas.{sections_are}
 use Rattle.rv_object_reader.proofs.ContentsLemmas.{stored_length}
 use Rattle.rv_object_reader.proofs.FirstTrueLemmas.{all_false}
 use Rattle.rv_object_reader.proofs.KeptLemmas.{says_at}

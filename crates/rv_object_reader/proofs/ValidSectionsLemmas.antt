@@ -11,8 +11,8 @@ use Rattle.rv_object_laws.specs.Valid.{is_section_alignment, is_string, keeps_na
 use Rattle.rv_object_file_laws.specs.Parts.{sections, kept, is_kept, is_loaded, is_executable, contents_in, extent_of, symbol_records}
 use Rattle.rv_object_file_laws.specs.FirstFault.{first_fault}
 use Rattle.rv_object_file_laws.specs.ObjectOf.{section_in}
-use Rattle.rv_object_checks.specs.Found.{section_at, sections_from}
-use Rattle.rv_object_checks.proofs.SectionsFromLemmas.{sections_are}
+use Rattle.rv_object_reader.specs.Found.{section_at, sections_from}
+use Rattle.rv_object_reader.proofs.SectionsFromLemmas.{sections_are}
 use Rattle.rv_object_reader.proofs.KeptLemmas.{says_at}
 use Rattle.rv_object_reader.proofs.GoodRelocationsLemmas.{all_good, collected}
 use Rattle.rv_object_reader.proofs.ContentsLemmas.{name_ends, even_says, aligned_says, kept_says, fits_says, padding_says}

@@ -1,1 +1,10 @@
 pub mod Collected
+pub mod Found
+pub mod Held
+pub mod Names
+pub mod Opening
+pub mod Rows
+pub mod SectionsFrom
+pub mod Stretches
+pub mod Tests
+pub mod Walk

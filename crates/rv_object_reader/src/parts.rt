@@ -6,7 +6,7 @@ ghost use Rattle.rv_object_types.specs.Parts.{contents_of};
 ghost use Rattle.rv_object_file_laws.specs.ObjectOf.{binding_in};
 ghost use Rattle.rv_object_file_laws.specs.Parts.{contents_in, is_writable, name_of};
 ghost use Rattle.rv_object_file_laws.specs.FirstFault.{first_fault};
-ghost use Rattle.rv_object_checks.specs.Names.{names_table};
+ghost use Rattle.rv_object_reader.specs.Names.{names_table};
 
 use crate::strings::Strings;
 use rv_elf::{

@@ -6,13 +6,13 @@ ghost use Rattle.rv_object_types.specs.View.{object_of};
 ghost use Rattle.rv_object_file_laws.specs.FirstFault.{first_fault};
 ghost use Rattle.rv_object_file_laws.specs.ObjectOf.{ObjectOf};
 
+use crate::checking::check;
 use crate::parts::is_compressed;
 use crate::relocations::relocations;
 use crate::rows::rows;
 use crate::sections::sections;
 use crate::symbols::symbols;
 use rv_fault::FileFault;
-use rv_object_checks::check;
 use rv_object_types::Object;
 use std::alloc::Global;
 

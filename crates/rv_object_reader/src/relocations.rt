@@ -3,13 +3,16 @@
 ghost use Rattle.std.specs.Prelude.{◌≡◌, ◌<◌, ◌++◌, ◌∷◌, [], IfOk, OnOk, List, length, map, option_map};
 ghost use Rattle.rv_elf_laws.specs.Sections.{section_count, relas_in};
 ghost use Rattle.rv_object_types.specs.Parts.{relocation_of};
-ghost use Rattle.rv_object_checks.specs.Found.{section_at};
+ghost use Rattle.rv_object_reader.specs.Found.{section_at};
 ghost use Rattle.rv_object_file_laws.specs.Parts.{FileSection, kept, relocation_in, relocations_in};
 ghost use Rattle.rv_object_reader.specs.Collected.{lists_of, lists_so_far, lists_in};
 
+use crate::checked::Checked;
+use crate::headers::is_loaded;
+use crate::relocation_checks::{kind_numbered, rela_from};
+use crate::tables::count_sections;
 use rv_elf::{RELA_SIZE, SHT_RELA, SectionIndex};
 use rv_elf_laws::Rela;
-use rv_object_checks::{Checked, count_sections, is_loaded, kind_numbered, rela_from};
 use rv_object_types::Relocation;
 use std::alloc::{AllocError, Global};
 

@@ -3,14 +3,16 @@
 ghost use Rattle.std.specs.Prelude.{◌≡◌, true, IfOk, map};
 ghost use Rattle.std.specs.List.{AllByRecursion};
 ghost use Rattle.rv_object_laws.specs.Valid.{is_counted, are_counted};
-ghost use Rattle.rv_object_checks.specs.Rows.{record_of};
+ghost use Rattle.rv_object_reader.specs.Rows.{record_of};
 ghost use Rattle.rv_object_file_laws.specs.FirstFault.{is_row_of};
 ghost use Rattle.rv_object_file_laws.specs.ObjectOf.{row_in as row_of};
 ghost use Rattle.rv_object_file_laws.specs.Parts.{kept_at, row_records};
 ghost use Rattle.rv_object_file_laws.specs.Rows.{rows_in as records_in};
 
+use crate::checked::Checked;
+use crate::row_checks::row_in;
+use crate::row_record::{ROW_SIZE, RowRecord};
 use rv_elf::SectionIndex;
-use rv_object_checks::{Checked, ROW_SIZE, RowRecord, row_in};
 use rv_object_types::Row;
 use std::alloc::{AllocError, Global};
 

@@ -7,7 +7,7 @@ ghost use Rattle.std.specs.Prelude.{◌≡◌, ◌<◌, [], not, length, slice_i
 ghost use Rattle.memchr.specs.Find.{is_byte, places};
 ghost use Rattle.rv_object_file_laws.specs.Parts.{name_at};
 
-use rv_object_checks::first_from;
+use crate::positions::first_from;
 use std::alloc::{AllocError, Global};
 
 /// A table of strings.

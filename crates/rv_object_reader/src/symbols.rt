@@ -9,11 +9,12 @@ ghost use Rattle.rv_object_file_laws.specs.FirstFault.{has_home, symbol_tests};
 ghost use Rattle.rv_object_file_laws.specs.ObjectOf.{names_of, symbol_in, definition_in};
 ghost use Rattle.rv_object_file_laws.specs.Parts.{symbol_records, symbol_table};
 
+use crate::checked::Checked;
 use crate::parts::binding;
 use crate::strings::Strings;
+use crate::symbol_checks::symbol_from;
 use rv_elf::{SHN_ABS, SHN_UNDEF, SYMBOL_SIZE, SectionIndex};
 use rv_elf_laws::Symbol as SymbolRecord;
-use rv_object_checks::{Checked, symbol_from};
 use rv_object_types::{Definition, Symbol};
 use std::alloc::{AllocError, Global};
 

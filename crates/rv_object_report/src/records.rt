@@ -16,7 +16,7 @@ use rv_inspect::{
     bytes_of, count_relas, kind_name, rela_at, section_at, section_name, section_named,
 };
 use rv_isa::Kind;
-use rv_object_checks::{ROW_SIZE, kind_numbered};
+use rv_object_reader::{ROW_SIZE, kind_numbered};
 use std::alloc::{AllocError, Global};
 
 /// The largest alignment of a section.

@@ -4,7 +4,7 @@ use rv_elf::{ElfView, RELA_SIZE, SHF_ALLOC, SHT_RELA};
 use rv_elf_laws::{Rela, SectionHeader};
 use rv_inspect::{bytes_of, count_relas, rela_at, section_at, section_named};
 use rv_isa::Kind;
-use rv_object_checks::kind_numbered;
+use rv_object_reader::kind_numbered;
 use std::alloc::{AllocError, Global};
 
 /// A relocation of a file.

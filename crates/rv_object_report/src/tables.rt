@@ -4,7 +4,7 @@ use crate::sites::Site;
 use rv_elf::ElfView;
 use rv_elf_laws::SectionHeader;
 use rv_inspect::{bytes_of, section_at, section_name, section_named, symbol_at, symbol_name};
-use rv_object_checks::{ROW_SIZE, RowRecord, row_in};
+use rv_object_reader::{ROW_SIZE, RowRecord, row_in};
 
 /// The name of the section that has the rows of statements.
 const ROWS: &[u8] = b".rv.rows";

@@ -13,7 +13,7 @@ use rv_fault::Fault;
 use rv_fault_texts::put_bytes;
 use rv_isa::Kind;
 use rv_link::{LinkFault, LinkOptions};
-use rv_object_checks::kind_numbered;
+use rv_object_reader::kind_numbered;
 use std::alloc::{AllocError, Global};
 
 /// An addend of which no byte is 0, so that each byte of the sum is another.

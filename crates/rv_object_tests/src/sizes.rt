@@ -1,6 +1,6 @@
 //! The sizes of a source's statements, as the listing of GNU as (Binutils 2.40) has them.
 
-use rv_layout::Layout;
+use rv_draft::Layout;
 use rv_parse::{parse, parse_compact};
 use rv_unit::Unit;
 use std::alloc::{AllocError, Global};

@@ -2,8 +2,7 @@
 
 use super::fake::{Fake, Reader, Scene};
 use rv_program::{CliError, report};
-use rv_streams::{ReadFault, read_whole};
-use rv_system::Purpose;
+use rv_system::{Purpose, ReadFault, read_whole};
 use std::alloc::{AllocError, Global};
 use std::test::Fail;
 

@@ -5,8 +5,7 @@ use rv_image::Image;
 use rv_machine::{End, Io, RunFault, WatchFault, Watched, Watcher, run_io, run_watched};
 use rv_memory::Paged;
 use rv_program::exit_status;
-use rv_streams::ReadFault;
-use rv_system::{Purpose, System};
+use rv_system::{Purpose, ReadFault, System};
 use std::alloc::{AllocError, Global};
 use std::io::{self, ErrorKind, Read, Write};
 

@@ -2,7 +2,7 @@
 
 use rv_chain::{Fault, FileFault};
 use rv_machine::RunFault;
-use rv_streams::ReadFault;
+use rv_system::ReadFault;
 use std::alloc::{AllocError, AllocFailed};
 use std::io;
 use thiserror::Error;

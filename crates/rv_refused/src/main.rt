@@ -20,7 +20,7 @@ mod shown;
 use crate::calls::answer;
 use crate::error::Failed;
 use crate::given::Given;
-use rv_streams::read_whole;
+use rv_system::read_whole;
 use std::process::ExitCode;
 
 /// The most bytes of what is asked.

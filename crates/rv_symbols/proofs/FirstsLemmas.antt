@@ -9,8 +9,8 @@ use Rattle.std.proofs.lemmas.List.{take_more, map-append, reverse-append}
 use Rattle.rv_list_laws.proofs.ElementsLemmas.{same_bytes}
 use Rattle.rv_list_laws.proofs.TruthLemmas.{same_tests, or_false_back}
 use Rattle.rv_unit_laws.specs.Tables.{Assignment}
-use Rattle.rv_unit_tables.specs.declared.tables.Assignment.{Assignment as DeclaredSetting}
-use Rattle.rv_unit_tables.specs.Tables.{assignment_of}
+use Rattle.rv_unit.specs.declared.tables.Assignment.{Assignment as DeclaredSetting}
+use Rattle.rv_unit.specs.Tables.{assignment_of}
 use Rattle.rv_source_laws.specs.Exports.{sets_first}
 use Rattle.rv_symbols.specs.Settings.{least, first_ordinal}
 

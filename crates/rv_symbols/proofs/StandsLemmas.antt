@@ -10,8 +10,8 @@ use Rattle.rv_list_laws.proofs.ElementsLemmas.{cons_parts}
 use Rattle.rv_list_laws.proofs.MapLemmas.{map_twice}
 use Rattle.std.proofs.lemmas.Option.{slice_get-map}
 use Rattle.rv_unit_laws.specs.Tables.{Tables, SectionOffset as Standing, at_start, after, stood, places_from}
-use Rattle.rv_unit_tables.specs.declared.section_offset.SectionOffset.{SectionOffset}
-use Rattle.rv_unit_tables.specs.Sections.{offset_of}
+use Rattle.rv_unit.specs.declared.section_offset.SectionOffset.{SectionOffset}
+use Rattle.rv_unit.specs.Sections.{offset_of}
 use Rattle.rv_unit.specs.Unit.{said}
 use Rattle.rv_unit.specs.Items.{offsets_of}
 use Rattle.rv_source_laws.specs.Located.{Located, located_from}
@@ -21,7 +21,7 @@ use Rattle.rv_object_laws.specs.declared.symbol.Definition.TheVariants.{InSectio
 use Rattle.rv_assemble_laws.specs.Symbols.{laid_at, after_found}
 use Rattle.rv_symbols.specs.declared.source.Source.{Source}
 use Rattle.rv_symbols.specs.Source.{place_in, IsSource}
-pub use Rattle.rv_unit_tables.proofs.OrderedLemmas.{got}
+pub use Rattle.rv_unit.proofs.OrderedLemmas.{got}
 use Rattle.rv_assemble_laws.proofs.OrdinalsLemmas.{ordinal_by}
 
 -- the statement of an ordinal is that at its index

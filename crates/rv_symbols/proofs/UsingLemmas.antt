@@ -19,7 +19,7 @@ use Rattle.rv_statement.specs.View.{now_of}
 use Rattle.rv_unit_laws.specs.Tables as laws
 use Rattle.rv_unit_laws.specs.Tables.{Tables}
 use Rattle.rv_unit.specs.Unit.{definition_of}
-use Rattle.rv_unit_tables.specs.declared.section_offset.Definition.{Definition}
+use Rattle.rv_unit.specs.declared.section_offset.Definition.{Definition}
 use Rattle.rv_assemble_laws.specs.Symbols.{SymbolUse, missing_name, distinct_from}
 use Rattle.rv_symbols.specs.declared.symbol_use.SymbolUse.{SymbolUse as DeclaredUse}
 use Rattle.rv_symbols.specs.SymbolUse.{use_of, uses_of}

@@ -2,7 +2,7 @@
 
 ghost use Rattle.std.specs.Prelude.{◌≡◌, List, ◌∷◌, Option, map, reverse, IfOk, OnOk};
 ghost use Rattle.rv_unit_laws.specs.Tables.{Assignment as SaidSetting};
-ghost use Rattle.rv_unit_tables.specs.Tables.{assignment_of};
+ghost use Rattle.rv_unit.specs.Tables.{assignment_of};
 ghost use Rattle.rv_source_laws.specs.Exports.{sets_first};
 ghost use Rattle.rv_symbols.specs.Settings as laws;
 

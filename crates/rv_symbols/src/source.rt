@@ -4,7 +4,7 @@ ghost use Rattle.std.specs.Prelude.{◌≡◌, ◌+◌, ◌^◌, ◌<◌, Some, 
 ghost use Rattle.rv_statement.specs.View.{statement_of};
 ghost use Rattle.rv_unit_laws.specs.Bindings.{is_shared};
 ghost use Rattle.rv_unit_laws.specs.Tables.{tables, assigned_ever};
-ghost use Rattle.rv_unit_tables.specs.Tables.{assignment_of};
+ghost use Rattle.rv_unit.specs.Tables.{assignment_of};
 ghost use Rattle.rv_unit.specs.Unit.{said, IsFilled};
 ghost use Rattle.rv_map_laws.specs.Name.{is_name};
 ghost use Rattle.rv_object_laws.specs.Valid.{is_shown};

@@ -5,7 +5,7 @@
 
 ghost use Rattle.std.specs.Prelude.{◌≤◌, length, IfOk};
 
-use rv_streams::ReadFault;
+use crate::whole::ReadFault;
 use std::alloc::{AllocError, Global};
 use std::io::{self, Write};
 

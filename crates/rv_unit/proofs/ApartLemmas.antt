@@ -12,7 +12,7 @@ use Rattle.rv_unit_laws.specs.Tables.{Tables, Labelled, Assignment, here, value_
 use Rattle.rv_unit_laws.proofs.AloneLemmas.{section_same, directive_same, other_label, undefined, unplaced}
 use Rattle.rv_unit_laws.proofs.BeforeLemmas.{IsBefore, before_after, before_start, label_below, below, before_section as entered_before}
 use Rattle.rv_unit.specs.declared.unit.Unit.{Unit as SourceUnit}
-use Rattle.rv_unit_tables.specs.Tables.{tables_of}
+use Rattle.rv_unit.specs.Tables.{tables_of}
 use Rattle.rv_unit.specs.Unit.{said, IsApart, IsFilled}
 
 -- ---- statement by statement

@@ -17,10 +17,10 @@ use Rattle.rv_unit_laws.proofs.BeforeLemmas.{IsBefore, before_all, before_start}
 use Rattle.rv_unit_laws.proofs.BoundLemmas.{bound_all}
 use Rattle.rv_unit_laws.proofs.OpenedLemmas.{IsStood, stood_all, stood_start, stands_same, open_inside}
 use Rattle.rv_unit.specs.declared.unit.Unit.{Unit as SourceUnit}
-use Rattle.rv_unit_tables.specs.Tables.{tables_of}
+use Rattle.rv_unit.specs.Tables.{tables_of}
 use Rattle.rv_unit.specs.Unit.{said, IsFilled, passed, comes_after}
 use Rattle.rv_unit.proofs.PassedLemmas.{passed_before, passed_keeps, passed_rest}
-use Rattle.rv_unit_tables.proofs.LookupsLemmas.{numeric_label_none}
+use Rattle.rv_unit.proofs.LookupsLemmas.{numeric_label_none}
 
 -- the tables of a unit stand before the ordinal after its last statement
 pub whole_before : (u : SourceUnit) → IsFilled u → IsBefore (tables_of u.tables) (1 + length (said u))

@@ -9,11 +9,11 @@ use Rattle.rv_unit_laws.specs.Sections.{Section, place_of_name, most_sections, s
 use Rattle.rv_unit_laws.specs.Tables as laws
 use Rattle.rv_unit_laws.specs.Tables.{gives_location}
 use Rattle.rv_unit_laws.proofs.AskedLemmas.{defined_kept, location_kept, home_same, too_many, places_length, place_at, options_at, options_length, after_depth, depth_after}
-use Rattle.rv_unit_tables.specs.declared.section_offset.SectionOffset.{SectionOffset}
-use Rattle.rv_unit_tables.specs.declared.options.Options.{Options}
-use Rattle.rv_unit_tables.specs.Options.{options_of}
-use Rattle.rv_unit_tables.specs.Sections.{offset_of}
-use Rattle.rv_unit_tables.specs.Tables.{tables_of}
+use Rattle.rv_unit.specs.declared.section_offset.SectionOffset.{SectionOffset}
+use Rattle.rv_unit.specs.declared.options.Options.{Options}
+use Rattle.rv_unit.specs.Options.{options_of}
+use Rattle.rv_unit.specs.Sections.{offset_of}
+use Rattle.rv_unit.specs.Tables.{tables_of}
 use Rattle.rv_unit.specs.declared.unit.Unit.{Unit as SourceUnit}
 use Rattle.rv_unit.specs.Unit.{said, passed, IsStatementOf, IsFilled}
 use Rattle.rv_unit.proofs.PassedLemmas.{passed_before, passed_keeps, passed_rest, passed_more}

@@ -3,12 +3,12 @@
 use Rattle.std.specs.Prelude.{◌≡◌, List, map}
 use Rattle.rv_statement_laws.specs.Statement.{Statement}
 use Rattle.rv_unit_laws.specs.Tables as laws
-use Rattle.rv_unit_tables.specs.declared.section_offset.SectionOffset.{SectionOffset}
-use Rattle.rv_unit_tables.specs.declared.options.Options.{Options}
-use Rattle.rv_unit_tables.specs.declared.tables.Tables.{Tables}
-use Rattle.rv_unit_tables.specs.Options.{options_of}
-use Rattle.rv_unit_tables.specs.Sections.{offset_of}
-use Rattle.rv_unit_tables.specs.Tables.{tables_of, IsIndexed}
+use Rattle.rv_unit.specs.declared.section_offset.SectionOffset.{SectionOffset}
+use Rattle.rv_unit.specs.declared.options.Options.{Options}
+use Rattle.rv_unit.specs.declared.tables.Tables.{Tables}
+use Rattle.rv_unit.specs.Options.{options_of}
+use Rattle.rv_unit.specs.Sections.{offset_of}
+use Rattle.rv_unit.specs.Tables.{tables_of, IsIndexed}
 
 -- the offsets and the options of these statements, and their tables
 pub record AreFilled (ps : List SectionOffset) (os : List Options) (t : Tables)

@@ -1,5 +1,10 @@
 pub mod Faults
-pub mod Filled
-pub mod Unit
 pub mod FaultsAt
+pub mod Filled
 pub mod Items
+pub mod Mixed
+pub mod NumericLabels
+pub mod Options
+pub mod Sections
+pub mod Tables
+pub mod Unit

@@ -10,11 +10,11 @@ use Rattle.rv_unit_laws.specs.Faults.{StatementFault, first_unit_fault}
 use Rattle.rv_statement_laws.specs.Statement.{Statement, StatementKind}
 use Rattle.rv_statement.specs.Statements.{statements_of}
 use Rattle.rv_unit_laws.specs.Tables as laws
-use Rattle.rv_unit_tables.specs.declared.section_offset.Definition.{Definition}
-use Rattle.rv_unit_tables.specs.declared.section_offset.SectionOffset.{SectionOffset}
+use Rattle.rv_unit.specs.declared.section_offset.Definition.{Definition}
+use Rattle.rv_unit.specs.declared.section_offset.SectionOffset.{SectionOffset}
 use Rattle.rv_unit.specs.declared.unit.Unit.{Unit as SourceUnit}
 use Rattle.rv_unit.specs.declared.scope.Scope.{Scope}
-use Rattle.rv_unit_tables.specs.Sections.{offset_of}
+use Rattle.rv_unit.specs.Sections.{offset_of}
 use Rattle.rv_unit.specs.Filled.{AreFilled}
 
 abbrev pub definition_of : Definition → laws.Definition

@@ -13,24 +13,23 @@ ghost use Rattle.rv_statement.specs.View.{quoted, setting_of, statement_kind};
 ghost use Rattle.rv_unit_laws.specs.Faults as faults;
 ghost use Rattle.rv_unit_laws.specs.Tables as laws;
 ghost use Rattle.rv_unit_laws.proofs.AskedLemmas.{depth_after as depth_then};
-ghost use Rattle.rv_unit_tables.specs.Sections.{section_of, offset_of};
-ghost use Rattle.rv_unit_tables.specs.declared.section_offset.SectionOffset.{SectionOffset as SectionOffsetOf};
+ghost use Rattle.rv_unit.specs.Sections.{section_of, offset_of};
+ghost use Rattle.rv_unit.specs.declared.section_offset.SectionOffset.{SectionOffset as SectionOffsetOf};
 ghost use Rattle.rv_fault.specs.SourceFault.{IsLowest};
 ghost use Rattle.rv_unit.specs.FaultsAt.{faults_at, directive_faults_at};
 ghost use Rattle.rv_unit.specs.Unit.{said, passed, fault_of, IsStatementOf, IsFilled};
 
+use crate::align::{byte_alignment, power_alignment, strings_size, values_size, width_in_bytes};
 use crate::faults::{
     alignment_fault, bytes_fault, choice_fault, data_fault, faulty_if, instruction_fault,
     is_difference, lower, power_fault, set_fault, value_fault, zero_fault,
 };
+use crate::section::Section;
+use crate::section_offset::SectionOffset;
 use crate::unit::Unit;
 use rv_statement::{Setting, StatementKind, Statements};
 use rv_statement_laws::{Choice, Width};
 use rv_text::{Expr, SourceCode};
-use rv_unit_tables::{
-    Section, SectionOffset, byte_alignment, power_alignment, strings_size, values_size,
-    width_in_bytes,
-};
 
 /// The depth of the option stack after a statement.
 fn depth_after(depth: usize, kind: &StatementKind<'_>) -> usize

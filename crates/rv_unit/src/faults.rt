@@ -16,11 +16,12 @@ ghost use Rattle.rv_text.specs.Nodes.{symbol_of};
 ghost use Rattle.rv_text.specs.Expr.{tree_of_expr};
 ghost use Rattle.rv_text.specs.Eval.{meaning_of, IsOutcome};
 ghost use Rattle.rv_unit.specs.Faults.{ForValue, open_meaning, is_difference};
-ghost use Rattle.rv_unit_tables.specs.Sections.{section_of};
+ghost use Rattle.rv_unit.specs.Sections.{section_of};
 
+use crate::align::{GREATEST_ALIGNMENT, LONGEST_SECTION, is_power_below, padding};
+use crate::section::Section;
 use rv_statement_laws::Choice;
 use rv_text::{Expr, SourceCode, SourceFault, Symbol, SymbolMeaning, Value, symbolic_value};
-use rv_unit_tables::{GREATEST_ALIGNMENT, LONGEST_SECTION, Section, is_power_below, padding};
 
 /// What an expression is worth, or its fault.
 pub(crate) type Outcome<'a> = Result<Value<'a>, SourceFault>;

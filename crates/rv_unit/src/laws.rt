@@ -1,9 +1,9 @@
 //! Laws of units, each the contract of a function with nothing to do.
 
 ghost use Rattle.std.specs.Prelude.{◌≡◌, map};
-ghost use Rattle.rv_unit_tables.specs.Options.{options_of};
-ghost use Rattle.rv_unit_tables.specs.Sections.{offset_of};
-ghost use Rattle.rv_unit_tables.specs.Tables.{tables_of};
+ghost use Rattle.rv_unit.specs.Options.{options_of};
+ghost use Rattle.rv_unit.specs.Sections.{offset_of};
+ghost use Rattle.rv_unit.specs.Tables.{tables_of};
 ghost use Rattle.rv_unit.specs.declared.unit.Unit.{Unit as SourceUnit};
 ghost use Rattle.rv_unit.specs.Unit.{said};
 

@@ -17,13 +17,13 @@ ghost use Rattle.rv_text.specs.Expr.{lone_primary, expr_of, tree_of_expr};
 ghost use Rattle.rv_text.specs.Eval.{meaning_of, IsOutcome};
 ghost use Rattle.rv_unit_laws.specs.Tables as laws;
 ghost use Rattle.rv_unit_laws.proofs.BeforeLemmas.{IsBefore};
-ghost use Rattle.rv_unit_tables.specs.Sections.{offset_of};
-ghost use Rattle.rv_unit_tables.specs.Tables.{tables_of, IsIndexed};
+ghost use Rattle.rv_unit.specs.Sections.{offset_of};
+ghost use Rattle.rv_unit.specs.Tables.{tables_of, IsIndexed};
 ghost use Rattle.rv_unit.specs.Unit.{said, passed, IsApart, IsFilled, comes_after};
 
+use crate::section_offset::SectionOffset;
 use crate::unit::Unit;
 use rv_text::{Expr, NumericReference, SourceFault, Symbol, SymbolMeaning, Value, symbolic_value};
-use rv_unit_tables::SectionOffset;
 
 /// Whether a symbol is a numeric label that comes after.
 fn comes_after(symbol: Symbol<'_>) -> bool

@@ -8,14 +8,16 @@ ghost use Rattle.rv_lexer.specs.Reference.{digits_in, is_ahead};
 ghost use Rattle.rv_text.specs.Eval.{meaning_of, IsOutcome};
 ghost use Rattle.rv_unit_laws.specs.Tables as laws;
 ghost use Rattle.rv_unit_laws.proofs.BeforeLemmas.{IsBefore};
-ghost use Rattle.rv_unit_tables.specs.Sections.{offset_of};
-ghost use Rattle.rv_unit_tables.specs.Tables.{tables_of, numeric_label_at, assignment_of, IsIndexed};
+ghost use Rattle.rv_unit.specs.Sections.{offset_of};
+ghost use Rattle.rv_unit.specs.Tables.{tables_of, numeric_label_at, assignment_of, IsIndexed};
 ghost use Rattle.rv_unit.specs.Unit.{said, passed, definition_of, IsApart, IsFilled, IsScope};
 
+use crate::fill::assigned;
+use crate::section_offset::{Definition, SectionOffset};
+use crate::tables::{Assignment, NumericLabel};
 use crate::unit::Unit;
 use rv_statement::Setting;
 use rv_text::{Expr, NumericReference, SourceFault, Symbol, SymbolMeaning, Value};
-use rv_unit_tables::{Assignment, Definition, NumericLabel, SectionOffset, assigned};
 
 /// Names as the statements see them, one after the other.
 #[derive(Drop)]

@@ -7,13 +7,17 @@ ghost use Rattle.rv_statement.specs.Statements.{statements_of};
 ghost use Rattle.rv_statement.specs.View.{statement_of};
 ghost use Rattle.rv_unit_laws.specs.Faults.{first_unit_fault};
 ghost use Rattle.rv_unit_laws.specs.Tables.{tables, assigned_ever};
-ghost use Rattle.rv_unit_tables.specs.Options.{options_of};
-ghost use Rattle.rv_unit_tables.specs.Tables.{assignment_of};
+ghost use Rattle.rv_unit.specs.Options.{options_of};
+ghost use Rattle.rv_unit.specs.Tables.{assignment_of};
 ghost use Rattle.rv_unit.specs.Filled.{AreFilled};
 
+use crate::options::Options;
+use crate::section::Extent;
+use crate::section_offset::SectionOffset;
+use crate::tables::{Assignment, Tables};
 use rv_statement::{MOST_STATEMENTS, Statement, Statements};
+use rv_statement_laws::Binding;
 use rv_text::{SourceCode, SourceFault};
-use rv_unit_tables::{Assignment, Binding, Extent, Options, SectionOffset, Tables};
 use std::alloc::{AllocError, Global};
 
 /// A source's statements, where and in which options they stand, its sections and its names.

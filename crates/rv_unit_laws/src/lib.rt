@@ -1,5 +1,5 @@
 //! What the statements of one source define, and which of them is the first to be wrong beyond its syntax. Nothing here
-//! runs: `rv_unit_tables` and `rv_unit` are the code. The enum stands in definitions and in code alike.
+//! runs: `rv_unit` is the code. The enum stands in definitions and in code alike.
 //!
 //! It takes statements as `rv_statement_laws` has them (`specs/Statement`), and defines, each in a module of `specs/`: the
 //! sections of a source (`Sections`), what a directive contributes to its section (`Contributions`), what `.option` sets

@@ -6,9 +6,9 @@ use Rattle.std.proofs.lemmas.Option.{slice_get_within}
 use Rattle.rv_statement.specs.Statements.{statements_of}
 use Rattle.rv_statement.specs.View.{statement_of}
 use Rattle.rv_statement_laws.specs.Statement.{Statement}
-use Rattle.rv_unit_tables.specs.declared.section_offset.SectionOffset.{SectionOffset}
+use Rattle.rv_unit.specs.declared.section_offset.SectionOffset.{SectionOffset}
 use Rattle.rv_unit.specs.Unit.{said, IsFilled}
-use Rattle.rv_unit_tables.specs.Sections.{extent_section, offset_of, zeros_offset}
+use Rattle.rv_unit.specs.Sections.{extent_section, offset_of, zeros_offset}
 use Rattle.rv_unit_laws.specs.Tables.{at_start, tables, value_by_tables as value_of}
 use Rattle.rv_source_laws.specs.Located.{Located, located_from}
 use Rattle.rv_instruction.specs.Code.{MayHave}
@@ -19,9 +19,9 @@ use Rattle.rv_draft.specs.Lengths.{code_length, code_lengths}
 use Rattle.rv_draft.specs.Sized.{bytes_of_sizes}
 use Rattle.rv_draft.proofs.CodeLengthsLemmas.{length_of_size, lengths_count, length_there, near_same}
 use Rattle.rv_draft.proofs.JoinedLemmas.{take_next, take_none, take_past}
-use Rattle.rv_layout.proofs.StandingLemmas.{StandsAt, stands_at, located_at, stated_none}
-use Rattle.rv_layout.specs.Code.{IsExtentAt}
-use Rattle.rv_layout.proofs.ExtentsLemmas.{place_inside, faults_in, faults_there, code_there}
+use Rattle.rv_draft.proofs.StandingLemmas.{StandsAt, stands_at, located_at, stated_none}
+use Rattle.rv_draft.specs.Contents.{IsExtentAt}
+use Rattle.rv_draft.proofs.ExtentsLemmas.{place_inside, faults_in, faults_there, code_there}
 use Rattle.rv_draft.specs.declared.code.SectionCode.{SectionCode}
 use Rattle.rv_draft.proofs.WholeLemmas.{code_more, code_wrong, code_whole, size_here, added_as, told_more}
 use Rattle.rv_draft.proofs.code.code.Goals.{In-loop-index, After-read}

@@ -4,14 +4,14 @@ use Rattle.rv_statement.specs.Statements.{statements_of}
 use Rattle.rv_statement.specs.View.{statement_of}
 use Rattle.rv_statement_laws.specs.Statement.{Statement}
 use Rattle.rv_unit_laws.specs.Options.{Options}
-use Rattle.rv_unit_tables.specs.Sections.{zeros_offset}
-use Rattle.rv_unit_tables.specs.declared.section_offset.SectionOffset.{SectionOffset}
+use Rattle.rv_unit.specs.Sections.{zeros_offset}
+use Rattle.rv_unit.specs.declared.section_offset.SectionOffset.{SectionOffset}
 use Rattle.rv_source_laws.specs.Compressed.{is_compressed_code}
 use Rattle.rv_unit.specs.Unit.{said}
 use Rattle.rv_unit.proofs.StandingLemmas.{places_count}
-use Rattle.rv_layout.specs.Code.{IsExtentAt}
-use Rattle.rv_layout.proofs.StandingLemmas.{StandsAt, stands_at, located_at, stated_none}
-use Rattle.rv_layout.proofs.ExtentsLemmas.{place_inside}
+use Rattle.rv_draft.specs.Contents.{IsExtentAt}
+use Rattle.rv_draft.proofs.StandingLemmas.{StandsAt, stands_at, located_at, stated_none}
+use Rattle.rv_draft.proofs.ExtentsLemmas.{place_inside}
 use Rattle.rv_draft.proofs.FirstCodeLemmas.{compressed_as, all_decide, decided, left_to_others, none_decides}
 use Rattle.rv_draft.proofs.compressed.has_compressed.Goals.{In-loop-index, After-is_compressed}
 use Rattle.rv_draft.proofs.compressed.has_compressed.Goals as goal

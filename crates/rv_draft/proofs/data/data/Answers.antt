@@ -5,7 +5,7 @@ use Rattle.rv_statement.specs.Statements.{statements_of}
 use Rattle.rv_statement.specs.View.{statement_of}
 use Rattle.rv_unit.specs.Unit.{said}
 use Rattle.rv_draft.specs.DataParts.{IsDataTo}
-use Rattle.rv_layout.proofs.StandingLemmas.{stated_none}
+use Rattle.rv_draft.proofs.StandingLemmas.{stated_none}
 use Rattle.rv_draft.proofs.DataSoFarLemmas.{data_begin, data_all}
 use Rattle.rv_draft.proofs.data.data.Goals as goal
 

@@ -7,10 +7,10 @@ use Rattle.rv_list_laws.proofs.MapLemmas.{get_map_is}
 use Rattle.rv_statement.specs.View.{statement_of}
 use Rattle.rv_statement_laws.specs.Statement.{Statement}
 use Rattle.rv_unit.specs.Items.{zeros_item}
-use Rattle.rv_unit_tables.specs.declared.section.Extent.{Extent}
-use Rattle.rv_unit_tables.specs.declared.section_offset.SectionOffset.{SectionOffset}
+use Rattle.rv_unit.specs.declared.section.Extent.{Extent}
+use Rattle.rv_unit.specs.declared.section_offset.SectionOffset.{SectionOffset}
 use Rattle.rv_unit.specs.Unit.{said, passed, IsFilled}
-use Rattle.rv_unit_tables.specs.Sections.{extent_section, offset_of, zeros_offset}
+use Rattle.rv_unit.specs.Sections.{extent_section, offset_of, zeros_offset}
 use Rattle.rv_unit_laws.specs.Options.{Options}
 use Rattle.rv_unit_laws.specs.Sections.{Section}
 use Rattle.rv_unit_laws.specs.Tables.{at_start, tables, stood}
@@ -20,7 +20,7 @@ use Rattle.rv_unit.proofs.StandingLemmas.{places_count}
 use Rattle.rv_draft.specs.Coded.{IsCodedAt}
 use Rattle.rv_draft.specs.DataParts.{is_filled}
 use Rattle.rv_draft.specs.Draft.{field_of}
-use Rattle.rv_layout.proofs.StandingLemmas.{StandsAt, stands_at, located_at}
+use Rattle.rv_draft.proofs.StandingLemmas.{StandsAt, stands_at, located_at}
 use Rattle.rv_draft.proofs.DataSoFarLemmas.{puts_at, code_at, code_of, coded_here, bytes_here, data_more, code_more, room_for, item_low}
 use Rattle.rv_draft.proofs.MadeLemmas.{made_left, made_spot}
 use Rattle.rv_draft.proofs.data.put_next.Goals.{After-sections}

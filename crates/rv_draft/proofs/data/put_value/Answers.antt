@@ -6,7 +6,7 @@ use Rattle.rv_text.specs.Expr.{tree_of_expr}
 use Rattle.rv_text.proofs.EvalsLemmas.{lone_value}
 use Rattle.rv_statement_laws.specs.Widths.{width_bytes}
 use Rattle.rv_unit_laws.specs.Tables as laws
-use Rattle.rv_unit_tables.specs.Sections.{offset_of}
+use Rattle.rv_unit.specs.Sections.{offset_of}
 use Rattle.rv_unit.specs.Unit.{said}
 use Rattle.rv_assemble_laws.specs.Templates.{value_bytes}
 use Rattle.rv_draft.specs.Draft.{field_of}

@@ -3,7 +3,7 @@ use Rattle.rv_statement.specs.View.{statement_of, statement_kind}
 use Rattle.rv_instruction.specs.Code.{Codes}
 use Rattle.rv_instruction.specs.Scoped.{values_at, labels_at}
 use Rattle.rv_draft.proofs.LengthsLemmas.{made_again}
-use Rattle.rv_layout.proofs.LengthsLemmas.{not_refused}
+use Rattle.rv_draft.proofs.SameLengthsLemmas.{not_refused}
 use Rattle.rv_draft.proofs.NearLemmas.{asked_may, asked_same}
 use Rattle.rv_draft.proofs.fields.code_in_bytes.Goals as goal
 

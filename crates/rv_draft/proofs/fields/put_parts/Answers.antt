@@ -6,7 +6,7 @@ use Rattle.rv_assemble_laws.specs.CodeFields.{relax_fields}
 use Rattle.rv_instruction.specs.declared.encoded.Coded.{Coded}
 use Rattle.rv_instruction.specs.Code.{encoded_bytes, coded_by}
 use Rattle.rv_draft.specs.Spots.{own_opens}
-use Rattle.rv_layout.proofs.LeftLemmas.{long_more}
+use Rattle.rv_draft.proofs.LeftLemmas.{long_more}
 use Rattle.rv_draft.proofs.CodeFieldsLemmas.{coded_more}
 use Rattle.rv_draft.proofs.fields.put_parts.Goals as goal
 

@@ -5,20 +5,20 @@ use Rattle.rv_list_laws.proofs.TakeDropLemmas.{reverse_some_left, drop_zero}
 use Rattle.rv_statement.specs.Statements.{statements_of}
 use Rattle.rv_statement.specs.View.{statement_of}
 use Rattle.rv_statement_laws.specs.Statement.{Statement}
-use Rattle.rv_unit_tables.specs.declared.section_offset.SectionOffset.{SectionOffset}
+use Rattle.rv_unit.specs.declared.section_offset.SectionOffset.{SectionOffset}
 use Rattle.rv_unit.specs.Unit.{said, passed, IsFilled}
-use Rattle.rv_unit_tables.specs.Sections.{offset_of, zeros_offset}
+use Rattle.rv_unit.specs.Sections.{offset_of, zeros_offset}
 use Rattle.rv_unit_laws.specs.Tables.{stood, tables, value_by_tables as value_of}
 use Rattle.rv_source_laws.specs.Located.{is_placed}
 use Rattle.rv_unit.proofs.StandingLemmas.{places_count}
 use Rattle.rv_draft.specs.Items.{IsItem, grown}
 use Rattle.rv_draft.specs.Sized.{IsSized, bytes_of_sizes, size_bytes}
-use Rattle.rv_layout.specs.Code.{IsExtentAt}
+use Rattle.rv_draft.specs.Contents.{IsExtentAt}
 use Rattle.rv_draft.specs.Measured.{HasRoom}
-use Rattle.rv_layout.proofs.StandingLemmas.{StandsAt, stands_at, located_at}
+use Rattle.rv_draft.proofs.StandingLemmas.{StandsAt, stands_at, located_at}
 use Rattle.rv_draft.proofs.TakenLemmas.{rest_is, next_is, mapped_next}
 use Rattle.rv_draft.proofs.ItemizedLemmas.{item_at, room_at, sized_at, grown_by, low_by}
-use Rattle.rv_layout.proofs.ExtentsLemmas.{stands_inside, place_inside}
+use Rattle.rv_draft.proofs.ExtentsLemmas.{stands_inside, place_inside}
 use Rattle.rv_draft.proofs.RoomyLemmas.{err_always}
 use Rattle.rv_draft.proofs.RoomsLemmas.{rooms_begin, rooms_more, roomy_now}
 use Rattle.rv_draft.proofs.SoFarItemsLemmas.{AreItemsSoFar, items_begin, items_more, items_all}

@@ -3,7 +3,7 @@ use Rattle.rv_text_laws.specs.Values.{Value}
 use Rattle.rv_statement_laws.specs.Statement.{Expression}
 use Rattle.rv_statement.specs.View.{statement_kind}
 use Rattle.rv_unit_laws.specs.Tables as laws
-use Rattle.rv_unit_tables.specs.Sections.{offset_of}
+use Rattle.rv_unit.specs.Sections.{offset_of}
 use Rattle.rv_unit.specs.Unit.{said}
 use Rattle.rv_draft.proofs.RoomyLemmas.{err_always, room_by}
 use Rattle.rv_draft.proofs.StretchedLemmas.{sized_as}

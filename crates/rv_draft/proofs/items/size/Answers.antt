@@ -4,7 +4,7 @@ use Rattle.rv_text_laws.specs.Values as values
 use Rattle.rv_text.specs.Eval.{IsOutcome}
 use Rattle.rv_statement.specs.View.{statement_kind}
 use Rattle.rv_unit_laws.specs.Tables as laws
-use Rattle.rv_unit_tables.specs.Sections.{offset_of}
+use Rattle.rv_unit.specs.Sections.{offset_of}
 use Rattle.rv_unit.specs.Unit.{said, IsFilled, IsScope}
 use Rattle.rv_draft.specs.Measured.{CanAlign, CanCount, CanSize, IsSize, stretch}
 use Rattle.rv_draft.specs.Sized.{IsAligned}

@@ -3,7 +3,7 @@ use Rattle.std.proofs.lemmas.Result.{on_ok_weaker}
 use Rattle.rv_elf_laws.specs.declared.section_header.SectionHeader.{SectionHeader}
 use Rattle.rv_elf_laws.specs.Sections.{file_contents, relas_in, section_count, section_header_of}
 use Rattle.rv_object_types.specs.Parts.{relocation_of}
-use Rattle.rv_object_checks.specs.Found.{place_at, section_at}
+use Rattle.rv_object_reader.specs.Found.{place_at, section_at}
 use Rattle.rv_object_file_laws.specs.FirstFault.{is_linked, first_fault}
 use Rattle.rv_object_file_laws.specs.Parts.{is_loaded, relocations_in}
 use Rattle.rv_object_reader.proofs.CollectingLemmas.{linked, rela_within, lists_unloaded, lists_unkept, lists_here, place_below}

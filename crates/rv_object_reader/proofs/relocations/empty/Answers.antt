@@ -1,7 +1,7 @@
 use Rattle.std.proofs.Common.{◌+◌, ◌-◌, ◌<◌, [], not, map, sym, ap, ◌∙◌, arith}
 use Rattle.rv_elf_laws.specs.Sections.{section_count}
 use Rattle.rv_object_types.specs.Parts.{relocation_of}
-use Rattle.rv_object_checks.specs.Found.{section_at}
+use Rattle.rv_object_reader.specs.Found.{section_at}
 use Rattle.rv_object_file_laws.specs.Parts.{kept}
 use Rattle.rv_object_reader.specs.Collected.{list_so_far, lists_in}
 use Rattle.rv_object_reader.proofs.CollectingLemmas.{kept_left, kept_all, kept_here, kept_past, all_units, lists_empty}

@@ -1,8 +1,8 @@
 use Rattle.std.proofs.Common.{◌≡◌, ◌-◌, sym, ap, ◌∙◌, arith}
-use Rattle.rv_object_checks.specs.SectionsFrom.{from_more}
+use Rattle.rv_object_reader.specs.SectionsFrom.{from_more}
 use Rattle.rv_elf_laws.specs.Sections.{section_count}
-use Rattle.rv_object_checks.specs.Found.{sections_from}
-use Rattle.rv_object_checks.proofs.SectionsFromLemmas.{sections_are}
+use Rattle.rv_object_reader.specs.Found.{sections_from}
+use Rattle.rv_object_reader.proofs.SectionsFromLemmas.{sections_are}
 use Rattle.rv_object_reader.specs.Collected.{lists_so_far}
 use Rattle.rv_object_reader.proofs.relocations.relocations.Goals as goal
 

@@ -1,5 +1,5 @@
 use Rattle.std.proofs.Common.{◌≡◌}
-use Rattle.rv_object_checks.specs.Found.{sections_from}
+use Rattle.rv_object_reader.specs.Found.{sections_from}
 use Rattle.rv_object_reader.specs.Collected.{lists_in, lists_so_far}
 use Rattle.rv_object_reader.proofs.relocations.relocations.Given as goal
 

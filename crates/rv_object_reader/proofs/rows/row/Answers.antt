@@ -1,5 +1,5 @@
 use Rattle.std.proofs.Common.{ap, ◌∙◌, unwrap_or, arith, rules}
-use Rattle.rv_object_checks.specs.Rows.{record_of}
+use Rattle.rv_object_reader.specs.Rows.{record_of}
 use Rattle.rv_object_laws.proofs.CountedLemmas.{row_counted}
 use Rattle.rv_object_reader.proofs.MadeLemmas.{home_of}
 use Rattle.rv_object_reader.proofs.TablesLemmas.{few_sections}

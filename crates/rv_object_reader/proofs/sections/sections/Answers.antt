@@ -2,7 +2,7 @@ use Rattle.std.proofs.Common.{◌≡◌, ◌+◌, ◌-◌, ◌<◌, true, false,
 use Rattle.rv_elf_laws.specs.Sections.{section_count}
 use Rattle.rv_object_types.specs.Parts.{relocation_of}
 use Rattle.rv_object_types.specs.Sections.{section_of}
-use Rattle.rv_object_checks.specs.Found.{section_at}
+use Rattle.rv_object_reader.specs.Found.{section_at}
 use Rattle.rv_object_file_laws.specs.ObjectOf.{section_in}
 use Rattle.rv_object_file_laws.specs.Parts.{is_kept, kept}
 use Rattle.rv_object_reader.proofs.CollectingLemmas.{kept_left, kept_all, kept_here, kept_past, all_units, left_first, left_taken, taken_below, taken_is}

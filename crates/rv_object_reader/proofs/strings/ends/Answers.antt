@@ -1,6 +1,6 @@
 use Rattle.std.proofs.Common.{◌+◌, ◌-◌, ◌++◌, ◌∷◌, [], not, length, sym, ap, ◌∙◌, append_assoc, append-nil, arith}
 use Rattle.memchr.specs.Find.{is_byte, places_from}
-use Rattle.rv_object_checks.proofs.PositionsLemmas.{next_passes, next_fails, all_found}
+use Rattle.rv_object_reader.proofs.PositionsLemmas.{next_passes, next_fails, all_found}
 use Rattle.rv_object_reader.proofs.strings.ends.Goals as goal
 
 pub loop-offset-preserved-then-is_inside : goal.loop-offset-preserved-then-is_inside

@@ -2,7 +2,7 @@ use Rattle.std.proofs.Common.{◌≡◌, ◌<◌, None, drop, subst, ap, sym, �
 use Rattle.std.specs.List.{AllByRecursion}
 use Rattle.rv_elf_laws.specs.FirstFault.{first_true}
 use Rattle.rv_elf_laws.specs.Sections.{indexed_contents, file_contents, section_count, symbols_in}
-use Rattle.rv_object_checks.specs.Found.{section_at}
+use Rattle.rv_object_reader.specs.Found.{section_at}
 use Rattle.rv_object_file_laws.specs.FirstFault.{symbol_tests}
 use Rattle.rv_object_file_laws.specs.ObjectOf.{names_of}
 use Rattle.rv_object_file_laws.specs.Parts.{symbols_of}

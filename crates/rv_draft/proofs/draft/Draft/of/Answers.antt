@@ -1,8 +1,8 @@
 use Rattle.std.proofs.Common.{◌≤◌, ◌^◌, List, [], ◌∷◌, length, sym, ap, subst, ◌∙◌, arith}
 use Rattle.std.proofs.lemmas.Result.{err_from_is_err_and}
 use Rattle.std.proofs.lemmas.List.{length-map}
-use Rattle.rv_unit_tables.specs.Sections.{extent_section}
-use Rattle.rv_unit_tables.proofs.LookupsLemmas.{sections_are}
+use Rattle.rv_unit.specs.Sections.{extent_section}
+use Rattle.rv_unit.proofs.LookupsLemmas.{sections_are}
 use Rattle.rv_unit_laws.proofs.FewLemmas.{few as few_of}
 use Rattle.rv_unit_laws.specs.Tables.{Tables, at_start, tables, opened_of}
 use Rattle.rv_source_laws.specs.Located.{located, located_from}
@@ -16,7 +16,7 @@ use Rattle.rv_draft.proofs.CodeLengthsLemmas.{least_lengths, lengths_of_sizes}
 use Rattle.rv_draft.proofs.DraftedLemmas.{is_draft}
 use Rattle.rv_draft.proofs.MadeLemmas.{made_all}
 use Rattle.rv_draft.proofs.SoFarLemmas.{sizes_count, sizes_short}
-use Rattle.rv_layout.proofs.StandingLemmas.{stated_length}
+use Rattle.rv_draft.proofs.StandingLemmas.{stated_length}
 use Rattle.rv_draft.proofs.WholeLemmas.{one_file}
 use Rattle.rv_draft.proofs.WidthsLemmas.{all_wide}
 use Rattle.rv_draft.proofs.draft.Draft.of.Goals as goal

@@ -1,8 +1,8 @@
 use Rattle.std.proofs.Common.{◌<◌, ◌∙◌, [], length, map, take, rules, ap, sym}
 use Rattle.std.specs.Prelude.{reverse}
 use Rattle.rv_text.specs.declared.evaluation.SymbolMeaning.TheVariants as meanings
-use Rattle.rv_unit_tables.specs.declared.tables.Assignment.{Assignment}
-use Rattle.rv_unit_tables.specs.Tables.{assignment_of}
+use Rattle.rv_unit.specs.declared.tables.Assignment.{Assignment}
+use Rattle.rv_unit.specs.Tables.{assignment_of}
 use Rattle.rv_symbols.specs.Settings.{first_ordinal}
 use Rattle.rv_symbols.proofs.FirstsLemmas.{settings_more}
 use Rattle.rv_symbols.proofs.settings.FirstSettings.of.Goals as goal

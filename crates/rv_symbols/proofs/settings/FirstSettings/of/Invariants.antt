@@ -1,6 +1,6 @@
 use Rattle.std.proofs.Common.{map, take}
 use Rattle.std.specs.Prelude.{reverse}
-use Rattle.rv_unit_tables.specs.Tables.{assignment_of}
+use Rattle.rv_unit.specs.Tables.{assignment_of}
 use Rattle.rv_symbols.specs.Settings.{AreFirsts}
 use Rattle.rv_symbols.proofs.settings.FirstSettings.of.Given as goal
 

@@ -1,5 +1,5 @@
 use Rattle.std.proofs.Common.{refl, ◌∙◌}
-use Rattle.rv_unit_tables.specs.Tables.{assignment_of}
+use Rattle.rv_unit.specs.Tables.{assignment_of}
 use Rattle.rv_symbols.proofs.FirstsLemmas.{first_more}
 use Rattle.rv_symbols.proofs.settings.FirstSettings.put.Goals as goal
 

@@ -3,7 +3,7 @@ use Rattle.rv_text_laws.specs.Expression.{Symbol, Reference}
 use Rattle.rv_lexer.specs.Reference.{digits_in, is_ahead}
 use Rattle.rv_text.specs.Nodes.{symbol_of}
 use Rattle.rv_unit_laws.specs.Tables.{definition, tables, definition_at, numeric_definition}
-use Rattle.rv_unit_tables.specs.Tables.{tables_of}
+use Rattle.rv_unit.specs.Tables.{tables_of}
 use Rattle.rv_unit.specs.Unit.{said}
 use Rattle.rv_unit.proofs.ApartLemmas.{whole_apart}
 use Rattle.rv_unit.proofs.ScopedLemmas.{whole_before}

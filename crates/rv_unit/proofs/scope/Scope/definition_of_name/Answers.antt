@@ -1,5 +1,5 @@
 use Rattle.std.proofs.Common.{◌∙◌, ap, sym, option_map}
-use Rattle.rv_unit_tables.specs.Tables.{tables_of, label_at}
+use Rattle.rv_unit.specs.Tables.{tables_of, label_at}
 use Rattle.rv_unit.proofs.ApartLemmas.{defined_label, defined_unlabelled}
 use Rattle.rv_unit.proofs.scope.Scope.definition_of_name.Goals as goal
 

@@ -3,7 +3,7 @@ use Rattle.rv_text_laws.specs.Bytes.{digits_value}
 use Rattle.rv_text_laws.specs.Expression.{Reference}
 use Rattle.rv_lexer.specs.Reference.{digits_in}
 use Rattle.rv_unit_laws.specs.Tables.{definition, numeric_definition}
-use Rattle.rv_unit_tables.specs.Tables.{tables_of}
+use Rattle.rv_unit.specs.Tables.{tables_of}
 use Rattle.rv_unit.proofs.scope.Scope.definition_of_reference.Goals as goal
 
 pub returns-then-is_forward : goal.returns-then-is_forward

@@ -3,8 +3,8 @@ use Rattle.rv_text_laws.specs.Expression.{Primary}
 use Rattle.rv_text_laws.specs.Values.{Meaning}
 use Rattle.rv_text.specs.Expr.{tree_of_expr}
 use Rattle.rv_unit_laws.specs.Tables as laws
-use Rattle.rv_unit_tables.specs.Sections.{offset_of}
-use Rattle.rv_unit_tables.specs.Tables.{assignment_of}
+use Rattle.rv_unit.specs.Sections.{offset_of}
+use Rattle.rv_unit.specs.Tables.{assignment_of}
 use Rattle.rv_unit.specs.Unit.{said, passed}
 use Rattle.rv_unit.proofs.ScopedLemmas.{here_inside, past_here}
 use Rattle.rv_unit.proofs.scope.Scope.gives_location.Goals as goal

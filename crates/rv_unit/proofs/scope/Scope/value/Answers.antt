@@ -3,7 +3,7 @@ use Rattle.rv_text_laws.specs.Expression.{Literal}
 use Rattle.rv_text.specs.Expr.{tree_of_expr}
 use Rattle.rv_text.proofs.EvalsLemmas.{lone_value, negative_value}
 use Rattle.rv_unit_laws.specs.Tables as laws
-use Rattle.rv_unit_tables.specs.Sections.{offset_of}
+use Rattle.rv_unit.specs.Sections.{offset_of}
 use Rattle.rv_unit.specs.Unit.{said}
 use Rattle.rv_unit.proofs.scope.Scope.value.Goals as goal
 

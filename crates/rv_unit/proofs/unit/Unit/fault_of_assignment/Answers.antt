@@ -4,7 +4,7 @@ use Rattle.rv_statement_laws.specs.Statement.{StatementKind, Directs}
 use Rattle.rv_statement.specs.View.{setting_of}
 use Rattle.rv_unit_laws.specs.Faults as faults
 use Rattle.rv_unit_laws.specs.Tables as laws
-use Rattle.rv_unit_tables.specs.Sections.{section_of}
+use Rattle.rv_unit.specs.Sections.{section_of}
 use Rattle.rv_fault.specs.SourceFault.{IsLowest}
 use Rattle.rv_unit.specs.Unit.{said, passed}
 use Rattle.rv_unit.proofs.ApartLemmas.{whole_apart}

@@ -6,7 +6,7 @@ use Rattle.rv_statement_laws.specs.Widths.{width_bytes}
 use Rattle.rv_unit_laws.specs.Faults as faults
 use Rattle.rv_unit_laws.specs.Tables as laws
 use Rattle.rv_fault.specs.SourceFault.{IsLowest}
-use Rattle.rv_unit_tables.specs.Sections.{offset_of}
+use Rattle.rv_unit.specs.Sections.{offset_of}
 use Rattle.rv_unit.specs.Unit.{said}
 use Rattle.rv_unit.proofs.EachLemmas.{each_more}
 use Rattle.rv_unit.proofs.unit.Unit.fault_of_each.Goals as goal

@@ -5,7 +5,7 @@ use Rattle.rv_statement_laws.specs.Widths.{width_bytes}
 use Rattle.rv_unit_laws.specs.Faults as faults
 use Rattle.rv_unit_laws.specs.Tables as laws
 use Rattle.rv_fault.specs.SourceFault.{IsLowest}
-use Rattle.rv_unit_tables.specs.Sections.{offset_of}
+use Rattle.rv_unit.specs.Sections.{offset_of}
 use Rattle.rv_unit.specs.Unit.{said, IsFilled}
 use Rattle.rv_unit.proofs.unit.Unit.fault_of_each.Given as goal
 

@@ -8,8 +8,8 @@ use Rattle.rv_statement.specs.View.{statement_of}
 use Rattle.rv_unit_laws.specs.Faults as faults
 use Rattle.rv_unit_laws.specs.Tables as laws
 use Rattle.rv_unit_laws.proofs.FewLemmas.{first_of_few}
-use Rattle.rv_unit_tables.specs.Sections.{zeros_offset}
-use Rattle.rv_unit_tables.specs.declared.section_offset.SectionOffset.{SectionOffset}
+use Rattle.rv_unit.specs.Sections.{zeros_offset}
+use Rattle.rv_unit.specs.declared.section_offset.SectionOffset.{SectionOffset}
 use Rattle.rv_unit.specs.Unit.{said, passed, IsStatementOf}
 use Rattle.rv_unit.proofs.StandingLemmas.{is_at, places_count, depth_next}
 use Rattle.rv_unit.proofs.CheckedLemmas.{check_more, check_found, check_lowest}

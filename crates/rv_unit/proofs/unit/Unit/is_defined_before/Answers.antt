@@ -1,7 +1,7 @@
 use Rattle.std.proofs.Common.{◌∙◌, ap, sym, option_map}
 use Rattle.std.specs.Prelude.{is_some}
 use Rattle.rv_list_laws.proofs.OptionsLemmas.{is_some_map_back}
-use Rattle.rv_unit_tables.specs.Tables.{tables_of, label_at, assignment_of}
+use Rattle.rv_unit.specs.Tables.{tables_of, label_at, assignment_of}
 use Rattle.rv_unit.proofs.ApartLemmas.{label_defined, other_defined}
 use Rattle.rv_unit.proofs.unit.Unit.is_defined_before.Goals as goal
 

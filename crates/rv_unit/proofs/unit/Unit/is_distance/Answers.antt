@@ -1,7 +1,7 @@
 use Rattle.std.proofs.Common.{◌∙◌, ap, map, reverse, sym}
 use Rattle.rv_text.specs.Expr.{tree_of_expr}
 use Rattle.rv_unit_laws.specs.Tables as laws
-use Rattle.rv_unit_tables.specs.Tables.{assignment_of}
+use Rattle.rv_unit.specs.Tables.{assignment_of}
 use Rattle.rv_unit.specs.Unit.{said}
 use Rattle.rv_unit.proofs.DistancesLemmas.{distance_faults}
 use Rattle.rv_unit.proofs.unit.Unit.is_distance.Goals as goal

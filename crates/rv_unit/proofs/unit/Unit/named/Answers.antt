@@ -1,6 +1,6 @@
 use Rattle.std.proofs.Common.{◌∙◌, ap}
 use Rattle.rv_unit_laws.specs.Tables.{weakened}
-use Rattle.rv_unit_tables.specs.Tables.{tables_of}
+use Rattle.rv_unit.specs.Tables.{tables_of}
 use Rattle.rv_unit.proofs.unit.Unit.named.Goals as goal
 
 pub returns : goal.returns

@@ -1,5 +1,5 @@
 use Rattle.std.proofs.Common.{◌∙◌, ap, sym, option_map}
-use Rattle.rv_unit_tables.specs.Tables.{tables_of, label_at}
+use Rattle.rv_unit.specs.Tables.{tables_of, label_at}
 use Rattle.rv_unit.proofs.ApartLemmas.{named_label, named_unlabelled}
 use Rattle.rv_unit.proofs.unit.Unit.own_named.Goals as goal
 

@@ -1,8 +1,8 @@
 use Rattle.std.proofs.Common.{◌∙◌, ap, map, reverse, sym}
 use Rattle.rv_text.specs.Expr.{expr_of}
 use Rattle.rv_unit_laws.specs.Tables as laws
-use Rattle.rv_unit_tables.specs.Sections.{offset_of}
-use Rattle.rv_unit_tables.specs.Tables.{assignment_of}
+use Rattle.rv_unit.specs.Sections.{offset_of}
+use Rattle.rv_unit.specs.Tables.{assignment_of}
 use Rattle.rv_unit.specs.Unit.{said}
 use Rattle.rv_unit.proofs.PlacesLemmas.{name_value}
 use Rattle.rv_unit.proofs.unit.Unit.value.Goals as goal

@@ -1,5 +1,0 @@
-use Rattle.rv_filling_laws.proofs.RowsLemmas.{code_calls}
-use Rattle.rv_filling_laws.proofs.laws.code_joins_calls.Goals as goal
-
-pub returns : goal.returns
-returns c = code_calls

@@ -1,5 +1,0 @@
-use Rattle.rv_filling_laws.proofs.RowsLemmas.{named_closed}
-use Rattle.rv_filling_laws.proofs.laws.named_code_is_closed.Goals as goal
-
-pub returns : goal.returns
-returns c = named_closed

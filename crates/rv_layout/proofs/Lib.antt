@@ -1,9 +1,0 @@
-pub mod BesideLemmas
-pub mod ExtentsLemmas
-pub mod InputLemmas
-pub mod LeftLemmas
-pub mod LengthsLemmas
-pub mod SeenLemmas
-pub mod StandingLemmas
-pub mod WordsLemmas
-pub mod ParcelLengthsLemmas

@@ -1,8 +1,0 @@
-use Rattle.std.proofs.Common.{sym, subst}
-use Rattle.rv_layout.specs.Measure.{HasLengthWith}
-use Rattle.rv_layout.proofs.WordsLemmas.{words_told}
-use Rattle.rv_layout.proofs.measure.word_length.Goals as goal
-
-pub returns : goal.returns
-returns c =
-    subst (λ b. HasLengthWith c.args.operation.now b 4) (sym c.if-compressed.false) (words_told c.args.operation.now c.requires)

@@ -1,5 +1,0 @@
-use Rattle.rv_object_checks.proofs.KindNumbersLemmas.{kind_is}
-use Rattle.rv_object_checks.proofs.relocations.kind_numbered.Goals as goal
-
-pub returns : goal.returns
-returns c = kind_is c.args.number c.kind_of.result c.kind_of.ensures

@@ -1,8 +1,0 @@
-use Rattle.std.proofs.Common.{◌∙◌}
-use Rattle.rv_object_checks.proofs.SymbolFieldsLemmas.{found_or_short_of}
-use Rattle.rv_object_checks.proofs.symbols.check_symbols.Goals as goal
-
-pub returns : goal.returns
-returns c =
-    found_or_short_of c.args.view.now.file.now c.in_ok-names.names.table.now _ c.contents.result.now _ c.check_table.result
-    (c.in_ok-names.ensures ∙ c.section.ensures) c.contents.ensures c.check_table.ensures

@@ -1,9 +1,0 @@
-pub mod Found
-pub mod Held
-pub mod Names
-pub mod Opening
-pub mod Rows
-pub mod SectionsFrom
-pub mod Stretches
-pub mod Tests
-pub mod Walk

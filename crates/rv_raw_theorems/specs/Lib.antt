@@ -1,0 +1,4 @@
+pub mod Listed
+pub mod Meaning
+pub mod Reassembles
+pub mod Statements

@@ -1,5 +1,0 @@
-use Rattle.rv_runs_laws.proofs.ListedLemmas.{listed_is}
-use Rattle.rv_runs_laws.proofs.listing.listing_is_the_sources.Goals as goal
-
-pub returns : goal.returns
-returns c = listed_is

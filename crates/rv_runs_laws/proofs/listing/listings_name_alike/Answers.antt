@@ -1,5 +1,0 @@
-use Rattle.rv_runs_laws.proofs.NamedLemmas.{named_alike}
-use Rattle.rv_runs_laws.proofs.listing.listings_name_alike.Goals as goal
-
-pub returns : goal.returns
-returns c = named_alike

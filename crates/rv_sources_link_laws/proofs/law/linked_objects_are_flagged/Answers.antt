@@ -1,7 +1,0 @@
-use Rattle.std.proofs.Common.{◌∙◌}
-use Rattle.rv_sources_link_laws.proofs.names.FlaggedLemmas.{flagged, flags_stay}
-use Rattle.rv_sources_link_laws.proofs.law.linked_objects_are_flagged.Goals as goal
-
-pub returns : goal.returns
-returns c = λ sources os text_start relax gc l h program.
-    program.linked.rvc ∙ flags_stay relax os l.map.drops program.left program.leaves.relaxed ∙ flagged 1 sources os h

@@ -1,7 +1,0 @@
-use Rattle.rv_sources_link_laws.proofs.JoinsLemmas.{joins}
-use Rattle.rv_sources_link_laws.proofs.collected.DropsLemmas.{drops_join}
-use Rattle.rv_sources_link_laws.proofs.law.objects_of_sources_link.Goals as goal
-
-pub returns : goal.returns
-returns c = λ sources os text_start relax gc l h program.
-    joins sources os text_start relax gc l h (drops_join gc sources os l.map.drops h program.leaves.collected) program.left program.leaves.relaxed program.linked

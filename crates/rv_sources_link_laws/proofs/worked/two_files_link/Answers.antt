@@ -1,5 +1,0 @@
-use Rattle.rv_sources_link_laws.proofs.two_files.TwoLinkedLemmas.{linked}
-use Rattle.rv_sources_link_laws.proofs.worked.two_files_link.Goals as goal
-
-pub returns : goal.returns
-returns c = linked

@@ -1,5 +1,0 @@
-use Rattle.rv_unique_link_laws.proofs.WholeLemmas.{one_refusal}
-use Rattle.rv_unique_link_laws.proofs.law.refused_for_one_reason.Goals as goal
-
-pub returns : goal.returns
-returns c = λ os start relax gc f g even below. one_refusal os start relax gc f g even below

@@ -1,0 +1,8 @@
+use Rattle.std.proofs.Common.{◌∙◌, ap}
+use Rattle.rv_unit_laws.specs.Tables.{weakened}
+use Rattle.rv_unit.specs.Tables.{tables_of}
+use Rattle.rv_unit.proofs.tables.Tables.named.Goals as goal
+
+pub returns : goal.returns
+returns c = λ i o h.
+    c.weakened.ensures i ∙ ap (weakened ((tables_of c.args.self.now).bindings c.args.name.now)) (c.own_named.ensures i o h)

@@ -1,8 +1,0 @@
-mod BoundLemmas
-mod DigitsLemmas
-mod GivesLemmas
-pub mod LookupsLemmas
-mod NumberedLemmas
-pub mod OrderedLemmas
-mod RunsLemmas
-pub mod FillingLemmas

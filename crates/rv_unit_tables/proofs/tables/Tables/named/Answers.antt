@@ -1,8 +1,0 @@
-use Rattle.std.proofs.Common.{◌∙◌, ap}
-use Rattle.rv_unit_laws.specs.Tables.{weakened}
-use Rattle.rv_unit_tables.specs.Tables.{tables_of}
-use Rattle.rv_unit_tables.proofs.tables.Tables.named.Goals as goal
-
-pub returns : goal.returns
-returns c = λ i o h.
-    c.weakened.ensures i ∙ ap (weakened ((tables_of c.args.self.now).bindings c.args.name.now)) (c.own_named.ensures i o h)

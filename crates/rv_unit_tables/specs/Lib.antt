@@ -1,5 +1,0 @@
-pub mod Sections
-pub mod Options
-pub mod NumericLabels
-pub mod Tables
-pub mod Mixed
