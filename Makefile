@@ -19,7 +19,7 @@ EXAMPLE := examples/exit7.s
 PROGRAM := crates/rv_cli/out/rv_cli
 # What the program is made of: no test crate, and no edit that must fail.
 FILES := $(shell find crates \( -name out -o -name must-fail -o -name '*_tests' \) -prune -o -type f -print)
-SOURCES := crates.txt $(filter-out crates/rv_refused/%,$(FILES))
+SOURCES := crates.txt $(filter-out crates/rv_refusal_tests/%,$(FILES))
 
 # ./rv is a copy of the program that was made last. Each has a file of its own, so `make` makes the proved one however
 # new an unproved one is.
@@ -62,9 +62,9 @@ $(COUNTED): $(SOURCES)
 rv: $(SOURCES)
 	$(MAKE) --no-print-directory proved
 
-rv_refused: crates.txt $(FILES)
-	scripts/build.py rv_refused
-	cp crates/rv_refused/out/rv_refused rv_refused
+rv_refusal_tests: crates.txt $(FILES)
+	scripts/build.py rv_refusal_tests
+	cp crates/rv_refusal_tests/out/rv_refusal_tests rv_refusal_tests
 
 check: rv
 	tests/run.py
@@ -85,7 +85,7 @@ check: rv
 	scripts/storeys.py
 	scripts/copies.py
 
-refused: rv rv_refused
+refused: rv rv_refusal_tests
 	tests/refused.py
 
 test:
@@ -116,4 +116,4 @@ install: proved
 	./rv completions fish | install -D -m 644 /dev/stdin $(TO)/share/fish/vendor_completions.d/rv.fish
 
 clean:
-	rm -rf rv rv_refused out crates/*/out
+	rm -rf rv rv_refusal_tests out crates/*/out

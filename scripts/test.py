@@ -71,7 +71,7 @@ def main():
     sums = [(passed, failed or int(status != 0))]
     copy(ROOT / "crates/rv_cli/out/rv_cli", PROVED, marks.mark)
     copy(PROVED, ROOT / "rv")
-    copy(ROOT / "crates/rv_refused/out/rv_refused", ROOT / "rv_refused")
+    copy(ROOT / "crates/rv_refusal_tests/out/rv_refusal_tests", ROOT / "rv_refusal_tests")
     scripts = [*(OF_PROGRAMS if (ROOT / "rv").exists() else []), *OF_FILES]
     sums += [result(words) for words in scripts]
     passed, failed = map(sum, zip(*sums))

@@ -33,8 +33,8 @@ def copy_of_folders(program, at):
     for name in FILES:
         shutil.copy(ROOT / name, at / name)
     shutil.copy(program, at / "rv")
-    (at / "rv_refused").write_text("#!/bin/sh\n")
-    (at / "rv_refused").chmod(0o755)
+    (at / "rv_refusal_tests").write_text("#!/bin/sh\n")
+    (at / "rv_refusal_tests").chmod(0o755)
 
 
 def entered(program, names):

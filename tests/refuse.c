@@ -1,5 +1,5 @@
 /* Refuses one request for memory of the program before which it is loaded: the one whose number, from 1, REFUSE says.
-   With MARKED, only the requests between the program's first write and its second count: rv_refused writes a line just
+   With MARKED, only the requests between the program's first write and its second count: rv_refusal_tests writes a line just
    before the call that it makes, and one just after it. At the program's end the count goes to the file that REQUESTS
    names. See refused.py. */
 

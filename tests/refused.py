@@ -3,7 +3,7 @@
 
 usage: refused.py [WORD ..]     only cases whose names begin so, as `ld` or `run echo_four` or `step`
 
-A case is a command of ./rv, or a call that ./rv_refused makes (crates/rv_refused), and a source. It runs once as it is,
+A case is a command of ./rv, or a call that ./rv_refusal_tests makes (crates/rv_refusal_tests), and a source. It runs once as it is,
 which gives the ordinary answer and the count of requests; then once for each number up to that count with that request
 refused (refuse.c), and once with the number after it. Of a command is wanted `rv: out of memory` with status 1, no
 output but whole lines of a trace, no input taken and no file left; of a call that it answers so, and gives the ordinary
@@ -21,7 +21,7 @@ from dataclasses import dataclass, replace
 from pathlib import Path
 
 TESTS = Path(__file__).resolve().parent
-RV, LIBRARY = TESTS.parent / "rv", TESTS.parent / "rv_refused"
+RV, LIBRARY = TESTS.parent / "rv", TESTS.parent / "rv_refusal_tests"
 SECONDS = 60
 START = ".globl _start; _start: "
 EXIT = "li a7, 93; ecall"
@@ -313,7 +313,7 @@ def of_bad_files(name, at):
 
 
 def of_library(name, source, at, texts):
-    """The cases of the library's calls: what ./rv_refused is given, and what it writes."""
+    """The cases of the library's calls: what ./rv_refusal_tests is given, and what it writes."""
     *objects, exe, map_, listing = written(at, texts, source.options)
     end = f"{source.end or f'Exited {source.status}'}\n".encode() + source.console
     built = exe.hex().encode() + b"\n" + map_

@@ -5,7 +5,7 @@ use Rattle.std.proofs.Math.Pow.{pow-lt}
 use Rattle.std.proofs.lemmas.Bool.{and_parts, leb-true, ltb-true, ltb-false}
 use Rattle.std.specs.Prelude.{if◌then◌else◌, slice_index_or}
 use Rattle.rv_list_laws.proofs.NumbersLemmas.{low_power}
-use Rattle.rv_text_laws.specs.Values.{Value, Constant, Symbolic, Difference, Faulty}
+use Rattle.rv_expression_laws.specs.Values.{Value, Constant, Symbolic, Difference, Faulty}
 use Rattle.rv_statement_laws.specs.Statement.{StatementKind, Label, Numbered, Instruction, Directs, Statement, Expression, Directive, AlignmentForm, As_power, As_bytes}
 use Rattle.rv_statement_laws.specs.declared.directive.Choice.{Choice}
 use Rattle.rv_unit_laws.specs.Sections.{Section, entered_by}

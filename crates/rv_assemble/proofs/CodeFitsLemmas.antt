@@ -11,7 +11,7 @@ use Rattle.rv_isa.specs.Operations.{format_of}
 use Rattle.rv_isa.proofs.KindsLemmas.{width_low}
 use Rattle.rv_isa_laws.specs.Word.{word, form}
 use Rattle.rv_isa_laws.proofs.BytesLemmas.{little_long, zeros_long}
-use Rattle.rv_text_laws.specs.Values.{Value, Constant, Symbolic, Difference, Faulty}
+use Rattle.rv_expression_laws.specs.Values.{Value, Constant, Symbolic, Difference, Faulty}
 use Rattle.rv_statement_laws.specs.declared.pseudo.Function.TheVariants.{Hi, Lo, PcrelHi, PcrelLo}
 use Rattle.rv_statement_laws.specs.Statement.{StatementKind, Label, Numbered, Instruction, Directs, Expression, Operand, Register, Value as Of_value, Applied, Target, Accesses, Word, Quoted, Values, Strings, Zeros}
 use Rattle.rv_pseudo_laws.specs.Code.{Part as CodePart, Closed, Open as OpenPart, Joined, named_form, code}

@@ -7,8 +7,8 @@ use Rattle.std.specs.Prelude.{if◌then◌else◌, filter, flat_map, option_map,
 use Rattle.std.specs.List.{AllByRecursion, list_all, list_any}
 use Rattle.rv_list_laws.proofs.EachLemmas.{each_split}
 use Rattle.std.proofs.lemmas.Option.{slice_get_within}
-use Rattle.rv_text_laws.specs.Expression.{Primary}
-use Rattle.rv_text_laws.specs.Values.{Meaning, Known, InSection as InData, Open as OpenAddress, Refused}
+use Rattle.rv_expression_laws.specs.Expression.{Primary}
+use Rattle.rv_expression_laws.specs.Values.{Meaning, Known, InSection as InData, Open as OpenAddress, Refused}
 use Rattle.rv_statement_laws.specs.Statement.{StatementKind, Label, Numbered, Instruction, Directs, Sets}
 use Rattle.rv_unit_laws.specs.Bindings.{is_shared}
 use Rattle.rv_unit_laws.specs.Sections.{Section as SourceSection}

@@ -1,7 +1,7 @@
 -- One index more of the indices so far.
 
 use Rattle.std.proofs.Common.{◌≡◌, ℕ, zero, suc, ◌+◌, ◌≤◌, List, [], ◌∷◌, ◌++◌, drop, refl, sym, ap, ◌∙◌, add-one, arith, Option, Some, None, append_assoc}
-use Rattle.rv_text_laws.specs.Expression.{Primary}
+use Rattle.rv_expression_laws.specs.Expression.{Primary}
 use Rattle.rv_assemble_laws.specs.Fields.{Field}
 use Rattle.rv_assemble.specs.Making.{index_of, next_of, indices_of}
 

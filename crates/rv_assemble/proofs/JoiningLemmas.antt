@@ -5,7 +5,7 @@ use Rattle.std.proofs.lemmas.List.{length-map}
 use Rattle.std.specs.Global.{Vec}
 use Rattle.std.specs.List.{AllByRecursion}
 use Rattle.std.specs.Prelude.{flat_map, option_map}
-use Rattle.rv_text_laws.specs.Expression.{Primary}
+use Rattle.rv_expression_laws.specs.Expression.{Primary}
 use Rattle.rv_unit_laws.specs.Tables.{Tables, tables, opened_of, alignments_of}
 use Rattle.rv_unit.specs.declared.section.Extent.{Extent}
 use Rattle.rv_unit.specs.Sections.{extent_section}

@@ -5,9 +5,9 @@ use Rattle.std.specs.Prelude.{not, nat_le, length, codes, bytes_eq}
 use Rattle.std.specs.List.{list_all}
 use Rattle.std.proofs.lemmas.Bool.{and_parts}
 use Rattle.std.proofs.lemmas.List.Folds.{list_all-append}
-use Rattle.rv_text_laws.specs.Cut.{Piece, Each}
-use Rattle.rv_text_laws.specs.Lexing.{Token}
-use Rattle.rv_text_laws.specs.SyntaxError.{longest_name}
+use Rattle.rv_expression_laws.specs.Cut.{Piece, Each}
+use Rattle.rv_expression_laws.specs.Lexing.{Token}
+use Rattle.rv_expression_laws.specs.SyntaxError.{longest_name}
 use Rattle.rv_statement_laws.specs.declared.directive.DirectiveWord.{DirectiveWord}
 use Rattle.rv_statement_laws.specs.declared.directive.DirectiveWord.TheVariants as words
 use Rattle.rv_statement_laws.specs.declared.directive.Choice.{Choice}

@@ -3,14 +3,14 @@
 use Rattle.std.proofs.Common.{◌≡◌, ⊤, ⊥, ℕ, zero, suc, ◌+◌, ◌≤◌, ◌==◌, Bool, true, false, List, [], ◌∷◌, ◌++◌, length, refl, sym, ap, ◌∙◌, subst, absurd, arith, Option, Some, None, inl, inr, slice_get}
 use Rattle.std.specs.Prelude.{nat_lt, if◌then◌else◌}
 use Rattle.std.specs.List.{find}
-use Rattle.rv_text_laws.specs.Codes.{limit, lowest}
-use Rattle.rv_text_laws.specs.Values.{Value, Constant, Symbolic, Difference, Faulty}
+use Rattle.rv_expression_laws.specs.Codes.{limit, lowest}
+use Rattle.rv_expression_laws.specs.Values.{Value, Constant, Symbolic, Difference, Faulty}
 use Rattle.rv_statement_laws.specs.Limits.{most_statements}
 use Rattle.rv_statement_laws.specs.Statement.{StatementKind, Label, Numbered, Instruction, Directs, Statement, Operand, Expression}
-use Rattle.rv_layout_laws.specs.declared.item.Forms.{Forms}
-use Rattle.rv_layout_laws.specs.declared.item.Forms.TheVariants.{Settled, CompressedBranch, Branch, CompressedJump}
-use Rattle.rv_layout_laws.specs.declared.item.Item.{Item}
-use Rattle.rv_layout_laws.specs.Branches.{IsLeastGood}
+use Rattle.rv_size_laws.specs.declared.item.Forms.{Forms}
+use Rattle.rv_size_laws.specs.declared.item.Forms.TheVariants.{Settled, CompressedBranch, Branch, CompressedJump}
+use Rattle.rv_size_laws.specs.declared.item.Item.{Item}
+use Rattle.rv_size_laws.specs.Branches.{IsLeastGood}
 use Rattle.rv_unit_laws.specs.Bindings.{Bindings, bindings_after, all_local, bound_by}
 use Rattle.rv_unit_laws.specs.Tables.{Tables, Definition, at_start, after, after_all, tables, longest_section, sure_definition, value_by_tables}
 use Rattle.rv_unit_laws.specs.Faults.{StatementFault, at_line, faults, first_fault_from, first_unit_fault}

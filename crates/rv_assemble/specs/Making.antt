@@ -3,7 +3,7 @@
 
 use Rattle.std.specs.Prelude.{◌≡◌, ℕ, ◌+◌, ◌==◌, true, List, [], ◌∷◌, ◌++◌, length, map, drop, slice_get, Option, Some, None, if◌then◌else◌}
 use Rattle.std.specs.Global.{Vec}
-use Rattle.rv_text_laws.specs.Expression.{Primary}
+use Rattle.rv_expression_laws.specs.Expression.{Primary}
 use Rattle.rv_unit_laws.specs.Sections.{Section as SourceSection}
 use Rattle.rv_unit.specs.declared.section.Extent.{Extent}
 use Rattle.rv_unit.specs.Sections.{extent_section}

@@ -1,7 +1,7 @@
 -- Where the first fault of a source stands.
 
 use Rattle.std.specs.Prelude.{◌≡◌, ⊤, ℕ, ◌+◌, List}
-use Rattle.rv_text_laws.specs.Lexing.{Token, Lexes}
+use Rattle.rv_expression_laws.specs.Lexing.{Token, Lexes}
 use Rattle.rv_fault.specs.declared.source_fault.SourceFault.{SourceFault}
 use Rattle.rv_fault.specs.declared.source_fault.SourceFault.TheVariants.{At, OutOfMemory}
 use Rattle.rv_fault.specs.SourceFault.{source_fault_number}

@@ -1,7 +1,7 @@
 -- The symbols of a draft.
 
 use Rattle.std.specs.Prelude.{List, flat_map, option_map}
-use Rattle.rv_text.specs.Nodes.{symbol_of}
+use Rattle.rv_expression.specs.Nodes.{symbol_of}
 use Rattle.rv_statement_laws.specs.Statement.{Statement}
 use Rattle.rv_unit_laws.specs.Tables.{tables}
 use Rattle.rv_unit.specs.Items.{offsets_of}

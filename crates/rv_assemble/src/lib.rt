@@ -30,5 +30,5 @@ mod symbols;
 
 pub use placed::{Culprit, PlacedFault, first_fault};
 pub use rv_object_types::Object;
-pub use rv_text::{SourceCode, SourceFault};
+pub use rv_expression::{SourceCode, SourceFault};
 pub use source::assemble;

@@ -19,7 +19,7 @@ ghost use Rattle.rv_assemble.specs.Placed.{IsPlaced, AreRefused};
 use rv_draft::Draft;
 use rv_parse::parse_placed;
 use rv_statement::Statement;
-use rv_text::{ReadError, SourceCode, SourceFault};
+use rv_expression::{ReadError, SourceCode, SourceFault};
 use rv_unit::Unit;
 use std::alloc::{AllocError, Global};
 

@@ -20,7 +20,7 @@ use rv_assemble_laws::{names_are_shown, statements_are_small};
 use rv_draft::Draft;
 use rv_object_types::Object;
 use rv_parse::parse_compact;
-use rv_text::SourceFault;
+use rv_expression::SourceFault;
 use rv_unit::Unit;
 use std::alloc::Global;
 

@@ -2,7 +2,7 @@
 
 use Rattle.std.proofs.Common.{ℕ, List, [], ◌∷◌, map}
 use Rattle.std.specs.List.{AllByRecursion}
-use Rattle.rv_text_laws.specs.Values.{Value}
+use Rattle.rv_expression_laws.specs.Values.{Value}
 use Rattle.rv_statement_laws.specs.Statement.{Expression, Data, Values, Strings, Zeros}
 use Rattle.rv_assemble_laws.specs.Templates.{Template, Fixed, Datum, templates_of_data}
 use Rattle.rv_unit_laws.specs.Tables.{string_bytes}

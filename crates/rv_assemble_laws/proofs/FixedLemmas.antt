@@ -8,7 +8,7 @@ use Rattle.rv_statement_laws.specs.declared.mnemonic.Mnemonic.{Mnemonic}
 use Rattle.rv_statement_laws.specs.declared.mnemonic.Mnemonic.TheVariants.{Registers, Immediate, Shift, Upper, Load, Store, Branch, Jal, Jalr, LoadReserved, Atomic, Fence, FenceTso, Ecall, Ebreak, Nop, Unary, Compare, ZeroBranch, SwappedBranch, J, Jr, Ret, La, Li, Call, Tail, Jump, Parcel}
 use Rattle.rv_statement_laws.specs.declared.pseudo.ZeroBranchOperation.TheVariants.{Beqz, Bnez, Bgez, Bltz, Blez, Bgtz}
 use Rattle.rv_statement_laws.specs.Statement.{Operand, Register, Target, Accesses}
-use Rattle.rv_layout_laws.specs.declared.item.Forms.{Forms}
+use Rattle.rv_size_laws.specs.declared.item.Forms.{Forms}
 use Rattle.rv_pseudo_laws.specs.Code.{Open, Constants, jal, code}
 use Rattle.rv_pseudo_laws.proofs.ParcelsLemmas.{parcel_code}
 use Rattle.rv_source_laws.specs.Sizes.{jump_forms, near_forms}

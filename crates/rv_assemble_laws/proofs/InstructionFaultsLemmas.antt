@@ -2,8 +2,8 @@
 
 use Rattle.std.proofs.Common.{◌≡◌, ℤ, Bool, Some, ap}
 use Rattle.rv_isa_laws.specs.Arithmetic.{signed}
-use Rattle.rv_text_laws.specs.Expression.{Primary}
-use Rattle.rv_text_laws.specs.Values.{Value, Constant, Symbolic, Difference, Faulty}
+use Rattle.rv_expression_laws.specs.Expression.{Primary}
+use Rattle.rv_expression_laws.specs.Values.{Value, Constant, Symbolic, Difference, Faulty}
 use Rattle.rv_pseudo_laws.specs.InstructionFaults.{Number}
 use Rattle.rv_source_laws.specs.Lines.{constant_of}
 use Rattle.rv_assemble_laws.specs.InstructionFaults.{worth}

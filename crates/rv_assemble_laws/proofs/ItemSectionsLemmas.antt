@@ -1,8 +1,8 @@
 -- An item of code stands in its statement's section.
 
 use Rattle.std.proofs.Common.{◌≡◌, ℕ, List, Option, Some, None, refl}
-use Rattle.rv_layout_laws.specs.declared.item.Forms.{Forms}
-use Rattle.rv_layout_laws.specs.declared.item.Forms.TheVariants.{Settled, CompressedBranch, Branch, CompressedJump}
+use Rattle.rv_size_laws.specs.declared.item.Forms.{Forms}
+use Rattle.rv_size_laws.specs.declared.item.Forms.TheVariants.{Settled, CompressedBranch, Branch, CompressedJump}
 use Rattle.rv_statement_laws.specs.Statement.{Operand}
 use Rattle.rv_unit_laws.specs.Tables.{Tables}
 use Rattle.rv_source_laws.specs.Located.{Located}

@@ -5,10 +5,10 @@ use Rattle.std.specs.Prelude.{if◌then◌else◌, ◌==◌, ⊤, slice_get}
 use Rattle.std.specs.List.{AllByRecursion}
 use Rattle.std.proofs.lemmas.Bool.{eqb-true}
 use Rattle.rv_statement_laws.specs.Statement.{StatementKind, Label, Numbered, Instruction, Directs}
-use Rattle.rv_layout_laws.specs.declared.item.Forms.TheVariants.{Settled}
-use Rattle.rv_layout_laws.specs.declared.item.Item.{Item}
-use Rattle.rv_layout_laws.specs.Offsets.{Reaches, distance}
-use Rattle.rv_layout_laws.specs.Branches.{Offers, largest, half, item_at, of_section, IsGood, IsLeastGood}
+use Rattle.rv_size_laws.specs.declared.item.Forms.TheVariants.{Settled}
+use Rattle.rv_size_laws.specs.declared.item.Item.{Item}
+use Rattle.rv_size_laws.specs.Offsets.{Reaches, distance}
+use Rattle.rv_size_laws.specs.Branches.{Offers, largest, half, item_at, of_section, IsGood, IsLeastGood}
 use Rattle.rv_unit_laws.specs.Sections.{Section}
 use Rattle.rv_unit_laws.specs.Tables.{Tables}
 use Rattle.rv_source_laws.specs.Located.{Located}

@@ -8,13 +8,13 @@ use Rattle.std.specs.Str.{bytes_eq}
 use Rattle.std.proofs.lemmas.Bool.{not-true}
 use Rattle.std.proofs.lemmas.List.Folds.{find-append}
 use Rattle.rv_list_laws.proofs.ElementsLemmas.{same_bytes}
-use Rattle.rv_text_laws.specs.Expression.{Literal, Symbol, Here, Reference}
-use Rattle.rv_text_laws.specs.Values.{Known, InSection, Open, Refused, Value, Constant, Symbolic, Difference, Faulty, add}
+use Rattle.rv_expression_laws.specs.Expression.{Literal, Symbol, Here, Reference}
+use Rattle.rv_expression_laws.specs.Values.{Known, InSection, Open, Refused, Value, Constant, Symbolic, Difference, Faulty, add}
 use Rattle.rv_statement_laws.specs.Statement.{StatementKind, Label, Numbered, Instruction, Directs, Statement, Expression, Directive, Enters, Opens, Binds, Sets, Chooses, Ignored, Aligns, Emits}
 use Rattle.rv_unit_laws.specs.Sections.{entered_by}
 use Rattle.rv_unit_laws.specs.Tables.{Tables, Labelled, Assignment, here, value_by_tables, label_of, assigned_ever, is_location, gives_location, is_defined, has_location, may_set, assigned, assigned_by, with_assignment, with_label, with_section, after_directive, after, after_all}
 use Rattle.rv_unit_laws.proofs.AloneLemmas.{Same, section_same, directive_same, own_label, other_label, undefined, unplaced}
-use Rattle.rv_text_laws.specs.Codes.{lowest}
+use Rattle.rv_expression_laws.specs.Codes.{lowest}
 use Rattle.rv_unit_laws.specs.Faults.{faults, first_fault_from}
 use Rattle.rv_unit_laws.proofs.BeforeLemmas.{IsBefore, placed_latest, before_after}
 use Rattle.rv_source_laws.specs.Located.{Located, is_placed, located_from}

@@ -4,7 +4,7 @@ use Rattle.std.proofs.Common.{◌≡◌, ℕ, Bool, true, false, List, [], ◌�
 use Rattle.std.specs.Prelude.{◌&&◌, nat_lt, if◌then◌else◌}
 use Rattle.std.specs.List.{AllByRecursion, find}
 use Rattle.std.specs.Str.{bytes_eq}
-use Rattle.rv_text_laws.specs.Expression.{Symbol as Named}
+use Rattle.rv_expression_laws.specs.Expression.{Symbol as Named}
 use Rattle.rv_unit_laws.specs.Tables.{Tables, Labelled, Assignment, definition, definition_at, first_definition, labelled_definition, assigned_definition, assigned_before, assigned_ever, label_of, is_location}
 
 module _ (name : List ℕ) where

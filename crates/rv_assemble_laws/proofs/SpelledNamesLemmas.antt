@@ -5,16 +5,16 @@ use Rattle.std.specs.Prelude.{nat_le, nat_lt, length, codes, bytes_eq, is_some, 
 use Rattle.std.specs.List.{list_all}
 use Rattle.std.proofs.lemmas.Bool.{and_from, and_parts}
 use Rattle.std.proofs.lemmas.List.Folds.{list_all-append}
-use Rattle.rv_text_laws.specs.declared.class.Class.{Class}
-use Rattle.rv_text_laws.specs.declared.class.Class.TheVariants as classes
-use Rattle.rv_text_laws.specs.Bytes.{class, is_letter, is_decimal, is_word, between}
-use Rattle.rv_text_laws.specs.Cut.{Piece, texts, Each}
-use Rattle.rv_text_laws.specs.Grammar.{Kind, Space, Line_comment, Block_comment, Newline, Punctuation, Name, Number, Reference, Bad_word, Text, Character, Bad_byte, Bad_token, End, IsWord, direction, Spells, Stops}
-use Rattle.rv_text_laws.specs.Joined.{joined_bytes, AreAfter, IsJoined}
-use Rattle.rv_text_laws.specs.Lexing.{Token, Lexes, tokens_of, placed, is_gap, bad, last_kind, last}
-use Rattle.rv_text_laws.specs.declared.punct.Punct.TheVariants as puncts
-use Rattle.rv_text_laws.specs.SyntaxError.{longest_name}
-use Rattle.rv_text_laws.specs.Expression.{Primary, Literal, Symbol, Here, Reference as Of_label, Tree, Leaf, Unary, Paren, Binary, Begin, begins, named_operand, A_primary, SpellsTree, bare}
+use Rattle.rv_expression_laws.specs.declared.class.Class.{Class}
+use Rattle.rv_expression_laws.specs.declared.class.Class.TheVariants as classes
+use Rattle.rv_expression_laws.specs.Bytes.{class, is_letter, is_decimal, is_word, between}
+use Rattle.rv_expression_laws.specs.Cut.{Piece, texts, Each}
+use Rattle.rv_expression_laws.specs.Grammar.{Kind, Space, Line_comment, Block_comment, Newline, Punctuation, Name, Number, Reference, Bad_word, Text, Character, Bad_byte, Bad_token, End, IsWord, direction, Spells, Stops}
+use Rattle.rv_expression_laws.specs.Joined.{joined_bytes, AreAfter, IsJoined}
+use Rattle.rv_expression_laws.specs.Lexing.{Token, Lexes, tokens_of, placed, is_gap, bad, last_kind, last}
+use Rattle.rv_expression_laws.specs.declared.punct.Punct.TheVariants as puncts
+use Rattle.rv_expression_laws.specs.SyntaxError.{longest_name}
+use Rattle.rv_expression_laws.specs.Expression.{Primary, Literal, Symbol, Here, Reference as Of_label, Tree, Leaf, Unary, Paren, Binary, Begin, begins, named_operand, A_primary, SpellsTree, bare}
 use Rattle.rv_isa.specs.declared.operation.AccessSet.{AccessSet}
 use Rattle.rv_parcel.specs.declared.parcel.RegisterSet.{RegisterSet}
 use Rattle.rv_parcel.specs.declared.parcel.OperandShape.{OperandShape}
@@ -34,7 +34,7 @@ use Rattle.rv_parse_laws.specs.Words.{named_in, choices}
 use Rattle.rv_parse_laws.specs.Syntax.{Slot, A_register_of, A_zero, Some_accesses, A_symbol, A_string, Some_flags, At_sign, A_type, An_option, A_plt, A_comma, An_opening, A_closing, register_of, kept_in, token_symbol, is_symbol, is_zero, accesses_of, is_at_sign, is_plt, is_comma, is_opening, is_closing, single, A_value, An_address_by, An_address, A_callee, A_section, A_target, Slots, Stops as Ends_here, Takes, Chooses, Locates, Lists, Anything, IsValue, IsValueIn, IsOneIn, IsArgument, IsBase, IsLinked, IsOperand, TakesSlot, IsFurther, AreItems, AreOperands, label_named, label_of, valued, targets, is_register, slots, operand_slots, source, registers_alone, registers_and_base, registers_before, parcel_slots, with_constant, names_in, values_in, option_directive, directed, SourcePart, Ends, Says, IsPart, StopsPart, IsStatement}
 use Rattle.rv_parse_laws.specs.Reading.{told, statements_of_parts, Reads}
 use Rattle.rv_source_laws.specs.Program.{in_operand}
-use Rattle.rv_text_laws.proofs.RunsLemmas.{pick}
+use Rattle.rv_expression_laws.proofs.RunsLemmas.{pick}
 use Rattle.rv_map_laws.specs.Name.{is_name, is_name_byte}
 use Rattle.rv_assemble_laws.specs.ShownNames.{primary_names, tree_names, said_names, are_shown, HasNames}
 use Rattle.rv_assemble_laws.proofs.WeightsLemmas.{punct_none}

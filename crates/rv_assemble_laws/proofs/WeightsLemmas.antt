@@ -4,18 +4,18 @@
 use Rattle.std.proofs.Common.{◌≡◌, ℕ, zero, suc, ◌+◌, ◌*◌, ◌≤◌, Bool, true, false, List, [], ◌∷◌, ◌++◌, flat_map, Option, Some, None, length, length-append, refl, sym, ap, ◌∙◌, subst, inl, inr, arith}
 use Rattle.std.specs.Prelude.{nat_le, codes, bytes_eq, is_some, option_map, if◌then◌else◌}
 use Rattle.std.specs.List.{list_all}
-use Rattle.rv_text_laws.specs.declared.class.Class.{Class}
-use Rattle.rv_text_laws.specs.declared.class.Class.TheVariants as classes
-use Rattle.rv_text_laws.specs.Bytes.{class, is_decimal}
-use Rattle.rv_text_laws.specs.Cut.{Piece, texts, Each}
-use Rattle.rv_text_laws.specs.Grammar.{Kind, Space, Line_comment, Block_comment, Newline, Punctuation, Name, Number, Reference, Bad_word, Text, Character, Bad_byte, Bad_token, End, direction, Spells, Stops}
-use Rattle.rv_text_laws.specs.Joined.{joined_bytes, AreAfter, IsJoined}
-use Rattle.rv_text_laws.specs.Lexing.{Token, Lexes, tokens_of, placed, is_gap, bad, last_kind, last}
-use Rattle.rv_text_laws.specs.declared.punct.Punct.{Punct}
-use Rattle.rv_text_laws.specs.declared.punct.Punct.TheVariants as puncts
-use Rattle.rv_text_laws.specs.Codes.{bad_operands, limit}
-use Rattle.rv_text_laws.specs.SyntaxError.{longest_name}
-use Rattle.rv_text_laws.specs.Expression.{Primary, Literal, Symbol, Here, Reference as Of_label, Tree, Leaf, Unary, Paren, Binary, A_primary, No_operand, begins, named_operand, punct_begins, SpellsTree, bare}
+use Rattle.rv_expression_laws.specs.declared.class.Class.{Class}
+use Rattle.rv_expression_laws.specs.declared.class.Class.TheVariants as classes
+use Rattle.rv_expression_laws.specs.Bytes.{class, is_decimal}
+use Rattle.rv_expression_laws.specs.Cut.{Piece, texts, Each}
+use Rattle.rv_expression_laws.specs.Grammar.{Kind, Space, Line_comment, Block_comment, Newline, Punctuation, Name, Number, Reference, Bad_word, Text, Character, Bad_byte, Bad_token, End, direction, Spells, Stops}
+use Rattle.rv_expression_laws.specs.Joined.{joined_bytes, AreAfter, IsJoined}
+use Rattle.rv_expression_laws.specs.Lexing.{Token, Lexes, tokens_of, placed, is_gap, bad, last_kind, last}
+use Rattle.rv_expression_laws.specs.declared.punct.Punct.{Punct}
+use Rattle.rv_expression_laws.specs.declared.punct.Punct.TheVariants as puncts
+use Rattle.rv_expression_laws.specs.Codes.{bad_operands, limit}
+use Rattle.rv_expression_laws.specs.SyntaxError.{longest_name}
+use Rattle.rv_expression_laws.specs.Expression.{Primary, Literal, Symbol, Here, Reference as Of_label, Tree, Leaf, Unary, Paren, Binary, A_primary, No_operand, begins, named_operand, punct_begins, SpellsTree, bare}
 use Rattle.rv_isa.specs.declared.operation.AccessSet.{AccessSet}
 use Rattle.rv_parcel.specs.declared.parcel.RegisterSet.{RegisterSet}
 use Rattle.rv_statement_laws.specs.declared.pseudo.Function.{Function}

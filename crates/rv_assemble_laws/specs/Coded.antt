@@ -5,7 +5,7 @@
 use Rattle.std.specs.Prelude.{◌≡◌, ℕ, Bool, true, false, ◌&&◌, ⊤, List, [], ◌∷◌, ◌++◌, flat_map, length, sum_by, Option, Some}
 use Rattle.rv_isa.specs.Kinds.{width_of}
 use Rattle.rv_isa.specs.Ranges.{IsValid}
-use Rattle.rv_text_laws.specs.Values.{Value, Constant}
+use Rattle.rv_expression_laws.specs.Values.{Value, Constant}
 use Rattle.rv_statement_laws.specs.declared.mnemonic.Mnemonic.{Mnemonic}
 use Rattle.rv_statement_laws.specs.Statement.{Operand, Expression}
 use Rattle.rv_pseudo_laws.specs.Code.{Part, Closed, Open, Joined, Constants, named_form, code}

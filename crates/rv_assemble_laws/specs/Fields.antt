@@ -2,7 +2,7 @@
 
 use Rattle.std.specs.Prelude.{ℕ, ℤ, ◌+◌, List, [], ◌∷◌, ◌++◌, flat_map, map, length, Option, if◌then◌else◌}
 use Rattle.rv_isa.specs.declared.kind.Kind.{Kind}
-use Rattle.rv_text_laws.specs.Expression.{Primary}
+use Rattle.rv_expression_laws.specs.Expression.{Primary}
 use Rattle.rv_unit_laws.specs.Tables.{Tables}
 use Rattle.rv_assemble_laws.specs.Templates.{Open, template_fields}
 use Rattle.rv_assemble_laws.specs.LaidStatements.{LaidStatement, LaidPart, part_bytes, parts_of}

@@ -2,9 +2,9 @@
 
 use Rattle.std.specs.Prelude.{ℕ, Bool, true, false, List, is_some}
 use Rattle.rv_isa_laws.specs.Arithmetic.{signed}
-use Rattle.rv_text_laws.specs.Expression.{Primary, Symbol, Reference}
-use Rattle.rv_text_laws.specs.Codes.{not_constant}
-use Rattle.rv_text_laws.specs.Values.{Value, Constant, Symbolic, Difference, Faulty}
+use Rattle.rv_expression_laws.specs.Expression.{Primary, Symbol, Reference}
+use Rattle.rv_expression_laws.specs.Codes.{not_constant}
+use Rattle.rv_expression_laws.specs.Values.{Value, Constant, Symbolic, Difference, Faulty}
 use Rattle.rv_statement_laws.specs.Statement.{StatementKind, Expression}
 use Rattle.rv_pseudo_laws.specs.InstructionFaults.{Worth, Number, Address, Wrong, faults}
 use Rattle.rv_unit_laws.specs.Tables.{Tables, label_of, definition}

@@ -2,7 +2,7 @@
 -- (gABI, "Sections").
 
 use Rattle.std.specs.Prelude.{◌≡◌, ℕ, ◌+◌, ◌*◌, ◌%◌, ◌<◌, Bool, true, false, ◌==◌, ⊤, List, [], ◌∷◌, length, filter, flat_map, map, Option, Some, None, unwrap_or}
-use Rattle.rv_text_laws.specs.Values.{Value}
+use Rattle.rv_expression_laws.specs.Values.{Value}
 use Rattle.rv_statement_laws.specs.Statement.{StatementKind, Label, Numbered, Instruction, Directs, Expression, Directive, Aligns, Emits}
 use Rattle.rv_unit_laws.specs.Tables.{Tables, value_by_tables, alignment_of, padding, HasDataSize}
 use Rattle.rv_unit_laws.specs.Contributions.{contribution}

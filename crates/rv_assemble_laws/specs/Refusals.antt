@@ -2,8 +2,8 @@
 -- its code and of the sizes of code.
 
 use Rattle.std.specs.Prelude.{◌≡◌, ◌⊎◌, ⊤, ℕ, ◌+◌, Bool, true, ◌==◌, nat_lt, List, [], ◌∷◌, Option, Some, None, if◌then◌else◌}
-use Rattle.rv_text_laws.specs.Codes.{limit, lowest}
-use Rattle.rv_text_laws.specs.Values.{Value}
+use Rattle.rv_expression_laws.specs.Codes.{limit, lowest}
+use Rattle.rv_expression_laws.specs.Values.{Value}
 use Rattle.rv_statement_laws.specs.Statement.{StatementKind, Instruction, Directs, Statement, Expression}
 use Rattle.rv_unit_laws.specs.Tables.{Tables, tables, value_by_tables, longest_section, alignment_of}
 use Rattle.rv_unit_laws.specs.Faults.{StatementFault, at_line, first_unit_fault}

@@ -2,7 +2,7 @@
 
 use Rattle.std.specs.Prelude.{◌≡◌, ℕ, Bool, true, List, [], ◌∷◌, ◌++◌, flat_map}
 use Rattle.std.specs.List.{list_all}
-use Rattle.rv_text_laws.specs.Expression.{Primary, Symbol, Tree, Leaf, Unary, Paren, Binary}
+use Rattle.rv_expression_laws.specs.Expression.{Primary, Symbol, Tree, Leaf, Unary, Paren, Binary}
 use Rattle.rv_statement_laws.specs.Statement.{StatementKind, Label, Directs, Statement, Binds, Sets, Opens}
 use Rattle.rv_map_laws.specs.Name.{is_name}
 use Rattle.rv_source_laws.specs.Program.{expressions}

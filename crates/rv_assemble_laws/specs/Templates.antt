@@ -6,8 +6,8 @@ use Rattle.std.specs.Int.{w64, int_wrap}
 use Rattle.rv_isa.specs.declared.kind.Kind.{Kind}
 use Rattle.rv_isa.specs.declared.kind.Kind.TheVariants.{Align, Abs32, Abs64, Add8, Add16, Add32, Add64, Sub8, Sub16, Sub32, Sub64}
 use Rattle.rv_isa_laws.specs.Bytes.{little_endian, zeros}
-use Rattle.rv_text_laws.specs.Expression.{Primary}
-use Rattle.rv_text_laws.specs.Values.{Value, Constant, Symbolic, Difference, Faulty}
+use Rattle.rv_expression_laws.specs.Expression.{Primary}
+use Rattle.rv_expression_laws.specs.Values.{Value, Constant, Symbolic, Difference, Faulty}
 use Rattle.rv_statement_laws.specs.Statement.{Expression, Data, Values, Strings, Zeros}
 use Rattle.rv_unit_laws.specs.Contributions.{Contribution, Nothing, Bytes, Alignment}
 use Rattle.rv_unit_laws.specs.Tables.{string_bytes}

@@ -3,7 +3,7 @@
 use rv_chain::LinkOptions;
 use rv_guests::end_line;
 use rv_machine::End;
-use rv_report::{Report, check};
+use rv_check::{Report, check};
 use rv_source_jobs::finding_value;
 use rv_system::{JobError, fault_line};
 use serde_json::{Map, Value, json, put};

@@ -7,7 +7,7 @@ use rv_chain::Built;
 use rv_image::Image;
 use rv_job::{Asked, default_options};
 use rv_system::{JobError, System, borrowed, check_fit, file_bytes, given_bytes, image_in, map_in};
-use rv_watched_jobs::Program;
+use rv_watched_jobs::KnownSource;
 use std::alloc::{AllocError, Global};
 
 /// Whether a file is an executable or an object, and no source.
@@ -20,7 +20,7 @@ pub(crate) fn is_elf(bytes: &[u8]) -> bool {
 pub fn load_program<S: System>(
     system: &mut S,
     asked: &Asked<'_>,
-) -> Result<(Program, Image), JobError> {
+) -> Result<(KnownSource, Image), JobError> {
     let alloc: Global = system.alloc();
     let early = if asked.map_first {
         map_text(system, asked)?
@@ -47,17 +47,17 @@ fn given_program(
     asked: &Asked<'_>,
     given: Option<Vec<u8>>,
     exe: &[u8],
-) -> Result<(Program, Image), JobError> {
+) -> Result<(KnownSource, Image), JobError> {
     let sources = Vec::new(alloc);
     let Some(text) = given else {
         let image = image_in(alloc, asked.file, exe)?;
-        return Ok((Program { map: None, sources }, image));
+        return Ok((KnownSource { map: None, sources }, image));
     };
     let name = asked.map.unwrap_or("-");
     let map = map_in(alloc, name, text.as_slice())?;
     let image = image_in(alloc, asked.file, exe)?;
     check_fit(alloc, name, &map, asked.file, &image)?;
-    let program = Program {
+    let program = KnownSource {
         map: Some(map),
         sources,
     };
@@ -70,12 +70,12 @@ fn built_program<S: System>(
     asked: &Asked<'_>,
     names: &[&str],
     read: Vec<Vec<u8>>,
-) -> Result<(Program, Image), JobError> {
+) -> Result<(KnownSource, Image), JobError> {
     let alloc: Global = system.alloc();
     let built = built_of(system, asked, names, read.as_slice())?;
     let map = map_in(alloc, asked.file, built.map.as_slice())?;
     let image = image_in(alloc, asked.file, built.exe.as_slice())?;
-    let program = Program {
+    let program = KnownSource {
         map: Some(map),
         sources: read,
     };

@@ -5,7 +5,7 @@
 use rv_chain::{Fault, LinkOptions};
 use rv_fault_texts::Remark;
 use rv_object_report::objects_remark;
-use rv_report::remark_of;
+use rv_check::remark_of;
 use rv_system::{JobError, System, fault_line};
 use std::alloc::{AllocError, Global};
 

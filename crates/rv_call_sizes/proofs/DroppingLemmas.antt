@@ -4,14 +4,14 @@ use Rattle.std.proofs.Common.{◌≡◌, inl, inr, ⊎_elim, ℕ, zero, suc, ◌
 use Rattle.std.proofs.lemmas.Bool.{cases_lt}
 use Rattle.std.proofs.lemmas.List.{get_or_past, drop_all}
 use Rattle.std.proofs.lemmas.List.Sums.{sum_by-cons}
-use Rattle.rv_layout_laws.specs.declared.site.Site.{Site}
-use Rattle.rv_layout_laws.specs.declared.site.SiteKind.{SiteKind}
-use Rattle.rv_layout_laws.specs.declared.site.SiteKind.TheVariants.{Call, Padding}
-use Rattle.rv_layout_laws.specs.Offsets.{offset, rest}
-use Rattle.rv_layout_laws.specs.Calls.{bytes_of, Offers, is_call, site_at, dropped_of, dropped, whole_sizes, IsFamily, InOrder, IsOutside}
-use Rattle.rv_layout_laws.proofs.ShorteningLemmas.{IsOpen, before_all}
-use Rattle.rv_layout_laws.proofs.OffsetsLemmas.{whole as parts}
-use Rattle.rv_layout_laws.specs.Sites.{site_end}
+use Rattle.rv_size_laws.specs.declared.site.Site.{Site}
+use Rattle.rv_size_laws.specs.declared.site.SiteKind.{SiteKind}
+use Rattle.rv_size_laws.specs.declared.site.SiteKind.TheVariants.{Call, Padding}
+use Rattle.rv_size_laws.specs.Offsets.{offset, rest}
+use Rattle.rv_size_laws.specs.Calls.{bytes_of, Offers, is_call, site_at, dropped_of, dropped, whole_sizes, IsFamily, InOrder, IsOutside}
+use Rattle.rv_size_laws.proofs.ShorteningLemmas.{IsOpen, before_all}
+use Rattle.rv_size_laws.proofs.OffsetsLemmas.{whole as parts}
+use Rattle.rv_size_laws.specs.Sites.{site_end}
 use Rattle.rv_call_sizes.specs.Passes.{IsPlace, drops}
 
 -- what the code has past the end of a text

@@ -1,11 +1,11 @@
 -- What a call's size becomes at a distance, and what that says of the family.
 
 use Rattle.std.proofs.Common.{◌≡◌, ◌↔◌, inl, inr, ⊎_elim, ℕ, ◌<◌, Bool, true, false, IsTrue, List, slice_index, ℤ, pos, ◌-ℤ◌, subst, sym, arith}
-use Rattle.rv_layout_laws.specs.declared.site.Site.{Site}
-use Rattle.rv_layout_laws.specs.declared.site.Call.{Call as CallSite}
-use Rattle.rv_layout_laws.specs.declared.site.SiteKind.TheVariants.{Call}
-use Rattle.rv_layout_laws.specs.Offsets.{Reaches}
-use Rattle.rv_layout_laws.specs.Calls.{Offers, half, site_at, new_offset, ReachesFrom, IsFamily, MayShorten}
+use Rattle.rv_size_laws.specs.declared.site.Site.{Site}
+use Rattle.rv_size_laws.specs.declared.site.Call.{Call as CallSite}
+use Rattle.rv_size_laws.specs.declared.site.SiteKind.TheVariants.{Call}
+use Rattle.rv_size_laws.specs.Offsets.{Reaches}
+use Rattle.rv_size_laws.specs.Calls.{Offers, half, site_at, new_offset, ReachesFrom, IsFamily, MayShorten}
 use Rattle.rv_call_sizes.specs.Passes.{HasForm, MayTake, IsJudged, CannotShrink, IsTurn}
 
 -- ---- a call

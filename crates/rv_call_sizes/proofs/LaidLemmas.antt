@@ -3,9 +3,9 @@
 use Rattle.std.proofs.Common.{ℕ, zero, suc, ◌+◌, ◌≤◌, ◌<◌, nat_le, List, [], ◌∷◌, length, slice_index_or, arith}
 use Rattle.std.specs.List.Sorted.{IsPartitionedBy}
 use Rattle.std.proofs.lemmas.Bool.{leb-true, le-leb}
-use Rattle.rv_layout_laws.specs.declared.site.Site.{Site}
-use Rattle.rv_layout_laws.specs.Calls.{bytes_of, InOrder}
-use Rattle.rv_layout_laws.specs.Sites.{site_end}
+use Rattle.rv_size_laws.specs.declared.site.Site.{Site}
+use Rattle.rv_size_laws.specs.Calls.{bytes_of, InOrder}
+use Rattle.rv_size_laws.specs.Sites.{site_end}
 
 pub rising : (sites : List Site) → InOrder 0 sites → (i j : ℕ) (d : Site) → i ≤ j → j < length sites → site_end (slice_index_or sites i d) ≤ site_end (slice_index_or sites j d)
 rising sites order i j d le within = rises sites 0 order i j d le within

@@ -3,19 +3,19 @@
 use Rattle.std.proofs.Common.{◌≡◌, ℕ, ◌+◌, ◌-◌, ◌*◌, ◌^◌, ◌≤◌, ◌<◌, List, length, set, slice_index, slice_index_or, sum, ℤ, pos, ◌-ℤ◌, ap, subst, sym, ◌∙◌, refl, arith}
 use Rattle.std.proofs.lemmas.Int.{ints}
 use Rattle.std.proofs.lemmas.List.{length-set, get_or-set_same}
-use Rattle.rv_layout_laws.specs.declared.site.Site.{Site}
-use Rattle.rv_layout_laws.specs.declared.site.Call.{Call as CallSite}
-use Rattle.rv_layout_laws.specs.declared.site.SiteKind.TheVariants.{Call}
-use Rattle.rv_layout_laws.specs.Offsets.{offset, rest, distance}
-use Rattle.rv_layout_laws.specs.Sites.{site_end}
-use Rattle.rv_layout_laws.specs.Tables.{forwards_away, backwards_away}
-use Rattle.rv_layout_laws.specs.Calls.{bytes_of, Offers, site_at, dropped, new_offset, whole_sizes, IsFamily, LeadsOutside}
-use Rattle.rv_layout_laws.proofs.ReachingLemmas.{offset_more}
-use Rattle.rv_layout_laws.proofs.StepsLemmas.{set_family}
-use Rattle.rv_layout_laws.proofs.TablesLemmas.{LeavesOthers, forwards_table, backwards_table, forwards_is, backwards_is, offset_most, rest_most, table_most}
-use Rattle.rv_layout_laws.proofs.DroppingLemmas.{dropped_most}
-use Rattle.rv_layout_laws.proofs.ShorteningLemmas.{IsOpen, whole_family}
-use Rattle.rv_layout_laws.proofs.OffsetsLemmas.{rest_more}
+use Rattle.rv_size_laws.specs.declared.site.Site.{Site}
+use Rattle.rv_size_laws.specs.declared.site.Call.{Call as CallSite}
+use Rattle.rv_size_laws.specs.declared.site.SiteKind.TheVariants.{Call}
+use Rattle.rv_size_laws.specs.Offsets.{offset, rest, distance}
+use Rattle.rv_size_laws.specs.Sites.{site_end}
+use Rattle.rv_size_laws.specs.Tables.{forwards_away, backwards_away}
+use Rattle.rv_size_laws.specs.Calls.{bytes_of, Offers, site_at, dropped, new_offset, whole_sizes, IsFamily, LeadsOutside}
+use Rattle.rv_size_laws.proofs.ReachingLemmas.{offset_more}
+use Rattle.rv_size_laws.proofs.StepsLemmas.{set_family}
+use Rattle.rv_size_laws.proofs.TablesLemmas.{LeavesOthers, forwards_table, backwards_table, forwards_is, backwards_is, offset_most, rest_most, table_most}
+use Rattle.rv_size_laws.proofs.DroppingLemmas.{dropped_most}
+use Rattle.rv_size_laws.proofs.ShorteningLemmas.{IsOpen, whole_family}
+use Rattle.rv_size_laws.proofs.OffsetsLemmas.{rest_more}
 use Rattle.rv_call_sizes.specs.Passes.{AreTargets, IsInput, IsPlace, IsTable, LeadsLow, LeadsTo, drops}
 use Rattle.rv_call_sizes.proofs.DroppingLemmas.{zeros_site, site_read, take_kept, drop_kept, drop_at, sum_low, none_at_first, dropped_before_site, dropped_outside}
 

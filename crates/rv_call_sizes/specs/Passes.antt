@@ -2,15 +2,15 @@
 -- before each site, or from it on.
 
 use Rattle.std.specs.Prelude.{◌≡◌, ◌⊎◌, ℕ, ◌+◌, ◌-◌, ◌*◌, ◌^◌, ◌≤◌, ◌<◌, Bool, List, [], ◌∷◌, length, slice_index, ℤ, ⊤}
-use Rattle.rv_layout_laws.specs.declared.site.Site.{Site}
-use Rattle.rv_layout_laws.specs.declared.site.Call.{Call as CallSite}
-use Rattle.rv_layout_laws.specs.declared.site.SiteKind.{SiteKind}
-use Rattle.rv_layout_laws.specs.declared.site.SiteKind.TheVariants.{Call, Padding}
-use Rattle.rv_layout_laws.specs.Offsets.{Reaches}
-use Rattle.rv_layout_laws.specs.Steps.{IsLook}
-use Rattle.rv_layout_laws.specs.Tables.{IsTableAt}
-use Rattle.rv_layout_laws.specs.Calls.{bytes_of, Offers, half, site_at, IsFamily, IsText, MayShorten}
-use Rattle.rv_layout_laws.specs.Sites.{site_end}
+use Rattle.rv_size_laws.specs.declared.site.Site.{Site}
+use Rattle.rv_size_laws.specs.declared.site.Call.{Call as CallSite}
+use Rattle.rv_size_laws.specs.declared.site.SiteKind.{SiteKind}
+use Rattle.rv_size_laws.specs.declared.site.SiteKind.TheVariants.{Call, Padding}
+use Rattle.rv_size_laws.specs.Offsets.{Reaches}
+use Rattle.rv_size_laws.specs.Steps.{IsLook}
+use Rattle.rv_size_laws.specs.Tables.{IsTableAt}
+use Rattle.rv_size_laws.specs.Calls.{bytes_of, Offers, half, site_at, IsFamily, IsText, MayShorten}
+use Rattle.rv_size_laws.specs.Sites.{site_end}
 
 -- ---- sites
 

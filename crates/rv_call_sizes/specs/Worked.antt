@@ -1,9 +1,9 @@
 -- Sites for worked numbers.
 
 use Rattle.std.specs.Prelude.{ℕ, pos, false, List, [], ◌∷◌}
-use Rattle.rv_layout_laws.specs.Sites.{padding_site}
-use Rattle.rv_layout_laws.specs.declared.site.Site.{Site}
-use Rattle.rv_layout_laws.specs.declared.site.SiteKind.TheVariants as sites
+use Rattle.rv_size_laws.specs.Sites.{padding_site}
+use Rattle.rv_size_laws.specs.declared.site.Site.{Site}
+use Rattle.rv_size_laws.specs.declared.site.SiteKind.TheVariants as sites
 
 -- a `call` at an offset of a text to another
 abbrev pub call_to : (offset target : ℕ) → Site

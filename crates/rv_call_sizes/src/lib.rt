@@ -2,7 +2,7 @@
 //!
 //! It takes the sites of a text in order (`Site`: a call with the offset of its target, or a padding), and gives the bytes that
 //! are kept of each and the number of passes. The main contract is that of `CallSizes::greatest`: the sizes are the greatest
-//! with which no call has a shorter form that reaches, each padding in full (`rv_layout_laws`, `IsGreatestClosed`), and the
+//! with which no call has a shorter form that reaches, each padding in full (`rv_size_laws`, `IsGreatestClosed`), and the
 //! passes are at most twice the calls and one. They go forwards and backwards in turn over tables of numbers: no byte moves.
 //!
 //! It must not know objects, symbols, or what paddings become.

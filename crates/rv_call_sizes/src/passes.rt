@@ -5,14 +5,14 @@
 //! forwards sees what the calls before a site have become, and one backwards what those after it have.
 
 ghost use Rattle.std.specs.Prelude.{◌≡◌, ℕ, ◌+◌, ◌-◌, ◌*◌, ◌^◌, ◌<◌, ◌≤◌, ◌≤ℤ◌, pos, neg_ℤ, ◌-ℤ◌, not, length, slice_index, if◌then◌else◌, IsTrue};
-ghost use Rattle.rv_layout_laws.specs.Offsets.{offset, rest};
-ghost use Rattle.rv_layout_laws.specs.Tables.{forwards_away, backwards_away};
-ghost use Rattle.rv_layout_laws.specs.Calls.{IsClosed, IsGreatestClosed, Shortenings, calls, whole_sizes};
+ghost use Rattle.rv_size_laws.specs.Offsets.{offset, rest};
+ghost use Rattle.rv_size_laws.specs.Tables.{forwards_away, backwards_away};
+ghost use Rattle.rv_size_laws.specs.Calls.{IsClosed, IsGreatestClosed, Shortenings, calls, whole_sizes};
 ghost use Rattle.rv_call_sizes.specs.Passes.{AreTargets, CannotShrink, HasForm, IsInput, IsTable, IsTurn, IsVisit, drops};
 
 use crate::places::dropped_bytes;
 use crate::reach::judged_size;
-use rv_layout_laws::{Call, Site, SiteKind};
+use rv_size_laws::{Call, Site, SiteKind};
 
 /// What lies between two places, in bytes.
 fn between(from: u128, to: u128) -> i128

@@ -1,11 +1,11 @@
 //! Where offsets of a text lie among its sites.
 
 ghost use Rattle.std.specs.Prelude.{◌≡◌, ◌-◌, nat_le, IfOk};
-ghost use Rattle.rv_layout_laws.specs.Calls.{InOrder, bytes_of, is_call as is_call_site, whole_sizes};
-ghost use Rattle.rv_layout_laws.specs.Sites.{site_end};
+ghost use Rattle.rv_size_laws.specs.Calls.{InOrder, bytes_of, is_call as is_call_site, whole_sizes};
+ghost use Rattle.rv_size_laws.specs.Sites.{site_end};
 ghost use Rattle.rv_call_sizes.specs.Passes.{AreTargets, IsPlace, LeadsTo};
 
-use rv_layout_laws::{Site, SiteKind};
+use rv_size_laws::{Site, SiteKind};
 use std::alloc::{AllocError, Global};
 
 /// Whether a site is a call.

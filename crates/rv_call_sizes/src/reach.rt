@@ -1,10 +1,10 @@
 //! Which size a call takes at a distance.
 
 ghost use Rattle.std.specs.Prelude.{◌↔◌, ◌*◌, ◌^◌, ◌<◌, ◌≤◌, pos, ◌≤ℤ◌, neg_ℤ, IsTrue};
-ghost use Rattle.rv_layout_laws.specs.Offsets.{IsImmediate, Reaches};
+ghost use Rattle.rv_size_laws.specs.Offsets.{IsImmediate, Reaches};
 ghost use Rattle.rv_call_sizes.specs.Passes.{HasForm, IsJudged, MayTake};
 
-use rv_layout_laws::Call;
+use rv_size_laws::Call;
 
 /// Whether a jump that reaches so far back can have a number as its immediate.
 fn is_immediate(back: u32, number: i128) -> bool

@@ -1,12 +1,12 @@
 //! How much is kept of each site of a text, each padding in full.
 
 ghost use Rattle.std.specs.Prelude.{◌+◌, ◌*◌, ◌≤◌, IfOk};
-ghost use Rattle.rv_layout_laws.specs.Calls.{IsGreatestClosed, calls};
+ghost use Rattle.rv_size_laws.specs.Calls.{IsGreatestClosed, calls};
 ghost use Rattle.rv_call_sizes.specs.Passes.{IsInput};
 
 use crate::passes::settle;
 use crate::places::{targets, whole};
-use rv_layout_laws::Site;
+use rv_size_laws::Site;
 use std::alloc::{AllocError, Global};
 
 /// What is kept of each site of a text, and how long it took to find it.

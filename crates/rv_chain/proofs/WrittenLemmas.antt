@@ -12,12 +12,12 @@ use Rattle.rv_image_laws.specs.FirstFault.{first_fault}
 use Rattle.rv_image.proofs.LoadedAgainLemmas.{laid_out, reload_image, reload_fault}
 use Rattle.rv_object_laws.specs.Object.{Object}
 use Rattle.rv_link_laws.specs.IsProgramOf.{IsProgramOf}
-use Rattle.rv_link_laws.specs.Details.{with_details}
+use Rattle.rv_link_laws.specs.WithMap.{map_where}
 use Rattle.rv_chain_laws.specs.Linking.{IsBuiltOf}
 
 -- the names and the rows of a map are no part of its layout, nor of its executable
-same_layout : (details : Bool) (l : Linked) → IsLaidOut (with_details details l) → IsLaidOut l
-same_layout details l h = record {
+same_layout : (with_map : Bool) (l : Linked) → IsLaidOut (map_where with_map l) → IsLaidOut l
+same_layout with_map l h = record {
   text_fills = h.text_fills;
   rodata_fills = h.rodata_fills;
   data_fills = h.data_fills;
@@ -31,15 +31,15 @@ same_layout details l h = record {
   entry = h.entry;
 }
 
-pub whole_laid_out : (linked : DeclaredLinked) (details : Bool) (whole : Linked) → linked_of linked ≡ with_details details whole → IsMap whole.map → IsLaidOut whole
-whole_laid_out linked details whole shown readable =
-    same_layout details whole (subst IsLaidOut shown (laid_out linked (subst (λ l. l.map.entry < 2 ^ 64) (sym shown) readable.entry)))
+pub whole_laid_out : (linked : DeclaredLinked) (with_map : Bool) (whole : Linked) → linked_of linked ≡ map_where with_map whole → IsMap whole.map → IsLaidOut whole
+whole_laid_out linked with_map whole shown readable =
+    same_layout with_map whole (subst IsLaidOut shown (laid_out linked (subst (λ l. l.map.entry < 2 ^ 64) (sym shown) readable.entry)))
 
-pub whole_written : (details : Bool) (l whole : Linked) (exe : List ℕ) → l ≡ with_details details whole → exe ≡ exe_of l → exe ≡ exe_of whole
-whole_written details l whole exe shown written = written ∙ ap exe_of shown
+pub whole_written : (with_map : Bool) (l whole : Linked) (exe : List ℕ) → l ≡ map_where with_map whole → exe ≡ exe_of l → exe ≡ exe_of whole
+whole_written with_map l whole exe shown written = written ∙ ap exe_of shown
 
 -- the whole map
-pub whole_map : (l whole : Linked) (text : List ℕ) → l ≡ with_details true whole → text ≡ map_text l.map → text ≡ map_text whole.map
+pub whole_map : (l whole : Linked) (text : List ℕ) → l ≡ map_where true whole → text ≡ map_text l.map → text ≡ map_text whole.map
 whole_map l whole text shown written = written ∙ ap (λ l. map_text l.map) shown
 
 pub built_of : (os : List Object) (start : ℕ) (relax gc : Bool) (l : Linked) (exe text : List ℕ) → IsLaidOut l → IsProgramOf os start relax gc l → exe ≡ exe_of l → text ≡ map_text l.map → IsBuiltOf os start relax gc exe text

@@ -1,7 +1,7 @@
 -- What a build makes of a source that is a raw listing.
 
 use Rattle.std.specs.Prelude.{◌≡◌, ◌⊎◌, ◌<◌, ℕ, Bool, List, [], ◌∷◌, length, filter, None}
-use Rattle.rv_text_laws.specs.Codes.{limit}
+use Rattle.rv_expression_laws.specs.Codes.{limit}
 use Rattle.rv_fault.specs.declared.source_fault.SourceFault.TheVariants.{At}
 use Rattle.rv_fault.specs.SourceFault.{source_fault_number}
 use Rattle.rv_parse_laws.specs.Reading.{longest_source}

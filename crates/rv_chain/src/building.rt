@@ -25,7 +25,7 @@ use rv_raw_theorems::raw_listings_reassemble;
 use rv_reach_theorems::{short_branches_reach, short_calls_reach};
 use rv_runs_theorems::{linked_runs_agree, listing_is_the_sources};
 use rv_sources_link_theorems::{linked_objects_are_flagged, objects_of_sources_link};
-use rv_text::SourceFault;
+use rv_expression::SourceFault;
 use rv_value_theorems::values_are_plain;
 use std::alloc::Global;
 
@@ -93,10 +93,10 @@ fn linked(
     alloc: Global,
     sources: &[&[u8]],
     options: LinkOptions,
-    details: bool,
+    with_map: bool,
 ) -> Result<Linked, Fault>
     ensures program { IfOk result (λ l. IsProgramWithFrom
-        (map now_of sources.now) options.text_start options.relax options.gc details (linked_of l)) }
+        (map now_of sources.now) options.text_start options.relax options.gc with_map (linked_of l)) }
     ensures good { IfOk result (λ _. AreGood (map now_of sources.now) options.text_start) }
     ensures refuses { IfErr result
         (IsRefusedFor (map now_of sources.now) options.text_start options.relax options.gc) }
@@ -109,7 +109,7 @@ fn linked(
     // and a refusal is never for a form that was chosen too short
     short_calls_reach();
     short_branches_reach();
-    let linked = program(alloc, &objects, options, details)?;
+    let linked = program(alloc, &objects, options, with_map)?;
     Ok(linked)
 }
 

@@ -46,4 +46,4 @@ pub use rv_fault::Fault;
 pub use rv_image::FileFault;
 pub use rv_link::{LinkFault, LinkOptions};
 pub use rv_machine::{End, Outcome};
-pub use rv_text::{SourceCode, SourceFault};
+pub use rv_expression::{SourceCode, SourceFault};

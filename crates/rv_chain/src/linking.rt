@@ -5,7 +5,7 @@ ghost use Rattle.rv_statement.specs.View.{now_of};
 ghost use Rattle.rv_image.specs.Views.{linked_of};
 ghost use Rattle.rv_object_types.specs.View.{object_of};
 ghost use Rattle.rv_link_laws.specs.IsLinkOf.{most_files};
-ghost use Rattle.rv_link_laws.specs.Details.{IsProgramWith};
+ghost use Rattle.rv_link_laws.specs.WithMap.{IsProgramWith};
 ghost use Rattle.rv_link_laws.specs.Refusals.{HasNoProgram};
 ghost use Rattle.rv_chain_laws.specs.Linking.{AreLinked, IsLinkedAs, IsProgramWithOf};
 ghost use Rattle.rv_chain.specs.LinkRefusals.{IsUnreadAt, AreUnread, AreUnlinkable};
@@ -54,17 +54,17 @@ fn link_files(
     alloc: Global,
     files: &[&[u8]],
     options: LinkOptions,
-    details: bool,
+    with_map: bool,
 ) -> Result<Linked, Fault>
     ensures program { IfOk result
         (λ l. IsProgramWithOf (map now_of files.now)
-        options.text_start options.relax options.gc details (linked_of l)) }
+        options.text_start options.relax options.gc with_map (linked_of l)) }
     ensures refuses { IfErr result
         (AreUnlinkable (map now_of files.now) options.text_start options.relax options.gc) }
 {
     within_limits(files.len(), options.text_start)?;
     let read = read_objects(alloc, files)?;
-    let linked = program(alloc, &read, options, details)?;
+    let linked = program(alloc, &read, options, with_map)?;
     Ok(linked)
 }
 
@@ -73,14 +73,14 @@ pub(crate) fn program(
     alloc: Global,
     objects: &[Object<'_>],
     options: LinkOptions,
-    details: bool,
+    with_map: bool,
 ) -> Result<Linked, LinkFault>
     ensures links { IfOk result (λ l. IsProgramWith (map object_of objects.now)
-        options.text_start options.relax options.gc details (linked_of l)) }
+        options.text_start options.relax options.gc with_map (linked_of l)) }
     ensures refuses { IfErr result (HasNoProgram (map object_of objects.now)
         options.text_start options.relax options.gc) }
 {
-    if details {
+    if with_map {
         link(alloc, objects, options)
     } else {
         link_exe(alloc, objects, options)

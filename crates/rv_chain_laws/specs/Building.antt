@@ -5,7 +5,7 @@ use Rattle.rv_statement_laws.specs.Statement.{Statement}
 use Rattle.rv_image_laws.specs.Linked.{Linked}
 use Rattle.rv_source_laws.specs.Compressed.{is_compressed}
 use Rattle.rv_chain_laws.specs.Contents.{IsLinked}
-use Rattle.rv_link_laws.specs.Details.{with_details}
+use Rattle.rv_link_laws.specs.WithMap.{map_where}
 use Rattle.rv_chain_laws.specs.Headline.{AllRead, TheHeadline}
 use Rattle.rv_chain_laws.specs.Linking.{IsProgramOfObjectsFrom, AreBuilt}
 use Rattle.rv_chain_laws.specs.Listed.{IsListedAs}
@@ -21,12 +21,12 @@ pub record IsProgramFrom (texts : List (List ℕ)) (start : ℕ) (relax gc : Boo
 
 -- that program, or what it is without the details of its map; it is that of the objects of the
 -- texts, too
-pub record IsProgramWithFrom (texts : List (List ℕ)) (start : ℕ) (relax gc details : Bool)
+pub record IsProgramWithFrom (texts : List (List ℕ)) (start : ℕ) (relax gc with_map : Bool)
     (l : Linked) : Type 0 where
   pub whole : Linked
   pub program : IsProgramFrom texts start relax gc whole
   pub links : IsProgramOfObjectsFrom texts start relax gc whole
-  pub shown : l ≡ with_details details whole
+  pub shown : l ≡ map_where with_map whole
 
 -- the bytes of an executable with what `build` promises of them, for some text, which shows its map
 pub record IsExecutableOf (texts : List (List ℕ)) (start : ℕ) (relax gc : Bool)

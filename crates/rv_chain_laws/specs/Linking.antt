@@ -9,7 +9,7 @@ use Rattle.rv_image_laws.specs.FirstFault.{first_fault}
 use Rattle.rv_object_laws.specs.Object.{Object}
 use Rattle.rv_link_laws.specs.IsProgramOf.{IsProgramOf}
 use Rattle.rv_link_laws.specs.TextStart.{AreWithin}
-use Rattle.rv_link_laws.specs.Details.{IsProgramWith}
+use Rattle.rv_link_laws.specs.WithMap.{IsProgramWith}
 use Rattle.rv_chain_laws.specs.Objects.{AreObjectsFrom, AreObjectsIn}
 
 -- the bytes of the executable of the program of these objects, relaxed or not, and the text of its
@@ -37,9 +37,9 @@ IsLinkedAs files start relax gc executable =
 
 -- the program of the objects in files, with the names and the rows of its map or without
 abbrev pub IsProgramWithOf : List (List ℕ) → ℕ → Bool → Bool → Bool → Linked → Type 0
-IsProgramWithOf files start relax gc details l =
+IsProgramWithOf files start relax gc with_map l =
     AreWithin (length files) start
-    × ((os : List Object) × AreObjectsIn files os × IsProgramWith os start relax gc details l)
+    × ((os : List Object) × AreObjectsIn files os × IsProgramWith os start relax gc with_map l)
 
 -- the program of the objects of texts
 abbrev pub IsProgramOfObjectsFrom : List (List ℕ) → ℕ → Bool → Bool → Linked → Type 0

@@ -5,11 +5,11 @@ use Rattle.std.specs.Prelude.{◌==◌, filter, count_by, ⊤}
 use Rattle.std.specs.List.{list_all}
 use Rattle.std.proofs.lemmas.Bool.{leb-true, ltb-true, eqb-true, eq-eqb, ne_eqb, le-leb, and_parts, and_from, or_cases}
 use Rattle.rv_list_laws.proofs.TruthLemmas.{and_four_first}
-use Rattle.rv_layout_laws.specs.Sites.{padding_site, size_at}
+use Rattle.rv_size_laws.specs.Sites.{padding_site, size_at}
 use Rattle.rv_isa.specs.Kinds.{width_of}
 use Rattle.rv_isa_laws.specs.Bytes.{little_endian}
-use Rattle.rv_layout_laws.specs.declared.site.Site.{Site}
-use Rattle.rv_layout_laws.specs.Calls.{InOrder, bytes_of, is_call as is_call_site}
+use Rattle.rv_size_laws.specs.declared.site.Site.{Site}
+use Rattle.rv_size_laws.specs.Calls.{InOrder, bytes_of, is_call as is_call_site}
 use Rattle.rv_object_laws.specs.Object.{Contents, Progbits, Note, Nobits, Relocation, Section, Object, size_of, stored}
 use Rattle.rv_object_laws.specs.Valid.{fits_inside, fit_inside, is_align, padding_of, is_padding_of, is_padding, are_all_apart, are_paddings}
 use Rattle.rv_object_laws.proofs.ObjectLemmas.{padding_inside as padding_within}

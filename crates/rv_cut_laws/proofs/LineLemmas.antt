@@ -5,9 +5,9 @@ use Rattle.std.specs.Prelude.{◌==◌, ⊤}
 use Rattle.std.proofs.lemmas.List.{length-append, length-map, length-drop}
 use Rattle.std.proofs.Math.Seq.{take-append_seam, drop-append_seam}
 use Rattle.std.proofs.lemmas.Bool.{eq-eqb, ne_eqb, and_from, and_left, and_right}
-use Rattle.rv_layout_laws.specs.Sites.{padding_site, size_at}
-use Rattle.rv_layout_laws.specs.declared.site.Site.{Site}
-use Rattle.rv_layout_laws.specs.Calls.{InOrder}
+use Rattle.rv_size_laws.specs.Sites.{padding_site, size_at}
+use Rattle.rv_size_laws.specs.declared.site.Site.{Site}
+use Rattle.rv_size_laws.specs.Calls.{InOrder}
 use Rattle.rv_object_laws.specs.Object.{Relocation, Section, Object, size_of, stored}
 use Rattle.rv_link_laws.specs.Inputs.{InputSection, goes_to_text, begins_at}
 use Rattle.rv_link_laws.specs.CallSites.{changes, site_of, sites_from, sites_of, start_padding, base, base_in}

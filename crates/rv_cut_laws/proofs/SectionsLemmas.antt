@@ -4,13 +4,13 @@ use Rattle.std.proofs.Common.{◌≡◌, ℕ, suc, ◌+◌, ◌-◌, ◌%◌, �
 use Rattle.std.specs.Prelude.{◌==◌, filter}
 use Rattle.std.proofs.lemmas.Bool.{ltb-true, lt-ltb, le-ltb, and_parts, and_from, or_right, true≢false}
 use Rattle.rv_list_laws.proofs.TruthLemmas.{and_three}
-use Rattle.rv_layout_laws.specs.Sites.{size_at}
+use Rattle.rv_size_laws.specs.Sites.{size_at}
 use Rattle.rv_isa.specs.declared.kind.Kind.{Kind}
 use Rattle.rv_isa.specs.declared.kind.Kind.TheVariants as kinds
 use Rattle.rv_isa.specs.Kinds.{width_of}
 use Rattle.rv_isa_laws.specs.Bytes.{little_endian}
-use Rattle.rv_layout_laws.specs.declared.site.Site.{Site}
-use Rattle.rv_layout_laws.specs.Calls.{InOrder, is_call as is_call_site}
+use Rattle.rv_size_laws.specs.declared.site.Site.{Site}
+use Rattle.rv_size_laws.specs.Calls.{InOrder, is_call as is_call_site}
 use Rattle.rv_object_laws.specs.Object.{Relocation, Section, Object, size_of, stored}
 use Rattle.rv_link_laws.specs.Moves.{Move, new_offset, has_padding}
 use Rattle.rv_link_laws.specs.Inputs.{InputSection, goes_to_text}

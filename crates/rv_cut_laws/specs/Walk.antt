@@ -1,9 +1,9 @@
 -- What the sites of a text cut out of its sections, one section after another.
 
 use Rattle.std.specs.Prelude.{⊤, ℕ, suc, ◌+◌, ◌-◌, ◌&&◌, nat_lt, List, [], ◌∷◌, take, drop, if◌then◌else◌}
-use Rattle.rv_layout_laws.specs.declared.site.Site.{Site}
-use Rattle.rv_layout_laws.specs.Calls.{is_call}
-use Rattle.rv_layout_laws.specs.Sites.{site_end}
+use Rattle.rv_size_laws.specs.declared.site.Site.{Site}
+use Rattle.rv_size_laws.specs.Calls.{is_call}
+use Rattle.rv_size_laws.specs.Sites.{site_end}
 use Rattle.rv_object_laws.specs.Object.{Section, Object, size_of, stored}
 use Rattle.rv_link_laws.specs.Moves.{Move}
 use Rattle.rv_link_laws.specs.Inputs.{goes_to_text}

@@ -34,47 +34,47 @@ spell_end reader zero bytes none = refl
 spell_end reader (suc n) bytes none = absurd (omega (arith, none))
 
 -- the first of the rows that are left, and those after it
-rows_at : (reader : Reader Spells StandsFor) (ss : List Segment) (left : ℕ) (rows : List Row) (i : ℕ) (d : Row) → i < length rows →
-    rows_fit reader ss left (drop i rows) ≡ rows_fit reader ss left (get_or rows i d ∷ drop (i + 1) rows)
-rows_at reader ss left rows i d inside =
-    ap (rows_fit reader ss left) (drop-cons rows i d inside)
-    ∙ ap (λ n. rows_fit reader ss left (get_or rows i d ∷ drop n rows)) (let e : suc i ≡ i + 1 = omega arith in e)
+rows_at : (reader : Reader Spells StandsFor) (ss : List Segment) (remaining : ℕ) (rows : List Row) (i : ℕ) (d : Row) → i < length rows →
+    rows_fit reader ss remaining (drop i rows) ≡ rows_fit reader ss remaining (get_or rows i d ∷ drop (i + 1) rows)
+rows_at reader ss remaining rows i d inside =
+    ap (rows_fit reader ss remaining) (drop-cons rows i d inside)
+    ∙ ap (λ n. rows_fit reader ss remaining (get_or rows i d ∷ drop n rows)) (let e : suc i ≡ i + 1 = omega arith in e)
 
-first_row : (reader : Reader Spells StandsFor) (ss : List Segment) (left : ℕ) (row : Row) (rows : List Row) →
-    rows_fit reader ss left (row ∷ rows) ≡ (nat_le (claimed_bytes row) left && row_fits reader ss row && rows_fit reader ss (left - claimed_bytes row) rows)
+first_row : (reader : Reader Spells StandsFor) (ss : List Segment) (remaining : ℕ) (row : Row) (rows : List Row) →
+    rows_fit reader ss remaining (row ∷ rows) ≡ (nat_le (claimed_bytes row) remaining && row_fits reader ss row && rows_fit reader ss (remaining - claimed_bytes row) rows)
 unfolding rows_fit
-first_row reader ss left row rows = refl
+first_row reader ss remaining row rows = refl
 
-pub rows_over : (reader : Reader Spells StandsFor) (ss : List Segment) (rows : List Row) (i : ℕ) (d : Row) (left bytes : ℕ) → i < length rows → bytes ≡ claimed_bytes (get_or rows i d) → left < bytes →
-    false ≡ rows_fit reader ss left (drop i rows)
-rows_over reader ss rows i d left bytes inside is over =
+pub rows_over : (reader : Reader Spells StandsFor) (ss : List Segment) (rows : List Row) (i : ℕ) (d : Row) (remaining bytes : ℕ) → i < length rows → bytes ≡ claimed_bytes (get_or rows i d) → remaining < bytes →
+    false ≡ rows_fit reader ss remaining (drop i rows)
+rows_over reader ss rows i d remaining bytes inside is over =
     let row = get_or rows i d in
-    let others = rows_fit reader ss (left - claimed_bytes row) (drop (i + 1) rows) in
-    sym (rows_at reader ss left rows i d inside ∙ first_row reader ss left row (drop (i + 1) rows)
-    ∙ ap (λ b. b && row_fits reader ss row && others) (ap (λ n. nat_le n left) (sym is) ∙ le_false bytes left over))
+    let others = rows_fit reader ss (remaining - claimed_bytes row) (drop (i + 1) rows) in
+    sym (rows_at reader ss remaining rows i d inside ∙ first_row reader ss remaining row (drop (i + 1) rows)
+    ∙ ap (λ b. b && row_fits reader ss row && others) (ap (λ n. nat_le n remaining) (sym is) ∙ le_false bytes remaining over))
 
-pub rows_unfit : (reader : Reader Spells StandsFor) (ss : List Segment) (rows : List Row) (i : ℕ) (d : Row) (left bytes : ℕ) (fit : Bool) → i < length rows → bytes ≡ claimed_bytes (get_or rows i d) → bytes ≤ left →
-    fit ≡ row_fits reader ss (get_or rows i d) → fit ≡ false → false ≡ rows_fit reader ss left (drop i rows)
-rows_unfit reader ss rows i d left bytes fit inside is room same unfit =
+pub rows_unfit : (reader : Reader Spells StandsFor) (ss : List Segment) (rows : List Row) (i : ℕ) (d : Row) (remaining bytes : ℕ) (fit : Bool) → i < length rows → bytes ≡ claimed_bytes (get_or rows i d) → bytes ≤ remaining →
+    fit ≡ row_fits reader ss (get_or rows i d) → fit ≡ false → false ≡ rows_fit reader ss remaining (drop i rows)
+rows_unfit reader ss rows i d remaining bytes fit inside is room same unfit =
     let row = get_or rows i d in
-    let others = rows_fit reader ss (left - claimed_bytes row) (drop (i + 1) rows) in
-    sym (rows_at reader ss left rows i d inside ∙ first_row reader ss left row (drop (i + 1) rows)
-    ∙ ap (λ b. b && row_fits reader ss row && others) (ap (λ n. nat_le n left) (sym is) ∙ le_true bytes left room)
+    let others = rows_fit reader ss (remaining - claimed_bytes row) (drop (i + 1) rows) in
+    sym (rows_at reader ss remaining rows i d inside ∙ first_row reader ss remaining row (drop (i + 1) rows)
+    ∙ ap (λ b. b && row_fits reader ss row && others) (ap (λ n. nat_le n remaining) (sym is) ∙ le_true bytes remaining room)
     ∙ ap (λ b. b && others) (sym same ∙ unfit))
 
-pub rows_more : (reader : Reader Spells StandsFor) (ss : List Segment) (rows : List Row) (i : ℕ) (d : Row) (left bytes : ℕ) (fit : Bool) → i < length rows → bytes ≡ claimed_bytes (get_or rows i d) → bytes ≤ left →
-    fit ≡ row_fits reader ss (get_or rows i d) → fit ≡ true → rows_fit reader ss (left - bytes) (drop (i + 1) rows) ≡ rows_fit reader ss left (drop i rows)
-rows_more reader ss rows i d left bytes fit inside is room same fits =
+pub rows_more : (reader : Reader Spells StandsFor) (ss : List Segment) (rows : List Row) (i : ℕ) (d : Row) (remaining bytes : ℕ) (fit : Bool) → i < length rows → bytes ≡ claimed_bytes (get_or rows i d) → bytes ≤ remaining →
+    fit ≡ row_fits reader ss (get_or rows i d) → fit ≡ true → rows_fit reader ss (remaining - bytes) (drop (i + 1) rows) ≡ rows_fit reader ss remaining (drop i rows)
+rows_more reader ss rows i d remaining bytes fit inside is room same fits =
     let row = get_or rows i d in
-    let others = rows_fit reader ss (left - claimed_bytes row) (drop (i + 1) rows) in
-    ap (λ n. rows_fit reader ss (left - n) (drop (i + 1) rows)) is
-    ∙ sym (rows_at reader ss left rows i d inside ∙ first_row reader ss left row (drop (i + 1) rows)
-    ∙ ap (λ b. b && row_fits reader ss row && others) (ap (λ n. nat_le n left) (sym is) ∙ le_true bytes left room)
+    let others = rows_fit reader ss (remaining - claimed_bytes row) (drop (i + 1) rows) in
+    ap (λ n. rows_fit reader ss (remaining - n) (drop (i + 1) rows)) is
+    ∙ sym (rows_at reader ss remaining rows i d inside ∙ first_row reader ss remaining row (drop (i + 1) rows)
+    ∙ ap (λ b. b && row_fits reader ss row && others) (ap (λ n. nat_le n remaining) (sym is) ∙ le_true bytes remaining room)
     ∙ ap (λ b. b && others) (sym same ∙ fits))
 
-no_rows : (reader : Reader Spells StandsFor) (ss : List Segment) (left : ℕ) → true ≡ rows_fit reader ss left []
+no_rows : (reader : Reader Spells StandsFor) (ss : List Segment) (remaining : ℕ) → true ≡ rows_fit reader ss remaining []
 unfolding rows_fit
-no_rows reader ss left = refl
+no_rows reader ss remaining = refl
 
-pub rows_end : (reader : Reader Spells StandsFor) (ss : List Segment) (rows : List Row) (i left : ℕ) → length rows ≤ i → true ≡ rows_fit reader ss left (drop i rows)
-rows_end reader ss rows i left ended = no_rows reader ss left ∙ ap (rows_fit reader ss left) (sym (drop_all i rows ended))
+pub rows_end : (reader : Reader Spells StandsFor) (ss : List Segment) (rows : List Row) (i remaining : ℕ) → length rows ≤ i → true ≡ rows_fit reader ss remaining (drop i rows)
+rows_end reader ss rows i remaining ended = no_rows reader ss remaining ∙ ap (rows_fit reader ss remaining) (sym (drop_all i rows ended))

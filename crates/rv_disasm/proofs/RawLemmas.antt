@@ -43,14 +43,14 @@ left_of (c ∷ cs) [] rest all sourced e = absurd (not_ended c (flat_map raw_byt
 left_of (c ∷ cs) (d ∷ ds) rest (s, all) (t, sourced) e =
     let front : raw_bytes c ++ (flat_map raw_bytes cs ++ rest) ≡ raw_bytes d ++ flat_map raw_bytes ds = sym (append_assoc (raw_bytes c) (flat_map raw_bytes cs) rest) ∙ e in
     let same : c ≡ d = one_code (raw_bytes d ++ flat_map raw_bytes ds) (flat_map raw_bytes cs ++ rest) (flat_map raw_bytes ds) c d s t (sym front) refl in
-    let left = left_of cs ds rest all sourced (same_rest c d (flat_map raw_bytes cs ++ rest) (flat_map raw_bytes ds) same front) in
-    (left.0, left.1, ap (λ k. k ∷ ds) (sym same) ∙ ap (λ l. c ∷ l) left.2)
+    let remaining = left_of cs ds rest all sourced (same_rest c d (flat_map raw_bytes cs ++ rest) (flat_map raw_bytes ds) same front) in
+    (remaining.0, remaining.1, ap (λ k. k ∷ ds) (sym same) ∙ ap (λ l. c ∷ l) remaining.2)
 
 -- bytes are those of one list of instructions
 one_list : (bytes : List ℕ) (cs ds : List Code) → AreCodes bytes cs → AreCodes bytes ds → ds ≡ cs
 one_list bytes cs ds a b =
-    let left = left_of cs ds [] a.sourced b.sourced (append-nil (flat_map raw_bytes cs) ∙ sym a.same ∙ b.same) in
-    go left.0 left.1 left.2
+    let remaining = left_of cs ds [] a.sourced b.sourced (append-nil (flat_map raw_bytes cs) ∙ sym a.same ∙ b.same) in
+    go remaining.0 remaining.1 remaining.2
   where
     go : (es : List Code) → AreCodes [] es → ds ≡ cs ++ es → ds ≡ cs
     go [] none e = e ∙ append-nil cs
@@ -93,8 +93,8 @@ begun_more bytes rest old now new offset count c is found counted added so_far =
 pub begun_none : (bytes rest old now : List ℕ) (offset : ℕ) → rest ≡ drop offset bytes → offset < length bytes → IsFront None rest → IsBegun bytes (drop offset bytes) old now →
     (ds : List Code) → AreCodes bytes ds → ⊥
 begun_none bytes rest old now offset is within found so_far ds codes =
-    let left = left_of so_far.cs ds (drop offset bytes) so_far.sourced codes.sourced (sym so_far.same ∙ codes.same) in
-    go left.0 left.1
+    let remaining = left_of so_far.cs ds (drop offset bytes) so_far.sourced codes.sourced (sym so_far.same ∙ codes.same) in
+    go remaining.0 remaining.1
   where
     go : (es : List Code) → AreCodes (drop offset bytes) es → ⊥
     go [] none = let long = sym (length-drop offset bytes) ∙ ap length none.same in absurd (omega (arith, long, within))

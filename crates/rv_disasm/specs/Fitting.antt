@@ -58,11 +58,11 @@ abbrev pub claimed_bytes : Row → ℕ
 claimed_bytes row = if row.instructions == 0 then 0 else row.bytes
 
 -- each row fits, and rows claim no more bytes for code than are left
-unfoldable pub rows_fit : Reader Spells StandsFor → List Segment → (left : ℕ) → List Row → Bool
-rows_fit reader ss left [] = true
-rows_fit reader ss left (row ∷ rows) =
-    nat_le (claimed_bytes row) left && row_fits reader ss row
-    && rows_fit reader ss (left - claimed_bytes row) rows
+unfoldable pub rows_fit : Reader Spells StandsFor → List Segment → (remaining : ℕ) → List Row → Bool
+rows_fit reader ss remaining [] = true
+rows_fit reader ss remaining (row ∷ rows) =
+    nat_le (claimed_bytes row) remaining && row_fits reader ss row
+    && rows_fit reader ss (remaining - claimed_bytes row) rows
 
 abbrev pub fits : Reader Spells StandsFor → Map → Image → Bool
 fits reader m image =

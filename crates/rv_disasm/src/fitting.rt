@@ -84,16 +84,16 @@ fn rows_fit(rows: &[Row], segments: &[Segment], room: u64) -> bool
     ensures { (reader : Reader Spells StandsFor) →
         result ≡ fitting.rows_fit reader (map segment_of segments.now) room rows.now }
 {
-    let mut left = room;
+    let mut remaining = room;
     for row in rows {
         let bytes = claimed_bytes(row);
-        if bytes > left {
+        if bytes > remaining {
             return false;
         }
         if !row_fits(row, segments) {
             return false;
         }
-        left -= bytes;
+        remaining -= bytes;
     }
     true
 }
@@ -118,12 +118,12 @@ fn spell(bytes: &[u8], count: u64) -> bool
     ensures { (reader : Reader Spells StandsFor) → result ≡ fitting.spell reader count bytes.now }
 {
     let mut rest = bytes;
-    let mut left = count;
-    while left > 0 {
+    let mut remaining = count;
+    while remaining > 0 {
         match next_inst(rest) {
             Some((_, length)) => {
                 rest = &rest[length..];
-                left -= 1;
+                remaining -= 1;
             }
             None => return false,
         }

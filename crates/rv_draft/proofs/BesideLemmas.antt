@@ -4,7 +4,7 @@ use Rattle.std.proofs.Common.{◌≡◌, ℕ, ◌^◌, ◌≤◌, Bool, true, fa
 use Rattle.std.specs.Prelude.{if◌then◌else◌, nat_lt, nat_le, ◌&&◌}
 use Rattle.std.proofs.lemmas.Bool.{ltb-true, leb-true, and_parts}
 use Rattle.rv_list_laws.proofs.NumbersLemmas.{low_power}
-use Rattle.rv_text_laws.specs.Values.{Value, Constant, Symbolic, Difference, Faulty}
+use Rattle.rv_expression_laws.specs.Values.{Value, Constant, Symbolic, Difference, Faulty}
 use Rattle.rv_unit_laws.specs.Tables.{is_power, greatest_alignment, or_none, power_alignment, byte_alignment}
 
 pub low_if : (b : Bool) (n : ℕ) → (b ≡ true → n ≤ 4096) → or_none (if b then Some n else None) ≤ 4096

@@ -6,7 +6,7 @@ use Rattle.std.specs.Prelude.{flat_map, slice_index_or, not, ◌&&◌, if◌then
 use Rattle.std.proofs.lemmas.Bool.{eqb-true, eq-eqb}
 use Rattle.rv_list_laws.proofs.ElementsLemmas.{first_same}
 use Rattle.rv_list_laws.proofs.TakeDropLemmas.{drop_zero}
-use Rattle.rv_text_laws.specs.Values.{Value}
+use Rattle.rv_expression_laws.specs.Values.{Value}
 use Rattle.rv_statement_laws.specs.Statement.{StatementKind, Label, Numbered, Instruction, Directs, Expression, Statement}
 use Rattle.rv_unit_laws.specs.Sections.{Section, is_nobits}
 use Rattle.rv_unit_laws.specs.Tables.{Tables, SectionOffset as Standing, at_start, after, after_all, tables, stood, value_by_tables, alignments_of, longest_section}

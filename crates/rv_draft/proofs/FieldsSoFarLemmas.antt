@@ -4,7 +4,7 @@ use Rattle.std.proofs.Common.{append_assoc, append-nil, ◌≡◌, ℕ, ◌+◌,
 use Rattle.std.proofs.lemmas.List.{at_drop_all, length-replicate}
 use Rattle.std.specs.Prelude.{flat_map, if◌then◌else◌}
 use Rattle.rv_isa_laws.proofs.BytesLemmas.{little_long}
-use Rattle.rv_text_laws.specs.Values.{Value, Constant, Symbolic, Difference, Faulty}
+use Rattle.rv_expression_laws.specs.Values.{Value, Constant, Symbolic, Difference, Faulty}
 use Rattle.rv_statement_laws.specs.Statement.{Expression}
 use Rattle.rv_assemble_laws.specs.Templates.{Datum, value_bytes, value_fields}
 use Rattle.rv_assemble_laws.specs.LaidStatements.{LaidPart, laid_part, part_bytes}

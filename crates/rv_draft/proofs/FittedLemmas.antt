@@ -8,13 +8,13 @@ use Rattle.std.proofs.lemmas.Bool.{leb-true, both_ways}
 use Rattle.rv_list_laws.proofs.ElementsLemmas.{append_none_parts}
 use Rattle.rv_isa_laws.specs.Bytes.{zeros}
 use Rattle.rv_parcel.specs.declared.form.Compressed.{Compressed}
-use Rattle.rv_text_laws.specs.Values.{Value, Constant, Symbolic, Difference, Faulty}
+use Rattle.rv_expression_laws.specs.Values.{Value, Constant, Symbolic, Difference, Faulty}
 use Rattle.rv_statement_laws.specs.declared.mnemonic.Mnemonic.{Mnemonic}
 use Rattle.rv_statement_laws.specs.Statement.{StatementKind, Label, Numbered, Instruction, Directs, Statement, Operand, Expression, Directive, Enters, Sets, Values, Strings, Zeros, As_power, As_bytes, Aligns, Emits}
 use Rattle.rv_unit_laws.specs.Contributions.{contribution}
 use Rattle.rv_unit_laws.specs.Sections.{Section, is_nobits, section_at, current_section}
 use Rattle.rv_unit_laws.specs.Tables.{Tables, SectionOffset, at_start, here, value_by_tables, power_alignment, byte_alignment, alignment_of, padding, string_bytes, after, tables, stood, opened_of, alignments_of}
-use Rattle.rv_text_laws.specs.Codes.{faulty_if}
+use Rattle.rv_expression_laws.specs.Codes.{faulty_if}
 use Rattle.rv_unit_laws.specs.Faults.{value_faults, power_faults, bytes_faults, code_alignment_faults, alignment_faults, past_section, directive_faults, faults, first_unit_fault}
 use Rattle.rv_unit_laws.proofs.OpenedLemmas.{after_opened}
 use Rattle.rv_unit.proofs.ConstantsLemmas.{constant_whole}

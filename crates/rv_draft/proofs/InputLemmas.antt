@@ -9,13 +9,13 @@ use Rattle.rv_list_laws.proofs.NumbersLemmas.{eq_below}
 use Rattle.std.proofs.lemmas.Option.{slice_get_within}
 use Rattle.rv_list_laws.proofs.ElementsLemmas.{get_some}
 use Rattle.rv_list_laws.proofs.EachLemmas.{get_each}
-use Rattle.rv_text_laws.specs.Values.{Value, Symbolic}
-use Rattle.rv_text_laws.specs.Values as values
+use Rattle.rv_expression_laws.specs.Values.{Value, Symbolic}
+use Rattle.rv_expression_laws.specs.Values as values
 use Rattle.rv_statement_laws.specs.Statement.{Statement, StatementKind, Label, Numbered, Instruction, Directs, Expression, Operand}
-use Rattle.rv_layout_laws.specs.declared.item.Forms.{Forms}
-use Rattle.rv_layout_laws.specs.declared.item.Forms.TheVariants.{Settled, CompressedBranch, Branch, CompressedJump}
-use Rattle.rv_layout_laws.specs.declared.item.Item.{Item}
-use Rattle.rv_layout_laws.specs.Branches.{is_branch, item_at}
+use Rattle.rv_size_laws.specs.declared.item.Forms.{Forms}
+use Rattle.rv_size_laws.specs.declared.item.Forms.TheVariants.{Settled, CompressedBranch, Branch, CompressedJump}
+use Rattle.rv_size_laws.specs.declared.item.Item.{Item}
+use Rattle.rv_size_laws.specs.Branches.{is_branch, item_at}
 use Rattle.rv_sizes.specs.Passes.{IsInput, TargetsItsSection}
 use Rattle.rv_unit_laws.specs.Sections.{Section, text_section}
 use Rattle.rv_unit_laws.specs.Tables.{Tables, Definition, sure_definition, at_start, after, tables, opened_of, value_by_tables}

@@ -5,8 +5,8 @@ use Rattle.std.specs.Prelude.{if◌then◌else◌}
 use Rattle.std.specs.List.{AllByRecursion, find}
 use Rattle.std.proofs.lemmas.Bool.{eq-eqb}
 use Rattle.rv_list_laws.proofs.NumbersLemmas.{eq_below}
-use Rattle.rv_text_laws.specs.Expression.{Literal, Symbol, Here, Reference}
-use Rattle.rv_text_laws.specs.Values.{Known, InSection, Open, Refused, Value, Constant, Symbolic, Difference, Faulty}
+use Rattle.rv_expression_laws.specs.Expression.{Literal, Symbol, Here, Reference}
+use Rattle.rv_expression_laws.specs.Values.{Known, InSection, Open, Refused, Value, Constant, Symbolic, Difference, Faulty}
 use Rattle.rv_statement_laws.specs.Statement.{StatementKind, Label, Numbered, Instruction, Directs, Statement, Expression, Directive, Sets}
 use Rattle.rv_unit_laws.specs.Contributions.{Contribution, Nothing, contribution}
 use Rattle.rv_unit_laws.specs.Sections.{Section, Opened, section_at, current_section, entered_by}

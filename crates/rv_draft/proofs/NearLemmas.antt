@@ -6,9 +6,9 @@ use Rattle.rv_statement_laws.specs.declared.mnemonic.Mnemonic.{Mnemonic}
 use Rattle.rv_statement_laws.specs.declared.mnemonic.Mnemonic.TheVariants.{Branch, Jal, J, ZeroBranch, SwappedBranch, Call, Tail, Jump}
 use Rattle.rv_statement_laws.specs.declared.pseudo.ZeroBranchOperation.TheVariants.{Beqz, Bnez}
 use Rattle.rv_statement_laws.specs.Statement.{StatementKind, Label, Numbered, Instruction, Directs, Operand, Register, Target}
-use Rattle.rv_layout_laws.specs.declared.item.Forms.{Forms}
-use Rattle.rv_layout_laws.specs.declared.item.Forms.TheVariants.{Settled, CompressedBranch, Branch as FullBranch, CompressedJump}
-use Rattle.rv_layout_laws.specs.Branches.{Offers}
+use Rattle.rv_size_laws.specs.declared.item.Forms.{Forms}
+use Rattle.rv_size_laws.specs.declared.item.Forms.TheVariants.{Settled, CompressedBranch, Branch as FullBranch, CompressedJump}
+use Rattle.rv_size_laws.specs.Branches.{Offers}
 use Rattle.rv_source_laws.specs.Sizes.{branch_forms, jump_forms, is_short_branch, is_short_register, near_forms}
 use Rattle.rv_instruction.specs.Code.{near_forms_of, OffersAny, MayHave}
 

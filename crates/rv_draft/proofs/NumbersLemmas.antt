@@ -2,7 +2,7 @@
 
 use Rattle.std.proofs.Common.{◌≡◌, ℕ, Bool, true, false, List, [], ◌++◌, sym, ap, ◌∙◌, append-nil}
 use Rattle.std.specs.Prelude.{if◌then◌else◌}
-use Rattle.rv_text_laws.specs.Values.{Value, Constant}
+use Rattle.rv_expression_laws.specs.Values.{Value, Constant}
 use Rattle.rv_assemble_laws.specs.Fields.{Field}
 use Rattle.rv_draft.specs.declared.data.Spot.{Spot}
 use Rattle.rv_draft.specs.Spots.{own_fields}

@@ -7,8 +7,8 @@ use Rattle.rv_list_laws.proofs.EachLemmas.{each_dropped}
 use Rattle.rv_list_laws.proofs.ElementsLemmas.{index_or_get}
 use Rattle.rv_list_laws.proofs.TakeDropLemmas.{drop_zero, drop_inside}
 use Rattle.rv_statement_laws.specs.Statement.{StatementKind, Label, Numbered, Instruction, Directs, Statement, Expression, Directive, Sets, Aligns, Emits}
-use Rattle.rv_text_laws.specs.Values.{Value}
-use Rattle.rv_text_laws.specs.Codes.{limit}
+use Rattle.rv_expression_laws.specs.Values.{Value}
+use Rattle.rv_expression_laws.specs.Codes.{limit}
 use Rattle.rv_unit_laws.specs.Sections.{Section, Opened, text_section, section_at, current_section}
 use Rattle.rv_unit_laws.specs.Tables.{Tables, SectionOffset, at_start, here, value_by_tables, alignment_of, stood, after, after_all, tables, longest_section, opened_of, ends_of, alignments_of}
 use Rattle.rv_unit_laws.specs.Faults.{first_unit_fault}

@@ -6,12 +6,12 @@ use Rattle.std.proofs.lemmas.Bool.{not-false, or_parts, both_ways}
 use Rattle.std.proofs.lemmas.Nat.{le-div}
 use Rattle.std.specs.Prelude.{IfErr, Result, Ok, Err, not, flat_map, slice_index_or, if◌then◌else◌}
 use Rattle.rv_list_laws.proofs.ElementsLemmas.{append_none_parts}
-use Rattle.rv_layout_laws.specs.Alignment.{aligned}
-use Rattle.rv_text_laws.specs.Values.{Value, Constant, Symbolic, Difference, Faulty}
+use Rattle.rv_size_laws.specs.Alignment.{aligned}
+use Rattle.rv_expression_laws.specs.Values.{Value, Constant, Symbolic, Difference, Faulty}
 use Rattle.rv_statement_laws.specs.Statement.{StatementKind, Label, Numbered, Instruction, Directs, Expression, Directive, Sets, Values, Strings, Zeros, As_power, As_bytes, Aligns, Emits}
 use Rattle.rv_unit_laws.specs.Sections.{Section, is_nobits, current_section}
 use Rattle.rv_unit_laws.specs.Tables.{Tables, here, value_by_tables, alignment_of, power_alignment, byte_alignment, counted, or_none, within, padding, data_bytes, string_bytes, longest_section, after, opened_of, ends_of}
-use Rattle.rv_text_laws.specs.Codes.{faulty_if}
+use Rattle.rv_expression_laws.specs.Codes.{faulty_if}
 use Rattle.rv_unit_laws.specs.Faults.{size_faults, power_faults, bytes_faults, value_faults, code_alignment_faults, past_section, alignment_faults, data_faults, directive_faults, faults}
 use Rattle.rv_unit_laws.proofs.GrownLemmas.{BeginsAt, puts, end_behind}
 use Rattle.rv_unit_laws.proofs.TablesLemmas.{within_fits}

@@ -6,8 +6,8 @@ use Rattle.rv_isa.specs.declared.instruction.Inst.{Inst}
 use Rattle.rv_isa.specs.Kinds.{width_of}
 use Rattle.rv_parcel.specs.declared.form.Compressed.{Compressed}
 use Rattle.rv_parcel.specs.Encoded.{IsEncodedIn}
-use Rattle.rv_text_laws.specs.Values.{Value}
-use Rattle.rv_text_laws.specs.Expression.{Primary}
+use Rattle.rv_expression_laws.specs.Values.{Value}
+use Rattle.rv_expression_laws.specs.Expression.{Primary}
 use Rattle.rv_fault.specs.declared.source_fault.SourceFault.{SourceFault}
 use Rattle.rv_fault.specs.declared.source_fault.SourceFault.TheVariants.{At, OutOfMemory}
 use Rattle.rv_fault.specs.SourceFault.{source_fault_number}
@@ -15,7 +15,7 @@ use Rattle.rv_statement_laws.specs.declared.mnemonic.Mnemonic.{Mnemonic}
 use Rattle.rv_statement_laws.specs.Statement.{StatementKind, Label, Numbered, Instruction, Directs, Statement, Expression, Operand}
 use Rattle.rv_pseudo_laws.specs.Code.{Part, Closed, Open, Joined, named_form, code}
 use Rattle.rv_pseudo_laws.specs.Filled.{are_closed}
-use Rattle.rv_text_laws.specs.Codes.{lowest}
+use Rattle.rv_expression_laws.specs.Codes.{lowest}
 use Rattle.rv_source_laws.specs.Sizes.{near_forms}
 use Rattle.rv_assemble_laws.specs.Coded.{IsCodedPart, AreCodedParts, constants, joined}
 use Rattle.rv_assemble_laws.specs.InstructionFaults.{instruction_faults}

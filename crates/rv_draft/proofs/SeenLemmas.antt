@@ -3,13 +3,13 @@
 use Rattle.std.proofs.Common.{◌≡◌, ℕ, zero, suc, ◌+◌, ◌-◌, ◌*◌, ◌<◌, ◌≤◌, ◌==◌, Bool, true, false, List, [], ◌∷◌, ◌++◌, length, map, take, drop, Option, Some, None, option_map, refl, sym, ap, ◌∙◌, subst, arith, eqb-true, eq-eqb, inr}
 use Rattle.std.specs.Prelude.{slice_get, slice_index, if◌then◌else◌}
 use Rattle.std.specs.List.{find}
-use Rattle.rv_text_laws.specs.Values.{Value, Symbolic}
-use Rattle.rv_text_laws.specs.Values as values
+use Rattle.rv_expression_laws.specs.Values.{Value, Symbolic}
+use Rattle.rv_expression_laws.specs.Values as values
 use Rattle.rv_statement_laws.specs.Statement.{Statement, StatementKind, Label, Numbered, Instruction, Directs, Expression, Operand}
-use Rattle.rv_layout_laws.specs.declared.item.Forms.{Forms}
-use Rattle.rv_layout_laws.specs.declared.item.Forms.TheVariants.{Settled, CompressedBranch, Branch, CompressedJump}
-use Rattle.rv_layout_laws.specs.declared.item.Item.{Item}
-use Rattle.rv_layout_laws.specs.Branches.{branches, IsLeastGood, Offers, item_at}
+use Rattle.rv_size_laws.specs.declared.item.Forms.{Forms}
+use Rattle.rv_size_laws.specs.declared.item.Forms.TheVariants.{Settled, CompressedBranch, Branch, CompressedJump}
+use Rattle.rv_size_laws.specs.declared.item.Item.{Item}
+use Rattle.rv_size_laws.specs.Branches.{branches, IsLeastGood, Offers, item_at}
 use Rattle.rv_unit_laws.specs.Tables.{Tables, SectionOffset as Standing, Definition, sure_definition, at_start, after, places_from, tables, value_by_tables}
 use Rattle.rv_unit.specs.declared.unit.Unit.{Unit as SourceUnit}
 use Rattle.rv_unit.specs.Unit.{said, IsFilled}

@@ -3,9 +3,9 @@
 use Rattle.std.proofs.Common.{◌≡◌, ℕ, ◌+◌, ◌==◌, nat_lt, Bool, true, false, List, [], ◌∷◌, ◌++◌, length, Option, Some, None, if◌then◌else◌, refl, sym, ap, ◌∙◌, subst, append-nil, zero, suc, append_assoc, length-append, arith}
 use Rattle.std.specs.Global.{Vec}
 use Rattle.rv_list_laws.proofs.NumbersLemmas.{eq_self}
-use Rattle.rv_text_laws.specs.Codes.{limit, lowest}
+use Rattle.rv_expression_laws.specs.Codes.{limit, lowest}
 use Rattle.rv_statement_laws.specs.Statement.{StatementKind, Label, Numbered, Instruction, Directs, Expression}
-use Rattle.rv_text_laws.specs.Values.{Value}
+use Rattle.rv_expression_laws.specs.Values.{Value}
 use Rattle.rv_unit_laws.specs.Faults.{StatementFault, at_line}
 use Rattle.rv_unit_laws.specs.Tables.{Tables, longest_section}
 use Rattle.rv_source_laws.specs.Located.{Located}

@@ -1,7 +1,7 @@
 -- The size of an item is that of its stretch of the section.
 
 use Rattle.std.proofs.Common.{◌≡◌, ℕ, Bool, true, false, Option}
-use Rattle.rv_text_laws.specs.Values.{Value}
+use Rattle.rv_expression_laws.specs.Values.{Value}
 use Rattle.rv_statement_laws.specs.Statement.{StatementKind, Label, Numbered, Instruction, Directs, Expression, Directive, Enters, Opens, Binds, Sets, Chooses, Ignored, Aligns, Emits}
 use Rattle.rv_unit_laws.specs.Tables.{alignment_of}
 use Rattle.rv_draft.specs.declared.item.CodeSize.{CodeSize}

@@ -5,12 +5,12 @@ use Rattle.std.specs.Prelude.{slice_index, is_some}
 use Rattle.std.proofs.lemmas.List.{map-append}
 use Rattle.rv_list_laws.proofs.ElementsLemmas.{first_same}
 use Rattle.rv_instruction.specs.Code.{near_forms_of}
-use Rattle.rv_text_laws.specs.Values.{Value}
+use Rattle.rv_expression_laws.specs.Values.{Value}
 use Rattle.rv_fault.specs.declared.source_fault.SourceFault.{SourceFault}
 use Rattle.rv_fault.specs.declared.source_fault.SourceFault.TheVariants.{At, OutOfMemory}
 use Rattle.rv_fault.specs.SourceFault.{source_fault_number}
 use Rattle.rv_statement_laws.specs.Statement.{Expression, Statement}
-use Rattle.rv_text_laws.specs.Codes.{lowest}
+use Rattle.rv_expression_laws.specs.Codes.{lowest}
 use Rattle.rv_unit_laws.specs.Faults.{StatementFault}
 use Rattle.rv_unit_laws.specs.Tables.{Tables, SectionOffset as Standing, at_start, tables, value_by_tables, stood}
 use Rattle.rv_unit.specs.declared.section_offset.SectionOffset.{SectionOffset}

@@ -21,8 +21,8 @@ use Rattle.rv_statement_laws.specs.Statement.{StatementKind, Instruction, Operan
 use Rattle.rv_statement.specs.declared.statement.StatementKind.{StatementKind as SourceKind}
 use Rattle.rv_statement.specs.declared.statement.StatementKind.TheVariants as kinds
 use Rattle.rv_statement.specs.View.{plain_of, statement_kind}
-use Rattle.rv_layout_laws.specs.declared.item.Forms.{Forms}
-use Rattle.rv_layout_laws.specs.declared.item.Forms.TheVariants.{Settled, Branch as FullBranch}
+use Rattle.rv_size_laws.specs.declared.item.Forms.{Forms}
+use Rattle.rv_size_laws.specs.declared.item.Forms.TheVariants.{Settled, Branch as FullBranch}
 use Rattle.rv_parse_laws.specs.Syntax.{with_constant}
 use Rattle.rv_pseudo_laws.specs.Code.{Part, Closed, Open, Joined, Constants, code, signed_12, upper_20, constant_number, by_number, by_part, by_amount, by_constant, i_type, s_type, u_type, shift_by, jal, jalr, named_form}
 use Rattle.rv_pseudo_laws.specs.Filled.{are_closed}

@@ -2,12 +2,12 @@
 
 use Rattle.std.specs.Prelude.{◌≡◌, ◌⊎◌, ℕ, Bool, List, [], ◌∷◌, ◌++◌, length, Result, Ok, Err, Some, None, is_some, true, ⊤}
 use Rattle.std.specs.Global.{Vec}
-use Rattle.rv_text_laws.specs.Values as values
+use Rattle.rv_expression_laws.specs.Values as values
 use Rattle.rv_fault.specs.declared.source_fault.SourceFault.{SourceFault}
 use Rattle.rv_fault.specs.declared.source_fault.SourceFault.TheVariants.{At, OutOfMemory}
 use Rattle.rv_fault.specs.SourceFault.{source_fault_number}
 use Rattle.rv_statement_laws.specs.Statement.{Expression, Statement}
-use Rattle.rv_text_laws.specs.Codes.{lowest}
+use Rattle.rv_expression_laws.specs.Codes.{lowest}
 use Rattle.rv_unit_laws.specs.Faults.{StatementFault}
 use Rattle.rv_unit_laws.specs.Tables.{Tables, tables}
 use Rattle.rv_source_laws.specs.Located.{Located, located}

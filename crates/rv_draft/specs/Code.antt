@@ -2,7 +2,7 @@
 
 use Rattle.std.specs.Prelude.{◌≡◌, ℕ, ◌+◌, ◌==◌, List, [], ◌∷◌, ◌++◌, map, Option, Some, None, length, nat_lt, slice_get, if◌then◌else◌}
 use Rattle.std.specs.Global.{Vec}
-use Rattle.rv_text_laws.specs.Codes.{limit}
+use Rattle.rv_expression_laws.specs.Codes.{limit}
 use Rattle.rv_unit_laws.specs.Faults.{StatementFault, at_line}
 use Rattle.rv_unit_laws.specs.Tables.{Tables, longest_section}
 use Rattle.rv_object_laws.specs.Padding.{no_operations, operations_in}

@@ -1,7 +1,7 @@
 -- What a statement holds: its code, the padding of an alignment in code, or data.
 
 use Rattle.std.specs.Prelude.{◌≡◌, ℕ, Bool, true, false, List, map, Some, slice_get, slice_index_or, if◌then◌else◌}
-use Rattle.rv_text_laws.specs.Values.{Value}
+use Rattle.rv_expression_laws.specs.Values.{Value}
 use Rattle.rv_statement_laws.specs.Statement.{StatementKind, Directs, Expression}
 use Rattle.rv_statement.specs.declared.statement.StatementKind.{StatementKind as SourceKind}
 use Rattle.rv_statement.specs.declared.statement.StatementKind.TheVariants.{Plain, With, WithFunction}

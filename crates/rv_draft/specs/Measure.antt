@@ -1,7 +1,7 @@
 -- How many bytes each statement of a source has, and what sizes of branches see of it.
 
 use Rattle.std.specs.Prelude.{◌≡◌, ℕ, ◌+◌, Bool, true, false, ⊤, List, [], ◌∷◌, length, None}
-use Rattle.rv_text_laws.specs.Values.{Value}
+use Rattle.rv_expression_laws.specs.Values.{Value}
 use Rattle.rv_statement_laws.specs.Statement.{StatementKind, Statement, Expression}
 use Rattle.rv_statement.specs.View.{with_expression, with_function}
 use Rattle.rv_statement_laws.specs.declared.pseudo.Function.{Function}
@@ -9,7 +9,7 @@ use Rattle.rv_statement.specs.declared.statement.Operation.{Operation}
 use Rattle.rv_statement.specs.declared.statement.Operation.TheVariants as operations
 use Rattle.rv_statement.specs.declared.statement.Plain.{Plain}
 use Rattle.rv_statement.specs.declared.statement.Plain.TheVariants.{Unary, Parcel}
-use Rattle.rv_layout_laws.specs.declared.item.Item.{Item}
+use Rattle.rv_size_laws.specs.declared.item.Item.{Item}
 use Rattle.rv_unit_laws.specs.Tables.{Tables, at_start, tables}
 use Rattle.rv_unit.specs.declared.section_offset.SectionOffset.{SectionOffset}
 use Rattle.rv_unit.specs.declared.scope.Scope.{Scope}

@@ -1,7 +1,7 @@
 -- How many bytes one statement has, after others of its section.
 
 use Rattle.std.specs.Prelude.{◌≡◌, ℕ, ◌+◌, ◌*◌, ◌≤◌, Bool, true, false, ⊤, length, Option}
-use Rattle.rv_text_laws.specs.Values.{Value, Constant}
+use Rattle.rv_expression_laws.specs.Values.{Value, Constant}
 use Rattle.rv_statement_laws.specs.Statement.{StatementKind, Label, Numbered, Instruction, Directs, Expression, Directive, Data, Values, Strings, Zeros, Aligns, Emits}
 use Rattle.rv_unit_laws.specs.Tables.{alignment_of, padding, string_bytes, longest_section}
 use Rattle.rv_unit.specs.declared.section.Extent.{Extent}

@@ -1,7 +1,7 @@
 -- The sizes of statements as their items have them, by the values of their expressions.
 
 use Rattle.std.specs.Prelude.{◌≡◌, ℕ, suc, Bool, true, false, ⊤, List, [], ◌∷◌, Option}
-use Rattle.rv_text_laws.specs.Values.{Value}
+use Rattle.rv_expression_laws.specs.Values.{Value}
 use Rattle.rv_statement_laws.specs.Statement.{StatementKind, Label, Numbered, Instruction, Directs, Statement, Expression, Directive, Sets, Aligns, Emits}
 use Rattle.rv_unit_laws.specs.Tables.{Tables, after, alignment_of, padding, HasDataSize, alignment_at}
 use Rattle.rv_source_laws.specs.Located.{located_now}

@@ -5,8 +5,8 @@
 
 ghost use Rattle.std.specs.Prelude.{◌≡◌, ◌≤◌, ◌^◌};
 ghost use Rattle.rv_statement.specs.View.{statement_kind};
-ghost use Rattle.rv_text.specs.Eval.{IsOutcome};
-ghost use Rattle.rv_text_laws.specs.Values as values;
+ghost use Rattle.rv_expression.specs.Eval.{IsOutcome};
+ghost use Rattle.rv_expression_laws.specs.Values as values;
 ghost use Rattle.rv_unit_laws.specs.Tables as tables;
 ghost use Rattle.rv_unit_laws.specs.Tables.{or_none};
 ghost use Rattle.rv_source_laws.specs.Sizes as sizes;
@@ -14,7 +14,7 @@ ghost use Rattle.rv_instruction.specs.Scoped.{values_at, AtNext};
 ghost use Rattle.rv_draft.specs.Contents as laws;
 
 use rv_statement::{Statement, StatementKind};
-use rv_text::{SourceFault, Value};
+use rv_expression::{SourceFault, Value};
 use rv_unit::{
     LONGEST_SECTION, Scope, SectionOffset, byte_alignment, padding, power_alignment, strings_size,
     values_size,

@@ -7,7 +7,7 @@
 
 ghost use Rattle.std.specs.Prelude.{◌≡◌, ◌<◌, ◌≤◌, ℕ, ◌+◌, ◌++◌, Bool, true, List, [], length, is_some, IfOk, OnOk};
 ghost use Rattle.rv_isa_laws.specs.Bytes.{little_endian};
-ghost use Rattle.rv_text_laws.specs.Values as values;
+ghost use Rattle.rv_expression_laws.specs.Values as values;
 ghost use Rattle.rv_statement_laws.specs.Statement.{Expression};
 ghost use Rattle.rv_statement.specs.View.{statement_of};
 ghost use Rattle.rv_unit_laws.specs.Tables.{Tables, at_start, tables};
@@ -34,7 +34,7 @@ use crate::widths::{bytes_of, width};
 use rv_instruction::{Coded, Encoded, code as code_of, one_code};
 use rv_object_types::put_no_operations;
 use rv_statement::{Statement, Statements};
-use rv_text::{SourceCode, SourceFault};
+use rv_expression::{SourceCode, SourceFault};
 use rv_unit::{LONGEST_SECTION, Scope, SectionOffset, Unit};
 use std::alloc::{AllocError, Global};
 

@@ -8,8 +8,8 @@ ghost use Rattle.std.specs.Prelude.{◌≡◌, ℕ, ◌<◌, ◌≤◌, ◌+◌,
 ghost use Rattle.std.specs.Global.{Vec};
 ghost use Rattle.std.specs.Int.{w64, int_wrap};
 ghost use Rattle.rv_isa_laws.specs.Bytes.{little_endian, zeros};
-ghost use Rattle.rv_text.specs.Expr.{tree_of_expr};
-ghost use Rattle.rv_text.specs.Nodes.{symbol_of};
+ghost use Rattle.rv_expression.specs.Expr.{tree_of_expr};
+ghost use Rattle.rv_expression.specs.Nodes.{symbol_of};
 ghost use Rattle.rv_statement_laws.specs.Widths.{width_bytes};
 ghost use Rattle.rv_statement.specs.View.{quoted, statement_kind, statement_of};
 ghost use Rattle.rv_unit_laws.specs.Tables.{at_start, tables, string_bytes, longest_section};
@@ -31,7 +31,7 @@ use crate::fields::{Choices, put_code};
 use rv_isa::Kind;
 use rv_statement::{Statement, StatementKind, Statements};
 use rv_statement_laws::Width;
-use rv_text::{Expr, SourceFault, Symbol, Value, append_string};
+use rv_expression::{Expr, SourceFault, Symbol, Value, append_string};
 use rv_unit::{Item, Scope, Section, SectionOffset, Unit};
 use std::alloc::{AllocError, Global};
 

@@ -16,7 +16,7 @@ use crate::data::{Filled, data};
 use crate::field::OpenField;
 use crate::items::items;
 use crate::layout::Layout;
-use rv_text::SourceFault;
+use rv_expression::SourceFault;
 use rv_unit::{Item, Unit};
 use std::alloc::Global;
 

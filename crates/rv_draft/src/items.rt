@@ -5,7 +5,7 @@
 //! stays what the function sees itself.
 
 ghost use Rattle.std.specs.Prelude.{◌≡◌, ◌&&◌, ◌+◌, ◌*◌, ◌<◌, ◌≤◌, ℕ, true, false, [], ◌∷◌, ◌++◌, length, map, slice_index, slice_set, None, IfOk, IfErr};
-ghost use Rattle.rv_text_laws.specs.Values as values;
+ghost use Rattle.rv_expression_laws.specs.Values as values;
 ghost use Rattle.rv_fault.specs.declared.source_fault.SourceFault.TheVariants.{OutOfMemory};
 ghost use Rattle.rv_statement_laws.specs.Widths.{width_bytes};
 ghost use Rattle.rv_statement.specs.View.{quoted, statement_kind};
@@ -25,7 +25,7 @@ use crate::item::CodeSize;
 use rv_instruction::constant;
 use rv_statement::{Statement, StatementKind, Statements};
 use rv_statement_laws::Width;
-use rv_text::{SourceCode, SourceFault, Value};
+use rv_expression::{SourceCode, SourceFault, Value};
 use rv_unit::{
     Extent, Item, LONGEST_SECTION, Scope, Section, SectionOffset, Unit, byte_alignment, give_back,
     padding, power_alignment, strings_size, values_size,

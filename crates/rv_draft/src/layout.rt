@@ -1,7 +1,7 @@
 //! The sizes of the statements of a source.
 
 ghost use Rattle.std.specs.Prelude.{◌≡◌, ◌+◌, ◌*◌, ◌≤◌, ◌<◌, length, slice_index, IfOk};
-ghost use Rattle.rv_layout_laws.specs.Branches.{branches};
+ghost use Rattle.rv_size_laws.specs.Branches.{branches};
 ghost use Rattle.rv_unit_laws.specs.Tables.{at_start, tables};
 ghost use Rattle.rv_unit.specs.Unit.{said};
 ghost use Rattle.rv_source_laws.specs.Located.{located_from};

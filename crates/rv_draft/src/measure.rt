@@ -16,7 +16,7 @@ use crate::beside::beside;
 use crate::extents::extent_at;
 use crate::widths::{bytes_of, width};
 use rv_instruction::{code as code_of, item, near_forms, one_code};
-use rv_layout_laws::Item;
+use rv_size_laws::Item;
 use rv_sizes::Items;
 use rv_statement::{Operation, Plain, Statement, StatementKind, Statements};
 use rv_unit::{Scope, SectionOffset, Unit};

@@ -3,7 +3,7 @@
 use Rattle.std.proofs.Common.{◌≡◌, ℕ, zero, suc, Bool, true, false, IsTrue, [], ◌∷◌, refl, sym, ◌∙◌, lit<, arith, inl, inr, pos}
 use Rattle.std.proofs.lemmas.Int.{ints}
 use Rattle.std.specs.Prelude.{slice_index}
-use Rattle.rv_layout_laws.specs.Sites.{size_at}
+use Rattle.rv_size_laws.specs.Sites.{size_at}
 use Rattle.rv_isa.specs.Ranges.{IsValid}
 use Rattle.rv_isa.specs.declared.instruction.Inst.{Inst}
 use Rattle.rv_isa.specs.declared.instruction.Inst.TheVariants.{Ecall}
@@ -28,9 +28,9 @@ use Rattle.rv_source_laws.proofs.SettlingLemmas.{settled_least}
 use Rattle.rv_unit_laws.specs.Tables.{at_start}
 use Rattle.rv_source_laws.specs.Shortened.{text_of, sites_of, HaveBytes, Shortened}
 use Rattle.rv_chain_laws.specs.Contents.{IsLinked}
-use Rattle.rv_layout_laws.specs.Calls.{Offers, site_at, MayShorten, IsClosed, LeadsOutside, IsText}
-use Rattle.rv_layout_laws.specs.Steps.{Unchanged}
-use Rattle.rv_layout_laws.proofs.ShorteningLemmas.{shortened_greatest}
+use Rattle.rv_size_laws.specs.Calls.{Offers, site_at, MayShorten, IsClosed, LeadsOutside, IsText}
+use Rattle.rv_size_laws.specs.Steps.{Unchanged}
+use Rattle.rv_size_laws.proofs.ShorteningLemmas.{shortened_greatest}
 use Rattle.rv_source_laws.specs.SourceRun.{source_run}
 use Rattle.rv_runs_theorems.proofs.ContentsLemmas.{linked_agrees}
 

@@ -2,7 +2,7 @@
 
 use Rattle.std.proofs.Common.{[], ◌∷◌, refl, arith}
 use Rattle.std.specs.List.{AllByRecursion}
-use Rattle.rv_text_laws.specs.Bytes.{digit}
+use Rattle.rv_expression_laws.specs.Bytes.{digit}
 use Rattle.rv_examples.specs.Data.{figures, figures_map}
 use Rattle.rv_source_laws.specs.Program.{program}
 use Rattle.rv_source_laws.specs.Fits.{Fits, SizeFits}

@@ -3,11 +3,11 @@
 use Rattle.std.proofs.Common.{◌≡◌, inl, inr, ⊎_elim, ℕ, zero, suc, ◌≤◌, ◌<◌, List, [], ◌∷◌, ℤ, pos, slice_index, refl, subst, arith}
 use Rattle.std.proofs.lemmas.Int.{ints}
 use Rattle.std.specs.Int.{int_wrap}
-use Rattle.rv_layout_laws.specs.declared.item.Forms.{Forms}
-use Rattle.rv_layout_laws.specs.declared.item.Forms.TheVariants.{Settled, CompressedBranch, CompressedJump}
-use Rattle.rv_layout_laws.specs.declared.item.Item.{Item}
-use Rattle.rv_layout_laws.specs.Offsets.{AtMost, Reaches}
-use Rattle.rv_layout_laws.specs.Branches.{Offers, largest, half, item_at, ReachesBy, IsGood, IsLeastGood}
+use Rattle.rv_size_laws.specs.declared.item.Forms.{Forms}
+use Rattle.rv_size_laws.specs.declared.item.Forms.TheVariants.{Settled, CompressedBranch, CompressedJump}
+use Rattle.rv_size_laws.specs.declared.item.Item.{Item}
+use Rattle.rv_size_laws.specs.Offsets.{AtMost, Reaches}
+use Rattle.rv_size_laws.specs.Branches.{Offers, largest, half, item_at, ReachesBy, IsGood, IsLeastGood}
 use Rattle.rv_examples.specs.BranchSizes.{beyond, beqz_a0, IsLeastSize}
 use Rattle.rv_examples.specs.Refused.{jumps}
 

@@ -2,8 +2,8 @@
 -- many bytes more, where compressed code is on.
 
 use Rattle.std.specs.Prelude.{ℕ, List, [], ◌∷◌, codes}
-use Rattle.rv_text_laws.specs.declared.operator.BinaryOperator.TheVariants.{Add}
-use Rattle.rv_text_laws.specs.Expression.{Binary}
+use Rattle.rv_expression_laws.specs.declared.operator.BinaryOperator.TheVariants.{Add}
+use Rattle.rv_expression_laws.specs.Expression.{Binary}
 use Rattle.rv_statement_laws.specs.declared.mnemonic.Mnemonic.TheVariants.{ZeroBranch}
 use Rattle.rv_statement_laws.specs.declared.pseudo.ZeroBranchOperation.TheVariants.{Beqz}
 use Rattle.rv_statement_laws.specs.Statement.{StatementKind, Label, Instruction, Statement, Expression, Register, Target}

@@ -2,9 +2,9 @@
 
 use Rattle.std.specs.Prelude.{ℕ, List, [], ◌∷◌, false, None, codes}
 use Rattle.rv_isa_laws.specs.Hart.{Outcome, Exited}
-use Rattle.rv_text_laws.specs.declared.operator.UnaryOperator.TheVariants.{Negate}
-use Rattle.rv_text_laws.specs.declared.operator.BinaryOperator.TheVariants.{Add, Subtract, Or, Remainder, ShiftLeft}
-use Rattle.rv_text_laws.specs.Expression.{Symbol, Here, Reference, Leaf, Unary, Binary}
+use Rattle.rv_expression_laws.specs.declared.operator.UnaryOperator.TheVariants.{Negate}
+use Rattle.rv_expression_laws.specs.declared.operator.BinaryOperator.TheVariants.{Add, Subtract, Or, Remainder, ShiftLeft}
+use Rattle.rv_expression_laws.specs.Expression.{Symbol, Here, Reference, Leaf, Unary, Binary}
 use Rattle.rv_statement_laws.specs.declared.directive.Standard.TheVariants.{Data, Bss}
 use Rattle.rv_statement_laws.specs.declared.mnemonic.Mnemonic.TheVariants.{Upper, Ecall}
 use Rattle.rv_isa.specs.declared.operation.UpperOperation.TheVariants.{Lui}

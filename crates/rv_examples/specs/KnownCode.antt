@@ -1,7 +1,7 @@
 -- Worked code: instructions whose operands are known, as they lie in memory.
 
 use Rattle.std.specs.Prelude.{ℕ, List, [], ◌∷◌}
-use Rattle.rv_text_laws.specs.Values.{Value, Refused, value_of}
+use Rattle.rv_expression_laws.specs.Values.{Value, Refused, value_of}
 use Rattle.rv_statement_laws.specs.Statement.{Operand, Expression, Register, Value as Of_value}
 use Rattle.rv_examples.specs.Exit7.{constant}
 

@@ -2,7 +2,7 @@
 -- linker fills their fields.
 
 use Rattle.std.specs.Prelude.{ℕ, List, [], ◌∷◌}
-use Rattle.rv_text_laws.specs.Values.{Value, Open, value_of}
+use Rattle.rv_expression_laws.specs.Values.{Value, Open, value_of}
 use Rattle.rv_statement_laws.specs.Statement.{Operand, Expression, Register, Target}
 use Rattle.rv_examples.specs.Refused.{x}
 

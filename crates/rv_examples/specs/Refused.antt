@@ -1,9 +1,9 @@
 -- Worked sources that are refused.
 
 use Rattle.std.specs.Prelude.{ℕ, List, [], ◌∷◌, Option, Some, codes}
-use Rattle.rv_text_laws.specs.declared.operator.UnaryOperator.TheVariants.{Negate}
-use Rattle.rv_text_laws.specs.declared.operator.BinaryOperator.TheVariants.{Subtract, Divide}
-use Rattle.rv_text_laws.specs.Expression.{Leaf, Here, Unary, Binary}
+use Rattle.rv_expression_laws.specs.declared.operator.UnaryOperator.TheVariants.{Negate}
+use Rattle.rv_expression_laws.specs.declared.operator.BinaryOperator.TheVariants.{Subtract, Divide}
+use Rattle.rv_expression_laws.specs.Expression.{Leaf, Here, Unary, Binary}
 use Rattle.rv_statement_laws.specs.declared.directive.Choice.TheVariants.{Norvc, Push, Pop}
 use Rattle.rv_statement_laws.specs.declared.directive.Standard.TheVariants.{Text, Data}
 use Rattle.rv_statement_laws.specs.declared.mnemonic.Mnemonic.TheVariants.{Registers, Immediate, Shift, Upper, Load, Store, Unary as Of_one, J, Jr, La, Li, Call, Jump}

@@ -1,9 +1,9 @@
 //! Worked sources that are refused, as contracts that the check computes.
 
 ghost use Rattle.std.specs.Prelude.{◌≡◌, [], ◌∷◌, None, false, codes};
-ghost use Rattle.rv_text_laws.specs.Codes.{immediate_range, not_constant, division_by_zero, duplicate_label, scratch_register, undefined_local, wrong_section};
-ghost use Rattle.rv_text_laws.specs.declared.operator.BinaryOperator.TheVariants.{Divide};
-ghost use Rattle.rv_text_laws.specs.Expression.{Leaf, Binary, Reference};
+ghost use Rattle.rv_expression_laws.specs.Codes.{immediate_range, not_constant, division_by_zero, duplicate_label, scratch_register, undefined_local, wrong_section};
+ghost use Rattle.rv_expression_laws.specs.declared.operator.BinaryOperator.TheVariants.{Divide};
+ghost use Rattle.rv_expression_laws.specs.Expression.{Leaf, Binary, Reference};
 ghost use Rattle.rv_parcel.specs.declared.parcel.ParcelOperation.TheVariants.{Addi, Lui, Slli};
 ghost use Rattle.rv_statement_laws.specs.declared.pseudo.Function.TheVariants.{Lo, PcrelLo};
 ghost use Rattle.rv_statement_laws.specs.Statement.{Directs, Values, Emits};

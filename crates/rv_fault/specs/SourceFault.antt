@@ -1,8 +1,8 @@
 -- The numbers and the names of the faults.
 
 use Rattle.std.specs.Prelude.{◌≡◌, ℕ, List, Option, codes, option_map}
-use Rattle.rv_text_laws.specs.Codes as codes_of
-use Rattle.rv_text_laws.specs.Codes.{lowest}
+use Rattle.rv_expression_laws.specs.Codes as codes_of
+use Rattle.rv_expression_laws.specs.Codes.{lowest}
 use Rattle.rv_fault.specs.declared.source_fault.SourceCode.{SourceCode}
 use Rattle.rv_fault.specs.declared.source_fault.SourceCode.TheVariants.{BadByte, BadToken, NestingTooDeep, DivisionByZero, ShiftTooLarge, UnknownMnemonic, BadOperands, UnknownDirective, UnsupportedHere, ScratchRegister, DuplicateLabel, UndefinedLocal, NotConstant, ImmediateRange, WrongSection, OptionStack, Limit}
 

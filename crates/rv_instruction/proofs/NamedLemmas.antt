@@ -5,9 +5,9 @@ use Rattle.std.specs.Prelude.{◌&&◌, not, if◌then◌else◌, flat_map, leng
 use Rattle.std.specs.List.{AllByRecursion}
 use Rattle.arrayvec.specs.ArrayVec.{ArrayVec}
 use Rattle.rv_isa_laws.specs.Halves.{lo}
-use Rattle.rv_text_laws.specs.Codes.{immediate_range, faulty_if, unsupported_here}
-use Rattle.rv_text_laws.specs.Expression.{Primary}
-use Rattle.rv_text_laws.specs.Values as values
+use Rattle.rv_expression_laws.specs.Codes.{immediate_range, faulty_if, unsupported_here}
+use Rattle.rv_expression_laws.specs.Expression.{Primary}
+use Rattle.rv_expression_laws.specs.Values as values
 use Rattle.rv_parcel.specs.declared.form.Compressed.{Compressed}
 use Rattle.rv_parcel.specs.declared.parcel.ParcelOperation.{ParcelOperation}
 use Rattle.rv_parcel.specs.declared.parcel.ParcelOperation.TheVariants as parcels

@@ -6,11 +6,11 @@ use Rattle.arrayvec.specs.ArrayVec.{ArrayVec}
 use Rattle.rv_isa.specs.declared.instruction.Inst.{Inst}
 use Rattle.rv_isa.specs.Ranges.{IsValid}
 use Rattle.rv_isa_laws.specs.Arithmetic.{signed}
-use Rattle.rv_text_laws.specs.Expression.{Primary}
-use Rattle.rv_text_laws.specs.Values as values
-use Rattle.rv_text.specs.declared.evaluation.Value.{Value}
-use Rattle.rv_text.specs.declared.evaluation.Value.TheVariants.{Constant}
-use Rattle.rv_text.specs.Eval.{value_told}
+use Rattle.rv_expression_laws.specs.Expression.{Primary}
+use Rattle.rv_expression_laws.specs.Values as values
+use Rattle.rv_expression.specs.declared.evaluation.Value.{Value}
+use Rattle.rv_expression.specs.declared.evaluation.Value.TheVariants.{Constant}
+use Rattle.rv_expression.specs.Eval.{value_told}
 use Rattle.rv_statement.specs.declared.statement.Operation.{Operation}
 use Rattle.rv_statement.specs.declared.statement.Plain.{Plain}
 use Rattle.rv_statement.specs.declared.statement.Plain.TheVariants as plains

@@ -29,8 +29,8 @@ use Rattle.rv_statement.specs.declared.statement.Operation.{Operation}
 use Rattle.rv_statement.specs.declared.statement.Operation.TheVariants as operations
 use Rattle.rv_statement_laws.specs.Statement.{StatementKind, Instruction, Expression, Applied}
 use Rattle.rv_parse_laws.specs.Syntax.{with_constant}
-use Rattle.rv_layout_laws.specs.declared.item.Forms.{Forms}
-use Rattle.rv_layout_laws.specs.declared.item.Forms.TheVariants.{Settled}
+use Rattle.rv_size_laws.specs.declared.item.Forms.{Forms}
+use Rattle.rv_size_laws.specs.declared.item.Forms.TheVariants.{Settled}
 use Rattle.rv_parcel.specs.Encoded.{HasShort}
 use Rattle.rv_pseudo_laws.specs.Code.{Part, Closed, Open, Joined, Constants, i_type, s_type, b_type, u_type, jal, jalr, opened, by_part, signed_12, upper_20, by_constant, branch, inverted, jump, near, far, through, short_branch}
 use Rattle.rv_pseudo_laws.specs.Li.{addi}

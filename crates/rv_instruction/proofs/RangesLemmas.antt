@@ -4,7 +4,7 @@ use Rattle.std.proofs.Common.{◌≡◌, ℕ, ℤ, Bool, true, List, [], ◌∷�
 use Rattle.std.specs.Prelude.{not, ◌&&◌, IfOk}
 use Rattle.std.specs.List.{AllByRecursion}
 use Rattle.arrayvec.specs.ArrayVec.{ArrayVec}
-use Rattle.rv_text_laws.specs.Expression.{Leaf, Here}
+use Rattle.rv_expression_laws.specs.Expression.{Leaf, Here}
 use Rattle.rv_fault.specs.declared.source_fault.SourceCode.{SourceCode}
 use Rattle.rv_statement_laws.specs.declared.pseudo.Function.{Function}
 use Rattle.rv_statement_laws.specs.declared.pseudo.Function.TheVariants.{Hi, Lo, PcrelHi, PcrelLo}

@@ -4,8 +4,8 @@ use Rattle.std.proofs.Common.{◌≡◌, ℕ, List, [], ◌∷◌, Option, Some,
 use Rattle.std.proofs.lemmas.Bool.{and_right}
 use Rattle.std.specs.Prelude.{◌&&◌, is_some}
 use Rattle.arrayvec.specs.ArrayVec.{ArrayVec}
-use Rattle.rv_text_laws.specs.Expression.{Primary, Leaf, Here}
-use Rattle.rv_text_laws.specs.Values as values
+use Rattle.rv_expression_laws.specs.Expression.{Primary, Leaf, Here}
+use Rattle.rv_expression_laws.specs.Values as values
 use Rattle.rv_fault.specs.declared.source_fault.SourceCode.{SourceCode}
 use Rattle.rv_fault.specs.declared.source_fault.SourceFault.{SourceFault}
 use Rattle.rv_fault.specs.declared.source_fault.SourceFault.TheVariants.{At, OutOfMemory}
@@ -16,9 +16,9 @@ use Rattle.rv_statement.specs.declared.statement.Operation.{Operation}
 use Rattle.rv_statement.specs.declared.statement.Operation.TheVariants as operations
 use Rattle.rv_statement.specs.declared.statement.Plain.{Plain}
 use Rattle.rv_statement.specs.declared.statement.Plain.TheVariants as plains
-use Rattle.rv_text_laws.specs.Codes.{lowest}
+use Rattle.rv_expression_laws.specs.Codes.{lowest}
 use Rattle.rv_statement_laws.specs.declared.mnemonic.Mnemonic.TheVariants as mnemonics
-use Rattle.rv_layout_laws.specs.declared.item.Forms.{Forms}
+use Rattle.rv_size_laws.specs.declared.item.Forms.{Forms}
 use Rattle.rv_pseudo_laws.specs.Code.{Part, Constants}
 use Rattle.rv_pseudo_laws.specs.Filled.{are_closed, code_bytes}
 use Rattle.rv_pseudo.specs.declared.template.Manner.{Manner}

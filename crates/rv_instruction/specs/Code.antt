@@ -10,9 +10,9 @@ use Rattle.rv_isa.specs.Kinds.{width_of}
 use Rattle.rv_isa.specs.Ranges.{IsValid}
 use Rattle.rv_isa_laws.specs.Arithmetic.{signed}
 use Rattle.rv_isa_laws.specs.Bytes.{little_endian}
-use Rattle.rv_text_laws.specs.Codes.{lowest}
-use Rattle.rv_text_laws.specs.Expression.{Primary}
-use Rattle.rv_text_laws.specs.Values as values
+use Rattle.rv_expression_laws.specs.Codes.{lowest}
+use Rattle.rv_expression_laws.specs.Expression.{Primary}
+use Rattle.rv_expression_laws.specs.Values as values
 use Rattle.rv_fault.specs.declared.source_fault.SourceFault.{SourceFault}
 use Rattle.rv_fault.specs.declared.source_fault.SourceFault.TheVariants.{At, OutOfMemory}
 use Rattle.rv_fault.specs.SourceFault.{source_fault_number}
@@ -22,8 +22,8 @@ use Rattle.rv_statement_laws.specs.declared.pseudo.Function.TheVariants.{PcrelLo
 use Rattle.rv_statement.specs.declared.statement.Operation.{Operation}
 use Rattle.rv_statement_laws.specs.Statement.{StatementKind, Instruction, Operand, Expression, Statement}
 use Rattle.rv_unit_laws.specs.Faults.{constant_faults}
-use Rattle.rv_layout_laws.specs.declared.item.Forms.{Forms}
-use Rattle.rv_layout_laws.specs.Branches.{Offers}
+use Rattle.rv_size_laws.specs.declared.item.Forms.{Forms}
+use Rattle.rv_size_laws.specs.Branches.{Offers}
 use Rattle.rv_parcel.specs.Encoded.{HasShort}
 use Rattle.rv_pseudo_laws.specs.Code.{Part, Closed, Open, Joined, Constants, code}
 use Rattle.rv_pseudo_laws.specs.Filled.{are_closed, code_bytes}

@@ -2,11 +2,11 @@
 
 use Rattle.std.specs.Prelude.{ℕ, ◌-◌, pos, Bool, false, ◌==◌, List, Option, Some, None, option_map, slice_get, if◌then◌else◌}
 use Rattle.std.specs.Int.{w64, int_wrap}
-use Rattle.rv_text_laws.specs.Values.{Value, Symbolic}
+use Rattle.rv_expression_laws.specs.Values.{Value, Symbolic}
 use Rattle.rv_statement_laws.specs.Statement.{StatementKind, Instruction, Expression}
-use Rattle.rv_layout_laws.specs.declared.item.Forms.{Forms}
-use Rattle.rv_layout_laws.specs.declared.item.Forms.TheVariants.{Settled}
-use Rattle.rv_layout_laws.specs.declared.item.Item.{Item}
+use Rattle.rv_size_laws.specs.declared.item.Forms.{Forms}
+use Rattle.rv_size_laws.specs.declared.item.Forms.TheVariants.{Settled}
+use Rattle.rv_size_laws.specs.declared.item.Item.{Item}
 use Rattle.rv_unit_laws.specs.Tables.{Tables, Definition, sure_definition}
 use Rattle.rv_unit.specs.declared.section_offset.SectionOffset.{SectionOffset}
 use Rattle.rv_statement_laws.specs.declared.pseudo.Function.{Function}

@@ -1,11 +1,11 @@
 -- What a scope gives the statement that is next.
 
 use Rattle.std.specs.Prelude.{◌≡◌, ℕ, ◌+◌, Bool, true, List, Option, Result}
-use Rattle.rv_text_laws.specs.Expression.{Primary}
-use Rattle.rv_text_laws.specs.Values as values
+use Rattle.rv_expression_laws.specs.Expression.{Primary}
+use Rattle.rv_expression_laws.specs.Values as values
 use Rattle.rv_fault.specs.declared.source_fault.SourceFault.{SourceFault}
-use Rattle.rv_text.specs.declared.evaluation.Value.{Value}
-use Rattle.rv_text.specs.Eval.{IsOutcome}
+use Rattle.rv_expression.specs.declared.evaluation.Value.{Value}
+use Rattle.rv_expression.specs.Eval.{IsOutcome}
 use Rattle.rv_statement_laws.specs.Statement.{StatementKind, Expression}
 use Rattle.rv_unit_laws.specs.Tables.{tables, value_by_tables, stood}
 use Rattle.rv_unit.specs.declared.section_offset.SectionOffset.{SectionOffset}

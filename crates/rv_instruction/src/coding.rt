@@ -5,10 +5,10 @@
 
 ghost use Rattle.std.specs.Prelude.{◌≡◌, ◌≤◌, ℕ, Bool, Ok, None, length, IfOk, IfSome};
 ghost use Rattle.rv_isa.specs.Ranges.{IsValid};
-ghost use Rattle.rv_text_laws.specs.Expression.{Primary};
-ghost use Rattle.rv_text_laws.specs.Values as values;
-ghost use Rattle.rv_text.specs.Eval.{IsOutcome};
-ghost use Rattle.rv_text.specs.Expr.{tree_of_expr};
+ghost use Rattle.rv_expression_laws.specs.Expression.{Primary};
+ghost use Rattle.rv_expression_laws.specs.Values as values;
+ghost use Rattle.rv_expression.specs.Eval.{IsOutcome};
+ghost use Rattle.rv_expression.specs.Expr.{tree_of_expr};
 ghost use Rattle.rv_statement_laws.specs.Statement.{Expression, Statement as Said};
 ghost use Rattle.rv_statement.specs.View.{plain_of, statement_of};
 ghost use Rattle.rv_unit.specs.Unit.{IsFilled, IsScope};
@@ -26,7 +26,7 @@ use rv_isa::Inst;
 use rv_pseudo::{Manner, Templates, takes_target, with_operand};
 use rv_statement::{Operation, Plain, Statement, StatementKind};
 use rv_statement_laws::Function;
-use rv_text::{Expr, SourceCode, SourceFault, Value};
+use rv_expression::{Expr, SourceCode, SourceFault, Value};
 use rv_unit::{Scope, SectionOffset};
 
 /// The number of an expression that has to be a constant, by its value; else its fault at a line.

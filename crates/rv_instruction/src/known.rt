@@ -3,8 +3,8 @@
 ghost use Rattle.std.specs.Prelude.{◌≡◌, ◌∷◌, [], Bool, Ok, IfOk, IfSome};
 ghost use Rattle.rv_isa.specs.Ranges.{IsValid};
 ghost use Rattle.rv_isa_laws.specs.Arithmetic.{signed};
-ghost use Rattle.rv_text_laws.specs.Values as values;
-ghost use Rattle.rv_text.specs.Eval.{value_told};
+ghost use Rattle.rv_expression_laws.specs.Values as values;
+ghost use Rattle.rv_expression.specs.Eval.{value_told};
 ghost use Rattle.rv_statement_laws.specs.Statement.{Operand};
 ghost use Rattle.rv_statement.specs.View.{plain_of, with_operand};
 ghost use Rattle.rv_pseudo_laws.specs.Code.{Constants};
@@ -19,7 +19,7 @@ use crate::worth::{Outcome, signed};
 use rv_isa::Inst;
 use rv_pseudo::{Template, Templates, single, single_bare, without_operand};
 use rv_statement::{Operation, Plain};
-use rv_text::{SourceCode, Value};
+use rv_expression::{SourceCode, Value};
 
 /// The registers of a statement without an expression are x0 to x31.
 fn plain_registers(statement: Plain)

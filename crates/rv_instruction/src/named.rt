@@ -4,7 +4,7 @@
 
 ghost use Rattle.std.specs.Prelude.{◌≡◌, IfSome};
 ghost use Rattle.rv_parcel.specs.Parcel.{IsLine};
-ghost use Rattle.rv_text.specs.Expr.{tree_of_expr};
+ghost use Rattle.rv_expression.specs.Expr.{tree_of_expr};
 ghost use Rattle.rv_statement.specs.View.{statement_kind};
 ghost use Rattle.rv_pseudo.specs.Faults.{worth_of, constant_in};
 ghost use Rattle.rv_source_laws.specs.Compressed as laws;
@@ -16,7 +16,7 @@ use crate::worth::worth;
 use rv_parcel::Compressed;
 use rv_pseudo::{Manner, Worth, named};
 use rv_statement::{Operation, Plain, Statement, StatementKind};
-use rv_text::Expr;
+use rv_expression::Expr;
 use rv_unit::{Scope, SectionOffset};
 
 /// Whether a statement names a parcel.

@@ -7,7 +7,7 @@
 
 ghost use Rattle.std.specs.Prelude.{◌≡◌, ◌==◌, ◌+◌, ◌≤◌, pos, Some, IfSome};
 ghost use Rattle.std.specs.Int.{w64, int_wrap};
-ghost use Rattle.rv_text_laws.specs.Values as values;
+ghost use Rattle.rv_expression_laws.specs.Values as values;
 ghost use Rattle.rv_statement_laws.specs.Statement.{Expression};
 ghost use Rattle.rv_statement.specs.View.{statement_kind};
 ghost use Rattle.rv_unit_laws.specs.Tables.{tables};
@@ -20,10 +20,10 @@ ghost use Rattle.rv_instruction.specs.Scoped.{values_at, AtNext};
 
 use crate::worth::Outcome;
 use rv_isa::{BranchOperation, Reg};
-use rv_layout_laws::{Forms, Item};
+use rv_size_laws::{Forms, Item};
 use rv_statement::{Operation, Statement, StatementKind};
 use rv_statement_laws::{Function, ZeroBranchOperation};
-use rv_text::Value;
+use rv_expression::Value;
 use rv_unit::{Definition, Scope, SectionOffset};
 
 /// Whether a register is one of x8 to x15.

@@ -5,7 +5,7 @@
 ghost use Rattle.std.specs.Prelude.{◌≡◌, ◌+◌, None, option_map, true};
 ghost use Rattle.rv_isa.specs.declared.kind.Kind.{Kind as SpecKind};
 ghost use Rattle.rv_isa.specs.Kinds as kinds;
-ghost use Rattle.rv_text_laws.specs.Values as values;
+ghost use Rattle.rv_expression_laws.specs.Values as values;
 ghost use Rattle.rv_statement_laws.specs.Statement.{Expression};
 ghost use Rattle.rv_statement.specs.View.{statement_kind};
 ghost use Rattle.rv_pseudo.specs.Templates.{statement_with};
@@ -22,7 +22,7 @@ use rv_isa::Kind;
 use rv_pseudo::takes_target;
 use rv_statement::{Operation, Statement, StatementKind};
 use rv_statement_laws::Function;
-use rv_text::{Symbol, Value};
+use rv_expression::{Symbol, Value};
 use rv_unit::{Definition, Scope, SectionOffset};
 
 /// What an open field takes: a symbol as the statement of an ordinal names it, and what is added.

@@ -2,7 +2,7 @@
 
 ghost use Rattle.std.specs.Prelude.{◌≡◌, ℕ, ◌+◌, is_some};
 ghost use Rattle.rv_isa_laws.specs.Arithmetic.{signed};
-ghost use Rattle.rv_text.specs.Nodes.{symbol_of};
+ghost use Rattle.rv_expression.specs.Nodes.{symbol_of};
 ghost use Rattle.rv_unit_laws.specs.Tables.{tables, definition};
 ghost use Rattle.rv_unit.specs.Faults.{ForValue};
 ghost use Rattle.rv_unit.specs.Unit.{said, IsFilled, IsScope};
@@ -12,7 +12,7 @@ ghost use Rattle.rv_instruction.specs.Scoped.{labels_at};
 
 use rv_pseudo::Worth;
 use rv_statement_laws::Function;
-use rv_text::{SourceCode, SourceFault, Symbol, Value};
+use rv_expression::{SourceCode, SourceFault, Symbol, Value};
 use rv_unit::Scope;
 
 /// What an expression stands for, or its fault.

@@ -3,12 +3,12 @@
 use Rattle.std.proofs.Common.{◌≡◌, ℕ, ◌+◌, Bool, true, false, cond, ◌==◌, ◌||◌, List, [], ◌∷◌, drop, refl, sym, ◌∙◌, ap, arith, eqb-true, Some}
 use Rattle.std.proofs.Math.Numerals.{one-add}
 use Rattle.std.specs.List.{prefix_len}
-use Rattle.rv_text_laws.specs.Bytes.{class}
-use Rattle.rv_text_laws.specs.Grammar.{Space}
-use Rattle.rv_text_laws.specs.declared.class.Class.TheVariants.{Blank}
-use Rattle.rv_text_laws.specs.Front.{lexeme_at, lexeme_by, tokens_from}
-use Rattle.rv_text_laws.specs.Lexing.{newlines}
-use Rattle.rv_text_laws.proofs.TokensLemmas.{tokens_more}
+use Rattle.rv_expression_laws.specs.Bytes.{class}
+use Rattle.rv_expression_laws.specs.Grammar.{Space}
+use Rattle.rv_expression_laws.specs.declared.class.Class.TheVariants.{Blank}
+use Rattle.rv_expression_laws.specs.Front.{lexeme_at, lexeme_by, tokens_from}
+use Rattle.rv_expression_laws.specs.Lexing.{newlines}
+use Rattle.rv_expression_laws.proofs.TokensLemmas.{tokens_more}
 use Rattle.rv_lexer.specs.Lexeme.{is_blank}
 use Rattle.rv_lexer.specs.declared.lexer.Lexer.{Lexer}
 use Rattle.rv_lexer.specs.Left.{tokens_left}

@@ -5,11 +5,11 @@ use Rattle.std.specs.Prelude.{is_some}
 use Rattle.std.specs.List.{list_all}
 use Rattle.std.proofs.Math.Seq.{take-append_seam}
 use Rattle.std.proofs.lemmas.Bool.{and_parts, eqb-true}
-use Rattle.rv_text_laws.specs.Bytes.{is_digit}
-use Rattle.rv_text_laws.specs.Grammar as grammar
-use Rattle.rv_text_laws.specs.Grammar.{direction, IsReference}
-use Rattle.rv_text_laws.specs.Front.{reference_in, digits_kind}
-use Rattle.rv_text_laws.proofs.NumbersLemmas.{reference_is, reference_found}
+use Rattle.rv_expression_laws.specs.Bytes.{is_digit}
+use Rattle.rv_expression_laws.specs.Grammar as grammar
+use Rattle.rv_expression_laws.specs.Grammar.{direction, IsReference}
+use Rattle.rv_expression_laws.specs.Front.{reference_in, digits_kind}
+use Rattle.rv_expression_laws.proofs.NumbersLemmas.{reference_is, reference_found}
 use Rattle.rv_lexer.specs.Reference.{digits_in, is_ahead}
 
 last_there : (ds : List ℕ) (c : ℕ) → get_or (ds ++ c ∷ []) (length ds) 0 ≡ c

@@ -4,10 +4,10 @@ use Rattle.std.proofs.Common.{◌≡◌, ℕ, suc, ◌+◌, ◌%◌, ◌^◌, �
 use Rattle.std.proofs.lemmas.Bool.{and_parts, and_from, ltb-true, lt-ltb}
 use Rattle.std.proofs.lemmas.List.{length-take-le}
 use Rattle.std.specs.List.{list_all, prefix_len}
-use Rattle.rv_text_laws.specs.Bytes.{is_digit, digit, digits_value}
-use Rattle.rv_text_laws.specs.Strings.{Atom, Octal, Hexadecimal, byte_of}
-use Rattle.rv_text_laws.specs.Front.{number_by, escape_at}
-use Rattle.rv_text_laws.proofs.RunsLemmas.{short_within, short_all}
+use Rattle.rv_expression_laws.specs.Bytes.{is_digit, digit, digits_value}
+use Rattle.rv_expression_laws.specs.Strings.{Atom, Octal, Hexadecimal, byte_of}
+use Rattle.rv_expression_laws.specs.Front.{number_by, escape_at}
+use Rattle.rv_expression_laws.proofs.RunsLemmas.{short_within, short_all}
 
 small_8 : (ds : List ℕ) → list_all (is_digit 8) ds ≡ true → length ds ≤ 3 → digits_value 8 ds < 512
 small_8 [] all most = omega arith

@@ -3,23 +3,23 @@
 use Rattle.std.proofs.Common.{◌≡◌, ℕ, ◌+◌, ◌<◌, Bool, true, false, cond, ◌==◌, List, [], ◌∷◌, ◌++◌, refl, sym, ◌∙◌, ap, subst, arith, ◌⊎◌, inl, inr, Option, None, Some, take}
 use Rattle.std.specs.List.{list_all}
 use Rattle.std.proofs.lemmas.Bool.{eqb-true, and_parts}
-use Rattle.rv_text_laws.specs.declared.punct.Punct.{Punct}
-use Rattle.rv_text_laws.specs.declared.punct.Punct.TheVariants.{Comma}
-use Rattle.rv_text_laws.specs.declared.class.Class.{Class}
-use Rattle.rv_text_laws.specs.declared.class.Class.TheVariants.{Letter, Digit, Blank}
-use Rattle.rv_text_laws.specs.Cut.{Piece, texts, Each}
-use Rattle.rv_text_laws.specs.Bytes.{class, spelling, is_word, in_line, is_digit, digit}
-use Rattle.rv_text_laws.specs.Strings.{Atom, Plain, Named, Octal, Hexadecimal, named, is_plain, is_character, SpellsAtom, StopsAtom}
-use Rattle.rv_text_laws.specs.Grammar.{Kind, Space, Line_comment, Block_comment, Newline, Punctuation, Name, Number, Reference, Bad_word, Text, Character, Bad_byte, Bad_token, End, Spells, IsWord}
-use Rattle.rv_text_laws.specs.Lexing.{newlines}
-use Rattle.rv_text_laws.specs.Front.{lexeme_at, word_number, number_kind, digits_kind}
+use Rattle.rv_expression_laws.specs.declared.punct.Punct.{Punct}
+use Rattle.rv_expression_laws.specs.declared.punct.Punct.TheVariants.{Comma}
+use Rattle.rv_expression_laws.specs.declared.class.Class.{Class}
+use Rattle.rv_expression_laws.specs.declared.class.Class.TheVariants.{Letter, Digit, Blank}
+use Rattle.rv_expression_laws.specs.Cut.{Piece, texts, Each}
+use Rattle.rv_expression_laws.specs.Bytes.{class, spelling, is_word, in_line, is_digit, digit}
+use Rattle.rv_expression_laws.specs.Strings.{Atom, Plain, Named, Octal, Hexadecimal, named, is_plain, is_character, SpellsAtom, StopsAtom}
+use Rattle.rv_expression_laws.specs.Grammar.{Kind, Space, Line_comment, Block_comment, Newline, Punctuation, Name, Number, Reference, Bad_word, Text, Character, Bad_byte, Bad_token, End, Spells, IsWord}
+use Rattle.rv_expression_laws.specs.Lexing.{newlines}
+use Rattle.rv_expression_laws.specs.Front.{lexeme_at, word_number, number_kind, digits_kind}
 use Rattle.rv_lexer.specs.declared.token.TokenKind.{TokenKind}
 use Rattle.rv_lexer.specs.declared.token.TokenKind.TheVariants as code
 use Rattle.rv_lexer.specs.Token.{kind_of}
 use Rattle.rv_lexer.specs.Lexeme.{has_feeds}
-use Rattle.rv_text_laws.proofs.CutLemmas.{front}
-use Rattle.rv_text_laws.proofs.LexemesLemmas.{lexemes}
-use Rattle.rv_text_laws.proofs.TokensLemmas.{newlines-append}
+use Rattle.rv_expression_laws.proofs.CutLemmas.{front}
+use Rattle.rv_expression_laws.proofs.LexemesLemmas.{lexemes}
+use Rattle.rv_expression_laws.proofs.TokensLemmas.{newlines-append}
 
 no_feed : (b : ℕ) (bs : List ℕ) → (b ≡ 10 → ⊥) → newlines bs ≡ 0 → newlines (b ∷ bs) ≡ 0
 no_feed b bs other rest = go (b == 10) refl

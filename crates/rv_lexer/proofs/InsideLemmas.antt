@@ -4,13 +4,13 @@ use Rattle.std.proofs.Common.{◌≡◌, ℕ, suc, ◌+◌, ◌<◌, ◌≤◌, 
 use Rattle.std.proofs.lemmas.List.{append-nil}
 use Rattle.std.proofs.lemmas.Option.{some_pair_parts}
 use Rattle.std.proofs.Math.Seq.{take-append_seam}
-use Rattle.rv_text_laws.specs.Cut.{Piece, texts, Each, cut}
-use Rattle.rv_text_laws.specs.Strings.{Atom, byte_of, SpellsAtom, StopsAtom}
-use Rattle.rv_text_laws.specs.Grammar as grammar
-use Rattle.rv_text_laws.specs.Front.{has_first, atom_at, closed_string, closed_escape, character_at}
-use Rattle.rv_text_laws.proofs.CutLemmas.{front, cuts, unique, cut-some, cut-none}
-use Rattle.rv_text_laws.proofs.AtomsLemmas.{atoms}
-use Rattle.rv_text_laws.proofs.CommentsLemmas.{begins_is}
+use Rattle.rv_expression_laws.specs.Cut.{Piece, texts, Each, cut}
+use Rattle.rv_expression_laws.specs.Strings.{Atom, byte_of, SpellsAtom, StopsAtom}
+use Rattle.rv_expression_laws.specs.Grammar as grammar
+use Rattle.rv_expression_laws.specs.Front.{has_first, atom_at, closed_string, closed_escape, character_at}
+use Rattle.rv_expression_laws.proofs.CutLemmas.{front, cuts, unique, cut-some, cut-none}
+use Rattle.rv_expression_laws.proofs.AtomsLemmas.{atoms}
+use Rattle.rv_expression_laws.proofs.CommentsLemmas.{begins_is}
 use Rattle.rv_lexer.specs.Token.{string_bytes}
 
 -- what an atom takes

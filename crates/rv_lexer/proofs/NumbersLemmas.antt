@@ -4,8 +4,8 @@ use Rattle.std.proofs.Common.{◌≡◌, ℕ, zero, suc, ◌+◌, ◌*◌, ◌^�
 use Rattle.std.proofs.lemmas.Bool.{le-ltb, lt-ltb}
 use Rattle.std.specs.List.{list_all}
 use Rattle.std.proofs.Math.Nat.{pow-zero, pow-suc, one-le-mul, le-mul_of_pos_right}
-use Rattle.rv_text_laws.specs.Bytes.{is_digit, digit, digits_value}
-use Rattle.rv_text_laws.specs.Front.{number_by, after_zero}
+use Rattle.rv_expression_laws.specs.Bytes.{is_digit, digit, digits_value}
+use Rattle.rv_expression_laws.specs.Front.{number_by, after_zero}
 
 -- the number of digits already read, with the rest
 abbrev pub number_with : ℕ → ℕ → List ℕ → ℕ

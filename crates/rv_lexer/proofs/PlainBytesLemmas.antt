@@ -8,11 +8,11 @@ use Rattle.std.proofs.lemmas.List.Sums.{prefix_len_is}
 use Rattle.std.proofs.Math.Numerals.{one-add}
 use Rattle.std.specs.List.{prefix_len, list_any}
 use Rattle.memchr.specs.Find.{IsFirstByte, is_byte, is_byte3}
-use Rattle.rv_text_laws.specs.Cut.{Piece, cut}
-use Rattle.rv_text_laws.specs.Strings.{Atom, Plain, byte_of, is_plain, StopsAtom}
-use Rattle.rv_text_laws.specs.Front.{atom_at}
-use Rattle.rv_text_laws.proofs.CutLemmas.{cut-some}
-use Rattle.rv_text_laws.proofs.AtomsLemmas.{atoms}
+use Rattle.rv_expression_laws.specs.Cut.{Piece, cut}
+use Rattle.rv_expression_laws.specs.Strings.{Atom, Plain, byte_of, is_plain, StopsAtom}
+use Rattle.rv_expression_laws.specs.Front.{atom_at}
+use Rattle.rv_expression_laws.proofs.CutLemmas.{cut-some}
+use Rattle.rv_expression_laws.proofs.AtomsLemmas.{atoms}
 use Rattle.rv_lexer.specs.Token.{string_bytes}
 
 pub on_err : {T E P : Type 0} (r : Result T E) → P → OnErr r P

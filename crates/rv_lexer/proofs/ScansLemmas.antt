@@ -7,10 +7,10 @@ use Rattle.std.proofs.Math.Seq.{drop-append_seam}
 use Rattle.std.specs.List.{prefix_len}
 use Rattle.memchr.specs.Find.{IsFirstByte, is_byte, FindsNeedle, OccursAt}
 use Rattle.memchr.proofs.lemmas.MatchLemmas.{OccursAt-part}
-use Rattle.rv_text_laws.specs.Bytes.{in_line}
-use Rattle.rv_text_laws.specs.Grammar.{NoClose}
-use Rattle.rv_text_laws.specs.Front.{close_at}
-use Rattle.rv_text_laws.proofs.CommentsLemmas.{close_is, Closed, CloseAnswers, close_answers}
+use Rattle.rv_expression_laws.specs.Bytes.{in_line}
+use Rattle.rv_expression_laws.specs.Grammar.{NoClose}
+use Rattle.rv_expression_laws.specs.Front.{close_at}
+use Rattle.rv_expression_laws.proofs.CommentsLemmas.{close_is, Closed, CloseAnswers, close_answers}
 
 inside_line : (b : ℕ) → ((b == 10) ≡ true → ⊥) → in_line b ≡ true
 inside_line b h = go (b == 10) refl

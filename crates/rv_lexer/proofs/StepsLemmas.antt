@@ -1,15 +1,15 @@
 -- The steps of the lexer: a blank or a comment, a token, and the last token.
 
 use Rattle.std.proofs.Common.{◌≡◌, ℕ, ◌+◌, ◌<◌, ◌≤◌, true, false, cond, List, [], ◌∷◌, length, take, drop, refl, sym, ◌∙◌, ap, arith, length-append, Some, None}
-use Rattle.rv_text_laws.specs.Grammar.{Kind, Spells, Space, Line_comment, Block_comment, Newline, Punctuation, Name, Number, Reference, Bad_word, Text, Character, Bad_byte, Bad_token, End}
-use Rattle.rv_text_laws.specs.Lexing.{newlines, is_gap, is_last, last_kind}
-use Rattle.rv_text_laws.specs.Bytes.{class}
-use Rattle.rv_text_laws.specs.Cut.{cut}
-use Rattle.rv_text_laws.specs.Front.{lexeme_at, tokens_from}
-use Rattle.rv_text_laws.proofs.CutLemmas.{front}
-use Rattle.rv_text_laws.proofs.LexemesLemmas.{lexemes}
-use Rattle.rv_text_laws.proofs.TokensLemmas.{tokens_more, tokens_stop}
-use Rattle.rv_text_laws.proofs.TokenTextsLemmas.{last_is_last}
+use Rattle.rv_expression_laws.specs.Grammar.{Kind, Spells, Space, Line_comment, Block_comment, Newline, Punctuation, Name, Number, Reference, Bad_word, Text, Character, Bad_byte, Bad_token, End}
+use Rattle.rv_expression_laws.specs.Lexing.{newlines, is_gap, is_last, last_kind}
+use Rattle.rv_expression_laws.specs.Bytes.{class}
+use Rattle.rv_expression_laws.specs.Cut.{cut}
+use Rattle.rv_expression_laws.specs.Front.{lexeme_at, tokens_from}
+use Rattle.rv_expression_laws.proofs.CutLemmas.{front}
+use Rattle.rv_expression_laws.proofs.LexemesLemmas.{lexemes}
+use Rattle.rv_expression_laws.proofs.TokensLemmas.{tokens_more, tokens_stop}
+use Rattle.rv_expression_laws.proofs.TokenTextsLemmas.{last_is_last}
 use Rattle.rv_lexer.specs.declared.token.TokenKind.{TokenKind}
 use Rattle.rv_lexer.specs.declared.token.TokenKind.TheVariants as code
 use Rattle.rv_lexer.specs.declared.lexer.Lexer.{Lexer}

@@ -1,8 +1,8 @@
 -- The tokens that a cursor has left, and what its readings answer.
 
 use Rattle.std.specs.Prelude.{◌≡◌, List, [], ◌∷◌, Result, Ok, Err, if◌then◌else◌}
-use Rattle.rv_text_laws.specs.Lexing as lexing
-use Rattle.rv_text_laws.specs.SyntaxError as laws
+use Rattle.rv_expression_laws.specs.Lexing as lexing
+use Rattle.rv_expression_laws.specs.SyntaxError as laws
 use Rattle.rv_lexer.specs.declared.cursor.Cursor.{Cursor}
 use Rattle.rv_lexer.specs.declared.syntax_error.SyntaxError.{SyntaxError}
 use Rattle.rv_lexer.specs.declared.syntax_error.ReadError.{ReadError}
@@ -12,8 +12,8 @@ use Rattle.rv_fault.specs.SourceFault.{source_fault_number}
 use Rattle.rv_lexer.specs.Left.{tokens_left}
 
 -- the next token, and unless it is the last those of the lexer
-unfoldable pub left : Cursor → List lexing.Token
-left c =
+unfoldable pub remaining : Cursor → List lexing.Token
+remaining c =
     token_of c.next ∷ (if lexing.is_last (kind_of c.next.kind) then [] else tokens_left c.lexer)
 
 -- what an error of the code stands for

@@ -1,9 +1,9 @@
 -- A lexer is the list of the tokens that it has left.
 
 use Rattle.std.specs.Prelude.{◌≡◌, Bool, true, false, List, [], ◌∷◌, if◌then◌else◌}
-use Rattle.rv_text_laws.specs.Grammar.{Kind, Bad_token, End}
-use Rattle.rv_text_laws.specs.Lexing as lexing
-use Rattle.rv_text_laws.specs.Front.{tokens_from}
+use Rattle.rv_expression_laws.specs.Grammar.{Kind, Bad_token, End}
+use Rattle.rv_expression_laws.specs.Lexing as lexing
+use Rattle.rv_expression_laws.specs.Front.{tokens_from}
 use Rattle.rv_lexer.specs.declared.lexer.Lexer.{Lexer}
 use Rattle.rv_lexer.specs.declared.token.Token.{Token}
 use Rattle.rv_lexer.specs.Token.{token_of, kind_of}

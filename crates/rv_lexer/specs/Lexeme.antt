@@ -1,7 +1,7 @@
 -- What the lexemes of the code stand for.
 
 use Rattle.std.specs.Prelude.{ℕ, Bool, true, false, ◌||◌, ◌==◌}
-use Rattle.rv_text_laws.specs.Grammar as grammar
+use Rattle.rv_expression_laws.specs.Grammar as grammar
 use Rattle.rv_lexer.specs.declared.lexeme.Lexeme.{Lexeme}
 use Rattle.rv_lexer.specs.declared.lexeme.LexemeKind.{LexemeKind}
 use Rattle.rv_lexer.specs.declared.lexeme.LexemeKind.TheVariants.{Space, LineComment, BlockComment, Token}

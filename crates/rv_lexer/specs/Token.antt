@@ -1,11 +1,11 @@
 -- What the lexer's tokens stand for.
 
 use Rattle.std.specs.Prelude.{ℕ, List, map}
-use Rattle.rv_text_laws.specs.Cut.{cut}
-use Rattle.rv_text_laws.specs.Strings.{byte_of}
-use Rattle.rv_text_laws.specs.Front.{atom_at}
-use Rattle.rv_text_laws.specs.Grammar as grammar
-use Rattle.rv_text_laws.specs.Lexing as lexing
+use Rattle.rv_expression_laws.specs.Cut.{cut}
+use Rattle.rv_expression_laws.specs.Strings.{byte_of}
+use Rattle.rv_expression_laws.specs.Front.{atom_at}
+use Rattle.rv_expression_laws.specs.Grammar as grammar
+use Rattle.rv_expression_laws.specs.Lexing as lexing
 use Rattle.rv_lexer.specs.Reference.{digits_in, is_ahead}
 use Rattle.rv_lexer.specs.declared.token.Token.{Token}
 use Rattle.rv_lexer.specs.declared.token.TokenKind.{TokenKind}

@@ -1,10 +1,10 @@
 //! The classes of bytes.
 
 ghost use Rattle.std.specs.Prelude.{◌≡◌};
-ghost use Rattle.rv_text_laws.specs.Bytes.{class, is_word, digit};
+ghost use Rattle.rv_expression_laws.specs.Bytes.{class, is_word, digit};
 ghost use Rattle.rv_lexer.specs.Lexeme.{is_blank};
 
-use rv_text_laws::{Class, Punct};
+use rv_expression_laws::{Class, Punct};
 
 /// For each byte `1` where names and numbers go on with it.
 static WORD_BYTES: [u8; 256] = *b"\
@@ -30,7 +30,7 @@ static BLANK_BYTES: [u8; 256] = *b"\
 
 /// What a byte begins.
 #[inline(always)]
-#[tactic(auto, unfolding(rv_text_laws::specs::Bytes::class))]
+#[tactic(auto, unfolding(rv_expression_laws::specs::Bytes::class))]
 pub(crate) fn class(byte: u8) -> Class
     ensures { result ≡ class byte }
 {
@@ -88,7 +88,7 @@ pub(crate) fn is_word(byte: u8) -> bool
 }
 
 /// The value of a digit in the bases up to 16, and 16 for every other byte.
-#[tactic(auto, unfolding(rv_text_laws::specs::Bytes::digit))]
+#[tactic(auto, unfolding(rv_expression_laws::specs::Bytes::digit))]
 pub(crate) fn digit(byte: u8) -> u8
     ensures { result ≡ digit byte }
 {

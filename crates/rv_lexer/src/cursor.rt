@@ -1,9 +1,9 @@
 //! The tokens of a source with the next one in hand.
 
 ghost use Rattle.std.specs.Prelude.{◌≡◌, ◌∷◌, false, option_map, is_some};
-ghost use Rattle.rv_text_laws.specs.Lexing.{is_last};
-ghost use Rattle.rv_text_laws.specs.SyntaxError.{wrong};
-ghost use Rattle.rv_text_laws.specs.Joined.{joined_bytes, joined_at};
+ghost use Rattle.rv_expression_laws.specs.Lexing.{is_last};
+ghost use Rattle.rv_expression_laws.specs.SyntaxError.{wrong};
+ghost use Rattle.rv_expression_laws.specs.Joined.{joined_bytes, joined_at};
 ghost use Rattle.rv_fault.specs.SourceFault.{source_fault_number};
 ghost use Rattle.rv_lexer.specs.Token.{token_of, kind_of};
 ghost use Rattle.rv_lexer.specs.Left.{GivesToken};
@@ -12,7 +12,7 @@ use crate::lexer::Lexer;
 use crate::syntax_error::SyntaxError;
 use crate::token::{Token, TokenKind};
 use rv_fault::SourceCode;
-use rv_text_laws::Punct;
+use rv_expression_laws::Punct;
 
 /// A token that goes on with a name, where no gap is between.
 fn joins(kind: TokenKind<'_>) -> bool
@@ -41,12 +41,12 @@ pub struct Cursor<'a> {
 
 impl<'a> Cursor<'a> {
     ghost use Rattle.rv_lexer.specs.Left.{tokens_left};
-    ghost use Rattle.rv_lexer.specs.Cursor.{left, syntax_error_of};
+    ghost use Rattle.rv_lexer.specs.Cursor.{remaining, syntax_error_of};
 
     /// The tokens of a lexer.
-    #[tactic(auto, unfolding(crate::specs::Cursor::left))]
+    #[tactic(auto, unfolding(crate::specs::Cursor::remaining))]
     pub fn new(lexer: Lexer<'a>) -> Self
-        ensures { left result ≡ tokens_left lexer.entry }
+        ensures { remaining result ≡ tokens_left lexer.entry }
     {
         let before = lexer;
         let mut lexer = lexer;
@@ -59,27 +59,27 @@ impl<'a> Cursor<'a> {
     }
 
     /// Takes the next token, which is not the last.
-    #[tactic(auto, unfolding(crate::specs::Cursor::left))]
+    #[tactic(auto, unfolding(crate::specs::Cursor::remaining))]
     pub fn advance(&mut self)
         requires { is_last (kind_of self.old.next.kind) ≡ false }
-        ensures { left self.old ≡ token_of self.old.next ∷ left self.new }
+        ensures { remaining self.old ≡ token_of self.old.next ∷ remaining self.new }
     {
         self.before = self.lexer;
         self.lexer.put_next(&mut self.next);
     }
 
     /// The lexer whose next token is the cursor's.
-    #[tactic(auto, unfolding(crate::specs::Cursor::left))]
+    #[tactic(auto, unfolding(crate::specs::Cursor::remaining))]
     pub fn lexer(&self) -> Lexer<'a>
-        ensures { tokens_left result ≡ left self.now }
+        ensures { tokens_left result ≡ remaining self.now }
     {
         self.before
     }
 
     /// The name at the front, in which minus signs may stand after the first byte; the cursor stays where none is.
     pub fn joined(&mut self) -> Option<&'a [u8]>
-        ensures { option_map (λ name. (name.now, left self.new)) result
-            ≡ joined_at (left self.old) }
+        ensures { option_map (λ name. (name.now, remaining self.new)) result
+            ≡ joined_at (remaining self.old) }
     {
         let TokenKind::Name(_) = self.next.kind else {
             return None;

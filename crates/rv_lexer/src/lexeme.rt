@@ -6,10 +6,10 @@
 
 ghost use Rattle.std.specs.Prelude.{◌≡◌, ◌+◌, ◌≤◌, ◌<◌, ◌^◌, ◌∷◌, slice_index, true, false, MatchOption, IfSome, length, option_map, if◌then◌else◌};
 ghost use Rattle.std.specs.List.{prefix_len};
-ghost use Rattle.rv_text_laws.specs.Bytes.{in_line, class as class_of};
-ghost use Rattle.rv_text_laws.specs.Grammar.{Spells};
-ghost use Rattle.rv_text_laws.specs.Lexing.{newlines, is_gap};
-ghost use Rattle.rv_text_laws.specs.Front.{close_at, lexeme_at, lexeme_by, after_slash, after_less, after_greater, with_equal};
+ghost use Rattle.rv_expression_laws.specs.Bytes.{in_line, class as class_of};
+ghost use Rattle.rv_expression_laws.specs.Grammar.{Spells};
+ghost use Rattle.rv_expression_laws.specs.Lexing.{newlines, is_gap};
+ghost use Rattle.rv_expression_laws.specs.Front.{close_at, lexeme_at, lexeme_by, after_slash, after_less, after_greater, with_equal};
 ghost use Rattle.rv_lexer.specs.Token.{kind_of};
 ghost use Rattle.rv_lexer.specs.Lexeme.{front_of, lexeme_kind_of, has_feeds, is_blank};
 
@@ -18,7 +18,7 @@ use crate::strings::{character_at, string_length};
 use crate::token::TokenKind;
 use crate::word::{digits_kind, word_length};
 use memchr::{memchr, memmem};
-use rv_text_laws::{Class, Punct};
+use rv_expression_laws::{Class, Punct};
 
 /// What a lexeme is.
 #[derive(Clone, Copy, Drop)]
@@ -224,7 +224,7 @@ fn lexeme_by<'a>(class: Class, bytes: &'a [u8], rest: &'a [u8]) -> Option<Lexeme
 }
 
 /// The lexeme at the front of bytes; `None` where none can stand.
-#[tactic(auto, unfolding(rv_text_laws::specs::Front::lexeme_at))]
+#[tactic(auto, unfolding(rv_expression_laws::specs::Front::lexeme_at))]
 pub(crate) fn lexeme_at(bytes: &[u8]) -> Option<Lexeme<'_>>
     ensures { option_map front_of result ≡ lexeme_at bytes.now }
 {
@@ -289,7 +289,7 @@ fn frequent_by<'a>(class: Class, bytes: &'a [u8], rest: &'a [u8]) -> Option<Freq
 
 /// The frequent token at the front of bytes, of which the first has this class, where one stands there.
 #[inline(always)]
-#[tactic(auto, unfolding(rv_text_laws::specs::Front::lexeme_at))]
+#[tactic(auto, unfolding(rv_expression_laws::specs::Front::lexeme_at))]
 pub(crate) fn frequent_at(class: Class, bytes: &[u8]) -> Option<Frequent<'_>>
     requires some { 0 < length bytes.now }
     requires class { class ≡ class_of (slice_index bytes.now 0) }

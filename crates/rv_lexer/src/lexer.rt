@@ -5,10 +5,10 @@
 //! many instructions again.
 
 ghost use Rattle.std.specs.Prelude.{◌≡◌, slice_index, ◌+◌, ◌-◌, ◌<◌, ◌≤◌, ◌^◌, ◌∷◌, [], true, length, take, drop, if◌then◌else◌};
-ghost use Rattle.rv_text_laws.specs.Bytes.{class as class_of};
-ghost use Rattle.rv_text_laws.specs.declared.class.Class.TheVariants.{Letter, Digit};
-ghost use Rattle.rv_text_laws.specs.Grammar.{Spells};
-ghost use Rattle.rv_text_laws.specs.Lexing.{newlines, is_last, last_kind};
+ghost use Rattle.rv_expression_laws.specs.Bytes.{class as class_of};
+ghost use Rattle.rv_expression_laws.specs.declared.class.Class.TheVariants.{Letter, Digit};
+ghost use Rattle.rv_expression_laws.specs.Grammar.{Spells};
+ghost use Rattle.rv_expression_laws.specs.Lexing.{newlines, is_last, last_kind};
 ghost use Rattle.std.specs.Iterator.{YieldsFirstBy, item_count};
 ghost use Rattle.rv_lexer.specs.Lexeme.{lexeme_kind_of};
 ghost use Rattle.rv_lexer.specs.Token.{kind_of, token_of};
@@ -16,7 +16,7 @@ ghost use Rattle.rv_lexer.specs.Token.{kind_of, token_of};
 use crate::class::class;
 use crate::lexeme::{Lexeme, blanks, frequent_at, lexeme_at, line_feeds_of};
 use crate::token::{Token, TokenKind};
-use rv_text_laws::Class;
+use rv_expression_laws::Class;
 
 /// The tokens that a source has left. It is copied to look ahead.
 #[derive(Clone, Copy, Debug, Drop)]
@@ -33,7 +33,7 @@ pub struct Lexer<'a> {
 
 impl<'a> Lexer<'a> {
     ghost use Rattle.rv_lexer.specs.Left.{tokens_left, items_left, oversized};
-    ghost use Rattle.rv_text_laws.specs.Front.{tokens_from};
+    ghost use Rattle.rv_expression_laws.specs.Front.{tokens_from};
 
     /// The lexer of a source. Where its places do not fit 32 bits, the source is one bad token.
     pub fn new(source: &'a [u8]) -> Self

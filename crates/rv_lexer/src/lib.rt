@@ -4,7 +4,7 @@
 //! same with the next token in hand), the bytes of strings, the codes of faults and where a wrong token's fault stands.
 //!
 //! Its main contract is `Lexer::token`, clause `first`: the tokens left before a call are the token that it gives and the
-//! tokens left after it; and a source has exactly one list of tokens (`rv_text_laws::{one_list, some_list}`).
+//! tokens left after it; and a source has exactly one list of tokens (`rv_expression_laws::{one_list, some_list}`).
 //! It knows nothing of expressions, mnemonics or directives.
 //!
 //! ```text
@@ -32,7 +32,7 @@ pub use cursor::Cursor;
 pub use lexer::Lexer;
 pub use reference::NumericReference;
 pub use rv_fault::{SourceCode, SourceFault};
-pub use rv_text_laws::Punct;
+pub use rv_expression_laws::Punct;
 pub use strings::{append_string, string_contains, string_size};
 pub use syntax_error::{LONGEST_NAME, ReadError, SyntaxError};
 pub use token::{Token, TokenKind};

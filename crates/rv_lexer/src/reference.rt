@@ -2,8 +2,8 @@
 
 ghost use Rattle.std.specs.Prelude.{◌≡◌, ◌==◌, ◌||◌, ◌&&◌, true, is_some, IfSome};
 ghost use Rattle.std.specs.List.{list_all};
-ghost use Rattle.rv_text_laws.specs.Bytes.{is_digit};
-ghost use Rattle.rv_text_laws.specs.Front.{reference_in};
+ghost use Rattle.rv_expression_laws.specs.Bytes.{is_digit};
+ghost use Rattle.rv_expression_laws.specs.Front.{reference_in};
 
 use crate::word::is_digit;
 

@@ -4,11 +4,11 @@
 
 ghost use Rattle.std.specs.Prelude.{◌≡◌, ℕ, List, ◌==◌, ◌+◌, ◌%◌, ◌<◌, ◌≤◌, None, false, length, take, option_map, if◌then◌else◌, OnOk, OnErr, ◌++◌};
 ghost use Rattle.std.specs.List.{prefix_len, list_any};
-ghost use Rattle.rv_text_laws.specs.Cut.{cut};
-ghost use Rattle.rv_text_laws.specs.Bytes.{is_digit};
-ghost use Rattle.rv_text_laws.specs.Strings.{byte_of, named, is_plain, is_character};
-ghost use Rattle.rv_text_laws.specs.Grammar as grammar;
-ghost use Rattle.rv_text_laws.specs.Front.{has_first, number_by, escape_at, atom_at, closed_string, character_at};
+ghost use Rattle.rv_expression_laws.specs.Cut.{cut};
+ghost use Rattle.rv_expression_laws.specs.Bytes.{is_digit};
+ghost use Rattle.rv_expression_laws.specs.Strings.{byte_of, named, is_plain, is_character};
+ghost use Rattle.rv_expression_laws.specs.Grammar as grammar;
+ghost use Rattle.rv_expression_laws.specs.Front.{has_first, number_by, escape_at, atom_at, closed_string, character_at};
 ghost use Rattle.rv_lexer.specs.Token.{string_bytes};
 
 use crate::word::{is_digit, number_by};
@@ -90,7 +90,7 @@ pub(crate) fn begins(byte: u8, bytes: &[u8]) -> bool
 }
 
 /// The byte of an escape after its backslash, and its length with it.
-#[tactic(auto, unfolding(rv_text_laws::specs::Front::escape_at))]
+#[tactic(auto, unfolding(rv_expression_laws::specs::Front::escape_at))]
 fn escape_at(bytes: &[u8]) -> Option<(u8, usize)>
     ensures { result ≡ option_map (λ f. (byte_of f.0, f.1)) (escape_at bytes.now) }
 {
@@ -116,7 +116,7 @@ fn escape_at(bytes: &[u8]) -> Option<(u8, usize)>
 }
 
 /// What stands for one byte of a string: the byte, and the length.
-#[tactic(auto, unfolding(rv_text_laws::specs::Front::atom_at))]
+#[tactic(auto, unfolding(rv_expression_laws::specs::Front::atom_at))]
 fn atom_at(bytes: &[u8]) -> Option<(u8, usize)>
     ensures { result ≡ option_map (λ f. (byte_of f.0, f.1)) (atom_at bytes.now) }
 {

@@ -1,8 +1,8 @@
 //! What is wrong while a source is read: the token, its code, and where the fault stands.
 
 ghost use Rattle.std.specs.Prelude.{◌≡◌, ◌==◌};
-ghost use Rattle.rv_text_laws.specs.Codes.{limit};
-ghost use Rattle.rv_text_laws.specs.SyntaxError.{is_long, fault_offset, wrong};
+ghost use Rattle.rv_expression_laws.specs.Codes.{limit};
+ghost use Rattle.rv_expression_laws.specs.SyntaxError.{is_long, fault_offset, wrong};
 ghost use Rattle.rv_fault.specs.SourceFault.{source_fault_number};
 ghost use Rattle.rv_lexer.specs.Token.{token_of, kind_of};
 
@@ -100,7 +100,7 @@ fn is_limit(code: SourceCode) -> bool
 }
 
 /// The offset of a token's fault: of its first byte, but a name's limit at the first byte past it.
-#[tactic(auto, unfolding(rv_text_laws::specs::SyntaxError::fault_offset))]
+#[tactic(auto, unfolding(rv_expression_laws::specs::SyntaxError::fault_offset))]
 fn offset_of(token: Token<'_>, code: SourceCode) -> usize
     ensures { result ≡ fault_offset (token_of token.entry) (source_fault_number code) }
 {

@@ -1,7 +1,7 @@
 //! Tokens: what they are, and where.
 
 use crate::reference::NumericReference;
-use rv_text_laws::Punct;
+use rv_expression_laws::Punct;
 
 /// What a token is. Texts are parts of the source.
 #[derive(Clone, Copy, Debug, PartialEq, Eq, Drop)]

@@ -2,8 +2,8 @@
 
 ghost use Rattle.std.specs.Prelude.{◌≡◌, ◌<◌};
 ghost use Rattle.std.specs.List.{prefix_len};
-ghost use Rattle.rv_text_laws.specs.Bytes.{is_word, is_digit};
-ghost use Rattle.rv_text_laws.specs.Front.{number_by, after_zero, word_number, reference_in, digits_kind};
+ghost use Rattle.rv_expression_laws.specs.Bytes.{is_word, is_digit};
+ghost use Rattle.rv_expression_laws.specs.Front.{number_by, after_zero, word_number, reference_in, digits_kind};
 ghost use Rattle.rv_lexer.specs.Token.{kind_of};
 
 use crate::class::{digit, is_word};
@@ -58,7 +58,7 @@ fn after_zero(rest: &[u8]) -> Option<u64>
 }
 
 /// The number that a word writes.
-#[tactic(auto, unfolding(rv_text_laws::specs::Front::word_number))]
+#[tactic(auto, unfolding(rv_expression_laws::specs::Front::word_number))]
 fn number_in(word: &[u8]) -> Option<u64>
     ensures { result ≡ word_number word.now }
 {

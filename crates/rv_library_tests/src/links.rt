@@ -3,7 +3,7 @@
 use rv_assemble::assemble;
 use rv_fault::LinkFault;
 use rv_names::Names;
-use rv_relax::{Placed, Plan};
+use rv_relax::{TextLine, Plan};
 use rv_reloc::{Kind, patch, value};
 use std::test::Fail;
 
@@ -31,7 +31,7 @@ fn plans(rt: HostRuntime) -> Result<(), Fail> {
     let alloc = rt.alloc();
     let objects = vec![in alloc; assemble(alloc, CALLS)?]?;
     let names = Names::of(alloc, &objects)?;
-    let text = Placed::of(alloc, &objects, &names)?;
+    let text = TextLine::of(alloc, &objects, &names)?;
     let plan = Plan::of(alloc, &text, true)?;
     // each call is a `jal`, so all behind it moves
     for (i, size) in [(0, 4), (1, 4), (2, 4), (3, 0)] {

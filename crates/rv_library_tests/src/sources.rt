@@ -2,7 +2,7 @@
 
 use rv_draft::Layout;
 use rv_parse::{Statement, parse};
-use rv_text::{Lexer, Meaning, SourceFault, TokenKind, Value, eval, parse_expr};
+use rv_expression::{Lexer, Meaning, SourceFault, TokenKind, Value, eval, parse_expr};
 use rv_unit::Unit;
 use std::test::Fail;
 

@@ -24,7 +24,7 @@ use Rattle.rv_isa_laws.proofs.BytesLemmas.{little_long}
 use Rattle.rv_reloc_laws.specs.Fields.{patched}
 use Rattle.rv_link_laws.proofs.ListsLemmas.{found_at, above}
 use Rattle.rv_placement.proofs.AlignmentsLemmas.{begins_some}
-use Rattle.rv_link.specs.declared.fixed.Input.{Input}
+use Rattle.rv_link.specs.declared.fixed.PlacedInput.{PlacedInput}
 use Rattle.rv_link_values.specs.Values.{IsInputAt}
 use Rattle.rv_link.proofs.StepsLemmas.{all_inside, kept_long}
 use Rattle.rv_link.specs.Filled.{IsPlacedInput, IsInside, input_at, linked_in}
@@ -147,7 +147,7 @@ applied_length ms w (r ∷ rs) bytes (one, h) =
     applied_length ms w rs (patched_at (new_offset ms r.place) r.kind (w r) bytes) (subst (λ n. AllByRecursion (IsInside ms n) rs) (sym same) h) ∙ same
 
 -- a section has as many bytes in the program as are left of it
-pub linked_long : (os : List Object) (p : Placement) (x : Input) → IsPlacedInput os p x
+pub linked_long : (os : List Object) (p : Placement) (x : PlacedInput) → IsPlacedInput os p x
     → length (linked_in os p (input_at os x.file x.index (short_section_of x.section.now))) ≡ size (starts_of p) (input_at os x.file x.index (short_section_of x.section.now))
 linked_long os p x is =
     let s : Section = short_section_of x.section.now in

@@ -4,8 +4,8 @@ use Rattle.std.proofs.Common.{◌≡◌, ℕ, suc, Bool, true, false, List, [], 
 use Rattle.std.proofs.lemmas.List.{length-map}
 use Rattle.rv_map_laws.specs.declared.map.SectionId.{SectionId}
 use Rattle.rv_image_laws.specs.Linked.{Linked}
-use Rattle.rv_layout_laws.specs.Calls.{IsText}
-use Rattle.rv_layout_laws.proofs.ShorteningLemmas.{greatest_closed_exists}
+use Rattle.rv_size_laws.specs.Calls.{IsText}
+use Rattle.rv_size_laws.proofs.ShorteningLemmas.{greatest_closed_exists}
 use Rattle.rv_collect_laws.proofs.MarksLemmas.{some_drops}
 use Rattle.rv_object_types.specs.declared.object.Object.{Object as DeclaredObject}
 use Rattle.rv_object_laws.specs.declared.symbol.Definition.{Definition}
@@ -29,7 +29,7 @@ use Rattle.rv_names.proofs.AlikeLemmas.{same_names, seen_left}
 use Rattle.rv_fault.specs.declared.link_fault.LinkFault.{LinkFault}
 use Rattle.rv_fault.specs.declared.link_fault.LinkFault.TheVariants.{Overflow, OddTarget, DanglingPcrel, AlignmentShort, Undefined, Duplicate, EntryMissing, ImageTooLarge, BadTextStart, TooManyFiles, OutOfMemory}
 use Rattle.rv_link.specs.Left.{HasNoLink, IsLinkOfLeft}
-use Rattle.rv_link_laws.specs.Details.{IsProgramWith}
+use Rattle.rv_link_laws.specs.WithMap.{IsProgramWith}
 use Rattle.rv_link_laws.specs.TextStart.{AreWithin}
 
 -- ---- names
@@ -151,8 +151,8 @@ out_of_memory ds start relax =
     record { left = some.0; relaxed = some.1; unlinked = tt }
 
 -- what collection drops, where it is off: nothing
-pub none_dropped : (os : List Object) (start : ℕ) (relax : Bool) (drops : List SectionId) (details : Bool) (l : Linked) → drops ≡ [] → IsLinkOfLeft os start relax drops details l → IsProgramWith os start relax false details l
-none_dropped os start relax drops details l none h =
+pub none_dropped : (os : List Object) (start : ℕ) (relax : Bool) (drops : List SectionId) (with_map : Bool) (l : Linked) → drops ≡ [] → IsLinkOfLeft os start relax drops with_map l → IsProgramWith os start relax false with_map l
+none_dropped os start relax drops with_map l none h =
     let whole = h.linked.whole in
     let none_here : whole.map.drops ≡ [] = h.linked.dropped ∙ none in
     record {
@@ -174,9 +174,9 @@ none_unlinked os start relax fault h = record {
 }
 
 -- and where it is on
-pub some_dropped : (os kept : List Object) (start : ℕ) (relax : Bool) (drops others : List SectionId) (details : Bool) (l : Linked) → Collects true os drops → kept ≡ without drops os → others ≡ drops → IsLinkOfLeft kept start relax others details l
-    → IsProgramWith os start relax true details l
-some_dropped os kept start relax drops others details l collects is same h =
+pub some_dropped : (os kept : List Object) (start : ℕ) (relax : Bool) (drops others : List SectionId) (with_map : Bool) (l : Linked) → Collects true os drops → kept ≡ without drops os → others ≡ drops → IsLinkOfLeft kept start relax others with_map l
+    → IsProgramWith os start relax true with_map l
+some_dropped os kept start relax drops others with_map l collects is same h =
     let whole = h.linked.whole in
     let here : whole.map.drops ≡ drops = h.linked.dropped ∙ same in
     record {

@@ -18,7 +18,7 @@ use Rattle.rv_relax.specs.Kept.{moves_of}
 use Rattle.rv_placement.specs.declared.placement.PlacedSection.{PlacedSection}
 use Rattle.rv_placement.specs.declared.placement.Placement.{Placement}
 use Rattle.rv_placement.specs.Placement.{starts_of, start_in, placed_in, placed_at, are_roomy_in, are_roomy, IsPlacement}
-use Rattle.rv_link.specs.declared.fixed.Input.{Input}
+use Rattle.rv_link.specs.declared.fixed.PlacedInput.{PlacedInput}
 use Rattle.rv_link.specs.Filled.{IsPlacedInput}
 use Rattle.rv_link_laws.proofs.ListsLemmas.{found_at}
 
@@ -68,7 +68,7 @@ module _ (objects : List ShortObject) (first : ℕ) (p : Placement) (placed : Is
     pub places_there : slice_get p.files.items file ≡ Some qs
     places_there = get_read p.files.items file qs ((counts p.files.items (map short_object_of objects) placed.each file (short_object_of o) object_there qs qs_is).0) qs_is
 
-    pub input_is : (x : Input) → x.file ≡ file → x.index ≡ index → x.section.now ≡ get_or (get_or objects file o).sections.items index x.section.now → x.placed.now ≡ get_or qs.items index x.placed.now
+    pub input_is : (x : PlacedInput) → x.file ≡ file → x.index ≡ index → x.section.now ≡ get_or (get_or objects file o).sections.items index x.section.now → x.placed.now ≡ get_or qs.items index x.placed.now
         → IsPlacedInput (map short_object_of objects) p x
     input_is x e f s_is q_is =
         let same_file : file ≡ x.file = sym e in

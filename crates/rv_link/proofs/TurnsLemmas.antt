@@ -15,7 +15,7 @@ use Rattle.rv_link_laws.specs.IsLinkOf.{is_loaded}
 use Rattle.rv_shorten.specs.Sections.{short_section_of}
 use Rattle.rv_placement.specs.declared.placement.Placement.{Placement}
 use Rattle.rv_placement.specs.Placement.{starts_of, IsPlacement, layout_of}
-use Rattle.rv_link.specs.declared.fixed.Input.{Input}
+use Rattle.rv_link.specs.declared.fixed.PlacedInput.{PlacedInput}
 use Rattle.rv_link.specs.declared.regions.Regions.{Regions}
 use Rattle.rv_link.specs.Filled.{IsPlacedInput, input_at, linked_in}
 use Rattle.rv_fault.specs.declared.link_fault.LinkFault.{LinkFault}
@@ -23,7 +23,7 @@ use Rattle.rv_link.specs.Untaken.{OrMemory, AreUnfilled}
 use Rattle.rv_link.specs.Regions.{left_from, left_files, IsGrown, AreGrown}
 use Rattle.rv_link.proofs.GrowingLemmas.{later, grown_first, grown_next, grown_same, left_takes, left_skips, linked_long}
 
-module _ (os : List Object) (p : Placement) (x : Input) (is : IsPlacedInput os p x) where
+module _ (os : List Object) (p : Placement) (x : PlacedInput) (is : IsPlacedInput os p x) where
   -- a region that a section goes to
   one : (goes : Section → Bool) (region : Region) (out new : List ℕ) → goes (short_section_of x.section.now) ≡ true
       → IsGrown (linked_in os p) (starts_of p) region (inputs goes os) (left_from os x.file x.index goes) out

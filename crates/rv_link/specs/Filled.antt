@@ -15,7 +15,7 @@ use Rattle.rv_shorten.specs.View.{short_object_of}
 use Rattle.rv_relax.specs.Kept.{moves_of}
 use Rattle.rv_placement.specs.declared.placement.Placement.{Placement}
 use Rattle.rv_placement.specs.Placement.{starts_of, layout_of}
-use Rattle.rv_link.specs.declared.fixed.Input.{Input}
+use Rattle.rv_link.specs.declared.fixed.PlacedInput.{PlacedInput}
 use Rattle.rv_link.specs.declared.fixed.Fixed.{Fixed}
 
 abbrev pub objects_of : Fixed → List Object
@@ -26,19 +26,19 @@ abbrev pub input_at : List Object → ℕ → ℕ → Section → InputSection
 input_at os file index s =
     record { file = file + 1; object = object_at os (file + 1); index = index; section = s }
 
-abbrev pub input_of : Fixed → Input → InputSection
+abbrev pub input_of : Fixed → PlacedInput → InputSection
 input_of f x = input_at (objects_of f) x.file x.index (short_section_of x.section.now)
 
 -- the section is one of the objects, and what is placed for it is where it starts, with room for
 -- its paddings
-pub record IsPlacedInput (os : List Object) (p : Placement) (x : Input) : Type 0 where
+pub record IsPlacedInput (os : List Object) (p : Placement) (x : PlacedInput) : Type 0 where
   pub stands : object_section os x.file x.index ≡ Some (short_section_of x.section.now)
   pub start : starts_of p (x.file + 1) x.index ≡ x.placed.now.start
   pub planned : moves_of x.placed.now.plan.now
       ≡ moves x.placed.now.start (short_section_of x.section.now)
   pub room : IsTrue (list_all has_room (moves_of x.placed.now.plan.now))
 
-abbrev pub IsInputOf : Fixed → Input → Type 0
+abbrev pub IsInputOf : Fixed → PlacedInput → Type 0
 IsInputOf f x = IsPlacedInput (objects_of f) f.placement.now x
 
 -- a relocation's field lies in so many bytes that are kept
@@ -49,11 +49,11 @@ IsInside ms size r = 0 < width_of r.kind → new_offset ms r.place + width_of r.
 abbrev pub linked_in : List Object → Placement → InputSection → List ℕ
 linked_in os p i = linked_bytes (outer_in os (layout_of p)) (starts_of p) os i
 
-abbrev pub input_bytes : Fixed → Input → List ℕ
+abbrev pub input_bytes : Fixed → PlacedInput → List ℕ
 input_bytes f x = linked_in (objects_of f) f.placement.now (input_of f x)
 
 -- the fields of a section take their values
-abbrev pub AreTakenOf : Fixed → Input → Type 0
+abbrev pub AreTakenOf : Fixed → PlacedInput → Type 0
 AreTakenOf f x =
     AllByRecursion (IsTaken (objects_of f) (layout_of f.placement.now) (input_of f x))
     (short_section_of x.section.now).relocations

@@ -8,22 +8,22 @@ use Rattle.rv_link_laws.specs.IsLinkOf.{IsLinkOf}
 use Rattle.rv_link_laws.specs.Shortened.{Relaxes}
 use Rattle.rv_link_laws.specs.Refusals.{IsUnlinked}
 use Rattle.rv_fault.specs.declared.link_fault.LinkFault.{LinkFault}
-use Rattle.rv_link_laws.specs.Details.{with_details}
+use Rattle.rv_link_laws.specs.WithMap.{map_where}
 
 -- objects are linked, to a map that says that these sections were dropped before, with its details
 -- or without
-pub record IsLinkWith (os : List Object) (start : ℕ) (drops : List SectionId) (details : Bool)
+pub record IsLinkWith (os : List Object) (start : ℕ) (drops : List SectionId) (with_map : Bool)
     (l : Linked) : Type 0 where
   pub whole : Linked
   pub linked : IsLinkOf os start whole
   pub dropped : whole.map.drops ≡ drops
-  pub shown : l ≡ with_details details whole
+  pub shown : l ≡ map_where with_map whole
 
 pub record IsLinkOfLeft (os : List Object) (start : ℕ) (relax : Bool) (drops : List SectionId)
-    (details : Bool) (l : Linked) : Type 0 where
+    (with_map : Bool) (l : Linked) : Type 0 where
   pub left : List Object
   pub relaxed : Relaxes relax os left
-  pub linked : IsLinkWith left start drops details l
+  pub linked : IsLinkWith left start drops with_map l
 
 -- it cannot be
 pub record HasNoLink (os : List Object) (start : ℕ) (relax : Bool) (fault : LinkFault) :

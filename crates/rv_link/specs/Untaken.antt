@@ -10,11 +10,11 @@ use Rattle.rv_link_laws.specs.IsLinkOf.{is_loaded}
 use Rattle.rv_link_laws.specs.Untaken.{AreUntaken, IsFirstUntaken}
 use Rattle.rv_placement.specs.declared.placement.Placement.{Placement}
 use Rattle.rv_placement.specs.Placement.{layout_of}
-use Rattle.rv_link.specs.declared.fixed.Input.{Input}
+use Rattle.rv_link.specs.declared.fixed.PlacedInput.{PlacedInput}
 use Rattle.rv_link.specs.declared.fixed.Fixed.{Fixed}
 use Rattle.rv_link.specs.Filled.{objects_of, input_of}
 
-abbrev pub AreUntakenOf : Fixed → Input → LinkFault → Type 0
+abbrev pub AreUntakenOf : Fixed → PlacedInput → LinkFault → Type 0
 AreUntakenOf f x fault = AreUntaken (objects_of f) (layout_of f.placement.now) fault (input_of f x)
 
 -- memory may be wanting anywhere

@@ -34,7 +34,7 @@ use std::alloc::{AllocError, Global};
 
 /// A section of an object, and where it stands.
 #[derive(Drop)]
-pub(crate) struct Input<'p, 'o, 'a> {
+pub(crate) struct PlacedInput<'p, 'o, 'a> {
     /// The place of its object, from 0.
     pub(crate) file: usize,
     /// Its own place there.
@@ -53,13 +53,13 @@ pub(crate) struct Fixed<'p, 'o, 'a, 'n> {
 
 impl<'p, 'o, 'a, 'n> Fixed<'p, 'o, 'a, 'n> {
     /// The section at an index of an object, both from 0.
-    pub(crate) fn input(&self, file: usize, index: usize) -> Input<'p, 'o, 'a>
+    pub(crate) fn input(&self, file: usize, index: usize) -> PlacedInput<'p, 'o, 'a>
         requires fixed { IsFixed self.now }
         requires section { index < length (object_at (objects_of self.now) (file + 1)).sections }
         ensures input { IsInputOf self.now result }
         ensures at { (result.file ≡ file) × (result.index ≡ index) }
     {
-        Input {
+        PlacedInput {
             file,
             index,
             section: &self.objects[file].sections[index],
@@ -68,7 +68,7 @@ impl<'p, 'o, 'a, 'n> Fixed<'p, 'o, 'a, 'n> {
     }
 
     /// The value of a relocation of a section, as it has moved.
-    fn value(&self, input: &Input<'_, '_, '_>, relocation: &Relocation) -> Result<i64, LinkFault>
+    fn value(&self, input: &PlacedInput<'_, '_, '_>, relocation: &Relocation) -> Result<i64, LinkFault>
         requires fixed { IsFixed self.now }
         requires input { IsInputOf self.now input.now }
         ensures found { IfOk result
@@ -88,7 +88,7 @@ impl<'p, 'o, 'a, 'n> Fixed<'p, 'o, 'a, 'n> {
     /// Writes the values of a section's relocations to their fields in what is kept of it.
     pub(crate) fn relocate(
         &self,
-        input: &Input<'_, '_, '_>,
+        input: &PlacedInput<'_, '_, '_>,
         bytes: &mut [u8],
     ) -> Result<(), LinkFault>
         requires fixed { IsFixed self.now }
@@ -118,7 +118,7 @@ impl<'p, 'o, 'a, 'n> Fixed<'p, 'o, 'a, 'n> {
     }
 
     /// Judges the relocations of a section without bytes.
-    pub(crate) fn judge(&self, input: &Input<'_, '_, '_>) -> Result<(), LinkFault>
+    pub(crate) fn judge(&self, input: &PlacedInput<'_, '_, '_>) -> Result<(), LinkFault>
         requires fixed { IsFixed self.now }
         requires input { IsInputOf self.now input.now }
         requires zeroed { has_no_bytes (short_section_of (input.now).section.now).contents ≡ true }
@@ -133,7 +133,7 @@ impl<'p, 'o, 'a, 'n> Fixed<'p, 'o, 'a, 'n> {
     fn put_bytes(
         &self,
         alloc: Global,
-        input: &Input<'_, '_, '_>,
+        input: &PlacedInput<'_, '_, '_>,
         out: &mut Vec<u8>,
     ) -> Result<(), LinkFault>
         requires fixed { IsFixed self.now }
@@ -154,7 +154,7 @@ impl<'p, 'o, 'a, 'n> Fixed<'p, 'o, 'a, 'n> {
     pub(crate) fn put(
         &self,
         alloc: Global,
-        input: &Input<'_, '_, '_>,
+        input: &PlacedInput<'_, '_, '_>,
         region: u64,
         out: &mut Vec<u8>,
     ) -> Result<(), LinkFault>

@@ -25,7 +25,7 @@
 //! Source: System V gABI, "Sections", "Symbol Table", "Relocation"; RISC-V ELF psABI, "Relocations", "Linker Relaxation"; GNU ld.
 #![tactic(auto)]
 
-mod details;
+mod with_map;
 mod fields;
 mod fixed;
 mod law;

@@ -19,7 +19,7 @@ ghost use Rattle.rv_placement.specs.Placement.{IsPlacement, are_roomy, starts_of
 ghost use Rattle.rv_map_laws.specs.Limits.{IsDrop, IsMap};
 ghost use Rattle.rv_link.specs.Made.{made};
 ghost use Rattle.rv_link.specs.Left.{IsLinkWith};
-ghost use Rattle.rv_link_laws.specs.Details.{with_details};
+ghost use Rattle.rv_link_laws.specs.WithMap.{map_where};
 ghost use Rattle.rv_names.specs.Names.{IsDuplicate, IsNames};
 ghost use Rattle.rv_addresses.specs.Resolution.{all};
 ghost use Rattle.rv_link_laws.specs.Exports.{first_duplicate};
@@ -29,7 +29,7 @@ ghost use Rattle.rv_link.specs.Untaken.{AreUnfilled};
 ghost use Rattle.rv_link_laws.specs.TextStart.{AreWithin};
 ghost use Rattle.rv_link.specs.Regions.{AreGrown, HasLinkNames, IsReady, IsPlaced};
 
-use crate::details::{globals as globals_of_map, rows as rows_of_map};
+use crate::with_map::{globals as globals_of_map, rows as rows_of_map};
 use crate::fixed::Fixed;
 use crate::regions::Regions;
 use rv_addresses::Resolution;
@@ -56,13 +56,13 @@ pub(crate) fn link_by_plan(
     names: &Names<'_>,
     drops: Vec<SectionId>,
     start: u64,
-    details: bool,
+    with_map: bool,
 ) -> Result<Linked, LinkFault>
     requires within { AreWithin (length (planned_objects plan.now)) start }
     requires names { IsNames (planned_objects plan.now) names.now }
     requires drops { All (λ d. IsDrop d) drops.items }
     ensures links { IfOk result (λ l. IsLinkWith (planned_objects plan.now)
-        start drops.items details (linked_of l)) }
+        start drops.items with_map (linked_of l)) }
     ensures refuses { IfErr result (IsUnlinked (planned_objects plan.now) start) }
 {
     let objects = plan.objects.as_slice();
@@ -79,7 +79,7 @@ pub(crate) fn link_by_plan(
     // all addresses are fixed: those of sections, of what is kept of them, and of names
     let regions = fill(alloc, &resolved, &placement)?;
     // all bytes are fixed; what is left is to show them
-    let linked = finish(alloc, &resolved, drops, placement, entry, regions, details)?;
+    let linked = finish(alloc, &resolved, drops, placement, entry, regions, with_map)?;
     Ok(linked)
 }
 
@@ -206,7 +206,7 @@ fn finish(
     placement: Placement<'_>,
     entry: u64,
     regions: Regions,
-    details: bool,
+    with_map: bool,
 ) -> Result<Linked, LinkFault>
     requires few { length (resolution.now).objects.now ≤ most_files }
     requires placed { IsPlaced (all resolution.now) placement }
@@ -214,14 +214,14 @@ fn finish(
     requires even { entry % 2 ≡ 0 }
     requires drops { All (λ d. IsDrop d) drops.items }
     ensures made { IfOk result
-        (λ l. linked_of l ≡ with_details details
+        (λ l. linked_of l ≡ map_where with_map
         (made drops.items (all resolution.now) placement.entry entry regions)) }
     ensures readable { IfOk result (λ _. IsMap
         (made drops.items (all resolution.now) placement.entry entry regions).map) }
     ensures refuses { IfErr result (λ fault. fault ≡ OutOfMemory) }
 {
-    let globals = globals_of_map(alloc, resolution, &placement, details)?;
-    let rows = rows_of_map(alloc, resolution.objects, &placement, details)?;
+    let globals = globals_of_map(alloc, resolution, &placement, with_map)?;
+    let rows = rows_of_map(alloc, resolution.objects, &placement, with_map)?;
     let map = Map {
         text: placement.text,
         rodata: placement.rodata,

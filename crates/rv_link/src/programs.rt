@@ -9,7 +9,7 @@ ghost use Rattle.rv_link_laws.specs.Refusals.{HasNoProgram};
 ghost use Rattle.rv_names.specs.Names.{IsNames};
 ghost use Rattle.rv_link.specs.Left.{HasNoLink, IsLinkOfLeft};
 ghost use Rattle.rv_link_laws.specs.TextStart.{AreWithin};
-ghost use Rattle.rv_link_laws.specs.Details.{IsProgramWith, IsProgramWithoutDetails};
+ghost use Rattle.rv_link_laws.specs.WithMap.{IsProgramWith, IsProgramWithoutMap};
 
 use crate::options::LinkOptions;
 use crate::passes::{link_by_plan, named, within_limits};
@@ -39,7 +39,7 @@ pub fn link(
     ensures refuses { IfErr result (HasNoProgram (map object_of objects.now)
         options.text_start options.relax options.gc) }
 {
-    link_with_details(alloc, objects, options, true)
+    link_with_map(alloc, objects, options, true)
 }
 
 /// Links objects as `link`, without the names and the rows of the map, which the executable does not need.
@@ -52,23 +52,23 @@ pub fn link_exe(
     objects: &[Object<'_>],
     options: LinkOptions,
 ) -> Result<Linked, LinkFault>
-    ensures links { IfOk result (λ l. IsProgramWithoutDetails (map object_of objects.now)
+    ensures links { IfOk result (λ l. IsProgramWithoutMap (map object_of objects.now)
         options.text_start options.relax options.gc (linked_of l)) }
     ensures refuses { IfErr result (HasNoProgram (map object_of objects.now)
         options.text_start options.relax options.gc) }
 {
-    link_with_details(alloc, objects, options, false)
+    link_with_map(alloc, objects, options, false)
 }
 
 /// Links objects as `link`, with the names and the rows of the map where they are wanted.
-fn link_with_details(
+fn link_with_map(
     alloc: Global,
     objects: &[Object<'_>],
     options: LinkOptions,
-    details: bool,
+    with_map: bool,
 ) -> Result<Linked, LinkFault>
     ensures links { IfOk result (λ l. IsProgramWith (map object_of objects.now)
-        options.text_start options.relax options.gc details (linked_of l)) }
+        options.text_start options.relax options.gc with_map (linked_of l)) }
     ensures refuses { IfErr result (HasNoProgram (map object_of objects.now)
         options.text_start options.relax options.gc) }
 {
@@ -77,9 +77,9 @@ fn link_with_details(
     let names = named(alloc, objects)?;
     // what each name means is fixed: which symbol defines it, though not where that stands
     if options.gc {
-        return link_collected(alloc, objects, &names, options, details);
+        return link_collected(alloc, objects, &names, options, with_map);
     }
-    link_left(alloc, objects, &names, Vec::new(alloc), options, details)
+    link_left(alloc, objects, &names, Vec::new(alloc), options, with_map)
 }
 
 /// Links what collection leaves of objects, whose names mean this.
@@ -88,12 +88,12 @@ fn link_collected(
     objects: &[Object<'_>],
     names: &Names<'_>,
     options: LinkOptions,
-    details: bool,
+    with_map: bool,
 ) -> Result<Linked, LinkFault>
     requires within { AreWithin (length objects.now) options.text_start }
     requires names { IsNames (map object_of objects.now) names.now }
     ensures links { IfOk result (λ l. IsProgramWith (map object_of objects.now)
-        options.text_start options.relax true details (linked_of l)) }
+        options.text_start options.relax true with_map (linked_of l)) }
     ensures refuses { IfErr result (HasNoProgram (map object_of objects.now)
         options.text_start options.relax true) }
 {
@@ -101,7 +101,7 @@ fn link_collected(
     let kept = collection.left(alloc, objects)?;
     let drops = collection.drops(alloc, objects)?;
     // which sections are linked is fixed
-    link_left(alloc, &kept, names, drops, options, details)
+    link_left(alloc, &kept, names, drops, options, with_map)
 }
 
 /// Links the objects that collection leaves, whose names mean this, into a program whose map says what it dropped.
@@ -111,17 +111,17 @@ fn link_left(
     names: &Names<'_>,
     drops: Vec<SectionId>,
     options: LinkOptions,
-    details: bool,
+    with_map: bool,
 ) -> Result<Linked, LinkFault>
     requires within { AreWithin (length objects.now) options.text_start }
     requires names { IsNames (map object_of objects.now) names.now }
     requires drops { All (λ d. IsDrop d) drops.items }
     ensures links { IfOk result (λ l. IsLinkOfLeft (map object_of objects.now)
-        options.text_start options.relax drops.items details (linked_of l)) }
+        options.text_start options.relax drops.items with_map (linked_of l)) }
     ensures refuses { IfErr result
         (HasNoLink (map object_of objects.now) options.text_start options.relax) }
 {
     let plan = relaxed(alloc, objects, names, options.relax)?;
     // no call and no padding changes any more
-    link_by_plan(alloc, &plan, names, drops, options.text_start, details)
+    link_by_plan(alloc, &plan, names, drops, options.text_start, with_map)
 }

@@ -6,7 +6,7 @@ ghost use Rattle.rv_link.specs.Filled.{IsInputOf, objects_of};
 ghost use Rattle.rv_link.specs.Untaken.{AreUnfilled};
 ghost use Rattle.rv_link.specs.Regions.{AreGrown, IsFixed, left_files, left_from};
 
-use crate::fixed::{Fixed, Input};
+use crate::fixed::{Fixed, PlacedInput};
 use rv_fault::LinkFault;
 use rv_shorten::ShortSection;
 use std::alloc::Global;
@@ -87,7 +87,7 @@ impl Regions {
         &mut self,
         alloc: Global,
         fixed: &Fixed<'_, '_, '_, '_>,
-        input: &Input<'_, '_, '_>,
+        input: &PlacedInput<'_, '_, '_>,
     ) -> Result<(), LinkFault>
         requires fixed { IsFixed fixed.now }
         requires input { IsInputOf fixed.now input.now }

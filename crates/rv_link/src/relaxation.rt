@@ -10,7 +10,7 @@ ghost use Rattle.rv_fault.specs.declared.link_fault.LinkFault.TheVariants.{OutOf
 use rv_fault::LinkFault;
 use rv_names::Names;
 use rv_object_types::Object;
-use rv_relax::{Placed, Plan};
+use rv_relax::{TextLine, Plan};
 use std::alloc::Global;
 
 /// The plan of objects, whose names mean this, where relaxation is on or not. They are lent: no byte of them moves before the
@@ -30,6 +30,6 @@ pub(crate) fn relaxed<'o, 'a>(
         // where no call may be shortened, nobody asks where calls lead
         return Ok(Plan::whole(alloc, objects)?);
     }
-    let placed = Placed::of(alloc, objects, names)?;
+    let placed = TextLine::of(alloc, objects, names)?;
     Ok(placed.into_plan(alloc)?)
 }

@@ -7,12 +7,12 @@ use Rattle.std.proofs.lemmas.Bool.{cases_lt, eqb-true, eq-eqb, and_parts, and_fr
 use Rattle.rv_list_laws.proofs.FilterLemmas.{all_filtered}
 use Rattle.rv_list_laws.proofs.EachLemmas.{each_append, each_get_or}
 use Rattle.rv_list_laws.proofs.TestsLemmas.{any_left, any_right}
-use Rattle.rv_layout_laws.specs.Sites.{padding_site}
-use Rattle.rv_layout_laws.specs.declared.site.Site.{Site}
-use Rattle.rv_layout_laws.specs.declared.site.SiteKind.{SiteKind}
-use Rattle.rv_layout_laws.specs.declared.site.SiteKind.TheVariants.{Call, Padding}
-use Rattle.rv_layout_laws.specs.Calls.{bytes_of, site_at, InOrder, IsOutside, LeadsOutside, IsText}
-use Rattle.rv_layout_laws.specs.Calls as layout
+use Rattle.rv_size_laws.specs.Sites.{padding_site}
+use Rattle.rv_size_laws.specs.declared.site.Site.{Site}
+use Rattle.rv_size_laws.specs.declared.site.SiteKind.{SiteKind}
+use Rattle.rv_size_laws.specs.declared.site.SiteKind.TheVariants.{Call, Padding}
+use Rattle.rv_size_laws.specs.Calls.{bytes_of, site_at, InOrder, IsOutside, LeadsOutside, IsText}
+use Rattle.rv_size_laws.specs.Calls as layout
 use Rattle.rv_object_laws.specs.Object.{Section, Object, Relocation, size_of}
 use Rattle.rv_object_laws.specs.Valid.{held, is_align, is_padding, are_all_apart}
 use Rattle.rv_link_laws.specs.Moves.{full_padding, has_padding, alignment_of}

@@ -2,7 +2,7 @@
 -- (gABI, "Sections"; GNU ld, "SECTIONS Command"; this project's layout).
 
 use Rattle.std.specs.Prelude.{◌≡◌, ℕ, suc, ◌+◌, ◌-◌, Bool, true, false, nat_lt, ⊤, max, List, [], ◌∷◌, ◌++◌, if◌then◌else◌}
-use Rattle.rv_layout_laws.specs.Alignment.{aligned}
+use Rattle.rv_size_laws.specs.Alignment.{aligned}
 use Rattle.rv_isa_laws.specs.Bytes.{zeros}
 use Rattle.rv_map_laws.specs.declared.map.Region.{Region}
 use Rattle.rv_map_laws.specs.Regions.{is_text, is_bss, is_data, is_rodata}

@@ -4,7 +4,7 @@
 use Rattle.std.specs.Prelude.{◌≡◌, ℕ, ◌+◌, ◌-◌, ◌<◌, ◌≤◌, ◌^◌, ◌⊎◌, IsTrue, List, [], ◌++◌, Option, Some, None}
 use Rattle.std.specs.List.{AllByRecursion, list_all, slice_get}
 use Rattle.rv_isa_laws.specs.Platform.{stack_start, memory_limit}
-use Rattle.rv_layout_laws.specs.Alignment.{aligned}
+use Rattle.rv_size_laws.specs.Alignment.{aligned}
 use Rattle.rv_map_laws.specs.declared.map.Region.{Region}
 use Rattle.rv_map_laws.specs.Map.{Map, Global}
 use Rattle.rv_object_laws.specs.Object.{Section, Object, size_of}

@@ -16,7 +16,7 @@ pub mod Entry
 pub mod Exports
 pub mod Undefined
 pub mod TextStart
-pub mod Details
+pub mod WithMap
 pub mod Layout
 pub mod Untaken
 pub mod Refusals

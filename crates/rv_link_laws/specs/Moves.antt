@@ -3,7 +3,7 @@
 
 use Rattle.std.specs.Prelude.{ℕ, ◌+◌, ◌-◌, Bool, ◌&&◌, nat_le, nat_lt, min, List, [], ◌∷◌, ◌++◌, length, take, drop, filter, sum_by, unwrap_or, if◌then◌else◌}
 use Rattle.std.specs.List.{find}
-use Rattle.rv_layout_laws.specs.Alignment.{aligned}
+use Rattle.rv_size_laws.specs.Alignment.{aligned}
 use Rattle.rv_object_laws.specs.Object.{Relocation, Section}
 use Rattle.rv_object_laws.specs.Padding.{no_operations, operations_in}
 use Rattle.rv_object_laws.specs.Valid.{is_align, padding_of}

@@ -3,7 +3,7 @@
 
 use Rattle.std.specs.Prelude.{◌≡◌, ℕ, suc, pos, ◌+◌, ◌-◌, ◌==◌, Bool, true, false, ◌&&◌, nat_lt, List, [], ◌∷◌, filter, map, Option, Some, None, if◌then◌else◌}
 use Rattle.std.specs.List.{slice_get}
-use Rattle.rv_layout_laws.specs.Sites.{size_at}
+use Rattle.rv_size_laws.specs.Sites.{size_at}
 use Rattle.rv_isa.specs.declared.kind.Kind.{Kind}
 use Rattle.rv_isa.specs.declared.kind.Kind.TheVariants as kinds
 use Rattle.rv_isa.specs.declared.instruction.Inst.TheVariants as isa
@@ -11,7 +11,7 @@ use Rattle.rv_isa_laws.specs.Bytes.{little_endian}
 use Rattle.rv_isa_laws.specs.Word.{form, word}
 use Rattle.rv_parcel.specs.declared.form.Compressed.TheVariants as compressed
 use Rattle.rv_parcel.specs.Parcel.{parcel}
-use Rattle.rv_layout_laws.specs.Calls.{IsGreatestClosed}
+use Rattle.rv_size_laws.specs.Calls.{IsGreatestClosed}
 use Rattle.rv_object_laws.specs.declared.symbol.Definition.{Definition}
 use Rattle.rv_object_laws.specs.declared.symbol.Definition.TheVariants as definitions
 use Rattle.rv_object_laws.specs.declared.row.Row.{Row}

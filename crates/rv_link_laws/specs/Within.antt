@@ -1,10 +1,10 @@
 -- Sites within a text of so many bytes.
 
 use Rattle.std.specs.Prelude.{ℕ, ◌+◌, ◌≤◌, ⊤}
-use Rattle.rv_layout_laws.specs.declared.site.Site.{Site}
-use Rattle.rv_layout_laws.specs.declared.site.SiteKind.{SiteKind}
-use Rattle.rv_layout_laws.specs.declared.site.SiteKind.TheVariants.{Call, Padding}
-use Rattle.rv_layout_laws.specs.Calls.{bytes_of}
+use Rattle.rv_size_laws.specs.declared.site.Site.{Site}
+use Rattle.rv_size_laws.specs.declared.site.SiteKind.{SiteKind}
+use Rattle.rv_size_laws.specs.declared.site.SiteKind.TheVariants.{Call, Padding}
+use Rattle.rv_size_laws.specs.Calls.{bytes_of}
 
 -- a call leads to one of its places, or to its end
 abbrev pub LeadsWithin : ℕ → SiteKind → Type 0

@@ -5,7 +5,7 @@ ghost use Rattle.std.specs.List.{AllByRecursion};
 ghost use Rattle.std.specs.Option.{option_map};
 ghost use Rattle.rv_map_laws.specs.declared.map.SectionId.{SectionId};
 ghost use Rattle.rv_collect_laws.specs.Graph.{is_dropped};
-ghost use Rattle.rv_layout_laws.specs.Calls.{IsText, site_at};
+ghost use Rattle.rv_size_laws.specs.Calls.{IsText, site_at};
 ghost use Rattle.rv_object_laws.specs.Object.{Object, Relocation, Section, Symbol};
 ghost use Rattle.rv_object_laws.specs.declared.row.Row.{Row};
 ghost use Rattle.rv_link_laws.specs.CallSites.{length_of, sites_of, target_place};

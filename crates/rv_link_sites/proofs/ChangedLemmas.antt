@@ -9,10 +9,10 @@ use Rattle.std.proofs.lemmas.Bool.{leb-true, eqb-true, and_parts}
 use Rattle.std.proofs.lemmas.List.{take_more, take_all, map-append, take-append-drop, length-drop}
 use Rattle.std.proofs.lemmas.List.Elements.{filter-append, All-from_recursion, All-get_or}
 use Rattle.std.proofs.lemmas.List.Sorted.{list_any-IsPermutation, sum_by-IsPermutation, All-permutation}
-use Rattle.rv_layout_laws.specs.Sites.{padding_site}
+use Rattle.rv_size_laws.specs.Sites.{padding_site}
 use Rattle.rv_isa.specs.Kinds.{width_of}
-use Rattle.rv_layout_laws.specs.declared.site.Site.{Site}
-use Rattle.rv_layout_laws.specs.declared.site.Call.{Call}
+use Rattle.rv_size_laws.specs.declared.site.Site.{Site}
+use Rattle.rv_size_laws.specs.declared.site.Call.{Call}
 use Rattle.rv_object_types.specs.declared.relocation.Relocation.{Relocation as Declared}
 use Rattle.rv_object_types.specs.declared.section.Section.{Section as DeclaredSection}
 use Rattle.rv_object_laws.specs.Object as objects

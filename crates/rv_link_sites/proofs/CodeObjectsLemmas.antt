@@ -1,7 +1,7 @@
 -- The text of objects of the code, and its sites.
 
 use Rattle.std.proofs.Common.{List, map, ℕ}
-use Rattle.rv_layout_laws.specs.Calls.{site_at, IsText}
+use Rattle.rv_size_laws.specs.Calls.{site_at, IsText}
 use Rattle.rv_link_laws.specs.Inputs.{goes_to_text, inputs}
 use Rattle.rv_link_laws.specs.CallSites.{sites_of, length_of}
 use Rattle.rv_link_laws.specs.Within.{IsWithin}

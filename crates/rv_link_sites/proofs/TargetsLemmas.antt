@@ -3,10 +3,10 @@
 use Rattle.std.proofs.Common.{◌≡◌, ℕ, zero, suc, ◌+◌, ◌-◌, ◌*◌, ◌^◌, ◌≤◌, min, Bool, true, false, List, [], ◌∷◌, Option, Some, None, map, slice_index_or, refl, sym, ap, subst, ◌∙◌, arith}
 use Rattle.std.specs.Prelude.{if◌then◌else◌, option_and_then}
 use Rattle.std.specs.List.{slice_get}
-use Rattle.rv_layout_laws.specs.declared.site.Site.{Site}
-use Rattle.rv_layout_laws.specs.declared.site.SiteKind.{SiteKind}
-use Rattle.rv_layout_laws.specs.declared.site.SiteKind.TheVariants.{Call, Padding}
-use Rattle.rv_layout_laws.specs.Calls.{IsText, site_at}
+use Rattle.rv_size_laws.specs.declared.site.Site.{Site}
+use Rattle.rv_size_laws.specs.declared.site.SiteKind.{SiteKind}
+use Rattle.rv_size_laws.specs.declared.site.SiteKind.TheVariants.{Call, Padding}
+use Rattle.rv_size_laws.specs.Calls.{IsText, site_at}
 use Rattle.rv_object_types.specs.declared.object.Object.{Object as DeclaredObject}
 use Rattle.rv_object_laws.specs.Object.{Section, Relocation, Object, size_of}
 use Rattle.rv_object_types.specs.View.{object_of}

@@ -6,7 +6,7 @@ use Rattle.std.specs.List.{slice_get}
 use Rattle.std.proofs.lemmas.List.{drop_all}
 use Rattle.rv_list_laws.proofs.ElementsLemmas.{append_grown}
 use Rattle.rv_list_laws.proofs.TakeDropLemmas.{drop_next}
-use Rattle.rv_layout_laws.specs.declared.site.Site.{Site}
+use Rattle.rv_size_laws.specs.declared.site.Site.{Site}
 use Rattle.rv_object_laws.specs.Object.{Section, Object}
 use Rattle.rv_link_laws.specs.Inputs.{InputSection, goes_to_text}
 use Rattle.rv_link_laws.specs.CallSites.{sites_of}

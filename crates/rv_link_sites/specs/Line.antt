@@ -1,8 +1,8 @@
 -- The text in one line, section by section, as passes over objects go along it.
 
 use Rattle.std.specs.Prelude.{◌≡◌, ℕ, suc, ◌+◌, ◌*◌, List, [], ◌∷◌, ◌++◌, length, map, if◌then◌else◌}
-use Rattle.rv_layout_laws.specs.Sites.{padding_site}
-use Rattle.rv_layout_laws.specs.declared.site.Site.{Site}
+use Rattle.rv_size_laws.specs.Sites.{padding_site}
+use Rattle.rv_size_laws.specs.declared.site.Site.{Site}
 use Rattle.rv_object_laws.specs.Object.{Section, Object, size_of}
 use Rattle.rv_link_laws.specs.Inputs.{InputSection, goes_to_text, begins_at}
 use Rattle.rv_link_laws.specs.CallSites.{changes, start_padding, site_of}

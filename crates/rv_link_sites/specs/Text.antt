@@ -2,7 +2,7 @@
 
 use Rattle.std.specs.Prelude.{◌≡◌, ◌+◌, ◌*◌, ◌≤◌, ◌^◌, Bool, not, ◌&&◌, true, List, length, map, Option, Some, None, if◌then◌else◌}
 use Rattle.std.specs.List.{slice_get}
-use Rattle.rv_layout_laws.specs.declared.site.Call.{Call}
+use Rattle.rv_size_laws.specs.declared.site.Call.{Call}
 use Rattle.rv_object_laws.specs.Object.{Relocation, Section, Object, stored, size_of}
 use Rattle.rv_object_types.specs.Sections.{section_of}
 use Rattle.rv_object_types.specs.View.{object_of}
@@ -13,7 +13,7 @@ use Rattle.rv_link_laws.specs.CallSites.{is_call, are_call_words, is_entered, is
 use Rattle.rv_names.specs.Names.{IsNames}
 use Rattle.rv_link_sites.specs.declared.text.Target.{Target}
 use Rattle.rv_link_sites.specs.declared.text.Text.{Text}
-use Rattle.rv_link_sites.specs.declared.changes.Input.{Input}
+use Rattle.rv_link_sites.specs.declared.changes.TextSection.{TextSection}
 use Rattle.rv_link_sites.specs.Entries.{AreEntries}
 use Rattle.rv_link_sites.specs.Line.{ended_files, IsLine, input}
 
@@ -35,11 +35,11 @@ text_target os p =
 -- ---- a section
 
 -- what a section of the code is among those of the text
-abbrev pub input_of : Input → InputSection
+abbrev pub input_of : TextSection → InputSection
 input_of i = input (i.file + 1) (object_of i.object.now) i.index (section_of i.section.now)
 
 -- a section of text of these objects, with what their symbols name
-pub record IsGiven (t : Text) (i : Input) : Type 0 where
+pub record IsGiven (t : Text) (i : TextSection) : Type 0 where
   pub at : slice_get (objects_of t) i.file ≡ Some (object_of i.object.now)
   pub there : slice_get (object_of i.object.now).sections i.index ≡ Some (section_of i.section.now)
   pub text : goes_to_text (section_of i.section.now) ≡ true

@@ -9,7 +9,7 @@ ghost use Rattle.std.specs.Prelude.{◌≡◌, ◌+◌, ◌*◌, ◌≤◌, ◌<
 ghost use Rattle.std.specs.Int.{w64, int_wrap};
 ghost use Rattle.std.specs.Ordering.{nat_cmp};
 ghost use Rattle.std.specs.List.Sorted.{IsNonDecreasingBy, IsPermutation, IsStableByKey};
-ghost use Rattle.rv_layout_laws.specs.Sites.{padding_site};
+ghost use Rattle.rv_size_laws.specs.Sites.{padding_site};
 ghost use Rattle.rv_object_laws.specs.Object.{Relocation as SaidRelocation, size_of, stored};
 ghost use Rattle.rv_object_types.specs.Parts.{relocation_of};
 ghost use Rattle.rv_object_types.specs.Sections.{section_of};
@@ -24,13 +24,13 @@ use crate::line::start_padding;
 use crate::order::by_place;
 use crate::text::Text;
 use crate::words::{are_call_words, link_register};
-use rv_layout_laws::{Call, Padding, Site, SiteKind};
+use rv_size_laws::{Call, Padding, Site, SiteKind};
 use rv_object_types::{Object, Relocation, Section};
 use std::alloc::{AllocError, Global};
 
 /// A section of text, by its file and its index there, both from 0.
 #[derive(Clone, Copy, Drop)]
-pub(crate) struct Input<'i, 'a> {
+pub(crate) struct TextSection<'i, 'a> {
     pub(crate) file: usize,
     pub(crate) object: &'i Object<'a>,
     pub(crate) index: usize,
@@ -62,7 +62,7 @@ fn constant(addend: i64, past_end: u64) -> i64
 }
 
 /// A call, if its words, its target and the symbols of its object allow that it is shortened.
-fn call(text: &Text<'_, '_, '_, '_>, input: &Input<'_, '_>, relocation: &Relocation) -> Option<Call>
+fn call(text: &Text<'_, '_, '_, '_>, input: &TextSection<'_, '_>, relocation: &Relocation) -> Option<Call>
     requires laid { IsLaidText text.now }
     requires given { IsGiven text.now input.now }
     requires within { (relocation.now).place + 8
@@ -94,7 +94,7 @@ fn call(text: &Text<'_, '_, '_, '_>, input: &Input<'_, '_>, relocation: &Relocat
 fn put_call(
     sites: &mut Vec<Site>,
     text: &Text<'_, '_, '_, '_>,
-    input: &Input<'_, '_>,
+    input: &TextSection<'_, '_>,
     first: u128,
     relocation: &Relocation,
 ) -> Result<(), AllocError>
@@ -126,7 +126,7 @@ fn put_call(
 fn put_change(
     sites: &mut Vec<Site>,
     text: &Text<'_, '_, '_, '_>,
-    input: &Input<'_, '_>,
+    input: &TextSection<'_, '_>,
     first: u128,
     before: Before,
     relocation: &Relocation,
@@ -167,7 +167,7 @@ fn put_change(
 fn put_changes(
     sites: &mut Vec<Site>,
     text: &Text<'_, '_, '_, '_>,
-    input: &Input<'_, '_>,
+    input: &TextSection<'_, '_>,
     first: u128,
     sorted: &[Relocation],
 ) -> Result<(), AllocError>
@@ -205,7 +205,7 @@ pub(crate) fn put_section(
     alloc: Global,
     sites: &mut Vec<Site>,
     text: &Text<'_, '_, '_, '_>,
-    input: &Input<'_, '_>,
+    input: &TextSection<'_, '_>,
     stop: u128,
 ) -> Result<u128, AllocError>
     requires laid { IsLaidText text.now }

@@ -1,7 +1,7 @@
 //! What holds of the sites of objects of the code.
 
 ghost use Rattle.std.specs.Prelude.{ℕ, List, map};
-ghost use Rattle.rv_layout_laws.specs.Calls.{IsText, site_at};
+ghost use Rattle.rv_size_laws.specs.Calls.{IsText, site_at};
 ghost use Rattle.rv_object_types.specs.View.{object_of};
 ghost use Rattle.rv_object_types.specs.declared.object.Object.{Object};
 ghost use Rattle.rv_link_laws.specs.CallSites.{length_of, sites_of};

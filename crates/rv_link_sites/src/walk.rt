@@ -4,7 +4,7 @@ ghost use Rattle.std.specs.Prelude.{◌≡◌, ℕ, ◌+◌, ◌*◌, ◌≤◌,
 ghost use Rattle.std.specs.List.{slice_get};
 ghost use Rattle.rv_object_laws.specs.Object.{Section};
 ghost use Rattle.rv_object_types.specs.View.{object_of};
-ghost use Rattle.rv_layout_laws.specs.Calls.{site_at};
+ghost use Rattle.rv_size_laws.specs.Calls.{site_at};
 ghost use Rattle.rv_link_laws.specs.CallSites.{sites_of};
 ghost use Rattle.rv_link_laws.specs.Within.{IsWithin};
 ghost use Rattle.rv_names.specs.Names.{IsNames};
@@ -12,10 +12,10 @@ ghost use Rattle.rv_link_sites.specs.Entries.{AreEntries};
 ghost use Rattle.rv_link_sites.specs.Line as walk;
 ghost use Rattle.rv_link_sites.specs.Text.{IsLaidText, objects_of};
 
-use crate::changes::{Input, put_section};
+use crate::changes::{TextSection, put_section};
 use crate::entries::Entries;
 use crate::text::Text;
-use rv_layout_laws::Site;
+use rv_size_laws::Site;
 use rv_names::Names;
 use rv_object_types::Object;
 use std::alloc::{AllocError, Global};
@@ -112,7 +112,7 @@ fn put_at(
     if !section.is_text() {
         return Ok(stop);
     }
-    let input = Input {
+    let input = TextSection {
         file,
         object,
         index,

@@ -5,7 +5,7 @@ use crate::files::{ALIGN, CALL_OF_FIRST, RELAX, file, place};
 use rv_fault::LinkFault;
 use rv_names::Names;
 use rv_object::{Object, read};
-use rv_relax::{Placed, Plan};
+use rv_relax::{TextLine, Plan};
 use std::alloc::{AllocError, Global};
 use std::test::Fail;
 
@@ -46,11 +46,11 @@ const SHORT_PADDING: [[u64; 3]; 1] = [[2, ALIGN, 4]];
 pub(crate) fn text<'o, 'a>(
     alloc: Global,
     objects: &'o [Object<'a>],
-) -> Result<Option<Placed<'o, 'a>>, AllocError> {
+) -> Result<Option<TextLine<'o, 'a>>, AllocError> {
     let Ok(names) = Names::of(alloc, objects) else {
         return Ok(None);
     };
-    Ok(Some(Placed::of(alloc, objects, &names)?))
+    Ok(Some(TextLine::of(alloc, objects, &names)?))
 }
 
 /// Whether a plan has these sizes of calls and of alignments, and no more.

@@ -19,26 +19,26 @@ use Rattle.rv_machine.proofs.KnownLemmas.{follows_before}
 
 -- the events so far and those of what is left are all, whatever may follow what was read
 abbrev pub Telling : {Spells StandsFor : ℕ → Inst → Type 0} → Reader Spells StandsFor → List Event → ℕ → ℕ → (List ℕ → laws.Hart) → Mem → Hart → Mem → Type 0 → List ℕ → List ℕ → Type 0
-Telling reader told limit left begin first h m going read written =
-    (rest : List ℕ) → MayFollow going rest → told ++ events reader left (hart_of h rest written) m ≡ events reader limit (begin (read ++ rest)) first
+Telling reader told limit remaining begin first h m going read written =
+    (rest : List ℕ) → MayFollow going rest → told ++ events reader remaining (hart_of h rest written) m ≡ events reader limit (begin (read ++ rest)) first
 
 module _ {Spells StandsFor : ℕ → Inst → Type 0} (reader : Reader Spells StandsFor) where
   events-on : (n k : ℕ) (h h' : laws.Hart) (m m' : Mem) → n ≡ suc k → step reader h m ≡ On h' m' →
       events reader n h m ≡ event_of (fetch reader m h.pc) h m ∷ events reader k h' m'
-  events-on n k h h' m m' left goes =
-      rw left (ap (λ (x : Next). event_of (fetch reader m h.pc) h m ∷ events_after x (events reader k)) goes)
+  events-on n k h h' m m' remaining goes =
+      rw remaining (ap (λ (x : Next). event_of (fetch reader m h.pc) h m ∷ events_after x (events reader k)) goes)
 
   events-over : (n k : ℕ) (h : laws.Hart) (m : Mem) (e : laws.End) → n ≡ suc k → step reader h m ≡ Over e →
       events reader n h m ≡ event_of (fetch reader m h.pc) h m ∷ []
-  events-over n k h m e left over =
-      rw left (ap (λ (x : Next). event_of (fetch reader m h.pc) h m ∷ events_after x (events reader k)) over)
+  events-over n k h m e remaining over =
+      rw remaining (ap (λ (x : Next). event_of (fetch reader m h.pc) h m ∷ events_after x (events reader k)) over)
 
-  module _ (told : List Event) (limit left : ℕ) (begin : List ℕ → laws.Hart) (first : Mem) (s t : Input) (h : Hart) (m : Mem) (read more written : List ℕ) (r : HasRead s t more) (so_far : Telling reader told limit left begin first h m (s.ended ≡ false) read written) where
-    told_by : (rest : List ℕ) → MayFollow (t.ended ≡ false) rest → told ++ events reader left (hart_of h (more ++ rest) written) m ≡ events reader limit (begin ((read ++ more) ++ rest)) first
+  module _ (told : List Event) (limit remaining : ℕ) (begin : List ℕ → laws.Hart) (first : Mem) (s t : Input) (h : Hart) (m : Mem) (read more written : List ℕ) (r : HasRead s t more) (so_far : Telling reader told limit remaining begin first h m (s.ended ≡ false) read written) where
+    told_by : (rest : List ℕ) → MayFollow (t.ended ≡ false) rest → told ++ events reader remaining (hart_of h (more ++ rest) written) m ≡ events reader limit (begin ((read ++ more) ++ rest)) first
     told_by rest may = so_far (more ++ rest) (follows_before s t more rest r may) ∙ ap (λ (xs : List ℕ). events reader limit (begin xs) first) (sym (append_assoc read more rest))
 
     -- a step that goes on
-    pub told_on : (put : List ℕ) (next : ℕ) (e : Event) (h' : Hart) (m' : Mem) → left ≡ suc next →
+    pub told_on : (put : List ℕ) (next : ℕ) (e : Event) (h' : Hart) (m' : Mem) → remaining ≡ suc next →
         ((rest : List ℕ) → MayFollow (t.ended ≡ false) rest → e ≡ event_of (fetch reader m h.pc) (hart_of h (more ++ rest) written) m) →
         ((rest console : List ℕ) → MayFollow (t.ended ≡ false) rest → step reader (hart_of h (more ++ rest) console) m ≡ On (hart_of h' rest (console ++ put)) m') →
         Telling reader (told ++ (e ∷ [])) limit next begin first h' m' (t.ended ≡ false) (read ++ more) (written ++ put)
@@ -47,30 +47,30 @@ module _ {Spells StandsFor : ℕ → Inst → Type 0} (reader : Reader Spells St
         let others : List Event = events reader next (hart_of h' rest (written ++ put)) m' in
         append_assoc told (e ∷ []) others
         ∙ ap (λ (x : Event). told ++ (x ∷ others)) (event rest may)
-        ∙ ap (λ (xs : List Event). told ++ xs) (sym (events-on left next now (hart_of h' rest (written ++ put)) m m' is (steps rest written may)))
+        ∙ ap (λ (xs : List Event). told ++ xs) (sym (events-on remaining next now (hart_of h' rest (written ++ put)) m m' is (steps rest written may)))
         ∙ told_by rest may
 
     -- a step that ends the run
-    pub told_over : (next : ℕ) (e : Event) (over : laws.End) → left ≡ suc next →
+    pub told_over : (next : ℕ) (e : Event) (over : laws.End) → remaining ≡ suc next →
         ((rest : List ℕ) → MayFollow (t.ended ≡ false) rest → e ≡ event_of (fetch reader m h.pc) (hart_of h (more ++ rest) written) m) →
         ((rest console : List ℕ) → step reader (hart_of h rest console) m ≡ Over over) →
         (rest : List ℕ) → MayFollow (t.ended ≡ false) rest → events reader limit (begin ((read ++ more) ++ rest)) first ≡ told ++ (e ∷ [])
     told_over next e over is event ends rest may =
         sym (told_by rest may)
-        ∙ ap (λ (xs : List Event). told ++ xs) (events-over left next (hart_of h (more ++ rest) written) m over is (ends (more ++ rest) written))
+        ∙ ap (λ (xs : List Event). told ++ xs) (events-over remaining next (hart_of h (more ++ rest) written) m over is (ends (more ++ rest) written))
         ∙ ap (λ (x : Event). told ++ (x ∷ [])) (sym (event rest may))
 
     -- the events so far come first
     pub told_front : (rest : List ℕ) → MayFollow (t.ended ≡ false) rest → Begins told (events reader limit (begin ((read ++ more) ++ rest)) first)
-    told_front rest may = record { rest = events reader left (hart_of h (more ++ rest) written) m; joined = told_by rest may }
+    told_front rest may = record { rest = events reader remaining (hart_of h (more ++ rest) written) m; joined = told_by rest may }
 
 -- what was written and told so far comes first, where nothing more is known
-pub fronts : {Spells StandsFor : ℕ → Inst → Type 0} (reader : Reader Spells StandsFor) (told : List Event) (limit left : ℕ) (begin : List ℕ → laws.Hart) (first : Mem) (h : Hart) (m : Mem) (going : Type 0) (read written : List ℕ) →
-    Continues (run reader) limit left begin first h m going read written → Telling reader told limit left begin first h m going read written →
+pub fronts : {Spells StandsFor : ℕ → Inst → Type 0} (reader : Reader Spells StandsFor) (told : List Event) (limit remaining : ℕ) (begin : List ℕ → laws.Hart) (first : Mem) (h : Hart) (m : Mem) (going : Type 0) (read written : List ℕ) →
+    Continues (run reader) limit remaining begin first h m going read written → Telling reader told limit remaining begin first h m going read written →
     (rest : List ℕ) → MayFollow going rest → IsFront written (run reader limit (begin (read ++ rest)) first).console × Begins told (events reader limit (begin (read ++ rest)) first)
-fronts reader told limit left begin first h m going read written runs tells rest may = (
-  front_so_far reader limit left begin first h m going read written runs rest may,
-  record { rest = events reader left (hart_of h rest written) m; joined = tells rest may },
+fronts reader told limit remaining begin first h m going read written runs tells rest may = (
+  front_so_far reader limit remaining begin first h m going read written runs rest may,
+  record { rest = events reader remaining (hart_of h rest written) m; joined = tells rest may },
 )
 
 -- a watcher that has seen these has seen one more

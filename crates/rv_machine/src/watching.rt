@@ -141,8 +141,8 @@ pub fn run_watched<M: Memory, R: GuestIn, W: GuestOut, T: Watcher<M>>(
     // and has exactly the events that were told. Where a stream failed or the watcher stopped it, the beginning was
     // written and told; a watcher that stopped it left what some of the steps leave.
     ensures runs { let before = input_left machine.old.intake.ended (R.ends reader.old)
-        (R.left reader.old) in
-        let after = input_left machine.new.intake.ended (R.ends reader.new) (R.left reader.new) in
+        (R.remaining reader.old) in
+        let after = input_left machine.new.intake.ended (R.ends reader.new) (R.remaining reader.new) in
         (read written : List ℕ) × (told : List Event) × HasRead before after read
         × Appends (W.written writer.old) (W.written writer.new) written
         × Unfailed result
@@ -155,8 +155,8 @@ pub fn run_watched<M: Memory, R: GuestIn, W: GuestOut, T: Watcher<M>>(
     ensures failed { FailsIn result (R.in_failed reader.old) (W.out_failed writer.old)
         (R.in_failed reader.new) (W.out_failed writer.new) }
 {
-    let mut left = limit;
-    while left > 0 {
+    let mut remaining = limit;
+    while remaining > 0 {
         match watcher.before(machine) {
             Ok(()) => {}
             Err(fault) => return Err(WatchFault::Watcher(fault)),
@@ -171,7 +171,7 @@ pub fn run_watched<M: Memory, R: GuestIn, W: GuestOut, T: Watcher<M>>(
             writer,
         ) {
             Ok(Stepped::Went(moved)) => {
-                left -= 1;
+                remaining -= 1;
                 let event = went_on(look, moved, &machine.hart);
                 match watcher.after(&event, machine) {
                     Ok(()) => {}

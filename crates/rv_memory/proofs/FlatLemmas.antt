@@ -120,8 +120,8 @@ spliced-below : (xs bs : List ℕ) (k j : ℕ) → k + length bs ≤ length xs �
     get_or (take k xs ++ (bs ++ drop (k + length bs) xs)) j 0 ≡ get_or xs j 0
 spliced-below xs bs k j fits low =
     let long : length (take k xs) ≡ k = grind (arith, common_steps) in
-    let left : j < length (take k xs) = omega arith in
-    get_or-append (take k xs) (bs ++ drop (k + length bs) xs) 0 j left ∙ get_or-take k xs j 0 low
+    let remaining : j < length (take k xs) = omega arith in
+    get_or-append (take k xs) (bs ++ drop (k + length bs) xs) 0 j remaining ∙ get_or-take k xs j 0 low
 
 spliced-inside : (xs bs : List ℕ) (k j : ℕ) → k + length bs ≤ length xs → j < length bs →
     get_or (take k xs ++ (bs ++ drop (k + length bs) xs)) (k + j) 0 ≡ get_or bs j 0

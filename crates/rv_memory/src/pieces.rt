@@ -73,16 +73,16 @@ pub fn have_right<P: Pieces>(memory: &P, address: u64, bytes: u64, right: Right)
     ensures { result ≡ may (P.mem memory.now) address bytes (right_of right) }
 {
     let mut at = address;
-    let mut left = bytes;
-    while left > 0 {
-        let run = memory.run(at, left, right);
+    let mut remaining = bytes;
+    while remaining > 0 {
+        let run = memory.run(at, remaining, right);
         if run == 0 {
             return false;
         }
-        if left <= run {
+        if remaining <= run {
             return true;
         }
-        left -= run;
+        remaining -= run;
         at = at.wrapping_add(run);
     }
     true

@@ -22,7 +22,7 @@ use Rattle.rv_object_file_laws.specs.Parts.{FileSection, name_of, sections, is_s
 use Rattle.rv_object_file_laws.specs.ObjectOf.{names_of}
 use Rattle.rv_object_file_laws.specs.FirstFault.{is_rela_linked, is_none, record_size, is_linked, is_unsupported, section_tests, symbol_tests, row_tests, relocations_tests, symbol_count, rela_tests, records_tests, sections_tests, object_tests, first_fault}
 use Rattle.rv_object_file_laws.specs.Known.{IsSection, IsObject}
-use Rattle.rv_layout_laws.specs.Alignment.{aligned}
+use Rattle.rv_size_laws.specs.Alignment.{aligned}
 use Rattle.rv_object_file_laws.specs.Written.{relocations_bytes, table_piece, UnplacedSection, table_of, kind_of, section_piece, rela_pieces, row_pieces, row_record, header_of, symtab_index, last_index, section_names, symbol_names, symbols_bytes, symbol_record, file_header_of, file_of, HasFile}
 use Rattle.rv_object_file_laws.proofs.LaidLemmas.{listed, Shows, AllShow}
 use Rattle.rv_object_file_laws.proofs.ListsLemmas.{flat_map_none}

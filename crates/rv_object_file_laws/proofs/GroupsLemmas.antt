@@ -10,7 +10,7 @@ use Rattle.rv_object_laws.specs.declared.row.Row.{Row}
 use Rattle.rv_object_file_laws.specs.Rows.{rows_name}
 use Rattle.rv_object_file_laws.specs.Parts.{FileSection, is_named, is_rows, is_kept, is_index}
 use Rattle.rv_object_file_laws.specs.Known.{IsSection}
-use Rattle.rv_layout_laws.specs.Alignment.{aligned}
+use Rattle.rv_size_laws.specs.Alignment.{aligned}
 use Rattle.rv_object_file_laws.specs.Written.{UnplacedSection, kind_of, section_piece, rela_pieces, row_pieces, header_of, has_relocations}
 use Rattle.rv_object_file_laws.proofs.LaidLemmas.{listed, Shows, AllShow}
 

@@ -10,7 +10,7 @@ use Rattle.rv_elf_laws.specs.ReadBack.{FitsSectionHeader, section_header_there}
 use Rattle.rv_elf_laws.specs.Records.{section_header_at, section_header_bytes}
 use Rattle.rv_elf_laws.specs.Sections.{records, is_past, is_nobits, file_contents, section_header_of, section_count}
 use Rattle.rv_object_file_laws.specs.Parts.{FileSection, numbered, sections, name_of}
-use Rattle.rv_layout_laws.specs.Alignment.{aligned}
+use Rattle.rv_size_laws.specs.Alignment.{aligned}
 use Rattle.rv_elf_laws.proofs.SectionsLemmas.{not_past}
 use Rattle.rv_object_file_laws.specs.Written.{table_of, UnplacedSection, zeros_at, contents_from, headers_offset, header_of, headers_from}
 use Rattle.rv_object_file_laws.proofs.StringsLemmas.{name_offset_within}

@@ -13,7 +13,7 @@ use Rattle.rv_object_laws.specs.Valid.{is_section_alignment, is_string}
 use Rattle.rv_object_laws.specs.declared.row.Row.{Row}
 use Rattle.rv_object_file_laws.specs.Known.{IsSection}
 use Rattle.rv_object_file_laws.specs.Parts.{name_at}
-use Rattle.rv_layout_laws.specs.Alignment.{aligned}
+use Rattle.rv_size_laws.specs.Alignment.{aligned}
 use Rattle.rv_elf_laws.proofs.SectionsLemmas.{not_past}
 use Rattle.rv_object_file_laws.specs.Written.{name_offset, UnplacedSection, table_of, table_piece, headers_offset, headers_from, kind_of, flag_if, section_piece, rela_pieces, row_pieces, symtab_index, last_index, pieces, section_names, symbol_names, symbols_bytes, is_local, locals}
 use Rattle.rv_object_file_laws.proofs.RecordsLemmas.{length-section_header}

@@ -15,7 +15,7 @@ use Rattle.rv_elf_laws.specs.Sections.{records, relas_in}
 use Rattle.rv_object_laws.specs.Object.{Relocation, Section}
 use Rattle.rv_object_file_laws.specs.Parts.{FileSection, kind_numbered, symbol_index, relocation_by, relocation_in, relocations_in, relocates, relas_of}
 use Rattle.rv_object_file_laws.specs.Known.{IsRelocation}
-use Rattle.rv_layout_laws.specs.Alignment.{aligned}
+use Rattle.rv_size_laws.specs.Alignment.{aligned}
 use Rattle.rv_object_file_laws.specs.Written.{UnplacedSection, table_piece, symbol_number, rela_of, relocations_bytes, rela_pieces}
 use Rattle.rv_object_file_laws.proofs.RecordsLemmas.{length-rela, records_back}
 use Rattle.rv_object_file_laws.proofs.LaidLemmas.{listed, Shows, AllShow}

@@ -10,7 +10,7 @@ use Rattle.rv_object_laws.specs.Valid.{is_section_alignment, is_loaded_alone}
 use Rattle.rv_object_file_laws.specs.Parts.{sections, is_loaded, contents_in, relocates, relas_of, relocations_in}
 use Rattle.rv_object_file_laws.specs.ObjectOf.{section_in}
 use Rattle.rv_object_file_laws.specs.Known.{IsSection}
-use Rattle.rv_layout_laws.specs.Alignment.{aligned}
+use Rattle.rv_size_laws.specs.Alignment.{aligned}
 use Rattle.rv_object_file_laws.specs.Written.{kind_of, flag_if, section_piece, header_of, rela_of}
 use Rattle.rv_object_file_laws.proofs.LaidLemmas.{listed, Shows, AllShow}
 use Rattle.rv_object_file_laws.proofs.GroupsLemmas.{entry}

@@ -24,7 +24,7 @@ use Rattle.rv_object_file_laws.specs.Rows.{row_size, row_at, row_bytes, rows_in}
 use Rattle.rv_object_file_laws.specs.Parts.{kept, kept_at, kept_before, is_index, name_at, symbol_table}
 use Rattle.rv_object_file_laws.specs.ObjectOf.{names_of, binding_numbered, definition_in, definition_by, symbol_in, row_in}
 use Rattle.rv_object_file_laws.specs.Known.{IsSymbol, IsRow}
-use Rattle.rv_layout_laws.specs.Alignment.{aligned}
+use Rattle.rv_size_laws.specs.Alignment.{aligned}
 use Rattle.rv_object_laws.proofs.ValidLemmas.{no_zero}
 use Rattle.rv_object_file_laws.specs.Written.{section_piece, name_offset, table_of, binding_number, section_index_of, definition_value, symbol_record, symbols_bytes, symbol_names, row_record}
 use Rattle.rv_object_file_laws.proofs.RecordsLemmas.{length-symbol, FitsRow, length-row, row_back, records_back}

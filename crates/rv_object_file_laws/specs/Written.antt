@@ -12,7 +12,7 @@ use Rattle.rv_elf_laws.specs.declared.rela.Rela.{Rela}
 use Rattle.rv_elf_laws.specs.Fields.{file_header_size, section_header_size, symbol_size, rela_size}
 use Rattle.rv_elf_laws.specs.Numbers.{et_rel, em_riscv, sht_progbits, sht_symtab, sht_strtab, sht_rela, sht_note, sht_nobits, shf_write, shf_alloc, shf_execinstr, shn_undef, shn_abs, stb_local, stb_global, stb_weak}
 use Rattle.rv_elf_laws.specs.Records.{file_header_bytes, section_header_bytes, symbol_bytes, rela_bytes}
-use Rattle.rv_layout_laws.specs.Alignment.{aligned}
+use Rattle.rv_size_laws.specs.Alignment.{aligned}
 use Rattle.rv_object_laws.specs.declared.symbol.Binding.{Binding}
 use Rattle.rv_object_laws.specs.declared.symbol.Binding.TheVariants.{Local, Global, Weak}
 use Rattle.rv_object_laws.specs.declared.symbol.Definition.{Definition}

@@ -11,7 +11,7 @@ use Rattle.rv_object_laws.specs.declared.row.Row.{Row}
 use Rattle.rv_object_types.specs.declared.section.Section.{Section as DeclaredSection}
 use Rattle.rv_object_laws.specs.Object.{Section}
 use Rattle.rv_object_types.specs.Sections.{section_of}
-use Rattle.rv_layout_laws.specs.Alignment.{aligned}
+use Rattle.rv_size_laws.specs.Alignment.{aligned}
 use Rattle.rv_object_writer.specs.declared.piece.Piece.{Piece as DeclaredPiece}
 use Rattle.rv_object_writer.specs.Pieces.{body_bytes, piece_of, rows_bytes}
 use Rattle.rv_object_file_laws.proofs.SymbolsReadLemmas.{length-rows}

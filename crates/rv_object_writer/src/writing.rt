@@ -12,7 +12,7 @@ ghost use Rattle.rv_object_types.specs.View.{object_of};
 ghost use Rattle.rv_object_file_laws.specs.FirstFault.{first_fault};
 ghost use Rattle.rv_object_file_laws.specs.Known.{IsObject};
 ghost use Rattle.rv_object_file_laws.specs.ObjectOf.{ObjectOf};
-ghost use Rattle.rv_layout_laws.specs.Alignment.{aligned};
+ghost use Rattle.rv_size_laws.specs.Alignment.{aligned};
 ghost use Rattle.rv_object_file_laws.specs.Written.{zeros_at, contents_from, headers_offset, header_of, headers_from, HasFile, file_of, strings_of, section_names as file_names};
 ghost use Rattle.rv_object_writer.specs.Pieces.{body_bytes, piece_of, header_by, AreTables};
 ghost use Rattle.rv_object_writer.specs.Strings.{IsStringTable};

@@ -1,8 +1,8 @@
 -- One item or more, with commas between, read item by item, as the code holds them.
 
 use Rattle.std.proofs.Common.{◌≡◌, true, false, List, [], ◌∷◌, ◌++◌, append_assoc, Ok, Err, refl, sym, ◌∙◌, ap, map}
-use Rattle.rv_text_laws.specs.Lexing.{Token}
-use Rattle.rv_text_laws.specs.SyntaxError.{SyntaxError, Read}
+use Rattle.rv_expression_laws.specs.Lexing.{Token}
+use Rattle.rv_expression_laws.specs.SyntaxError.{SyntaxError, Read}
 use Rattle.rv_statement_laws.specs.Statement.{Operand}
 use Rattle.rv_parse_laws.specs.Syntax.{is_comma, Slot}
 use Rattle.rv_parse_laws.specs.Parsing.{operand_at, end_at, items_at}

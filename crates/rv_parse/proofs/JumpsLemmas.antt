@@ -1,7 +1,7 @@
 -- The operands of `jalr` behind its link register and a comma.
 
 use Rattle.std.proofs.Common.{◌≡◌, ℕ, true, List, [], ◌∷◌, Ok, refl}
-use Rattle.rv_text_laws.specs.Lexing.{Token}
+use Rattle.rv_expression_laws.specs.Lexing.{Token}
 use Rattle.rv_statement_laws.specs.declared.mnemonic.Mnemonic.TheVariants.{Jalr}
 use Rattle.rv_statement_laws.specs.Statement.{Register}
 use Rattle.rv_parse_laws.specs.Syntax.{A_register, A_comma, front_begins, slots, jump_target}

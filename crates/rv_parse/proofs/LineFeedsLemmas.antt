@@ -3,7 +3,7 @@
 use Rattle.std.proofs.Common.{◌≡◌, ℕ, zero, suc, ◌+◌, ◌==◌, Bool, true, false, cond, List, ◌∷◌, length, get_or, drop, sym, ◌∙◌, ap, arith}
 use Rattle.std.proofs.lemmas.List.{at_drop_more, at_drop_all}
 use Rattle.memchr.specs.Find.{places_from, places, is_byte}
-use Rattle.rv_text_laws.specs.Lexing.{newlines}
+use Rattle.rv_expression_laws.specs.Lexing.{newlines}
 
 one_more : (b : Bool) (i : ℕ) (xs : List ℕ) (m : ℕ) → length xs ≡ m → length (cond b (i ∷ xs) xs) ≡ cond b 1 0 + m
 one_more true i xs m e = omega (arith, e)

@@ -1,11 +1,11 @@
 -- The lists of directives: symbols, strings and values.
 
 use Rattle.std.proofs.Common.{◌≡◌, ℕ, ◌<◌, length, Bool, true, false, List, [], ◌∷◌, ◌++◌, Ok, Err, refl, ◌∙◌, ap, map, Bor}
-use Rattle.rv_text_laws.specs.Lexing.{Token}
-use Rattle.rv_text_laws.specs.Expression.{Tree}
-use Rattle.rv_text_laws.specs.SyntaxError.{SyntaxError, Read}
-use Rattle.rv_text.specs.declared.expr.Expr.{Expr}
-use Rattle.rv_text.specs.Expr.{tree_of_expr}
+use Rattle.rv_expression_laws.specs.Lexing.{Token}
+use Rattle.rv_expression_laws.specs.Expression.{Tree}
+use Rattle.rv_expression_laws.specs.SyntaxError.{SyntaxError, Read}
+use Rattle.rv_expression.specs.declared.expr.Expr.{Expr}
+use Rattle.rv_expression.specs.Expr.{tree_of_expr}
 use Rattle.rv_statement_laws.specs.declared.directive.Width.{Width}
 use Rattle.rv_statement_laws.specs.declared.directive.DirectiveWord.TheVariants as words
 use Rattle.rv_statement_laws.specs.Statement.{Operand, Value, StatementKind, Directs, Values, Emits}

@@ -1,10 +1,10 @@
 -- Where statements begin, as they are read one by one.
 
 use Rattle.std.proofs.Common.{◌≡◌, ℕ, ◌+◌, false, List, [], ◌∷◌, ◌++◌, length, length-append, slice_get, Some, None, ◌⊎◌, inl, inr, refl, sym, ◌∙◌, ap, subst, absurd, arith, append_assoc}
-use Rattle.rv_text_laws.specs.Lexing as lexing
+use Rattle.rv_expression_laws.specs.Lexing as lexing
 use Rattle.rv_lexer.specs.Token.{token_of, kind_of}
 use Rattle.rv_lexer.specs.declared.cursor.Cursor.{Cursor}
-use Rattle.rv_lexer.specs.Cursor.{left}
+use Rattle.rv_lexer.specs.Cursor.{remaining}
 use Rattle.rv_statement_laws.specs.Statement.{Statement}
 use Rattle.rv_parse_laws.specs.Syntax.{is_end}
 use Rattle.rv_parse_laws.specs.Refusals.{SaysUpTo}
@@ -12,7 +12,7 @@ use Rattle.rv_parse.specs.Offsets.{BeginsAt, HaveOffsets}
 use Rattle.rv_parse.proofs.StatementsLemmas.{behind, left_is}
 
 -- the statement that is read at the cursor begins at its next token
-pub begins_here : (ts : List lexing.Token) (c : Cursor) (ss new : List Statement) (s : Statement) → SaysUpTo ts (left c) ss → is_end (kind_of c.next.kind) ≡ false → new ≡ ss ++ s ∷ []
+pub begins_here : (ts : List lexing.Token) (c : Cursor) (ss new : List Statement) (s : Statement) → SaysUpTo ts (remaining c) ss → is_end (kind_of c.next.kind) ≡ false → new ≡ ss ++ s ∷ []
     → BeginsAt ts new (length ss) c.next.start
 begins_here ts c ss new s says no_end pushed = record {
   before = ss;

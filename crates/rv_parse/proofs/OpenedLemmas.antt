@@ -1,9 +1,9 @@
 -- The names that a source has opened, and an opening at the front.
 
 use Rattle.std.proofs.Common.{◌≡◌, ℕ, Bool, true, false, ◌||◌, List, [], ◌∷◌, ◌++◌, None, Ok, Err, refl, sym, ◌∙◌, ap}
-use Rattle.rv_text_laws.specs.Grammar.{Kind, Name as NameToken}
-use Rattle.rv_text_laws.specs.Lexing.{Token, is_last}
-use Rattle.rv_text_laws.specs.SyntaxError.{SyntaxError, Read}
+use Rattle.rv_expression_laws.specs.Grammar.{Kind, Name as NameToken}
+use Rattle.rv_expression_laws.specs.Lexing.{Token, is_last}
+use Rattle.rv_expression_laws.specs.SyntaxError.{SyntaxError, Read}
 use Rattle.rv_statement_laws.specs.Statement.{Operand, Word, Statement as SpecStatement}
 use Rattle.rv_statement.specs.View.{statement_kind, statement_of}
 use Rattle.rv_statement.specs.declared.statement.Statement.{Statement}

@@ -3,14 +3,14 @@
 use Rattle.std.proofs.Common.{◌≡◌, ℕ, ◌<◌, ◌≤◌, true, false, List, [], ◌∷◌, ◌++◌, length, Some, Ok, Err, refl, arith}
 use Rattle.std.specs.Prelude.{nat_lt}
 use Rattle.std.proofs.lemmas.Bool.Decides.{nat_tests}
-use Rattle.rv_text_laws.specs.Lexing.{Token}
-use Rattle.rv_text_laws.specs.SyntaxError.{Read, longest_name}
-use Rattle.rv_text_laws.specs.Joined.{joined_at}
+use Rattle.rv_expression_laws.specs.Lexing.{Token}
+use Rattle.rv_expression_laws.specs.SyntaxError.{Read, longest_name}
+use Rattle.rv_expression_laws.specs.Joined.{joined_at}
 use Rattle.rv_statement_laws.specs.declared.directive.DirectiveWord.TheVariants as words
 use Rattle.rv_statement_laws.specs.Statement.{Operand, Word, Quoted, StatementKind, Directs}
 use Rattle.rv_parse_laws.specs.Syntax.{is_section_name, A_section, Some_flags, At_sign, A_comma, front_begins, operand_slots, directed}
 use Rattle.rv_parse_laws.specs.Parsing.{operand_at, operands_at, seen_as, section_name_at, too_long, wrong_front}
-use Rattle.rv_text_laws.specs.Codes.{unsupported_here}
+use Rattle.rv_expression_laws.specs.Codes.{unsupported_here}
 use Rattle.rv_parse.specs.Slots.{flags_slots, type_slots}
 
 at_once : (view : List Operand → StatementKind) (now : List Operand) (r : Read (List Operand))

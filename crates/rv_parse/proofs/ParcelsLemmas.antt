@@ -2,8 +2,8 @@
 
 use Rattle.std.proofs.Common.{◌≡◌, ℕ, List, [], ◌∷◌, ◌++◌, append_assoc, map, length, Option, Some, None, Ok, Err, refl, sym, ◌∙◌, ap}
 use Rattle.std.specs.Prelude.{slice_get, take}
-use Rattle.rv_text_laws.specs.Lexing.{Token}
-use Rattle.rv_text_laws.specs.SyntaxError.{SyntaxError, Read}
+use Rattle.rv_expression_laws.specs.Lexing.{Token}
+use Rattle.rv_expression_laws.specs.SyntaxError.{SyntaxError, Read}
 use Rattle.rv_parcel.specs.Mnemonics.{register_sets, shape_of}
 use Rattle.rv_parcel.specs.declared.parcel.RegisterSet.{RegisterSet}
 use Rattle.rv_parcel.specs.declared.parcel.ParcelOperation.{ParcelOperation}

@@ -5,7 +5,7 @@ use Rattle.std.specs.List.{list_all}
 use Rattle.std.proofs.lemmas.Bool.{eqb-true, and_parts}
 use Rattle.std.proofs.lemmas.Bool.Decides.{nat_tests}
 use Rattle.std.proofs.lemmas.Option.{same_Some}
-use Rattle.rv_text_laws.specs.Bytes.{in_line}
+use Rattle.rv_expression_laws.specs.Bytes.{in_line}
 use Rattle.rv_parse_laws.specs.Reading.{longest_line, IsPastLine}
 use Rattle.rv_parse.specs.Lines.{past_line}
 

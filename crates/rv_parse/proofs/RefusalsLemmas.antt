@@ -1,17 +1,17 @@
 -- What the parser's refusals say of the source.
 
 use Rattle.std.proofs.Common.{◌≡◌, ℕ, ◌+◌, ◌<◌, ◌≤◌, List, [], ◌∷◌, length, take, Some, None, Err, sym, ◌∙◌, ap, subst, arith, ◌⊎◌, inl, inr}
-use Rattle.rv_text_laws.specs.Lexing as lexing
-use Rattle.rv_text_laws.specs.Front.{tokens_from}
-use Rattle.rv_text_laws.proofs.TokensLemmas.{given}
+use Rattle.rv_expression_laws.specs.Lexing as lexing
+use Rattle.rv_expression_laws.specs.Front.{tokens_from}
+use Rattle.rv_expression_laws.proofs.TokensLemmas.{given}
 use Rattle.rv_fault.specs.declared.source_fault.SourceCode.{SourceCode}
 use Rattle.rv_fault.specs.declared.source_fault.SourceCode.TheVariants.{Limit}
 use Rattle.rv_fault.specs.SourceFault.{source_fault_number}
 use Rattle.rv_statement_laws.specs.Statement.{Statement}
-use Rattle.rv_text_laws.specs.Codes.{limit}
+use Rattle.rv_expression_laws.specs.Codes.{limit}
 use Rattle.rv_parse_laws.specs.Opening.{is_opened}
 use Rattle.rv_parse_laws.specs.Parsing as parsing
-use Rattle.rv_text_laws.specs.SyntaxError as wrongs
+use Rattle.rv_expression_laws.specs.SyntaxError as wrongs
 use Rattle.rv_parse_laws.specs.Reading.{statements_of_parts, longest_source}
 use Rattle.rv_statement_laws.specs.Limits.{most_statements}
 use Rattle.rv_parse_laws.specs.Refusals.{SaysUpTo, SyntaxFault, Refuses, RefusesAt}

@@ -1,7 +1,7 @@
 -- Statements read one by one, as the code holds them.
 
 use Rattle.std.proofs.Common.{◌≡◌, ℕ, ◌+◌, true, false, List, [], ◌∷◌, ◌++◌, length, length-append, Result, Ok, Err, refl, sym, ◌∙◌, ap, subst, arith}
-use Rattle.rv_text_laws.specs.Lexing as lexing
+use Rattle.rv_expression_laws.specs.Lexing as lexing
 use Rattle.rv_lexer.specs.Token.{token_of, kind_of}
 use Rattle.rv_statement_laws.specs.Statement.{Statement as SpecStatement}
 use Rattle.rv_parse_laws.specs.Syntax.{Says, is_end, is_source_end}
@@ -15,7 +15,7 @@ use Rattle.rv_lexer.specs.declared.cursor.Cursor.{Cursor}
 use Rattle.rv_statement.specs.View.{statement_kind, statement_of}
 use Rattle.rv_lexer.specs.declared.syntax_error.ReadError.{ReadError}
 use Rattle.rv_lexer.specs.declared.syntax_error.ReadError.TheVariants as refusals
-use Rattle.rv_lexer.specs.Cursor.{left, Answers}
+use Rattle.rv_lexer.specs.Cursor.{remaining, Answers}
 use Rattle.rv_parse.specs.Left.{StopsAt, RefusesTokens}
 
 -- a statement that is read behind its first token
@@ -40,26 +40,26 @@ counted_push s ss new n counted pushed =
 
 -- a cursor has its next token first
 abbrev pub behind : Cursor → List lexing.Token
-behind c = tail (left c)
+behind c = tail (remaining c)
   where
     tail : List lexing.Token → List lexing.Token
     tail [] = []
     tail (t ∷ ts) = ts
 
-pub left_is : (c : Cursor) → left c ≡ token_of c.next ∷ behind c
-unfolding left
+pub left_is : (c : Cursor) → remaining c ≡ token_of c.next ∷ behind c
+unfolding remaining
 left_is c = refl
 
 -- the source's end is the last token, and says nothing more
-pub statements_end : (ts : List lexing.Token) (c : Cursor) (ss : List SpecStatement) → SaysUpTo ts (left c) ss → is_source_end (kind_of c.next.kind) ≡ true → SaysUpTo ts [] ss
-unfolding left
+pub statements_end : (ts : List lexing.Token) (c : Cursor) (ss : List SpecStatement) → SaysUpTo ts (remaining c) ss → is_source_end (kind_of c.next.kind) ≡ true → SaysUpTo ts [] ss
+unfolding remaining
 statements_end ts c ss so end =
     let e = source_end_is_end (kind_of c.next.kind) end in
-    push_end ts (token_of c.next) (left c) [] ss so (rw (e.1) refl) e.0
+    push_end ts (token_of c.next) (remaining c) [] ss so (rw (e.1) refl) e.0
 
 -- no further statement is answered at the cursor's next token
-pub refuses_here : (ts : List lexing.Token) (c : Cursor) (ss : List SpecStatement) (n : ℕ) (e : ReadError) → SaysUpTo ts (left c) ss → is_end (kind_of c.next.kind) ≡ false → length ss ≡ n
-    → StopsAt e (is_opened ss) n (token_of c.next) (left c) → RefusesTokens ts e
-unfolding left
-refuses_here ts c ss n (refusals.At w) so no_end count stops = (token_of c.next, behind c, ss, so, no_end, subst (λ m. StopsAt (refusals.At w) (is_opened ss) m (token_of c.next) (left c)) (sym count) stops)
+pub refuses_here : (ts : List lexing.Token) (c : Cursor) (ss : List SpecStatement) (n : ℕ) (e : ReadError) → SaysUpTo ts (remaining c) ss → is_end (kind_of c.next.kind) ≡ false → length ss ≡ n
+    → StopsAt e (is_opened ss) n (token_of c.next) (remaining c) → RefusesTokens ts e
+unfolding remaining
+refuses_here ts c ss n (refusals.At w) so no_end count stops = (token_of c.next, behind c, ss, so, no_end, subst (λ m. StopsAt (refusals.At w) (is_opened ss) m (token_of c.next) (remaining c)) (sym count) stops)
 refuses_here ts c ss n refusals.OutOfMemory so no_end count stops = tt

@@ -1,12 +1,12 @@
 -- Expressions of numbers alone.
 
 use Rattle.std.proofs.Common.{◌≡◌, Bool, true, false, ◌&&◌, List, [], ◌∷◌, ◌++◌, Ok, refl, sym, ◌∙◌, ap}
-use Rattle.rv_text_laws.specs.Lexing.{Token}
-use Rattle.rv_text_laws.specs.Expression.{Tree, Leaf, Unary, Paren, Binary, Literal, Node, postfix, tree_of, bare}
-use Rattle.rv_text_laws.specs.ExpressionAt.{expression_at}
-use Rattle.rv_text_laws.proofs.ExpressionWrongLemmas.{end_at, whole_there}
-use Rattle.rv_text_laws.proofs.TreesLemmas.{postfix_tree}
-use Rattle.rv_text.specs.Nodes.{is_number_node, are_numbers}
+use Rattle.rv_expression_laws.specs.Lexing.{Token}
+use Rattle.rv_expression_laws.specs.Expression.{Tree, Leaf, Unary, Paren, Binary, Literal, Node, postfix, tree_of, bare}
+use Rattle.rv_expression_laws.specs.ExpressionAt.{expression_at}
+use Rattle.rv_expression_laws.proofs.ExpressionWrongLemmas.{end_at, whole_there}
+use Rattle.rv_expression_laws.proofs.TreesLemmas.{postfix_tree}
+use Rattle.rv_expression.specs.Nodes.{is_number_node, are_numbers}
 use Rattle.rv_parse_laws.specs.Syntax.{is_register, is_of_numbers}
 
 all_append : (ns ms : List Node) → are_numbers (ns ++ ms) ≡ (are_numbers ns && are_numbers ms)

@@ -1,8 +1,8 @@
 -- A token that is taken somewhere is not the last of its source: what rv_parse_laws shows of each slot, and of `.option`.
 
 use Rattle.std.proofs.Common.{◌≡◌, ℕ, false, Some, refl}
-use Rattle.rv_text_laws.specs.Grammar.{Kind, Name as NameToken}
-use Rattle.rv_text_laws.specs.Lexing.{is_last}
+use Rattle.rv_expression_laws.specs.Grammar.{Kind, Name as NameToken}
+use Rattle.rv_expression_laws.specs.Lexing.{is_last}
 use Rattle.rv_parcel.specs.declared.parcel.RegisterSet.{RegisterSet}
 use Rattle.rv_parcel.specs.declared.parcel.RegisterSet.TheVariants.{Any}
 use Rattle.rv_statement_laws.specs.declared.directive.Choice.{Choice}

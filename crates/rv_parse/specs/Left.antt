@@ -8,20 +8,20 @@ use Rattle.rv_statement_laws.specs.declared.directive.DirectiveWord.{DirectiveWo
 use Rattle.rv_statement.specs.declared.statement.StatementKind.{StatementKind}
 use Rattle.rv_parse_laws.specs.Syntax.{is_end, slots, operand_slots, directed}
 use Rattle.rv_lexer.specs.declared.cursor.Cursor.{Cursor}
-use Rattle.rv_text_laws.specs.Codes.{limit}
+use Rattle.rv_expression_laws.specs.Codes.{limit}
 use Rattle.rv_statement_laws.specs.Limits.{most_statements}
 use Rattle.rv_parse_laws.specs.Refusals.{SaysUpTo, Refuses, RefusesAt}
 use Rattle.rv_fault.specs.declared.source_fault.SourceFault.{SourceFault}
 use Rattle.rv_fault.specs.declared.source_fault.SourceFault.TheVariants as faults
-use Rattle.rv_text_laws.specs.Lexing as lexing
+use Rattle.rv_expression_laws.specs.Lexing as lexing
 use Rattle.rv_fault.specs.SourceFault.{source_fault_number}
 use Rattle.rv_parse_laws.specs.Opening.{is_opened}
 use Rattle.rv_parse_laws.specs.Parsing as parsing
-use Rattle.rv_text_laws.specs.SyntaxError as wrongs
+use Rattle.rv_expression_laws.specs.SyntaxError as wrongs
 use Rattle.rv_lexer.specs.declared.syntax_error.SyntaxError.{SyntaxError}
 use Rattle.rv_lexer.specs.declared.syntax_error.ReadError.{ReadError}
 use Rattle.rv_lexer.specs.declared.syntax_error.ReadError.TheVariants as refusals
-use Rattle.rv_lexer.specs.Cursor.{left, syntax_error_of, Answers}
+use Rattle.rv_lexer.specs.Cursor.{remaining, syntax_error_of, Answers}
 
 -- a call's result, as `view` sees it, is what the reading at the front of the tokens gives
 abbrev pub Gives : {X Y : Type 0} → (X → Y) → Result X SyntaxError → Result Y wrongs.SyntaxError →
@@ -32,28 +32,28 @@ Gives view (Err w) read = read ≡ Err (syntax_error_of w)
 -- from one state of a cursor to another a call answers the statement of a mnemonic and its operands
 abbrev pub ReadsInstruction : Mnemonic → Cursor → Cursor → Result StatementKind ReadError → Type 0
 ReadsInstruction m old new result =
-    Answers (λ k. (statement_kind k, left new)) result
-    (parsing.seen_as (Instruction m) (parsing.operands_at (slots m) (left old)))
+    Answers (λ k. (statement_kind k, remaining new)) result
+    (parsing.seen_as (Instruction m) (parsing.operands_at (slots m) (remaining old)))
 
 abbrev pub GivesInstruction : Mnemonic → Cursor → Cursor → Result StatementKind SyntaxError → Type 0
 GivesInstruction m old new result =
-    Gives (λ k. (statement_kind k, left new)) result
-    (parsing.seen_as (Instruction m) (parsing.operands_at (slots m) (left old)))
+    Gives (λ k. (statement_kind k, remaining new)) result
+    (parsing.seen_as (Instruction m) (parsing.operands_at (slots m) (remaining old)))
 
 -- the statement of a directive's word and its operands
 abbrev pub ReadsDirective : DirectiveWord → Cursor → Cursor → Result StatementKind ReadError →
     Type 0
 ReadsDirective word old new result =
-    Answers (λ k. (statement_kind k, left new)) result
+    Answers (λ k. (statement_kind k, remaining new)) result
     (parsing.seen_as (λ os. Directs (directed word os))
-    (parsing.operands_at (operand_slots word) (left old)))
+    (parsing.operands_at (operand_slots word) (remaining old)))
 
 abbrev pub GivesDirective : DirectiveWord → Cursor → Cursor → Result StatementKind SyntaxError →
     Type 0
 GivesDirective word old new result =
-    Gives (λ k. (statement_kind k, left new)) result
+    Gives (λ k. (statement_kind k, remaining new)) result
     (parsing.seen_as (λ os. Directs (directed word os))
-    (parsing.operands_at (operand_slots word) (left old)))
+    (parsing.operands_at (operand_slots word) (remaining old)))
 
 -- No further statement is answered at the token t, which begins the tokens ts behind so many
 -- statements, where these names are known: the part there is wrong, or it is a statement too many;

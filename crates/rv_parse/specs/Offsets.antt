@@ -1,7 +1,7 @@
 -- Where the statements of a source begin.
 
 use Rattle.std.specs.Prelude.{◌≡◌, ℕ, false, List, ◌∷◌, ◌++◌, length, Some, slice_get}
-use Rattle.rv_text_laws.specs.Lexing.{Token, Lexes}
+use Rattle.rv_expression_laws.specs.Lexing.{Token, Lexes}
 use Rattle.rv_statement_laws.specs.Statement.{Statement}
 use Rattle.rv_parse_laws.specs.Syntax.{is_end}
 use Rattle.rv_parse_laws.specs.Refusals.{SaysUpTo}

@@ -1,8 +1,8 @@
 -- The places of a statement from one of them on.
 
 use Rattle.std.specs.Prelude.{ℕ, Bool, true, false, List, [], ◌∷◌, ◌++◌, Option, Some, None, Ok, if◌then◌else◌}
-use Rattle.rv_text_laws.specs.Lexing.{Token}
-use Rattle.rv_text_laws.specs.SyntaxError.{Read}
+use Rattle.rv_expression_laws.specs.Lexing.{Token}
+use Rattle.rv_expression_laws.specs.SyntaxError.{Read}
 use Rattle.rv_parcel.specs.declared.parcel.RegisterSet.{RegisterSet}
 use Rattle.rv_statement_laws.specs.Statement.{Operand, Register}
 use Rattle.rv_parse_laws.specs.Syntax.{Slot, A_register_of, A_comma, A_value, A_target, An_address, Some_flags, At_sign, A_type, Slots, Takes, last, and_maybe}

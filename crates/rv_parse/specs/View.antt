@@ -1,8 +1,8 @@
 -- What the parser's types stand for.
 
-use Rattle.rv_text.specs.declared.expr.Expr.{Expr}
-use Rattle.rv_text.specs.Expr.{expr_of, tree_of_expr}
-use Rattle.rv_text.specs.Nodes.{are_numbers}
+use Rattle.rv_expression.specs.declared.expr.Expr.{Expr}
+use Rattle.rv_expression.specs.Expr.{expr_of, tree_of_expr}
+use Rattle.rv_expression.specs.Nodes.{are_numbers}
 use Rattle.rv_parse_laws.specs.Syntax.{is_of_numbers}
 use Rattle.rv_statement_laws.specs.Statement.{Expression, Operand, Register, Value, Applied, Target}
 use Rattle.std.specs.Prelude.{◌≡◌, Bool, true, false, List, [], ◌∷◌, Option, Some, None}

@@ -8,7 +8,7 @@ ghost use Rattle.rv_parse_laws.specs.Syntax.{A_register, A_target, A_comma, Stop
 ghost use Rattle.rv_parse.specs.Slots.{location_at, placed_at};
 ghost use Rattle.rv_parse.specs.View.{location_of};
 ghost use Rattle.rv_parse_laws.specs.Parsing.{operands_at, seen_as};
-ghost use Rattle.rv_lexer.specs.Cursor.{left, Answers};
+ghost use Rattle.rv_lexer.specs.Cursor.{remaining, Answers};
 ghost use Rattle.rv_parse.specs.Left.{Gives, GivesInstruction, ReadsInstruction};
 
 use crate::operands::{given, with};
@@ -19,7 +19,7 @@ use rv_parcel::RegisterSet;
 use rv_parse_words::Role;
 use rv_parse_words::fault::Slot;
 use rv_statement::{Operation, Plain, StatementKind};
-use rv_text::{Cursor, Expr, ReadError, SourceCode, SyntaxError};
+use rv_expression::{Cursor, Expr, ReadError, SourceCode, SyntaxError};
 use std::alloc::Global;
 
 /// What a load reads and a store writes.
@@ -34,10 +34,10 @@ pub enum Location<'a> {
 }
 
 /// The address that a register and what stands before its parentheses give, or a target.
-#[tactic(auto, using(crate::proofs::LocatedLemmas::number_err, crate::proofs::LocatedLemmas::target_ok), unfolding(rv_lexer::specs::Cursor::left))]
+#[tactic(auto, using(crate::proofs::LocatedLemmas::number_err, crate::proofs::LocatedLemmas::target_ok), unfolding(rv_lexer::specs::Cursor::remaining))]
 fn located<'a>(alloc: Global, cursor: &mut Cursor<'a>) -> Result<Location<'a>, ReadError>
-    ensures { Answers (λ l. (location_of l, left cursor.new)) result
-        (location_at (left cursor.old)) }
+    ensures { Answers (λ l. (location_of l, remaining cursor.new)) result
+        (location_at (remaining cursor.old)) }
 {
     if slot::begins_base(cursor) {
         let rs = slot::base(cursor, RegisterSet::Any)?;
@@ -63,9 +63,9 @@ fn loaded<'a>(
     operation: LoadOperation,
     rd: Reg,
 ) -> Result<StatementKind<'a>, ReadError>
-    ensures { Answers (λ k. (statement_kind k, left cursor.new)) result
+    ensures { Answers (λ k. (statement_kind k, remaining cursor.new)) result
         (seen_as (λ os. Instruction (Load operation) (Register rd ∷ os))
-        (placed_at (Stops A_target) (left cursor.old))) }
+        (placed_at (Stops A_target) (remaining cursor.old))) }
 {
     match located(alloc, cursor)? {
         Location::Register(rs1) => {
@@ -105,9 +105,9 @@ fn stored<'a>(
     operation: StoreOperation,
     rs2: Reg,
 ) -> Result<StatementKind<'a>, ReadError>
-    ensures { Answers (λ k. (statement_kind k, left cursor.new)) result
+    ensures { Answers (λ k. (statement_kind k, remaining cursor.new)) result
         (seen_as (λ os. Instruction (Store operation) (Register rs2 ∷ os))
-        (placed_at (Takes (A_comma A_target) (last A_register)) (left cursor.old))) }
+        (placed_at (Takes (A_comma A_target) (last A_register)) (remaining cursor.old))) }
 {
     match located(alloc, cursor)? {
         Location::Register(rs1) => {
@@ -144,8 +144,8 @@ pub fn store<'a>(
 /// A register in parentheses, after the opening one.
 #[tactic(auto, unfolding(rv_parse_laws::specs::Parsing::operands_at))]
 fn closed(cursor: &mut Cursor<'_>) -> Result<Reg, SyntaxError>
-    ensures { Gives (λ r. (Register r ∷ [], left cursor.new)) result
-        (operands_at closed (left cursor.old)) }
+    ensures { Gives (λ r. (Register r ∷ [], remaining cursor.new)) result
+        (operands_at closed (remaining cursor.old)) }
 {
     let base = slot::register(cursor)?;
     slot::closing(cursor)?;
@@ -156,8 +156,8 @@ fn closed(cursor: &mut Cursor<'_>) -> Result<Reg, SyntaxError>
 /// The address of an atomic.
 #[tactic(auto, unfolding(rv_parse_laws::specs::Parsing::operands_at))]
 fn atomic_address(cursor: &mut Cursor<'_>) -> Result<Reg, SyntaxError>
-    ensures { Gives (λ r. (Register r ∷ [], left cursor.new)) result
-        (operands_at atomic_address (left cursor.old)) }
+    ensures { Gives (λ r. (Register r ∷ [], remaining cursor.new)) result
+        (operands_at atomic_address (remaining cursor.old)) }
 {
     if slot::begins_opening(cursor) {
         slot::opening(cursor, Slot::ANY_REGISTER)?;

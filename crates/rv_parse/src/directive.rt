@@ -5,7 +5,7 @@
 //! operand. The loops stand in functions of their own, so that a directive only hands on what they read.
 
 ghost use Rattle.std.specs.Prelude.{◌∷◌, [], map, Some};
-ghost use Rattle.rv_lexer.specs.Cursor.{left, Answers};
+ghost use Rattle.rv_lexer.specs.Cursor.{remaining, Answers};
 ghost use Rattle.rv_statement_laws.specs.declared.directive.DirectiveWord.TheVariants.{Enters, Section, Binds, Set, AlignToPower, AlignToBytes, Value, Ascii, Asciz, Zero, Option, Ignored};
 ghost use Rattle.rv_statement_laws.specs.Statement.{Directs};
 ghost use Rattle.rv_statement.specs.View.{statement_kind};
@@ -22,14 +22,14 @@ use rv_parse_words::fault::{self, Slot};
 use rv_parse_words::{Role, kinds};
 use rv_statement::{Opening, Setting, StatementKind};
 use rv_statement_laws::{Binding, DirectiveWord, Standard, Width};
-use rv_text::{Cursor, Expr, ReadError, SyntaxError};
+use rv_expression::{Cursor, Expr, ReadError, SyntaxError};
 use std::alloc::Global;
 
 /// One symbol or more, with commas between.
 #[tactic(auto, using(crate::proofs::ListsLemmas::names_first_wrong, crate::proofs::ListsLemmas::names_begin, crate::proofs::ListsLemmas::names_wrong, crate::proofs::ListsLemmas::names_done))]
 fn names<'a>(alloc: Global, cursor: &mut Cursor<'a>) -> Result<Vec<&'a [u8]>, ReadError>
-    ensures { Answers (λ names. (map word_of names.items, left cursor.new)) result
-        (items_at A_symbol (left cursor.old)) }
+    ensures { Answers (λ names. (map word_of names.items, remaining cursor.new)) result
+        (items_at A_symbol (remaining cursor.old)) }
 {
     let mut names = Vec::new(alloc);
     names.push(slot::symbol(cursor)?)?;
@@ -44,8 +44,8 @@ fn names<'a>(alloc: Global, cursor: &mut Cursor<'a>) -> Result<Vec<&'a [u8]>, Re
 /// One string or more, with commas between.
 #[tactic(auto, using(crate::proofs::ListsLemmas::strings_first_wrong, crate::proofs::ListsLemmas::strings_begin, crate::proofs::ListsLemmas::strings_wrong, crate::proofs::ListsLemmas::strings_done))]
 fn strings<'a>(alloc: Global, cursor: &mut Cursor<'a>) -> Result<Vec<&'a [u8]>, ReadError>
-    ensures { Answers (λ strings. (map string_of strings.items, left cursor.new)) result
-        (items_at A_string (left cursor.old)) }
+    ensures { Answers (λ strings. (map string_of strings.items, remaining cursor.new)) result
+        (items_at A_string (remaining cursor.old)) }
 {
     let mut strings = Vec::with_capacity(alloc, 1)?;
     strings.push(slot::string(cursor)?)?;
@@ -64,9 +64,9 @@ fn several<'a>(
     cursor: &mut Cursor<'a>,
     first: Expr<'a>,
 ) -> Result<Vec<Expr<'a>>, ReadError>
-    ensures { Answers (λ values. (map operand_of_value values.items, left cursor.new)) result
+    ensures { Answers (λ values. (map operand_of_value values.items, remaining cursor.new)) result
         (prepended (operand_of_value first.entry ∷ [])
-        (further_items (A_value roles.Directive) (left cursor.old))) }
+        (further_items (A_value roles.Directive) (remaining cursor.old))) }
 {
     let mut values = Vec::new(alloc);
     values.push(first)?;
@@ -172,7 +172,7 @@ fn set<'a>(alloc: Global, cursor: &mut Cursor<'a>) -> Result<StatementKind<'a>, 
 }
 
 /// The word of `.option`.
-#[tactic(auto, using(crate::proofs::TokensLemmas::choice_no_last), unfolding(rv_lexer::specs::Cursor::left, rv_parse_laws::specs::Parsing::operands_at))]
+#[tactic(auto, using(crate::proofs::TokensLemmas::choice_no_last), unfolding(rv_lexer::specs::Cursor::remaining, rv_parse_laws::specs::Parsing::operands_at))]
 fn option<'a>(cursor: &mut Cursor<'a>) -> Result<StatementKind<'a>, SyntaxError>
     ensures { GivesDirective Option cursor.old cursor.new result }
 {
@@ -194,10 +194,10 @@ fn section_type<'a>(
     name: &'a [u8],
     flags: &'a [u8],
 ) -> Result<StatementKind<'a>, ReadError>
-    ensures { Answers (λ k. (statement_kind k, left cursor.new)) result
+    ensures { Answers (λ k. (statement_kind k, remaining cursor.new)) result
         (seen_as
         (λ os. Directs (directed Section (word_of name.entry ∷ string_of flags.entry ∷ os)))
-        (operands_at type_slots (left cursor.old))) }
+        (operands_at type_slots (remaining cursor.old))) }
 {
     let kind = slot::section_type(cursor)?;
     if slot::begins_comma(cursor) {
@@ -222,9 +222,9 @@ fn section_flags<'a>(
     cursor: &mut Cursor<'a>,
     name: &'a [u8],
 ) -> Result<StatementKind<'a>, ReadError>
-    ensures { Answers (λ k. (statement_kind k, left cursor.new)) result
+    ensures { Answers (λ k. (statement_kind k, remaining cursor.new)) result
         (seen_as (λ os. Directs (directed Section (word_of name.entry ∷ os)))
-        (operands_at flags_slots (left cursor.old))) }
+        (operands_at flags_slots (remaining cursor.old))) }
 {
     let flags = slot::flags(cursor)?;
     if slot::begins_comma(cursor) {
@@ -270,9 +270,9 @@ fn enters<'a>(cursor: &mut Cursor<'a>, section: Standard) -> Result<StatementKin
 }
 
 /// Operands that are not looked at.
-#[tactic(auto, using(crate::proofs::TokensLemmas::any_no_last), unfolding(rv_lexer::specs::Cursor::left))]
+#[tactic(auto, using(crate::proofs::TokensLemmas::any_no_last), unfolding(rv_lexer::specs::Cursor::remaining))]
 fn anything(cursor: &mut Cursor<'_>) -> Result<(), SyntaxError>
-    ensures { Gives (λ _. ([], left cursor.new)) result (any_at (left cursor.old)) }
+    ensures { Gives (λ _. ([], remaining cursor.new)) result (any_at (remaining cursor.old)) }
 {
     while !kinds::is_end(cursor.next.kind) {
         if !kinds::is_any(cursor.next.kind) {

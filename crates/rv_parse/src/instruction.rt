@@ -15,7 +15,7 @@ use rv_parse_words::fault::Slot;
 use rv_parse_words::words::has_constant;
 use rv_statement::{Operation, Plain, StatementKind};
 use rv_statement_laws::Mnemonic;
-use rv_text::{Cursor, ReadError};
+use rv_expression::{Cursor, ReadError};
 use std::alloc::Global;
 
 /// `rd, rs1, rs2`, or a constant in place of `rs2`.

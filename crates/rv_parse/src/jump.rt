@@ -6,7 +6,7 @@ ghost use Rattle.rv_statement_laws.specs.Statement.{Instruction, Register};
 ghost use Rattle.rv_statement.specs.View.{statement_kind};
 ghost use Rattle.rv_parse_laws.specs.Syntax.{jump_target};
 ghost use Rattle.rv_parse_laws.specs.Parsing.{operands_at, seen_as};
-ghost use Rattle.rv_lexer.specs.Cursor.{left, Answers};
+ghost use Rattle.rv_lexer.specs.Cursor.{remaining, Answers};
 ghost use Rattle.rv_parse.specs.Left.{ReadsInstruction};
 
 use crate::operands::{given, with};
@@ -16,7 +16,7 @@ use rv_parcel::RegisterSet;
 use rv_parse_words::Role;
 use rv_parse_words::fault::Slot;
 use rv_statement::{Operation, Plain, StatementKind};
-use rv_text::{Cursor, ReadError};
+use rv_expression::{Cursor, ReadError};
 use std::alloc::Global;
 
 /// The operands of `jal`: a target, or a link register and a target.
@@ -118,10 +118,10 @@ fn jump_target<'a>(
     cursor: &mut Cursor<'a>,
     rd: Reg,
 ) -> Result<StatementKind<'a>, ReadError>
-    ensures { Answers (λ k. (statement_kind k, left cursor.new)) result
+    ensures { Answers (λ k. (statement_kind k, remaining cursor.new)) result
         (seen_as (Instruction Jalr)
         (seen_as (λ os. Register rd ∷ os)
-        (seen_as (λ os. os) (operands_at jump_target (left cursor.old))))) }
+        (seen_as (λ os. os) (operands_at jump_target (remaining cursor.old))))) }
 {
     if !slot::begins_register(cursor) {
         if slot::begins_base(cursor) {

@@ -31,5 +31,5 @@ mod value;
 
 pub use list::PlacedStatements;
 pub use rv_statement::Statement;
-pub use rv_text::{ReadError, SourceCode, SourceFault, SyntaxError};
+pub use rv_expression::{ReadError, SourceCode, SourceFault, SyntaxError};
 pub use source::{lists_agree, parse, parse_compact, parse_placed};

@@ -1,7 +1,7 @@
 //! The lists that a source's statements are put into.
 
 ghost use Rattle.std.specs.Prelude.{◌≡◌, ◌<◌, ◌^◌, ◌++◌, List, [], ◌∷◌, length, map, ⊤, OnOk};
-ghost use Rattle.rv_text_laws.specs.Lexing.{Token};
+ghost use Rattle.rv_expression_laws.specs.Lexing.{Token};
 ghost use Rattle.rv_statement_laws.specs.Statement.{Statement as SpecStatement};
 ghost use Rattle.rv_statement.specs.View.{statement_of};
 ghost use Rattle.rv_parse.specs.Offsets.{BeginsAt, HaveOffsets};

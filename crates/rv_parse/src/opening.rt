@@ -5,7 +5,7 @@
 
 ghost use Rattle.std.specs.Str.{bytes_eq};
 ghost use Rattle.std.specs.Prelude.{◌≡◌, ℕ, List, [], Bool, ◌||◌, option_map, IfOk, OnOk};
-ghost use Rattle.rv_lexer.specs.Cursor.{left, syntax_error_of};
+ghost use Rattle.rv_lexer.specs.Cursor.{remaining, syntax_error_of};
 ghost use Rattle.rv_statement_laws.specs.Statement.{Statement};
 ghost use Rattle.rv_statement.specs.View.{statement_kind};
 ghost use Rattle.rv_parse_laws.specs.Opening.{opens, is_opened};
@@ -17,7 +17,7 @@ use crate::slot;
 use rv_parse_words::fault::{self, Slot};
 use rv_parse_words::{kinds, words};
 use rv_statement::{StatementKind, section_name};
-use rv_text::{Cursor, LONGEST_NAME, SourceCode, SyntaxError, TokenKind, append_string};
+use rv_expression::{Cursor, LONGEST_NAME, SourceCode, SyntaxError, TokenKind, append_string};
 use std::alloc::{AllocError, Global};
 use std::collections::HashSet;
 
@@ -69,9 +69,9 @@ impl<'a> Opened<'a> {
 }
 
 /// What is wrong with the next token as the type of a name that is known, or new.
-#[tactic(auto, unfolding(rv_lexer::specs::Cursor::left))]
+#[tactic(auto, unfolding(rv_lexer::specs::Cursor::remaining))]
 fn type_fault(cursor: &Cursor<'_>, known: bool) -> Option<SyntaxError>
-    ensures { option_map syntax_error_of result ≡ front_fault (type_fault known) (left cursor.now) }
+    ensures { option_map syntax_error_of result ≡ front_fault (type_fault known) (remaining cursor.now) }
 {
     let TokenKind::Name(word) = cursor.next.kind else {
         return None;
@@ -90,7 +90,7 @@ fn type_fault(cursor: &Cursor<'_>, known: bool) -> Option<SyntaxError>
 }
 
 /// What is wrong with the next token as the flags of a name that is known, or new.
-#[tactic(auto, unfolding(rv_lexer::specs::Cursor::left))]
+#[tactic(auto, unfolding(rv_lexer::specs::Cursor::remaining))]
 fn flags_fault(
     alloc: Global,
     cursor: &Cursor<'_>,
@@ -98,7 +98,7 @@ fn flags_fault(
 ) -> Result<Option<SyntaxError>, AllocError>
     ensures { IfOk result
         (λ found. option_map syntax_error_of found
-        ≡ front_fault (flags_fault known) (left cursor.now)) }
+        ≡ front_fault (flags_fault known) (remaining cursor.now)) }
 {
     if known {
         return Ok(None);
@@ -117,7 +117,7 @@ fn flags_fault(
 
 /// What is wrong with the type after flags, a comma and `@`.
 fn type_wrong(cursor: Cursor<'_>, known: bool) -> Option<SyntaxError>
-    ensures { option_map syntax_error_of result ≡ type_wrong known (left cursor.entry) }
+    ensures { option_map syntax_error_of result ≡ type_wrong known (remaining cursor.entry) }
 {
     let mut ahead = cursor;
     if slot::flags(&mut ahead).is_err() {
@@ -139,7 +139,7 @@ fn flags_wrong(
     known: bool,
 ) -> Result<Option<SyntaxError>, AllocError>
     ensures { IfOk result
-        (λ found. option_map syntax_error_of found ≡ flags_wrong known (left cursor.entry)) }
+        (λ found. option_map syntax_error_of found ≡ flags_wrong known (remaining cursor.entry)) }
 {
     match flags_fault(alloc, &cursor, known)? {
         Some(wrong) => Ok(Some(wrong)),
@@ -148,7 +148,7 @@ fn flags_wrong(
 }
 
 /// What is wrong with the flags or the type of an opening that begins here: they count where the name is new.
-#[tactic(auto, using(crate::proofs::OpenedLemmas::section_no_last, crate::proofs::OpenedLemmas::named_left, crate::proofs::OpenedLemmas::name_wrong, crate::proofs::OpenedLemmas::comma_wrong), unfolding(rv_lexer::specs::Cursor::left, rv_parse_laws::specs::Parsing::opening_at))]
+#[tactic(auto, using(crate::proofs::OpenedLemmas::section_no_last, crate::proofs::OpenedLemmas::named_left, crate::proofs::OpenedLemmas::name_wrong, crate::proofs::OpenedLemmas::comma_wrong), unfolding(rv_lexer::specs::Cursor::remaining, rv_parse_laws::specs::Parsing::opening_at))]
 pub fn wrong_opening(
     alloc: Global,
     cursor: &Cursor<'_>,
@@ -156,7 +156,7 @@ pub fn wrong_opening(
 ) -> Result<Option<SyntaxError>, AllocError>
     ensures { IfOk result
         (λ found. (ss : List Statement) → Knows (opened.now).set ss →
-        option_map syntax_error_of found ≡ opening_at (is_opened ss) (left cursor.now)) }
+        option_map syntax_error_of found ≡ opening_at (is_opened ss) (remaining cursor.now)) }
 {
     if !kinds::is_section(cursor.next.kind) {
         return Ok(None);

@@ -1,11 +1,11 @@
 //! Operands in shapes that several mnemonics share, up to the statement's end.
 
 ghost use Rattle.std.specs.Prelude.{◌≡◌, ◌∷◌, [], false};
-ghost use Rattle.rv_lexer.specs.Cursor.{left, Answers};
-ghost use Rattle.rv_text.specs.Expr.{tree_of_expr};
+ghost use Rattle.rv_lexer.specs.Cursor.{remaining, Answers};
+ghost use Rattle.rv_expression.specs.Expr.{tree_of_expr};
 ghost use Rattle.rv_statement_laws.specs.Statement.{Register, Value};
 ghost use Rattle.rv_statement.specs.View.{statement_kind, with_expression, with_operand, operand_in};
-ghost use Rattle.rv_text_laws.specs.Expression.{Tree};
+ghost use Rattle.rv_expression_laws.specs.Expression.{Tree};
 ghost use Rattle.rv_parse_laws.specs.Faults.{may_call};
 ghost use Rattle.rv_parse.specs.View.{operand_of};
 ghost use Rattle.rv_parse_laws.specs.Syntax.{A_register, A_value, Stops, and_then, last, valued, targets};
@@ -18,7 +18,7 @@ use rv_isa::Reg;
 use rv_parse_words::Role;
 use rv_parse_words::fault::Slot;
 use rv_statement::{Operation, StatementKind};
-use rv_text::{Cursor, Expr, ReadError, SyntaxError};
+use rv_expression::{Cursor, Expr, ReadError, SyntaxError};
 use std::alloc::Global;
 
 /// An instruction with its expression.
@@ -31,8 +31,8 @@ pub fn with<'a>(operation: Operation, expression: Expr<'a>) -> StatementKind<'a>
 /// None: the statement's end.
 #[tactic(auto, unfolding(rv_parse_laws::specs::Parsing::operands_at))]
 pub fn none(cursor: &Cursor<'_>) -> Result<(), SyntaxError>
-    ensures { Gives (λ _. ([], left cursor.now)) result
-        (operands_at (Stops A_register) (left cursor.now)) }
+    ensures { Gives (λ _. ([], remaining cursor.now)) result
+        (operands_at (Stops A_register) (remaining cursor.now)) }
 {
     slot::end(cursor, Slot::ANY_REGISTER)
 }
@@ -40,8 +40,8 @@ pub fn none(cursor: &Cursor<'_>) -> Result<(), SyntaxError>
 /// `rd, rs`
 #[tactic(auto, unfolding(rv_parse_laws::specs::Parsing::operands_at))]
 pub fn two_registers(cursor: &mut Cursor<'_>) -> Result<(Reg, Reg), SyntaxError>
-    ensures { Gives (λ r. (Register r.0 ∷ Register r.1 ∷ [], left cursor.new)) result
-        (operands_at (and_then A_register (last A_register)) (left cursor.old)) }
+    ensures { Gives (λ r. (Register r.0 ∷ Register r.1 ∷ [], remaining cursor.new)) result
+        (operands_at (and_then A_register (last A_register)) (remaining cursor.old)) }
 {
     let rd = slot::register(cursor)?;
     slot::comma(cursor, Slot::ANY_REGISTER)?;
@@ -54,9 +54,9 @@ pub fn two_registers(cursor: &mut Cursor<'_>) -> Result<(Reg, Reg), SyntaxError>
 #[tactic(auto, unfolding(rv_parse_laws::specs::Parsing::operands_at))]
 pub fn three_registers(cursor: &mut Cursor<'_>) -> Result<(Reg, Reg, Reg), SyntaxError>
     ensures { Gives
-        (λ r. (Register r.0 ∷ Register r.1 ∷ Register r.2 ∷ [], left cursor.new)) result
+        (λ r. (Register r.0 ∷ Register r.1 ∷ Register r.2 ∷ [], remaining cursor.new)) result
         (operands_at (and_then A_register (and_then A_register (last A_register)))
-        (left cursor.old)) }
+        (remaining cursor.old)) }
 {
     let rd = slot::register(cursor)?;
     slot::comma(cursor, Slot::ANY_REGISTER)?;
@@ -86,8 +86,8 @@ pub fn one_argument<'a>(
     role: Role,
 ) -> Result<Argument<'a>, ReadError>
     requires { targets role ≡ false }
-    ensures { Answers (λ a. (operand_of a ∷ [], left cursor.new)) result
-        (operands_at (last (A_value role)) (left cursor.old)) }
+    ensures { Answers (λ a. (operand_of a ∷ [], remaining cursor.new)) result
+        (operands_at (last (A_value role)) (remaining cursor.old)) }
 {
     let value = value::value_or_function(alloc, cursor, role)?;
     slot::end(cursor, Slot::Value(role))?;
@@ -102,8 +102,8 @@ pub fn register_and_argument<'a>(
     role: Role,
 ) -> Result<(Reg, Argument<'a>), ReadError>
     requires { targets role ≡ false }
-    ensures { Answers (λ r. (Register r.0 ∷ operand_of r.1 ∷ [], left cursor.new)) result
-        (operands_at (and_then A_register (last (A_value role))) (left cursor.old)) }
+    ensures { Answers (λ r. (Register r.0 ∷ operand_of r.1 ∷ [], remaining cursor.new)) result
+        (operands_at (and_then A_register (last (A_value role))) (remaining cursor.old)) }
 {
     let register = slot::register(cursor)?;
     slot::comma(cursor, Slot::ANY_REGISTER)?;
@@ -121,9 +121,9 @@ pub fn registers_and_argument<'a>(
 ) -> Result<(Reg, Reg, Argument<'a>), ReadError>
     requires { targets role ≡ false }
     ensures { Answers
-        (λ r. (Register r.0 ∷ Register r.1 ∷ operand_of r.2 ∷ [], left cursor.new)) result
+        (λ r. (Register r.0 ∷ Register r.1 ∷ operand_of r.2 ∷ [], remaining cursor.new)) result
         (operands_at (and_then A_register (and_then A_register (last (A_value role))))
-        (left cursor.old)) }
+        (remaining cursor.old)) }
 {
     let first = slot::register(cursor)?;
     slot::comma(cursor, Slot::ANY_REGISTER)?;
@@ -142,8 +142,8 @@ pub fn one_value<'a>(
     role: Role,
 ) -> Result<Expr<'a>, ReadError>
     requires { may_call role ≡ false }
-    ensures { Answers (λ e. (valued role (tree_of_expr e) ∷ [], left cursor.new)) result
-        (operands_at (last (A_value role)) (left cursor.old)) }
+    ensures { Answers (λ e. (valued role (tree_of_expr e) ∷ [], remaining cursor.new)) result
+        (operands_at (last (A_value role)) (remaining cursor.old)) }
 {
     let value = value::value(alloc, cursor, role)?;
     slot::end(cursor, Slot::Value(role))?;
@@ -159,8 +159,8 @@ pub fn register_and_value<'a>(
 ) -> Result<(Reg, Expr<'a>), ReadError>
     requires { may_call role ≡ false }
     ensures { Answers
-        (λ r. (Register r.0 ∷ valued role (tree_of_expr r.1) ∷ [], left cursor.new)) result
-        (operands_at (and_then A_register (last (A_value role))) (left cursor.old)) }
+        (λ r. (Register r.0 ∷ valued role (tree_of_expr r.1) ∷ [], remaining cursor.new)) result
+        (operands_at (and_then A_register (last (A_value role))) (remaining cursor.old)) }
 {
     let register = slot::register(cursor)?;
     slot::comma(cursor, Slot::ANY_REGISTER)?;
@@ -178,10 +178,10 @@ pub fn registers_and_value<'a>(
 ) -> Result<(Reg, Reg, Expr<'a>), ReadError>
     requires { may_call role ≡ false }
     ensures { Answers
-        (λ r. (Register r.0 ∷ Register r.1 ∷ valued role (tree_of_expr r.2) ∷ [], left cursor.new))
+        (λ r. (Register r.0 ∷ Register r.1 ∷ valued role (tree_of_expr r.2) ∷ [], remaining cursor.new))
         result
         (operands_at (and_then A_register (and_then A_register (last (A_value role))))
-        (left cursor.old)) }
+        (remaining cursor.old)) }
 {
     let first = slot::register(cursor)?;
     slot::comma(cursor, Slot::ANY_REGISTER)?;

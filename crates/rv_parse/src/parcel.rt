@@ -6,7 +6,7 @@ ghost use Rattle.rv_parcel.specs.declared.parcel.OperandShape.TheVariants.{Regis
 ghost use Rattle.rv_statement_laws.specs.declared.mnemonic.Mnemonic.TheVariants.{Parcel};
 ghost use Rattle.rv_statement_laws.specs.Statement.{Instruction, Register};
 ghost use Rattle.rv_statement.specs.View.{parcel_registers, statement_kind};
-ghost use Rattle.rv_lexer.specs.Cursor.{left, Answers};
+ghost use Rattle.rv_lexer.specs.Cursor.{remaining, Answers};
 ghost use Rattle.rv_parse_laws.specs.Syntax.{An_address_by, last, registers_alone};
 ghost use Rattle.rv_parse_laws.specs.Parsing.{operands_at, seen_as};
 ghost use Rattle.rv_parse.specs.Left.{Gives, GivesInstruction, ReadsInstruction};
@@ -19,13 +19,13 @@ use rv_parcel::{OperandShape, ParcelOperation, RegisterSet};
 use rv_parse_words::Role;
 use rv_parse_words::fault::Slot;
 use rv_statement::{Operation, Plain, StatementKind};
-use rv_text::{Cursor, ReadError, SyntaxError};
+use rv_expression::{Cursor, ReadError, SyntaxError};
 use std::alloc::Global;
 
 /// A register of the set and a comma; x0 where there is no set.
 fn leading(cursor: &mut Cursor<'_>, set: Option<RegisterSet>) -> Result<Reg, SyntaxError>
-    ensures { Gives (λ r. (own set r, left cursor.new)) result
-        (leading_at set (left cursor.old)) }
+    ensures { Gives (λ r. (own set r, remaining cursor.new)) result
+        (leading_at set (remaining cursor.old)) }
 {
     match set {
         Some(set) => {
@@ -40,8 +40,8 @@ fn leading(cursor: &mut Cursor<'_>, set: Option<RegisterSet>) -> Result<Reg, Syn
 /// The last register, of the set, and the end; x0 where there is no set.
 #[tactic(auto, unfolding(rv_parse_laws::specs::Parsing::operands_at))]
 fn last(cursor: &mut Cursor<'_>, set: Option<RegisterSet>) -> Result<Reg, SyntaxError>
-    ensures { Gives (λ r. (own set r, left cursor.new)) result
-        (operands_at (registers_alone (sets_in set)) (left cursor.old)) }
+    ensures { Gives (λ r. (own set r, remaining cursor.new)) result
+        (operands_at (registers_alone (sets_in set)) (remaining cursor.old)) }
 {
     match set {
         Some(set) => {
@@ -61,8 +61,8 @@ fn registers_before(
     cursor: &mut Cursor<'_>,
     operation: ParcelOperation,
 ) -> Result<(Reg, Reg), SyntaxError>
-    ensures { Gives (λ r. (parcel_registers operation r.0 r.1, left cursor.new)) result
-        (leading_of (register_sets operation) (left cursor.old)) }
+    ensures { Gives (λ r. (parcel_registers operation r.0 r.1, remaining cursor.new)) result
+        (leading_of (register_sets operation) (remaining cursor.old)) }
 {
     let first = leading(cursor, operation.first())?;
     let second = leading(cursor, operation.second())?;
@@ -74,8 +74,8 @@ fn registers_alone(
     cursor: &mut Cursor<'_>,
     operation: ParcelOperation,
 ) -> Result<(Reg, Reg), SyntaxError>
-    ensures { Gives (λ r. (parcel_registers operation r.0 r.1, left cursor.new)) result
-        (operands_at (registers_alone (register_sets operation)) (left cursor.old)) }
+    ensures { Gives (λ r. (parcel_registers operation r.0 r.1, remaining cursor.new)) result
+        (operands_at (registers_alone (register_sets operation)) (remaining cursor.old)) }
 {
     match operation.second() {
         Some(set) => {
@@ -126,9 +126,9 @@ fn address<'a>(
     set: RegisterSet,
 ) -> Result<StatementKind<'a>, ReadError>
     requires { shape_of operation ≡ Address }
-    ensures { Answers (λ k. (statement_kind k, left cursor.new)) result
+    ensures { Answers (λ k. (statement_kind k, remaining cursor.new)) result
         (seen_as (λ os. Instruction (Parcel operation) (Register first ∷ os))
-        (operands_at (last (An_address_by set)) (left cursor.old))) }
+        (operands_at (last (An_address_by set)) (remaining cursor.old))) }
 {
     if slot::begins_base(cursor) {
         let base = slot::base(cursor, set)?;

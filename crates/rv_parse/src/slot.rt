@@ -5,7 +5,7 @@
 //! function that only looks (`begins_..`) leaves the cursor alone, and decides where a statement has two forms.
 
 ghost use Rattle.std.specs.Prelude.{◌≡◌, ◌∷◌, []};
-ghost use Rattle.rv_lexer.specs.Cursor.{left, syntax_error_of};
+ghost use Rattle.rv_lexer.specs.Cursor.{remaining, syntax_error_of};
 ghost use Rattle.rv_statement_laws.specs.Statement.{Register, Accesses};
 ghost use Rattle.rv_parse_laws.specs.Syntax.{A_register_of, A_register, A_zero, Some_accesses, A_symbol, A_string, A_section, Some_flags, At_sign, A_type, A_plt, A_comma, An_opening, A_closing, Slot as AnySlot, front_begins};
 ghost use Rattle.rv_parse_laws.specs.Parsing.{operand_at, end_at, base_at, base_next, plt_next, too_long};
@@ -16,13 +16,13 @@ use rv_isa::{AccessSet, Reg};
 use rv_parcel::RegisterSet;
 use rv_parse_words::fault::{self, Slot};
 use rv_parse_words::kinds;
-use rv_text::{Cursor, LONGEST_NAME, SourceCode, SyntaxError};
+use rv_expression::{Cursor, LONGEST_NAME, SourceCode, SyntaxError};
 
 /// A register of a set.
-#[tactic(auto, using(crate::proofs::TokensLemmas::register_in_no_last), unfolding(rv_lexer::specs::Cursor::left))]
+#[tactic(auto, using(crate::proofs::TokensLemmas::register_in_no_last), unfolding(rv_lexer::specs::Cursor::remaining))]
 pub fn register_of(cursor: &mut Cursor<'_>, set: RegisterSet) -> Result<Reg, SyntaxError>
-    ensures { Gives (λ r. (Register r ∷ [], left cursor.new)) result
-        (operand_at (A_register_of set) (left cursor.old)) }
+    ensures { Gives (λ r. (Register r ∷ [], remaining cursor.new)) result
+        (operand_at (A_register_of set) (remaining cursor.old)) }
 {
     match kinds::register_in(set, cursor.next.kind) {
         Some(register) => {
@@ -35,32 +35,32 @@ pub fn register_of(cursor: &mut Cursor<'_>, set: RegisterSet) -> Result<Reg, Syn
 
 /// A register.
 pub fn register(cursor: &mut Cursor<'_>) -> Result<Reg, SyntaxError>
-    ensures { Gives (λ r. (Register r ∷ [], left cursor.new)) result
-        (operand_at A_register (left cursor.old)) }
+    ensures { Gives (λ r. (Register r ∷ [], remaining cursor.new)) result
+        (operand_at A_register (remaining cursor.old)) }
 {
     register_of(cursor, RegisterSet::Any)
 }
 
 /// A register comes next.
-#[tactic(auto, unfolding(rv_lexer::specs::Cursor::left))]
+#[tactic(auto, unfolding(rv_lexer::specs::Cursor::remaining))]
 pub fn begins_register(cursor: &Cursor<'_>) -> bool
-    ensures { result ≡ front_begins A_register (left cursor.now) }
+    ensures { result ≡ front_begins A_register (remaining cursor.now) }
 {
     kinds::register_of(cursor.next.kind).is_some()
 }
 
 /// A comma comes next.
-#[tactic(auto, unfolding(rv_lexer::specs::Cursor::left))]
+#[tactic(auto, unfolding(rv_lexer::specs::Cursor::remaining))]
 pub fn begins_comma(cursor: &Cursor<'_>) -> bool
-    ensures { (s : AnySlot) → result ≡ front_begins (A_comma s) (left cursor.now) }
+    ensures { (s : AnySlot) → result ≡ front_begins (A_comma s) (remaining cursor.now) }
 {
     kinds::is_comma(cursor.next.kind)
 }
 
 /// A register in parentheses comes next.
-#[tactic(auto, unfolding(rv_lexer::specs::Cursor::left))]
+#[tactic(auto, unfolding(rv_lexer::specs::Cursor::remaining))]
 pub fn begins_base(cursor: &Cursor<'_>) -> bool
-    ensures { result ≡ base_next (left cursor.now) }
+    ensures { result ≡ base_next (remaining cursor.now) }
 {
     if !kinds::is_opening(cursor.next.kind) {
         return false;
@@ -71,17 +71,17 @@ pub fn begins_base(cursor: &Cursor<'_>) -> bool
 }
 
 /// An opening parenthesis comes next.
-#[tactic(auto, unfolding(rv_lexer::specs::Cursor::left))]
+#[tactic(auto, unfolding(rv_lexer::specs::Cursor::remaining))]
 pub fn begins_opening(cursor: &Cursor<'_>) -> bool
-    ensures { (s : AnySlot) → result ≡ front_begins (An_opening s) (left cursor.now) }
+    ensures { (s : AnySlot) → result ≡ front_begins (An_opening s) (remaining cursor.now) }
 {
     kinds::is_opening(cursor.next.kind)
 }
 
 /// A symbol and `@` come next.
-#[tactic(auto, unfolding(rv_lexer::specs::Cursor::left))]
+#[tactic(auto, unfolding(rv_lexer::specs::Cursor::remaining))]
 pub fn begins_plt(cursor: &Cursor<'_>) -> bool
-    ensures { result ≡ plt_next (left cursor.now) }
+    ensures { result ≡ plt_next (remaining cursor.now) }
 {
     if kinds::symbol_of(cursor.next.kind).is_none() {
         return false;
@@ -92,18 +92,18 @@ pub fn begins_plt(cursor: &Cursor<'_>) -> bool
 }
 
 /// A set of accesses comes next.
-#[tactic(auto, unfolding(rv_lexer::specs::Cursor::left))]
+#[tactic(auto, unfolding(rv_lexer::specs::Cursor::remaining))]
 pub fn begins_accesses(cursor: &Cursor<'_>) -> bool
-    ensures { result ≡ front_begins Some_accesses (left cursor.now) }
+    ensures { result ≡ front_begins Some_accesses (remaining cursor.now) }
 {
     kinds::accesses_of(cursor.next.kind).is_some()
 }
 
 /// A set of accesses.
-#[tactic(auto, using(crate::proofs::TokensLemmas::accesses_no_last), unfolding(rv_lexer::specs::Cursor::left))]
+#[tactic(auto, using(crate::proofs::TokensLemmas::accesses_no_last), unfolding(rv_lexer::specs::Cursor::remaining))]
 pub fn accesses(cursor: &mut Cursor<'_>) -> Result<AccessSet, SyntaxError>
-    ensures { Gives (λ set. (Accesses set ∷ [], left cursor.new)) result
-        (operand_at Some_accesses (left cursor.old)) }
+    ensures { Gives (λ set. (Accesses set ∷ [], remaining cursor.new)) result
+        (operand_at Some_accesses (remaining cursor.old)) }
 {
     match kinds::accesses_of(cursor.next.kind) {
         Some(set) => {
@@ -115,9 +115,9 @@ pub fn accesses(cursor: &mut Cursor<'_>) -> Result<AccessSet, SyntaxError>
 }
 
 /// A literal 0.
-#[tactic(auto, using(crate::proofs::TokensLemmas::zero_no_last), unfolding(rv_lexer::specs::Cursor::left))]
+#[tactic(auto, using(crate::proofs::TokensLemmas::zero_no_last), unfolding(rv_lexer::specs::Cursor::remaining))]
 pub fn zero(cursor: &mut Cursor<'_>) -> Result<(), SyntaxError>
-    ensures { Gives (λ _. ([], left cursor.new)) result (operand_at A_zero (left cursor.old)) }
+    ensures { Gives (λ _. ([], remaining cursor.new)) result (operand_at A_zero (remaining cursor.old)) }
 {
     if kinds::is_zero(cursor.next.kind) {
         cursor.advance();
@@ -128,10 +128,10 @@ pub fn zero(cursor: &mut Cursor<'_>) -> Result<(), SyntaxError>
 }
 
 /// An opening parenthesis, after what stands in this slot.
-#[tactic(auto, using(crate::proofs::TokensLemmas::opening_no_last), unfolding(rv_lexer::specs::Cursor::left))]
+#[tactic(auto, using(crate::proofs::TokensLemmas::opening_no_last), unfolding(rv_lexer::specs::Cursor::remaining))]
 pub fn opening(cursor: &mut Cursor<'_>, behind: Slot) -> Result<(), SyntaxError>
-    ensures { Gives (λ _. ([], left cursor.new)) result
-        (operand_at (An_opening (slot_of behind)) (left cursor.old)) }
+    ensures { Gives (λ _. ([], remaining cursor.new)) result
+        (operand_at (An_opening (slot_of behind)) (remaining cursor.old)) }
 {
     if kinds::is_opening(cursor.next.kind) {
         cursor.advance();
@@ -142,9 +142,9 @@ pub fn opening(cursor: &mut Cursor<'_>, behind: Slot) -> Result<(), SyntaxError>
 }
 
 /// A closing parenthesis.
-#[tactic(auto, using(crate::proofs::TokensLemmas::closing_no_last), unfolding(rv_lexer::specs::Cursor::left))]
+#[tactic(auto, using(crate::proofs::TokensLemmas::closing_no_last), unfolding(rv_lexer::specs::Cursor::remaining))]
 pub fn closing(cursor: &mut Cursor<'_>) -> Result<(), SyntaxError>
-    ensures { Gives (λ _. ([], left cursor.new)) result (operand_at A_closing (left cursor.old)) }
+    ensures { Gives (λ _. ([], remaining cursor.new)) result (operand_at A_closing (remaining cursor.old)) }
 {
     if kinds::is_closing(cursor.next.kind) {
         cursor.advance();
@@ -156,8 +156,8 @@ pub fn closing(cursor: &mut Cursor<'_>) -> Result<(), SyntaxError>
 
 /// A register of a set in parentheses.
 pub fn base(cursor: &mut Cursor<'_>, set: RegisterSet) -> Result<Reg, SyntaxError>
-    ensures { Gives (λ r. (Register r ∷ [], left cursor.new)) result
-        (base_at set (left cursor.old)) }
+    ensures { Gives (λ r. (Register r ∷ [], remaining cursor.new)) result
+        (base_at set (remaining cursor.old)) }
 {
     opening(cursor, Slot::ANY_REGISTER)?;
     let register = register_of(cursor, set)?;
@@ -166,10 +166,10 @@ pub fn base(cursor: &mut Cursor<'_>, set: RegisterSet) -> Result<Reg, SyntaxErro
 }
 
 /// A symbol, in a directive.
-#[tactic(auto, using(crate::proofs::TokensLemmas::symbol_no_last), unfolding(rv_lexer::specs::Cursor::left))]
+#[tactic(auto, using(crate::proofs::TokensLemmas::symbol_no_last), unfolding(rv_lexer::specs::Cursor::remaining))]
 pub fn symbol<'a>(cursor: &mut Cursor<'a>) -> Result<&'a [u8], SyntaxError>
-    ensures { Gives (λ name. (word_of name ∷ [], left cursor.new)) result
-        (operand_at A_symbol (left cursor.old)) }
+    ensures { Gives (λ name. (word_of name ∷ [], remaining cursor.new)) result
+        (operand_at A_symbol (remaining cursor.old)) }
 {
     match kinds::symbol_of(cursor.next.kind) {
         Some(name) => {
@@ -181,10 +181,10 @@ pub fn symbol<'a>(cursor: &mut Cursor<'a>) -> Result<&'a [u8], SyntaxError>
 }
 
 /// A string.
-#[tactic(auto, using(crate::proofs::TokensLemmas::string_no_last), unfolding(rv_lexer::specs::Cursor::left))]
+#[tactic(auto, using(crate::proofs::TokensLemmas::string_no_last), unfolding(rv_lexer::specs::Cursor::remaining))]
 pub fn string<'a>(cursor: &mut Cursor<'a>) -> Result<&'a [u8], SyntaxError>
-    ensures { Gives (λ text. (string_of text ∷ [], left cursor.new)) result
-        (operand_at A_string (left cursor.old)) }
+    ensures { Gives (λ text. (string_of text ∷ [], remaining cursor.new)) result
+        (operand_at A_string (remaining cursor.old)) }
 {
     match kinds::string_of(cursor.next.kind) {
         Some(text) => {
@@ -196,9 +196,9 @@ pub fn string<'a>(cursor: &mut Cursor<'a>) -> Result<&'a [u8], SyntaxError>
 }
 
 /// The `@` before a section's type.
-#[tactic(auto, using(crate::proofs::TokensLemmas::at_no_last), unfolding(rv_lexer::specs::Cursor::left))]
+#[tactic(auto, using(crate::proofs::TokensLemmas::at_no_last), unfolding(rv_lexer::specs::Cursor::remaining))]
 pub fn at_sign(cursor: &mut Cursor<'_>) -> Result<(), SyntaxError>
-    ensures { Gives (λ _. ([], left cursor.new)) result (operand_at At_sign (left cursor.old)) }
+    ensures { Gives (λ _. ([], remaining cursor.new)) result (operand_at At_sign (remaining cursor.old)) }
 {
     if kinds::is_at(cursor.next.kind) {
         cursor.advance();
@@ -209,9 +209,9 @@ pub fn at_sign(cursor: &mut Cursor<'_>) -> Result<(), SyntaxError>
 }
 
 /// The `plt` after `@` in a call.
-#[tactic(auto, using(crate::proofs::TokensLemmas::plt_no_last), unfolding(rv_lexer::specs::Cursor::left))]
+#[tactic(auto, using(crate::proofs::TokensLemmas::plt_no_last), unfolding(rv_lexer::specs::Cursor::remaining))]
 pub fn plt(cursor: &mut Cursor<'_>) -> Result<(), SyntaxError>
-    ensures { Gives (λ _. ([], left cursor.new)) result (operand_at A_plt (left cursor.old)) }
+    ensures { Gives (λ _. ([], remaining cursor.new)) result (operand_at A_plt (remaining cursor.old)) }
 {
     if kinds::is_plt(cursor.next.kind) {
         cursor.advance();
@@ -222,10 +222,10 @@ pub fn plt(cursor: &mut Cursor<'_>) -> Result<(), SyntaxError>
 }
 
 /// A section's type.
-#[tactic(auto, using(crate::proofs::TokensLemmas::type_no_last), unfolding(rv_lexer::specs::Cursor::left))]
+#[tactic(auto, using(crate::proofs::TokensLemmas::type_no_last), unfolding(rv_lexer::specs::Cursor::remaining))]
 pub fn section_type<'a>(cursor: &mut Cursor<'a>) -> Result<&'a [u8], SyntaxError>
-    ensures { Gives (λ name. (word_of name ∷ [], left cursor.new)) result
-        (operand_at A_type (left cursor.old)) }
+    ensures { Gives (λ name. (word_of name ∷ [], remaining cursor.new)) result
+        (operand_at A_type (remaining cursor.old)) }
 {
     match kinds::type_of(cursor.next.kind) {
         Some(name) => {
@@ -237,10 +237,10 @@ pub fn section_type<'a>(cursor: &mut Cursor<'a>) -> Result<&'a [u8], SyntaxError
 }
 
 /// A comma, after an operand in this slot.
-#[tactic(auto, using(crate::proofs::TokensLemmas::comma_no_last), unfolding(rv_lexer::specs::Cursor::left))]
+#[tactic(auto, using(crate::proofs::TokensLemmas::comma_no_last), unfolding(rv_lexer::specs::Cursor::remaining))]
 pub fn comma(cursor: &mut Cursor<'_>, behind: Slot) -> Result<(), SyntaxError>
-    ensures { Gives (λ _. ([], left cursor.new)) result
-        (operand_at (A_comma (slot_of behind)) (left cursor.old)) }
+    ensures { Gives (λ _. ([], remaining cursor.new)) result
+        (operand_at (A_comma (slot_of behind)) (remaining cursor.old)) }
 {
     if kinds::is_comma(cursor.next.kind) {
         cursor.advance();
@@ -251,9 +251,9 @@ pub fn comma(cursor: &mut Cursor<'_>, behind: Slot) -> Result<(), SyntaxError>
 }
 
 /// The statement's end comes next, after an operand in this slot.
-#[tactic(auto, unfolding(rv_lexer::specs::Cursor::left))]
+#[tactic(auto, unfolding(rv_lexer::specs::Cursor::remaining))]
 pub fn end(cursor: &Cursor<'_>, behind: Slot) -> Result<(), SyntaxError>
-    ensures { Gives (λ _. left cursor.now) result (end_at (slot_of behind) (left cursor.now)) }
+    ensures { Gives (λ _. remaining cursor.now) result (end_at (slot_of behind) (remaining cursor.now)) }
 {
     if kinds::is_end(cursor.next.kind) {
         Ok(())
@@ -263,9 +263,9 @@ pub fn end(cursor: &Cursor<'_>, behind: Slot) -> Result<(), SyntaxError>
 }
 
 /// The first token with which a name of several tokens is too long; nowhere if there is none.
-#[tactic(auto, using(crate::proofs::TokensLemmas::last_width), unfolding(rv_lexer::specs::Cursor::left))]
+#[tactic(auto, using(crate::proofs::TokensLemmas::last_width), unfolding(rv_lexer::specs::Cursor::remaining))]
 fn too_long(cursor: Cursor<'_>) -> SyntaxError
-    ensures { syntax_error_of result ≡ too_long 0 (left cursor.entry) }
+    ensures { syntax_error_of result ≡ too_long 0 (remaining cursor.entry) }
 {
     let mut ahead = cursor;
     let mut bytes = 0;
@@ -284,10 +284,10 @@ fn too_long(cursor: Cursor<'_>) -> SyntaxError
 }
 
 /// The name of a section.
-#[tactic(auto, unfolding(rv_lexer::specs::Cursor::left))]
+#[tactic(auto, unfolding(rv_lexer::specs::Cursor::remaining))]
 pub fn section_name<'a>(cursor: &mut Cursor<'a>) -> Result<&'a [u8], SyntaxError>
-    ensures { Gives (λ name. (word_of name ∷ [], left cursor.new)) result
-        (operand_at A_section (left cursor.old)) }
+    ensures { Gives (λ name. (word_of name ∷ [], remaining cursor.new)) result
+        (operand_at A_section (remaining cursor.old)) }
 {
     let before = *cursor;
     match cursor.joined() {
@@ -305,10 +305,10 @@ pub fn section_name<'a>(cursor: &mut Cursor<'a>) -> Result<&'a [u8], SyntaxError
 }
 
 /// The flags of a section.
-#[tactic(auto, using(crate::proofs::TokensLemmas::string_no_last), unfolding(rv_lexer::specs::Cursor::left))]
+#[tactic(auto, using(crate::proofs::TokensLemmas::string_no_last), unfolding(rv_lexer::specs::Cursor::remaining))]
 pub fn flags<'a>(cursor: &mut Cursor<'a>) -> Result<&'a [u8], SyntaxError>
-    ensures { Gives (λ text. (string_of text ∷ [], left cursor.new)) result
-        (operand_at Some_flags (left cursor.old)) }
+    ensures { Gives (λ text. (string_of text ∷ [], remaining cursor.new)) result
+        (operand_at Some_flags (remaining cursor.old)) }
 {
     match kinds::string_of(cursor.next.kind) {
         Some(text) => {

@@ -5,9 +5,9 @@
 
 ghost use Rattle.std.specs.Prelude.{◌≡◌, ◌<◌, ◌≤◌, ℕ, List, [], IfOk, IfErr, IfSome, length, map, take, false, ◌+◌};
 ghost use Rattle.rv_lexer.specs.Token.{token_of, kind_of};
-ghost use Rattle.rv_text_laws.specs.Lexing.{Token as SpecToken, Lexes, newlines};
+ghost use Rattle.rv_expression_laws.specs.Lexing.{Token as SpecToken, Lexes, newlines};
 ghost use Rattle.rv_parse_laws.specs.Syntax.{is_end, Says};
-ghost use Rattle.rv_text_laws.specs.Codes.{limit};
+ghost use Rattle.rv_expression_laws.specs.Codes.{limit};
 ghost use Rattle.rv_statement_laws.specs.Statement.{Statement as SpecStatement};
 ghost use Rattle.rv_statement.specs.declared.statement.Statement.{Statement as SourceStatement};
 ghost use Rattle.rv_statement.specs.declared.statements.Statements.{Statements as CompactList};
@@ -22,7 +22,7 @@ ghost use Rattle.rv_parse.specs.Offsets.{BeginIn};
 ghost use Rattle.rv_lexer.specs.Left.{tokens_left};
 ghost use Rattle.rv_statement.specs.View.{statement_kind, statement_of};
 ghost use Rattle.rv_statement.specs.Statements.{statements_of};
-ghost use Rattle.rv_lexer.specs.Cursor.{left, syntax_error_of, Answers};
+ghost use Rattle.rv_lexer.specs.Cursor.{remaining, syntax_error_of, Answers};
 ghost use Rattle.rv_parse.specs.Left.{StopsAt, RefusesTokens, RefusedAt, RefusedWith};
 
 use crate::list::{PlacedStatements, StatementList};
@@ -31,7 +31,7 @@ use crate::statement::statement;
 use memchr::{memchr_iter, memrchr};
 use rv_parse_words::kinds;
 use rv_statement::{MOST_STATEMENTS, Statement, StatementKind, Statements};
-use rv_text::{Cursor, Lexer, ReadError, SourceCode, SourceFault, SyntaxError, Token};
+use rv_expression::{Cursor, Lexer, ReadError, SourceCode, SourceFault, SyntaxError, Token};
 use std::alloc::Global;
 
 /// The longest source, in bytes.
@@ -76,8 +76,8 @@ fn checked<'a>(
 ) -> Result<StatementKind<'a>, ReadError>
     requires { is_end (kind_of cursor.old.next.kind) ≡ false }
     ensures { (ss : List SpecStatement) → Knows (opened.now).set ss →
-        Answers (λ k. (Says (statement_kind k), left cursor.new)) result
-        (checked_at (is_opened ss) (left cursor.old)) }
+        Answers (λ k. (Says (statement_kind k), remaining cursor.new)) result
+        (checked_at (is_opened ss) (remaining cursor.old)) }
 {
     if let Some(wrong) = wrong_opening(alloc, cursor, opened)? {
         return Err(ReadError::At(wrong));
@@ -95,14 +95,14 @@ fn next_statement<'a>(
     requires { is_end (kind_of cursor.old.next.kind) ≡ false }
     ensures read { (ss : List SpecStatement) → Knows (opened.now).set ss →
         IfOk result
-        (λ s. checked_at (is_opened ss) (left cursor.old)
-        ≡ Ok (Says (statement_kind s.kind), left cursor.new)) }
+        (λ s. checked_at (is_opened ss) (remaining cursor.old)
+        ≡ Ok (Says (statement_kind s.kind), remaining cursor.new)) }
     ensures line { IfOk result (λ s. s.line ≡ cursor.old.next.line) }
     ensures room { IfOk result (λ s. count < most_statements) }
     ensures stops { (ss : List SpecStatement) → Knows (opened.now).set ss →
         count ≤ most_statements →
         IfErr result
-        (λ e. StopsAt e (is_opened ss) count (token_of cursor.old.next) (left cursor.old)) }
+        (λ e. StopsAt e (is_opened ss) count (token_of cursor.old.next) (remaining cursor.old)) }
 {
     let first = cursor.next;
     let past = past_statements(first);

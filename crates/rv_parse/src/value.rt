@@ -1,8 +1,8 @@
 //! The expressions of a statement, and functions of them, at the front of a cursor's tokens.
 
 ghost use Rattle.std.specs.Prelude.{◌≡◌, ◌∷◌, [], false, None, IfOk};
-ghost use Rattle.rv_lexer.specs.Cursor.{left, syntax_error_of, Answers};
-ghost use Rattle.rv_text.specs.Expr.{tree_of_expr};
+ghost use Rattle.rv_lexer.specs.Cursor.{remaining, syntax_error_of, Answers};
+ghost use Rattle.rv_expression.specs.Expr.{tree_of_expr};
 ghost use Rattle.rv_statement_laws.specs.declared.pseudo.Function.TheVariants.{PcrelHi};
 ghost use Rattle.rv_statement_laws.specs.Statement.{Applied, Target};
 ghost use Rattle.rv_parse_laws.specs.Faults.{may_call, wrong_function};
@@ -16,25 +16,25 @@ use crate::slot;
 use rv_parse_words::fault::{self, Slot};
 use rv_parse_words::{Role, kinds};
 use rv_statement_laws::Function;
-use rv_text::{Cursor, Expr, ReadError, SourceCode, SyntaxError, Token};
+use rv_expression::{Cursor, Expr, ReadError, SourceCode, SyntaxError, Token};
 use std::alloc::Global;
 
 /// An expression.
 #[tactic(auto, using(crate::proofs::TargetsLemmas::read_numbers))]
 fn expression<'a>(alloc: Global, cursor: &mut Cursor<'a>) -> Result<Expr<'a>, ReadError>
-    ensures read { Answers (λ e. (tree_of_expr e, left cursor.new)) result
-        (value_at (left cursor.old)) }
+    ensures read { Answers (λ e. (tree_of_expr e, remaining cursor.new)) result
+        (value_at (remaining cursor.old)) }
     ensures number { IfOk result (λ e. TellsNumbers e) }
 {
-    rv_text::expression(alloc, cursor)
+    rv_expression::expression(alloc, cursor)
 }
 
 /// An expression where no function of one may stand; a number alone as a target is refused at its first token.
-#[tactic(auto, unfolding(rv_lexer::specs::Cursor::left))]
+#[tactic(auto, unfolding(rv_lexer::specs::Cursor::remaining))]
 pub fn value<'a>(alloc: Global, cursor: &mut Cursor<'a>, role: Role) -> Result<Expr<'a>, ReadError>
     requires { may_call role ≡ false }
-    ensures { Answers (λ e. (valued role (tree_of_expr e), left cursor.new)) result
-        (value_operand_at role (left cursor.old)) }
+    ensures { Answers (λ e. (valued role (tree_of_expr e), remaining cursor.new)) result
+        (value_operand_at role (remaining cursor.old)) }
 {
     let first = cursor.next;
     let value = expression(alloc, cursor)?;
@@ -46,8 +46,8 @@ pub fn value<'a>(alloc: Global, cursor: &mut Cursor<'a>, role: Role) -> Result<E
 
 /// A symbol, `@` and `plt`.
 fn linked<'a>(cursor: &mut Cursor<'a>) -> Result<Expr<'a>, SyntaxError>
-    ensures { Gives (λ e. (Target (tree_of_expr e) ∷ [], left cursor.new)) result
-        (plt_at (left cursor.old)) }
+    ensures { Gives (λ e. (Target (tree_of_expr e) ∷ [], remaining cursor.new)) result
+        (plt_at (remaining cursor.old)) }
 {
     let symbol = label(cursor)?;
     slot::at_sign(cursor)?;
@@ -57,8 +57,8 @@ fn linked<'a>(cursor: &mut Cursor<'a>) -> Result<Expr<'a>, SyntaxError>
 
 /// What a call calls: a target, or a symbol and `@plt`.
 pub fn callee<'a>(alloc: Global, cursor: &mut Cursor<'a>) -> Result<Expr<'a>, ReadError>
-    ensures { Answers (λ e. (Target (tree_of_expr e) ∷ [], left cursor.new)) result
-        (operand_at A_callee (left cursor.old)) }
+    ensures { Answers (λ e. (Target (tree_of_expr e) ∷ [], remaining cursor.new)) result
+        (operand_at A_callee (remaining cursor.old)) }
 {
     if slot::begins_plt(cursor) {
         return Ok(linked(cursor)?);
@@ -76,7 +76,7 @@ pub struct Argument<'a> {
 impl Argument<'_> {
     /// It is a target: no function, and no `(` comes next.
     pub fn is_target(&self, cursor: &Cursor<'_>) -> bool
-        ensures { result ≡ target_behind (operand_of self.now) (left cursor.now) }
+        ensures { result ≡ target_behind (operand_of self.now) (remaining cursor.now) }
     {
         match self.function {
             Some(_) => false,
@@ -86,9 +86,9 @@ impl Argument<'_> {
 }
 
 /// A label.
-#[tactic(auto, using(crate::proofs::TokensLemmas::label_no_last), unfolding(rv_lexer::specs::Cursor::left))]
+#[tactic(auto, using(crate::proofs::TokensLemmas::label_no_last), unfolding(rv_lexer::specs::Cursor::remaining))]
 fn label<'a>(cursor: &mut Cursor<'a>) -> Result<Expr<'a>, SyntaxError>
-    ensures { Gives (λ e. (tree_of_expr e, left cursor.new)) result (label_at (left cursor.old)) }
+    ensures { Gives (λ e. (tree_of_expr e, remaining cursor.new)) result (label_at (remaining cursor.old)) }
 {
     match kinds::label_named(cursor.next.kind) {
         Some(label) => {
@@ -105,8 +105,8 @@ fn argument_of<'a>(
     cursor: &mut Cursor<'a>,
     function: Function,
 ) -> Result<Expr<'a>, ReadError>
-    ensures read { Answers (λ e. (tree_of_expr e, left cursor.new)) result
-        (argument_at function (left cursor.old)) }
+    ensures read { Answers (λ e. (tree_of_expr e, remaining cursor.new)) result
+        (argument_at function (remaining cursor.old)) }
     ensures number { IfOk result (λ e. function ≡ PcrelHi → TellsNumbers e) }
 {
     match function {
@@ -123,8 +123,8 @@ fn enclosed<'a>(
     cursor: &mut Cursor<'a>,
     function: Function,
 ) -> Result<Expr<'a>, ReadError>
-    ensures read { Answers (λ e. (tree_of_expr e, left cursor.new)) result
-        (enclosed_at function (left cursor.old)) }
+    ensures read { Answers (λ e. (tree_of_expr e, remaining cursor.new)) result
+        (enclosed_at function (remaining cursor.old)) }
     ensures number { IfOk result (λ e. function ≡ PcrelHi → TellsNumbers e) }
 {
     slot::opening(cursor, Slot::ANY_REGISTER)?;
@@ -151,8 +151,8 @@ fn called<'a>(
     function: Function,
     percent: Token<'a>,
 ) -> Result<Expr<'a>, ReadError>
-    ensures { Answers (λ e. (Applied function (tree_of_expr e), left cursor.new)) result
-        (called_at function (token_of percent.entry) (left cursor.old)) }
+    ensures { Answers (λ e. (Applied function (tree_of_expr e), remaining cursor.new)) result
+        (called_at function (token_of percent.entry) (remaining cursor.old)) }
 {
     let argument = enclosed(alloc, cursor, function)?;
     if is_refused(function, &argument) {
@@ -162,7 +162,7 @@ fn called<'a>(
 }
 
 /// A word that is no function that may stand after this `%`.
-#[tactic(auto, unfolding(rv_lexer::specs::Cursor::left))]
+#[tactic(auto, unfolding(rv_lexer::specs::Cursor::remaining))]
 fn wrong_function(cursor: &Cursor<'_>, percent: Token<'_>) -> SyntaxError
     ensures { syntax_error_of result
         ≡ wrong_function (token_of percent.entry) (token_of cursor.now.next) }
@@ -175,15 +175,15 @@ fn wrong_function(cursor: &Cursor<'_>, percent: Token<'_>) -> SyntaxError
 }
 
 /// A function of an expression, after its `%`.
-#[tactic(auto, using(crate::proofs::TokensLemmas::function_no_last), unfolding(rv_lexer::specs::Cursor::left))]
+#[tactic(auto, using(crate::proofs::TokensLemmas::function_no_last), unfolding(rv_lexer::specs::Cursor::remaining))]
 fn applied<'a>(
     alloc: Global,
     cursor: &mut Cursor<'a>,
     role: Role,
     percent: Token<'a>,
 ) -> Result<Argument<'a>, ReadError>
-    ensures read { Answers (λ a. (operand_of a, left cursor.new)) result
-        (applied_at role (token_of percent.entry) (left cursor.old)) }
+    ensures read { Answers (λ a. (operand_of a, remaining cursor.new)) result
+        (applied_at role (token_of percent.entry) (remaining cursor.old)) }
     ensures function { IfOk result (λ a. (a.function ≡ None) → ⊥) }
 {
     match kinds::function_in(role, cursor.next.kind) {
@@ -200,15 +200,15 @@ fn applied<'a>(
 }
 
 /// An expression, or a function of one, of an instruction that goes nowhere by it.
-#[tactic(auto, using(crate::proofs::TokensLemmas::percent_no_last), unfolding(rv_lexer::specs::Cursor::left))]
+#[tactic(auto, using(crate::proofs::TokensLemmas::percent_no_last), unfolding(rv_lexer::specs::Cursor::remaining))]
 pub fn value_or_function<'a>(
     alloc: Global,
     cursor: &mut Cursor<'a>,
     role: Role,
 ) -> Result<Argument<'a>, ReadError>
     requires { targets role ≡ false }
-    ensures read { Answers (λ a. (operand_of a, left cursor.new)) result
-        (value_operand_at role (left cursor.old)) }
+    ensures read { Answers (λ a. (operand_of a, remaining cursor.new)) result
+        (value_operand_at role (remaining cursor.old)) }
     ensures number { IfOk result (λ a. a.function ≡ None → TellsNumbers a.expression) }
 {
     let first = cursor.next;

@@ -2,15 +2,15 @@
 
 use Rattle.std.proofs.Common.{◌≡◌, ℕ, ◌<◌, Bool, true, false, cond, ◌&&◌, not, List, [], ◌∷◌, ◌++◌, append_assoc, length, length-append, Option, Some, None, option_map, is_some, Ok, Err, refl, sym, ◌∙◌, ap, subst, arith, inl, inr}
 use Rattle.std.proofs.lemmas.Bool.{and_parts}
-use Rattle.rv_text_laws.specs.declared.punct.Punct.TheVariants.{Open, Percent}
-use Rattle.rv_text_laws.specs.Grammar.{Kind, Punctuation, Name as NameToken}
-use Rattle.rv_text_laws.specs.Lexing.{Token, is_ended}
-use Rattle.rv_text_laws.specs.SyntaxError.{SyntaxError, wrong, Read}
-use Rattle.rv_text_laws.specs.Expression.{begins, An_opening as Opens, No_operand, tree_of}
-use Rattle.rv_text_laws.specs.ExpressionAt.{Wants, read_from, expression_at}
-use Rattle.rv_text_laws.specs.declared.operator.Frame.TheVariants.{Parenthesis}
-use Rattle.rv_text_laws.proofs.ExpressionsLemmas.{fails, goes}
-use Rattle.rv_text_laws.proofs.ExpressionWrongLemmas.{ended_more}
+use Rattle.rv_expression_laws.specs.declared.punct.Punct.TheVariants.{Open, Percent}
+use Rattle.rv_expression_laws.specs.Grammar.{Kind, Punctuation, Name as NameToken}
+use Rattle.rv_expression_laws.specs.Lexing.{Token, is_ended}
+use Rattle.rv_expression_laws.specs.SyntaxError.{SyntaxError, wrong, Read}
+use Rattle.rv_expression_laws.specs.Expression.{begins, An_opening as Opens, No_operand, tree_of}
+use Rattle.rv_expression_laws.specs.ExpressionAt.{Wants, read_from, expression_at}
+use Rattle.rv_expression_laws.specs.declared.operator.Frame.TheVariants.{Parenthesis}
+use Rattle.rv_expression_laws.proofs.ExpressionsLemmas.{fails, goes}
+use Rattle.rv_expression_laws.proofs.ExpressionWrongLemmas.{ended_more}
 use Rattle.rv_parcel.specs.declared.parcel.RegisterSet.{RegisterSet}
 use Rattle.rv_statement_laws.specs.Statement.{Expression, Operand, Register, Value, Applied}
 use Rattle.rv_parse_laws.specs.Syntax.{is_register, register_of, kept_in, valued, is_refused, is_refused_by, function_in, is_percent, is_opening, is_colon, Slot, A_register_of, A_register, An_address_by, A_closing, An_opening, single, front_begins, IsValueIn, IsBase, IsOperand}

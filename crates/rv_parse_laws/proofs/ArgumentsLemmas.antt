@@ -3,12 +3,12 @@
 use Rattle.std.proofs.Common.{◌≡◌, ℕ, ◌<◌, Bool, true, false, cond, ◌&&◌, List, [], ◌∷◌, ◌++◌, append_assoc, length, Option, Some, None, Ok, Err, refl, sym, ◌∙◌, ap, subst, codes, arith, ◌⊎◌, inl, inr}
 use Rattle.std.proofs.lemmas.List.{append-nil}
 use Rattle.std.proofs.lemmas.Bool.{and_parts, and_right}
-use Rattle.rv_text_laws.specs.declared.punct.Punct.TheVariants.{Open, Close}
-use Rattle.rv_text_laws.specs.Grammar.{Kind, Punctuation, Name as NameToken}
-use Rattle.rv_text_laws.specs.Lexing.{Token, is_ended}
-use Rattle.rv_text_laws.specs.SyntaxError.{SyntaxError, wrong, Read}
-use Rattle.rv_text_laws.specs.Expression.{follows, A_closing as Closing, EndsBefore}
-use Rattle.rv_text_laws.proofs.ExpressionWrongLemmas.{ended_more, ended_behind}
+use Rattle.rv_expression_laws.specs.declared.punct.Punct.TheVariants.{Open, Close}
+use Rattle.rv_expression_laws.specs.Grammar.{Kind, Punctuation, Name as NameToken}
+use Rattle.rv_expression_laws.specs.Lexing.{Token, is_ended}
+use Rattle.rv_expression_laws.specs.SyntaxError.{SyntaxError, wrong, Read}
+use Rattle.rv_expression_laws.specs.Expression.{follows, A_closing as Closing, EndsBefore}
+use Rattle.rv_expression_laws.proofs.ExpressionWrongLemmas.{ended_more, ended_behind}
 use Rattle.rv_statement_laws.specs.declared.pseudo.Function.{Function}
 use Rattle.rv_statement_laws.specs.declared.pseudo.Function.TheVariants.{Hi, Lo, PcrelHi, PcrelLo}
 use Rattle.rv_statement_laws.specs.Statement.{Expression, Operand, Applied}
@@ -16,7 +16,7 @@ use Rattle.rv_parse_laws.specs.declared.role.Role.{Role}
 use Rattle.rv_parse_laws.specs.declared.role.Role.TheVariants as roles
 use Rattle.rv_parse_laws.specs.Words.{named_in, function_words}
 use Rattle.rv_parse_laws.specs.Syntax.{is_symbol, is_percent, is_opening, is_closing, targets, valued, is_of_numbers, is_refused, is_refused_by, may_stand, standing, function_in, label_named, A_register, A_closing, An_opening, single, IsValue, IsArgument, IsApplied, IsValueIn}
-use Rattle.rv_text_laws.specs.Codes.{bad_operands, unsupported_here}
+use Rattle.rv_expression_laws.specs.Codes.{bad_operands, unsupported_here}
 use Rattle.rv_parse_laws.specs.Faults.{may_call, is_name, wrong_or, wrong_symbol, wrong_function, wrong_first}
 use Rattle.rv_parse_laws.specs.Parsing.{◌>>=◌, seen_as, value_at, allowed, single_at, label_at, argument_at, enclosed_at, called_at, named_at, applied_at, value_operand_at}
 use Rattle.rv_parse_laws.proofs.StepsLemmas.{bind_ok, seen_ok, taken_ok, bind_err, seen_err, taken_err}

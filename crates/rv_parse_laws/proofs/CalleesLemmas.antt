@@ -4,13 +4,13 @@ use Rattle.std.proofs.Common.{◌≡◌, ℕ, ◌<◌, Bool, true, false, cond, 
 use Rattle.std.specs.Str.{bytes_eq}
 use Rattle.std.proofs.lemmas.Bool.{and_parts}
 use Rattle.rv_list_laws.proofs.ElementsLemmas.{some_bytes}
-use Rattle.rv_text_laws.specs.declared.punct.Punct.TheVariants.{At}
-use Rattle.rv_text_laws.specs.Grammar.{Kind, Punctuation, Name as NameToken}
-use Rattle.rv_text_laws.specs.Lexing.{Token, is_ended}
-use Rattle.rv_text_laws.specs.Codes.{limit}
-use Rattle.rv_text_laws.specs.SyntaxError.{SyntaxError, wrong, longest_name}
-use Rattle.rv_text_laws.specs.Expression.{Leaf, Symbol, Here, A_primary, No_operand, Begin, begins, follows, Nothing_more}
-use Rattle.rv_text_laws.proofs.ExpressionWrongLemmas.{ended_more}
+use Rattle.rv_expression_laws.specs.declared.punct.Punct.TheVariants.{At}
+use Rattle.rv_expression_laws.specs.Grammar.{Kind, Punctuation, Name as NameToken}
+use Rattle.rv_expression_laws.specs.Lexing.{Token, is_ended}
+use Rattle.rv_expression_laws.specs.Codes.{limit}
+use Rattle.rv_expression_laws.specs.SyntaxError.{SyntaxError, wrong, longest_name}
+use Rattle.rv_expression_laws.specs.Expression.{Leaf, Symbol, Here, A_primary, No_operand, Begin, begins, follows, Nothing_more}
+use Rattle.rv_expression_laws.proofs.ExpressionWrongLemmas.{ended_more}
 use Rattle.rv_statement_laws.specs.Statement.{Expression, Operand, Target}
 use Rattle.rv_parse_laws.specs.declared.role.Role.TheVariants as roles
 use Rattle.rv_parse_laws.specs.Words.{register}

@@ -3,13 +3,13 @@
 use Rattle.std.proofs.Common.{◌≡◌, ℕ, ◌<◌, true, false, List, [], ◌∷◌, ◌++◌, append_assoc, length, length-append, take, drop, Some, Err, refl, sym, ◌∙◌, ap, subst, arith, ◌⊎◌, inl, inr}
 use Rattle.std.proofs.lemmas.Option.{some_pair_parts}
 use Rattle.std.proofs.Math.Seq.{take-append_seam, drop-append_seam}
-use Rattle.rv_text_laws.specs.Cut.{Piece, texts, NothingReads}
-use Rattle.rv_text_laws.specs.Lexing.{Token}
-use Rattle.rv_text_laws.proofs.CutLemmas.{none_nothing, nothing_none}
+use Rattle.rv_expression_laws.specs.Cut.{Piece, texts, NothingReads}
+use Rattle.rv_expression_laws.specs.Lexing.{Token}
+use Rattle.rv_expression_laws.proofs.CutLemmas.{none_nothing, nothing_none}
 use Rattle.rv_statement_laws.specs.Statement.{Statement}
 use Rattle.rv_parse_laws.specs.Syntax.{SourcePart, Ends, Says, IsPart, StopsPart, is_end}
 use Rattle.rv_parse_laws.specs.Parsing.{part_at}
-use Rattle.rv_text_laws.specs.SyntaxError.{SyntaxError}
+use Rattle.rv_expression_laws.specs.SyntaxError.{SyntaxError}
 use Rattle.rv_parse_laws.specs.Reading.{AreParts, told, statements_of_parts}
 use Rattle.rv_parse_laws.proofs.FailingLemmas.{heads}
 use Rattle.rv_parse_laws.proofs.WholeLemmas.{counted, counted_none, find_part, finds_parts, no_tokens}

@@ -1,17 +1,17 @@
 -- The first fault of a source: there is at most one, and a source that is read has none.
 
 use Rattle.std.proofs.Common.{◌≡◌, ℕ, suc, ◌+◌, ◌<◌, ◌≤◌, false, List, [], ◌∷◌, ◌++◌, append_assoc, length, take, Some, Result, Err, refl, sym, ◌∙◌, ap, subst, arith, ◌⊎◌, inl, inr}
-use Rattle.rv_text_laws.specs.Cut.{Piece, texts, NothingReads, cut}
-use Rattle.rv_text_laws.specs.Lexing.{Token, Lexes, newlines}
-use Rattle.rv_text_laws.proofs.CutLemmas.{unique, nothing_none}
-use Rattle.rv_text_laws.proofs.TokensLemmas.{one_list}
+use Rattle.rv_expression_laws.specs.Cut.{Piece, texts, NothingReads, cut}
+use Rattle.rv_expression_laws.specs.Lexing.{Token, Lexes, newlines}
+use Rattle.rv_expression_laws.proofs.CutLemmas.{unique, nothing_none}
+use Rattle.rv_expression_laws.proofs.TokensLemmas.{one_list}
 use Rattle.rv_statement_laws.specs.Statement.{Statement}
 use Rattle.rv_parse_laws.specs.Syntax.{SourcePart, IsPart, StopsPart, is_end}
 use Rattle.rv_parse_laws.specs.Opening.{is_opened, OpenWell}
 use Rattle.rv_parse_laws.specs.WrongOpening.{IsWrongOpening}
 use Rattle.rv_parse_laws.specs.Parsing.{part_at, opening_at, checked_at}
-use Rattle.rv_text_laws.specs.Codes.{limit}
-use Rattle.rv_text_laws.specs.SyntaxError.{SyntaxError, wrong, fault_offset}
+use Rattle.rv_expression_laws.specs.Codes.{limit}
+use Rattle.rv_expression_laws.specs.SyntaxError.{SyntaxError, wrong, fault_offset}
 use Rattle.rv_parse_laws.specs.Reading.{AreParts, Reads, statements_of_parts, IsPastLine, longest_source}
 use Rattle.rv_statement_laws.specs.Limits.{most_statements}
 use Rattle.rv_parse_laws.proofs.OpenedWellLemmas.{all_open_well}

@@ -6,7 +6,7 @@ use Rattle.std.specs.Str.{bytes_eq}
 use Rattle.std.proofs.lemmas.Slice.Eq.{bytes_eq-Decides}
 use Rattle.std.proofs.lemmas.Bool.{and_parts}
 use Rattle.std.specs.Option.{option_or}
-use Rattle.rv_text_laws.specs.Grammar.{Kind, Name as NameToken}
+use Rattle.rv_expression_laws.specs.Grammar.{Kind, Name as NameToken}
 use Rattle.rv_statement_laws.specs.declared.directive.DirectiveWord.{DirectiveWord}
 use Rattle.rv_statement_laws.specs.declared.directive.DirectiveWord.TheVariants as words
 use Rattle.rv_statement_laws.specs.declared.directive.Choice.{Choice}

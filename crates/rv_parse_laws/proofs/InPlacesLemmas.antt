@@ -2,10 +2,10 @@
 
 use Rattle.std.proofs.Common.{◌≡◌, Bool, true, false, cond, ◌||◌, ◌&&◌, not, List, [], ◌∷◌, ◌++◌, append_assoc, Option, Some, None, is_some, Ok, Err, refl, sym, ◌∙◌, ap, subst, inl, inr}
 use Rattle.std.proofs.lemmas.Bool.{and_parts}
-use Rattle.rv_text_laws.specs.declared.punct.Punct.TheVariants.{Comma, Open}
-use Rattle.rv_text_laws.specs.Grammar.{Kind, Punctuation}
-use Rattle.rv_text_laws.specs.Lexing.{Token, is_ended}
-use Rattle.rv_text_laws.specs.SyntaxError.{SyntaxError, wrong}
+use Rattle.rv_expression_laws.specs.declared.punct.Punct.TheVariants.{Comma, Open}
+use Rattle.rv_expression_laws.specs.Grammar.{Kind, Punctuation}
+use Rattle.rv_expression_laws.specs.Lexing.{Token, is_ended}
+use Rattle.rv_expression_laws.specs.SyntaxError.{SyntaxError, wrong}
 use Rattle.rv_parcel.specs.declared.parcel.RegisterSet.{RegisterSet}
 use Rattle.rv_parcel.specs.declared.parcel.RegisterSet.TheVariants.{Any}
 use Rattle.rv_parcel.specs.declared.parcel.OperandShape.{OperandShape}

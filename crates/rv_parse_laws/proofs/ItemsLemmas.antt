@@ -4,12 +4,12 @@ use Rattle.std.proofs.Common.{◌≡◌, ℕ, zero, suc, ◌<◌, ◌≤◌, Boo
 use Rattle.std.specs.List.{list_all}
 use Rattle.std.proofs.lemmas.List.{append-nil}
 use Rattle.std.proofs.lemmas.Bool.{and_parts, and_from}
-use Rattle.rv_text_laws.specs.declared.punct.Punct.TheVariants.{Comma, Semicolon}
-use Rattle.rv_text_laws.specs.Grammar.{Kind, Newline, Punctuation, End}
-use Rattle.rv_text_laws.specs.Lexing.{Token, is_ended}
-use Rattle.rv_text_laws.specs.SyntaxError.{SyntaxError, wrong, Read, nowhere, is_long}
-use Rattle.rv_text_laws.specs.Joined.{joined_at}
-use Rattle.rv_text_laws.proofs.ExpressionWrongLemmas.{ended_more}
+use Rattle.rv_expression_laws.specs.declared.punct.Punct.TheVariants.{Comma, Semicolon}
+use Rattle.rv_expression_laws.specs.Grammar.{Kind, Newline, Punctuation, End}
+use Rattle.rv_expression_laws.specs.Lexing.{Token, is_ended}
+use Rattle.rv_expression_laws.specs.SyntaxError.{SyntaxError, wrong, Read, nowhere, is_long}
+use Rattle.rv_expression_laws.specs.Joined.{joined_at}
+use Rattle.rv_expression_laws.proofs.ExpressionWrongLemmas.{ended_more}
 use Rattle.rv_statement_laws.specs.Statement.{Operand}
 use Rattle.rv_parse_laws.specs.Syntax.{is_comma, is_end, is_wrong, is_any, Slot, A_value, An_address_by, A_callee, A_section, IsOperand, TakesSlot, IsFurther, AreItems, EndsHere}
 use Rattle.rv_parse_laws.specs.Faults.{wrong_after, wrong_any}

@@ -1,8 +1,8 @@
 -- A token that is taken somewhere is not the last of its source.
 
 use Rattle.std.proofs.Common.{◌≡◌, ℕ, true, false, List, Some, refl}
-use Rattle.rv_text_laws.specs.Grammar.{Kind, Punctuation, Name as NameToken, Number, Reference, Character, Text, Bad_byte, Bad_token, End}
-use Rattle.rv_text_laws.specs.Lexing.{is_last}
+use Rattle.rv_expression_laws.specs.Grammar.{Kind, Punctuation, Name as NameToken, Number, Reference, Character, Text, Bad_byte, Bad_token, End}
+use Rattle.rv_expression_laws.specs.Lexing.{is_last}
 use Rattle.rv_isa.specs.declared.operation.AccessSet.{AccessSet}
 use Rattle.rv_statement_laws.specs.Statement.{Operand, Expression}
 use Rattle.rv_parse_laws.specs.Syntax.{register_of, token_symbol, accesses_of, is_comma, is_colon, is_opening, is_closing, is_at_sign, is_plt, is_zero, is_any, is_percent, function_in, label_named, A_string, A_type, single}

@@ -3,10 +3,10 @@
 
 use Rattle.std.proofs.Common.{◌≡◌, Bool, true, false, cond, not, List, [], ◌∷◌, ◌++◌, append_assoc, Option, Some, None, is_some, Ok, Err, refl, sym, ◌∙◌, ap, subst, arith, ◌⊎◌, inl, inr}
 use Rattle.std.proofs.lemmas.List.{append-nil}
-use Rattle.rv_text_laws.specs.Lexing.{Token, is_ended}
-use Rattle.rv_text_laws.specs.Codes.{unsupported_here}
-use Rattle.rv_text_laws.specs.SyntaxError.{SyntaxError, wrong, Read}
-use Rattle.rv_text_laws.proofs.ExpressionWrongLemmas.{ended_behind}
+use Rattle.rv_expression_laws.specs.Lexing.{Token, is_ended}
+use Rattle.rv_expression_laws.specs.Codes.{unsupported_here}
+use Rattle.rv_expression_laws.specs.SyntaxError.{SyntaxError, wrong, Read}
+use Rattle.rv_expression_laws.proofs.ExpressionWrongLemmas.{ended_behind}
 use Rattle.rv_parcel.specs.declared.parcel.RegisterSet.TheVariants.{Any}
 use Rattle.rv_statement_laws.specs.Statement.{Expression, Operand, Target}
 use Rattle.rv_parse_laws.specs.declared.role.Role.TheVariants as roles

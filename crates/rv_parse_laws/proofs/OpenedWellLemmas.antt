@@ -4,13 +4,13 @@ use Rattle.std.proofs.Common.{◌≡◌, ℕ, Bool, true, false, cond, ◌&&◌,
 use Rattle.std.specs.Prelude.{is_some, option_map}
 use Rattle.std.proofs.lemmas.List.{append-nil}
 use Rattle.std.specs.Option.{option_or}
-use Rattle.rv_text_laws.specs.Cut.{Piece, texts, Each}
-use Rattle.rv_text_laws.specs.declared.punct.Punct.TheVariants as commas
-use Rattle.rv_text_laws.specs.Grammar.{Kind, Name as NameToken, Text, Punctuation, Newline, End}
-use Rattle.rv_text_laws.specs.Lexing.{Token}
-use Rattle.rv_text_laws.specs.Joined.{first_name}
-use Rattle.rv_text_laws.specs.SyntaxError.{SyntaxError, wrong}
-use Rattle.rv_text_laws.proofs.JoinsLemmas.{joined_none}
+use Rattle.rv_expression_laws.specs.Cut.{Piece, texts, Each}
+use Rattle.rv_expression_laws.specs.declared.punct.Punct.TheVariants as commas
+use Rattle.rv_expression_laws.specs.Grammar.{Kind, Name as NameToken, Text, Punctuation, Newline, End}
+use Rattle.rv_expression_laws.specs.Lexing.{Token}
+use Rattle.rv_expression_laws.specs.Joined.{first_name}
+use Rattle.rv_expression_laws.specs.SyntaxError.{SyntaxError, wrong}
+use Rattle.rv_expression_laws.proofs.JoinsLemmas.{joined_none}
 use Rattle.rv_statement_laws.specs.declared.directive.DirectiveWord.{DirectiveWord}
 use Rattle.rv_statement_laws.specs.declared.directive.DirectiveWord.TheVariants as words
 use Rattle.rv_statement_laws.specs.Statement.{Operand, Word, Quoted, StatementKind, Label, Numbered, Instruction, Directs, Statement}

@@ -4,11 +4,11 @@ use Rattle.std.proofs.Common.{◌≡◌, ℕ, ◌<◌, Bool, true, false, cond, 
 use Rattle.std.proofs.lemmas.List.{append-nil}
 use Rattle.std.proofs.lemmas.Slice.Eq.{bytes_eq-Decides}
 use Rattle.std.specs.Option.{option_or}
-use Rattle.rv_text_laws.specs.Cut.{Piece, texts}
-use Rattle.rv_text_laws.specs.Grammar.{Kind, Name as NameToken, Text}
-use Rattle.rv_text_laws.specs.Lexing.{Token}
-use Rattle.rv_text_laws.specs.Joined.{IsJoined}
-use Rattle.rv_text_laws.specs.SyntaxError.{SyntaxError, wrong, Read}
+use Rattle.rv_expression_laws.specs.Cut.{Piece, texts}
+use Rattle.rv_expression_laws.specs.Grammar.{Kind, Name as NameToken, Text}
+use Rattle.rv_expression_laws.specs.Lexing.{Token}
+use Rattle.rv_expression_laws.specs.Joined.{IsJoined}
+use Rattle.rv_expression_laws.specs.SyntaxError.{SyntaxError, wrong, Read}
 use Rattle.rv_statement_laws.specs.declared.directive.DirectiveWord.TheVariants as words
 use Rattle.rv_statement_laws.specs.Statement.{Operand, Word, Quoted, Directs, Statement}
 use Rattle.rv_parse_laws.specs.Words.{beginning, mnemonic_named, directive_named, instruction_words, atomic_operations, atomic_forms, directive_words}

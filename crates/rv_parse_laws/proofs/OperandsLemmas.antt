@@ -2,9 +2,9 @@
 -- are wrong at the first token with which nothing can go on.
 
 use Rattle.std.proofs.Common.{◌≡◌, ℕ, ◌<◌, true, false, List, [], ◌∷◌, ◌++◌, append_assoc, length, length-append, Ok, Err, refl, sym, ◌∙◌, ap, subst, arith, inl, inr}
-use Rattle.rv_text_laws.specs.Lexing.{Token, is_ended}
-use Rattle.rv_text_laws.specs.SyntaxError.{SyntaxError, Read}
-use Rattle.rv_text_laws.proofs.ExpressionWrongLemmas.{ended_more}
+use Rattle.rv_expression_laws.specs.Lexing.{Token, is_ended}
+use Rattle.rv_expression_laws.specs.SyntaxError.{SyntaxError, Read}
+use Rattle.rv_expression_laws.proofs.ExpressionWrongLemmas.{ended_more}
 use Rattle.rv_statement_laws.specs.Statement.{Operand, Word}
 use Rattle.rv_parse_laws.specs.Syntax.{is_colon, Slot, A_value, An_address_by, A_callee, A_section, IsValueIn, IsOperand, TakesSlot, EndsHere}
 use Rattle.rv_parse_laws.specs.Parsing.{seen_as, value_operand_at, section_name_at, operand_at, taking}

@@ -1,13 +1,13 @@
 -- The reading of a part answers exactly what the syntax spells, and is wrong at the first token with which nothing can go on.
 
 use Rattle.std.proofs.Common.{◌≡◌, Bool, true, false, cond, List, [], ◌∷◌, ◌++◌, append_assoc, Some, None, Ok, Err, refl, sym, ◌∙◌, ap, subst, codes}
-use Rattle.rv_text_laws.specs.declared.punct.Punct.TheVariants.{Colon}
-use Rattle.rv_text_laws.specs.Bytes.{is_decimal}
+use Rattle.rv_expression_laws.specs.declared.punct.Punct.TheVariants.{Colon}
+use Rattle.rv_expression_laws.specs.Bytes.{is_decimal}
 use Rattle.std.specs.List.{list_all}
-use Rattle.rv_text_laws.specs.Grammar.{Kind, Punctuation, Name as NameToken, Number, Bad_word}
-use Rattle.rv_text_laws.specs.Lexing.{Token, is_last, is_ended}
-use Rattle.rv_text_laws.specs.SyntaxError.{SyntaxError, wrong, Read}
-use Rattle.rv_text_laws.proofs.ExpressionWrongLemmas.{ended_more}
+use Rattle.rv_expression_laws.specs.Grammar.{Kind, Punctuation, Name as NameToken, Number, Bad_word}
+use Rattle.rv_expression_laws.specs.Lexing.{Token, is_last, is_ended}
+use Rattle.rv_expression_laws.specs.SyntaxError.{SyntaxError, wrong, Read}
+use Rattle.rv_expression_laws.proofs.ExpressionWrongLemmas.{ended_more}
 use Rattle.rv_statement_laws.specs.Statement.{Operand, StatementKind, Label, Numbered, Instruction, Directs}
 use Rattle.rv_isa.specs.RegisterNames.{abi_names}
 use Rattle.rv_parse_laws.specs.Words.{register_names, register}

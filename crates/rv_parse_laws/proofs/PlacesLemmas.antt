@@ -6,17 +6,17 @@ use Rattle.std.proofs.lemmas.Bool.{eqb-true, and_parts, and_right}
 use Rattle.std.proofs.lemmas.Bool.Decides.{nat_tests}
 use Rattle.std.proofs.lemmas.List.{append-nil, take-append-le}
 use Rattle.std.proofs.Math.Seq.{take-append_seam, take-append-add}
-use Rattle.rv_text_laws.specs.declared.class.Class.{Class}
-use Rattle.rv_text_laws.specs.declared.class.Class.TheVariants.{Letter, Foreign}
-use Rattle.rv_text_laws.specs.Cut.{Piece, texts, Each}
-use Rattle.rv_text_laws.specs.Bytes.{class, is_word}
-use Rattle.rv_text_laws.specs.Grammar.{Kind, Name, Spells, Stops}
-use Rattle.rv_text_laws.specs.Lexing.{Token, newlines, placed, is_gap, tokens_of, bad, last_kind, is_last, is_ended, last, Lexes}
-use Rattle.rv_text_laws.proofs.LexemesLemmas.{lexemes}
-use Rattle.rv_text_laws.proofs.TokensLemmas.{newlines-append}
-use Rattle.rv_text_laws.proofs.TokenTextsLemmas.{last_is_last}
-use Rattle.rv_text_laws.specs.Codes.{limit}
-use Rattle.rv_text_laws.specs.SyntaxError.{longest_name, is_long, fault_offset}
+use Rattle.rv_expression_laws.specs.declared.class.Class.{Class}
+use Rattle.rv_expression_laws.specs.declared.class.Class.TheVariants.{Letter, Foreign}
+use Rattle.rv_expression_laws.specs.Cut.{Piece, texts, Each}
+use Rattle.rv_expression_laws.specs.Bytes.{class, is_word}
+use Rattle.rv_expression_laws.specs.Grammar.{Kind, Name, Spells, Stops}
+use Rattle.rv_expression_laws.specs.Lexing.{Token, newlines, placed, is_gap, tokens_of, bad, last_kind, is_last, is_ended, last, Lexes}
+use Rattle.rv_expression_laws.proofs.LexemesLemmas.{lexemes}
+use Rattle.rv_expression_laws.proofs.TokensLemmas.{newlines-append}
+use Rattle.rv_expression_laws.proofs.TokenTextsLemmas.{last_is_last}
+use Rattle.rv_expression_laws.specs.Codes.{limit}
+use Rattle.rv_expression_laws.specs.SyntaxError.{longest_name, is_long, fault_offset}
 
 -- the line of a token's faults is the token's
 abbrev pub LineIs : List ℕ → Token → Type 0

@@ -1,9 +1,9 @@
 -- One part more at the end of those that were read.
 
 use Rattle.std.proofs.Common.{◌≡◌, true, false, List, [], ◌∷◌, ◌++◌, append_assoc, Ok, refl, sym, ◌∙◌, ap, subst, length, length-append, ◌<◌, arith}
-use Rattle.rv_text_laws.specs.Cut.{Piece, Each}
-use Rattle.rv_text_laws.specs.Lexing.{Token, is_last}
-use Rattle.rv_text_laws.specs.Grammar.{Kind, Bad_byte, Bad_token, End}
+use Rattle.rv_expression_laws.specs.Cut.{Piece, Each}
+use Rattle.rv_expression_laws.specs.Lexing.{Token, is_last}
+use Rattle.rv_expression_laws.specs.Grammar.{Kind, Bad_byte, Bad_token, End}
 use Rattle.rv_statement_laws.specs.Statement.{StatementKind, Statement}
 use Rattle.rv_parse_laws.specs.Syntax.{SourcePart, Ends, Says, IsPart, StopsPart, is_end, is_source_end}
 use Rattle.rv_parse_laws.specs.Opening.{is_opened}

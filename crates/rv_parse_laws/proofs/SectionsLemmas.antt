@@ -5,14 +5,14 @@ use Rattle.std.specs.Str.{bytes_eq}
 use Rattle.std.proofs.lemmas.Bool.Decides.{nat_tests}
 use Rattle.std.proofs.lemmas.List.{append-nil}
 use Rattle.std.proofs.lemmas.Slice.Eq.{bytes_eq-Decides}
-use Rattle.rv_text_laws.specs.declared.punct.Punct.TheVariants.{Comma, Semicolon, Open, Minus}
-use Rattle.rv_text_laws.specs.Grammar.{Kind, Newline, Punctuation, Name, End}
-use Rattle.rv_text_laws.specs.Lexing.{Token, is_last, is_ended}
-use Rattle.rv_text_laws.specs.Codes.{unsupported_here, limit}
-use Rattle.rv_text_laws.specs.SyntaxError.{SyntaxError, wrong, Read, longest_name}
-use Rattle.rv_text_laws.specs.Joined.{joined_bytes, AreAfter, IsJoined, joins, joined_after, first_name, joined_at}
-use Rattle.rv_text_laws.proofs.ExpressionWrongLemmas.{ended_more}
-use Rattle.rv_text_laws.proofs.JoinsLemmas.{joins_no_last, joined_parts, parts_join, behind_more, behind_none, joined_none, first_is as first_name_is}
+use Rattle.rv_expression_laws.specs.declared.punct.Punct.TheVariants.{Comma, Semicolon, Open, Minus}
+use Rattle.rv_expression_laws.specs.Grammar.{Kind, Newline, Punctuation, Name, End}
+use Rattle.rv_expression_laws.specs.Lexing.{Token, is_last, is_ended}
+use Rattle.rv_expression_laws.specs.Codes.{unsupported_here, limit}
+use Rattle.rv_expression_laws.specs.SyntaxError.{SyntaxError, wrong, Read, longest_name}
+use Rattle.rv_expression_laws.specs.Joined.{joined_bytes, AreAfter, IsJoined, joins, joined_after, first_name, joined_at}
+use Rattle.rv_expression_laws.proofs.ExpressionWrongLemmas.{ended_more}
+use Rattle.rv_expression_laws.proofs.JoinsLemmas.{joins_no_last, joined_parts, parts_join, behind_more, behind_none, joined_none, first_is as first_name_is}
 use Rattle.rv_parse_laws.specs.Syntax.{is_section_name, A_section}
 use Rattle.rv_parse_laws.specs.Faults.{wrong_first}
 use Rattle.rv_parse_laws.specs.Parsing.{too_long, named_or, section_name_at}

@@ -1,11 +1,11 @@
 -- What one token is in its place.
 
 use Rattle.std.proofs.Common.{◌≡◌, ℕ, ◌<◌, Bool, true, false, cond, List, [], ◌∷◌, ◌++◌, length, Option, Some, None, option_map, Ok, Err, refl, sym, ◌∙◌, ap, codes, arith}
-use Rattle.rv_text_laws.specs.declared.punct.Punct.TheVariants.{Comma, Colon, Semicolon, Open, Close, At}
-use Rattle.rv_text_laws.specs.Grammar.{Kind, Newline, Punctuation, Name as NameToken, Number, Text, Bad_byte, Bad_token, End}
-use Rattle.rv_text_laws.specs.Lexing.{Token, is_last, is_ended}
-use Rattle.rv_text_laws.specs.SyntaxError.{SyntaxError, wrong}
-use Rattle.rv_text_laws.proofs.ExpressionWrongLemmas.{ended_more}
+use Rattle.rv_expression_laws.specs.declared.punct.Punct.TheVariants.{Comma, Colon, Semicolon, Open, Close, At}
+use Rattle.rv_expression_laws.specs.Grammar.{Kind, Newline, Punctuation, Name as NameToken, Number, Text, Bad_byte, Bad_token, End}
+use Rattle.rv_expression_laws.specs.Lexing.{Token, is_last, is_ended}
+use Rattle.rv_expression_laws.specs.SyntaxError.{SyntaxError, wrong}
+use Rattle.rv_expression_laws.proofs.ExpressionWrongLemmas.{ended_more}
 use Rattle.rv_isa.specs.RegisterNames.{abi_names}
 use Rattle.rv_parcel.specs.declared.parcel.RegisterSet.{RegisterSet}
 use Rattle.rv_parcel.specs.declared.parcel.RegisterSet.TheVariants.{Any, Nonzero, Short, Stack, Upper}
@@ -17,7 +17,7 @@ use Rattle.rv_parse_laws.specs.Faults.{wrong_first}
 use Rattle.rv_parse_laws.specs.Parsing.{single_at}
 use Rattle.rv_parse_laws.proofs.StepsLemmas.{taken_ok, taken_err}
 use Rattle.rv_parse_laws.proofs.FailingLemmas.{Failing, at_first}
-pub use Rattle.rv_text_laws.proofs.ExpressionFaultsLemmas.{of_kind as some_token}
+pub use Rattle.rv_expression_laws.proofs.ExpressionFaultsLemmas.{of_kind as some_token}
 
 -- the tokens are one, which stands in this place
 abbrev pub IsSingle : Slot → List Token → List Operand → Type 0

@@ -1,9 +1,9 @@
 -- What an answer of a reading at the front of tokens says of its steps.
 
 use Rattle.std.proofs.Common.{◌≡◌, ℕ, Bool, true, false, cond, List, Option, Some, None, Result, Ok, Err, refl, sym, ap, ◌⊎◌, inl, inr}
-use Rattle.rv_text_laws.specs.Lexing.{Token}
+use Rattle.rv_expression_laws.specs.Lexing.{Token}
 use Rattle.rv_parse_laws.specs.Parsing.{◌>>=◌, seen_as, taken}
-use Rattle.rv_text_laws.specs.SyntaxError.{SyntaxError, wrong, Read}
+use Rattle.rv_expression_laws.specs.SyntaxError.{SyntaxError, wrong, Read}
 
 pub bind_ok : {A B : Type 0} (r : Result A SyntaxError) (f : A → Result B SyntaxError) (y : B) → (r >>= f) ≡ Ok y → (x : A) × (r ≡ Ok x) × (f x ≡ Ok y)
 bind_ok (Ok x) f y e = (x, refl, e)

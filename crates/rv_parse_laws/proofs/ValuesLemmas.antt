@@ -2,21 +2,21 @@
 
 use Rattle.std.proofs.Common.{◌≡◌, ℕ, ◌<◌, Bool, true, false, cond, ◌||◌, List, [], ◌∷◌, ◌++◌, append_assoc, length, length-append, Some, Ok, Err, refl, sym, ◌∙◌, ap, subst, codes, ◌≤◌, arith, ◌⊎◌, inl, inr}
 use Rattle.std.proofs.lemmas.Bool.{and_right}
-use Rattle.rv_text_laws.specs.declared.punct.Punct.TheVariants.{Comma, Semicolon, Open, Plus, Percent}
-use Rattle.rv_text_laws.specs.declared.operator.BinaryOperator.TheVariants.{Add}
-use Rattle.rv_text_laws.specs.Grammar.{Kind, Punctuation}
-use Rattle.rv_text_laws.specs.Lexing.{Token, is_ended}
-use Rattle.rv_text_laws.specs.SyntaxError.{SyntaxError, wrong, Read}
-use Rattle.rv_text_laws.specs.Expression.{Tree, Leaf, Unary, Paren, Binary, Symbol, A_primary, begins, follows, No_operand, Nothing_more, SpellsTree, Node, postfix, IsAt, nesting, deepest, EndsBefore, tree_of, bare}
-use Rattle.rv_text_laws.specs.ExpressionAt.{Wants, Fails, step, read_from, expression_at, EndsAt}
-use Rattle.rv_text_laws.specs.ExpressionFault.{FailsAt}
-use Rattle.rv_text_laws.proofs.ExpressionsLemmas.{fails, expression_is}
-use Rattle.rv_text_laws.proofs.ExpressionWrongLemmas.{can_go_on, ends_there, end_at, whole_there}
-use Rattle.rv_text_laws.proofs.ExpressionFaultsLemmas.{stuck, fails_there, wrong_at}
-use Rattle.rv_text_laws.proofs.TreesLemmas.{postfix_tree}
+use Rattle.rv_expression_laws.specs.declared.punct.Punct.TheVariants.{Comma, Semicolon, Open, Plus, Percent}
+use Rattle.rv_expression_laws.specs.declared.operator.BinaryOperator.TheVariants.{Add}
+use Rattle.rv_expression_laws.specs.Grammar.{Kind, Punctuation}
+use Rattle.rv_expression_laws.specs.Lexing.{Token, is_ended}
+use Rattle.rv_expression_laws.specs.SyntaxError.{SyntaxError, wrong, Read}
+use Rattle.rv_expression_laws.specs.Expression.{Tree, Leaf, Unary, Paren, Binary, Symbol, A_primary, begins, follows, No_operand, Nothing_more, SpellsTree, Node, postfix, IsAt, nesting, deepest, EndsBefore, tree_of, bare}
+use Rattle.rv_expression_laws.specs.ExpressionAt.{Wants, Fails, step, read_from, expression_at, EndsAt}
+use Rattle.rv_expression_laws.specs.ExpressionFault.{FailsAt}
+use Rattle.rv_expression_laws.proofs.ExpressionsLemmas.{fails, expression_is}
+use Rattle.rv_expression_laws.proofs.ExpressionWrongLemmas.{can_go_on, ends_there, end_at, whole_there}
+use Rattle.rv_expression_laws.proofs.ExpressionFaultsLemmas.{stuck, fails_there, wrong_at}
+use Rattle.rv_expression_laws.proofs.TreesLemmas.{postfix_tree}
 use Rattle.rv_statement_laws.specs.Statement.{Expression}
 use Rattle.rv_parse_laws.specs.Syntax.{is_register, is_comma, is_opening, is_end, is_percent, is_of_numbers, IsValue}
-use Rattle.rv_text_laws.specs.Codes.{unsupported_here}
+use Rattle.rv_expression_laws.specs.Codes.{unsupported_here}
 use Rattle.rv_parse_laws.specs.Parsing.{seen_as, value_at, allowed}
 use Rattle.rv_isa.specs.RegisterNames.{abi_names}
 use Rattle.rv_parse_laws.specs.Words.{register_names, register}

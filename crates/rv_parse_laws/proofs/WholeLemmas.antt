@@ -1,18 +1,18 @@
 -- The tokens of a source have at most one cut into parts, so bytes have at most one reading.
 
 use Rattle.std.proofs.Common.{◌≡◌, ℕ, ◌-◌, ◌<◌, ◌≤◌, List, [], ◌++◌, length, length-append, Option, Some, None, Ok, Err, refl, sym, ◌∙◌, ap, subst, arith}
-use Rattle.rv_text_laws.specs.Cut.{Piece, Finds}
-use Rattle.rv_text_laws.specs.Lexing.{Token, Lexes}
-use Rattle.rv_text_laws.proofs.CutLemmas.{unique}
+use Rattle.rv_expression_laws.specs.Cut.{Piece, Finds}
+use Rattle.rv_expression_laws.specs.Lexing.{Token, Lexes}
+use Rattle.rv_expression_laws.proofs.CutLemmas.{unique}
 use Rattle.rv_statement_laws.specs.Statement.{Statement}
 use Rattle.rv_parse_laws.specs.Syntax.{SourcePart, IsPart, StopsPart}
 use Rattle.rv_parse_laws.specs.Parsing.{part_at}
-use Rattle.rv_text_laws.specs.SyntaxError.{SyntaxError, Read}
-use Rattle.rv_text_laws.proofs.TokensLemmas.{one_list, given}
+use Rattle.rv_expression_laws.specs.SyntaxError.{SyntaxError, Read}
+use Rattle.rv_expression_laws.proofs.TokensLemmas.{one_list, given}
 use Rattle.rv_parse_laws.specs.Reading.{AreParts, Reads, statements_of_parts, IsPastLine, longest_source}
 use Rattle.rv_statement_laws.specs.Limits.{most_statements}
 use Rattle.rv_parse_laws.specs.Refusals.{SaysUpTo}
-use Rattle.rv_text_laws.specs.Front.{tokens_from}
+use Rattle.rv_expression_laws.specs.Front.{tokens_from}
 use Rattle.rv_parse_laws.specs.Opening.{OpenWell}
 use Rattle.rv_parse_laws.proofs.PartsLemmas.{part_is, part_found, part_nonempty}
 use Rattle.rv_parse_laws.proofs.OpenedWellLemmas.{said_well}

@@ -2,15 +2,15 @@
 
 use Rattle.std.proofs.Common.{◌≡◌, ℕ, true, false, List, [], ◌∷◌, map, Option, Some, None, Ok, Err, refl, codes}
 use Rattle.rv_isa.specs.RegisterNames.{abi_names}
-use Rattle.rv_text_laws.specs.Bytes.{class, digit}
-use Rattle.rv_text_laws.specs.Cut.{cut}
-use Rattle.rv_text_laws.specs.Front.{tokens_from, lexeme_at, reference_in, word_number, escape_at, atom_at}
-use Rattle.rv_text_laws.specs.SyntaxError.{Read, fault_offset}
-use Rattle.rv_text_laws.specs.Joined.{joined_at}
-use Rattle.rv_text_laws.specs.Expression.{Leaf, Literal, Symbol, Here, Reference, Unary, Binary, tree_of}
-use Rattle.rv_text_laws.specs.ExpressionAt.{expression_at}
-use Rattle.rv_text_laws.specs.declared.operator.UnaryOperator.TheVariants.{Negate}
-use Rattle.rv_text_laws.specs.declared.operator.BinaryOperator.TheVariants.{Add, Multiply}
+use Rattle.rv_expression_laws.specs.Bytes.{class, digit}
+use Rattle.rv_expression_laws.specs.Cut.{cut}
+use Rattle.rv_expression_laws.specs.Front.{tokens_from, lexeme_at, reference_in, word_number, escape_at, atom_at}
+use Rattle.rv_expression_laws.specs.SyntaxError.{Read, fault_offset}
+use Rattle.rv_expression_laws.specs.Joined.{joined_at}
+use Rattle.rv_expression_laws.specs.Expression.{Leaf, Literal, Symbol, Here, Reference, Unary, Binary, tree_of}
+use Rattle.rv_expression_laws.specs.ExpressionAt.{expression_at}
+use Rattle.rv_expression_laws.specs.declared.operator.UnaryOperator.TheVariants.{Negate}
+use Rattle.rv_expression_laws.specs.declared.operator.BinaryOperator.TheVariants.{Add, Multiply}
 use Rattle.rv_statement_laws.specs.declared.directive.Choice.TheVariants.{Norvc}
 use Rattle.rv_statement_laws.specs.declared.directive.Standard.TheVariants.{Bss}
 use Rattle.rv_statement_laws.specs.declared.mnemonic.Mnemonic.TheVariants.{Registers, Upper, Load, Store, Branch, Jal, Jalr, LoadReserved, Nop, Unary, Compare, ZeroBranch, SwappedBranch, J, Jr, Ret, La, Call, Tail, Jump, Parcel}

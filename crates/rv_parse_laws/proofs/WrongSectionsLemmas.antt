@@ -4,12 +4,12 @@ use Rattle.std.proofs.Common.{◌≡◌, ℕ, ◌+◌, ◌<◌, ◌≤◌, Bool,
 use Rattle.std.specs.Str.{bytes_eq}
 use Rattle.std.proofs.lemmas.Bool.Decides.{nat_tests}
 use Rattle.std.proofs.lemmas.Slice.Eq.{bytes_eq-Decides}
-use Rattle.rv_text_laws.specs.Grammar.{Name}
-use Rattle.rv_text_laws.specs.Lexing.{Token, is_ended}
-use Rattle.rv_text_laws.specs.Codes.{unsupported_here, limit}
-use Rattle.rv_text_laws.specs.SyntaxError.{SyntaxError, wrong, Read, longest_name}
-use Rattle.rv_text_laws.specs.Joined.{joined_bytes, AreAfter, IsJoined, joined_after, first_name, joined_at}
-use Rattle.rv_text_laws.proofs.JoinsLemmas.{joined_is as joined_name_is, joined_found as joined_name_found, parts_join, joined_none, first_is}
+use Rattle.rv_expression_laws.specs.Grammar.{Name}
+use Rattle.rv_expression_laws.specs.Lexing.{Token, is_ended}
+use Rattle.rv_expression_laws.specs.Codes.{unsupported_here, limit}
+use Rattle.rv_expression_laws.specs.SyntaxError.{SyntaxError, wrong, Read, longest_name}
+use Rattle.rv_expression_laws.specs.Joined.{joined_bytes, AreAfter, IsJoined, joined_after, first_name, joined_at}
+use Rattle.rv_expression_laws.proofs.JoinsLemmas.{joined_is as joined_name_is, joined_found as joined_name_found, parts_join, joined_none, first_is}
 use Rattle.rv_parse_laws.specs.Syntax.{is_section_name, A_section}
 use Rattle.rv_statement_laws.specs.Statement.{Word}
 use Rattle.rv_parse_laws.specs.Content.{left_out, content_fault}

@@ -2,10 +2,10 @@
 
 use Rattle.std.proofs.Common.{◌≡◌, ℕ, zero, suc, ◌<◌, ◌≤◌, Bool, true, false, cond, ◌&&◌, List, [], ◌∷◌, ◌++◌, Some, Ok, Err, refl, sym, ◌∙◌, ap, subst, inl, inr, length, arith}
 use Rattle.std.specs.List.{list_all}
-use Rattle.rv_text_laws.specs.Lexing.{Token, is_ended}
-use Rattle.rv_text_laws.specs.SyntaxError.{SyntaxError, wrong, Read}
-use Rattle.rv_text_laws.specs.Expression.{Leaf, Symbol}
-use Rattle.rv_text_laws.proofs.ExpressionWrongLemmas.{ended_more}
+use Rattle.rv_expression_laws.specs.Lexing.{Token, is_ended}
+use Rattle.rv_expression_laws.specs.SyntaxError.{SyntaxError, wrong, Read}
+use Rattle.rv_expression_laws.specs.Expression.{Leaf, Symbol}
+use Rattle.rv_expression_laws.proofs.ExpressionWrongLemmas.{ended_more}
 use Rattle.rv_statement_laws.specs.Statement.{Operand, Target, Word, Instruction, Directs}
 use Rattle.rv_parse_laws.specs.declared.role.Role.TheVariants as roles
 use Rattle.rv_parse_laws.specs.declared.beginning.Beginning.{Beginning}

@@ -2,14 +2,14 @@
 
 use Rattle.std.proofs.Common.{◌≡◌, ℕ, Bool, true, false, cond, ◌&&◌, List, [], ◌∷◌, ◌++◌, Option, Some, None, Ok, Err, refl, sym, ◌∙◌, ap, subst, ◌⊎◌, inl, inr, arith}
 use Rattle.std.proofs.lemmas.Bool.{and_parts, and_right}
-use Rattle.rv_text_laws.specs.Lexing.{Token, is_ended}
-use Rattle.rv_text_laws.specs.SyntaxError.{SyntaxError, wrong}
-use Rattle.rv_text_laws.specs.Expression.{tree_of, EndsBefore}
-use Rattle.rv_text_laws.specs.ExpressionAt.{expression_at}
-use Rattle.rv_text_laws.specs.Codes.{bad_operands, unsupported_here}
-use Rattle.rv_text_laws.proofs.ExpressionFoundLemmas.{expression_found}
-use Rattle.rv_text_laws.proofs.ExpressionWrongLemmas.{ended_more}
-use Rattle.rv_text_laws.proofs.ExpressionFaultsLemmas.{fails_there, wrong_at}
+use Rattle.rv_expression_laws.specs.Lexing.{Token, is_ended}
+use Rattle.rv_expression_laws.specs.SyntaxError.{SyntaxError, wrong}
+use Rattle.rv_expression_laws.specs.Expression.{tree_of, EndsBefore}
+use Rattle.rv_expression_laws.specs.ExpressionAt.{expression_at}
+use Rattle.rv_expression_laws.specs.Codes.{bad_operands, unsupported_here}
+use Rattle.rv_expression_laws.proofs.ExpressionFoundLemmas.{expression_found}
+use Rattle.rv_expression_laws.proofs.ExpressionWrongLemmas.{ended_more}
+use Rattle.rv_expression_laws.proofs.ExpressionFaultsLemmas.{fails_there, wrong_at}
 use Rattle.rv_parcel.specs.declared.parcel.RegisterSet.{RegisterSet}
 use Rattle.rv_statement_laws.specs.Statement.{Expression, Operand, Applied, Value, Target}
 use Rattle.rv_statement_laws.specs.declared.pseudo.Function.{Function}

@@ -4,8 +4,8 @@
 use Rattle.std.specs.Prelude.{ℕ, Bool, true, false, nat_lt, length, Option, Some, None, codes, if◌then◌else◌}
 use Rattle.std.specs.List.{list_all}
 use Rattle.std.specs.Str.{bytes_eq}
-use Rattle.rv_text_laws.specs.Codes.{unsupported_here, limit}
-use Rattle.rv_text_laws.specs.SyntaxError.{longest_name}
+use Rattle.rv_expression_laws.specs.Codes.{unsupported_here, limit}
+use Rattle.rv_expression_laws.specs.SyntaxError.{longest_name}
 use Rattle.rv_statement_laws.specs.Statement.{Operand, Applied, Target, Word, Quoted}
 use Rattle.rv_parse_laws.specs.Words.{is_among, section_types}
 use Rattle.rv_parse_laws.specs.Syntax.{Slot, A_value, A_section, Some_flags, A_type, is_flag, is_of_numbers, is_refused_by}

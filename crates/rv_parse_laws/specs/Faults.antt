@@ -4,11 +4,11 @@
 use Rattle.std.specs.Prelude.{ℕ, Bool, true, false, ◌||◌, ◌==◌, nat_lt, List, length, codes, take, if◌then◌else◌}
 use Rattle.std.specs.List.{list_all}
 use Rattle.std.specs.Str.{bytes_eq}
-use Rattle.rv_text_laws.specs.declared.punct.Punct.TheVariants.{DoubleSlash}
-use Rattle.rv_text_laws.specs.Grammar.{Kind, Punctuation, Name as NameToken, Bad_word, Text, Bad_byte, Bad_token}
-use Rattle.rv_text_laws.specs.Codes.{bad_byte, bad_token, unknown_mnemonic, bad_operands, unknown_directive, unsupported_here, limit}
-use Rattle.rv_text_laws.specs.SyntaxError.{SyntaxError, wrong, longest_name, is_long}
-use Rattle.rv_text_laws.specs.Lexing.{Token}
+use Rattle.rv_expression_laws.specs.declared.punct.Punct.TheVariants.{DoubleSlash}
+use Rattle.rv_expression_laws.specs.Grammar.{Kind, Punctuation, Name as NameToken, Bad_word, Text, Bad_byte, Bad_token}
+use Rattle.rv_expression_laws.specs.Codes.{bad_byte, bad_token, unknown_mnemonic, bad_operands, unknown_directive, unsupported_here, limit}
+use Rattle.rv_expression_laws.specs.SyntaxError.{SyntaxError, wrong, longest_name, is_long}
+use Rattle.rv_expression_laws.specs.Lexing.{Token}
 use Rattle.rv_parse_laws.specs.Words.{is_among, left_out_words, left_out_options, is_frame}
 use Rattle.rv_parse_laws.specs.Syntax.{Slot, A_value, A_symbol, A_section, An_option, A_comma, An_opening, is_comma, is_flag}
 use Rattle.rv_parse_laws.specs.declared.role.Role.{Role}

@@ -3,13 +3,13 @@
 
 use Rattle.std.specs.Prelude.{ℕ, zero, suc, ◌+◌, Bool, false, ◌&&◌, not, nat_lt, List, [], ◌∷◌, ◌++◌, length, Option, Some, None, option_map, unwrap_or, Result, Ok, Err, if◌then◌else◌}
 use Rattle.std.specs.Option.{option_or}
-use Rattle.rv_text_laws.specs.Grammar.{Kind}
-use Rattle.rv_text_laws.specs.Lexing.{Token}
-use Rattle.rv_text_laws.specs.Codes.{unsupported_here, limit}
-use Rattle.rv_text_laws.specs.SyntaxError.{SyntaxError, wrong, Read, nowhere, longest_name}
-use Rattle.rv_text_laws.specs.Joined.{joined_bytes, joined_at}
-use Rattle.rv_text_laws.specs.Expression.{tree_of}
-use Rattle.rv_text_laws.specs.ExpressionAt.{expression_at}
+use Rattle.rv_expression_laws.specs.Grammar.{Kind}
+use Rattle.rv_expression_laws.specs.Lexing.{Token}
+use Rattle.rv_expression_laws.specs.Codes.{unsupported_here, limit}
+use Rattle.rv_expression_laws.specs.SyntaxError.{SyntaxError, wrong, Read, nowhere, longest_name}
+use Rattle.rv_expression_laws.specs.Joined.{joined_bytes, joined_at}
+use Rattle.rv_expression_laws.specs.Expression.{tree_of}
+use Rattle.rv_expression_laws.specs.ExpressionAt.{expression_at}
 use Rattle.rv_statement_laws.specs.Statement.{Expression, Operand, Value, Applied, Target, Word, StatementKind, Instruction, Directs}
 use Rattle.rv_parse_laws.specs.Syntax.{is_register, label_of, begins, is_comma, is_percent, is_end, is_any, is_section_name, valued, is_refused, function_in, label_named, is_refused_by, Slot, A_register_of, A_register, A_value, A_target, An_address_by, An_address, A_callee, A_section, Some_flags, At_sign, A_plt, A_comma, A_closing, An_opening, single, front_begins, Slots, Stops, Takes, Chooses, Locates, Lists, Anything, slots, operand_slots, directed, colon_next, SourcePart, Ends, Says}
 pub use Rattle.rv_parse_laws.specs.Syntax.{base_next, plt_next}

@@ -2,9 +2,9 @@
 
 use Rattle.std.specs.Prelude.{◌≡◌, ℕ, ◌+◌, ◌^◌, ◌≤◌, true, List, [], ◌∷◌, ◌++◌, length}
 use Rattle.std.specs.List.{list_all}
-use Rattle.rv_text_laws.specs.Bytes.{in_line}
-use Rattle.rv_text_laws.specs.Cut.{Piece, Cuts}
-use Rattle.rv_text_laws.specs.Lexing.{Token, Lexes}
+use Rattle.rv_expression_laws.specs.Bytes.{in_line}
+use Rattle.rv_expression_laws.specs.Cut.{Piece, Cuts}
+use Rattle.rv_expression_laws.specs.Lexing.{Token, Lexes}
 use Rattle.rv_statement_laws.specs.Limits.{most_statements}
 use Rattle.rv_statement_laws.specs.Statement.{Statement}
 use Rattle.rv_parse_laws.specs.Syntax.{SourcePart, Ends, Says, IsPart, StopsPart}

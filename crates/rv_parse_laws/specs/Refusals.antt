@@ -1,10 +1,10 @@
 -- The first fault of a source.
 
 use Rattle.std.specs.Prelude.{◌≡◌, ℕ, ◌+◌, ◌<◌, ◌≤◌, Bool, true, false, List, [], ◌∷◌, ◌++◌, length, take, ◌⊎◌}
-use Rattle.rv_text_laws.specs.Cut.{Piece, texts, NothingReads}
-use Rattle.rv_text_laws.specs.Lexing.{Token, Lexes, newlines}
-use Rattle.rv_text_laws.specs.Codes.{limit}
-use Rattle.rv_text_laws.specs.SyntaxError.{fault_offset}
+use Rattle.rv_expression_laws.specs.Cut.{Piece, texts, NothingReads}
+use Rattle.rv_expression_laws.specs.Lexing.{Token, Lexes, newlines}
+use Rattle.rv_expression_laws.specs.Codes.{limit}
+use Rattle.rv_expression_laws.specs.SyntaxError.{fault_offset}
 use Rattle.rv_statement_laws.specs.Statement.{Label, Numbered, Statement}
 use Rattle.rv_parse_laws.specs.Syntax.{SourcePart, Says, IsPart, StopsPart, is_end, colon_next}
 use Rattle.rv_parse_laws.specs.WrongOpening.{IsWrongOpening}

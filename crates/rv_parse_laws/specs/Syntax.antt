@@ -7,13 +7,13 @@
 use Rattle.std.specs.Prelude.{◌≡◌, ℕ, zero, suc, Bool, true, false, ◌&&◌, ◌||◌, ◌==◌, not, nat_le, ◌≤◌, List, [], ◌∷◌, ◌++◌, length, Option, Some, None, option_map, is_some, codes, ◌⊎◌, if◌then◌else◌}
 use Rattle.std.specs.List.{list_all}
 use Rattle.std.specs.Str.{bytes_eq}
-use Rattle.rv_text_laws.specs.declared.punct.Punct.TheVariants.{Comma, Colon, Semicolon, Open, Close, Percent, At, DoubleSlash}
-use Rattle.rv_text_laws.specs.Bytes.{digits_value, is_decimal}
-use Rattle.rv_text_laws.specs.Grammar.{Kind, Newline, Punctuation, Name as NameToken, Number, Reference as ReferenceToken, Bad_word, Text, Character, Bad_byte, Bad_token, End}
-use Rattle.rv_text_laws.specs.Lexing.{Token}
-use Rattle.rv_text_laws.specs.SyntaxError.{longest_name, is_long}
-use Rattle.rv_text_laws.specs.Joined.{IsJoined}
-use Rattle.rv_text_laws.specs.Expression.{Literal, Symbol, Reference, Tree, Leaf, Unary, Paren, Binary, SpellsTree, IsAt, nesting, deepest, bare}
+use Rattle.rv_expression_laws.specs.declared.punct.Punct.TheVariants.{Comma, Colon, Semicolon, Open, Close, Percent, At, DoubleSlash}
+use Rattle.rv_expression_laws.specs.Bytes.{digits_value, is_decimal}
+use Rattle.rv_expression_laws.specs.Grammar.{Kind, Newline, Punctuation, Name as NameToken, Number, Reference as ReferenceToken, Bad_word, Text, Character, Bad_byte, Bad_token, End}
+use Rattle.rv_expression_laws.specs.Lexing.{Token}
+use Rattle.rv_expression_laws.specs.SyntaxError.{longest_name, is_long}
+use Rattle.rv_expression_laws.specs.Joined.{IsJoined}
+use Rattle.rv_expression_laws.specs.Expression.{Literal, Symbol, Reference, Tree, Leaf, Unary, Paren, Binary, SpellsTree, IsAt, nesting, deepest, bare}
 use Rattle.rv_statement_laws.specs.declared.mnemonic.Mnemonic.{Mnemonic}
 use Rattle.rv_statement_laws.specs.declared.mnemonic.Mnemonic.TheVariants.{Registers, Immediate, Shift, Upper, Load, Store, Branch, Jal, Jalr, LoadReserved, Atomic, Fence, FenceTso, Ecall, Ebreak, Nop, Unary as Of_one, Compare, ZeroBranch, SwappedBranch, J, Jr, Ret, La, Li, Call, Tail, Jump, Parcel}
 use Rattle.rv_parcel.specs.declared.parcel.RegisterSet.{RegisterSet}

@@ -4,7 +4,7 @@
 use Rattle.std.specs.Prelude.{ℕ, zero, suc, List, [], ◌∷◌, ◌++◌, Bool, true, false, ◌||◌, ◌&&◌, ◌==◌, nat_le, length, take, drop, codes, Option, Some, None, option_map, slice_get, option_to_list, if◌then◌else◌}
 use Rattle.std.specs.Str.{bytes_eq}
 use Rattle.std.specs.Option.{option_or}
-use Rattle.rv_text_laws.specs.SyntaxError.{longest_name}
+use Rattle.rv_expression_laws.specs.SyntaxError.{longest_name}
 pub use Rattle.rv_isa.specs.Registers.{is_among, register_below}
 unfoldable pub use Rattle.rv_isa.specs.Registers.{register_names, register}
 use Rattle.rv_statement_laws.specs.declared.mnemonic.Mnemonic.{Mnemonic}

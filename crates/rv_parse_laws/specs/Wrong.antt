@@ -5,12 +5,12 @@
 
 use Rattle.std.specs.Prelude.{◌≡◌, ℕ, zero, suc, ◌<◌, ◌≤◌, Bool, true, false, ◌&&◌, List, [], ◌∷◌, ◌++◌, length, Some, None, ◌⊎◌}
 use Rattle.std.specs.List.{list_all}
-use Rattle.rv_text_laws.specs.Lexing.{Token}
-use Rattle.rv_text_laws.specs.Codes.{bad_operands, limit}
-use Rattle.rv_text_laws.specs.SyntaxError.{longest_name}
-use Rattle.rv_text_laws.specs.Joined.{IsJoined, ReadsJoined, first_name}
-use Rattle.rv_text_laws.specs.Expression.{EndsBefore}
-use Rattle.rv_text_laws.specs.ExpressionFault.{FailsAt}
+use Rattle.rv_expression_laws.specs.Lexing.{Token}
+use Rattle.rv_expression_laws.specs.Codes.{bad_operands, limit}
+use Rattle.rv_expression_laws.specs.SyntaxError.{longest_name}
+use Rattle.rv_expression_laws.specs.Joined.{IsJoined, ReadsJoined, first_name}
+use Rattle.rv_expression_laws.specs.Expression.{EndsBefore}
+use Rattle.rv_expression_laws.specs.ExpressionFault.{FailsAt}
 use Rattle.rv_statement_laws.specs.Statement.{Expression, Operand, Applied, Word}
 use Rattle.rv_parcel.specs.declared.parcel.RegisterSet.{RegisterSet}
 use Rattle.rv_statement_laws.specs.declared.pseudo.Function.{Function}

@@ -3,9 +3,9 @@
 
 use Rattle.std.specs.Prelude.{◌≡◌, ℕ, Bool, true, false, List, [], ◌∷◌, ◌++◌, Option, Some, None, codes, ◌⊎◌}
 use Rattle.std.specs.Str.{bytes_eq}
-use Rattle.rv_text_laws.specs.Grammar.{Kind, Name as NameToken, Text}
-use Rattle.rv_text_laws.specs.Lexing.{Token}
-use Rattle.rv_text_laws.specs.Joined.{IsJoined}
+use Rattle.rv_expression_laws.specs.Grammar.{Kind, Name as NameToken, Text}
+use Rattle.rv_expression_laws.specs.Lexing.{Token}
+use Rattle.rv_expression_laws.specs.Joined.{IsJoined}
 use Rattle.rv_statement_laws.specs.Statement.{Word, Quoted, Statement}
 use Rattle.rv_parse_laws.specs.Syntax.{is_comma, is_at_sign, is_section_name, Some_flags, A_type}
 use Rattle.rv_parse_laws.specs.Content.{content_fault}

@@ -2,7 +2,7 @@
 
 use Rattle.std.specs.Prelude.{ℕ, List, [], ◌∷◌, Option, None}
 use Rattle.std.specs.Borrow.{Bor}
-use Rattle.rv_text_laws.specs.Grammar.{Kind, Name}
+use Rattle.rv_expression_laws.specs.Grammar.{Kind, Name}
 use Rattle.rv_statement_laws.specs.declared.directive.Choice.{Choice}
 use Rattle.rv_statement_laws.specs.Statement.{Operand, Word, Quoted}
 use Rattle.rv_statement.specs.View.{now_of, quoted}

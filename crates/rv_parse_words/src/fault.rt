@@ -3,7 +3,7 @@
 ghost use Rattle.std.specs.Prelude.{◌≡◌};
 ghost use Rattle.rv_fault.specs.SourceFault.{source_fault_number};
 ghost use Rattle.rv_lexer.specs.Token.{kind_of};
-ghost use Rattle.rv_text_laws.specs.Codes.{bad_operands};
+ghost use Rattle.rv_expression_laws.specs.Codes.{bad_operands};
 ghost use Rattle.rv_parse_laws.specs.Faults.{may_call, wrong_or, wrong_name, wrong_section_name, wrong_after_value, wrong_after, wrong_symbol, wrong_letters, wrong_option, wrong_any, wrong_word, wrong_start, wrong_label};
 ghost use Rattle.rv_parse_words.specs.View.{slot_of};
 ghost use Rattle.rv_parse_laws.specs.Syntax.{targets};
@@ -12,7 +12,7 @@ use crate::kinds::is_comma;
 use crate::words::{are_known_flags, is_frame, is_left_out, is_left_out_option};
 use rv_parcel::RegisterSet;
 use rv_parse_laws::Role;
-use rv_text::{LONGEST_NAME, Punct, SourceCode, TokenKind};
+use rv_expression::{LONGEST_NAME, Punct, SourceCode, TokenKind};
 
 /// What stands in one slot of a statement.
 #[derive(Clone, Copy, Debug, PartialEq, Eq, Drop)]

@@ -5,13 +5,13 @@
 
 ghost use Rattle.std.specs.Prelude.{◌≡◌, ◌≤◌, ◌^◌, ◌∷◌, [], option_map};
 ghost use Rattle.std.specs.List.{list_all};
-ghost use Rattle.rv_text_laws.specs.Bytes.{is_decimal};
-ghost use Rattle.rv_text_laws.specs.Lexing.{is_last};
+ghost use Rattle.rv_expression_laws.specs.Bytes.{is_decimal};
+ghost use Rattle.rv_expression_laws.specs.Lexing.{is_last};
 ghost use Rattle.rv_lexer.specs.Token.{kind_of};
 ghost use Rattle.rv_statement.specs.View.{now_of, statement_kind};
 ghost use Rattle.rv_parse_laws.specs.Syntax.{is_symbol, is_section_name, register_of, kept_in, token_symbol, label_of, begins, is_comma, is_colon, is_percent, is_at_sign, is_plt, is_end, is_source_end, is_opening, is_closing, is_zero, is_any, accesses_of, single, A_string, A_type, may_stand, function_in, label_named};
 ghost use Rattle.rv_parse_laws.specs.Faults.{is_name};
-ghost use Rattle.rv_text.specs.Expr.{tree_of_expr};
+ghost use Rattle.rv_expression.specs.Expr.{tree_of_expr};
 ghost use Rattle.rv_parse_laws.specs.WrongOpening.{is_section};
 ghost use Rattle.rv_parse_laws.specs.Parsing.{width};
 ghost use Rattle.rv_parse_words.specs.View.{choice_of, word_of, string_of};
@@ -22,7 +22,7 @@ use rv_parcel::RegisterSet;
 use rv_parse_laws::{Beginning, Role};
 use rv_statement::StatementKind;
 use rv_statement_laws::{Choice, Function};
-use rv_text::{Expr, LONGEST_NAME, Punct, TokenKind};
+use rv_expression::{Expr, LONGEST_NAME, Punct, TokenKind};
 
 /// A name that a symbol may have.
 #[tactic(auto, unfolding(rv_parse_laws::specs::Syntax::is_symbol))]
@@ -218,7 +218,7 @@ pub fn is_name(kind: TokenKind<'_>) -> bool
 }
 
 /// The label that the token names, as an expression.
-#[tactic(auto, unfolding(rv_text_laws::specs::Expression::tree_of))]
+#[tactic(auto, unfolding(rv_expression_laws::specs::Expression::tree_of))]
 pub fn label_named(kind: TokenKind<'_>) -> Option<Expr<'_>>
     ensures { option_map tree_of_expr result ≡ label_named (kind_of kind.entry) }
 {

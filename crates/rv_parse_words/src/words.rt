@@ -24,7 +24,7 @@ use rv_statement_laws::{
     Binding, Choice, CompareOperation, DirectiveWord, Function, Mnemonic, Standard,
     SwappedBranchOperation, UnaryOperation, Width, ZeroBranchOperation,
 };
-use rv_text::LONGEST_NAME;
+use rv_expression::LONGEST_NAME;
 
 /// What the language leaves out by name: a mnemonic, and directives.
 const LEFT_OUT_WORDS: [&str; 12] = [

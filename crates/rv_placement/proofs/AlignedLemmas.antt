@@ -6,7 +6,7 @@ use Rattle.std.specs.List.{AllByRecursion}
 use Rattle.std.proofs.Math.Nat.{mul_assoc, mul-mod_left}
 use Rattle.std.proofs.lemmas.Bool.{leb-true, leb-false}
 use Rattle.std.proofs.lemmas.Nat.{div-add-mod', pow-add, pow_below}
-use Rattle.rv_layout_laws.specs.Alignment.{aligned}
+use Rattle.rv_size_laws.specs.Alignment.{aligned}
 use Rattle.rv_object_laws.specs.Object.{Relocation, Section}
 use Rattle.rv_object_laws.specs.Padding.{no_operations}
 use Rattle.rv_object_laws.specs.Valid.{is_section_alignment}

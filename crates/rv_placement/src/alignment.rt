@@ -1,7 +1,7 @@
 //! The multiples at which sections begin.
 
 ghost use Rattle.std.specs.Prelude.{◌≡◌, ◌<◌, ◌≤◌, ◌^◌, map, max};
-ghost use Rattle.rv_layout_laws.specs.Alignment.{aligned};
+ghost use Rattle.rv_size_laws.specs.Alignment.{aligned};
 ghost use Rattle.rv_link_laws.specs.Inputs as inputs;
 ghost use Rattle.rv_shorten.specs.Sections.{short_section_of};
 ghost use Rattle.rv_shorten.specs.View.{short_object_of};

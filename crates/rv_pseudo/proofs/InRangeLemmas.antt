@@ -6,7 +6,7 @@ use Rattle.rv_list_laws.proofs.TruthLemmas.{and_first}
 use Rattle.std.proofs.lemmas.Bool.{not-true}
 use Rattle.rv_isa_laws.specs.Halves.{hi, lo}
 use Rattle.rv_parcel.specs.Mnemonics.{shape_of}
-use Rattle.rv_text_laws.specs.Codes.{scratch_register, not_constant, immediate_range, faulty_if}
+use Rattle.rv_expression_laws.specs.Codes.{scratch_register, not_constant, immediate_range, faulty_if}
 use Rattle.rv_statement_laws.specs.declared.mnemonic.Mnemonic.{Mnemonic}
 use Rattle.rv_statement_laws.specs.declared.mnemonic.Mnemonic.TheVariants as mnemonics
 use Rattle.rv_statement_laws.specs.declared.pseudo.Function.{Function}

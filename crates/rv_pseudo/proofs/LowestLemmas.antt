@@ -2,7 +2,7 @@
 
 use Rattle.std.proofs.Common.{◌≡◌, ℕ, List, [], ◌∷◌, Option, Some, None, refl, sym, ap, ◌∙◌, Bool, true, false}
 use Rattle.std.specs.Prelude.{min, option_map}
-use Rattle.rv_text_laws.specs.Codes.{unsupported_here, lowest}
+use Rattle.rv_expression_laws.specs.Codes.{unsupported_here, lowest}
 use Rattle.rv_fault.specs.declared.source_fault.SourceCode.{SourceCode}
 use Rattle.rv_fault.specs.SourceFault.{source_fault_number, IsLowest}
 use Rattle.rv_pseudo_laws.specs.InstructionFaults.{else_unplaced}

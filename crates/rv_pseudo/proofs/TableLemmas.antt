@@ -3,7 +3,7 @@
 use Rattle.std.proofs.Common.{◌≡◌, ℕ, Bool, true, false, List, [], ◌++◌, Option, Some, None, option_map, Ok, Err, refl, sym, ap, ◌∙◌, append-nil}
 use Rattle.std.specs.Prelude.{◌==◌, is_some, if◌then◌else◌}
 use Rattle.arrayvec.specs.ArrayVec.{ArrayVec}
-use Rattle.rv_text_laws.specs.Codes.{unsupported_here, lowest}
+use Rattle.rv_expression_laws.specs.Codes.{unsupported_here, lowest}
 use Rattle.rv_fault.specs.declared.source_fault.SourceCode.{SourceCode}
 use Rattle.rv_fault.specs.SourceFault.{source_fault_number, IsLowest}
 use Rattle.rv_parcel.specs.declared.parcel.ParcelOperation.{ParcelOperation}

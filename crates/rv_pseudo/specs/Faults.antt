@@ -7,7 +7,7 @@ use Rattle.rv_parcel.specs.declared.parcel.ParcelOperation.{ParcelOperation}
 use Rattle.rv_parcel.specs.declared.parcel.OperandShape.{OperandShape}
 use Rattle.rv_parcel.specs.declared.parcel.OperandShape.TheVariants as shapes
 use Rattle.rv_parcel.specs.Mnemonics.{register_sets, are_in, own_registers, shape_of}
-use Rattle.rv_text_laws.specs.Codes.{scratch_register, faulty_if}
+use Rattle.rv_expression_laws.specs.Codes.{scratch_register, faulty_if}
 use Rattle.rv_fault.specs.SourceFault.{source_fault_number}
 use Rattle.rv_statement_laws.specs.declared.mnemonic.Mnemonic.{Mnemonic}
 use Rattle.rv_statement_laws.specs.declared.mnemonic.Mnemonic.TheVariants as mnemonics

@@ -4,8 +4,8 @@
 //! two faults can meet (`beside_scratch`) it takes the lower.
 
 ghost use Rattle.std.specs.Prelude.{◌≡◌, ◌==◌, ℕ, not, List, ◌++◌};
-ghost use Rattle.rv_text_laws.specs.Codes as codes;
-ghost use Rattle.rv_text_laws.specs.Codes.{scratch_register};
+ghost use Rattle.rv_expression_laws.specs.Codes as codes;
+ghost use Rattle.rv_expression_laws.specs.Codes.{scratch_register};
 ghost use Rattle.rv_fault.specs.SourceFault.{source_fault_number, IsLowest};
 ghost use Rattle.rv_parse_laws.specs.Syntax as syntax;
 ghost use Rattle.rv_pseudo_laws.specs.InstructionFaults as table;

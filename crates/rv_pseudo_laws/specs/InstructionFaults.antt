@@ -5,7 +5,7 @@
 
 use Rattle.std.specs.Prelude.{ℕ, ℤ, Bool, true, false, not, ◌||◌, ◌==◌, List, [], ◌∷◌, ◌++◌, flat_map, Option, Some, is_some}
 use Rattle.rv_isa_laws.specs.Halves.{hi, lo}
-use Rattle.rv_text_laws.specs.Codes.{unsupported_here, scratch_register, undefined_local, not_constant, immediate_range, faulty_if}
+use Rattle.rv_expression_laws.specs.Codes.{unsupported_here, scratch_register, undefined_local, not_constant, immediate_range, faulty_if}
 use Rattle.rv_statement_laws.specs.declared.mnemonic.Mnemonic.{Mnemonic}
 use Rattle.rv_statement_laws.specs.declared.mnemonic.Mnemonic.TheVariants.{Registers, Shift, Load, Store, Li, Call, Jump, Parcel}
 use Rattle.rv_statement_laws.specs.declared.pseudo.Function.TheVariants.{Hi, Lo, PcrelHi, PcrelLo}

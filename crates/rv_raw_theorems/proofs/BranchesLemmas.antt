@@ -10,11 +10,11 @@ use Rattle.rv_isa.specs.declared.instruction.Format.TheVariants.{Branch, Jal, Fe
 use Rattle.rv_isa.specs.Operations.{format_of}
 use Rattle.rv_isa.specs.Ranges.{IsValidFormat}
 use Rattle.rv_isa_laws.specs.Arithmetic.{wrapped}
-use Rattle.rv_layout_laws.specs.declared.item.Forms.TheVariants.{Settled, Branch as FullBranch}
-use Rattle.rv_layout_laws.specs.declared.item.Item.{Item}
-use Rattle.rv_layout_laws.specs.Branches.{smallest, item_at, IsLeastGood}
-use Rattle.rv_text_laws.specs.Expression.{Here}
-use Rattle.rv_text_laws.specs.Values.{Value, Open, Symbolic}
+use Rattle.rv_size_laws.specs.declared.item.Forms.TheVariants.{Settled, Branch as FullBranch}
+use Rattle.rv_size_laws.specs.declared.item.Item.{Item}
+use Rattle.rv_size_laws.specs.Branches.{smallest, item_at, IsLeastGood}
+use Rattle.rv_expression_laws.specs.Expression.{Here}
+use Rattle.rv_expression_laws.specs.Values.{Value, Open, Symbolic}
 use Rattle.rv_map_laws.specs.declared.map.Row.{Row}
 use Rattle.rv_statement_laws.specs.declared.mnemonic.Mnemonic.TheVariants as words
 use Rattle.rv_statement_laws.specs.Statement.{StatementKind, Instruction, Operand, Register, Target, Accesses}

@@ -3,7 +3,7 @@
 use Rattle.std.proofs.Common.{◌≡◌, ℕ, ◌+◌, ◌-◌, ◌*◌, ◌/◌, ◌%◌, ◌^◌, ℤ, pos, refl, ◌∙◌, arith}
 use Rattle.std.specs.Prelude.{◌-ℤ◌}
 use Rattle.std.proofs.lemmas.Int.{ints}
-use Rattle.rv_text_laws.specs.Values.{add}
+use Rattle.rv_expression_laws.specs.Values.{add}
 use Rattle.rv_isa_laws.specs.Arithmetic.{wrapped}
 use Rattle.rv_source_laws.specs.Lines.{distance as distance_to}
 use Rattle.rv_raw_theorems.specs.Statements.{IsSmall}

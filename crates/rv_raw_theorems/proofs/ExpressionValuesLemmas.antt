@@ -5,8 +5,8 @@ use Rattle.std.specs.Prelude.{◌+ℤ◌, ◌-ℤ◌, FitsSigned}
 use Rattle.std.specs.Int.{w64, int_wrap}
 use Rattle.std.proofs.lemmas.Int.{ints, fits_signed_from_abs, int_wrap_fits}
 use Rattle.rv_isa_laws.specs.Arithmetic.{wrapped}
-use Rattle.rv_text_laws.specs.Expression.{Primary, Here}
-use Rattle.rv_text_laws.specs.Values.{Meaning, Open, Symbolic, value_of}
+use Rattle.rv_expression_laws.specs.Expression.{Primary, Here}
+use Rattle.rv_expression_laws.specs.Values.{Meaning, Open, Symbolic, value_of}
 use Rattle.rv_pseudo_laws.specs.InstructionFaults.{Number, Address}
 use Rattle.rv_raw_theorems.specs.Statements.{IsSmall, constant_expression, from_dot}
 use Rattle.rv_raw_theorems.specs.Meaning.{KnowsNumbers}

@@ -2,9 +2,9 @@
 
 use Rattle.std.proofs.Common.{◌≡◌, ℕ, suc, ◌+◌, ◌≤◌, ◌⊎◌, true, List, [], ◌∷◌, ◌++◌, length, map, append-nil, Option, None, refl, sym, ◌∙◌, ap, inl, inr}
 use Rattle.std.proofs.lemmas.List.{drop_all}
-use Rattle.rv_text_laws.specs.Expression.{Primary, Here}
-use Rattle.rv_text_laws.specs.Codes.{lowest}
-use Rattle.rv_text_laws.specs.Values.{Meaning, Open, value_of}
+use Rattle.rv_expression_laws.specs.Expression.{Primary, Here}
+use Rattle.rv_expression_laws.specs.Codes.{lowest}
+use Rattle.rv_expression_laws.specs.Values.{Meaning, Open, value_of}
 use Rattle.rv_statement_laws.specs.Statement.{StatementKind, Label, Expression}
 use Rattle.rv_statement_laws.specs.Limits.{most_statements}
 use Rattle.rv_parse_laws.specs.Reading.{Reads}

@@ -14,8 +14,8 @@ use Rattle.rv_isa.specs.Operations.{format_of, of_branch}
 use Rattle.rv_isa.specs.Ranges.{IsValidFormat}
 use Rattle.rv_isa_laws.specs.Arithmetic.{wrapped}
 use Rattle.rv_reloc_laws.specs.Ranges.{Takes}
-use Rattle.rv_text_laws.specs.Expression.{Primary, Here}
-use Rattle.rv_text_laws.specs.Values.{Meaning, Open as Open_place, Symbolic, value_of, add}
+use Rattle.rv_expression_laws.specs.Expression.{Primary, Here}
+use Rattle.rv_expression_laws.specs.Values.{Meaning, Open as Open_place, Symbolic, value_of, add}
 use Rattle.rv_statement_laws.specs.Statement.{StatementKind}
 use Rattle.rv_pseudo_laws.specs.Code.{Part as CodePart, Closed, Open as Open_part, Joined, b_type, jal}
 use Rattle.rv_unit_laws.specs.Bindings.{Bindings}

@@ -3,9 +3,9 @@
 
 use Rattle.std.proofs.Common.{ℕ, List, [], ◌∷◌, ◌++◌, refl, arith, codes}
 use Rattle.rv_isa.specs.RegisterNames.{abi_names}
-use Rattle.rv_text_laws.specs.declared.punct.Punct.TheVariants as puncts
-use Rattle.rv_text_laws.specs.Grammar.{Punctuation, Stops}
-use Rattle.rv_text_laws.specs.Lexing.{placed}
+use Rattle.rv_expression_laws.specs.declared.punct.Punct.TheVariants as puncts
+use Rattle.rv_expression_laws.specs.Grammar.{Punctuation, Stops}
+use Rattle.rv_expression_laws.specs.Lexing.{placed}
 use Rattle.rv_statement_laws.specs.declared.directive.DirectiveWord.TheVariants as words
 use Rattle.rv_statement_laws.specs.declared.directive.Binding.TheVariants.{Global}
 use Rattle.rv_statement_laws.specs.declared.directive.Choice.TheVariants.{Norvc, Norelax}

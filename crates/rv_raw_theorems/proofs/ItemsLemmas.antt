@@ -15,11 +15,11 @@ use Rattle.rv_isa.specs.declared.kind.Kind.TheVariants as kinds
 use Rattle.rv_isa.specs.Operations.{format_of}
 use Rattle.rv_isa.specs.Ranges.{IsValidFormat}
 use Rattle.rv_isa_laws.specs.Arithmetic.{wrapped}
-use Rattle.rv_text_laws.specs.Expression.{Primary, Here}
-use Rattle.rv_text_laws.specs.Values.{Meaning, Open as Open_place, value_of}
-use Rattle.rv_layout_laws.specs.declared.item.Forms.TheVariants.{Branch as FullBranch}
-use Rattle.rv_layout_laws.specs.declared.item.Item.{Item}
-use Rattle.rv_layout_laws.specs.Branches.{smallest}
+use Rattle.rv_expression_laws.specs.Expression.{Primary, Here}
+use Rattle.rv_expression_laws.specs.Values.{Meaning, Open as Open_place, value_of}
+use Rattle.rv_size_laws.specs.declared.item.Forms.TheVariants.{Branch as FullBranch}
+use Rattle.rv_size_laws.specs.declared.item.Item.{Item}
+use Rattle.rv_size_laws.specs.Branches.{smallest}
 use Rattle.rv_statement_laws.specs.declared.mnemonic.Mnemonic.TheVariants as words
 use Rattle.rv_statement_laws.specs.Statement.{StatementKind, Instruction, Statement, Register, Target, Accesses}
 use Rattle.rv_pseudo_laws.specs.Code.{Open, Constants, jal}

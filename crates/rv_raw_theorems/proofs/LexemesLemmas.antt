@@ -6,12 +6,12 @@ use Rattle.std.proofs.lemmas.Bool.Decides.{nat_tests}
 use Rattle.std.proofs.lemmas.List.{append-nil}
 use Rattle.std.proofs.lemmas.List.Folds.{list_all-append}
 use Rattle.std.specs.List.{list_all}
-use Rattle.rv_text_laws.specs.declared.class.Class.TheVariants.{Letter, Digit}
-use Rattle.rv_text_laws.specs.declared.punct.Punct.TheVariants as puncts
-use Rattle.rv_text_laws.specs.Bytes.{class, is_letter, is_decimal, is_word, in_line}
-use Rattle.rv_text_laws.specs.Cut.{Piece, texts, Each}
-use Rattle.rv_text_laws.specs.Grammar.{Kind, Space, Newline, Punctuation, Name, Number, Spells, Stops}
-use Rattle.rv_text_laws.specs.Lexing.{placed, is_gap, newlines, tokens_of}
+use Rattle.rv_expression_laws.specs.declared.class.Class.TheVariants.{Letter, Digit}
+use Rattle.rv_expression_laws.specs.declared.punct.Punct.TheVariants as puncts
+use Rattle.rv_expression_laws.specs.Bytes.{class, is_letter, is_decimal, is_word, in_line}
+use Rattle.rv_expression_laws.specs.Cut.{Piece, texts, Each}
+use Rattle.rv_expression_laws.specs.Grammar.{Kind, Space, Newline, Punctuation, Name, Number, Spells, Stops}
+use Rattle.rv_expression_laws.specs.Lexing.{placed, is_gap, newlines, tokens_of}
 
 abbrev pub Lexeme : Type 0
 Lexeme = Piece Kind ℕ

@@ -4,14 +4,14 @@ use Rattle.std.proofs.Common.{◌≡◌, ℕ, zero, suc, ◌+◌, ◌*◌, ◌<�
 use Rattle.std.proofs.lemmas.Bool.{and_parts}
 use Rattle.std.proofs.lemmas.List.{append-nil}
 use Rattle.std.specs.List.{list_all}
-use Rattle.rv_text_laws.specs.Bytes.{in_line, spelling}
-use Rattle.rv_text_laws.specs.declared.punct.Punct.{Punct}
-use Rattle.rv_text_laws.specs.declared.class.Class.{Class}
-use Rattle.rv_text_laws.specs.declared.class.Class.TheVariants.{Letter, Digit}
-use Rattle.rv_text_laws.specs.Cut.{Piece, texts, Each, NothingReads}
-use Rattle.rv_text_laws.specs.Grammar.{Kind, Space, Line_comment, Block_comment, Newline, Punctuation, Name, Number, Reference, Bad_word, Text, Character, Bad_byte, Bad_token, End, IsWord, Spells, Stops}
-use Rattle.rv_text_laws.specs.Lexing.{Token, placed, newlines, tokens_of, last}
-use Rattle.rv_text_laws.proofs.TokensLemmas.{newlines-append}
+use Rattle.rv_expression_laws.specs.Bytes.{in_line, spelling}
+use Rattle.rv_expression_laws.specs.declared.punct.Punct.{Punct}
+use Rattle.rv_expression_laws.specs.declared.class.Class.{Class}
+use Rattle.rv_expression_laws.specs.declared.class.Class.TheVariants.{Letter, Digit}
+use Rattle.rv_expression_laws.specs.Cut.{Piece, texts, Each, NothingReads}
+use Rattle.rv_expression_laws.specs.Grammar.{Kind, Space, Line_comment, Block_comment, Newline, Punctuation, Name, Number, Reference, Bad_word, Text, Character, Bad_byte, Bad_token, End, IsWord, Spells, Stops}
+use Rattle.rv_expression_laws.specs.Lexing.{Token, placed, newlines, tokens_of, last}
+use Rattle.rv_expression_laws.proofs.TokensLemmas.{newlines-append}
 use Rattle.rv_statement_laws.specs.Statement.{StatementKind, Label, Numbered, Instruction, Directs, Statement}
 use Rattle.rv_parse_laws.specs.Syntax.{SourcePart, Ends, Says, StopsPart, is_end}
 use Rattle.rv_parse_laws.specs.Opening.{OpenWell}

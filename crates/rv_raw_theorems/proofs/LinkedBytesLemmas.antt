@@ -5,8 +5,8 @@ use Rattle.std.specs.Prelude.{⊤, IsTrue, ◌&&◌, ◌==◌, if◌then◌else�
 use Rattle.std.specs.List.{AllByRecursion}
 use Rattle.std.proofs.lemmas.List.{append-nil, length-append}
 use Rattle.rv_isa_laws.specs.Bytes.{zeros}
-use Rattle.rv_layout_laws.specs.Alignment.{aligned}
-use Rattle.rv_layout_laws.specs.Branches.{IsLeastGood}
+use Rattle.rv_size_laws.specs.Alignment.{aligned}
+use Rattle.rv_size_laws.specs.Branches.{IsLeastGood}
 use Rattle.rv_map_laws.specs.declared.map.Row.{Row}
 use Rattle.rv_collect_laws.specs.Graph.{is_dropped}
 use Rattle.rv_statement_laws.specs.Statement.{StatementKind, Statement}

@@ -5,7 +5,7 @@ use Rattle.std.specs.Prelude.{◌&&◌, nat_lt, max, if◌then◌else◌, filter
 use Rattle.std.specs.List.{AllByRecursion, slice_get}
 use Rattle.rv_isa.specs.declared.kind.Kind.{Kind}
 use Rattle.rv_isa_laws.specs.Platform.{stack_start, memory_limit}
-use Rattle.rv_layout_laws.specs.Alignment.{aligned}
+use Rattle.rv_size_laws.specs.Alignment.{aligned}
 use Rattle.rv_object_laws.specs.Object.{Relocation, Section, Symbol, Object, size_of}
 use Rattle.rv_object_laws.specs.Valid.{is_align}
 use Rattle.rv_link_laws.specs.Inputs.{Starts, goes_to_text, raised, begins_at, inputs, Stand}

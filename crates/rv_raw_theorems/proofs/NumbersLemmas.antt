@@ -11,8 +11,8 @@ use Rattle.std.specs.Char.{digit_value}
 use Rattle.std.specs.Str.Parse.{AllDigits, digits_value, digits_value_after}
 use Rattle.std.specs.Fmt.{decimal, digits, digits_onto, digit_glyph}
 use Rattle.std.proofs.lemmas.Fmt.{decimal_digit, digits_is_IsNumeral, first_decimal}
-use Rattle.rv_text_laws.specs.Bytes.{digit, is_digit, digits_value as value, is_word, is_decimal, in_line}
-use Rattle.rv_text_laws.specs.Grammar.{Number, Spells, Decimal, Octal_digits, Hexadecimal_digits}
+use Rattle.rv_expression_laws.specs.Bytes.{digit, is_digit, digits_value as value, is_word, is_decimal, in_line}
+use Rattle.rv_expression_laws.specs.Grammar.{Number, Spells, Decimal, Octal_digits, Hexadecimal_digits}
 use Rattle.rv_map_laws.specs.Text.{hexadecimal}
 use Rattle.rv_listing_laws.specs.Numbers.{prefixed}
 use Rattle.rv_raw_theorems.specs.Statements.{IsSmall}

@@ -5,8 +5,8 @@ use Rattle.std.specs.Prelude.{if◌then◌else◌, flat_map, slice_index}
 use Rattle.std.specs.List.{AllByRecursion}
 use Rattle.std.proofs.lemmas.Bool.{eq-eqb, ne_eqb}
 use Rattle.rv_list_laws.proofs.EachLemmas.{each_map, each_unmapped_by, each_pair}
-use Rattle.rv_text_laws.specs.Values.{value_of}
-use Rattle.rv_layout_laws.specs.Branches.{smallest, item_at}
+use Rattle.rv_expression_laws.specs.Values.{value_of}
+use Rattle.rv_size_laws.specs.Branches.{smallest, item_at}
 use Rattle.rv_statement_laws.specs.Statement.{StatementKind, Label, Statement}
 use Rattle.rv_unit_laws.specs.Bindings.{Bindings, bindings_of}
 use Rattle.rv_unit_laws.specs.Sections.{text_section}

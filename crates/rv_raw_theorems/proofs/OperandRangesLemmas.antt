@@ -22,7 +22,7 @@ use Rattle.rv_parcel.specs.declared.parcel.ParcelOperation.{ParcelOperation}
 use Rattle.rv_parcel.specs.Mnemonics.{are_in, register_sets, takes_number, form_with as form_by, form_of, operation_of}
 use Rattle.rv_parcel.specs.Parcel.{IsLine, IsNoHint, IsUpper, IsBranch, IsJump, expansion}
 use Rattle.rv_reloc_laws.specs.Ranges.{Takes, IsOdd}
-use Rattle.rv_text_laws.specs.Codes.{immediate_range, faulty_if}
+use Rattle.rv_expression_laws.specs.Codes.{immediate_range, faulty_if}
 use Rattle.rv_statement_laws.specs.declared.mnemonic.Mnemonic.{Mnemonic}
 use Rattle.rv_statement_laws.specs.declared.mnemonic.Mnemonic.TheVariants as words
 use Rattle.rv_statement_laws.specs.Statement.{StatementKind, Instruction, Operand, Target, Accesses, Expression}

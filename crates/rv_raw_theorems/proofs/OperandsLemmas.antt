@@ -4,13 +4,13 @@ use Rattle.std.proofs.Common.{◌≡◌, ℕ, suc, ℤ, pos, negsuc, ◌+◌, �
 use Rattle.std.proofs.lemmas.List.{append-nil}
 use Rattle.std.specs.List.{list_all}
 use Rattle.std.specs.Fmt.{decimal, signed_decimal}
-use Rattle.rv_text_laws.specs.Bytes.{in_line}
-use Rattle.rv_text_laws.specs.Cut.{texts}
-use Rattle.rv_text_laws.specs.Grammar.{Name, Number}
-use Rattle.rv_text_laws.specs.Lexing.{Token, placed, tokens_of}
-use Rattle.rv_text_laws.specs.Expression.{Leaf, Unary, Binary, Literal, Here, begins, A_primary}
-use Rattle.rv_text_laws.specs.declared.operator.UnaryOperator.TheVariants.{Negate}
-use Rattle.rv_text_laws.specs.declared.operator.BinaryOperator.TheVariants.{Add, Subtract}
+use Rattle.rv_expression_laws.specs.Bytes.{in_line}
+use Rattle.rv_expression_laws.specs.Cut.{texts}
+use Rattle.rv_expression_laws.specs.Grammar.{Name, Number}
+use Rattle.rv_expression_laws.specs.Lexing.{Token, placed, tokens_of}
+use Rattle.rv_expression_laws.specs.Expression.{Leaf, Unary, Binary, Literal, Here, begins, A_primary}
+use Rattle.rv_expression_laws.specs.declared.operator.UnaryOperator.TheVariants.{Negate}
+use Rattle.rv_expression_laws.specs.declared.operator.BinaryOperator.TheVariants.{Add, Subtract}
 use Rattle.rv_isa.specs.declared.operation.AccessSet.{AccessSet}
 use Rattle.rv_isa.specs.RegisterNames.{abi_names}
 use Rattle.rv_parcel.specs.declared.parcel.RegisterSet.{RegisterSet}

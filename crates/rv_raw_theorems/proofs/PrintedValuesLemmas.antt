@@ -5,8 +5,8 @@ use Rattle.std.specs.Prelude.{◌-ℤ◌, ◌+ℤ◌, unsigned_abs}
 use Rattle.std.specs.Int.{w64, int_wrap, cast_signed}
 use Rattle.std.proofs.lemmas.Bool.Decides.{nat_tests}
 use Rattle.std.proofs.lemmas.Int.{ints, int_rem_euclid_is}
-use Rattle.rv_text_laws.specs.Expression.{Primary, Here}
-use Rattle.rv_text_laws.specs.Values.{Meaning, InSection, Open, Constant, Symbolic, add, value_of}
+use Rattle.rv_expression_laws.specs.Expression.{Primary, Here}
+use Rattle.rv_expression_laws.specs.Values.{Meaning, InSection, Open, Constant, Symbolic, add, value_of}
 use Rattle.rv_isa_laws.specs.Arithmetic.{wrapped, signed}
 use Rattle.rv_source_laws.specs.Lines.{constant_of, distance as distance_to}
 use Rattle.rv_raw_theorems.specs.Statements.{IsSmall, constant_expression, from_dot}

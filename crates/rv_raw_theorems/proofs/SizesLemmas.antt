@@ -4,12 +4,12 @@ use Rattle.std.proofs.Common.{◌≡◌, ℕ, ◌<◌, ℤ, pos, negsuc, List, s
 use Rattle.std.specs.Prelude.{slice_index, ◌-ℤ◌, ◌+ℤ◌}
 use Rattle.std.proofs.lemmas.List.{length-map}
 use Rattle.std.proofs.lemmas.Int.{ints}
-use Rattle.rv_layout_laws.specs.declared.item.Forms.{Forms}
-use Rattle.rv_layout_laws.specs.declared.item.Forms.TheVariants.{Settled, CompressedBranch, Branch, CompressedJump}
-use Rattle.rv_layout_laws.specs.declared.item.Item.{Item}
-use Rattle.rv_layout_laws.specs.Offsets.{offset, IsImmediate, Reaches}
-use Rattle.rv_layout_laws.specs.Branches.{Offers, smallest, largest, half, item_at, of_section, IsGood, IsLeastGood, smallest_sizes}
-use Rattle.rv_layout_laws.proofs.WideningLemmas.{smallest_at, offers_smallest as offered, smallest_least}
+use Rattle.rv_size_laws.specs.declared.item.Forms.{Forms}
+use Rattle.rv_size_laws.specs.declared.item.Forms.TheVariants.{Settled, CompressedBranch, Branch, CompressedJump}
+use Rattle.rv_size_laws.specs.declared.item.Item.{Item}
+use Rattle.rv_size_laws.specs.Offsets.{offset, IsImmediate, Reaches}
+use Rattle.rv_size_laws.specs.Branches.{Offers, smallest, largest, half, item_at, of_section, IsGood, IsLeastGood, smallest_sizes}
+use Rattle.rv_size_laws.proofs.WideningLemmas.{smallest_at, offers_smallest as offered, smallest_least}
 use Rattle.rv_raw_theorems.specs.Meaning.{LeadsFrom, LeadsFromItself}
 
 nowhere : (x : ℕ) (z : ℤ) → (pos x -ℤ pos x) +ℤ z ≡ z

@@ -6,8 +6,8 @@ use Rattle.rv_isa.specs.declared.instruction.Format.{Format}
 use Rattle.rv_isa.specs.declared.instruction.Format.TheVariants.{Fence}
 use Rattle.rv_isa.specs.Operations.{format_of}
 use Rattle.std.specs.Prelude.{if◌then◌else◌}
-use Rattle.rv_text_laws.specs.Expression.{Here}
-use Rattle.rv_text_laws.specs.Values.{Open}
+use Rattle.rv_expression_laws.specs.Expression.{Here}
+use Rattle.rv_expression_laws.specs.Values.{Open}
 use Rattle.rv_statement_laws.specs.declared.directive.Binding.{Binding}
 use Rattle.rv_statement_laws.specs.declared.directive.Binding.TheVariants.{Global}
 use Rattle.rv_statement_laws.specs.declared.directive.Choice.{Choice}

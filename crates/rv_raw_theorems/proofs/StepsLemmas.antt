@@ -5,8 +5,8 @@ use Rattle.std.specs.Prelude.{⊤, unwrap_or, codes}
 use Rattle.std.specs.List.{AllByRecursion, find}
 use Rattle.rv_isa_laws.specs.Arithmetic.{wrapped}
 use Rattle.rv_parcel.specs.declared.form.Compressed.{Compressed}
-use Rattle.rv_text_laws.specs.Expression.{Here}
-use Rattle.rv_text_laws.specs.Values.{Open, Symbolic, add}
+use Rattle.rv_expression_laws.specs.Expression.{Here}
+use Rattle.rv_expression_laws.specs.Values.{Open, Symbolic, add}
 use Rattle.rv_map_laws.specs.Map.{Map}
 use Rattle.rv_map_laws.specs.declared.map.Row.{Row}
 use Rattle.rv_statement_laws.specs.Statement.{StatementKind, Label}

@@ -9,9 +9,9 @@ use Rattle.rv_isa.specs.declared.instruction.Format.TheVariants.{Branch, Jal}
 use Rattle.rv_isa.specs.declared.operation.BranchOperation.{BranchOperation}
 use Rattle.rv_isa.specs.declared.kind.Kind.TheVariants as kind
 use Rattle.rv_isa.specs.Operations.{format_of, of_branch}
-use Rattle.rv_text_laws.specs.Codes.{limit}
-use Rattle.rv_text_laws.specs.Expression.{Primary}
-use Rattle.rv_text_laws.specs.Values.{Meaning, Value, value_of}
+use Rattle.rv_expression_laws.specs.Codes.{limit}
+use Rattle.rv_expression_laws.specs.Expression.{Primary}
+use Rattle.rv_expression_laws.specs.Values.{Meaning, Value, value_of}
 use Rattle.rv_statement_laws.specs.Statement.{StatementKind, Expression}
 use Rattle.rv_statement_laws.specs.Limits.{most_statements}
 use Rattle.rv_pseudo_laws.specs.Code.{Part, Closed, Open, Constants, b_type, jal, inverted, branch}

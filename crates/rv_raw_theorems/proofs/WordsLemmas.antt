@@ -7,11 +7,11 @@ use Rattle.std.proofs.lemmas.Bool.{cases_Bool}
 use Rattle.std.proofs.lemmas.Bool.Decides.{nat_tests}
 use Rattle.std.proofs.lemmas.List.{append-nil}
 use Rattle.std.specs.List.{list_all}
-use Rattle.rv_text_laws.specs.declared.class.Class.TheVariants.{Blank}
-use Rattle.rv_text_laws.specs.Bytes.{class, in_line}
-use Rattle.rv_text_laws.specs.Cut.{texts, Each}
-use Rattle.rv_text_laws.specs.Grammar.{Spells, Stops}
-use Rattle.rv_text_laws.specs.Lexing.{placed, tokens_of}
+use Rattle.rv_expression_laws.specs.declared.class.Class.TheVariants.{Blank}
+use Rattle.rv_expression_laws.specs.Bytes.{class, in_line}
+use Rattle.rv_expression_laws.specs.Cut.{texts, Each}
+use Rattle.rv_expression_laws.specs.Grammar.{Spells, Stops}
+use Rattle.rv_expression_laws.specs.Lexing.{placed, tokens_of}
 use Rattle.rv_statement_laws.specs.declared.mnemonic.Mnemonic.{Mnemonic}
 use Rattle.rv_statement_laws.specs.declared.mnemonic.Mnemonic.TheVariants as words
 use Rattle.rv_statement_laws.specs.Statement.{Operand, Register, Accesses, StatementKind, Instruction}

@@ -4,7 +4,7 @@ use Rattle.std.proofs.Common.{◌≡◌, ℕ, ℤ, Bool, true, false, List, [], 
 use Rattle.std.specs.Prelude.{⊤, ◌&&◌, ◌==◌, if◌then◌else◌}
 use Rattle.std.proofs.lemmas.Bool.{eqb-true}
 use Rattle.rv_isa.specs.Kinds.{is_low_part}
-use Rattle.rv_text_laws.specs.Values.{add}
+use Rattle.rv_expression_laws.specs.Values.{add}
 use Rattle.rv_isa.specs.declared.instruction.Inst.TheVariants as inst
 use Rattle.rv_isa.specs.declared.instruction.Format.{Format}
 use Rattle.rv_isa.specs.declared.instruction.Format.TheVariants.{Registers, Immediate, Shift, Upper, Load, Store, Branch, Jal, Jalr, LoadReserved, Atomic, Fence, Ecall, Ebreak}

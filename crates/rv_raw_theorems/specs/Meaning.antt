@@ -12,10 +12,10 @@ use Rattle.rv_isa.specs.Operations.{of_branch, format_of, instruction_of}
 use Rattle.rv_parcel.specs.declared.form.Compressed.{Compressed}
 use Rattle.rv_parcel.specs.declared.form.Compressed.TheVariants.{J, Beqz, Bnez}
 use Rattle.rv_parcel.specs.Parcel.{expansion}
-use Rattle.rv_layout_laws.specs.declared.item.Forms.{Forms}
-use Rattle.rv_layout_laws.specs.declared.item.Forms.TheVariants.{Settled, Branch as LongBranch}
-use Rattle.rv_layout_laws.specs.declared.item.Item.{Item}
-use Rattle.rv_layout_laws.specs.Offsets.{IsImmediate}
+use Rattle.rv_size_laws.specs.declared.item.Forms.{Forms}
+use Rattle.rv_size_laws.specs.declared.item.Forms.TheVariants.{Settled, Branch as LongBranch}
+use Rattle.rv_size_laws.specs.declared.item.Item.{Item}
+use Rattle.rv_size_laws.specs.Offsets.{IsImmediate}
 use Rattle.rv_pseudo_laws.specs.Code.{Part, Closed, Open, Constants, b_type, jal}
 use Rattle.rv_pseudo_laws.specs.Filled.{FieldValue}
 use Rattle.rv_listing_laws.specs.declared.code.Code.{Code}

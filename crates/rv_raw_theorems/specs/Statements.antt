@@ -10,9 +10,9 @@ use Rattle.rv_isa.specs.Operations.{format_of}
 use Rattle.rv_parcel.specs.declared.form.Compressed.{Compressed}
 use Rattle.rv_parcel.specs.declared.form.Compressed.TheVariants as forms
 use Rattle.rv_parcel.specs.Mnemonics.{operation_of}
-use Rattle.rv_text_laws.specs.declared.operator.UnaryOperator.TheVariants.{Negate}
-use Rattle.rv_text_laws.specs.declared.operator.BinaryOperator.TheVariants.{Add, Subtract}
-use Rattle.rv_text_laws.specs.Expression.{Leaf, Unary, Binary, Literal, Here}
+use Rattle.rv_expression_laws.specs.declared.operator.UnaryOperator.TheVariants.{Negate}
+use Rattle.rv_expression_laws.specs.declared.operator.BinaryOperator.TheVariants.{Add, Subtract}
+use Rattle.rv_expression_laws.specs.Expression.{Leaf, Unary, Binary, Literal, Here}
 use Rattle.rv_statement_laws.specs.declared.directive.Binding.TheVariants.{Global}
 use Rattle.rv_statement_laws.specs.declared.directive.Choice.TheVariants.{Norvc, Norelax}
 use Rattle.rv_statement_laws.specs.declared.mnemonic.Mnemonic.TheVariants as words

@@ -14,9 +14,9 @@ use Rattle.rv_collect_laws.specs.Graph.{is_dropped}
 use Rattle.rv_statement_laws.specs.Statement.{Statement, StatementKind, Label, Numbered, Instruction, Directs}
 use Rattle.rv_source_laws.specs.Located.{Located}
 use Rattle.rv_source_laws.specs.Compressed.{names_parcel}
-use Rattle.rv_layout_laws.specs.Offsets.{Reaches}
-use Rattle.rv_layout_laws.specs.Calls.{IsGreatestClosed}
-use Rattle.rv_layout_laws.proofs.ReachingLemmas.{Nearer, reaches_nearer}
+use Rattle.rv_size_laws.specs.Offsets.{Reaches}
+use Rattle.rv_size_laws.specs.Calls.{IsGreatestClosed}
+use Rattle.rv_size_laws.proofs.ReachingLemmas.{Nearer, reaches_nearer}
 use Rattle.rv_unit_laws.specs.Sections.{Section as SourceSection}
 use Rattle.rv_unit_laws.specs.Tables.{Tables, tables, opened_of, longest_section}
 use Rattle.rv_object_laws.specs.declared.symbol.Definition.TheVariants as definitions

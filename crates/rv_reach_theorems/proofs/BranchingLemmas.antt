@@ -22,8 +22,8 @@ use Rattle.rv_statement_laws.specs.declared.pseudo.SwappedBranchOperation.TheVar
 use Rattle.rv_statement_laws.specs.Statement.{Operand, Register, Target, Expression}
 use Rattle.rv_pseudo_laws.specs.Code.{Part, Closed, Open, Joined, Constants, b_type, jal, inverted, branch, far, named_form, short_branch, code}
 use Rattle.rv_source_laws.specs.Lines.{other_operand}
-use Rattle.rv_layout_laws.specs.declared.item.Forms.{Forms}
-use Rattle.rv_layout_laws.specs.declared.item.Forms.TheVariants.{Settled, CompressedBranch, Branch as FullBranch, CompressedJump}
+use Rattle.rv_size_laws.specs.declared.item.Forms.{Forms}
+use Rattle.rv_size_laws.specs.declared.item.Forms.TheVariants.{Settled, CompressedBranch, Branch as FullBranch, CompressedJump}
 use Rattle.rv_source_laws.specs.Sizes.{branch_forms, jump_forms, is_short_branch as is_short_pair, is_short_register, near_forms, target_in}
 use Rattle.rv_reach_theorems.specs.Reach.{is_short_branch}
 use Rattle.rv_source_laws.specs.Sized.{is_call_mnemonic}

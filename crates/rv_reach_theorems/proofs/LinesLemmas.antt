@@ -5,12 +5,12 @@ use Rattle.std.specs.Prelude.{◌==◌, ⊤}
 use Rattle.std.specs.List.{AllByRecursion}
 use Rattle.std.proofs.lemmas.List.{length-append, length-drop}
 use Rattle.std.proofs.lemmas.Bool.{eq-eqb, ne_eqb, and_from, and_left, and_right, ltb-true, ltb-false}
-use Rattle.rv_layout_laws.specs.Sites.{padding_site, size_at}
-use Rattle.rv_layout_laws.specs.declared.site.Site.{Site}
-use Rattle.rv_layout_laws.specs.declared.site.SiteKind.{SiteKind}
-use Rattle.rv_layout_laws.specs.declared.site.SiteKind.TheVariants as kinds
-use Rattle.rv_layout_laws.specs.Calls as layout
-use Rattle.rv_layout_laws.specs.Calls.{Offers, bytes_of, site_at, dropped_of, InOrder, is_call as is_call_site}
+use Rattle.rv_size_laws.specs.Sites.{padding_site, size_at}
+use Rattle.rv_size_laws.specs.declared.site.Site.{Site}
+use Rattle.rv_size_laws.specs.declared.site.SiteKind.{SiteKind}
+use Rattle.rv_size_laws.specs.declared.site.SiteKind.TheVariants as kinds
+use Rattle.rv_size_laws.specs.Calls as layout
+use Rattle.rv_size_laws.specs.Calls.{Offers, bytes_of, site_at, dropped_of, InOrder, is_call as is_call_site}
 use Rattle.rv_object_laws.specs.Object.{Relocation, Section, Object, size_of, stored}
 use Rattle.rv_link_laws.specs.Moves.{Move, dropped}
 use Rattle.rv_link_laws.specs.Inputs.{InputSection, begins_at}

@@ -5,7 +5,7 @@ use Rattle.std.specs.Prelude.{filter, if◌then◌else◌}
 use Rattle.std.specs.List.{list_all}
 use Rattle.std.proofs.lemmas.Bool.{and_parts}
 use Rattle.rv_list_laws.proofs.NumbersLemmas.{span_within}
-use Rattle.rv_layout_laws.specs.Alignment.{aligned}
+use Rattle.rv_size_laws.specs.Alignment.{aligned}
 use Rattle.rv_object_laws.specs.Object.{Relocation, Section, size_of}
 use Rattle.rv_object_laws.specs.Padding.{no_operations}
 use Rattle.rv_object_laws.specs.Valid.{is_padding, are_all_apart, are_paddings}

@@ -7,8 +7,8 @@ use Rattle.std.proofs.lemmas.Int.{ints}
 use Rattle.std.proofs.lemmas.Bool.{cases_lt}
 use Rattle.rv_isa.specs.declared.kind.Kind.{Kind}
 use Rattle.rv_isa.specs.declared.kind.Kind.TheVariants as kinds
-use Rattle.rv_layout_laws.specs.Offsets.{IsImmediate, Reaches}
-use Rattle.rv_layout_laws.proofs.ReachingLemmas.{Nearer, Ahead, Behind}
+use Rattle.rv_size_laws.specs.Offsets.{IsImmediate, Reaches}
+use Rattle.rv_size_laws.proofs.ReachingLemmas.{Nearer, Ahead, Behind}
 use Rattle.rv_reloc_laws.specs.Ranges.{IsInRange, Takes}
 use Rattle.rv_object_laws.specs.Object.{Relocation, Section, Object}
 use Rattle.rv_link_laws.specs.Moves.{Move, moves, new_offset}

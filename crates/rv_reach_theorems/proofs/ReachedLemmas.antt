@@ -8,16 +8,16 @@ use Rattle.std.proofs.lemmas.Int.{ints, int_wrap_fits, int_wrap-add_right, int_w
 use Rattle.std.proofs.lemmas.Bool.{or_right, cases_lt}
 use Rattle.std.proofs.lemmas.Option.{slice_get-map}
 use Rattle.rv_list_laws.proofs.EachLemmas.{each_get}
-use Rattle.rv_layout_laws.specs.Sites.{size_at}
+use Rattle.rv_size_laws.specs.Sites.{size_at}
 use Rattle.rv_isa.specs.declared.kind.Kind.{Kind}
 use Rattle.rv_isa.specs.declared.kind.Kind.TheVariants as kinds
 use Rattle.rv_reloc_laws.specs.Ranges.{IsInRange, IsOdd, Takes}
-use Rattle.rv_layout_laws.specs.declared.site.Site.{Site}
-use Rattle.rv_layout_laws.specs.Offsets.{IsEven, IsImmediate, Reaches}
-use Rattle.rv_layout_laws.specs.Calls as layout
-use Rattle.rv_layout_laws.specs.Calls.{Offers, half, site_at, bytes_of, InOrder, IsText, IsFamily, IsGreatestClosed, ReachesFrom, is_call as is_call_site}
-use Rattle.rv_layout_laws.proofs.ReachingLemmas.{Nearer, reaches_nearer}
-use Rattle.rv_layout_laws.proofs.ShorteningLemmas.{greatest_reaching}
+use Rattle.rv_size_laws.specs.declared.site.Site.{Site}
+use Rattle.rv_size_laws.specs.Offsets.{IsEven, IsImmediate, Reaches}
+use Rattle.rv_size_laws.specs.Calls as layout
+use Rattle.rv_size_laws.specs.Calls.{Offers, half, site_at, bytes_of, InOrder, IsText, IsFamily, IsGreatestClosed, ReachesFrom, is_call as is_call_site}
+use Rattle.rv_size_laws.proofs.ReachingLemmas.{Nearer, reaches_nearer}
+use Rattle.rv_size_laws.proofs.ShorteningLemmas.{greatest_reaching}
 use Rattle.rv_object_laws.specs.Object.{Relocation, Section, Object, size_of}
 use Rattle.rv_object_laws.specs.Valid.{are_paddings}
 use Rattle.rv_link_laws.specs.Moves.{Move, dropped, moves, new_offset, has_padding}

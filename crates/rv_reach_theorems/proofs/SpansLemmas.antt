@@ -6,13 +6,13 @@ use Rattle.std.specs.Prelude.{◌==◌, filter, if◌then◌else◌}
 use Rattle.std.specs.List.{AllByRecursion, slice_get}
 use Rattle.std.proofs.lemmas.Int.{ints}
 use Rattle.std.proofs.lemmas.Bool.{and_parts}
-use Rattle.rv_layout_laws.specs.Alignment.{aligned}
+use Rattle.rv_size_laws.specs.Alignment.{aligned}
 use Rattle.rv_isa.specs.declared.kind.Kind.TheVariants as kinds
-use Rattle.rv_layout_laws.specs.Calls as layout
-use Rattle.rv_layout_laws.specs.Calls.{InOrder}
-use Rattle.rv_layout_laws.proofs.ReachingLemmas.{Nearer, Ahead, Behind}
-use Rattle.rv_layout_laws.proofs.DroppingLemmas.{dropped_most}
-use Rattle.rv_layout_laws.proofs.AlignmentLemmas.{aligned_even}
+use Rattle.rv_size_laws.specs.Calls as layout
+use Rattle.rv_size_laws.specs.Calls.{InOrder}
+use Rattle.rv_size_laws.proofs.ReachingLemmas.{Nearer, Ahead, Behind}
+use Rattle.rv_size_laws.proofs.DroppingLemmas.{dropped_most}
+use Rattle.rv_size_laws.proofs.AlignmentLemmas.{aligned_even}
 use Rattle.rv_object_laws.specs.Object.{Relocation, Section, Object, size_of}
 use Rattle.rv_object_laws.specs.Valid.{is_align}
 use Rattle.rv_link_laws.specs.Moves.{Move, dropped, new_offset, full_padding, has_padding, alignment_of, by_place, alignments_of, moves}

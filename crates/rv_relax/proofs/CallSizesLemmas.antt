@@ -5,12 +5,12 @@ use Rattle.std.specs.Prelude.{◌==◌, ◌&&◌, ◌+◌, nat_lt, Result, Ok, E
 use Rattle.std.specs.List.{flat_map}
 use Rattle.rv_isa.specs.declared.kind.Kind.{Kind}
 use Rattle.rv_isa.specs.declared.kind.Kind.TheVariants as kinds
-use Rattle.rv_layout_laws.specs.declared.site.Site.{Site}
-use Rattle.rv_layout_laws.specs.declared.site.SiteKind.{SiteKind}
-use Rattle.rv_layout_laws.specs.declared.site.SiteKind.TheVariants.{Call, Padding}
-use Rattle.rv_layout_laws.specs.Calls.{Offers, site_at, IsGreatestClosed, is_call as is_call_site}
-use Rattle.rv_layout_laws.specs.Sites.{size_at}
-use Rattle.rv_layout_laws.proofs.JumpSizesLemmas.{IsJumpSize}
+use Rattle.rv_size_laws.specs.declared.site.Site.{Site}
+use Rattle.rv_size_laws.specs.declared.site.SiteKind.{SiteKind}
+use Rattle.rv_size_laws.specs.declared.site.SiteKind.TheVariants.{Call, Padding}
+use Rattle.rv_size_laws.specs.Calls.{Offers, site_at, IsGreatestClosed, is_call as is_call_site}
+use Rattle.rv_size_laws.specs.Sites.{size_at}
+use Rattle.rv_size_laws.proofs.JumpSizesLemmas.{IsJumpSize}
 use Rattle.rv_object_laws.specs.Object.{Relocation, Section, Object}
 use Rattle.rv_link_laws.specs.Moves.{Move}
 use Rattle.rv_link_laws.specs.Inputs.{goes_to_text}

@@ -1,14 +1,14 @@
--- What `Placed` holds of its sites is what a pass asks of them.
+-- What `TextLine` holds of its sites is what a pass asks of them.
 
 use Rattle.std.proofs.Common.{◌≡◌, inl, inr, ⊎_elim, ℕ, ◌*◌, ◌^◌, nat_le, Bool, true, false, not, ◌||◌, IsTrue, List, [], ◌∷◌, refl}
 use Rattle.std.proofs.lemmas.Bool.{leb-true, le-leb, and_parts, and_from, or_left, or_right, or_cases}
-use Rattle.rv_layout_laws.specs.declared.site.Site.{Site}
-use Rattle.rv_layout_laws.specs.declared.site.SiteKind.{SiteKind}
-use Rattle.rv_layout_laws.specs.declared.site.SiteKind.TheVariants.{Call, Padding}
-use Rattle.rv_layout_laws.specs.Calls.{is_call, site_at, InOrder, IsOutside, LeadsOutside}
-use Rattle.rv_layout_laws.specs.Sites.{site_end}
+use Rattle.rv_size_laws.specs.declared.site.Site.{Site}
+use Rattle.rv_size_laws.specs.declared.site.SiteKind.{SiteKind}
+use Rattle.rv_size_laws.specs.declared.site.SiteKind.TheVariants.{Call, Padding}
+use Rattle.rv_size_laws.specs.Calls.{is_call, site_at, InOrder, IsOutside, LeadsOutside}
+use Rattle.rv_size_laws.specs.Sites.{site_end}
 use Rattle.rv_call_sizes.specs.Passes.{IsInput, LeadsLow}
-use Rattle.rv_relax.specs.Placed.{ArePlaced, are_in_line, is_outside, leads_low, leads_outside}
+use Rattle.rv_relax.specs.TextLine.{AreTextSites, are_in_line, is_outside, leads_low, leads_outside}
 
 -- ---- what is tested stands
 
@@ -55,20 +55,20 @@ low_meant (Padding padding) h = tt
 
 -- ---- all sites
 
-pub placed_from : (sites : List Site) → IsInput sites → ArePlaced sites
-placed_from sites input = record {
+pub text_sites_from : (sites : List Site) → IsInput sites → AreTextSites sites
+text_sites_from sites input = record {
   in_line = line_from 0 sites input.text.in_order;
   outside = λ i j. outside_from (site_at sites i).kind (site_at sites j) (input.text.outside i j);
   ends = input.ends;
   targets = λ i. low_from (site_at sites i).kind (input.targets i);
 }
 
-pub input_from : (sites : List Site) → ArePlaced sites → IsInput sites
-input_from sites placed = record {
+pub input_from : (sites : List Site) → AreTextSites sites → IsInput sites
+input_from sites text_line = record {
   text = record {
-    in_order = order_from 0 sites placed.in_line;
-    outside = λ i j. outside_meant (site_at sites i).kind (site_at sites j) (placed.outside i j);
+    in_order = order_from 0 sites text_line.in_line;
+    outside = λ i j. outside_meant (site_at sites i).kind (site_at sites j) (text_line.outside i j);
   };
-  ends = placed.ends;
-  targets = λ i. low_meant (site_at sites i).kind (placed.targets i);
+  ends = text_line.ends;
+  targets = λ i. low_meant (site_at sites i).kind (text_line.targets i);
 }

@@ -3,7 +3,7 @@
 
 use Rattle.std.specs.Prelude.{◌≡◌, ℕ, suc, Bool, true, false, List, [], ◌∷◌, ◌++◌, if◌then◌else◌}
 use Rattle.std.specs.List.{flat_map}
-use Rattle.rv_layout_laws.specs.Calls.{IsGreatestClosed}
+use Rattle.rv_size_laws.specs.Calls.{IsGreatestClosed}
 use Rattle.rv_object_laws.specs.Object.{Relocation, Section, Object}
 use Rattle.rv_link_laws.specs.Inputs.{goes_to_text}
 use Rattle.rv_link_laws.specs.CallSites.{is_call, sites_of}

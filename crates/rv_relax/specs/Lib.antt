@@ -1,7 +1,7 @@
 pub mod Kept
 pub mod Paddings
 pub mod Pieces
-pub mod Placed
+pub mod TextLine
 pub mod Plan
 pub mod Told
 pub mod Worked

@@ -9,12 +9,12 @@ use Rattle.rv_link_laws.specs.Shortened.{Relaxes}
 use Rattle.rv_fault.specs.declared.link_fault.LinkFault.{LinkFault}
 use Rattle.rv_fault.specs.declared.link_fault.LinkFault.TheVariants.{AlignmentShort, OutOfMemory}
 use Rattle.rv_shorten.specs.View.{short_object_of, whole_object_of}
-use Rattle.rv_relax.specs.declared.placed.Placed.{Placed}
+use Rattle.rv_relax.specs.declared.text_line.TextLine.{TextLine}
 use Rattle.rv_relax.specs.declared.plan.Plan.{Plan}
 
 -- the objects of a text
-unfoldable pub placed_objects : Placed → List Object
-placed_objects p = map object_of p.objects.now
+unfoldable pub objects_of_line : TextLine → List Object
+objects_of_line p = map object_of p.objects.now
 
 -- what a plan leaves of objects, calls cut and paddings whole
 abbrev pub planned_objects : Plan → List Object

@@ -2,7 +2,7 @@
 
 ghost use Rattle.std.specs.Prelude.{◌≡◌, ◌-◌, ◌<◌, ◌≤◌, ◌++◌, [], ◌∷◌, true, map, reverse, IfOk, OnOk, if◌then◌else◌};
 ghost use Rattle.std.specs.List.{filter};
-ghost use Rattle.rv_layout_laws.specs.Alignment.{aligned};
+ghost use Rattle.rv_size_laws.specs.Alignment.{aligned};
 ghost use Rattle.rv_object_types.specs.Parts.{relocation_of};
 ghost use Rattle.rv_object_laws.specs.Valid.{are_all_apart};
 ghost use Rattle.rv_link_laws.specs.Moves.{by_place, has_padding};

@@ -11,7 +11,7 @@
 //!
 //! Main contract: `Plan::of` gives the plan of what relaxation leaves of objects (`Relaxes`, `rv_link_laws`), in which the
 //! paddings of each section are its `moves`, or `AlignmentShort` where one lacks bytes. A plan takes objects with the sites of
-//! their text ([`Placed`]) and has no byte of it. It lends the objects, less what is cut of their calls (`rv_shorten`), and
+//! their text ([`TextLine`]) and has no byte of it. It lends the objects, less what is cut of their calls (`rv_shorten`), and
 //! what is kept of the paddings of each of their sections ([`SectionPaddings`]): new offsets, the bytes that are kept, which
 //! go straight to where they are wanted, and the instructions that go. By number it tells how long each call and each
 //! alignment is, and where an offset of the text is.
@@ -42,12 +42,12 @@ mod law;
 mod losses;
 mod paddings;
 mod pieces;
-mod placed;
+mod text_line;
 mod plan;
 mod section_paddings;
 mod told;
 
 pub use law::{one_alignment, two_alignments};
-pub use placed::Placed;
+pub use text_line::TextLine;
 pub use plan::Plan;
 pub use section_paddings::SectionPaddings;

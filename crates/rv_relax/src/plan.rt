@@ -6,7 +6,7 @@
 
 ghost use Rattle.std.specs.Prelude.{◌≡◌, ◌+◌, ◌*◌, ◌≤◌, true, map, IfOk, IfErr};
 ghost use Rattle.std.specs.List.{list_all};
-ghost use Rattle.rv_layout_laws.specs.Calls.{calls};
+ghost use Rattle.rv_size_laws.specs.Calls.{calls};
 ghost use Rattle.rv_object_types.specs.View.{object_of};
 ghost use Rattle.rv_link_laws.specs.CallSites.{sites_of};
 ghost use Rattle.rv_link_laws.specs.Moves.{has_room};
@@ -17,7 +17,7 @@ ghost use Rattle.rv_relax.specs.Kept.{kept_in, moves_of};
 ghost use Rattle.rv_relax.specs.Told.{told_objects};
 ghost use Rattle.rv_relax.specs.declared.told.Counted.TheVariants.{Calls};
 
-use crate::placed::Placed;
+use crate::text_line::TextLine;
 use crate::section_paddings::SectionPaddings;
 use rv_call_sizes::CallSizes;
 use rv_fault::LinkFault;
@@ -48,29 +48,29 @@ struct Cut<'o, 'a> {
 }
 
 impl<'o, 'a> Cut<'o, 'a> {
-    ghost use Rattle.rv_relax.specs.Plan.{placed_objects};
+    ghost use Rattle.rv_relax.specs.Plan.{objects_of_line};
 
     /// What is cut of the calls of a text.
-    fn of(alloc: Global, placed: &Placed<'o, 'a>) -> Result<Cut<'o, 'a>, AllocError>
+    fn of(alloc: Global, text_line: &TextLine<'o, 'a>) -> Result<Cut<'o, 'a>, AllocError>
         ensures whole { IfOk result
-            (λ cut. map whole_object_of cut.objects.items ≡ placed_objects placed.now) }
-        ensures relaxes { IfOk result (λ cut. Relaxes true (placed_objects placed.now)
+            (λ cut. map whole_object_of cut.objects.items ≡ objects_of_line text_line.now) }
+        ensures relaxes { IfOk result (λ cut. Relaxes true (objects_of_line text_line.now)
             (map short_object_of cut.objects.items)) }
-        ensures calls { IfOk result (λ cut. AreCallSizes true (placed_objects placed.now)
+        ensures calls { IfOk result (λ cut. AreCallSizes true (objects_of_line text_line.now)
             (told_objects Calls cut.objects.items)) }
         ensures rounds { IfOk result
-            (λ cut. cut.rounds ≤ 2 * calls (sites_of (placed_objects placed.now)) + 1) }
+            (λ cut. cut.rounds ≤ 2 * calls (sites_of (objects_of_line text_line.now)) + 1) }
     {
-        let objects = placed.objects();
-        let sites = placed.sites();
+        let objects = text_line.objects();
+        let sites = text_line.sites();
         let CallSizes { kept, rounds } = CallSizes::greatest(alloc, sites)?;
         let objects = shorten(alloc, objects, sites, &kept)?;
         Ok(Cut { objects, rounds })
     }
 }
 
-impl<'o, 'a> Placed<'o, 'a> {
-    ghost use Rattle.rv_relax.specs.Plan.{placed_objects, planned_objects};
+impl<'o, 'a> TextLine<'o, 'a> {
+    ghost use Rattle.rv_relax.specs.Plan.{objects_of_line, planned_objects};
 
     /// The plan of its text with calls relaxed, as [`Plan::relaxed`] gives it. The sites give their memory back before there
     /// are paddings, so that a text of many alignments never has both.
@@ -80,7 +80,7 @@ impl<'o, 'a> Placed<'o, 'a> {
     /// Want of memory.
     pub fn into_plan(self, alloc: Global) -> Result<Plan<'o, 'a>, AllocError>
         ensures relaxes { IfOk result
-            (λ plan. Relaxes true (placed_objects self.entry) (planned_objects plan)) }
+            (λ plan. Relaxes true (objects_of_line self.entry) (planned_objects plan)) }
     {
         let Cut { objects, rounds } = Cut::of(alloc, &self)?;
         drop(self);
@@ -125,7 +125,7 @@ fn are_roomy(plans: &[SectionPaddings]) -> bool
 }
 
 impl<'o, 'a> Plan<'o, 'a> {
-    ghost use Rattle.rv_relax.specs.Plan.{IsUnplanned, are_roomy_objects, planned_objects, placed_objects, rounds_of, whole_objects};
+    ghost use Rattle.rv_relax.specs.Plan.{IsUnplanned, are_roomy_objects, planned_objects, objects_of_line, rounds_of, whole_objects};
 
     /// The plan of a text in which each alignment has as many bytes as it needs (`Plan::relaxed`).
     ///
@@ -134,20 +134,20 @@ impl<'o, 'a> Plan<'o, 'a> {
     /// `AlignmentShort` where an alignment needs more bytes than it has; `OutOfMemory`.
     pub fn of(
         alloc: Global,
-        placed: &Placed<'o, 'a>,
+        text_line: &TextLine<'o, 'a>,
         relax: bool,
     ) -> Result<Plan<'o, 'a>, LinkFault>
-        ensures whole { IfOk result (λ plan. whole_objects plan ≡ placed_objects placed.now) }
+        ensures whole { IfOk result (λ plan. whole_objects plan ≡ objects_of_line text_line.now) }
         ensures relaxes { IfOk result
-            (λ plan. Relaxes relax (placed_objects placed.now) (planned_objects plan)) }
-        ensures calls { IfOk result (λ plan. AreCallSizes relax (placed_objects placed.now)
+            (λ plan. Relaxes relax (objects_of_line text_line.now) (planned_objects plan)) }
+        ensures calls { IfOk result (λ plan. AreCallSizes relax (objects_of_line text_line.now)
             (told_objects Calls plan.objects.items)) }
         ensures room { IfOk result (λ plan. are_roomy_objects (planned_objects plan) ≡ true) }
         ensures rounds { IfOk result
-            (λ plan. rounds_of plan ≤ 2 * calls (sites_of (placed_objects placed.now)) + 1) }
-        ensures refuses { IfErr result (IsUnplanned relax (placed_objects placed.now)) }
+            (λ plan. rounds_of plan ≤ 2 * calls (sites_of (objects_of_line text_line.now)) + 1) }
+        ensures refuses { IfErr result (IsUnplanned relax (objects_of_line text_line.now)) }
     {
-        let plan = Plan::relaxed(alloc, placed, relax)?;
+        let plan = Plan::relaxed(alloc, text_line, relax)?;
         if !plan.is_roomy() {
             return Err(LinkFault::AlignmentShort);
         }
@@ -163,21 +163,21 @@ impl<'o, 'a> Plan<'o, 'a> {
     /// `AllocError` where there is no memory for some 32 bytes a site.
     pub fn relaxed(
         alloc: Global,
-        placed: &Placed<'o, 'a>,
+        text_line: &TextLine<'o, 'a>,
         relax: bool,
     ) -> Result<Plan<'o, 'a>, AllocError>
-        ensures whole { IfOk result (λ plan. whole_objects plan ≡ placed_objects placed.now) }
+        ensures whole { IfOk result (λ plan. whole_objects plan ≡ objects_of_line text_line.now) }
         ensures relaxes { IfOk result
-            (λ plan. Relaxes relax (placed_objects placed.now) (planned_objects plan)) }
-        ensures calls { IfOk result (λ plan. AreCallSizes relax (placed_objects placed.now)
+            (λ plan. Relaxes relax (objects_of_line text_line.now) (planned_objects plan)) }
+        ensures calls { IfOk result (λ plan. AreCallSizes relax (objects_of_line text_line.now)
             (told_objects Calls plan.objects.items)) }
         ensures rounds { IfOk result
-            (λ plan. rounds_of plan ≤ 2 * calls (sites_of (placed_objects placed.now)) + 1) }
+            (λ plan. rounds_of plan ≤ 2 * calls (sites_of (objects_of_line text_line.now)) + 1) }
     {
         if !relax {
-            return Plan::whole(alloc, placed.objects());
+            return Plan::whole(alloc, text_line.objects());
         }
-        let Cut { objects, rounds } = Cut::of(alloc, placed)?;
+        let Cut { objects, rounds } = Cut::of(alloc, text_line)?;
         Plan::behind(alloc, objects, rounds)
     }
 

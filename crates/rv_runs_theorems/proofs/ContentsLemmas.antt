@@ -10,7 +10,7 @@ use Rattle.std.specs.List.{AllByRecursion, find, list_any}
 use Rattle.rv_list_laws.proofs.EachLemmas.{each_append, each_map, each_pair}
 use Rattle.rv_list_laws.proofs.TruthLemmas.{one_case_of_four, or_three}
 use Rattle.rv_list_laws.proofs.FindLemmas.{none_found}
-use Rattle.rv_layout_laws.specs.Alignment.{aligned}
+use Rattle.rv_size_laws.specs.Alignment.{aligned}
 use Rattle.rv_isa_laws.specs.Bytes.{little_endian, zeros}
 use Rattle.rv_isa.specs.declared.instruction.Inst.{Inst}
 use Rattle.rv_isa.specs.Ranges.{IsValid}

@@ -8,10 +8,10 @@ use Rattle.std.proofs.lemmas.List.Sums.{sum_by-cons}
 use Rattle.std.proofs.Math.Nat.{mod-eq-sub-div-mul, div-mul-le_self, mod-lt}
 use Rattle.std.specs.Prelude.{nat_le, nat_lt, if◌then◌else◌, flat_map, slice_index}
 use Rattle.std.specs.List.{AllByRecursion, list_any}
-use Rattle.rv_layout_laws.specs.Alignment.{aligned}
+use Rattle.rv_size_laws.specs.Alignment.{aligned}
 use Rattle.rv_isa_laws.specs.Bytes.{zeros}
 use Rattle.rv_isa_laws.specs.Memory.{Mem}
-use Rattle.rv_layout_laws.proofs.AlignmentLemmas.{aligned_even}
+use Rattle.rv_size_laws.proofs.AlignmentLemmas.{aligned_even}
 use Rattle.rv_map_laws.specs.declared.map.Row.{Row}
 use Rattle.rv_map_laws.specs.declared.map.Region.{Region}
 use Rattle.rv_source_laws.specs.Program.{Mapped}

@@ -5,8 +5,8 @@ use Rattle.std.specs.Prelude.{◌==◌}
 use Rattle.std.proofs.lemmas.List.{append_assoc, append-nil, map-append, drop_more}
 use Rattle.std.proofs.lemmas.Bool.{le-leb, lt-ltb, eq-eqb, and_from}
 use Rattle.rv_isa_laws.specs.Bytes.{little_endian}
-use Rattle.rv_layout_laws.specs.declared.site.Site.{Site}
-use Rattle.rv_layout_laws.specs.declared.site.SiteKind.TheVariants.{Call}
+use Rattle.rv_size_laws.specs.declared.site.Site.{Site}
+use Rattle.rv_size_laws.specs.declared.site.SiteKind.TheVariants.{Call}
 use Rattle.rv_object_laws.specs.Object.{Contents, Progbits, Note, Nobits, Section, size_of, stored}
 use Rattle.rv_object_laws.specs.Valid.{fit_inside}
 use Rattle.rv_link_laws.specs.Moves.{Move, kept}

@@ -1,8 +1,8 @@
 -- The cut of a site.
 
 use Rattle.std.specs.Prelude.{ℕ, ◌-◌, ◌==◌, Bool, ◌&&◌, nat_lt, List, [], ◌∷◌, if◌then◌else◌}
-use Rattle.rv_layout_laws.specs.declared.site.Site.{Site}
-use Rattle.rv_layout_laws.specs.Calls.{is_call}
+use Rattle.rv_size_laws.specs.declared.site.Site.{Site}
+use Rattle.rv_size_laws.specs.Calls.{is_call}
 use Rattle.rv_object_laws.specs.Object.{stored}
 use Rattle.rv_link_laws.specs.CallSites.{link_register}
 use Rattle.rv_shorten.specs.Cut.{Cut}

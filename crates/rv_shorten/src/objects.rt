@@ -1,7 +1,7 @@
 //! Objects, one after another.
 
 ghost use Rattle.std.specs.Prelude.{◌≡◌, length, map, IfOk};
-ghost use Rattle.rv_layout_laws.specs.Calls.{IsText};
+ghost use Rattle.rv_size_laws.specs.Calls.{IsText};
 ghost use Rattle.rv_object_types.specs.View.{object_of};
 ghost use Rattle.rv_link_laws.specs.CallSites.{sites_of};
 ghost use Rattle.rv_link_laws.specs.Shortened.{shortened};
@@ -10,7 +10,7 @@ ghost use Rattle.rv_cut_laws.specs.Walk.{AreWalked, walked};
 
 use crate::object::ShortObject;
 use crate::sites::short_sections;
-use rv_layout_laws::Site;
+use rv_size_laws::Site;
 use rv_object_types::Object;
 use std::alloc::{AllocError, Global};
 

@@ -6,7 +6,7 @@
 ghost use Rattle.std.specs.Prelude.{◌≡◌, ◌+◌, ◌-◌, ◌≤◌, ◌++◌, [], true, length, map, IfOk, OnOk};
 ghost use Rattle.rv_object_laws.specs.Object as said;
 ghost use Rattle.rv_object_types.specs.Sections.{section_of};
-ghost use Rattle.rv_layout_laws.specs.Calls as calls;
+ghost use Rattle.rv_size_laws.specs.Calls as calls;
 ghost use Rattle.rv_shorten.specs.Cut.{are_in_order, move_of};
 ghost use Rattle.rv_cut_laws.specs.Cutting.{AllCut, are_cuts, cut_sections};
 ghost use Rattle.rv_shorten.specs.Sections.{moves_in_all, short_section_of, whole_section_of};
@@ -15,7 +15,7 @@ ghost use Rattle.rv_shorten.specs.SiteCuts as site_cuts;
 
 use crate::cut::Cut;
 use crate::section::ShortSection;
-use rv_layout_laws::{Site, SiteKind};
+use rv_size_laws::{Site, SiteKind};
 use rv_link_sites::link_register;
 use rv_object_types::Section;
 use std::alloc::{AllocError, Global};

@@ -2,11 +2,11 @@
 
 use Rattle.std.proofs.Common.{◌≡◌, ℕ, ◌+◌, ◌≤◌, ◌<◌, List, [], ◌∷◌, sum, length, set, slice_index, refl, ap, subst, sym, ◌∙◌, arith}
 use Rattle.std.proofs.lemmas.List.{set-get_or, drop_all}
-use Rattle.rv_layout_laws.specs.declared.item.Item.{Item}
-use Rattle.rv_layout_laws.specs.Branches.{item_at, of_section}
-use Rattle.rv_layout_laws.specs.Offsets.{rest}
-use Rattle.rv_layout_laws.proofs.OffsetsLemmas.{rest_more}
-use Rattle.rv_layout_laws.proofs.StepsLemmas.{set_either}
+use Rattle.rv_size_laws.specs.declared.item.Item.{Item}
+use Rattle.rv_size_laws.specs.Branches.{item_at, of_section}
+use Rattle.rv_size_laws.specs.Offsets.{rest}
+use Rattle.rv_size_laws.proofs.OffsetsLemmas.{rest_more}
+use Rattle.rv_size_laws.proofs.StepsLemmas.{set_either}
 use Rattle.rv_sizes.specs.Passes.{IsInput, around, AreRests}
 use Rattle.rv_sizes.proofs.PlacesLemmas.{own_size, backward_ends}
 

@@ -4,8 +4,8 @@ use Rattle.std.proofs.Common.{◌≡◌, ℕ, ◌+◌, ◌<◌, Bool, true, ◌&
 use Rattle.std.specs.List.{list_all}
 use Rattle.std.proofs.lemmas.List.{get_or_append_left, get_or_push, map_push, length_push}
 use Rattle.std.proofs.lemmas.List.Folds.{list_all-append}
-use Rattle.rv_layout_laws.specs.declared.item.Item.{Item}
-use Rattle.rv_layout_laws.specs.Branches.{item_at}
+use Rattle.rv_size_laws.specs.declared.item.Item.{Item}
+use Rattle.rv_size_laws.specs.Branches.{item_at}
 use Rattle.rv_sizes.specs.declared.items.Packed.{Packed}
 use Rattle.rv_sizes.specs.declared.items.Packed.TheVariants.{Settled, Other}
 use Rattle.rv_sizes.specs.Items.{is_inside, stands_for}

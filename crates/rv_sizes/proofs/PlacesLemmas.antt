@@ -4,16 +4,16 @@ use Rattle.std.proofs.Common.{◌≡◌, ◌⊎◌, inl, inr, ℕ, zero, suc, �
 use Rattle.std.proofs.lemmas.Bool.{cases_eq, eq-eqb, ne_eqb, ltb-false}
 use Rattle.std.proofs.lemmas.List.{length-set, set-get_or, get_or-set_same, get_or-set_other}
 use Rattle.std.proofs.lemmas.List.Sums.{sum_by-cons}
-use Rattle.rv_layout_laws.specs.declared.item.Item.{Item}
-use Rattle.rv_layout_laws.specs.Offsets.{offset, Reaches, rest}
-use Rattle.rv_layout_laws.specs.Branches.{Offers, half, is_branch, item_at, largest, of_section, distance_of, IsFamily, MayWiden}
-use Rattle.rv_layout_laws.specs.Steps.{Changed, Kept}
-use Rattle.rv_layout_laws.specs.Tables.{forwards_away, backwards_away}
-use Rattle.rv_layout_laws.proofs.ReachingLemmas.{offset_more}
-use Rattle.rv_layout_laws.proofs.OffsetsLemmas.{rest_more}
-use Rattle.rv_layout_laws.proofs.StepsLemmas.{set_holds, set_family}
-use Rattle.rv_layout_laws.proofs.TablesLemmas.{LeavesOthers, forwards_table, backwards_table, forwards_is, backwards_is, offset_most, rest_most, table_most}
-use Rattle.rv_layout_laws.proofs.WideningLemmas.{doubled, doubles, is_branch_below}
+use Rattle.rv_size_laws.specs.declared.item.Item.{Item}
+use Rattle.rv_size_laws.specs.Offsets.{offset, Reaches, rest}
+use Rattle.rv_size_laws.specs.Branches.{Offers, half, is_branch, item_at, largest, of_section, distance_of, IsFamily, MayWiden}
+use Rattle.rv_size_laws.specs.Steps.{Changed, Kept}
+use Rattle.rv_size_laws.specs.Tables.{forwards_away, backwards_away}
+use Rattle.rv_size_laws.proofs.ReachingLemmas.{offset_more}
+use Rattle.rv_size_laws.proofs.OffsetsLemmas.{rest_more}
+use Rattle.rv_size_laws.proofs.StepsLemmas.{set_holds, set_family}
+use Rattle.rv_size_laws.proofs.TablesLemmas.{LeavesOthers, forwards_table, backwards_table, forwards_is, backwards_is, offset_most, rest_most, table_most}
+use Rattle.rv_size_laws.proofs.WideningLemmas.{doubled, doubles, is_branch_below}
 use Rattle.rv_sizes.specs.Passes.{IsInput, around, IsTable, AreStarts, AreRests, IsJudged, Stays, IsVisit}
 
 -- ---- one section's sizes

@@ -3,9 +3,9 @@
 
 use Rattle.std.specs.Prelude.{ℕ, ◌≤◌, Bool, true, ltb, IsTrue, List, length, map, pos}
 use Rattle.std.specs.List.{list_all}
-use Rattle.rv_layout_laws.specs.declared.item.Forms.TheVariants as forms
-use Rattle.rv_layout_laws.specs.declared.item.Item.{Item}
-use Rattle.rv_layout_laws.specs.Branches.{item_at}
+use Rattle.rv_size_laws.specs.declared.item.Forms.TheVariants as forms
+use Rattle.rv_size_laws.specs.declared.item.Item.{Item}
+use Rattle.rv_size_laws.specs.Branches.{item_at}
 use Rattle.rv_sizes.specs.declared.items.Packed.{Packed}
 use Rattle.rv_sizes.specs.declared.items.Packed.TheVariants.{Settled, Other}
 use Rattle.rv_sizes.specs.declared.items.Items.TheInside.{Inside}

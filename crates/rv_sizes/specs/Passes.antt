@@ -2,11 +2,11 @@
 -- left from it on.
 
 use Rattle.std.specs.Prelude.{◌≡◌, ◌⊎◌, ℕ, ◌*◌, ◌^◌, ◌<◌, Bool, true, List, length, slice_index, ℤ}
-use Rattle.rv_layout_laws.specs.declared.item.Item.{Item}
-use Rattle.rv_layout_laws.specs.Offsets.{offset, rest, Reaches}
-use Rattle.rv_layout_laws.specs.Steps.{IsLook}
-use Rattle.rv_layout_laws.specs.Tables.{IsTableAt}
-use Rattle.rv_layout_laws.specs.Branches.{half, is_branch, item_at, largest, of_section, IsFamily, MayWiden, ReachesBy}
+use Rattle.rv_size_laws.specs.declared.item.Item.{Item}
+use Rattle.rv_size_laws.specs.Offsets.{offset, rest, Reaches}
+use Rattle.rv_size_laws.specs.Steps.{IsLook}
+use Rattle.rv_size_laws.specs.Tables.{IsTableAt}
+use Rattle.rv_size_laws.specs.Branches.{half, is_branch, item_at, largest, of_section, IsFamily, MayWiden, ReachesBy}
 
 -- a statement stands in one of so many sections, and its target is a statement of that section
 pub record TargetsItsSection (items : List Item) (sections : ℕ) (item : Item) : Type 0 where

@@ -1,11 +1,11 @@
 //! Which statements the sizes are found for.
 
 ghost use Rattle.std.specs.Prelude.{◌↔◌, ℕ, ◌<◌, IsTrue, length};
-ghost use Rattle.rv_layout_laws.specs.Branches.{item_at};
+ghost use Rattle.rv_size_laws.specs.Branches.{item_at};
 ghost use Rattle.rv_sizes.specs.Passes.{IsInput, TargetsItsSection};
 
 use crate::items::Items;
-use rv_layout_laws::{Forms, Item};
+use rv_size_laws::{Forms, Item};
 
 /// More statements than this there cannot be, so that no section passes 2^62 bytes.
 const MOST_STATEMENTS: usize = (1 << 30) - 1;

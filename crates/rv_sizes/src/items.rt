@@ -2,10 +2,10 @@
 
 ghost use Rattle.std.specs.Prelude.{◌≡◌, ℕ, ◌^◌, ◌<◌, true, List, [], ◌∷◌, ◌++◌, length, IfOk, IfSome, OnErr, OnOk};
 ghost use Rattle.rv_sizes.specs.Items.{is_inside, stands_for};
-ghost use Rattle.rv_layout_laws.specs.declared.item.Item.{Item};
-ghost use Rattle.rv_layout_laws.specs.Branches.{item_at};
+ghost use Rattle.rv_size_laws.specs.declared.item.Item.{Item};
+ghost use Rattle.rv_size_laws.specs.Branches.{item_at};
 
-use rv_layout_laws::{Forms, Item};
+use rv_size_laws::{Forms, Item};
 use std::alloc::{AllocError, Global};
 use std::marker::Model;
 
@@ -30,7 +30,7 @@ pub struct Items {
 
 impl Model for Items {
     ghost use Rattle.std.specs.Prelude.{List};
-    ghost use Rattle.rv_layout_laws.specs.declared.item.Item.{Item};
+    ghost use Rattle.rv_size_laws.specs.declared.item.Item.{Item};
 
     ghost Value = { List Item };
 

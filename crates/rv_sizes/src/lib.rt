@@ -2,7 +2,7 @@
 //!
 //! It takes statements as their sizes go by them (`Item`: a section, forms, a target in that section; `Items`, all of them in
 //! little memory), and gives the bytes of each and the number of passes. The main contract is that of `Family::least`: the
-//! sizes are the least with which each form below a statement's largest reaches (`rv_layout_laws`, `IsLeastGood`), and the
+//! sizes are the least with which each form below a statement's largest reaches (`rv_size_laws`, `IsLeastGood`), and the
 //! passes are at most twice the branches and one. Passes go forwards and backwards in turn, each over all statements once.
 //!
 //! It must not know what statements say, nor objects, nor addresses.

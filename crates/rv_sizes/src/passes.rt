@@ -5,8 +5,8 @@
 //! forwards sees what the statements before it have become, and one backwards what those after it have.
 
 ghost use Rattle.std.specs.Prelude.{◌≡◌, ℕ, ◌+◌, ◌*◌, ◌^◌, ◌<◌, ◌≤◌, ◌≤ℤ◌, pos, neg_ℤ, ◌-ℤ◌, not, length, slice_index, if◌then◌else◌};
-ghost use Rattle.rv_layout_laws.specs.Tables.{forwards_away, backwards_away};
-ghost use Rattle.rv_layout_laws.specs.Branches.{IsFamily, IsGood, IsLeastGood, Widenings, branches, smallest_sizes};
+ghost use Rattle.rv_size_laws.specs.Tables.{forwards_away, backwards_away};
+ghost use Rattle.rv_size_laws.specs.Branches.{IsFamily, IsGood, IsLeastGood, Widenings, branches, smallest_sizes};
 ghost use Rattle.rv_sizes.specs.Passes.{AreRests, AreStarts, IsInput, IsTable, IsVisit};
 
 use crate::items::Items;

@@ -4,11 +4,11 @@
 //! symbol. Ranges are even, so an odd constant reaches by no form.
 
 ghost use Rattle.std.specs.Prelude.{◌≡◌, ◌↔◌, ◌^◌, ◌≤◌, pos, ◌≤ℤ◌, neg_ℤ, IsTrue};
-ghost use Rattle.rv_layout_laws.specs.Offsets.{IsImmediate, Reaches};
-ghost use Rattle.rv_layout_laws.specs.Branches.{Offers, half, largest, smallest};
+ghost use Rattle.rv_size_laws.specs.Offsets.{IsImmediate, Reaches};
+ghost use Rattle.rv_size_laws.specs.Branches.{Offers, half, largest, smallest};
 ghost use Rattle.rv_sizes.specs.Passes.{IsJudged};
 
-use rv_layout_laws::{Forms, Item};
+use rv_size_laws::{Forms, Item};
 
 /// The smallest size that the forms have, in bytes.
 pub(crate) fn smallest_size(forms: Forms) -> u32

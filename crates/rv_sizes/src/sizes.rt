@@ -2,13 +2,13 @@
 
 ghost use Rattle.std.specs.Prelude.{◌≡◌, ◌+◌, ◌*◌, ◌≤◌, ◌<◌, length, slice_index, IfOk};
 ghost use Rattle.std.specs.List.{list_any};
-ghost use Rattle.rv_layout_laws.specs.Branches.{IsLeastGood, branches, is_branch as of_branch, smallest_sizes};
+ghost use Rattle.rv_size_laws.specs.Branches.{IsLeastGood, branches, is_branch as of_branch, smallest_sizes};
 ghost use Rattle.rv_sizes.specs.Passes.{IsInput};
 
 use crate::items::Items;
 use crate::passes::settle;
 use crate::reach::smallest_size;
-use rv_layout_laws::Forms;
+use rv_size_laws::Forms;
 use std::alloc::{AllocError, Global};
 
 /// A size for each statement, and how long it took to find them.

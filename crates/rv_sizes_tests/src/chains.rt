@@ -1,6 +1,6 @@
 //! Chains in which each widened branch pushes the next out of reach.
 
-use rv_layout_laws::{Forms, Item};
+use rv_size_laws::{Forms, Item};
 use rv_sizes::{Family, Items, is_input};
 use std::alloc::{AllocError, Global};
 use std::test::Fail;

@@ -1,6 +1,6 @@
 //! Branches at the edges of their reach.
 
-use rv_layout_laws::{Forms, Item};
+use rv_size_laws::{Forms, Item};
 use rv_sizes::{Family, Items, is_input};
 use std::alloc::{AllocError, Global};
 use std::test::Fail;

@@ -1,7 +1,7 @@
 //! The jobs of the program that say something of sources: what is wrong with them, what their lines become, and what a
 //! code means.
 //!
-//! Main functions: `check_files`, `list`, `explain`. What they say is that of `rv_report`, for people, as compilers
+//! Main functions: `check_files`, `list`, `explain`. What they say is that of `rv_check`, for people, as compilers
 //! write it, or in JSON; that the first fault is the one of a
 //! build is said by its clause. It does not know the words of a command line.
 //!

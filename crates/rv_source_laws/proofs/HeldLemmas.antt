@@ -9,7 +9,7 @@ use Rattle.rv_statement_laws.specs.Statement.{StatementKind, Label, Numbered, In
 use Rattle.rv_unit_laws.specs.Contributions.{Contribution, Bytes, contribution}
 use Rattle.rv_unit_laws.specs.Sections.{Section, is_nobits, section_at, current_section}
 use Rattle.rv_unit_laws.specs.Tables.{Tables, at_start, here, value_by_tables, counted, string_bytes, after, tables, stood, opened_of}
-use Rattle.rv_text_laws.specs.Codes.{faulty_if, lowest}
+use Rattle.rv_expression_laws.specs.Codes.{faulty_if, lowest}
 use Rattle.rv_unit_laws.specs.Faults.{StatementFault, at_line, value_faults, size_faults, past_section, contribution_faults, directive_faults, faults, first_fault_from, first_unit_fault}
 use Rattle.rv_source_laws.specs.Located.{Located, located_from}
 use Rattle.rv_unit_laws.proofs.OpenedLemmas.{after_opened}

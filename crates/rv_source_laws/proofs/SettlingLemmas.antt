@@ -2,8 +2,8 @@
 
 use Rattle.std.proofs.Common.{◌≡◌, ℕ, zero, suc, List, [], ◌∷◌, length, refl, ap, arith}
 use Rattle.std.specs.Prelude.{slice_index}
-use Rattle.rv_layout_laws.specs.Branches.{Offers, largest, item_at, IsLeastGood}
-use Rattle.rv_layout_laws.specs.declared.item.Item.{Item}
+use Rattle.rv_size_laws.specs.Branches.{Offers, largest, item_at, IsLeastGood}
+use Rattle.rv_size_laws.specs.declared.item.Item.{Item}
 use Rattle.rv_source_laws.specs.Located.{Located}
 use Rattle.rv_source_laws.specs.Sizes.{settled}
 

@@ -3,7 +3,7 @@
 
 use Rattle.std.specs.Prelude.{◌≡◌, ℕ, ◌%◌, Bool, true, false, not, ◌&&◌, List, ◌++◌, filter, flat_map, map, Option, Some, None, is_some, option_and_then, codes, if◌then◌else◌}
 use Rattle.rv_map_laws.specs.Globals.{AreDistinct, shown, linker_symbols}
-use Rattle.rv_text_laws.specs.Values.{Known, InSection, Open, Refused}
+use Rattle.rv_expression_laws.specs.Values.{Known, InSection, Open, Refused}
 use Rattle.rv_statement_laws.specs.Statement.{StatementKind, Label, Directs, Statement, Sets}
 use Rattle.rv_unit_laws.specs.Bindings.{is_global}
 use Rattle.rv_unit_laws.specs.Sections.{goes_to_text}

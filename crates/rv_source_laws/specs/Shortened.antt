@@ -4,17 +4,17 @@
 use Rattle.std.specs.Prelude.{◌≡◌, ℕ, ◌+◌, ◌-◌, ◌==◌, pos, Bool, true, false, ◌&&◌, nat_lt, IsTrue, List, [], ◌∷◌, ◌++◌, flat_map, sum_by, Option, Some, None, option_map, option_and_then, if◌then◌else◌}
 use Rattle.std.specs.Int.{w64, int_wrap}
 use Rattle.std.specs.List.{AllByRecursion, find, list_any}
-use Rattle.rv_layout_laws.specs.Sites.{padding_site, size_at}
-use Rattle.rv_text_laws.specs.Expression.{Primary, Symbol}
-use Rattle.rv_text_laws.specs.Values.{Value, Symbolic}
+use Rattle.rv_size_laws.specs.Sites.{padding_site, size_at}
+use Rattle.rv_expression_laws.specs.Expression.{Primary, Symbol}
+use Rattle.rv_expression_laws.specs.Values.{Value, Symbolic}
 use Rattle.rv_statement_laws.specs.declared.mnemonic.Mnemonic.{Mnemonic}
 use Rattle.rv_statement_laws.specs.declared.mnemonic.Mnemonic.TheVariants.{Call}
 use Rattle.rv_statement_laws.specs.Statement.{StatementKind, Instruction, Directs, Statement, Operand, Register, Sets}
 use Rattle.rv_unit_laws.specs.Sections.{goes_to_text}
 use Rattle.rv_unit_laws.specs.Tables.{Tables, Assignment, Definition, assigned_ever, is_location, sure_definition, alignment_of}
-use Rattle.rv_layout_laws.specs.declared.site.Site.{Site}
-use Rattle.rv_layout_laws.specs.declared.site.SiteKind.TheVariants as sites
-use Rattle.rv_layout_laws.specs.Calls.{IsGreatestClosed}
+use Rattle.rv_size_laws.specs.declared.site.Site.{Site}
+use Rattle.rv_size_laws.specs.declared.site.SiteKind.TheVariants as sites
+use Rattle.rv_size_laws.specs.Calls.{IsGreatestClosed}
 use Rattle.rv_map_laws.specs.Map.{Map}
 use Rattle.rv_source_laws.specs.Located.{Located}
 use Rattle.rv_source_laws.specs.Compressed.{is_compressed_code}

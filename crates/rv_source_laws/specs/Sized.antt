@@ -6,7 +6,7 @@ use Rattle.std.specs.Prelude.{◌≡◌, ℕ, suc, Bool, true, false, ◌==◌, 
 use Rattle.rv_statement_laws.specs.declared.mnemonic.Mnemonic.{Mnemonic}
 use Rattle.rv_statement_laws.specs.declared.mnemonic.Mnemonic.TheVariants.{Call, Tail, Jump}
 use Rattle.rv_statement_laws.specs.Statement.{StatementKind, Instruction, Directs, Statement, Expression, Directive}
-use Rattle.rv_text_laws.specs.Values.{Value}
+use Rattle.rv_expression_laws.specs.Values.{Value}
 use Rattle.rv_unit_laws.specs.Contributions.{Contribution, Alignment, contribution}
 use Rattle.rv_unit_laws.specs.Tables.{tables, at_start, alignment_of}
 use Rattle.rv_map_laws.specs.Map.{Map}

@@ -6,15 +6,15 @@ use Rattle.std.specs.Int.{w64, int_wrap}
 use Rattle.std.specs.List.{find}
 use Rattle.rv_isa.specs.declared.operation.BranchOperation.{BranchOperation}
 use Rattle.rv_isa.specs.declared.operation.BranchOperation.TheVariants.{Beq, Bne}
-use Rattle.rv_text_laws.specs.Values.{Value, Symbolic}
+use Rattle.rv_expression_laws.specs.Values.{Value, Symbolic}
 use Rattle.rv_statement_laws.specs.declared.mnemonic.Mnemonic.{Mnemonic}
 use Rattle.rv_statement_laws.specs.declared.mnemonic.Mnemonic.TheVariants.{Branch, Jal, J, ZeroBranch, SwappedBranch, Call, Tail, Jump}
 use Rattle.rv_statement_laws.specs.declared.pseudo.ZeroBranchOperation.TheVariants.{Beqz, Bnez}
 use Rattle.rv_statement_laws.specs.Statement.{StatementKind, Instruction, Operand, Register, Target, Expression}
-use Rattle.rv_layout_laws.specs.declared.item.Forms.{Forms}
-use Rattle.rv_layout_laws.specs.declared.item.Forms.TheVariants.{Settled, CompressedBranch, Branch as FullBranch, CompressedJump}
-use Rattle.rv_layout_laws.specs.declared.item.Item.{Item}
-use Rattle.rv_layout_laws.specs.Branches.{IsLeastGood}
+use Rattle.rv_size_laws.specs.declared.item.Forms.{Forms}
+use Rattle.rv_size_laws.specs.declared.item.Forms.TheVariants.{Settled, CompressedBranch, Branch as FullBranch, CompressedJump}
+use Rattle.rv_size_laws.specs.declared.item.Item.{Item}
+use Rattle.rv_size_laws.specs.Branches.{IsLeastGood}
 use Rattle.rv_unit_laws.specs.Tables.{Tables, Definition, sure_definition, value_by_tables}
 use Rattle.rv_source_laws.specs.Located.{Located}
 use Rattle.rv_source_laws.specs.Program.{place_of}

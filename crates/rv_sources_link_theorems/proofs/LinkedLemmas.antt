@@ -6,7 +6,7 @@ use Rattle.std.specs.Prelude.{ℤ, Some, ◌&&◌, not, IsTrue, if◌then◌else
 use Rattle.std.specs.List.{AllByRecursion}
 use Rattle.rv_list_laws.proofs.EachLemmas.{each_map, each_split}
 use Rattle.rv_list_laws.proofs.TruthLemmas.{and_first}
-use Rattle.rv_layout_laws.specs.Alignment.{aligned}
+use Rattle.rv_size_laws.specs.Alignment.{aligned}
 use Rattle.rv_isa_laws.specs.Bytes.{zeros}
 use Rattle.rv_statement_laws.specs.Statement.{Statement}
 use Rattle.rv_unit_laws.specs.declared.section_type.SectionType.{SectionType}

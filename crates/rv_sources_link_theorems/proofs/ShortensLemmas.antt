@@ -8,13 +8,13 @@ use Rattle.std.specs.List.{AllByRecursion, slice_get, list_any}
 use Rattle.rv_list_laws.proofs.FilterLemmas.{each_filter}
 use Rattle.rv_list_laws.proofs.FindLemmas.{each_find}
 use Rattle.rv_list_laws.proofs.EachLemmas.{each_append}
-use Rattle.rv_layout_laws.specs.Sites.{padding_site, size_at}
-use Rattle.rv_text_laws.specs.Expression.{Primary}
+use Rattle.rv_size_laws.specs.Sites.{padding_site, size_at}
+use Rattle.rv_expression_laws.specs.Expression.{Primary}
 use Rattle.rv_statement_laws.specs.Statement.{Statement}
 use Rattle.rv_unit_laws.specs.Sections.{Section as SourceSection, goes_to_text as source_text}
 use Rattle.rv_unit_laws.specs.Tables.{tables}
-use Rattle.rv_layout_laws.specs.declared.site.Site.{Site as Spot}
-use Rattle.rv_layout_laws.specs.Calls.{IsGreatestClosed, is_call as is_call_spot}
+use Rattle.rv_size_laws.specs.declared.site.Site.{Site as Spot}
+use Rattle.rv_size_laws.specs.Calls.{IsGreatestClosed, is_call as is_call_spot}
 use Rattle.rv_collect_laws.specs.Graph.{AreDrops}
 use Rattle.rv_source_laws.specs.Collected.{graph_of}
 use Rattle.rv_source_laws.specs.Located.{Located, has_row}

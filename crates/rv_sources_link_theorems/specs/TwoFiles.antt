@@ -4,8 +4,8 @@
 use Rattle.std.specs.Prelude.{ℕ, zero, suc, pos, true, false, List, [], ◌∷◌, Some, None, codes, bytes_eq, if◌then◌else◌}
 use Rattle.rv_isa.specs.declared.kind.Kind.{Kind}
 use Rattle.rv_isa.specs.declared.kind.Kind.TheVariants.{Align, Abs32, Abs64, Add32, Sub32}
-use Rattle.rv_text_laws.specs.declared.operator.BinaryOperator.TheVariants.{Add, Subtract}
-use Rattle.rv_text_laws.specs.Expression.{Primary, Literal, Symbol as Named, Here, Leaf, Binary}
+use Rattle.rv_expression_laws.specs.declared.operator.BinaryOperator.TheVariants.{Add, Subtract}
+use Rattle.rv_expression_laws.specs.Expression.{Primary, Literal, Symbol as Named, Here, Leaf, Binary}
 use Rattle.rv_statement_laws.specs.declared.directive.Choice.TheVariants.{Norvc}
 use Rattle.rv_statement_laws.specs.declared.directive.Standard.TheVariants.{Text, Data}
 use Rattle.rv_statement_laws.specs.declared.mnemonic.Mnemonic.TheVariants.{Ecall}

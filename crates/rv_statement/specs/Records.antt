@@ -2,7 +2,7 @@
 
 use Rattle.std.specs.Prelude.{◌≡◌, ℕ, ◌+◌, ◌≤◌, Bool, nat_le, List, map, length, get_or}
 use Rattle.std.specs.List.{slice_range}
-use Rattle.rv_text_laws.specs.Bytes.{digits_value}
+use Rattle.rv_expression_laws.specs.Bytes.{digits_value}
 use Rattle.rv_statement_laws.specs.Statement as specs
 use Rattle.rv_statement.specs.View.{plain_of, statement_of}
 use Rattle.rv_statement.specs.declared.statement.Plain.{Plain}

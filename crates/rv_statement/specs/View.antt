@@ -2,9 +2,9 @@
 
 use Rattle.std.specs.Prelude.{ℕ, true, false, List, [], ◌∷◌, ◌++◌, map, option_map, box_value}
 use Rattle.std.specs.Borrow.{Bor}
-use Rattle.rv_text_laws.specs.Bytes.{digits_value}
-use Rattle.rv_text_laws.specs.Expression.{Tree}
-use Rattle.rv_text.specs.Expr.{tree_of_expr}
+use Rattle.rv_expression_laws.specs.Bytes.{digits_value}
+use Rattle.rv_expression_laws.specs.Expression.{Tree}
+use Rattle.rv_expression.specs.Expr.{tree_of_expr}
 use Rattle.rv_lexer.specs.Token.{string_bytes}
 use Rattle.rv_parcel.specs.declared.parcel.ParcelOperation.{ParcelOperation}
 use Rattle.rv_parcel.specs.declared.parcel.OperandShape.{OperandShape}

@@ -4,7 +4,7 @@
 //! that is made again takes a few bytes.
 
 ghost use Rattle.std.specs.Prelude.{◌≡◌, ◌≤◌, ◌+◌, length, IfSome};
-ghost use Rattle.rv_text_laws.specs.Bytes.{digits_value};
+ghost use Rattle.rv_expression_laws.specs.Bytes.{digits_value};
 ghost use Rattle.rv_statement_laws.specs.Statement.{Numbered};
 ghost use Rattle.rv_statement.specs.View.{statement_kind};
 ghost use Rattle.rv_statement.specs.Records.{part, plain_in, part_end, packed_kind, IsPacked};

@@ -12,7 +12,7 @@ use rv_statement_laws::{
     Binding, Choice, CompareOperation, Function, Standard, SwappedBranchOperation, UnaryOperation,
     Width, ZeroBranchOperation,
 };
-use rv_text::Expr;
+use rv_expression::Expr;
 
 /// The most statements of a source.
 pub const MOST_STATEMENTS: usize = 1 << 22;

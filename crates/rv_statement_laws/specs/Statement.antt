@@ -2,7 +2,7 @@
 -- Later kinds are further cases.
 
 use Rattle.std.specs.Prelude.{ℕ, List, Bool, Option}
-use Rattle.rv_text_laws.specs.Expression.{Tree}
+use Rattle.rv_expression_laws.specs.Expression.{Tree}
 use Rattle.rv_statement_laws.specs.declared.mnemonic.Mnemonic.{Mnemonic}
 use Rattle.rv_statement_laws.specs.declared.pseudo.Function.{Function}
 use Rattle.rv_isa.specs.declared.operation.AccessSet.{AccessSet}

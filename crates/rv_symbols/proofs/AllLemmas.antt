@@ -6,8 +6,8 @@ use Rattle.std.specs.List.{AllByRecursion}
 use Rattle.std.specs.Str.{bytes_eq}
 use Rattle.rv_list_laws.proofs.EachLemmas.{each_by_index, get_each}
 use Rattle.rv_list_laws.proofs.TestsLemmas.{get_all}
-use Rattle.rv_text_laws.specs.Bytes.{digits_value}
-use Rattle.rv_text_laws.specs.Expression.{Primary, Literal, Symbol as Named, Here, Reference}
+use Rattle.rv_expression_laws.specs.Bytes.{digits_value}
+use Rattle.rv_expression_laws.specs.Expression.{Primary, Literal, Symbol as Named, Here, Reference}
 use Rattle.rv_statement_laws.specs.Statement.{Statement}
 use Rattle.rv_unit_laws.specs.Tables as laws
 use Rattle.rv_unit_laws.specs.Tables.{Tables, NumericLabel, at_start, tables, definition_at, numeric_label_before, numeric_label_after}

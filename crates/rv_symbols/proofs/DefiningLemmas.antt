@@ -9,8 +9,8 @@ use Rattle.rv_list_laws.proofs.ElementsLemmas.{same_bytes}
 use Rattle.rv_list_laws.proofs.EachLemmas.{get_each, each_by_index}
 use Rattle.rv_list_laws.proofs.FindLemmas.{find_test, found_any, found_each}
 use Rattle.rv_map_laws.specs.Globals.{is_one_of}
-use Rattle.rv_text_laws.specs.Expression.{Symbol as Named}
-use Rattle.rv_text_laws.specs.Values.{Meaning, Known, InSection as InData, Open as OpenAddress, Refused, add}
+use Rattle.rv_expression_laws.specs.Expression.{Symbol as Named}
+use Rattle.rv_expression_laws.specs.Values.{Meaning, Known, InSection as InData, Open as OpenAddress, Refused, add}
 use Rattle.rv_statement_laws.specs.Statement.{StatementKind, Label, Numbered, Instruction, Directs, Statement, Expression, Enters, Opens, Binds, Sets, Chooses, Ignored, Aligns, Emits}
 use Rattle.rv_unit_laws.specs.Tables as laws
 use Rattle.rv_unit_laws.specs.Tables.{Tables, Labelled, Assignment, at_start, tables, definition_at, label_of, assigned_ever, assigned_before, is_location}

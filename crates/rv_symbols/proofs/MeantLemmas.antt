@@ -2,8 +2,8 @@
 
 use Rattle.std.proofs.Common.{◌≡◌, ℕ, Bool, true, false, List, map, refl, sym, ap, ◌∙◌, subst, Option, Some, None}
 use Rattle.std.specs.Prelude.{reverse, nat_lt, ◌&&◌, ◌==◌}
-use Rattle.rv_text_laws.specs.Bytes.{digits_value}
-use Rattle.rv_text_laws.specs.Expression.{Literal, Symbol as Named, Here, Reference}
+use Rattle.rv_expression_laws.specs.Bytes.{digits_value}
+use Rattle.rv_expression_laws.specs.Expression.{Literal, Symbol as Named, Here, Reference}
 use Rattle.rv_statement_laws.specs.Statement.{Statement}
 use Rattle.rv_unit_laws.specs.Tables.{Tables, Definition, Labelled, Assignment, NumericLabel, at_start, tables, definition, definition_at, numeric_definition, numeric_label_before, numeric_label_after, label_of, assigned_ever, is_location}
 use Rattle.rv_unit_laws.proofs.BeforeLemmas.{before_start}

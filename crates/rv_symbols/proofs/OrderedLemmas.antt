@@ -6,8 +6,8 @@ use Rattle.std.specs.Prelude.{◌⊎◌, flat_map, unwrap_or, if◌then◌else�
 use Rattle.std.specs.List.{AllByRecursion}
 use Rattle.rv_list_laws.proofs.ElementsLemmas.{cons_parts}
 use Rattle.rv_isa.specs.declared.kind.Kind.{Kind}
-use Rattle.rv_text_laws.specs.Expression.{Primary, Here}
-use Rattle.rv_text_laws.specs.Values.{Value, Constant, Symbolic, Difference, Faulty}
+use Rattle.rv_expression_laws.specs.Expression.{Primary, Here}
+use Rattle.rv_expression_laws.specs.Values.{Value, Constant, Symbolic, Difference, Faulty}
 use Rattle.rv_statement_laws.specs.declared.pseudo.Function.TheVariants.{Hi, Lo, PcrelHi, PcrelLo}
 use Rattle.rv_statement_laws.specs.Statement.{StatementKind, Label, Numbered, Instruction, Directs, Statement, Expression, Operand, Register, Value as Of_value, Applied, Target, Accesses, Word, Quoted, Values, Strings, Zeros}
 use Rattle.rv_pseudo_laws.specs.Code.{Part as CodePart, Closed, Open as OpenPart, Joined, code}

@@ -10,7 +10,7 @@ use Rattle.rv_list_laws.proofs.TestsLemmas.{any_left, any_right}
 use Rattle.rv_list_laws.proofs.EachLemmas.{get_each, each_append, each_mapped}
 use Rattle.rv_list_laws.proofs.FilterLemmas.{each_filter_weaker}
 use Rattle.rv_map_laws.specs.Globals.{is_one_of}
-use Rattle.rv_text_laws.specs.Expression.{Symbol as Named}
+use Rattle.rv_expression_laws.specs.Expression.{Symbol as Named}
 use Rattle.rv_statement_laws.specs.declared.directive.Binding.{Binding}
 use Rattle.rv_statement_laws.specs.declared.directive.Binding.TheVariants.{Local, Global, Weak}
 use Rattle.rv_unit_laws.specs.Bindings as source

@@ -16,7 +16,7 @@ use Rattle.rv_unit.specs.Unit.{said}
 use Rattle.rv_unit.specs.Items.{offsets_of}
 use Rattle.rv_source_laws.specs.Located.{Located, located_from}
 use Rattle.rv_assemble_laws.specs.LaidStatements.{LaidStatement}
-use Rattle.rv_text_laws.specs.Values.{add}
+use Rattle.rv_expression_laws.specs.Values.{add}
 use Rattle.rv_object_laws.specs.declared.symbol.Definition.TheVariants.{InSection, Skipped}
 use Rattle.rv_assemble_laws.specs.Symbols.{laid_at, after_found}
 use Rattle.rv_symbols.specs.declared.source.Source.{Source}

@@ -9,8 +9,8 @@ use Rattle.std.proofs.lemmas.List.Folds.{list_any-append}
 use Rattle.rv_list_laws.proofs.ElementsLemmas.{same_bytes, get_front}
 use Rattle.rv_list_laws.proofs.TestsLemmas.{any_left, any_right}
 use Rattle.rv_list_laws.proofs.EachLemmas.{get_each}
-use Rattle.rv_text_laws.specs.Expression.{Primary, Literal, Symbol as Named, Here, Reference}
-use Rattle.rv_text_laws.specs.Values.{add}
+use Rattle.rv_expression_laws.specs.Expression.{Primary, Literal, Symbol as Named, Here, Reference}
+use Rattle.rv_expression_laws.specs.Values.{add}
 use Rattle.rv_unit_laws.specs.Tables as laws
 use Rattle.rv_unit_laws.specs.Tables.{Tables, gives_way}
 use Rattle.rv_object_laws.specs.declared.symbol.Definition.{Definition as Defined}

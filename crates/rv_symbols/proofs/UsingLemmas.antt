@@ -14,7 +14,7 @@ use Rattle.rv_list_laws.proofs.TruthLemmas.{or_false}
 use Rattle.rv_map_laws.specs.Globals.{is_one_of}
 use Rattle.rv_map_laws.specs.Name.{is_name}
 use Rattle.rv_assemble_laws.specs.ShownNames.{primary_names, used_names, are_shown}
-use Rattle.rv_text_laws.specs.Expression.{Primary, Literal, Symbol as Named, Here, Reference}
+use Rattle.rv_expression_laws.specs.Expression.{Primary, Literal, Symbol as Named, Here, Reference}
 use Rattle.rv_statement.specs.View.{now_of}
 use Rattle.rv_unit_laws.specs.Tables as laws
 use Rattle.rv_unit_laws.specs.Tables.{Tables}

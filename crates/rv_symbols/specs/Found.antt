@@ -3,7 +3,7 @@
 use Rattle.std.specs.Prelude.{◌≡◌, ℕ, ◌+◌, ◌≤◌, ◌<◌, Bool, true, false, ◌&&◌, ◌==◌, ⊤, if◌then◌else◌, List, [], ◌∷◌, ◌++◌, Option, Some, None, slice_index_or}
 use Rattle.std.specs.List.{list_any}
 use Rattle.rv_map_laws.specs.Globals.{is_one_of}
-use Rattle.rv_text_laws.specs.Expression.{Primary, Symbol as Named, Here}
+use Rattle.rv_expression_laws.specs.Expression.{Primary, Symbol as Named, Here}
 use Rattle.rv_unit_laws.specs.Tables.{Tables, definition}
 use Rattle.rv_unit_laws.specs.Tables as laws
 use Rattle.rv_object_laws.specs.declared.symbol.Definition.{Definition as Defined}

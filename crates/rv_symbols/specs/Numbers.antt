@@ -1,7 +1,7 @@
 -- The indices of symbols.
 
 use Rattle.std.specs.Prelude.{ℕ, suc, ◌+◌, Bool, ◌&&◌, List, [], ◌∷◌, ◌++◌, length, flat_map, position, Option, Some, None, unwrap_or, bytes_eq, if◌then◌else◌}
-use Rattle.rv_text_laws.specs.Expression.{Primary, Symbol as Named}
+use Rattle.rv_expression_laws.specs.Expression.{Primary, Symbol as Named}
 use Rattle.rv_unit_laws.specs.Tables.{Tables, definition}
 use Rattle.rv_unit_laws.specs.Tables as laws
 use Rattle.rv_object_laws.specs.Object.{Symbol}

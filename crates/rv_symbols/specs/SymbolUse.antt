@@ -2,7 +2,7 @@
 
 use Rattle.std.specs.Prelude.{◌≡◌, Bool, true, not, ◌||◌, List, map, is_some}
 use Rattle.std.specs.List.{list_all}
-use Rattle.rv_text.specs.Nodes.{symbol_of}
+use Rattle.rv_expression.specs.Nodes.{symbol_of}
 use Rattle.rv_unit_laws.specs.Tables.{Tables, definition}
 use Rattle.rv_assemble_laws.specs.Symbols as laws
 use Rattle.rv_symbols.specs.declared.symbol_use.SymbolUse.{SymbolUse}

@@ -4,7 +4,7 @@
 //! symbols.
 
 ghost use Rattle.std.specs.Prelude.{◌≡◌, ◌+◌, ◌^◌, ◌<◌, ◌++◌, ℕ, List, [], ◌∷◌, length, map, option_map, IfOk, OnOk};
-ghost use Rattle.rv_text.specs.Nodes.{symbol_of};
+ghost use Rattle.rv_expression.specs.Nodes.{symbol_of};
 ghost use Rattle.rv_statement.specs.View.{now_of};
 ghost use Rattle.rv_unit_laws.specs.Tables.{Tables};
 ghost use Rattle.rv_unit.specs.Unit.{definition_of};
@@ -22,7 +22,7 @@ use crate::source::Source;
 use crate::symbol_use::SymbolUse;
 use indexmap::IndexSet;
 use rv_object_types::{Definition as Defined, Symbol};
-use rv_text::Symbol as Named;
+use rv_expression::Symbol as Named;
 use rv_unit::Definition;
 use std::alloc::{AllocError, Global};
 use std::collections::HashMap;

@@ -17,7 +17,7 @@ ghost use Rattle.rv_symbols.specs.Settings.{AreFirsts};
 use crate::settings::FirstSettings;
 use rv_object_types::{Binding as ObjectBinding, Definition};
 use rv_statement::{Statement, StatementKind};
-use rv_text::SymbolMeaning;
+use rv_expression::SymbolMeaning;
 use rv_unit::{Assignment, Binding, Item, Unit};
 use std::alloc::{AllocError, Global};
 

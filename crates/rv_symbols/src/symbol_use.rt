@@ -1,6 +1,6 @@
 //! The symbols that relocations name.
 
-use rv_text::Symbol;
+use rv_expression::Symbol;
 
 /// A symbol as a relocation of a loaded section names it.
 #[derive(Clone, Copy, Debug, PartialEq, Eq, Drop)]

@@ -1,7 +1,7 @@
 //! What uses of symbols mean in their file.
 
 ghost use Rattle.std.specs.Prelude.{◌≡◌, ◌<◌, ◌≤◌, ◌+◌, ◌-◌, ◌||◌, ◌==◌, ℕ, false, true, length, map, option_map, slice_index_or, IfOk, OnOk};
-ghost use Rattle.rv_text.specs.Nodes.{symbol_of};
+ghost use Rattle.rv_expression.specs.Nodes.{symbol_of};
 ghost use Rattle.rv_statement.specs.View.{now_of};
 ghost use Rattle.rv_unit_laws.specs.Tables.{Tables, tables};
 ghost use Rattle.rv_unit.specs.Unit.{said, definition_of, IsFilled, IsScope};
@@ -13,7 +13,7 @@ ghost use Rattle.rv_symbols.specs.Found.{definition_in, is_here, next_ordinal, m
 
 use crate::symbol_use::SymbolUse;
 use indexmap::IndexSet;
-use rv_text::Symbol;
+use rv_expression::Symbol;
 use rv_unit::{Definition, Scope, Unit};
 use std::alloc::{AllocError, Global};
 

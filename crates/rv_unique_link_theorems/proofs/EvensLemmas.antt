@@ -6,8 +6,8 @@ use Rattle.std.specs.List.{AllByRecursion, list_all, slice_get}
 use Rattle.std.proofs.lemmas.Bool.{and_parts, eqb-true}
 use Rattle.std.proofs.lemmas.List.{length-append}
 use Rattle.rv_list_laws.proofs.EachLemmas.{each_left, each_right, each_get}
-use Rattle.rv_layout_laws.specs.Alignment.{aligned}
-use Rattle.rv_layout_laws.proofs.AlignmentLemmas.{aligned_even}
+use Rattle.rv_size_laws.specs.Alignment.{aligned}
+use Rattle.rv_size_laws.proofs.AlignmentLemmas.{aligned_even}
 use Rattle.rv_object_laws.specs.declared.symbol.Definition.{Definition}
 use Rattle.rv_object_laws.specs.declared.symbol.Definition.TheVariants as definitions
 use Rattle.rv_object_laws.specs.Object.{Contents, Relocation, Section, Object, size_of}

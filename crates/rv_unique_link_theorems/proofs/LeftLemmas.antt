@@ -3,7 +3,7 @@
 use Rattle.std.proofs.Common.{◌≡◌, ℕ, zero, suc, Bool, true, false, List, [], ◌∷◌, map, refl, sym, ap, subst, ◌∙◌}
 use Rattle.std.specs.Prelude.{if◌then◌else◌}
 use Rattle.std.specs.List.{AllByRecursion, slice_get}
-use Rattle.rv_layout_laws.proofs.ShorteningLemmas.{one_greatest_closed}
+use Rattle.rv_size_laws.proofs.ShorteningLemmas.{one_greatest_closed}
 use Rattle.rv_object_laws.specs.declared.row.Row.{Row}
 use Rattle.rv_object_laws.specs.Object.{Section, Object}
 use Rattle.rv_link_laws.specs.Inputs.{goes_to_text}

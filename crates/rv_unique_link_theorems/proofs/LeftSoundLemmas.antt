@@ -5,8 +5,8 @@ use Rattle.std.specs.Prelude.{IsTrue}
 use Rattle.std.specs.List.{AllByRecursion}
 use Rattle.std.proofs.lemmas.Bool.{and_from}
 use Rattle.rv_list_laws.proofs.EachLemmas.{each_from_both, each_get}
-use Rattle.rv_layout_laws.specs.declared.site.Site.{Site}
-use Rattle.rv_layout_laws.specs.Calls.{IsText}
+use Rattle.rv_size_laws.specs.declared.site.Site.{Site}
+use Rattle.rv_size_laws.specs.Calls.{IsText}
 use Rattle.rv_object_laws.specs.Object.{Section, Object}
 use Rattle.rv_object_laws.specs.Valid.{is_section_alignment, fit_inside, are_paddings}
 use Rattle.rv_link_laws.specs.Moves.{Move}

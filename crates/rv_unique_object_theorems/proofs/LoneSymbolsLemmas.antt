@@ -12,7 +12,7 @@ use Rattle.rv_list_laws.proofs.FilterLemmas.{each_filter}
 use Rattle.rv_list_laws.proofs.EachLemmas.{each_append, each_mapped}
 use Rattle.rv_map_laws.specs.Globals.{is_one_of}
 use Rattle.rv_statement_laws.specs.Statement.{StatementKind, Directs, Sets}
-use Rattle.rv_text_laws.specs.Values.{Meaning, Known, InSection as InData, Open as OpenAddress, Refused}
+use Rattle.rv_expression_laws.specs.Values.{Meaning, Known, InSection as InData, Open as OpenAddress, Refused}
 use Rattle.rv_unit_laws.specs.Bindings.{is_shared}
 use Rattle.rv_unit_laws.specs.Tables.{Tables, Assignment, assigned_ever}
 use Rattle.rv_source_laws.specs.Exports.{defined_name}

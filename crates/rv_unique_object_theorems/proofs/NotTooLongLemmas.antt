@@ -6,7 +6,7 @@ use Rattle.std.specs.List.{AllByRecursion}
 use Rattle.std.proofs.lemmas.Bool.{le-ltb, eq-eqb}
 use Rattle.rv_list_laws.proofs.EachLemmas.{each_map}
 use Rattle.rv_list_laws.proofs.NumbersLemmas.{eq_swap}
-use Rattle.rv_text_laws.specs.Codes.{limit}
+use Rattle.rv_expression_laws.specs.Codes.{limit}
 use Rattle.rv_statement_laws.specs.Statement.{Statement}
 use Rattle.rv_unit_laws.specs.Sections.{Section}
 use Rattle.rv_unit_laws.specs.Tables.{at_start, tables, opened_of, longest_section}

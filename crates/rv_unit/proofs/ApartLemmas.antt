@@ -4,8 +4,8 @@ use Rattle.std.proofs.Common.{◌≡◌, ℕ, suc, Bool, true, false, cond, ◌&
 use Rattle.std.specs.Prelude.{is_some, if◌then◌else◌}
 use Rattle.std.specs.Str.{bytes_eq}
 use Rattle.std.proofs.lemmas.Bool.{not-true}
-use Rattle.rv_text_laws.specs.Expression.{Literal, Symbol, Here, Reference}
-use Rattle.rv_text_laws.specs.Values.{Meaning, Known, InSection, Open, Refused, Value, Constant, Symbolic, Difference, Faulty, add}
+use Rattle.rv_expression_laws.specs.Expression.{Literal, Symbol, Here, Reference}
+use Rattle.rv_expression_laws.specs.Values.{Meaning, Known, InSection, Open, Refused, Value, Constant, Symbolic, Difference, Faulty, add}
 use Rattle.rv_statement_laws.specs.Statement.{StatementKind, Label, Numbered, Instruction, Directs, Statement, Expression, Directive, Sets}
 use Rattle.rv_unit_laws.specs.Sections.{entered_by}
 use Rattle.rv_unit_laws.specs.Tables.{Tables, Labelled, Assignment, here, value_by_tables, opened_of, stands, label_of, assigned_before, assigned_ever, assigned_first, assigned_later, labelled, own_named, assigned, assigned_by, is_defined, has_location, may_set, with_assignment, with_label, with_section, after_directive, after, after_all, at_start, tables, Definition, definition_at, assigned_definition, labelled_definition, first_definition}

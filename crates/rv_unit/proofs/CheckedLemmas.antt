@@ -5,7 +5,7 @@ use Rattle.rv_fault.specs.declared.source_fault.SourceCode.{SourceCode}
 use Rattle.rv_fault.specs.SourceFault.{source_fault_number, IsLowest}
 use Rattle.rv_statement_laws.specs.Statement.{Statement as SpecStatement}
 use Rattle.rv_unit_laws.specs.Tables.{after, tables}
-use Rattle.rv_text_laws.specs.Codes.{lowest}
+use Rattle.rv_expression_laws.specs.Codes.{lowest}
 use Rattle.rv_unit_laws.specs.Faults.{faults, at_line, first_fault_from}
 use Rattle.rv_unit.specs.Unit.{passed}
 

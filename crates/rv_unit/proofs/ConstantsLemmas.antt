@@ -1,9 +1,9 @@
 -- An expression whose constant is wanted has it by the statements before it alone, and by all of the source.
 
 use Rattle.std.proofs.Common.{◌≡◌, ℕ, ◌+◌, ◌<◌, ◌≤◌, true, false, List, length, refl, sym, Option, Some, None}
-use Rattle.rv_text_laws.specs.Bytes.{digits_value}
-use Rattle.rv_text_laws.specs.Expression.{Literal, Symbol, Here, Reference}
-use Rattle.rv_text_laws.specs.Values.{Constant}
+use Rattle.rv_expression_laws.specs.Bytes.{digits_value}
+use Rattle.rv_expression_laws.specs.Expression.{Literal, Symbol, Here, Reference}
+use Rattle.rv_expression_laws.specs.Values.{Constant}
 use Rattle.rv_statement_laws.specs.Statement.{Statement, Expression}
 use Rattle.rv_unit_laws.specs.Tables.{Tables, SectionOffset, NumericLabel, at_start, tables, numeric_label_after, forward_in, meaning, value_by_tables, opened_of}
 use Rattle.rv_unit_laws.proofs.BeforeLemmas.{before_all, before_start}

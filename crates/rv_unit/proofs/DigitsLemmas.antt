@@ -5,7 +5,7 @@ use Rattle.std.specs.Prelude.{if◌then◌else◌}
 use Rattle.std.proofs.lemmas.Bool.{eqb-true, eqb-false}
 use Rattle.std.proofs.lemmas.List.{length-append, take_more}
 use Rattle.std.proofs.Math.Nat.{pow-succ'}
-use Rattle.rv_text_laws.specs.Bytes.{digits_value, digit}
+use Rattle.rv_expression_laws.specs.Bytes.{digits_value, digit}
 use Rattle.rv_unit.specs.Mixed.{HasNoZeroInFront, mix, mix_digit, mix_within}
 
 pub value-last : (ds : List ℕ) (d : ℕ) → digits_value 10 (ds ++ d ∷ []) ≡ 10 * digits_value 10 ds + digit d

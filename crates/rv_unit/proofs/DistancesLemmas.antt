@@ -1,12 +1,12 @@
 -- What values are where each name is open, and where each has a place: a difference there has no fault here.
 
 use Rattle.std.proofs.Common.{◌≡◌, ◌==◌, ℕ, Bool, true, false, cond, [], nat_lt, refl, sym, ◌∙◌, ap, subst, ◌⊎◌, inl, inr}
-use Rattle.rv_text_laws.specs.declared.operator.UnaryOperator.{UnaryOperator}
-use Rattle.rv_text_laws.specs.declared.operator.UnaryOperator.TheVariants.{Negate, Complement, Keep}
-use Rattle.rv_text_laws.specs.declared.operator.BinaryOperator.{BinaryOperator}
-use Rattle.rv_text_laws.specs.declared.operator.BinaryOperator.TheVariants.{Multiply, Divide, Remainder, ShiftLeft, ShiftRight, Or, And, ExclusiveOr, Add, Subtract}
-use Rattle.rv_text_laws.specs.Expression.{Primary, Literal, Symbol, Here, Reference, Tree, Leaf, Unary, Paren, Binary}
-use Rattle.rv_text_laws.specs.Values.{Meaning, Known, InSection, Open, Refused, Value, Constant, Symbolic, Difference, Faulty, add, subtract, arithmetic, apart, sum, difference, constants_alone, both, unary_value, value_of}
+use Rattle.rv_expression_laws.specs.declared.operator.UnaryOperator.{UnaryOperator}
+use Rattle.rv_expression_laws.specs.declared.operator.UnaryOperator.TheVariants.{Negate, Complement, Keep}
+use Rattle.rv_expression_laws.specs.declared.operator.BinaryOperator.{BinaryOperator}
+use Rattle.rv_expression_laws.specs.declared.operator.BinaryOperator.TheVariants.{Multiply, Divide, Remainder, ShiftLeft, ShiftRight, Or, And, ExclusiveOr, Add, Subtract}
+use Rattle.rv_expression_laws.specs.Expression.{Primary, Literal, Symbol, Here, Reference, Tree, Leaf, Unary, Paren, Binary}
+use Rattle.rv_expression_laws.specs.Values.{Meaning, Known, InSection, Open, Refused, Value, Constant, Symbolic, Difference, Faulty, add, subtract, arithmetic, apart, sum, difference, constants_alone, both, unary_value, value_of}
 use Rattle.rv_unit_laws.specs.Faults.{value_faults}
 use Rattle.rv_unit_laws.specs.Tables.{Tables, SectionOffset, named, value_by_tables}
 use Rattle.rv_unit.specs.Faults.{open_meaning, is_difference}

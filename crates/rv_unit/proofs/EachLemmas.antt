@@ -3,9 +3,9 @@
 use Rattle.std.proofs.Common.{◌≡◌, ℕ, ◌+◌, ◌<◌, List, [], ◌∷◌, ◌++◌, length, map, take, get_or, refl, sym, ap, ◌∙◌, append_assoc, append-nil}
 use Rattle.std.proofs.lemmas.List.{take_more, map-append}
 use Rattle.std.specs.Prelude.{flat_map}
-use Rattle.rv_text_laws.specs.Expression.{Tree}
-use Rattle.rv_text.specs.declared.expr.Expr.{Expr}
-use Rattle.rv_text.specs.Expr.{tree_of_expr}
+use Rattle.rv_expression_laws.specs.Expression.{Tree}
+use Rattle.rv_expression.specs.declared.expr.Expr.{Expr}
+use Rattle.rv_expression.specs.Expr.{tree_of_expr}
 
 flat_both : (f : Tree → List ℕ) (xs ys : List Tree) → flat_map f (xs ++ ys) ≡ flat_map f xs ++ flat_map f ys
 flat_both f [] ys = refl

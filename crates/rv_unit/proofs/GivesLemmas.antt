@@ -2,13 +2,13 @@
 
 use Rattle.std.proofs.Common.{◌≡◌, ℕ, List, refl, sym, ap, ◌∙◌, subst, Result, Ok, Err}
 use Rattle.std.specs.Prelude.{OnOk}
-use Rattle.rv_text_laws.specs.Expression.{Primary, Literal, Symbol as Name, Here, Reference, Tree}
-use Rattle.rv_text_laws.specs.Values as values
-use Rattle.rv_text.specs.declared.evaluation.Value.{Value}
-use Rattle.rv_text.specs.declared.evaluation.Value.TheVariants as results
-use Rattle.rv_text.specs.declared.node.Symbol.{Symbol}
-use Rattle.rv_text.specs.Nodes.{symbol_of}
-use Rattle.rv_text.specs.Eval.{value_told}
+use Rattle.rv_expression_laws.specs.Expression.{Primary, Literal, Symbol as Name, Here, Reference, Tree}
+use Rattle.rv_expression_laws.specs.Values as values
+use Rattle.rv_expression.specs.declared.evaluation.Value.{Value}
+use Rattle.rv_expression.specs.declared.evaluation.Value.TheVariants as results
+use Rattle.rv_expression.specs.declared.node.Symbol.{Symbol}
+use Rattle.rv_expression.specs.Nodes.{symbol_of}
+use Rattle.rv_expression.specs.Eval.{value_told}
 use Rattle.rv_unit_laws.specs.Tables as laws
 use Rattle.rv_unit_laws.proofs.MeantLemmas.{HasMeaning, value_meant}
 

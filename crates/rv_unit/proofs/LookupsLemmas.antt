@@ -9,7 +9,7 @@ use Rattle.std.specs.Str.{bytes_eq}
 use Rattle.indexmap.specs.IndexMap.{insert_entry}
 use Rattle.std.proofs.lemmas.List.{reverse-append, map-append, length-map}
 use Rattle.std.proofs.lemmas.Bool.{leb-true, leb-false, and_parts}
-use Rattle.rv_text_laws.specs.Values.{Meaning, Known, InSection, Open, Refused}
+use Rattle.rv_expression_laws.specs.Values.{Meaning, Known, InSection, Open, Refused}
 use Rattle.std.proofs.lemmas.List.Folds.{list_all-append}
 use Rattle.rv_unit_laws.specs.Sections.{Section, place_of_name}
 use Rattle.rv_unit_laws.specs.Tables as laws

@@ -2,7 +2,7 @@
 
 use Rattle.std.proofs.Common.{◌≡◌, refl, ℕ, List, [], ◌∷◌, ◌++◌, ap, ◌∙◌, arith}
 use Rattle.std.specs.Prelude.{Option, Some, None, min}
-use Rattle.rv_text_laws.specs.Codes.{lowest}
+use Rattle.rv_expression_laws.specs.Codes.{lowest}
 
 -- the lower of what two lists have
 abbrev pub lower_of : Option ℕ → Option ℕ → Option ℕ

@@ -11,7 +11,7 @@ use Rattle.std.proofs.lemmas.Bool.{eqb-true, eq-eqb, ltb-true, le-ltb, and_parts
 use Rattle.std.proofs.lemmas.List.{length-map, map-append, reverse-append}
 use Rattle.indexmap.specs.IndexMap.{insert_entry}
 use Rattle.rv_list_laws.proofs.FilterLemmas.{all_kept}
-use Rattle.rv_text_laws.specs.Bytes.{digits_value}
+use Rattle.rv_expression_laws.specs.Bytes.{digits_value}
 use Rattle.rv_unit_laws.specs.Tables as laws
 use Rattle.rv_unit_laws.proofs.BeforeLemmas.{falls}
 use Rattle.rv_unit.specs.declared.number.Number.{Number}

@@ -1,10 +1,10 @@
 -- Values whose names have places, as none is set.
 
 use Rattle.std.proofs.Common.{◌≡◌, ℕ, Bool, true, false, cond, List, [], refl, ◌∙◌, ap, Option, None, Some}
-use Rattle.rv_text_laws.specs.Expression.{Node, Primary, Symbol, tree_of}
-use Rattle.rv_text_laws.specs.Values.{Meaning, Known, InSection, Open, Refused, Symbolic, meant}
-use Rattle.rv_text.specs.Expr.{lone_primary}
-use Rattle.rv_text.proofs.EvalsLemmas.{lone_value}
+use Rattle.rv_expression_laws.specs.Expression.{Node, Primary, Symbol, tree_of}
+use Rattle.rv_expression_laws.specs.Values.{Meaning, Known, InSection, Open, Refused, Symbolic, meant}
+use Rattle.rv_expression.specs.Expr.{lone_primary}
+use Rattle.rv_expression.proofs.EvalsLemmas.{lone_value}
 use Rattle.rv_statement_laws.specs.declared.directive.Binding.{Binding}
 use Rattle.rv_unit_laws.specs.Bindings.{is_weak}
 use Rattle.rv_unit_laws.specs.Sections.{Opened, section_at}

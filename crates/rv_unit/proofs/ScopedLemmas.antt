@@ -4,14 +4,14 @@ use Rattle.std.proofs.Common.{◌≡◌, ℕ, ◌+◌, ◌<◌, ◌≤◌, ◌==
 use Rattle.std.specs.Str.{bytes_eq}
 use Rattle.std.proofs.lemmas.Bool.{ltb-true}
 use Rattle.rv_list_laws.proofs.FindLemmas.{find_passes}
-use Rattle.rv_text_laws.specs.Bytes.{digits_value}
-use Rattle.rv_text_laws.specs.Expression.{Symbol, Here, Reference}
-use Rattle.rv_text_laws.specs.Values.{Open, Refused}
+use Rattle.rv_expression_laws.specs.Bytes.{digits_value}
+use Rattle.rv_expression_laws.specs.Expression.{Symbol, Here, Reference}
+use Rattle.rv_expression_laws.specs.Values.{Open, Refused}
 use Rattle.rv_statement_laws.specs.Statement.{Statement as SpecStatement}
-use Rattle.rv_text.specs.declared.node.Symbol.{Symbol as Written}
-use Rattle.rv_text.specs.declared.node.Symbol.TheVariants as symbols
+use Rattle.rv_expression.specs.declared.node.Symbol.{Symbol as Written}
+use Rattle.rv_expression.specs.declared.node.Symbol.TheVariants as symbols
 use Rattle.rv_lexer.specs.Reference.{digits_in}
-use Rattle.rv_text.specs.Nodes.{symbol_of}
+use Rattle.rv_expression.specs.Nodes.{symbol_of}
 use Rattle.rv_unit_laws.specs.Tables as laws
 use Rattle.rv_unit_laws.proofs.BeforeLemmas.{IsBefore, before_all, before_start}
 use Rattle.rv_unit_laws.proofs.BoundLemmas.{bound_all}

@@ -4,7 +4,7 @@ use Rattle.std.proofs.Common.{◌≡◌, ℕ, ◌+◌, ◌-◌, ◌^◌, ◌≤�
 use Rattle.std.proofs.lemmas.Bool.{leb-true, le-leb}
 use Rattle.std.specs.Prelude.{min, not, ◌&&◌, ◌||◌}
 use Rattle.rv_unit_laws.specs.Sections.{Section, is_nobits}
-use Rattle.rv_text_laws.specs.Codes.{faulty_if}
+use Rattle.rv_expression_laws.specs.Codes.{faulty_if}
 use Rattle.rv_unit_laws.specs.Faults.{stored_faults}
 
 shown : (offset n : ℕ) → nat_le (offset + min n (2 ^ 64 - 1)) (2 ^ 28) ≡ nat_le (offset + n) (2 ^ 28)

@@ -2,11 +2,11 @@
 
 use Rattle.std.specs.Prelude.{ℕ, Bool, true, false, Result}
 use Rattle.rv_fault.specs.declared.source_fault.SourceFault.{SourceFault}
-use Rattle.rv_text.specs.declared.evaluation.Value.{Value}
-use Rattle.rv_text.specs.Eval.{IsOutcome}
-use Rattle.rv_text_laws.specs.Codes.{undefined_local}
-use Rattle.rv_text_laws.specs.Expression.{Primary, Literal, Symbol, Here, Reference}
-use Rattle.rv_text_laws.specs.Values as values
+use Rattle.rv_expression.specs.declared.evaluation.Value.{Value}
+use Rattle.rv_expression.specs.Eval.{IsOutcome}
+use Rattle.rv_expression_laws.specs.Codes.{undefined_local}
+use Rattle.rv_expression_laws.specs.Expression.{Primary, Literal, Symbol, Here, Reference}
+use Rattle.rv_expression_laws.specs.Values as values
 
 -- what is said of every value that a result stands for
 abbrev pub ForValue : Result Value SourceFault → (values.Value → Type 0) → Type 0

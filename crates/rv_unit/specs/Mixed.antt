@@ -1,7 +1,7 @@
 -- The digits of a number of any length, mixed into 64 bits (the hash FNV-1a).
 
 use Rattle.std.specs.Prelude.{ℕ, zero, suc, ◌*◌, ◌/◌, ◌%◌, ◌^◌, ◌<◌, ◌==◌, List, [], ◌∷◌, bit_xor, if◌then◌else◌}
-use Rattle.rv_text_laws.specs.Bytes.{digit}
+use Rattle.rv_expression_laws.specs.Bytes.{digit}
 
 abbrev pub basis : ℕ
 basis = 0xcbf2_9ce4_8422_2325

@@ -1,7 +1,7 @@
 -- What a unit and a scope show.
 
 use Rattle.std.specs.Prelude.{◌≡◌, ◌⊎◌, ℕ, ◌+◌, ◌<◌, ◌≤◌, Bool, true, false, List, Some, None, length, take}
-use Rattle.rv_text_laws.specs.Expression.{Primary, Reference}
+use Rattle.rv_expression_laws.specs.Expression.{Primary, Reference}
 use Rattle.rv_fault.specs.declared.source_fault.SourceFault.{SourceFault}
 use Rattle.rv_fault.specs.declared.source_fault.SourceFault.TheVariants as refusals
 use Rattle.rv_fault.specs.declared.source_fault.SourceCode.{SourceCode}

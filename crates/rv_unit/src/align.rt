@@ -3,12 +3,12 @@
 ghost use Rattle.std.specs.Prelude.{◌≡◌, ◌≤◌, ◌+◌, ◌*◌, ◌-◌, ◌^◌, min, length, map};
 ghost use Rattle.rv_statement_laws.specs.Widths.{width_bytes};
 ghost use Rattle.rv_statement.specs.View.{quoted};
-ghost use Rattle.rv_text.specs.Eval.{IsOutcome};
-ghost use Rattle.rv_text_laws.specs.Values as values;
+ghost use Rattle.rv_expression.specs.Eval.{IsOutcome};
+ghost use Rattle.rv_expression_laws.specs.Values as values;
 ghost use Rattle.rv_unit_laws.specs.Tables as laws;
 
 use rv_statement_laws::Width;
-use rv_text::{SourceFault, Value, string_size};
+use rv_expression::{SourceFault, Value, string_size};
 
 /// The longest section, in bytes.
 pub const LONGEST_SECTION: u64 = 1 << 28;
@@ -21,10 +21,10 @@ pub(crate) fn is_power_below(power: u32, number: u64) -> bool
     requires { power ≤ 63 }
     ensures { result ≡ laws.is_power_below power number }
 {
-    let mut left = power;
-    while left > 0 {
-        left -= 1;
-        if number == 1 << left {
+    let mut remaining = power;
+    while remaining > 0 {
+        remaining -= 1;
+        if number == 1 << remaining {
             return true;
         }
     }

@@ -4,7 +4,7 @@
 //! where it stands. The depth of the option stack is counted on the way.
 
 ghost use Rattle.std.specs.Prelude.{◌≡◌, ℕ, ◌+◌, ◌<◌, ◌≤◌, ◌^◌, ◌-◌, List, [], Some, flat_map, map, true, length, option_map};
-ghost use Rattle.rv_text.specs.Expr.{tree_of_expr};
+ghost use Rattle.rv_expression.specs.Expr.{tree_of_expr};
 ghost use Rattle.rv_statement_laws.specs.Limits.{most_statements};
 ghost use Rattle.rv_statement_laws.specs.Statement.{Operand as SpecOperand, Instruction, Label, Directs, Values, Strings, Zeros, As_power, As_bytes, Aligns, Emits};
 ghost use Rattle.rv_statement_laws.specs.declared.mnemonic.Mnemonic.{Mnemonic as SpecMnemonic};
@@ -29,7 +29,7 @@ use crate::section_offset::SectionOffset;
 use crate::unit::Unit;
 use rv_statement::{Setting, StatementKind, Statements};
 use rv_statement_laws::{Choice, Width};
-use rv_text::{Expr, SourceCode};
+use rv_expression::{Expr, SourceCode};
 
 /// The depth of the option stack after a statement.
 fn depth_after(depth: usize, kind: &StatementKind<'_>) -> usize

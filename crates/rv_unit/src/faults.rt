@@ -5,23 +5,23 @@
 //! at.
 
 ghost use Rattle.std.specs.Prelude.{◌≡◌, ◌<◌, ℕ, List, ◌++◌, Option, Some, None, not, ◌&&◌, ◌||◌, ◌==◌};
-ghost use Rattle.rv_text_laws.specs.Codes as codes;
-ghost use Rattle.rv_text_laws.specs.Codes.{duplicate_label, wrong_section};
+ghost use Rattle.rv_expression_laws.specs.Codes as codes;
+ghost use Rattle.rv_expression_laws.specs.Codes.{duplicate_label, wrong_section};
 ghost use Rattle.rv_fault.specs.SourceFault.{source_fault_number, IsLowest};
 ghost use Rattle.rv_unit_laws.specs.Sections.{is_nobits};
 ghost use Rattle.rv_unit_laws.specs.Faults as laws;
 ghost use Rattle.rv_unit_laws.specs.Tables as tables;
-ghost use Rattle.rv_text_laws.specs.Values.{value_of};
-ghost use Rattle.rv_text.specs.Nodes.{symbol_of};
-ghost use Rattle.rv_text.specs.Expr.{tree_of_expr};
-ghost use Rattle.rv_text.specs.Eval.{meaning_of, IsOutcome};
+ghost use Rattle.rv_expression_laws.specs.Values.{value_of};
+ghost use Rattle.rv_expression.specs.Nodes.{symbol_of};
+ghost use Rattle.rv_expression.specs.Expr.{tree_of_expr};
+ghost use Rattle.rv_expression.specs.Eval.{meaning_of, IsOutcome};
 ghost use Rattle.rv_unit.specs.Faults.{ForValue, open_meaning, is_difference};
 ghost use Rattle.rv_unit.specs.Sections.{section_of};
 
 use crate::align::{GREATEST_ALIGNMENT, LONGEST_SECTION, is_power_below, padding};
 use crate::section::Section;
 use rv_statement_laws::Choice;
-use rv_text::{Expr, SourceCode, SourceFault, Symbol, SymbolMeaning, Value, symbolic_value};
+use rv_expression::{Expr, SourceCode, SourceFault, Symbol, SymbolMeaning, Value, symbolic_value};
 
 /// What an expression is worth, or its fault.
 pub(crate) type Outcome<'a> = Result<Value<'a>, SourceFault>;

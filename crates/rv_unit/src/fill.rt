@@ -6,12 +6,12 @@
 //! before all else: a distance from a weak label is no constant, wherever `.weak` stands, and sizes count at once.
 
 ghost use Rattle.std.specs.Prelude.{◌≡◌, ◌≤◌, ℕ, false, [], length, option_map, map, OnOk, IfOk, IfSome};
-ghost use Rattle.rv_text_laws.specs.Expression.{Primary, Here, Tree as Expression};
-ghost use Rattle.rv_text_laws.specs.Values as values;
-ghost use Rattle.rv_text_laws.specs.Values.{Symbolic, value_of};
-ghost use Rattle.rv_text.specs.Nodes.{symbol_of};
-ghost use Rattle.rv_text.specs.Expr.{tree_of_expr};
-ghost use Rattle.rv_text.specs.Eval.{meaning_of, value_told, IsOutcome};
+ghost use Rattle.rv_expression_laws.specs.Expression.{Primary, Here, Tree as Expression};
+ghost use Rattle.rv_expression_laws.specs.Values as values;
+ghost use Rattle.rv_expression_laws.specs.Values.{Symbolic, value_of};
+ghost use Rattle.rv_expression.specs.Nodes.{symbol_of};
+ghost use Rattle.rv_expression.specs.Expr.{tree_of_expr};
+ghost use Rattle.rv_expression.specs.Eval.{meaning_of, value_told, IsOutcome};
 ghost use Rattle.rv_statement_laws.specs.Limits.{most_statements};
 ghost use Rattle.rv_statement_laws.specs.Statement.{Zeros, As_power, As_bytes, Aligns, Emits};
 ghost use Rattle.rv_statement.specs.Statements.{statements_of};
@@ -30,7 +30,7 @@ use crate::section::Section;
 use crate::section_offset::SectionOffset;
 use crate::tables::{Assignment, Tables};
 use rv_statement::{Opening, Setting, StatementKind, Statements};
-use rv_text::{Expr, SourceFault, Symbol, SymbolMeaning, Value};
+use rv_expression::{Expr, SourceFault, Symbol, SymbolMeaning, Value};
 use std::alloc::{AllocError, Global};
 
 /// Whether a statement enters a section.

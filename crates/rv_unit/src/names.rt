@@ -8,13 +8,13 @@
 //! A weak name has no place in any of them, as another file's may stand for it.
 
 ghost use Rattle.std.specs.Prelude.{◌≡◌, ℕ, ◌+◌, ◌≤◌, ◌<◌, ◌||◌, true, false, [], is_some, length, IfSome};
-ghost use Rattle.rv_text_laws.specs.Bytes.{digits_value};
-ghost use Rattle.rv_text_laws.specs.Expression.{Symbol as SymbolOf};
-ghost use Rattle.rv_text_laws.specs.Values.{Open};
+ghost use Rattle.rv_expression_laws.specs.Bytes.{digits_value};
+ghost use Rattle.rv_expression_laws.specs.Expression.{Symbol as SymbolOf};
+ghost use Rattle.rv_expression_laws.specs.Values.{Open};
 ghost use Rattle.rv_lexer.specs.Reference.{digits_in, is_ahead};
-ghost use Rattle.rv_text.specs.Nodes.{symbol_of};
-ghost use Rattle.rv_text.specs.Expr.{lone_primary, expr_of, tree_of_expr};
-ghost use Rattle.rv_text.specs.Eval.{meaning_of, IsOutcome};
+ghost use Rattle.rv_expression.specs.Nodes.{symbol_of};
+ghost use Rattle.rv_expression.specs.Expr.{lone_primary, expr_of, tree_of_expr};
+ghost use Rattle.rv_expression.specs.Eval.{meaning_of, IsOutcome};
 ghost use Rattle.rv_unit_laws.specs.Tables as laws;
 ghost use Rattle.rv_unit_laws.proofs.BeforeLemmas.{IsBefore};
 ghost use Rattle.rv_unit.specs.Sections.{offset_of};
@@ -23,7 +23,7 @@ ghost use Rattle.rv_unit.specs.Unit.{said, passed, IsApart, IsFilled, comes_afte
 
 use crate::section_offset::SectionOffset;
 use crate::unit::Unit;
-use rv_text::{Expr, NumericReference, SourceFault, Symbol, SymbolMeaning, Value, symbolic_value};
+use rv_expression::{Expr, NumericReference, SourceFault, Symbol, SymbolMeaning, Value, symbolic_value};
 
 /// Whether a symbol is a numeric label that comes after.
 fn comes_after(symbol: Symbol<'_>) -> bool

@@ -8,7 +8,7 @@ ghost use Rattle.std.specs.Cmp.Rules.{comparing};
 ghost use Rattle.std.specs.Hash as fed;
 ghost use Rattle.std.proofs.Common.{ap, rules};
 ghost use Rattle.std.proofs.lemmas.Bool.{eqb-true};
-ghost use Rattle.rv_text_laws.specs.Bytes.{digits_value, digit};
+ghost use Rattle.rv_expression_laws.specs.Bytes.{digits_value, digit};
 ghost use Rattle.rv_unit.specs.Mixed.{HasNoZeroInFront, basis, mix, mix_digit};
 
 use indexmap::Equivalent;
@@ -26,7 +26,7 @@ pub(crate) struct Number<'a> {
 }
 
 /// The value of a digit `0` to `9`, `a` to `f`, `A` to `F`; 16 for every other byte.
-#[tactic(auto, unfolding(rv_text_laws::specs::Bytes::digit))]
+#[tactic(auto, unfolding(rv_expression_laws::specs::Bytes::digit))]
 fn digit(byte: u8) -> u8
     ensures value { result ≡ digit byte }
     ensures below { result ≤ 16 }

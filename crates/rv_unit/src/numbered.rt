@@ -2,7 +2,7 @@
 
 ghost use Rattle.std.specs.Prelude.{◌≡◌, ◌==◌, ◌++◌, ◌<◌, ◌^◌, ℕ, true, List, [], ◌∷◌, nat_lt, length, unwrap_or, if◌then◌else◌, OnOk};
 ghost use Rattle.std.specs.List.{list_all};
-ghost use Rattle.rv_text_laws.specs.Bytes.{digits_value};
+ghost use Rattle.rv_expression_laws.specs.Bytes.{digits_value};
 ghost use Rattle.rv_unit_laws.specs.Tables as laws;
 ghost use Rattle.rv_unit.specs.Tables.{numeric_label_at, numbered_at, numeric_labels_in};
 

@@ -1,11 +1,11 @@
 //! What names mean, statement by statement.
 
 ghost use Rattle.std.specs.Prelude.{◌≡◌, ℕ, ◌+◌, ◌<◌, true, false, length, option_map, is_some};
-ghost use Rattle.rv_text_laws.specs.Expression.{Reference};
-ghost use Rattle.rv_text.specs.Nodes.{symbol_of};
-ghost use Rattle.rv_text.specs.Expr.{tree_of_expr};
+ghost use Rattle.rv_expression_laws.specs.Expression.{Reference};
+ghost use Rattle.rv_expression.specs.Nodes.{symbol_of};
+ghost use Rattle.rv_expression.specs.Expr.{tree_of_expr};
 ghost use Rattle.rv_lexer.specs.Reference.{digits_in, is_ahead};
-ghost use Rattle.rv_text.specs.Eval.{meaning_of, IsOutcome};
+ghost use Rattle.rv_expression.specs.Eval.{meaning_of, IsOutcome};
 ghost use Rattle.rv_unit_laws.specs.Tables as laws;
 ghost use Rattle.rv_unit_laws.proofs.BeforeLemmas.{IsBefore};
 ghost use Rattle.rv_unit.specs.Sections.{offset_of};
@@ -17,7 +17,7 @@ use crate::section_offset::{Definition, SectionOffset};
 use crate::tables::{Assignment, NumericLabel};
 use crate::unit::Unit;
 use rv_statement::Setting;
-use rv_text::{Expr, NumericReference, SourceFault, Symbol, SymbolMeaning, Value};
+use rv_expression::{Expr, NumericReference, SourceFault, Symbol, SymbolMeaning, Value};
 
 /// Names as the statements see them, one after the other.
 #[derive(Drop)]

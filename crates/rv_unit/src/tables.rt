@@ -7,12 +7,12 @@
 
 ghost use Rattle.std.specs.Prelude.{◌≡◌, ℕ, ◌-◌, ◌^◌, min, ◌<◌, ◌||◌, ◌==◌, [], false, true, not, is_some, Some, None, option_map, map, IfOk, OnOk};
 ghost use Rattle.std.specs.List.{find};
-ghost use Rattle.rv_text_laws.specs.Bytes.{digits_value};
-ghost use Rattle.rv_text_laws.specs.Values.{Open};
-ghost use Rattle.rv_text.specs.Nodes.{symbol_of};
-ghost use Rattle.rv_text.specs.Expr.{tree_of_expr};
+ghost use Rattle.rv_expression_laws.specs.Bytes.{digits_value};
+ghost use Rattle.rv_expression_laws.specs.Values.{Open};
+ghost use Rattle.rv_expression.specs.Nodes.{symbol_of};
+ghost use Rattle.rv_expression.specs.Expr.{tree_of_expr};
 ghost use Rattle.rv_lexer.specs.Reference.{digits_in, is_ahead};
-ghost use Rattle.rv_text.specs.Eval.{meaning_of, IsOutcome};
+ghost use Rattle.rv_expression.specs.Eval.{meaning_of, IsOutcome};
 ghost use Rattle.rv_statement_laws.specs.declared.directive.Choice.TheVariants.{Pop};
 ghost use Rattle.rv_statement.specs.View.{now_of};
 ghost use Rattle.rv_unit_laws.specs.Bindings.{bound, is_weak};
@@ -32,7 +32,7 @@ use crate::section::{Extent, Section};
 use crate::section_offset::SectionOffset;
 use indexmap::IndexMap;
 use rv_statement_laws::{Binding, Choice};
-use rv_text::{Expr, NumericReference, SourceFault, Symbol, SymbolMeaning, Value, symbolic_value};
+use rv_expression::{Expr, NumericReference, SourceFault, Symbol, SymbolMeaning, Value, symbolic_value};
 use std::alloc::{AllocError, Global};
 
 /// The most sections of a source.

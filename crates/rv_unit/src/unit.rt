@@ -1,7 +1,7 @@
 //! A source's statements with what they define.
 
 ghost use Rattle.std.specs.Prelude.{◌≡◌, ◌<◌, ◌≤◌, Some, None, length, map, option_map, IfOk, IfErr, IfSome, IfNone};
-ghost use Rattle.rv_text_laws.specs.Codes.{limit};
+ghost use Rattle.rv_expression_laws.specs.Codes.{limit};
 ghost use Rattle.rv_statement_laws.specs.Limits.{most_statements};
 ghost use Rattle.rv_statement.specs.Statements.{statements_of};
 ghost use Rattle.rv_statement.specs.View.{statement_of};
@@ -17,7 +17,7 @@ use crate::section_offset::SectionOffset;
 use crate::tables::{Assignment, Tables};
 use rv_statement::{MOST_STATEMENTS, Statement, Statements};
 use rv_statement_laws::Binding;
-use rv_text::{SourceCode, SourceFault};
+use rv_expression::{SourceCode, SourceFault};
 use std::alloc::{AllocError, Global};
 
 /// A source's statements, where and in which options they stand, its sections and its names.

@@ -9,7 +9,7 @@ use Rattle.std.proofs.lemmas.Bool.{or_parts}
 use Rattle.std.proofs.lemmas.List.Folds.{find-append}
 use Rattle.rv_list_laws.proofs.ElementsLemmas.{same_bytes}
 use Rattle.rv_list_laws.proofs.OptionsLemmas.{none_by_test}
-use Rattle.rv_text_laws.specs.Values.{Value}
+use Rattle.rv_expression_laws.specs.Values.{Value}
 use Rattle.rv_statement_laws.specs.declared.directive.Choice.{Choice}
 use Rattle.rv_statement_laws.specs.Statement.{Expression, Directive}
 use Rattle.rv_unit_laws.specs.Sections.{Section, entered_by}

@@ -9,8 +9,8 @@ use Rattle.std.proofs.lemmas.List.Folds.{list_all-append}
 use Rattle.rv_list_laws.proofs.FindLemmas.{find_all, find_all_swapped, find_none_by}
 use Rattle.rv_list_laws.proofs.TestsLemmas.{any_all, all_weaker, any_same}
 use Rattle.rv_list_laws.proofs.ElementsLemmas.{same_bytes}
-use Rattle.rv_text_laws.specs.Values.{Meaning, Known, InSection, Open, Refused, Value, Constant, Symbolic, Difference, Faulty, add}
-use Rattle.rv_text_laws.specs.Expression.{Literal, Symbol, Here, Reference}
+use Rattle.rv_expression_laws.specs.Values.{Meaning, Known, InSection, Open, Refused, Value, Constant, Symbolic, Difference, Faulty, add}
+use Rattle.rv_expression_laws.specs.Expression.{Literal, Symbol, Here, Reference}
 use Rattle.rv_statement_laws.specs.Statement.{StatementKind, Label, Numbered, Instruction, Directs, Statement, Expression, Directive, Sets}
 use Rattle.rv_statement_laws.specs.declared.directive.Choice.{Choice}
 use Rattle.rv_unit_laws.specs.Sections.{Section, entered_by}

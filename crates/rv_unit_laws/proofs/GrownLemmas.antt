@@ -7,7 +7,7 @@ use Rattle.std.proofs.lemmas.Bool.{eqb-true, leb-true, leb-false, and_parts}
 use Rattle.std.proofs.lemmas.Nat.{pow-add, pow_pos}
 use Rattle.std.proofs.lemmas.List.{map-append, length-map}
 use Rattle.std.specs.Prelude.{⊤, if◌then◌else◌, slice_index_or}
-use Rattle.rv_text_laws.specs.Values.{Value, Constant, Symbolic, Difference, Faulty}
+use Rattle.rv_expression_laws.specs.Values.{Value, Constant, Symbolic, Difference, Faulty}
 use Rattle.rv_statement_laws.specs.Statement.{StatementKind, Label, Numbered, Instruction, Directs, Statement, Expression, Directive, AlignmentForm, As_power, As_bytes, Aligns, Emits}
 use Rattle.rv_statement_laws.specs.declared.directive.Choice.{Choice}
 use Rattle.rv_unit_laws.specs.Sections.{Section, text_section, current_section, entered_by}

@@ -7,7 +7,7 @@ use Rattle.std.proofs.lemmas.Bool.{ltb-true, lt-ltb}
 use Rattle.std.proofs.lemmas.List.Folds.{list_all-append}
 use Rattle.rv_statement_laws.specs.Statement.{StatementKind, Expression, Label, Numbered, Instruction, Directs, Statement, Directive}
 use Rattle.rv_statement_laws.specs.declared.directive.Choice.{Choice}
-use Rattle.rv_text_laws.specs.Values.{Open, InSection, Value}
+use Rattle.rv_expression_laws.specs.Values.{Open, InSection, Value}
 use Rattle.rv_unit_laws.specs.Sections.{Section, Opened, text_section, entered_by, section_at}
 use Rattle.rv_unit_laws.specs.Contributions.{Contribution, Nothing, Bytes, Alignment, contribution}
 use Rattle.rv_unit_laws.specs.Tables.{Tables, Extent, SectionOffset, Labelled, NumericLabel, Assignment, at_start, here, stands, value_by_tables, assigned_by, choice_in, is_defined, may_set, with_label, with_assignment, with_section, with_contribution, with_choice, with_chosen, after_directive, after, after_all, opened_of, extended, changed_at, contributed, alignment_as, with_data}

@@ -2,13 +2,13 @@
 -- "Pseudo Ops", for what directives take).
 
 use Rattle.std.specs.Prelude.{◌*◌, ℕ, suc, ◌+◌, ◌^◌, Bool, true, false, not, ◌&&◌, ◌||◌, ◌==◌, nat_lt, nat_le, List, [], ◌∷◌, ◌++◌, length, drop, flat_map, Option, Some, None, is_some, if◌then◌else◌}
-use Rattle.rv_text_laws.specs.Codes.{duplicate_label, not_constant, immediate_range, wrong_section, option_stack, limit, faulty_if, lowest}
-use Rattle.rv_text_laws.specs.Values.{Value, Constant, Symbolic, Difference, Faulty}
+use Rattle.rv_expression_laws.specs.Codes.{duplicate_label, not_constant, immediate_range, wrong_section, option_stack, limit, faulty_if, lowest}
+use Rattle.rv_expression_laws.specs.Values.{Value, Constant, Symbolic, Difference, Faulty}
 use Rattle.rv_statement_laws.specs.Limits.{most_statements}
 use Rattle.rv_statement_laws.specs.Statement.{StatementKind, Label, Numbered, Instruction, Directs, Statement, Directive, Enters, Opens, Sets, Chooses, Data, Values, Strings, Zeros, AlignmentForm, As_power, As_bytes}
 use Rattle.rv_statement_laws.specs.declared.directive.Choice.{Choice}
 use Rattle.rv_statement_laws.specs.declared.directive.Choice.TheVariants.{Pop}
-use Rattle.rv_text_laws.specs.Expression.{Here}
+use Rattle.rv_expression_laws.specs.Expression.{Here}
 use Rattle.rv_unit_laws.specs.Sections.{Section, is_nobits, current_section, place_of_name, most_sections, entered_by}
 use Rattle.rv_unit_laws.specs.Contributions.{Contribution, Nothing, Bytes, Alignment, contribution}
 use Rattle.rv_unit_laws.specs.Tables.{Tables, at_start, after, tables, here, value_by_tables, has_location, is_defined, is_power, greatest_alignment, longest_section, alignment_as, string_bytes, counted, padding, opened_of}

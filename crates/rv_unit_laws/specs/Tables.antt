@@ -9,11 +9,11 @@
 use Rattle.std.specs.Prelude.{◌≡◌, ℕ, zero, suc, ◌+◌, ◌-◌, ◌*◌, ◌^◌, Bool, true, false, not, ◌&&◌, ◌||◌, ◌==◌, nat_lt, nat_le, max, List, [], ◌∷◌, ◌++◌, length, map, flat_map, reverse, Option, Some, None, is_some, slice_index_or, if◌then◌else◌}
 use Rattle.std.specs.List.{find, list_any}
 use Rattle.std.specs.Str.{bytes_eq}
-use Rattle.rv_layout_laws.specs.Alignment.{aligned}
-use Rattle.rv_text_laws.specs.Bytes.{digits_value}
-use Rattle.rv_text_laws.specs.Expression.{Primary, Literal, Symbol, Here, Reference}
-use Rattle.rv_text_laws.specs.Codes.{undefined_local, not_constant}
-use Rattle.rv_text_laws.specs.Values.{Meaning, Known, InSection, Open, Refused, Value, Constant, Symbolic, add, value_of}
+use Rattle.rv_size_laws.specs.Alignment.{aligned}
+use Rattle.rv_expression_laws.specs.Bytes.{digits_value}
+use Rattle.rv_expression_laws.specs.Expression.{Primary, Literal, Symbol, Here, Reference}
+use Rattle.rv_expression_laws.specs.Codes.{undefined_local, not_constant}
+use Rattle.rv_expression_laws.specs.Values.{Meaning, Known, InSection, Open, Refused, Value, Constant, Symbolic, add, value_of}
 use Rattle.rv_statement_laws.specs.Statement.{StatementKind, Label, Numbered, Instruction, Directs, Statement, Expression, Directive, Sets, Chooses, Data, Values, Strings, Zeros, AlignmentForm, As_power, As_bytes}
 use Rattle.rv_statement_laws.specs.declared.directive.Choice.{Choice}
 use Rattle.rv_unit_laws.specs.Sections.{Section, Opened, text_section, most_sections, place_of_name, entered_by, section_at}

@@ -4,8 +4,8 @@ use Rattle.std.proofs.Common.{◌≡◌, ℕ, zero, suc, ◌+◌, ◌*◌, ◌<�
 use Rattle.std.specs.Prelude.{not, flat_map, slice_index_or, if◌then◌else◌, ⊤, ◌^◌, nat_lt}
 use Rattle.std.proofs.lemmas.Bool.{not-false}
 use Rattle.rv_list_laws.proofs.ElementsLemmas.{append_none_parts}
-use Rattle.rv_text_laws.specs.Codes.{faulty_if}
-use Rattle.rv_text_laws.specs.Values.{Value, Constant, Symbolic, Difference, Faulty}
+use Rattle.rv_expression_laws.specs.Codes.{faulty_if}
+use Rattle.rv_expression_laws.specs.Values.{Value, Constant, Symbolic, Difference, Faulty}
 use Rattle.rv_statement_laws.specs.Statement.{StatementKind, Label, Numbered, Instruction, Directs, Expression, Directive, Enters, Opens, Binds, Sets, Chooses, Ignored, Data, Values, Strings, Zeros, AlignmentForm, As_power, As_bytes, Aligns, Emits}
 use Rattle.rv_statement_laws.specs.declared.directive.Choice.{Choice}
 use Rattle.rv_unit_laws.specs.Sections.{Section, is_nobits, section_at, current_section, entered_by}

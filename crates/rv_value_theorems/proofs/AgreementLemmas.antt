@@ -1,9 +1,9 @@
 -- The value of an expression goes with the number that plain arithmetic gives.
 
 use Rattle.std.proofs.Common.{◌≡◌, ℕ, Option, Some, None, option_map, IfSome, IsSome, refl, ◌∙◌, ap}
-use Rattle.rv_text_laws.specs.declared.operator.BinaryOperator.{BinaryOperator}
-use Rattle.rv_text_laws.specs.Expression.{Primary, Literal, Symbol, Here, Reference, Tree, Leaf, Unary, Paren, Binary}
-use Rattle.rv_text_laws.specs.Values.{Meaning, Known, InSection, Open, Refused, value_of, add}
+use Rattle.rv_expression_laws.specs.declared.operator.BinaryOperator.{BinaryOperator}
+use Rattle.rv_expression_laws.specs.Expression.{Primary, Literal, Symbol, Here, Reference, Tree, Leaf, Unary, Paren, Binary}
+use Rattle.rv_expression_laws.specs.Values.{Meaning, Known, InSection, Open, Refused, value_of, add}
 use Rattle.rv_source_laws.specs.Program.{resolved}
 use Rattle.rv_value_theorems.specs.Plain.{of_both, plain}
 use Rattle.rv_value_theorems.specs.Agreement.{IsMeant, HasItsNumber, Agree, HaveTheirNumbers, number_meant, numbers, HasForm}

@@ -1,12 +1,12 @@
 -- An expression of constants is a constant, or a fault where plain arithmetic gives no number.
 
 use Rattle.std.proofs.Common.{◌≡◌, ℕ, ◌↔◌, Bool, true, false, if◌then◌else◌, Option, Some, None, option_map, refl, ap, subst}
-use Rattle.rv_text_laws.specs.declared.operator.UnaryOperator.{UnaryOperator}
-use Rattle.rv_text_laws.specs.declared.operator.UnaryOperator.TheVariants.{Negate, Complement, Keep}
-use Rattle.rv_text_laws.specs.declared.operator.BinaryOperator.{BinaryOperator}
-use Rattle.rv_text_laws.specs.declared.operator.BinaryOperator.TheVariants.{Multiply, Divide, Remainder, ShiftLeft, ShiftRight, Or, And, ExclusiveOr, Add, Subtract}
-use Rattle.rv_text_laws.specs.Expression.{Primary, Literal, Symbol, Here, Reference, Tree, Leaf, Unary, Paren, Binary}
-use Rattle.rv_text_laws.specs.Values.{Meaning, Known, InSection, Open, Refused, Value, Constant, Symbolic, Difference, Faulty, both, unary_value, meant, value_of}
+use Rattle.rv_expression_laws.specs.declared.operator.UnaryOperator.{UnaryOperator}
+use Rattle.rv_expression_laws.specs.declared.operator.UnaryOperator.TheVariants.{Negate, Complement, Keep}
+use Rattle.rv_expression_laws.specs.declared.operator.BinaryOperator.{BinaryOperator}
+use Rattle.rv_expression_laws.specs.declared.operator.BinaryOperator.TheVariants.{Multiply, Divide, Remainder, ShiftLeft, ShiftRight, Or, And, ExclusiveOr, Add, Subtract}
+use Rattle.rv_expression_laws.specs.Expression.{Primary, Literal, Symbol, Here, Reference, Tree, Leaf, Unary, Paren, Binary}
+use Rattle.rv_expression_laws.specs.Values.{Meaning, Known, InSection, Open, Refused, Value, Constant, Symbolic, Difference, Faulty, both, unary_value, meant, value_of}
 use Rattle.rv_value_theorems.specs.Plain.{of_one, of_two, of_both, plain}
 use Rattle.rv_value_theorems.specs.Agreement.{number_meant, numbers, IsConstant, AreConstants, HasForm}
 use Rattle.rv_value_theorems.proofs.ValuesLemmas.{kept, negated}

@@ -4,9 +4,9 @@ use Rattle.std.proofs.Common.{◌≡◌, ℕ, ◌<◌, Bool, true, false, ◌&&�
 use Rattle.std.specs.Str.{bytes_eq}
 use Rattle.std.proofs.lemmas.Bool.{ltb-true}
 use Rattle.rv_list_laws.proofs.FindLemmas.{find_passes}
-use Rattle.rv_text_laws.specs.Bytes.{digits_value}
-use Rattle.rv_text_laws.specs.Expression.{Primary, Literal, Symbol, Here, Reference}
-use Rattle.rv_text_laws.specs.Values.{Meaning, Open, Constant}
+use Rattle.rv_expression_laws.specs.Bytes.{digits_value}
+use Rattle.rv_expression_laws.specs.Expression.{Primary, Literal, Symbol, Here, Reference}
+use Rattle.rv_expression_laws.specs.Values.{Meaning, Open, Constant}
 use Rattle.rv_statement_laws.specs.Statement.{Statement, Expression}
 use Rattle.rv_unit_laws.specs.Tables.{Tables, SectionOffset, Labelled, NumericLabel, after_all, stands, label_of, labelled, assigned_before, assigned_first, own_named, weakened, numeric_label_before, numeric_label_after, forward_in, backward_in, meaning, value_by_tables, opened_of}
 use Rattle.rv_unit_laws.proofs.BoundLemmas.{bound_all}

@@ -9,9 +9,9 @@ use Rattle.std.proofs.lemmas.Bool.{both_ways}
 use Rattle.std.proofs.lemmas.List.{length-replicate}
 use Rattle.rv_isa_laws.specs.Bytes.{little_endian}
 use Rattle.rv_isa_laws.proofs.BytesLemmas.{little_long}
-use Rattle.rv_layout_laws.specs.Alignment.{aligned}
-use Rattle.rv_layout_laws.proofs.AlignmentLemmas.{padding_on}
-use Rattle.rv_text_laws.specs.Values.{Value}
+use Rattle.rv_size_laws.specs.Alignment.{aligned}
+use Rattle.rv_size_laws.proofs.AlignmentLemmas.{padding_on}
+use Rattle.rv_expression_laws.specs.Values.{Value}
 use Rattle.rv_statement_laws.specs.Statement.{StatementKind, Label, Numbered, Instruction, Directs, Expression, Directive, Enters, Opens, Binds, Sets, Chooses, Ignored, Data, Values, Strings, Zeros}
 use Rattle.rv_pseudo_laws.specs.Code.{Part}
 use Rattle.rv_pseudo_laws.specs.Filled.{FieldValue, filled}

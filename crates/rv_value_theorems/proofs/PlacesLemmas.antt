@@ -9,7 +9,7 @@ use Rattle.rv_list_laws.proofs.ElementsLemmas.{get_or_get}
 use Rattle.rv_list_laws.proofs.EachLemmas.{each_append, each_map, each_get}
 use Rattle.rv_list_laws.proofs.FindLemmas.{each_find, find_mapped}
 use Rattle.rv_statement_laws.specs.Statement.{Statement}
-use Rattle.rv_text_laws.specs.Values.{InSection, add}
+use Rattle.rv_expression_laws.specs.Values.{InSection, add}
 use Rattle.rv_map_laws.specs.Map.{Map, Global}
 use Rattle.rv_map_laws.specs.Limits.{IsMap, IsGlobal}
 use Rattle.rv_map_laws.specs.declared.map.Row.{Row}

@@ -2,12 +2,12 @@
 
 use Rattle.std.proofs.Common.{◌≡◌, ℕ, ◌-◌, ◌%◌, ◌^◌, ◌<◌, Bool, true, false, ◌==◌, if◌then◌else◌, Option, Some, None, option_map, option_and_then, IfSome, refl, sym, ◌∙◌, ap, subst, arith}
 use Rattle.std.proofs.lemmas.Bool.{eqb-true}
-use Rattle.rv_text_laws.specs.declared.operator.UnaryOperator.{UnaryOperator}
-use Rattle.rv_text_laws.specs.declared.operator.UnaryOperator.TheVariants.{Negate, Complement, Keep}
-use Rattle.rv_text_laws.specs.declared.operator.BinaryOperator.{BinaryOperator}
-use Rattle.rv_text_laws.specs.declared.operator.BinaryOperator.TheVariants.{Multiply, Divide, Remainder, ShiftLeft, ShiftRight, Or, And, ExclusiveOr, Add, Subtract}
-use Rattle.rv_text_laws.specs.Expression.{Primary}
-use Rattle.rv_text_laws.specs.Values.{Meaning, Known, InSection, Open, Refused, Value, Constant, Symbolic, Difference, Faulty, add, subtract, arithmetic, apart, sum, difference, constants_alone, both, unary_value, meant}
+use Rattle.rv_expression_laws.specs.declared.operator.UnaryOperator.{UnaryOperator}
+use Rattle.rv_expression_laws.specs.declared.operator.UnaryOperator.TheVariants.{Negate, Complement, Keep}
+use Rattle.rv_expression_laws.specs.declared.operator.BinaryOperator.{BinaryOperator}
+use Rattle.rv_expression_laws.specs.declared.operator.BinaryOperator.TheVariants.{Multiply, Divide, Remainder, ShiftLeft, ShiftRight, Or, And, ExclusiveOr, Add, Subtract}
+use Rattle.rv_expression_laws.specs.Expression.{Primary}
+use Rattle.rv_expression_laws.specs.Values.{Meaning, Known, InSection, Open, Refused, Value, Constant, Symbolic, Difference, Faulty, add, subtract, arithmetic, apart, sum, difference, constants_alone, both, unary_value, meant}
 use Rattle.rv_source_laws.specs.Program.{resolved}
 use Rattle.rv_value_theorems.specs.Plain.{of_one, of_two, of_both}
 use Rattle.rv_value_theorems.specs.Agreement.{HasForm}

@@ -1,8 +1,8 @@
 -- What the numbers of names have to do with what the names mean.
 
 use Rattle.std.specs.Prelude.{◌≡◌, ℕ, ◌^◌, ◌<◌, Option, Some, IsSome, IfSome}
-use Rattle.rv_text_laws.specs.Expression.{Primary, Literal, Tree, Leaf, Unary, Paren, Binary}
-use Rattle.rv_text_laws.specs.Values.{Meaning, Known, InSection, Open, Refused, Value, Constant, Symbolic, Difference, Faulty, add}
+use Rattle.rv_expression_laws.specs.Expression.{Primary, Literal, Tree, Leaf, Unary, Paren, Binary}
+use Rattle.rv_expression_laws.specs.Values.{Meaning, Known, InSection, Open, Refused, Value, Constant, Symbolic, Difference, Faulty, add}
 
 -- the number of a name, if it has one, is the constant that it means, or its offset from where its
 -- section begins

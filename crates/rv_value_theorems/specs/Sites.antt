@@ -2,8 +2,8 @@
 
 use Rattle.std.specs.Prelude.{◌≡◌, ℕ, true, Option, Some, None}
 use Rattle.std.specs.List.{AllByRecursion}
-use Rattle.rv_text_laws.specs.Expression.{Primary}
-use Rattle.rv_text_laws.specs.Values.{Meaning, Known, InSection, Open, Refused, add}
+use Rattle.rv_expression_laws.specs.Expression.{Primary}
+use Rattle.rv_expression_laws.specs.Values.{Meaning, Known, InSection, Open, Refused, add}
 use Rattle.rv_statement_laws.specs.Statement.{Expression}
 use Rattle.rv_unit_laws.specs.Tables.{meaning}
 use Rattle.rv_source_laws.specs.Located.{Located}

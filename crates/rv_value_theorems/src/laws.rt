@@ -1,8 +1,8 @@
 //! The laws of values: of any expression, and of those of sources at a map.
 
 ghost use Rattle.std.specs.Prelude.{◌≡◌, ℕ, ◌^◌, ◌<◌, ◌↔◌, List, Option, Some, None, IsSome};
-ghost use Rattle.rv_text_laws.specs.Expression.{Primary, Tree};
-ghost use Rattle.rv_text_laws.specs.Values.{Meaning, Constant, value_of};
+ghost use Rattle.rv_expression_laws.specs.Expression.{Primary, Tree};
+ghost use Rattle.rv_expression_laws.specs.Values.{Meaning, Constant, value_of};
 ghost use Rattle.rv_source_laws.specs.Program.{program, resolved};
 ghost use Rattle.rv_map_laws.specs.Map.{Map};
 ghost use Rattle.rv_map_laws.specs.Limits.{IsMap};

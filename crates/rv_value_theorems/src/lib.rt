@@ -1,6 +1,6 @@
 //! The value of an expression is plain arithmetic on 64 bits, with each name at its address.
 //!
-//! Two definitions meet here. `value_of` (`rv_text_laws`) keeps what an assembler keeps: a constant, a constant and a symbol, or
+//! Two definitions meet here. `value_of` (`rv_expression_laws`) keeps what an assembler keeps: a constant, a constant and a symbol, or
 //! a constant and a difference of two, and `value` (`rv_source_laws`) adds addresses at the end. `plain` (`specs/Plain`) knows
 //! nothing of these: each name is a number from the start, and each operator is applied to numbers. So it can be read aloud, and
 //! whoever agrees with it need not read the other.
@@ -10,7 +10,7 @@
 //! places and distances apart (`specs/Forms`). [`values_are_plain`] is the law of sources: where a map fits them, the value of
 //! each expression of each statement is plain arithmetic with the addresses of the map (`specs/Sites`).
 //!
-//! A wrong line in `Values` leaves `rv_text_laws` proved and is refused here. That was tried with seven: a `difference` that adds
+//! A wrong line in `Values` leaves `rv_expression_laws` proved and is refused here. That was tried with seven: a `difference` that adds
 //! a constant where it should take it off, one wrong line of `sum`, three of `apart` and one of `~` break [`plain_value`]; a
 //! `sum` that refuses a symbol and a number breaks [`sorted_form`]. No must-fail edit says so: an edit changes one crate alone.
 //!

@@ -3,7 +3,7 @@
 use rv_isa::{AtomicOperation, Reg};
 use rv_parcel::ParcelOperation;
 use rv_statement::{Operation, Plain, StatementKind, UnaryOperation};
-use rv_text::Expr;
+use rv_expression::Expr;
 
 /// Where a run goes from a statement.
 #[derive(Clone, Copy, PartialEq, Eq, Drop)]

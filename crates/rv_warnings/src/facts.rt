@@ -3,7 +3,7 @@
 use crate::effect::{Flow, flow_of, name_in, written_by};
 use rv_parse::parse_compact;
 use rv_statement::{Setting, StatementKind, Statements};
-use rv_text::{Expr, SourceFault};
+use rv_expression::{Expr, SourceFault};
 use rv_unit::{Binding, Unit};
 use std::alloc::{AllocError, Global};
 use std::collections::{HashMap, HashSet};

@@ -4,7 +4,7 @@ use crate::effect::{Flow, flow_of, is_zero, written_by};
 use crate::facts::Facts;
 use rv_isa::{ImmediateOperation, Reg, RegisterOperation};
 use rv_statement::{Operation, Plain, StatementKind, UnaryOperation};
-use rv_text::Expr;
+use rv_expression::Expr;
 
 /// What a register holds.
 #[derive(Clone, Copy, Drop)]

@@ -14,4 +14,4 @@
 mod stepping;
 mod watching;
 
-pub use watching::{Program, run_with_results, stats, trace};
+pub use watching::{KnownSource, run_with_results, stats, trace};

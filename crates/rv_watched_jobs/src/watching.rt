@@ -20,14 +20,14 @@ use std::io::Write;
 
 /// What is known of a program.
 #[derive(Drop)]
-pub struct Program {
+pub struct KnownSource {
     /// Its map, where it was built from sources or the words name one.
     pub map: Option<Map>,
     /// The texts of its sources in their order, where it was built from them.
     pub sources: Vec<Vec<u8>>,
 }
 
-impl Program {
+impl KnownSource {
     /// What is known of its addresses.
     fn places<'a, 'w: 'a>(
         &'a self,
@@ -55,7 +55,7 @@ pub fn run_with_results<S: Guests>(
     system: &mut S,
     asked: &Asked<'_>,
     results: &Results<'_>,
-    program: Program,
+    program: KnownSource,
     image: Image,
 ) -> Result<u8, JobError> {
     let alloc: Global = system.alloc();
@@ -139,7 +139,7 @@ pub fn stats<S: Guests>(
     system: &mut S,
     asked: &Asked<'_>,
     coverage: &Coverage<'_>,
-    program: Program,
+    program: KnownSource,
     image: Image,
 ) -> Result<u8, JobError> {
     let alloc: Global = system.alloc();
@@ -196,7 +196,7 @@ pub fn trace<S: Guests>(
     system: &mut S,
     asked: &Asked<'_>,
     shown: &Shown<'_>,
-    program: Program,
+    program: KnownSource,
     image: Image,
 ) -> Result<u8, JobError> {
     let alloc: Global = system.alloc();

@@ -3,7 +3,7 @@
 import re, sys
 from pathlib import Path
 path = Path(sys.argv[1]) / "crates.txt"
-DEF = """rv_isa rv_isa_laws rv_layout_laws rv_collect_laws rv_text_laws rv_parse_laws rv_pseudo_laws rv_unit_laws rv_source_laws
+DEF = """rv_isa rv_isa_laws rv_size_laws rv_collect_laws rv_expression_laws rv_parse_laws rv_pseudo_laws rv_unit_laws rv_source_laws
 rv_object_file_laws rv_object_laws rv_cut_laws rv_assemble_laws rv_fault rv_chain_laws rv_listing_laws rv_image_laws rv_link_laws""".split()
 THE = """rv_filling_laws rv_value_laws rv_runs_laws rv_sources_link_laws rv_unique_object_laws rv_unique_link_laws rv_reach_laws rv_raw_laws
 rv_reassembly_laws rv_raw_link_laws rv_examples rv_plan_laws""".split()

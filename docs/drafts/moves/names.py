@@ -5,9 +5,9 @@ from pathlib import Path
 top = Path(sys.argv[1]).resolve()
 git = lambda *w: subprocess.run(["git", "-C", str(top), *w], check=True, capture_output=True, text=True).stdout
 CRATES = {
-    "rv_text": "rv_expression", "rv_text_laws": "rv_expression_laws", "rv_text_tests": "rv_expression_tests",
-    "rv_report": "rv_check", "rv_layout_laws": "rv_size_laws",
-    "rv_refused": "rv_refusal_tests", "rv_file_tests": "rv_executable_tests",
+    "rv_expression": "rv_expression", "rv_expression_laws": "rv_expression_laws", "rv_expression_tests": "rv_expression_tests",
+    "rv_check": "rv_check", "rv_size_laws": "rv_size_laws",
+    "rv_refusal_tests": "rv_refusal_tests", "rv_executable_tests": "rv_executable_tests",
 }
 W = lambda w: re.compile(rf"(?<![\w◌]){w}(?![\w◌])")
 def exists(c): return (top / "crates" / c).is_dir()
@@ -45,7 +45,7 @@ def file_names(crates, pairs):
                 if stem in pairs: git("mv", str(p), str(p.with_name(pairs[stem] + (p.suffix if p.is_file() else ""))))
 
 # what remains to be read
-for p in files(*of("rv_lexer", "rv_text", "rv_parse", "rv_parse_words", "rv_machine", "rv_disasm", "rv_memory", "rv_unit_tables", "rv_unit")):
+for p in files(*of("rv_lexer", "rv_expression", "rv_parse", "rv_parse_words", "rv_machine", "rv_disasm", "rv_memory", "rv_unit_tables", "rv_unit")):
     t, s = p.read_text(encoding="utf-8"), str(p)
     if not W("left").search(t): continue
     pairwise = (W("right").search(t) and "/rv_machine/" not in s and "/rv_memory/" not in s) or "/number" in s

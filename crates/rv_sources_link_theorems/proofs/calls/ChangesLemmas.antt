@@ -10,16 +10,16 @@ use Rattle.std.specs.Prelude.{not, ◌&&◌, ◌||◌, ◌==◌, nat_lt, if◌th
 use Rattle.std.specs.Int.{w64, int_wrap}
 use Rattle.std.specs.List.{AllByRecursion, list_any, slice_get}
 use Rattle.rv_list_laws.proofs.EachLemmas.{each_append}
-use Rattle.rv_layout_laws.specs.Sites.{padding_site}
+use Rattle.rv_size_laws.specs.Sites.{padding_site}
 use Rattle.rv_isa.specs.declared.kind.Kind.TheVariants as kinds
-use Rattle.rv_text_laws.specs.Expression.{Primary}
-use Rattle.rv_text_laws.specs.Values.{Value}
+use Rattle.rv_expression_laws.specs.Expression.{Primary}
+use Rattle.rv_expression_laws.specs.Values.{Value}
 use Rattle.rv_statement_laws.specs.declared.mnemonic.Mnemonic.{Mnemonic}
 use Rattle.rv_statement_laws.specs.Statement.{StatementKind, Instruction, Directs, Operand, Expression, Directive}
 use Rattle.rv_unit_laws.specs.Sections.{Section as SourceSection}
 use Rattle.rv_unit_laws.specs.Tables.{Tables, alignment_of as source_alignment}
-use Rattle.rv_layout_laws.specs.declared.site.Site.{Site as Spot}
-use Rattle.rv_layout_laws.specs.declared.site.SiteKind.TheVariants as spots
+use Rattle.rv_size_laws.specs.declared.site.Site.{Site as Spot}
+use Rattle.rv_size_laws.specs.declared.site.SiteKind.TheVariants as spots
 use Rattle.rv_source_laws.specs.Located.{Located}
 use Rattle.rv_source_laws.specs.Program.{Program, tables_in, form as program_form}
 use Rattle.rv_source_laws.specs.Sizes.{target_in}

@@ -7,14 +7,14 @@ use Rattle.std.specs.Prelude.{◌&&◌, ◌||◌, ◌==◌, IsTrue, nat_le, if�
 use Rattle.std.specs.List.{AllByRecursion, slice_get, list_any}
 use Rattle.rv_list_laws.proofs.FilterLemmas.{each_filter}
 use Rattle.rv_list_laws.proofs.EachLemmas.{each_append}
-use Rattle.rv_layout_laws.specs.Sites.{padding_site, size_at}
+use Rattle.rv_size_laws.specs.Sites.{padding_site, size_at}
 use Rattle.rv_statement_laws.specs.Statement.{StatementKind, Label, Numbered, Instruction, Directs, Statement}
 use Rattle.rv_unit_laws.specs.Sections.{Section as SourceSection, goes_to_text as source_text}
 use Rattle.rv_unit_laws.specs.Tables.{Tables, tables}
-use Rattle.rv_layout_laws.specs.declared.site.Site.{Site as Spot}
-use Rattle.rv_layout_laws.specs.declared.site.SiteKind.{SiteKind}
-use Rattle.rv_layout_laws.specs.declared.site.SiteKind.TheVariants as spots
-use Rattle.rv_layout_laws.specs.Calls.{Offers, site_at as spot_at, is_call as is_call_spot}
+use Rattle.rv_size_laws.specs.declared.site.Site.{Site as Spot}
+use Rattle.rv_size_laws.specs.declared.site.SiteKind.{SiteKind}
+use Rattle.rv_size_laws.specs.declared.site.SiteKind.TheVariants as spots
+use Rattle.rv_size_laws.specs.Calls.{Offers, site_at as spot_at, is_call as is_call_spot}
 use Rattle.rv_source_laws.specs.Sized.{is_call_mnemonic}
 use Rattle.rv_source_laws.specs.Shortened.{is_call_statement, link_register}
 use Rattle.rv_object_laws.specs.Object.{Relocation, Section, Object, stored, size_of}

@@ -6,9 +6,9 @@ use Rattle.std.specs.List.{AllByRecursion}
 use Rattle.rv_statement_laws.specs.declared.mnemonic.Mnemonic.{Mnemonic}
 use Rattle.rv_statement_laws.specs.declared.mnemonic.Mnemonic.TheVariants.{Call, Tail, Jump}
 use Rattle.rv_statement_laws.specs.Statement.{StatementKind, Label, Numbered, Instruction, Directs, Statement, Operand, Expression}
-use Rattle.rv_text_laws.specs.Values.{Value}
-use Rattle.rv_layout_laws.specs.declared.item.Forms.TheVariants.{Settled}
-use Rattle.rv_layout_laws.specs.Branches.{Offers, item_at}
+use Rattle.rv_expression_laws.specs.Values.{Value}
+use Rattle.rv_size_laws.specs.declared.item.Forms.TheVariants.{Settled}
+use Rattle.rv_size_laws.specs.Branches.{Offers, item_at}
 use Rattle.rv_unit_laws.specs.Sections.{Section as SourceSection}
 use Rattle.rv_unit_laws.specs.Tables.{Tables, tables, at_start}
 use Rattle.rv_source_laws.specs.Located.{Located, located_from, masked}

@@ -6,8 +6,8 @@ use Rattle.std.specs.Prelude.{◌||◌, flat_map, unwrap_or}
 use Rattle.std.specs.List.{list_any}
 use Rattle.std.proofs.lemmas.List.Folds.{list_any-append}
 use Rattle.rv_map_laws.specs.declared.map.SectionId.{SectionId}
-use Rattle.rv_text_laws.specs.Expression.{Here}
-use Rattle.rv_text_laws.specs.Values.{Value, Constant, Symbolic, Difference, Faulty}
+use Rattle.rv_expression_laws.specs.Expression.{Here}
+use Rattle.rv_expression_laws.specs.Values.{Value, Constant, Symbolic, Difference, Faulty}
 use Rattle.rv_statement_laws.specs.declared.mnemonic.Mnemonic.{Mnemonic}
 use Rattle.rv_statement_laws.specs.Statement.{StatementKind, Label, Numbered, Instruction, Directs, Expression, Operand, Values, Strings, Zeros}
 use Rattle.rv_parcel.specs.declared.form.Compressed.{Compressed}

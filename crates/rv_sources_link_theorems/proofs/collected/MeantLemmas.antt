@@ -4,8 +4,8 @@ use Rattle.std.proofs.Common.{◌≡◌, ℕ, suc, Bool, true, false, List, [], 
 use Rattle.std.specs.Prelude.{not, if◌then◌else◌, option_map, option_and_then}
 use Rattle.std.specs.List.{AllByRecursion}
 use Rattle.rv_map_laws.specs.declared.map.SectionId.{SectionId}
-use Rattle.rv_text_laws.specs.Expression.{Primary, Symbol as Named, Literal, Here, Reference}
-use Rattle.rv_text_laws.specs.Values.{Meaning, Known, InSection as InData, Open as OpenAddress, Refused}
+use Rattle.rv_expression_laws.specs.Expression.{Primary, Symbol as Named, Literal, Here, Reference}
+use Rattle.rv_expression_laws.specs.Values.{Meaning, Known, InSection as InData, Open as OpenAddress, Refused}
 use Rattle.rv_statement_laws.specs.Statement.{StatementKind, Label, Numbered, Instruction, Directs, Statement, Enters, Sets}
 use Rattle.rv_unit_laws.specs.Tables.{Tables, Assignment, Definition, tables, at_start, definition, gives_way, sure_definition, assigned_ever}
 use Rattle.rv_source_laws.specs.Exports.{defined_name}

@@ -7,7 +7,7 @@ use Rattle.std.proofs.lemmas.Bool.{eqb-true}
 use Rattle.std.proofs.lemmas.List.Folds.{list_any-append}
 use Rattle.rv_list_laws.proofs.EachLemmas.{each_split}
 use Rattle.rv_map_laws.specs.declared.map.SectionId.{SectionId}
-use Rattle.rv_text_laws.specs.Expression.{Primary, Here}
+use Rattle.rv_expression_laws.specs.Expression.{Primary, Here}
 use Rattle.rv_statement_laws.specs.declared.mnemonic.Mnemonic.{Mnemonic}
 use Rattle.rv_statement_laws.specs.Statement.{Instruction, Statement, Operand}
 use Rattle.rv_unit_laws.specs.Sections.{Section as SourceSection}

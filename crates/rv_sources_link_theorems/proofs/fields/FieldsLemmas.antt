@@ -8,7 +8,7 @@ use Rattle.rv_list_laws.proofs.FilterLemmas.{each_filter}
 use Rattle.rv_list_laws.proofs.EachLemmas.{each_split, each_flat_map}
 use Rattle.rv_isa.specs.declared.kind.Kind.{Kind}
 use Rattle.rv_isa.specs.declared.kind.Kind.TheVariants.{Abs32, Abs64, Add8, Add16, Add32, Add64, Sub8, Sub16, Sub32, Sub64}
-use Rattle.rv_text_laws.specs.Expression.{Primary}
+use Rattle.rv_expression_laws.specs.Expression.{Primary}
 use Rattle.rv_unit_laws.specs.Sections.{Section as SourceSection}
 use Rattle.rv_unit_laws.specs.Tables.{Tables}
 use Rattle.rv_map_laws.specs.Limits.{IsGlobal}

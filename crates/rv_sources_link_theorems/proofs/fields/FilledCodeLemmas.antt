@@ -12,8 +12,8 @@ use Rattle.rv_isa.specs.declared.kind.Kind.TheVariants as kind
 use Rattle.rv_isa_laws.specs.Arithmetic.{signed}
 use Rattle.rv_reloc_laws.specs.Ranges.{Takes}
 use Rattle.rv_reloc_laws.specs.Values.{value_of}
-use Rattle.rv_text_laws.specs.Expression.{Primary, Symbol as Named, Literal, Here, Reference}
-use Rattle.rv_text_laws.specs.Values.{Meaning, Value, Symbolic, add}
+use Rattle.rv_expression_laws.specs.Expression.{Primary, Symbol as Named, Literal, Here, Reference}
+use Rattle.rv_expression_laws.specs.Values.{Meaning, Value, Symbolic, add}
 use Rattle.rv_statement_laws.specs.declared.mnemonic.Mnemonic.{Mnemonic}
 use Rattle.rv_statement_laws.specs.declared.pseudo.Function.TheVariants.{Hi, Lo, PcrelHi, PcrelLo}
 use Rattle.rv_statement_laws.specs.Statement.{Instruction, Operand, Register, Value as Of_value, Applied, Target, Accesses, Word, Quoted, Expression}

@@ -7,8 +7,8 @@ use Rattle.std.specs.List.{AllByRecursion, slice_get, find}
 use Rattle.rv_list_laws.proofs.FindLemmas.{each_find}
 use Rattle.rv_isa.specs.Kinds.{is_low_part}
 use Rattle.rv_isa.specs.declared.kind.Kind.{Kind}
-use Rattle.rv_text_laws.specs.Expression.{Here}
-use Rattle.rv_text_laws.specs.Values.{add}
+use Rattle.rv_expression_laws.specs.Expression.{Here}
+use Rattle.rv_expression_laws.specs.Values.{add}
 use Rattle.rv_unit_laws.specs.Sections.{Section as SourceSection}
 use Rattle.rv_unit_laws.specs.Tables.{Tables, Definition}
 use Rattle.rv_map_laws.specs.Limits.{IsGlobal}

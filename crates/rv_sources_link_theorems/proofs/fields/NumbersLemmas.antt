@@ -7,7 +7,7 @@ use Rattle.std.specs.Int.{w64, int_wrap, cast_signed}
 use Rattle.rv_isa.specs.declared.kind.Kind.TheVariants.{Abs32, Abs64, Add8, Add16, Add32, Add64, Sub8, Sub16, Sub32, Sub64}
 use Rattle.rv_isa_laws.specs.Bytes.{little_endian, number_in, zeros}
 use Rattle.rv_reloc_laws.specs.Fields.{modulo, patched}
-use Rattle.rv_text_laws.specs.Values.{add, subtract}
+use Rattle.rv_expression_laws.specs.Values.{add, subtract}
 
 -- S + A, where A wraps
 abbrev pub worth : ℕ → ℕ → ℤ

@@ -7,7 +7,7 @@ use Rattle.rv_list_laws.proofs.EachLemmas.{each_append}
 use Rattle.rv_isa.specs.declared.kind.Kind.{Kind}
 use Rattle.rv_isa.specs.declared.kind.Kind.TheVariants as kinds
 use Rattle.rv_isa.specs.Kinds.{width_of}
-use Rattle.rv_text_laws.specs.Values.{Value}
+use Rattle.rv_expression_laws.specs.Values.{Value}
 use Rattle.rv_statement_laws.specs.Statement.{StatementKind, Label, Numbered, Instruction, Directs, Expression, Enters, Opens, Binds, Sets, Chooses, Ignored, Aligns, Emits}
 use Rattle.rv_pseudo_laws.specs.Code.{Part as CodePart, Closed, Open as Open_part, Joined}
 use Rattle.rv_pseudo_laws.specs.Filled.{are_closed}

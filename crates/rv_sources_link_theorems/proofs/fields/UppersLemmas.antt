@@ -11,8 +11,8 @@ use Rattle.rv_list_laws.proofs.FindLemmas.{find_join, find_front}
 use Rattle.rv_isa.specs.declared.instruction.Inst.{Inst}
 use Rattle.rv_isa.specs.declared.kind.Kind.{Kind}
 use Rattle.rv_isa.specs.declared.kind.Kind.TheVariants as kind
-use Rattle.rv_text_laws.specs.Expression.{Primary}
-use Rattle.rv_text_laws.specs.Values.{Meaning, Value, Constant, Symbolic, Difference, Faulty, add}
+use Rattle.rv_expression_laws.specs.Expression.{Primary}
+use Rattle.rv_expression_laws.specs.Values.{Meaning, Value, Constant, Symbolic, Difference, Faulty, add}
 use Rattle.rv_statement_laws.specs.declared.mnemonic.Mnemonic.{Mnemonic}
 use Rattle.rv_statement_laws.specs.declared.pseudo.Function.TheVariants.{Hi, Lo, PcrelHi, PcrelLo}
 use Rattle.rv_statement_laws.specs.Statement.{StatementKind, Label, Numbered, Instruction, Directs, Operand, Register, Value as Of_value, Applied, Target, Accesses, Word, Quoted, Expression}

@@ -3,10 +3,10 @@
 use Rattle.std.proofs.Common.{◌≡◌, ℕ, zero, suc, ◌+◌, ◌-◌, true, List, [], ◌∷◌, ◌++◌, sym, ap, ◌∙◌, subst, arith, map, Option, Some, None}
 use Rattle.std.specs.Prelude.{⊤, Bool, if◌then◌else◌, ℤ, pos, false, unwrap_or, slice_index_or}
 use Rattle.std.specs.List.{AllByRecursion, slice_get}
-use Rattle.rv_text_laws.specs.Expression.{Primary}
+use Rattle.rv_expression_laws.specs.Expression.{Primary}
 use Rattle.rv_statement_laws.specs.Statement.{Statement}
 use Rattle.rv_unit_laws.specs.Tables.{Tables, Definition, definition, tables, at_start}
-use Rattle.rv_text_laws.specs.Codes.{lowest}
+use Rattle.rv_expression_laws.specs.Codes.{lowest}
 use Rattle.rv_unit_laws.specs.Faults.{StatementFault, first_unit_fault}
 use Rattle.rv_source_laws.specs.Located.{Located, masked, located_from}
 use Rattle.rv_source_laws.specs.Program.{Program, tables_in}

@@ -7,9 +7,9 @@ use Rattle.std.specs.List.{AllByRecursion, slice_get}
 use Rattle.rv_list_laws.proofs.FindLemmas.{each_find}
 use Rattle.std.proofs.lemmas.Option.{slice_get-map}
 use Rattle.rv_list_laws.proofs.EachLemmas.{each_map}
-use Rattle.rv_text_laws.specs.Bytes.{digits_value}
-use Rattle.rv_text_laws.specs.Expression.{Primary, Symbol as Named, Literal, Here, Reference}
-use Rattle.rv_text_laws.specs.Values.{Meaning, Known, InSection as InData, Open as OpenAddress, Refused, add}
+use Rattle.rv_expression_laws.specs.Bytes.{digits_value}
+use Rattle.rv_expression_laws.specs.Expression.{Primary, Symbol as Named, Literal, Here, Reference}
+use Rattle.rv_expression_laws.specs.Values.{Meaning, Known, InSection as InData, Open as OpenAddress, Refused, add}
 use Rattle.rv_statement_laws.specs.Statement.{StatementKind, Label, Numbered, Instruction, Directs, Enters, Sets}
 use Rattle.rv_unit_laws.specs.Tables.{Tables, NumericLabel, Labelled, Assignment, Definition, definition, definition_at, is_location, assigned_before, assigned_ever, assigned_definition as defined_by, labelled_definition, first_definition, numeric_definition, label_of, numeric_label_before, numeric_label_after, longest_section}
 use Rattle.rv_unit_laws.specs.Bindings.{is_shared as is_shared_name}

@@ -6,7 +6,7 @@ use Rattle.std.specs.Prelude.{◌&&◌, ◌==◌, if◌then◌else◌, flat_map}
 use Rattle.std.specs.List.{AllByRecursion, slice_get}
 use Rattle.rv_list_laws.proofs.FilterLemmas.{each_filter}
 use Rattle.rv_list_laws.proofs.EachLemmas.{each_append}
-use Rattle.rv_layout_laws.specs.Alignment.{aligned}
+use Rattle.rv_size_laws.specs.Alignment.{aligned}
 use Rattle.rv_statement_laws.specs.Statement.{Statement}
 use Rattle.rv_unit_laws.specs.Sections.{Section as SourceSection, goes_to_text as source_text}
 use Rattle.rv_unit_laws.specs.Tables.{Tables, tables, opened_of}

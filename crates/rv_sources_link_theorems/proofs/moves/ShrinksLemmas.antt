@@ -6,8 +6,8 @@ use Rattle.std.specs.Prelude.{◌&&◌, ◌==◌, if◌then◌else◌, filter, f
 use Rattle.std.specs.List.{AllByRecursion, slice_get}
 use Rattle.rv_list_laws.proofs.FindLemmas.{each_find}
 use Rattle.rv_list_laws.proofs.EachLemmas.{each_split, each_append, each_map}
-use Rattle.rv_layout_laws.specs.Alignment.{aligned}
-use Rattle.rv_text_laws.specs.Values.{Meaning, Known, InSection as InData, Open as OpenAddress, Refused, add}
+use Rattle.rv_size_laws.specs.Alignment.{aligned}
+use Rattle.rv_expression_laws.specs.Values.{Meaning, Known, InSection as InData, Open as OpenAddress, Refused, add}
 use Rattle.rv_statement_laws.specs.Statement.{StatementKind, Label, Numbered, Instruction, Directs, Statement, Enters, Sets}
 use Rattle.rv_unit_laws.specs.Bindings.{is_shared}
 use Rattle.rv_unit_laws.specs.Sections.{Section as SourceSection, goes_to_text as source_text}

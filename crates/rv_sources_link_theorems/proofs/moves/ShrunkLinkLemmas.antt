@@ -9,7 +9,7 @@ use Rattle.std.specs.Option.{option_or}
 use Rattle.rv_list_laws.proofs.FindLemmas.{each_find}
 use Rattle.rv_list_laws.proofs.EachLemmas.{each_append}
 use Rattle.rv_map_laws.specs.Globals.{AreDistinct, global_address, shown, linker_symbols}
-use Rattle.rv_layout_laws.specs.Alignment.{aligned}
+use Rattle.rv_size_laws.specs.Alignment.{aligned}
 use Rattle.rv_isa_laws.specs.Bytes.{zeros}
 use Rattle.rv_map_laws.specs.Map.{Global}
 use Rattle.rv_map_laws.specs.declared.map.Region.{Region}

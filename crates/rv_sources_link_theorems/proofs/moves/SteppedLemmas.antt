@@ -7,7 +7,7 @@ use Rattle.std.specs.Prelude.{not, nat_lt, max, if◌then◌else◌, filter, fla
 use Rattle.std.specs.List.{AllByRecursion}
 use Rattle.rv_list_laws.proofs.EachLemmas.{each_split, each_append}
 use Rattle.rv_list_laws.proofs.TakeDropLemmas.{drop_front}
-use Rattle.rv_layout_laws.specs.Alignment.{aligned}
+use Rattle.rv_size_laws.specs.Alignment.{aligned}
 use Rattle.rv_unit_laws.specs.Sections.{Section as SourceSection}
 use Rattle.rv_unit_laws.specs.Tables.{Tables}
 use Rattle.rv_object_laws.specs.Object.{Relocation}

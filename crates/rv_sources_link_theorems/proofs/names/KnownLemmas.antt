@@ -6,8 +6,8 @@ use Rattle.std.specs.List.{AllByRecursion, find, slice_get}
 use Rattle.std.specs.Option.{option_or}
 use Rattle.rv_list_laws.proofs.FindLemmas.{each_find}
 use Rattle.rv_map_laws.specs.Globals.{global_address}
-use Rattle.rv_text_laws.specs.Expression.{Primary, Symbol as Named, Literal, Here, Reference}
-use Rattle.rv_text_laws.specs.Values.{add}
+use Rattle.rv_expression_laws.specs.Expression.{Primary, Symbol as Named, Literal, Here, Reference}
+use Rattle.rv_expression_laws.specs.Values.{add}
 use Rattle.rv_unit_laws.specs.Sections.{Section as SourceSection}
 use Rattle.rv_unit_laws.specs.Bindings.{is_weak as is_weak_name}
 use Rattle.rv_unit_laws.specs.Tables.{Tables, Definition, definition, gives_way, sure_definition}

@@ -4,9 +4,9 @@ use Rattle.std.proofs.Common.{◌≡◌, ℕ, suc, Bool, true, false, List, [], 
 use Rattle.std.specs.Prelude.{⊤, ◌&&◌, nat_lt, is_some, if◌then◌else◌}
 use Rattle.std.specs.Str.{bytes_eq}
 use Rattle.std.proofs.lemmas.Bool.{not-true}
-use Rattle.rv_text_laws.specs.Bytes.{digits_value}
-use Rattle.rv_text_laws.specs.Expression.{Primary, Literal, Symbol, Here, Reference}
-use Rattle.rv_text_laws.specs.Values.{Known, InSection, Open, Refused, Value, Constant, Symbolic, Difference, Faulty, add}
+use Rattle.rv_expression_laws.specs.Bytes.{digits_value}
+use Rattle.rv_expression_laws.specs.Expression.{Primary, Literal, Symbol, Here, Reference}
+use Rattle.rv_expression_laws.specs.Values.{Known, InSection, Open, Refused, Value, Constant, Symbolic, Difference, Faulty, add}
 use Rattle.rv_statement_laws.specs.Statement.{StatementKind, Label, Numbered, Instruction, Directs, Statement, Directive, Enters, Opens, Binds, Sets, Chooses, Ignored, Aligns, Emits}
 use Rattle.rv_unit_laws.specs.Sections.{entered_by}
 use Rattle.rv_unit_laws.specs.Tables.{Tables, Labelled, NumericLabel, Assignment, Definition, here, value_by_tables, label_of, assigned_before, assigned_ever, is_defined, has_location, may_set, assigned, assigned_by, with_assignment, with_label, with_section, after_directive, after, after_all, at_start, tables, definition, assigned_definition, first_definition, labelled_definition, numeric_definition, numeric_label_after, numeric_label_before}

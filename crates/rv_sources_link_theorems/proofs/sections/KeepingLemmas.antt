@@ -5,8 +5,8 @@ use Rattle.std.specs.Prelude.{◌&&◌, ◌||◌, ◌==◌, not, if◌then◌els
 use Rattle.std.specs.List.{AllByRecursion, list_any}
 use Rattle.rv_map_laws.specs.declared.map.SectionId.{SectionId}
 use Rattle.rv_collect_laws.specs.Graph.{is_dropped}
-use Rattle.rv_text_laws.specs.Expression.{Primary}
-use Rattle.rv_text_laws.specs.Values.{Value, Meaning, Known, InSection as InData, Open as OpenAddress, Refused}
+use Rattle.rv_expression_laws.specs.Expression.{Primary}
+use Rattle.rv_expression_laws.specs.Values.{Value, Meaning, Known, InSection as InData, Open as OpenAddress, Refused}
 use Rattle.rv_statement_laws.specs.Statement.{StatementKind, Label, Numbered, Instruction, Directs, Statement, Expression, Enters, Sets, Aligns, Emits}
 use Rattle.rv_unit_laws.specs.Bindings.{is_shared}
 use Rattle.rv_unit_laws.specs.Contributions.{contribution}

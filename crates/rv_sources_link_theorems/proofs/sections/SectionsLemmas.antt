@@ -7,10 +7,10 @@ use Rattle.std.proofs.lemmas.Nat.{div-add-mod'}
 use Rattle.std.specs.Prelude.{⊤, ℤ, ◌&&◌, max, if◌then◌else◌, flat_map, is_some, unwrap_or, option_map, option_and_then}
 use Rattle.std.specs.List.{AllByRecursion, list_all}
 use Rattle.rv_list_laws.proofs.EachLemmas.{each_split}
-use Rattle.rv_layout_laws.specs.Alignment.{aligned}
+use Rattle.rv_size_laws.specs.Alignment.{aligned}
 use Rattle.rv_isa_laws.specs.Bytes.{little_endian, zeros}
-use Rattle.rv_text_laws.specs.Expression.{Primary}
-use Rattle.rv_text_laws.specs.Values.{Value, Constant, Symbolic, Difference, Faulty, add, subtract}
+use Rattle.rv_expression_laws.specs.Expression.{Primary}
+use Rattle.rv_expression_laws.specs.Values.{Value, Constant, Symbolic, Difference, Faulty, add, subtract}
 use Rattle.rv_statement_laws.specs.Statement.{StatementKind, Label, Numbered, Instruction, Directs, Expression, Enters, Opens, Binds, Sets, Chooses, Ignored, Values, Strings, Zeros, Aligns, Emits}
 use Rattle.rv_pseudo_laws.specs.Code.{Part as CodePart, code as code_parts}
 use Rattle.rv_unit_laws.specs.Tables.{Tables, alignment_of, sure_definition, string_bytes}

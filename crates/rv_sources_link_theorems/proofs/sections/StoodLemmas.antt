@@ -6,7 +6,7 @@ use Rattle.std.specs.Prelude.{⊤, not, ◌&&◌, ◌||◌, ◌==◌, nat_lt, if
 use Rattle.std.specs.List.{AllByRecursion, list_any}
 use Rattle.rv_list_laws.proofs.EachLemmas.{each_map, each_append}
 use Rattle.rv_list_laws.proofs.FindLemmas.{each_find}
-use Rattle.rv_text_laws.specs.Values.{Meaning, Known, InSection as InData, Open as OpenAddress, Refused}
+use Rattle.rv_expression_laws.specs.Values.{Meaning, Known, InSection as InData, Open as OpenAddress, Refused}
 use Rattle.rv_statement_laws.specs.Statement.{StatementKind, Label, Numbered, Instruction, Directs, Statement, Enters, Sets}
 use Rattle.rv_unit_laws.specs.Bindings.{is_shared}
 use Rattle.rv_unit_laws.specs.Sections.{goes_to_text as source_text}

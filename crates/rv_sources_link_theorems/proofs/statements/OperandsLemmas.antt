@@ -11,8 +11,8 @@ use Rattle.rv_isa.specs.Kinds.{is_low_part}
 use Rattle.rv_isa.specs.declared.kind.Kind.{Kind}
 use Rattle.rv_isa.specs.declared.kind.Kind.TheVariants as kind
 use Rattle.rv_isa_laws.specs.Arithmetic.{signed}
-use Rattle.rv_text_laws.specs.Expression.{Primary}
-use Rattle.rv_text_laws.specs.Values.{Meaning, Value, Constant, Symbolic, Difference, Faulty, add}
+use Rattle.rv_expression_laws.specs.Expression.{Primary}
+use Rattle.rv_expression_laws.specs.Values.{Meaning, Value, Constant, Symbolic, Difference, Faulty, add}
 use Rattle.rv_statement_laws.specs.declared.mnemonic.Mnemonic.{Mnemonic}
 use Rattle.rv_statement_laws.specs.Statement.{Operand, Register, Value as Of_value, Applied, Target, Accesses, Word, Quoted, Expression}
 use Rattle.rv_reloc_laws.specs.Values.{value_of}

@@ -1,7 +1,7 @@
 -- What the row of a statement owes to it, in terms of the values of its expressions.
 
 use Rattle.std.specs.Prelude.{List, ◌≡◌, ℕ, ℤ, unwrap_or, ◌+◌, ◌%◌, Bool, true, false, ⊤, [], Option, if◌then◌else◌}
-use Rattle.rv_text_laws.specs.Values.{Value}
+use Rattle.rv_expression_laws.specs.Values.{Value}
 use Rattle.rv_statement_laws.specs.Statement.{StatementKind, Label, Numbered, Instruction, Directs, Expression, Directive, Sets, Data, Values, Aligns, Emits}
 use Rattle.rv_unit_laws.specs.Sections.{Section}
 use Rattle.rv_unit_laws.specs.Tables.{alignment_of, padding, HasDataSize}

@@ -2,7 +2,7 @@
 
 use Rattle.std.proofs.Common.{ℕ, false, List, [], ◌∷◌, refl, arith, inl, inr, slice_index_or, map}
 use Rattle.std.specs.Int.{int_wrap}
-use Rattle.rv_text_laws.specs.Values.{Value}
+use Rattle.rv_expression_laws.specs.Values.{Value}
 use Rattle.rv_statement_laws.specs.Statement.{Label, Expression}
 use Rattle.rv_unit_laws.specs.Tables.{at_start, tables}
 use Rattle.rv_source_laws.specs.Located.{located_now, located_from}

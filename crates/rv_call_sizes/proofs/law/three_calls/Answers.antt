@@ -1,8 +1,8 @@
 use Rattle.std.proofs.Common.{inl, inr, ℕ, zero, suc, ◌+◌, ◌≤◌, ◌<◌, false, [], ◌∷◌, slice_index, pos, ◌-ℤ◌, refl, arith}
-use Rattle.rv_layout_laws.specs.Calls.{Offers, half, bytes_of, site_at, IsClosed, IsText, LeadsOutside, MayShorten, Shortenings, whole_sizes}
-use Rattle.rv_layout_laws.specs.Steps.{Unchanged, Changes}
-use Rattle.rv_layout_laws.proofs.ReachingLemmas.{reaches_tested}
-use Rattle.rv_layout_laws.proofs.ShorteningLemmas.{shortened_greatest}
+use Rattle.rv_size_laws.specs.Calls.{Offers, half, bytes_of, site_at, IsClosed, IsText, LeadsOutside, MayShorten, Shortenings, whole_sizes}
+use Rattle.rv_size_laws.specs.Steps.{Unchanged, Changes}
+use Rattle.rv_size_laws.proofs.ReachingLemmas.{reaches_tested}
+use Rattle.rv_size_laws.proofs.ShorteningLemmas.{shortened_greatest}
 use Rattle.rv_call_sizes.specs.Worked.{calls_to_f}
 use Rattle.rv_call_sizes.proofs.JudgingLemmas.{four_is_shortest}
 use Rattle.rv_call_sizes.proofs.law.three_calls.Goals as goal

@@ -1,10 +1,10 @@
 use Rattle.std.proofs.Common.{◌+◌, ◌*◌, ◌<◌, ◌≤◌, ◌-◌, length, arith, sym, subst}
 use Rattle.std.proofs.lemmas.List.Sums.{count_by-le-length}
-use Rattle.rv_layout_laws.specs.declared.site.Site.{Site}
-use Rattle.rv_layout_laws.specs.Calls.{is_call, Rounds, whole_sizes, calls}
-use Rattle.rv_layout_laws.specs.Steps.{Begins}
-use Rattle.rv_layout_laws.proofs.StepsLemmas.{rounds_few, one_round_more, round_and_steps}
-use Rattle.rv_layout_laws.proofs.ShorteningLemmas.{shortening, shortened_greatest}
+use Rattle.rv_size_laws.specs.declared.site.Site.{Site}
+use Rattle.rv_size_laws.specs.Calls.{is_call, Rounds, whole_sizes, calls}
+use Rattle.rv_size_laws.specs.Steps.{Begins}
+use Rattle.rv_size_laws.proofs.StepsLemmas.{rounds_few, one_round_more, round_and_steps}
+use Rattle.rv_size_laws.proofs.ShorteningLemmas.{shortening, shortened_greatest}
 use Rattle.rv_call_sizes.proofs.TablesLemmas.{first_table}
 use Rattle.rv_call_sizes.proofs.passes.settle.Goals as goal
 

@@ -1,5 +1,5 @@
 use Rattle.std.proofs.Common.{◌-◌, ◌*◌, length, if◌then◌else◌}
-use Rattle.rv_layout_laws.specs.Calls.{Rounds, calls, whole_sizes}
+use Rattle.rv_size_laws.specs.Calls.{Rounds, calls, whole_sizes}
 use Rattle.rv_call_sizes.specs.Passes.{IsTable}
 use Rattle.rv_call_sizes.proofs.passes.settle.Given as goal
 

@@ -1,5 +1,5 @@
 use Rattle.std.proofs.Common.{◌+◌, ◌-◌, ◌<◌, ◌≤◌, length, arith, sym}
-use Rattle.rv_layout_laws.proofs.StepsLemmas.{goes_begins, goes_changed, goes_kept}
+use Rattle.rv_size_laws.proofs.StepsLemmas.{goes_begins, goes_changed, goes_kept}
 use Rattle.rv_list_laws.proofs.NumbersLemmas.{step_down}
 use Rattle.rv_call_sizes.proofs.DroppingLemmas.{none_left}
 use Rattle.rv_call_sizes.proofs.passes.shorten_backwards.Goals as goal

@@ -1,7 +1,7 @@
 use Rattle.std.proofs.Common.{◌≡◌, ◌+◌, ◌≤◌, length}
-use Rattle.rv_layout_laws.specs.Offsets.{rest}
-use Rattle.rv_layout_laws.specs.Calls.{MayShorten}
-use Rattle.rv_layout_laws.proofs.StepsLemmas.{Goes}
+use Rattle.rv_size_laws.specs.Offsets.{rest}
+use Rattle.rv_size_laws.specs.Calls.{MayShorten}
+use Rattle.rv_size_laws.proofs.StepsLemmas.{Goes}
 use Rattle.rv_call_sizes.specs.Passes.{IsTable, Stays, drops}
 use Rattle.rv_call_sizes.proofs.passes.shorten_backwards.Given as goal
 

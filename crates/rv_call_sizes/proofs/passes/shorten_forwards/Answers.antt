@@ -1,6 +1,6 @@
 use Rattle.std.proofs.Common.{◌+◌, refl, arith, sym, subst}
-use Rattle.rv_layout_laws.specs.Calls.{MayShorten}
-use Rattle.rv_layout_laws.proofs.StepsLemmas.{Goes, goes_begins, goes_changed, goes_kept}
+use Rattle.rv_size_laws.specs.Calls.{MayShorten}
+use Rattle.rv_size_laws.proofs.StepsLemmas.{Goes, goes_begins, goes_changed, goes_kept}
 use Rattle.rv_list_laws.proofs.NumbersLemmas.{step_up}
 use Rattle.rv_call_sizes.specs.Passes.{Stays}
 use Rattle.rv_call_sizes.proofs.passes.shorten_forwards.Goals.{then-visit_forwards, else-visit_forwards}

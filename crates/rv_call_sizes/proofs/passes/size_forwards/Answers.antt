@@ -1,9 +1,9 @@
 use Rattle.std.proofs.Common.{◌≡◌, ◌*◌, ◌^◌, ◌≤◌, ◌-ℤ◌, pos, slice_index, to_z, of_z, ap, ◌∙◌, arith}
 use mir.Syntax.{w128}
 use Rattle.std.proofs.lemmas.Int.{ints}
-use Rattle.rv_layout_laws.specs.declared.site.Site.{Site}
-use Rattle.rv_layout_laws.specs.declared.site.SiteKind.TheVariants.{Call}
-use Rattle.rv_layout_laws.specs.Calls.{site_at}
+use Rattle.rv_size_laws.specs.declared.site.Site.{Site}
+use Rattle.rv_size_laws.specs.declared.site.SiteKind.TheVariants.{Call}
+use Rattle.rv_size_laws.specs.Calls.{site_at}
 use Rattle.rv_call_sizes.specs.Passes.{IsPlace}
 use Rattle.rv_call_sizes.proofs.DroppingLemmas.{site_read}
 use Rattle.rv_call_sizes.proofs.JudgingLemmas.{turn_call}

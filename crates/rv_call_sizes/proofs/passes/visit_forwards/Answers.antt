@@ -1,8 +1,8 @@
 use Rattle.std.proofs.Common.{◌≡◌, ◌+◌, ◌-◌, ◌*◌, ◌^◌, ◌≤◌, set, ap, ◌∙◌, arith}
-use Rattle.rv_layout_laws.specs.declared.site.Site.{Site}
-use Rattle.rv_layout_laws.specs.Offsets.{offset}
-use Rattle.rv_layout_laws.specs.Calls.{bytes_of}
-use Rattle.rv_layout_laws.proofs.StepsLemmas.{set_family}
+use Rattle.rv_size_laws.specs.declared.site.Site.{Site}
+use Rattle.rv_size_laws.specs.Offsets.{offset}
+use Rattle.rv_size_laws.specs.Calls.{bytes_of}
+use Rattle.rv_size_laws.proofs.StepsLemmas.{set_family}
 use Rattle.rv_call_sizes.specs.Passes.{drops}
 use Rattle.rv_call_sizes.proofs.DroppingLemmas.{site_read}
 use Rattle.rv_call_sizes.proofs.JudgingLemmas.{turn_offered}

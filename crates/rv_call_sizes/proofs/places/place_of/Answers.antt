@@ -1,9 +1,9 @@
 use Rattle.std.proofs.Common.{nat_le, rules, of_calls, arith}
 use Rattle.std.proofs.lemmas.Fn.{always_returns_same}
 use Rattle.std.proofs.lemmas.Bool.{leb-true, leb-false}
-use Rattle.rv_layout_laws.specs.declared.site.Site.{Site}
-use Rattle.rv_layout_laws.specs.Calls.{site_at}
-use Rattle.rv_layout_laws.specs.Sites.{site_end}
+use Rattle.rv_size_laws.specs.declared.site.Site.{Site}
+use Rattle.rv_size_laws.specs.Calls.{site_at}
+use Rattle.rv_size_laws.specs.Sites.{site_end}
 use Rattle.rv_call_sizes.proofs.LaidLemmas.{partitioned}
 use Rattle.rv_call_sizes.proofs.places.place_of.Goals as goal
 

@@ -1,5 +1,5 @@
 use Rattle.std.proofs.Common.{◌≡◌, ◌<◌, ℕ, length, slice_index}
-use Rattle.rv_layout_laws.specs.Calls.{site_at}
+use Rattle.rv_size_laws.specs.Calls.{site_at}
 use Rattle.rv_call_sizes.specs.Passes.{LeadsTo}
 use Rattle.rv_call_sizes.proofs.places.targets.Given as goal
 

@@ -1,5 +1,5 @@
 use Rattle.std.proofs.Common.{◌≡◌, take}
-use Rattle.rv_layout_laws.specs.Calls.{whole_sizes}
+use Rattle.rv_size_laws.specs.Calls.{whole_sizes}
 use Rattle.rv_call_sizes.proofs.places.whole.Given as goal
 
 abbrev pub invariant-loop-site : goal.invariant-loop-site

@@ -4,7 +4,7 @@ use Rattle.rv_statement.specs.View.{now_of}
 use Rattle.rv_image.specs.Views.{linked_of}
 use Rattle.rv_object_types.specs.View.{object_of}
 use Rattle.rv_link_laws.specs.TextStart.{AreWithin}
-use Rattle.rv_link_laws.specs.Details.{IsProgramWith}
+use Rattle.rv_link_laws.specs.WithMap.{IsProgramWith}
 use Rattle.rv_link_laws.specs.Refusals.{HasNoProgram}
 use Rattle.rv_chain.specs.Refusals.{AreUnlinked, IsRefusedFor}
 use Rattle.rv_chain.proofs.GatheredLemmas.{err_given, gathered, link_refused, short_forms_reach}
@@ -39,7 +39,7 @@ returns-clause-program c =
     let gc = c.args.options.gc in
     let l = linked_of c.in_ok-linked.linked in
     let g = gathered texts os c.in_ok-objects.ensures.objects in
-    let with : IsProgramWith os start relax gc c.args.details l = subst (λ items. IsProgramWith (map object_of items) start relax gc c.args.details l) c.deref.ensures.value c.in_ok-linked.ensures.links in
+    let with : IsProgramWith os start relax gc c.args.with_map l = subst (λ items. IsProgramWith (map object_of items) start relax gc c.args.with_map l) c.deref.ensures.value c.in_ok-linked.ensures.links in
     record {
       whole = with.whole;
       program = record {

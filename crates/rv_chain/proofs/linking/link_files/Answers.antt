@@ -4,7 +4,7 @@ use Rattle.rv_statement.specs.View.{now_of}
 use Rattle.rv_image.specs.Views.{linked_of}
 use Rattle.rv_object_types.specs.View.{object_of}
 use Rattle.rv_link_laws.specs.TextStart.{AreWithin}
-use Rattle.rv_link_laws.specs.Details.{IsProgramWith}
+use Rattle.rv_link_laws.specs.WithMap.{IsProgramWith}
 use Rattle.rv_link_laws.specs.Refusals.{HasNoProgram}
 use Rattle.rv_chain.specs.LinkRefusals.{AreUnlinkable}
 use Rattle.rv_chain.proofs.GatheredLemmas.{err_given}
@@ -30,6 +30,6 @@ returns-clause-program c =
     let gc = c.args.options.gc in
     let os = map object_of c.in_ok-read.read.items in
     let l = linked_of c.in_ok-linked.linked in
-    let links : IsProgramWith os start relax gc c.args.details l = subst (λ items. IsProgramWith (map object_of items) start relax gc c.args.details l) c.deref.ensures.value c.in_ok-linked.ensures.links in
+    let links : IsProgramWith os start relax gc c.args.with_map l = subst (λ items. IsProgramWith (map object_of items) start relax gc c.args.with_map l) c.deref.ensures.value c.in_ok-linked.ensures.links in
     let n : length files ≡ length c.args.files.now = length-map c.args.files.now now_of in
     (subst (λ k. AreWithin k start) (sym n) c.in_ok-within_limits.ensures.within, (os, c.in_ok-read.ensures.objects, links))

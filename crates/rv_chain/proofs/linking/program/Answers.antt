@@ -3,18 +3,18 @@ use Rattle.std.proofs.lemmas.Result.{IfOk-weaker}
 use Rattle.std.specs.Prelude.{IfOk}
 use Rattle.rv_image.specs.Views.{linked_of}
 use Rattle.rv_object_types.specs.View.{object_of}
-use Rattle.rv_link_laws.specs.Details.{IsProgramWith}
+use Rattle.rv_link_laws.specs.WithMap.{IsProgramWith}
 use Rattle.rv_chain.proofs.linking.program.Goals as goal
 
-pub returns-then-details-clause-links : goal.returns-then-details-clause-links
-returns-then-details-clause-links c =
+pub returns-then-with_map-clause-links : goal.returns-then-with_map-clause-links
+returns-then-with_map-clause-links c =
     let os = map object_of c.args.objects.now in
     let o = c.args.options in
-    subst (λ (details : Bool). IfOk c.link.result (λ l. IsProgramWith os o.text_start o.relax o.gc details (linked_of l))) (sym c.if-details.true)
+    subst (λ (with_map : Bool). IfOk c.link.result (λ l. IsProgramWith os o.text_start o.relax o.gc with_map (linked_of l))) (sym c.if-with_map.true)
     (IfOk-weaker c.link.result _ _ (λ l h. record { whole = linked_of l; program = h; shown = refl }) c.link.ensures.links)
 
-pub returns-else-details-clause-links : goal.returns-else-details-clause-links
-returns-else-details-clause-links c =
+pub returns-else-with_map-clause-links : goal.returns-else-with_map-clause-links
+returns-else-with_map-clause-links c =
     let os = map object_of c.args.objects.now in
     let o = c.args.options in
-    subst (λ (details : Bool). IfOk c.link_exe.result (λ l. IsProgramWith os o.text_start o.relax o.gc details (linked_of l))) (sym c.if-details.false) c.link_exe.ensures.links
+    subst (λ (with_map : Bool). IfOk c.link_exe.result (λ l. IsProgramWith os o.text_start o.relax o.gc with_map (linked_of l))) (sym c.if-with_map.false) c.link_exe.ensures.links

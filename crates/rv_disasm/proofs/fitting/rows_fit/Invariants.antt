@@ -9,4 +9,4 @@ use Rattle.rv_disasm.proofs.fitting.rows_fit.Given as goal
 abbrev pub invariant-loop-row : goal.invariant-loop-row
 invariant-loop-row l =
     (reader : Reader Spells StandsFor) →
-    fitting.rows_fit reader (map segment_of l.segments) l.left (drop l.row-index l.rows) ≡ fitting.rows_fit reader (map segment_of l.segments) l.room l.rows
+    fitting.rows_fit reader (map segment_of l.segments) l.remaining (drop l.row-index l.rows) ≡ fitting.rows_fit reader (map segment_of l.segments) l.room l.rows

@@ -6,21 +6,21 @@ use Rattle.rv_disasm.proofs.fitting.spell.Goals as goal
 
 pub slice_bounds-rest-count : goal.slice_bounds-rest-count
 slice_bounds-rest-count c =
-    front_room c.loop-left.rest.now c.in-Some.field-0-0 c.in-Some.length ((c.in-Some.ensures.exact c.in-Some.field-0-0 c.in-Some.length).0 refl)
+    front_room c.loop-remaining.rest.now c.in-Some.field-0-0 c.in-Some.length ((c.in-Some.ensures.exact c.in-Some.field-0-0 c.in-Some.length).0 refl)
 
 pub slice_bounds-rest-start : goal.slice_bounds-rest-start
 slice_bounds-rest-start c =
-    front_room c.loop-left.rest.now c.in-Some.field-0-0 c.in-Some.length ((c.in-Some.ensures.exact c.in-Some.field-0-0 c.in-Some.length).0 refl)
+    front_room c.loop-remaining.rest.now c.in-Some.field-0-0 c.in-Some.length ((c.in-Some.ensures.exact c.in-Some.field-0-0 c.in-Some.length).0 refl)
 
-pub loop-left-preserved : goal.loop-left-preserved
-loop-left-preserved c reader =
-    ap (fitting.spell reader (c.loop-left.left - 1)) (take_rest c.loop-left.rest.now c.in-Some.length)
-    ∙ sym (spell_more reader c.loop-left.left c.loop-left.rest.now (Some (c.in-Some.field-0-0, c.in-Some.length)) c.loop-left-test.true c.in-Some.ensures.exact)
-    ∙ c.loop-left.invariant reader
+pub loop-remaining-preserved : goal.loop-remaining-preserved
+loop-remaining-preserved c reader =
+    ap (fitting.spell reader (c.loop-remaining.remaining - 1)) (take_rest c.loop-remaining.rest.now c.in-Some.length)
+    ∙ sym (spell_more reader c.loop-remaining.remaining c.loop-remaining.rest.now (Some (c.in-Some.field-0-0, c.in-Some.length)) c.loop-remaining-test.true c.in-Some.ensures.exact)
+    ∙ c.loop-remaining.invariant reader
 
 pub returns-in-None : goal.returns-in-None
 returns-in-None c reader =
-    sym (spell_more reader c.loop-left.left c.loop-left.rest.now None c.loop-left-test.true c.in-None.ensures.exact) ∙ c.loop-left.invariant reader
+    sym (spell_more reader c.loop-remaining.remaining c.loop-remaining.rest.now None c.loop-remaining-test.true c.in-None.ensures.exact) ∙ c.loop-remaining.invariant reader
 
 pub returns : goal.returns
-returns c reader = c.is_empty.ensures ∙ sym (spell_end reader c.loop-left.left c.loop-left.rest.now c.loop-left-test.false) ∙ c.loop-left.invariant reader
+returns c reader = c.is_empty.ensures ∙ sym (spell_end reader c.loop-remaining.remaining c.loop-remaining.rest.now c.loop-remaining-test.false) ∙ c.loop-remaining.invariant reader

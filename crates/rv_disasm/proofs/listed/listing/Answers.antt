@@ -8,6 +8,6 @@ pub returns : goal.returns
 returns c reader =
     let shows = IsListing reader (image_of c.args.image.now) (map_of c.args.map.now) in
     let text = c.next.new.text.items in
-    let left = c.in_ok-next.ensures.last reader c.if-branch.false in
-    subst shows (ap (λ xs. text ++ xs) left ∙ append-nil text)
+    let remaining = c.in_ok-next.ensures.last reader c.if-branch.false in
+    subst shows (ap (λ xs. text ++ xs) remaining ∙ append-nil text)
     (subst shows (sym (c.in_ok-next.ensures.added reader)) (c.loop-text.invariant reader))

@@ -1,6 +1,6 @@
 use Rattle.std.proofs.Common.{rules, ◌≡◌, ◌*◌, ◌∙◌, false, true, sym, ap, length, map, vec_len}
 use Rattle.std.proofs.lemmas.List.{length-map}
-use Rattle.rv_text.specs.Expr.{tree_of_expr}
+use Rattle.rv_expression.specs.Expr.{tree_of_expr}
 use Rattle.rv_statement_laws.specs.Widths.{width_bytes}
 use Rattle.rv_statement.specs.View.{quoted, statement_kind}
 use Rattle.rv_unit_laws.specs.Tables.{padding, string_bytes, within}

@@ -1,6 +1,6 @@
 use Rattle.std.proofs.Common.{◌≡◌, ◌++◌, ◌∙◌, true, map, [], List, sym, ap, rules, if◌then◌else◌}
 use Rattle.std.proofs.lemmas.Result.{on_ok_weaker}
-use Rattle.rv_text.specs.Expr.{tree_of_expr}
+use Rattle.rv_expression.specs.Expr.{tree_of_expr}
 use Rattle.rv_statement_laws.specs.Widths.{width_bytes}
 use Rattle.rv_assemble_laws.specs.Templates.{value_fields}
 use Rattle.rv_assemble_laws.specs.Fields.{Field, field_at}

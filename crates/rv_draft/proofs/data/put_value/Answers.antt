@@ -1,9 +1,9 @@
 use Rattle.std.proofs.Common.{◌≡◌, ◌+◌, ◌++◌, ◌∙◌, true, map, ap, sym}
 use Rattle.std.proofs.lemmas.Result.{on_ok_weaker}
-use Rattle.rv_text_laws.specs.Expression.{Literal}
-use Rattle.rv_text_laws.specs.Values.{Constant}
-use Rattle.rv_text.specs.Expr.{tree_of_expr}
-use Rattle.rv_text.proofs.EvalsLemmas.{lone_value}
+use Rattle.rv_expression_laws.specs.Expression.{Literal}
+use Rattle.rv_expression_laws.specs.Values.{Constant}
+use Rattle.rv_expression.specs.Expr.{tree_of_expr}
+use Rattle.rv_expression.proofs.EvalsLemmas.{lone_value}
 use Rattle.rv_statement_laws.specs.Widths.{width_bytes}
 use Rattle.rv_unit_laws.specs.Tables as laws
 use Rattle.rv_unit.specs.Sections.{offset_of}

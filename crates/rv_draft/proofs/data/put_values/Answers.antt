@@ -1,8 +1,8 @@
 use Rattle.std.proofs.Common.{rules, ◌≡◌, ◌++◌, ◌∙◌, ◌+◌, ◌<◌, ◌≤◌, length, map, drop, subst, sym, ap, append-nil}
 use Rattle.std.proofs.lemmas.List.{length-map}
 use Rattle.rv_list_laws.proofs.MapLemmas.{drop_map_read, flat_more, flat_done}
-use Rattle.rv_text_laws.specs.Values.{Value}
-use Rattle.rv_text.specs.Expr.{tree_of_expr}
+use Rattle.rv_expression_laws.specs.Values.{Value}
+use Rattle.rv_expression.specs.Expr.{tree_of_expr}
 use Rattle.rv_statement_laws.specs.Statement.{Expression}
 use Rattle.rv_statement_laws.specs.Widths.{width_bytes}
 use Rattle.rv_assemble_laws.specs.Templates.{value_bytes}

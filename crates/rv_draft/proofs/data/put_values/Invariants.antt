@@ -1,6 +1,6 @@
 use Rattle.std.proofs.Common.{◌≡◌, ◌+◌, ◌*◌, ◌++◌, drop, map}
 use Rattle.std.specs.Prelude.{flat_map}
-use Rattle.rv_text.specs.Expr.{tree_of_expr}
+use Rattle.rv_expression.specs.Expr.{tree_of_expr}
 use Rattle.rv_statement_laws.specs.Widths.{width_bytes}
 use Rattle.rv_assemble_laws.specs.Templates.{value_bytes, Datum}
 use Rattle.rv_assemble_laws.specs.LaidStatements.{laid_part}

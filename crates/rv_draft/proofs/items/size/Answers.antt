@@ -1,7 +1,7 @@
 use Rattle.std.proofs.Common.{◌≡◌, ℕ, ◌+◌, true, sym, subst}
 use Rattle.std.proofs.lemmas.Result.{IfErr-weaker, IfOk-weaker}
-use Rattle.rv_text_laws.specs.Values as values
-use Rattle.rv_text.specs.Eval.{IsOutcome}
+use Rattle.rv_expression_laws.specs.Values as values
+use Rattle.rv_expression.specs.Eval.{IsOutcome}
 use Rattle.rv_statement.specs.View.{statement_kind}
 use Rattle.rv_unit_laws.specs.Tables as laws
 use Rattle.rv_unit.specs.Sections.{offset_of}

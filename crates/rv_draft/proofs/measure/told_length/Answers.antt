@@ -1,7 +1,7 @@
 use Rattle.std.proofs.Common.{◌∙◌, sym, subst}
 use Rattle.std.proofs.lemmas.Option.{IfSome_then}
 use Rattle.std.specs.Prelude.{IfSome}
-use Rattle.rv_text.specs.Expr.{tree_of_expr}
+use Rattle.rv_expression.specs.Expr.{tree_of_expr}
 use Rattle.rv_statement.specs.View.{statement_kind}
 use Rattle.rv_draft.specs.Measure.{HasOneLength}
 use Rattle.rv_draft.proofs.WordsLemmas.{no_code_told}

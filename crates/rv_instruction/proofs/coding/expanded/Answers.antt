@@ -1,5 +1,5 @@
 use Rattle.std.proofs.Common.{ap, refl}
-use Rattle.rv_text.specs.Expr.{tree_of_expr}
+use Rattle.rv_expression.specs.Expr.{tree_of_expr}
 use Rattle.rv_statement.specs.View.{statement_of, statement_kind}
 use Rattle.rv_instruction.specs.Scoped.{values_at, labels_at}
 use Rattle.rv_instruction.proofs.coding.expanded.Goals as goal

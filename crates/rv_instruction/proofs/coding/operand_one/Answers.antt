@@ -1,5 +1,5 @@
 use Rattle.rv_list_laws.proofs.OptionsLemmas.{if_some_weaker}
-use Rattle.rv_text.specs.Expr.{tree_of_expr}
+use Rattle.rv_expression.specs.Expr.{tree_of_expr}
 use Rattle.rv_instruction.specs.Scoped.{values_at}
 use Rattle.rv_instruction.proofs.coding.operand_one.Goals as goal
 

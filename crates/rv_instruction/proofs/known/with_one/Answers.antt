@@ -1,6 +1,6 @@
 use Rattle.std.proofs.Common.{subst}
 use Rattle.rv_list_laws.proofs.OptionsLemmas.{if_some_weaker}
-use Rattle.rv_text.specs.Eval.{IsOutcome}
+use Rattle.rv_expression.specs.Eval.{IsOutcome}
 use Rattle.rv_instruction.proofs.known.with_one.Goals as goal
 
 pub returns-in-Ok-clause-is : goal.returns-in-Ok-clause-is

@@ -1,5 +1,5 @@
 use Rattle.std.proofs.Common.{ap, Some, None}
-use Rattle.rv_text.specs.Expr.{tree_of_expr}
+use Rattle.rv_expression.specs.Expr.{tree_of_expr}
 use Rattle.rv_statement.specs.View.{statement_kind}
 use Rattle.rv_assemble_laws.specs.Coded.{constants}
 use Rattle.rv_instruction.specs.Scoped.{values_at}

@@ -1,5 +1,5 @@
 use Rattle.std.proofs.Common.{ap, ◌∙◌}
-use Rattle.rv_text.specs.Expr.{tree_of_expr}
+use Rattle.rv_expression.specs.Expr.{tree_of_expr}
 use Rattle.rv_pseudo.specs.Faults.{constant_in}
 use Rattle.rv_instruction.specs.Scoped.{values_at}
 use Rattle.rv_instruction.proofs.WorthsLemmas.{constant_worth}

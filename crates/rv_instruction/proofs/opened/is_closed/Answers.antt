@@ -1,5 +1,5 @@
 use Rattle.std.proofs.Common.{ap}
-use Rattle.rv_text.specs.Expr.{tree_of_expr}
+use Rattle.rv_expression.specs.Expr.{tree_of_expr}
 use Rattle.rv_statement.specs.View.{statement_kind}
 use Rattle.rv_instruction.proofs.FreeRowsLemmas.{plain_free, with_free}
 use Rattle.rv_instruction.proofs.opened.is_closed.Goals as goal

@@ -2,7 +2,7 @@
 use Rattle.std.proofs.Common.{◌≡◌, ℕ, ◌==◌, ◌<◌, Bool, true, false, map, cond, get_or, refl, ap, ◌∙◌, arith}
 use Rattle.std.proofs.lemmas.List.FromFn.{get_or-map-range_with_len}
 use Rattle.std.specs.List.{range_with_len}
-use Rattle.rv_text_laws.specs.Bytes.{is_word}
+use Rattle.rv_expression_laws.specs.Bytes.{is_word}
 use Rattle.rv_lexer.specs.declared.class.TheConstants.{WORD_BYTES}
 use Rattle.rv_lexer.proofs.class.is_word.Goals as goal
 

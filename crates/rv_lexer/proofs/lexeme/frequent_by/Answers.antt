@@ -1,7 +1,7 @@
 -- A name or a number lies within the bytes, and has no line feed.
 use Rattle.std.proofs.Common.{◌∙◌, cond, sym, length, ap, arith}
-use Rattle.rv_text_laws.specs.Bytes.{is_word}
-use Rattle.rv_text_laws.proofs.RunsLemmas.{run_within}
+use Rattle.rv_expression_laws.specs.Bytes.{is_word}
+use Rattle.rv_expression_laws.proofs.RunsLemmas.{run_within}
 use Rattle.rv_lexer.specs.Lexeme.{has_feeds}
 use Rattle.rv_lexer.proofs.FeedsLemmas.{digits_no_feeds}
 use Rattle.rv_lexer.proofs.lexeme.frequent_by.Goals as goal

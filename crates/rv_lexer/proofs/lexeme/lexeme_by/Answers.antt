@@ -1,7 +1,7 @@
 -- Each lexeme lies within the bytes.
 use Rattle.std.proofs.Common.{length, ap, arith}
-use Rattle.rv_text_laws.specs.Bytes.{is_word, in_line}
-use Rattle.rv_text_laws.proofs.RunsLemmas.{run_within}
+use Rattle.rv_expression_laws.specs.Bytes.{is_word, in_line}
+use Rattle.rv_expression_laws.proofs.RunsLemmas.{run_within}
 use Rattle.rv_lexer.proofs.InsideLemmas.{string_within}
 use Rattle.rv_lexer.proofs.lexeme.lexeme_by.Goals as goal
 

@@ -1,7 +1,7 @@
 -- The letter at the end, and the digits before it.
 use Rattle.std.proofs.Common.{◌&&◌, ◌-◌, length, take, arith, sym, ◌∙◌, ap, Bool}
 use Rattle.std.specs.List.{list_all}
-use Rattle.rv_text_laws.specs.Bytes.{is_digit}
+use Rattle.rv_expression_laws.specs.Bytes.{is_digit}
 use Rattle.rv_lexer.proofs.DirectionsLemmas.{refers_by, wordless}
 use Rattle.rv_lexer.proofs.reference.refers.Goals as goal
 

@@ -1,7 +1,7 @@
 -- An escape between apostrophes.
 use Rattle.std.proofs.Common.{◌≡◌, ◌+◌, suc, true, false, sym, ◌∙◌, ap, arith, Some}
-use Rattle.rv_text_laws.specs.Grammar as grammar
-use Rattle.rv_text_laws.specs.Front.{has_first}
+use Rattle.rv_expression_laws.specs.Grammar as grammar
+use Rattle.rv_expression_laws.specs.Front.{has_first}
 use Rattle.rv_lexer.proofs.InsideLemmas.{atom_within, escaped, not_escaped}
 use Rattle.rv_lexer.proofs.strings.character_at.Goals as goal
 

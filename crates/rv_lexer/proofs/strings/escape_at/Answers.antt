@@ -1,6 +1,6 @@
 -- The digits' number is the escape's byte.
 use Rattle.std.proofs.Common.{ℕ, ◌+◌, ◌%◌, ◌==◌, length, sym, ◌∙◌, ap, arith, Option, None, option_map, cond}
-use Rattle.rv_text_laws.specs.Front.{number_by}
+use Rattle.rv_expression_laws.specs.Front.{number_by}
 use Rattle.rv_lexer.proofs.EscapesLemmas.{escape_octal, escape_hexadecimal}
 use Rattle.rv_lexer.proofs.strings.escape_at.Goals as goal
 

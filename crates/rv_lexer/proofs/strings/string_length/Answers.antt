@@ -1,7 +1,7 @@
 -- Past the plain bytes, then atom by atom, up to the quote.
 use Rattle.std.proofs.Common.{◌-◌, length, sym, ◌∙◌, ap, arith}
-use Rattle.rv_text_laws.specs.Cut.{cut}
-use Rattle.rv_text_laws.specs.Front.{atom_at}
+use Rattle.rv_expression_laws.specs.Cut.{cut}
+use Rattle.rv_expression_laws.specs.Front.{atom_at}
 use Rattle.rv_lexer.proofs.InsideLemmas.{atom_within, atoms_end, closed, unclosed}
 use Rattle.rv_lexer.proofs.PlainBytesLemmas.{plain_end}
 use Rattle.rv_lexer.proofs.strings.string_length.Goals as goal

@@ -1,7 +1,7 @@
 -- The atoms of the rest end where those of the whole do.
 use Rattle.std.proofs.Common.{◌≡◌, ◌≤◌, length}
-use Rattle.rv_text_laws.specs.Cut.{cut}
-use Rattle.rv_text_laws.specs.Front.{atom_at}
+use Rattle.rv_expression_laws.specs.Cut.{cut}
+use Rattle.rv_expression_laws.specs.Front.{atom_at}
 use Rattle.rv_lexer.proofs.strings.string_length.Given as goal
 
 abbrev pub invariant-loop-length : goal.invariant-loop-length

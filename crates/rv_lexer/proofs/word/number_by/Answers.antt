@@ -2,8 +2,8 @@
 use Rattle.std.proofs.Common.{◌≡◌, ◌+◌, ◌*◌, ◌^◌, ◌<◌, ◌≤◌, true, ℕ, None, length, get_or, drop, sym, ◌∙◌, ap, arith}
 use Rattle.std.proofs.lemmas.Bool.{lt-ltb}
 use Rattle.std.proofs.lemmas.List.{drop_all}
-use Rattle.rv_text_laws.specs.Bytes.{digit, is_digit}
-use Rattle.rv_text_laws.specs.Front.{number_by}
+use Rattle.rv_expression_laws.specs.Bytes.{digit, is_digit}
+use Rattle.rv_expression_laws.specs.Front.{number_by}
 use Rattle.rv_lexer.proofs.NumbersLemmas.{number_on, next_digit, too_large, on_end}
 use Rattle.rv_lexer.proofs.word.number_by.Goals.{After-from, In_ok-checked_mul}
 use Rattle.rv_lexer.proofs.word.number_by.Goals as goal

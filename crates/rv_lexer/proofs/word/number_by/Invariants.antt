@@ -1,6 +1,6 @@
 -- What the digits spell is what is left to read with what has been read.
 use Rattle.std.proofs.Common.{◌≡◌, ◌<◌, ◌^◌, drop}
-use Rattle.rv_text_laws.specs.Front.{number_by}
+use Rattle.rv_expression_laws.specs.Front.{number_by}
 use Rattle.rv_lexer.proofs.NumbersLemmas.{number_on}
 use Rattle.rv_lexer.proofs.word.number_by.Given as goal
 

@@ -76,7 +76,7 @@ returns-clause-links c =
     let r = c.in_ok-regions.regions in
     let drops = c.args.drops.items in
     let w : AreWithin (length os) c.args.start = subst (λ l. AreWithin (length (map short_object_of l)) c.args.start) (sym same) c.requires.within in
-    subst (λ l. IsLinkWith (map short_object_of l) c.args.start drops c.args.details (linked_of c.in_ok-linked.linked)) same
+    subst (λ l. IsLinkWith (map short_object_of l) c.args.start drops c.args.with_map (linked_of c.in_ok-linked.linked)) same
     (record {
       whole = made drops os p c.in_ok-entry.entry r;
       linked = is_link drops os c.args.start p c.in_ok-entry.entry r w.0 w.1.0 w.1.1 c.in_ok-resolve.ensures.named (placed_of c.args.start p _ _ same c.in_ok-placement.ensures.placed) c.in_ok-placement.ensures.room

@@ -54,8 +54,8 @@ returns-clause-links c =
     let o = c.args.options in
     let drops = drops_of os c.in_ok-collection.collection in
     let is : map object_of c.deref.result.now ≡ without drops os = ap (map object_of) c.deref.ensures.value ∙ c.in_ok-kept.ensures in
-    IfOk-weaker c.link_left.result (λ l. IsLinkOfLeft (map object_of c.deref.result.now) o.text_start o.relax c.in_ok-drops.drops.items c.args.details (linked_of l)) _
-    (λ l h. some_dropped os (map object_of c.deref.result.now) o.text_start o.relax drops c.in_ok-drops.drops.items c.args.details (linked_of l) c.in_ok-collection.ensures is c.in_ok-drops.ensures.dropped h) c.link_left.ensures.links
+    IfOk-weaker c.link_left.result (λ l. IsLinkOfLeft (map object_of c.deref.result.now) o.text_start o.relax c.in_ok-drops.drops.items c.args.with_map (linked_of l)) _
+    (λ l h. some_dropped os (map object_of c.deref.result.now) o.text_start o.relax drops c.in_ok-drops.drops.items c.args.with_map (linked_of l) c.in_ok-collection.ensures is c.in_ok-drops.ensures.dropped h) c.link_left.ensures.links
 
 pub returns-clause-refuses : goal.returns-clause-refuses
 returns-clause-refuses c =

@@ -37,8 +37,8 @@ returns-clause-links c =
     let left = planned_objects c.in_ok-plan.plan in
     let start = c.args.options.text_start in
     let drops = c.args.drops.items in
-    let details = c.args.details in
-    IfOk-weaker c.link_by_plan.result (λ l. IsLinkWith left start drops details (linked_of l)) (λ l. IsLinkOfLeft os start c.args.options.relax drops details (linked_of l))
+    let with_map = c.args.with_map in
+    IfOk-weaker c.link_by_plan.result (λ l. IsLinkWith left start drops with_map (linked_of l)) (λ l. IsLinkOfLeft os start c.args.options.relax drops with_map (linked_of l))
     (λ l links. record { left = left; relaxed = c.in_ok-plan.ensures.relaxes; linked = links })
     c.link_by_plan.ensures.links
 

@@ -4,10 +4,10 @@ use Rattle.std.specs.Prelude.{IfOk, IfErr}
 use Rattle.rv_image.specs.Views.{linked_of}
 use Rattle.rv_object_types.specs.View.{object_of}
 use Rattle.rv_link.specs.Left.{HasNoLink, IsLinkOfLeft}
-use Rattle.rv_link_laws.specs.Details.{IsProgramWith}
+use Rattle.rv_link_laws.specs.WithMap.{IsProgramWith}
 use Rattle.rv_link_laws.specs.Refusals.{HasNoProgram}
 use Rattle.rv_link.proofs.LeftLemmas.{past, doubled, none_dropped, none_unlinked}
-use Rattle.rv_link.proofs.programs.link_with_details.Goals as goal
+use Rattle.rv_link.proofs.programs.link_with_map.Goals as goal
 
 pub returns-in_err-within_limits-clause-refuses : goal.returns-in_err-within_limits-clause-refuses
 returns-in_err-within_limits-clause-refuses c =
@@ -25,7 +25,7 @@ pub returns-then-options-clause-links : goal.returns-then-options-clause-links
 returns-then-options-clause-links c =
     let os = map object_of c.args.objects.now in
     let o = c.args.options in
-    subst (λ (gc : Bool). IfOk c.link_collected.result (λ l. IsProgramWith os o.text_start o.relax gc c.args.details (linked_of l))) (sym c.if-options.true) c.link_collected.ensures.links
+    subst (λ (gc : Bool). IfOk c.link_collected.result (λ l. IsProgramWith os o.text_start o.relax gc c.args.with_map (linked_of l))) (sym c.if-options.true) c.link_collected.ensures.links
 
 pub returns-then-options-clause-refuses : goal.returns-then-options-clause-refuses
 returns-then-options-clause-refuses c =
@@ -37,8 +37,8 @@ pub returns-clause-links : goal.returns-clause-links
 returns-clause-links c =
     let os = map object_of c.args.objects.now in
     let o = c.args.options in
-    subst (λ (gc : Bool). IfOk c.link_left.result (λ l. IsProgramWith os o.text_start o.relax gc c.args.details (linked_of l))) (sym c.if-options.false)
-    (IfOk-weaker c.link_left.result (λ l. IsLinkOfLeft os o.text_start o.relax c.new.result.items c.args.details (linked_of l)) _ (λ l h. none_dropped os o.text_start o.relax c.new.result.items c.args.details (linked_of l) c.new.ensures.items h)
+    subst (λ (gc : Bool). IfOk c.link_left.result (λ l. IsProgramWith os o.text_start o.relax gc c.args.with_map (linked_of l))) (sym c.if-options.false)
+    (IfOk-weaker c.link_left.result (λ l. IsLinkOfLeft os o.text_start o.relax c.new.result.items c.args.with_map (linked_of l)) _ (λ l h. none_dropped os o.text_start o.relax c.new.result.items c.args.with_map (linked_of l) c.new.ensures.items h)
     c.link_left.ensures.links)
 
 pub returns-clause-refuses : goal.returns-clause-refuses

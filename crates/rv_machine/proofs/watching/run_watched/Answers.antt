@@ -17,8 +17,8 @@ use Rattle.rv_machine.proofs.StreamLemmas.{went_on, came_to, rests_at, stopped, 
 use Rattle.rv_machine.proofs.watching.run_watched.Goals as goal
 use Rattle.std.proofs.KnownBytes.{Keeps-refl, Appends-trans}
 
-pub loop-left-init : goal.loop-left-init
-loop-left-init g c = record {
+pub loop-remaining-init : goal.loop-remaining-init
+loop-remaining-init g c = record {
   so_far = (
     [],
     [],
@@ -39,7 +39,7 @@ loop-left-init g c = record {
 pub returns-in-Err-clause-runs : goal.returns-in-Err-clause-runs
 returns-in-Err-clause-runs g c =
     let start : List ℕ → laws.Hart = λ input. hart_of c.args.machine.now.hart input [] in
-    let far = c.loop-left.invariant.so_far in (
+    let far = c.loop-remaining.invariant.so_far in (
       far.0,
       far.1,
       far.5,
@@ -47,21 +47,21 @@ returns-in-Err-clause-runs g c =
       far.3,
       tt,
       λ r rest may.
-          let front = fronts r far.5 c.args.limit c.loop-left.left start (g.M.Memory.mem c.args.machine.now.memory) c.loop-left.machine.hart (g.M.Memory.mem c.loop-left.machine.memory) _ far.0 far.1 (far.4 r).0 (far.7 r) rest may in
+          let front = fronts r far.5 c.args.limit c.loop-remaining.remaining start (g.M.Memory.mem c.args.machine.now.memory) c.loop-remaining.machine.hart (g.M.Memory.mem c.loop-remaining.machine.memory) _ far.0 far.1 (far.4 r).0 (far.7 r) rest may in
           (front.0, front.1, (far.8, omega (arith, far.9), far.10 r rest may)),
     )
 
-pub loop-left-preserved : goal.loop-left-preserved
-loop-left-preserved g c =
-    let is : c.loop-left.left ≡ suc (c.loop-left.left - 1) = omega (arith, c.loop-left-test.true) in
+pub loop-remaining-preserved : goal.loop-remaining-preserved
+loop-remaining-preserved g c =
+    let is : c.loop-remaining.remaining ≡ suc (c.loop-remaining.remaining - 1) = omega (arith, c.loop-remaining-test.true) in
     let start : List ℕ → laws.Hart = λ input. hart_of c.args.machine.now.hart input [] in
-    let first : Input = input_left c.args.machine.now.intake.ended (g.R.GuestIn.ends c.args.reader.now) (g.R.GuestIn.left c.args.reader.now) in
-    let before : Input = input_left c.loop-left.machine.intake.ended (g.R.GuestIn.ends c.loop-left.reader) (g.R.GuestIn.left c.loop-left.reader) in
-    let after : Input = input_left c.step_told.new.intake.ended (g.R.GuestIn.ends c.step_told.new.reader) (g.R.GuestIn.left c.step_told.new.reader) in
+    let first : Input = input_left c.args.machine.now.intake.ended (g.R.GuestIn.ends c.args.reader.now) (g.R.GuestIn.remaining c.args.reader.now) in
+    let before : Input = input_left c.loop-remaining.machine.intake.ended (g.R.GuestIn.ends c.loop-remaining.reader) (g.R.GuestIn.remaining c.loop-remaining.reader) in
+    let after : Input = input_left c.step_told.new.intake.ended (g.R.GuestIn.ends c.step_told.new.reader) (g.R.GuestIn.remaining c.step_told.new.reader) in
     let m0 : Mem = g.M.Memory.mem c.args.machine.now.memory in
-    let m : Mem = g.M.Memory.mem c.loop-left.machine.memory in
+    let m : Mem = g.M.Memory.mem c.loop-remaining.machine.memory in
     let m' : Mem = g.M.Memory.mem c.step_told.new.memory in
-    let far = c.loop-left.invariant.so_far in
+    let far = c.loop-remaining.invariant.so_far in
     let more = c.in-Ok-Went.ensures.steps in
     record {
       so_far = (
@@ -70,39 +70,39 @@ loop-left-preserved g c =
         has_read_more first before after far.0 more.0 far.2 more.2,
         Appends-trans _ _ _ far.1 more.1 far.3 more.3,
         λ r. (
-          went_on r (run r) (run-on r) c.args.limit c.loop-left.left start m0 before after c.loop-left.machine.hart m far.0 more.0 far.1 more.1 more.2 (far.4 r).0
-              (c.loop-left.left - 1) c.step_told.new.hart m' is (stepped_as _ _ more.0 more.1 _ (step r) (hart_of c.loop-left.machine.hart) (hart_of c.step_told.new.hart) m m' c.in-Ok-Went.field-0-is (more.5 r)),
-          went_on r (last_state r) (last-on r) c.args.limit c.loop-left.left start m0 before after c.loop-left.machine.hart m far.0 more.0 far.1 more.1 more.2 (far.4 r).1
-              (c.loop-left.left - 1) c.step_told.new.hart m' is (stepped_as _ _ more.0 more.1 _ (step r) (hart_of c.loop-left.machine.hart) (hart_of c.step_told.new.hart) m m' c.in-Ok-Went.field-0-is (more.5 r)),
+          went_on r (run r) (run-on r) c.args.limit c.loop-remaining.remaining start m0 before after c.loop-remaining.machine.hart m far.0 more.0 far.1 more.1 more.2 (far.4 r).0
+              (c.loop-remaining.remaining - 1) c.step_told.new.hart m' is (stepped_as _ _ more.0 more.1 _ (step r) (hart_of c.loop-remaining.machine.hart) (hart_of c.step_told.new.hart) m m' c.in-Ok-Went.field-0-is (more.5 r)),
+          went_on r (last_state r) (last-on r) c.args.limit c.loop-remaining.remaining start m0 before after c.loop-remaining.machine.hart m far.0 more.0 far.1 more.1 more.2 (far.4 r).1
+              (c.loop-remaining.remaining - 1) c.step_told.new.hart m' is (stepped_as _ _ more.0 more.1 _ (step r) (hart_of c.loop-remaining.machine.hart) (hart_of c.step_told.new.hart) m m' c.in-Ok-Went.field-0-is (more.5 r)),
         ),
         far.5 ++ (event_as c.went_on-event.result m' ∷ []),
         seen_more g.T.Watcher.has_seen _ _ _ _ far.5 _ far.6 c.in-Ok.ensures.kept c.in-Ok-after.ensures.told,
         λ r.
-            told_on r far.5 c.args.limit c.loop-left.left start m0 before after c.loop-left.machine.hart m far.0 more.0 far.1 more.2 (far.7 r) more.1
-            (c.loop-left.left - 1) (event_as c.went_on-event.result m') c.step_told.new.hart m' is
-            (λ others follows. c.went_on-event.ensures (fetch r m c.loop-left.machine.hart.pc) (hart_of c.loop-left.machine.hart (more.0 ++ others) far.1) m others (far.1 ++ more.1) m'
-            (c.look_at-look.ensures.look r (more.0 ++ others) far.1) ((stepped_as _ _ more.0 more.1 _ (step r) (hart_of c.loop-left.machine.hart) (hart_of c.step_told.new.hart) m m' c.in-Ok-Went.field-0-is (more.5 r)) others far.1 follows)
+            told_on r far.5 c.args.limit c.loop-remaining.remaining start m0 before after c.loop-remaining.machine.hart m far.0 more.0 far.1 more.2 (far.7 r) more.1
+            (c.loop-remaining.remaining - 1) (event_as c.went_on-event.result m') c.step_told.new.hart m' is
+            (λ others follows. c.went_on-event.ensures (fetch r m c.loop-remaining.machine.hart.pc) (hart_of c.loop-remaining.machine.hart (more.0 ++ others) far.1) m others (far.1 ++ more.1) m'
+            (c.look_at-look.ensures.look r (more.0 ++ others) far.1) ((stepped_as _ _ more.0 more.1 _ (step r) (hart_of c.loop-remaining.machine.hart) (hart_of c.step_told.new.hart) m m' c.in-Ok-Went.field-0-is (more.5 r)) others far.1 follows)
             (moved_between c.in-Ok-Went.moved more.0 others far.1 more.1 m' (moved_as _ _ more.0 more.1 m' c.in-Ok-Went.field-0-is more.4)))
-            (stepped_as _ _ more.0 more.1 _ (step r) (hart_of c.loop-left.machine.hart) (hart_of c.step_told.new.hart) m m' c.in-Ok-Went.field-0-is (more.5 r)),
+            (stepped_as _ _ more.0 more.1 _ (step r) (hart_of c.loop-remaining.machine.hart) (hart_of c.step_told.new.hart) m m' c.in-Ok-Went.field-0-is (more.5 r)),
         suc far.8,
         omega (arith, far.9, is),
-        λ r. reaches_next r far.8 start m0 before after c.loop-left.machine.hart c.step_told.new.hart m m' far.0 more.0 far.1 more.1 more.2 (far.10 r) (stepped_as _ _ more.0 more.1 _ (step r) (hart_of c.loop-left.machine.hart) (hart_of c.step_told.new.hart) m m' c.in-Ok-Went.field-0-is (more.5 r)),
+        λ r. reaches_next r far.8 start m0 before after c.loop-remaining.machine.hart c.step_told.new.hart m m' far.0 more.0 far.1 more.1 more.2 (far.10 r) (stepped_as _ _ more.0 more.1 _ (step r) (hart_of c.loop-remaining.machine.hart) (hart_of c.step_told.new.hart) m m' c.in-Ok-Went.field-0-is (more.5 r)),
       );
-      reader = c.in-Ok-Went.ensures.failed.0 ∙ c.loop-left.invariant.reader;
-      writer = c.in-Ok-Went.ensures.failed.1 ∙ c.loop-left.invariant.writer;
+      reader = c.in-Ok-Went.ensures.failed.0 ∙ c.loop-remaining.invariant.reader;
+      writer = c.in-Ok-Went.ensures.failed.1 ∙ c.loop-remaining.invariant.writer;
     }
 
 pub returns-in-Err-after-clause-runs : goal.returns-in-Err-after-clause-runs
 returns-in-Err-after-clause-runs g c =
-    let is : c.loop-left.left ≡ suc (c.loop-left.left - 1) = omega (arith, c.loop-left-test.true) in
+    let is : c.loop-remaining.remaining ≡ suc (c.loop-remaining.remaining - 1) = omega (arith, c.loop-remaining-test.true) in
     let start : List ℕ → laws.Hart = λ input. hart_of c.args.machine.now.hart input [] in
-    let first : Input = input_left c.args.machine.now.intake.ended (g.R.GuestIn.ends c.args.reader.now) (g.R.GuestIn.left c.args.reader.now) in
-    let before : Input = input_left c.loop-left.machine.intake.ended (g.R.GuestIn.ends c.loop-left.reader) (g.R.GuestIn.left c.loop-left.reader) in
-    let after : Input = input_left c.step_told.new.intake.ended (g.R.GuestIn.ends c.step_told.new.reader) (g.R.GuestIn.left c.step_told.new.reader) in
+    let first : Input = input_left c.args.machine.now.intake.ended (g.R.GuestIn.ends c.args.reader.now) (g.R.GuestIn.remaining c.args.reader.now) in
+    let before : Input = input_left c.loop-remaining.machine.intake.ended (g.R.GuestIn.ends c.loop-remaining.reader) (g.R.GuestIn.remaining c.loop-remaining.reader) in
+    let after : Input = input_left c.step_told.new.intake.ended (g.R.GuestIn.ends c.step_told.new.reader) (g.R.GuestIn.remaining c.step_told.new.reader) in
     let m0 : Mem = g.M.Memory.mem c.args.machine.now.memory in
-    let m : Mem = g.M.Memory.mem c.loop-left.machine.memory in
+    let m : Mem = g.M.Memory.mem c.loop-remaining.machine.memory in
     let m' : Mem = g.M.Memory.mem c.step_told.new.memory in
-    let far = c.loop-left.invariant.so_far in
+    let far = c.loop-remaining.invariant.so_far in
     let more = c.in-Ok-Went.ensures.steps in (
       far.0 ++ more.0,
       far.1 ++ more.1,
@@ -111,29 +111,29 @@ returns-in-Err-after-clause-runs g c =
       Appends-trans _ _ _ far.1 more.1 far.3 more.3,
       tt,
       λ r rest may.
-          let front = fronts r _ c.args.limit (c.loop-left.left - 1) start m0 c.step_told.new.hart m' _ (far.0 ++ more.0) (far.1 ++ more.1)
-          (went_on r (run r) (run-on r) c.args.limit c.loop-left.left start m0 before after c.loop-left.machine.hart m far.0 more.0 far.1 more.1 more.2 (far.4 r).0
-          (c.loop-left.left - 1) c.step_told.new.hart m' is (stepped_as _ _ more.0 more.1 _ (step r) (hart_of c.loop-left.machine.hart) (hart_of c.step_told.new.hart) m m' c.in-Ok-Went.field-0-is (more.5 r)))
-          (told_on r far.5 c.args.limit c.loop-left.left start m0 before after c.loop-left.machine.hart m far.0 more.0 far.1 more.2 (far.7 r) more.1
-          (c.loop-left.left - 1) (event_as c.went_on-event.result m') c.step_told.new.hart m' is
-          (λ others follows. c.went_on-event.ensures (fetch r m c.loop-left.machine.hart.pc) (hart_of c.loop-left.machine.hart (more.0 ++ others) far.1) m others (far.1 ++ more.1) m'
-          (c.look_at-look.ensures.look r (more.0 ++ others) far.1) ((stepped_as _ _ more.0 more.1 _ (step r) (hart_of c.loop-left.machine.hart) (hart_of c.step_told.new.hart) m m' c.in-Ok-Went.field-0-is (more.5 r)) others far.1 follows)
+          let front = fronts r _ c.args.limit (c.loop-remaining.remaining - 1) start m0 c.step_told.new.hart m' _ (far.0 ++ more.0) (far.1 ++ more.1)
+          (went_on r (run r) (run-on r) c.args.limit c.loop-remaining.remaining start m0 before after c.loop-remaining.machine.hart m far.0 more.0 far.1 more.1 more.2 (far.4 r).0
+          (c.loop-remaining.remaining - 1) c.step_told.new.hart m' is (stepped_as _ _ more.0 more.1 _ (step r) (hart_of c.loop-remaining.machine.hart) (hart_of c.step_told.new.hart) m m' c.in-Ok-Went.field-0-is (more.5 r)))
+          (told_on r far.5 c.args.limit c.loop-remaining.remaining start m0 before after c.loop-remaining.machine.hart m far.0 more.0 far.1 more.2 (far.7 r) more.1
+          (c.loop-remaining.remaining - 1) (event_as c.went_on-event.result m') c.step_told.new.hart m' is
+          (λ others follows. c.went_on-event.ensures (fetch r m c.loop-remaining.machine.hart.pc) (hart_of c.loop-remaining.machine.hart (more.0 ++ others) far.1) m others (far.1 ++ more.1) m'
+          (c.look_at-look.ensures.look r (more.0 ++ others) far.1) ((stepped_as _ _ more.0 more.1 _ (step r) (hart_of c.loop-remaining.machine.hart) (hart_of c.step_told.new.hart) m m' c.in-Ok-Went.field-0-is (more.5 r)) others far.1 follows)
           (moved_between c.in-Ok-Went.moved more.0 others far.1 more.1 m' (moved_as _ _ more.0 more.1 m' c.in-Ok-Went.field-0-is more.4)))
-          (stepped_as _ _ more.0 more.1 _ (step r) (hart_of c.loop-left.machine.hart) (hart_of c.step_told.new.hart) m m' c.in-Ok-Went.field-0-is (more.5 r))) rest may in
-          (front.0, front.1, (suc far.8, omega (arith, far.9, is), reaches_next r far.8 start m0 before after c.loop-left.machine.hart c.step_told.new.hart m m' far.0 more.0 far.1 more.1 more.2 (far.10 r) (stepped_as _ _ more.0 more.1 _ (step r) (hart_of c.loop-left.machine.hart) (hart_of c.step_told.new.hart) m m' c.in-Ok-Went.field-0-is (more.5 r)) rest may)),
+          (stepped_as _ _ more.0 more.1 _ (step r) (hart_of c.loop-remaining.machine.hart) (hart_of c.step_told.new.hart) m m' c.in-Ok-Went.field-0-is (more.5 r))) rest may in
+          (front.0, front.1, (suc far.8, omega (arith, far.9, is), reaches_next r far.8 start m0 before after c.loop-remaining.machine.hart c.step_told.new.hart m m' far.0 more.0 far.1 more.1 more.2 (far.10 r) (stepped_as _ _ more.0 more.1 _ (step r) (hart_of c.loop-remaining.machine.hart) (hart_of c.step_told.new.hart) m m' c.in-Ok-Went.field-0-is (more.5 r)) rest may)),
     )
 
 pub returns-in-Ok-after-2-clause-runs : goal.returns-in-Ok-after-2-clause-runs
 returns-in-Ok-after-2-clause-runs g c =
-    let is : c.loop-left.left ≡ suc (c.loop-left.left - 1) = omega (arith, c.loop-left-test.true) in
+    let is : c.loop-remaining.remaining ≡ suc (c.loop-remaining.remaining - 1) = omega (arith, c.loop-remaining-test.true) in
     let start : List ℕ → laws.Hart = λ input. hart_of c.args.machine.now.hart input [] in
-    let first : Input = input_left c.args.machine.now.intake.ended (g.R.GuestIn.ends c.args.reader.now) (g.R.GuestIn.left c.args.reader.now) in
-    let before : Input = input_left c.loop-left.machine.intake.ended (g.R.GuestIn.ends c.loop-left.reader) (g.R.GuestIn.left c.loop-left.reader) in
-    let after : Input = input_left c.step_told.new.intake.ended (g.R.GuestIn.ends c.step_told.new.reader) (g.R.GuestIn.left c.step_told.new.reader) in
+    let first : Input = input_left c.args.machine.now.intake.ended (g.R.GuestIn.ends c.args.reader.now) (g.R.GuestIn.remaining c.args.reader.now) in
+    let before : Input = input_left c.loop-remaining.machine.intake.ended (g.R.GuestIn.ends c.loop-remaining.reader) (g.R.GuestIn.remaining c.loop-remaining.reader) in
+    let after : Input = input_left c.step_told.new.intake.ended (g.R.GuestIn.ends c.step_told.new.reader) (g.R.GuestIn.remaining c.step_told.new.reader) in
     let m0 : Mem = g.M.Memory.mem c.args.machine.now.memory in
-    let m : Mem = g.M.Memory.mem c.loop-left.machine.memory in
+    let m : Mem = g.M.Memory.mem c.loop-remaining.machine.memory in
     let m' : Mem = g.M.Memory.mem c.step_told.new.memory in
-    let far = c.loop-left.invariant.so_far in
+    let far = c.loop-remaining.invariant.so_far in
     let more = c.in-Ok-Ended.ensures.steps in (
       far.0 ++ more.0,
       far.1 ++ more.1,
@@ -142,29 +142,29 @@ returns-in-Ok-after-2-clause-runs g c =
       Appends-trans _ _ _ far.1 more.1 far.3 more.3,
       seen_more g.T.Watcher.has_seen _ _ _ _ far.5 _ far.6 c.in-Ok.ensures.kept c.in-Ok-after-2.ensures.told,
       λ r rest may.
-          let over = stepped_as _ _ more.0 more.1 _ (step r) (hart_of c.loop-left.machine.hart) (hart_of c.step_told.new.hart) m m' c.in-Ok-Ended.field-0-is (more.5 r) in (
-            came_to r c.args.limit c.loop-left.left start m0 before after c.loop-left.machine.hart m far.0 more.0 far.1 more.1 more.2 (far.4 r).0
-                (c.loop-left.left - 1) (law_end c.in-Ok-Ended.end) is over.0 over.1.0 (λ input console. (over.1.1 input console).0) rest may,
-            rests_at r c.args.limit c.loop-left.left start m0 before after c.loop-left.machine.hart m far.0 more.0 far.1 more.1 more.2 (far.4 r).1
-                (c.loop-left.left - 1) c.in-Ok-Ended.end c.step_told.new.hart m' is over.0 over.1.0 over.1.1 rest may,
-            told_over r far.5 c.args.limit c.loop-left.left start m0 before after c.loop-left.machine.hart m far.0 more.0 far.1 more.2 (far.7 r)
-                (c.loop-left.left - 1) (event_as c.ended-event.result m') (law_end c.in-Ok-Ended.end) is
-                (λ others follows. c.ended-event.ensures (fetch r m c.loop-left.machine.hart.pc) (hart_of c.loop-left.machine.hart (more.0 ++ others) far.1) m m' (c.look_at-look.ensures.look r (more.0 ++ others) far.1) (over.1.1 (more.0 ++ others) far.1).0)
+          let over = stepped_as _ _ more.0 more.1 _ (step r) (hart_of c.loop-remaining.machine.hart) (hart_of c.step_told.new.hart) m m' c.in-Ok-Ended.field-0-is (more.5 r) in (
+            came_to r c.args.limit c.loop-remaining.remaining start m0 before after c.loop-remaining.machine.hart m far.0 more.0 far.1 more.1 more.2 (far.4 r).0
+                (c.loop-remaining.remaining - 1) (law_end c.in-Ok-Ended.end) is over.0 over.1.0 (λ input console. (over.1.1 input console).0) rest may,
+            rests_at r c.args.limit c.loop-remaining.remaining start m0 before after c.loop-remaining.machine.hart m far.0 more.0 far.1 more.1 more.2 (far.4 r).1
+                (c.loop-remaining.remaining - 1) c.in-Ok-Ended.end c.step_told.new.hart m' is over.0 over.1.0 over.1.1 rest may,
+            told_over r far.5 c.args.limit c.loop-remaining.remaining start m0 before after c.loop-remaining.machine.hart m far.0 more.0 far.1 more.2 (far.7 r)
+                (c.loop-remaining.remaining - 1) (event_as c.ended-event.result m') (law_end c.in-Ok-Ended.end) is
+                (λ others follows. c.ended-event.ensures (fetch r m c.loop-remaining.machine.hart.pc) (hart_of c.loop-remaining.machine.hart (more.0 ++ others) far.1) m m' (c.look_at-look.ensures.look r (more.0 ++ others) far.1) (over.1.1 (more.0 ++ others) far.1).0)
                 (λ input console. (over.1.1 input console).0) rest may,
           ),
     )
 
 pub returns-in-Err-after-2-clause-runs : goal.returns-in-Err-after-2-clause-runs
 returns-in-Err-after-2-clause-runs g c =
-    let is : c.loop-left.left ≡ suc (c.loop-left.left - 1) = omega (arith, c.loop-left-test.true) in
+    let is : c.loop-remaining.remaining ≡ suc (c.loop-remaining.remaining - 1) = omega (arith, c.loop-remaining-test.true) in
     let start : List ℕ → laws.Hart = λ input. hart_of c.args.machine.now.hart input [] in
-    let first : Input = input_left c.args.machine.now.intake.ended (g.R.GuestIn.ends c.args.reader.now) (g.R.GuestIn.left c.args.reader.now) in
-    let before : Input = input_left c.loop-left.machine.intake.ended (g.R.GuestIn.ends c.loop-left.reader) (g.R.GuestIn.left c.loop-left.reader) in
-    let after : Input = input_left c.step_told.new.intake.ended (g.R.GuestIn.ends c.step_told.new.reader) (g.R.GuestIn.left c.step_told.new.reader) in
+    let first : Input = input_left c.args.machine.now.intake.ended (g.R.GuestIn.ends c.args.reader.now) (g.R.GuestIn.remaining c.args.reader.now) in
+    let before : Input = input_left c.loop-remaining.machine.intake.ended (g.R.GuestIn.ends c.loop-remaining.reader) (g.R.GuestIn.remaining c.loop-remaining.reader) in
+    let after : Input = input_left c.step_told.new.intake.ended (g.R.GuestIn.ends c.step_told.new.reader) (g.R.GuestIn.remaining c.step_told.new.reader) in
     let m0 : Mem = g.M.Memory.mem c.args.machine.now.memory in
-    let m : Mem = g.M.Memory.mem c.loop-left.machine.memory in
+    let m : Mem = g.M.Memory.mem c.loop-remaining.machine.memory in
     let m' : Mem = g.M.Memory.mem c.step_told.new.memory in
-    let far = c.loop-left.invariant.so_far in
+    let far = c.loop-remaining.invariant.so_far in
     let more = c.in-Ok-Ended.ensures.steps in (
       far.0 ++ more.0,
       far.1 ++ more.1,
@@ -173,31 +173,31 @@ returns-in-Err-after-2-clause-runs g c =
       Appends-trans _ _ _ far.1 more.1 far.3 more.3,
       tt,
       λ r rest may.
-          let over = stepped_as _ _ more.0 more.1 _ (step r) (hart_of c.loop-left.machine.hart) (hart_of c.step_told.new.hart) m m' c.in-Ok-Ended.field-0-is (more.5 r) in
-          let outcome = came_to r c.args.limit c.loop-left.left start m0 before after c.loop-left.machine.hart m far.0 more.0 far.1 more.1 more.2 (far.4 r).0
-          (c.loop-left.left - 1) (law_end c.in-Ok-Ended.end) is over.0 over.1.0 (λ input console. (over.1.1 input console).0) rest may in (
+          let over = stepped_as _ _ more.0 more.1 _ (step r) (hart_of c.loop-remaining.machine.hart) (hart_of c.step_told.new.hart) m m' c.in-Ok-Ended.field-0-is (more.5 r) in
+          let outcome = came_to r c.args.limit c.loop-remaining.remaining start m0 before after c.loop-remaining.machine.hart m far.0 more.0 far.1 more.1 more.2 (far.4 r).0
+          (c.loop-remaining.remaining - 1) (law_end c.in-Ok-Ended.end) is over.0 over.1.0 (λ input console. (over.1.1 input console).0) rest may in (
             record { rest = []; joined = append-nil _ ∙ sym (ap (λ (o : laws.Outcome). o.console) outcome) },
-            told_front r far.5 c.args.limit c.loop-left.left start m0 before after c.loop-left.machine.hart m far.0 more.0 far.1 more.2 (far.7 r) rest may,
+            told_front r far.5 c.args.limit c.loop-remaining.remaining start m0 before after c.loop-remaining.machine.hart m far.0 more.0 far.1 more.2 (far.7 r) rest may,
             (
               c.args.limit,
               omega arith,
-              rests_at r c.args.limit c.loop-left.left start m0 before after c.loop-left.machine.hart m far.0 more.0 far.1 more.1 more.2 (far.4 r).1
-                  (c.loop-left.left - 1) c.in-Ok-Ended.end c.step_told.new.hart m' is over.0 over.1.0 over.1.1 rest may,
+              rests_at r c.args.limit c.loop-remaining.remaining start m0 before after c.loop-remaining.machine.hart m far.0 more.0 far.1 more.1 more.2 (far.4 r).1
+                  (c.loop-remaining.remaining - 1) c.in-Ok-Ended.end c.step_told.new.hart m' is over.0 over.1.0 over.1.1 rest may,
             ),
           ),
     )
 
 pub returns-in-Err-step_told-clause-runs : goal.returns-in-Err-step_told-clause-runs
 returns-in-Err-step_told-clause-runs g c =
-    let is : c.loop-left.left ≡ suc (c.loop-left.left - 1) = omega (arith, c.loop-left-test.true) in
+    let is : c.loop-remaining.remaining ≡ suc (c.loop-remaining.remaining - 1) = omega (arith, c.loop-remaining-test.true) in
     let start : List ℕ → laws.Hart = λ input. hart_of c.args.machine.now.hart input [] in
-    let first : Input = input_left c.args.machine.now.intake.ended (g.R.GuestIn.ends c.args.reader.now) (g.R.GuestIn.left c.args.reader.now) in
-    let before : Input = input_left c.loop-left.machine.intake.ended (g.R.GuestIn.ends c.loop-left.reader) (g.R.GuestIn.left c.loop-left.reader) in
-    let after : Input = input_left c.step_told.new.intake.ended (g.R.GuestIn.ends c.step_told.new.reader) (g.R.GuestIn.left c.step_told.new.reader) in
+    let first : Input = input_left c.args.machine.now.intake.ended (g.R.GuestIn.ends c.args.reader.now) (g.R.GuestIn.remaining c.args.reader.now) in
+    let before : Input = input_left c.loop-remaining.machine.intake.ended (g.R.GuestIn.ends c.loop-remaining.reader) (g.R.GuestIn.remaining c.loop-remaining.reader) in
+    let after : Input = input_left c.step_told.new.intake.ended (g.R.GuestIn.ends c.step_told.new.reader) (g.R.GuestIn.remaining c.step_told.new.reader) in
     let m0 : Mem = g.M.Memory.mem c.args.machine.now.memory in
-    let m : Mem = g.M.Memory.mem c.loop-left.machine.memory in
+    let m : Mem = g.M.Memory.mem c.loop-remaining.machine.memory in
     let m' : Mem = g.M.Memory.mem c.step_told.new.memory in
-    let far = c.loop-left.invariant.so_far in
+    let far = c.loop-remaining.invariant.so_far in
     let more = c.in-Err-step_told.ensures.steps in (
       far.0 ++ more.0,
       far.1 ++ more.1,
@@ -206,18 +206,18 @@ returns-in-Err-step_told-clause-runs g c =
       Appends-trans _ _ _ far.1 more.1 far.3 more.3,
       λ past seen. c.in-Ok.ensures.kept (past ++ far.5) (far.6 past seen),
       λ r rest may. (
-        stopped r c.args.limit c.loop-left.left start m0 before after c.loop-left.machine.hart m far.0 more.0 far.1 more.1 more.2 (far.4 r).0
-            c.in-Err-step_told.fault (c.loop-left.left - 1) c.step_told.new.hart m' is (more.5 r) rest may,
-        told_front r far.5 c.args.limit c.loop-left.left start m0 before after c.loop-left.machine.hart m far.0 more.0 far.1 more.2 (far.7 r) rest may,
+        stopped r c.args.limit c.loop-remaining.remaining start m0 before after c.loop-remaining.machine.hart m far.0 more.0 far.1 more.1 more.2 (far.4 r).0
+            c.in-Err-step_told.fault (c.loop-remaining.remaining - 1) c.step_told.new.hart m' is (more.5 r) rest may,
+        told_front r far.5 c.args.limit c.loop-remaining.remaining start m0 before after c.loop-remaining.machine.hart m far.0 more.0 far.1 more.2 (far.7 r) rest may,
       ),
     )
 
 pub returns-clause-runs : goal.returns-clause-runs
 returns-clause-runs g c =
-    let none : c.loop-left.left ≡ 0 = omega (arith, c.loop-left-test.false) in
-    let far = c.loop-left.invariant.so_far in
-    let now : List ℕ → laws.Hart = λ rest. hart_of c.loop-left.machine.hart rest far.1 in
-    let m : Mem = g.M.Memory.mem c.loop-left.machine.memory in (
+    let none : c.loop-remaining.remaining ≡ 0 = omega (arith, c.loop-remaining-test.false) in
+    let far = c.loop-remaining.invariant.so_far in
+    let now : List ℕ → laws.Hart = λ rest. hart_of c.loop-remaining.machine.hart rest far.1 in
+    let m : Mem = g.M.Memory.mem c.loop-remaining.machine.memory in (
       far.0,
       far.1,
       far.5,

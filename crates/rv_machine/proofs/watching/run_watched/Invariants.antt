@@ -13,21 +13,21 @@ use Rattle.rv_machine.proofs.StreamLemmas.{Continues, Reaches}
 use Rattle.rv_machine.proofs.watching.run_watched.Given as goal
 
 -- what was read, written and told so far; what is left of the run gives the whole, its last state and its events, and the steps so far leave what is here, whatever may follow; no stream has failed
-abbrev pub invariant-loop-left : goal.invariant-loop-left
-invariant-loop-left g l = record {
+abbrev pub invariant-loop-remaining : goal.invariant-loop-remaining
+invariant-loop-remaining g l = record {
   so_far : (read written : List ℕ)
-      × HasRead (input_left l.fn.machine.intake.ended (g.R.GuestIn.ends l.fn.reader) (g.R.GuestIn.left l.fn.reader)) (input_left l.machine.intake.ended (g.R.GuestIn.ends l.reader) (g.R.GuestIn.left l.reader)) read
+      × HasRead (input_left l.fn.machine.intake.ended (g.R.GuestIn.ends l.fn.reader) (g.R.GuestIn.remaining l.fn.reader)) (input_left l.machine.intake.ended (g.R.GuestIn.ends l.reader) (g.R.GuestIn.remaining l.reader)) read
       × Appends (g.W.GuestOut.written l.fn.writer) (g.W.GuestOut.written l.writer) written
-      × ((r : Reader Spells StandsFor) → Continues (run r) l.limit l.left (λ input. hart_of l.fn.machine.hart input []) (g.M.Memory.mem l.fn.machine.memory) l.machine.hart (g.M.Memory.mem l.machine.memory) (l.machine.intake.ended ≡ false) read written
-      × Continues (last_state r) l.limit l.left (λ input. hart_of l.fn.machine.hart input []) (g.M.Memory.mem l.fn.machine.memory) l.machine.hart (g.M.Memory.mem l.machine.memory) (l.machine.intake.ended ≡ false) read written)
+      × ((r : Reader Spells StandsFor) → Continues (run r) l.limit l.remaining (λ input. hart_of l.fn.machine.hart input []) (g.M.Memory.mem l.fn.machine.memory) l.machine.hart (g.M.Memory.mem l.machine.memory) (l.machine.intake.ended ≡ false) read written
+      × Continues (last_state r) l.limit l.remaining (λ input. hart_of l.fn.machine.hart input []) (g.M.Memory.mem l.fn.machine.memory) l.machine.hart (g.M.Memory.mem l.machine.memory) (l.machine.intake.ended ≡ false) read written)
       × (told : List Event)
       × ((past : List Event) → g.T.Watcher.has_seen l.fn.watcher past → g.T.Watcher.has_seen l.watcher (past ++ told))
-      × ((r : Reader Spells StandsFor) → Telling r told l.limit l.left (λ input. hart_of l.fn.machine.hart input []) (g.M.Memory.mem l.fn.machine.memory) l.machine.hart (g.M.Memory.mem l.machine.memory) (l.machine.intake.ended ≡ false) read written)
-      × (steps : ℕ) × (steps + l.left ≡ l.limit)
+      × ((r : Reader Spells StandsFor) → Telling r told l.limit l.remaining (λ input. hart_of l.fn.machine.hart input []) (g.M.Memory.mem l.fn.machine.memory) l.machine.hart (g.M.Memory.mem l.machine.memory) (l.machine.intake.ended ≡ false) read written)
+      × (steps : ℕ) × (steps + l.remaining ≡ l.limit)
       × ((r : Reader Spells StandsFor) → Reaches r steps (λ input. hart_of l.fn.machine.hart input []) (g.M.Memory.mem l.fn.machine.memory) l.machine.hart (g.M.Memory.mem l.machine.memory) (l.machine.intake.ended ≡ false) read written);
   reader : g.R.GuestIn.in_failed l.reader ≡ g.R.GuestIn.in_failed l.fn.reader;
   writer : g.W.GuestOut.out_failed l.writer ≡ g.W.GuestOut.out_failed l.fn.writer;
 }
 
-abbrev pub decreases-loop-left : goal.decreases-loop-left
-decreases-loop-left g l = l.left
+abbrev pub decreases-loop-remaining : goal.decreases-loop-remaining
+decreases-loop-remaining g l = l.remaining

@@ -1,5 +1,5 @@
 use Rattle.std.proofs.Common.{◌≡◌, map, length}
-use Rattle.rv_lexer.specs.Cursor.{left}
+use Rattle.rv_lexer.specs.Cursor.{remaining}
 use Rattle.rv_parse_laws.specs.Syntax.{A_symbol}
 use Rattle.rv_parse_laws.specs.Parsing.{items_at}
 use Rattle.rv_parse_words.specs.View.{word_of}
@@ -8,8 +8,8 @@ use Rattle.rv_parse.proofs.directive.names.Given as goal
 
 -- the names so far, and then those that are left, are all
 abbrev pub invariant-loop-cursor : goal.invariant-loop-cursor
-invariant-loop-cursor l = items_at A_symbol (left l.fn.cursor) ≡ prepended (map word_of l.names.items) (further_items A_symbol (left l.cursor))
+invariant-loop-cursor l = items_at A_symbol (remaining l.fn.cursor) ≡ prepended (map word_of l.names.items) (further_items A_symbol (remaining l.cursor))
 
 -- each turn takes a comma and one more
 abbrev pub decreases-loop-cursor : goal.decreases-loop-cursor
-decreases-loop-cursor l = length (left l.cursor)
+decreases-loop-cursor l = length (remaining l.cursor)

@@ -1,7 +1,7 @@
 use Rattle.std.proofs.Common.{◌∙◌, sym}
 use Rattle.std.proofs.lemmas.Result.{err_from_is_err_and}
 use Rattle.rv_lexer.specs.Token.{token_of}
-use Rattle.rv_lexer.specs.Cursor.{left}
+use Rattle.rv_lexer.specs.Cursor.{remaining}
 use Rattle.rv_parse.proofs.ListsLemmas.{values_go_on, values_fail, values_undone}
 use Rattle.rv_parse.proofs.directive.several.Goals as goal
 
@@ -11,7 +11,7 @@ loop-alloc-preserved c =
     (sym c.is_comma.ensures ∙ c.loop-alloc-test.true) c.in_ok-value.ensures c.in_ok-push-2.ensures.items
 
 pub returns-in_err-end : goal.returns-in_err-end
-unfolding left
+unfolding remaining
 returns-in_err-end c =
     let p = err_from_is_err_and c.from_residual-in_err-end.result c.from_residual-in_err-end.ensures.1 in
     rw (p.1, p.2) (values_undone _ c.loop-alloc.values.items (token_of c.loop-alloc.cursor.next) _ _ c.loop-alloc.invariant

@@ -1,6 +1,6 @@
 use Rattle.std.proofs.Common.{◌∙◌, sym, ap, Err}
-use Rattle.rv_text_laws.specs.SyntaxError.{SyntaxError}
-use Rattle.rv_lexer.specs.Cursor.{left}
+use Rattle.rv_expression_laws.specs.SyntaxError.{SyntaxError}
+use Rattle.rv_lexer.specs.Cursor.{remaining}
 use Rattle.rv_parse.proofs.OpeningsLemmas.{name_read, name_too_long, name_left_out}
 use Rattle.rv_parse.proofs.slot.section_name.Goals as goal
 
@@ -13,7 +13,7 @@ returns-then-name-gt-LONGEST_NAME c =
     ∙ ap (λ (w : SyntaxError). Err w) (sym c.too_long.ensures)
 
 pub returns-else-name-gt-LONGEST_NAME : goal.returns-else-name-gt-LONGEST_NAME
-unfolding left
+unfolding remaining
 returns-else-name-gt-LONGEST_NAME c =
     name_left_out _ _ _ c.in-Some.ensures (sym c.is_section_name.ensures ∙ c.if-is_section_name.false) c.if-name-gt-LONGEST_NAME.false
     ∙ ap (λ (w : SyntaxError). Err w) (sym c.wrong.ensures)

@@ -1,6 +1,6 @@
 use Rattle.std.proofs.Common.{refl, sym, subst, arith}
-use Rattle.rv_text_laws.specs.Lexing.{Lexes}
-use Rattle.rv_text_laws.proofs.TokensLemmas.{given}
+use Rattle.rv_expression_laws.specs.Lexing.{Lexes}
+use Rattle.rv_expression_laws.proofs.TokensLemmas.{given}
 use Rattle.rv_parse_laws.proofs.WholeLemmas.{reads_as}
 use Rattle.rv_parse.proofs.PastLineLemmas.{past_none}
 use Rattle.rv_parse.proofs.RefusalsLemmas.{limit_refused, line_first, line_alone, token_before, token_alone}

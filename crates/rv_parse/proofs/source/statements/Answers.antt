@@ -1,6 +1,6 @@
 use Rattle.std.proofs.Common.{◌∙◌, sym, arith}
 use Rattle.rv_lexer.specs.Token.{token_of}
-use Rattle.rv_lexer.specs.Cursor.{left}
+use Rattle.rv_lexer.specs.Cursor.{remaining}
 use Rattle.rv_parse_laws.proofs.ProgressLemmas.{push_end, statement_shorter}
 use Rattle.std.proofs.lemmas.Result.{err_from_is_err_and}
 use Rattle.rv_parse.proofs.StatementsLemmas.{statements_push, counted_push, behind, left_is, statements_end, refuses_here}
@@ -13,7 +13,7 @@ use Rattle.rv_parse.proofs.source.statements.Goals as goal
 
 pub loop-cursor-preserved-then-is_end : goal.loop-cursor-preserved-then-is_end
 loop-cursor-preserved-then-is_end g c = record {
-  says = push_end _ (token_of c.loop-cursor.cursor.next) (left c.loop-cursor.cursor) _ _ c.loop-cursor.invariant.says c.advance.ensures (sym c.is_end.ensures ∙ c.if-is_end.true);
+  says = push_end _ (token_of c.loop-cursor.cursor.next) (remaining c.loop-cursor.cursor) _ _ c.loop-cursor.invariant.says c.advance.ensures (sym c.is_end.ensures ∙ c.if-is_end.true);
   begin = c.loop-cursor.invariant.begin;
   counted = c.loop-cursor.invariant.counted;
   within = c.loop-cursor.invariant.within;
@@ -25,7 +25,7 @@ loop-cursor-smaller g c = statement_shorter (g.L.StatementList.said c.loop-curso
 
 pub loop-cursor-preserved : goal.loop-cursor-preserved
 loop-cursor-preserved g c = record {
-  says = statements_push _ (token_of c.loop-cursor.cursor.next) (left c.loop-cursor.cursor) (behind c.loop-cursor.cursor) _ c.in_ok-statement.statement (g.L.StatementList.said c.loop-cursor.statements) _
+  says = statements_push _ (token_of c.loop-cursor.cursor.next) (remaining c.loop-cursor.cursor) (behind c.loop-cursor.cursor) _ c.in_ok-statement.statement (g.L.StatementList.said c.loop-cursor.statements) _
       c.loop-cursor.invariant.says (left_is c.loop-cursor.cursor) (c.in_ok-statement.ensures.read (g.L.StatementList.said c.loop-cursor.statements) c.loop-cursor.invariant.knows) c.in_ok-statement.ensures.line c.in_ok-put.ensures.said;
   begin = c.in_ok-put.ensures.begin (tokens_left c.args.lexer) c.loop-cursor.invariant.begin
       (begins_here (tokens_left c.args.lexer) c.loop-cursor.cursor (g.L.StatementList.said c.loop-cursor.statements) _ (statement_of c.in_ok-statement.statement) c.loop-cursor.invariant.says (sym c.is_end.ensures ∙ c.if-is_end.false) c.in_ok-put.ensures.said);

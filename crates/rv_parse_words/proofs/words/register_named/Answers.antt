@@ -1,4 +1,4 @@
-use Rattle.rv_text.proofs.RegistersLemmas.{register_found}
+use Rattle.rv_expression.proofs.RegistersLemmas.{register_found}
 use Rattle.rv_parse_words.proofs.words.register_named.Goals as goal
 
 pub returns : goal.returns

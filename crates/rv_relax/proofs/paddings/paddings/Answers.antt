@@ -1,5 +1,5 @@
 use Rattle.std.proofs.Common.{◌≡◌, ◌+◌, ◌-◌, ◌%◌, ◌<◌, ◌∷◌, [], ◌++◌, length, map, take, slice_index_or, refl, sym, ap, ◌∙◌, arith, append-nil}
-use Rattle.rv_layout_laws.specs.Alignment.{aligned}
+use Rattle.rv_size_laws.specs.Alignment.{aligned}
 use Rattle.rv_object_types.specs.Parts.{relocation_of, zeros_relocation}
 use Rattle.rv_link_laws.specs.Moves.{alignment_of, full_padding, plan}
 use Rattle.rv_relax.specs.Paddings.{are_in_order, move_of}

@@ -1,7 +1,7 @@
 use Rattle.std.proofs.Common.{◌≡◌, List, length, map, sym, ap, subst, ◌∙◌}
 use Rattle.std.proofs.lemmas.Result.{IfOk-weaker}
-use Rattle.rv_layout_laws.specs.declared.site.Site.{Site}
-use Rattle.rv_layout_laws.specs.Calls.{IsText}
+use Rattle.rv_size_laws.specs.declared.site.Site.{Site}
+use Rattle.rv_size_laws.specs.Calls.{IsText}
 use Rattle.rv_object_types.specs.View.{object_of}
 use Rattle.rv_link_laws.specs.Shortened.{shortened}
 use Rattle.rv_shorten.specs.View.{short_object_of}

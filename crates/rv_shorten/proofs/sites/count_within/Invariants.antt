@@ -1,5 +1,5 @@
 use Rattle.std.proofs.Common.{◌≡◌, ◌+◌, ◌≤◌, drop}
-use Rattle.rv_layout_laws.specs.Sites.{site_end}
+use Rattle.rv_size_laws.specs.Sites.{site_end}
 use Rattle.rv_cut_laws.specs.Walk.{count_within}
 use Rattle.rv_shorten.proofs.sites.count_within.Given as goal
 

@@ -1,7 +1,7 @@
 use Rattle.std.proofs.Common.{◌≡◌, ℕ, ◌∷◌, ◌+◌, ◌-◌, ◌^◌, ◌<◌, ◌≤◌, ◌++◌, List, length, map, drop, slice_index_or, sym, ap, subst, ◌∙◌, rules}
 use Rattle.rv_link_laws.specs.Moves.{Move}
 use Rattle.rv_shorten.specs.Cut.{Cut, move_of}
-use Rattle.rv_layout_laws.specs.Sites.{site_end}
+use Rattle.rv_size_laws.specs.Sites.{site_end}
 use Rattle.rv_cut_laws.specs.Walk.{moves_of}
 use Rattle.rv_shorten.specs.SiteCuts.{cuts_of}
 use Rattle.rv_shorten.proofs.StepsLemmas.{Behind, past, moves_here, one_site, inside, next_behind, all_in_order}

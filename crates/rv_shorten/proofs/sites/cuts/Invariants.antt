@@ -1,6 +1,6 @@
 use Rattle.std.proofs.Common.{◌≡◌, ◌++◌, length, map, drop}
 use Rattle.rv_shorten.specs.Cut.{move_of}
-use Rattle.rv_layout_laws.specs.Sites.{site_end}
+use Rattle.rv_size_laws.specs.Sites.{site_end}
 use Rattle.rv_cut_laws.specs.Walk.{moves_of}
 use Rattle.rv_shorten.proofs.StepsLemmas.{Behind}
 use Rattle.rv_shorten.proofs.sites.cuts.Given as goal

@@ -1,6 +1,6 @@
 use Rattle.std.proofs.Common.{◌≡◌, ℕ, ◌∷◌, ◌+◌, ◌-◌, ◌≤◌, ◌++◌, [], true, List, length, map, take, drop, sym, ap, subst, ◌∙◌, arith}
 use Rattle.std.proofs.lemmas.List.{drop_more, drop-drop, length-drop, take_all, map_push, append_assoc}
-use Rattle.rv_layout_laws.specs.declared.site.Site.{Site}
+use Rattle.rv_size_laws.specs.declared.site.Site.{Site}
 use Rattle.rv_object_laws.specs.Object.{Section, stored}
 use Rattle.rv_object_types.specs.Sections.{section_of}
 use Rattle.rv_shorten.specs.Cut.{move_of}

@@ -1,5 +1,5 @@
 use Rattle.std.proofs.Common.{ℕ, ◌<◌}
-use Rattle.rv_layout_laws.specs.Branches.{item_at}
+use Rattle.rv_size_laws.specs.Branches.{item_at}
 use Rattle.rv_sizes.specs.Passes.{TargetsItsSection}
 use Rattle.rv_sizes.proofs.input.are_within.Given as goal
 

@@ -1,8 +1,8 @@
 use Rattle.std.proofs.Common.{◌≡◌, ℕ, le_refl, ◌+◌, ◌-◌, ◌<◌, ◌≤◌, length, slice_index, slice_set, arith, sym, subst, ap, ◌∙◌}
 use Rattle.std.proofs.lemmas.List.{length-set}
-use Rattle.rv_layout_laws.specs.declared.item.Item.{Item}
-use Rattle.rv_layout_laws.specs.Branches.{item_at}
-use Rattle.rv_layout_laws.specs.Offsets.{rest}
+use Rattle.rv_size_laws.specs.declared.item.Item.{Item}
+use Rattle.rv_size_laws.specs.Branches.{item_at}
+use Rattle.rv_size_laws.specs.Offsets.{rest}
 use Rattle.rv_sizes.specs.Passes.{AreRests, IsInput, around}
 use Rattle.rv_sizes.proofs.PlacesLemmas.{places_small}
 use Rattle.rv_sizes.proofs.FirstTableLemmas.{RestsFrom, rests_step, own_rest, ends_step, none_left}

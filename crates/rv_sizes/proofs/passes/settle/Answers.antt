@@ -1,10 +1,10 @@
 use Rattle.std.proofs.Common.{◌+◌, ◌*◌, ◌<◌, ◌≤◌, ◌-◌, length, arith, sym, subst}
 use Rattle.std.proofs.lemmas.List.Sums.{count_by-le-length}
-use Rattle.rv_layout_laws.specs.declared.item.Item.{Item}
-use Rattle.rv_layout_laws.specs.Branches.{is_branch, Rounds, smallest_sizes, branches}
-use Rattle.rv_layout_laws.specs.Steps.{Begins}
-use Rattle.rv_layout_laws.proofs.StepsLemmas.{rounds_few, one_round_more, round_and_steps}
-use Rattle.rv_layout_laws.proofs.WideningLemmas.{widening, widened_least}
+use Rattle.rv_size_laws.specs.declared.item.Item.{Item}
+use Rattle.rv_size_laws.specs.Branches.{is_branch, Rounds, smallest_sizes, branches}
+use Rattle.rv_size_laws.specs.Steps.{Begins}
+use Rattle.rv_size_laws.proofs.StepsLemmas.{rounds_few, one_round_more, round_and_steps}
+use Rattle.rv_size_laws.proofs.WideningLemmas.{widening, widened_least}
 use Rattle.rv_sizes.specs.Passes.{IsInput}
 use Rattle.rv_sizes.proofs.passes.settle.Goals as goal
 

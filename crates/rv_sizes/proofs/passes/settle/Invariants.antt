@@ -1,5 +1,5 @@
 use Rattle.std.proofs.Common.{◌-◌, ◌*◌, length, if◌then◌else◌}
-use Rattle.rv_layout_laws.specs.Branches.{Rounds, smallest_sizes, branches}
+use Rattle.rv_size_laws.specs.Branches.{Rounds, smallest_sizes, branches}
 use Rattle.rv_sizes.specs.Passes.{IsInput, IsTable}
 use Rattle.rv_sizes.proofs.passes.settle.Given as goal
 

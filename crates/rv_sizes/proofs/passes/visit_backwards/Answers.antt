@@ -1,10 +1,10 @@
 use Rattle.std.proofs.lemmas.Int.{ints}
 use Rattle.std.proofs.Common.{ap, ◌≡◌, ◌+◌, ltb, length, slice_index, ℕ, slice_set, to_z, of_z, w64, arith, refl, sym, subst, ◌∙◌}
 use Rattle.std.proofs.lemmas.Bool.{ltb-true}
-use Rattle.rv_layout_laws.specs.declared.item.Item.{Item}
-use Rattle.rv_layout_laws.specs.Tables.{backwards_away}
-use Rattle.rv_layout_laws.specs.Branches.{item_at}
-use Rattle.rv_layout_laws.specs.Offsets.{rest}
+use Rattle.rv_size_laws.specs.declared.item.Item.{Item}
+use Rattle.rv_size_laws.specs.Tables.{backwards_away}
+use Rattle.rv_size_laws.specs.Branches.{item_at}
+use Rattle.rv_size_laws.specs.Offsets.{rest}
 use Rattle.rv_sizes.specs.Passes.{AreRests, IsJudged, around}
 use Rattle.rv_sizes.proofs.PlacesLemmas.{rests_small, table_small, backward_is, backward_table, backward_ends, judged_offered, judged_there, visit_told, told_same}
 use Rattle.rv_sizes.proofs.passes.visit_backwards.Goals as goal

@@ -1,9 +1,9 @@
 use Rattle.std.proofs.lemmas.Int.{ints}
 use Rattle.std.proofs.Common.{ap, ◌≡◌, ◌+◌, ltb, length, slice_index, ℕ, slice_set, w64, to_z, of_z, arith, refl, sym, subst}
 use Rattle.std.proofs.lemmas.Bool.{ltb-true}
-use Rattle.rv_layout_laws.specs.declared.item.Item.{Item}
-use Rattle.rv_layout_laws.specs.Tables.{forwards_away}
-use Rattle.rv_layout_laws.specs.Branches.{item_at}
+use Rattle.rv_size_laws.specs.declared.item.Item.{Item}
+use Rattle.rv_size_laws.specs.Tables.{forwards_away}
+use Rattle.rv_size_laws.specs.Branches.{item_at}
 use Rattle.rv_sizes.specs.Passes.{AreStarts, IsJudged}
 use Rattle.rv_sizes.proofs.PlacesLemmas.{start_small, table_small, forward_is, forward_table, forward_ends, judged_offered, judged_there, visit_told, told_same}
 use Rattle.rv_sizes.proofs.passes.visit_forwards.Goals as goal

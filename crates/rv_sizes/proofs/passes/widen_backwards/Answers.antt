@@ -1,6 +1,6 @@
 use Rattle.std.proofs.Common.{◌≡◌, le_refl, ◌+◌, ◌-◌, ◌<◌, ◌≤◌, length, arith, sym, subst}
 use Rattle.rv_list_laws.proofs.NumbersLemmas.{step_down}
-use Rattle.rv_layout_laws.proofs.StepsLemmas.{goes_begins, goes_changed, goes_kept}
+use Rattle.rv_size_laws.proofs.StepsLemmas.{goes_begins, goes_changed, goes_kept}
 use Rattle.rv_sizes.specs.Passes.{IsInput}
 use Rattle.rv_sizes.proofs.FirstTableLemmas.{none_left}
 use Rattle.rv_sizes.proofs.passes.widen_backwards.Goals as goal

@@ -1,7 +1,7 @@
 use Rattle.std.proofs.Common.{◌+◌, arith, sym, subst}
 use Rattle.rv_list_laws.proofs.NumbersLemmas.{step_up}
-use Rattle.rv_layout_laws.specs.Branches.{MayWiden}
-use Rattle.rv_layout_laws.proofs.StepsLemmas.{Goes, goes_begins, goes_changed, goes_kept}
+use Rattle.rv_size_laws.specs.Branches.{MayWiden}
+use Rattle.rv_size_laws.proofs.StepsLemmas.{Goes, goes_begins, goes_changed, goes_kept}
 use Rattle.rv_sizes.specs.Passes.{IsInput, Stays}
 use Rattle.rv_sizes.proofs.passes.widen_forwards.Goals.{then-visit_forwards, else-visit_forwards}
 use Rattle.rv_sizes.proofs.passes.widen_forwards.Goals as goal

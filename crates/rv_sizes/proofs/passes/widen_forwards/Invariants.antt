@@ -1,6 +1,6 @@
 use Rattle.std.proofs.Common.{◌≤◌, length}
-use Rattle.rv_layout_laws.specs.Branches.{MayWiden}
-use Rattle.rv_layout_laws.proofs.StepsLemmas.{Goes}
+use Rattle.rv_size_laws.specs.Branches.{MayWiden}
+use Rattle.rv_size_laws.proofs.StepsLemmas.{Goes}
 use Rattle.rv_sizes.specs.Passes.{AreStarts, IsInput, IsTable, Stays}
 use Rattle.rv_sizes.proofs.passes.widen_forwards.Given as goal
 

@@ -1,6 +1,6 @@
 use Rattle.std.proofs.Common.{arith, subst, sym, ◌≡◌, ◌↔◌, ◌+ℤ◌, ℤ, ℕ, IsTrue, Bool, to_z, of_z, w64}
 use Rattle.std.proofs.lemmas.Int.{ints}
-use Rattle.rv_layout_laws.specs.Offsets.{IsImmediate, Reaches}
+use Rattle.rv_size_laws.specs.Offsets.{IsImmediate, Reaches}
 use Rattle.rv_sizes.proofs.reach.reaches.Goals as goal
 
 both : (back : ℕ) (addend distance x y : ℤ) (r : Bool) → x ≡ addend → y ≡ distance +ℤ addend → IsImmediate back x → IsTrue r ↔ IsImmediate back y

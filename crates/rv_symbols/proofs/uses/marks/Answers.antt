@@ -2,7 +2,7 @@ use Rattle.std.proofs.Common.{◌<◌, ◌≤◌, ◌+◌, [], None, false, leng
 use Rattle.std.specs.Prelude.{IsOk, option_map, slice_index_or}
 use Rattle.std.specs.Vec.{vec_len}
 use Rattle.std.proofs.lemmas.List.{length-map, take_all}
-use Rattle.rv_text.specs.Nodes.{symbol_of}
+use Rattle.rv_expression.specs.Nodes.{symbol_of}
 use Rattle.rv_unit.specs.Unit.{definition_of}
 use Rattle.rv_symbols.specs.SymbolUse.{use_of, uses_of}
 use Rattle.rv_symbols.specs.Found.{any_means}

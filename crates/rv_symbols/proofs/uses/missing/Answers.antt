@@ -2,7 +2,7 @@ use Rattle.std.proofs.Common.{◌≡◌, ◌<◌, ◌≤◌, [], None, length, m
 use Rattle.std.specs.Prelude.{option_map, flat_map}
 use Rattle.std.proofs.lemmas.List.{length-map, at_drop_all}
 use Rattle.rv_list_laws.proofs.TestsLemmas.{get_all}
-use Rattle.rv_text.specs.Nodes.{symbol_of}
+use Rattle.rv_expression.specs.Nodes.{symbol_of}
 use Rattle.rv_statement.specs.View.{now_of}
 use Rattle.rv_unit.specs.Unit.{definition_of}
 use Rattle.rv_assemble_laws.specs.Symbols.{missing_name}

@@ -1,6 +1,6 @@
 use Rattle.std.proofs.Common.{◌≡◌, ◌≤◌, ◌+◌, false, length, map, sym, ap, ◌∙◌, subst}
 use Rattle.std.specs.Prelude.{is_some, option_map}
-use Rattle.rv_text.specs.Nodes.{symbol_of}
+use Rattle.rv_expression.specs.Nodes.{symbol_of}
 use Rattle.rv_statement.specs.View.{now_of}
 use Rattle.rv_unit.specs.Unit.{definition_of}
 use Rattle.rv_assemble_laws.specs.ShownNames.{primary_names, are_shown}

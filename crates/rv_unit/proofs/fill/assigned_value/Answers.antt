@@ -1,5 +1,5 @@
 use Rattle.std.proofs.Common.{◌∙◌}
-use Rattle.rv_text.specs.Eval.{meaning_of}
+use Rattle.rv_expression.specs.Eval.{meaning_of}
 use Rattle.rv_unit.proofs.GivesLemmas.{assigned_told}
 use Rattle.rv_unit.proofs.fill.assigned_value.Goals as goal
 

@@ -1,5 +1,5 @@
 use Rattle.std.proofs.Common.{◌+◌, ◌-◌, ◌*◌, ◌<◌, length, take, ap, sym, ◌∙◌, arith}
-use Rattle.rv_text_laws.specs.Bytes.{digits_value}
+use Rattle.rv_expression_laws.specs.Bytes.{digits_value}
 use Rattle.rv_unit.proofs.DigitsLemmas.{value-cut}
 use Rattle.rv_unit.proofs.number.cut_last.Goals as goal
 

@@ -1,6 +1,6 @@
 -- Digit by digit, the last one first.
 use Rattle.std.proofs.Common.{◌≡◌, ◌+◌, ◌/◌, ◌<◌, length, rules, arith, sym, ap, ◌∙◌}
-use Rattle.rv_text_laws.specs.Bytes.{digits_value}
+use Rattle.rv_expression_laws.specs.Bytes.{digits_value}
 use Rattle.rv_unit.specs.Mixed.{basis, mix}
 use Rattle.rv_unit.proofs.DigitsLemmas.{mix_more, mix_first, mix_last, some_value, empty_value}
 use Rattle.rv_unit.proofs.number.mixed.Goals as goal

@@ -1,6 +1,6 @@
 -- The digits that are left, with what is carried, make of what is mixed so far what all of them make.
 use Rattle.std.proofs.Common.{◌≡◌, ◌+◌, ◌≤◌, length}
-use Rattle.rv_text_laws.specs.Bytes.{digits_value}
+use Rattle.rv_expression_laws.specs.Bytes.{digits_value}
 use Rattle.rv_unit.specs.Mixed.{HasNoZeroInFront, basis, mix}
 use Rattle.rv_unit.proofs.number.mixed.Given as goal
 

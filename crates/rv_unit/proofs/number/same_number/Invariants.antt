@@ -1,6 +1,6 @@
 -- What is left of both with what is carried is equal where the numbers are.
 use Rattle.std.proofs.Common.{◌≡◌, ◌==◌, ◌+◌, ◌≤◌, length}
-use Rattle.rv_text_laws.specs.Bytes.{digits_value}
+use Rattle.rv_expression_laws.specs.Bytes.{digits_value}
 use Rattle.rv_unit.proofs.number.same_number.Given as goal
 
 abbrev pub invariant-loop-left : goal.invariant-loop-left

@@ -1,6 +1,6 @@
 -- The digits that are left spell the number.
 use Rattle.std.proofs.Common.{◌≡◌, length}
-use Rattle.rv_text_laws.specs.Bytes.{digits_value}
+use Rattle.rv_expression_laws.specs.Bytes.{digits_value}
 use Rattle.rv_unit.proofs.number.trimmed.Given as goal
 
 abbrev pub invariant-loop-rest : goal.invariant-loop-rest

@@ -2,7 +2,7 @@ use Rattle.std.proofs.Common.{◌≡◌, ◌∙◌, ◌==◌, ◌<◌, ◌^◌, 
 use Rattle.std.specs.Prelude.{unwrap_or}
 use Rattle.std.proofs.lemmas.Bool.{eqb-true}
 use Rattle.indexmap.specs.IndexMap.{get_by, insert_entry}
-use Rattle.rv_text_laws.specs.Bytes.{digits_value}
+use Rattle.rv_expression_laws.specs.Bytes.{digits_value}
 use Rattle.rv_unit.specs.declared.number.Number.{Number}
 use Rattle.rv_unit.specs.Tables.{numbered_at, numeric_labels_in}
 use Rattle.rv_unit.proofs.NumberedLemmas.{same, added, added_to}

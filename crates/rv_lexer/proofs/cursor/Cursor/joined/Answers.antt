@@ -1,7 +1,7 @@
 -- The first token, each that goes on with it, and one that does not.
 use Rattle.std.proofs.Common.{◌∙◌, sym, ap, Some}
 use Rattle.rv_lexer.specs.Token.{kind_of}
-use Rattle.rv_lexer.specs.Cursor.{left}
+use Rattle.rv_lexer.specs.Cursor.{remaining}
 use Rattle.rv_lexer.proofs.NamesJoinedLemmas.{begun, went_on, ended, nameless}
 use Rattle.rv_lexer.proofs.cursor.Cursor.joined.Goals as goal
 use Rattle.rv_lexer.proofs.cursor.Cursor.joined.Goals.{then-loop-self-test+else-joins, else-loop-self-test}
@@ -18,7 +18,7 @@ loop-self-preserved c =
 
 pub returns : goal.returns
 returns c =
-    ap (λ text. Some (text, left c.loop-self.self)) c.between.ensures
+    ap (λ text. Some (text, remaining c.loop-self.self)) c.between.ensures
     ∙ sym (ended _ _ _ _ c.loop-self.stop c.loop-self.self c.loop-self.invariant (λ offset goes. elim c.loop-self-test.branch [
       | then-loop-self-test+else-joins w ↦ absurd (cc (w.joins.ensures ∙ goes, w.if-joins.false))
       | else-loop-self-test w ↦ w.loop-self-test.false offset

@@ -1,6 +1,6 @@
 -- A blank or a comment, a token, and the last token.
 use Rattle.std.proofs.Common.{◌≡◌, false, ◌∙◌, ap, arith, length, length-drop}
-use Rattle.rv_text_laws.specs.Lexing.{is_last}
+use Rattle.rv_expression_laws.specs.Lexing.{is_last}
 use Rattle.rv_lexer.specs.Token.{kind_of}
 use Rattle.rv_lexer.specs.Lexeme.{lexeme_kind_of}
 use Rattle.rv_lexer.proofs.FeedsLemmas.{found_spelled}

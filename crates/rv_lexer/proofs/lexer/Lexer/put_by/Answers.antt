@@ -1,6 +1,6 @@
 -- The frequent token is the lexeme at the front.
 use Rattle.std.proofs.Common.{◌≡◌, ℕ, ◌+◌, ◌≤◌, Bool, true, false, cond, length, take, length-drop, refl, sym, ◌∙◌, ap, arith}
-use Rattle.rv_text_laws.specs.Lexing.{is_last}
+use Rattle.rv_expression_laws.specs.Lexing.{is_last}
 use Rattle.rv_lexer.specs.Token.{kind_of}
 use Rattle.rv_lexer.proofs.FeedsLemmas.{found_spelled, token_feeds}
 use Rattle.rv_lexer.proofs.StepsLemmas.{goes_on_after, lexeme_within, no_gap, token_step}

@@ -9,7 +9,7 @@ use Rattle.rv_memory.proofs.flat.Flat.position.Goals as goal
 here : (xs : List DeclaredSegment) (i a : ℕ) (s : DeclaredSegment) → i < length xs → s ≡ get_or xs i s → lies_in (segment_of s) a ≡ true →
     segment_at (map segment_of (drop i xs)) a ≡ segment_at (map segment_of xs) a →
     segment_at (map segment_of xs) a ≡ slice_get (map segment_of xs) i
-here xs i a s within is held left =
+here xs i a s within is held remaining =
     let e : drop i xs ≡ get_or xs i s ∷ drop (suc i) xs = drop-cons xs i s within in
     let d : drop i xs ≡ s ∷ drop (suc i) xs = cc in
     let f : segment_at (map segment_of (drop i xs)) a ≡ Some (segment_of s) = rw d (rw held) in

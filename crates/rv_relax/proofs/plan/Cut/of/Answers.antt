@@ -1,16 +1,16 @@
 use Rattle.std.proofs.Common.{◌≡◌, List, map, subst, ap, ◌∙◌, rules}
-use Rattle.rv_layout_laws.specs.declared.site.Site.{Site}
-use Rattle.rv_layout_laws.specs.Calls.{IsGreatestClosed}
+use Rattle.rv_size_laws.specs.declared.site.Site.{Site}
+use Rattle.rv_size_laws.specs.Calls.{IsGreatestClosed}
 use Rattle.rv_object_types.specs.View.{object_of}
 use Rattle.rv_shorten.specs.View.{short_object_of}
 use Rattle.rv_link_laws.specs.Shortened.{shortened}
-use Rattle.rv_relax.specs.Plan.{placed_objects}
+use Rattle.rv_relax.specs.Plan.{objects_of_line}
 use Rattle.rv_relax.proofs.CallSizesLemmas.{told_shortened}
 use Rattle.rv_relax.proofs.plan.Cut.of.Goals as goal
 
 pub returns-clause-calls : goal.returns-clause-calls
 returns-clause-calls c =
-    let os = placed_objects c.args.placed.now in
+    let os = objects_of_line c.args.text_line.now in
     let given = c.objects-objects.ensures in
     let kept = c.in_ok-kept.field-0.kept.items in
     let left = c.in_ok-objects.objects.items in

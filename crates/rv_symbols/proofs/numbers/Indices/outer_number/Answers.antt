@@ -1,7 +1,7 @@
 use Rattle.std.proofs.Common.{◌+◌, ◌∙◌, length, ap, sym}
 use Rattle.std.specs.Prelude.{unwrap_or, position}
 use Rattle.std.specs.Str.{bytes_eq}
-use Rattle.rv_text.specs.Nodes.{symbol_of}
+use Rattle.rv_expression.specs.Nodes.{symbol_of}
 use Rattle.rv_symbols.specs.Numbers.{outer_number}
 use Rattle.rv_symbols.proofs.IndexingLemmas.{position_is}
 use Rattle.rv_symbols.proofs.numbers.Indices.outer_number.Goals as goal

@@ -1,6 +1,6 @@
 use Rattle.std.proofs.Common.{◌<◌, ◌∙◌, [], length, map, take, rules, ap, sym}
 use Rattle.std.specs.Prelude.{reverse}
-use Rattle.rv_text.specs.declared.evaluation.SymbolMeaning.TheVariants as meanings
+use Rattle.rv_expression.specs.declared.evaluation.SymbolMeaning.TheVariants as meanings
 use Rattle.rv_unit.specs.declared.tables.Assignment.{Assignment}
 use Rattle.rv_unit.specs.Tables.{assignment_of}
 use Rattle.rv_symbols.specs.Settings.{first_ordinal}

@@ -1,7 +1,7 @@
 use Rattle.std.proofs.Common.{◌∙◌, ap, sym, ◌+◌, true, false, length, Some}
-use Rattle.rv_text_laws.specs.Expression.{Symbol, Reference}
+use Rattle.rv_expression_laws.specs.Expression.{Symbol, Reference}
 use Rattle.rv_lexer.specs.Reference.{digits_in, is_ahead}
-use Rattle.rv_text.specs.Nodes.{symbol_of}
+use Rattle.rv_expression.specs.Nodes.{symbol_of}
 use Rattle.rv_unit_laws.specs.Tables.{definition, tables, definition_at, numeric_definition}
 use Rattle.rv_unit.specs.Tables.{tables_of}
 use Rattle.rv_unit.specs.Unit.{said}

@@ -1,6 +1,6 @@
 use Rattle.std.proofs.Common.{◌∙◌, ap, sym, true, false}
-use Rattle.rv_text_laws.specs.Bytes.{digits_value}
-use Rattle.rv_text_laws.specs.Expression.{Reference}
+use Rattle.rv_expression_laws.specs.Bytes.{digits_value}
+use Rattle.rv_expression_laws.specs.Expression.{Reference}
 use Rattle.rv_lexer.specs.Reference.{digits_in}
 use Rattle.rv_unit_laws.specs.Tables.{definition, numeric_definition}
 use Rattle.rv_unit.specs.Tables.{tables_of}

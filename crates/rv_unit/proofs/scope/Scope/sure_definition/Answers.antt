@@ -1,5 +1,5 @@
 use Rattle.std.proofs.Common.{◌∙◌, ◌+◌, ap, sym, None, if◌then◌else◌}
-use Rattle.rv_text.specs.Nodes.{symbol_of}
+use Rattle.rv_expression.specs.Nodes.{symbol_of}
 use Rattle.rv_unit_laws.specs.Tables.{definition, gives_way, tables}
 use Rattle.rv_unit.specs.Unit.{said}
 use Rattle.rv_unit.proofs.scope.Scope.sure_definition.Goals as goal

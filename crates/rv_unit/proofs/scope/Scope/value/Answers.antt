@@ -1,7 +1,7 @@
 use Rattle.std.proofs.Common.{◌∙◌, ◌+◌, ap, true}
-use Rattle.rv_text_laws.specs.Expression.{Literal}
-use Rattle.rv_text.specs.Expr.{tree_of_expr}
-use Rattle.rv_text.proofs.EvalsLemmas.{lone_value, negative_value}
+use Rattle.rv_expression_laws.specs.Expression.{Literal}
+use Rattle.rv_expression.specs.Expr.{tree_of_expr}
+use Rattle.rv_expression.proofs.EvalsLemmas.{lone_value, negative_value}
 use Rattle.rv_unit_laws.specs.Tables as laws
 use Rattle.rv_unit.specs.Sections.{offset_of}
 use Rattle.rv_unit.specs.Unit.{said}

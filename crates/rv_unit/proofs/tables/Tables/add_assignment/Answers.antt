@@ -1,5 +1,5 @@
 use Rattle.std.proofs.Common.{◌≡◌, ◌∙◌, ap, sym, subst, rules, false, Some, option_map}
-use Rattle.rv_text.specs.Expr.{tree_of_expr}
+use Rattle.rv_expression.specs.Expr.{tree_of_expr}
 use Rattle.rv_unit_laws.specs.Tables.{with_assignment, assigned, meaning, value_by_tables, here, stands, opened_of}
 use Rattle.rv_unit_laws.proofs.BeforeLemmas.{IsBefore}
 use Rattle.rv_unit.specs.Tables.{tables_of, assignment_of, IsIndexed}

@@ -1,5 +1,5 @@
 use Rattle.std.proofs.Common.{◌∙◌, ◌==◌, ◌<◌, ◌^◌, ap, List, ◌∷◌, rules}
-use Rattle.rv_text_laws.specs.Bytes.{digits_value}
+use Rattle.rv_expression_laws.specs.Bytes.{digits_value}
 use Rattle.rv_unit_laws.specs.Tables as laws
 use Rattle.rv_unit.specs.declared.number.Number.{Number}
 use Rattle.rv_unit.specs.declared.tables.NumericLabel.{NumericLabel}

@@ -1,5 +1,5 @@
 use Rattle.std.proofs.Common.{◌∙◌, ap, sym, option_map}
-use Rattle.rv_text_laws.specs.Bytes.{digits_value}
+use Rattle.rv_expression_laws.specs.Bytes.{digits_value}
 use Rattle.rv_unit_laws.specs.Tables.{backward_in, opened_of}
 use Rattle.rv_unit.specs.Tables.{tables_of, numeric_label_at}
 use Rattle.rv_unit.proofs.LookupsLemmas.{numeric_label_latest}

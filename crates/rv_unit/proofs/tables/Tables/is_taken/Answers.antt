@@ -1,5 +1,5 @@
 use Rattle.std.proofs.Common.{◌∙◌, sym, refl}
-use Rattle.rv_text.specs.Eval.{meaning_of}
+use Rattle.rv_expression.specs.Eval.{meaning_of}
 use Rattle.rv_unit.specs.Tables.{tables_of, assignment_of}
 use Rattle.rv_unit.proofs.LookupsLemmas.{taken_place, taken_other}
 use Rattle.rv_unit.proofs.tables.Tables.is_taken.Goals as goal

@@ -2,7 +2,7 @@ use Rattle.std.proofs.Common.{◌∙◌, ◌-◌, ◌==◌, ap, [], length, opti
 use Rattle.std.specs.Prelude.{slice_get, unwrap_or}
 use Rattle.std.specs.Option.{option_copied}
 use Rattle.rv_list_laws.proofs.FindLemmas.{latest_kept}
-use Rattle.rv_text_laws.specs.Bytes.{digits_value}
+use Rattle.rv_expression_laws.specs.Bytes.{digits_value}
 use Rattle.rv_unit_laws.specs.Tables as laws
 use Rattle.rv_unit.specs.Tables.{numbered_at, numeric_label_at, numeric_labels_in}
 use Rattle.rv_unit.proofs.NumberedLemmas.{numbered_with}

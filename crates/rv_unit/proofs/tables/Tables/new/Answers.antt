@@ -5,7 +5,7 @@ use Rattle.std.specs.Option.{option_map_or}
 use Rattle.std.specs.Map.{lookup}
 use Rattle.std.specs.Str.{bytes_eq}
 use Rattle.indexmap.specs.IndexMap.{insert_entry}
-use Rattle.rv_text_laws.specs.Bytes.{digits_value}
+use Rattle.rv_expression_laws.specs.Bytes.{digits_value}
 use Rattle.rv_statement_laws.specs.declared.directive.Binding.TheVariants.{Local}
 use Rattle.rv_unit_laws.specs.Bindings.{is_weak}
 use Rattle.rv_unit_laws.specs.Tables as laws

@@ -4,7 +4,7 @@ use Rattle.std.specs.List.Sorted.{IsNonDecreasingBy}
 use Rattle.std.specs.Prelude.{reverse, unwrap_or}
 use Rattle.std.specs.Option.{option_copied}
 use Rattle.rv_list_laws.proofs.FindLemmas.{before_kept}
-use Rattle.rv_text_laws.specs.Bytes.{digits_value}
+use Rattle.rv_expression_laws.specs.Bytes.{digits_value}
 use Rattle.rv_unit_laws.specs.Tables as laws
 use Rattle.rv_unit.specs.declared.tables.NumericLabel.{NumericLabel}
 use Rattle.rv_unit.specs.Tables.{numbered_at, numeric_label_at, numeric_labels_in}

@@ -1,7 +1,7 @@
 use Rattle.std.proofs.Common.{◌≡◌, ◌∙◌, ap, sym, true, map, [], ◌∷◌}
 use Rattle.std.specs.Prelude.{not, reverse}
 use Rattle.std.proofs.lemmas.List.{map-append, reverse-append}
-use Rattle.rv_text.specs.Eval.{meaning_of}
+use Rattle.rv_expression.specs.Eval.{meaning_of}
 use Rattle.rv_unit_laws.specs.Tables.{may_set}
 use Rattle.rv_unit.specs.Tables.{tables_of, assignment_of}
 use Rattle.rv_unit.proofs.GivesLemmas.{on_ok}

@@ -1,6 +1,6 @@
 use Rattle.std.proofs.Common.{◌≡◌, ◌∙◌, ◌+◌, ap, sym, subst, map, true, false, Some, option_map}
 use Rattle.std.specs.Prelude.{box_value}
-use Rattle.rv_text.specs.Expr.{tree_of_expr}
+use Rattle.rv_expression.specs.Expr.{tree_of_expr}
 use Rattle.rv_statement_laws.specs.Statement.{Applied, Directs, Enters, Strings, Emits}
 use Rattle.rv_statement.specs.declared.statement.Opening.{Opening}
 use Rattle.rv_statement.specs.View.{now_of, quoted, opening_of, statement_kind, operand_in}

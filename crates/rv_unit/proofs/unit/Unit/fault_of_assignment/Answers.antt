@@ -1,5 +1,5 @@
 use Rattle.std.proofs.Common.{◌∙◌, ◌+◌, subst, length, refl, false}
-use Rattle.rv_text.specs.Expr.{tree_of_expr}
+use Rattle.rv_expression.specs.Expr.{tree_of_expr}
 use Rattle.rv_statement_laws.specs.Statement.{StatementKind, Directs}
 use Rattle.rv_statement.specs.View.{setting_of}
 use Rattle.rv_unit_laws.specs.Faults as faults

@@ -1,5 +1,5 @@
 use Rattle.std.proofs.Common.{◌∙◌, ◌+◌, length, subst}
-use Rattle.rv_text_laws.specs.Codes.{faulty_if}
+use Rattle.rv_expression_laws.specs.Codes.{faulty_if}
 use Rattle.rv_statement_laws.specs.Statement.{Label}
 use Rattle.rv_fault.specs.SourceFault.{IsLowest}
 use Rattle.rv_unit.specs.Unit.{said}

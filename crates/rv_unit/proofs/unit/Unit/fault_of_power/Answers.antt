@@ -1,6 +1,6 @@
 use Rattle.std.proofs.Common.{◌∙◌, ◌+◌, subst, refl, false}
-use Rattle.rv_text_laws.specs.Values.{Value}
-use Rattle.rv_text.specs.Expr.{tree_of_expr}
+use Rattle.rv_expression_laws.specs.Values.{Value}
+use Rattle.rv_expression.specs.Expr.{tree_of_expr}
 use Rattle.rv_statement_laws.specs.Statement.{StatementKind, Directs, As_power, Aligns}
 use Rattle.rv_unit_laws.specs.Faults as faults
 use Rattle.rv_unit_laws.specs.Sections.{current_section}

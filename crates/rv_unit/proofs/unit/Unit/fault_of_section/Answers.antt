@@ -1,6 +1,6 @@
 use Rattle.std.proofs.Common.{◌∙◌, ap, subst}
 use Rattle.std.specs.Prelude.{not}
-use Rattle.rv_text_laws.specs.Codes.{faulty_if}
+use Rattle.rv_expression_laws.specs.Codes.{faulty_if}
 use Rattle.rv_unit.specs.Sections.{section_of}
 use Rattle.rv_fault.specs.SourceFault.{IsLowest}
 use Rattle.rv_unit.proofs.StandingLemmas.{at_limit}

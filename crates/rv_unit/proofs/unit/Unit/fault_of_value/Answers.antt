@@ -1,7 +1,7 @@
 use Rattle.std.proofs.Common.{sym, ap, subst, true}
 use Rattle.rv_statement_laws.specs.Widths.{width_bytes}
-use Rattle.rv_text_laws.specs.Codes.{lowest}
-use Rattle.rv_text.specs.Expr.{tree_of_expr}
+use Rattle.rv_expression_laws.specs.Codes.{lowest}
+use Rattle.rv_expression.specs.Expr.{tree_of_expr}
 use Rattle.rv_unit_laws.specs.Faults as faults
 use Rattle.rv_unit_laws.specs.Tables as laws
 use Rattle.rv_fault.specs.SourceFault.{IsLowest}

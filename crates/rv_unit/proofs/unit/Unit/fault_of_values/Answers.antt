@@ -1,7 +1,7 @@
 use Rattle.std.proofs.Common.{ℕ, List, ◌∙◌, ◌+◌, ◌*◌, sym, subst, length, map, refl, true}
 use Rattle.std.proofs.lemmas.List.{length-map}
 use Rattle.std.specs.Prelude.{flat_map}
-use Rattle.rv_text.specs.Expr.{tree_of_expr}
+use Rattle.rv_expression.specs.Expr.{tree_of_expr}
 use Rattle.rv_statement_laws.specs.Statement.{StatementKind, Directs, Values, Emits}
 use Rattle.rv_statement_laws.specs.Widths.{width_bytes}
 use Rattle.rv_unit_laws.specs.Sections.{current_section}

@@ -1,7 +1,7 @@
 use Rattle.std.proofs.Common.{◌∙◌, ◌+◌, ap, sym, length, true, false}
 use Rattle.rv_lexer.specs.Reference.{digits_in, is_ahead}
-use Rattle.rv_text.specs.Nodes.{symbol_of}
-use Rattle.rv_text_laws.specs.Bytes.{digits_value}
+use Rattle.rv_expression.specs.Nodes.{symbol_of}
+use Rattle.rv_expression_laws.specs.Bytes.{digits_value}
 use Rattle.rv_unit_laws.specs.Tables as laws
 use Rattle.rv_unit.specs.Sections.{offset_of}
 use Rattle.rv_unit.specs.Tables.{tables_of}

@@ -1,5 +1,5 @@
 use Rattle.std.proofs.Common.{◌∙◌, ap, sym, true, false}
-use Rattle.rv_text_laws.specs.Bytes.{digits_value}
+use Rattle.rv_expression_laws.specs.Bytes.{digits_value}
 use Rattle.rv_lexer.specs.Reference.{digits_in}
 use Rattle.rv_unit_laws.specs.Tables.{referred}
 use Rattle.rv_unit.specs.Tables.{tables_of}

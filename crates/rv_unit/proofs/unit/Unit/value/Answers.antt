@@ -1,5 +1,5 @@
 use Rattle.std.proofs.Common.{◌∙◌, ap, map, reverse, sym}
-use Rattle.rv_text.specs.Expr.{expr_of}
+use Rattle.rv_expression.specs.Expr.{expr_of}
 use Rattle.rv_unit_laws.specs.Tables as laws
 use Rattle.rv_unit.specs.Sections.{offset_of}
 use Rattle.rv_unit.specs.Tables.{assignment_of}

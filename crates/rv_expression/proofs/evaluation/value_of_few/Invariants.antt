@@ -1,0 +1,12 @@
+-- The nodes left make of the stack what all of them make of none.
+use Rattle.std.proofs.Common.{◌≡◌, [], drop, map}
+use Rattle.rv_expression_laws.specs.Expression.{Primary}
+use Rattle.rv_expression_laws.specs.Values as values
+use Rattle.rv_expression.specs.Nodes.{node_of, nodes_of}
+use Rattle.rv_expression.specs.Eval.{tops, Means}
+use Rattle.rv_expression.proofs.evaluation.value_of_few.Given as goal
+
+abbrev pub invariant-loop-node : goal.invariant-loop-node
+invariant-loop-node g l =
+    (m : Primary → values.Meaning) → Means (goal.F-post g l.names) m
+    → values.after_nodes m (nodes_of l.nodes) [] ≡ values.after_nodes m (map node_of (drop l.node-index l.nodes.rest.items)) (tops l.stack.items)

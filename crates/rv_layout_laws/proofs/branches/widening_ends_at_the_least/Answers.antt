@@ -1,5 +1,0 @@
-use Rattle.rv_layout_laws.proofs.WideningLemmas.{widened_least}
-use Rattle.rv_layout_laws.proofs.branches.widening_ends_at_the_least.Goals as goal
-
-pub returns : goal.returns
-returns c = widened_least

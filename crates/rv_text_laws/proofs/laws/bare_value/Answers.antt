@@ -1,5 +1,0 @@
-use Rattle.rv_text_laws.proofs.TreesLemmas.{bare_value}
-use Rattle.rv_text_laws.proofs.laws.bare_value.Goals as goal
-
-pub returns : goal.returns
-returns c = bare_value

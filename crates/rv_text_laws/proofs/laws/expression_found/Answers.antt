@@ -1,5 +1,0 @@
-use Rattle.rv_text_laws.proofs.ExpressionFoundLemmas.{expression_found}
-use Rattle.rv_text_laws.proofs.laws.expression_found.Goals as goal
-
-pub returns : goal.returns
-returns c = expression_found

@@ -1,5 +1,0 @@
-use Rattle.rv_text_laws.proofs.ExpressionsLemmas.{expression_is}
-use Rattle.rv_text_laws.proofs.laws.expression_is.Goals as goal
-
-pub returns : goal.returns
-returns c = expression_is

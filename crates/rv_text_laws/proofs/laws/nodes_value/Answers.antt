@@ -1,5 +1,0 @@
-use Rattle.rv_text_laws.proofs.TreesLemmas.{nodes_value}
-use Rattle.rv_text_laws.proofs.laws.nodes_value.Goals as goal
-
-pub returns : goal.returns
-returns c = nodes_value

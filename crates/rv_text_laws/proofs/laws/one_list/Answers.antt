@@ -1,6 +1,0 @@
--- Both lists are the function's.
-use Rattle.rv_text_laws.proofs.TokensLemmas as tokens
-use Rattle.rv_text_laws.proofs.laws.one_list.Goals as goal
-
-pub returns : goal.returns
-returns c = tokens.one_list

@@ -1,5 +1,0 @@
-use Rattle.rv_text_laws.proofs.ExpressionValuesLemmas.{values_of_postfix}
-use Rattle.rv_text_laws.proofs.laws.postfix_value.Goals as goal
-
-pub returns : goal.returns
-returns c = values_of_postfix

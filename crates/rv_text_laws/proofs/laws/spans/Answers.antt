@@ -1,5 +1,0 @@
-use Rattle.rv_text_laws.proofs.SpansLemmas as lemmas
-use Rattle.rv_text_laws.proofs.laws.spans.Goals as goal
-
-pub returns : goal.returns
-returns c = lemmas.spans
