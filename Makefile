@@ -19,7 +19,7 @@ EXAMPLE := examples/exit7.s
 PROGRAM := crates/rv_cli/out/rv_cli
 # What the program is made of: no test crate, and no edit that must fail.
 FILES := $(shell find crates \( -name out -o -name must-fail -o -name '*_tests' \) -prune -o -type f -print)
-SOURCES := crates.txt $(filter-out crates/rv_refusal_tests/%,$(FILES))
+SOURCES := crates.txt $(FILES)
 
 # ./rv is a copy of the program that was made last. Each has a file of its own, so `make` makes the proved one however
 # new an unproved one is.
@@ -62,7 +62,7 @@ $(COUNTED): $(SOURCES)
 rv: $(SOURCES)
 	$(MAKE) --no-print-directory proved
 
-rv_refusal_tests: crates.txt $(FILES)
+rv_refusal_tests: $(SOURCES) $(shell find crates/rv_refusal_tests -name out -prune -o -type f -print)
 	scripts/build.py rv_refusal_tests
 	cp crates/rv_refusal_tests/out/rv_refusal_tests rv_refusal_tests
 
@@ -84,6 +84,7 @@ check: rv
 	scripts/trusted.py --check
 	scripts/storeys.py
 	scripts/copies.py
+	scripts/lib_lines.py
 
 refused: rv rv_refusal_tests
 	tests/refused.py

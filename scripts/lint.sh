@@ -16,7 +16,7 @@ lint() {
   fi
 }
 
-lint black --check --quiet --diff .
+lint black --check --quiet --diff scripts tests bench examples
 lint flake8 scripts tests bench
 lint shellcheck scripts/*.sh .ci/run
 lint shfmt -i 2 -ci -d scripts/*.sh .ci/run

@@ -4,8 +4,8 @@
 First `rt ci`, with what each crate cost (gate_times.py): every proof from nothing, the wrong bodies that must be
 refused, the tests of the library. Then, over the programs that it built, the cases of tests/ and each request for
 memory refused; and the links of the documents, where want of memory is made, that a word of the definitions leads to
-one thing, what each storey names, and that the list of definitions is today's. The last line sums all up as
-'N passed, M failed'; the exit status is 0 if nothing failed.
+one thing, what each storey names, which lemmas stand twice, and that the list of definitions and the lines on modules
+are today's. The last line sums all up as 'N passed, M failed'; the exit status is 0 if nothing failed.
 """
 
 import re
@@ -22,6 +22,7 @@ ROOT = Path(__file__).resolve().parent.parent
 PROVED = ROOT / "out/proved/rv"
 OF_PROGRAMS = [
     ["tests/run.py"],
+    ["tests/agreeing.py"],
     ["tests/collected.py"],
     ["tests/damaged.py", "--all"],
     ["tests/explained.py"],
@@ -40,6 +41,7 @@ OF_FILES = [
     ["scripts/definitions.py"],
     ["scripts/storeys.py"],
     ["scripts/copies.py"],
+    ["scripts/lib_lines.py"],
     ["scripts/trusted.py", "--check"],
 ]
 

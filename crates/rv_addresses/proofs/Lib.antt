@@ -1,7 +1,14 @@
+-- One name more that a map shows.
 mod AddingLemmas
+-- What names mean of an object of which calls are cut short.
 mod CutsLemmas
+-- Where a run begins: at what `_start` means.
 mod EntryLemmas
+-- Whether a symbol of a file is the definition that its name means, as the table tells.
 mod ExportedLemmas
+-- What is known of each name that a map shows.
 mod KnownLemmas
+-- What a symbol means: its definition, and the address and the place of that.
 mod MeantLemmas
+-- Where no reference is undefined, each has an address.
 mod ResolvedLemmas

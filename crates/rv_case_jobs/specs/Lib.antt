@@ -1,1 +1,2 @@
+-- The exit status of cases.
 pub mod Status

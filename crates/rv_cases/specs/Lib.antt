@@ -1,1 +1,2 @@
+-- Whether what came of a run is what had to come.
 pub mod Cases

@@ -1,1 +1,2 @@
+-- What a report begins with.
 pub mod Check

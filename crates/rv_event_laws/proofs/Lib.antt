@@ -1,1 +1,2 @@
+-- What an event tells is all that its step changes.
 pub mod ChangesLemmas

@@ -1,1 +1,2 @@
+-- Values as JSON has them.
 pub mod Values

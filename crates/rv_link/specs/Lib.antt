@@ -1,6 +1,12 @@
+-- What regions hold, section by section.
 pub mod Filled
+-- Kinds of relocations without a field and a value.
 pub mod Idle
+-- Why fields do not take their values: the first relocation that fails.
 pub mod Untaken
+-- The program of placed objects.
 pub mod Made
+-- How far the regions of a program are filled.
 pub mod Regions
+-- The link of what relaxation leaves of objects.
 pub mod Left

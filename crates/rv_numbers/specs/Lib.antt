@@ -1,1 +1,2 @@
+-- Numbers as people write them.
 pub mod Numbers

@@ -1,1 +1,2 @@
+-- What the types of words and slots stand for.
 pub mod View

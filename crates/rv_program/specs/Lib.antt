@@ -1,1 +1,2 @@
+-- The exit status of what was not done.
 pub mod Status

@@ -1,1 +1,2 @@
+-- The lines that say why something is refused.
 pub mod Messages

@@ -1,1 +1,2 @@
+-- The sums over events, one event after the other.
 pub mod TotalsLemmas
