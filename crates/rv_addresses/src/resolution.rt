@@ -12,6 +12,8 @@ ghost use Rattle.rv_names.specs.Names.{IsAt, IsNames, place_of};
 ghost use Rattle.rv_shorten.specs.View.{short_object_of};
 ghost use Rattle.rv_addresses.specs.Meant.{meant_by, meant_of};
 ghost use Rattle.rv_addresses.specs.Moved.{with_definition};
+ghost use Rattle.rv_addresses.specs.Named.{distinct_prop};
+ghost use Rattle.std.proofs.Props.{props};
 
 use rv_names::{Exported, Names, is_sure, placed};
 use rv_object_types::{Binding, Definition, Symbol};
@@ -30,7 +32,7 @@ pub struct Resolution<'p, 'o, 'a, 'n> {
     pub objects: &'p [ShortObject<'o, 'a>],
     pub names: &'p Names<'n>,
     /// The names are those of the objects.
-    pub ghost named: { IsNames (map short_object_of objects.now) names.now },
+    pub ghost named: { IsNames (map short_object_of objects.now) names.now } by { Prim.hlevel (props, distinct_prop) },
 }
 
 impl Resolution<'_, '_, '_, '_> {

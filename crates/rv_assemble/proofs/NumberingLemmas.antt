@@ -1,6 +1,6 @@
 -- Statements that get their ordinals as their lines, one by one.
 
-use Rattle.std.proofs.Common.{◌≡◌, ◌<◌, ◌≤◌, ℕ, suc, ◌+◌, List, [], ◌∷◌, ◌++◌, length, map, take, drop, set, refl, sym, ap, ◌∙◌, subst, arith, append_assoc, append-nil, slice_get, Some}
+use Rattle.std.proofs.Common.{◌≡◌, ◌<◌, ◌≤◌, ℕ, ◌+◌, List, [], ◌∷◌, ◌++◌, length, map, take, drop, set, refl, sym, ap, ◌∙◌, arith, append_assoc, append-nil, slice_get, Some}
 use Rattle.std.proofs.lemmas.List.{take_more_set, drop-set-lt, drop_all, take_all}
 use Rattle.std.proofs.lemmas.Option.{slice_get_within}
 use Rattle.rv_list_laws.proofs.NumbersLemmas.{suc_is_next}

@@ -1,8 +1,7 @@
 -- Statements with their ordinals as their lines have the faults that they have at their own lines.
 
-use Rattle.std.proofs.Common.{◌≡◌, ⊤, ⊥, ℕ, zero, suc, ◌+◌, ◌≤◌, ◌==◌, Bool, true, false, List, [], ◌∷◌, ◌++◌, length, refl, sym, ap, ◌∙◌, subst, absurd, arith, Option, Some, None, inl, inr, slice_get}
-use Rattle.std.specs.Prelude.{nat_lt, if◌then◌else◌}
-use Rattle.std.specs.List.{find}
+use Rattle.std.proofs.Common.{◌≡◌, ℕ, zero, suc, ◌+◌, ◌≤◌, ◌==◌, Bool, true, false, List, [], ◌∷◌, ◌++◌, length, refl, sym, ap, ◌∙◌, subst, arith, Option, Some, None, inl, inr, slice_get}
+use Rattle.std.specs.Prelude.{⊤, nat_lt, if◌then◌else◌}
 use Rattle.rv_expression_laws.specs.Codes.{limit, lowest}
 use Rattle.rv_expression_laws.specs.Values.{Value, Constant, Symbolic, Difference, Faulty}
 use Rattle.rv_statement_laws.specs.Limits.{most_statements}
@@ -15,10 +14,10 @@ use Rattle.rv_unit_laws.specs.Bindings.{Bindings, bindings_after, all_local, bou
 use Rattle.rv_unit_laws.specs.Tables.{Tables, Definition, at_start, after, after_all, tables, longest_section, sure_definition, value_by_tables}
 use Rattle.rv_unit_laws.specs.Faults.{StatementFault, at_line, faults, first_fault_from, first_unit_fault}
 use Rattle.rv_unit_laws.proofs.FewLemmas.{first_of_few}
-use Rattle.rv_source_laws.specs.Located.{Located, located_now, located_from, located}
+use Rattle.rv_source_laws.specs.Located.{Located, located_now, located_from}
 use Rattle.rv_source_laws.specs.Program.{place_of}
 use Rattle.rv_source_laws.specs.Sizes.{Near, near_at, near_value, near_target, target_in, branch_item, item_by, item_by_kind, items_of, near_forms, AreLeast}
-use Rattle.rv_assemble_laws.specs.Refusals.{code_faults_at, code_fault_from, code_fault, HasSizeAt, AreCodeSizes, grown, size_fault_from, IsTooLong, else_fault, statements_fault, IsStatementsFault}
+use Rattle.rv_assemble_laws.specs.Refusals.{code_faults_at, code_fault_from, code_fault, AreCodeSizes, grown, size_fault_from, IsTooLong, else_fault, statements_fault, IsStatementsFault}
 use Rattle.rv_assemble.specs.Ordinals.{by_ordinal_from, by_ordinal, IsAtLine, IsRefusedFor}
 
 -- ---- what they define
@@ -101,11 +100,13 @@ size_alike P before u k (s ∷ ss) (n ∷ ns) each =
 near_same : (u : Tables) (k : ℕ) (ss : List Statement) (section : ℕ) (d : Option Definition) (plus : ℕ) → near_at (stand u k (by_ordinal_from k ss)) section d plus ≡ near_at (stand u k ss) section d plus
 near_same u k ss section None plus = refl
 near_same u k [] section (Some d) plus = refl
-near_same u k (s ∷ ss) section (Some d) plus = go (k == d.ordinal) refl
+near_same u k (s ∷ ss) section (Some d) plus = go (k == d.ordinal) refl (near_same (after u k s.kind) (suc k) ss section (Some d) plus)
   where
-    go : (b : Bool) → (k == d.ordinal) ≡ b → near_at (stand u k (by_ordinal_from k (s ∷ ss))) section (Some d) plus ≡ near_at (stand u k (s ∷ ss)) section (Some d) plus
-    go true is = rw is refl
-    go false is = rw is (near_same (after u k s.kind) (suc k) ss section (Some d) plus)
+    go : (b : Bool) → (k == d.ordinal) ≡ b
+        → near_at (stand (after u k s.kind) (suc k) (by_ordinal_from (suc k) ss)) section (Some d) plus ≡ near_at (stand (after u k s.kind) (suc k) ss) section (Some d) plus
+        → near_at (stand u k (by_ordinal_from k (s ∷ ss))) section (Some d) plus ≡ near_at (stand u k (s ∷ ss)) section (Some d) plus
+    go true is others = rw (is, near_at) refl
+    go false is others = rw (is, near_at) others
 
 module _ (t u : Tables) (k : ℕ) (whole : List Statement) where
   abbrev some : List Located
@@ -221,23 +222,23 @@ module _ (P : ℕ → ℕ → Type 0) (ss : List Statement) (few : length ss ≤
       let fault = some_alike P (size_fault_from (λ j. 0) (stand u 1 (by_ordinal ss)) h.sizes) (size_fault_from (λ j. 0) (stand u 1 ss) h.sizes) f
       (size_alike P (λ j. 0) u 1 ss h.sizes each)
       (subst (λ x. size_fault_from (λ j. 0) (stand x 1 (by_ordinal ss)) h.sizes ≡ Some f) (start_same ss) h.fault) in
-      (fault.0, record { sizes = h.sizes; are_sizes = at_home; least = least; fault = fault.1.0 }, fault.1.1)
+      (fault.0, record { sizes = h.sizes; are_sizes = at_home; least = least; fault = fault.1 }, fault.2)
 
 pub refused_at : (P : ℕ → ℕ → Type 0) (ss : List Statement) → length ss ≤ most_statements → Each P 1 ss → (f : StatementFault) → IsStatementsFault (by_ordinal ss) f
     → (line : ℕ) × IsStatementsFault ss (record { code = f.code; line = line }) × P f.line line
 refused_at P ss few each f (inl is) =
     let found = some_alike P (statements_fault (by_ordinal ss)) (statements_fault ss) f (statements P ss few each) is in
-    (found.0, inl found.1.0, found.1.1)
+    (found.0, inl found.1, found.2)
 refused_at P ss few each f (inr (none, too_long)) =
     let found = long P ss few each f too_long in
-    (found.0, inr (none_alike P (statements_fault (by_ordinal ss)) (statements_fault ss) (statements P ss few each) none, found.1.0), found.1.1)
+    (found.0, inr (none_alike P (statements_fault (by_ordinal ss)) (statements_fault ss) (statements P ss few each) none, found.1), found.2)
 
 -- the statement of the ordinal that is told is the one for which the source is refused
 pub refused_for : (ss : List Statement) (code ordinal : ℕ) → length ss ≤ most_statements → IsStatementsFault (by_ordinal ss) (record { code = code; line = ordinal })
     → (line : ℕ) × IsRefusedFor ss code ordinal line
 refused_for ss code ordinal few alone =
     let found = refused_at (IsAtLine ss) ss few (λ i n s got is. record { index = i; statement = s; got = got; ordinal_is = is; line_is = refl }) (record { code = code; line = ordinal }) alone in
-    (found.0, record { at = found.1.1; fault = found.1.0; alone = alone })
+    (found.0, record { at = found.2; fault = found.1; alone = alone })
 
 -- statements without a fault under their ordinals have none at their own lines
 pub sound_at_home : (ss : List Statement) → length ss ≤ most_statements → statements_fault (by_ordinal ss) ≡ None → statements_fault ss ≡ None

@@ -1,9 +1,9 @@
 -- The statement that is at fault, by the ordinal that is told for its line.
 
-use Rattle.std.proofs.Common.{◌≡◌, ◌<◌, ◌≤◌, ℕ, ◌+◌, ◌-◌, List, length, map, get_or, refl, sym, ap, ◌∙◌, subst, arith, Option, Some, None, inl, inr, slice_get, length-map}
-use Rattle.std.specs.Prelude.{Result, Ok, Err, IfOk, IfSome, slice_index}
+use Rattle.std.proofs.Common.{◌≡◌, ◌<◌, ◌≤◌, ℕ, ◌-◌, List, length, map, sym, ap, ◌∙◌, subst, arith, Option, Some, None, inl, inr}
+use Rattle.std.specs.Prelude.{Result, Ok, Err, IfOk, IfSome, IfNone, slice_index}
 use Rattle.std.proofs.lemmas.Option.{slice_get_within}
-use Rattle.std.specs.Global.{AllocError}
+use Rattle.std.specs.declared.alloc.AllocError.{AllocError}
 use Rattle.rv_list_laws.proofs.ElementsLemmas.{get_or_get, get_some}
 use Rattle.rv_list_laws.proofs.MapLemmas.{get_map}
 use Rattle.rv_fault.specs.declared.source_fault.SourceCode.{SourceCode}
@@ -12,9 +12,9 @@ use Rattle.rv_fault.specs.SourceFault.{source_fault_number}
 use Rattle.rv_statement_laws.specs.Limits.{most_statements}
 use Rattle.rv_statement_laws.specs.Statement.{Statement}
 use Rattle.rv_parse_laws.specs.Reading.{Reads}
-use Rattle.rv_parse_laws.specs.Refusals.{RefusesAt, Refuses}
+use Rattle.rv_parse_laws.specs.Refusals.{RefusesAt}
 use Rattle.rv_parse.specs.Offsets.{BeginsAt, BeginIn}
-use Rattle.rv_assemble_laws.specs.Refusals.{IsStatementsFault}
+use Rattle.rv_assemble_laws.specs.Refusals.{statements_fault, IsStatementsFault}
 use Rattle.rv_assemble_laws.specs.FirstFault.{IsFirstFault}
 use Rattle.rv_assemble.specs.declared.placed.Culprit.{Culprit}
 use Rattle.rv_assemble.specs.declared.placed.Culprit.TheVariants.{Byte, Statement as Faulty}
@@ -58,7 +58,7 @@ without_place : (text : List ℕ) (place : ℕ) (code : SourceCode) (line : ℕ)
 without_place text place code line (inl (long, front, same)) = inl (inl (long, same))
 without_place text place code line (inr (short, first, at)) = inl (inr (short, first))
 
-first_of : (text : List ℕ) (code : SourceCode) (line : ℕ) (u : Culprit) → IsCulprit text (source_fault_number code) line u → IsFirstFault text (At code line)
+pub first_of : (text : List ℕ) (code : SourceCode) (line : ℕ) (u : Culprit) → IsCulprit text (source_fault_number code) line u → IsFirstFault text (At code line)
 first_of text code line (Byte offset) refuses = without_place text offset code line refuses
 first_of text code line (Faulty ordinal offset) (ss, reads, refused, begins) = inr (ss, reads, refused.fault)
 
@@ -66,3 +66,10 @@ pub placed_first : (text : List ℕ) (r : Result (Option PlacedFault) AllocError
 placed_first text (Ok None) h = tt
 placed_first text (Ok (Some f)) h = first_of text f.code f.line f.culprit h
 placed_first text (Err e) h = tt
+
+-- statements that a source is read as, and that have no fault
+pub none_found : (text : List ℕ) (ss : List Statement) (r : Result (Option PlacedFault) AllocError) → Reads text ss → IfOk r (λ found. IfNone found (statements_fault ss ≡ None))
+    → IfOk r (λ found. IfNone found ((read : List Statement) × Reads text read × (statements_fault read ≡ None)))
+none_found text ss (Ok None) reads h = (ss, reads, h)
+none_found text ss (Ok (Some f)) reads h = tt
+none_found text ss (Err e) reads h = tt

@@ -29,6 +29,6 @@ mod source;
 mod symbols;
 
 pub use placed::{Culprit, PlacedFault, first_fault};
-pub use rv_object_types::Object;
 pub use rv_expression::{SourceCode, SourceFault};
+pub use rv_object_types::Object;
 pub use source::assemble;

@@ -9,6 +9,7 @@ ghost use Rattle.rv_statement_laws.specs.Limits.{most_statements};
 ghost use Rattle.rv_statement_laws.specs.Statement.{Statement as SpecStatement};
 ghost use Rattle.rv_statement.specs.View.{statement_of};
 ghost use Rattle.rv_parse_laws.specs.Reading.{Reads};
+ghost use Rattle.rv_parse.specs.Left.{RefusedAt};
 ghost use Rattle.rv_parse.specs.Offsets.{BeginIn};
 ghost use Rattle.rv_assemble_laws.specs.Refusals.{statements_fault};
 ghost use Rattle.rv_assemble_laws.specs.FirstFault.{IsFirstFault};
@@ -17,9 +18,9 @@ ghost use Rattle.rv_assemble.specs.Ordinals.{by_ordinal, line_of};
 ghost use Rattle.rv_assemble.specs.Placed.{IsPlaced, AreRefused};
 
 use rv_draft::Draft;
+use rv_expression::{ReadError, SourceCode, SourceFault};
 use rv_parse::parse_placed;
 use rv_statement::Statement;
-use rv_expression::{ReadError, SourceCode, SourceFault};
 use rv_unit::Unit;
 use std::alloc::{AllocError, Global};
 
@@ -123,6 +124,20 @@ fn fault_of(
     }
 }
 
+/// The fault of a text, at its byte.
+fn fault_of_text(error: ReadError) -> Result<PlacedFault, AllocError>
+    ensures { (text : List ℕ) → RefusedAt text error → IfOk result (λ f. IsPlaced text f) }
+{
+    match error {
+        ReadError::At(wrong) => Ok(PlacedFault {
+            code: wrong.code,
+            line: wrong.line,
+            culprit: Culprit::Byte(wrong.offset),
+        }),
+        ReadError::OutOfMemory => Err(AllocError),
+    }
+}
+
 /// The first fault of a source, as `assemble` answers it, with its place.
 pub fn first_fault(alloc: Global, source: &[u8]) -> Result<Option<PlacedFault>, AllocError>
     ensures placed { IfOk result (λ found. IfSome found (λ f. IsPlaced source.now f)) }
@@ -133,11 +148,6 @@ pub fn first_fault(alloc: Global, source: &[u8]) -> Result<Option<PlacedFault>, 
 {
     match parse_placed(alloc, source) {
         Ok(parsed) => fault_of(alloc, parsed.statements, parsed.offsets.as_slice()),
-        Err(ReadError::At(wrong)) => Ok(Some(PlacedFault {
-            code: wrong.code,
-            line: wrong.line,
-            culprit: Culprit::Byte(wrong.offset),
-        })),
-        Err(ReadError::OutOfMemory) => Err(AllocError),
+        Err(error) => Ok(Some(fault_of_text(error)?)),
     }
 }

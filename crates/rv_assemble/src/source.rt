@@ -18,9 +18,9 @@ use crate::object::object;
 use crate::symbols::table;
 use rv_assemble_laws::{names_are_shown, statements_are_small};
 use rv_draft::Draft;
+use rv_expression::SourceFault;
 use rv_object_types::Object;
 use rv_parse::parse_compact;
-use rv_expression::SourceFault;
 use rv_unit::Unit;
 use std::alloc::Global;
 

@@ -114,15 +114,9 @@ fn answer_sources<S: System>(
 ) -> Result<u8, JobError> {
     let alloc: Global = system.alloc();
     let held = held_texts(system, sources)?;
-    let mut texts: Vec<&[u8]> = Vec::new(alloc);
-    for text in &held {
-        texts.push(text.as_slice())?;
-    }
+    let texts = lent(alloc, held.as_slice())?;
     let owned = names_of(alloc, sources)?;
-    let mut names: Vec<&str> = Vec::new(alloc);
-    for name in &owned {
-        names.push(name.as_str())?;
-    }
+    let names = borrowed_names(alloc, owned.as_slice())?;
     if call.wants.faults {
         put_faults(
             alloc,
@@ -178,6 +172,24 @@ fn held_texts<'v, S: System>(
     Ok(held)
 }
 
+/// The bytes that are held, borrowed.
+fn lent<'a, 'v>(alloc: Global, held: &'a [Held<'v>]) -> Result<Vec<&'a [u8]>, AllocError> {
+    let mut texts: Vec<&'a [u8]> = Vec::new(alloc);
+    for text in held {
+        texts.push(text.as_slice())?;
+    }
+    Ok(texts)
+}
+
+/// The same names, borrowed.
+fn borrowed_names<'a>(alloc: Global, owned: &'a [String]) -> Result<Vec<&'a str>, AllocError> {
+    let mut names: Vec<&'a str> = Vec::new(alloc);
+    for name in owned {
+        names.push(name.as_str())?;
+    }
+    Ok(names)
+}
+
 /// The names of sources: those that the call gives, those of files, else `1.s`, `2.s` ..
 fn names_of(alloc: Global, sources: &[GivenSource<'_>]) -> Result<Vec<String>, AllocError> {
     let mut names = Vec::new(alloc);
@@ -191,7 +203,7 @@ fn names_of(alloc: Global, sources: &[GivenSource<'_>]) -> Result<Vec<String>, A
     Ok(names)
 }
 
-/// Runs an executable where something of the run is wanted, and adds that; the status.
+/// Loads an executable, runs it where something of the run is wanted, and adds that; the status.
 fn answer_executable<S: System>(
     system: &mut S,
     call: &Call<'_>,
@@ -199,12 +211,12 @@ fn answer_executable<S: System>(
     exe: &[u8],
     members: &mut Map<String, Value>,
 ) -> Result<u8, JobError> {
+    let alloc: Global = system.alloc();
+    let image = image_in(alloc, name, exe)?;
     if !call.wants.runs() {
         return Ok(0);
     }
-    let alloc: Global = system.alloc();
     let input = call.input.held(system)?;
-    let image = image_in(alloc, name, exe)?;
     if !call.wants.count {
         let ran = run_kept(alloc, image, input.as_slice(), call.limit);
         return put_outcome(alloc, call, members, ran);

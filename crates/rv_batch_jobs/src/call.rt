@@ -21,6 +21,8 @@ pub(crate) enum CallError {
     NoList(&'static str),
     #[error("{0} is a text, {{\"base64\": TEXT}} or {{\"file\": NAME}}")]
     NoBytes(&'static str),
+    #[error("a source is a text, or an object with one of text, base64 and file, and a name or none")]
+    NoSource,
     #[error("a limit is a number from 0 to 2^64 - 1")]
     NoLimit,
     #[error("what is wanted is console, end, count, map or faults")]
@@ -49,6 +51,48 @@ pub(crate) struct GivenSource<'v> {
     /// What faults call it, where the call says so.
     pub name: Option<&'v str>,
     pub text: Given<'v>,
+}
+
+impl<'v> GivenSource<'v> {
+    /// Reads a text, or an object with a text or what stands for it, and with a name where it has one.
+    fn of(value: &'v Value) -> Result<GivenSource<'v>, CallError> {
+        if let Some(text) = value.as_str() {
+            return Ok(GivenSource {
+                name: None,
+                text: Given::Text(text),
+            });
+        }
+        let Some(object) = value.as_object() else {
+            return Err(CallError::NoSource);
+        };
+        let mut name = None;
+        let mut given = None;
+        for (member, value) in object.iter() {
+            let Some(said) = value.as_str() else {
+                return Err(CallError::NoSource);
+            };
+            match member.as_str() {
+                "name" => name = Some(said),
+                "text" => set(&mut given, Given::Text(said))?,
+                "base64" => set(&mut given, Given::Base64(said))?,
+                "file" => set(&mut given, Given::File(said))?,
+                _ => return Err(CallError::NoSource),
+            }
+        }
+        match given {
+            Some(text) => Ok(GivenSource { name, text }),
+            None => Err(CallError::NoSource),
+        }
+    }
+}
+
+/// Sets what a source is, which is one thing alone.
+fn set<'v>(place: &mut Option<Given<'v>>, given: Given<'v>) -> Result<(), CallError> {
+    if place.is_some() {
+        return Err(CallError::NoSource);
+    }
+    *place = Some(given);
+    Ok(())
 }
 
 /// What a call is of.
@@ -162,10 +206,7 @@ fn sources<'v>(alloc: Global, value: &'v Value) -> Result<Vec<GivenSource<'v>>, 
     };
     let mut sources = Vec::new(alloc);
     for source in list {
-        sources.push(GivenSource {
-            name: source.get("name").and_then(Value::as_str),
-            text: Given::of(source, "a source")?,
-        })?;
+        sources.push(GivenSource::of(source)?)?;
     }
     Ok(sources)
 }

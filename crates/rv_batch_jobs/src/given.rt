@@ -41,16 +41,14 @@ impl<'v> Given<'v> {
         if let Some(text) = value.as_str() {
             return Ok(Given::Text(text));
         }
-        if let Some(text) = value.get("base64").and_then(Value::as_str) {
-            return Ok(Given::Base64(text));
+        let Some((name, text)) = only_member(value) else {
+            return Err(CallError::NoBytes(member));
+        };
+        match name {
+            "base64" => Ok(Given::Base64(text)),
+            "file" => Ok(Given::File(text)),
+            _ => Err(CallError::NoBytes(member)),
         }
-        if let Some(name) = value.get("file").and_then(Value::as_str) {
-            return Ok(Given::File(name));
-        }
-        if let Some(text) = value.get("text").and_then(Value::as_str) {
-            return Ok(Given::Text(text));
-        }
-        Err(CallError::NoBytes(member))
     }
 
     /// The bytes that it stands for.
@@ -61,6 +59,16 @@ impl<'v> Given<'v> {
             Given::File(name) => Ok(Held::Own(file_bytes(system, name)?)),
         }
     }
+}
+
+/// The name and the text of an object's one member.
+fn only_member<'v>(value: &'v Value) -> Option<(&'v str, &'v str)> {
+    let object = value.as_object()?;
+    if object.len() != 1 {
+        return None;
+    }
+    let (name, text) = object.iter().next()?;
+    Some((name.as_str(), text.as_str()?))
 }
 
 /// The bytes of a text in base64.

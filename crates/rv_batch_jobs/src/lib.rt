@@ -4,7 +4,7 @@
 //! run has written, its end, how many instructions it executed, the map, all that is wrong with the sources. Its answer stands
 //! on the line of the same number, and has the status and the line of a fault that `rv run` would have.
 //!
-//! Calls share nothing: what one takes is given back before the next is read, so that one that is refused, wants more memory
+//! Calls share nothing: what one takes is given back before the next is answered, so that one that is refused, wants more memory
 //! than there is or reaches its limit leaves the others as they are. The status of a run is said by a clause of `rv_guests`;
 //! texts are tested. It does not know the words of a command line.
 //!
@@ -16,8 +16,10 @@
 
 mod answer;
 mod answering;
+mod answers;
 mod call;
 mod given;
+mod line;
 mod members;
 mod wanted;
 

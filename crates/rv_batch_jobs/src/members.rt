@@ -1,9 +1,9 @@
 //! The members of an answer.
 
 use rv_chain::LinkOptions;
+use rv_check::{Report, check};
 use rv_guests::end_line;
 use rv_machine::End;
-use rv_check::{Report, check};
 use rv_source_jobs::finding_value;
 use rv_system::{JobError, fault_line};
 use serde_json::{Map, Value, json, put};

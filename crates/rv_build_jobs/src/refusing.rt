@@ -3,9 +3,9 @@
 //! What explains a fault is looked for only once there is one, so a good build pays nothing for it.
 
 use rv_chain::{Fault, LinkOptions};
+use rv_check::remark_of;
 use rv_fault_texts::Remark;
 use rv_object_report::objects_remark;
-use rv_check::remark_of;
 use rv_system::{JobError, System, fault_line};
 use std::alloc::{AllocError, Global};
 

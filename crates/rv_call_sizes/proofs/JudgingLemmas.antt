@@ -1,12 +1,14 @@
 -- What a call's size becomes at a distance, and what that says of the family.
 
-use Rattle.std.proofs.Common.{◌≡◌, ◌↔◌, inl, inr, ⊎_elim, ℕ, ◌<◌, Bool, true, false, IsTrue, List, slice_index, ℤ, pos, ◌-ℤ◌, subst, sym, arith}
+use Rattle.std.proofs.Common.{◌≡◌, ◌↔◌, inl, inr, ⊎_elim, ℕ, ◌<◌, ◌≤◌, Bool, true, false, IsTrue, List, set, slice_index, ℤ, pos, ◌-ℤ◌, refl, ap, subst, sym, ◌∙◌, arith}
+use Rattle.std.proofs.lemmas.List.{set-get_or}
 use Rattle.rv_size_laws.specs.declared.site.Site.{Site}
 use Rattle.rv_size_laws.specs.declared.site.Call.{Call as CallSite}
 use Rattle.rv_size_laws.specs.declared.site.SiteKind.TheVariants.{Call}
 use Rattle.rv_size_laws.specs.Offsets.{Reaches}
+use Rattle.rv_size_laws.specs.Steps.{Changed, Kept}
 use Rattle.rv_size_laws.specs.Calls.{Offers, half, site_at, new_offset, ReachesFrom, IsFamily, MayShorten}
-use Rattle.rv_call_sizes.specs.Passes.{HasForm, MayTake, IsJudged, CannotShrink, IsTurn}
+use Rattle.rv_call_sizes.specs.Passes.{HasForm, MayTake, IsJudged, CannotShrink, IsTurn, IsVisit}
 
 -- ---- a call
 
@@ -52,3 +54,18 @@ turn_offered sites kept i new f turn = elim turn [
   | inl same ↦ subst (Offers (site_at sites i).kind) (sym same.0) (f.offered i)
   | inr may ↦ may.offered
 ]
+
+pub turn_visit : (sites : List Site) (kept : List ℕ) (i new : ℕ) → IsTurn sites kept i new → (told : Bool) → (told ≡ true → new < slice_index kept i) → (told ≡ false → slice_index kept i ≤ new)
+    → IsVisit sites i kept (set kept i new) told
+turn_visit sites kept i new turn true down up =
+    let shrinks : new < slice_index kept i = down refl in
+    elim turn [
+      | inl same ↦ let is : new ≡ slice_index kept i = same.0 in absurd (omega arith)
+      | inr may ↦ Changed new may
+    ]
+turn_visit sites kept i new turn false down up =
+    let most : slice_index kept i ≤ new = up refl in
+    elim turn [
+      | inl same ↦ subst (λ now. IsVisit sites i kept now false) (sym (ap (set kept i) same.0 ∙ set-get_or kept i 0)) (Kept same.1)
+      | inr may ↦ let shrinks : new < slice_index kept i = may.shrinks in absurd (omega arith)
+    ]

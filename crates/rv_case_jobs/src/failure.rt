@@ -5,7 +5,6 @@ use rv_cases::{Case, Wanted, WantedEnd, ends_so};
 use rv_guests::end_line;
 use rv_machine::{End, Outcome};
 use std::alloc::{AllocError, Global};
-use std::str::from_utf8;
 
 /// What is said of a case that fails.
 #[derive(Debug, PartialEq, Eq, Drop)]
@@ -46,7 +45,7 @@ impl Failure {
 
     /// Where a build is not refused and should be.
     pub(crate) fn of_build(alloc: Global, line: &[u8]) -> Result<Failure, AllocError> {
-        let wanted = from_utf8(line).unwrap_or("");
+        let wanted = String::from_utf8_lossy(alloc, line)?;
         Ok(Failure {
             message: format!(in alloc; "wanted {wanted}, but the build is not refused")?,
             details: String::new(alloc),
@@ -92,11 +91,10 @@ fn put_difference(
 /// What must come, in a few words.
 fn wanted_text(alloc: Global, wanted: &Wanted) -> Result<String, AllocError> {
     match wanted {
-        Wanted::Refused(line) => String::from_str(alloc, from_utf8(line.as_slice()).unwrap_or("")),
-        Wanted::Run(WantedEnd::Exited(status), _) => format!(in alloc; "exit {status}"),
-        Wanted::Run(WantedEnd::Other(line), _) => {
-            String::from_str(alloc, from_utf8(line.as_slice()).unwrap_or(""))
+        Wanted::Refused(line) | Wanted::Run(WantedEnd::Other(line), _) => {
+            String::from_utf8_lossy(alloc, line.as_slice())
         }
+        Wanted::Run(WantedEnd::Exited(status), _) => format!(in alloc; "exit {status}"),
     }
 }
 

@@ -8,12 +8,11 @@ use rv_memory::Paged;
 use rv_system::{JobError, fault_line, image_in, map_in};
 use rv_trace::{Latest, Places, Segments, Source, report_text};
 use std::alloc::{AllocError, Global};
-use std::str::from_utf8;
 
 /// The most instructions that are executed again to see where a run ended.
 const LOOKED_AT: u64 = 100_000_000;
 
-/// Adds the lines of a report on how a run of a source ended, down to its registers; none of a longer run.
+/// Adds the lines of a report on how a run of a source ended, down to the cure and the registers; none of a longer run.
 pub(crate) fn put_report(
     alloc: Global,
     details: &mut String,
@@ -39,7 +38,10 @@ pub(crate) fn put_report(
     let mut latest = Latest::new();
     if let Some(end) = looked_at(alloc, &mut machine, &mut latest, input, most) {
         let text = report_text(alloc, &machine, &latest, &places, &segments, &end)?;
-        put_lines(details, from_utf8(text.as_slice()).unwrap_or(""))?;
+        put_lines(
+            details,
+            String::from_utf8_lossy(alloc, text.as_slice())?.as_str(),
+        )?;
     }
     Ok(())
 }
@@ -62,10 +64,10 @@ fn looked_at(
     }
 }
 
-/// Adds the lines before those of the registers.
+/// Adds the lines before those of a cure, which speaks of the words of a run, and of the registers.
 fn put_lines(details: &mut String, report: &str) -> Result<(), AllocError> {
     for line in report.lines() {
-        if line == "registers" {
+        if line == "cure" || line == "registers" {
             break;
         }
         details.push_str("  ")?;

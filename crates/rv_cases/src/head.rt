@@ -76,7 +76,7 @@ impl Head {
         match HeadLine::of(line) {
             HeadLine::Words => Ok(()),
             HeadLine::Unknown(name) => {
-                let name = String::from_str(alloc, from_utf8(name).unwrap_or(""))?;
+                let name = String::from_utf8_lossy(alloc, name)?;
                 Err(LineError::Wrong(CaseFault::UnknownKey(name)))
             }
             HeadLine::Value(Key::Input, value) => self.add_input(alloc, value),
@@ -125,17 +125,26 @@ fn put<T: Drop>(place: &mut Option<T>, value: T, key: Key) -> Result<(), LineErr
 
 /// The status of an exit.
 fn status(value: &[u8]) -> Result<u8, LineError> {
-    let number = from_utf8(value).ok().and_then(decimal);
-    match number.and_then(|number| u8::try_from(number).ok()) {
+    match status_in(value) {
         Some(status) => Ok(status),
         None => Err(LineError::Wrong(CaseFault::NoStatus)),
     }
 }
 
+/// The status that a text spells.
+fn status_in(value: &[u8]) -> Option<u8> {
+    u8::try_from(decimal(from_utf8(value).ok()?)?).ok()
+}
+
 /// The number of instructions of a key.
 fn number(key: Key, value: &[u8]) -> Result<u64, LineError> {
-    match from_utf8(value).ok().and_then(amount) {
+    match amount_in(value) {
         Some(number) => Ok(number),
         None => Err(LineError::Wrong(CaseFault::NoAmount(key.name()))),
     }
+}
+
+/// The amount that a text spells.
+fn amount_in(value: &[u8]) -> Option<u64> {
+    amount(from_utf8(value).ok()?)
 }

@@ -17,6 +17,7 @@ ghost use Rattle.rv_chain.specs.Valued.{AreValued};
 use crate::built::Built;
 use crate::linking::program;
 use rv_assemble::assemble;
+use rv_expression::SourceFault;
 use rv_fault::Fault;
 use rv_image::{Linked, write_exec};
 use rv_link::{LinkOptions, within_limits};
@@ -25,7 +26,6 @@ use rv_raw_theorems::raw_listings_reassemble;
 use rv_reach_theorems::{short_branches_reach, short_calls_reach};
 use rv_runs_theorems::{linked_runs_agree, listing_is_the_sources};
 use rv_sources_link_theorems::{linked_objects_are_flagged, objects_of_sources_link};
-use rv_expression::SourceFault;
 use rv_value_theorems::values_are_plain;
 use std::alloc::Global;
 

@@ -42,8 +42,8 @@ pub use law::{
 };
 pub use linking::{link_objects, link_objects_exe};
 pub use running::run_exec;
+pub use rv_expression::{SourceCode, SourceFault};
 pub use rv_fault::Fault;
 pub use rv_image::FileFault;
 pub use rv_link::{LinkFault, LinkOptions};
 pub use rv_machine::{End, Outcome};
-pub use rv_expression::{SourceCode, SourceFault};

@@ -13,8 +13,8 @@ ghost use Rattle.rv_source_laws.specs.Sizes as sizes;
 ghost use Rattle.rv_instruction.specs.Scoped.{values_at, AtNext};
 ghost use Rattle.rv_draft.specs.Contents as laws;
 
-use rv_statement::{Statement, StatementKind};
 use rv_expression::{SourceFault, Value};
+use rv_statement::{Statement, StatementKind};
 use rv_unit::{
     LONGEST_SECTION, Scope, SectionOffset, byte_alignment, padding, power_alignment, strings_size,
     values_size,

@@ -31,10 +31,10 @@ use crate::extents::extent_at;
 use crate::item::CodeSize;
 use crate::layout::Layout;
 use crate::widths::{bytes_of, width};
+use rv_expression::{SourceCode, SourceFault};
 use rv_instruction::{Coded, Encoded, code as code_of, one_code};
 use rv_object_types::put_no_operations;
 use rv_statement::{Statement, Statements};
-use rv_expression::{SourceCode, SourceFault};
 use rv_unit::{LONGEST_SECTION, Scope, SectionOffset, Unit};
 use std::alloc::{AllocError, Global};
 

@@ -28,10 +28,10 @@ ghost use Rattle.rv_draft.specs.Spots.{value_in, parts_in, said_in, own_fields, 
 
 use crate::field::OpenField;
 use crate::fields::{Choices, put_code};
+use rv_expression::{Expr, SourceFault, Symbol, Value, append_string};
 use rv_isa::Kind;
 use rv_statement::{Statement, StatementKind, Statements};
 use rv_statement_laws::Width;
-use rv_expression::{Expr, SourceFault, Symbol, Value, append_string};
 use rv_unit::{Item, Scope, Section, SectionOffset, Unit};
 use std::alloc::{AllocError, Global};
 

@@ -1,7 +1,7 @@
 //! The fields that stay open.
 
-use rv_isa::Kind;
 use rv_expression::Symbol;
+use rv_isa::Kind;
 
 /// A field that the linker fills in, as a statement says it (gABI, "Relocation").
 #[derive(Clone, Copy, Debug, PartialEq, Eq, Drop)]

@@ -22,10 +22,10 @@ ghost use Rattle.rv_draft.specs.Measured.{CanCount, PadsIn, CanPadIn, AlignsIn, 
 
 use crate::extents::extent_at;
 use crate::item::CodeSize;
+use rv_expression::{SourceCode, SourceFault, Value};
 use rv_instruction::constant;
 use rv_statement::{Statement, StatementKind, Statements};
 use rv_statement_laws::Width;
-use rv_expression::{SourceCode, SourceFault, Value};
 use rv_unit::{
     Extent, Item, LONGEST_SECTION, Scope, Section, SectionOffset, Unit, byte_alignment, give_back,
     padding, power_alignment, strings_size, values_size,

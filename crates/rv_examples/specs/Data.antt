@@ -212,7 +212,8 @@ differences =
     ∷ on_line 5 (Directs (Enters Data))
     ∷ on_line 6 (Label (codes "a"))
     ∷ on_line 7
-    (Directs (Emits (Values 1 (Binary Add (constant 2) (Binary Or (constant 3) (constant 4)) ∷ []))))
+    (Directs
+    (Emits (Values 1 (Binary Add (constant 2) (Binary Or (constant 3) (constant 4)) ∷ []))))
     ∷ on_line 8 (Directs (Aligns As_power (constant 2)))
     ∷ on_line 9 (Label (codes "b"))
     ∷ on_line 10

@@ -135,7 +135,8 @@ expr_of (exprs.Compound compound) = nodes_of compound.value.nodes
 abbrev pub ReadOn : (List ℕ → Bool) → reading.Stage → Cursor → Cursor → Result Expr ReadError →
     Type 0
 ReadOn is_register stage old new result =
-    Answers (λ e. (expr_of e, remaining new)) result (reading.read_from is_register stage (remaining old))
+    Answers (λ e. (expr_of e, remaining new)) result
+    (reading.read_from is_register stage (remaining old))
 
 -- the cursor stands before the token that is wrong, unless memory ran out
 abbrev pub IsAtNext : ReadError → Cursor → Type 0

@@ -18,8 +18,8 @@ use crate::expr::Expr;
 use crate::node::{Node, Nodes, Symbol};
 use crate::pair::{Pair, SymbolPair};
 use arrayvec::ArrayVec;
-use rv_fault::{SourceCode, SourceFault};
 use rv_expression_laws::{BinaryOperator, UnaryOperator};
+use rv_fault::{SourceCode, SourceFault};
 
 /// The most values that wait for an operator, in an expression that is read.
 const MOST_VALUES: usize = 200;
@@ -461,6 +461,7 @@ fn compound_value<'a, F: Fn(Symbol<'a>) -> SymbolMeaning>(nodes: &Nodes<'a>, nam
 }
 
 /// The value of an expression, by what its symbols mean; a fault has this line, and of several the lowest number counts.
+/// A unit calls this and not `eval`, since it knows more than words: constants not set yet, numeric labels that do not come.
 pub fn symbolic_value<'a, F: Fn(Symbol<'a>) -> SymbolMeaning>(
     expr: &Expr<'a>,
     line: u32,

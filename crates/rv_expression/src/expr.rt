@@ -13,8 +13,8 @@ ghost use Rattle.rv_expression.specs.Expr.{expr_of, pair_nodes, two_nodes};
 use crate::compound::Compound;
 use crate::node::{Node, Nodes, Symbol};
 use crate::pair::{Pair, SymbolPair};
-use rv_lexer::NumericReference;
 use rv_expression_laws::BinaryOperator;
+use rv_lexer::NumericReference;
 use std::alloc::{AllocError, Global};
 
 /// An expression that was read. Texts are parts of the source; a number, its negative, a symbol alone

@@ -17,8 +17,8 @@ use crate::expr::Expr;
 use crate::node::{Node, Nodes, Symbol};
 use crate::pair::{Pair, SymbolPair};
 use crate::reading::{Begin, Follow, Stage, begins, follows, read_on};
-use rv_lexer::{Cursor, ReadError, TokenKind};
 use rv_expression_laws::{BinaryOperator, Frame, UnaryOperator};
+use rv_lexer::{Cursor, ReadError, TokenKind};
 use std::alloc::{AllocError, Global};
 
 /// An operator that waits for its operand.

@@ -33,9 +33,9 @@ pub use expr::Expr;
 pub use node::{Node, Symbol};
 pub use pair::{Pair, SymbolPair};
 pub use reading::{expression, parse_expr};
+pub use rv_expression_laws::{BinaryOperator, UnaryOperator};
 pub use rv_fault::{SourceCode, SourceFault};
 pub use rv_lexer::{
     Cursor, LONGEST_NAME, Lexer, NumericReference, Punct, ReadError, SyntaxError, Token, TokenKind,
     append_string, string_contains, string_size,
 };
-pub use rv_expression_laws::{BinaryOperator, UnaryOperator};

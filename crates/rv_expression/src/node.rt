@@ -4,8 +4,8 @@ ghost use Rattle.std.specs.Prelude.{◌≡◌, [], ◌∷◌, ◌++◌, map, not
 ghost use Rattle.rv_expression_laws.specs.ExpressionAt as reading;
 ghost use Rattle.rv_expression.specs.Nodes.{node_of, nodes_of, is_number_node, are_numbers};
 
-use rv_lexer::NumericReference;
 use rv_expression_laws::{BinaryOperator, Frame, UnaryOperator};
+use rv_lexer::NumericReference;
 use std::alloc::AllocError;
 
 /// What an expression may refer to. Texts are parts of the source.

@@ -22,10 +22,10 @@ ghost use Rattle.rv_expression.specs.Expr.{begin_of, follow_of, stack_of, stage_
 use crate::expr::Expr;
 use crate::front::{after_minus, after_number, after_symbol};
 use crate::node::{Node, Nodes, Symbol};
+use rv_expression_laws::{BinaryOperator, Frame, Punct, UnaryOperator};
 use rv_fault::{SourceCode, SourceFault};
 use rv_isa::reg_named;
 use rv_lexer::{Cursor, LONGEST_NAME, Lexer, ReadError, TokenKind};
-use rv_expression_laws::{BinaryOperator, Frame, Punct, UnaryOperator};
 use std::alloc::{AllocError, AllocFailed, Global};
 
 /// The most parentheses and operators of one operand in one another.
@@ -421,8 +421,9 @@ pub(crate) fn read_on<'a>(
     }
 }
 
-/// The expression at the front of a cursor's tokens. An error names the first token that is wrong, and leaves the cursor
-/// before that token; where memory runs out, the cursor has passed some of the expression's tokens.
+/// The expression at the front of a cursor's tokens; a name that spells a register is no operand. An error names the first
+/// token that is wrong, and leaves the cursor before that token; where memory runs out, the cursor has passed some of the
+/// expression's tokens.
 #[tactic(auto, using(crate::proofs::ExprsLemmas::stack_none), unfolding(rv_expression_laws::specs::ExpressionAt::expression_at))]
 pub fn expression<'a>(alloc: Global, cursor: &mut Cursor<'a>) -> Result<Expr<'a>, ReadError>
     ensures reads { Answers (λ e. (expr_of e, remaining cursor.new)) result

@@ -85,7 +85,7 @@ pub(crate) fn put_meant_register(
         return put_told(text, family.as_bytes(), " are registers");
     }
     match near_word(alloc, word, Wanted::Register)? {
-        Some(near) => put_told(text, near.as_slice(), " is one"),
+        Some(near) => put_told(text, near.as_slice(), " is a register"),
         None => Ok(false),
     }
 }

@@ -371,7 +371,8 @@ Example:
     .globl _start
     _start:
     lw a0, 0(zero)
-Cure: load the address first, as by la, and stay inside what stands there
+Cure: load the address first, as by la, and stay inside what stands there; load
+  what is on the stack before sp goes back
 
 StoreText
 Cause: a store to bytes of which one is code
@@ -388,7 +389,8 @@ Example:
     .globl _start
     _start:
     sw zero, 0(zero)
-Cure: write to .data, .bss or the stack, and not to .rodata
+Cure: write inside .data, .bss or the stack, and not to .rodata; end a recursion
+  before the stack is full
 
 MisalignedAtomic
 Cause: lr, sc or an atomic operation at an address that is no multiple of its

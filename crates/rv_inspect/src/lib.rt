@@ -1,5 +1,4 @@
-//! What files hold, as texts for people and scripts: the words `size`, `nm`, `elf` and `dis` of the
-//! program.
+//! What files hold, as texts for people and scripts: the words `size`, `nm`, `elf` and `dis` of the program.
 //!
 //! It takes the bytes of an object or an executable, and of an executable its [`Map`](rv_map::Map), and gives texts in the
 //! columns of GNU's `size`, `nm`, `readelf` and `objdump -d -r`, or the first fault of the file. A text that may be very

@@ -22,11 +22,11 @@ use crate::known::{bare_one, operation_in_range, plain, with_one};
 use crate::named::{named_form, names_parcel};
 use crate::worth::{Outcome, worth};
 use arrayvec::ArrayVec;
+use rv_expression::{Expr, SourceCode, SourceFault, Value};
 use rv_isa::Inst;
 use rv_pseudo::{Manner, Templates, takes_target, with_operand};
 use rv_statement::{Operation, Plain, Statement, StatementKind};
 use rv_statement_laws::Function;
-use rv_expression::{Expr, SourceCode, SourceFault, Value};
 use rv_unit::{Scope, SectionOffset};
 
 /// The number of an expression that has to be a constant, by its value; else its fault at a line.

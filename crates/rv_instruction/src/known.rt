@@ -16,10 +16,10 @@ ghost use Rattle.rv_instruction.specs.Code as laws;
 ghost use Rattle.rv_instruction.specs.Code.{AreInRange, AreCodable, IsOneOf};
 
 use crate::worth::{Outcome, signed};
+use rv_expression::{SourceCode, Value};
 use rv_isa::Inst;
 use rv_pseudo::{Template, Templates, single, single_bare, without_operand};
 use rv_statement::{Operation, Plain};
-use rv_expression::{SourceCode, Value};
 
 /// The registers of a statement without an expression are x0 to x31.
 fn plain_registers(statement: Plain)

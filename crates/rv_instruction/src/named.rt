@@ -13,10 +13,10 @@ ghost use Rattle.rv_assemble_laws.specs.Coded.{constants};
 ghost use Rattle.rv_instruction.specs.Scoped.{values_at, named_at, AtNext};
 
 use crate::worth::worth;
+use rv_expression::Expr;
 use rv_parcel::Compressed;
 use rv_pseudo::{Manner, Worth, named};
 use rv_statement::{Operation, Plain, Statement, StatementKind};
-use rv_expression::Expr;
 use rv_unit::{Scope, SectionOffset};
 
 /// Whether a statement names a parcel.

@@ -19,11 +19,11 @@ ghost use Rattle.rv_instruction.specs.Near as laws;
 ghost use Rattle.rv_instruction.specs.Scoped.{values_at, AtNext};
 
 use crate::worth::Outcome;
+use rv_expression::Value;
 use rv_isa::{BranchOperation, Reg};
 use rv_size_laws::{Forms, Item};
 use rv_statement::{Operation, Statement, StatementKind};
 use rv_statement_laws::{Function, ZeroBranchOperation};
-use rv_expression::Value;
 use rv_unit::{Definition, Scope, SectionOffset};
 
 /// Whether a register is one of x8 to x15.

@@ -18,11 +18,11 @@ ghost use Rattle.rv_instruction.specs.Scoped.{values_at, AtNext};
 
 use crate::near::addend;
 use crate::worth::Outcome;
+use rv_expression::{Symbol, Value};
 use rv_isa::Kind;
 use rv_pseudo::takes_target;
 use rv_statement::{Operation, Statement, StatementKind};
 use rv_statement_laws::Function;
-use rv_expression::{Symbol, Value};
 use rv_unit::{Definition, Scope, SectionOffset};
 
 /// What an open field takes: a symbol as the statement of an ordinal names it, and what is added.

@@ -10,9 +10,9 @@ ghost use Rattle.rv_pseudo.specs.Faults.{worth_of};
 ghost use Rattle.rv_instruction.specs.Code as laws;
 ghost use Rattle.rv_instruction.specs.Scoped.{labels_at};
 
+use rv_expression::{SourceCode, SourceFault, Symbol, Value};
 use rv_pseudo::Worth;
 use rv_statement_laws::Function;
-use rv_expression::{SourceCode, SourceFault, Symbol, Value};
 use rv_unit::Scope;
 
 /// What an expression stands for, or its fault.

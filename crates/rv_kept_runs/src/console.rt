@@ -1,6 +1,6 @@
 //! A console that is kept, up to a limit.
 
-ghost use Rattle.std.specs.Prelude.{Some};
+ghost use Rattle.std.specs.Prelude.{◌≡◌, false, Some};
 
 use rv_machine::{GuestOut, IoFailed};
 use std::alloc::{AllocError, Global};

@@ -11,8 +11,8 @@ ghost use Rattle.rv_lexer.specs.Left.{GivesToken};
 use crate::lexer::Lexer;
 use crate::syntax_error::SyntaxError;
 use crate::token::{Token, TokenKind};
-use rv_fault::SourceCode;
 use rv_expression_laws::Punct;
+use rv_fault::SourceCode;
 
 /// A token that goes on with a name, where no gap is between.
 fn joins(kind: TokenKind<'_>) -> bool

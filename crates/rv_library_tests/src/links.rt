@@ -3,7 +3,7 @@
 use rv_assemble::assemble;
 use rv_fault::LinkFault;
 use rv_names::Names;
-use rv_relax::{TextLine, Plan};
+use rv_relax::{Plan, TextLine};
 use rv_reloc::{Kind, patch, value};
 use std::test::Fail;
 

@@ -1,8 +1,8 @@
 //! What a source says.
 
 use rv_draft::Layout;
-use rv_parse::{Statement, parse};
 use rv_expression::{Lexer, Meaning, SourceFault, TokenKind, Value, eval, parse_expr};
+use rv_parse::{Statement, parse};
 use rv_unit::Unit;
 use std::test::Fail;
 

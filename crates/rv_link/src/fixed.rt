@@ -68,7 +68,11 @@ impl<'p, 'o, 'a, 'n> Fixed<'p, 'o, 'a, 'n> {
     }
 
     /// The value of a relocation of a section, as it has moved.
-    fn value(&self, input: &PlacedInput<'_, '_, '_>, relocation: &Relocation) -> Result<i64, LinkFault>
+    fn value(
+        &self,
+        input: &PlacedInput<'_, '_, '_>,
+        relocation: &Relocation,
+    ) -> Result<i64, LinkFault>
         requires fixed { IsFixed self.now }
         requires input { IsInputOf self.now input.now }
         ensures found { IfOk result

@@ -25,7 +25,6 @@
 //! Source: System V gABI, "Sections", "Symbol Table", "Relocation"; RISC-V ELF psABI, "Relocations", "Linker Relaxation"; GNU ld.
 #![tactic(auto)]
 
-mod with_map;
 mod fields;
 mod fixed;
 mod law;
@@ -34,6 +33,7 @@ mod passes;
 mod programs;
 mod regions;
 mod relaxation;
+mod with_map;
 
 pub use law::a_missing_entry_comes_first;
 pub use options::LinkOptions;

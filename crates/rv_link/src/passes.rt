@@ -29,9 +29,9 @@ ghost use Rattle.rv_link.specs.Untaken.{AreUnfilled};
 ghost use Rattle.rv_link_laws.specs.TextStart.{AreWithin};
 ghost use Rattle.rv_link.specs.Regions.{AreGrown, HasLinkNames, IsReady, IsPlaced};
 
-use crate::with_map::{globals as globals_of_map, rows as rows_of_map};
 use crate::fixed::Fixed;
 use crate::regions::Regions;
+use crate::with_map::{globals as globals_of_map, rows as rows_of_map};
 use rv_addresses::Resolution;
 use rv_fault::LinkFault;
 use rv_image::{Linked, STACK_START};

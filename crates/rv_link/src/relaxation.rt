@@ -10,7 +10,7 @@ ghost use Rattle.rv_fault.specs.declared.link_fault.LinkFault.TheVariants.{OutOf
 use rv_fault::LinkFault;
 use rv_names::Names;
 use rv_object_types::Object;
-use rv_relax::{TextLine, Plan};
+use rv_relax::{Plan, TextLine};
 use std::alloc::Global;
 
 /// The plan of objects, whose names mean this, where relaxation is on or not. They are lent: no byte of them moves before the

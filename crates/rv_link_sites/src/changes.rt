@@ -24,8 +24,8 @@ use crate::line::start_padding;
 use crate::order::by_place;
 use crate::text::Text;
 use crate::words::{are_call_words, link_register};
-use rv_size_laws::{Call, Padding, Site, SiteKind};
 use rv_object_types::{Object, Relocation, Section};
+use rv_size_laws::{Call, Padding, Site, SiteKind};
 use std::alloc::{AllocError, Global};
 
 /// A section of text, by its file and its index there, both from 0.
@@ -62,7 +62,11 @@ fn constant(addend: i64, past_end: u64) -> i64
 }
 
 /// A call, if its words, its target and the symbols of its object allow that it is shortened.
-fn call(text: &Text<'_, '_, '_, '_>, input: &TextSection<'_, '_>, relocation: &Relocation) -> Option<Call>
+fn call(
+    text: &Text<'_, '_, '_, '_>,
+    input: &TextSection<'_, '_>,
+    relocation: &Relocation,
+) -> Option<Call>
     requires laid { IsLaidText text.now }
     requires given { IsGiven text.now input.now }
     requires within { (relocation.now).place + 8

@@ -15,9 +15,9 @@ ghost use Rattle.rv_link_sites.specs.Text.{IsLaidText, objects_of};
 use crate::changes::{TextSection, put_section};
 use crate::entries::Entries;
 use crate::text::Text;
-use rv_size_laws::Site;
 use rv_names::Names;
 use rv_object_types::Object;
+use rv_size_laws::Site;
 use std::alloc::{AllocError, Global};
 
 /// The sites of the text of objects, whose names mean this. The text has at most 9 * 2^123 bytes, as a list has less than 2^63

@@ -5,7 +5,7 @@ use crate::files::{ALIGN, CALL_OF_FIRST, RELAX, file, place};
 use rv_fault::LinkFault;
 use rv_names::Names;
 use rv_object::{Object, read};
-use rv_relax::{TextLine, Plan};
+use rv_relax::{Plan, TextLine};
 use std::alloc::{AllocError, Global};
 use std::test::Fail;
 

@@ -1,7 +1,8 @@
 //! Pages of 4096 bytes, in a list by ascending numbers: a look-up is a binary search.
 //!
 //! The bytes of neighbouring pages lie one after the other in their segment: a page says in which, and which rights they
-//! have.
+//! have. That is one right for all of them, or the page is mixed, and then a search among the segments finds a byte's:
+//! a table for each mixed page would take 480 MiB for 60,000 segments of one byte.
 
 ghost use Rattle.std.specs.Prelude.{
   ◌≡◌,

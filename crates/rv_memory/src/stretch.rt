@@ -1,6 +1,8 @@
 //! Stretches: addresses at which an access needs no search.
 //!
-//! They are made once. One compare tells whether an access lies in one and has its right, wherever pages end.
+//! They are made once. One compare tells whether an access lies in one and has its right, wherever pages end. It goes by the
+//! width of the access, so that a stretch reaches to its segment's last byte: a loop in the last word of code takes little
+//! longer than elsewhere.
 
 ghost use Rattle.std.specs.Prelude.{◌≡◌, ◌<◌};
 ghost use Rattle.rv_memory.specs.Rights.{right_of, IsWidth};

@@ -14,12 +14,12 @@ ghost use Rattle.rv_parse.specs.Left.{Gives, GivesInstruction, ReadsInstruction}
 use crate::operands::{given, with};
 use crate::value::Argument;
 use crate::{slot, value};
+use rv_expression::{Cursor, Expr, ReadError, SourceCode, SyntaxError};
 use rv_isa::{AtomicForm, AtomicOperation, LoadOperation, Reg, StoreOperation};
 use rv_parcel::RegisterSet;
 use rv_parse_words::Role;
 use rv_parse_words::fault::Slot;
 use rv_statement::{Operation, Plain, StatementKind};
-use rv_expression::{Cursor, Expr, ReadError, SourceCode, SyntaxError};
 use std::alloc::Global;
 
 /// What a load reads and a store writes.

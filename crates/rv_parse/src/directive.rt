@@ -18,11 +18,11 @@ ghost use Rattle.rv_parse.specs.Slots.{flags_slots, type_slots, further_items, p
 ghost use Rattle.rv_parse.specs.Left.{Gives, GivesDirective, ReadsDirective};
 
 use crate::{slot, value};
+use rv_expression::{Cursor, Expr, ReadError, SyntaxError};
 use rv_parse_words::fault::{self, Slot};
 use rv_parse_words::{Role, kinds};
 use rv_statement::{Opening, Setting, StatementKind};
 use rv_statement_laws::{Binding, DirectiveWord, Standard, Width};
-use rv_expression::{Cursor, Expr, ReadError, SyntaxError};
 use std::alloc::Global;
 
 /// One symbol or more, with commas between.

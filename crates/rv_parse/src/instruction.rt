@@ -9,13 +9,13 @@ ghost use Rattle.rv_parse.specs.Left.{ReadsInstruction};
 use crate::operands::{self, given, with};
 use crate::parcel::parcel;
 use crate::{access, jump, slot, value};
+use rv_expression::{Cursor, ReadError};
 use rv_isa::{RegisterOperation, UpperOperation};
 use rv_parse_words::Role;
 use rv_parse_words::fault::Slot;
 use rv_parse_words::words::has_constant;
 use rv_statement::{Operation, Plain, StatementKind};
 use rv_statement_laws::Mnemonic;
-use rv_expression::{Cursor, ReadError};
 use std::alloc::Global;
 
 /// `rd, rs1, rs2`, or a constant in place of `rs2`.

@@ -11,12 +11,12 @@ ghost use Rattle.rv_parse.specs.Left.{ReadsInstruction};
 
 use crate::operands::{given, with};
 use crate::{slot, value};
+use rv_expression::{Cursor, ReadError};
 use rv_isa::Reg;
 use rv_parcel::RegisterSet;
 use rv_parse_words::Role;
 use rv_parse_words::fault::Slot;
 use rv_statement::{Operation, Plain, StatementKind};
-use rv_expression::{Cursor, ReadError};
 use std::alloc::Global;
 
 /// The operands of `jal`: a target, or a link register and a target.

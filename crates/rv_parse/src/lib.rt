@@ -30,6 +30,6 @@ mod statement;
 mod value;
 
 pub use list::PlacedStatements;
-pub use rv_statement::Statement;
 pub use rv_expression::{ReadError, SourceCode, SourceFault, SyntaxError};
+pub use rv_statement::Statement;
 pub use source::{lists_agree, parse, parse_compact, parse_placed};

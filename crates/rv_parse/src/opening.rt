@@ -14,10 +14,10 @@ ghost use Rattle.rv_parse_laws.specs.Parsing.{front_fault, type_wrong, flags_wro
 ghost use Rattle.rv_parse.specs.Opened.{Has, Knows};
 
 use crate::slot;
+use rv_expression::{Cursor, LONGEST_NAME, SourceCode, SyntaxError, TokenKind, append_string};
 use rv_parse_words::fault::{self, Slot};
 use rv_parse_words::{kinds, words};
 use rv_statement::{StatementKind, section_name};
-use rv_expression::{Cursor, LONGEST_NAME, SourceCode, SyntaxError, TokenKind, append_string};
 use std::alloc::{AllocError, Global};
 use std::collections::HashSet;
 

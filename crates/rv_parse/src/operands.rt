@@ -14,11 +14,11 @@ ghost use Rattle.rv_parse.specs.Left.{Gives};
 
 use crate::slot;
 use crate::value::{self, Argument};
+use rv_expression::{Cursor, Expr, ReadError, SyntaxError};
 use rv_isa::Reg;
 use rv_parse_words::Role;
 use rv_parse_words::fault::Slot;
 use rv_statement::{Operation, StatementKind};
-use rv_expression::{Cursor, Expr, ReadError, SyntaxError};
 use std::alloc::Global;
 
 /// An instruction with its expression.

@@ -14,12 +14,12 @@ ghost use Rattle.rv_parse.specs.Slots.{sets_in, own, leading_at, leading_of};
 
 use crate::operands::{self, given, with};
 use crate::{slot, value};
+use rv_expression::{Cursor, ReadError, SyntaxError};
 use rv_isa::Reg;
 use rv_parcel::{OperandShape, ParcelOperation, RegisterSet};
 use rv_parse_words::Role;
 use rv_parse_words::fault::Slot;
 use rv_statement::{Operation, Plain, StatementKind};
-use rv_expression::{Cursor, ReadError, SyntaxError};
 use std::alloc::Global;
 
 /// A register of the set and a comma; x0 where there is no set.

@@ -12,11 +12,11 @@ ghost use Rattle.rv_parse_laws.specs.Parsing.{operand_at, end_at, base_at, base_
 ghost use Rattle.rv_parse_words.specs.View.{slot_of, word_of, string_of};
 ghost use Rattle.rv_parse.specs.Left.{Gives};
 
+use rv_expression::{Cursor, LONGEST_NAME, SourceCode, SyntaxError};
 use rv_isa::{AccessSet, Reg};
 use rv_parcel::RegisterSet;
 use rv_parse_words::fault::{self, Slot};
 use rv_parse_words::kinds;
-use rv_expression::{Cursor, LONGEST_NAME, SourceCode, SyntaxError};
 
 /// A register of a set.
 #[tactic(auto, using(crate::proofs::TokensLemmas::register_in_no_last), unfolding(rv_lexer::specs::Cursor::remaining))]

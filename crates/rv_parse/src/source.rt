@@ -29,9 +29,9 @@ use crate::list::{PlacedStatements, StatementList};
 use crate::opening::{Opened, wrong_opening};
 use crate::statement::statement;
 use memchr::{memchr_iter, memrchr};
+use rv_expression::{Cursor, Lexer, ReadError, SourceCode, SourceFault, SyntaxError, Token};
 use rv_parse_words::kinds;
 use rv_statement::{MOST_STATEMENTS, Statement, StatementKind, Statements};
-use rv_expression::{Cursor, Lexer, ReadError, SourceCode, SourceFault, SyntaxError, Token};
 use std::alloc::Global;
 
 /// The longest source, in bytes.

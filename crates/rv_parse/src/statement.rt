@@ -10,9 +10,9 @@ ghost use Rattle.rv_parse_laws.specs.Parsing.{begun_at, statement_at, part_at, t
 
 use crate::directive::directive;
 use crate::instruction::instruction;
+use rv_expression::{Cursor, ReadError, SyntaxError, Token};
 use rv_parse_words::{Beginning, fault, kinds};
 use rv_statement::StatementKind;
-use rv_expression::{Cursor, ReadError, SyntaxError, Token};
 use std::alloc::Global;
 
 /// A label, after its name or its digits: the colon comes next.

@@ -13,10 +13,10 @@ ghost use Rattle.rv_parse_laws.specs.Parsing.{operand_at, value_at, value_operan
 ghost use Rattle.rv_parse.specs.Left.{Gives};
 
 use crate::slot;
+use rv_expression::{Cursor, Expr, ReadError, SourceCode, SyntaxError, Token};
 use rv_parse_words::fault::{self, Slot};
 use rv_parse_words::{Role, kinds};
 use rv_statement_laws::Function;
-use rv_expression::{Cursor, Expr, ReadError, SourceCode, SyntaxError, Token};
 use std::alloc::Global;
 
 /// An expression.

@@ -1,6 +1,6 @@
 -- A look-up in a table among the names of the word's length or of its second byte alone.
 
-use Rattle.std.proofs.Common.{◌≡◌, ℕ, zero, suc, ◌+◌, ◌%◌, ◌<◌, Bool, true, false, List, [], ◌∷◌, length, map, get_or, Some, None, refl, sym, ◌∙◌, ap, subst, arith}
+use Rattle.std.proofs.Common.{◌≡◌, ℕ, zero, suc, ◌+◌, ◌%◌, ◌<◌, Bool, true, false, List, [], ◌∷◌, length, get_or, Some, None, refl, sym, ◌∙◌, ap, subst, arith}
 use Rattle.std.specs.Prelude.{◌==◌, ◌||◌, ◌&&◌, if◌then◌else◌}
 use Rattle.std.specs.Str.{bytes_eq}
 use Rattle.std.proofs.lemmas.Bool.{eq-eqb, eqb-true, and_parts}
@@ -51,15 +51,11 @@ abbrev pub lists_from : ℕ → ℕ → List (List (List ℕ × DirectiveWord))
 lists_from n zero = []
 lists_from n (suc count) = of_key place n directive_words ∷ lists_from (suc n) count
 
-pub list_at : {B : Type 0} (f : B → List (List ℕ × DirectiveWord)) (xs : List B) (d : B) (n count i : ℕ) → map f xs ≡ lists_from n count → i < count → f (get_or xs i d) ≡ of_key place (i + n) directive_words
-list_at f xs d n zero i e less = absurd (omega (arith, less))
-list_at f [] d n (suc count) i e less = absurd (cc)
-list_at f (x ∷ xs) d n (suc count) zero e less =
-    let first : f x ≡ of_key place n directive_words = cc in
-    first ∙ ap (λ m. of_key place m directive_words) (let same : n ≡ 0 + n = omega arith in same)
-list_at f (x ∷ xs) d n (suc count) (suc i) e less =
-    let others : map f xs ≡ lists_from (suc n) count = cc in
-    list_at f xs d (suc n) count i others (omega (arith, less)) ∙ ap (λ m. of_key place m directive_words) (let same : i + suc n ≡ suc i + n = omega arith in same)
+pub list_at : (n count i : ℕ) → i < count → get_or (lists_from n count) i [] ≡ of_key place (i + n) directive_words
+list_at n zero i less = absurd (omega (arith, less))
+list_at n (suc count) zero less = ap (λ m. of_key place m directive_words) (let same : n ≡ 0 + n = omega arith in same)
+list_at n (suc count) (suc i) less =
+    list_at (suc n) count i (omega (arith, less)) ∙ ap (λ m. of_key place m directive_words) (let same : i + suc n ≡ suc i + n = omega arith in same)
 
 -- the keys that names have
 abbrev pub is_one_of : List ℕ → ℕ → Bool

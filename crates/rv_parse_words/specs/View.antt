@@ -1,6 +1,6 @@
 -- What the types of words and slots stand for.
 
-use Rattle.std.specs.Prelude.{ℕ, List, [], ◌∷◌, Option, None}
+use Rattle.std.specs.Prelude.{ℕ, List, [], ◌∷◌, Option, None, map}
 use Rattle.std.specs.Borrow.{Bor}
 use Rattle.rv_expression_laws.specs.Grammar.{Kind, Name}
 use Rattle.rv_statement_laws.specs.declared.directive.Choice.{Choice}
@@ -28,6 +28,10 @@ slot_of slots.Choice = syntax.An_option
 -- a row of a table of names
 abbrev pub named_of : {X : Type 0} → Bor (List ℕ) × X → List ℕ × X
 named_of row = (row.0.now, row.1)
+
+-- the rows of a table of names
+abbrev pub named_rows : {X : Type 0} → Bor (List (Bor (List ℕ) × X)) → List (List ℕ × X)
+named_rows rows = map named_of rows.now
 
 -- the choice of `.option` that a token names
 abbrev pub choice_of : Kind → Option Choice

@@ -10,9 +10,9 @@ ghost use Rattle.rv_parse_laws.specs.Syntax.{targets};
 
 use crate::kinds::is_comma;
 use crate::words::{are_known_flags, is_frame, is_left_out, is_left_out_option};
+use rv_expression::{LONGEST_NAME, Punct, SourceCode, TokenKind};
 use rv_parcel::RegisterSet;
 use rv_parse_laws::Role;
-use rv_expression::{LONGEST_NAME, Punct, SourceCode, TokenKind};
 
 /// What stands in one slot of a statement.
 #[derive(Clone, Copy, Debug, PartialEq, Eq, Drop)]

@@ -17,12 +17,12 @@ ghost use Rattle.rv_parse_laws.specs.Parsing.{width};
 ghost use Rattle.rv_parse_words.specs.View.{choice_of, word_of, string_of};
 
 use crate::words::{accesses_named, beginning_with, choice_named, function_named, register_named};
+use rv_expression::{Expr, LONGEST_NAME, Punct, TokenKind};
 use rv_isa::{AccessSet, Reg};
 use rv_parcel::RegisterSet;
 use rv_parse_laws::{Beginning, Role};
 use rv_statement::StatementKind;
 use rv_statement_laws::{Choice, Function};
-use rv_expression::{Expr, LONGEST_NAME, Punct, TokenKind};
 
 /// A name that a symbol may have.
 #[tactic(auto, unfolding(rv_parse_laws::specs::Syntax::is_symbol))]

@@ -5,15 +5,16 @@
 //! and its order, since all of them in one table would be 88 rows that say the same. The tables are data, so one
 //! contract on the look-up covers every row.
 
-ghost use Rattle.std.specs.Prelude.{◌≡◌, map, ◌||◌, ◌&&◌, option_map, is_some, codes};
+ghost use Rattle.std.specs.Prelude.{◌≡◌, ◌<◌, [], length, map, slice_index_or, ◌||◌, ◌&&◌, option_map, is_some, codes};
 ghost use Rattle.std.specs.Option.{option_or};
 ghost use Rattle.rv_parse_laws.specs.Words.{function_words, left_out_words, left_out_options, section_types, choices, is_among, is_frame, frame_directive, directive_words, directive_named, beginning, register, named_in, atomic_forms, form_behind, atomic_in, atomic_operations, instruction_words, mnemonic_named};
 ghost use Rattle.rv_statement_laws.specs.declared.mnemonic.Mnemonic.TheVariants.{LoadReserved};
 ghost use Rattle.std.specs.List.{list_all};
 ghost use Rattle.rv_parse_laws.specs.Syntax.{access_sets, with_constant, is_flag};
 ghost use Rattle.rv_parse_laws.specs.Faults.{is_known_flag};
-ghost use Rattle.rv_parse_words.specs.View.{named_of, second};
+ghost use Rattle.rv_parse_words.specs.View.{named_of, named_rows, second};
 
+use rv_expression::LONGEST_NAME;
 use rv_isa::{
     AccessSet, AtomicForm, AtomicOperation, BranchOperation, ImmediateOperation, LoadOperation,
     Reg, RegisterOperation, ShiftOperation, StoreOperation, UpperOperation, reg_named,
@@ -24,7 +25,6 @@ use rv_statement_laws::{
     Binding, Choice, CompareOperation, DirectiveWord, Function, Mnemonic, Standard,
     SwappedBranchOperation, UnaryOperation, Width, ZeroBranchOperation,
 };
-use rv_expression::LONGEST_NAME;
 
 /// What the language leaves out by name: a mnemonic, and directives.
 const LEFT_OUT_WORDS: [&str; 12] = [
@@ -584,13 +584,19 @@ fn second(word: &[u8]) -> u8
     }
 }
 
+/// What the list of this index has for a word.
+fn named_at(lists: &[&[(&str, DirectiveWord)]], index: usize, word: &[u8]) -> Option<DirectiveWord>
+    requires { index < length lists.now }
+    ensures { result ≡ named_in (slice_index_or (map named_rows lists.now) index []) word.now }
+{
+    named_in(lists[index], word)
+}
+
 /// The directive but those of call frames that the word is: a look-up among those with its second byte.
 fn listed_directive(word: &[u8]) -> Option<DirectiveWord>
     ensures { result ≡ named_in directive_words word.now }
 {
-    let lists: &[&[(&str, DirectiveWord)]; 32] = &DIRECTIVES;
-    let key = usize::from(second(word) % 32);
-    named_in(lists[key], word)
+    named_at(&DIRECTIVES, usize::from(second(word) % 32), word)
 }
 
 /// The directive that the word is.

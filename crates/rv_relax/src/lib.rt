@@ -42,12 +42,12 @@ mod law;
 mod losses;
 mod paddings;
 mod pieces;
-mod text_line;
 mod plan;
 mod section_paddings;
+mod text_line;
 mod told;
 
 pub use law::{one_alignment, two_alignments};
-pub use text_line::TextLine;
 pub use plan::Plan;
 pub use section_paddings::SectionPaddings;
+pub use text_line::TextLine;

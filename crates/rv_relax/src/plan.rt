@@ -17,8 +17,8 @@ ghost use Rattle.rv_relax.specs.Kept.{kept_in, moves_of};
 ghost use Rattle.rv_relax.specs.Told.{told_objects};
 ghost use Rattle.rv_relax.specs.declared.told.Counted.TheVariants.{Calls};
 
-use crate::text_line::TextLine;
 use crate::section_paddings::SectionPaddings;
+use crate::text_line::TextLine;
 use rv_call_sizes::CallSizes;
 use rv_fault::LinkFault;
 use rv_object_types::Object;

@@ -10,10 +10,10 @@ ghost use Rattle.rv_call_sizes.specs.Passes.{IsInput};
 ghost use Rattle.rv_names.specs.Names.{IsNames};
 ghost use Rattle.rv_relax.specs.TextLine.{AreTextSites};
 
-use rv_size_laws::Site;
 use rv_link_sites::sites;
 use rv_names::Names;
 use rv_object_types::Object;
+use rv_size_laws::Site;
 use std::alloc::{AllocError, Global};
 
 /// Objects with their text in order, as far as its size can change: the calls that may be shortened, each with the place that

@@ -10,8 +10,8 @@ ghost use Rattle.rv_cut_laws.specs.Walk.{AreWalked, walked};
 
 use crate::object::ShortObject;
 use crate::sites::short_sections;
-use rv_size_laws::Site;
 use rv_object_types::Object;
+use rv_size_laws::Site;
 use std::alloc::{AllocError, Global};
 
 /// The objects that are left, as the sites of the text go by.

@@ -7,6 +7,7 @@ ghost use Rattle.std.specs.Prelude.{◌≡◌, ◌+◌, ◌-◌, ◌≤◌, ◌+
 ghost use Rattle.rv_object_laws.specs.Object as said;
 ghost use Rattle.rv_object_types.specs.Sections.{section_of};
 ghost use Rattle.rv_size_laws.specs.Calls as calls;
+ghost use Rattle.rv_size_laws.specs.Sites.{site_end};
 ghost use Rattle.rv_shorten.specs.Cut.{are_in_order, move_of};
 ghost use Rattle.rv_cut_laws.specs.Cutting.{AllCut, are_cuts, cut_sections};
 ghost use Rattle.rv_shorten.specs.Sections.{moves_in_all, short_section_of, whole_section_of};
@@ -15,9 +16,9 @@ ghost use Rattle.rv_shorten.specs.SiteCuts as site_cuts;
 
 use crate::cut::Cut;
 use crate::section::ShortSection;
-use rv_size_laws::{Site, SiteKind};
 use rv_link_sites::link_register;
 use rv_object_types::Section;
+use rv_size_laws::{Site, SiteKind};
 use std::alloc::{AllocError, Global};
 
 /// Whether a site is a call.
@@ -42,7 +43,7 @@ fn bytes_of(site: &Site) -> u128
 
 /// The offset of a site in its section, which begins behind a first site.
 fn place_of(start: &Site, site: &Site) -> u128
-    ensures { result ≡ (site.now).offset - walk.site_end start.now }
+    ensures { result ≡ (site.now).offset - site_end start.now }
 {
     site.offset
         .saturating_sub(start.offset)
@@ -51,7 +52,7 @@ fn place_of(start: &Site, site: &Site) -> u128
 
 /// How many sites stand in a section of so many bytes, which begins behind a first site.
 fn count_within(start: &Site, size: u64, sites: &[Site]) -> usize
-    ensures value { result ≡ walk.count_within (walk.site_end start.now) size sites.now }
+    ensures value { result ≡ walk.count_within (site_end start.now) size sites.now }
     ensures low { result ≤ length sites.now }
 {
     let mut count = 0;
@@ -128,9 +129,9 @@ fn cuts(
 ) -> Result<Vec<Cut>, AllocError>
     requires many { length kept.now ≡ length sites.now }
     requires cuts { are_cuts 0 (length bytes.now)
-        (walk.moves_of (walk.site_end start.now) bytes.now sites.now kept.now) ≡ true }
+        (walk.moves_of (site_end start.now) bytes.now sites.now kept.now) ≡ true }
     ensures moves { IfOk result (λ v. map move_of v.items
-        ≡ walk.moves_of (walk.site_end start.now) bytes.now sites.now kept.now) }
+        ≡ walk.moves_of (site_end start.now) bytes.now sites.now kept.now) }
     ensures order { IfOk result (λ v. are_in_order 0 0 v.items ≡ true) }
 {
     let mut cuts = Vec::new(alloc);

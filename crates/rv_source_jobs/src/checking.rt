@@ -2,9 +2,9 @@
 
 use crate::formats::{put_json, put_line_of_compilers};
 use rv_chain::LinkOptions;
+use rv_check::{Finding, Report, check};
 use rv_fault_texts::Remark;
 use rv_job::ReportFormat;
-use rv_check::{Finding, Report, check};
 use rv_system::{JobError, System, borrowed, fault_line, files_bytes, print};
 use std::alloc::Global;
 

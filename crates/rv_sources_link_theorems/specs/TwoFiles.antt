@@ -51,7 +51,8 @@ first_source =
     ∷ on_line 5 (Label (codes "v"))
     ∷ on_line 5 (Directs (Emits (Values 4 (name (codes "f") ∷ []))))
     ∷ on_line 6 (Directs (Emits (Values 8 (Binary Add (name (codes "v")) (Leaf (Literal 4)) ∷ []))))
-    ∷ on_line 7 (Directs (Emits (Values 4 (Binary Subtract (name (codes "f")) (name (codes "g")) ∷ []))))
+    ∷ on_line 7
+    (Directs (Emits (Values 4 (Binary Subtract (name (codes "f")) (name (codes "g")) ∷ []))))
     ∷ on_line 8 (Directs (Emits (Values 8 (Leaf Here ∷ []))))
     ∷ []
 

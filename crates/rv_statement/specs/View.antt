@@ -182,7 +182,8 @@ statement_kind (kinds.Values width values) =
     specs.Directs (specs.Emits (specs.Values (width_bytes width) (map tree_of_expr values.items)))
 statement_kind (kinds.Ascii strings) =
     specs.Directs (specs.Emits (specs.Strings false (map quoted strings.items)))
-statement_kind (kinds.Asciz strings) = specs.Directs (specs.Emits (specs.Strings true (map quoted strings.items)))
+statement_kind (kinds.Asciz strings) =
+    specs.Directs (specs.Emits (specs.Strings true (map quoted strings.items)))
 statement_kind (kinds.Zeros count) = specs.Directs (specs.Emits (specs.Zeros (tree_of_expr count)))
 statement_kind (kinds.Chooses choice) = specs.Directs (specs.Chooses choice)
 statement_kind kinds.Ignored = specs.Directs specs.Ignored

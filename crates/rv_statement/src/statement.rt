@@ -3,6 +3,7 @@
 //! A statement has 40 bytes, since a source may have 4 million of them. `.set`, `.section` and expressions with
 //! operators are behind a pointer.
 
+use rv_expression::Expr;
 use rv_isa::{
     AccessSet, AtomicForm, AtomicOperation, BranchOperation, ImmediateOperation, LoadOperation,
     Reg, RegisterOperation, ShiftOperation, StoreOperation, UpperOperation,
@@ -12,7 +13,6 @@ use rv_statement_laws::{
     Binding, Choice, CompareOperation, Function, Standard, SwappedBranchOperation, UnaryOperation,
     Width, ZeroBranchOperation,
 };
-use rv_expression::Expr;
 
 /// The most statements of a source.
 pub const MOST_STATEMENTS: usize = 1 << 22;

@@ -15,9 +15,9 @@ ghost use Rattle.rv_assemble_laws.specs.ShownNames.{said_names, are_shown};
 ghost use Rattle.rv_symbols.specs.Settings.{AreFirsts};
 
 use crate::settings::FirstSettings;
+use rv_expression::SymbolMeaning;
 use rv_object_types::{Binding as ObjectBinding, Definition};
 use rv_statement::{Statement, StatementKind};
-use rv_expression::SymbolMeaning;
 use rv_unit::{Assignment, Binding, Item, Unit};
 use std::alloc::{AllocError, Global};
 

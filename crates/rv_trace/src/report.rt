@@ -370,7 +370,7 @@ fn name_of(places: &Places<'_>, bounds: &Bounds, address: u64) -> Option<&'stati
     places.region_at(address)
 }
 
-/// Adds what an access in no segment is beside: the low end of the stack, or the end of what a symbol names.
+/// Adds what an access in no segment is beside: an end of the stack, or the end of what a symbol names.
 fn put_beside(
     text: &mut Vec<u8>,
     places: &Places<'_>,
@@ -383,10 +383,14 @@ fn put_beside(
         return put(text, " MiB");
     }
     let end = segments.end_before(address);
+    let distance = address.wrapping_sub(end);
+    if end == STACK_START.wrapping_add(STACK_BYTES as u64) && distance <= BEHIND {
+        return put(text, ", past the end of the stack");
+    }
     let Some(last) = places.symbol_at(end.wrapping_sub(1)) else {
         return Ok(());
     };
-    put_behind(text, last.name, address.wrapping_sub(end))
+    put_behind(text, last.name, distance)
 }
 
 /// Adds how far behind what a symbol names an access is, where it is near.
@@ -399,7 +403,7 @@ fn put_behind(text: &mut Vec<u8>, name: &[u8], distance: u64) -> Result<(), Allo
     } else {
         put(text, ", ")?;
         put_decimal(text, distance)?;
-        put(text, " bytes")?;
+        put(text, if distance == 1 { " byte" } else { " bytes" })?;
     }
     put(text, " behind `")?;
     text.extend_from_slice(name)?;

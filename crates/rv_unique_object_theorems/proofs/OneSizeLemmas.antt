@@ -25,15 +25,15 @@ padded_one false s q alignment at (n, i) (m, j) = (n ∙ ap (padding alignment) 
 constant_one : (n m : ℕ) → Constant n ≡ Constant m → n ≡ m
 constant_one n m e = cc
 
-data_one : (v : Expression → Value) (n m : ℕ) (contents : Data) → HasDataSize v contents n → HasDataSize v contents m → n ≡ m
-data_one v n m (Values width values) h k = h ∙ sym k
-data_one v n m (Strings ended strings) h k = h ∙ sym k
-data_one v n m (Zeros count) h k = constant_one n m (sym h ∙ k)
+one_data_size : (v : Expression → Value) (n m : ℕ) (contents : Data) → HasDataSize v contents n → HasDataSize v contents m → n ≡ m
+one_data_size v n m (Values width values) h k = h ∙ sym k
+one_data_size v n m (Strings ended strings) h k = h ∙ sym k
+one_data_size v n m (Zeros count) h k = constant_one n m (sym h ∙ k)
 
 -- a directive's, in data by where it stands
 pub directive_one : (v : Expression → Value) (s q : LaidStatement) (a b : ℕ) (d : Directive) → s.located ≡ q.located → (s.located.home.executable ≡ false → s.offset ≡ q.offset)
     → DirectiveSize v s a d → DirectiveSize v q b d → (s.bytes ≡ q.bytes) × (s.instructions ≡ q.instructions)
-directive_one v s q a b (Emits contents) l at (i, n) (j, m) = (data_one v s.bytes q.bytes contents n m, i ∙ sym j)
+directive_one v s q a b (Emits contents) l at (i, n) (j, m) = (one_data_size v s.bytes q.bytes contents n m, i ∙ sym j)
 directive_one v s q a b (Aligns form x) l at (c, m, h) (d, n, k) =
     padded_one s.located.home.executable s q (alignment_of v (Aligns form x)) at h
     (subst (λ (z : Located). IsPaddedIn z.home.executable q (alignment_of v (Aligns form x))) (sym l) k)

@@ -7,8 +7,8 @@ ghost use Rattle.rv_expression.specs.Eval.{IsOutcome};
 ghost use Rattle.rv_expression_laws.specs.Values as values;
 ghost use Rattle.rv_unit_laws.specs.Tables as laws;
 
-use rv_statement_laws::Width;
 use rv_expression::{SourceFault, Value, string_size};
+use rv_statement_laws::Width;
 
 /// The longest section, in bytes.
 pub const LONGEST_SECTION: u64 = 1 << 28;

@@ -27,9 +27,9 @@ use crate::faults::{
 use crate::section::Section;
 use crate::section_offset::SectionOffset;
 use crate::unit::Unit;
+use rv_expression::{Expr, SourceCode};
 use rv_statement::{Setting, StatementKind, Statements};
 use rv_statement_laws::{Choice, Width};
-use rv_expression::{Expr, SourceCode};
 
 /// The depth of the option stack after a statement.
 fn depth_after(depth: usize, kind: &StatementKind<'_>) -> usize

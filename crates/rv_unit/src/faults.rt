@@ -20,8 +20,8 @@ ghost use Rattle.rv_unit.specs.Sections.{section_of};
 
 use crate::align::{GREATEST_ALIGNMENT, LONGEST_SECTION, is_power_below, padding};
 use crate::section::Section;
-use rv_statement_laws::Choice;
 use rv_expression::{Expr, SourceCode, SourceFault, Symbol, SymbolMeaning, Value, symbolic_value};
+use rv_statement_laws::Choice;
 
 /// What an expression is worth, or its fault.
 pub(crate) type Outcome<'a> = Result<Value<'a>, SourceFault>;

@@ -29,8 +29,8 @@ use crate::options::Options;
 use crate::section::Section;
 use crate::section_offset::SectionOffset;
 use crate::tables::{Assignment, Tables};
-use rv_statement::{Opening, Setting, StatementKind, Statements};
 use rv_expression::{Expr, SourceFault, Symbol, SymbolMeaning, Value};
+use rv_statement::{Opening, Setting, StatementKind, Statements};
 use std::alloc::{AllocError, Global};
 
 /// Whether a statement enters a section.

@@ -23,7 +23,9 @@ ghost use Rattle.rv_unit.specs.Unit.{said, passed, IsApart, IsFilled, comes_afte
 
 use crate::section_offset::SectionOffset;
 use crate::unit::Unit;
-use rv_expression::{Expr, NumericReference, SourceFault, Symbol, SymbolMeaning, Value, symbolic_value};
+use rv_expression::{
+    Expr, NumericReference, SourceFault, Symbol, SymbolMeaning, Value, symbolic_value,
+};
 
 /// Whether a symbol is a numeric label that comes after.
 fn comes_after(symbol: Symbol<'_>) -> bool

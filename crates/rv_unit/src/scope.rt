@@ -16,8 +16,8 @@ use crate::fill::assigned;
 use crate::section_offset::{Definition, SectionOffset};
 use crate::tables::{Assignment, NumericLabel};
 use crate::unit::Unit;
-use rv_statement::Setting;
 use rv_expression::{Expr, NumericReference, SourceFault, Symbol, SymbolMeaning, Value};
+use rv_statement::Setting;
 
 /// Names as the statements see them, one after the other.
 #[derive(Drop)]

@@ -8,9 +8,9 @@ ghost use Rattle.rv_unit_laws.specs.Tables as tables;
 ghost use Rattle.rv_unit.specs.Sections.{extent_of, section_of};
 
 use crate::align::end_within;
+use rv_expression::string_contains;
 use rv_statement::section_name;
 use rv_statement_laws::Standard;
-use rv_expression::string_contains;
 use rv_unit_laws::SectionType;
 
 /// A section with its flags.

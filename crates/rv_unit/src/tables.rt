@@ -31,8 +31,10 @@ use crate::options::Options;
 use crate::section::{Extent, Section};
 use crate::section_offset::SectionOffset;
 use indexmap::IndexMap;
+use rv_expression::{
+    Expr, NumericReference, SourceFault, Symbol, SymbolMeaning, Value, symbolic_value,
+};
 use rv_statement_laws::{Binding, Choice};
-use rv_expression::{Expr, NumericReference, SourceFault, Symbol, SymbolMeaning, Value, symbolic_value};
 use std::alloc::{AllocError, Global};
 
 /// The most sections of a source.

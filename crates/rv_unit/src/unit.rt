@@ -15,9 +15,9 @@ use crate::options::Options;
 use crate::section::Extent;
 use crate::section_offset::SectionOffset;
 use crate::tables::{Assignment, Tables};
+use rv_expression::{SourceCode, SourceFault};
 use rv_statement::{MOST_STATEMENTS, Statement, Statements};
 use rv_statement_laws::Binding;
-use rv_expression::{SourceCode, SourceFault};
 use std::alloc::{AllocError, Global};
 
 /// A source's statements, where and in which options they stand, its sections and its names.

@@ -31,15 +31,26 @@ pub(crate) fn put_calls(
         if matches!(flow_of(&statement.kind), Flow::Environment)
             && let Some(doubt) = doubt_of_call(&registers, sets_number)
         {
-            let is_again = is_told && matches!(doubt, Doubt::NoNumber);
-            if !is_again {
-                put(found, doubt, index)?;
-            }
-            is_told = is_told || matches!(doubt, Doubt::NoNumber);
+            is_told = put_call(found, doubt, index, is_told)?;
         }
         registers.pass(facts, &statement.kind);
     }
     Ok(())
+}
+
+/// Adds a doubt of a call, that nothing sets its number only once; whether that was said.
+fn put_call(
+    found: &mut Vec<Warning>,
+    doubt: Doubt,
+    index: usize,
+    is_told: bool,
+) -> Result<bool, AllocError> {
+    let is_unset = matches!(&doubt, Doubt::NoNumber);
+    if is_told && is_unset {
+        return Ok(true);
+    }
+    put(found, doubt, index)?;
+    Ok(is_told || is_unset)
 }
 
 /// What may be wrong with a call where the registers hold this.

@@ -2,7 +2,8 @@
 //! "Integer Calling Convention").
 //!
 //! A function goes from its label to the next one in its section. It owes that only where it returns, and not where a run
-//! begins; a register is saved where it is stored at sp or loaded from there, or kept elsewhere before it is written.
+//! begins; a register is saved where it is stored at sp or loaded from there, or kept elsewhere before it is written. What
+//! loads sp itself goes on with another stack, as `longjmp` does, and owes nothing.
 
 use crate::calls::is_exit;
 use crate::effect::{Flow, flow_of, kept_by, operation_of, written_by};
@@ -22,6 +23,8 @@ struct Function {
     returns: bool,
     /// It saves what it has to by a call, as GCC does by `-msave-restore`.
     saves_by_call: bool,
+    /// It goes on with another stack.
+    switches_stack: bool,
     /// The registers that are saved, each at the bit of its number.
     saved: u32,
     /// The registers that were written before they were saved, and where.
@@ -43,6 +46,7 @@ impl Function {
             owes: true,
             returns: false,
             saves_by_call: false,
+            switches_stack: false,
             saved: 0,
             lost: Vec::new(alloc),
             block: 0,
@@ -58,6 +62,7 @@ impl Function {
         self.owes = owes;
         self.returns = false;
         self.saves_by_call = false;
+        self.switches_stack = false;
         self.saved = 0;
         self.lost.clear();
         self.block = 0;
@@ -77,7 +82,7 @@ impl Function {
 
     /// Adds what it loses, where it returns.
     fn finish(&self, found: &mut Vec<Warning>) -> Result<(), AllocError> {
-        if !self.owes || !self.returns || self.saves_by_call {
+        if !self.owes || !self.returns || self.saves_by_call || self.switches_stack {
             return Ok(());
         }
         for (register, index) in &self.lost {
@@ -112,6 +117,7 @@ impl Function {
             self.write(register, index)?;
             if register.number() == Reg::SP.number() {
                 self.moved = moved_by(facts, self.moved, kind);
+                self.switches_stack = self.switches_stack || is_load(kind);
             }
         }
         self.go(kind);
@@ -156,9 +162,7 @@ impl Function {
             Flow::Branch => self.block = self.lost.len(),
             _ => {}
         }
-        if let Some(Operation::Call(link)) = operation_of(kind) {
-            self.saves_by_call = self.saves_by_call || link.number() == 5;
-        }
+        self.saves_by_call = self.saves_by_call || is_call_by_t0(kind);
     }
 }
 
@@ -270,9 +274,25 @@ fn moved_by<'a>(facts: &Facts<'a>, moved: Option<u64>, kind: &StatementKind<'a>)
 /// Whether an operation adds a number to sp.
 fn is_stack_sum(operation: Operation) -> bool {
     match operation {
-        Operation::Immediate(ImmediateOperation::Addi, _, from) => {
-            from.number() == Reg::SP.number()
+        Operation::Immediate(operation, _, from) => {
+            matches!(operation, ImmediateOperation::Addi) && from.number() == Reg::SP.number()
         }
+        _ => false,
+    }
+}
+
+/// Whether a statement is a call that leaves its way back in t0, as those of what saves registers do.
+fn is_call_by_t0(kind: &StatementKind<'_>) -> bool {
+    match operation_of(kind) {
+        Some(operation) => links_by_t0(operation),
+        None => false,
+    }
+}
+
+/// Whether an operation is a call that leaves its way back in t0.
+fn links_by_t0(operation: Operation) -> bool {
+    match operation {
+        Operation::Call(link) => link.number() == 5,
         _ => false,
     }
 }
@@ -287,6 +307,27 @@ fn is_at_stack(kind: &StatementKind<'_>) -> bool {
         Some(base) => base.number() == Reg::SP.number(),
         None => false,
     }
+}
+
+/// Whether a statement is a load.
+fn is_load(kind: &StatementKind<'_>) -> bool {
+    match kind {
+        StatementKind::Plain(plain) => is_plain_load(*plain),
+        _ => match operation_of(kind) {
+            Some(operation) => is_load_at(operation),
+            None => false,
+        },
+    }
+}
+
+/// Whether an instruction without an offset is a load.
+fn is_plain_load(plain: Plain) -> bool {
+    matches!(plain, Plain::Load(..))
+}
+
+/// Whether an operation is a load with an offset.
+fn is_load_at(operation: Operation) -> bool {
+    matches!(operation, Operation::Load(..))
 }
 
 /// The base of a load or a store without an offset.

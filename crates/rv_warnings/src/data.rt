@@ -3,8 +3,8 @@
 use crate::effect::is_instruction;
 use crate::facts::Facts;
 use crate::warning::{Doubt, Warning, put};
-use rv_statement::{Opening, StatementKind, Statements, Width};
 use rv_expression::Expr;
+use rv_statement::{Opening, StatementKind, Statements, Width};
 use rv_unit::Section;
 use std::alloc::AllocError;
 

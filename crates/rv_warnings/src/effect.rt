@@ -1,9 +1,9 @@
 //! What a statement does: where a run goes from it, and which registers it writes and keeps.
 
+use rv_expression::Expr;
 use rv_isa::{AtomicOperation, Reg};
 use rv_parcel::ParcelOperation;
 use rv_statement::{Operation, Plain, StatementKind, UnaryOperation};
-use rv_expression::Expr;
 
 /// Where a run goes from a statement.
 #[derive(Clone, Copy, PartialEq, Eq, Drop)]
@@ -199,9 +199,23 @@ pub(crate) fn kept_by(kind: &StatementKind<'_>) -> Option<Reg> {
 fn kept_by_plain(plain: Plain) -> Option<Reg> {
     match plain {
         Plain::Store(_, from, _) => Some(from),
-        Plain::Atomic(AtomicOperation::Amoswap, _, _, from, _) => Some(from),
-        Plain::Unary(UnaryOperation::Mv, _, from) => Some(from),
+        Plain::Atomic(operation, _, _, from, _) => kept_by_atomic(operation, from),
+        Plain::Unary(operation, _, from) => kept_by_unary(operation, from),
         Plain::Parcel(operation, first, second) => kept_by_parcel(operation, first, second),
+        _ => None,
+    }
+}
+
+fn kept_by_atomic(operation: AtomicOperation, from: Reg) -> Option<Reg> {
+    match operation {
+        AtomicOperation::Amoswap => Some(from),
+        _ => None,
+    }
+}
+
+fn kept_by_unary(operation: UnaryOperation, from: Reg) -> Option<Reg> {
+    match operation {
+        UnaryOperation::Mv => Some(from),
         _ => None,
     }
 }

@@ -57,7 +57,7 @@ fn pass_all<'a>(
             && facts.is_code(section)
             && let Some(last) = latest.get_mut(section as usize)
         {
-            waiting = put_fall(facts, kind, last, waiting, found)?;
+            waiting = put_fall(facts, &registers, kind, last, waiting, found)?;
             pass(&registers, kind, index, last);
         }
         registers.pass(facts, kind);
@@ -68,6 +68,7 @@ fn pass_all<'a>(
 /// Adds the latest instruction where a run goes on from it into this label of a function; the call that still waits.
 fn put_fall<'a>(
     facts: &Facts<'a>,
+    registers: &Registers,
     kind: &StatementKind<'a>,
     last: &mut Option<Latest<'a>>,
     waiting: Option<usize>,
@@ -77,6 +78,10 @@ fn put_fall<'a>(
         && matches!(flow_of(kind), Flow::Return)
     {
         put(found, Doubt::FallsInto, call)?;
+        return Ok(None);
+    }
+    // (the function may be the one that ends the run)
+    if matches!(flow_of(kind), Flow::Environment) && !goes_on(registers) {
         return Ok(None);
     }
     let StatementKind::Label(name) = kind else {

@@ -1,9 +1,9 @@
 //! What is known of a source: its statements, what its names mean, and what goes to them.
 
 use crate::effect::{Flow, flow_of, name_in, written_by};
+use rv_expression::{Expr, SourceFault};
 use rv_parse::parse_compact;
 use rv_statement::{Setting, StatementKind, Statements};
-use rv_expression::{Expr, SourceFault};
 use rv_unit::{Binding, Unit};
 use std::alloc::{AllocError, Global};
 use std::collections::{HashMap, HashSet};

@@ -2,9 +2,9 @@
 
 use crate::effect::{Flow, flow_of, is_zero, written_by};
 use crate::facts::Facts;
+use rv_expression::Expr;
 use rv_isa::{ImmediateOperation, Reg, RegisterOperation};
 use rv_statement::{Operation, Plain, StatementKind, UnaryOperation};
-use rv_expression::Expr;
 
 /// What a register holds.
 #[derive(Clone, Copy, Drop)]
@@ -108,7 +108,14 @@ impl Registers {
 
     fn result_of_plain(&self, plain: Plain) -> Held {
         match plain {
-            Plain::Unary(UnaryOperation::Mv, _, from) => self.sum(from, Some(0)),
+            Plain::Unary(operation, _, from) => self.result_of_unary(operation, from),
+            _ => Held::Unknown,
+        }
+    }
+
+    fn result_of_unary(&self, operation: UnaryOperation, from: Reg) -> Held {
+        match operation {
+            UnaryOperation::Mv => self.sum(from, Some(0)),
             _ => Held::Unknown,
         }
     }
@@ -125,12 +132,36 @@ impl Registers {
                 None => Held::Unknown,
             },
             Operation::La(_) => place_of(facts, expression),
-            Operation::Immediate(ImmediateOperation::Addi, _, from) => {
-                self.sum(from, facts.number(expression))
+            Operation::Immediate(operation, _, from) => {
+                self.result_of_immediate(operation, from, facts.number(expression))
             }
-            Operation::Registers(RegisterOperation::Add, _, from) => {
-                self.sum(from, facts.number(expression))
+            Operation::Registers(operation, _, from) => {
+                self.result_of_registers(operation, from, facts.number(expression))
             }
+            _ => Held::Unknown,
+        }
+    }
+
+    fn result_of_immediate(
+        &self,
+        operation: ImmediateOperation,
+        from: Reg,
+        number: Option<u64>,
+    ) -> Held {
+        match operation {
+            ImmediateOperation::Addi => self.sum(from, number),
+            _ => Held::Unknown,
+        }
+    }
+
+    fn result_of_registers(
+        &self,
+        operation: RegisterOperation,
+        from: Reg,
+        number: Option<u64>,
+    ) -> Held {
+        match operation {
+            RegisterOperation::Add => self.sum(from, number),
             _ => Held::Unknown,
         }
     }

@@ -1,11 +1,12 @@
-use Rattle.std.proofs.Common.{◌≡◌, ◌+◌, ◌-◌, ◌*◌, ◌^◌, ◌≤◌, set, slice_index, ap, ◌∙◌, arith}
+use Rattle.std.proofs.Common.{◌≡◌, ◌+◌, ◌-◌, ◌*◌, ◌^◌, ◌≤◌, set, slice_index, ap, ltb, ◌∙◌, arith}
+use Rattle.std.proofs.lemmas.Bool.{ltb-true, ltb-false}
 use Rattle.rv_size_laws.specs.declared.site.Site.{Site}
 use Rattle.rv_size_laws.specs.Calls.{bytes_of}
 use Rattle.rv_size_laws.specs.Offsets.{rest}
 use Rattle.rv_size_laws.proofs.StepsLemmas.{set_family}
 use Rattle.rv_call_sizes.specs.Passes.{drops}
 use Rattle.rv_call_sizes.proofs.DroppingLemmas.{site_read}
-use Rattle.rv_call_sizes.proofs.JudgingLemmas.{turn_offered}
+use Rattle.rv_call_sizes.proofs.JudgingLemmas.{turn_offered, turn_visit}
 use Rattle.rv_call_sizes.proofs.TablesLemmas.{rest_low, backward_left, backward_table, backward_after}
 use Rattle.rv_call_sizes.proofs.passes.visit_backwards.Goals as goal
 
@@ -30,6 +31,11 @@ overflow_add-now c =
     (set_family c.args.kept.now c.args.i c.size_backwards-shorter.result c.requires.table.family
     (turn_offered c.args.sites.now c.args.kept.now c.args.i c.size_backwards-shorter.result c.requires.table.family c.size_backwards-shorter.ensures)) in
     omega arith
+
+pub returns-clause-visit : goal.returns-clause-visit
+returns-clause-visit c =
+    turn_visit c.args.sites.now c.args.kept.now c.args.i c.size_backwards-shorter.result c.size_backwards-shorter.ensures (ltb c.size_backwards-shorter.result (slice_index c.args.kept.now c.args.i))
+    (ltb-true c.size_backwards-shorter.result (slice_index c.args.kept.now c.args.i)) (ltb-false c.size_backwards-shorter.result (slice_index c.args.kept.now c.args.i))
 
 pub returns-clause-table : goal.returns-clause-table
 returns-clause-table c =

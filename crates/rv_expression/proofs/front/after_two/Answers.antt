@@ -10,4 +10,4 @@ pub returns-then-ends-clause-reads : goal.returns-then-ends-clause-reads
 returns-then-ends-clause-reads c =
     ended_at _ c.args.cursor.now _ _ _ (sym c.ends.ensures ∙ c.if-ends.true)
     (settled_infix c.args.pair.operator (Primary_node (symbol_of c.args.pair.left) ∷ Primary_node (symbol_of c.args.pair.right) ∷ []))
-    ∙ ap (λ ns. Ok (ns, left c.args.cursor.now)) (sym c.in_ok-of_two.ensures)
+    ∙ ap (λ ns. Ok (ns, remaining c.args.cursor.now)) (sym c.in_ok-of_two.ensures)

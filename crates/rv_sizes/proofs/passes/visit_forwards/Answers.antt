@@ -1,5 +1,5 @@
 use Rattle.std.proofs.lemmas.Int.{ints}
-use Rattle.std.proofs.Common.{ap, ◌≡◌, ◌+◌, ltb, length, slice_index, ℕ, slice_set, w64, to_z, of_z, arith, refl, sym, subst}
+use Rattle.std.proofs.Common.{ap, ◌≡◌, ◌+◌, ltb, length, slice_index, ℕ, slice_set, w64, to_z, of_z, arith, refl, sym, subst, ◌∙◌}
 use Rattle.std.proofs.lemmas.Bool.{ltb-true}
 use Rattle.rv_size_laws.specs.declared.item.Item.{Item}
 use Rattle.rv_size_laws.specs.Tables.{forwards_away}

@@ -1,5 +1,5 @@
 use Rattle.std.proofs.Common.{◌≡◌, ◌<◌, ◌≤◌, ◌++◌, ◌∙◌, length, map, get_or, rules, ap, sym, subst, append-nil}
-use Rattle.std.proofs.lemmas.List.{length-map, at_drop_all}
+use Rattle.std.proofs.lemmas.List.{length-map, at_drop_all, get_or_default}
 use Rattle.rv_list_laws.proofs.MapLemmas.{get_or_viewed, get_map_read}
 use Rattle.rv_map.specs.Views.{global_of}
 use Rattle.rv_link_laws.specs.Names.{globals_of, shown_linker_symbols}
@@ -16,13 +16,14 @@ loop-file-preserved c = record {
       let i = c.loop-file.file in
       let xs = c.args.self.now.objects.now in
       let os = map short_object_of xs in
-      let x = c.index-self-file.result in
-      let o = short_object_of x in
       let inside : i < length xs = search rules in
+      let x = get_or xs i c.index-self-file.result in
+      let same : x ≡ get_or xs i x = get_or_default xs i c.index-self-file.result x inside in
+      let o = short_object_of x in
       let inside' : i < length os = subst (λ n. i < n) (sym (length-map xs short_object_of)) inside in
-      let is : o ≡ get_or os i o = get_or_viewed short_object_of xs i x inside c.index-self-file.is in
+      let is : o ≡ get_or os i o = get_or_viewed short_object_of xs i x inside same in
       file_more os c.args.placement.now i o (map global_of c.loop-file.globals.items) (map global_of c.put_globals.new.globals.items) _ inside' is (c.loop-file.invariant.shown start stands)
-      (c.in_ok-put_globals.ensures.added start stands (get_map_read short_object_of xs i x inside c.index-self-file.is));
+      (c.in_ok-put_globals.ensures.added start stands (get_map_read short_object_of xs i x inside same));
 }
 
 pub returns-clause-known : goal.returns-clause-known

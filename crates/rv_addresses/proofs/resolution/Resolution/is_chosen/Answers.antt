@@ -1,4 +1,4 @@
-use Rattle.std.proofs.Common.{◌≡◌, true, sym, ap, ◌∙◌}
+use Rattle.std.proofs.Common.{◌≡◌, true, map, sym, ap, ◌∙◌}
 use Rattle.std.specs.Prelude.{◌&&◌, option_map}
 use Rattle.rv_object_types.specs.Parts.{symbol_of}
 use Rattle.rv_link_laws.specs.Names.{is_defined}

@@ -1,5 +1,5 @@
-use Rattle.std.proofs.Common.{◌≡◌, ◌<◌, ◌≤◌, ◌∙◌, None, length, map, option_map, rules, ap, sym, subst}
-use Rattle.std.proofs.lemmas.List.{at_drop_all}
+use Rattle.std.proofs.Common.{◌≡◌, ◌<◌, ◌≤◌, ◌∙◌, None, length, get_or, map, option_map, rules, ap, sym, subst}
+use Rattle.std.proofs.lemmas.List.{at_drop_all, get_or_default}
 use Rattle.rv_list_laws.proofs.MapLemmas.{get_map_read}
 use Rattle.rv_object_laws.specs.Object.{Object}
 use Rattle.rv_link_laws.specs.Names.{outer_address}
@@ -15,9 +15,9 @@ pub loop-file-preserved : goal.loop-file-preserved
 loop-file-preserved c =
     let i = c.loop-file.file in
     let xs = c.args.self.now.objects.now in
-    let x = c.index-self-file.result in
-    let is = c.index-self-file.is in
     let inside : i < length xs = search rules in
+    let x = get_or xs i c.index-self-file.result in
+    let is : x ≡ get_or xs i x = get_or_default xs i c.index-self-file.result x inside in
     none_here (λ (o : Object). first_some (undefined_in (map short_object_of xs) o) o.sections) short_object_of xs i x inside is
     (sym (c.undefined_in.ensures (get_map_read short_object_of xs i x inside is)) ∙ ap (option_map name_bytes) c.in-None.is)
     ∙ c.loop-file.invariant
@@ -26,9 +26,9 @@ pub returns-in-Some-clause-first : goal.returns-in-Some-clause-first
 returns-in-Some-clause-first c =
     let i = c.loop-file.file in
     let xs = c.args.self.now.objects.now in
-    let x = c.index-self-file.result in
-    let is = c.index-self-file.is in
     let inside : i < length xs = search rules in
+    let x = get_or xs i c.index-self-file.result in
+    let is : x ≡ get_or xs i x = get_or_default xs i c.index-self-file.result x inside in
     one_here (λ (o : Object). first_some (undefined_in (map short_object_of xs) o) o.sections) short_object_of xs i x _ inside is
     (sym (c.undefined_in.ensures (get_map_read short_object_of xs i x inside is)) ∙ ap (option_map name_bytes) c.in-Some.is)
     ∙ c.loop-file.invariant
