@@ -17,9 +17,11 @@ from pathlib import Path
 
 import run
 
-# The keys of a head that `rv test` takes, each with a value that no case has.
+# The keys of a head that `rv test` takes, each with a value that no case has, but for one of the statuses.
 KEYS = {"exit": "255", "end": "Limit 1", "console": "no such text", "fault": "no such line"}
 OTHERS = {"input", "limit", "instructions"}
+# The bytes of a source that has room for a head: one may have 16 MiB.
+MOST = (1 << 24) - 1000
 
 
 def shifted(value, name, lines):
@@ -34,7 +36,7 @@ def source_of(case):
     if len(files) != 1 or not set(keys) & set(KEYS) or set(keys) - set(KEYS) - OTHERS or len({*keys}) != len(keys):
         return None
     [(name, text)] = files.items()
-    if not name.endswith(".s") or any(key == "input" and "{{" in value for key, value in head):
+    if not name.endswith(".s") or len(text) > MOST or any(key == "input" and "{{" in value for key, value in head):
         return None
     return name, text, head
 
@@ -48,6 +50,11 @@ def written(folder, name, text, head):
     path.parent.mkdir()
     path.write_bytes("\n".join([*said, "", ""]).encode("latin-1") + own)
     return path
+
+
+def another(key, value):
+    """A value of a key that is not this one."""
+    return KEYS[key] if value != KEYS[key] else "254"
 
 
 def verdicts(paths):
@@ -67,7 +74,7 @@ def main():
             paths.append(written(f"{room}/{at}", name, text, head))
             wanted.append((case[0], fault is None))
             key = next(key for key, _ in head if key in KEYS)
-            other = [(it, KEYS[it] if it == key else value) for it, value in head]
+            other = [(it, another(it, value) if it == key else value) for it, value in head]
             paths.append(written(f"{room}/{at}-other", name, text, other))
             wanted.append((f"{case[0]}, another {key}", False))
         came = verdicts(paths)

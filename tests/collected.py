@@ -24,6 +24,8 @@ from pathlib import Path
 from run import RV, SECONDS, Failed, calls, cases, same
 
 OPTION = "--gc-sections"
+# Is refused beside that option, which would leave out what it adds.
+OTHER = "--pad-ends"
 OF_A_SECTION = ("rv: L1 ", "rv: L2 ", "rv: L3 ", "rv: L4 ", "rv: L5 ", "rv: L8 ")
 PROGBITS, RELA, NOTE, NOBITS, SYMTAB = 1, 4, 7, 8, 2
 ALLOC, EXECINSTR = 2, 4
@@ -145,7 +147,7 @@ def run(case):
             (folder / file).write_bytes(held)
         try:
             for words, _ in calls(files, head):
-                if words[:1] in (["build"], ["ld"]) and "-o" in words:
+                if words[:1] in (["build"], ["ld"]) and "-o" in words and OTHER not in words:
                     compare(folder, words)
                     count += 1
                 call(folder, words)

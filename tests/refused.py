@@ -3,13 +3,13 @@
 
 usage: refused.py [WORD ..]     only cases whose names begin so, as `ld` or `run echo_four` or `step`
 
-A case is a command of ./rv, or a call that ./rv_refusal_tests makes (crates/rv_refusal_tests), and a source. It runs once as it is,
-which gives the ordinary answer and the count of requests; then once for each number up to that count with that request
-refused (refuse.c), and once with the number after it. Of a command is wanted `rv: out of memory` with status 1, no
-output but whole lines of a trace, no input taken and no file left; of a call that it answers so, and gives the ordinary
-answer when it is made again. In the end the ordinary answer is wanted. A text of more than 64 KiB is written as it
-comes; no case has one. One line for each other answer. Needs a C compiler, `cc`, and glibc; the last line is 'N passed,
-M failed'.
+A case is a command of ./rv, or a call that ./rv_refusal_tests makes (crates/rv_refusal_tests), and a source. It runs
+once as it is, which gives the ordinary answer and the count of requests; then once for each number up to that count
+with that request refused (refuse.c), and once with the number after it. Of a command is wanted `rv: out of memory` with
+status 1, no output but whole lines of a trace, no input taken and no file left; of a call that it answers so, and gives
+the ordinary answer when it is made again. In the end the ordinary answer is wanted. A text of more than 64 KiB is
+written as it comes; no case has one. One line for each other answer. Needs a C compiler, `cc`, and glibc; the last line
+is 'N passed, M failed'.
 """
 
 import os

@@ -242,7 +242,9 @@ def look_at(folder, words, head):
     for key, came in (("console", process.stdout), ("out", process.stdout), ("errors", process.stderr)):
         if key in one:
             same(key, unescaped(one[key]), came)
-    if process.returncode and not last.endswith(": cannot write"):
+    # (cases that fail are no refusal, and `rv test` says nothing of them on standard error)
+    is_refused = process.returncode and (process.stderr or words[:1] != ["test"])
+    if is_refused and not last.endswith(": cannot write"):
         same("files of a call that is refused", before, sorted(folder.iterdir()))
     if not process.returncode and words and words[0] in ("build", "ld"):
         look_at_modes(folder, words)

@@ -33,14 +33,14 @@ IN_CODE = {
     7: ["addi a0, a1, a2, a3", "addi 5, a0, 1", "sub a0, a0, 5", "lw a0, 8(5)", "add a0, a1", "c.lw t0, 0(a0)"]
     + ["mv a0 a1", "fence wo, r", "lr.w a0, 5", "jump there", "nop 5", "a0: nop", ".globl 5", "c.lwsp a0, 0(a1)"],
     8: [".frob 5", "v@: .what"],
-    9: [".comm x, 4", "lw a0, 8", "sw a1, 8 a0", ".option pic", ".align 2, 0", "li a0, \"x\""],
+    9: [".comm x, 4", "lw a0, 8", "sw a1, 8 a0", ".option pic", ".align 2, 0", 'li a0, "x"'],
     10: ["call zero, there", "sd a0, there, a0", "lw zero, there", "jump there, zero", "sw a1, there, x0"],
     11: ["there: nop", "there:", "v@: there: nop", ".set there, 5"],
     12: ["j 77f", "beqz a0, 77b", "addi a0, a0, %pcrel_lo(nowhere)", "la a0, 77f"],
     13: ["addi a0, a0, there", "li a0, there", "slli a0, a0, nosuch", "sd a0, there + 8(a1)", ".set m@, there"],
     14: ["addi a0, zero, 5000", "lw a0, 4096(sp)", "slli a0, a0, 64", "lui a0, 0x100000", "v@: addi a1, a1, 3000"]
     + [".balign 3", "c.addi a0, 0", "sd a0, -(4000)(a1)", "beq a0, a1, 8"],
-    15: [".word 1", ".ascii \"x;y\"", ".set p@, ."],
+    15: [".word 1", '.ascii "x;y"', ".set p@, ."],
     16: [".option pop"],
     17: [".align 13", "n" * 4100 + ": nop", ".balign 8192"],
 }

@@ -24,6 +24,7 @@ import subprocess
 import tempfile
 from collections import Counter
 from concurrent.futures import ThreadPoolExecutor
+from functools import lru_cache
 from pathlib import Path
 
 from against.common import GNU, QEMU, assemblies, completed, csmith_options, draw, gnu_link, need, summary
@@ -31,10 +32,12 @@ from against.common import GNU, QEMU, assemblies, completed, csmith_options, dra
 WAYS = ["-O0", "-O0 -fdata-sections", "-O1", "-O2", "-Os"]
 START, STACK = ".option pop\n", "own_stack_end"
 NAMES = "zero ra sp gp tp t0 t1 t2 s0 s1 a0 a1 a2 a3 a4 a5 a6 a7 s2 s3 s4 s5 s6 s7 s8 s9 s10 s11 t3 t4 t5 t6".split()
-NUMBER = {name.encode(): number for number, name in enumerate(NAMES)}
+# What qemu shows before an instruction: a line with pc and eight lines of four registers, always of this size.
+PC_SHOWN, ROW = slice(10, 26), 105
+SHOWN = PC_SHOWN.stop + 1 + 8 * ROW
+PLACES = {name.encode(): PC_SHOWN.stop + 11 + n // 4 * ROW + n % 4 * 26 for n, name in enumerate(NAMES)}
 # The columns of a trace that come before the effects of an instruction.
 PC, BYTES, EFFECTS = slice(13, 29), slice(51, 59), 94
-SET = re.compile(rb"(\w+) <- ([0-9a-f]{16})(?: |$)")
 ACCESS = re.compile(rb"\[([0-9a-f]{16})\](?: <- ([0-9a-f]{2}(?: [0-9a-f]{2})*|[0-9a-f]+))?$")
 PAGE = 4096
 DEPTH = 64 * 1024
@@ -49,27 +52,33 @@ class PastEnd(Exception):
 
 
 class Guest:
-    """Registers and memory as an executable begins and as the lines of a trace change them."""
+    """Registers, as qemu shows them, and memory: as an executable begins and as the lines of a trace change them."""
 
     def __init__(self, exe):
-        self.registers = [0] * 32
-        self.lines = [line_of(self.registers, row) for row in range(8)]
+        shown = [f"x{number}/{name}".ljust(8) + f" {0:016x}" for number, name in enumerate(NAMES)]
+        rows = ["".join(f" {one}" for one in shown[at : at + 4]) + "\n" for at in range(0, 32, 4)]
+        self.shown = bytearray((f" pc       {0:016x}\n" + "".join(rows)).encode())
         self.pages = {}
         for address, held in segments(exe.read_bytes()):
             self.store(address, held)
 
     def store(self, address, held):
-        for at, byte in enumerate(held, address):
-            self.pages.setdefault(at // PAGE, bytearray(PAGE))[at % PAGE] = byte
+        while held:
+            start = address % PAGE
+            piece = held[: PAGE - start]
+            page = self.pages.setdefault(address // PAGE, bytearray(PAGE))
+            page[start : start + len(piece)] = piece
+            address, held = address + len(piece), held[len(piece) :]
 
     def load(self, address, count):
-        empty = bytes(PAGE)
-        held = (self.pages.get(at // PAGE, empty)[at % PAGE] for at in range(address, address + count))
-        return int.from_bytes(bytes(held), "little")
+        start, empty = address % PAGE, bytes(PAGE)
+        held = self.pages.get(address // PAGE, empty)[start : start + count]
+        if len(held) < count:
+            held = held + self.pages.get(address // PAGE + 1, empty)[: count - len(held)]
+        return held
 
-    def set(self, number, value):
-        self.registers[number] = value
-        self.lines[number // 4] = line_of(self.registers, number // 4)
+    def registers(self):
+        return {name.decode(): int(self.shown[at : at + 16], 16) for name, at in PLACES.items()}
 
     def digest(self):
         hashed = hashlib.sha256()
@@ -80,43 +89,36 @@ class Guest:
 
     def apply(self, line):
         """Does what a line of a trace says; the value of a load has to be what memory holds."""
-        effects = line[EFFECTS:].split(b"# ")[0].rstrip()
-        written, access = SET.match(effects), ACCESS.search(effects)
-        if access is not None:
-            self.access(access, written, line[BYTES].strip())
+        effects = line[EFFECTS:-1]
+        name, arrow, value = effects.partition(b" <- ")
+        written = value[:16] if arrow and name in PLACES else None
+        if b"[" in effects:
+            self.access(ACCESS.search(effects), written, line[BYTES])
         if written is not None:
-            self.set(NUMBER[written[1]], int(written[2], 16))
+            self.shown[PLACES[name] : PLACES[name] + 16] = written
 
     def access(self, access, written, code):
         address, stored = int(access[1], 16), access[2]
-        word = int.from_bytes(bytes.fromhex(code.decode()), "little")
-        if written is not None and word != 0x73 and (stored is None or word & 0x7F == 0x2F):
-            if (load := loaded(word, written, access)) is not None:
-                count, signed = load
-                value = self.load(address, count)
-                if signed:
-                    value = value - (1 << 8 * count) if value >> (8 * count - 1) else value
-                if value % 2**64 != int(written[2], 16):
-                    raise Differs(f"memory at {address:x} holds {value % 2**64:x}")
+        count, signed, is_call = accessed(code)
+        if written is not None and count and (stored is None or code[0:1] in b"2a"):
+            held = self.load(address, count)
+            if int.from_bytes(held, "little", signed=signed) % 2**64 != int(written, 16):
+                raise Differs(f"memory at {address:x} holds {held[::-1].hex()}")
         if stored is not None:
             held = bytes.fromhex(stored.decode())
-            self.store(address, held if word == 0x73 else held[::-1])
+            self.store(address, held if is_call else held[::-1])
 
 
-def loaded(word, written, access):
-    """How many bytes an instruction loads, and whether with their sign; none where its register gets something else."""
+@lru_cache(maxsize=None)
+def accessed(code):
+    """How many bytes an instruction loads into a register, if so, whether with their sign, and whether it is a call."""
+    word = int.from_bytes(bytes.fromhex(code.decode()), "little")
+    size = word >> 12 & 7
+    if word == 0x73 or word & 0x7F == 0x2F and word >> 27 == 3:
+        return 0, False, word == 0x73
     if word & 3 == 3:
-        size = word >> 12 & 7
-        if word & 0x7F == 0x2F and word >> 27 == 3:
-            return None
-        return 1 << size % 4, size < 4
-    return (8 if word >> 13 & 1 else 4), True
-
-
-def line_of(registers, row):
-    """The line of four registers as qemu shows them."""
-    shown = (f"x{at}/{NAMES[at]}".ljust(8) + f" {registers[at]:016x}" for at in range(4 * row, 4 * row + 4))
-    return (" " + " ".join(shown) + "\n").encode()
+        return 1 << size % 4, size < 4, False
+    return (8 if word >> 13 & 1 else 4), True, False
 
 
 def segments(file):
@@ -129,7 +131,7 @@ def segments(file):
 
 
 def shown_by_qemu(exe, folder):
-    """The pc and the lines of registers before each instruction, as qemu shows them, until nobody wants more."""
+    """What qemu shows before each instruction, until nobody wants more."""
     fifo = folder / "qemu.log"
     fifo.unlink(missing_ok=True)
     os.mkfifo(fifo)
@@ -137,46 +139,74 @@ def shown_by_qemu(exe, folder):
     process = subprocess.Popen(words, stdin=subprocess.DEVNULL, stdout=subprocess.DEVNULL, stderr=subprocess.DEVNULL)
     try:
         with open(fifo, "rb", buffering=1 << 20) as log:
-            while first := log.readline():
-                yield first[-17:-1], [log.readline() for _ in range(8)]
+            while many := log.read(64 * SHOWN):
+                for at in range(0, len(many), SHOWN):
+                    yield many[at : at + SHOWN]
     finally:
         process.kill()
         process.wait()
 
 
+def traced(rv, exe, limit):
+    """The lines of rv's trace, up to one that says how the run ended."""
+    words = [rv, "trace", "--limit", str(limit), exe]
+    process = subprocess.Popen(words, stdin=subprocess.DEVNULL, stdout=subprocess.DEVNULL, stderr=subprocess.PIPE)
+    try:
+        for line in process.stderr:
+            if line.startswith(b"rv: "):
+                return
+            yield line
+    finally:
+        process.kill()
+        process.wait()
+
+
+def followed(guest, shown, trace):
+    """How many lines of a trace agree with qemu, up to its end, and whether qemu goes on there."""
+    count = 0
+    for before in shown:
+        line = next(trace, None)
+        if line is None:
+            return count, True
+        if count == 0:
+            at = PLACES[b"sp"]
+            guest.shown[at : at + 16] = before[at : at + 16]
+        guest.shown[PC_SHOWN] = line[PC]
+        if guest.shown != before:
+            raise Differs(f"instruction {count + 1} at {before[PC_SHOWN].decode()}: {line.decode().strip()}")
+        guest.apply(line)
+        count += 1
+    if next(trace, None) is not None:
+        raise Differs(f"rv goes on after {count} instructions")
+    return count, False
+
+
 def compared(rv, exe, folder, limit):
     """How many instructions a program has at most up to a limit, all of which are the same; else raises where not."""
-    words = [rv, "trace", "--limit", limit, "-o", folder / "trace", exe]
-    if completed(words, 600, stdin=subprocess.DEVNULL) is None:
-        raise Differs("the trace does not end")
-    guest, count = Guest(exe), 0
-    with open(folder / "trace", "rb") as trace:
-        for (pc, lines), line in zip(shown_by_qemu(exe, folder), trace):
-            if count == 0:
-                guest.set(2, int(lines[0].split()[5], 16))
-            if pc != line[PC] or lines != guest.lines:
-                raise Differs(f"instruction {count + 1} at {pc.decode()}: {line.decode().strip()}")
-            guest.apply(line.rstrip(b"\n"))
-            count += 1
-        if trace.readline():
-            raise Differs(f"rv goes on after {count} instructions")
-    state(rv, exe, folder, limit, guest, count)
+    guest, shown, trace = Guest(exe), shown_by_qemu(exe, folder), traced(rv, exe, limit)
+    try:
+        count, goes_on = followed(guest, shown, trace)
+    finally:
+        shown.close()
+        trace.close()
+    state(rv, exe, folder, limit, guest, count, "Limit" if goes_on else "Exited")
     return count
 
 
-def state(rv, exe, folder, limit, guest, count):
+def state(rv, exe, folder, limit, guest, count, end):
     """Compares what the lines of a trace left with the last state of a run."""
     words = [rv, "run", "--limit", limit, "--state", folder / "state", exe]
     if completed(words, 600, stdin=subprocess.DEVNULL) is None:
         raise Differs("the run does not end")
     last = json.loads((folder / "state").read_text())
     if last["end"] == "LoadOutside":
-        raise PastEnd
-    wanted = {"instructions": count, "memory": guest.digest(), "registers": dict(zip(NAMES, guest.registers))}
+        raise PastEnd(count)
+    wanted = {"end": end, "instructions": count, "memory": guest.digest(), "registers": guest.registers()}
     found = {key: last[key] for key in wanted}
     found["registers"] = {name: int(value) for name, value in last["registers"].items()}
-    if found != wanted:
-        raise Differs(f"the last state is {found} and not {wanted}")
+    for key in wanted:
+        if found[key] != wanted[key]:
+            raise Differs(f"the last state's {key}: {found[key]} and not {wanted[key]}")
 
 
 def with_own_stack(source):
@@ -194,15 +224,16 @@ def program(seed, options):
     ends = []
     with tempfile.TemporaryDirectory() as name:
         folder = Path(name)
+        drawn = draw(folder, seed)
         for way in WAYS:
-            sources = assemblies(folder, way, False) if draw(folder, seed) else None
+            sources = assemblies(folder, way, False) if drawn else None
             if sources is None or not with_own_stack(sources[0]) or not gnu_link(folder, sources):
                 ends.append((way, "none", 0))
                 continue
             try:
                 ends.append((way, "same", compared(options.rv, folder / "theirs", folder, options.limit)))
-            except PastEnd:
-                ends.append((way, "past end", 0))
+            except PastEnd as run:
+                ends.append((way, "past end", run.args[0]))
             except Differs as where:
                 print(f"{seed} {way}: {where}", flush=True)
                 ends.append((way, "differs", 0))
@@ -215,8 +246,8 @@ def main():
     counts, instructions = Counter(), 0
     seeds = range(options.first, options.first + options.count)
     with ThreadPoolExecutor(options.jobs) as lanes:
-        for ends in lanes.map(lambda seed: program(seed, options), seeds):
+        for seed, ends in zip(seeds, lanes.map(lambda seed: program(seed, options), seeds)):
             counts.update((way, end) for way, end, _ in ends)
             instructions += sum(count for _, _, count in ends)
-    print(f"{instructions} instructions")
+            print(f"{seed}: {instructions} instructions up to here", flush=True)
     return summary(counts, WAYS)

@@ -1,22 +1,23 @@
 """Draws C programs, and shows the warnings of `rv check` for GCC's assembly of them: none is to be a mistake of GCC.
 
-usage: compare.py warned [COUNT] [--csmith]
+usage: compare.py warned [COUNT] [--csmith] [--first N] [--jobs N]
 
 It takes 500 programs unless told otherwise: functions with many parameters, with frames of any size and none, that call
 one another, themselves, by pointers and at their end, that do not return, with switches, loops, strings, packed fields,
-arrays on the stack whose size is not known, and calls of the environment. Program N is the same in each run, and GCC
-writes it in one of eight ways in turn. With --csmith the programs are csmith's. Those of examples/c come first. Warnings
-of unused labels and of code that nothing leads to are not counted: GCC writes both. The last line is 'N programs, M warnings'.
+arrays on the stack whose size is not known, and calls of the environment. Program N, from --first on, is the same in
+each run, and GCC writes it in one of eight ways in turn. With --csmith the programs are csmith's. Those of examples/c
+come first. Warnings of unused labels and of code that nothing leads to are not counted: GCC writes both. The last line
+is 'N programs, M warnings'.
 """
 
+import argparse
 import json
 import random
-import sys
 import tempfile
 from concurrent.futures import ThreadPoolExecutor
 from pathlib import Path
 
-from against.common import FLAGS, GNU, ROOT, RV, assemblies, completed, draw, need, succeeds
+from against.common import FLAGS, GNU, ROOT, RV, SECONDS, assemblies, completed, draw, need, succeeds
 
 WAYS = [
     "-O0 -fdata-sections",
@@ -188,9 +189,16 @@ def of_drawn(seed, by_csmith):
         else:
             (folder / "program.c").write_text(program(seed))
             gcc = [f"{GNU}gcc", *FLAGS, *way.split(), "-S", "-o", folder / "program.s", folder / "program.c"]
-            sources = [folder / "program.s"] if succeeds(gcc) else None
+            sources = [folder / "program.s"] if succeeds(gcc, seconds=10 * SECONDS) else None
         found = warnings(sources) if sources else ["not made by GCC"]
     return [f"{seed} {way}: {line}" for line in found]
+
+
+def show(lines):
+    """Prints these lines at once."""
+    for line in lines:
+        print(line, flush=True)
+    return lines
 
 
 def of_example(source):
@@ -205,16 +213,20 @@ def of_example(source):
 
 
 def main():
-    words = sys.argv[1:]
-    by_csmith = "--csmith" in words
-    count = int(next((word for word in words if word.isdigit()), 500))
-    need(RV, f"{GNU}gcc", *(["csmith"] if by_csmith else []))
-    examples = sorted((ROOT / "examples" / "c").glob("*.c"))
-    lines = [line for source in examples for line in of_example(source)]
-    with ThreadPoolExecutor(2) as lanes:
-        for found in lanes.map(lambda seed: of_drawn(seed, by_csmith), range(1, count + 1)):
-            lines += found
-    print("\n".join(lines))
+    words = argparse.ArgumentParser(description=__doc__.split("\n")[0])
+    words.add_argument("count", type=int, nargs="?", default=500, metavar="COUNT")
+    words.add_argument("--csmith", action="store_true")
+    words.add_argument("--first", type=int, default=1, metavar="N")
+    words.add_argument("--jobs", type=int, default=2, metavar="N")
+    options = words.parse_args()
+    need(RV, f"{GNU}gcc", *(["csmith"] if options.csmith else []))
+    lines = []
+    for source in sorted((ROOT / "examples" / "c").glob("*.c")):
+        lines += show(of_example(source))
+    seeds = range(options.first, options.first + options.count)
+    with ThreadPoolExecutor(options.jobs) as lanes:
+        for found in lanes.map(lambda seed: of_drawn(seed, options.csmith), seeds):
+            lines += show(found)
     refused = sum(": refused " in line or line.endswith("not made by GCC") for line in lines)
-    print(f"{count} programs, {len(lines) - refused} warnings, {refused} not built")
+    print(f"{options.count} programs, {len(lines) - refused} warnings, {refused} not built")
     return len(lines) > refused

@@ -26,7 +26,7 @@
 # console: b
 # exit: 3
 # limit: 1k
-# instructions: 12
+# instructions: 13
 .globl _start
 _start: addi a1, sp, -16; li a2, 2; li a0, 0; li a7, 63; ecall
 addi a1, a1, 1; li a2, 1; li a0, 1; li a7, 64; ecall; li a0, 3; li a7, 93; ecall
@@ -69,7 +69,7 @@ end.s: wanted exit 0, came LoadOutside 4
     load of 4 bytes at 0000000000000004, in no segment
 limit.s: wanted Breakpoint, came Limit
   at
-    0000000000010000 _start               jal zero,0x10000
+    0000000000010000 _start               j 0x10000 <_start>
     limit.s:4: _start: j _start
 instructions.s: wanted exit 0, came more than 2 instructions
   at
@@ -107,7 +107,7 @@ refused_otherwise.s: wanted exit 0, but the build is refused: refused_otherwise.
 #--- number.s
 # exit: 256
 #--- repeated.s
-# input: {{3 * a}}
+# input: {{a}}
 #--- several.s
 # exit: 7
 #---a.s

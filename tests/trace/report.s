@@ -38,7 +38,8 @@ at
 access
   load of 4 bytes at 000000000000000c, in no segment
 cure
-  load the address first, as by la, and stay inside what stands there
+  load the address first, as by la, and stay inside what stands there; load
+  what is on the stack before sp goes back
 registers
   zero 0000000000000000
   ra   0000000000000000
