@@ -15,9 +15,11 @@ headers=$(cd "$(dirname "$0")/../../tests/against/csmith" && pwd)
 
 ran() {
     csmith --seed "$1" --no-argc -o program.c || return
-    riscv64-unknown-elf-gcc -march=rv64imac -mabi=lp64 -ffreestanding -w -I"$headers" -I/usr/include/csmith \
-        "-O$2" -S -o program.s program.c || return
-    rv build -o program program.s || return
+    # (without sections of their own, -O0 writes zeroed variables with .comm)
+    riscv64-unknown-elf-gcc -march=rv64imac -mabi=lp64 -ffreestanding -fdata-sections -w \
+        -I"$headers" -I/usr/include/csmith "-O$2" -S -o program.s program.c || return
+    # (GCC loads the last bytes of an object with those behind it)
+    rv build --pad-ends -o program program.s || return
     timeout 10 qemu-riscv64 program >wanted </dev/null
     wanted=$?
     if [ $wanted = 124 ]; then
