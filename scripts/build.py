@@ -77,7 +77,7 @@ def build_program(program):
 
 def main(program, *words):
     if words:
-        return kit.run(words)
+        return kit.run(["run", "--", *words])
     # (with Python's own handler, Ctrl-C would wait for the checks)
     signal.signal(signal.SIGINT, signal.SIG_DFL)
     with kit.libraries(program) as needed:

@@ -1,7 +1,7 @@
 #!/usr/bin/env python3
 """The whole gate: make test.
 
-First `rt ci`, with what each crate cost (gate_times.py): every proof from nothing, the wrong bodies that must be
+First `rt ci` (ci.py), with what each crate cost (gate_times.py): every proof from nothing, the wrong bodies that must be
 refused, the tests of the library. Then, over the programs that it built, the cases of tests/ and each request for
 memory refused; and the links of the documents, where want of memory is made, that a word of the definitions leads to
 one thing, what each storey names, which lemmas stand twice, and that the list of definitions and the lines on modules
@@ -68,7 +68,7 @@ def copy(built, program, by=shutil.copy):
 
 
 def main():
-    status, lines = gate_times.measured(["rt", "ci"])
+    status, lines = gate_times.measured([sys.executable, "scripts/ci.py"])
     passed, failed = counts(lines[-1].strip() if lines else "")
     sums = [(passed, failed or int(status != 0))]
     copy(ROOT / "crates/rv_cli/out/rv_cli", PROVED, marks.mark)

@@ -1,0 +1,27 @@
+#!/usr/bin/env python3
+"""The kit's own `rt ci`, at its full strength, where a repository has many crates.
+
+`rt ci` asks before and after each crate for its stamp, a sum of its files and of the stamps below it, and makes it
+anew for each way that leads down to a crate: of these there are 800,000 below the program, which takes an hour of one
+processor. Here each stamp is made once (kit.py). It also plans on nearly twice the memory that these crates take, so
+that half the processors would be idle: here it gets as many lanes as there are processors and 5 GB of memory for
+each, unless RT_JOBS says how many.
+"""
+
+import os
+import sys
+
+import kit
+
+EACH = 5_000_000_000
+
+
+def lanes():
+    """How many crates to prove at once."""
+    memory = os.sysconf("SC_PAGE_SIZE") * os.sysconf("SC_PHYS_PAGES")
+    return max(min(len(os.sched_getaffinity(0)), memory // EACH), 1)
+
+
+if __name__ == "__main__":
+    os.environ.setdefault("RT_JOBS", str(lanes()))
+    sys.exit(kit.run(["ci"]))
