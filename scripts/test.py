@@ -1,8 +1,8 @@
 #!/usr/bin/env python3
 """The whole gate: make test.
 
-First `rt ci` (ci.py), with what each crate cost (gate_times.py): every proof from nothing, the wrong bodies that must be
-refused, the tests of the library. Then, over the programs that it built, the cases of tests/ and each request for
+First `rt ci` (ci.py), with what each crate cost (gate_times.py): every proof from nothing, the wrong bodies that must
+be refused, the tests of the library. Then, over the programs that it built, the cases of tests/ and each request for
 memory refused; and the links of the documents, where want of memory is made, that a word of the definitions leads to
 one thing, what each storey names, which lemmas stand twice, and that the list of definitions and the lines on modules
 are today's. The last line sums all up as 'N passed, M failed'; the exit status is 0 if nothing failed.
