@@ -1,6 +1,6 @@
 # make quick       builds the program as ./rv in minutes, with no proof, and runs an example with it
 # make             proves and builds the program as ./rv, and runs the example
-# make check       runs the cases of tests/ over ./rv, whichever of both made it, in seconds
+# make check       runs the cases of tests/ over ./rv, whichever of both made it, in about a minute
 # make refused     refuses each request for memory of ./rv and of the library's calls in turn
 # make test        the whole gate: every proof from nothing, the must-fail edits, the tests, the programs and their cases,
 #                  and what each crate cost
@@ -10,8 +10,8 @@
 # make bench       measures rv beside GNU's tools, qemu-riscv64 and an interpreter in C, where they are installed,
 #                  and prints the table of targets last
 # make growth      draws how their times grow: bench/growth.svg
-# make install     PREFIX=/usr/local by default; the proved program, the man page and the completions of shells,
-#                  and an assembler for gcc -B PREFIX/libexec/rv/
+# make install     PREFIX=/usr/local by default; the proved program, which it proves first unless make has, the man
+#                  page and the completions of shells, and an assembler for gcc -B PREFIX/libexec/rv/
 
 PREFIX ?= /usr/local
 TO = $(DESTDIR)$(PREFIX)

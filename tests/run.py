@@ -303,8 +303,11 @@ def cases(names):
         if names and not any(below.startswith(it) for it in names):
             continue
         reader = {".s": read_source, ".table": read_table}.get(path.suffix)
-        for name, files, head in reader(path) if reader else []:
-            yield f"{path.parent.name}/{name}", files, head
+        try:
+            for name, files, head in reader(path) if reader else []:
+                yield f"{path.parent.name}/{name}", files, head
+        except (SystemExit, ValueError) as why:
+            sys.exit(f"{below}: {why}")
 
 
 def main(names):
