@@ -58,9 +58,13 @@ def another(key, value):
 
 
 def verdicts(paths):
-    """What `rv test` says of each of these files."""
+    """What `rv test` says of each of these files, in the time that one call of `rv` may take for each hundred."""
     words = [run.RV, "test", "--json", *map(str, paths)]
-    lines = subprocess.run(words, capture_output=True, text=True, timeout=run.SECONDS).stdout.splitlines()
+    limit = run.SECONDS * (1 + len(paths) // 100)
+    try:
+        lines = subprocess.run(words, capture_output=True, text=True, timeout=limit).stdout.splitlines()
+    except subprocess.TimeoutExpired:
+        sys.exit(f"rv test over {len(paths)} files had not ended after {limit} seconds")
     return [json.loads(it) for it in lines[:-1]]
 
 

@@ -6,12 +6,13 @@ usage: refused.py [WORD ..]     only cases whose names begin so, as `ld` or `run
 A case is a command of ./rv, or a call that ./rv_refusal_tests makes (crates/rv_refusal_tests), and a source. It runs
 once as it is, which gives the ordinary answer and the count of requests; then once for each number up to that count
 with that request refused (refuse.c), and once with the number after it. Of a command is wanted `rv: out of memory` with
-status 1, no output but whole lines of a trace, no input taken and no file left; of a call that it answers so, and gives
-the ordinary answer when it is made again. In the end the ordinary answer is wanted. A text of more than 64 KiB is
-written as it comes; no case has one. One line for each other answer. Needs a C compiler, `cc`, and glibc; the last line
-is 'N passed, M failed'.
+status 1, no output but whole lines of a trace, no input taken and no file left, or, where it has begun a case of `test`
+or a call of `batch`, that this one fails so; of a call that it answers so, and gives the ordinary answer when it is
+made again. In the end the ordinary answer is wanted. A text of more than 64 KiB is written as it comes; no case has
+one. One line for each other answer. Needs a C compiler, `cc`, and glibc; the last line is 'N passed, M failed'.
 """
 
+import json
 import os
 import subprocess
 import sys
@@ -173,18 +174,32 @@ class Case:
     def wrong(self, wanted, shim=None, number=0):
         """The line of an answer that is not wanted, or nothing."""
         came = self.answer(shim, number)
-        is_wanted = came == wanted or (wanted == REFUSED and self.is_trace and self.was_begun(came))
+        is_wanted = came == wanted or (wanted == REFUSED and self.was_begun(came))
         return None if is_wanted else f"{self.name}: request {number}: {came}"
 
-    @property
-    def is_trace(self):
-        return self.words[1] == "trace"
-
     def was_begun(self, came):
+        """Whether an answer was begun, and tells then that memory ran out."""
+        begun = {"trace": self.has_lines, "test": self.has_failed, "batch": self.has_answer}.get(self.words[1])
+        return begun is not None and begun(came)
+
+    def has_lines(self, came):
         """Whether whole lines of a run were told, and then that memory ran out."""
         lines, told, rest = came.message.partition(REFUSED.message)
         is_part = lines.endswith("\n") and self.wanted.message.startswith(lines)
         return is_part and not rest and replace(came, message=told) == REFUSED
+
+    def has_failed(self, came):
+        """Whether the one case failed, because memory ran out."""
+        lines = f"{self.words[2]}/1.s: out of memory\n0 passed, 1 failed\n".encode()
+        return came == Answer(1, lines, "", 0, ())
+
+    def has_answer(self, came):
+        """Whether the one call is answered by that memory ran out, beside parts of the ordinary answer."""
+        if came != replace(self.wanted, out=came.out):
+            return False
+        answer, ordinary = json.loads(came.out), json.loads(self.wanted.out)
+        told = answer.pop("error", ""), answer.pop("status", 0)
+        return told == ("out of memory", 1) and all(ordinary.get(key) == answer[key] for key in answer)
 
 
 def output_of(at, *words):
@@ -258,6 +273,23 @@ def commands(name, source, at, texts):
     calls += images(name, at) if name == "hello" else []
     for called, words, wanted in calls:
         yield Case(called, [RV, *words], at, source.given if wanted is ran else b"", wanted)
+    if name == "echo_four":
+        yield from of_loops(name, source, at)
+
+
+def of_loops(name, source, at):
+    """A folder with one case, and a call for an answer; both runs read input, and write to the console."""
+    folder = at / "cases"
+    folder.mkdir()
+    head = f"# input: {source.given.decode()}\n# console: {source.console.decode()}\n"
+    (folder / "1.s").write_text(head + source.files[0] + "\n")
+    yield Case(f"test {name}", [RV, "test", folder], at, b"", Answer(0, b"1 passed, 0 failed\n", "", 0, ()))
+    wants = ["console", "end", "count", "map", "faults"]
+    whole = {"id": [1], "sources": [source.files[0]], "input": source.given.decode(), "want": wants}
+    for called, call in (("batch", whole), ("batch of no call", {"source": ""})):
+        given = json.dumps(call).encode() + b"\n"
+        process = subprocess.run([RV, "batch"], input=given, check=True, timeout=SECONDS, stdout=subprocess.PIPE)
+        yield Case(f"{called} {name}", [RV, "batch"], at, given, Answer(0, process.stdout, "", len(given), ()))
 
 
 def images(name, at):

@@ -93,21 +93,21 @@ pub(crate) fn show_definitions(
     text: &mut String,
 ) -> Result<(), AllocError> {
     for file in 0..files.len() {
-        if let Some((section, offset)) = definition_in(files[file], name) {
+        if let Some((section, offset)) = definition_in(files[file], name, STB_GLOBAL) {
             show_place(alloc, names, files, file, section, offset, text)?;
         }
     }
     Ok(())
 }
 
-/// The section and the offset that a file gives to a name for all objects; none where it does not.
-fn definition_in(file: &[u8], name: &[u8]) -> Option<(u32, u64)> {
+/// The section and the offset that a file gives, by this binding, to a name for all objects; none where it does not.
+pub(crate) fn definition_in(file: &[u8], name: &[u8], binding: u8) -> Option<(u32, u64)> {
     let view = ElfView::open(file).ok()?;
     let table = index_of_symbols(&view)?;
     let symbols = bytes_of(&view, &section_named(&view, table).ok()?).ok()?;
     for index in 0..count_symbols(symbols) {
         let symbol = symbol_named(&view, table, u32::try_from(index).ok()?)?;
-        if symbol.binding == STB_GLOBAL && symbol.section != SHN_UNDEF && symbol.name == name {
+        if symbol.binding == binding && symbol.section != SHN_UNDEF && symbol.name == name {
             return Some((u32::from(symbol.section), symbol.value));
         }
     }

@@ -5,10 +5,11 @@
 //! there is the symbol.
 
 use crate::drafts::{borrowed, copies, leave, put_addend, put_kind};
+use crate::references::definition_in;
 use crate::sites::{Site, Sites};
 use crate::tables::symbol_named;
 use rv_chain::link_objects_exe;
-use rv_elf::{ElfView, SHN_ABS};
+use rv_elf::{ElfView, SHN_ABS, SHN_UNDEF, STB_GLOBAL, STB_WEAK};
 use rv_fault::Fault;
 use rv_fault_texts::put_bytes;
 use rv_isa::Kind;
@@ -64,11 +65,34 @@ pub fn value_of(
 fn absolute_of(files: &[&[u8]], site: &Site) -> Option<u64> {
     let view = ElfView::open(files.get(site.file)?).ok()?;
     let symbol = symbol_named(&view, site.symbols, site.rela.r_sym)?;
-    if symbol.section == SHN_ABS {
-        Some(symbol.value)
+    match symbol.section {
+        SHN_ABS => Some(symbol.value),
+        SHN_UNDEF => number_for_all(files, symbol.name),
+        _ => None,
+    }
+}
+
+/// The number that a name is in all files; none where it is a place. A weak definition counts where there is no other.
+fn number_for_all(files: &[&[u8]], name: &[u8]) -> Option<u64> {
+    let (section, value) = match first_definition(files, name, STB_GLOBAL) {
+        Some(found) => found,
+        None => first_definition(files, name, STB_WEAK)?,
+    };
+    if section == u32::from(SHN_ABS) {
+        Some(value)
     } else {
         None
     }
+}
+
+/// The section and the offset of the first definition of a name by this binding.
+fn first_definition(files: &[&[u8]], name: &[u8], binding: u8) -> Option<(u32, u64)> {
+    for file in files {
+        if let Some(found) = definition_in(file, name, binding) {
+            return Some(found);
+        }
+    }
+    None
 }
 
 /// The program of files; none where they have none.

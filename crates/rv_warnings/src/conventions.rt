@@ -29,7 +29,7 @@ struct Function {
     saved: u32,
     /// The registers that were written before they were saved, and where.
     lost: Vec<(Reg, usize)>,
-    /// How many of them were when the latest label or branch was passed.
+    /// How many of them were at the latest place from which the run may have gone elsewhere.
     block: usize,
     /// The latest instruction was a call.
     is_after_call: bool,
@@ -71,12 +71,15 @@ impl Function {
         self.is_cut_off = true;
     }
 
-    /// Passes a label. A call before it may be of what does not return, and then nothing was lost on the way there.
+    /// Passes a label. A call before it may be of what does not return, and then nothing was lost on the way there. What falls
+    /// through to the label goes on behind it.
     fn end_block(&mut self) {
         if self.is_after_call {
             self.lost.truncate(self.block);
         }
-        self.block = self.lost.len();
+        if self.is_after_call || self.is_cut_off {
+            self.block = self.lost.len();
+        }
         self.is_after_call = false;
     }
 
