@@ -33,13 +33,31 @@ fn sizes(alloc: Global, unit: &Unit<'_>) -> Result<Vec<u32>, AllocError> {
     Ok(sizes)
 }
 
+/// Whether a unit's statements have the sizes of the listing.
+fn has_sizes(alloc: Global, unit: &Unit<'_>) -> Result<bool, AllocError> {
+    Ok(sizes(alloc, unit)?.as_slice() == SIZES.as_slice())
+}
+
 #[test]
 fn sizes_of_statements(rt: HostRuntime) -> Result<(), Fail> {
     let alloc = rt.alloc();
     let unit = Unit::build(alloc, parse(alloc, SOURCE)?)?;
-    assert!(rt; sizes(alloc, &unit)?.as_slice() == SIZES.as_slice());
+    assert!(rt; has_sizes(alloc, &unit)?);
+    Ok(())
+}
+
+#[test]
+fn sizes_of_compact_statements(rt: HostRuntime) -> Result<(), Fail> {
+    let alloc = rt.alloc();
+    let unit = Unit::of(alloc, parse_compact(alloc, SOURCE)?)?;
+    assert!(rt; has_sizes(alloc, &unit)?);
+    Ok(())
+}
+
+#[test]
+fn passes_over_sizes(rt: HostRuntime) -> Result<(), Fail> {
+    let alloc = rt.alloc();
+    let unit = Unit::build(alloc, parse(alloc, SOURCE)?)?;
     assert!(rt; Layout::of(alloc, &unit)?.rounds() <= 5);
-    let compact = Unit::of(alloc, parse_compact(alloc, SOURCE)?)?;
-    assert!(rt; sizes(alloc, &compact)?.as_slice() == SIZES.as_slice());
     Ok(())
 }
