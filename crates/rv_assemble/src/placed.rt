@@ -25,7 +25,7 @@ use rv_unit::Unit;
 use std::alloc::{AllocError, Global};
 
 /// What of a source is at fault.
-#[derive(Clone, Copy, Debug, PartialEq, Eq, Drop)]
+#[derive(Clone, Copy, Drop)]
 pub enum Culprit {
     /// Its text, at the byte of this offset.
     Byte(usize),
@@ -34,7 +34,7 @@ pub enum Culprit {
 }
 
 /// The first fault of a source, and where it stands.
-#[derive(Clone, Copy, Debug, PartialEq, Eq, Drop)]
+#[derive(Clone, Copy, Drop)]
 pub struct PlacedFault {
     pub code: SourceCode,
     /// From 1; 0 for a source that is too long.

@@ -46,7 +46,7 @@ impl<T: Drop> From<AllocFailed<T>> for CallError {
 }
 
 /// A source of a call.
-#[derive(Clone, Copy, Debug, Drop)]
+#[derive(Clone, Copy, Drop)]
 pub(crate) struct GivenSource<'v> {
     /// What faults call it, where the call says so.
     pub name: Option<&'v str>,

@@ -9,7 +9,7 @@ use std::alloc::{AllocError, Global};
 use std::str::from_utf8;
 
 /// Bytes as a call gives them.
-#[derive(Clone, Copy, Debug, Drop)]
+#[derive(Clone, Copy, Drop)]
 pub(crate) enum Given<'v> {
     /// A text: its bytes in UTF-8.
     Text(&'v str),

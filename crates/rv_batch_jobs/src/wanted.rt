@@ -4,7 +4,7 @@ use crate::call::CallError;
 use serde_json::Value;
 
 /// What a call wants.
-#[derive(Clone, Copy, Debug, PartialEq, Eq, Drop)]
+#[derive(Clone, Copy, Drop)]
 pub(crate) struct Wants {
     /// What the run has written.
     pub console: bool,

@@ -10,7 +10,7 @@ use rv_size_laws::Site;
 use std::alloc::{AllocError, Global};
 
 /// What is kept of each site of a text, and how long it took to find it.
-#[derive(Debug, Drop)]
+#[derive(Drop)]
 pub struct CallSizes {
     /// The bytes that are kept of each site, each padding in full.
     pub kept: Vec<u32>,

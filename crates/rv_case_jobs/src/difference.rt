@@ -7,7 +7,7 @@ use std::alloc::{AllocError, Global};
 const SHOWN: usize = 120;
 
 /// The first line in which two texts differ.
-#[derive(Clone, Copy, Debug, PartialEq, Eq, Drop)]
+#[derive(Clone, Copy, Drop)]
 pub(crate) struct Difference<'a, 'b> {
     /// Its number, from 1.
     pub line: u64,

@@ -7,7 +7,7 @@ use rv_machine::{End, Outcome};
 use std::alloc::{AllocError, Global};
 
 /// What is said of a case that fails.
-#[derive(Debug, PartialEq, Eq, Drop)]
+#[derive(Drop)]
 pub(crate) struct Failure {
     /// What is wrong, without a line feed.
     pub message: String,

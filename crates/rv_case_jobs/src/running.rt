@@ -12,7 +12,7 @@ use rv_system::{JobError, Purpose, System, print, write};
 use std::alloc::Global;
 
 /// How many cases passed and failed.
-#[derive(Clone, Copy, Debug, PartialEq, Eq, Drop)]
+#[derive(Clone, Copy, Drop)]
 pub(crate) struct Sum {
     pub passed: u64,
     pub failed: u64,

@@ -10,7 +10,7 @@ use rv_machine::{End, Outcome};
 use std::alloc::Global;
 
 /// How a run must end.
-#[derive(Debug, PartialEq, Eq, Drop)]
+#[derive(Drop)]
 pub enum WantedEnd {
     /// By an exit with this status.
     Exited(u8),
@@ -19,7 +19,7 @@ pub enum WantedEnd {
 }
 
 /// What must come of a source.
-#[derive(Debug, PartialEq, Eq, Drop)]
+#[derive(Drop)]
 pub enum Wanted {
     /// The build is refused with this line, in which the source has its name without folders.
     Refused(Vec<u8>),
@@ -28,7 +28,7 @@ pub enum Wanted {
 }
 
 /// A source's case.
-#[derive(Debug, PartialEq, Eq, Drop)]
+#[derive(Drop)]
 pub struct Case {
     /// The guest's input.
     pub input: Vec<u8>,

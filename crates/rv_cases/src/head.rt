@@ -10,7 +10,7 @@ use std::alloc::{AllocError, AllocFailed, Global};
 use std::str::from_utf8;
 
 /// What the lines of a head say.
-#[derive(Debug, Drop)]
+#[derive(Drop)]
 pub(crate) struct Head {
     pub exit: Option<u8>,
     pub end: Option<Vec<u8>>,

@@ -1,7 +1,7 @@
 //! The keys of a head, and which lines have one.
 
 /// A key that a case takes.
-#[derive(Clone, Copy, Debug, PartialEq, Eq, Drop)]
+#[derive(Clone, Copy, Drop)]
 pub(crate) enum Key {
     Exit,
     End,
@@ -60,7 +60,7 @@ impl Key {
 }
 
 /// What a line of a head is.
-#[derive(Clone, Copy, Debug, PartialEq, Eq, Drop)]
+#[derive(Clone, Copy, Drop)]
 pub(crate) enum HeadLine<'a> {
     /// Words for people.
     Words,

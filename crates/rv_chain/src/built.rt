@@ -11,7 +11,7 @@ use rv_image::{Linked, write_exec};
 use std::alloc::Global;
 
 /// The bytes of an executable and of its map.
-#[derive(Debug, PartialEq, Eq, Drop)]
+#[derive(PartialEq, Eq, Drop)]
 pub struct Built {
     /// The bytes of an ELF file.
     pub exe: Vec<u8>,

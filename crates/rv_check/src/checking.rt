@@ -231,7 +231,7 @@ impl<'a> Omitted<'a> {
 }
 
 /// Where a fault comes from.
-#[derive(Clone, Copy, PartialEq, Eq, Drop)]
+#[derive(Clone, Copy, Drop)]
 enum Cause {
     /// From itself.
     Own,

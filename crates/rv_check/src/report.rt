@@ -4,7 +4,7 @@ use rv_fault::Fault;
 use rv_fault_texts::Remark;
 
 /// A fault, and what is said of it.
-#[derive(Debug, Drop)]
+#[derive(Drop)]
 pub struct Finding {
     /// The fault, as `build` answers it.
     pub fault: Fault,
@@ -13,7 +13,7 @@ pub struct Finding {
 }
 
 /// What a check of sources finds.
-#[derive(Debug, Drop)]
+#[derive(Drop)]
 pub struct Report {
     /// The fault that `build` answers; none where the sources can be built.
     pub first: Option<Finding>,

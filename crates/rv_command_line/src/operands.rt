@@ -8,7 +8,7 @@ use clap::ArgMatches;
 use std::alloc::{AllocError, AllocFailed, Global};
 
 /// How an operand is written.
-#[derive(Clone, Copy, Debug, PartialEq, Eq, Drop)]
+#[derive(Clone, Copy, Drop)]
 pub(crate) enum Form {
     /// `--long`.
     Flag(&'static str),
@@ -27,7 +27,7 @@ pub(crate) enum Form {
 }
 
 /// Whether an operand has to be there.
-#[derive(Clone, Copy, Debug, PartialEq, Eq, Drop)]
+#[derive(Clone, Copy, Drop)]
 pub(crate) enum Need {
     Optional,
     Required,
@@ -40,7 +40,7 @@ pub(crate) enum Need {
 }
 
 /// An operand as the help, the completions and `clap` know it.
-#[derive(Clone, Copy, Debug, PartialEq, Eq, Drop)]
+#[derive(Clone, Copy, Drop)]
 pub(crate) struct Entry {
     /// The name by which `clap` keeps what is found of it.
     pub(crate) id: &'static str,

@@ -9,7 +9,7 @@ use rv_job::Job;
 use std::alloc::{AllocError, Global};
 
 /// A word: a job of the program.
-#[derive(Clone, Copy, Debug, PartialEq, Eq, Drop)]
+#[derive(Clone, Copy, Drop)]
 pub(crate) enum Word {
     Run,
     Trace,
@@ -34,7 +34,7 @@ pub(crate) enum Word {
 }
 
 /// What a word says of itself.
-#[derive(Clone, Copy, Debug, Drop)]
+#[derive(Clone, Copy, Drop)]
 pub(crate) struct Help {
     pub(crate) name: &'static str,
     /// What it does, in a line.

@@ -217,7 +217,7 @@ fn full_behind(full: Option<u32>, bytes: usize, line: u32) -> Option<u32>
 }
 
 /// The code of a source.
-#[derive(Debug, Drop)]
+#[derive(Drop)]
 pub(crate) struct SectionCode {
     /// The bytes of each section.
     pub(crate) sections: Vec<Vec<u8>>,
@@ -226,7 +226,7 @@ pub(crate) struct SectionCode {
 }
 
 /// The code so far of a source's statements.
-#[derive(Debug, Drop)]
+#[derive(Drop)]
 pub(crate) struct Coder {
     /// The bytes of each section.
     pub(crate) sections: Vec<Vec<u8>>,

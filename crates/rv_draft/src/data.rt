@@ -502,7 +502,7 @@ fn put_next<'a>(
 }
 
 /// What sections hold, and the fields that stay open there.
-#[derive(Debug, Drop)]
+#[derive(Drop)]
 pub(crate) struct Filled<'a> {
     /// The bytes of each section.
     pub(crate) sections: Vec<Vec<u8>>,

@@ -21,7 +21,7 @@ use rv_unit::{Item, Unit};
 use std::alloc::Global;
 
 /// A source's statements with their sizes, and what its sections hold.
-#[derive(Debug, PartialEq, Eq, Drop)]
+#[derive(Drop)]
 pub struct Draft<'a> {
     /// Where the statements stand, in their order.
     pub items: Vec<Item>,

@@ -4,7 +4,7 @@ use rv_expression::Symbol;
 use rv_isa::Kind;
 
 /// A field that the linker fills in, as a statement says it (gABI, "Relocation").
-#[derive(Clone, Copy, Debug, PartialEq, Eq, Drop)]
+#[derive(Clone, Copy, Drop)]
 pub struct OpenField<'a> {
     /// The index of its section in the source.
     pub section: u32,

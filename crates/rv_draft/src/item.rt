@@ -7,7 +7,7 @@ use rv_object_types::operations;
 
 /// How large the code of a statement is: of an instruction, and of an alignment in a section of code;
 /// what else there is has none.
-#[derive(Clone, Copy, Debug, PartialEq, Eq, Drop)]
+#[derive(Clone, Copy, Drop)]
 pub(crate) struct CodeSize {
     /// The bytes of its padding.
     pub(crate) padding: u16,

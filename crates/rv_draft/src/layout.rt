@@ -14,7 +14,7 @@ use rv_unit::Unit;
 use std::alloc::{AllocError, Global};
 
 /// The sizes of a source's statements, and how long it took to find them.
-#[derive(Debug, Drop)]
+#[derive(Drop)]
 pub struct Layout {
     pub(crate) sizes: Vec<u32>,
     pub(crate) rounds: usize,

@@ -22,7 +22,7 @@ use rv_elf_laws::{FileHeader, ProgramHeader, Rela, SectionHeader, Symbol};
 use rv_fault::FileFault;
 
 /// A file of this machine whose header and tables are good.
-#[derive(Clone, Copy, Debug, Drop)]
+#[derive(Clone, Copy, Drop)]
 pub struct ElfView<'a> {
     file: &'a [u8],
     ghost header: { file_header_size ≤ length file.now },

@@ -14,7 +14,7 @@ use std::alloc::{AllocError, Global};
 use std::marker::Model;
 
 /// The bytes of a file so far; clauses see these. A call that is refused leaves them as they are.
-#[derive(Debug, Drop)]
+#[derive(Drop)]
 pub struct ElfWriter {
     bytes: Vec<u8>,
 }

@@ -1,7 +1,7 @@
 //! The header of a file.
 
 /// The header of a file, but for `e_ident`, which is the same in all files of this machine (gABI, "ELF Header").
-#[derive(Clone, Copy, Debug, PartialEq, Eq, Drop)]
+#[derive(Clone, Copy, Drop)]
 pub struct FileHeader {
     /// What the file is: `ET_REL`, `ET_EXEC`.
     pub e_type: u16,

@@ -1,7 +1,7 @@
 //! Program headers.
 
 /// A program header: what of a file stands where in memory (gABI, "Program Header").
-#[derive(Clone, Copy, Debug, PartialEq, Eq, Drop)]
+#[derive(Clone, Copy, Drop)]
 pub struct ProgramHeader {
     /// What it is: `PT_LOAD` for what is loaded.
     pub p_type: u32,

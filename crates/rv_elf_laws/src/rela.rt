@@ -1,7 +1,7 @@
 //! Relocations with addends.
 
 /// A relocation with an addend: what a place gets once addresses are known (gABI, "Relocation").
-#[derive(Clone, Copy, Debug, PartialEq, Eq, Drop)]
+#[derive(Clone, Copy, Drop)]
 pub struct Rela {
     /// The offset of the place in its section, in bytes.
     pub r_offset: u64,

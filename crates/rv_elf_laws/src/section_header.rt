@@ -1,7 +1,7 @@
 //! Section headers.
 
 /// A section header: what a section is, and where its contents stand (gABI, "Sections").
-#[derive(Clone, Copy, Debug, PartialEq, Eq, Drop)]
+#[derive(Clone, Copy, Drop)]
 pub struct SectionHeader {
     /// The offset of its name in the section of names, in bytes.
     pub sh_name: u32,

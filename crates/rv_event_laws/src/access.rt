@@ -3,7 +3,7 @@
 use rv_isa::Reg;
 
 /// Bytes of memory as a number.
-#[derive(Clone, Copy, Debug, PartialEq, Eq, Drop)]
+#[derive(Clone, Copy, Drop)]
 pub struct Access {
     pub address: u64,
     /// 1, 2, 4 or 8.
@@ -12,7 +12,7 @@ pub struct Access {
 }
 
 /// A register and its new value.
-#[derive(Clone, Copy, Debug, PartialEq, Eq, Drop)]
+#[derive(Clone, Copy, Drop)]
 pub struct Setting {
     pub register: Reg,
     pub value: u64,

@@ -7,7 +7,7 @@ ghost use Rattle.rv_expression.specs.Nodes.{nodes_of};
 use crate::node::Nodes;
 
 /// An expression with operators, in postfix form.
-#[derive(Debug, Drop)]
+#[derive(Drop)]
 pub struct Compound<'a> {
     pub(crate) nodes: Nodes<'a>,
     ghost fits: { nodes_fit (nodes_of nodes) 0 ≡ true },

@@ -28,7 +28,7 @@ const MOST_VALUES: usize = 200;
 const FEW_VALUES: usize = 8;
 
 /// What a name, `.` or a numeric reference means.
-#[derive(Clone, Copy, Debug, PartialEq, Eq, Drop)]
+#[derive(Clone, Copy, Drop)]
 pub enum Meaning {
     /// A number.
     Constant(u64),
@@ -39,7 +39,7 @@ pub enum Meaning {
 }
 
 /// What a symbol means where it stands, or why it means nothing.
-#[derive(Clone, Copy, Debug, PartialEq, Eq, Drop)]
+#[derive(Clone, Copy, Drop)]
 pub enum SymbolMeaning {
     /// A number.
     Constant(u64),
@@ -54,7 +54,7 @@ pub enum SymbolMeaning {
 }
 
 /// The value of an expression.
-#[derive(Clone, Copy, Debug, PartialEq, Eq, Drop)]
+#[derive(Clone, Copy, PartialEq, Eq, Drop)]
 pub enum Value<'a> {
     /// A number, modulo 2^64.
     Constant(u64),

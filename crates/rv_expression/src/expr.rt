@@ -19,7 +19,7 @@ use std::alloc::{AllocError, Global};
 
 /// An expression that was read. Texts are parts of the source; a number, its negative, a symbol alone
 /// and most of a name, an operator and a number take no heap.
-#[derive(Debug, Drop)]
+#[derive(Drop)]
 pub enum Expr<'a> {
     /// A number or a character.
     Number(u64),

@@ -9,7 +9,7 @@ use rv_lexer::NumericReference;
 use std::alloc::AllocError;
 
 /// What an expression may refer to. Texts are parts of the source.
-#[derive(Clone, Copy, Debug, PartialEq, Eq, Drop)]
+#[derive(Clone, Copy, PartialEq, Eq, Drop)]
 pub enum Symbol<'a> {
     /// A name.
     Name(&'a [u8]),
@@ -35,7 +35,7 @@ impl<'a> Symbol<'a> {
 }
 
 /// A part of an expression in postfix form.
-#[derive(Clone, Copy, Debug, PartialEq, Eq, Drop)]
+#[derive(Clone, Copy, Drop)]
 pub enum Node<'a> {
     /// A number or a character.
     Number(u64),
@@ -48,7 +48,7 @@ pub enum Node<'a> {
 }
 
 /// The nodes of an expression, or of the front of one; the first is an operand.
-#[derive(Debug, Drop)]
+#[derive(Drop)]
 pub(crate) struct Nodes<'a> {
     pub(crate) first: Node<'a>,
     pub(crate) rest: Vec<Node<'a>>,

@@ -4,7 +4,7 @@ use crate::node::Symbol;
 use rv_expression_laws::BinaryOperator;
 
 /// A symbol, an operator and a number, as `name + 4`.
-#[derive(Clone, Copy, Debug, Drop)]
+#[derive(Clone, Copy, Drop)]
 pub struct Pair<'a> {
     pub(crate) symbol: Symbol<'a>,
     pub(crate) operator: BinaryOperator,
@@ -12,7 +12,7 @@ pub struct Pair<'a> {
 }
 
 /// Two symbols and the operator on them, as `end - start`.
-#[derive(Clone, Copy, Debug, Drop)]
+#[derive(Clone, Copy, Drop)]
 pub struct SymbolPair<'a> {
     pub(crate) left: Symbol<'a>,
     pub(crate) operator: BinaryOperator,

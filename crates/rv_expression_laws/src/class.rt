@@ -3,7 +3,7 @@
 use crate::punct::Punct;
 
 /// What a byte begins, where a lexeme of a source may begin.
-#[derive(Clone, Copy, Debug, PartialEq, Eq, Drop)]
+#[derive(Clone, Copy, Drop)]
 pub enum Class {
     /// A letter, `_`, `.` or `$`: begins a name.
     Letter,

@@ -1,7 +1,7 @@
 //! The operators of expressions.
 
 /// An operator before its operand.
-#[derive(Clone, Copy, Debug, PartialEq, Eq, Drop)]
+#[derive(Clone, Copy, Drop)]
 pub enum UnaryOperator {
     /// `-`
     Negate,
@@ -12,7 +12,7 @@ pub enum UnaryOperator {
 }
 
 /// An operator between its operands.
-#[derive(Clone, Copy, Debug, PartialEq, Eq, Drop)]
+#[derive(Clone, Copy, Drop)]
 pub enum BinaryOperator {
     /// `*`
     Multiply,
@@ -37,7 +37,7 @@ pub enum BinaryOperator {
 }
 
 /// What stands before an operand that is still to come.
-#[derive(Clone, Copy, Debug, PartialEq, Eq, Drop)]
+#[derive(Clone, Copy, Drop)]
 pub enum Frame {
     /// An open parenthesis.
     Parenthesis,

@@ -11,7 +11,7 @@ use std::alloc::{AllocError, Global};
 use std::collections::HashMap;
 
 /// What sources come to.
-#[derive(Debug, Drop)]
+#[derive(Drop)]
 pub struct Closing {
     /// The sizes of the program's regions: a line, with a line feed.
     pub sizes: String,

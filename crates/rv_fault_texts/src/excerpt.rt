@@ -11,7 +11,7 @@ const BEFORE: usize = 40;
 const MARGIN: &str = "    ";
 
 /// Bytes of a source, from an offset to another.
-#[derive(Clone, Copy, Debug, Drop)]
+#[derive(Clone, Copy, Drop)]
 pub struct Place {
     pub start: usize,
     pub stop: usize,

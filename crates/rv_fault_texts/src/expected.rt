@@ -9,7 +9,7 @@ use rv_parse_words::words::{beginning_with, has_constant};
 use rv_statement_laws::{DirectiveWord, Mnemonic};
 
 /// What comes before a token of a statement.
-#[derive(Clone, Copy, PartialEq, Eq)]
+#[derive(Clone, Copy)]
 enum Front {
     /// A comma or the first word: an operand begins.
     Operand,

@@ -4,7 +4,7 @@
 //! Privileged ISA 20211203, chapters 3, 4 and 8.
 
 /// What has an instruction of a name.
-#[derive(Clone, Copy, PartialEq, Eq, Drop)]
+#[derive(Clone, Copy, Drop)]
 enum Owner {
     /// The F extension: floating point of 32 bits.
     Single,

@@ -16,7 +16,7 @@ use rv_fault::SourceCode;
 use std::alloc::{AllocError, Global};
 
 /// What may stand in the place of a wrong token, where it is one phrase.
-#[derive(Clone, Copy, PartialEq, Eq, Drop)]
+#[derive(Clone, Copy, Drop)]
 pub enum Expected {
     Unknown,
     Register,

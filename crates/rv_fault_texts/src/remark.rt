@@ -5,7 +5,7 @@ use crate::tokens::{LineToken, is_line_feed, part, place};
 use std::alloc::{AllocError, Global};
 
 /// A byte of a source, as editors count.
-#[derive(Clone, Copy, Debug, Drop)]
+#[derive(Clone, Copy, Drop)]
 pub struct Spot {
     /// The index of its source, from 0.
     pub file: usize,
@@ -31,7 +31,7 @@ impl Spot {
 }
 
 /// What is said of a fault, or of what may be a mistake.
-#[derive(Debug, Drop)]
+#[derive(Drop)]
 pub struct Remark {
     /// The first place that it is about; none where no place is known.
     pub spot: Option<Spot>,

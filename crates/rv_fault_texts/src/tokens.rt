@@ -10,7 +10,7 @@ use std::alloc::{AllocError, Global};
 const TOO_LARGE: usize = 1 << 31;
 
 /// What a token is to the search.
-#[derive(Clone, Copy, PartialEq, Eq, Drop)]
+#[derive(Clone, Copy, Drop)]
 pub enum Sort {
     Name,
     Number,

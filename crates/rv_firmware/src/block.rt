@@ -3,7 +3,7 @@
 ghost use Rattle.std.specs.Prelude.{◌+◌, ◌^◌, ◌≤◌, length};
 
 /// Bytes that are kept from an address on.
-#[derive(Clone, Copy, Debug, PartialEq, Eq, Drop)]
+#[derive(Clone, Copy, Drop)]
 pub struct Block<'a> {
     /// The address of its first byte.
     pub address: u32,

@@ -19,7 +19,7 @@ use rv_fault::FileFault;
 use std::alloc::{AllocError, Global};
 
 /// The contents of an executable's segments, and where it starts.
-#[derive(Debug, PartialEq, Eq, Drop)]
+#[derive(Drop)]
 pub struct Firmware<'a> {
     /// The contents of the segments that have any, in the order of the file.
     pub blocks: Vec<Block<'a>>,

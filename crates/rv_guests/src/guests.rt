@@ -6,14 +6,14 @@ use rv_memory::Paged;
 use rv_system::System;
 
 /// Where a guest's input comes from.
-#[derive(Clone, Copy, PartialEq, Eq)]
+#[derive(Clone, Copy)]
 pub enum GuestInput {
     Standard,
     Empty,
 }
 
 /// Where what a guest writes goes.
-#[derive(Clone, Copy, PartialEq, Eq)]
+#[derive(Clone, Copy)]
 pub enum GuestOutput {
     Standard,
     Errors,

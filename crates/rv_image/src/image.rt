@@ -8,7 +8,7 @@ ghost use Rattle.rv_image_laws.specs.Segment.{are_apart, memory_size};
 use crate::segment::Segment;
 
 /// The segments of a program and the address at which it begins.
-#[derive(Debug, PartialEq, Eq, Drop)]
+#[derive(PartialEq, Eq, Drop)]
 pub struct Image {
     /// The address of the first instruction.
     pub entry: u64,

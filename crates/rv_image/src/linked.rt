@@ -6,7 +6,7 @@ ghost use Rattle.rv_isa_laws.specs.Platform.{stack_start, memory_limit};
 use rv_map::Map;
 
 /// A program whose addresses are fixed: the bytes of its regions, and its map.
-#[derive(Debug, PartialEq, Eq, Drop)]
+#[derive(Drop)]
 pub struct Linked {
     /// The instructions.
     pub text: Vec<u8>,

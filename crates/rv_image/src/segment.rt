@@ -10,7 +10,7 @@ pub const STACK_BYTES: usize = 0x10_0000;
 pub const MEMORY_LIMIT: u64 = 0x1000_0000;
 
 /// Bytes that stand in memory from `address` on.
-#[derive(Debug, PartialEq, Eq, Drop)]
+#[derive(PartialEq, Eq, Drop)]
 pub struct Segment {
     /// The address of its first byte.
     pub address: u64,

@@ -21,7 +21,7 @@ use rv_parcel::Compressed;
 use rv_pseudo::{Template, Templates};
 
 /// A part of a statement's code as it lies in memory.
-#[derive(Clone, Copy, Debug, PartialEq, Eq, Drop)]
+#[derive(Clone, Copy, Drop)]
 pub enum Encoded {
     /// The parcel that is chosen for an instruction.
     Parcel(u16),
@@ -32,7 +32,7 @@ pub enum Encoded {
 }
 
 /// A part of a statement's code, with the kind of the field that it leaves open, if it leaves one.
-#[derive(Clone, Copy, Debug, PartialEq, Eq, Drop)]
+#[derive(Clone, Copy, Drop)]
 pub struct Coded {
     pub encoded: Encoded,
     pub kind: Option<Kind>,

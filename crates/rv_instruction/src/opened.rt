@@ -26,7 +26,7 @@ use rv_statement_laws::Function;
 use rv_unit::{Definition, Scope, SectionOffset};
 
 /// What an open field takes: a symbol as the statement of an ordinal names it, and what is added.
-#[derive(Clone, Copy, Debug, PartialEq, Eq, Drop)]
+#[derive(Clone, Copy, Drop)]
 pub struct Reference<'a> {
     /// The ordinal of the statement, from 1.
     pub ordinal: u32,

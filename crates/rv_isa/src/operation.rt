@@ -10,7 +10,7 @@ use crate::instruction::{Atomic, BType, Fence, IType, Inst, RType, Reserve, STyp
 use crate::register::Reg;
 
 /// `rd, rs1, rs2`: an operation on two registers.
-#[derive(Clone, Copy, Debug, PartialEq, Eq, Drop)]
+#[derive(Clone, Copy, Drop)]
 pub enum RegisterOperation {
     Add,
     Sub,
@@ -43,7 +43,7 @@ pub enum RegisterOperation {
 }
 
 /// `rd, rs1, immediate`: an operation on a register and 12 signed bits.
-#[derive(Clone, Copy, Debug, PartialEq, Eq, Drop)]
+#[derive(Clone, Copy, Drop)]
 pub enum ImmediateOperation {
     Addi,
     Slti,
@@ -55,7 +55,7 @@ pub enum ImmediateOperation {
 }
 
 /// `rd, rs1, amount`: a shift by a constant.
-#[derive(Clone, Copy, Debug, PartialEq, Eq, Drop)]
+#[derive(Clone, Copy, Drop)]
 pub enum ShiftOperation {
     Slli,
     Srli,
@@ -66,14 +66,14 @@ pub enum ShiftOperation {
 }
 
 /// `rd, immediate`: the upper 20 bits.
-#[derive(Clone, Copy, Debug, PartialEq, Eq, Drop)]
+#[derive(Clone, Copy, Drop)]
 pub enum UpperOperation {
     Lui,
     Auipc,
 }
 
 /// `rd, offset(rs1)`: a load.
-#[derive(Clone, Copy, Debug, PartialEq, Eq, Drop)]
+#[derive(Clone, Copy, Drop)]
 pub enum LoadOperation {
     Lb,
     Lh,
@@ -85,7 +85,7 @@ pub enum LoadOperation {
 }
 
 /// `rs2, offset(rs1)`: a store.
-#[derive(Clone, Copy, Debug, PartialEq, Eq, Drop)]
+#[derive(Clone, Copy, Drop)]
 pub enum StoreOperation {
     Sb,
     Sh,
@@ -94,7 +94,7 @@ pub enum StoreOperation {
 }
 
 /// `rs1, rs2, offset`: a jump where two registers compare so.
-#[derive(Clone, Copy, Debug, PartialEq, Eq, Drop)]
+#[derive(Clone, Copy, Drop)]
 pub enum BranchOperation {
     Beq,
     Bne,
@@ -105,7 +105,7 @@ pub enum BranchOperation {
 }
 
 /// `rd, rs2, (rs1)`: a store-conditional or an atomic memory operation.
-#[derive(Clone, Copy, Debug, PartialEq, Eq, Drop)]
+#[derive(Clone, Copy, Drop)]
 pub enum AtomicOperation {
     Sc,
     Amoswap,
@@ -120,7 +120,7 @@ pub enum AtomicOperation {
 }
 
 /// The end of an atomic's mnemonic: its width and its ordering bits.
-#[derive(Clone, Copy, Debug, PartialEq, Eq, Drop)]
+#[derive(Clone, Copy, Drop)]
 pub struct AtomicForm {
     /// Eight bytes, else four.
     pub double: bool,
@@ -131,7 +131,7 @@ pub struct AtomicForm {
 }
 
 /// The accesses that a fence orders, before it or after it.
-#[derive(Clone, Copy, Debug, PartialEq, Eq, Drop)]
+#[derive(Clone, Copy, Drop)]
 pub struct AccessSet {
     pub input: bool,
     pub output: bool,

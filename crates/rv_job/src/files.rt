@@ -1,7 +1,7 @@
 //! What is asked of files.
 
 /// A file whose instructions are asked for.
-#[derive(Clone, Copy, Debug, Drop)]
+#[derive(Clone, Copy, Drop)]
 pub struct AskedCode<'a> {
     pub file: &'a str,
     /// The map of an executable.
@@ -23,7 +23,7 @@ pub struct AskedImage<'a> {
 }
 
 /// How an image is written.
-#[derive(Clone, Copy, Debug, PartialEq, Eq, Drop)]
+#[derive(Clone, Copy, Drop)]
 pub enum ImageFormat {
     /// The bytes themselves, from the lowest address on.
     Binary,
@@ -32,7 +32,7 @@ pub enum ImageFormat {
 }
 
 /// The texts that have addresses.
-#[derive(Clone, Copy, Debug, PartialEq, Eq, Drop)]
+#[derive(Clone, Copy, Drop)]
 pub enum TextFormat {
     /// Intel HEX.
     IntelHex,
@@ -43,7 +43,7 @@ pub enum TextFormat {
 }
 
 /// How a job writes what it tells.
-#[derive(Clone, Copy, Debug, PartialEq, Eq, Drop)]
+#[derive(Clone, Copy, PartialEq, Eq, Drop)]
 pub enum OutputFormat {
     /// For people.
     Text,
@@ -52,7 +52,7 @@ pub enum OutputFormat {
 }
 
 /// How what is found in sources is written.
-#[derive(Clone, Copy, Debug, PartialEq, Eq, Drop)]
+#[derive(Clone, Copy, Drop)]
 pub enum ReportFormat {
     /// For people.
     Text,

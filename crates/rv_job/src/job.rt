@@ -119,7 +119,7 @@ pub enum Job<'a> {
 }
 
 /// A shell that completes words.
-#[derive(Clone, Copy, Debug, PartialEq, Eq, Drop)]
+#[derive(Clone, Copy, Drop)]
 pub enum Shell {
     Bash,
     Zsh,

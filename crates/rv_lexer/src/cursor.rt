@@ -29,7 +29,7 @@ fn joins(kind: TokenKind<'_>) -> bool
 }
 
 /// The tokens that a source has left: the next one, and the lexers before and after it.
-#[derive(Clone, Copy, Debug, Drop)]
+#[derive(Clone, Copy, Drop)]
 pub struct Cursor<'a> {
     /// The next token.
     pub next: Token<'a>,

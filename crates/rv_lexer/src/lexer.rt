@@ -19,7 +19,7 @@ use crate::token::{Token, TokenKind};
 use rv_expression_laws::Class;
 
 /// The tokens that a source has left. It is copied to look ahead.
-#[derive(Clone, Copy, Debug, Drop)]
+#[derive(Clone, Copy, Drop)]
 pub struct Lexer<'a> {
     /// The bytes that are left.
     rest: &'a [u8],

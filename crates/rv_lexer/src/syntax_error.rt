@@ -15,7 +15,7 @@ use thiserror::Error;
 pub const LONGEST_NAME: usize = 4095;
 
 /// A token that is wrong where it stands.
-#[derive(Clone, Copy, Debug, PartialEq, Eq, Drop)]
+#[derive(Clone, Copy, Debug, Drop)]
 pub struct SyntaxError {
     /// The offset of the fault in the source, in bytes: of the token's first byte, but of a name that is too long of the
     /// first byte past the limit.

@@ -4,7 +4,7 @@ use crate::reference::NumericReference;
 use rv_expression_laws::Punct;
 
 /// What a token is. Texts are parts of the source.
-#[derive(Clone, Copy, Debug, PartialEq, Eq, Drop)]
+#[derive(Clone, Copy, PartialEq, Eq, Drop)]
 pub enum TokenKind<'a> {
     /// A line feed, which ends its line and its statement.
     Newline,
@@ -31,7 +31,7 @@ pub enum TokenKind<'a> {
 }
 
 /// A token, and where it stands in the source.
-#[derive(Clone, Copy, Debug, PartialEq, Eq, Drop)]
+#[derive(Clone, Copy, Drop)]
 pub struct Token<'a> {
     /// What it is.
     pub kind: TokenKind<'a>,

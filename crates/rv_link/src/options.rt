@@ -1,7 +1,7 @@
 //! What one can choose of a link.
 
 /// What one can choose of a link.
-#[derive(Clone, Copy, Debug, PartialEq, Eq, Drop)]
+#[derive(Clone, Copy, Drop)]
 pub struct LinkOptions {
     /// The address at which the text starts: a multiple of 4096 below the stack.
     pub text_start: u64,

@@ -14,14 +14,14 @@ const ROW_BYTES: usize = 4;
 pub const ROWS: usize = 5;
 
 /// A source: its name, as the words of the command line have it, and its text.
-#[derive(Clone, Copy, Debug, Drop)]
+#[derive(Clone, Copy, Drop)]
 pub struct Source<'n, 't> {
     pub name: &'n str,
     pub text: &'t [u8],
 }
 
 /// What the lines of all sources are shown by.
-#[derive(Clone, Copy, Debug, Drop)]
+#[derive(Clone, Copy, Drop)]
 struct Shape<'a> {
     image: &'a Image,
     /// The digits of addresses.

@@ -29,7 +29,7 @@ ghost use Rattle.rv_isa_laws.specs.Memory.{
 ghost use Rattle.rv_memory.specs.Rights.{right_of, IsWidth, IsToLoad, MayLoad};
 
 /// What may be done with a byte: the segment flags PF_R, PF_W and PF_X (gABI, program header).
-#[derive(Clone, Copy, Debug, PartialEq, Eq, Drop)]
+#[derive(Clone, Copy, Drop)]
 pub enum Right {
     Read,
     Write,

@@ -10,7 +10,7 @@ ghost use Rattle.rv_object_reader.specs.Found.{section_at, place_at, places_of, 
 use rv_elf::{ElfView, SectionIndex};
 
 /// A file that is an object: none of its faults is there.
-#[derive(Debug, Drop)]
+#[derive(Drop)]
 pub(crate) struct Checked<'a> {
     /// The file.
     pub view: ElfView<'a>,

@@ -11,7 +11,7 @@ use std::collections::BTreeMap;
 const LONGEST: u64 = 8;
 
 /// Fields, which may share bytes.
-#[derive(Debug, Drop)]
+#[derive(Drop)]
 pub(crate) struct Fields {
     /// The end behind the last byte of each, by the offset of its first: the furthest where several begin.
     pub(crate) by_start: BTreeMap<u64, u64>,

@@ -15,7 +15,7 @@ use rv_elf_laws::SectionHeader;
 const ROWS_NAME: &[u8] = b".rv.rows\0";
 
 /// The names of a file's sections.
-#[derive(Clone, Copy, Debug, Drop)]
+#[derive(Clone, Copy, Drop)]
 pub(crate) struct Names<'a> {
     /// The file.
     pub(crate) view: ElfView<'a>,

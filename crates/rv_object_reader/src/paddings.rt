@@ -8,7 +8,7 @@ use std::alloc::{AllocError, Global};
 use std::collections::BTreeMap;
 
 /// Paddings, apart from each other.
-#[derive(Debug, Drop)]
+#[derive(Drop)]
 pub(crate) struct Paddings {
     /// The offset of the first byte of each, by the end behind its last.
     pub(crate) by_end: BTreeMap<u64, u64>,

@@ -15,7 +15,7 @@ use rv_isa::Kind;
 use std::alloc::{AllocError, Global};
 
 /// The bytes that the relocations so far hold of one section of code.
-#[derive(Debug, Drop)]
+#[derive(Drop)]
 pub(crate) struct Places {
     pub(crate) paddings: Paddings,
     /// The fields among which a padding was looked for.

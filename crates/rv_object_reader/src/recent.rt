@@ -11,7 +11,7 @@ use crate::fields::Fields;
 use std::alloc::{AllocError, Global};
 
 /// Fields in the order of their records, which may share bytes.
-#[derive(Debug, Drop)]
+#[derive(Drop)]
 pub(crate) struct Recent {
     /// The offset of the first byte of each, and the end behind its last.
     pub(crate) spans: Vec<(u64, u64)>,

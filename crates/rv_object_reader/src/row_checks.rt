@@ -55,7 +55,7 @@ fn double(record: &[u8], offset: usize) -> u64
 }
 
 /// A section that a row names. Rows of one section mostly follow each other, so the next asks nothing of the file.
-#[derive(Clone, Copy, Debug, Drop)]
+#[derive(Clone, Copy, Drop)]
 struct Home {
     /// Its index in the file.
     index: u32,

@@ -4,7 +4,7 @@
 pub const ROW_SIZE: usize = 32;
 
 /// A row of the section `.rv.rows`.
-#[derive(Clone, Copy, Debug, PartialEq, Eq, Drop)]
+#[derive(Clone, Copy, Drop)]
 pub struct RowRecord {
     /// The line of the statement, from 1.
     pub r_line: u32,

@@ -15,7 +15,7 @@ use memchr::memrchr;
 use std::alloc::{AllocError, Global};
 
 /// A table of strings.
-#[derive(Debug, Drop)]
+#[derive(Drop)]
 pub(crate) struct Strings<'a> {
     /// Its bytes.
     pub(crate) table: &'a [u8],

@@ -11,7 +11,7 @@ use crate::positions::first_from;
 use std::alloc::{AllocError, Global};
 
 /// A table of strings.
-#[derive(Debug, Drop)]
+#[derive(Drop)]
 pub(crate) struct Strings<'a> {
     /// Its bytes.
     pub(crate) table: &'a [u8],

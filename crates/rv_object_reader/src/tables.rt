@@ -12,7 +12,7 @@ use rv_elf::{ElfView, SectionIndex};
 use std::alloc::{AllocError, Global};
 
 /// A file with what is looked up in it.
-#[derive(Debug, Drop)]
+#[derive(Drop)]
 pub(crate) struct Tables<'a> {
     /// The file, and the names of its sections.
     pub(crate) names: Names<'a>,

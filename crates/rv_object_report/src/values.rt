@@ -23,7 +23,7 @@ const MARK: i64 = 0x0101_0101;
 const TEXT_OFFSET: usize = 0x1000;
 
 /// The addresses of a relocation.
-#[derive(Clone, Copy, Debug, Drop)]
+#[derive(Clone, Copy, Drop)]
 pub struct Value {
     /// That of the place: the psABI's P.
     pub place: u64,

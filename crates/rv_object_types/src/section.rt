@@ -9,7 +9,7 @@ use crate::contents::Contents;
 use crate::relocation::Relocation;
 
 /// A section (gABI, "Sections").
-#[derive(Debug, PartialEq, Eq, Drop)]
+#[derive(PartialEq, Eq, Drop)]
 pub struct Section<'a> {
     /// The bytes of its name.
     pub name: &'a [u8],

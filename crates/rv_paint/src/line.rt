@@ -8,7 +8,7 @@
 use crate::kind::Kind;
 
 /// Where in a line a word stands.
-#[derive(Clone, Copy, Debug, PartialEq, Eq, Drop)]
+#[derive(Clone, Copy, PartialEq, Eq, Drop)]
 pub(crate) enum Place {
     /// At the beginning.
     Start,

@@ -8,7 +8,7 @@ use rv_isa::Reg;
 ///
 /// Registers of the three-bit fields are x8 to x15. Offsets and immediates count bytes and ones, as
 /// the assembler writes them.
-#[derive(Clone, Copy, Debug, PartialEq, Eq, Drop)]
+#[derive(Clone, Copy, Drop)]
 pub enum Compressed {
     /// `c.addi4spn rd, sp, immediate`: a multiple of 4, from 4 to 1020.
     Addi4spn { rd: Reg, immediate: u32 },

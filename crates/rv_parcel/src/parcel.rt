@@ -13,7 +13,7 @@ use crate::form::Compressed;
 use rv_isa::Reg;
 
 /// A `c.` mnemonic, without its operands.
-#[derive(Clone, Copy, Debug, PartialEq, Eq, Drop)]
+#[derive(Clone, Copy, Drop)]
 pub enum ParcelOperation {
     Addi4spn,
     Lw,
@@ -51,7 +51,7 @@ pub enum ParcelOperation {
 }
 
 /// The registers that an operand can be.
-#[derive(Clone, Copy, Debug, PartialEq, Eq, Drop)]
+#[derive(Clone, Copy, Drop)]
 pub enum RegisterSet {
     /// Any register.
     Any,
@@ -66,7 +66,7 @@ pub enum RegisterSet {
 }
 
 /// What stands beside the registers of a `c.` mnemonic.
-#[derive(Clone, Copy, Debug, PartialEq, Eq, Drop)]
+#[derive(Clone, Copy, Drop)]
 pub enum OperandShape {
     /// Nothing: `c.add a0,a1`
     Registers,

@@ -23,7 +23,7 @@ use rv_statement::{Operation, Plain, StatementKind};
 use std::alloc::Global;
 
 /// What a load reads and a store writes.
-#[derive(Debug, Drop)]
+#[derive(Drop)]
 pub enum Location<'a> {
     /// `(rs)`
     Register(Reg),

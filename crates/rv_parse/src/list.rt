@@ -53,7 +53,7 @@ impl<'a> StatementList<'a> for Vec<Statement<'a>> {
 }
 
 /// The statements of a source, and where each begins.
-#[derive(Debug, Drop)]
+#[derive(Drop)]
 pub struct PlacedStatements<'a> {
     pub statements: Vec<Statement<'a>>,
     /// The offset of the first byte of each.

@@ -67,7 +67,7 @@ pub fn callee<'a>(alloc: Global, cursor: &mut Cursor<'a>) -> Result<Expr<'a>, Re
 }
 
 /// A value of an instruction: an expression, or a function of one.
-#[derive(Debug, Drop)]
+#[derive(Drop)]
 pub struct Argument<'a> {
     pub function: Option<Function>,
     pub expression: Expr<'a>,

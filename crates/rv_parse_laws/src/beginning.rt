@@ -3,7 +3,7 @@
 use rv_statement_laws::{DirectiveWord, Mnemonic};
 
 /// What a word begins.
-#[derive(Clone, Copy, Debug, PartialEq, Eq, Drop)]
+#[derive(Clone, Copy, Drop)]
 pub enum Beginning {
     Instruction(Mnemonic),
     Directive(DirectiveWord),

@@ -1,7 +1,7 @@
 //! Where an expression stands in a statement.
 
 /// Where an expression stands, which decides what is wrong around it.
-#[derive(Clone, Copy, Debug, PartialEq, Eq, Drop)]
+#[derive(Clone, Copy, Drop)]
 pub enum Role {
     /// As an operand of an instruction, or before the register of an address.
     Operand,

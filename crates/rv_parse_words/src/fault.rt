@@ -15,7 +15,7 @@ use rv_parcel::RegisterSet;
 use rv_parse_laws::Role;
 
 /// What stands in one slot of a statement.
-#[derive(Clone, Copy, Debug, PartialEq, Eq, Drop)]
+#[derive(Clone, Copy, Drop)]
 pub enum Slot {
     /// A register of a set.
     Register(RegisterSet),

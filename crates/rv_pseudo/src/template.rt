@@ -9,7 +9,7 @@ use rv_fault::SourceCode;
 use rv_isa::{Inst, Kind};
 
 /// What an expression is worth to an instruction.
-#[derive(Clone, Copy, Debug, PartialEq, Eq, Drop)]
+#[derive(Clone, Copy, Drop)]
 pub enum Worth {
     /// A constant.
     Number(i64),
@@ -21,7 +21,7 @@ pub enum Worth {
 }
 
 /// How a statement is written: what its templates depend on beside the statement.
-#[derive(Clone, Copy, Debug, PartialEq, Eq, Drop)]
+#[derive(Clone, Copy, Drop)]
 pub struct Form {
     /// Whether compressed code is on.
     pub rvc: bool,
@@ -33,7 +33,7 @@ pub struct Form {
 }
 
 /// A form in which an expression may also be faulty, as whoever evaluates it finds out.
-#[derive(Clone, Copy, Debug, PartialEq, Eq, Drop)]
+#[derive(Clone, Copy, Drop)]
 pub struct Manner {
     /// What the statement's expression is worth, before a function of it.
     pub worth: Worth,

@@ -3,7 +3,7 @@
 /// A part of the text that may keep only its first bytes. Offsets count the text as it is before relaxation, with each
 /// padding in full, over all sections; so do the bytes from the end of one section to the start of the next. They have 128
 /// bits, since each of many sections may have 2^64 - 1 bytes.
-#[derive(Clone, Copy, Debug, PartialEq, Eq, Drop)]
+#[derive(Clone, Copy, Drop)]
 pub struct Site {
     /// The bytes of the text before it.
     pub offset: u128,
@@ -12,7 +12,7 @@ pub struct Site {
 }
 
 /// What a part of the text is that may keep only its first bytes.
-#[derive(Clone, Copy, Debug, PartialEq, Eq, Drop)]
+#[derive(Clone, Copy, Drop)]
 pub enum SiteKind {
     /// A call that may be shortened, of 8 bytes.
     Call(Call),
@@ -21,7 +21,7 @@ pub enum SiteKind {
 }
 
 /// A call: to what, and whether `c.j` may stand for it.
-#[derive(Clone, Copy, Debug, PartialEq, Eq, Drop)]
+#[derive(Clone, Copy, Drop)]
 pub struct Call {
     /// The target's offset in the text.
     pub target: u128,
@@ -32,7 +32,7 @@ pub struct Call {
 }
 
 /// A padding up to a multiple of the alignment.
-#[derive(Clone, Copy, Debug, PartialEq, Eq, Drop)]
+#[derive(Clone, Copy, Drop)]
 pub struct Padding {
     /// The bytes in full.
     pub bytes: u32,

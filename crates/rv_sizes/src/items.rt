@@ -10,7 +10,7 @@ use std::alloc::{AllocError, Global};
 use std::marker::Model;
 
 /// A statement in 8 bytes.
-#[derive(Clone, Copy, Debug, Drop)]
+#[derive(Clone, Copy, Drop)]
 enum Packed {
     /// The section and the bytes of a statement of one form.
     Settled(u16, u32),
@@ -22,7 +22,7 @@ const _: () = prove!(size_of::<Packed>() <= 8);
 
 /// Statements as sizes go by them, in the order of the source; clauses see their list. One of one form has 8 bytes, a branch
 /// or a jump 32.
-#[derive(Debug, Drop)]
+#[derive(Drop)]
 pub struct Items {
     packed: Vec<Packed>,
     others: Vec<Item>,

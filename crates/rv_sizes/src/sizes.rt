@@ -12,7 +12,7 @@ use rv_size_laws::Forms;
 use std::alloc::{AllocError, Global};
 
 /// A size for each statement, and how long it took to find them.
-#[derive(Debug, Drop)]
+#[derive(Drop)]
 pub struct Family {
     /// The bytes of each statement.
     pub sizes: Vec<u32>,

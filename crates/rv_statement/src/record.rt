@@ -15,7 +15,7 @@ use rv_parcel::ParcelOperation;
 use rv_statement_laws::{CompareOperation, UnaryOperation};
 
 /// An instruction of registers alone, as in `Plain`; those that order memory have more bytes.
-#[derive(Clone, Copy, Debug, Drop)]
+#[derive(Clone, Copy, Drop)]
 pub(crate) enum Short {
     Registers(RegisterOperation, Reg, Reg, Reg),
     Load(LoadOperation, Reg, Reg),
@@ -33,7 +33,7 @@ pub(crate) enum Short {
 }
 
 /// What a statement says, or where it is kept whole.
-#[derive(Clone, Copy, Debug, Drop)]
+#[derive(Clone, Copy, Drop)]
 pub(crate) enum Words {
     Plain(Short),
     /// A numeric label: how many digits it has, and where in the source they begin.
@@ -43,7 +43,7 @@ pub(crate) enum Words {
 }
 
 /// What a statement says, with its line.
-#[derive(Clone, Copy, Debug, Drop)]
+#[derive(Clone, Copy, Drop)]
 pub(crate) struct Record {
     pub(crate) words: Words,
     pub(crate) line: u32,

@@ -18,7 +18,7 @@ use rv_statement_laws::{
 pub const MOST_STATEMENTS: usize = 1 << 22;
 
 /// An instruction without an expression.
-#[derive(Clone, Copy, Debug, PartialEq, Eq, Drop)]
+#[derive(Clone, Copy, Drop)]
 pub enum Plain {
     /// `add rd, rs1, rs2`
     Registers(RegisterOperation, Reg, Reg, Reg),
@@ -54,7 +54,7 @@ pub enum Plain {
 }
 
 /// A mnemonic with its registers, and an expression among them.
-#[derive(Clone, Copy, Debug, PartialEq, Eq, Drop)]
+#[derive(Clone, Copy, Drop)]
 pub enum Operation {
     /// `add rd, rs1, ..`
     Registers(RegisterOperation, Reg, Reg),
@@ -109,7 +109,7 @@ pub enum Operation {
 }
 
 /// What `.section` says.
-#[derive(Debug, Drop)]
+#[derive(Drop)]
 pub struct Opening<'a> {
     pub name: &'a [u8],
     /// The flags' letters, as they stand between the quotes.
@@ -119,14 +119,14 @@ pub struct Opening<'a> {
 }
 
 /// What `.set` says.
-#[derive(Debug, Drop)]
+#[derive(Drop)]
 pub struct Setting<'a> {
     pub name: &'a [u8],
     pub expression: Expr<'a>,
 }
 
 /// What a statement says.
-#[derive(Debug, Drop)]
+#[derive(Drop)]
 pub enum StatementKind<'a> {
     /// A label.
     Label(&'a [u8]),
@@ -167,7 +167,7 @@ pub enum StatementKind<'a> {
 }
 
 /// A statement, with the line of its first byte, from 1. Its ordinal is its place in the source's list, from 1.
-#[derive(Debug, Drop)]
+#[derive(Drop)]
 pub struct Statement<'a> {
     pub kind: StatementKind<'a>,
     pub line: u32,

@@ -14,7 +14,7 @@ use crate::statement::{Statement, StatementKind};
 use std::alloc::{AllocError, Global};
 
 /// The statements of a source, in its order.
-#[derive(Debug, Drop)]
+#[derive(Drop)]
 pub struct Statements<'a> {
     pub(crate) source: &'a [u8],
     pub(crate) records: Vec<Record>,

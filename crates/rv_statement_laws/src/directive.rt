@@ -3,7 +3,7 @@
 //! Source: GNU as, "Pseudo Ops" and "RISC-V-Directives".
 
 /// The sections that have a directive of their own.
-#[derive(Clone, Copy, Debug, PartialEq, Eq, Drop)]
+#[derive(Clone, Copy, Drop)]
 pub enum Standard {
     /// `.text`
     Text,
@@ -16,7 +16,7 @@ pub enum Standard {
 }
 
 /// Which files can mean a name (gABI, "Symbol Table", st_info).
-#[derive(Clone, Copy, Debug, PartialEq, Eq, Drop)]
+#[derive(Clone, Copy, PartialEq, Eq, Drop)]
 pub enum Binding {
     /// `.local`, or nothing: the name is its file's own.
     Local,
@@ -27,7 +27,7 @@ pub enum Binding {
 }
 
 /// What `.option` says.
-#[derive(Clone, Copy, Debug, PartialEq, Eq, Drop)]
+#[derive(Clone, Copy, Drop)]
 pub enum Choice {
     Rvc,
     Norvc,
@@ -39,7 +39,7 @@ pub enum Choice {
 }
 
 /// The bytes of a value in data.
-#[derive(Clone, Copy, Debug, PartialEq, Eq, Drop)]
+#[derive(Clone, Copy, Drop)]
 pub enum Width {
     /// `.byte`: 1
     Byte,
@@ -52,7 +52,7 @@ pub enum Width {
 }
 
 /// What the word of a directive says.
-#[derive(Clone, Copy, Debug, PartialEq, Eq, Drop)]
+#[derive(Clone, Copy, Drop)]
 pub enum DirectiveWord {
     /// `.text`, `.data`, `.rodata` and `.bss`
     Enters(Standard),

@@ -12,7 +12,7 @@ use rv_isa::{
 use rv_parcel::ParcelOperation;
 
 /// A mnemonic: of a base instruction, of a pseudo-instruction, of a parcel.
-#[derive(Clone, Copy, Debug, PartialEq, Eq, Drop)]
+#[derive(Clone, Copy, Drop)]
 pub enum Mnemonic {
     Registers(RegisterOperation),
     Immediate(ImmediateOperation),

@@ -3,7 +3,7 @@
 //! Source: RISC-V Assembly Programmer's Manual, "pseudoinstructions"; GNU as, "RISC-V-Modifiers".
 
 /// `rd, rs`: an operation on one register.
-#[derive(Clone, Copy, Debug, PartialEq, Eq, Drop)]
+#[derive(Clone, Copy, Drop)]
 pub enum UnaryOperation {
     Mv,
     Not,
@@ -22,14 +22,14 @@ pub enum UnaryOperation {
 }
 
 /// `rd, rs1, rs2`: a comparison with its sources swapped.
-#[derive(Clone, Copy, Debug, PartialEq, Eq, Drop)]
+#[derive(Clone, Copy, Drop)]
 pub enum CompareOperation {
     Sgt,
     Sgtu,
 }
 
 /// `rs, target`: a branch where a register compares so with zero.
-#[derive(Clone, Copy, Debug, PartialEq, Eq, Drop)]
+#[derive(Clone, Copy, Drop)]
 pub enum ZeroBranchOperation {
     Beqz,
     Bnez,
@@ -40,7 +40,7 @@ pub enum ZeroBranchOperation {
 }
 
 /// `rs1, rs2, target`: a branch with its sources swapped.
-#[derive(Clone, Copy, Debug, PartialEq, Eq, Drop)]
+#[derive(Clone, Copy, Drop)]
 pub enum SwappedBranchOperation {
     Bgt,
     Ble,
@@ -49,7 +49,7 @@ pub enum SwappedBranchOperation {
 }
 
 /// The function of a value: which part of an address, or of the distance to one, it gives.
-#[derive(Clone, Copy, Debug, PartialEq, Eq, Drop)]
+#[derive(Clone, Copy, Drop)]
 pub enum Function {
     /// `%hi`
     Hi,

@@ -3,7 +3,7 @@
 use rv_expression::Symbol;
 
 /// A symbol as a relocation of a loaded section names it.
-#[derive(Clone, Copy, Debug, PartialEq, Eq, Drop)]
+#[derive(Clone, Copy, Drop)]
 pub struct SymbolUse<'a> {
     /// The ordinal of the statement that names it, from 1.
     pub ordinal: u32,

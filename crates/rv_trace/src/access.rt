@@ -10,7 +10,7 @@ use rv_isa::{AtomicOperation, BranchOperation, Format, Inst, LoadOperation, Reg,
 use rv_machine::Event;
 
 /// What an instruction does with memory.
-#[derive(Clone, Copy, PartialEq, Eq, Drop)]
+#[derive(Clone, Copy, Drop)]
 pub(crate) enum AccessKind {
     Load,
     Store,

@@ -3,7 +3,7 @@
 use rv_machine::End;
 
 /// How a watched run ended.
-#[derive(Clone, Copy, Debug, PartialEq, Eq, Drop)]
+#[derive(Clone, Copy, Drop)]
 pub enum Ending {
     /// As the machine ends runs.
     By(End),

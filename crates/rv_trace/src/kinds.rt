@@ -7,7 +7,7 @@ ghost use Rattle.rv_trace.specs.Kinds.{instruction_kind, no_kinds, with_kind};
 use rv_isa::{Format, Inst};
 
 /// What an instruction is for.
-#[derive(Clone, Copy, Debug, PartialEq, Eq, Drop)]
+#[derive(Clone, Copy, Drop)]
 pub(crate) enum InstructionKind {
     Arithmetic,
     Load,

@@ -4,7 +4,7 @@ ghost use Rattle.std.specs.Prelude.{◌≡◌};
 ghost use Rattle.rv_unit.specs.Options.{options_of};
 
 /// Which options are on: `rvc`, instructions may be compressed, and `relax`, the linker may relax them.
-#[derive(Clone, Copy, Debug, PartialEq, Eq, Drop)]
+#[derive(Clone, Copy, Drop)]
 pub enum Options {
     Neither,
     Rvc,

@@ -14,7 +14,7 @@ use rv_statement_laws::Standard;
 use rv_unit_laws::SectionType;
 
 /// A section with its flags.
-#[derive(Clone, Copy, Debug, PartialEq, Eq, Drop)]
+#[derive(Clone, Copy, PartialEq, Eq, Drop)]
 pub struct Section<'a> {
     pub name: &'a [u8],
     /// It has memory in the program: the flag `a`.
@@ -27,7 +27,7 @@ pub struct Section<'a> {
 }
 
 /// A section as a source fills it.
-#[derive(Clone, Copy, Debug, PartialEq, Eq, Drop)]
+#[derive(Clone, Copy, Drop)]
 pub struct Extent<'a> {
     pub section: Section<'a>,
     /// The bytes of its data; those of code are not counted.

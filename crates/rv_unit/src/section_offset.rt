@@ -1,7 +1,7 @@
 //! Where statements and names stand.
 
 /// Where a statement stands.
-#[derive(Clone, Copy, Debug, PartialEq, Eq, Drop)]
+#[derive(Clone, Copy, PartialEq, Eq, Drop)]
 pub struct SectionOffset {
     /// The index of its section in the source, from 0.
     pub section: u32,
@@ -10,7 +10,7 @@ pub struct SectionOffset {
 }
 
 /// The definition of a symbol in this source.
-#[derive(Clone, Copy, Debug, PartialEq, Eq, Drop)]
+#[derive(Clone, Copy, PartialEq, Eq, Drop)]
 pub struct Definition {
     /// The ordinal of the statement, from 1.
     pub ordinal: u32,

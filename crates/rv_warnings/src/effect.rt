@@ -6,7 +6,7 @@ use rv_parcel::ParcelOperation;
 use rv_statement::{Operation, Plain, StatementKind, UnaryOperation};
 
 /// Where a run goes from a statement.
-#[derive(Clone, Copy, PartialEq, Eq, Drop)]
+#[derive(Clone, Copy, Drop)]
 pub(crate) enum Flow {
     /// To the next one.
     Next,
