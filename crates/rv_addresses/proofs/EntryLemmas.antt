@@ -11,9 +11,9 @@ use Rattle.rv_addresses.proofs.MeantLemmas.{IsKept}
 
 -- by what is kept of the name
 pub start_kept : (starts : Starts) (os : List Object) (x : Meant) (k : IsKept os start_name x)
-    → entry_of starts os ≡ (if can_begin k.export.object x.definition then defined_address (starts (x.file + 1)) k.export.object x.definition else None)
+    → entry_of starts os ≡ (if can_begin k.export.object x.definition then defined_address (starts (x.file.0 + 1)) k.export.object x.definition else None)
 start_kept starts os x k =
     let e = k.export in
     ap (option_and_then (run_start starts)) k.found
     ∙ ap (λ n. if can_begin e.object e.symbol.definition then defined_address (starts n) e.object e.symbol.definition else None) (sym k.file)
-    ∙ ap (λ (y : Meant). if can_begin e.object y.definition then defined_address (starts (x.file + 1)) e.object y.definition else None) k.same
+    ∙ ap (λ (y : Meant). if can_begin e.object y.definition then defined_address (starts (x.file.0 + 1)) e.object y.definition else None) k.same

@@ -19,7 +19,7 @@ use Rattle.rv_link_laws.proofs.ShownLemmas.{every, outer_some, outer_none}
 -- ---- places
 
 abbrev pub kept_place : Meant → Option Place
-kept_place x = place_in (x.file + 1) x.definition
+kept_place x = place_in (x.file.0 + 1) x.definition
 
 pub place_meant : (os : List Object) (file : ℕ) (s : Symbol) → option_and_then kept_place (meant_by os file s) ≡ symbol_place os (file + 1) s
 place_meant os file s = by (is_sure s)
@@ -28,7 +28,7 @@ place_meant os file s = by (is_sure s)
     go None is = refl
     go (Some e) is = ap (λ n. place_in n e.symbol.definition) (chosen_held os s.name e is).counted
 
-    by : (b : Bool) → option_and_then kept_place (if b then Some (record { file = file; definition = s.definition }) else option_map meant_of (chosen os s.name))
+    by : (b : Bool) → option_and_then kept_place (if b then Some (record { file = record { 0 = file }; definition = s.definition }) else option_map meant_of (chosen os s.name))
         ≡ (if b then place_in (file + 1) s.definition else shared_place os s.name)
     by true = refl
     by false = go (chosen os s.name) refl
@@ -40,8 +40,8 @@ pub record IsKept (os : List Object) (name : List ℕ) (x : Meant) : Type 0 wher
   pub export : Export
   pub found : chosen os name ≡ Some export
   pub same : meant_of export ≡ x
-  pub file : x.file + 1 ≡ export.file
-  pub at : slice_get os x.file ≡ Some export.object
+  pub file : x.file.0 + 1 ≡ export.file
+  pub at : slice_get os x.file.0 ≡ Some export.object
 
 pub kept_held : (os : List Object) (name : List ℕ) (x : Meant) → option_map meant_of (chosen os name) ≡ Some x → IsKept os name x
 kept_held os name x is = by (chosen os name) refl is
@@ -55,29 +55,29 @@ kept_held os name x is = by (chosen os name) refl is
           export = e;
           found = f;
           same = same;
-          file = ap (λ (y : Meant). y.file + 1) (sym same) ∙ held.counted;
-          at = ap (λ (y : Meant). slice_get os y.file) (sym same) ∙ held.object;
+          file = ap (λ (y : Meant). y.file.0 + 1) (sym same) ∙ held.counted;
+          at = ap (λ (y : Meant). slice_get os y.file.0) (sym same) ∙ held.object;
         }
 
 module _ (os : List Object) (file : ℕ) (o : Object) (s : Symbol) where
   -- a definition that a symbol means is that of an object, and gives its address
   pub record IsMeant (x : Meant) : Type 0 where
     pub holder : Object
-    pub at : slice_get os x.file ≡ Some holder
+    pub at : slice_get os x.file.0 ≡ Some holder
     pub resolved : is_resolved os o s ≡ has_address holder x.definition
-    pub address : (starts : Starts) (m : Map) → symbol_address (outer_address os (every starts os m)) (starts (file + 1)) o s ≡ defined_address (starts (x.file + 1)) holder x.definition
+    pub address : (starts : Starts) (m : Map) → symbol_address (outer_address os (every starts os m)) (starts (file + 1)) o s ≡ defined_address (starts (x.file.0 + 1)) holder x.definition
 
   module _ (at : slice_get os file ≡ Some o) (x : Meant) where
-    own : is_sure s ≡ true → Some (record { file = file; definition = s.definition }) ≡ Some x → IsMeant x
+    own : is_sure s ≡ true → Some (record { file = record { 0 = file }; definition = s.definition }) ≡ Some x → IsMeant x
     own sure is =
-        let same : record { file = file; definition = s.definition } ≡ x = cc in
+        let same : record { file = record { 0 = file }; definition = s.definition } ≡ x = cc in
         record {
           holder = o;
-          at = ap (λ (y : Meant). slice_get os y.file) (sym same) ∙ at;
+          at = ap (λ (y : Meant). slice_get os y.file.0) (sym same) ∙ at;
           resolved = ap (λ b. if b then has_address o s.definition else is_known s (chosen os s.name)) sure ∙ ap (λ (y : Meant). has_address o y.definition) same;
           address = λ starts m.
               ap (λ b. if b then defined_address (starts (file + 1)) o s.definition else outer_address os (every starts os m) s) sure
-              ∙ ap (λ (y : Meant). defined_address (starts (y.file + 1)) o y.definition) same;
+              ∙ ap (λ (y : Meant). defined_address (starts (y.file.0 + 1)) o y.definition) same;
         }
 
     others : is_sure s ≡ false → IsKept os s.name x → IsMeant x
@@ -91,13 +91,13 @@ module _ (os : List Object) (file : ℕ) (o : Object) (s : Symbol) where
               ap (λ b. if b then defined_address (starts (file + 1)) o s.definition else outer_address os (every starts os m) s) unsure
               ∙ outer_some starts os m s e k.found
               ∙ ap (λ n. defined_address (starts n) e.object e.symbol.definition) (sym k.file)
-              ∙ ap (λ (y : Meant). defined_address (starts (x.file + 1)) e.object y.definition) k.same;
+              ∙ ap (λ (y : Meant). defined_address (starts (x.file.0 + 1)) e.object y.definition) k.same;
         }
 
     pub is_meant : meant_by os file s ≡ Some x → IsMeant x
     is_meant is = by (is_sure s) refl is
       where
-        by : (b : Bool) → is_sure s ≡ b → (if b then Some (record { file = file; definition = s.definition }) else option_map meant_of (chosen os s.name)) ≡ Some x → IsMeant x
+        by : (b : Bool) → is_sure s ≡ b → (if b then Some (record { file = record { 0 = file }; definition = s.definition }) else option_map meant_of (chosen os s.name)) ≡ Some x → IsMeant x
         by true sure h = own sure h
         by false unsure h = others unsure (kept_held os s.name x h)
 
@@ -105,7 +105,7 @@ module _ (os : List Object) (file : ℕ) (o : Object) (s : Symbol) where
   unsure : meant_by os file s ≡ None → (is_sure s ≡ false) × (chosen os s.name ≡ None)
   unsure is = by (is_sure s) refl is
     where
-      by : (b : Bool) → is_sure s ≡ b → (if b then Some (record { file = file; definition = s.definition }) else option_map meant_of (chosen os s.name)) ≡ None → (is_sure s ≡ false) × (chosen os s.name ≡ None)
+      by : (b : Bool) → is_sure s ≡ b → (if b then Some (record { file = record { 0 = file }; definition = s.definition }) else option_map meant_of (chosen os s.name)) ≡ None → (is_sure s ≡ false) × (chosen os s.name ≡ None)
       by true sure h = absurd (cc)
       by false not_sure h = (not_sure, option_map_none meant_of (chosen os s.name) h)
 

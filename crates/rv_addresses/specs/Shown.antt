@@ -37,4 +37,4 @@ listed (Some p) = global p.0.now p.1 ∷ []
 -- whether a table names the symbol at an index of a file
 abbrev pub is_kept : (file index : ℕ) → Option Exported → Bool
 is_kept file index None = false
-is_kept file index (Some x) = (x.file == file) && (x.symbol == index)
+is_kept file index (Some x) = (x.file.0 == file) && (x.symbol.0 == index)

@@ -16,23 +16,27 @@ ghost use Rattle.rv_placement.specs.Placement.{starts_of, IsPlacement, layout_of
 
 use crate::resolution::{Resolution, can_begin, symbol_at};
 use rv_names::is_weak;
-use rv_object_types::{Binding, Definition};
+use rv_object_types::{Binding, Definition, FileIndex, Place, SectionIndex, SymbolIndex};
 use rv_placement::Placement;
 use rv_shorten::ShortObject;
 
 impl Resolution<'_, '_, '_, '_> {
     ghost use Rattle.rv_addresses.specs.Resolution.{all};
 
-    /// What the symbol at an index of a file means, both from 0: its address; none where it has none, or there is no
-    /// symbol.
-    pub fn address(&self, placement: &Placement<'_>, file: usize, index: u32) -> Option<u64>
+    /// What the symbol at an index of a file means: its address; none where it has none, or there is no symbol.
+    pub fn address(
+        &self,
+        placement: &Placement<'_>,
+        file: FileIndex,
+        index: SymbolIndex,
+    ) -> Option<u64>
         ensures { (start : ℕ) (o : SaidObject) → IsPlacement (all self.now) start placement.now
-            → slice_get (all self.now) file ≡ Some o → result ≡ option_and_then
+            → slice_get (all self.now) file.0 ≡ Some o → result ≡ option_and_then
             (laws.symbol_address (outer_in (all self.now) (layout_of placement.now))
-            (starts_of placement.now (file + 1)) o)
-            (slice_get o.symbols index) }
+            (starts_of placement.now (file.0 + 1)) o)
+            (slice_get o.symbols index.0) }
     {
-        let (symbol, definition) = symbol_at(self.objects, file, index as usize)?;
+        let (symbol, definition) = symbol_at(self.objects, file, index)?;
         match self.meant(file, index, symbol.binding, definition) {
             Some(meant) => defined_address(self.objects, placement, meant.file, meant.definition),
             None => undefined_address(placement, symbol.binding, symbol.name),
@@ -61,18 +65,26 @@ impl Resolution<'_, '_, '_, '_> {
 pub(crate) fn defined_address(
     objects: &[ShortObject<'_, '_>],
     placement: &Placement<'_>,
-    file: usize,
+    file: FileIndex,
     definition: Definition,
 ) -> Option<u64>
     ensures { (start : ℕ) (o : SaidObject)
         → IsPlacement (map short_object_of objects.now) start placement.now
-        → slice_get (map short_object_of objects.now) file ≡ Some o
-        → result ≡ laws.defined_address (starts_of placement.now (file + 1)) o definition }
+        → slice_get (map short_object_of objects.now) file.0 ≡ Some o
+        → result ≡ laws.defined_address (starts_of placement.now (file.0 + 1)) o definition }
 {
     match definition {
         Definition::Undefined => None,
         Definition::Absolute(number) => Some(number),
-        Definition::InSection(section, offset) => placement.address(objects, file, section, offset),
+        Definition::InSection(section, offset) => {
+            let section = SectionIndex(section as usize);
+            let place = Place {
+                file,
+                section,
+                offset,
+            };
+            placement.address(objects, place)
+        }
         Definition::Skipped(_) => None,
     }
 }

@@ -23,7 +23,7 @@ use crate::addresses::{defined_address, global_pointer};
 use crate::resolution::Resolution;
 use rv_map::Global;
 use rv_names::is_defined;
-use rv_object_types::{Binding, Symbol};
+use rv_object_types::{Binding, FileIndex, Symbol, SymbolIndex};
 use rv_placement::Placement;
 use rv_shorten::ShortObject;
 use std::alloc::{AllocError, Global as Allocator};
@@ -45,7 +45,13 @@ impl<'n> Resolution<'_, '_, 'n, '_> {
     {
         let mut globals = Vec::new(alloc);
         for file in 0..self.objects.len() {
-            self.put_globals(alloc, &mut globals, placement, file, &self.objects[file])?;
+            self.put_globals(
+                alloc,
+                &mut globals,
+                placement,
+                FileIndex(file),
+                &self.objects[file],
+            )?;
         }
         self.put_linker_symbols(alloc, &mut globals, placement)?;
         Ok(globals)
@@ -107,41 +113,41 @@ impl<'n> Resolution<'_, '_, 'n, '_> {
         alloc: Allocator,
         globals: &mut Vec<Global>,
         placement: &Placement<'_>,
-        file: usize,
+        file: FileIndex,
         object: &ShortObject<'_, '_>,
     ) -> Result<(), AllocError>
         ensures known { OnOk result (All (λ g. IsGlobal (global_of g)) globals.old.items
             → All (λ g. IsGlobal (global_of g)) globals.new.items) }
         ensures added { OnOk result ((start : ℕ)
             → IsPlacement (all self.now) start placement.now
-            → slice_get (all self.now) file ≡ Some (short_object_of object.now)
+            → slice_get (all self.now) file.0 ≡ Some (short_object_of object.now)
             → map global_of globals.new.items ≡ map global_of globals.old.items
-            ++ shown_in (all self.now) placement.now file
+            ++ shown_in (all self.now) placement.now file.0
             (short_object_of object.now) 0 (short_object_of object.now).symbols) }
     {
         for index in 0..object.whole.symbols.len() {
-            self.put_global(alloc, globals, placement, file, index)?;
+            self.put_global(alloc, globals, placement, file, SymbolIndex(index))?;
         }
         Ok(())
     }
 
-    /// Adds the symbol at an index of a file, both from 0, if its name means it and it has an address.
+    /// Adds the symbol at an index of a file, if its name means it and it has an address.
     fn put_global(
         &self,
         alloc: Allocator,
         globals: &mut Vec<Global>,
         placement: &Placement<'_>,
-        file: usize,
-        index: usize,
+        file: FileIndex,
+        index: SymbolIndex,
     ) -> Result<(), AllocError>
         ensures known { OnOk result (All (λ g. IsGlobal (global_of g)) globals.old.items
             → All (λ g. IsGlobal (global_of g)) globals.new.items) }
         ensures added { OnOk result ((start : ℕ) (o : SaidObject) (s : SaidSymbol)
             → IsPlacement (all self.now) start placement.now
-            → slice_get (all self.now) file ≡ Some o
-            → slice_get o.symbols index ≡ Some s
+            → slice_get (all self.now) file.0 ≡ Some o
+            → slice_get o.symbols index.0 ≡ Some s
             → map global_of globals.new.items ≡ map global_of globals.old.items
-            ++ shown_in (all self.now) placement.now file o index (s ∷ [])) }
+            ++ shown_in (all self.now) placement.now file.0 o index.0 (s ∷ [])) }
     {
         match self.shown_at(placement, file, index) {
             Some((name, address)) => {
@@ -153,23 +159,23 @@ impl<'n> Resolution<'_, '_, 'n, '_> {
         }
     }
 
-    /// The name and the address of the symbol at an index of a file, both from 0, if its name means it and it has an address.
+    /// The name and the address of the symbol at an index of a file, if its name means it and it has an address.
     fn shown_at(
         &self,
         placement: &Placement<'_>,
-        file: usize,
-        index: usize,
+        file: FileIndex,
+        index: SymbolIndex,
     ) -> Option<(&'n [u8], u64)>
         ensures named { IfSome result (λ p. IsTrue (is_name p.0.now)) }
         ensures fits { IfSome result (λ p. p.1 < 2 ^ 64) }
         ensures shown { (start : ℕ) (o : SaidObject) (s : SaidSymbol)
             → IsPlacement (all self.now) start placement.now
-            → slice_get (all self.now) file ≡ Some o
-            → slice_get o.symbols index ≡ Some s → listed result
-            ≡ shown_in (all self.now) placement.now file o index (s ∷ []) }
+            → slice_get (all self.now) file.0 ≡ Some o
+            → slice_get o.symbols index.0 ≡ Some s → listed result
+            ≡ shown_in (all self.now) placement.now file.0 o index.0 (s ∷ []) }
     {
-        let object = self.objects.get(file)?;
-        let symbol = object.whole.symbols.get(index)?;
+        let object = self.objects.get(file.0)?;
+        let symbol = object.whole.symbols.get(index.0)?;
         if !self.is_chosen(file, index, symbol) {
             return None;
         }
@@ -178,14 +184,14 @@ impl<'n> Resolution<'_, '_, 'n, '_> {
         Some((symbol.name, address))
     }
 
-    /// Whether the symbol at an index of a file, both from 0, is a definition that its name means. A global one is, as no name
-    /// has two.
-    fn is_chosen(&self, file: usize, index: usize, symbol: &Symbol<'_>) -> bool
+    /// Whether the symbol at an index of a file is a definition that its name means. A global one is, as no name has two.
+    fn is_chosen(&self, file: FileIndex, index: SymbolIndex, symbol: &Symbol<'_>) -> bool
         ensures shared { IsTrue result → IsTrue (bindings.is_shared (symbol.now).binding) }
         ensures chosen { (o : SaidObject) (cuts : List (List Move))
-            → slice_get (all self.now) file ≡ Some o
-            → slice_get o.symbols index ≡ Some (cut_symbol cuts (symbol_of symbol.now)) → result
-            ≡ is_chosen_at (all self.now) file o index (cut_symbol cuts (symbol_of symbol.now)) }
+            → slice_get (all self.now) file.0 ≡ Some o
+            → slice_get o.symbols index.0 ≡ Some (cut_symbol cuts (symbol_of symbol.now))
+            → result ≡ is_chosen_at (all self.now) file.0 o index.0
+            (cut_symbol cuts (symbol_of symbol.now)) }
     {
         match symbol.binding {
             Binding::Local => false,
@@ -196,10 +202,10 @@ impl<'n> Resolution<'_, '_, 'n, '_> {
         }
     }
 
-    /// Whether a name means the symbol at an index of a file, both from 0.
-    fn is_named(&self, file: usize, index: usize, name: &[u8]) -> bool
+    /// Whether a name means the symbol at an index of a file.
+    fn is_named(&self, file: FileIndex, index: SymbolIndex, name: &[u8]) -> bool
         ensures { result
-            ≡ is_kept file index (option_map exported_of (definer (all self.now) name.now)) }
+            ≡ is_kept file.0 index.0 (option_map exported_of (definer (all self.now) name.now)) }
     {
         match self.names.named(name) {
             Some(exported) => exported.file == file && exported.symbol == index,

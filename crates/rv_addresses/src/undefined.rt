@@ -20,7 +20,7 @@ ghost use Rattle.rv_shorten.specs.View.{short_object_of};
 
 use crate::resolution::Resolution;
 use rv_names::{is_sure, is_weak};
-use rv_object_types::{Definition, Relocation, Symbol};
+use rv_object_types::{Definition, FileIndex, Relocation, SectionIndex, Symbol, SymbolIndex};
 use rv_shorten::ShortObject;
 
 impl<'n> Resolution<'_, '_, 'n, '_> {
@@ -37,7 +37,7 @@ impl<'n> Resolution<'_, '_, 'n, '_> {
             (outer_address (all self.now) m.globals)) }
     {
         for file in 0..self.objects.len() {
-            match self.undefined_in(file, &self.objects[file]) {
+            match self.undefined_in(FileIndex(file), &self.objects[file]) {
                 Some(name) => return Some(name),
                 None => (),
             }
@@ -46,8 +46,8 @@ impl<'n> Resolution<'_, '_, 'n, '_> {
     }
 
     /// The first in an object.
-    fn undefined_in(&self, file: usize, object: &ShortObject<'_, 'n>) -> Option<&'n [u8]>
-        ensures { slice_get (all self.now) file ≡ Some (short_object_of object.now)
+    fn undefined_in(&self, file: FileIndex, object: &ShortObject<'_, 'n>) -> Option<&'n [u8]>
+        ensures { slice_get (all self.now) file.0 ≡ Some (short_object_of object.now)
             → option_map name_bytes result
             ≡ laws.first_some
             (laws.undefined_in (all self.now) (short_object_of object.now))
@@ -69,11 +69,11 @@ impl<'n> Resolution<'_, '_, 'n, '_> {
     /// The first of relocations of an object.
     fn undefined_among(
         &self,
-        file: usize,
+        file: FileIndex,
         object: &ShortObject<'_, 'n>,
         relocations: &[Relocation],
     ) -> Option<&'n [u8]>
-        ensures { slice_get (all self.now) file ≡ Some (short_object_of object.now)
+        ensures { slice_get (all self.now) file.0 ≡ Some (short_object_of object.now)
             → option_map name_bytes result
             ≡ laws.first_some
             (λ r. laws.undefined_name (all self.now)
@@ -92,17 +92,18 @@ impl<'n> Resolution<'_, '_, 'n, '_> {
     /// The name of a relocation's symbol, if that has no address.
     fn undefined_name(
         &self,
-        file: usize,
+        file: FileIndex,
         object: &ShortObject<'_, 'n>,
         relocation: &Relocation,
     ) -> Option<&'n [u8]>
-        ensures { slice_get (all self.now) file ≡ Some (short_object_of object.now)
+        ensures { slice_get (all self.now) file.0 ≡ Some (short_object_of object.now)
             → option_map name_bytes result
             ≡ laws.undefined_name (all self.now) (short_object_of object.now)
             (relocation.now).symbol }
     {
         let index = relocation.symbol?;
-        match object.whole.symbols.get(index as usize) {
+        let index = SymbolIndex(index as usize);
+        match object.whole.symbols.get(index.0) {
             Some(symbol) => {
                 if self.is_resolved(file, index, symbol) {
                     None
@@ -115,10 +116,10 @@ impl<'n> Resolution<'_, '_, 'n, '_> {
     }
 
     /// Whether the symbol at an index of an object has an address, wherever sections stand and whatever is cut of them.
-    fn is_resolved(&self, file: usize, index: u32, symbol: &Symbol<'_>) -> bool
+    fn is_resolved(&self, file: FileIndex, index: SymbolIndex, symbol: &Symbol<'_>) -> bool
         ensures { (o : SaidObject) (cuts : List (List Move))
-            → slice_get (all self.now) file ≡ Some o
-            → slice_get o.symbols index ≡ Some (cut_symbol cuts (symbol_of symbol.now))
+            → slice_get (all self.now) file.0 ≡ Some o
+            → slice_get o.symbols index.0 ≡ Some (cut_symbol cuts (symbol_of symbol.now))
             → result ≡ laws.is_resolved (all self.now) o
             (cut_symbol cuts (symbol_of symbol.now)) }
     {
@@ -129,10 +130,10 @@ impl<'n> Resolution<'_, '_, 'n, '_> {
     }
 
     /// Whether the symbol at an index of an object, which does not surely define it, means what has an address.
-    fn is_known(&self, file: usize, index: u32, symbol: &Symbol<'_>) -> bool
+    fn is_known(&self, file: FileIndex, index: SymbolIndex, symbol: &Symbol<'_>) -> bool
         ensures { (o : SaidObject) (s : SaidSymbol)
-            → slice_get (all self.now) file ≡ Some o
-            → slice_get o.symbols index ≡ Some s → means_own s ≡ false
+            → slice_get (all self.now) file.0 ≡ Some o
+            → slice_get o.symbols index.0 ≡ Some s → means_own s ≡ false
             → s.name ≡ (symbol_of symbol.now).name → s.binding ≡ (symbol_of symbol.now).binding
             → result ≡ laws.is_known s (chosen (all self.now) s.name) }
     {
@@ -144,25 +145,27 @@ impl<'n> Resolution<'_, '_, 'n, '_> {
 }
 
 /// Whether a definition of a file has an address, wherever sections stand.
-fn has_address(objects: &[ShortObject<'_, '_>], file: usize, definition: Definition) -> bool
-    ensures { (o : SaidObject) → slice_get (map short_object_of objects.now) file ≡ Some o
+fn has_address(objects: &[ShortObject<'_, '_>], file: FileIndex, definition: Definition) -> bool
+    ensures { (o : SaidObject) → slice_get (map short_object_of objects.now) file.0 ≡ Some o
         → result ≡ laws.has_address o definition }
 {
     match definition {
         Definition::Undefined => false,
         Definition::Absolute(_) => true,
-        Definition::InSection(section, _) => is_loaded(objects, file, section),
+        Definition::InSection(section, _) => {
+            is_loaded(objects, file, SectionIndex(section as usize))
+        }
         Definition::Skipped(_) => false,
     }
 }
 
 /// Whether a section of a file has a place in memory.
-fn is_loaded(objects: &[ShortObject<'_, '_>], file: usize, section: u32) -> bool
-    ensures { (o : SaidObject) → slice_get (map short_object_of objects.now) file ≡ Some o
-        → result ≡ laws.is_loaded_at (slice_get o.sections section) }
+fn is_loaded(objects: &[ShortObject<'_, '_>], file: FileIndex, section: SectionIndex) -> bool
+    ensures { (o : SaidObject) → slice_get (map short_object_of objects.now) file.0 ≡ Some o
+        → result ≡ laws.is_loaded_at (slice_get o.sections section.0) }
 {
-    match objects.get(file) {
-        Some(object) => match object.sections.get(section as usize) {
+    match objects.get(file.0) {
+        Some(object) => match object.sections.get(section.0) {
             Some(section) => section.whole.loaded,
             None => false,
         },

@@ -5,15 +5,17 @@ use Rattle.rv_map_laws.specs.declared.map.SectionId.{SectionId}
 use Rattle.rv_object_laws.specs.Object.{Object}
 use Rattle.rv_link_laws.specs.Collects.{graph_of, entry_place, lies_in, refers}
 use Rattle.rv_link_laws.specs.Names.{Place}
+use Rattle.rv_object_types.specs.declared.place.FileIndex.{FileIndex}
+use Rattle.rv_object_types.specs.declared.place.SectionIndex.{SectionIndex}
 use Rattle.rv_collect.specs.declared.walk.Walk.{Walk}
 use Rattle.rv_collect.specs.Drops.{id_at}
 use Rattle.rv_collect.specs.Marks.{AreLike, is_marked}
 use Rattle.rv_collect_laws.specs.Graph.{Graph, Has, Marking, is_one_of}
 
 -- the sections of a queue, the last one first, and behind them others
-abbrev pub done_of : List SectionId → List (ℕ × ℕ) → List SectionId
+abbrev pub done_of : List SectionId → List (FileIndex × SectionIndex) → List SectionId
 done_of done [] = done
-done_of done (q ∷ qs) = done_of (id_at q.0 q.1 ∷ done) qs
+done_of done (q ∷ qs) = done_of (id_at q.0.0 q.1.0 ∷ done) qs
 
 abbrev pub queued : Walk → List SectionId
 queued w = done_of [] w.queue.items
@@ -34,7 +36,7 @@ pub data IsReached (os : List Object) (w : Walk) (t : SectionId) : Type 0 where
 
 -- what was marked stays so, and the queue grows at its end
 pub record Grows (before after : Walk) : Type 0 where
-  pub more : List (ℕ × ℕ)
+  pub more : List (FileIndex × SectionIndex)
   pub queue : after.queue.items ≡ before.queue.items ++ more
   pub marks : (s : SectionId) → is_marked before.marks s ≡ true → is_marked after.marks s ≡ true
 

@@ -14,7 +14,7 @@ use crate::marks::Marks;
 use crate::walk::Walk;
 use rv_map_laws::SectionId;
 use rv_names::Names;
-use rv_object_types::{Object, Section};
+use rv_object_types::{FileIndex, Object, Section, SectionIndex};
 use std::alloc::{AllocError, Global};
 
 /// Which sections of objects stay.
@@ -48,8 +48,13 @@ impl Collection {
     {
         let mut drops = Vec::new(alloc);
         for file in 0..objects.len() {
-            let marks = self.marks.of_file(file);
-            put_drops(&mut drops, file, objects[file].sections.as_slice(), marks)?;
+            let marks = self.marks.of_file(FileIndex(file));
+            put_drops(
+                &mut drops,
+                FileIndex(file),
+                objects[file].sections.as_slice(),
+                marks,
+            )?;
         }
         Ok(drops)
     }
@@ -66,7 +71,7 @@ impl Collection {
     {
         let mut left = Vec::with_capacity(alloc, objects.len())?;
         for file in 0..objects.len() {
-            let marks = self.marks.of_file(file);
+            let marks = self.marks.of_file(FileIndex(file));
             let object = left_object(alloc, &objects[file], marks)?;
             left.push(object)?;
         }
@@ -74,39 +79,40 @@ impl Collection {
     }
 }
 
-/// Adds the sections of a file, from 0, that are dropped.
+/// Adds the sections of a file that are dropped.
 fn put_drops(
     drops: &mut Vec<SectionId>,
-    file: usize,
+    file: FileIndex,
     sections: &[Section<'_>],
     marks: &[bool],
 ) -> Result<(), AllocError>
-    requires { file + 1 < 2 ^ 64 }
+    requires { file.0 + 1 < 2 ^ 64 }
     ensures known { OnOk result (All (λ d. IsDrop d) drops.old.items
         → All (λ d. IsDrop d) drops.new.items) }
     ensures dropped { OnOk result (drops.new.items ≡ drops.old.items
-        ++ dropped_from (drops_in (map section_of sections.now) marks.now) file 0
+        ++ dropped_from (drops_in (map section_of sections.now) marks.now) file.0 0
         (map section_of sections.now)) }
 {
     for index in 0..sections.len() {
+        let index = SectionIndex(index);
         put_drop(drops, file, index, is_dropped(sections, marks, index))?;
     }
     Ok(())
 }
 
-/// Adds a section, by its file and its index there, both from 0, if it is dropped.
+/// Adds a section of a file, if it is dropped.
 fn put_drop(
     drops: &mut Vec<SectionId>,
-    file: usize,
-    index: usize,
+    file: FileIndex,
+    index: SectionIndex,
     dropped: bool,
 ) -> Result<(), AllocError>
-    requires file { file + 1 < 2 ^ 64 }
-    requires index { index + 1 < 2 ^ 64 }
+    requires file { file.0 + 1 < 2 ^ 64 }
+    requires index { index.0 + 1 < 2 ^ 64 }
     ensures known { OnOk result (All (λ d. IsDrop d) drops.old.items
         → All (λ d. IsDrop d) drops.new.items) }
     ensures dropped { OnOk result (drops.new.items ≡ drops.old.items
-        ++ (if dropped then id_at file index ∷ [] else [])) }
+        ++ (if dropped then id_at file.0 index.0 ∷ [] else [])) }
 {
     if !dropped {
         return Ok(());
@@ -115,15 +121,15 @@ fn put_drop(
     Ok(())
 }
 
-/// The numbers of a section, by its file and its index there, both from 0.
-fn section_id(file: usize, index: usize) -> SectionId
-    requires file { file + 1 < 2 ^ 64 }
-    requires index { index + 1 < 2 ^ 64 }
+/// The numbers of a section of a file.
+fn section_id(file: FileIndex, index: SectionIndex) -> SectionId
+    requires file { file.0 + 1 < 2 ^ 64 }
+    requires index { index.0 + 1 < 2 ^ 64 }
     ensures known { IsDrop result }
-    ensures numbered { result ≡ id_at file index }
+    ensures numbered { result ≡ id_at file.0 index.0 }
 {
     SectionId {
-        file: file as u64 + 1,
-        section: index as u64 + 1,
+        file: file.0 as u64 + 1,
+        section: index.0 as u64 + 1,
     }
 }

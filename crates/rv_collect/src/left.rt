@@ -11,7 +11,7 @@ ghost use Rattle.rv_link_laws.specs.Without.{without_object, without_section, wi
 ghost use Rattle.rv_collect.specs.Drops.{drops_in};
 
 use crate::marks::mark_in;
-use rv_object_types::{Object, Row, Section, Symbol};
+use rv_object_types::{Object, Row, Section, SectionIndex, Symbol};
 use std::alloc::{AllocError, Global};
 
 /// What is left of an object, with the marks of its sections.
@@ -41,10 +41,10 @@ pub(crate) fn left_object<'o>(
 }
 
 /// Whether the section at an index is dropped: one with an address that isn't marked.
-pub(crate) fn is_dropped(sections: &[Section<'_>], marks: &[bool], index: usize) -> bool
-    ensures { result ≡ drops_in (map section_of sections.now) marks.now index }
+pub(crate) fn is_dropped(sections: &[Section<'_>], marks: &[bool], index: SectionIndex) -> bool
+    ensures { result ≡ drops_in (map section_of sections.now) marks.now index.0 }
 {
-    match sections.get(index) {
+    match sections.get(index.0) {
         Some(section) => section.loaded && !mark_in(marks, index),
         None => false,
     }
@@ -62,7 +62,7 @@ fn left_sections<'o>(
 {
     let mut left = Vec::with_capacity(alloc, sections.len())?;
     for index in 0..sections.len() {
-        let dropped = is_dropped(sections, marks, index);
+        let dropped = is_dropped(sections, marks, SectionIndex(index));
         let section = left_section(alloc, &sections[index], dropped)?;
         left.push(section)?;
     }
@@ -168,7 +168,7 @@ fn put_row(
         ++ (if not (drops_in (map section_of sections.now) marks.now row.section)
         then row ∷ [] else [])) }
 {
-    if is_dropped(sections, marks, row.section as usize) {
+    if is_dropped(sections, marks, SectionIndex(row.section as usize)) {
         return Ok(());
     }
     left.push(row)?;

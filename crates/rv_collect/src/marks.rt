@@ -4,13 +4,13 @@ ghost use Rattle.std.specs.Prelude.{◌≡◌, ◌<◌, ◌||◌, ◌&&◌, ◌=
 ghost use Rattle.rv_object_types.specs.View.{object_of};
 ghost use Rattle.rv_collect.specs.Drops as laws;
 
-use rv_object_types::Object;
+use rv_object_types::{FileIndex, Object, SectionIndex};
 use std::alloc::{AllocError, Global};
 
 /// Which sections are marked.
 #[derive(Drop)]
 pub(crate) struct Marks {
-    /// The mark of each section, by its file and its index there, both from 0.
+    /// The mark of each section, by its file and its index there.
     pub(crate) files: Vec<Vec<bool>>,
 }
 
@@ -31,32 +31,32 @@ impl Marks {
         Ok(Marks { files })
     }
 
-    /// The marks of a file, from 0.
-    pub(crate) fn of_file(&self, file: usize) -> &[bool]
-        ensures { result.now ≡ row_of self.now file }
+    /// The marks of a file.
+    pub(crate) fn of_file(&self, file: FileIndex) -> &[bool]
+        ensures { result.now ≡ row_of self.now file.0 }
     {
-        match self.files.get(file) {
+        match self.files.get(file.0) {
             Some(row) => row.as_slice(),
             None => &[],
         }
     }
 
-    /// Whether a section is marked, by its file and its index there, both from 0.
-    pub(crate) fn at(&self, file: usize, index: usize) -> bool
-        ensures { result ≡ mark_at self.now file index }
+    /// Whether a section of a file is marked.
+    pub(crate) fn at(&self, file: FileIndex, index: SectionIndex) -> bool
+        ensures { result ≡ mark_at self.now file.0 index.0 }
     {
         mark_in(self.of_file(file), index)
     }
 
-    /// Marks a section, by its file and its index there, both from 0.
-    pub(crate) fn put(&mut self, file: usize, index: usize)
-        requires { index < length (row_of self.old file) }
+    /// Marks a section of a file.
+    pub(crate) fn put(&mut self, file: FileIndex, index: SectionIndex)
+        requires { index.0 < length (row_of self.old file.0) }
         ensures marked { (f i : ℕ) → mark_at self.new f i
-            ≡ (f == file) && (i == index) || mark_at self.old f i }
+            ≡ (f == file.0) && (i == index.0) || mark_at self.old f i }
         ensures like { map length (mark_rows self.new) ≡ map length (mark_rows self.old) }
     {
-        let row = &mut self.files[file];
-        row[index] = true;
+        let row = &mut self.files[file.0];
+        row[index.0] = true;
     }
 }
 
@@ -68,10 +68,10 @@ fn unmarked(alloc: Global, count: usize) -> Result<Vec<bool>, AllocError>
 }
 
 /// The mark of a section, by its index in its file.
-pub(crate) fn mark_in(row: &[bool], index: usize) -> bool
-    ensures { result ≡ laws.mark_in row.now index }
+pub(crate) fn mark_in(row: &[bool], index: SectionIndex) -> bool
+    ensures { result ≡ laws.mark_in row.now index.0 }
 {
-    match row.get(index) {
+    match row.get(index.0) {
         Some(mark) => *mark,
         None => false,
     }

@@ -8,9 +8,10 @@ ghost use Rattle.std.specs.List.{slice_get};
 ghost use Rattle.rv_map_laws.specs.declared.map.SectionId.{SectionId};
 ghost use Rattle.rv_object_laws.specs.Object.{Object as SaidObject};
 ghost use Rattle.rv_object_types.specs.Parts.{relocation_of};
+ghost use Rattle.rv_object_types.specs.Places.{place_of};
 ghost use Rattle.rv_object_types.specs.View.{object_of};
 ghost use Rattle.rv_link_laws.specs.Collects.{entry_place, graph_of, lies_in};
-ghost use Rattle.rv_names.specs.Names.{IsNames, place_of};
+ghost use Rattle.rv_names.specs.Names.{IsNames};
 ghost use Rattle.rv_link_laws.specs.Undefined.{is_loaded_at};
 ghost use Rattle.rv_collect.specs.Drops.{id_at};
 ghost use Rattle.rv_collect.specs.Targets.{leads_in, target_in};
@@ -18,7 +19,7 @@ ghost use Rattle.rv_collect_laws.specs.Graph.{Has};
 
 use crate::marks::Marks;
 use rv_names::Names;
-use rv_object_types::{Object, Relocation};
+use rv_object_types::{FileIndex, Object, Place, Relocation, SectionIndex, SymbolIndex};
 use std::alloc::{AllocError, Global};
 
 /// The sections that are marked so far.
@@ -26,8 +27,8 @@ use std::alloc::{AllocError, Global};
 pub(crate) struct Walk {
     /// Which they are.
     pub(crate) marks: Marks,
-    /// Their files and their indices there, both from 0, in the order in which they were marked.
-    pub(crate) queue: Vec<(usize, usize)>,
+    /// Their files and their indices there, in the order in which they were marked.
+    pub(crate) queue: Vec<(FileIndex, SectionIndex)>,
 }
 
 impl Walk {
@@ -88,48 +89,48 @@ impl Walk {
         Ok(())
     }
 
-    /// Marks all to which a marked section refers, by its file and its index there, both from 0.
+    /// Marks all to which a marked section of a file refers.
     fn mark_targets(
         &mut self,
         objects: &[Object<'_>],
         names: &Names<'_>,
-        file: usize,
-        index: usize,
+        file: FileIndex,
+        index: SectionIndex,
     ) -> Result<(), AllocError>
         requires names { IsNames (map object_of objects.now) names.now }
         requires walk { IsWalk (map object_of objects.now) self.old }
-        requires has { Has (graph_of (map object_of objects.now)) (id_at file index) }
-        requires marked { is_marked (self.old).marks (id_at file index) ≡ true }
+        requires has { Has (graph_of (map object_of objects.now)) (id_at file.0 index.0) }
+        requires marked { is_marked (self.old).marks (id_at file.0 index.0) ≡ true }
         ensures walk { OnOk result (IsWalk (map object_of objects.now) self.new) }
         ensures grows { OnOk result (Grows self.old self.new) }
         ensures followed { OnOk result
-            (AreFollowed (map object_of objects.now) self.new (id_at file index)) }
+            (AreFollowed (map object_of objects.now) self.new (id_at file.0 index.0)) }
     {
-        let object = &objects[file];
-        let section = &object.sections[index];
+        let object = &objects[file.0];
+        let section = &object.sections[index.0];
         self.mark_all(objects, names, file, object, section.relocations.as_slice())?;
         Ok(())
     }
 
-    /// Marks the sections where the symbols of relocations of an object stand, which is a file, from 0.
+    /// Marks the sections where the symbols of relocations of an object stand, which is a file.
     fn mark_all(
         &mut self,
         objects: &[Object<'_>],
         names: &Names<'_>,
-        file: usize,
+        file: FileIndex,
         object: &Object<'_>,
         relocations: &[Relocation],
     ) -> Result<(), AllocError>
         requires names { IsNames (map object_of objects.now) names.now }
-        requires object { slice_get (map object_of objects.now) file
+        requires object { slice_get (map object_of objects.now) file.0
             ≡ Some (object_of object.now) }
         requires walk { IsWalk (map object_of objects.now) self.old }
-        requires reached { (t : SectionId) → leads_in (map object_of objects.now) file
+        requires reached { (t : SectionId) → leads_in (map object_of objects.now) file.0
             (object_of object.now) t (map relocation_of relocations.now) ≡ true
             → IsReached (map object_of objects.now) self.old t }
         ensures walk { OnOk result (IsWalk (map object_of objects.now) self.new) }
         ensures grows { OnOk result (Grows self.old self.new) }
-        ensures marked { OnOk result ((t : SectionId) → leads_in (map object_of objects.now) file
+        ensures marked { OnOk result ((t : SectionId) → leads_in (map object_of objects.now) file.0
             (object_of object.now) t (map relocation_of relocations.now) ≡ true
             → IsMarked (map object_of objects.now) self.new t) }
     {
@@ -139,38 +140,34 @@ impl Walk {
         Ok(())
     }
 
-    /// Marks the section where the symbol of a relocation of an object stands, which is a file, from 0.
+    /// Marks the section where the symbol of a relocation of an object stands, which is a file.
     fn mark_target(
         &mut self,
         objects: &[Object<'_>],
         names: &Names<'_>,
-        file: usize,
+        file: FileIndex,
         object: &Object<'_>,
         relocation: &Relocation,
     ) -> Result<(), AllocError>
         requires names { IsNames (map object_of objects.now) names.now }
-        requires object { slice_get (map object_of objects.now) file
+        requires object { slice_get (map object_of objects.now) file.0
             ≡ Some (object_of object.now) }
         requires walk { IsWalk (map object_of objects.now) self.old }
         requires reached { (t : SectionId) → lies_in t
-            (target_in (map object_of objects.now) file (object_of object.now)
+            (target_in (map object_of objects.now) file.0 (object_of object.now)
             (relocation_of relocation.now)) ≡ true
             → IsReached (map object_of objects.now) self.old t }
         ensures walk { OnOk result (IsWalk (map object_of objects.now) self.new) }
         ensures grows { OnOk result (Grows self.old self.new) }
         ensures marked { OnOk result (IsPlaceMarked (map object_of objects.now) self.new
-            (target_in (map object_of objects.now) file (object_of object.now)
+            (target_in (map object_of objects.now) file.0 (object_of object.now)
             (relocation_of relocation.now))) }
     {
         self.mark_place(objects, target(objects, names, file, object, relocation))
     }
 
     /// Marks the section of a place, if there is one.
-    fn mark_place(
-        &mut self,
-        objects: &[Object<'_>],
-        place: Option<(usize, u32, u64)>,
-    ) -> Result<(), AllocError>
+    fn mark_place(&mut self, objects: &[Object<'_>], place: Option<Place>) -> Result<(), AllocError>
         requires walk { IsWalk (map object_of objects.now) self.old }
         requires reached { (t : SectionId) → lies_in t (option_map place_of place) ≡ true
             → IsReached (map object_of objects.now) self.old t }
@@ -179,21 +176,26 @@ impl Walk {
         ensures marked { OnOk result
             (IsPlaceMarked (map object_of objects.now) self.new (option_map place_of place)) }
     {
-        let Some((file, section, _)) = place else {
+        let Some(place) = place else {
             return Ok(());
         };
-        self.mark(objects, file, section as usize)?;
+        self.mark(objects, place.file, place.section)?;
         Ok(())
     }
 
-    /// Marks a section, by its file and its index there, both from 0, if it has an address and isn't marked yet.
-    fn mark(&mut self, objects: &[Object<'_>], file: usize, index: usize) -> Result<(), AllocError>
+    /// Marks a section of a file, if it has an address and isn't marked yet.
+    fn mark(
+        &mut self,
+        objects: &[Object<'_>],
+        file: FileIndex,
+        index: SectionIndex,
+    ) -> Result<(), AllocError>
         requires walk { IsWalk (map object_of objects.now) self.old }
-        requires reached { IsReached (map object_of objects.now) self.old (id_at file index) }
+        requires reached { IsReached (map object_of objects.now) self.old (id_at file.0 index.0) }
         ensures walk { OnOk result (IsWalk (map object_of objects.now) self.new) }
         ensures grows { OnOk result (Grows self.old self.new) }
         ensures marked { OnOk result
-            (IsMarked (map object_of objects.now) self.new (id_at file index)) }
+            (IsMarked (map object_of objects.now) self.new (id_at file.0 index.0)) }
     {
         if !is_loaded(objects, file, index) {
             return Ok(());
@@ -207,33 +209,34 @@ impl Walk {
     }
 }
 
-/// Where the symbol of a relocation of an object stands, which is a file, from 0.
+/// Where the symbol of a relocation of an object stands, which is a file.
 fn target(
     objects: &[Object<'_>],
     names: &Names<'_>,
-    file: usize,
+    file: FileIndex,
     object: &Object<'_>,
     relocation: &Relocation,
-) -> Option<(usize, u32, u64)>
+) -> Option<Place>
     ensures { IsNames (map object_of objects.now) names.now
-        → slice_get (map object_of objects.now) file ≡ Some (object_of object.now)
+        → slice_get (map object_of objects.now) file.0 ≡ Some (object_of object.now)
         → option_map place_of result
-        ≡ target_in (map object_of objects.now) file (object_of object.now)
+        ≡ target_in (map object_of objects.now) file.0 (object_of object.now)
         (relocation_of relocation.now) }
 {
     let index = relocation.symbol?;
-    let symbol = object.symbols.get(index as usize)?;
+    let index = SymbolIndex(index as usize);
+    let symbol = object.symbols.get(index.0)?;
     names.place_of(objects, file, index, symbol.binding, symbol.definition)
 }
 
-/// Whether a section has an address, by its file and its index there, both from 0.
-fn is_loaded(objects: &[Object<'_>], file: usize, index: usize) -> bool
+/// Whether a section of a file has an address.
+fn is_loaded(objects: &[Object<'_>], file: FileIndex, index: SectionIndex) -> bool
     ensures { result ≡ is_loaded_at
-        (option_and_then (λ (o : SaidObject). slice_get o.sections index)
-        (slice_get (map object_of objects.now) file)) }
+        (option_and_then (λ (o : SaidObject). slice_get o.sections index.0)
+        (slice_get (map object_of objects.now) file.0)) }
 {
-    match objects.get(file) {
-        Some(object) => match object.sections.get(index) {
+    match objects.get(file.0) {
+        Some(object) => match object.sections.get(index.0) {
             Some(section) => section.loaded,
             None => false,
         },

@@ -148,11 +148,11 @@ applied_length ms w (r ∷ rs) bytes (one, h) =
 
 -- a section has as many bytes in the program as are left of it
 pub linked_long : (os : List Object) (p : Placement) (x : PlacedInput) → IsPlacedInput os p x
-    → length (linked_in os p (input_at os x.file x.index (short_section_of x.section.now))) ≡ size (starts_of p) (input_at os x.file x.index (short_section_of x.section.now))
+    → length (linked_in os p (input_at os x.file.0 x.index.0 (short_section_of x.section.now))) ≡ size (starts_of p) (input_at os x.file.0 x.index.0 (short_section_of x.section.now))
 linked_long os p x is =
     let s : Section = short_section_of x.section.now in
-    let i : InputSection = input_at os x.file x.index s in
-    let base : ℕ = starts_of p (x.file + 1) x.index in
+    let i : InputSection = input_at os x.file.0 x.index.0 s in
+    let base : ℕ = starts_of p (x.file.0 + 1) x.index.0 in
     let ms : List Move = moves base s in
     let same : moves_of x.placed.now.plan.now ≡ ms = is.planned ∙ ap (λ n. moves n s) (sym is.start) in
     let room : IsTrue (list_all has_room ms) = subst (λ m. IsTrue (list_all has_room m)) same is.room in

@@ -68,11 +68,11 @@ module _ (objects : List ShortObject) (first : ℕ) (p : Placement) (placed : Is
     pub places_there : slice_get p.files.items file ≡ Some qs
     places_there = get_read p.files.items file qs ((counts p.files.items (map short_object_of objects) placed.each file (short_object_of o) object_there qs qs_is).0) qs_is
 
-    pub input_is : (x : PlacedInput) → x.file ≡ file → x.index ≡ index → x.section.now ≡ get_or (get_or objects file o).sections.items index x.section.now → x.placed.now ≡ get_or qs.items index x.placed.now
+    pub input_is : (x : PlacedInput) → x.file.0 ≡ file → x.index.0 ≡ index → x.section.now ≡ get_or (get_or objects file o).sections.items index x.section.now → x.placed.now ≡ get_or qs.items index x.placed.now
         → IsPlacedInput (map short_object_of objects) p x
     input_is x e f s_is q_is =
-        let same_file : file ≡ x.file = sym e in
-        let same_index : index ≡ x.index = sym f in
+        let same_file : file ≡ x.file.0 = sym e in
+        let same_index : index ≡ x.index.0 = sym f in
         let own : x.section.now ≡ get_or o.sections.items index x.section.now = s_is ∙ ap (λ z. get_or z.sections.items index x.section.now) (sym o_is) in
         let s_there : slice_get (map short_section_of o.sections.items) index ≡ Some (short_section_of x.section.now) = get_map_read short_section_of o.sections.items index x.section.now index_low own in
         let stands : object_section (map short_object_of objects) file index ≡ Some (short_section_of x.section.now) = ap (λ z. section_in z index) object_there ∙ s_there in
@@ -82,8 +82,8 @@ module _ (objects : List ShortObject) (first : ℕ) (p : Placement) (placed : Is
         let start : starts_of p (file + 1) index ≡ x.placed.now.start = ap (λ n. start_in (placed_at p n index)) back ∙ ap start_in at in
         let row : are_roomy_in qs.items ≡ true = all_get (λ g. are_roomy_in g.items) p.files.items file qs roomy places_there in
         record {
-          stands = subst (λ n. object_section (map short_object_of objects) n x.index ≡ Some (short_section_of x.section.now)) same_file (subst (λ n. object_section (map short_object_of objects) file n ≡ Some (short_section_of x.section.now)) same_index stands);
-          start = subst (λ n. starts_of p (n + 1) x.index ≡ x.placed.now.start) same_file (subst (λ n. starts_of p (file + 1) n ≡ x.placed.now.start) same_index start);
+          stands = subst (λ n. object_section (map short_object_of objects) n x.index.0 ≡ Some (short_section_of x.section.now)) same_file (subst (λ n. object_section (map short_object_of objects) file n ≡ Some (short_section_of x.section.now)) same_index stands);
+          start = subst (λ n. starts_of p (n + 1) x.index.0 ≡ x.placed.now.start) same_file (subst (λ n. starts_of p (file + 1) n ≡ x.placed.now.start) same_index start);
           planned = placed.planned file index (short_section_of x.section.now) x.placed.now stands at;
           room = all_get (λ q. list_all has_room (moves_of q.plan.now)) qs.items index x.placed.now row q_there;
         }

@@ -26,57 +26,57 @@ use Rattle.rv_link.proofs.GrowingLemmas.{later, grown_first, grown_next, grown_s
 module _ (os : List Object) (p : Placement) (x : PlacedInput) (is : IsPlacedInput os p x) where
   -- a region that a section goes to
   one : (goes : Section → Bool) (region : Region) (out new : List ℕ) → goes (short_section_of x.section.now) ≡ true
-      → IsGrown (linked_in os p) (starts_of p) region (inputs goes os) (left_from os x.file x.index goes) out
-      → new ≡ out ++ (zeros (x.placed.now.start - (region.start + length out)) ++ linked_in os p (input_at os x.file x.index (short_section_of x.section.now)))
-      → IsGrown (linked_in os p) (starts_of p) region (inputs goes os) (left_from os x.file (x.index + 1) goes) new
+      → IsGrown (linked_in os p) (starts_of p) region (inputs goes os) (left_from os x.file.0 x.index.0 goes) out
+      → new ≡ out ++ (zeros (x.placed.now.start - (region.start + length out)) ++ linked_in os p (input_at os x.file.0 x.index.0 (short_section_of x.section.now)))
+      → IsGrown (linked_in os p) (starts_of p) region (inputs goes os) (left_from os x.file.0 (x.index.0 + 1) goes) new
   one goes region out new e grown made =
-      grown_next (linked_in os p) (starts_of p) region (inputs goes os) (left_from os x.file x.index goes) (input_at os x.file x.index (short_section_of x.section.now)) (left_from os x.file (x.index + 1) goes) out new
-      grown (left_takes os x.file x.index (short_section_of x.section.now) goes is.stands e) (linked_long os p x is)
-      (made ∙ ap (λ n. out ++ (zeros (n - (region.start + length out)) ++ linked_in os p (input_at os x.file x.index (short_section_of x.section.now)))) (sym is.start))
+      grown_next (linked_in os p) (starts_of p) region (inputs goes os) (left_from os x.file.0 x.index.0 goes) (input_at os x.file.0 x.index.0 (short_section_of x.section.now)) (left_from os x.file.0 (x.index.0 + 1) goes) out new
+      grown (left_takes os x.file.0 x.index.0 (short_section_of x.section.now) goes is.stands e) (linked_long os p x is)
+      (made ∙ ap (λ n. out ++ (zeros (n - (region.start + length out)) ++ linked_in os p (input_at os x.file.0 x.index.0 (short_section_of x.section.now)))) (sym is.start))
 
   -- and one that it doesn't go to
   other : (goes : Section → Bool) (region : Region) (out : List ℕ) → goes (short_section_of x.section.now) ≡ false
-      → IsGrown (linked_in os p) (starts_of p) region (inputs goes os) (left_from os x.file x.index goes) out
-      → IsGrown (linked_in os p) (starts_of p) region (inputs goes os) (left_from os x.file (x.index + 1) goes) out
+      → IsGrown (linked_in os p) (starts_of p) region (inputs goes os) (left_from os x.file.0 x.index.0 goes) out
+      → IsGrown (linked_in os p) (starts_of p) region (inputs goes os) (left_from os x.file.0 (x.index.0 + 1) goes) out
   other goes region out e grown =
-      grown_same (linked_in os p) (starts_of p) region (inputs goes os) (left_from os x.file x.index goes) (left_from os x.file (x.index + 1) goes) out (left_skips os x.file x.index (short_section_of x.section.now) goes is.stands e) grown
+      grown_same (linked_in os p) (starts_of p) region (inputs goes os) (left_from os x.file.0 x.index.0 goes) (left_from os x.file.0 (x.index.0 + 1) goes) out (left_skips os x.file.0 x.index.0 (short_section_of x.section.now) goes is.stands e) grown
 
-  judged : AreTaken os (layout_of p) (input_at os x.file x.index (short_section_of x.section.now)) → (short_section_of x.section.now).loaded ≡ true
-      → (AllByRecursion (AreTaken os (layout_of p)) (left_from os x.file x.index is_loaded) → AllByRecursion (AreTaken os (layout_of p)) (inputs is_loaded os))
-      → AllByRecursion (AreTaken os (layout_of p)) (left_from os x.file (x.index + 1) is_loaded) → AllByRecursion (AreTaken os (layout_of p)) (inputs is_loaded os)
-  judged here e so h = so (subst (λ l. AllByRecursion (AreTaken os (layout_of p)) l) (sym (left_takes os x.file x.index (short_section_of x.section.now) is_loaded is.stands e)) (here, h))
+  judged : AreTaken os (layout_of p) (input_at os x.file.0 x.index.0 (short_section_of x.section.now)) → (short_section_of x.section.now).loaded ≡ true
+      → (AllByRecursion (AreTaken os (layout_of p)) (left_from os x.file.0 x.index.0 is_loaded) → AllByRecursion (AreTaken os (layout_of p)) (inputs is_loaded os))
+      → AllByRecursion (AreTaken os (layout_of p)) (left_from os x.file.0 (x.index.0 + 1) is_loaded) → AllByRecursion (AreTaken os (layout_of p)) (inputs is_loaded os)
+  judged here e so h = so (subst (λ l. AllByRecursion (AreTaken os (layout_of p)) l) (sym (left_takes os x.file.0 x.index.0 (short_section_of x.section.now) is_loaded is.stands e)) (here, h))
 
   -- the first that fails of those behind it
-  past : AreTaken os (layout_of p) (input_at os x.file x.index (short_section_of x.section.now)) → (short_section_of x.section.now).loaded ≡ true
-      → (fault : LinkFault) → (IsFirstUntaken os (layout_of p) fault (left_from os x.file x.index is_loaded) → IsFirstUntaken os (layout_of p) fault (inputs is_loaded os))
-      → IsFirstUntaken os (layout_of p) fault (left_from os x.file (x.index + 1) is_loaded) → IsFirstUntaken os (layout_of p) fault (inputs is_loaded os)
-  past here e fault so h = so (subst (λ l. IsFirstUntaken os (layout_of p) fault l) (sym (left_takes os x.file x.index (short_section_of x.section.now) is_loaded is.stands e)) (inr (here, h)))
+  past : AreTaken os (layout_of p) (input_at os x.file.0 x.index.0 (short_section_of x.section.now)) → (short_section_of x.section.now).loaded ≡ true
+      → (fault : LinkFault) → (IsFirstUntaken os (layout_of p) fault (left_from os x.file.0 x.index.0 is_loaded) → IsFirstUntaken os (layout_of p) fault (inputs is_loaded os))
+      → IsFirstUntaken os (layout_of p) fault (left_from os x.file.0 (x.index.0 + 1) is_loaded) → IsFirstUntaken os (layout_of p) fault (inputs is_loaded os)
+  past here e fault so h = so (subst (λ l. IsFirstUntaken os (layout_of p) fault l) (sym (left_takes os x.file.0 x.index.0 (short_section_of x.section.now) is_loaded is.stands e)) (inr (here, h)))
 
   -- where a region's section starts
   pub starts_later : (goes : Section → Bool) (region : Region) (out : List ℕ) → goes (short_section_of x.section.now) ≡ true
-      → IsGrown (linked_in os p) (starts_of p) region (inputs goes os) (left_from os x.file x.index goes) out → region.start + length out ≤ x.placed.now.start
+      → IsGrown (linked_in os p) (starts_of p) region (inputs goes os) (left_from os x.file.0 x.index.0 goes) out → region.start + length out ≤ x.placed.now.start
   starts_later goes region out e grown =
       subst (λ n. region.start + length out ≤ n) is.start
-      (later (starts_of p) (region.start + length out) (input_at os x.file x.index (short_section_of x.section.now)) (left_from os x.file (x.index + 1) goes)
-      (subst (λ l. Stand (starts_of p) (region.start + length out) l) (left_takes os x.file x.index (short_section_of x.section.now) goes is.stands e) grown.stand))
+      (later (starts_of p) (region.start + length out) (input_at os x.file.0 x.index.0 (short_section_of x.section.now)) (left_from os x.file.0 (x.index.0 + 1) goes)
+      (subst (λ l. Stand (starts_of p) (region.start + length out) l) (left_takes os x.file.0 x.index.0 (short_section_of x.section.now) goes is.stands e) grown.stand))
 
   -- ---- the regions after a section
 
-  module _ (r : Regions) (grown : AreGrown os p (left_from os x.file x.index) r) where
-    pub not_loaded : x.section.now.whole.now.loaded ≡ false → AreGrown os p (left_from os x.file (x.index + 1)) r
+  module _ (r : Regions) (grown : AreGrown os p (left_from os x.file.0 x.index.0) r) where
+    pub not_loaded : x.section.now.whole.now.loaded ≡ false → AreGrown os p (left_from os x.file.0 (x.index.0 + 1)) r
     not_loaded e = record {
       text = other goes_to_text p.text r.text.items (ap (λ b. b && x.section.now.whole.now.executable) e) grown.text;
       rodata = other goes_to_rodata p.rodata r.rodata.items (ap (λ b. b && not x.section.now.whole.now.executable && not (has_no_bytes (short_section_of x.section.now).contents) && not x.section.now.whole.now.writable) e) grown.rodata;
       «data» = other goes_to_data p.data r.data.items (ap (λ b. b && not x.section.now.whole.now.executable && not (has_no_bytes (short_section_of x.section.now).contents) && x.section.now.whole.now.writable) e) grown.data;
-      taken = λ h. grown.taken (subst (λ l. AllByRecursion (AreTaken os (layout_of p)) l) (sym (left_skips os x.file x.index (short_section_of x.section.now) is_loaded is.stands e)) h);
-      first = λ fault h. grown.first fault (subst (λ l. IsFirstUntaken os (layout_of p) fault l) (sym (left_skips os x.file x.index (short_section_of x.section.now) is_loaded is.stands e)) h);
+      taken = λ h. grown.taken (subst (λ l. AllByRecursion (AreTaken os (layout_of p)) l) (sym (left_skips os x.file.0 x.index.0 (short_section_of x.section.now) is_loaded is.stands e)) h);
+      first = λ fault h. grown.first fault (subst (λ l. IsFirstUntaken os (layout_of p) fault l) (sym (left_skips os x.file.0 x.index.0 (short_section_of x.section.now) is_loaded is.stands e)) h);
     }
 
     -- it fails itself
-    pub failed : x.section.now.whole.now.loaded ≡ true → (fault : LinkFault) → AreUntaken os (layout_of p) fault (input_at os x.file x.index (short_section_of x.section.now)) → IsFirstUntaken os (layout_of p) fault (inputs is_loaded os)
-    failed e fault h = grown.first fault (subst (λ l. IsFirstUntaken os (layout_of p) fault l) (sym (left_takes os x.file x.index (short_section_of x.section.now) is_loaded is.stands e)) (inl h))
+    pub failed : x.section.now.whole.now.loaded ≡ true → (fault : LinkFault) → AreUntaken os (layout_of p) fault (input_at os x.file.0 x.index.0 (short_section_of x.section.now)) → IsFirstUntaken os (layout_of p) fault (inputs is_loaded os)
+    failed e fault h = grown.first fault (subst (λ l. IsFirstUntaken os (layout_of p) fault l) (sym (left_takes os x.file.0 x.index.0 (short_section_of x.section.now) is_loaded is.stands e)) (inl h))
 
-    pub failed_or : x.section.now.whole.now.loaded ≡ true → (fault : LinkFault) → OrMemory (λ f. AreUntaken os (layout_of p) f (input_at os x.file x.index (short_section_of x.section.now))) fault → AreUnfilled os p fault
+    pub failed_or : x.section.now.whole.now.loaded ≡ true → (fault : LinkFault) → OrMemory (λ f. AreUntaken os (layout_of p) f (input_at os x.file.0 x.index.0 (short_section_of x.section.now))) fault → AreUnfilled os p fault
     failed_or e fault (inl h) = inl h
     failed_or e fault (inr h) = inr (failed e fault h)
 
@@ -97,17 +97,17 @@ module _ (os : List Object) (p : Placement) (x : PlacedInput) (is : IsPlacedInpu
         ∙ ap (λ l. a && not l && not (has_no_bytes (short_section_of x.section.now).contents) && x.section.now.whole.now.writable) f
         ∙ ap (λ l. a && not b && not l && x.section.now.whole.now.writable) g ∙ ap (λ l. a && not b && not n && l) h
 
-    module _ (loaded : x.section.now.whole.now.loaded ≡ true) (here : AreTaken os (layout_of p) (input_at os x.file x.index (short_section_of x.section.now))) where
-      so : AllByRecursion (AreTaken os (layout_of p)) (left_from os x.file (x.index + 1) is_loaded) → AllByRecursion (AreTaken os (layout_of p)) (inputs is_loaded os)
+    module _ (loaded : x.section.now.whole.now.loaded ≡ true) (here : AreTaken os (layout_of p) (input_at os x.file.0 x.index.0 (short_section_of x.section.now))) where
+      so : AllByRecursion (AreTaken os (layout_of p)) (left_from os x.file.0 (x.index.0 + 1) is_loaded) → AllByRecursion (AreTaken os (layout_of p)) (inputs is_loaded os)
       so = judged here loaded grown.taken
 
-      behind : (fault : LinkFault) → IsFirstUntaken os (layout_of p) fault (left_from os x.file (x.index + 1) is_loaded) → IsFirstUntaken os (layout_of p) fault (inputs is_loaded os)
+      behind : (fault : LinkFault) → IsFirstUntaken os (layout_of p) fault (left_from os x.file.0 (x.index.0 + 1) is_loaded) → IsFirstUntaken os (layout_of p) fault (inputs is_loaded os)
       behind fault = past here loaded fault (grown.first fault)
 
       module _ (out : Vec ℕ) where
         pub in_text : x.section.now.whole.now.executable ≡ true
-            → out.items ≡ r.text.items ++ (zeros (x.placed.now.start - (p.text.start + length r.text.items)) ++ linked_in os p (input_at os x.file x.index (short_section_of x.section.now)))
-            → AreGrown os p (left_from os x.file (x.index + 1)) (record { text = out; rodata = r.rodata; «data» = r.data })
+            → out.items ≡ r.text.items ++ (zeros (x.placed.now.start - (p.text.start + length r.text.items)) ++ linked_in os p (input_at os x.file.0 x.index.0 (short_section_of x.section.now)))
+            → AreGrown os p (left_from os x.file.0 (x.index.0 + 1)) (record { text = out; rodata = r.rodata; «data» = r.data })
         in_text e made = record {
           text = one goes_to_text p.text r.text.items out.items (text_is true true loaded e) grown.text made;
           rodata = other goes_to_rodata p.rodata r.rodata.items (rodata_is true true _ _ loaded e refl refl) grown.rodata;
@@ -117,8 +117,8 @@ module _ (os : List Object) (p : Placement) (x : PlacedInput) (is : IsPlacedInpu
         }
 
         pub in_rodata : x.section.now.whole.now.executable ≡ false → has_no_bytes (short_section_of x.section.now).contents ≡ false → x.section.now.whole.now.writable ≡ false
-            → out.items ≡ r.rodata.items ++ (zeros (x.placed.now.start - (p.rodata.start + length r.rodata.items)) ++ linked_in os p (input_at os x.file x.index (short_section_of x.section.now)))
-            → AreGrown os p (left_from os x.file (x.index + 1)) (record { text = r.text; rodata = out; «data» = r.data })
+            → out.items ≡ r.rodata.items ++ (zeros (x.placed.now.start - (p.rodata.start + length r.rodata.items)) ++ linked_in os p (input_at os x.file.0 x.index.0 (short_section_of x.section.now)))
+            → AreGrown os p (left_from os x.file.0 (x.index.0 + 1)) (record { text = r.text; rodata = out; «data» = r.data })
         in_rodata e n w made = record {
           text = other goes_to_text p.text r.text.items (text_is true false loaded e) grown.text;
           rodata = one goes_to_rodata p.rodata r.rodata.items out.items (rodata_is true false false false loaded e n w) grown.rodata made;
@@ -128,8 +128,8 @@ module _ (os : List Object) (p : Placement) (x : PlacedInput) (is : IsPlacedInpu
         }
 
         pub in_data : x.section.now.whole.now.executable ≡ false → has_no_bytes (short_section_of x.section.now).contents ≡ false → x.section.now.whole.now.writable ≡ true
-            → out.items ≡ r.data.items ++ (zeros (x.placed.now.start - (p.data.start + length r.data.items)) ++ linked_in os p (input_at os x.file x.index (short_section_of x.section.now)))
-            → AreGrown os p (left_from os x.file (x.index + 1)) (record { text = r.text; rodata = r.rodata; «data» = out })
+            → out.items ≡ r.data.items ++ (zeros (x.placed.now.start - (p.data.start + length r.data.items)) ++ linked_in os p (input_at os x.file.0 x.index.0 (short_section_of x.section.now)))
+            → AreGrown os p (left_from os x.file.0 (x.index.0 + 1)) (record { text = r.text; rodata = r.rodata; «data» = out })
         in_data e n w made = record {
           text = other goes_to_text p.text r.text.items (text_is true false loaded e) grown.text;
           rodata = other goes_to_rodata p.rodata r.rodata.items (rodata_is true false false true loaded e n w) grown.rodata;
@@ -138,7 +138,7 @@ module _ (os : List Object) (p : Placement) (x : PlacedInput) (is : IsPlacedInpu
           first = behind;
         }
 
-      pub in_bss : x.section.now.whole.now.executable ≡ false → has_no_bytes (short_section_of x.section.now).contents ≡ true → AreGrown os p (left_from os x.file (x.index + 1)) r
+      pub in_bss : x.section.now.whole.now.executable ≡ false → has_no_bytes (short_section_of x.section.now).contents ≡ true → AreGrown os p (left_from os x.file.0 (x.index.0 + 1)) r
       in_bss e n = record {
         text = other goes_to_text p.text r.text.items (text_is true false loaded e) grown.text;
         rodata = other goes_to_rodata p.rodata r.rodata.items (rodata_is true false true _ loaded e n refl) grown.rodata;

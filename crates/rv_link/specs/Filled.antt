@@ -27,13 +27,13 @@ input_at os file index s =
     record { file = file + 1; object = object_at os (file + 1); index = index; section = s }
 
 abbrev pub input_of : Fixed → PlacedInput → InputSection
-input_of f x = input_at (objects_of f) x.file x.index (short_section_of x.section.now)
+input_of f x = input_at (objects_of f) x.file.0 x.index.0 (short_section_of x.section.now)
 
 -- the section is one of the objects, and what is placed for it is where it starts, with room for
 -- its paddings
 pub record IsPlacedInput (os : List Object) (p : Placement) (x : PlacedInput) : Type 0 where
-  pub stands : object_section os x.file x.index ≡ Some (short_section_of x.section.now)
-  pub start : starts_of p (x.file + 1) x.index ≡ x.placed.now.start
+  pub stands : object_section os x.file.0 x.index.0 ≡ Some (short_section_of x.section.now)
+  pub start : starts_of p (x.file.0 + 1) x.index.0 ≡ x.placed.now.start
   pub planned : moves_of x.placed.now.plan.now
       ≡ moves x.placed.now.start (short_section_of x.section.now)
   pub room : IsTrue (list_all has_room (moves_of x.placed.now.plan.now))

@@ -26,19 +26,17 @@ use crate::fields::apply;
 use rv_fault::LinkFault;
 use rv_isa::Kind;
 use rv_link_values::Values;
-use rv_object_types::{Contents, Relocation};
+use rv_object_types::{Contents, FileIndex, Relocation, SectionIndex};
 use rv_placement::{PlacedSection, Placement};
 use rv_relax::SectionPaddings;
 use rv_shorten::{LeftBytes, ShortObject, ShortSection};
 use std::alloc::{AllocError, Global};
 
-/// A section of an object, and where it stands.
+/// A section of a file, and where it stands.
 #[derive(Drop)]
 pub(crate) struct PlacedInput<'p, 'o, 'a> {
-    /// The place of its object, from 0.
-    pub(crate) file: usize,
-    /// Its own place there.
-    pub(crate) index: usize,
+    pub(crate) file: FileIndex,
+    pub(crate) index: SectionIndex,
     pub(crate) section: &'p ShortSection<'o, 'a>,
     pub(crate) placed: &'p PlacedSection<'p>,
 }
@@ -52,18 +50,19 @@ pub(crate) struct Fixed<'p, 'o, 'a, 'n> {
 }
 
 impl<'p, 'o, 'a, 'n> Fixed<'p, 'o, 'a, 'n> {
-    /// The section at an index of an object, both from 0.
-    pub(crate) fn input(&self, file: usize, index: usize) -> PlacedInput<'p, 'o, 'a>
+    /// The section at an index of a file.
+    pub(crate) fn input(&self, file: FileIndex, index: SectionIndex) -> PlacedInput<'p, 'o, 'a>
         requires fixed { IsFixed self.now }
-        requires section { index < length (object_at (objects_of self.now) (file + 1)).sections }
+        requires section { index.0
+            < length (object_at (objects_of self.now) (file.0 + 1)).sections }
         ensures input { IsInputOf self.now result }
         ensures at { (result.file ≡ file) × (result.index ≡ index) }
     {
         PlacedInput {
             file,
             index,
-            section: &self.objects[file].sections[index],
-            placed: &self.placement.files[file][index],
+            section: &self.objects[file.0].sections[index.0],
+            placed: &self.placement.files[file.0][index.0],
         }
     }
 

@@ -8,6 +8,7 @@ ghost use Rattle.rv_link.specs.Regions.{AreGrown, IsFixed, left_files, left_from
 
 use crate::fixed::{Fixed, PlacedInput};
 use rv_fault::LinkFault;
+use rv_object_types::{FileIndex, SectionIndex};
 use rv_shorten::ShortSection;
 use std::alloc::Global;
 
@@ -34,7 +35,7 @@ impl Regions {
             data: Vec::new(alloc),
         };
         for file in 0..fixed.objects.len() {
-            regions.put_object(alloc, fixed, file)?;
+            regions.put_object(alloc, fixed, FileIndex(file))?;
         }
         Ok(regions)
     }
@@ -44,19 +45,19 @@ impl Regions {
         &mut self,
         alloc: Global,
         fixed: &Fixed<'_, '_, '_, '_>,
-        file: usize,
+        file: FileIndex,
     ) -> Result<(), LinkFault>
         requires fixed { IsFixed fixed.now }
-        requires file { file < length (fixed.now).objects.now }
+        requires file { file.0 < length (fixed.now).objects.now }
         requires grown { AreGrown (objects_of fixed.now) (fixed.now).placement.now
-            (left_files (objects_of fixed.now) file) self.old }
+            (left_files (objects_of fixed.now) file.0) self.old }
         ensures grown { OnOk result (AreGrown (objects_of fixed.now) (fixed.now).placement.now
-            (left_files (objects_of fixed.now) (file + 1)) self.new) }
+            (left_files (objects_of fixed.now) (file.0 + 1)) self.new) }
         ensures refuses { IfErr result (AreUnfilled (objects_of fixed.now)
             (fixed.now).placement.now) }
     {
-        for index in 0..fixed.objects[file].sections.len() {
-            self.put_section(alloc, fixed, file, index)?;
+        for index in 0..fixed.objects[file.0].sections.len() {
+            self.put_section(alloc, fixed, file, SectionIndex(index))?;
         }
         Ok(())
     }
@@ -66,15 +67,16 @@ impl Regions {
         &mut self,
         alloc: Global,
         fixed: &Fixed<'_, '_, '_, '_>,
-        file: usize,
-        index: usize,
+        file: FileIndex,
+        index: SectionIndex,
     ) -> Result<(), LinkFault>
         requires fixed { IsFixed fixed.now }
-        requires section { index < length (object_at (objects_of fixed.now) (file + 1)).sections }
+        requires section { index.0
+            < length (object_at (objects_of fixed.now) (file.0 + 1)).sections }
         requires grown { AreGrown (objects_of fixed.now) (fixed.now).placement.now
-            (left_from (objects_of fixed.now) file index) self.old }
+            (left_from (objects_of fixed.now) file.0 index.0) self.old }
         ensures grown { OnOk result (AreGrown (objects_of fixed.now) (fixed.now).placement.now
-            (left_from (objects_of fixed.now) file (index + 1)) self.new) }
+            (left_from (objects_of fixed.now) file.0 (index.0 + 1)) self.new) }
         ensures refuses { IfErr result (AreUnfilled (objects_of fixed.now)
             (fixed.now).placement.now) }
     {
@@ -92,9 +94,10 @@ impl Regions {
         requires fixed { IsFixed fixed.now }
         requires input { IsInputOf fixed.now input.now }
         requires grown { AreGrown (objects_of fixed.now) (fixed.now).placement.now
-            (left_from (objects_of fixed.now) (input.now).file (input.now).index) self.old }
+            (left_from (objects_of fixed.now) (input.now).file.0 (input.now).index.0) self.old }
         ensures grown { OnOk result (AreGrown (objects_of fixed.now) (fixed.now).placement.now
-            (left_from (objects_of fixed.now) (input.now).file ((input.now).index + 1)) self.new) }
+            (left_from (objects_of fixed.now) (input.now).file.0 ((input.now).index.0 + 1))
+            self.new) }
         ensures refuses { IfErr result (AreUnfilled (objects_of fixed.now)
             (fixed.now).placement.now) }
     {

@@ -16,7 +16,6 @@ use Rattle.rv_link_laws.specs.CallSites.{start_padding, home, moving, past_end, 
 use Rattle.rv_link_laws.specs.Within.{LeadsWithin, IsWithin}
 use Rattle.rv_link_laws.specs.Layout.{section_in, object_section}
 use Rattle.rv_link_sites.proofs.CodeObjectsLemmas.{sites_text, sites_within}
-use Rattle.rv_names.specs.Names.{place_of}
 use Rattle.rv_link_sites.specs.declared.line.Line.{Line}
 use Rattle.rv_link_sites.specs.Line.{end_from, next, ended, ended_files, IsLine}
 use Rattle.rv_link_sites.specs.Text.{text_target}
@@ -97,7 +96,7 @@ stands os l n k line text =
 
 module _ (os : List Object) (n k offset : ℕ) where
   abbrev there : Place
-  there = place_of (n, k, offset)
+  there = record { file = n + 1; section = k; offset = offset }
 
   home_here : home os there ≡ object_section os n k
   home_here = sym (section_here os n k)

@@ -19,6 +19,9 @@ use Rattle.rv_link_sites.proofs.AlongLemmas.{sites_are}
 pub next_text : (stop : ℕ) (s : Section) → goes_to_text s ≡ true → end_from stop s ≡ next stop s
 next_text stop s e = sym (ap (λ b. if b then end_from stop s else stop) e)
 
+pub next_other : (stop : ℕ) (s : Section) → goes_to_text s ≡ false → stop ≡ next stop s
+next_other stop s e = sym (ap (λ b. if b then end_from stop s else stop) e)
+
 pub sites_other : (os : List Object) (stop : ℕ) (i : InputSection) (old : List Site) → goes_to_text i.section ≡ false → old ≡ old ++ section_sites os stop i
 sites_other os stop i old e = sym (append-nil old) ∙ sym (ap (λ b. old ++ (if b then text_sites os stop i else [])) e)
 

@@ -36,14 +36,20 @@ text_target os p =
 
 -- what a section of the code is among those of the text
 abbrev pub input_of : TextSection → InputSection
-input_of i = input (i.file + 1) (object_of i.object.now) i.index (section_of i.section.now)
+input_of i =
+    input (i.file.0 + 1) (object_of i.object.now) i.index.0 (section_of i.section.now)
 
--- a section of text of these objects, with what their symbols name
-pub record IsGiven (t : Text) (i : TextSection) : Type 0 where
-  pub at : slice_get (objects_of t) i.file ≡ Some (object_of i.object.now)
-  pub there : slice_get (object_of i.object.now).sections i.index ≡ Some (section_of i.section.now)
-  pub text : goes_to_text (section_of i.section.now) ≡ true
+-- a section of these objects, with what their symbols name
+pub record IsAmong (t : Text) (i : TextSection) : Type 0 where
+  pub at : slice_get (objects_of t) i.file.0 ≡ Some (object_of i.object.now)
+  pub there : slice_get (object_of i.object.now).sections i.index.0
+      ≡ Some (section_of i.section.now)
   pub entries : AreEntries (object_of i.object.now) i.entries.now
+
+-- and one of text
+pub record IsGiven (t : Text) (i : TextSection) : Type 0 where
+  pub among : IsAmong t i
+  pub text : goes_to_text (section_of i.section.now) ≡ true
 
 -- what may change of a section lies in it
 pub record IsLying (s : Section) (r : Relocation) : Type 0 where

@@ -24,16 +24,16 @@ use crate::line::start_padding;
 use crate::order::by_place;
 use crate::text::Text;
 use crate::words::{are_call_words, link_register};
-use rv_object_types::{Object, Relocation, Section};
+use rv_object_types::{FileIndex, Object, Relocation, Section, SectionIndex};
 use rv_size_laws::{Call, Padding, Site, SiteKind};
 use std::alloc::{AllocError, Global};
 
-/// A section of text, by its file and its index there, both from 0.
+/// A section among those of a text, by its file and its index there.
 #[derive(Clone, Copy, Drop)]
 pub(crate) struct TextSection<'i, 'a> {
-    pub(crate) file: usize,
+    pub(crate) file: FileIndex,
     pub(crate) object: &'i Object<'a>,
-    pub(crate) index: usize,
+    pub(crate) index: SectionIndex,
     pub(crate) section: &'i Section<'a>,
     /// What the symbols of its object name.
     pub(crate) entries: &'i Entries,

@@ -10,7 +10,7 @@ ghost use Rattle.rv_object_types.specs.View.{object_of};
 ghost use Rattle.rv_link_laws.specs.CallSites as laws;
 ghost use Rattle.rv_link_sites.specs.Entries.{AreEntries, is_within_call, list_at, offset_in, offsets_in};
 
-use rv_object_types::{Definition, Object, Symbol};
+use rv_object_types::{Definition, Object, SectionIndex, Symbol};
 use std::alloc::{AllocError, Global};
 
 /// The offsets that the symbols of an object name, those of each section in order.
@@ -31,20 +31,20 @@ impl Entries {
     }
 
     /// Whether one is strictly inside the eight bytes at a place of a section.
-    pub(crate) fn is_entered(&self, section: usize, place: u64) -> bool
-        ensures { (o : SaidObject) → AreEntries o self.now → section < length o.sections
-            → result ≡ laws.is_entered o section place }
+    pub(crate) fn is_entered(&self, section: SectionIndex, place: u64) -> bool
+        ensures { (o : SaidObject) → AreEntries o self.now → section.0 < length o.sections
+            → result ≡ laws.is_entered o section.0 place }
     {
         is_entered_in(&self.offsets, section, place)
     }
 }
 
-/// Whether one of the offsets at an index, in order, is strictly inside the eight bytes at a place.
-fn is_entered_in(lists: &[Vec<u64>], index: usize, place: u64) -> bool
-    ensures { IsNonDecreasing (list_at lists.now index)
-        → result ≡ list_any (is_within_call place) (list_at lists.now index) }
+/// Whether one of the offsets of a section, in order, is strictly inside the eight bytes at a place.
+fn is_entered_in(lists: &[Vec<u64>], section: SectionIndex, place: u64) -> bool
+    ensures { IsNonDecreasing (list_at lists.now section.0)
+        → result ≡ list_any (is_within_call place) (list_at lists.now section.0) }
 {
-    match lists.get(index) {
+    match lists.get(section.0) {
         Some(offsets) => is_any_inside(offsets, place),
         None => false,
     }
@@ -69,20 +69,22 @@ fn put(lists: &mut [Vec<u64>], definition: Definition) -> Result<(), AllocError>
         → list_at lists.new index ≡ list_at lists.old index ++ offset_in index definition) }
 {
     match definition {
-        Definition::InSection(section, offset) => put_at(lists, section as usize, offset),
+        Definition::InSection(section, offset) => {
+            put_at(lists, SectionIndex(section as usize), offset)
+        }
         _ => Ok(()),
     }
 }
 
 /// Adds an offset to those of a section, if there is one.
-fn put_at(lists: &mut [Vec<u64>], section: usize, offset: u64) -> Result<(), AllocError>
+fn put_at(lists: &mut [Vec<u64>], section: SectionIndex, offset: u64) -> Result<(), AllocError>
     ensures many { length lists.new ≡ length lists.old }
     ensures added { OnOk result ((index : ℕ) → index < length lists.old
         → list_at lists.new index
-        ≡ list_at lists.old index ++ offset_in index (InSection section offset)) }
+        ≡ list_at lists.old index ++ offset_in index (InSection section.0 offset)) }
 {
-    if section < lists.len() {
-        lists[section].push(offset)?;
+    if section.0 < lists.len() {
+        lists[section.0].push(offset)?;
     }
     Ok(())
 }

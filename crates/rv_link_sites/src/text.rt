@@ -4,17 +4,18 @@ ghost use Rattle.std.specs.Prelude.{◌≡◌, ◌+◌, ◌*◌, ◌≤◌, ◌^
 ghost use Rattle.std.specs.List.{slice_get};
 ghost use Rattle.rv_object_laws.specs.Object.{Object as SaidObject, Section, size_of};
 ghost use Rattle.rv_object_types.specs.Parts.{relocation_of};
+ghost use Rattle.rv_object_types.specs.Places.{place_of};
 ghost use Rattle.rv_object_types.specs.View.{object_of};
 ghost use Rattle.rv_link_laws.specs.Inputs.{InputSection};
 ghost use Rattle.rv_link_laws.specs.CallSites.{base, target_place};
 ghost use Rattle.rv_link_laws.specs.Names as laws;
 ghost use Rattle.rv_link_laws.specs.Layout.{object_section};
-ghost use Rattle.rv_names.specs.Names.{IsNames, place_of};
+ghost use Rattle.rv_names.specs.Names.{IsNames};
 ghost use Rattle.rv_link_sites.specs.Text.{IsLaidText, objects_of, text_target};
 
 use crate::line::Line;
 use rv_names::Names;
-use rv_object_types::{Object, Relocation};
+use rv_object_types::{FileIndex, Object, Place, Relocation, SectionIndex, SymbolIndex};
 use std::alloc::{AllocError, Global};
 
 /// The text of objects in one line.
@@ -34,12 +35,13 @@ pub(crate) struct Target {
     pub(crate) past_end: u64,
 }
 
-/// Whether a section, by its file and its index there, both from 0, goes to text.
-fn is_in_text(objects: &[Object<'_>], file: usize, section: usize) -> bool
-    ensures { result ≡ laws.is_in_text (object_section (map object_of objects.now) file section) }
+/// Whether a section of a file goes to text.
+fn is_in_text(objects: &[Object<'_>], file: FileIndex, section: SectionIndex) -> bool
+    ensures { result
+        ≡ laws.is_in_text (object_section (map object_of objects.now) file.0 section.0) }
 {
-    match objects.get(file) {
-        Some(object) => match object.sections.get(section) {
+    match objects.get(file.0) {
+        Some(object) => match object.sections.get(section.0) {
             Some(section) => section.is_text(),
             None => false,
         },
@@ -66,61 +68,61 @@ impl<'t, 'a, 'n, 'o> Text<'t, 'a, 'n, 'o> {
         })
     }
 
-    /// Where the symbol of a relocation of a file, from 0, stands, if that is in text.
-    pub(crate) fn target(&self, file: usize, relocation: &Relocation) -> Option<Target>
+    /// Where the symbol of a relocation of a file stands, if that is in text.
+    pub(crate) fn target(&self, file: FileIndex, relocation: &Relocation) -> Option<Target>
         requires { IsLaidText self.now }
-        ensures { (i : InputSection) → i.file ≡ file + 1
-            → slice_get (objects_of self.now) file ≡ Some i.object → result
+        ensures { (i : InputSection) → i.file ≡ file.0 + 1
+            → slice_get (objects_of self.now) file.0 ≡ Some i.object → result
             ≡ text_target (objects_of self.now)
             (target_place (objects_of self.now) i (relocation_of relocation.now)) }
     {
         let index = relocation.symbol?;
-        let (file, section, offset) = self.place(file, index)?;
-        self.offset(file, section as usize, offset)
+        let place = self.place(file, SymbolIndex(index as usize))?;
+        self.offset(place)
     }
 
-    /// Where the symbol at an index of a file stands, both from 0.
-    fn place(&self, file: usize, index: u32) -> Option<(usize, u32, u64)>
+    /// Where the symbol at an index of a file stands.
+    fn place(&self, file: FileIndex, index: SymbolIndex) -> Option<Place>
         requires { IsLaidText self.now }
-        ensures { (o : SaidObject) → slice_get (objects_of self.now) file ≡ Some o
+        ensures { (o : SaidObject) → slice_get (objects_of self.now) file.0 ≡ Some o
             → option_map place_of result
-            ≡ option_and_then (laws.symbol_place (objects_of self.now) (file + 1))
-            (slice_get o.symbols index) }
+            ≡ option_and_then (laws.symbol_place (objects_of self.now) (file.0 + 1))
+            (slice_get o.symbols index.0) }
     {
-        let object = self.objects.get(file)?;
-        let symbol = object.symbols.get(index as usize)?;
+        let object = self.objects.get(file.0)?;
+        let symbol = object.symbols.get(index.0)?;
         self.names.place_of(self.objects, file, index, symbol.binding, symbol.definition)
     }
 
-    /// Where an offset of a section stands, by its file and its index there, both from 0, if it is in text.
-    fn offset(&self, file: usize, section: usize, offset: u64) -> Option<Target>
+    /// Where a place is in the line, if it is in text.
+    fn offset(&self, place: Place) -> Option<Target>
         requires { IsLaidText self.now }
-        ensures { result
-            ≡ text_target (objects_of self.now) (Some (place_of (file, section, offset))) }
+        ensures { result ≡ text_target (objects_of self.now) (Some (place_of place)) }
     {
-        if !is_in_text(self.objects, file, section) {
+        if !is_in_text(self.objects, place.file, place.section) {
             return None;
         }
-        let (start, end) = self.stand(file, section);
-        let place = start + u128::from(offset);
+        let (start, end) = self.stand(place.file, place.section);
+        let offset = start + u128::from(place.offset);
         Some(Target {
-            offset: place.min(end),
-            past_end: place.saturating_sub(end) as u64,
+            offset: offset.min(end),
+            past_end: offset.saturating_sub(end) as u64,
         })
     }
 
-    /// Where the first byte of a section of text stands, by its file and its index there, both from 0, and its end.
-    fn stand(&self, file: usize, section: usize) -> (u128, u128)
+    /// Where the first byte of a section of text stands, and its end.
+    fn stand(&self, file: FileIndex, section: SectionIndex) -> (u128, u128)
         requires laid { IsLaidText self.now }
-        requires text { laws.is_in_text (object_section (objects_of self.now) file section) ≡ true }
-        ensures start { result.0 ≡ base (objects_of self.now) (file + 1) section }
-        ensures end { (s : Section) → object_section (objects_of self.now) file section ≡ Some s
+        requires text { laws.is_in_text (object_section (objects_of self.now) file.0 section.0)
+            ≡ true }
+        ensures start { result.0 ≡ base (objects_of self.now) (file.0 + 1) section.0 }
+        ensures end { (s : Section) → object_section (objects_of self.now) file.0 section.0 ≡ Some s
             → result.1 ≡ result.0 + size_of s.contents }
         ensures order { result.0 ≤ result.1 }
         ensures low { result.1 ≤ 9 * 2 ^ 123 }
     {
-        let entry = self.line.files[file];
-        let place = entry + 2 * section;
+        let entry = self.line.files[file.0];
+        let place = entry + 2 * section.0;
         let start = self.line.places[place];
         let end = self.line.places[place + 1];
         (start, end)

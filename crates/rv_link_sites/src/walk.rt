@@ -1,22 +1,21 @@
 //! The sites of the text of objects.
 
-ghost use Rattle.std.specs.Prelude.{◌≡◌, ℕ, ◌+◌, ◌*◌, ◌≤◌, ◌^◌, ◌++◌, ◌<◌, Some, map, length, IfOk, OnOk};
+ghost use Rattle.std.specs.Prelude.{◌≡◌, ℕ, ◌+◌, ◌*◌, ◌≤◌, ◌^◌, ◌++◌, Some, map, IfOk, OnOk};
 ghost use Rattle.std.specs.List.{slice_get};
-ghost use Rattle.rv_object_laws.specs.Object.{Section};
+ghost use Rattle.rv_object_types.specs.Sections.{section_of};
 ghost use Rattle.rv_object_types.specs.View.{object_of};
 ghost use Rattle.rv_size_laws.specs.Calls.{site_at};
 ghost use Rattle.rv_link_laws.specs.CallSites.{sites_of};
 ghost use Rattle.rv_link_laws.specs.Within.{IsWithin};
 ghost use Rattle.rv_names.specs.Names.{IsNames};
-ghost use Rattle.rv_link_sites.specs.Entries.{AreEntries};
 ghost use Rattle.rv_link_sites.specs.Line as walk;
-ghost use Rattle.rv_link_sites.specs.Text.{IsLaidText, objects_of};
+ghost use Rattle.rv_link_sites.specs.Text.{IsAmong, IsLaidText, input_of, objects_of};
 
 use crate::changes::{TextSection, put_section};
 use crate::entries::Entries;
 use crate::text::Text;
 use rv_names::Names;
-use rv_object_types::Object;
+use rv_object_types::{FileIndex, Object, SectionIndex};
 use rv_size_laws::Site;
 use std::alloc::{AllocError, Global};
 
@@ -53,72 +52,70 @@ fn put_all(
 {
     let mut stop = 0;
     for file in 0..text.objects.len() {
-        stop = put_object(alloc, sites, text, file, &text.objects[file], stop)?;
+        stop = put_object(
+            alloc,
+            sites,
+            text,
+            FileIndex(file),
+            &text.objects[file],
+            stop,
+        )?;
     }
     Ok(())
 }
 
-/// Adds the sites of an object, by its place, from 0, behind an end of the line. Gives the end after it.
+/// Adds the sites of an object, which is a file, behind an end of the line. Gives the end after it.
 fn put_object(
     alloc: Global,
     sites: &mut Vec<Site>,
     text: &Text<'_, '_, '_, '_>,
-    file: usize,
+    file: FileIndex,
     object: &Object<'_>,
     first: u128,
 ) -> Result<u128, AllocError>
     requires laid { IsLaidText text.now }
-    requires at { slice_get (objects_of text.now) file ≡ Some (object_of object.now) }
+    requires at { slice_get (objects_of text.now) file.0 ≡ Some (object_of object.now) }
     requires low { walk.ended first (object_of object.now).sections ≤ 9 * 2 ^ 123 }
     ensures end { IfOk result (λ end. end ≡ walk.ended first (object_of object.now).sections) }
     ensures sites { OnOk result (sites.new.items ≡ sites.old.items
-        ++ walk.object_sites (objects_of text.now) (file + 1) (object_of object.now) 0 first
+        ++ walk.object_sites (objects_of text.now) (file.0 + 1) (object_of object.now) 0 first
         (object_of object.now).sections) }
 {
     let entries = Entries::of(alloc, object)?;
     let mut stop = first;
     for index in 0..object.sections.len() {
-        stop = put_at(alloc, sites, text, file, object, &entries, index, stop)?;
+        let section = &object.sections[index];
+        let input = TextSection {
+            file,
+            object,
+            index: SectionIndex(index),
+            section,
+            entries: &entries,
+        };
+        stop = put_at(alloc, sites, text, &input, stop)?;
     }
     Ok(stop)
 }
 
-/// Adds the sites of a section of an object, if it goes to the text, behind an end of the line. Gives the end after it.
+/// Adds the sites of a section, if it goes to the text, behind an end of the line. Gives the end after it.
 fn put_at(
     alloc: Global,
     sites: &mut Vec<Site>,
     text: &Text<'_, '_, '_, '_>,
-    file: usize,
-    object: &Object<'_>,
-    entries: &Entries,
-    index: usize,
+    input: &TextSection<'_, '_>,
     stop: u128,
 ) -> Result<u128, AllocError>
     requires laid { IsLaidText text.now }
-    requires at { slice_get (objects_of text.now) file ≡ Some (object_of object.now) }
-    requires entries { AreEntries (object_of object.now) entries.now }
-    requires inside { index < length (object.now).sections.items }
-    requires low { (s : Section) → slice_get (object_of object.now).sections index ≡ Some s
-        → walk.next stop s ≤ 9 * 2 ^ 123 }
-    ensures end { IfOk result (λ end. (s : Section)
-        → slice_get (object_of object.now).sections index ≡ Some s → end ≡ walk.next stop s) }
-    ensures sites { OnOk result ((s : Section)
-        → slice_get (object_of object.now).sections index ≡ Some s
-        → sites.new.items ≡ sites.old.items
-        ++ walk.section_sites (objects_of text.now) stop
-        (walk.input (file + 1) (object_of object.now) index s)) }
+    requires among { IsAmong text.now input.now }
+    requires low { walk.next stop (section_of (input.now).section.now) ≤ 9 * 2 ^ 123 }
+    ensures end { IfOk result
+        (λ end. end ≡ walk.next stop (section_of (input.now).section.now)) }
+    ensures sites { OnOk result (sites.new.items ≡ sites.old.items
+        ++ walk.section_sites (objects_of text.now) stop (input_of input.now)) }
 {
-    let section = &object.sections[index];
-    if !section.is_text() {
+    if !input.section.is_text() {
         return Ok(stop);
     }
-    let input = TextSection {
-        file,
-        object,
-        index,
-        section,
-        entries,
-    };
-    let end = put_section(alloc, sites, text, &input, stop)?;
+    let end = put_section(alloc, sites, text, input, stop)?;
     Ok(end)
 }

@@ -9,6 +9,7 @@ use Rattle.std.proofs.lemmas.Bool.Decides.{nat_tests}
 use Rattle.std.proofs.lemmas.List.{take_more, take_all}
 use Rattle.rv_isa.specs.declared.kind.Kind.{Kind}
 use Rattle.rv_isa.specs.declared.kind.Kind.TheVariants as kinds
+use Rattle.rv_object_types.specs.declared.place.Place.{Place}
 use Rattle.rv_object_types.specs.declared.relocation.Relocation.{Relocation as DeclaredRelocation}
 use Rattle.rv_object_laws.specs.Object.{Relocation}
 use Rattle.rv_object_types.specs.Parts.{relocation_of}
@@ -16,7 +17,6 @@ use Rattle.rv_link_laws.specs.CallSites.{is_call}
 use Rattle.rv_link_laws.specs.Moves.{Move}
 use Rattle.rv_link_laws.specs.Values.{is_high}
 use Rattle.rv_cut_laws.specs.Cutting.{cut_at, cut_kind, kind_left}
-use Rattle.rv_link_values.specs.declared.high.HighPlace.{HighPlace}
 use Rattle.rv_link_values.specs.Highs.{else_found, high_to, place_cmp}
 
 -- ---- places
@@ -30,13 +30,13 @@ both_equal Equal p = refl
 both_equal Greater p = refl
 
 -- places that compare alike are one
-pub same_place : (p q : HighPlace) → is_eq (place_cmp p q) ≡ ((p.file == q.file) && ((p.section == q.section) && (p.offset == q.offset)))
+pub same_place : (p q : Place) → is_eq (place_cmp p q) ≡ ((p.file.0 == q.file.0) && ((p.section.0 == q.section.0) && (p.offset == q.offset)))
 same_place p q =
-    both_equal (nat_cmp p.file q.file) (ordering_then (nat_cmp p.section q.section) (nat_cmp p.offset q.offset))
-    ∙ ap (λ b. is_eq (nat_cmp p.file q.file) && b) (both_equal (nat_cmp p.section q.section) (nat_cmp p.offset q.offset))
-    ∙ ap (λ b. b && (is_eq (nat_cmp p.section q.section) && is_eq (nat_cmp p.offset q.offset))) (same_number p.file q.file)
-    ∙ ap (λ b. (p.file == q.file) && (b && is_eq (nat_cmp p.offset q.offset))) (same_number p.section q.section)
-    ∙ ap (λ b. (p.file == q.file) && ((p.section == q.section) && b)) (same_number p.offset q.offset)
+    both_equal (nat_cmp p.file.0 q.file.0) (ordering_then (nat_cmp p.section.0 q.section.0) (nat_cmp p.offset q.offset))
+    ∙ ap (λ b. is_eq (nat_cmp p.file.0 q.file.0) && b) (both_equal (nat_cmp p.section.0 q.section.0) (nat_cmp p.offset q.offset))
+    ∙ ap (λ b. b && (is_eq (nat_cmp p.section.0 q.section.0) && is_eq (nat_cmp p.offset q.offset))) (same_number p.file.0 q.file.0)
+    ∙ ap (λ b. (p.file.0 == q.file.0) && (b && is_eq (nat_cmp p.offset q.offset))) (same_number p.section.0 q.section.0)
+    ∙ ap (λ b. (p.file.0 == q.file.0) && ((p.section.0 == q.section.0) && b)) (same_number p.offset q.offset)
 
 -- ---- one relocation
 

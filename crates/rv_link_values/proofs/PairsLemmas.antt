@@ -16,7 +16,6 @@ use Rattle.rv_placement.specs.declared.placement.PlacedSection.{PlacedSection}
 use Rattle.rv_placement.specs.declared.placement.Placement.{Placement}
 use Rattle.rv_placement.specs.Placement.{starts_of, start_in, placed_at, IsPlacement}
 use Rattle.rv_placement.proofs.FoundLemmas.{not_placed}
-use Rattle.rv_names.specs.Names.{place_of}
 use Rattle.rv_link_values.specs.Highs.{high_in, high_of}
 use Rattle.rv_link_values.specs.Values.{IsInputAt}
 
@@ -50,7 +49,7 @@ section_cases os file index = by (slice_get os file) refl
 
 module _ (os : List Object) (start : ℕ) (p : Placement) (is : IsPlacement os start p) (outer : Outer) (file index offset : ℕ) where
   abbrev worth : Option ℤ
-  worth = value_at outer (starts_of p) os (Some (place_of (file, index, offset)))
+  worth = value_at outer (starts_of p) os (Some (record { file = file + 1; section = index; offset = offset }))
 
   absent : object_section os file index ≡ None → worth ≡ None
   absent none = ap (value_in outer (starts_of p) (file + 1) (object_at os (file + 1)) index offset) (sections_at os file index ∙ none)

@@ -6,9 +6,10 @@ use Rattle.std.specs.List.{slice_get}
 use Rattle.rv_object_laws.specs.Object.{Object}
 use Rattle.rv_link_laws.specs.Names.{symbol_address, symbol_place}
 use Rattle.rv_link_laws.specs.Layout.{outer_in}
+use Rattle.rv_object_types.specs.declared.place.Place.{Place as DeclaredPlace}
+use Rattle.rv_object_types.specs.Places.{place_of}
 use Rattle.rv_placement.specs.declared.placement.Placement.{Placement}
 use Rattle.rv_placement.specs.Placement.{starts_of, IsPlacement, layout_of}
-use Rattle.rv_names.specs.Names.{place_of}
 use Rattle.rv_addresses.specs.Resolution.{all}
 use Rattle.rv_link_values.specs.declared.values.Values.{Values}
 use Rattle.rv_link_values.specs.Values.{IsValues}
@@ -28,11 +29,11 @@ address_is address file index v os p o h at claim =
     both h.start o h.placed at
 
 -- what is said of a place by the objects of the code
-abbrev PlaceIs : Option (ℕ × ℕ × ℕ) → ℕ → ℕ → List Object → Type 0
+abbrev PlaceIs : Option DeclaredPlace → ℕ → ℕ → List Object → Type 0
 PlaceIs place file index os =
     (o : Object) → slice_get os file ≡ Some o → option_map place_of place ≡ option_and_then (symbol_place os (file + 1)) (slice_get o.symbols index)
 
-pub place_is : (place : Option (ℕ × ℕ × ℕ)) (file index : ℕ) (v : Values) (os : List Object) (p : Placement) (o : Object) → IsValues os p v → slice_get os file ≡ Some o
+pub place_is : (place : Option DeclaredPlace) (file index : ℕ) (v : Values) (os : List Object) (p : Placement) (o : Object) → IsValues os p v → slice_get os file ≡ Some o
     → PlaceIs place file index (all v.resolution.now)
     → option_map place_of place ≡ option_and_then (symbol_place os (file + 1)) (slice_get o.symbols index)
 place_is place file index v os p o h at claim = subst (PlaceIs place file index) h.objects claim o at

@@ -7,6 +7,7 @@ use Rattle.std.specs.BTreeMap.{get}
 use Rattle.std.specs.Ordering.{nat_cmp, ordering_then}
 use Rattle.std.specs.declared.cmp.Ordering.{Ordering}
 use Rattle.rv_object_laws.specs.Object.{Relocation, Section, Object}
+use Rattle.rv_object_types.specs.declared.place.Place.{Place}
 use Rattle.rv_object_types.specs.Parts.{relocation_of}
 use Rattle.rv_link_laws.specs.Moves.{new_offset}
 use Rattle.rv_link_laws.specs.Values.{is_high}
@@ -15,7 +16,6 @@ use Rattle.rv_relax.specs.Kept.{moves_of}
 use Rattle.rv_placement.specs.declared.placement.PlacedSection.{PlacedSection}
 use Rattle.rv_placement.specs.declared.placement.Placement.{Placement}
 use Rattle.rv_placement.specs.Placement.{placed_at}
-use Rattle.rv_link_values.specs.declared.high.HighPlace.{HighPlace}
 use Rattle.rv_link_values.specs.declared.high.Highs.{Highs}
 
 -- the first of the two that is there
@@ -24,16 +24,21 @@ else_found None other = other
 else_found (Some r) other = Some r
 
 -- by file, section and offset
-abbrev pub place_cmp : HighPlace → HighPlace → Ordering
+abbrev pub place_cmp : Place → Place → Ordering
 place_cmp p q =
-    ordering_then (nat_cmp p.file q.file)
-    (ordering_then (nat_cmp p.section q.section) (nat_cmp p.offset q.offset))
+    ordering_then (nat_cmp p.file.0 q.file.0)
+    (ordering_then (nat_cmp p.section.0 q.section.0) (nat_cmp p.offset q.offset))
 
--- what the code has at an offset of a section, both counted from 0
+-- the place of an offset of a section, by their numbers from 0
+abbrev pub place_at : ℕ → ℕ → ℕ → Place
+place_at file section offset =
+    record { file = record { 0 = file }; section = record { 0 = section }; offset = offset }
+
+-- what the code has there
 abbrev pub found : Highs → ℕ → ℕ → ℕ → Option Relocation
 found h file section offset =
     option_map relocation_of
-    (get place_cmp h.by_place (record { file = file; section = section; offset = offset }))
+    (get place_cmp h.by_place (place_at file section offset))
 
 -- the first PCREL_HI20 that has moved to an offset
 abbrev pub high_to : (ℕ → ℕ) → ℕ → List Relocation → Option Relocation

@@ -16,26 +16,18 @@ ghost use Rattle.rv_placement.specs.Placement.{placed_at};
 ghost use Rattle.rv_link_values.specs.Highs.{found, high_to, high_in, high_of, HasBefore, HasFileBefore};
 
 use rv_isa::Kind;
-use rv_object_types::Relocation;
+use rv_object_types::{FileIndex, Place, Relocation, SectionIndex};
 use rv_placement::{PlacedSection, Placement};
 use rv_relax::SectionPaddings;
 use rv_shorten::{ShortObject, ShortSection};
 use std::alloc::{AllocError, Global};
 use std::collections::BTreeMap;
 
-/// Where a field stands: its file and its section there, both from 0, and its offset in what is kept
-/// of that section.
-#[derive(Clone, Copy, PartialEq, Eq, PartialOrd, Ord, Drop)]
-pub(crate) struct HighPlace {
-    pub(crate) file: usize,
-    pub(crate) section: usize,
-    pub(crate) offset: u64,
-}
-
-/// The first PCREL_HI20 at each place, in the order of places: a file can choose places of one hash.
+/// The first PCREL_HI20 at each place, in the order of places: a file can choose places of one hash. Offsets are those in what is
+/// kept of a section.
 #[derive(Drop)]
 pub(crate) struct Highs {
-    pub(crate) by_place: BTreeMap<HighPlace, Relocation>,
+    pub(crate) by_place: BTreeMap<Place, Relocation>,
 }
 
 /// Whether a relocation is the high part of a distance.
@@ -59,40 +51,35 @@ impl Highs {
             by_place: BTreeMap::new(alloc),
         };
         for (file, object) in objects.iter().enumerate() {
-            highs.add_object(file, object, placement)?;
+            highs.add_object(FileIndex(file), object, placement)?;
         }
         Ok(highs)
     }
 
     /// The high part at a place.
-    pub(crate) fn at(&self, file: usize, section: usize, offset: u64) -> Option<Relocation>
-        ensures { option_map relocation_of result ≡ found self.now file section offset }
+    pub(crate) fn at(&self, place: Place) -> Option<Relocation>
+        ensures { option_map relocation_of result
+            ≡ found self.now place.file.0 place.section.0 place.offset }
     {
-        self.by_place
-            .get(&HighPlace {
-                file,
-                section,
-                offset,
-            })
-            .copied()
+        self.by_place.get(&place).copied()
     }
 
     /// Adds the high parts of an object.
     fn add_object(
         &mut self,
-        file: usize,
+        file: FileIndex,
         object: &ShortObject<'_, '_>,
         placement: &Placement<'_>,
     ) -> Result<(), AllocError>
-        ensures { OnOk result (HasFileBefore self.old self.new file (λ s offset.
-            high_in (placed_at placement.now file s)
+        ensures { OnOk result (HasFileBefore self.old self.new file.0 (λ s offset.
+            high_in (placed_at placement.now file.0 s)
             (slice_get (short_object_of object.now).sections s) offset)) }
     {
-        let Some(places) = placement.files.get(file) else {
+        let Some(places) = placement.files.get(file.0) else {
             return Ok(());
         };
         for (index, section) in object.sections.iter().enumerate() {
-            self.add_section(file, index, section, places)?;
+            self.add_section(file, SectionIndex(index), section, places)?;
         }
         Ok(())
     }
@@ -100,15 +87,15 @@ impl Highs {
     /// Adds the high parts of a section, if it has a place.
     fn add_section(
         &mut self,
-        file: usize,
-        index: usize,
+        file: FileIndex,
+        index: SectionIndex,
         section: &ShortSection<'_, '_>,
         places: &[PlacedSection<'_>],
     ) -> Result<(), AllocError>
-        ensures { OnOk result (HasBefore self.old self.new file index
-            (high_in (slice_get places.now index) (Some (short_section_of section.now)))) }
+        ensures { OnOk result (HasBefore self.old self.new file.0 index.0
+            (high_in (slice_get places.now index.0) (Some (short_section_of section.now)))) }
     {
-        match places.get(index) {
+        match places.get(index.0) {
             Some(place) => self.add_all(file, index, section, place.plan),
             None => Ok(()),
         }
@@ -118,12 +105,12 @@ impl Highs {
     /// stays.
     fn add_all(
         &mut self,
-        file: usize,
-        index: usize,
+        file: FileIndex,
+        index: SectionIndex,
         section: &ShortSection<'_, '_>,
         plan: &SectionPaddings,
     ) -> Result<(), AllocError>
-        ensures { OnOk result (HasBefore self.old self.new file index (λ offset.
+        ensures { OnOk result (HasBefore self.old self.new file.0 index.0 (λ offset.
             high_to (new_offset (moves_of plan.now)) offset
             (short_section_of section.now).relocations)) }
     {
@@ -138,13 +125,13 @@ impl Highs {
     /// Adds a relocation of a section, if it is a high part, in place of another that stands where it does.
     fn add(
         &mut self,
-        file: usize,
-        index: usize,
+        file: FileIndex,
+        index: SectionIndex,
         section: &ShortSection<'_, '_>,
         plan: &SectionPaddings,
         relocation: &Relocation,
     ) -> Result<(), AllocError>
-        ensures { OnOk result (HasBefore self.old self.new file index (λ offset.
+        ensures { OnOk result (HasBefore self.old self.new file.0 index.0 (λ offset.
             high_to (new_offset (moves_of plan.now)) offset
             (cut_relocation (moves_in section.now) (relocation_of relocation.now) ∷ []))) }
     {
@@ -153,7 +140,7 @@ impl Highs {
             return Ok(());
         }
         let relocation = section.relocation(relocation);
-        let place = HighPlace {
+        let place = Place {
             file,
             section: index,
             offset: plan.new_offset(relocation.place),

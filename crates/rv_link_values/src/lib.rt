@@ -12,7 +12,7 @@
 //! let values = Values::of(alloc, &resolution, &placement)?;                // finds the high parts, once
 //! let section = &resolution.objects[0].sections[0];
 //! let relocation = section.relocation(&section.whole.relocations[0]);
-//! let value = values.value(0, 0, &relocation)?;                      // Err(Dangling), if it has none
+//! let value = values.value(FileIndex(0), SectionIndex(0), &relocation)?;     // Err(Dangling), if it has none
 //! rv_reloc::patch(&mut field, relocation.kind, value)?;
 //! ```
 //!

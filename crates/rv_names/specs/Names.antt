@@ -9,7 +9,7 @@ use Rattle.std.specs.List.{slice_get}
 use Rattle.std.specs.Ordering.{nat_cmp}
 use Rattle.rv_map_laws.specs.Globals.{AreDistinct}
 use Rattle.rv_object_laws.specs.Object.{Object}
-use Rattle.rv_link_laws.specs.Names.{Export, global_names, Place}
+use Rattle.rv_link_laws.specs.Names.{Export, global_names}
 use Rattle.rv_names.specs.declared.fault.ResolveFault.{ResolveFault}
 use Rattle.rv_names.specs.declared.fault.ResolveFault.TheVariants.{Duplicate, OutOfMemory}
 use Rattle.rv_names.specs.declared.definitions.Exported.{Exported}
@@ -21,7 +21,7 @@ use Rattle.rv_link_laws.specs.Exports.{first_again}
 
 -- what is kept of a symbol that defines a name for all files
 abbrev pub exported_of : Definer → Exported
-exported_of d = record { file = d.file; symbol = d.symbol }
+exported_of d = record { file = record { 0 = d.file }; symbol = record { 0 = d.symbol } }
 
 -- a name is answered with the first of these that has it
 abbrev pub AnswersFirst : List Definer → Definitions → Type 0
@@ -54,9 +54,9 @@ outside ds s = if s.sure then None else option_map exported_of (first_named ds s
 
 -- a definition is the symbol at an index of a file
 pub record IsAt (os : List Object) (x : Exported) (e : Export) : Type 0 where
-  pub file : x.file + 1 ≡ e.file
-  pub object : slice_get os x.file ≡ Some e.object
-  pub symbol : slice_get e.object.symbols x.symbol ≡ Some e.symbol
+  pub file : x.file.0 + 1 ≡ e.file
+  pub object : slice_get os x.file.0 ≡ Some e.object
+  pub symbol : slice_get e.object.symbols x.symbol.0 ≡ Some e.symbol
 
 -- what the table has for a symbol, by its file and its index there, both from 0
 abbrev pub meant_at : Meanings → ℕ → ℕ → Option Exported
@@ -83,7 +83,3 @@ pub record IsNames (os : List Object) (names : Names) : Type 0 where
   pub answers : AnswersFirst (definitions os) names.definitions
   pub distinct : AreDistinct (global_names os)
   pub meanings : AreMeanings os names.meanings
-
--- a place, of which the code counts files from 0
-abbrev pub place_of : ℕ × ℕ × ℕ → Place
-place_of p = record { file = p.0 + 1; section = p.1; offset = p.2 }

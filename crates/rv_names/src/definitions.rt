@@ -12,16 +12,16 @@ ghost use Rattle.rv_names.specs.Names.{AnswersFirst, IsDefinitionTable, IsRefuse
 
 use crate::fault::ResolveFault;
 use crate::symbol::{is_global_definition, is_weak_definition};
-use rv_object_types::{Object, Symbol};
+use rv_object_types::{FileIndex, Object, Symbol, SymbolIndex};
 use std::alloc::{AllocError, Global};
 use std::collections::BTreeMap;
 
-/// A symbol that is a definition for all files, by its file and its index there, both from 0: so it stays the same, wherever
-/// what it defines moves.
+/// A symbol that is a definition for all files, by its file and its index there: so it stays the same, wherever what it defines
+/// moves.
 #[derive(Clone, Copy, Drop)]
 pub struct Exported {
-    pub file: usize,
-    pub symbol: usize,
+    pub file: FileIndex,
+    pub symbol: SymbolIndex,
 }
 
 /// The definitions that names mean in all files, by name: in the order of the names, which costs the same whatever names a file
@@ -62,23 +62,23 @@ impl<'o> Definitions<'o> {
             by_name: BTreeMap::new(alloc),
         };
         for file in 0..objects.len() {
-            definitions.put_all(file, objects[file].symbols.as_slice())?;
+            definitions.put_all(FileIndex(file), objects[file].symbols.as_slice())?;
         }
         Ok(definitions)
     }
 
     /// Adds the global definitions among the symbols of a file.
-    fn put_all(&mut self, file: usize, symbols: &[Symbol<'o>]) -> Result<(), ResolveFault<'o>>
+    fn put_all(&mut self, file: FileIndex, symbols: &[Symbol<'o>]) -> Result<(), ResolveFault<'o>>
         ensures added { OnOk result ((ds : List Definer) → IsDefinitionTable ds self.old
             → IsDefinitionTable (ds
-            ++ definers_in is_global file 0 (map seen (map symbol_of symbols.now)))
+            ++ definers_in is_global file.0 0 (map seen (map symbol_of symbols.now)))
             self.new) }
         ensures refuses { IfErr result (λ fault. (ds : List Definer) → IsDefinitionTable ds self.old
             → IsRefused fault
-            (ds ++ definers_in is_global file 0 (map seen (map symbol_of symbols.now)))) }
+            (ds ++ definers_in is_global file.0 0 (map seen (map symbol_of symbols.now)))) }
     {
         for index in 0..symbols.len() {
-            self.put(file, index, &symbols[index])?;
+            self.put(file, SymbolIndex(index), &symbols[index])?;
         }
         Ok(())
     }
@@ -86,17 +86,17 @@ impl<'o> Definitions<'o> {
     /// Adds a symbol of a file, by its index there, if it is a global definition.
     fn put(
         &mut self,
-        file: usize,
-        index: usize,
+        file: FileIndex,
+        index: SymbolIndex,
         symbol: &Symbol<'o>,
     ) -> Result<(), ResolveFault<'o>>
         ensures added { OnOk result ((ds : List Definer) → IsDefinitionTable ds self.old
             → IsDefinitionTable (ds
-            ++ definers_at is_global file index (seen (symbol_of symbol.now)))
+            ++ definers_at is_global file.0 index.0 (seen (symbol_of symbol.now)))
             self.new) }
         ensures refuses { IfErr result (λ fault. (ds : List Definer) → IsDefinitionTable ds self.old
             → IsRefused fault
-            (ds ++ definers_at is_global file index (seen (symbol_of symbol.now)))) }
+            (ds ++ definers_at is_global file.0 index.0 (seen (symbol_of symbol.now)))) }
     {
         if !is_global_definition(symbol) {
             return Ok(());
@@ -118,19 +118,19 @@ impl<'o> Definitions<'o> {
             self.new) }
     {
         for file in 0..objects.len() {
-            self.put_weak_of(file, objects[file].symbols.as_slice())?;
+            self.put_weak_of(FileIndex(file), objects[file].symbols.as_slice())?;
         }
         Ok(())
     }
 
     /// Adds those among the symbols of a file.
-    fn put_weak_of(&mut self, file: usize, symbols: &[Symbol<'o>]) -> Result<(), AllocError>
+    fn put_weak_of(&mut self, file: FileIndex, symbols: &[Symbol<'o>]) -> Result<(), AllocError>
         ensures { OnOk result ((ds : List Definer) → AnswersFirst ds self.old
-            → AnswersFirst (ds ++ definers_in is_weak file 0 (map seen (map symbol_of symbols.now)))
+            → AnswersFirst (ds ++ definers_in is_weak file.0 0 (map seen (map symbol_of symbols.now)))
             self.new) }
     {
         for index in 0..symbols.len() {
-            self.put_weak_one(file, index, &symbols[index])?;
+            self.put_weak_one(file, SymbolIndex(index), &symbols[index])?;
         }
         Ok(())
     }
@@ -138,12 +138,12 @@ impl<'o> Definitions<'o> {
     /// Adds a symbol of a file, by its index there, if it is a weak definition and its name is new.
     fn put_weak_one(
         &mut self,
-        file: usize,
-        index: usize,
+        file: FileIndex,
+        index: SymbolIndex,
         symbol: &Symbol<'o>,
     ) -> Result<(), AllocError>
         ensures { OnOk result ((ds : List Definer) → AnswersFirst ds self.old
-            → AnswersFirst (ds ++ definers_at is_weak file index (seen (symbol_of symbol.now)))
+            → AnswersFirst (ds ++ definers_at is_weak file.0 index.0 (seen (symbol_of symbol.now)))
             self.new) }
     {
         if !is_weak_definition(symbol) {

@@ -13,7 +13,7 @@
 //!
 //! ```text
 //! let names = Names::of(alloc, &objects)?;
-//! let exported = names.named(b"main");                    // Some(Exported { file: 0, symbol: 3 })
+//! let exported = names.named(b"main");     // Some(Exported { file: FileIndex(0), symbol: SymbolIndex(3) })
 //! let place = names.entry_place(&objects);
 //! ```
 //!

@@ -14,7 +14,7 @@ ghost use Rattle.rv_names.specs.Names.{AnswersFirst, exported_of, outside, meant
 
 use crate::definitions::{Definitions, Exported};
 use crate::symbol::is_sure;
-use rv_object_types::{Object, Symbol};
+use rv_object_types::{FileIndex, Object, Symbol, SymbolIndex};
 use std::alloc::{AllocError, Global};
 
 /// How many names are remembered.
@@ -33,8 +33,7 @@ const MIXER: u64 = 0x9E37_79B9_7F4A_7C15;
 /// relocations refer to it.
 #[derive(Drop)]
 pub(crate) struct Meanings {
-    /// What a symbol means, by its file and its index there, both from 0; none where its own object surely defines it,
-    /// or no object does.
+    /// What a symbol means, by its file and its index there; none where its own object surely defines it, or no object does.
     pub(crate) files: Vec<Vec<Option<Exported>>>,
 }
 
@@ -49,7 +48,7 @@ impl Meanings {
             → IfOk result (AreMeanings (map object_of objects.now)) }
     {
         let mut files = Vec::new(alloc);
-        let mut latest = [(0, 0); SLOTS];
+        let mut latest = [(FileIndex(0), SymbolIndex(0)); SLOTS];
         for file in 0..objects.len() {
             let symbols = objects[file].symbols.as_slice();
             let row = file_meanings(
@@ -58,7 +57,7 @@ impl Meanings {
                 objects,
                 files.as_slice(),
                 &mut latest,
-                file,
+                FileIndex(file),
                 symbols,
             )?;
             files.push(row)?;
@@ -66,12 +65,12 @@ impl Meanings {
         Ok(Meanings { files })
     }
 
-    /// What a symbol means, by its file and its index there, both from 0, if its own object does not surely define it.
-    pub(crate) fn at(&self, file: usize, index: u32) -> Option<Exported>
-        ensures { result ≡ meant_at self.now file index }
+    /// What a symbol means, by its file and its index there, if its own object does not surely define it.
+    pub(crate) fn at(&self, file: FileIndex, index: SymbolIndex) -> Option<Exported>
+        ensures { result ≡ meant_at self.now file.0 index.0 }
     {
-        let row = self.files.get(file)?;
-        *row.get(index as usize)?
+        let row = self.files.get(file.0)?;
+        *row.get(index.0)?
     }
 }
 
@@ -82,8 +81,8 @@ fn file_meanings(
     definitions: &Definitions<'_>,
     objects: &[Object<'_>],
     rows: &[Vec<Option<Exported>>],
-    latest: &mut [(usize, usize); SLOTS],
-    file: usize,
+    latest: &mut [(FileIndex, SymbolIndex); SLOTS],
+    file: FileIndex,
     symbols: &[Symbol<'_>],
 ) -> Result<Vec<Option<Exported>>, AllocError>
     ensures { IfOk result (λ row. (ds : List Definer) → AnswersFirst ds definitions.now
@@ -97,7 +96,7 @@ fn file_meanings(
             objects,
             rows,
             latest,
-            (file, index),
+            (file, SymbolIndex(index)),
             &symbols[index],
         ))?;
     }
@@ -109,8 +108,8 @@ fn meaning(
     definitions: &Definitions<'_>,
     objects: &[Object<'_>],
     rows: &[Vec<Option<Exported>>],
-    latest: &mut [(usize, usize); SLOTS],
-    place: (usize, usize),
+    latest: &mut [(FileIndex, SymbolIndex); SLOTS],
+    at: (FileIndex, SymbolIndex),
     symbol: &Symbol<'_>,
 ) -> Option<Exported>
     ensures { (ds : List Definer) → AnswersFirst ds definitions.now
@@ -124,26 +123,27 @@ fn meaning(
     match known(objects, rows, latest[slot], symbol.name) {
         Some(meaning) => meaning,
         None => {
-            latest[slot] = place;
+            latest[slot] = at;
             definitions.by_name.get(symbol.name).copied()
         }
     }
 }
 
-/// What a name means, if the symbol at a place has it: a file before, and an index there.
+/// What a name means, if the symbol at an index of a file before has it.
 fn known(
     objects: &[Object<'_>],
     rows: &[Vec<Option<Exported>>],
-    place: (usize, usize),
+    at: (FileIndex, SymbolIndex),
     name: &[u8],
 ) -> Option<Option<Exported>>
     ensures { (ds : List Definer) → AreRows ds (map object_of objects.now) rows.now
         → IfSome result (λ x. x ≡ option_map exported_of (first_named ds name.now)) }
 {
-    let row = rows.get(place.0)?;
-    let found = row.get(place.1)?;
-    let object = objects.get(place.0)?;
-    let symbol = object.symbols.get(place.1)?;
+    let (file, index) = at;
+    let row = rows.get(file.0)?;
+    let found = row.get(index.0)?;
+    let object = objects.get(file.0)?;
+    let symbol = object.symbols.get(index.0)?;
     if is_sure(symbol.binding, symbol.definition) {
         return None;
     }

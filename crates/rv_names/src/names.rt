@@ -20,7 +20,7 @@ ghost use Rattle.rv_names.specs.Names.{IsNames, IsDuplicate, exported_of};
 use crate::definitions::{Definitions, Exported};
 use crate::fault::ResolveFault;
 use crate::meanings::Meanings;
-use rv_object_types::Object;
+use rv_object_types::{FileIndex, Object, SymbolIndex};
 use std::alloc::Global;
 
 /// The definitions that names mean in all files, and which of them each symbol means.
@@ -55,11 +55,10 @@ impl<'o> Names<'o> {
         self.definitions.by_name.get(name).copied()
     }
 
-    /// The symbol that defines what the symbol at an index of a file means, both from 0, if its own object does not surely define
-    /// it.
-    pub fn outside(&self, file: usize, index: u32) -> Option<Exported>
+    /// The symbol that defines what the symbol at an index of a file means, if its own object does not surely define it.
+    pub fn outside(&self, file: FileIndex, index: SymbolIndex) -> Option<Exported>
         ensures { (os : List SaidObject) (o : SaidObject) (s : SaidSymbol) → IsNames os self.now
-            → slice_get os file ≡ Some o → slice_get o.symbols index ≡ Some s
+            → slice_get os file.0 ≡ Some o → slice_get o.symbols index.0 ≡ Some s
             → is_sure s ≡ false → result ≡ option_map exported_of (definer os s.name) }
     {
         self.meanings.at(file, index)

@@ -2,6 +2,8 @@
 pub mod Alignments
 -- What the parts of an object stand for.
 pub mod Parts
+-- What a place of the code stands for.
+pub mod Places
 -- What a section of the code stands for.
 pub mod Sections
 -- What an object of the code stands for.

@@ -8,6 +8,9 @@
 //! Padding in code is written and counted here, as the assembler and the linker both do it, and sections tell whether they go to
 //! the text ([`Section::is_text`]) and at which multiple they begin ([`Section::begins_at`]).
 //!
+//! The linker knows files, sections and symbols by their indices ([`FileIndex`], [`SectionIndex`], [`SymbolIndex`]), and where
+//! something stands by its [`Place`].
+//!
 //! It knows neither statements nor addresses.
 //!
 //! ```text
@@ -23,6 +26,7 @@ mod contents;
 mod law;
 mod object;
 mod padding;
+mod place;
 mod relocation;
 mod section;
 mod symbol;
@@ -31,6 +35,7 @@ pub use contents::Contents;
 pub use law::objects_are_whole;
 pub use object::Object;
 pub use padding::{operations, put_no_operations};
+pub use place::{FileIndex, Place, SectionIndex, SymbolIndex};
 pub use relocation::Relocation;
 pub use rv_object_laws::{Binding, Definition, Row};
 pub use section::Section;

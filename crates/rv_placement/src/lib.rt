@@ -11,7 +11,7 @@
 //! ```text
 //! let placement = Placement::of(alloc, &plan, 0x10000)?;
 //! let first = &placement.files[0][0];                         // PlacedSection { start: 0x10000, .. }
-//! let address = placement.address(&objects, 0, 0, 8);         // Some(0x10008), where no byte before it is dropped
+//! let address = placement.address(&objects, place);           // Some(0x10008), where no byte before it is dropped
 //! let rows = placement.rows(alloc, &objects)?;
 //! ```
 //!

@@ -16,6 +16,7 @@ use crate::regions::{Regions, regions_behind};
 use crate::text::put_files;
 use rv_image::MEMORY_LIMIT;
 use rv_map_laws::Region;
+use rv_object_types::{FileIndex, Place, SectionIndex};
 use rv_relax::{Plan, SectionPaddings};
 use rv_shorten::{ShortObject, ShortSection};
 use std::alloc::Global;
@@ -57,17 +58,17 @@ fn memory_of(text: Region, behind: Regions) -> u64
         + behind.bss.end.saturating_sub(behind.data.start)
 }
 
-/// The section of an object, by that one's place, from 0, and its own index there.
+/// A section of a file.
 pub(crate) fn section_at<'s, 'o, 'a>(
     objects: &'s [ShortObject<'o, 'a>],
-    file: usize,
-    index: u32,
+    file: FileIndex,
+    index: SectionIndex,
 ) -> Option<&'s ShortSection<'o, 'a>>
     ensures { option_map (λ s. short_section_of s.now) result
-        ≡ laws.object_section (map short_object_of objects.now) file index }
+        ≡ laws.object_section (map short_object_of objects.now) file.0 index.0 }
 {
-    let object = objects.get(file)?;
-    object.sections.get(index as usize)
+    let object = objects.get(file.0)?;
+    object.sections.get(index.0)
 }
 
 impl<'p> Placement<'p> {
@@ -118,34 +119,31 @@ impl<'p> Placement<'p> {
         })
     }
 
-    /// The place of a section by its object, from 0, and its index there.
-    pub(crate) fn section(&self, file: usize, index: u32) -> Option<&PlacedSection<'p>>
-        ensures { option_map (λ q. q.now) result ≡ placed_at self.now file index }
+    /// Where a section of a file stands, with what is kept of it.
+    pub fn section(&self, file: FileIndex, index: SectionIndex) -> Option<&PlacedSection<'p>>
+        ensures { option_map (λ q. q.now) result ≡ placed_at self.now file.0 index.0 }
     {
-        let section = self.files.get(file)?;
-        section.get(index as usize)
+        let section = self.files.get(file.0)?;
+        section.get(index.0)
     }
 
-    /// The address of an old offset in a section, by its object, from 0, and its index there; none
-    /// where it has no place in memory.
-    pub fn address(
-        &self,
-        objects: &[ShortObject<'_, '_>],
-        file: usize,
-        section: u32,
-        offset: u64,
-    ) -> Option<u64>
+    /// The address of a place of the objects; none where its section has none.
+    pub fn address(&self, objects: &[ShortObject<'_, '_>], place: Place) -> Option<u64>
         ensures { (start : ℕ) (o : PlainObject)
             → IsPlacement (map short_object_of objects.now) start self.now
-            → slice_get (map short_object_of objects.now) file ≡ Some o
-            → result ≡ offset_address (starts_of self.now (file + 1) section) offset
-            (slice_get o.sections section) }
+            → slice_get (map short_object_of objects.now) place.file.0 ≡ Some o
+            → result ≡ offset_address (starts_of self.now (place.file.0 + 1) place.section.0)
+            place.offset (slice_get o.sections place.section.0) }
     {
-        let stands = section_at(objects, file, section)?;
-        let place = self.section(file, section)?;
+        let stands = section_at(objects, place.file, place.section)?;
+        let placed = self.section(place.file, place.section)?;
         if !stands.whole.loaded {
             return None;
         }
-        Some(place.start.wrapping_add(place.plan.new_offset(offset)))
+        Some(
+            placed
+                .start
+                .wrapping_add(placed.plan.new_offset(place.offset)),
+        )
     }
 }

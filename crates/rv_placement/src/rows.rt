@@ -19,7 +19,7 @@ ghost use Rattle.rv_placement.specs.Placement.{starts_of, IsPlacement};
 
 use crate::placement::{PlacedSection, Placement};
 use rv_map_laws::Row as MapRow;
-use rv_object_types::Row;
+use rv_object_types::{FileIndex, Row, SectionIndex};
 use rv_shorten::ShortObject;
 use std::alloc::{AllocError, Global};
 
@@ -61,49 +61,49 @@ fn by_ordinal(alloc: Global, rows: &[Row]) -> Result<Vec<Row>, AllocError>
 }
 
 impl<'p> Placement<'p> {
-    /// Adds rows of an object, by its place, from 0, as its cuts have moved them.
+    /// Adds rows of an object, which is a file, as its cuts have moved them.
     fn put_rows(
         &self,
         rows: &mut Vec<MapRow>,
         object: &ShortObject<'_, '_>,
-        file: usize,
+        file: FileIndex,
         own: &[Row],
     ) -> Result<(), AllocError>
-        requires file { file + 1 < 2 ^ 64 }
+        requires file { file.0 + 1 < 2 ^ 64 }
         requires own { IsTrue
             (are_rows (short_object_of object.now).sections (moved_rows object.now own.now)) }
         ensures known { OnOk result (All IsRow rows.old.items → All IsRow rows.new.items) }
         ensures added { (os : List PlainObject) (start : ℕ) → IsPlacement os start self.now
-            → slice_get os file ≡ Some (short_object_of object.now)
+            → slice_get os file.0 ≡ Some (short_object_of object.now)
             → IfOk result (λ _. rows.new.items ≡ rows.old.items
-            ++ map (laws.row_in (starts_of self.now) (file + 1) (short_object_of object.now))
+            ++ map (laws.row_in (starts_of self.now) (file.0 + 1) (short_object_of object.now))
             (moved_rows object.now own.now)) }
     {
         rows.reserve(own.len())?;
         for row in own {
             let moved = object.row(row);
-            match self.section(file, row.section) {
-                Some(place) => rows.push(map_row(file as u64 + 1, place, &moved))?,
+            match self.section(file, SectionIndex(row.section as usize)) {
+                Some(place) => rows.push(map_row(file.0 as u64 + 1, place, &moved))?,
                 None => return Ok(()),
             }
         }
         Ok(())
     }
 
-    /// Adds the rows of an object, by its place, from 0, in the order of their ordinals.
+    /// Adds the rows of an object, which is a file, in the order of their ordinals.
     fn put_object(
         &self,
         alloc: Global,
         rows: &mut Vec<MapRow>,
         object: &ShortObject<'_, '_>,
-        file: usize,
+        file: FileIndex,
     ) -> Result<(), AllocError>
-        requires { file + 1 < 2 ^ 64 }
+        requires { file.0 + 1 < 2 ^ 64 }
         ensures known { OnOk result (All IsRow rows.old.items → All IsRow rows.new.items) }
         ensures added { (os : List PlainObject) (start : ℕ) → IsPlacement os start self.now
-            → slice_get os file ≡ Some (short_object_of object.now)
+            → slice_get os file.0 ≡ Some (short_object_of object.now)
             → IfOk result (λ _. rows.new.items ≡ rows.old.items
-            ++ map (laws.row_in (starts_of self.now) (file + 1) (short_object_of object.now))
+            ++ map (laws.row_in (starts_of self.now) (file.0 + 1) (short_object_of object.now))
             (laws.by_ordinal (short_object_of object.now).rows)) }
     {
         let own = object.whole.rows.as_slice();
@@ -127,7 +127,7 @@ impl<'p> Placement<'p> {
     {
         let mut rows = Vec::new(alloc);
         for i in 0..objects.len() {
-            self.put_object(alloc, &mut rows, &objects[i], i)?;
+            self.put_object(alloc, &mut rows, &objects[i], FileIndex(i))?;
         }
         Ok(rows)
     }

@@ -11,7 +11,7 @@ returns-in_err-definition c = λ e at.
 pub returns : goal.returns
 returns c = λ e at.
     let next = at.file in
-    let file : c.args.exported.file ≡ e.file - 1 = omega (next, arith) in
+    let file : c.args.exported.file.0 ≡ e.file - 1 = omega (next, arith) in
     let meant : Symbol → Meant = λ s. record { file = c.args.exported.file; definition = s.definition } in
     let same : Some (with_definition (c.in_ok-definition.field-0-0, c.in_ok-definition.definition)) ≡ Some e.symbol = c.in_ok-definition.ensures e.object at.object ∙ at.symbol in
-    ap (option_map meant) same ∙ ap (λ n. Some (record { file = n; definition = e.symbol.definition })) file
+    ap (option_map meant) same ∙ ap (λ n. Some (record { file = record { 0 = n }; definition = e.symbol.definition })) file

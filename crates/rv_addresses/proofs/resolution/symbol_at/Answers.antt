@@ -14,8 +14,8 @@ returns c = λ o at.
     let file = c.in_ok-object.ensures.lookup in
     let symbol = c.in_ok-symbol.ensures.lookup in
     let same : Some (short_object_of x) ≡ Some o =
-    sym (slice_get-map short_object_of xs c.args.file ∙ ap (option_map short_object_of) (slice_get_read xs (length xs) c.args.file x refl file.3.0 file.1)) ∙ at in
+    sym (slice_get-map short_object_of xs c.args.file.0 ∙ ap (option_map short_object_of) (slice_get_read xs (length xs) c.args.file.0 x refl file.3.0 file.1)) ∙ at in
     let own : short_object_of x ≡ o = cc in
     ap (λ d. Some (record (symbol_of c.in_ok-symbol.symbol.now) { definition = d })) c.definition.ensures
-    ∙ sym (symbol_there x c.deref.result.now c.args.index c.deref.ensures.value c.in_ok-symbol.symbol.now symbol.3.0 symbol.1)
-    ∙ ap (λ (p : Object). slice_get p.symbols c.args.index) own
+    ∙ sym (symbol_there x c.deref.result.now c.args.index.0 c.deref.ensures.value c.in_ok-symbol.symbol.now symbol.3.0 symbol.1)
+    ∙ ap (λ (p : Object). slice_get p.symbols c.args.index.0) own

@@ -8,6 +8,6 @@ use Rattle.rv_collect.proofs.collection.put_drops.Given as goal
 abbrev pub invariant-loop-index : goal.invariant-loop-index
 invariant-loop-index l = record {
   known : All (λ d. IsDrop d) l.fn.drops.items → All (λ d. IsDrop d) l.drops.items;
-  dropped : l.drops.items ++ dropped_from (drops_in (map section_of l.sections) l.marks) l.file l.index (map section_of (drop l.index l.sections))
-      ≡ l.fn.drops.items ++ dropped_from (drops_in (map section_of l.sections) l.marks) l.file 0 (map section_of l.sections);
+  dropped : l.drops.items ++ dropped_from (drops_in (map section_of l.sections) l.marks) l.file.0 l.index (map section_of (drop l.index l.sections))
+      ≡ l.fn.drops.items ++ dropped_from (drops_in (map section_of l.sections) l.marks) l.file.0 0 (map section_of l.sections);
 }

@@ -10,7 +10,7 @@ use Rattle.rv_collect.proofs.walk.target.Goals as goal
 pub returns : goal.returns
 returns c = λ names at.
     let os = map object_of c.args.objects.now in
-    let file = c.args.file in
+    let file = c.args.file.0 in
     let o = object_of c.args.object.now in
     let i = c.in_ok-index.index in
     let is : c.args.relocation.now.symbol ≡ Some i = search rules in

@@ -19,9 +19,9 @@ returns-then-input c =
     let r = relocation_of c.args.relocation.now in
     let words : laws.are_call_words (stored i.section.contents) r.place ≡ true =
     ap (λ l. laws.are_call_words l r.place) (sym c.stored-bytes.ensures) ∙ sym c.are_call_words.ensures ∙ c.if-not-are_call_words.false in
-    let target = c.in_ok-target.ensures i refl c.requires.given.at in
-    let inside = slice_get_within (object_of c.args.input.now.object.now).sections c.args.input.now.index (section_of c.args.input.now.section.now) c.requires.given.there in
-    let entered = sym (c.is_entered.ensures (object_of c.args.input.now.object.now) c.requires.given.entries inside) ∙ c.if-is_entered.false in
+    let target = c.in_ok-target.ensures i refl c.requires.given.among.at in
+    let inside = slice_get_within (object_of c.args.input.now.object.now).sections c.args.input.now.index.0 (section_of c.args.input.now.section.now) c.requires.given.among.there in
+    let entered = sym (c.is_entered.ensures (object_of c.args.input.now.object.now) c.requires.given.among.entries inside) ∙ c.if-is_entered.false in
     let link = c.link_register.ensures.value ∙ ap (λ l. laws.link_register l r.place) c.stored-bytes.ensures in
     let short = ap (λ n. n == 0) link ∙ sym (ap (λ b. b && (laws.link_register (stored i.section.contents) r.place == 0)) c.if-input.true) in
     let added = c.constant.ensures ∙ ap (λ a. int_wrap w64 (a +ℤ pos c.in_ok-target.target.past_end)) (to_z-of_z w64 c.args.relocation.now.addend (search rules)) in
@@ -36,9 +36,9 @@ returns-else-input c =
     let r = relocation_of c.args.relocation.now in
     let words : laws.are_call_words (stored i.section.contents) r.place ≡ true =
     ap (λ l. laws.are_call_words l r.place) (sym c.stored-bytes.ensures) ∙ sym c.are_call_words.ensures ∙ c.if-not-are_call_words.false in
-    let target = c.in_ok-target.ensures i refl c.requires.given.at in
-    let inside = slice_get_within (object_of c.args.input.now.object.now).sections c.args.input.now.index (section_of c.args.input.now.section.now) c.requires.given.there in
-    let entered = sym (c.is_entered.ensures (object_of c.args.input.now.object.now) c.requires.given.entries inside) ∙ c.if-is_entered.false in
+    let target = c.in_ok-target.ensures i refl c.requires.given.among.at in
+    let inside = slice_get_within (object_of c.args.input.now.object.now).sections c.args.input.now.index.0 (section_of c.args.input.now.section.now) c.requires.given.among.there in
+    let entered = sym (c.is_entered.ensures (object_of c.args.input.now.object.now) c.requires.given.among.entries inside) ∙ c.if-is_entered.false in
     let rvc = c.args.input.now.object.now.rvc in
     let short = c.if-input.false ∙ sym (ap (λ b. b && (laws.link_register (stored i.section.contents) r.place == 0)) c.if-input.false) in
     let added = c.constant.ensures ∙ ap (λ a. int_wrap w64 (a +ℤ pos c.in_ok-target.target.past_end)) (to_z-of_z w64 c.args.relocation.now.addend (search rules)) in

@@ -10,6 +10,6 @@ invariant-loop-index l =
     let o = object_of l.object in
     let os = objects_of l.text in
     record {
-      sites : l.sites.items ++ object_sites os (l.file + 1) o l.index l.stop (drop l.index o.sections) ≡ l.fn.sites.items ++ object_sites os (l.file + 1) o 0 l.first o.sections;
+      sites : l.sites.items ++ object_sites os (l.file.0 + 1) o l.index l.stop (drop l.index o.sections) ≡ l.fn.sites.items ++ object_sites os (l.file.0 + 1) o 0 l.first o.sections;
       ends : ended l.stop (drop l.index o.sections) ≡ ended l.first o.sections;
     }

@@ -11,8 +11,8 @@ pub returns : goal.returns
 returns c = λ ds has.
     let os = c.args.objects.now in
     let rows = c.args.rows.now in
-    let file = c.args.place.0 in
-    let index = c.args.place.1 in
+    let file = c.args.at.0.0 in
+    let index = c.args.at.1.0 in
     let row = c.in_ok-row.row.now in
     let found = c.in_ok-found.found.now in
     let o = c.in_ok-object.object.now in

@@ -12,11 +12,11 @@ returns c = λ e at.
     let xs = c.args.objects.now in
     let x = c.in_ok-object.object.now in
     let s = symbol_of c.in_ok-symbol.symbol.now in
-    let i = c.args.exported.symbol in
+    let i = c.args.exported.symbol.0 in
     let file = c.in_ok-object.ensures.lookup in
     let symbol = c.in_ok-symbol.ensures.lookup in
     let same : Some (object_of x) ≡ Some e.object =
-    sym (slice_get-map object_of xs c.args.exported.file ∙ ap (option_map object_of) (slice_get_read xs (length xs) c.args.exported.file x refl file.3.0 file.1)) ∙ at.object in
+    sym (slice_get-map object_of xs c.args.exported.file.0 ∙ ap (option_map object_of) (slice_get_read xs (length xs) c.args.exported.file.0 x refl file.3.0 file.1)) ∙ at.object in
     let own : object_of x ≡ e.object = cc in
     let there : slice_get e.object.symbols i ≡ Some s =
     ap (λ (p : Object). slice_get p.symbols i) (sym own) ∙ ap (λ l. slice_get (map symbol_of l) i) (sym c.deref.ensures.value) ∙ slice_get-map symbol_of c.deref.result.now i

@@ -19,7 +19,7 @@ returns-then-can_begin c = λ start stands.
     c.defined_address.ensures start k.export.object stands k.at
     ∙ sym
     (start_kept starts os x k
-    ∙ ap (λ b. if b then defined_address (starts (x.file + 1)) k.export.object x.definition else None) (sym (c.can_begin.ensures k.export.object k.at) ∙ c.if-can_begin.true))
+    ∙ ap (λ b. if b then defined_address (starts (x.file.0 + 1)) k.export.object x.definition else None) (sym (c.can_begin.ensures k.export.object k.at) ∙ c.if-can_begin.true))
 
 pub returns-else-can_begin : goal.returns-else-can_begin
 returns-else-can_begin c = λ start stands.
@@ -29,7 +29,7 @@ returns-else-can_begin c = λ start stands.
     let k = kept_held os start_name x (sym c.start.ensures ∙ c.in-Some.is) in
     sym
     (start_kept starts os x k
-    ∙ ap (λ b. if b then defined_address (starts (x.file + 1)) k.export.object x.definition else None) (sym (c.can_begin.ensures k.export.object k.at) ∙ c.if-can_begin.false))
+    ∙ ap (λ b. if b then defined_address (starts (x.file.0 + 1)) k.export.object x.definition else None) (sym (c.can_begin.ensures k.export.object k.at) ∙ c.if-can_begin.false))
 
 pub returns-in-None : goal.returns-in-None
 returns-in-None c = λ start stands.

@@ -12,7 +12,7 @@ abbrev pub invariant-loop-index : goal.invariant-loop-index
 invariant-loop-index l = record {
   known : All (λ g. IsGlobal (global_of g)) l.fn.globals.items → All (λ g. IsGlobal (global_of g)) l.globals.items;
   added : (start : ℕ) → IsPlacement (map short_object_of l.self.objects.now) start l.placement
-      → slice_get (map short_object_of l.self.objects.now) l.file ≡ Some (short_object_of l.object)
-      → map global_of l.globals.items ++ shown_in (map short_object_of l.self.objects.now) l.placement l.file (short_object_of l.object) l.index (drop l.index (short_object_of l.object).symbols)
-      ≡ map global_of l.fn.globals.items ++ shown_in (map short_object_of l.self.objects.now) l.placement l.file (short_object_of l.object) 0 (short_object_of l.object).symbols;
+      → slice_get (map short_object_of l.self.objects.now) l.file.0 ≡ Some (short_object_of l.object)
+      → map global_of l.globals.items ++ shown_in (map short_object_of l.self.objects.now) l.placement l.file.0 (short_object_of l.object) l.index (drop l.index (short_object_of l.object).symbols)
+      ≡ map global_of l.fn.globals.items ++ shown_in (map short_object_of l.self.objects.now) l.placement l.file.0 (short_object_of l.object) 0 (short_object_of l.object).symbols;
 }

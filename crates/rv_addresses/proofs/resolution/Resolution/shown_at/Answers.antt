@@ -16,13 +16,13 @@ returns-then-not-is_chosen-clause-shown c = λ start o s stands at there.
     let x = c.in_ok-object.object.now in
     let file = c.in_ok-object.ensures.lookup in
     let found = c.in_ok-symbol.ensures.lookup in
-    let same = object_is c.args.self.now.objects.now c.args.file x o file.3.0 file.1 at in
+    let same = object_is c.args.self.now.objects.now c.args.file.0 x o file.3.0 file.1 at in
     let one : moved_in x c.in_ok-symbol.symbol.now ≡ s =
-    symbol_is x c.deref.result.now c.args.index c.deref.ensures.value c.in_ok-symbol.symbol.now s found.3.0 found.1 (ap (λ (p : Object). slice_get p.symbols c.args.index) same ∙ there) in
-    let moved : slice_get o.symbols c.args.index ≡ Some (moved_in x c.in_ok-symbol.symbol.now) = there ∙ ap Some (sym one) in
-    let other : is_chosen_at os c.args.file o c.args.index s ≡ false =
-    ap (is_chosen_at os c.args.file o c.args.index) (sym one) ∙ sym (c.is_chosen.ensures.chosen o (moves_by_section x) at moved) ∙ c.if-not-is_chosen.true in
-    sym (none_shown os c.args.placement.now c.args.file o c.args.index s other)
+    symbol_is x c.deref.result.now c.args.index.0 c.deref.ensures.value c.in_ok-symbol.symbol.now s found.3.0 found.1 (ap (λ (p : Object). slice_get p.symbols c.args.index.0) same ∙ there) in
+    let moved : slice_get o.symbols c.args.index.0 ≡ Some (moved_in x c.in_ok-symbol.symbol.now) = there ∙ ap Some (sym one) in
+    let other : is_chosen_at os c.args.file.0 o c.args.index.0 s ≡ false =
+    ap (is_chosen_at os c.args.file.0 o c.args.index.0) (sym one) ∙ sym (c.is_chosen.ensures.chosen o (moves_by_section x) at moved) ∙ c.if-not-is_chosen.true in
+    sym (none_shown os c.args.placement.now c.args.file.0 o c.args.index.0 s other)
 
 pub returns-in_err-address-clause-shown : goal.returns-in_err-address-clause-shown
 returns-in_err-address-clause-shown c = λ start o s stands at there.
@@ -31,15 +31,15 @@ returns-in_err-address-clause-shown c = λ start o s stands at there.
     let x = c.in_ok-object.object.now in
     let file = c.in_ok-object.ensures.lookup in
     let found = c.in_ok-symbol.ensures.lookup in
-    let same = object_is c.args.self.now.objects.now c.args.file x o file.3.0 file.1 at in
+    let same = object_is c.args.self.now.objects.now c.args.file.0 x o file.3.0 file.1 at in
     let own = moved_in x c.in_ok-symbol.symbol.now in
     let one : own ≡ s =
-    symbol_is x c.deref.result.now c.args.index c.deref.ensures.value c.in_ok-symbol.symbol.now s found.3.0 found.1 (ap (λ (p : Object). slice_get p.symbols c.args.index) same ∙ there) in
-    let moved : slice_get o.symbols c.args.index ≡ Some own = there ∙ ap Some (sym one) in
-    let it : is_chosen_at os c.args.file o c.args.index own ≡ true = sym (c.is_chosen.ensures.chosen o (moves_by_section x) at moved) ∙ c.if-not-is_chosen.false in
-    let address : None ≡ defined_address (starts_of p (c.args.file + 1)) o own.definition =
-    c.in_err-address.ensures start o stands at ∙ ap (defined_address (starts_of p (c.args.file + 1)) o) c.definition-definition.ensures in
-    ap listed c.from_residual-in_err-address.ensures ∙ one_shown os p c.args.file o c.args.index own s None it address one
+    symbol_is x c.deref.result.now c.args.index.0 c.deref.ensures.value c.in_ok-symbol.symbol.now s found.3.0 found.1 (ap (λ (p : Object). slice_get p.symbols c.args.index.0) same ∙ there) in
+    let moved : slice_get o.symbols c.args.index.0 ≡ Some own = there ∙ ap Some (sym one) in
+    let it : is_chosen_at os c.args.file.0 o c.args.index.0 own ≡ true = sym (c.is_chosen.ensures.chosen o (moves_by_section x) at moved) ∙ c.if-not-is_chosen.false in
+    let address : None ≡ defined_address (starts_of p (c.args.file.0 + 1)) o own.definition =
+    c.in_err-address.ensures start o stands at ∙ ap (defined_address (starts_of p (c.args.file.0 + 1)) o) c.definition-definition.ensures in
+    ap listed c.from_residual-in_err-address.ensures ∙ one_shown os p c.args.file.0 o c.args.index.0 own s None it address one
 
 pub returns-clause-shown : goal.returns-clause-shown
 returns-clause-shown c = λ start o s stands at there.
@@ -48,12 +48,12 @@ returns-clause-shown c = λ start o s stands at there.
     let x = c.in_ok-object.object.now in
     let file = c.in_ok-object.ensures.lookup in
     let found = c.in_ok-symbol.ensures.lookup in
-    let same = object_is c.args.self.now.objects.now c.args.file x o file.3.0 file.1 at in
+    let same = object_is c.args.self.now.objects.now c.args.file.0 x o file.3.0 file.1 at in
     let own = moved_in x c.in_ok-symbol.symbol.now in
     let one : own ≡ s =
-    symbol_is x c.deref.result.now c.args.index c.deref.ensures.value c.in_ok-symbol.symbol.now s found.3.0 found.1 (ap (λ (p : Object). slice_get p.symbols c.args.index) same ∙ there) in
-    let moved : slice_get o.symbols c.args.index ≡ Some own = there ∙ ap Some (sym one) in
-    let it : is_chosen_at os c.args.file o c.args.index own ≡ true = sym (c.is_chosen.ensures.chosen o (moves_by_section x) at moved) ∙ c.if-not-is_chosen.false in
-    let address : Some c.in_ok-address.address ≡ defined_address (starts_of p (c.args.file + 1)) o own.definition =
-    c.in_ok-address.ensures start o stands at ∙ ap (defined_address (starts_of p (c.args.file + 1)) o) c.definition-definition.ensures in
-    one_shown os p c.args.file o c.args.index own s (Some c.in_ok-address.address) it address one
+    symbol_is x c.deref.result.now c.args.index.0 c.deref.ensures.value c.in_ok-symbol.symbol.now s found.3.0 found.1 (ap (λ (p : Object). slice_get p.symbols c.args.index.0) same ∙ there) in
+    let moved : slice_get o.symbols c.args.index.0 ≡ Some own = there ∙ ap Some (sym one) in
+    let it : is_chosen_at os c.args.file.0 o c.args.index.0 own ≡ true = sym (c.is_chosen.ensures.chosen o (moves_by_section x) at moved) ∙ c.if-not-is_chosen.false in
+    let address : Some c.in_ok-address.address ≡ defined_address (starts_of p (c.args.file.0 + 1)) o own.definition =
+    c.in_ok-address.ensures start o stands at ∙ ap (defined_address (starts_of p (c.args.file.0 + 1)) o) c.definition-definition.ensures in
+    one_shown os p c.args.file.0 o c.args.index.0 own s (Some c.in_ok-address.address) it address one

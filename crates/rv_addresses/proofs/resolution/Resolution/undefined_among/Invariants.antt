@@ -8,6 +8,6 @@ use Rattle.rv_addresses.proofs.resolution.Resolution.undefined_among.Given as go
 
 abbrev pub invariant-loop-relocation : goal.invariant-loop-relocation
 invariant-loop-relocation l =
-    slice_get (map short_object_of l.self.objects.now) l.file ≡ Some (short_object_of l.object)
+    slice_get (map short_object_of l.self.objects.now) l.file.0 ≡ Some (short_object_of l.object)
     → first_some (λ r. undefined_name (map short_object_of l.self.objects.now) (short_object_of l.object) r.symbol) (map relocation_of (drop l.relocation-index l.relocations))
     ≡ first_some (λ r. undefined_name (map short_object_of l.self.objects.now) (short_object_of l.object) r.symbol) (map relocation_of l.relocations)

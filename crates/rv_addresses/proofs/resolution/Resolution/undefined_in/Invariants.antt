@@ -8,6 +8,6 @@ use Rattle.rv_addresses.proofs.resolution.Resolution.undefined_in.Given as goal
 
 abbrev pub invariant-loop-section : goal.invariant-loop-section
 invariant-loop-section l =
-    slice_get (map short_object_of l.self.objects.now) l.file ≡ Some (short_object_of l.object)
+    slice_get (map short_object_of l.self.objects.now) l.file.0 ≡ Some (short_object_of l.object)
     → first_some (undefined_in (map short_object_of l.self.objects.now) (short_object_of l.object)) (map short_section_of (drop l.section-index l.object.sections.items))
     ≡ first_some (undefined_in (map short_object_of l.self.objects.now) (short_object_of l.object)) (map short_section_of l.object.sections.items)

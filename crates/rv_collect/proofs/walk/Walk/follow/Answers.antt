@@ -12,7 +12,7 @@ mark_targets-requires-clause-has c =
     let q = c.index-section.result.now in
     let inside : c.loop-next.next < length w.queue.items = search rules in
     let walk = c.loop-next.invariant.walk in
-    walk.has (id_at q.0 q.1) (next_marked (map object_of c.args.objects.now) w c.loop-next.next q walk (get_read w.queue.items c.loop-next.next q inside c.index-section.ensures))
+    walk.has (id_at q.0.0 q.1.0) (next_marked (map object_of c.args.objects.now) w c.loop-next.next q walk (get_read w.queue.items c.loop-next.next q inside c.index-section.ensures))
 
 pub mark_targets-requires-clause-marked : goal.mark_targets-requires-clause-marked
 mark_targets-requires-clause-marked c =

@@ -7,13 +7,13 @@ use Rattle.rv_collect.proofs.WalkLemmas.{more_walk, more_grows, more_is, has_mar
 use Rattle.rv_collect.proofs.walk.Walk.mark.Goals as goal
 
 pub returns-then-not-is_loaded-clause-marked : goal.returns-then-not-is_loaded-clause-marked
-returns-then-not-is_loaded-clause-marked c = λ has. absurd (is_not (map object_of c.args.objects.now) c.args.file c.args.index c.is_loaded.result c.is_loaded.ensures c.if-not-is_loaded.true has)
+returns-then-not-is_loaded-clause-marked c = λ has. absurd (is_not (map object_of c.args.objects.now) c.args.file.0 c.args.index.0 c.is_loaded.result c.is_loaded.ensures c.if-not-is_loaded.true has)
 
 pub put-requires : goal.put-requires
 put-requires c =
     let os = map object_of c.args.objects.now in
-    let has = is_has os c.args.file c.args.index c.is_loaded.result c.is_loaded.ensures c.if-not-is_loaded.false in
-    has_mark os (mark_rows c.args.self.now.marks) c.args.file c.args.index c.requires.walk.like (has_loaded os c.args.file c.args.index has)
+    let has = is_has os c.args.file.0 c.args.index.0 c.is_loaded.result c.is_loaded.ensures c.if-not-is_loaded.false in
+    has_mark os (mark_rows c.args.self.now.marks) c.args.file.0 c.args.index.0 c.requires.walk.like (has_loaded os c.args.file.0 c.args.index.0 has)
 
 pub returns-clause-walk : goal.returns-clause-walk
 returns-clause-walk c =
@@ -22,7 +22,7 @@ returns-clause-walk c =
     more_walk os c.args.self.now new c.args.file c.args.index (record {
       walk = c.requires.walk;
       reached = c.requires.reached;
-      has = is_has os c.args.file c.args.index c.is_loaded.result c.is_loaded.ensures c.if-not-is_loaded.false;
+      has = is_has os c.args.file.0 c.args.index.0 c.is_loaded.result c.is_loaded.ensures c.if-not-is_loaded.false;
       unmarked = sym c.at.ensures ∙ c.if-at.false;
       marks = c.put.ensures.marked;
       like = c.put.ensures.like;
@@ -36,7 +36,7 @@ returns-clause-grows c =
     more_grows os c.args.self.now new c.args.file c.args.index (record {
       walk = c.requires.walk;
       reached = c.requires.reached;
-      has = is_has os c.args.file c.args.index c.is_loaded.result c.is_loaded.ensures c.if-not-is_loaded.false;
+      has = is_has os c.args.file.0 c.args.index.0 c.is_loaded.result c.is_loaded.ensures c.if-not-is_loaded.false;
       unmarked = sym c.at.ensures ∙ c.if-at.false;
       marks = c.put.ensures.marked;
       like = c.put.ensures.like;

@@ -15,7 +15,7 @@ mark_target-requires-clause-reached c = λ t lies.
     let os = map object_of c.args.objects.now in
     let at = get_map_read relocation_of xs i x inside (get_or_default xs i zeros_relocation x inside) in
     still_reached os c.args.self.now c.loop-relocation.self t c.loop-relocation.invariant.grows
-    (c.requires.reached t (leads_one os c.args.file (object_of c.args.object.now) t (map relocation_of xs) i (relocation_of x) at lies))
+    (c.requires.reached t (leads_one os c.args.file.0 (object_of c.args.object.now) t (map relocation_of xs) i (relocation_of x) at lies))
 
 pub loop-relocation-preserved : goal.loop-relocation-preserved
 loop-relocation-preserved c =
@@ -28,6 +28,6 @@ loop-relocation-preserved c =
     record {
       walk = c.in_ok-mark_target.ensures.walk;
       grows = grows_on c.args.self.now c.loop-relocation.self c.mark_target.new.self c.loop-relocation.invariant.grows c.in_ok-mark_target.ensures.grows;
-      marked = marked_on os c.loop-relocation.self c.mark_target.new.self c.args.file (object_of c.args.object.now) (map relocation_of xs) i (relocation_of x) c.in_ok-mark_target.ensures.grows at
+      marked = marked_on os c.loop-relocation.self c.mark_target.new.self c.args.file.0 (object_of c.args.object.now) (map relocation_of xs) i (relocation_of x) c.in_ok-mark_target.ensures.grows at
           c.loop-relocation.invariant.marked c.in_ok-mark_target.ensures.marked;
     }

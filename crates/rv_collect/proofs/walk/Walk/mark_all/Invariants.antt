@@ -12,6 +12,6 @@ invariant-loop-relocation l = record {
   walk : IsWalk (map object_of l.objects) l.self;
   grows : Grows l.fn.self l.self;
   marked : (t : SectionId)
-      → leads_in (map object_of l.objects) l.file (object_of l.object) t (take l.relocation-index (map relocation_of l.relocations)) ≡ true
+      → leads_in (map object_of l.objects) l.file.0 (object_of l.object) t (take l.relocation-index (map relocation_of l.relocations)) ≡ true
       → IsMarked (map object_of l.objects) l.self t;
 }

@@ -10,20 +10,20 @@ use Rattle.rv_collect.proofs.walk.Walk.mark_targets.Goals as goal
 pub index-section-requires : goal.index-section-requires
 index-section-requires c =
     let x = c.index-objects-file.result in
-    let inside : c.args.index < length x.sections.items = section_inside c.args.objects.now c.args.file c.args.index x c.requires.has c.index-objects-file.is in
+    let inside : c.args.index.0 < length x.sections.items = section_inside c.args.objects.now c.args.file.0 c.args.index.0 x c.requires.has c.index-objects-file.is in
     search rules
 
 pub mark_all-requires-clause-object : goal.mark_all-requires-clause-object
-mark_all-requires-clause-object c = object_there c.args.objects.now c.args.file c.args.index c.index-objects-file.result c.requires.has c.index-objects-file.is
+mark_all-requires-clause-object c = object_there c.args.objects.now c.args.file.0 c.args.index.0 c.index-objects-file.result c.requires.has c.index-objects-file.is
 
 pub mark_all-requires-clause-reached : goal.mark_all-requires-clause-reached
 mark_all-requires-clause-reached c = λ t leads.
     let xs = c.args.objects.now in
     let x = c.index-objects-file.result in
     let s = c.index-section.result.now in
-    Referred (id_at c.args.file c.args.index) c.requires.marked
-    (refers_code xs c.args.file c.args.index x s c.requires.has c.index-objects-file.is c.index-section.ensures t
-    ∙ sym (ap (λ l. leads_in (map object_of xs) c.args.file (object_of x) t (map relocation_of l)) c.as_slice.ensures.value) ∙ leads)
+    Referred (id_at c.args.file.0 c.args.index.0) c.requires.marked
+    (refers_code xs c.args.file.0 c.args.index.0 x s c.requires.has c.index-objects-file.is c.index-section.ensures t
+    ∙ sym (ap (λ l. leads_in (map object_of xs) c.args.file.0 (object_of x) t (map relocation_of l)) c.as_slice.ensures.value) ∙ leads)
 
 pub returns-clause-followed : goal.returns-clause-followed
 returns-clause-followed c = λ t leads has.
@@ -31,5 +31,5 @@ returns-clause-followed c = λ t leads has.
     let x = c.index-objects-file.result in
     let s = c.index-section.result.now in
     c.in_ok-mark_all.ensures.marked t
-    (ap (λ l. leads_in (map object_of xs) c.args.file (object_of x) t (map relocation_of l)) c.as_slice.ensures.value
-    ∙ sym (refers_code xs c.args.file c.args.index x s c.requires.has c.index-objects-file.is c.index-section.ensures t) ∙ leads) has
+    (ap (λ l. leads_in (map object_of xs) c.args.file.0 (object_of x) t (map relocation_of l)) c.as_slice.ensures.value
+    ∙ sym (refers_code xs c.args.file.0 c.args.index.0 x s c.requires.has c.index-objects-file.is c.index-section.ensures t) ∙ leads) has

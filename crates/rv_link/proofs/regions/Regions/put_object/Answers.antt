@@ -13,15 +13,15 @@ use Rattle.rv_link.proofs.regions.Regions.put_object.Goals as goal
 pub loop-index-init : goal.loop-index-init
 loop-index-init c =
     let os = objects_of c.args.fixed.now in
-    let inside : c.args.file < length os = subst (λ n. c.args.file < n) (sym (length-map c.args.fixed.now.objects.now short_object_of)) c.requires.file in
-    grown_along os c.args.fixed.now.placement.now (left_files os c.args.file) (left_from os c.args.file 0) c.args.self.now (λ goes. file_opens os c.args.file inside goes) c.requires.grown
+    let inside : c.args.file.0 < length os = subst (λ n. c.args.file.0 < n) (sym (length-map c.args.fixed.now.objects.now short_object_of)) c.requires.file in
+    grown_along os c.args.fixed.now.placement.now (left_files os c.args.file.0) (left_from os c.args.file.0 0) c.args.self.now (λ goes. file_opens os c.args.file.0 inside goes) c.requires.grown
 
 pub returns-clause-grown : goal.returns-clause-grown
 returns-clause-grown c =
     let objects = c.args.fixed.now.objects.now in
     let os = objects_of c.args.fixed.now in
     let p = c.args.fixed.now.placement.now in
-    let file = c.args.file in
+    let file = c.args.file.0 in
     let o = c.index-fixed-file.result in
     let there : object_at os (file + 1) ≡ short_object_of o = found_at os file (short_object_of o) (get_map_read short_object_of objects file o c.requires.file c.index-fixed-file.is) in
     let long : length (object_at os (file + 1)).sections ≡ length o.sections.items = ap (λ x. length x.sections) there ∙ length-map o.sections.items short_section_of in

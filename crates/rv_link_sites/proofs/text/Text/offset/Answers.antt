@@ -4,7 +4,7 @@ use Rattle.rv_link_sites.proofs.TargetsLemmas.{offset_none, offset_some}
 use Rattle.rv_link_sites.proofs.text.Text.offset.Goals as goal
 
 pub returns-then-not-is_in_text : goal.returns-then-not-is_in_text
-returns-then-not-is_in_text c = offset_none (objects_of c.args.self.now) c.args.file c.args.section c.args.offset (sym c.is_in_text.ensures ∙ c.if-not-is_in_text.true)
+returns-then-not-is_in_text c = offset_none (objects_of c.args.self.now) c.args.place.file.0 c.args.place.section.0 c.args.place.offset (sym c.is_in_text.ensures ∙ c.if-not-is_in_text.true)
 
 pub stand-start-requires-clause-text : goal.stand-start-requires-clause-text
 stand-start-requires-clause-text c = sym c.is_in_text.ensures ∙ c.if-not-is_in_text.false
@@ -14,5 +14,5 @@ overflow_cast-result c = record { fits = omega (arith, c.saturating_sub.ensures,
 
 pub returns : goal.returns
 returns c =
-    offset_some (objects_of c.args.self.now) c.args.file c.args.section c.args.offset c.stand-start.result.0 c.stand-start.result.1 c.min.result c.saturating_sub.result
+    offset_some (objects_of c.args.self.now) c.args.place.file.0 c.args.place.section.0 c.args.place.offset c.stand-start.result.0 c.stand-start.result.1 c.min.result c.saturating_sub.result
     (sym c.is_in_text.ensures ∙ c.if-not-is_in_text.false) c.stand-start.ensures.start c.stand-start.ensures.end (omega (arith, c.min.ensures, c.from.ensures)) (omega (arith, c.saturating_sub.ensures, c.from.ensures))

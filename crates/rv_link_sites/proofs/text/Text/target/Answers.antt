@@ -9,16 +9,16 @@ returns-in_err-index c = λ i file at.
     let none : c.args.relocation.now.symbol ≡ None = search rules in
     c.from_residual.ensures ∙ sym (target_none (objects_of c.args.self.now) i (relocation_of c.args.relocation.now) none)
 
-pub returns-in_err-file : goal.returns-in_err-file
-returns-in_err-file c = λ i file at.
+pub returns-in_err-place : goal.returns-in_err-place
+returns-in_err-place c = λ i file at.
     let os = objects_of c.args.self.now in
     let is : c.args.relocation.now.symbol ≡ Some c.in_ok-index.index = search rules in
-    c.from_residual-in_err-file.ensures
-    ∙ ap (text_target os) (c.in_err-file.ensures i.object at ∙ sym (target_is os i (relocation_of c.args.relocation.now) (c.args.file + 1) c.in_ok-index.index file is))
+    c.from_residual-in_err-place.ensures
+    ∙ ap (text_target os) (c.in_err-place.ensures i.object at ∙ sym (target_is os i (relocation_of c.args.relocation.now) (c.args.file.0 + 1) c.in_ok-index.index file is))
 
 pub returns : goal.returns
 returns c = λ i file at.
     let os = objects_of c.args.self.now in
     let is : c.args.relocation.now.symbol ≡ Some c.in_ok-index.index = search rules in
     c.offset.ensures
-    ∙ ap (text_target os) (c.in_ok-file.ensures i.object at ∙ sym (target_is os i (relocation_of c.args.relocation.now) (c.args.file + 1) c.in_ok-index.index file is))
+    ∙ ap (text_target os) (c.in_ok-place.ensures i.object at ∙ sym (target_is os i (relocation_of c.args.relocation.now) (c.args.file.0 + 1) c.in_ok-index.index file is))

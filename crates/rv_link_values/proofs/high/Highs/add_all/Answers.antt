@@ -20,6 +20,6 @@ loop-left-preserved c =
       last ∷ done,
       last_taken s.whole.now.relocations.items left done zeros_relocation c.in-len1-up.len_at_least c.loop-left.invariant.1,
       λ f n x. c.in_ok-add.ensures f n x
-          ∙ ap (λ o. if (c.args.file == f) && (c.args.index == n) then else_found (high_to new x (cut (relocation_of last) ∷ [])) o else o) (c.loop-left.invariant.2 f n x)
-          ∙ before_others new x (c.args.file == f) (c.args.index == n) (cut (relocation_of last)) (map cut (map relocation_of done)) _,
+          ∙ ap (λ o. if (c.args.file.0 == f) && (c.args.index.0 == n) then else_found (high_to new x (cut (relocation_of last) ∷ [])) o else o) (c.loop-left.invariant.2 f n x)
+          ∙ before_others new x (c.args.file.0 == f) (c.args.index.0 == n) (cut (relocation_of last)) (map cut (map relocation_of done)) _,
     )

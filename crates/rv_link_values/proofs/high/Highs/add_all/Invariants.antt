@@ -12,7 +12,7 @@ use Rattle.rv_link_values.proofs.high.Highs.add_all.Given as goal
 abbrev pub invariant-loop-left : goal.invariant-loop-left
 invariant-loop-left l =
     (done : List DeclaredRelocation) × (l.section.whole.now.relocations.items ≡ l.left ++ done)
-    × HasBefore l.fn.self l.self l.file l.index (λ offset. high_to (new_offset (moves_of l.plan)) offset (map (cut_relocation (moves_in l.section)) (map relocation_of done)))
+    × HasBefore l.fn.self l.self l.file.0 l.index.0 (λ offset. high_to (new_offset (moves_of l.plan)) offset (map (cut_relocation (moves_in l.section)) (map relocation_of done)))
 
 abbrev pub decreases-loop-left : goal.decreases-loop-left
 decreases-loop-left l = length l.left

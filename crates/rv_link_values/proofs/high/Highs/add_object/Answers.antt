@@ -11,7 +11,7 @@ use Rattle.rv_link_values.proofs.high.Highs.add_object.Goals as goal
 pub loop-index-preserved : goal.loop-index-preserved
 loop-index-preserved c = λ f s x.
     let p = c.args.placement.now in
-    let file = c.args.file in
+    let file = c.args.file.0 in
     let i = c.loop-index.index in
     let t = c.section-item.result in
     let ss = c.args.object.now.sections.items in

@@ -9,5 +9,5 @@ use Rattle.rv_link_values.proofs.values.Values.target.Goals as goal
 pub returns-in-Some : goal.returns-in-Some
 returns-in-Some c = λ os p o h at.
     c.unwrap_or.ensures
-    ∙ ap (λ a. unwrap_or a 0) (address_is c.address.result c.args.file c.in-Some.index c.args.self.now os p o h at c.address.ensures)
-    ∙ ap (λ n. unwrap_or (target (outer_in os (layout_of p)) (starts_of p (c.args.file + 1)) o n) 0) (sym c.in-Some.is)
+    ∙ ap (λ a. unwrap_or a 0) (address_is c.address.result c.args.file.0 c.in-Some.index c.args.self.now os p o h at c.address.ensures)
+    ∙ ap (λ n. unwrap_or (target (outer_in os (layout_of p)) (starts_of p (c.args.file.0 + 1)) o n) 0) (sym c.in-Some.is)

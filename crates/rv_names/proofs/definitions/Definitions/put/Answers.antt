@@ -13,14 +13,14 @@ pub returns-then-not-is_global_definition-clause-added : goal.returns-then-not-i
 returns-then-not-is_global_definition-clause-added c = λ ds table.
     let s = seen (symbol_of c.args.symbol.now) in
     let other : is_export is_global (symbol_of c.args.symbol.now) ≡ false = sym c.is_global_definition.ensures ∙ c.if-not-is_global_definition.true in
-    subst (λ l. IsDefinitionTable l c.args.self.now) (sym (none_more is_global c.args.file c.args.index s ds other)) table
+    subst (λ l. IsDefinitionTable l c.args.self.now) (sym (none_more is_global c.args.file.0 c.args.index.0 s ds other)) table
 
 pub returns-in-Some-clause-refuses : goal.returns-in-Some-clause-refuses
 returns-in-Some-clause-refuses c = λ ds table rest.
     let s = seen (symbol_of c.args.symbol.now) in
     let exported : is_export is_global (symbol_of c.args.symbol.now) ≡ true = sym c.is_global_definition.ensures ∙ c.if-not-is_global_definition.false in
     let found : Some c.in-Some.field-0 ≡ option_map exported_of (first_named ds s.name) = sym c.in-Some.is ∙ c.in_ok-insert.ensures.old ∙ table.answers s.name in
-    again is_global c.args.file c.args.index s ds exported c.args.self.now table rest (sym (is_some_map exported_of (first_named ds s.name)) ∙ ap is_some (sym found))
+    again is_global c.args.file.0 c.args.index.0 s ds exported c.args.self.now table rest (sym (is_some_map exported_of (first_named ds s.name)) ∙ ap is_some (sym found))
 
 pub returns-in-None-clause-added : goal.returns-in-None-clause-added
 returns-in-None-clause-added c = λ ds table.
@@ -29,6 +29,6 @@ returns-in-None-clause-added c = λ ds table.
     let free : first_named ds s.name ≡ None = option_map_none exported_of (first_named ds s.name) (sym (sym c.in-None.is ∙ c.in_ok-insert.ensures.old ∙ table.answers s.name)) in
     record {
       answers = λ name.
-          answers_more is_global c.args.file c.args.index s ds exported name _ _ (btree_map_updates_str s.name c.args.self.now.by_name c.insert.new.self _ c.in_ok-insert.ensures.updates name) free (table.answers name);
-      fresh = λ rest. apart is_global c.args.file c.args.index s ds exported c.args.self.now table rest free;
+          answers_more is_global c.args.file.0 c.args.index.0 s ds exported name _ _ (btree_map_updates_str s.name c.args.self.now.by_name c.insert.new.self _ c.in_ok-insert.ensures.updates name) free (table.answers name);
+      fresh = λ rest. apart is_global c.args.file.0 c.args.index.0 s ds exported c.args.self.now table rest free;
     }

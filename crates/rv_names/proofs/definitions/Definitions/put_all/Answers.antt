@@ -16,7 +16,7 @@ loop-index-preserved c = λ ds table.
     let i = c.loop-index.index in
     let xs = c.args.symbols.now in
     let x = c.index-symbols-index.result in
-    let file = c.args.file in
+    let file = c.args.file.0 in
     let inside : i < length xs = search rules in
     one_more (λ l. IsDefinitionTable l c.loop-index.self) (ds ++ definers_in is_global file 0 (seen_symbols xs)) _ (definers_at is_global file i (seen (symbol_of x))) (definers_in is_global file (i + 1) (seen_symbols (drop (i + 1) xs)))
     (symbols_left is_global file xs i x inside c.index-symbols-index.is) (c.loop-index.invariant ds table) (λ l. IsDefinitionTable l c.put.new.self) c.in_ok-put.ensures.added
@@ -26,7 +26,7 @@ returns-in_err-put-clause-refuses c =
     let i = c.loop-index.index in
     let xs = c.args.symbols.now in
     let x = c.index-symbols-index.result in
-    let file = c.args.file in
+    let file = c.args.file.0 in
     let inside : i < length xs = search rules in
     let found = err_from_is_err_and c.from_residual.result c.from_residual.ensures.1 in
     rw (found.1, found.2) (λ ds table.
@@ -37,6 +37,6 @@ pub returns-clause-added : goal.returns-clause-added
 returns-clause-added c = λ ds table.
     let n = c.loop-index.index in
     let xs = c.args.symbols.now in
-    let all = ds ++ definers_in is_global c.args.file 0 (seen_symbols xs) in
+    let all = ds ++ definers_in is_global c.args.file.0 0 (seen_symbols xs) in
     let past : length xs ≤ n = search rules in
-    all_had (λ l. IsDefinitionTable l c.loop-index.self) all (subst (HasBut (λ l. IsDefinitionTable l c.loop-index.self) all) (at_drop_all (λ l. definers_in is_global c.args.file n (seen_symbols l)) xs n past) (c.loop-index.invariant ds table))
+    all_had (λ l. IsDefinitionTable l c.loop-index.self) all (subst (HasBut (λ l. IsDefinitionTable l c.loop-index.self) all) (at_drop_all (λ l. definers_in is_global c.args.file.0 n (seen_symbols l)) xs n past) (c.loop-index.invariant ds table))

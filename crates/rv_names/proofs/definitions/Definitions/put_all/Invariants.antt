@@ -9,4 +9,4 @@ use Rattle.rv_names.proofs.definitions.Definitions.put_all.Given as goal
 abbrev pub invariant-loop-index : goal.invariant-loop-index
 invariant-loop-index l =
     (ds : List Definer) → IsDefinitionTable ds l.fn.self
-    → HasBut (λ done. IsDefinitionTable done l.self) (ds ++ definers_in is_global l.file 0 (seen_symbols l.symbols)) (definers_in is_global l.file l.index (seen_symbols (drop l.index l.symbols)))
+    → HasBut (λ done. IsDefinitionTable done l.self) (ds ++ definers_in is_global l.file.0 0 (seen_symbols l.symbols)) (definers_in is_global l.file.0 l.index (seen_symbols (drop l.index l.symbols)))

@@ -15,7 +15,7 @@ loop-index-preserved c = λ ds h.
     let i = c.loop-index.index in
     let xs = c.args.symbols.now in
     let x = c.index-symbols-index.result in
-    let file = c.args.file in
+    let file = c.args.file.0 in
     let inside : i < length xs = search rules in
     one_more (λ l. AnswersFirst l c.loop-index.self) (ds ++ definers_in is_weak file 0 (seen_symbols xs)) _ (definers_at is_weak file i (seen (symbol_of x))) (definers_in is_weak file (i + 1) (seen_symbols (drop (i + 1) xs)))
     (symbols_left is_weak file xs i x inside c.index-symbols-index.is) (c.loop-index.invariant ds h) (λ l. AnswersFirst l c.put_weak_one.new.self) c.in_ok-put_weak_one.ensures
@@ -24,7 +24,7 @@ pub returns : goal.returns
 returns c = λ ds h.
     let n = c.loop-index.index in
     let xs = c.args.symbols.now in
-    let all = ds ++ definers_in is_weak c.args.file 0 (seen_symbols xs) in
+    let all = ds ++ definers_in is_weak c.args.file.0 0 (seen_symbols xs) in
     let past : length xs ≤ n = search rules in
     all_had (λ l. AnswersFirst l c.loop-index.self) all
-    (subst (HasBut (λ l. AnswersFirst l c.loop-index.self) all) (at_drop_all (λ l. definers_in is_weak c.args.file n (seen_symbols l)) xs n past) (c.loop-index.invariant ds h))
+    (subst (HasBut (λ l. AnswersFirst l c.loop-index.self) all) (at_drop_all (λ l. definers_in is_weak c.args.file.0 n (seen_symbols l)) xs n past) (c.loop-index.invariant ds h))

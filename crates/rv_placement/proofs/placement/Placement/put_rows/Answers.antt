@@ -12,7 +12,7 @@ returns-in-None-clause-known c = λ before. c.loop-row.invariant.known (All-same
 
 pub returns-in-None-clause-added : goal.returns-in-None-clause-added
 returns-in-None-clause-added c os start is at =
-    absurd (row_placed os start c.args.self.now is c.args.file c.args.object.now at c.args.own.now c.requires.own c.loop-row.row-index blank c.loop-row-test.true c.in-None.ensures)
+    absurd (row_placed os start c.args.self.now is c.args.file.0 c.args.object.now at c.args.own.now c.requires.own c.loop-row.row-index blank c.loop-row-test.true c.in-None.ensures)
 
 pub loop-row-preserved : goal.loop-row-preserved
 loop-row-preserved c = record {
@@ -22,7 +22,7 @@ loop-row-preserved c = record {
       let lie = c.requires.own in
       let i = c.loop-row.row-index in
       let q = c.in-Some.place.now in
-      row_more os start c.args.self.now is c.args.file c.args.object.now at rows lie i blank c.loop-row-test.true q c.row-moved.result c.map_row.result c.loop-row.rows.items _ _ c.in-Some.ensures c.row-moved.ensures c.map_row.ensures.moved
+      row_more os start c.args.self.now is c.args.file.0 c.args.object.now at rows lie i blank c.loop-row-test.true q c.row-moved.result c.map_row.result c.loop-row.rows.items _ _ c.in-Some.ensures c.row-moved.ensures c.map_row.ensures.moved
       c.in_ok-push-in-Some.ensures.items (c.loop-row.invariant.added os start is at);
 }
 

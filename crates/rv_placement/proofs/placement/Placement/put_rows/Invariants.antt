@@ -12,7 +12,7 @@ use Rattle.rv_placement.proofs.placement.Placement.put_rows.Given as goal
 abbrev pub invariant-loop-row : goal.invariant-loop-row
 invariant-loop-row l = record {
   known : All IsRow l.initial.rows.items → All IsRow l.rows.items;
-  added : (os : List Object) (start : ℕ) → IsPlacement os start l.self → slice_get os l.file ≡ Some (short_object_of l.object)
-      → l.rows.items ++ map (row_in (starts_of l.self) (l.file + 1) (short_object_of l.object)) (moved_rows l.object (drop l.row-index l.own))
-      ≡ l.initial.rows.items ++ map (row_in (starts_of l.self) (l.file + 1) (short_object_of l.object)) (moved_rows l.object l.own);
+  added : (os : List Object) (start : ℕ) → IsPlacement os start l.self → slice_get os l.file.0 ≡ Some (short_object_of l.object)
+      → l.rows.items ++ map (row_in (starts_of l.self) (l.file.0 + 1) (short_object_of l.object)) (moved_rows l.object (drop l.row-index l.own))
+      ≡ l.initial.rows.items ++ map (row_in (starts_of l.self) (l.file.0 + 1) (short_object_of l.object)) (moved_rows l.object l.own);
 }
