@@ -306,6 +306,7 @@ def watched(name, source, at, paths):
     calls = [
         (source.status, ["stats", "--lines"]),
         (source.status, ["trace"]),
+        (source.status, ["trace", "--events"]),
         (125, ["run", "--report", "--limit", "1"]),
     ]
     for status, words in calls:

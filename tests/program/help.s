@@ -153,6 +153,7 @@ Options:
       --count <N>       How many instructions are shown; the run ends after them
   -o <FILE>             Writes the lines to a file instead of standard error
       --plain           Leaves out numbers, addresses and names of files, so that two traces can be compared
+      --events          Writes each step's event in full, for programs
       --map <F>         The map of an executable, for its symbols and lines
       --limit <N>       The most instructions to execute, as 500k or 10M [default: RV_LIMIT, else 1000G]
       --until <SYMBOL>  Ends the run before the instruction of a symbol, or of an address as 0x10008
@@ -164,6 +165,7 @@ Examples:
   rv trace --from 1000 --count 20 prog.s
   rv trace -o prog.trace --map prog.map prog
   rv trace --plain --until f prog.s
+  rv trace --events -o prog.events prog.s
 
 A line has the instruction's number, address, symbol, bytes and text, what it wrote, where it
 loaded or stored, or the bytes of input that a call took, and at the first instruction of a line of
@@ -172,6 +174,13 @@ the source that line.
 With --plain it has the symbol, the mnemonic with its registers, and the rest; an address of the
 program is a symbol, with the distance in data, or stack less the distance from its end, and the
 value of lui and auipc is 'part'. So a program at another address has the same lines.
+
+With --events a line is the event of a step, and different events have different lines: the
+address; how many bytes the instruction has, and its word, of a c. instruction that of the one it
+stands for, or 'no right' or 'no instruction'; and where there is one, what was read '[A] -> N',
+the register that was set 'x10 <- N', what was stored '[A] <- N', the bytes that a call took
+'input 6162' or put 'output 6869', and how the step ended the run 'end Exited 07'. Numbers are
+hexadecimal, and have two digits a byte in what was read or stored.
 #--- stats.txt
 Runs a program and counts what it executes
 

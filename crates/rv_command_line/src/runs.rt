@@ -5,7 +5,7 @@ use crate::files::{json, output_format};
 use crate::numbers::{count, number};
 use crate::operands::{Flag, Operands, Refusal, Text, Texts};
 use crate::words::Help;
-use rv_job::{Asked, Coverage, Job, Results, Shown, Until};
+use rv_job::{Asked, Coverage, Job, LineForm, Results, Shown, Until};
 use rv_numbers::{amount, decimal, text_start};
 use std::alloc::Global;
 
@@ -91,6 +91,7 @@ pub(crate) const TRACE: Help = Help {
   rv trace --from 1000 --count 20 prog.s
   rv trace -o prog.trace --map prog.map prog
   rv trace --plain --until f prog.s
+  rv trace --events -o prog.events prog.s
 
 A line has the instruction's number, address, symbol, bytes and text, what it wrote, where it
 loaded or stored, or the bytes of input that a call took, and at the first instruction of a line of
@@ -98,7 +99,14 @@ the source that line.
 
 With --plain it has the symbol, the mnemonic with its registers, and the rest; an address of the
 program is a symbol, with the distance in data, or stack less the distance from its end, and the
-value of lui and auipc is 'part'. So a program at another address has the same lines.",
+value of lui and auipc is 'part'. So a program at another address has the same lines.
+
+With --events a line is the event of a step, and different events have different lines: the
+address; how many bytes the instruction has, and its word, of a c. instruction that of the one it
+stands for, or 'no right' or 'no instruction'; and where there is one, what was read '[A] -> N',
+the register that was set 'x10 <- N', what was stored '[A] <- N', the bytes that a call took
+'input 6162' or put 'output 6869', and how the step ended the run 'end Exited 07'. Numbers are
+hexadecimal, and have two digits a byte in what was read or stored.",
 };
 
 pub(crate) fn trace<'a>(operands: &mut Operands<'_, 'a>) -> Result<Job<'a>, Refusal> {
@@ -109,15 +117,29 @@ pub(crate) fn trace<'a>(operands: &mut Operands<'_, 'a>) -> Result<Job<'a>, Refu
         "FILE",
         "Writes the lines to a file instead of standard error",
     );
-    let plain =
-        "Leaves out numbers, addresses and names of files, so that two traces can be compared";
     let shown = Shown {
         first,
         count,
         output: operands.optional(output)?,
-        plain: operands.flag(Flag::long("plain", plain))?,
+        form: line_form(operands, first)?,
     };
     Ok(Job::Trace(looked_at(operands)?, shown))
+}
+
+/// What a line of a trace shows; `first` is the number of the first instruction that is shown.
+fn line_form(operands: &mut Operands<'_, '_>, first: u64) -> Result<LineForm, Refusal> {
+    let plain =
+        "Leaves out numbers, addresses and names of files, so that two traces can be compared";
+    let is_plain = operands.flag(Flag::long("plain", plain))?;
+    let events = "Writes each step's event in full, for programs";
+    let are_events = operands.flag(Flag::long("events", events))?;
+    match (is_plain, are_events) {
+        (false, false) => Ok(LineForm::Whole),
+        (true, false) => Ok(LineForm::Plain),
+        (false, true) if first > 1 => Err(Refusal::Wanted("--events goes without --from")),
+        (false, true) => Ok(LineForm::Event),
+        (true, true) => Err(Refusal::Wanted("--events goes without --plain")),
+    }
 }
 
 /// How many instructions are shown.

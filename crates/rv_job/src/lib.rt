@@ -20,4 +20,4 @@ pub use cases::AskedCases;
 pub use files::{AskedCode, AskedImage, ImageFormat, OutputFormat, ReportFormat, TextFormat};
 pub use job::{Job, Shell};
 pub use options::{TEXT_START, default_options};
-pub use runs::{Asked, Coverage, Results, Shown, Until};
+pub use runs::{Asked, Coverage, LineForm, Results, Shown, Until};

@@ -65,8 +65,18 @@ pub struct Shown<'a> {
     pub count: Option<u64>,
     /// The file; standard error where none is named.
     pub output: Option<&'a str>,
-    /// Whether numbers, addresses and names of files are left out.
-    pub plain: bool,
+    pub form: LineForm,
+}
+
+/// What a line of a trace shows.
+#[derive(Clone, Copy, Drop)]
+pub enum LineForm {
+    /// The instruction, its place and its source.
+    Whole,
+    /// The same without numbers, addresses and names of files.
+    Plain,
+    /// The event of the step, in full.
+    Event,
 }
 
 /// What counts are written beside those of all instructions.

@@ -4,9 +4,10 @@
 //! an executable those of the map that the words name for it, if any.
 
 use crate::stepping::Guest;
+use rv_event_text::EventLines;
 use rv_guests::{Guests, report_end, run_line, status_of};
 use rv_image::Image;
-use rv_job::{Asked, Coverage, OutputFormat, Results, Shown};
+use rv_job::{Asked, Coverage, LineForm, OutputFormat, Results, Shown};
 use rv_machine::{End, ShowFault, WatchFault, Watched};
 use rv_map::Map;
 use rv_memory::Paged;
@@ -204,10 +205,10 @@ pub fn trace<S: Guests>(
     let guest = Guest::of(alloc, asked, &places)?;
     let last = last_shown(shown);
     let limit = asked.limit.min(last);
-    let traced = if shown.plain {
-        plain_lines(system, &guest, shown, image, (&places, limit))?
-    } else {
-        whole_lines(system, &guest, shown, image, (&places, limit))?
+    let traced = match shown.form {
+        LineForm::Whole => whole_lines(system, &guest, shown, image, (&places, limit))?,
+        LineForm::Plain => plain_lines(system, &guest, shown, image, (&places, limit))?,
+        LineForm::Event => event_lines(system, &guest, shown, image, limit)?,
     };
     let name = shown.output.unwrap_or("-");
     let ending = ended(alloc, traced.watched, name)?;
@@ -279,6 +280,35 @@ fn plain_lines<S: Guests>(
         _ => Ok(Traced {
             watched,
             finished: trace.finish(),
+        }),
+    }
+}
+
+/// Runs an image and writes the line of each event.
+fn event_lines<S: Guests>(
+    system: &mut S,
+    guest: &Guest,
+    shown: &Shown<'_>,
+    image: Image,
+    limit: u64,
+) -> Result<Traced, JobError> {
+    let alloc: Global = system.alloc();
+    let Ok(mut lines) = system.lines(shown.output) else {
+        return Err(cannot(alloc, "write", shown.output.unwrap_or("-"))?);
+    };
+    let mut events = EventLines::new(alloc, &mut lines);
+    let mut machine = machine_of(alloc, image)?;
+    let watched = guest.watch(system, &mut machine, &mut events, limit);
+    match watched {
+        Err(WatchFault::Watcher(ShowFault::OutOfMemory)) => Err(JobError::Memory),
+        // a line may be kept in part
+        Err(WatchFault::Watcher(ShowFault::Unwritten)) => Ok(Traced {
+            watched,
+            finished: Ok(()),
+        }),
+        _ => Ok(Traced {
+            watched,
+            finished: events.finish(),
         }),
     }
 }
