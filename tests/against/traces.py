@@ -51,13 +51,10 @@ class PastEnd(Exception):
     """A run that rv ends at a load of bytes outside of all segments."""
 
 
-class Guest:
-    """Registers, as qemu shows them, and memory: as an executable begins and as the lines of a trace change them."""
+class Memory:
+    """Memory as an executable begins."""
 
     def __init__(self, exe):
-        shown = [f"x{number}/{name}".ljust(8) + f" {0:016x}" for number, name in enumerate(NAMES)]
-        rows = ["".join(f" {one}" for one in shown[at : at + 4]) + "\n" for at in range(0, 32, 4)]
-        self.shown = bytearray((f" pc       {0:016x}\n" + "".join(rows)).encode())
         self.pages = {}
         for address, held in segments(exe.read_bytes()):
             self.store(address, held)
@@ -77,15 +74,25 @@ class Guest:
             held = held + self.pages.get(address // PAGE + 1, empty)[: count - len(held)]
         return held
 
-    def registers(self):
-        return {name.decode(): int(self.shown[at : at + 16], 16) for name, at in PLACES.items()}
-
     def digest(self):
         hashed = hashlib.sha256()
         for number, page in sorted(self.pages.items()):
             if any(page):
                 hashed.update(struct.pack("<Q", number * PAGE) + page)
         return hashed.hexdigest()
+
+
+class Guest(Memory):
+    """Registers, as qemu shows them, and memory, as the lines of a trace change them."""
+
+    def __init__(self, exe):
+        super().__init__(exe)
+        shown = [f"x{number}/{name}".ljust(8) + f" {0:016x}" for number, name in enumerate(NAMES)]
+        rows = ["".join(f" {one}" for one in shown[at : at + 4]) + "\n" for at in range(0, 32, 4)]
+        self.shown = bytearray((f" pc       {0:016x}\n" + "".join(rows)).encode())
+
+    def registers(self):
+        return {name.decode(): int(self.shown[at : at + 16], 16) for name, at in PLACES.items()}
 
     def apply(self, line):
         """Does what a line of a trace says; the value of a load has to be what memory holds."""
