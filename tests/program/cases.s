@@ -7,7 +7,7 @@
 # rv: test refused.s built.s refused_otherwise.s
 # status: 1
 # out is: refusals.txt
-# rv: test misspelled.s capital.s twice.s nothing.s both.s number.s repeated.s several.s missing.s
+# rv: test misspelled.s capital.s twice.s nothing.s both.s number.s repeated.s several.s missing.s near.s spaced.s behind.s
 # status: 1
 # out is: none.txt
 # rv: test --json passes.s status.s
@@ -111,6 +111,16 @@ refused_otherwise.s: wanted exit 0, but the build is refused: refused_otherwise.
 #--- several.s
 # exit: 7
 #---a.s
+#--- near.s
+#exit: 7
+#--- spaced.s
+# exit: 7
+#  input: 7
+#--- behind.s
+# A head ends at an empty line.
+# console:
+
+# exit: 7
 #--- none.txt
 misspelled.s:2: exti is no key of a case; the keys are exit, end, console, fault, input, limit and instructions
 capital.s:1: Exit is no key of a case; the keys are exit, end, console, fault, input, limit and instructions
@@ -121,7 +131,10 @@ number.s:1: an exit is a decimal number from 0 to 255
 repeated.s:1: a repeated text is not taken here; \x7b is a brace
 several.s:2: a case is one source
 missing.s: cannot read
-0 passed, 9 failed
+near.s:1: exit has to stand behind # and one blank, as # exit: ..
+spaced.s:2: input has to stand behind # and one blank, as # input: ..
+behind.s:4: exit stands behind the head, which ends at its first line without #
+0 passed, 12 failed
 #--- objects.txt
 {"case":"passes.s","passed":true}
 {"case":"status.s","details":"","message":"wanted exit 7, came exit 8","passed":false}

@@ -19,6 +19,10 @@ abc
 _start: li a0, 0; li a7, 93; ecall
 #--- other.out
 none
+#--- refused.s
+# exit: 0
+.globl _start
+_start: foo
 #--- said.s
 # console: none
 .globl _start
@@ -30,5 +34,6 @@ none
   line 1 of the console
     wanted none\n
     came   nothing
+./refused.s: wanted exit 0, but the build is refused: ./refused.s:3: E6 UnknownMnemonic
 ./said.s: console is given twice
-1 passed, 2 failed
+1 passed, 3 failed

@@ -73,13 +73,21 @@ fn refused_failure(
     case: &Case,
     fault: &Fault,
 ) -> Result<Option<Failure>, JobError> {
-    let line = match fault_line(alloc, fault, &[base_name(name)])? {
-        JobError::Line(line) => line,
-        other => return Err(other),
-    };
+    let line = text_of(fault_line(alloc, fault, &[base_name(name)])?)?;
     match &case.wanted {
         Wanted::Refused(wanted) if wanted.as_slice() == line.as_bytes() => Ok(None),
-        _ => Ok(Some(Failure::of_refusal(alloc, case, line.as_str())?)),
+        _ => {
+            let shown = text_of(fault_line(alloc, fault, &[name])?)?;
+            Ok(Some(Failure::of_refusal(alloc, case, shown.as_str())?))
+        }
+    }
+}
+
+/// The text of a line.
+fn text_of(error: JobError) -> Result<String, JobError> {
+    match error {
+        JobError::Line(line) => Ok(line),
+        other => Err(other),
     }
 }
 

@@ -8,6 +8,10 @@ use thiserror::Error;
 pub enum CaseFault {
     #[error("{0} is no key of a case; the keys are exit, end, console, fault, input, limit and instructions")]
     UnknownKey(String),
+    #[error("{0} has to stand behind # and one blank, as # {0}: ..")]
+    Misplaced(&'static str),
+    #[error("{0} stands behind the head, which ends at its first line without #")]
+    Behind(&'static str),
     #[error("{0} is given twice")]
     Twice(&'static str),
     #[error("an exit is a decimal number from 0 to 255")]

@@ -53,11 +53,19 @@ impl Head {
             limit: None,
             instructions: None,
         };
+        let mut is_over = false;
         for (index, line) in source.split(|byte| *byte == b'\n').enumerate() {
-            if !line.starts_with(b"#") {
+            is_over = is_over || !line.starts_with(b"#");
+            if is_over && !line.trim_ascii().is_empty() && !line.starts_with(b"#") {
                 break;
             }
-            match head.add(alloc, line.strip_suffix(b"\r").unwrap_or(line)) {
+            let said = line.strip_suffix(b"\r").unwrap_or(line);
+            let added = if is_over {
+                refuse_key(said)
+            } else {
+                head.add(alloc, said)
+            };
+            match added {
                 Ok(()) => {}
                 Err(LineError::Wrong(fault)) => {
                     return Err(CaseError::Wrong(Some((index as u64).saturating_add(1)), fault));
@@ -79,6 +87,7 @@ impl Head {
                 let name = String::from_utf8_lossy(alloc, name)?;
                 Err(LineError::Wrong(CaseFault::UnknownKey(name)))
             }
+            HeadLine::Misplaced(key) => Err(LineError::Wrong(CaseFault::Misplaced(key.name()))),
             HeadLine::Value(Key::Input, value) => self.add_input(alloc, value),
             HeadLine::Value(key, value) => self.set(alloc, key, value),
         }
@@ -108,6 +117,16 @@ impl Head {
             Key::Instructions => put(&mut self.instructions, number(key, value)?, key),
             Key::Input => Ok(()),
         }
+    }
+}
+
+/// Refuses a line behind the head, before the first that is neither empty nor a comment, where it has a key.
+fn refuse_key(line: &[u8]) -> Result<(), LineError> {
+    match HeadLine::of(line) {
+        HeadLine::Value(key, _) | HeadLine::Misplaced(key) => {
+            Err(LineError::Wrong(CaseFault::Behind(key.name())))
+        }
+        _ => Ok(()),
     }
 }
 

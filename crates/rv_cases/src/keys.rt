@@ -68,20 +68,37 @@ pub(crate) enum HeadLine<'a> {
     Value(Key, &'a [u8]),
     /// The name of a key that a case does not take.
     Unknown(&'a [u8]),
+    /// A key that does not stand behind `#` and one blank.
+    Misplaced(Key),
 }
 
 impl<'a> HeadLine<'a> {
     /// Reads a line without its end: `# KEY: VALUE`, where the blank before the value may be missing.
     pub(crate) fn of(line: &'a [u8]) -> HeadLine<'a> {
         let Some((name, value)) = parts(line) else {
-            return HeadLine::Words;
+            return HeadLine::of_words(line);
         };
         match Key::of(name) {
             Some(key) => HeadLine::Value(key, value.strip_prefix(b" ").unwrap_or(value)),
             None if looks_like_key(name) => HeadLine::Unknown(name),
+            None => HeadLine::of_words(line),
+        }
+    }
+
+    /// A line that has no key in its place.
+    fn of_words(line: &'a [u8]) -> HeadLine<'a> {
+        match key_anywhere(line) {
+            Some(key) => HeadLine::Misplaced(key),
             None => HeadLine::Words,
         }
     }
+}
+
+/// The key before the first colon of a comment, whatever blanks stand before it.
+fn key_anywhere(line: &[u8]) -> Option<Key> {
+    let said = line.strip_prefix(b"#")?.trim_ascii_start();
+    let colon = said.iter().position(|byte| *byte == b':')?;
+    Key::of(said.get(..colon)?)
 }
 
 /// What stands between `# ` and the first colon of a line, and what behind it.
