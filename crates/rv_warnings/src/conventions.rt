@@ -1,15 +1,17 @@
-//! What a function owes its caller: ra and s0 to s11 as they were, and at its own calls a stack pointer of 16 (psABI,
+//! What a function owes its caller: ra, s0 to s11 and sp as they were, and at its own calls a stack pointer of 16 (psABI,
 //! "Integer Calling Convention").
 //!
 //! A function goes from its label to the next one in its section. It owes that only where it returns, and not where a run
-//! begins; a register is saved where it is stored at sp or loaded from there, or kept elsewhere before it is written. What
-//! loads sp itself goes on with another stack, as `longjmp` does, and owes nothing.
+//! begins; a register is saved where it is stored at sp or loaded from there, or kept elsewhere before it is written, and one
+//! that is stored is to be loaded on each way from a change to a return. What loads sp itself goes on with another stack, as
+//! `longjmp` does, and owes nothing.
 
 use crate::calls::is_exit;
-use crate::effect::{Flow, flow_of, kept_by, operation_of, written_by};
+use crate::effect::{Flow, flow_of, is_load, kept_by, operation_of, written_by};
 use crate::facts::Facts;
 use crate::registers::Registers;
 use crate::warning::{Doubt, Warning, put};
+use crate::ways::{Ways, bit};
 use rv_isa::{ImmediateOperation, Reg};
 use rv_statement::{Operation, Plain, StatementKind, Statements};
 use std::alloc::{AllocError, Global};
@@ -27,10 +29,14 @@ struct Function {
     switches_stack: bool,
     /// The registers that are saved, each at the bit of its number.
     saved: u32,
-    /// The registers that were written before they were saved, and where.
+    /// The registers that are lost, and the statement that loses each.
     lost: Vec<(Reg, usize)>,
-    /// How many of them were at the latest place from which the run may have gone elsewhere.
-    block: usize,
+    /// The registers that were stored on the stack, and where last.
+    stored: Vec<(Reg, usize)>,
+    /// Those of them that were changed and are not loaded again, and where they were stored.
+    unloaded: Vec<(Reg, usize)>,
+    /// The returns where sp is so far below where it was at the beginning.
+    shifted: Vec<(u64, usize)>,
     /// The latest instruction was a call.
     is_after_call: bool,
     /// How far sp is from where it was at the beginning, where that is known, modulo 2^64.
@@ -49,7 +55,9 @@ impl Function {
             switches_stack: false,
             saved: 0,
             lost: Vec::new(alloc),
-            block: 0,
+            stored: Vec::new(alloc),
+            unloaded: Vec::new(alloc),
+            shifted: Vec::new(alloc),
             is_after_call: false,
             moved: Some(0),
             is_cut_off: true,
@@ -65,20 +73,18 @@ impl Function {
         self.switches_stack = false;
         self.saved = 0;
         self.lost.clear();
-        self.block = 0;
+        self.stored.clear();
+        self.unloaded.clear();
+        self.shifted.clear();
         self.is_after_call = false;
         self.moved = Some(0);
         self.is_cut_off = true;
     }
 
-    /// Passes a label. A call before it may be of what does not return, and then nothing was lost on the way there. What falls
-    /// through to the label goes on behind it.
+    /// Passes a label. A call before it may be of what does not return, and then nothing is known of sp.
     fn end_block(&mut self) {
         if self.is_after_call {
-            self.lost.truncate(self.block);
-        }
-        if self.is_after_call || self.is_cut_off {
-            self.block = self.lost.len();
+            self.moved = None;
         }
         self.is_after_call = false;
     }
@@ -93,6 +99,12 @@ impl Function {
                 put(found, doubt_of(*register), *index)?;
             }
         }
+        for (register, index) in &self.unloaded {
+            put(found, Doubt::NotLoaded(*register), *index)?;
+        }
+        for (distance, index) in &self.shifted {
+            put(found, Doubt::StackShifted(*distance), *index)?;
+        }
         Ok(())
     }
 
@@ -101,72 +113,99 @@ impl Function {
         self.saved & bit(register) != 0
     }
 
-    /// Whether a register was written before.
-    fn has_lost(&self, register: Reg) -> bool {
-        self.lost
-            .iter()
-            .any(|lost| lost.0.number() == register.number())
-    }
-
     /// Looks at an instruction.
     fn pass<'a>(
         &mut self,
         facts: &Facts<'a>,
+        ways: &Ways,
         kind: &StatementKind<'a>,
         index: usize,
     ) -> Result<(), AllocError> {
-        self.save(kind);
+        self.save(kind, index)?;
         if let Some(register) = written_by(kind) {
-            self.write(register, index)?;
+            if is_owed(register) && ways.lose(index, register) {
+                self.write(register, is_load(kind), index)?;
+            }
             if register.number() == Reg::SP.number() {
                 self.moved = moved_by(facts, self.moved, kind);
                 self.switches_stack = self.switches_stack || is_load(kind);
             }
         }
-        self.go(kind);
-        Ok(())
+        self.go(kind, index)
     }
 
     /// Notes a register that an instruction saves, or loads as it was saved.
-    fn save(&mut self, kind: &StatementKind<'_>) {
+    fn save(&mut self, kind: &StatementKind<'_>, index: usize) -> Result<(), AllocError> {
         let is_at_stack = is_at_stack(kind);
         if let Some(register) = kept_by(kind)
-            && (is_at_stack || !self.has_lost(register))
+            && (is_at_stack || !has(self.lost.as_slice(), register))
         {
             self.saved |= bit(register);
+            if is_at_stack && is_owed(register) && !has(self.stored.as_slice(), register) {
+                self.stored.push((register, index))?;
+            }
         }
         if let Some(register) = written_by(kind)
             && is_at_stack
         {
             self.saved |= bit(register);
         }
+        Ok(())
     }
 
-    /// Notes a register that is written, where the caller wants it again.
-    fn write(&mut self, register: Reg, index: usize) -> Result<(), AllocError> {
-        if is_owed(register) && !self.has_saved(register) && !self.has_lost(register) {
+    /// Notes a register that is written, where the caller wants it again and it comes to a return so. By a load it may be as it
+    /// was.
+    fn write(&mut self, register: Reg, is_load: bool, index: usize) -> Result<(), AllocError> {
+        if let Some(stored) = place_of(self.stored.as_slice(), register) {
+            if !is_load && !has(self.unloaded.as_slice(), register) {
+                self.unloaded.push((register, stored))?;
+            }
+        } else if !self.has_saved(register) && !has(self.lost.as_slice(), register) {
             self.lost.push((register, index))?;
         }
         Ok(())
     }
 
     /// Goes where an instruction goes.
-    fn go(&mut self, kind: &StatementKind<'_>) {
+    fn go(&mut self, kind: &StatementKind<'_>, index: usize) -> Result<(), AllocError> {
         let flow = flow_of(kind);
+        if matches!(flow, Flow::Return) {
+            self.returns = true;
+            self.put_shift(index)?;
+        }
         self.is_cut_off = matches!(flow, Flow::Jump | Flow::Return | Flow::Break);
-        self.returns = self.returns || matches!(flow, Flow::Return);
         if self.is_cut_off {
             self.moved = None;
         }
         self.is_after_call = matches!(flow, Flow::Call);
-        match flow {
-            // nothing is lost on a way that ends
-            Flow::Break => self.lost.truncate(self.block),
-            Flow::Branch => self.block = self.lost.len(),
-            _ => {}
-        }
         self.saves_by_call = self.saves_by_call || is_call_by_t0(kind);
+        Ok(())
     }
+
+    /// Notes a return where sp is below where it was; it is above where the function goes on with the frame of another part.
+    fn put_shift(&mut self, index: usize) -> Result<(), AllocError> {
+        if let Some(moved) = self.moved
+            && moved.cast_signed() < 0
+        {
+            self.shifted.push((moved.wrapping_neg(), index))?;
+        }
+        Ok(())
+    }
+}
+
+/// Whether one of some registers is this.
+fn has(registers: &[(Reg, usize)], register: Reg) -> bool {
+    place_of(registers, register).is_some()
+}
+
+/// The place of a register among some.
+fn place_of(registers: &[(Reg, usize)], register: Reg) -> Option<usize> {
+    for (other, index) in registers {
+        if other.number() == register.number() {
+            return Some(*index);
+        }
+    }
+    None
 }
 
 /// Adds the registers that functions lose, and the calls where sp is no multiple of 16.
@@ -175,6 +214,7 @@ pub(crate) fn put_conventions(
     facts: &Facts<'_>,
     found: &mut Vec<Warning>,
 ) -> Result<(), AllocError> {
+    let ways = Ways::of(alloc, facts)?;
     let mut function = Function::new(alloc, 0);
     let mut registers = Registers::unknown();
     let mut room = Statements::room();
@@ -184,6 +224,7 @@ pub(crate) fn put_conventions(
         if let Some(section) = code_section(facts, index) {
             put_passed(
                 facts,
+                &ways,
                 &statement.kind,
                 (index, section),
                 &mut function,
@@ -193,7 +234,6 @@ pub(crate) fn put_conventions(
         }
         registers.pass(facts, &statement.kind);
     }
-    function.end_block();
     function.finish(found)
 }
 
@@ -210,6 +250,7 @@ fn code_section(facts: &Facts<'_>, index: usize) -> Option<u32> {
 /// Looks at a statement, by its index and section, and adds what the function before it loses where it begins one.
 fn put_passed<'a>(
     facts: &Facts<'a>,
+    ways: &Ways,
     kind: &StatementKind<'a>,
     at: (usize, u32),
     function: &mut Function,
@@ -228,7 +269,7 @@ fn put_passed<'a>(
     }
     match kind {
         StatementKind::Plain(_) | StatementKind::With(..) | StatementKind::WithFunction(..) => {
-            function.pass(facts, kind, index)
+            function.pass(facts, ways, kind, index)
         }
         _ => Ok(()),
     }
@@ -312,27 +353,6 @@ fn is_at_stack(kind: &StatementKind<'_>) -> bool {
     }
 }
 
-/// Whether a statement is a load.
-fn is_load(kind: &StatementKind<'_>) -> bool {
-    match kind {
-        StatementKind::Plain(plain) => is_plain_load(*plain),
-        _ => match operation_of(kind) {
-            Some(operation) => is_load_at(operation),
-            None => false,
-        },
-    }
-}
-
-/// Whether an instruction without an offset is a load.
-fn is_plain_load(plain: Plain) -> bool {
-    matches!(plain, Plain::Load(..))
-}
-
-/// Whether an operation is a load with an offset.
-fn is_load_at(operation: Operation) -> bool {
-    matches!(operation, Operation::Load(..))
-}
-
 /// The base of a load or a store without an offset.
 fn plain_base(plain: Plain) -> Option<Reg> {
     match plain {
@@ -365,9 +385,4 @@ fn doubt_of(register: Reg) -> Doubt {
     } else {
         Doubt::LostRegister(register)
     }
-}
-
-/// The bit of a register.
-fn bit(register: Reg) -> u32 {
-    1u32.wrapping_shl(u32::from(register.number()))
 }

@@ -119,6 +119,21 @@ pub(crate) fn name_in<'a>(kind: &StatementKind<'a>) -> Option<&'a [u8]> {
     }
 }
 
+/// The digits of the label with a number to which an instruction goes, ahead of it or before it.
+pub(crate) fn reference_in<'a>(kind: &StatementKind<'a>, ahead: bool) -> Option<&'a [u8]> {
+    match kind {
+        StatementKind::With(_, expression) => digits_in(expression, ahead),
+        _ => None,
+    }
+}
+
+fn digits_in<'a>(expression: &Expr<'a>, ahead: bool) -> Option<&'a [u8]> {
+    match expression {
+        Expr::Reference(reference) if reference.is_forward() == ahead => Some(reference.digits()),
+        _ => None,
+    }
+}
+
 fn name_of<'a>(expression: &Expr<'a>) -> Option<&'a [u8]> {
     match expression {
         Expr::Name(name) => Some(*name),
@@ -237,4 +252,38 @@ fn kept_by_parcel(operation: ParcelOperation, first: Reg, second: Reg) -> Option
         ParcelOperation::Mv => Some(second),
         _ => None,
     }
+}
+
+/// Whether a statement is a load.
+pub(crate) fn is_load(kind: &StatementKind<'_>) -> bool {
+    match kind {
+        StatementKind::Plain(plain) => is_plain_load(*plain),
+        _ => match operation_of(kind) {
+            Some(operation) => is_load_of(operation),
+            None => false,
+        },
+    }
+}
+
+fn is_plain_load(plain: Plain) -> bool {
+    match plain {
+        Plain::Load(..) => true,
+        Plain::Parcel(operation, _, _) => is_load_by_parcel(operation),
+        _ => false,
+    }
+}
+
+fn is_load_of(operation: Operation) -> bool {
+    match operation {
+        Operation::Load(..) | Operation::LoadSymbol(..) => true,
+        Operation::Parcel(operation, _, _) => is_load_by_parcel(operation),
+        _ => false,
+    }
+}
+
+fn is_load_by_parcel(operation: ParcelOperation) -> bool {
+    matches!(
+        operation,
+        ParcelOperation::Lw | ParcelOperation::Ld | ParcelOperation::Lwsp | ParcelOperation::Ldsp
+    )
 }

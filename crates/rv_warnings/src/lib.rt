@@ -25,6 +25,7 @@ mod ends;
 mod facts;
 mod registers;
 mod warning;
+mod ways;
 mod wording;
 
 pub use wording::put_warnings;

@@ -20,6 +20,10 @@ pub(crate) enum Doubt {
     LostReturn,
     /// A write to a register that belongs to the caller, in a function that does not save it.
     LostRegister(Reg),
+    /// A store that saves a register, which is then changed and not loaded on some way to a return.
+    NotLoaded(Reg),
+    /// A return where sp is so far below where the function found it.
+    StackShifted(u64),
     /// A call where sp is no multiple of 16.
     StackOff,
     /// A number in data that has no room there.

@@ -114,6 +114,18 @@ fn put_doubt(alloc: Global, text: &mut String, doubt: Doubt) -> Result<(), Alloc
         Doubt::LostReturn => text.push_str(
             "this overwrites ra, by which the function returns: save ra on the stack before, and load it again before ret",
         ),
+        Doubt::NotLoaded(register) => {
+            text.push_str(register.abi_name())?;
+            text.push_str(
+                " is saved here and changed below, but a way to ret does not load it again",
+            )
+        }
+        Doubt::StackShifted(distance) => {
+            let told = format!(in alloc;
+                "sp is {distance} below where the function found it: add before ret what was taken from it"
+            )?;
+            text.push_str(told.as_str())
+        }
         Doubt::StackOff => text.push_str(
             "sp is no multiple of 16 at this call, as the calling convention wants: move it by a multiple of 16",
         ),
