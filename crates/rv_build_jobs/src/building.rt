@@ -4,16 +4,14 @@
 
 use crate::loading::{given_sources, is_elf};
 use crate::padding::Inputs;
-use crate::refusing::{refused_objects, refused_sources};
+use crate::refusing::{program_image, refused_objects, refused_sources};
 use crate::rows::warn_of_rows;
 use rv_chain::{
     Built, Fault, LinkOptions, assemble_object, build, build_exe, link_objects, link_objects_exe,
 };
 use rv_guests::{GuestInput, Guests, report_end, run_line};
 use rv_job::{Asked, default_options};
-use rv_system::{
-    JobError, Purpose, System, borrowed, file_bytes, given_bytes, image_in, print, write,
-};
+use rv_system::{JobError, Purpose, System, borrowed, file_bytes, given_bytes, print, write};
 use std::alloc::{AllocError, Global};
 
 /// Runs an executable, or builds sources and runs what they come to; the exit status.
@@ -65,7 +63,7 @@ fn run_executable<S: Guests>(
     exe: &[u8],
 ) -> Result<u8, JobError> {
     let alloc: Global = system.alloc();
-    let image = image_in(alloc, asked.file, exe)?;
+    let image = program_image(system, asked, exe)?;
     let input = if asked.has_input() {
         GuestInput::Empty
     } else {

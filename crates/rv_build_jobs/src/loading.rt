@@ -3,6 +3,7 @@
 //! Sources are built with their map; an executable has the map that the words name for it, if any.
 
 use crate::building::built;
+use crate::refusing::program_image;
 use rv_chain::Built;
 use rv_image::Image;
 use rv_job::{Asked, default_options};
@@ -35,27 +36,28 @@ pub fn load_program<S: System>(
     };
     let bytes = only(read.as_slice());
     if is_elf(bytes) {
-        return given_program(alloc, asked, given, bytes);
+        return given_program(system, asked, given, bytes);
     }
     refuse_elf(alloc, names.as_slice(), read.as_slice())?;
     built_program(system, asked, names.as_slice(), read)
 }
 
 /// An executable as a program, with the map of this text, if there is one.
-fn given_program(
-    alloc: Global,
+fn given_program<S: System>(
+    system: &S,
     asked: &Asked<'_>,
     given: Option<Vec<u8>>,
     exe: &[u8],
 ) -> Result<(KnownSource, Image), JobError> {
+    let alloc: Global = system.alloc();
     let sources = Vec::new(alloc);
     let Some(text) = given else {
-        let image = image_in(alloc, asked.file, exe)?;
+        let image = program_image(system, asked, exe)?;
         return Ok((KnownSource { map: None, sources }, image));
     };
     let name = asked.map.unwrap_or("-");
     let map = map_in(alloc, name, text.as_slice())?;
-    let image = image_in(alloc, asked.file, exe)?;
+    let image = program_image(system, asked, exe)?;
     check_fit(alloc, name, &map, asked.file, &image)?;
     let program = KnownSource {
         map: Some(map),

@@ -5,8 +5,10 @@
 use rv_chain::{Fault, LinkOptions};
 use rv_check::remark_of;
 use rv_fault_texts::Remark;
-use rv_object_report::objects_remark;
-use rv_system::{JobError, System, fault_line};
+use rv_image::{Image, load};
+use rv_job::Asked;
+use rv_object_report::{objects_remark, put_header};
+use rv_system::{JobError, System, fault_line, image_in};
 use std::alloc::{AllocError, Global};
 
 /// Why a build of sources is refused; `explains` says whether the words ask for more than the line of the fault.
@@ -47,6 +49,30 @@ pub(crate) fn refused_objects<S: System>(
         Ok(remark) => explained(alloc, error, &remark),
         Err(fault) => fault_line(alloc, &fault, names),
     }
+}
+
+/// The image of the executable that the words name.
+pub(crate) fn program_image<S: System>(
+    system: &S,
+    asked: &Asked<'_>,
+    exe: &[u8],
+) -> Result<Image, JobError> {
+    match image_in(system.alloc(), asked.file, exe) {
+        Ok(image) => Ok(image),
+        Err(error) if is_explained(system, asked.explains) => {
+            Err(refused_executable(system.alloc(), error, exe)?)
+        }
+        Err(error) => Err(error),
+    }
+}
+
+/// The line of a file that is no executable, with what it is instead below.
+fn refused_executable(alloc: Global, error: JobError, exe: &[u8]) -> Result<JobError, AllocError> {
+    let mut remark = Remark::new(alloc);
+    if let Err(fault) = load(alloc, exe) {
+        put_header(alloc, exe, &fault, &mut remark.sentence)?;
+    }
+    explained(alloc, error, &remark)
 }
 
 /// Whether a fault is explained: the words ask for it, or somebody reads standard error at a terminal.

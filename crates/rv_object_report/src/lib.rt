@@ -1,10 +1,11 @@
 //! For people: what is said of a fault of objects' files and of their link: the section and the record, the reference, the value.
 //!
-//! It takes the files and the fault for which a link of them is refused, and gives a remark. The linker names no place, and a good
+//! It takes the files and the fault for which a link of them is refused, and gives a remark; and of a file that is refused what it
+//! is in place of an object or an executable. The linker names no place, and a good
 //! link pays nothing for one: so places are looked for behind the fault, in the files' tables, and for a value by linking again
 //! without some of the relocations.
 //!
-//! Main functions: [`objects_remark`], [`faulty_site`]. They are proved to be safe; what they say is tested. It must not know how
+//! Main functions: [`objects_remark`], [`put_header`], [`faulty_site`]. They are proved to be safe; what they say is tested. It must not know how
 //! objects are linked, nor where files come from.
 //!
 //! ```text
@@ -16,6 +17,8 @@
 #![tactic(auto)]
 
 mod drafts;
+mod headers;
+mod indexes;
 mod records;
 mod references;
 mod remark;
@@ -25,6 +28,7 @@ mod tables;
 mod values;
 
 pub use drafts::borrowed;
+pub use headers::put_header;
 pub use remark::objects_remark;
 pub use search::faulty_site;
 pub use sites::Site;

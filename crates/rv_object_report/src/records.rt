@@ -1,9 +1,10 @@
-//! The section and the record for which an object's file is refused: F5, F9 and F10.
+//! The section and the record for which an object's file is refused: F1, F5 to F7, F9 and F10.
 //!
 //! They are looked for in the order in which a file is examined: section by section, a header before its records.
 
 ghost use Rattle.std.specs.Prelude.{◌<◌};
 
+use crate::indexes::{past_end, wrong_index, wrong_name};
 use crate::tables::{is_rows, row_at, symbol_named};
 use rv_elf::{
     ElfView, RELA_SIZE, SHF_ALLOC, SHF_EXECINSTR, SHT_GROUP, SHT_NOBITS, SHT_NOTE, SHT_PROGBITS,
@@ -26,12 +27,23 @@ const LONGEST_PADDING: i64 = 4094;
 
 /// What is wrong in a section.
 #[derive(Clone, Copy, Drop)]
-struct Wrong {
+pub(crate) struct Wrong {
     /// The index of the section.
-    section: u16,
+    pub section: u16,
     /// The index of its record, from 0; none where its header is wrong.
-    record: Option<usize>,
-    what: &'static str,
+    pub record: Option<usize>,
+    pub what: &'static str,
+}
+
+impl Wrong {
+    /// Of a section's header.
+    pub(crate) fn of_section(section: u16, what: &'static str) -> Wrong {
+        Wrong {
+            section,
+            record: None,
+            what,
+        }
+    }
 }
 
 /// Adds which section and which record of a file have a fault, and why, where that is known.
@@ -42,7 +54,7 @@ pub(crate) fn put_record(
     sentence: &mut String,
 ) -> Result<(), AllocError> {
     let Ok(view) = ElfView::open(file) else {
-        return Ok(());
+        return sentence.push_str(table_words(fault));
     };
     for section in 0..view.header().e_shnum {
         let Some(header) = section_at(&view, section) else {
@@ -56,6 +68,15 @@ pub(crate) fn put_record(
     Ok(())
 }
 
+/// What is said of a file whose tables of headers have a fault.
+fn table_words(fault: &FileFault) -> &'static str {
+    match fault {
+        FileFault::Truncated => "its tables of headers pass its end",
+        FileFault::BadTable => "the sizes or counts of its tables of headers are none that ELF has",
+        _ => "",
+    }
+}
+
 /// What in a section has a fault.
 fn wrong_in(
     view: &ElfView<'_>,
@@ -65,19 +86,19 @@ fn wrong_in(
 ) -> Option<Wrong> {
     match fault {
         FileFault::UnsupportedRelocation(kind) => relocation_of_kind(view, section, header, *kind),
-        FileFault::UnsupportedSection(kind) if is_left_out(header, *kind) => Some(Wrong {
-            section,
-            record: None,
-            what: "has a type that is left out: compile without constructors and groups",
-        }),
-        FileFault::BadTable => match wrong_header(view, section, header) {
-            Some(what) => Some(Wrong {
+        FileFault::UnsupportedSection(kind) if is_left_out(header, *kind) => {
+            Some(Wrong::of_section(
                 section,
-                record: None,
-                what,
-            }),
+                "has a type that is left out: compile without constructors and groups",
+            ))
+        }
+        FileFault::BadTable => match wrong_header(view, section, header) {
+            Some(what) => Some(Wrong::of_section(section, what)),
             None => wrong_record(view, section, header),
         },
+        FileFault::Truncated => Some(Wrong::of_section(section, past_end(view, header)?)),
+        FileFault::BadString => wrong_name(view, section, header),
+        FileFault::BadIndex => wrong_index(view, section, header),
         _ => None,
     }
 }
@@ -260,8 +281,11 @@ fn put_wrong(
     let section = wrong.section;
     let told = format!(in alloc; "section {section} ")?;
     sentence.push_str(told.as_str())?;
-    put_bytes(sentence, section_name(view, header))?;
-    sentence.push_str(" ")?;
+    let name = section_name(view, header);
+    if !name.is_empty() {
+        put_bytes(sentence, name)?;
+        sentence.push_str(" ")?;
+    }
     sentence.push_str(wrong.what)
 }
 

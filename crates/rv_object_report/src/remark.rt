@@ -1,14 +1,15 @@
 //! What is said of a fault of objects' files or of their link.
 
+use crate::headers::put_header;
 use crate::records::put_record;
 use crate::references::{show_definitions, show_references, show_site};
 use crate::search::faulty_site;
 use crate::tables::symbol_of;
 use crate::values::{put_value, value_of};
-use rv_fault::Fault;
+use rv_fault::{Fault, FileFault};
 use rv_fault_texts::{Remark, link_words};
 use rv_link::{LinkFault, LinkOptions};
-use std::alloc::Global;
+use std::alloc::{AllocError, Global};
 
 /// What is said of the fault for which a link of files with these names is refused. An error is want of memory.
 pub fn objects_remark(
@@ -22,13 +23,27 @@ pub fn objects_remark(
     match fault {
         Fault::File(number, fault) => {
             if let Some(file) = files.get((*number as usize).saturating_sub(1)) {
-                put_record(alloc, file, fault, &mut remark.sentence)?;
+                put_file(alloc, file, fault, &mut remark.sentence)?;
             }
         }
         Fault::Link(fault) => put_link(alloc, names, files, fault, options, &mut remark)?,
         _ => {}
     }
     Ok(remark)
+}
+
+/// Adds what is said of a fault of a file: what the file is, or which record is wrong.
+fn put_file(
+    alloc: Global,
+    file: &[u8],
+    fault: &FileFault,
+    sentence: &mut String,
+) -> Result<(), AllocError> {
+    put_header(alloc, file, fault, sentence)?;
+    if sentence.is_empty() {
+        put_record(alloc, file, fault, sentence)?;
+    }
+    Ok(())
 }
 
 /// Adds what is said of a fault of the link.
