@@ -14,8 +14,8 @@ use rv_assemble::{PlacedFault, first_fault};
 use rv_chain::build;
 use rv_fault::{Fault, SourceCode, SourceFault};
 use rv_fault_texts::{
-    FaultPlace, Remark, blank, closing_of, follows_from, is_of_macro, put_refused_names,
-    put_sentence, section_before, without_macro, without_sort,
+    Blocks, FaultPlace, Remark, blank, closing_of, directs, follows_from, is_of_macro,
+    is_other_file, put_refused_names, put_sentence, section_before, without_macro, without_sort,
 };
 use rv_link::LinkOptions;
 use rv_warnings::put_warnings;
@@ -179,6 +179,8 @@ fn put_faults_of(
     let mut omitted = Omitted {
         unknown: Vec::new(alloc),
         refused: Vec::new(alloc),
+        blocks: Blocks::new(alloc),
+        misplaced: Vec::new(alloc),
     };
     let mut is_there = but_first;
     for _ in 0..=MOST_FAULTS {
@@ -197,6 +199,9 @@ fn put_faults_of(
         let Some(place) = place else {
             return Ok(());
         };
+        if is_other_file(source) {
+            return Ok(());
+        }
         omitted.put(alloc, source, &fault, &place)?;
         if !leave(alloc, draft, &fault, &place, cause)? {
             return Ok(());
@@ -212,9 +217,19 @@ struct Omitted<'a> {
     unknown: Vec<u32>,
     /// The names whose definitions were refused.
     refused: Vec<&'a [u8]>,
+    blocks: Blocks<'a>,
+    /// The sections in which a statement stands that cannot, by the lines where they begin, and whether it is a directive.
+    misplaced: Vec<(u32, bool)>,
 }
 
 impl<'a> Omitted<'a> {
+    /// Whether a statement of this sort stood in the section that begins at a line, and could not.
+    fn has_misplaced(&self, section: u32, directs: bool) -> bool {
+        self.misplaced
+            .iter()
+            .any(|(line, sort)| *line == section && *sort == directs)
+    }
+
     /// Adds a statement that is left out.
     fn put(
         &mut self,
@@ -226,8 +241,23 @@ impl<'a> Omitted<'a> {
         if fault.code == SourceCode::UnknownDirective {
             self.unknown.push(fault.line)?;
         }
+        self.blocks.note(source, place, fault.line)?;
+        if fault.code == SourceCode::WrongSection {
+            self.misplaced
+                .push(sort_of(alloc, source, fault.line, place)?)?;
+        }
         put_refused_names(alloc, source, place, &mut self.refused)
     }
+}
+
+/// The line where the section of a statement begins, and whether the statement is a directive.
+fn sort_of(
+    alloc: Global,
+    source: &[u8],
+    line: u32,
+    place: &FaultPlace,
+) -> Result<(u32, bool), AllocError> {
+    Ok((section_before(alloc, source, line)?, directs(source, place)))
 }
 
 /// Where a fault comes from.
@@ -235,10 +265,12 @@ impl<'a> Omitted<'a> {
 enum Cause {
     /// From itself.
     Own,
-    /// From a directive that is unknown and may have gone to its section.
+    /// From a directive that is unknown and may have gone to its section, or from the want of one.
     Directive,
     /// From a name whose definition was refused.
     Name,
+    /// From a directive that begins a block and was refused.
+    Block,
 }
 
 /// Where a fault of a draft comes from.
@@ -257,6 +289,15 @@ fn cause_of(
         return Ok(Cause::Directive);
     }
     match place {
+        Some(place) if code == SourceCode::WrongSection => {
+            let (section, directs) = sort_of(alloc, draft, fault.line, place)?;
+            Ok(if omitted.has_misplaced(section, directs) {
+                Cause::Directive
+            } else {
+                Cause::Own
+            })
+        }
+        Some(place) if omitted.blocks.explain(source, code, place, fault.line) => Ok(Cause::Block),
         Some(place) if follows_from(alloc, source, code, place, omitted.refused.as_slice())? => {
             Ok(Cause::Name)
         }

@@ -2,7 +2,9 @@
 
 use crate::suspects::put_suspect;
 use rv_fault::Fault;
-use rv_fault_texts::{Remark, link_words, near_name, put_bytes, show_definitions, show_undefined};
+use rv_fault_texts::{
+    NearName, Remark, link_words, near_name, put_bytes, show_definitions, show_undefined,
+};
 use rv_link::{LinkFault, LinkOptions};
 use std::alloc::{AllocError, Global};
 
@@ -18,6 +20,11 @@ pub(crate) fn link_remark(
     let is_told = match fault {
         LinkFault::Undefined(name) => {
             put_undefined(alloc, names, sources, name.as_slice(), fault, &mut remark)?;
+            true
+        }
+        LinkFault::EntryMissing => {
+            remark.sentence.push_str(link_words(fault))?;
+            put_near_entry(alloc, names, sources, &mut remark.sentence)?;
             true
         }
         LinkFault::Duplicate(name) => {
@@ -73,9 +80,41 @@ fn put_near_name(
     name: &[u8],
     sentence: &mut String,
 ) -> Result<(), AllocError> {
-    let Some(near) = near_name(alloc, sources, name)? else {
+    match near_name(alloc, sources, name)? {
+        Some(near) => put_near(alloc, names, &near, sentence),
+        None => Ok(()),
+    }
+}
+
+/// Adds the name that may be meant for the entry: one that is spelt almost so, or `main`.
+fn put_near_entry(
+    alloc: Global,
+    names: &[&str],
+    sources: &[&[u8]],
+    sentence: &mut String,
+) -> Result<(), AllocError> {
+    if let Some(near) = near_name(alloc, sources, b"_start")? {
+        return put_near(alloc, names, &near, sentence);
+    }
+    let Some(near) = near_name(alloc, sources, b"main")? else {
         return Ok(());
     };
+    if near.distance != 0 {
+        return Ok(());
+    }
+    let file = names.get(near.file).copied().unwrap_or("");
+    let line = near.line;
+    let told = format!(in alloc; "; {file}:{line} has main, where none begins: name it _start")?;
+    sentence.push_str(told.as_str())
+}
+
+/// Adds a name that may be meant, and where it stands.
+fn put_near(
+    alloc: Global,
+    names: &[&str],
+    near: &NearName<'_>,
+    sentence: &mut String,
+) -> Result<(), AllocError> {
     let file = names.get(near.file).copied().unwrap_or("");
     let line = near.line;
     let place = format!(in alloc; "{file}:{line}")?;

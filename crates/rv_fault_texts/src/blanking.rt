@@ -87,13 +87,24 @@ fn blank_bytes(draft: &mut [u8], place: Place) -> bool {
     changed
 }
 
-/// Whether a statement begins a macro, and its end comes after it.
+/// Whether a statement begins a macro, or lines that are repeated for each of some words, and their end comes after it.
 pub fn is_of_macro(draft: &[u8], place: &FaultPlace) -> bool {
     let rest = part(draft, place.statement.start, draft.len());
-    is_macro(first_word(rest))
-        && rest
-            .split(is_line_feed)
-            .any(|line| first_word(line) == b".endm".as_slice())
+    match end_of(first_word(rest)) {
+        Some(end) => rest.split(is_line_feed).any(|line| first_word(line) == end),
+        None => false,
+    }
+}
+
+/// The directive that ends what another begins, whose lines have words that stand for others.
+fn end_of(word: &[u8]) -> Option<&'static [u8]> {
+    if is_macro(word) {
+        Some(b".endm")
+    } else if word.starts_with(b".irp") {
+        Some(b".endr")
+    } else {
+        None
+    }
 }
 
 /// The first word of a line.
@@ -108,7 +119,7 @@ fn first_word(line: &[u8]) -> &[u8] {
     }
 }
 
-/// A source without a macro and the lines that use it.
+/// A source without such lines, and without those that use a macro of them.
 pub fn without_macro(
     alloc: Global,
     draft: &[u8],
@@ -122,13 +133,19 @@ pub fn without_macro(
 
 /// Adds lines of which the first begins a macro, and blanks for that and the lines that use it.
 fn put_without_macro(out: &mut Vec<u8>, lines: &[u8]) -> Result<(), AllocError> {
-    let words = part(lines, first_word(lines).len(), lines.len());
-    let name = first_word(words);
+    let begin = first_word(lines);
+    let end = end_of(begin).unwrap_or(begin);
+    let words = part(lines, begin.len(), lines.len());
+    let name = if is_macro(begin) {
+        first_word(words)
+    } else {
+        begin
+    };
     let mut is_inside = true;
     for line in lines.split(is_line_feed) {
         let first = first_word(line);
         put_or_blank(out, line, is_inside || first == name)?;
-        is_inside = is_inside && first != b".endm".as_slice();
+        is_inside = is_inside && first != end;
     }
     Ok(())
 }
@@ -160,11 +177,16 @@ pub fn without_sort(
     line: u32,
     place: &FaultPlace,
 ) -> Result<Vec<u8>, AllocError> {
-    let is_directive = part(draft, place.statement.start, draft.len()).starts_with(b".");
+    let is_directive = directs(draft, place);
     let tokens = all_tokens(alloc, draft)?;
     let mut out = Vec::new(alloc);
     put_without_sort(&mut out, draft, tokens.as_slice(), line, is_directive)?;
     Ok(out)
+}
+
+/// Whether a statement is a directive.
+pub fn directs(source: &[u8], place: &FaultPlace) -> bool {
+    part(source, place.statement.start, source.len()).starts_with(b".")
 }
 
 /// Adds a source with these tokens, and blanks for the statements from a line on that are directives, or none.

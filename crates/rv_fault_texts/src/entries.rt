@@ -6,11 +6,21 @@ use std::alloc::{AllocError, Global};
 /// What stands between two entries of the table.
 const BETWEEN: &str = "\n\n";
 
-/// The entry of a code or of an end, as of `E14` or `Limit`, whichever case the letters have: its title, the cause, an
-/// example and the cure, without a line feed at its end.
+/// The entry of a code or of an end, else of the name of a code, as of `E14`, `Limit` or `ImmediateRange`, whichever case the
+/// letters have: its title, the cause, an example and the cure, without a line feed at its end.
 pub fn explanation(code: &str) -> Option<&'static str> {
     for entry in TABLE.split(BETWEEN) {
         if code_of(entry).eq_ignore_ascii_case(code) {
+            return Some(entry);
+        }
+    }
+    entry_named(code)
+}
+
+/// The entry of the name of a code.
+fn entry_named(name: &str) -> Option<&'static str> {
+    for entry in TABLE.split(BETWEEN) {
+        if name_of(entry).eq_ignore_ascii_case(name) {
             return Some(entry);
         }
     }
@@ -41,6 +51,15 @@ fn put_title(text: &mut String, entry: &str) -> Result<(), AllocError> {
 /// The code of an entry, or the name of an end.
 fn code_of(entry: &str) -> &str {
     before(before(entry, '\n'), ' ')
+}
+
+/// The name of the code of an entry, or of an end.
+fn name_of(entry: &str) -> &str {
+    let title = before(entry, '\n');
+    match title.split_once(' ') {
+        Some((_, name)) => name,
+        None => title,
+    }
 }
 
 /// What stands before the first of these characters, or all.

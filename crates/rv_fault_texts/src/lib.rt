@@ -14,6 +14,7 @@
 #![tactic(auto)]
 
 mod blanking;
+mod blocks;
 mod closing;
 mod entries;
 mod excerpt;
@@ -27,6 +28,7 @@ mod near_words;
 mod occurrences;
 mod operands;
 mod other_extensions;
+mod other_files;
 mod other_words;
 mod parcel_numbers;
 mod place;
@@ -40,13 +42,15 @@ mod table;
 mod tokens;
 mod warnings;
 
-pub use blanking::{blank, is_of_macro, without_macro, without_sort};
+pub use blanking::{blank, directs, is_of_macro, without_macro, without_sort};
+pub use blocks::Blocks;
 pub use closing::{Closing, closing_of};
 pub use entries::{explanation, titles};
 pub use excerpt::{Place, put_bytes};
 pub use link_wording::link_words;
 pub use near_names::{NearName, near_name};
 pub use occurrences::section_before;
+pub use other_files::is_other_file;
 pub use place::{Expected, FaultPlace, place_at_byte, place_in_statement};
 pub use ranks::statement_in_line;
 pub use references::{show_definitions, show_undefined};

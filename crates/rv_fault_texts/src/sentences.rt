@@ -7,6 +7,7 @@ use crate::meant::{
 };
 use crate::names::{has_gaps, is_access, is_zero, range_of};
 use crate::other_extensions::{is_of_extension, words_of_unknown};
+use crate::other_files::words_of_file;
 use crate::other_words::left_out_instead;
 use crate::parcel_numbers::{numbers_of, parcel_named};
 use crate::place::{Expected, FaultPlace};
@@ -16,6 +17,8 @@ use std::alloc::{AllocError, Global};
 
 /// Numbers of more digits may have the sign bit.
 const LONGEST_NUMBER: usize = 17;
+/// A decimal number of fewer digits has 12 bits and a sign.
+const SHORT_NUMBER: usize = 4;
 /// A longer operand is not shown whole.
 const LONGEST_CURE: usize = 40;
 
@@ -52,6 +55,11 @@ pub fn put_sentence(
     code: SourceCode,
     place: &FaultPlace,
 ) -> Result<(), AllocError> {
+    if place.shown.start == 0
+        && let Some(words) = words_of_file(source)
+    {
+        return text.push_str(words);
+    }
     let statement = part(source, place.statement.start, place.statement.stop);
     let mnemonic = word(statement);
     let first = word(after(statement, mnemonic));
@@ -331,6 +339,9 @@ fn put_unsupported(
     if subject.expected == Expected::Parenthesis {
         return put_bad_operand(alloc, text, true, subject);
     }
+    if is_access(subject.mnemonic) && is_number(subject.shown) {
+        return put_address(text, subject);
+    }
     if subject.shown != subject.mnemonic {
         put_bytes(text, subject.mnemonic)?;
         text.push_str(" with ")?;
@@ -427,6 +438,18 @@ fn put_range(
     }
     put_shown(text, known, subject, "a value here")?;
     text.push_str(" is none that this statement takes: it is out of range, or a number as a target")
+}
+
+/// Adds how a load or a store names an address that is a number.
+fn put_address(text: &mut String, subject: &Subject<'_>) -> Result<(), AllocError> {
+    put_bytes(text, subject.mnemonic)?;
+    text.push_str(" takes a name here, or a number before a register in parentheses")?;
+    if subject.shown.len() < SHORT_NUMBER {
+        text.push_str(": ")?;
+        put_bytes(text, subject.shown)?;
+        return text.push_str("(zero) is that address");
+    }
+    text.push_str(": load the address into one by li")
 }
 
 /// Adds what is said of a number outside of this range.

@@ -328,6 +328,12 @@ Example:
     j _start
 Cure: give a greater --limit, or look for a loop without an end
 
+Reached
+Cause: the instruction that --until names comes next, and is not executed
+Example:
+    $ rv run --report --json --until f a.s
+Cure: none is needed: name another place, or leave out --until to go on
+
 Breakpoint
 Cause: ebreak was executed
 Example:
