@@ -6,7 +6,7 @@ use rv_kept_runs::Console;
 use rv_machine::{End, Io, Watched, run_watched};
 use rv_memory::Paged;
 use rv_system::{JobError, fault_line, image_in, map_in};
-use rv_trace::{Latest, Places, Segments, Source, report_text};
+use rv_trace::{Ending, Latest, Places, Segments, Source, report_text};
 use std::alloc::{AllocError, Global};
 
 /// The most instructions that are executed again to see where a run ended.
@@ -37,7 +37,14 @@ pub(crate) fn put_report(
     let mut machine = Watched::new(Paged::new(alloc, image)?, entry);
     let mut latest = Latest::new();
     if let Some(end) = looked_at(alloc, &mut machine, &mut latest, input, most) {
-        let text = report_text(alloc, &machine, &latest, &places, &segments, &end)?;
+        let text = report_text(
+            alloc,
+            &machine,
+            &latest,
+            &places,
+            &segments,
+            Ending::By(end),
+        )?;
         put_lines(
             details,
             String::from_utf8_lossy(alloc, text.as_slice())?.as_str(),

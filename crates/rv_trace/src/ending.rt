@@ -20,6 +20,14 @@ impl Ending {
         }
     }
 
+    /// The end by which the machine stopped: one that was reached it stopped as at a limit.
+    pub(crate) fn end(self) -> End {
+        match self {
+            Ending::By(end) => end,
+            Ending::Reached => End::Limit,
+        }
+    }
+
     /// The status of an exit.
     pub(crate) fn status(self) -> Option<u64> {
         match self {

@@ -5,6 +5,7 @@ ghost use Rattle.std.specs.Prelude.{◌≡◌, ◌+◌, ◌%◌, ◌^◌, length
 use crate::access::{AccessKind, access_of};
 use crate::columns::{fill_column, put, put_decimal, put_fixed, put_near};
 use crate::cure::put_cure;
+use crate::ending::Ending;
 use crate::memory_lines::{put_stack, put_words_around};
 use crate::pattern::put_line;
 use crate::places::Places;
@@ -166,17 +167,21 @@ pub fn report_text<M: Memory>(
     latest: &Latest,
     places: &Places<'_>,
     segments: &Segments,
-    end: &End,
+    ending: Ending,
 ) -> Result<Vec<u8>, AllocError> {
+    let end = ending.end();
     let mut text = Vec::new(alloc);
-    put_exit(&mut text, end)?;
+    put_exit(&mut text, ending)?;
     put_at(&mut text, machine, places)?;
-    put_failed(&mut text, machine, (places, segments), end)?;
+    if matches!(end, End::FetchOutside(_) | End::Illegal(_)) {
+        put_from(&mut text, machine, latest, places)?;
+    }
+    put_failed(&mut text, machine, (places, segments), &end)?;
     if let Some(address) = end.address() {
         put_words_around(&mut text, machine, places, address)?;
     }
     latest.refusals.put_lines(&mut text, places)?;
-    put_cure(&mut text, end)?;
+    put_cure(&mut text, ending)?;
     put_registers(&mut text, machine, places)?;
     put_stack(&mut text, machine, places)?;
     put_segments(&mut text, places, segments)?;
@@ -184,13 +189,16 @@ pub fn report_text<M: Memory>(
     Ok(text)
 }
 
-/// Adds the status of an exit.
-fn put_exit(text: &mut Vec<u8>, end: &End) -> Result<(), AllocError> {
-    let End::Exited(status) = end else {
+/// Adds the status of an exit, or that the run came to where it was to end.
+fn put_exit(text: &mut Vec<u8>, ending: Ending) -> Result<(), AllocError> {
+    if matches!(ending, Ending::Reached) {
+        return put(text, "reached\n  what --until names, which comes next\n");
+    }
+    let Some(status) = ending.status() else {
         return Ok(());
     };
     put(text, "exit\n  with status ")?;
-    put_decimal(text, u64::from(*status))?;
+    put_decimal(text, status)?;
     put(text, "\n")
 }
 
@@ -209,6 +217,24 @@ fn put_at<M: Memory>(
         text.push(b'\n')?;
     }
     Ok(())
+}
+
+/// Adds the line of the instruction from which the run came to pc, where one was executed.
+fn put_from<M: Memory>(
+    text: &mut Vec<u8>,
+    machine: &Watched<M>,
+    latest: &Latest,
+    places: &Places<'_>,
+) -> Result<(), AllocError> {
+    // the last one is that at pc
+    let shown = latest.shown();
+    if shown < 2 {
+        return Ok(());
+    }
+    put(text, "from\n")?;
+    let address = latest.address(shown - 2);
+    put_place(text, machine, places, address)?;
+    put_source(text, places, address)
 }
 
 /// Adds the lines of the registers.
@@ -305,7 +331,14 @@ fn put_failed<M: Memory>(
     put(text, what.kind)?;
     put(text, " of ")?;
     put_decimal(text, what.bytes)?;
-    put(text, " bytes at ")?;
+    put(
+        text,
+        if what.bytes == 1 {
+            " byte at "
+        } else {
+            " bytes at "
+        },
+    )?;
     put_fixed(text, address, 8)?;
     put_symbol(text, known.0, address)?;
     put_why(text, known, end, address, what.bytes)?;

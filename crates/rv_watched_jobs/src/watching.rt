@@ -109,15 +109,10 @@ fn report(
     ending: Ending,
 ) -> Result<Vec<u8>, AllocError> {
     let (places, segments) = known;
-    let end = match ending {
-        Ending::By(end) => end,
-        // it shows as little as one at the limit
-        Ending::Reached => End::Limit,
-    };
     match format {
         None => Ok(Vec::new(alloc)),
         Some(OutputFormat::Text) => {
-            report_text(alloc, machine, last.latest(), places, segments, &end)
+            report_text(alloc, machine, last.latest(), places, segments, ending)
         }
         Some(OutputFormat::Json) => {
             report_json(alloc, machine, last.latest(), places, segments, ending)
