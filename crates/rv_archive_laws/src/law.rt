@@ -1,0 +1,18 @@
+//! What holds of all archives, and of what is taken of them.
+
+ghost use Rattle.std.specs.Prelude.{◌≡◌, ℕ, List, Result};
+ghost use Rattle.rv_archive_laws.specs.declared.fault.ArchiveFault.{ArchiveFault as Fault};
+ghost use Rattle.rv_archive_laws.specs.Reads.{Archive, Reads};
+ghost use Rattle.rv_archive_laws.specs.Taken.{Offer, ObjectNames, Takes};
+
+/// A file is one archive, or has one first fault.
+pub fn one_archive()
+    ensures { (file : List ℕ) (r s : Result Archive Fault) → Reads file r → Reads file s → r ≡ s }
+{}
+
+/// A link takes its objects in one way.
+pub fn one_selection()
+    ensures { (names_of : ℕ → ObjectNames) (wanted : List (List ℕ)) (offers : List Offer)
+        (xs ys : List ℕ) → Takes names_of wanted offers xs → Takes names_of wanted offers ys
+        → xs ≡ ys }
+{}

@@ -1,0 +1,35 @@
+//! What archives of objects are, and which of their members a link takes.
+//!
+//! It gives the parts of an archive ([`Parts`]), the names ([`Names`]) and bytes ([`Members`]), and the index, which says which
+//! member defines a name ([`Index`]); and what a file is as an archive, or why it is refused ([`Reads`]).
+//!
+//! And it says which objects a link takes, of those that its files offer, and in which order ([`Taken`]).
+//!
+//! [`ArchiveFault`] is a type that definitions and code share. It knows no objects: a member is bytes with a name, and of an
+//! object it has the names that it defines and leaves undefined.
+//!
+//! Nothing here runs.
+//!
+//! Main contracts: `one_archive`, the law that a file is one archive, or has one first fault; and `one_selection`, that what is
+//! taken is determined.
+//!
+//! ```text
+//! part_at file 8                                 -- the index of the archive, where it has one
+//! name_at table (codes "f.o/            ")     -- Ok (codes "f.o")
+//! ```
+//!
+//! [`Parts`]: ../specs/Parts.antt
+//! [`Names`]: ../specs/Names.antt
+//! [`Members`]: ../specs/Members.antt
+//! [`Index`]: ../specs/Index.antt
+//! [`Reads`]: ../specs/Reads.antt
+//! [`Taken`]: ../specs/Taken.antt
+//!
+//! Source: System V "ar" (<ar.h>); GNU binutils, "ar"; LLVM's llvm-ar writes the same; GNU ld, "Options".
+#![tactic(auto)]
+
+mod fault;
+mod law;
+
+pub use fault::ArchiveFault;
+pub use law::{one_archive, one_selection};
