@@ -1,0 +1,2 @@
+-- The lengths of a unit lead to what they say.
+pub mod UnitLemmas
