@@ -1,10 +1,10 @@
 //! Runs over an input at hand and a console that is kept.
 
 use crate::console::Console;
+use rv_counts::Executed;
 use rv_image::Image;
 use rv_machine::{End, Io, Outcome, RunFault, WatchFault, Watched, run_io, run_watched};
 use rv_memory::Paged;
-use rv_trace::Executed;
 use std::alloc::{AllocError, Global};
 use thiserror::Error;
 

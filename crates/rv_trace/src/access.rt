@@ -6,7 +6,7 @@ ghost use Rattle.std.specs.Prelude.{◌≡◌};
 ghost use Rattle.rv_trace.specs.Shown.{shown_bytes, stores};
 
 use rv_event_laws::Access as Told;
-use rv_isa::{AtomicOperation, BranchOperation, Format, Inst, LoadOperation, Reg, StoreOperation};
+use rv_isa::{AtomicOperation, Format, Inst, LoadOperation, Reg, StoreOperation};
 use rv_machine::Event;
 
 /// What an instruction does with memory.
@@ -109,21 +109,4 @@ pub(crate) fn destination(inst: Inst) -> Option<Reg> {
         _ => return None,
     };
     if rd.number() == 0 { None } else { Some(rd) }
-}
-
-/// Whether a branch of two values is taken.
-pub(crate) fn is_taken(operation: BranchOperation, a: u64, b: u64) -> bool {
-    match operation {
-        BranchOperation::Beq => a == b,
-        BranchOperation::Bne => a != b,
-        BranchOperation::Blt => a.cast_signed() < b.cast_signed(),
-        BranchOperation::Bge => a.cast_signed() >= b.cast_signed(),
-        BranchOperation::Bltu => a < b,
-        BranchOperation::Bgeu => a >= b,
-    }
-}
-
-/// Whether a jump that leaves its return address in this register is a call (ISA, table 2.1).
-pub(crate) fn is_call(link: Reg) -> bool {
-    link.number() == 1 || link.number() == 5
 }

@@ -5,6 +5,10 @@ use std::alloc::AllocError;
 
 /// Blanks, which are added many at once.
 const BLANKS: [u8; 64] = [b' '; 64];
+/// What is less, or as much below 0, is shown in decimal too.
+const SMALL: u64 = 65_536;
+/// The room of such a number, as ` -65535`.
+pub(crate) const DECIMAL: usize = 7;
 
 /// Adds a text.
 pub(crate) fn put(text: &mut Vec<u8>, added: &str) -> Result<(), AllocError> {
@@ -68,6 +72,54 @@ fn eight_digits(number: u64) -> [u8; 8] {
 pub(crate) fn put_decimal(text: &mut Vec<u8>, number: u64) -> Result<(), AllocError> {
     text.extend_from_slice(Buffer::new().format(number).as_bytes())?;
     Ok(())
+}
+
+/// A number in decimal after a blank, and blanks up to the end of its room, where it is small; 0 is plain as it stands.
+#[inline]
+fn decimal_of(value: u64) -> Option<[u8; DECIMAL]> {
+    let negated = value.wrapping_neg();
+    if value == 0 || SMALL <= value && SMALL <= negated {
+        return None;
+    }
+    if value < SMALL {
+        return Some(in_room(b" ", value));
+    }
+    Some(in_room(b" -", negated))
+}
+
+/// What stands before a number, its digits in decimal, and blanks.
+fn in_room(sign: &[u8], number: u64) -> [u8; DECIMAL] {
+    let mut room = [b' '; DECIMAL];
+    let mut buffer = Buffer::new();
+    let digits = buffer.format(number).as_bytes();
+    for (place, byte) in room.iter_mut().zip(sign.iter().chain(digits)) {
+        *place = *byte;
+    }
+    room
+}
+
+/// Adds a number in decimal, after a blank, where it is small.
+pub(crate) fn put_small(text: &mut Vec<u8>, value: u64) -> Result<(), AllocError> {
+    if let Some(decimal) = decimal_of(value) {
+        text.extend_from_slice(decimal.trim_ascii_end())?;
+    }
+    Ok(())
+}
+
+/// Writes a number that is small in decimal over what stands at an offset; false where that has no room for it.
+#[inline]
+pub(crate) fn set_small(text: &mut [u8], start: usize, value: u64) -> bool {
+    let Some(decimal) = decimal_of(value) else {
+        return true;
+    };
+    let Some(rest) = text.get_mut(start..) else {
+        return false;
+    };
+    let Some(room) = rest.first_chunk_mut::<DECIMAL>() else {
+        return false;
+    };
+    *room = decimal;
+    true
 }
 
 /// Adds a number in decimal, at the right of a column of this width.

@@ -1,12 +1,11 @@
 //! The counts of a run as programs read them.
 
-use crate::counts::Counts;
 use crate::ending::Ending;
 use crate::json_report::{file, near};
 use crate::lines::{Covered, coverage};
 use crate::places::Places;
-use crate::summary::{Sums, calls, sums_of, tallies};
-use crate::totals::Totals;
+use crate::summary::{calls, tallies};
+use rv_counts::{Counts, Totals};
 use rv_json::{number, number_or_null, put_line};
 use serde_json::{Map, Value, json, push, put};
 use std::alloc::{AllocError, Global};
@@ -20,8 +19,7 @@ pub fn counts_json(
     ending: Ending,
     lines: bool,
 ) -> Result<Vec<u8>, AllocError> {
-    let sums = sums_of(counts.instructions());
-    let mut object = totals(alloc, counts, &sums)?;
+    let mut object = totals(alloc, counts)?;
     let end = Value::try_from_str(alloc, ending.name())?;
     put(&mut object, alloc, "end", end)?;
     let status = number_or_null(alloc, ending.status())?;
@@ -42,8 +40,9 @@ pub fn counts_json(
 }
 
 /// An object of the sums.
-fn totals(alloc: Global, counts: &Counts, sums: &Sums) -> Result<Map<String, Value>, AllocError> {
+fn totals(alloc: Global, counts: &Counts) -> Result<Map<String, Value>, AllocError> {
     let totals = counts.totals();
+    let branches = counts.branches();
     let members = [
         ("instructions", totals.executed),
         ("compressed", totals.compressed),
@@ -51,8 +50,8 @@ fn totals(alloc: Global, counts: &Counts, sums: &Sums) -> Result<Map<String, Val
         ("bytes_read", totals.read),
         ("stores", totals.stores),
         ("bytes_written", totals.written),
-        ("branches_taken", sums.taken),
-        ("branches_not_taken", sums.untaken),
+        ("branches_taken", branches.taken),
+        ("branches_not_taken", branches.untaken()),
         ("deepest_stack", counts.deepest()),
     ];
     let mut object = Map::new(alloc);

@@ -1,13 +1,13 @@
 //! The last state of a run, as programs read it.
 
 ghost use Rattle.std.specs.Prelude.{◌≡◌};
-ghost use Rattle.rv_trace.specs.Totals.{totals_of};
+ghost use Rattle.rv_counts.specs.Totals.{totals_of};
 
 use crate::digest::memory_digest;
 use crate::ending::Ending;
 use crate::moved::add_span;
 use crate::report::{Latest, Segments};
-use crate::totals::Totals;
+use rv_counts::Totals;
 use rv_isa::Reg;
 use rv_json::{number, number_or_null, put_line};
 use rv_machine::{Event, ShowFault, Watched, Watcher};

@@ -2,11 +2,11 @@
 //!
 //! It takes a machine that [`run_watched`](rv_machine::run_watched) runs, and what is known of the program's addresses
 //! ([`Places`], from its map and its sources), and gives texts: the instructions executed one by one ([`Trace`]), how often
-//! each was ([`Counts`], `counts_text`, `lines_text`, `lcov_text`), how many there were ([`Executed`]), and why the run ended ([`Latest`], `report_text`).
+//! each was (`counts_text`, `lines_text`, `lcov_text`, of the counts of `rv_counts`), and why the run ended ([`Latest`],
+//! `report_text`).
 //!
-//! Main contracts: that of `run_watched`, by which a run that is watched is the run of the machine, and each watcher is told
-//! exactly its events; and that of [`Counts`], whose sums are those over the events (`specs/Totals`). What the texts show of
-//! the events is tested. It must not know files or the words of a command line.
+//! Main contract: that of `run_watched`, by which a run that is watched is the run of the machine, and each watcher is told
+//! exactly its events. What the texts show of the events is tested. It must not know files or the words of a command line.
 //!
 //! ```text
 //! let places = Places::new(alloc, Some(&map), &[Source { name: "a.s", text }])?;
@@ -22,15 +22,11 @@
 mod access;
 mod columns;
 mod counter;
-mod counts;
 mod cure;
-mod depth;
 mod digest;
 mod ending;
-mod executed;
 mod json_counts;
 mod json_report;
-mod kinds;
 mod last;
 mod lines;
 mod memory_lines;
@@ -41,13 +37,10 @@ mod plain;
 mod refusals;
 mod report;
 mod summary;
-mod totals;
 mod trace;
 mod visited;
 
-pub use counts::Counts;
 pub use ending::Ending;
-pub use executed::Executed;
 pub use json_counts::counts_json;
 pub use json_report::report_json;
 pub use last::{Last, state_text};

@@ -3,9 +3,8 @@
 //! A statement was executed as often as its first instruction. Statements that were never executed are shown with 0.
 
 use crate::columns::{put, put_decimal};
-use crate::counts::Counts;
 use crate::places::Places;
-use crate::visited::VisitedInstruction;
+use rv_counts::{CountedInstruction, Counts};
 use rv_map_laws::Row;
 use std::alloc::{AllocError, Global};
 
@@ -161,7 +160,7 @@ fn is_same_line(one: &Row, other: &Row) -> bool {
 /// The addresses that were executed, in their order.
 fn by_address(
     alloc: Global,
-    instructions: &[VisitedInstruction],
+    instructions: &[CountedInstruction],
 ) -> Result<Vec<Executed>, AllocError> {
     let mut ordered: Vec<Executed> = Vec::new(alloc);
     for visited in instructions {

@@ -1,8 +1,8 @@
 //! The memory around an address, and the stack, as they are when a run ends.
 
-use crate::columns::{put, put_fixed};
+use crate::columns::{put, put_fixed, put_small};
 use crate::places::Places;
-use crate::report::{put_small, put_symbol};
+use crate::report::put_symbol;
 use rv_image::{STACK_BYTES, STACK_START};
 use rv_isa::Reg;
 use rv_machine::Watched;

@@ -1,7 +1,7 @@
 //! The line of an instruction, made once: what all its lines have, with blanks for the digits that differ.
 
 use crate::access::{Access, access_of, destination};
-use crate::columns::{fill_column, put, put_blanks, put_decimal, put_fixed, put_near};
+use crate::columns::{DECIMAL, fill_column, put, put_blanks, put_decimal, put_fixed, put_near};
 use crate::places::Places;
 use crate::visited::VisitedInstruction;
 use rv_inspect::put_shortest;
@@ -16,8 +16,8 @@ const SYMBOL: usize = 20;
 const BYTES: usize = 8;
 /// As `bgeu zero,zero,0xfffffffffffffff0`.
 const TEXT: usize = 33;
-/// As of `amoswap.d s10,t0,(a0)`: a register with its value, an address, and what is stored there.
-const EFFECT: usize = 62;
+/// As of `amoswap.d s10,t0,(a0)`: a register with its value, that in decimal, an address, and what is stored there.
+const EFFECT: usize = 69;
 /// The front of a symbol that has no room; with the end of it, which tells the distance, and two dots it fills the column.
 const FRONT: usize = 8;
 
@@ -45,7 +45,7 @@ pub(crate) struct Pattern {
 pub(crate) struct Effects {
     /// Where the value of the register stands.
     pub value: usize,
-    /// Where the line ends of which nothing is accessed.
+    /// Where the line ends, but for the value in decimal, of which nothing is accessed.
     pub no_access: usize,
     pub access: Option<Access>,
     /// Where the address of the access stands.
@@ -105,7 +105,7 @@ impl Patterns {
         put_bare(&mut self.texts, places, visited)?;
         let bare = self.texts.len();
         let effects = put_effects(&mut self.texts, start, visited.inst)?;
-        let source = put_rest(&mut self.texts, start, places, visited.pc)?;
+        let source = put_rest(&mut self.texts, start, places, visited.pc, &effects)?;
         self.patterns.push(Pattern {
             start,
             bare,
@@ -173,6 +173,9 @@ fn put_effects(text: &mut Vec<u8>, start: usize, inst: Inst) -> Result<Effects, 
     }
     let value = put_written(text, written)?.saturating_sub(start);
     let last = if written.is_some() { text.len() } else { bare };
+    if written.is_some() {
+        put_blanks(text, DECIMAL)?;
+    }
     if written.is_some() && access.is_some() {
         text.push(b' ')?;
     }
@@ -216,22 +219,29 @@ fn put_accessed(text: &mut Vec<u8>, access: &Option<Access>) -> Result<usize, Al
     Ok(stored)
 }
 
-/// Adds the source that an address begins, and a line feed, to a line that began at an offset; where that is.
+/// Adds the source that an address begins, and a line feed, to a line that began at an offset; where that is. A line does not end
+/// with the room of a decimal.
 fn put_rest(
     text: &mut Vec<u8>,
     start: usize,
     places: &Places<'_>,
     pc: u64,
+    effects: &Effects,
 ) -> Result<usize, AllocError> {
-    let mut source = text.len();
     if let Some(row) = places.row_at(pc) {
         if places.begins_line(row, pc) {
             fill_column(text, start, BEFORE_SOURCE)?;
-            source = text.len();
+            let source = text.len();
             put(text, "# ")?;
             put_line(text, places, row)?;
+            text.push(b'\n')?;
+            return Ok(source);
         }
     }
+    if effects.access.is_none() {
+        text.truncate(start.saturating_add(effects.no_access));
+    }
+    let source = text.len();
     text.push(b'\n')?;
     Ok(source)
 }

@@ -3,7 +3,7 @@
 ghost use Rattle.std.specs.Prelude.{◌≡◌, ◌+◌, ◌%◌, ◌^◌, length};
 
 use crate::access::{AccessKind, access_of};
-use crate::columns::{fill_column, put, put_decimal, put_fixed, put_near};
+use crate::columns::{fill_column, put, put_decimal, put_fixed, put_near, put_small};
 use crate::cure::put_cure;
 use crate::ending::Ending;
 use crate::memory_lines::{put_stack, put_words_around};
@@ -18,8 +18,6 @@ use rv_machine::{End, Event, ShowFault, Watched, Watcher};
 use rv_memory::Memory;
 use std::alloc::{AllocError, Global};
 
-/// What is less, or as much below 0, is shown in decimal too.
-const SMALL: u64 = 65_536;
 /// How far behind what a symbol names an access is said to be behind it.
 const BEHIND: u64 = 4_096;
 /// How far below the stack an access is said to find it full.
@@ -501,20 +499,6 @@ fn put_register<M: Memory>(
     put_symbol(text, places, value)?;
     text.push(b'\n')?;
     Ok(())
-}
-
-/// Adds a number in decimal, after a blank, where it is small; 0 is plain as it stands.
-pub(crate) fn put_small(text: &mut Vec<u8>, value: u64) -> Result<(), AllocError> {
-    let negated = value.wrapping_neg();
-    if value == 0 || SMALL <= value && SMALL <= negated {
-        return Ok(());
-    }
-    if value < SMALL {
-        put(text, " ")?;
-        return put_decimal(text, value);
-    }
-    put(text, " -")?;
-    put_decimal(text, negated)
 }
 
 /// Adds a segment: its first address, the address after it, its rights, and what it holds.

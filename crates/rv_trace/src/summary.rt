@@ -1,20 +1,11 @@
 //! The counts of a run as a text.
 
 use crate::columns::{fill_column, put, put_blanks, put_count, put_near, put_right, put_share};
-use crate::counts::Counts;
 use crate::places::Places;
-use crate::totals::Totals;
-use crate::visited::VisitedInstruction;
-use rv_isa::{Format, mnemonic};
+use rv_counts::{Branches, CountedInstruction, Counts, Totals};
+use rv_isa::mnemonic;
 use rv_map::put_hexadecimal;
 use std::alloc::{AllocError, Global};
-
-/// Sums over the instructions of a run.
-#[derive(Clone, Copy, Drop)]
-pub(crate) struct Sums {
-    pub taken: u64,
-    pub untaken: u64,
-}
 
 /// A mnemonic and how often it was executed.
 #[derive(Clone, Copy, Drop)]
@@ -38,9 +29,8 @@ pub fn counts_text(
     places: &Places<'_>,
 ) -> Result<Vec<u8>, AllocError> {
     let mut text = Vec::new(alloc);
-    let sums = sums_of(counts.instructions());
     let totals = counts.totals();
-    put_sums(&mut text, &totals, &sums, counts.deepest())?;
+    put_sums(&mut text, &totals, &counts.branches(), counts.deepest())?;
     put_kinds(&mut text, &totals)?;
     put_mnemonics(alloc, &mut text, counts.instructions(), totals.executed)?;
     put_calls(alloc, &mut text, counts.instructions(), places)?;
@@ -60,7 +50,7 @@ fn put_kinds(text: &mut Vec<u8>, totals: &Totals) -> Result<(), AllocError> {
 fn put_mnemonics(
     alloc: Global,
     text: &mut Vec<u8>,
-    instructions: &[VisitedInstruction],
+    instructions: &[CountedInstruction],
     executed: u64,
 ) -> Result<(), AllocError> {
     put(text, "by mnemonic\n")?;
@@ -74,7 +64,7 @@ fn put_mnemonics(
 fn put_calls(
     alloc: Global,
     text: &mut Vec<u8>,
-    instructions: &[VisitedInstruction],
+    instructions: &[CountedInstruction],
     places: &Places<'_>,
 ) -> Result<(), AllocError> {
     put(text, "calls\n")?;
@@ -88,7 +78,7 @@ fn put_calls(
 fn put_sums(
     text: &mut Vec<u8>,
     totals: &Totals,
-    sums: &Sums,
+    branches: &Branches,
     deepest: u64,
 ) -> Result<(), AllocError> {
     let lines = [
@@ -98,8 +88,8 @@ fn put_sums(
         ("bytes read", totals.read),
         ("stores", totals.stores),
         ("bytes written", totals.written),
-        ("branches taken", sums.taken),
-        ("branches not taken", sums.untaken),
+        ("branches taken", branches.taken),
+        ("branches not taken", branches.untaken()),
         ("deepest stack", deepest),
     ];
     for (name, count) in lines {
@@ -137,28 +127,6 @@ fn put_called(text: &mut Vec<u8>, called: &Called, places: &Places<'_>) -> Resul
     Ok(())
 }
 
-pub(crate) fn sums_of(instructions: &[VisitedInstruction]) -> Sums {
-    let mut sums = Sums {
-        taken: 0,
-        untaken: 0,
-    };
-    for visited in instructions {
-        add_visited(&mut sums, visited);
-    }
-    sums
-}
-
-/// Adds what the executions of an instruction did.
-fn add_visited(sums: &mut Sums, visited: &VisitedInstruction) {
-    if let Format::Branch(_, _) = visited.inst.format() {
-        add(&mut sums.taken, visited.taken);
-        add(
-            &mut sums.untaken,
-            visited.count.saturating_sub(visited.taken),
-        );
-    }
-}
-
 fn add(sum: &mut u64, count: u64) {
     *sum = sum.saturating_add(count);
 }
@@ -166,7 +134,7 @@ fn add(sum: &mut u64, count: u64) {
 /// The mnemonics by how often they were executed, then by name.
 pub(crate) fn tallies(
     alloc: Global,
-    instructions: &[VisitedInstruction],
+    instructions: &[CountedInstruction],
 ) -> Result<Vec<Tally>, AllocError> {
     let mut tallies = Vec::new(alloc);
     add_tallies(&mut tallies, instructions)?;
@@ -175,7 +143,7 @@ pub(crate) fn tallies(
 
 fn add_tallies(
     tallies: &mut Vec<Tally>,
-    instructions: &[VisitedInstruction],
+    instructions: &[CountedInstruction],
 ) -> Result<(), AllocError> {
     for visited in instructions {
         if visited.count > 0 {
@@ -202,7 +170,7 @@ fn add_to(tallies: &mut Vec<Tally>, name: &'static str, count: u64) -> Result<()
 /// The addresses that were called by how often they were, then by address.
 pub(crate) fn calls(
     alloc: Global,
-    instructions: &[VisitedInstruction],
+    instructions: &[CountedInstruction],
 ) -> Result<Vec<Called>, AllocError> {
     let mut calls = Vec::new(alloc);
     add_calls(&mut calls, instructions)?;
@@ -211,7 +179,7 @@ pub(crate) fn calls(
 
 fn add_calls(
     calls: &mut Vec<Called>,
-    instructions: &[VisitedInstruction],
+    instructions: &[CountedInstruction],
 ) -> Result<(), AllocError> {
     for visited in instructions {
         if visited.calls > 0 {

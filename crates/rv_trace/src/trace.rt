@@ -7,7 +7,9 @@
 ghost use Rattle.std.specs.Prelude.{◌≡◌, ⊤};
 ghost use Rattle.rv_trace.specs.Shown.{is_full};
 
-use crate::columns::{fill_column, put, put_fixed, set_fixed, set_low_digits};
+use crate::columns::{
+    DECIMAL, fill_column, put, put_fixed, put_small, set_fixed, set_low_digits, set_small,
+};
 use crate::counter::{Counter, DIGITS};
 use crate::moved::put_span;
 use crate::pattern::{BEFORE_SOURCE, Effects, Patterns};
@@ -123,16 +125,31 @@ impl<'a, L: Write> Trace<'a, L> {
         let Some(line) = self.kept.as_mut_slice().get_mut(start..) else {
             return Ok(());
         };
+        let has_decimal = fill_decimal(line, effects, event);
         let is_full = fill(line, effects, event);
-        if is_full && event.taken.count == 0 {
+        if is_full && has_decimal && event.taken.count == 0 {
             return Ok(());
         }
         self.kept.truncate(start.saturating_add(effects.no_access));
+        if let Some(setting) = event.set {
+            put_small(&mut self.kept, setting.value)?;
+        }
         if event.taken.count > 0 {
+            let room = effects.no_access.saturating_add(DECIMAL);
+            fill_column(&mut self.kept, start, room)?;
             put_taken(&mut self.kept, event.taken, memory)?;
         }
         put_rest(&mut self.kept, start, self.patterns.rest(pattern))
     }
+}
+
+/// Writes into a line the value of its register in decimal, if it is small; false where that has no room, at the line's end.
+#[inline]
+fn fill_decimal(line: &mut [u8], effects: &Effects, event: &Event) -> bool {
+    let Some(setting) = event.set else {
+        return true;
+    };
+    set_small(line, effects.value.saturating_add(16), setting.value)
 }
 
 /// Writes into a line what its event tells; whether that fills the line. It does not where nothing was accessed, as by an `sc`
@@ -159,7 +176,7 @@ fn fill(line: &mut [u8], effects: &Effects, event: &Event) -> bool
 /// Adds where the input that a call took stands, and its bytes in their order.
 #[inline(never)]
 fn put_taken<M: Memory>(text: &mut Vec<u8>, taken: Span, memory: &M) -> Result<(), AllocError> {
-    put(text, " [")?;
+    text.push(b'[')?;
     put_fixed(text, taken.address, 8)?;
     put(text, "] <-")?;
     put_bytes(text, taken, memory)
@@ -215,6 +232,9 @@ impl<M: Memory, L: Write> Watcher<M> for Trace<'_, L> {
             return Ok(());
         }
         let pc = machine.pc();
+        if let Some(index) = self.instructions.fixed_at(pc) {
+            return self.begin(index);
+        }
         let Some(bits) = bits_at(machine.memory(), pc) else {
             return Ok(());
         };

@@ -1,9 +1,9 @@
 //! The instructions that a run comes to, each once.
 //!
-//! An address is looked up in a table by its place in the program's code. An instruction is the bits that stand at its
-//! address: code that changes itself has one for each, so that counts stay exact.
+//! An instruction is the bits that stand at its address: code that changes itself has one for each.
 
 use rv_compress::expand;
+use rv_counts::CodeIndex;
 use rv_encode::decode;
 use rv_image::Image;
 use rv_isa::Inst;
@@ -17,12 +17,6 @@ pub(crate) struct VisitedInstruction {
     /// The bits of the word, or of the parcel.
     pub bits: u32,
     pub inst: Inst,
-    /// How often it was executed.
-    pub count: u64,
-    /// How often it branched, of a branch.
-    pub taken: u64,
-    /// How often it was called.
-    pub calls: u64,
 }
 
 impl VisitedInstruction {
@@ -32,19 +26,13 @@ impl VisitedInstruction {
     }
 }
 
-/// A piece of code, and the instructions of its addresses.
-#[derive(Drop)]
-struct Span {
-    start: u64,
-    /// For each two bytes the number of the instruction there, from 1; 0 where there is none yet.
-    numbers: Vec<u32>,
-}
-
-/// All instructions that a run has come to.
+/// The instructions that a run has come to.
 #[derive(Drop)]
 pub(crate) struct VisitedInstructions {
-    spans: Vec<Span>,
+    index: CodeIndex,
     instructions: Vec<VisitedInstruction>,
+    /// Whether no code can be written, so that an address has one instruction only.
+    is_fixed: bool,
 }
 
 /// The bits of the word or the parcel at an address; none where they may not be executed.
@@ -70,22 +58,23 @@ pub(crate) fn inst_of(bits: u32) -> Option<Inst> {
     }
 }
 
+/// Whether no segment of an image may be executed and written.
+fn has_fixed_code(image: &Image) -> bool {
+    for segment in &image.segments {
+        if segment.flags & 3 == 3 {
+            return false;
+        }
+    }
+    true
+}
+
 impl VisitedInstructions {
     /// No instructions yet of an image's code.
     pub(crate) fn new(alloc: Global, image: &Image) -> Result<Self, AllocError> {
-        let mut spans = Vec::new(alloc);
-        for segment in &image.segments {
-            if segment.flags % 2 == 1 {
-                let numbers = vec![in alloc; 0u32; segment.bytes.len() / 2 + 1]?;
-                spans.push(Span {
-                    start: segment.address,
-                    numbers,
-                })?;
-            }
-        }
         Ok(VisitedInstructions {
-            spans,
+            index: CodeIndex::new(alloc, image)?,
             instructions: Vec::new(alloc),
+            is_fixed: has_fixed_code(image),
         })
     }
 
@@ -94,23 +83,25 @@ impl VisitedInstructions {
         self.instructions.as_slice()
     }
 
-    /// An instruction by its index.
+    /// The index of the only instruction that an address can have, if the run has come to it.
     #[inline]
-    pub(crate) fn get_mut(&mut self, index: usize) -> Option<&mut VisitedInstruction> {
-        self.instructions.get_mut(index)
+    pub(crate) fn fixed_at(&self, pc: u64) -> Option<usize> {
+        if !self.is_fixed {
+            return None;
+        }
+        let index = self.index.get(pc)?;
+        if self.instructions.get(index)?.pc == pc {
+            Some(index)
+        } else {
+            None
+        }
     }
 
     /// The index of the instruction of these bits at an address, which is made where there is none; none where the bits spell no
     /// instruction.
     #[inline]
     pub(crate) fn find(&mut self, pc: u64, bits: u32) -> Result<Option<usize>, AllocError> {
-        for span in self.spans.iter() {
-            let Some(number) = number_in(span, pc) else {
-                continue;
-            };
-            let Some(index) = (number as usize).checked_sub(1) else {
-                continue;
-            };
+        if let Some(index) = self.index.get(pc) {
             if let Some(visited) = self.instructions.get(index) {
                 if visited.pc == pc && visited.bits == bits {
                     return Ok(Some(index));
@@ -127,31 +118,9 @@ impl VisitedInstructions {
             return Ok(None);
         };
         let index = self.instructions.len();
-        self.instructions.push(VisitedInstruction {
-            pc,
-            bits,
-            inst,
-            count: 0,
-            taken: 0,
-            calls: 0,
-        })?;
-        let Ok(number) = u32::try_from(self.instructions.len()) else {
-            return Ok(Some(index));
-        };
-        for span in self.spans.iter_mut() {
-            if let Ok(place) = usize::try_from(pc.wrapping_sub(span.start) / 2) {
-                if let Some(kept) = span.numbers.get_mut(place) {
-                    *kept = number;
-                }
-            }
-        }
+        self.instructions
+            .push(VisitedInstruction { pc, bits, inst })?;
+        self.index.set(pc, index);
         Ok(Some(index))
     }
-}
-
-/// The number of the instruction at an address, from 1; 0 where there is none yet, none where the span has not the address.
-#[inline]
-fn number_in(span: &Span, pc: u64) -> Option<u32> {
-    let place = usize::try_from(pc.wrapping_sub(span.start) / 2).ok()?;
-    span.numbers.get(place).copied()
 }

@@ -1,9 +1,10 @@
 //! Runs that are looked at: reports of why they ended, their last states, traces, and counts.
 //!
 //! Of a program that was built from sources the map and the texts are at hand, so its symbols, files and lines are shown; of
-//! an executable those of the map that the words name for it, if any.
+//! an executable those of the map and of the sources that the words name for it, if any.
 
 use crate::stepping::Guest;
+use rv_counts::Counts;
 use rv_event_text::EventLines;
 use rv_guests::{Guests, report_end, run_line, status_of};
 use rv_image::Image;
@@ -13,8 +14,8 @@ use rv_map::Map;
 use rv_memory::Paged;
 use rv_system::{JobError, Purpose, System, cannot, fault_line, write};
 use rv_trace::{
-    Counts, Ending, Last, Places, PlainTrace, Segments, Source, Trace, counts_json, counts_text,
-    lcov_text, lines_text, report_json, report_text, state_text,
+    Ending, Last, Places, PlainTrace, Segments, Source, Trace, counts_json, counts_text, lcov_text,
+    lines_text, report_json, report_text, state_text,
 };
 use std::alloc::{AllocError, Global};
 use std::io::Write;
@@ -24,7 +25,7 @@ use std::io::Write;
 pub struct KnownSource {
     /// Its map, where it was built from sources or the words name one.
     pub map: Option<Map>,
-    /// The texts of its sources in their order, where it was built from them.
+    /// The texts of its sources in their order, where it was built from them or the words name them.
     pub sources: Vec<Vec<u8>>,
 }
 
@@ -35,7 +36,10 @@ impl KnownSource {
         alloc: Global,
         asked: &Asked<'w>,
     ) -> Result<Places<'a>, JobError> {
-        let names = asked.names(alloc)?;
+        let files = asked.names(alloc)?;
+        // an executable stands before its sources
+        let first = files.len().saturating_sub(self.sources.len());
+        let names = files.as_slice().get(first..).unwrap_or(&[]);
         let mut sources: Vec<Source<'a>> = Vec::new(alloc);
         for (name, text) in names.iter().zip(self.sources.iter()) {
             sources.push(Source {
@@ -45,7 +49,7 @@ impl KnownSource {
         }
         match Places::new(alloc, self.map.as_ref(), sources.as_slice()) {
             Ok(places) => Ok(places),
-            Err(fault) => Err(fault_line(alloc, &fault, names.as_slice())?),
+            Err(fault) => Err(fault_line(alloc, &fault, names)?),
         }
     }
 }

@@ -1,6 +1,6 @@
 use Rattle.rv_isa_laws.specs.Memory.{Mem}
 use Rattle.rv_machine.specs.Seen.{event_as}
-use Rattle.rv_trace.proofs.TotalsLemmas.{one_more}
+use Rattle.rv_counts.proofs.TotalsLemmas.{one_more}
 use Rattle.rv_trace.proofs.last.LastWatcher.after.Goals as goal
 
 pub returns : goal.returns

@@ -3,9 +3,9 @@
 use Rattle.std.specs.Prelude.{ℕ, ◌+◌, ◌-◌, ◌^◌, min}
 use Rattle.rv_isa.specs.declared.instruction.Format.{Format}
 use Rattle.rv_isa.specs.declared.instruction.Format.TheVariants as formats
-use Rattle.rv_trace.specs.declared.kinds.InstructionKind.{InstructionKind}
-use Rattle.rv_trace.specs.declared.kinds.InstructionKind.TheVariants.{Arithmetic, Load, Store, Atomic, Branch, Jump, Other}
-use Rattle.rv_trace.specs.declared.kinds.Kinds.{Kinds}
+use Rattle.rv_counts.specs.declared.kinds.InstructionKind.{InstructionKind}
+use Rattle.rv_counts.specs.declared.kinds.InstructionKind.TheVariants.{Arithmetic, Load, Store, Atomic, Branch, Jump, Other}
+use Rattle.rv_counts.specs.declared.kinds.Kinds.{Kinds}
 
 abbrev pub instruction_kind : Format → InstructionKind
 instruction_kind (formats.Registers operation x) = Arithmetic

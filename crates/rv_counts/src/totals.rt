@@ -5,7 +5,7 @@ ghost use Rattle.rv_isa_laws.specs.Memory.{Mem};
 ghost use Rattle.rv_machine.specs.End.{law_end};
 ghost use Rattle.rv_machine.specs.Fetch.{fetched_of};
 ghost use Rattle.rv_machine.specs.Seen.{end_of, event_as};
-ghost use Rattle.rv_trace.specs.Totals.{
+ghost use Rattle.rv_counts.specs.Totals.{
   is_executed as executed_of,
   is_meant as meant,
   is_compressed as compressed_of,
@@ -23,7 +23,7 @@ use rv_machine::{End, Event, Fetched};
 
 /// How many instructions were executed, and what they read and stored.
 #[derive(Clone, Copy, Drop)]
-pub(crate) struct Totals {
+pub struct Totals {
     pub executed: u64,
     /// Those of 2 bytes.
     pub compressed: u64,
@@ -39,7 +39,7 @@ pub(crate) struct Totals {
 
 impl Totals {
     /// Those of no event.
-    pub(crate) fn nothing() -> Self
+    pub fn nothing() -> Self
         ensures { result ≡ nothing }
     {
         Totals {
@@ -55,7 +55,7 @@ impl Totals {
 
     /// Those with one event more.
     #[inline]
-    pub(crate) fn with(self, event: &Event) -> Self
+    pub fn with(self, event: &Event) -> Self
         ensures { (m : Mem) → result ≡ with_event self (event_as event.now m) }
     {
         let executed = is_executed(event);

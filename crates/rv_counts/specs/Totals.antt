@@ -6,9 +6,9 @@ use Rattle.rv_isa_laws.specs.Hart.{End, Exited, Breakpoint}
 use Rattle.rv_isa_laws.specs.Run.{Fetched, Got, NoRight, NoInstruction}
 use Rattle.rv_event_laws.specs.declared.access.Access.{Access}
 use Rattle.rv_event_laws.specs.Event.{Event}
-use Rattle.rv_trace.specs.declared.kinds.Kinds.{Kinds}
-use Rattle.rv_trace.specs.declared.totals.Totals.{Totals}
-use Rattle.rv_trace.specs.Kinds.{instruction_kind, more, no_kinds, with_kind}
+use Rattle.rv_counts.specs.declared.kinds.Kinds.{Kinds}
+use Rattle.rv_counts.specs.declared.totals.Totals.{Totals}
+use Rattle.rv_counts.specs.Kinds.{instruction_kind, more, no_kinds, with_kind}
 
 -- an instruction is executed where its step goes on, or ends the run by what it means, and not by
 -- an access that fails

@@ -1,7 +1,7 @@
 //! How many instructions a run executes, where nothing else of it is asked for.
 
 ghost use Rattle.std.specs.Prelude.{◌≡◌};
-ghost use Rattle.rv_trace.specs.Totals.{totals_of};
+ghost use Rattle.rv_counts.specs.Totals.{totals_of};
 
 use crate::totals::Totals;
 use rv_machine::{Event, ShowFault, Watched, Watcher};

@@ -2,7 +2,7 @@
 
 ghost use Rattle.std.specs.Prelude.{◌≡◌};
 ghost use Rattle.rv_isa.specs.Operations.{format_of};
-ghost use Rattle.rv_trace.specs.Kinds.{instruction_kind, no_kinds, with_kind};
+ghost use Rattle.rv_counts.specs.Kinds.{instruction_kind, no_kinds, with_kind};
 
 use rv_isa::{Format, Inst};
 
@@ -20,7 +20,7 @@ pub(crate) enum InstructionKind {
 
 /// How many instructions of each kind were executed.
 #[derive(Clone, Copy, Drop)]
-pub(crate) struct Kinds {
+pub struct Kinds {
     pub arithmetic: u64,
     pub load: u64,
     pub store: u64,
@@ -107,7 +107,7 @@ impl Kinds {
     }
 
     /// Each kind by its name, in the order in which texts have them.
-    pub(crate) fn named(&self) -> [(&'static str, u64); 7] {
+    pub fn named(&self) -> [(&'static str, u64); 7] {
         [
             ("arithmetic", self.arithmetic),
             ("load", self.load),

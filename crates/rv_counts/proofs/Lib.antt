@@ -1,0 +1,14 @@
+-- The sums over events, one event after the other.
+pub mod TotalsLemmas
+-- How often instructions were executed, branched and were called, with one event more.
+pub mod CountedLemmas
+-- The sums over the rows of a table, with one event more.
+pub mod RowsLemmas
+-- What `==` calls one instruction is one.
+pub mod SameLemmas
+-- The depth of the stack, with one event more.
+pub mod DepthLemmas
+-- All that is counted, with one event more.
+pub mod CountsLemmas
+-- The registers that the events of a run tell.
+pub mod RegistersLemmas

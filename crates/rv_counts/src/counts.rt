@@ -1,0 +1,140 @@
+//! How often each instruction of a run was executed.
+//!
+//! All that is counted is summed over the events of the run; the machine is not looked at. What an instruction's operands
+//! were, the events before it tell ([`ToldRegisters`]).
+
+ghost use Rattle.std.specs.Prelude.{◌≡◌, ◌&&◌, ◌<◌, ◌^◌, [], List, length, IfOk};
+ghost use Rattle.rv_isa_laws.specs.Memory.{Mem};
+ghost use Rattle.rv_machine.specs.Fetch.{fetched_of};
+ghost use Rattle.rv_machine.specs.Seen.{event_as};
+ghost use Rattle.rv_event_laws.specs.Event.{Event};
+ghost use Rattle.rv_counts.specs.Counted.{branches_taken, executions, has_executed};
+ghost use Rattle.rv_counts.specs.Depth.{deepest_of};
+ghost use Rattle.rv_counts.specs.Rows.{HasCounted, IsNoted, at_branch};
+
+use crate::branches::{Branches, branches_of};
+use crate::depth::Depth;
+use crate::jumps::turn_at;
+use crate::registers::ToldRegisters;
+use crate::rows::{CountedInstruction, Done, Rows};
+use crate::totals::{Totals, is_executed};
+use rv_image::Image;
+use rv_isa::Reg;
+use rv_machine::{Event as Told, Fetched, ShowFault, Watched, Watcher};
+use rv_memory::Memory;
+use std::alloc::{AllocError, Global};
+
+/// How often each instruction was executed. The instruction that ends a run counts where the run ends by it: by an exit or
+/// a breakpoint, but not by an access that failed.
+#[derive(Drop)]
+pub struct Counts {
+    rows: Rows,
+    /// The sums over the events.
+    totals: Totals,
+    registers: ToldRegisters,
+    /// Whether the latest instruction was a call.
+    called: bool,
+    /// How deep the stack went.
+    depth: Depth,
+}
+
+impl Counts {
+    /// Nothing counted yet of an image's run.
+    pub fn new(alloc: Global, image: &Image) -> Result<Self, AllocError>
+        ensures { IfOk result (λ c. HasCounted c.totals c.rows.rows.items c.registers.values c.called c.depth []) }
+    {
+        Ok(Counts {
+            rows: Rows::new(alloc, image)?,
+            totals: Totals::nothing(),
+            registers: ToldRegisters::new(),
+            called: false,
+            depth: Depth::of(image),
+        })
+    }
+
+    /// The instructions, in the order in which the run came to them.
+    pub fn instructions(&self) -> &[CountedInstruction]
+        ensures { result.now ≡ self.now.rows.rows.items }
+    {
+        self.rows.all()
+    }
+
+    /// The sums over the events.
+    pub fn totals(&self) -> Totals
+        ensures { result ≡ self.now.totals }
+    {
+        self.totals
+    }
+
+    /// The branches.
+    pub fn branches(&self) -> Branches
+        ensures { (seen : List Event) → length seen < 2 ^ 64
+            → HasCounted self.now.totals self.now.rows.rows.items self.now.registers.values
+            self.now.called self.now.depth seen
+            → (result.executed ≡ executions at_branch seen)
+            × (result.taken ≡ branches_taken at_branch seen) }
+    {
+        branches_of(self.rows.all())
+    }
+
+    /// How many bytes the stack had at most.
+    pub fn deepest(&self) -> u64
+        ensures { (seen : List Event)
+            → HasCounted self.now.totals self.now.rows.rows.items self.now.registers.values
+            self.now.called self.now.depth seen
+            → result ≡ deepest_of self.now.depth.first self.now.depth.last seen }
+    {
+        self.depth.deepest()
+    }
+}
+
+/// What an event's instruction did; `branches` says whether it is a branch that is taken.
+#[inline]
+fn done_by(event: &Told, branches: bool, called: bool) -> Done
+    ensures { (m : Mem) → let e = event_as event.now m in
+        result ≡ record {
+          executed = has_executed e;
+          taken = has_executed e && branches;
+          called = called;
+        } }
+{
+    let executed = is_executed(event);
+    Done {
+        executed,
+        taken: executed && branches,
+        called,
+    }
+}
+
+/// Counts what an event's instruction did at its row.
+#[inline]
+fn note(rows: &mut Rows, event: &Told, done: Done) -> Result<(), AllocError>
+    ensures { IfOk result (λ _. IsNoted rows.old.rows.items rows.new.rows.items event.now.pc (fetched_of event.now.fetched) done) }
+{
+    match event.fetched {
+        Fetched::Got(inst, _) => rows.count(event.pc, inst, done),
+        Fetched::NoRight | Fetched::NoInstruction => Ok(()),
+    }
+}
+
+impl<M: Memory> Watcher<M> for Counts {
+    ghost has_seen = { λ c seen.
+        HasCounted c.totals c.rows.rows.items c.registers.values c.called c.depth seen };
+
+    #[inline]
+    fn before(&mut self, _: &Watched<M>) -> Result<(), ShowFault> {
+        Ok(())
+    }
+
+    #[inline]
+    fn after(&mut self, event: &Told, _: &Watched<M>) -> Result<(), ShowFault> {
+        let turn = turn_at(event.fetched, &self.registers);
+        let done = done_by(event, turn.taken, self.called);
+        note(&mut self.rows, event, done)?;
+        self.totals = self.totals.with(event);
+        self.registers.set(event.set);
+        self.called = turn.calling;
+        self.depth.note(turn.begun, self.registers.get(Reg::SP));
+        Ok(())
+    }
+}

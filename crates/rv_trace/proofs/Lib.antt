@@ -1,2 +1,0 @@
--- The sums over events, one event after the other.
-pub mod TotalsLemmas
