@@ -1,0 +1,2 @@
+-- What a session answers of the state where a program stands.
+pub mod Shown

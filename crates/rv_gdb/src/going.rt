@@ -1,0 +1,156 @@
+//! A program that goes on or back until something stops it.
+
+use crate::reach::next_reach;
+use crate::session::Session;
+use crate::stop::Stop;
+use rv_gdb_commands::{Met, Motion};
+use rv_replay::ReplayFault;
+
+/// How a program goes.
+#[derive(Clone, Copy, Drop)]
+pub enum Going {
+    /// It stands.
+    Stands,
+    /// On.
+    On,
+    /// On from the start to where it is to go back from, to see where it would have stopped last.
+    Back(Search),
+}
+
+/// A search for the latest state before one where the program stops on its way back.
+#[derive(Clone, Copy, Drop)]
+pub struct Search {
+    /// How many instructions come before the state that it goes back from.
+    from: u64,
+    /// How many come before the latest state that was found, and what is met there.
+    found: Option<(u64, Met)>,
+}
+
+impl Session {
+    /// Goes on by an instruction; why the program stands then, if not for that alone.
+    fn step(&mut self) -> Result<Option<Stop>, ReplayFault> {
+        if let Some(end) = self.replay.end() {
+            return Ok(Some(Stop::Ended(end)));
+        }
+        if self.count() >= self.limit {
+            return Ok(Some(Stop::Limit));
+        }
+        self.replay.advance(1)?;
+        if let Some(end) = self.replay.end() {
+            return Ok(Some(Stop::Ended(end)));
+        }
+        Ok(self.points.at(self.replay.machine().pc()).map(Stop::At))
+    }
+
+    /// The point at bytes that the next instruction reaches.
+    fn watched(&self) -> Option<Met> {
+        if !self.points.watch() || self.replay.end().is_some() {
+            return None;
+        }
+        self.points.met_by(&next_reach(self.replay.machine()))
+    }
+
+    /// Begins to go; why the program stands at once, if it does.
+    pub(crate) fn begin(&mut self, motion: Motion) -> Result<Option<Stop>, ReplayFault> {
+        match motion {
+            Motion::Continue => {
+                self.going = Going::On;
+                Ok(None)
+            }
+            Motion::Step => {
+                let stop = self.step()?;
+                Ok(Some(stop.unwrap_or(Stop::Done)))
+            }
+            Motion::StepBack => Ok(Some(self.step_back()?)),
+            Motion::ContinueBack => {
+                self.begin_search()?;
+                Ok(None)
+            }
+        }
+    }
+
+    /// Goes back by an instruction; why the program stands then.
+    fn step_back(&mut self) -> Result<Stop, ReplayFault> {
+        let count = self.replay.count();
+        if count <= self.origin {
+            return Ok(Stop::Start);
+        }
+        self.replay.go_to(self.alloc, count - 1)?;
+        Ok(Stop::Done)
+    }
+
+    /// Goes to the start, to look from there where the program would stop on its way back.
+    fn begin_search(&mut self) -> Result<(), ReplayFault> {
+        let from = self.replay.count();
+        self.replay.go_to(self.alloc, self.origin)?;
+        self.going = Going::Back(Search { from, found: None });
+        Ok(())
+    }
+
+    /// Goes on by so many instructions at most, or until what was written fills a packet; why the program stands, if it
+    /// does.
+    pub(crate) fn run_on(&mut self, steps: u64) -> Result<Option<Stop>, ReplayFault> {
+        for _ in 0..steps {
+            if let Some(met) = self.watched() {
+                return Ok(Some(Stop::At(met)));
+            }
+            if let Some(stop) = self.step()? {
+                return Ok(Some(stop));
+            }
+            if self.replay.waiting() >= CONSOLE_PIECE {
+                return Ok(None);
+            }
+        }
+        Ok(None)
+    }
+
+    /// Looks on by so many instructions; why the program stands, if the search is at its end.
+    pub(crate) fn search_on(
+        &mut self,
+        search: Search,
+        steps: u64,
+    ) -> Result<Option<Stop>, ReplayFault> {
+        let mut search = search;
+        for _ in 0..steps {
+            let count = self.replay.count();
+            if count >= search.from {
+                return Ok(Some(self.end_search(search)?));
+            }
+            if let Some(met) = self.points.at(self.replay.machine().pc()) {
+                search.found = Some((count, met));
+            }
+            if let Some(met) = self.watched() {
+                search.found = Some((count.saturating_add(1), met));
+            }
+            self.replay.advance(1)?;
+        }
+        self.going = Going::Back(search);
+        Ok(None)
+    }
+
+    /// Goes to what a search has found, or to the start.
+    fn end_search(&mut self, search: Search) -> Result<Stop, ReplayFault> {
+        match search.found {
+            Some((count, met)) => {
+                self.replay.go_to(self.alloc, count)?;
+                Ok(Stop::At(met))
+            }
+            None => {
+                self.replay.go_to(self.alloc, self.origin)?;
+                Ok(Stop::Start)
+            }
+        }
+    }
+
+    /// Stops what goes; a search ends where it went back from.
+    pub(crate) fn stop_going(&mut self) -> Result<(), ReplayFault> {
+        if let Going::Back(search) = self.going {
+            self.replay.go_to(self.alloc, search.from)?;
+        }
+        self.going = Going::Stands;
+        Ok(())
+    }
+}
+
+/// How many bytes of the console are kept back at most while a program goes.
+const CONSOLE_PIECE: usize = 4096;

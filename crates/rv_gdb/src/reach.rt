@@ -1,0 +1,132 @@
+//! What the next instruction reaches in memory.
+//!
+//! GDB takes a watchpoint of RISC-V for one that stops before the instruction that reads or writes, as the processors' own
+//! do, on the way back before it is undone. So it is told by what an instruction asks, before it is done.
+
+use rv_compress::next_inst;
+use rv_gdb_commands::{Range, Reach};
+use rv_isa::{AtomicOperation, Format, LoadOperation, Reg, StoreOperation};
+use rv_machine::Watched;
+use rv_memory::{Memory, Paged};
+
+/// The numbers of the registers in which a call has its operands, and of that which names it.
+const A0: u32 = 10;
+
+const A1: u32 = 11;
+
+const A2: u32 = 12;
+
+const A7: u32 = 17;
+
+/// The calls that read input and write output.
+const READ: u64 = 63;
+
+const WRITE: u64 = 64;
+
+/// Nothing.
+const NOTHING: Reach = Reach {
+    read: None,
+    written: None,
+};
+
+/// The bytes of a load.
+fn load_bytes(operation: LoadOperation) -> u64 {
+    match operation {
+        LoadOperation::Lb | LoadOperation::Lbu => 1,
+        LoadOperation::Lh | LoadOperation::Lhu => 2,
+        LoadOperation::Lw | LoadOperation::Lwu => 4,
+        LoadOperation::Ld => 8,
+    }
+}
+
+/// The bytes of a store.
+fn store_bytes(operation: StoreOperation) -> u64 {
+    match operation {
+        StoreOperation::Sb => 1,
+        StoreOperation::Sh => 2,
+        StoreOperation::Sw => 4,
+        StoreOperation::Sd => 8,
+    }
+}
+
+/// The bytes of an atomic access.
+fn atomic_bytes(is_double: bool) -> u64 {
+    if is_double { 8 } else { 4 }
+}
+
+/// Bytes from a register and a distance on.
+fn bytes_at(machine: &Watched<Paged>, base: Reg, distance: i32, length: u64) -> Range {
+    let distance = i64::from(distance).cast_unsigned();
+    Range {
+        address: machine.register(base).wrapping_add(distance),
+        length,
+    }
+}
+
+/// What an instruction reaches by its format.
+fn reach_of(format: Format, machine: &Watched<Paged>) -> Reach {
+    match format {
+        Format::Load(operation, x) => Reach {
+            read: Some(bytes_at(machine, x.rs1, x.immediate, load_bytes(operation))),
+            written: None,
+        },
+        Format::Store(operation, x) => Reach {
+            read: None,
+            written: Some(bytes_at(machine, x.rs1, x.immediate, store_bytes(operation))),
+        },
+        Format::LoadReserved(is_double, x) => Reach {
+            read: Some(bytes_at(machine, x.rs1, 0, atomic_bytes(is_double))),
+            written: None,
+        },
+        Format::Atomic(operation, is_double, x) => {
+            atomic_reach(
+                operation,
+                bytes_at(machine, x.rs1, 0, atomic_bytes(is_double)),
+            )
+        }
+        Format::Ecall => call_reach(machine),
+        _ => NOTHING,
+    }
+}
+
+/// What an atomic operation reaches; a store-conditional reads nothing.
+fn atomic_reach(operation: AtomicOperation, range: Range) -> Reach {
+    match operation {
+        AtomicOperation::Sc => Reach {
+            read: None,
+            written: Some(range),
+        },
+        _ => Reach {
+            read: Some(range),
+            written: Some(range),
+        },
+    }
+}
+
+/// What a call reaches, at most: from a1 on as many bytes as a2 says.
+fn call_reach(machine: &Watched<Paged>) -> Reach {
+    let range = Range {
+        address: machine.register(Reg::from_low_bits(A1)),
+        length: machine.register(Reg::from_low_bits(A2)),
+    };
+    let file = machine.register(Reg::from_low_bits(A0));
+    match machine.register(Reg::from_low_bits(A7)) {
+        READ if file == 0 => Reach {
+            read: None,
+            written: Some(range),
+        },
+        WRITE if file == 1 || file == 2 => Reach {
+            read: Some(range),
+            written: None,
+        },
+        _ => NOTHING,
+    }
+}
+
+/// What the next instruction of a machine reaches.
+pub fn next_reach(machine: &Watched<Paged>) -> Reach {
+    match next_inst(machine.memory().piece(machine.pc())) {
+        Some((inst, _)) => reach_of(inst.format(), machine),
+        None => NOTHING,
+    }
+}

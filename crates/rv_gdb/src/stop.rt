@@ -1,0 +1,94 @@
+//! Why a program stands, as it is answered.
+
+use rv_gdb_commands::{Met, PointKind, put_byte, put_number};
+use rv_machine::End;
+use std::alloc::AllocError;
+
+/// Why a program stands.
+#[derive(Clone, Copy, PartialEq, Eq, Drop)]
+pub enum Stop {
+    /// It was asked to go no further.
+    Done,
+    /// At a point.
+    At(Met),
+    /// Before its first instruction, on the way back.
+    Start,
+    /// At the limit of instructions.
+    Limit,
+    /// It was interrupted.
+    Interrupted,
+    /// It has ended.
+    Ended(End),
+}
+
+/// The number of a signal (GDB's own numbers, `include/gdb/signals.def`).
+#[derive(Clone, Copy, PartialEq, Eq, Drop)]
+enum Signal {
+    Interrupt = 2,
+    Illegal = 4,
+    Trap = 5,
+    Bus = 10,
+    Segment = 11,
+}
+
+/// The signal of an end that is no exit.
+fn signal_of(end: End) -> Signal {
+    match end {
+        End::Illegal(_) => Signal::Illegal,
+        End::MisalignedAtomic(_) => Signal::Bus,
+        End::FetchOutside(_)
+        | End::LoadText(_)
+        | End::LoadOutside(_)
+        | End::StoreText(_)
+        | End::StoreOutside(_) => Signal::Segment,
+        End::Breakpoint | End::Limit | End::Exited(_) => Signal::Trap,
+    }
+}
+
+/// Adds a stop by a signal.
+fn put_signal(reply: &mut Vec<u8>, signal: Signal) -> Result<(), AllocError> {
+    reply.push(b'T')?;
+    put_byte(reply, signal as u8)?;
+    reply.extend_from_slice(b"thread:1;")
+}
+
+/// The word before the address of a point.
+fn word_of(kind: PointKind) -> &'static [u8] {
+    match kind {
+        PointKind::Software => b"swbreak:",
+        PointKind::Hardware => b"hwbreak:",
+        PointKind::Write => b"watch:",
+        PointKind::Read => b"rwatch:",
+        PointKind::Access => b"awatch:",
+    }
+}
+
+/// Adds a stop at a point; one at an instruction has no address.
+fn put_met(reply: &mut Vec<u8>, met: Met) -> Result<(), AllocError> {
+    put_signal(reply, Signal::Trap)?;
+    reply.extend_from_slice(word_of(met.kind))?;
+    match met.kind {
+        PointKind::Software | PointKind::Hardware => {}
+        PointKind::Write | PointKind::Read | PointKind::Access => put_number(reply, met.address)?,
+    }
+    reply.push(b';')?;
+    Ok(())
+}
+
+/// Adds the answer that says why a program stands.
+pub fn put_stop(reply: &mut Vec<u8>, stop: Stop) -> Result<(), AllocError> {
+    match stop {
+        Stop::Done | Stop::Limit => put_signal(reply, Signal::Trap),
+        Stop::At(met) => put_met(reply, met),
+        Stop::Start => {
+            put_signal(reply, Signal::Trap)?;
+            reply.extend_from_slice(b"replaylog:begin;")
+        }
+        Stop::Interrupted => put_signal(reply, Signal::Interrupt),
+        Stop::Ended(End::Exited(code)) => {
+            reply.push(b'W')?;
+            put_byte(reply, code)
+        }
+        Stop::Ended(end) => put_signal(reply, signal_of(end)),
+    }
+}

@@ -1,0 +1,24 @@
+-- What packets ask that read, and the answer to what cannot be done (GDB manual, "Remote Protocol", "Packets").
+
+use Rattle.std.specs.Prelude.{◌≡◌, ℕ, Bool, true, false, List, [], ◌∷◌, ⊤}
+use Rattle.rv_gdb_commands.specs.Numbers.{number_on}
+use Rattle.rv_gdb_commands.specs.declared.command.Command.{Command}
+use Rattle.rv_gdb_commands.specs.declared.command.Command.TheVariants.{ReadRegisters, ReadRegister, ReadMemory, Unknown}
+
+-- bytes from the address that these digits spell first, or nothing that is known
+abbrev pub ReadsFrom : List ℕ → Command → Type 0
+ReadsFrom digits Unknown = ⊤
+ReadsFrom digits (ReadMemory range) = range.address ≡ number_on 0 digits
+ReadsFrom digits _ = ⊥
+
+-- the state of the program, or nothing that is known
+abbrev pub reads : Command → Bool
+reads ReadRegisters = true
+reads (ReadRegister _) = true
+reads (ReadMemory _) = true
+reads Unknown = true
+reads _ = false
+
+-- E01
+abbrev pub error_reply : List ℕ
+error_reply = 69 ∷ 48 ∷ 49 ∷ []

@@ -1,0 +1,62 @@
+//! A machine that goes on by so many instructions.
+
+ghost use Rattle.std.specs.Prelude.{◌≡◌, ◌≤◌, ◌+◌, ◌-◌, ℕ, false, List, [], IfOk, drop, length};
+ghost use Rattle.rv_isa_laws.specs.Hart.{start};
+ghost use Rattle.rv_isa_laws.specs.Memory.{Mem};
+ghost use Rattle.rv_image.specs.Views.{image_of};
+ghost use Rattle.rv_image_laws.specs.Memory.{mem_of};
+ghost use Rattle.rv_memory.specs.HeldPages.{held_pages};
+ghost use Rattle.rv_machine.specs.Hart.{hart_of};
+ghost use Rattle.rv_replay.specs.Replayed.{IsStateAt};
+
+use crate::copied::copy_of;
+use crate::given::Given;
+use crate::nobody::Nobody;
+use crate::written::Written;
+use rv_image::Image;
+use rv_machine::{End, WatchFault, Watched, run_watched};
+use rv_memory::Paged;
+use std::alloc::{AllocError, Global};
+
+/// What came of going on.
+#[derive(Clone, Copy, Drop)]
+pub struct Ran {
+    /// How the run ended, or that it did not.
+    pub end: End,
+    /// How many bytes of the input are left.
+    pub left: usize,
+}
+
+/// The machine of an image before its first step.
+pub fn machine_of(alloc: Global, image: &Image) -> Result<Watched<Paged>, AllocError>
+    ensures hart { IfOk result (λ machine. (input : List ℕ) →
+        hart_of machine.hart input [] ≡ start image.now.entry input) }
+    ensures memory { IfOk result (λ machine. held_pages machine.memory ≡ mem_of (image_of image.now)) }
+    ensures ended { IfOk result (λ machine. machine.intake.ended ≡ false) }
+{
+    let memory = Paged::new(alloc, copy_of(alloc, image)?)?;
+    Ok(Watched::new(memory, image.entry))
+}
+
+/// Goes on by so many instructions, or to the end, with what is left of the input.
+pub fn run_on(
+    machine: &mut Watched<Paged>,
+    rest: &[u8],
+    written: &mut Written,
+    count: u64,
+) -> Result<Ran, WatchFault>
+    ensures state { IfOk result (λ ran. (m : Mem) (entry : ℕ) (input : List ℕ) (n : ℕ) →
+        IsStateAt m entry input n machine.old.hart (held_pages machine.old.memory)
+        machine.old.intake.ended rest.now →
+        IsStateAt m entry input (n + count) machine.new.hart (held_pages machine.new.memory)
+        machine.new.intake.ended (drop (length rest.now - ran.left) rest.now)) }
+    ensures left { IfOk result (λ ran. ran.left ≤ length rest.now) }
+{
+    let mut given = Given::new(rest);
+    let mut nobody = Nobody;
+    let end = run_watched(machine, &mut given, written, &mut nobody, count)?;
+    Ok(Ran {
+        end,
+        left: given.left(),
+    })
+}
