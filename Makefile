@@ -77,6 +77,7 @@ check: rv
 	tests/terminal.py
 	tests/streams.py
 	tests/editors.py
+	tests/gdb.py
 	tests/making.py
 	scripts/links.py
 	scripts/want_of_memory.py

@@ -1,4 +1,5 @@
 # Prints a number: its digits are made from the last to the first, below the stack's end.
+# console: 12345
 .globl _start
 _start: li   a0, 12345
         call number

@@ -1,4 +1,5 @@
 # Adds the numbers from 1 to 4 and exits with the sum, 10.
+# exit: 10
 .option norvc
 .globl _start
 

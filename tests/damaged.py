@@ -3,13 +3,14 @@
 
 usage: damaged.py [--all]
 
-Makes objects and executables with ./rv. Each front part of a file is refused as truncated, and with any one of its
-bytes set to 0, or to FFh, it is answered: no signal ends rv, and what it says is a fault or an end. Of the zeros up to
-an executable's first page one in 64 is changed, and the file cut there; all of them with --all. An object of 114 KB,
-whose 2,001 global names are ends of one string and have 65 MB written out, is linked within 64 MB. Its names are shown,
-and the 96 MB that 500 rows of a map over the same 8,000 instructions list, in no more memory than 20 times the files
-and 16 MiB: each text is made here once more, and both are counted and hashed as they come. Standard library alone; the
-last line is 'N passed, M failed', where a file counts once for each of the three, and that link and each of these texts
+Makes objects, executables and an archive with ./rv. Each front part of a file is refused as truncated, and with any
+one of its bytes set to 0, or to FFh, it is answered: no signal ends rv, and what it says is a fault or an end. So is
+an archive cut off or changed anywhere but in the objects that are its members. Of the zeros up to an executable's
+first page one in 64 is changed, and the file cut there; all of them with --all. An object of 114 KB, whose 2,001
+global names are ends of one string and have 65 MB written out, is linked within 64 MB. Its names are shown, and the
+96 MB that 500 rows of a map over the same 8,000 instructions list, in no more memory than 20 times the files and 16
+MiB: each text is made here once more, and both are counted and hashed as they come. Standard library alone; the last
+line is 'N passed, M failed', where a file counts once for each of the three, and that link and each of these texts
 once.
 """
 
@@ -23,6 +24,8 @@ import subprocess
 import sys
 import tempfile
 from pathlib import Path
+
+from archives import archive_of
 
 RV = Path(__file__).resolve().parent.parent / "rv"
 PAGE = 4096
@@ -65,13 +68,34 @@ there: .byte 1
 .section notes
 inside: .word 2
 """
+# Two sources, whose objects are in an archive.
+CALLS = """.globl _start
+_start: call f
+li a7, 93
+ecall
+#
+.globl f
+f: li a0, 7
+ret
+"""
 # What rv may say of a file: its fault, the link's or, where it is no longer an executable, that of a source; or the
 # end of a run.
-SAID = re.compile(r"rv: ((\S+: F\d+|L\d+|\S+:\d+: E\d+) \w+( \S*)?|[A-Z][A-Za-z]+( [0-9a-f]+)?)")
+SAID = re.compile(r"rv: ((\S+: [AF]\d+|L\d+|\S+:\d+: E\d+) \w+( \S*)?|[A-Z][A-Za-z]+( [0-9a-f]+)?)")
 # How each file is used, and which statuses rv may give: a link does or does not; a guest's status is any.
-USES = {"object": ["ld", "-o", "out"], "executable": ["run", "--limit", "1000"]}
+USES = {
+    "object": ["ld", "-o", "out"],
+    "executable": ["run", "--limit", "1000"],
+    "archive": ["ld", "-o", "out", "--library"],
+}
 # The last source names what no file defines.
-FILES = [(EXIT7, "object"), (EXIT7, "executable"), (HELLO, "object"), (HELLO, "executable"), (KINDS, "object")]
+FILES = [
+    (EXIT7, "object"),
+    (EXIT7, "executable"),
+    (HELLO, "object"),
+    (HELLO, "executable"),
+    (KINDS, "object"),
+    (CALLS, "archive"),
+]
 
 
 def answer(use, held, folder):
@@ -91,6 +115,9 @@ def wrong_cut(job):
     """What is wrong with the answer to the front of a file, or nothing."""
     folder, use, held, size = job
     status, message = answer(use, held[:size], folder)
+    if use == "archive":
+        is_answered = SAID.fullmatch(message) if status == 1 else status == 0
+        return None if is_answered else f"archive cut off after {size} bytes: status {status}, {message!r}"
     # without its first four bytes it is no executable, and rv takes it for a source
     is_source = use == "executable" and size < 4
     if status == 1 and (SAID.fullmatch(message) if is_source else message == "rv: file: F1 Truncated"):
@@ -109,7 +136,10 @@ def wrong_byte(job):
 
 
 def file_of(source, use):
-    """The object or the executable of a source."""
+    """The object or the executable of a source, or the archive of two."""
+    if use == "archive":
+        first, second = (file_of(it, "object") for it in source.split("#\n"))
+        return archive_of([("first.o", first), ("second_with_a_long_name.o", second)])
     with tempfile.TemporaryDirectory() as folder:
         Path(folder, "a.s").write_text(source)
         word = "as" if use == "object" else "build"
@@ -200,8 +230,21 @@ def wrong_text(folder, words, parts):
     return None
 
 
+def outside_members(held):
+    """The offsets of an archive that do not lie in the contents of members."""
+    found, at = list(range(8)), 8
+    while at < len(held):
+        size = int(held[at + 48 : at + 58])
+        is_member = held[at : at + 2].strip(b"/ ") or held[at + 1 : at + 2].isdigit()
+        found.extend(range(at, at + 60 + (0 if is_member else size)))
+        at += 60 + size + size % 2
+    return found
+
+
 def places(held, use, every):
     """The offsets that are tried: all, but of the zeros up to an executable's first page one in so many."""
+    if use == "archive":
+        return outside_members(held)
     front = len(held[:PAGE].rstrip(b"\0")) if use == "executable" else len(held)
     return [at for at in range(len(held)) if not front <= at < PAGE or at % every == 0]
 

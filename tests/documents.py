@@ -1,15 +1,16 @@
 #!/usr/bin/env python3
 """Runs the commands of the documents over ./rv, and compares what they print with the page.
 
-A block ```sh has commands behind `$`, each with what it prints to both streams; where a page shows nothing, the
-command may print anything, but has to succeed. A block below a comment that begins `<!-- not run` is passed over. A
-block ```asm is the file that the line before it names last, as `digits.s`. The commands of a page share a folder, in
-which `rv`, `examples` and `tests` are those of the repository. Standard library alone; the last line is
-'N passed, M failed'.
+A block ```sh has commands behind `$`, each with what it prints to both streams; where a page shows nothing, the command
+may print anything, but has to succeed. A block below a comment that begins `<!-- not run` is passed over, as is one
+below `<!-- needs PROGRAM` where there is no such program. A block ```asm is the file that the line before it names
+last, as `digits.s`. The commands of a page share a folder, in which `rv`, `examples`, `tests` and `crates` are those of
+the repository, and `P` is where it was installed. Standard library alone; the last line is 'N passed, M failed'.
 """
 
 import os
 import re
+import shutil
 import subprocess
 import sys
 import tempfile
@@ -17,10 +18,13 @@ from pathlib import Path
 
 ROOT = Path(__file__).resolve().parent.parent
 PAGES = [ROOT / "README.md", ROOT / "CONTRIBUTING.md", ROOT / "tests/README.md", ROOT / "examples/README.md"]
-PAGES += sorted(ROOT.glob("docs/manual/*.md"))
+PAGES += [ROOT / "docs/CHANGING.md", *sorted(ROOT.glob("docs/manual/*.md"))]
 BLOCK = re.compile(r"(?m)^```(sh|asm)\n((?:(?!```).*\n)*)```$")
 COMMAND = re.compile(r"(?m)^\$ (.*)\n((?:(?!\$ ).*\n)*)")
 SECONDS = 60
+# What a page's folder has of the repository.
+LINKS = {it: it for it in ("rv", "examples", "tests", "crates")}
+LINKS |= {"P/bin/rv": "rv", "P/libexec/rv/as": "scripts/as.sh"}
 
 
 def blocks(text):
@@ -30,7 +34,8 @@ def blocks(text):
         sys.exit("a block is indented or has no end")
     for block in found:
         before = text[: block.start()].rstrip().rpartition("\n")[2]
-        if not before.startswith("<!-- not run"):
+        needed = re.match(r"<!-- needs (\S+)", before)
+        if not before.startswith("<!-- not run") and (not needed or shutil.which(needed[1])):
             yield block[1], block[2], before
 
 
@@ -52,8 +57,9 @@ def ran(command, folder):
 
 def faults(page, folder):
     """Each command of a page, with what is wrong with it, or nothing."""
-    for name in ("rv", "examples", "tests"):
-        os.symlink(ROOT / name, f"{folder}/{name}")
+    for name, target in LINKS.items():
+        Path(folder, name).parent.mkdir(parents=True, exist_ok=True)
+        os.symlink(ROOT / target, f"{folder}/{name}")
     for kind, block, before in blocks(page.read_text()):
         if kind == "asm":
             Path(folder, re.findall(r"`(\w+\.s)`", before)[-1]).write_text(block)

@@ -113,7 +113,7 @@ def main():
             print(f"{name}: {why}")
             failed += 1
     print(f"{len(looks) - failed} passed, {failed} failed")
-    return 1 if failed or len(titles) != 54 else 0
+    return 1 if failed or len(titles) != 62 else 0
 
 
 if __name__ == "__main__":

@@ -38,6 +38,7 @@ def copy_of_folders(program, at):
         shutil.copytree(ROOT / name, at / name, ignore=shutil.ignore_patterns("out", "__pycache__"))
     for name in FILES:
         shutil.copy(ROOT / name, at / name)
+    (at / "crates").symlink_to(ROOT / "crates")
     shutil.copy(program, at / "rv")
     (at / "rv_refusal_tests").write_text("#!/bin/sh\n")
     (at / "rv_refusal_tests").chmod(0o755)

@@ -21,6 +21,8 @@ from concurrent.futures import ThreadPoolExecutor
 from dataclasses import dataclass, replace
 from pathlib import Path
 
+from archives import archive_of
+
 TESTS = Path(__file__).resolve().parent
 RV, LIBRARY = TESTS.parent / "rv", TESTS.parent / "rv_refusal_tests"
 SECONDS = 60
@@ -271,6 +273,10 @@ def commands(name, source, at, texts):
     calls += [(f"{' '.join(it)} {name}", it, shown(output_of(at, *it))) for it in shells]
     calls += watched(name, source, at, paths) if name in ("exit7", "two_files") else []
     calls += images(name, at) if name == "hello" else []
+    if name == "two_files":
+        (at / "x.a").write_bytes(archive_of([("2.o", objects[1])]))
+        words = ["ld", "-o", "exe", "--map", "map", objs[0], "--library", str(at / "x.a")]
+        calls += [(f"ld of an archive {name}", words, wrote(exe=exe, map=map_))]
     for called, words, wanted in calls:
         yield Case(called, [RV, *words], at, source.given if wanted is ran else b"", wanted)
     if name == "echo_four":

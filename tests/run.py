@@ -16,6 +16,7 @@ import tempfile
 from concurrent.futures import ThreadPoolExecutor
 from pathlib import Path
 
+from archives import archive_of
 from objects import object_of
 
 TESTS = Path(__file__).resolve().parent
@@ -24,7 +25,7 @@ SECONDS = 60
 LINE = re.compile(r"# (?P<key>[a-z]+(?: has| at [0-9a-f]+| [.\w$-]+(?: \w+)?)?|no map): ?(?P<value>.*)")
 KEYS = (
     "rv options input environment limit instructions exit end console fault status error errors out text rodata data "
-    "map listing section alignment size same patch cut"
+    "map listing section alignment size same patch cut archive wide unindexed"
 ).split()
 WORD = re.compile(r"# ([a-z]+):.*")
 SEGMENTS = {"text": 1, "rodata": 4, "data": 6}
@@ -208,6 +209,10 @@ def look_at_files(folder, words, key, value):
         same(f"{key}: {value}", *((folder / it).read_bytes() for it in value.split()))
     elif key == "cut":
         os.truncate(folder / value.split()[0], int(value.split()[1]))
+    elif key in ("archive", "wide", "unindexed"):
+        name, *members = value.split()
+        members = [(it, (folder / it).read_bytes()) for it in members]
+        (folder / name).write_bytes(archive_of(members, key != "unindexed", 8 if key == "wide" else 4))
     elif key == "patch":
         name, at, put = value.split()
         with open(folder / name, "r+b") as file:

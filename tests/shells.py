@@ -24,7 +24,11 @@ ROWS = [
     ("rv e", "elf explain"),
     ("rv stats --l", "--lines --lcov --limit"),
     ("rv image --", "--bin --ihex --srec --vhex --fill --help"),
-    ("rv build -", "-o --map --text-start --no-relax --gc-sections --pad-ends --explain --help"),
+    (
+        "rv build -",
+        "-o --map -g --text-start --no-relax --gc-sections --pad-ends --explain "
+        "--library -l -L --start-group --end-group --help",
+    ),
     ("rv dump -", "--help"),
     ("rv run pro", "program.s"),
 ]

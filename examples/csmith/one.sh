@@ -14,34 +14,34 @@
 headers=$(cd "$(dirname "$0")/../../tests/against/csmith" && pwd)
 
 ran() {
-    csmith --seed "$1" --no-argc -o program.c || return
-    # (without sections of their own, -O0 writes zeroed variables with .comm)
-    riscv64-unknown-elf-gcc -march=rv64imac -mabi=lp64 -ffreestanding -fdata-sections -w \
-        -I"$headers" -I/usr/include/csmith "-O$2" -S -o program.s program.c || return
-    # (GCC loads the last bytes of an object with those behind it)
-    rv build --pad-ends -o program program.s || return
-    timeout 10 qemu-riscv64 program >wanted </dev/null
-    wanted=$?
-    if [ $wanted = 124 ]; then
-        echo ok, but too long
-        return
-    fi
-    rv run --limit 4G program >came </dev/null
-    came=$?
-    if [ $wanted = $came ] && cmp wanted came; then echo ok; else echo "status $wanted of qemu, $came of rv"; fi
+  csmith --seed "$1" --no-argc -o program.c || return
+  # (without sections of their own, -O0 writes zeroed variables with .comm)
+  riscv64-unknown-elf-gcc -march=rv64imac -mabi=lp64 -ffreestanding -fdata-sections -w \
+    -I"$headers" -I/usr/include/csmith "-O$2" -S -o program.s program.c || return
+  # (GCC loads the last bytes of an object with those behind it)
+  rv build --pad-ends -o program program.s || return
+  timeout 10 qemu-riscv64 program >wanted </dev/null
+  wanted=$?
+  if [ $wanted = 124 ]; then
+    echo ok, but too long
+    return
+  fi
+  rv run --limit 4G program >came </dev/null
+  came=$?
+  if [ $wanted = $came ] && cmp wanted came; then echo ok; else echo "status $wanted of qemu, $came of rv"; fi
 }
 
 failed=0
 for seed; do
-    for level in 0 1 2 3 s; do
-        folder=seed-$seed-$level
-        mkdir -p "$folder"
-        said=$(cd "$folder" && ran "$seed" "$level" 2>&1)
-        echo "$seed -O$level: $said"
-        case $said in
-        ok*) rm -r "$folder" ;;
-        *) failed=1 ;;
-        esac
-    done
+  for level in 0 1 2 3 s; do
+    folder=seed-$seed-$level
+    mkdir -p "$folder"
+    said=$(cd "$folder" && ran "$seed" "$level" 2>&1)
+    echo "$seed -O$level: $said"
+    case $said in
+      ok*) rm -r "$folder" ;;
+      *) failed=1 ;;
+    esac
+  done
 done
 exit $failed

@@ -1,13 +1,13 @@
-"""Damages sources, objects, executables and maps, and looks at how ./rv takes them.
+"""Damages sources, objects, archives, executables and maps, and looks at how ./rv takes them.
 
 usage: compare.py hostile COUNT [--seed N] [--from N] [--jobs N] [--only N] [--gnu PREFIX]
 
-The files of tests/ and examples/, and the objects, executables and maps that ./rv makes of them, are damaged in the
-ways of `OF_ALL`, `OF_ELF`, `OF_SOURCES` and `OF_MAPS`, one to four at once. With `--gnu`, as in `--gnu
-riscv64-unknown-elf-`, so are the objects and executables that GNU's tools make of them. File N of a seed is the same in
-each run with the same ./rv; `--only N` takes it alone, and `--from N` begins with it. Each file is given to the
-commands that read its kind, a guest reads it as its input, and an object is linked alone, twice, or with another. A
-find is
+The files of tests/ and examples/, the objects, executables and maps that ./rv makes of them, and archives of such
+objects are damaged in the ways of `OF_ALL`, `OF_ELF`, `OF_SOURCES`, `OF_MAPS` and `OF_ARCHIVES`, one to four at once.
+With `--gnu`, as in `--gnu riscv64-unknown-elf-`, so are the objects and executables that GNU's tools make of them.
+File N of a seed is the same in each run with the same ./rv; `--only N` takes it alone, and `--from N` begins with it.
+Each file is given to the commands that read its kind, a guest reads it as its input, and an object is linked alone,
+twice, or with another, an archive alone, twice or behind an object. A find is
 
   signal    the program is ended by a signal
   time      it takes more than 2 seconds of a processor, or 60 of the clock
@@ -37,6 +37,7 @@ from collections import Counter
 from pathlib import Path
 
 from against.common import ROOT, RV, need, numbers_of, random_parser
+from archives import archive_of, head, padded
 from run import cases
 
 MIB = 1 << 20
@@ -384,16 +385,79 @@ def with_large_rows(pick, text, _):
     return text + b"".join(rows)
 
 
+# --- damage to archives
+
+
+def heads(file):
+    """The places of the heads of an archive, up to the first that is none."""
+    at = 8
+    while at + 60 <= len(file):
+        yield at
+        size = file[at + 48 : at + 58].strip()
+        if not size.isdigit():
+            return
+        at += 60 + int(size) + int(size) % 2
+
+
+def with_head(pick, file, _):
+    """A field of a head is another: the name, the size or the end."""
+    file, places = bytearray(file), list(heads(file))
+    if places:
+        at, number = pick.choice(places), some_number(pick, [len(file)])
+        start, size = pick.choice([(0, 16), (0, 16), (48, 10), (48, 10), (58, 2)])
+        names = [b"/", b"//", b"/SYM64/", b"/%d" % number, b"#1/20", b"__.SYMDEF", b"a b/", b"", b"-1", b" 1"]
+        file[at + start : at + start + size] = pick.choice([*names, *5 * [b"%d" % number]])[:size].ljust(size)
+    return bytes(file)
+
+
+def with_index_number(pick, file, _):
+    """A number of what stands first in an archive, as its index does, is another."""
+    file, places = bytearray(file), list(heads(file))
+    size = pick.choice([4, 4, 4, 8])
+    if len(places) > 1 and places[1] >= 68 + size:
+        at = pick.randrange(68, places[1] - size + 1) // 4 * 4
+        number = pick.choice([pick.choice(places), some_number(pick, [len(file), *places])])
+        file[at : at + size] = (number % (1 << 8 * size)).to_bytes(size, "big")
+    return bytes(file)
+
+
+def with_large_index(pick, file, _):
+    """An index of many names, which may be all the same, of a few members."""
+    places = list(heads(file))
+    if len(places) < 2:
+        return file
+    count, length = many(pick, LARGEST // 16), many(pick, 9)
+    names = [b"%0*d" % (length, pick.choice([0, number])) + b"\0" for number in range(count)]
+    size = 4 + 4 * count + sum(map(len, names))
+    shift = 8 + 60 + size + size % 2 - places[1]
+    put_places = (pick.choice(places[1:]) + shift for _ in range(count))
+    index = b"".join(number.to_bytes(4, "big") for number in (count, *put_places)) + b"".join(names)
+    return file[:8] + head("/", size) + padded(index) + file[places[1] :]
+
+
+def with_many_members(pick, file, _):
+    """Many members without bytes, whose names may lie over each other in the table of long names."""
+    count, long = many(pick, LARGEST // 60), pick.random() < 0.5
+    table = b"a" * many(pick, 5000) + b"/\n"
+    members = (head(f"/{number % len(table)}" if long else "m/", 0) for number in range(count))
+    front = file[:8] + head("//", len(table)) + padded(table) if long else file
+    return front + b"".join(members)
+
+
+OF_ARCHIVES = [with_head, with_head, with_index_number]
+OF_ARCHIVES_AT_SIZE = [with_large_index, with_many_members]
+
 OF_SOURCES = [with_token, with_token, with_token, with_number, with_number, with_lines_swapped, with_other_lines]
 OF_SOURCES_AT_SIZE = [with_line_many_times, with_made_lines, with_made_lines]
 OF_MAPS = [with_number, with_number, with_token, with_lines_swapped]
 OF_MAPS_AT_SIZE = [with_line_many_times, with_large_rows]
-KINDS = ["source", "object", "exe", "map"]
+KINDS = ["source", "object", "exe", "map", "archive"]
 DAMAGE = {
     "source": (OF_SOURCES, OF_SOURCES_AT_SIZE),
     "object": (OF_ELF, OF_ELF_AT_SIZE),
     "exe": (OF_ELF, OF_ELF_AT_SIZE),
     "map": (OF_MAPS, OF_MAPS_AT_SIZE),
+    "archive": (OF_ARCHIVES, OF_ARCHIVES_AT_SIZE),
 }
 
 
@@ -402,7 +466,7 @@ def damaged(pick, kind, file, corpus):
     own, at_size = DAMAGE[kind]
     for _ in range(many(pick, 5)):
         ways = at_size if pick.random() < 0.05 else OF_ALL if pick.random() < 0.35 else own
-        if ways is OF_ALL or kind in ("source", "map") or len(file) >= 64:
+        if ways is OF_ALL or kind in ("source", "map", "archive") or len(file) >= 64:
             file = pick.choice(ways)(pick, file, corpus)
     return file[: 4 * LARGEST]
 
@@ -417,6 +481,16 @@ def made_by_gnu(prefix, at):
         if subprocess.run([prefix + tool, *words], cwd=at, stderr=subprocess.DEVNULL).returncode:
             return
         yield kind, (at / words[words.index("-o") + 1]).read_bytes()
+
+
+def archives_of(pick, objects):
+    """Archives of some objects, with short names and long ones."""
+    for _ in range(60):
+        members = [(f"{number}{'m' * many(pick, 30)}.o", it) for number, (it, _) in enumerate(pick.sample(objects, 5))]
+        try:
+            yield archive_of(members[: pick.randrange(6)], pick.random() < 0.95)
+        except (struct.error, ValueError, IndexError):
+            pass
 
 
 def corpus_of(pick, gnu):
@@ -443,6 +517,7 @@ def corpus_of(pick, gnu):
                     corpus["map"].append((map_ if len(map_) <= LARGEST else map_[: map_.index(b"row")], exe))
                     for kind, file in made_by_gnu(gnu, at) if gnu else ():
                         corpus[kind] += [(file, map_ if kind == "exe" else None)] if len(file) <= LARGEST else []
+    corpus["archive"] = [(it, None) for it in archives_of(pick, corpus["object"]) if len(it) <= LARGEST]
     corpus["tokens"] = sorted({it for text, _ in corpus["source"] for it in TOKEN.findall(text[:4096])})
     return corpus
 
@@ -473,7 +548,7 @@ def is_named(words, status, message):
     if status == 125:
         end = re.fullmatch(r"(\w+)( [0-9a-f]+)?", line[1])
         return words[0] == "run" and bool(end) and end[1] in ENDS
-    fault = re.fullmatch(r"(?:\S+: |\S+:\d+: )?([EFLX]\d+) (\w+)(?: .*)?", line[1])
+    fault = re.fullmatch(r"(?:file\(.*\): |\S+: |\S+:\d+: )?([AEFLX]\d+) (\w+)(?: .*)?", line[1])
     return line[1] == "out of memory" or line[1].endswith(OF_FILES) or bool(fault) and FAULTS.get(fault[1]) == fault[2]
 
 
@@ -573,7 +648,7 @@ def find_in(words, at):
         if took > most + 3 * own_bytes(words, at):
             return "memory", f"{took // MIB} MiB for {(most - 16 * MIB) // 20} bytes"
         return None, "memory of the program's own size"
-    fault = re.search(r"([EFLX]\d+) \w+|not a map", message)
+    fault = re.search(r"([AEFLX]\d+) \w+|not a map", message)
     return None, fault[0] if fault else words[0] + (" ended" if message else "")
 
 
@@ -600,6 +675,9 @@ def calls(pick, kind, at):
     elif kind == "object":
         beside = pick.choice([twice, twice, twice, ["file", "other"], ["other", "file"]])
         yield ["ld", "-o", "exe", "--map", "map", *options, *beside]
+    elif kind == "archive":
+        given = pick.choice([[], ["other"], ["other", "--library", "file"]])
+        yield ["ld", "-o", "exe", "--map", "map", *options, *given, "--library", "file"]
     elif kind == "exe":
         yield [*run, "file"]
         yield ["objdump", "--map", "other", "file"]
@@ -617,9 +695,9 @@ def calls(pick, kind, at):
 def attack(number):
     """Makes the file of this number and looks at each call: the finds, and how the calls ended."""
     pick = random.Random(f"{SEED} {number}")
-    kind = pick.choice(["source"] * 4 + ["object"] * 4 + ["exe"] * 2 + ["map"])
+    kind = pick.choice(["source"] * 4 + ["object"] * 4 + ["exe"] * 2 + ["map"] + ["archive"] * 2)
     file, other = pick.choice(CORPUS[kind])
-    other = pick.choice(CORPUS[kind])[0] if kind == "object" else other
+    other = pick.choice(CORPUS["object"])[0] if kind in ("object", "archive") else other
     finds, ends = [], Counter()
     with tempfile.TemporaryDirectory() as folder:
         at = Path(folder)

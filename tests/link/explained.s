@@ -8,6 +8,11 @@
 # rv: ld --explain -o exe far.o
 # status: 1
 # errors is: far
+# rv: as -o meant.o meant.s
+# rv: as -o print.o print.s
+# rv: ld --explain -o exe meant.o print.o
+# status: 1
+# errors is: meant
 # rv: as -o one.o one.s
 # rv: as -o other.o other.s
 # rv: ld --explain --map m -o exe one.o other.o
@@ -38,6 +43,13 @@ symbol f global undefined 0
 .globl _start
 nop
 _start: call f
+#--- meant.s
+.globl _start
+_start: call print_nubmer
+#--- print.s
+.globl print_number
+print: nop
+print_number: ret
 #--- one.s
 .globl _start, f
 _start: nop
@@ -66,6 +78,10 @@ rv: L5 Undefined f
 rv: L5 Undefined f
   far.o: .text+0x2, line 3 of its source
   the name means nothing here: a source has to define it in a loaded section, with .globl
+#--- meant
+rv: L5 Undefined print_nubmer
+  meant.o: .text+0x0, line 2 of its source
+  the name means nothing here: a source has to define it in a loaded section, with .globl; print_number in print.o is spelt almost so
 #--- duplicate
 rv: L6 Duplicate f
   one.o: .text+0x2, line 3 of its source

@@ -12,7 +12,7 @@
 # errors: rv: empty: F1 Truncated\n  it is empty\n
 # rv: ld --explain -o exe lib.a
 # status: 1
-# errors: rv: lib.a: F2 BadMagic\n  it is an archive: ar x takes its objects out, for rv ld to link\n
+# errors: rv: lib.a: F2 BadMagic\n  it is an archive: rv ld takes it by --library\n
 # rv: ld --explain -o exe bytes
 # status: 1
 # errors: rv: bytes: F2 BadMagic\n  its first bytes are not 7Fh ELF\n

@@ -29,12 +29,26 @@
 # rv: build --explain -o exe b.s
 # status: 1
 # errors is: link
+# rv: run --explain --limit 5 c.s
+# status: 125
+# errors: rv: Limit\n  rv run --report says where and why\n
+# rv: run --limit 5 c.s
+# status: 125
+# errors: rv: Limit\n
+# rv: run --explain d.s
+# errors:
 #--- a.s
 .globl _start
 _start: addi a0, zero, 5000
 #--- b.s
 .globl _start
 _start: call f
+#--- c.s
+.globl _start
+_start: j _start
+#--- d.s
+.globl _start
+_start: li a7, 93; ecall
 #--- wanted
 rv: a.s:2: E14 ImmediateRange
     _start: addi a0, zero, 5000

@@ -7,6 +7,8 @@
 # out is: trace.txt
 # rv: stats --help
 # out is: stats.txt
+# rv: gdb --help
+# out is: gdb.txt
 # rv: test --help
 # out is: test.txt
 # rv: batch --help
@@ -50,6 +52,7 @@ Commands:
   run          Runs an executable, or builds sources and runs them
   trace        Runs a program and shows each instruction
   stats        Runs a program and counts what it executes
+  gdb          Lets gdb debug a program, forwards and backwards
   test         Runs cases: sources with what must come of them
   batch        Answers calls, an object of JSON a line, in one process
   build        Builds an executable from sources
@@ -78,6 +81,7 @@ Examples:
   rv run --report prog.s                    says why a run ended
   rv trace prog.s                           shows each instruction of a run
   rv stats --lines prog.s                   counts what a run executes
+  rv gdb prog                               lets gdb debug a run, forwards and backwards
   rv test cases/                            runs programs with what must come of them
   rv batch < calls                          answers many calls in one process
   rv build -o prog --map prog.map prog.s    writes the executable and its map
@@ -113,7 +117,7 @@ Options:
       --report          Says how the run ended, and shows the registers and the latest instructions
       --json            Writes JSON, an object a line
       --state <FILE>    Writes as JSON how the run ended: registers, count, digests of memory and console
-      --map <F>         The map of an executable, for its symbols and lines
+      --map <F>         The map of the executable, behind which its sources may stand, for symbols and lines
       --explain         Shows below a fault where it stands and why, as on a terminal
       --until <SYMBOL>  Ends the run before the instruction of a symbol, or of an address as 0x10008
       --stderr          Writes what the guest writes to descriptor 2 to standard error
@@ -154,7 +158,7 @@ Options:
   -o <FILE>             Writes the lines to a file instead of standard error
       --plain           Leaves out numbers, addresses and names of files, so that two traces can be compared
       --events          Writes each step's event in full, for programs
-      --map <F>         The map of an executable, for its symbols and lines
+      --map <F>         The map of the executable, behind which its sources may stand, for symbols and lines
       --limit <N>       The most instructions to execute, as 500k or 10M [default: RV_LIMIT, else 1000G]
       --until <SYMBOL>  Ends the run before the instruction of a symbol, or of an address as 0x10008
       --stderr          Writes what the guest writes to descriptor 2 to standard error
@@ -193,7 +197,7 @@ Options:
       --lines           Shows how often each line was executed
       --lcov <FILE>     Writes how often each line was executed as lcov does
       --json            Writes JSON, an object a line
-      --map <F>         The map of an executable, for its symbols and lines
+      --map <F>         The map of the executable, behind which its sources may stand, for symbols and lines
       --limit <N>       The most instructions to execute, as 500k or 10M [default: RV_LIMIT, else 1000G]
       --until <SYMBOL>  Ends the run before the instruction of a symbol, or of an address as 0x10008
       --stderr          Writes what the guest writes to descriptor 2 to standard error
@@ -209,6 +213,31 @@ The counts stand on standard error, and genhtml draws the file that --lcov names
 The object of --json has instructions, compressed, loads, bytes_read, stores, bytes_written,
 branches_taken, branches_not_taken, deepest_stack, kinds, mnemonics, calls (address, symbol,
 distance, count), end, status of an exit, and with --lines lines (file, line, count).
+#--- gdb.txt
+Lets gdb debug a program, forwards and backwards
+
+Usage: rv gdb [OPTIONS] <FILE>...
+
+Arguments:
+  <FILE>...  An executable, or sources that are built together
+
+Options:
+      --input <F>   The guest's input; it is empty where no file is named
+      --output <F>  Writes what the guest writes to a file instead of gdb's console
+      --limit <N>   The most instructions to execute, as 500k or 10M [default: RV_LIMIT, else 1000G]
+  -h, --help        Print help
+
+Examples:
+  gdb -ex 'target remote | rv gdb prog' prog
+  gdb -ex 'target remote | rv gdb --input words prog.s'
+
+Standard input and output are gdb's. The guest's input is the file of --input, else empty, and gdb
+shows what the guest writes, unless --output names a file.
+
+gdb reads all memory, sets breakpoints and watchpoints, and goes back by reverse-step,
+reverse-continue and reverse-finish: the run is run again up to there. A register or a byte that
+gdb writes begins a new run at that state, so gdb does not go back beyond it. 'monitor stats' says
+where the run stands, and 'monitor limit N' has it stop after N instructions.
 #--- test.txt
 Runs cases: sources with what must come of them
 
@@ -256,11 +285,17 @@ Arguments:
 Options:
   -o <EXE>              The executable to write
       --map <F>         Writes the map as well
+  -g                    Adds names and lines for debuggers
       --text-start <N>  The address of the text, decimal or 0x and hexadecimal [default: 0x10000]
       --no-relax        Leaves every call its eight bytes
       --gc-sections     Leaves out sections to which nothing leads from the entry
       --pad-ends        Puts 8 zeros behind constants and variables, as GCC loads past an object's end
       --explain         Shows below a fault where it stands and why, as on a terminal
+      --library <FILE>  Takes the members of an archive that define what is still undefined
+  -l <NAME>             As --library DIR/libNAME.a
+  -L <DIR>              A folder in which -l looks
+      --start-group     Goes round the archives up to --end-group until nothing more is taken
+      --end-group       Ends a group of archives
   -h, --help            Print help
 
 Example:
@@ -293,10 +328,10 @@ What GCC says of the code that it made is taken where it agrees with RV64IMAC an
 #--- ld.txt
 Links objects to an executable
 
-Usage: rv ld [OPTIONS] -o <EXE> <OBJ>...
+Usage: rv ld [OPTIONS] -o <EXE> [OBJ]...
 
 Arguments:
-  <OBJ>...  The objects, in the order of their sections
+  [OBJ]...  The objects, in the order of their sections
 
 Options:
   -o <EXE>              The executable to write
@@ -306,10 +341,16 @@ Options:
       --gc-sections     Leaves out sections to which nothing leads from the entry
       --pad-ends        Puts 8 zeros behind constants and variables, as GCC loads past an object's end
       --explain         Shows below a fault where it stands and why, as on a terminal
+      --library <FILE>  Takes the members of an archive that define what is still undefined
+  -l <NAME>             As --library DIR/libNAME.a
+  -L <DIR>              A folder in which -l looks
+      --start-group     Goes round the archives up to --end-group until nothing more is taken
+      --end-group       Ends a group of archives
   -h, --help            Print help
 
 Example:
   rv ld -o prog --map prog.map prog.o other.o
+  rv ld -o prog prog.o --library libc.a
 #--- map.txt
 Prints the map of what the sources build
 

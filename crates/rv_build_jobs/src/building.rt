@@ -1,16 +1,15 @@
-//! Builds, assembles and links files, and runs what they come to.
+//! Builds and assembles files, and runs what they come to.
 //!
 //! A job writes no file before all that it writes is made.
 
+use crate::debugging::debugged;
 use crate::loading::{given_sources, is_elf};
 use crate::padding::Inputs;
-use crate::refusing::{program_image, refused_objects, refused_sources};
-use crate::rows::warn_of_rows;
-use rv_chain::{
-    Built, Fault, LinkOptions, assemble_object, build, build_exe, link_objects, link_objects_exe,
-};
+use crate::refusing::{is_explained, program_image, refused_sources};
+use rv_chain::{Built, Fault, LinkOptions, assemble_object, build, build_exe};
 use rv_guests::{GuestInput, Guests, report_end, run_line};
 use rv_job::{Asked, default_options};
+use rv_machine::End;
 use rv_system::{JobError, Purpose, System, borrowed, file_bytes, given_bytes, print, write};
 use std::alloc::{AllocError, Global};
 
@@ -70,7 +69,13 @@ fn run_executable<S: Guests>(
         GuestInput::Standard
     };
     match system.run(image, input, asked.limit) {
-        Ok(end) => Ok(report_end(system, &end)),
+        Ok(end) => {
+            let status = report_end(system, &end);
+            if !matches!(end, End::Exited(_)) && is_explained(system, asked.explains) {
+                system.show("  rv run --report says where and why\n");
+            }
+            Ok(status)
+        }
         Err(fault) => Err(run_line(alloc, &fault)?),
     }
 }
@@ -89,16 +94,23 @@ fn executable<S: System>(
     }
 }
 
-/// Builds sources: writes the executable, and the map where a file is named for it; the exit status.
+/// Builds sources: writes the executable, with names and lines for debuggers where these are wanted, and the map where a
+/// file is named for it; the exit status.
 #[inline(never)]
 pub fn build_files<S: System>(
     system: &mut S,
     exe: &str,
     map: Option<&str>,
+    debug: bool,
     inputs: &Inputs<'_>,
     options: LinkOptions,
     explains: bool,
 ) -> Result<u8, JobError> {
+    if debug {
+        let built = build_with_map(system, inputs, options, explains)?;
+        let debugged = debugged(system, exe, inputs.names(), built)?;
+        return write_built(system, exe, map, &debugged);
+    }
     if map.is_some() {
         let built = build_with_map(system, inputs, options, explains)?;
         return write_built(system, exe, map, &built);
@@ -172,12 +184,21 @@ pub fn assemble<S: System>(
     relax: bool,
     explains: bool,
 ) -> Result<u8, JobError> {
+    let file = assembled(system, source, relax, explains)?;
+    write(system, object, Purpose::ToRead, file.as_slice())?;
+    Ok(0)
+}
+
+/// Reads a source and assembles it: the bytes of its object.
+pub(crate) fn assembled<S: System>(
+    system: &mut S,
+    source: &str,
+    relax: bool,
+    explains: bool,
+) -> Result<Vec<u8>, JobError> {
     let text = file_bytes(system, source)?;
     match object_of(system.alloc(), text.as_slice(), relax) {
-        Ok(file) => {
-            write(system, object, Purpose::ToRead, file.as_slice())?;
-            Ok(0)
-        }
+        Ok(file) => Ok(file),
         Err(fault) => Err(refused_sources(
             system,
             &fault,
@@ -208,48 +229,8 @@ fn without_relaxation(alloc: Global, text: &[u8]) -> Result<Vec<u8>, AllocError>
     Ok(option)
 }
 
-/// Links objects: writes the executable, and the map where a file is named for it; the exit status.
-#[inline(never)]
-pub fn link_files<S: System>(
-    system: &mut S,
-    exe: &str,
-    map: Option<&str>,
-    inputs: &Inputs<'_>,
-    options: LinkOptions,
-    explains: bool,
-) -> Result<u8, JobError> {
-    let alloc: Global = system.alloc();
-    let read = inputs.objects(system)?;
-    let objects = borrowed(alloc, read.as_slice())?;
-    let refused = if map.is_some() {
-        match link_objects(alloc, objects.as_slice(), options) {
-            Ok(built) => {
-                warn_of_rows(system, inputs.names(), built.map.as_slice())?;
-                return write_built(system, exe, map, &built);
-            }
-            Err(fault) => fault,
-        }
-    } else {
-        match link_objects_exe(alloc, objects.as_slice(), options) {
-            Ok(built) => {
-                write(system, exe, Purpose::ToRun, built.as_slice())?;
-                return Ok(0);
-            }
-            Err(fault) => fault,
-        }
-    };
-    Err(refused_objects(
-        system,
-        &refused,
-        inputs.names(),
-        objects.as_slice(),
-        options,
-        explains,
-    )?)
-}
-
 /// Writes an executable, and then its map where a file is named for it; the exit status.
-fn write_built<S: System>(
+pub(crate) fn write_built<S: System>(
     system: &mut S,
     exe: &str,
     map: Option<&str>,

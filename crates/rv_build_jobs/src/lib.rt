@@ -3,21 +3,27 @@
 //!
 //! Main functions: `run`, `build_files`, `assemble`, `link_files`, `print_map`, `load_program`. What is built, assembled and
 //! linked is said by the clauses of `build`, `build_exe`, `assemble_object` and `link_objects`, of which the bytes are handed
-//! on as they are. It does not know the words of a command line.
+//! on as they are; which members of archives are linked, by those of `taken_objects` (`rv_inputs`). It does not know the words of a command line.
 //!
 //! ```text
 //! // rv build -o a a.s
 //! let inputs = Inputs::of(alloc, &["a.s"], false)?;
-//! let status = build_files(system, "a", None, &inputs, default_options(), false)?;
+//! let status = build_files(system, "a", None, false, &inputs, default_options(), false)?;
 //! ```
 #![tactic(auto)]
 
 mod building;
+mod debugging;
+mod files;
+mod linking;
 mod loading;
 mod padding;
 mod refusing;
 mod rows;
+mod taking;
 
-pub use building::{assemble, build_files, link_files, print_map, run};
+pub use building::{assemble, build_files, print_map, run};
+pub use files::{LinkFile, assembled_files, linked_files};
+pub use linking::link_files;
 pub use loading::load_program;
 pub use padding::Inputs;

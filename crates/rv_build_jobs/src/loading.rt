@@ -1,6 +1,7 @@
 //! The programs of runs that are looked at, as the words name them.
 //!
-//! Sources are built with their map; an executable has the map that the words name for it, if any.
+//! Sources are built with their map; an executable has the map that the words name for it, if any, and its sources stand
+//! behind it.
 
 use crate::building::built;
 use crate::refusing::program_image;
@@ -8,7 +9,7 @@ use rv_chain::Built;
 use rv_image::Image;
 use rv_job::{Asked, default_options};
 use rv_system::{JobError, System, borrowed, check_fit, file_bytes, given_bytes, image_in, map_in};
-use rv_watched_jobs::KnownSource;
+use rv_watched_jobs::{KnownSource, check_sources};
 use std::alloc::{AllocError, Global};
 
 /// Whether a file is an executable or an object, and no source.
@@ -28,29 +29,30 @@ pub fn load_program<S: System>(
     } else {
         None
     };
-    let names = asked.names(alloc)?;
-    let read = given_files(system, names.as_slice())?;
+    let first = given_bytes(system, asked.file)?;
+    let mut read = given_files(system, asked.others.as_slice())?;
     let given = match early {
         Some(text) => Some(text),
         None => map_text(system, asked)?,
     };
-    let bytes = only(read.as_slice());
-    if is_elf(bytes) {
-        return given_program(system, asked, given, bytes);
+    if is_elf(first.as_slice()) && (read.is_empty() || given.is_some()) {
+        return given_program(system, asked, given, first.as_slice(), read);
     }
+    let names = asked.names(alloc)?;
+    read.insert(0, first)?;
     refuse_elf(alloc, names.as_slice(), read.as_slice())?;
     built_program(system, asked, names.as_slice(), read)
 }
 
-/// An executable as a program, with the map of this text, if there is one.
+/// An executable as a program, with the map of this text, if there is one, and the sources behind it.
 fn given_program<S: System>(
     system: &S,
     asked: &Asked<'_>,
     given: Option<Vec<u8>>,
     exe: &[u8],
+    sources: Vec<Vec<u8>>,
 ) -> Result<(KnownSource, Image), JobError> {
     let alloc: Global = system.alloc();
-    let sources = Vec::new(alloc);
     let Some(text) = given else {
         let image = program_image(system, asked, exe)?;
         return Ok((KnownSource { map: None, sources }, image));
@@ -59,6 +61,7 @@ fn given_program<S: System>(
     let map = map_in(alloc, name, text.as_slice())?;
     let image = program_image(system, asked, exe)?;
     check_fit(alloc, name, &map, asked.file, &image)?;
+    check_sources(alloc, asked, &map, sources.as_slice())?;
     let program = KnownSource {
         map: Some(map),
         sources,
@@ -118,14 +121,6 @@ fn given_files<S: System>(system: &mut S, names: &[&str]) -> Result<Vec<Vec<u8>>
         read.push(given_bytes(system, name)?)?;
     }
     Ok(read)
-}
-
-/// The bytes of the only file; nothing where there are several.
-fn only(read: &[Vec<u8>]) -> &[u8] {
-    match read {
-        [bytes] => bytes.as_slice(),
-        _ => b"",
-    }
 }
 
 /// Refuses the first of several files that is no source.

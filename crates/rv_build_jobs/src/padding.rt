@@ -9,7 +9,7 @@ use rv_system::{JobError, System, fault_line, files_bytes};
 use std::alloc::{AllocError, Global};
 
 /// The name of the source, where one is shown.
-const NAME: &str = "--pad-ends";
+pub(crate) const NAME: &str = "--pad-ends";
 
 /// The source.
 const SOURCE: &[u8] = b".section .rodata
@@ -20,7 +20,7 @@ const SOURCE: &[u8] = b".section .rodata
 .space 8
 ";
 
-/// The files of a build or a link, in their order.
+/// The sources of a build, in their order.
 #[derive(Drop)]
 pub struct Inputs<'a> {
     /// Those that the words name.
@@ -59,17 +59,12 @@ impl<'a> Inputs<'a> {
         }
         Ok(read)
     }
+}
 
-    /// The bytes of objects.
-    pub(crate) fn objects<S: System>(&self, system: &mut S) -> Result<Vec<Vec<u8>>, JobError> {
-        let alloc: Global = system.alloc();
-        let mut read = files_bytes(system, self.files)?;
-        if self.padded {
-            match assemble_object(alloc, SOURCE) {
-                Ok(object) => read.push(object)?,
-                Err(fault) => return Err(fault_line(alloc, &fault, &[NAME])?),
-            }
-        }
-        Ok(read)
+/// The object of the source.
+pub(crate) fn object(alloc: Global) -> Result<Vec<u8>, JobError> {
+    match assemble_object(alloc, SOURCE) {
+        Ok(object) => Ok(object),
+        Err(fault) => Err(fault_line(alloc, &fault, &[NAME])?),
     }
 }

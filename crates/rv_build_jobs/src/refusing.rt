@@ -2,6 +2,7 @@
 //!
 //! What explains a fault is looked for only once there is one, so a good build pays nothing for it.
 
+use rv_archive::{ArchiveFault, fault_name, fault_number};
 use rv_chain::{Fault, LinkOptions};
 use rv_check::remark_of;
 use rv_fault_texts::Remark;
@@ -75,8 +76,24 @@ fn refused_executable(alloc: Global, error: JobError, exe: &[u8]) -> Result<JobE
     explained(alloc, error, &remark)
 }
 
+/// Why an archive of this name is refused.
+pub(crate) fn refused_archive<S: System>(
+    system: &S,
+    name: &str,
+    fault: ArchiveFault,
+    explains: bool,
+) -> Result<JobError, AllocError> {
+    let alloc: Global = system.alloc();
+    let number = fault_number(fault);
+    let what = fault_name(fault);
+    if !is_explained(system, explains) {
+        return Ok(JobError::Line(format!(in alloc; "{name}: A{number} {what}")?));
+    }
+    Ok(JobError::Line(format!(in alloc; "{name}: A{number} {what}\n  {fault}")?))
+}
+
 /// Whether a fault is explained: the words ask for it, or somebody reads standard error at a terminal.
-fn is_explained<S: System>(system: &S, explains: bool) -> bool {
+pub(crate) fn is_explained<S: System>(system: &S, explains: bool) -> bool {
     explains || system.errors_go_to_terminal()
 }
 

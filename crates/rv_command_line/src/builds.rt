@@ -1,6 +1,7 @@
 //! The words that build, assemble and link.
 
 use crate::assembler_options::{is_code_option, is_machine_option};
+use crate::links::link_words;
 use crate::numbers::number;
 use crate::operands::{Flag, Operands, Refusal, Text, Texts};
 use crate::words::Help;
@@ -19,14 +20,18 @@ pub(crate) const BUILD: Help = Help {
 pub(crate) fn build<'a>(operands: &mut Operands<'_, 'a>) -> Result<Job<'a>, Refusal> {
     let exe = operands.required(executable())?;
     let map = operands.optional(written_map())?;
+    let names_lines = "Adds names and lines for debuggers";
+    let debug = operands.flag(Flag::letter("debug", 'g', names_lines))?;
     let options = link_options(operands)?;
     Ok(Job::Build {
         exe,
         map,
+        debug,
         options,
         pads_ends: pad_ends(operands, options)?,
         explains: operands.flag(explain())?,
         sources: operands.all(sources())?,
+        libraries: link_words(operands, None)?,
     })
 }
 
@@ -34,11 +39,12 @@ pub(crate) const LINK: Help = Help {
     name: "ld",
     about: "Links objects to an executable",
     after_help: "Example:
-  rv ld -o prog --map prog.map prog.o other.o",
+  rv ld -o prog --map prog.map prog.o other.o
+  rv ld -o prog prog.o --library libc.a",
 };
 
 pub(crate) fn link<'a>(operands: &mut Operands<'_, 'a>) -> Result<Job<'a>, Refusal> {
-    let objects = Texts::alone("OBJ", "The objects, in the order of their sections");
+    let files = Texts::alone("OBJ", "The objects, in the order of their sections");
     let exe = operands.required(executable())?;
     let map = operands.optional(written_map())?;
     let options = link_options(operands)?;
@@ -48,7 +54,7 @@ pub(crate) fn link<'a>(operands: &mut Operands<'_, 'a>) -> Result<Job<'a>, Refus
         options,
         pads_ends: pad_ends(operands, options)?,
         explains: operands.flag(explain())?,
-        objects: operands.all(objects)?,
+        files: link_words(operands, Some(files))?,
     })
 }
 

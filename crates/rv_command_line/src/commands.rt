@@ -15,6 +15,7 @@ const HELP: &str = "Examples:
   rv run --report prog.s                    says why a run ended
   rv trace prog.s                           shows each instruction of a run
   rv stats --lines prog.s                   counts what a run executes
+  rv gdb prog                               lets gdb debug a run, forwards and backwards
   rv test cases/                            runs programs with what must come of them
   rv batch < calls                          answers many calls in one process
   rv build -o prog --map prog.map prog.s    writes the executable and its map
@@ -86,7 +87,9 @@ fn written<'a>(arg: Arg<'a>, form: Form) -> Arg<'a> {
     match form {
         Form::Flag(long) => flag(arg.long(long)),
         Form::Letter(letter) => flag(arg.short(letter)),
+        Form::RepeatedFlag(long) => repeated_flag(arg.long(long)),
         Form::Long(long, value) => valued(arg.long(long), value),
+        Form::RepeatedLong(long, value) => repeated(arg.long(long), value),
         Form::Short(letter, value) => valued(arg.short(letter), value),
         Form::Repeated(letter, value) => repeated(arg.short(letter), value),
         Form::Single(value) => valued(arg, value),
@@ -97,6 +100,13 @@ fn written<'a>(arg: Arg<'a>, form: Form) -> Arg<'a> {
 /// An option without a value.
 fn flag<'a>(arg: Arg<'a>) -> Arg<'a> {
     arg.action(ArgAction::SetTrue)
+}
+
+/// An option without a value whose uses are kept, each as an empty value.
+fn repeated_flag<'a>(arg: Arg<'a>) -> Arg<'a> {
+    arg.action(ArgAction::Append)
+        .num_args(0)
+        .default_missing_value("")
 }
 
 /// An argument with a value.
@@ -120,6 +130,7 @@ fn needed<'a>(arg: Arg<'a>, need: Need) -> Result<Arg<'a>, AllocError> {
         Need::Optional => Ok(arg),
         Need::Required => Ok(arg.required(true)),
         Need::Unless(id) => arg.required_unless_present(id),
+        Need::UnlessEither(one, other) => arg.required_unless_present_any(&[one, other]),
         Need::Beside(id) => arg.requires_arg(id),
         Need::Against(id) => arg.conflicts_with(id),
     }

@@ -18,6 +18,7 @@ mod builds;
 mod cases;
 mod commands;
 mod files;
+mod links;
 mod numbers;
 mod operands;
 mod parsing;

@@ -14,8 +14,12 @@ pub(crate) enum Form {
     Flag(&'static str),
     /// `-v`.
     Letter(char),
+    /// `--long`, which may be written several times.
+    RepeatedFlag(&'static str),
     /// `--long VALUE`.
     Long(&'static str, &'static str),
+    /// As `Long`, and each may be written several times.
+    RepeatedLong(&'static str, &'static str),
     /// `-o VALUE`.
     Short(char, &'static str),
     /// As `Short`, and each may be written several times.
@@ -33,6 +37,8 @@ pub(crate) enum Need {
     Required,
     /// It has to, unless this other is there.
     Unless(&'static str),
+    /// It has to, unless one of these two is there.
+    UnlessEither(&'static str, &'static str),
     /// It may, where this other is there.
     Beside(&'static str),
     /// It may, where this other is not there.
@@ -144,10 +150,27 @@ impl Texts {
         Texts(Entry::new(id, Form::Repeated(letter, value), help))
     }
 
+    /// `--long VALUE`, as often as one likes.
+    pub(crate) fn long(long: &'static str, value: &'static str, help: &'static str) -> Texts {
+        Texts(Entry::new(long, Form::RepeatedLong(long, value), help))
+    }
+
+    /// `--long`, as often as one likes; each use has an empty value.
+    pub(crate) fn flag(long: &'static str, help: &'static str) -> Texts {
+        Texts(Entry::new(long, Form::RepeatedFlag(long), help))
+    }
+
     /// Words alone, one at least.
     pub(crate) fn alone(value: &'static str, help: &'static str) -> Texts {
         let mut entry = Entry::new("alone", Form::Several(value), help);
         entry.need = Need::Required;
+        Texts(entry)
+    }
+
+    /// They have to be there unless one of these two is.
+    pub(crate) fn unless_either(self, one: Texts, other: Texts) -> Texts {
+        let mut entry = self.0;
+        entry.need = Need::UnlessEither(one.0.id, other.0.id);
         Texts(entry)
     }
 }
@@ -257,6 +280,19 @@ impl<'f, 'a> Operands<'f, 'a> {
             values.extend_from_slice(given)?;
         }
         Ok(values)
+    }
+
+    /// The values of all uses, each with its place among the words.
+    pub(crate) fn all_placed(&mut self, texts: Texts) -> Result<Vec<(usize, &'a str)>, Refusal> {
+        let mut placed = Vec::new(self.alloc);
+        if let Some(found) = self.found(texts.0)? {
+            let values = found.get_strs(texts.0.id).unwrap_or_default();
+            let places = found.indices_of(texts.0.id).unwrap_or_default();
+            for (place, value) in places.iter().zip(values) {
+                placed.push((*place, *value))?;
+            }
+        }
+        Ok(placed)
     }
 
     /// The first value, which has to be there, and those behind it.

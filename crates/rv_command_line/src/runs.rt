@@ -5,7 +5,7 @@ use crate::files::{json, output_format};
 use crate::numbers::{count, number};
 use crate::operands::{Flag, Operands, Refusal, Text, Texts};
 use crate::words::Help;
-use rv_job::{Asked, Coverage, Job, LineForm, Results, Shown, Until};
+use rv_job::{Asked, Coverage, Debugged, Job, LineForm, Results, Shown, Until};
 use rv_numbers::{amount, decimal, text_start};
 use std::alloc::Global;
 
@@ -181,6 +181,52 @@ pub(crate) fn stats<'a>(operands: &mut Operands<'_, 'a>) -> Result<Job<'a>, Refu
     Ok(Job::Stats(looked_at(operands)?, coverage))
 }
 
+pub(crate) const GDB: Help = Help {
+    name: "gdb",
+    about: "Lets gdb debug a program, forwards and backwards",
+    after_help: "Examples:
+  gdb -ex 'target remote | rv gdb prog' prog
+  gdb -ex 'target remote | rv gdb --input words prog.s'
+
+Standard input and output are gdb's. The guest's input is the file of --input, else empty, and gdb
+shows what the guest writes, unless --output names a file.
+
+gdb reads all memory, sets breakpoints and watchpoints, and goes back by reverse-step,
+reverse-continue and reverse-finish: the run is run again up to there. A register or a byte that
+gdb writes begins a new run at that state, so gdb does not go back beyond it. 'monitor stats' says
+where the run stands, and 'monitor limit N' has it stop after N instructions.",
+};
+
+pub(crate) fn gdb<'a>(operands: &mut Operands<'_, 'a>) -> Result<Job<'a>, Refusal> {
+    let input = "The guest's input; it is empty where no file is named";
+    let output = "Writes what the guest writes to a file instead of gdb's console";
+    let streams = Debugged {
+        input: operands.optional(Text::long("input", "F", input))?,
+        output: operands.optional(Text::long("output", "F", output))?,
+    };
+    let limit = limit(operands)?;
+    let (file, others) = operands.first_and_others(debugged_files())?;
+    if file == "-" || others.iter().any(|name| *name == "-") {
+        return Err(Refusal::Wanted("standard input is gdb's: name a file"));
+    }
+    let asked = Asked {
+        file,
+        others,
+        map: None,
+        map_first: false,
+        limit,
+        until: None,
+        parts_errors: false,
+        explains: false,
+    };
+    Ok(Job::Debug(asked, streams))
+}
+
+/// What is debugged.
+fn debugged_files() -> Texts {
+    Texts::alone("FILE", "An executable, or sources that are built together")
+}
+
 /// What a number of `trace` has to be.
 const COUNT: &str = "a count is a decimal number below 2^64";
 
@@ -210,7 +256,8 @@ fn default_limit(alloc: Global, given: Option<&str>) -> Result<u64, Refusal> {
 }
 
 fn map() -> Text {
-    let help = "The map of an executable, for its symbols and lines";
+    let help =
+        "The map of the executable, behind which its sources may stand, for symbols and lines";
     Text::long("map", "F", help)
 }
 

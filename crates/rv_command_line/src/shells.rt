@@ -163,8 +163,10 @@ fn put_zsh_entry(text: &mut String, entry: &Entry) -> Result<(), AllocError> {
     put_quoted(text, Shell::Zsh, entry.help)?;
     text.push(']')?;
     match entry.form {
-        Form::Flag(_) | Form::Letter(_) => text.push('\''),
-        Form::Long(_, value) => put_all(text, &[":", value, ":_files'"]),
+        Form::Flag(_) | Form::RepeatedFlag(_) | Form::Letter(_) => text.push('\''),
+        Form::Long(_, value) | Form::RepeatedLong(_, value) => {
+            put_all(text, &[":", value, ":_files'"])
+        }
         Form::Short(_, value) | Form::Repeated(_, value) => {
             put_all(text, &[":", value, ":_files'"])
         }
@@ -186,12 +188,12 @@ fn put_fish_entry(text: &mut String, name: &str, entry: &Entry) -> Result<(), Al
         ],
     )?;
     match entry.form {
-        Form::Flag(long) => put_all(text, &["-l ", long])?,
+        Form::Flag(long) | Form::RepeatedFlag(long) => put_all(text, &["-l ", long])?,
         Form::Letter(letter) => {
             text.push_str("-s ")?;
             text.push(letter)?;
         }
-        Form::Long(long, _) => put_all(text, &["-r -l ", long])?,
+        Form::Long(long, _) | Form::RepeatedLong(long, _) => put_all(text, &["-r -l ", long])?,
         Form::Short(letter, _) | Form::Repeated(letter, _) => {
             text.push_str("-r -s ")?;
             text.push(letter)?;
@@ -206,7 +208,8 @@ fn put_fish_entry(text: &mut String, name: &str, entry: &Entry) -> Result<(), Al
 /// Adds an option as it is written.
 fn put_option(text: &mut String, form: Form) -> Result<(), AllocError> {
     match form {
-        Form::Flag(long) | Form::Long(long, _) => put_all(text, &["--", long]),
+        Form::Flag(long) | Form::RepeatedFlag(long) => put_all(text, &["--", long]),
+        Form::Long(long, _) | Form::RepeatedLong(long, _) => put_all(text, &["--", long]),
         Form::Letter(letter) | Form::Short(letter, _) | Form::Repeated(letter, _) => {
             text.push('-')?;
             text.push(letter)

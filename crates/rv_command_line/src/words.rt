@@ -14,6 +14,7 @@ pub(crate) enum Word {
     Run,
     Trace,
     Stats,
+    Gdb,
     Test,
     Batch,
     Build,
@@ -44,10 +45,11 @@ pub(crate) struct Help {
 }
 
 /// All words, in the order of the help.
-pub(crate) const WORDS: [Word; 20] = [
+pub(crate) const WORDS: [Word; 21] = [
     Word::Run,
     Word::Trace,
     Word::Stats,
+    Word::Gdb,
     Word::Test,
     Word::Batch,
     Word::Build,
@@ -84,6 +86,7 @@ impl Word {
             Word::Run => runs::RUN,
             Word::Trace => runs::TRACE,
             Word::Stats => runs::STATS,
+            Word::Gdb => runs::GDB,
             Word::Test => cases::TEST,
             Word::Batch => cases::BATCH,
             Word::Build => builds::BUILD,
@@ -110,6 +113,7 @@ impl Word {
             Word::Run => runs::run(operands),
             Word::Trace => runs::trace(operands),
             Word::Stats => runs::stats(operands),
+            Word::Gdb => runs::gdb(operands),
             Word::Test => cases::test(operands),
             Word::Batch => cases::batch(operands),
             Word::Build => builds::build(operands),

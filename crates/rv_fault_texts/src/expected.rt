@@ -19,6 +19,8 @@ enum Front {
     Sign,
     /// A number or a parenthesis that ends.
     Number,
+    /// A register in parentheses.
+    Address,
     /// Another word.
     Word,
 }
@@ -43,10 +45,13 @@ pub(crate) fn expected_at(source: &[u8], statement: &[LineToken], wrong: &LineTo
         Beginning::Directive(word) => of_directive(word, index, front),
         Beginning::Nothing => Expected::Unknown,
     };
-    if expected == Expected::Register && is_register(text_of(source, wrong)) {
-        Expected::OtherRegister
-    } else {
-        expected
+    match expected {
+        Expected::Register if is_register(text_of(source, wrong)) => Expected::OtherRegister,
+        // a parenthesis before a number that an operand begins with mends nothing
+        Expected::Parenthesis if matches!(front, Front::Operand) && wrong.sort == Sort::Number => {
+            Expected::Unknown
+        }
+        _ => expected,
     }
 }
 
@@ -57,6 +62,7 @@ fn front_of(source: &[u8], before: &[LineToken]) -> Front {
     };
     match last.sort {
         Sort::Comma => Front::Operand,
+        Sort::Close if ends_with_base(source, others) => Front::Address,
         Sort::Number | Sort::Close => Front::Number,
         Sort::Open => match others.last() {
             Some(offset) if matches!(offset.sort, Sort::Number | Sort::Close | Sort::Name) => {
@@ -73,6 +79,17 @@ fn front_of(source: &[u8], before: &[LineToken]) -> Front {
     }
 }
 
+/// Whether the last of some tokens is a register behind a parenthesis.
+fn ends_with_base(source: &[u8], tokens: &[LineToken]) -> bool {
+    let Some((base, others)) = tokens.split_last() else {
+        return false;
+    };
+    match others.last() {
+        Some(open) => open.sort == Sort::Open && is_register(text_of(source, base)),
+        None => false,
+    }
+}
+
 /// What may stand in an operand of an instruction, by the operands before it.
 fn of_instruction(mnemonic: Mnemonic, index: usize, front: Front) -> Expected {
     let (registers, last) = operands_of(mnemonic);
@@ -86,7 +103,7 @@ fn of_instruction(mnemonic: Mnemonic, index: usize, front: Front) -> Expected {
         Front::Number | Front::Word if index < registers || lacks_operand(mnemonic, index) => {
             Expected::Comma
         }
-        Front::Number | Front::Word => Expected::Unknown,
+        Front::Number | Front::Address | Front::Word => Expected::Unknown,
     }
 }
 

@@ -48,7 +48,7 @@ pub use closing::{Closing, closing_of};
 pub use entries::{explanation, titles};
 pub use excerpt::{Place, put_bytes};
 pub use link_wording::link_words;
-pub use near_names::{NearName, near_name};
+pub use near_names::{NearName, changes_between, near_name};
 pub use occurrences::section_before;
 pub use other_files::is_other_file;
 pub use place::{Expected, FaultPlace, place_at_byte, place_in_statement};

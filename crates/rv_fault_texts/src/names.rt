@@ -1,4 +1,4 @@
-//! Names that the search for a place tells apart: registers, and instructions by what their number may be.
+//! Names on which the place and the sentence of a fault depend: registers, and instructions by what their number may be.
 
 ghost use Rattle.std.specs.Prelude.{◌<◌};
 

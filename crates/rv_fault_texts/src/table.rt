@@ -297,6 +297,55 @@ Example:
     an executable
 Cure: give the objects of which it was linked
 
+A1 TruncatedArchive
+Cause: the file ends before a member's head or contents do
+Example:
+    an archive without its last byte
+Cure: copy it again, whole
+
+A2 NotArchive
+Cause: it does not begin with !<arch> and a line's end
+Example:
+    rv ld -o a --library main.o
+Cure: give objects as they are, and archives by --library
+
+A3 ThinArchive
+Cause: it begins with !<thin>: its members stand in other files
+Example:
+    ar rcsT libx.a x.o
+Cure: make it without T
+
+A4 BadHead
+Cause: a member's head has no end mark, or a size that is no decimal number
+Example:
+    a damaged archive
+Cure: make it again
+
+A5 BadName
+Cause: a member's name is empty, has a control character or over 4,096 bytes,
+  or has no end in the table of long names
+Example:
+    a damaged archive
+Cure: make it again, of files with other names
+
+A6 BsdArchive
+Cause: the names or the index are those of BSD's archives
+Example:
+    an archive of macOS
+Cure: make it with GNU ar or llvm-ar --format=gnu
+
+A7 NoIndex
+Cause: it has members and no index; ranlib makes one
+Example:
+    ar rcS libx.a x.o
+Cure: ranlib libx.a
+
+A8 BadArchiveIndex
+Cause: the index has no end, or names a place where no member stands
+Example:
+    an archive that was changed behind its index
+Cure: ranlib libx.a
+
 X1 InputFault
 Cause: standard input could not be read when the guest asked for it; what the
   guest wrote before is kept

@@ -1,4 +1,4 @@
-//! The tokens of one line, as the search for the place of a fault needs them.
+//! The tokens of a source, of some of its lines or of a statement, as what is said of them needs them.
 
 ghost use Rattle.std.specs.Prelude.{◌<◌};
 
@@ -9,7 +9,7 @@ use std::alloc::{AllocError, Global};
 /// Sources from this size on are not looked into: places fit 32 bits.
 const TOO_LARGE: usize = 1 << 31;
 
-/// What a token is to the search.
+/// What a token is, as far as that matters here.
 #[derive(Clone, Copy, Drop)]
 pub enum Sort {
     Name,
@@ -186,7 +186,7 @@ pub(crate) fn is_last(kind: TokenKind<'_>) -> bool {
     }
 }
 
-/// What a token of this kind is to the search.
+/// What a token of this kind is here.
 pub(crate) fn sort_of(kind: TokenKind<'_>) -> Sort {
     match kind {
         TokenKind::Newline => Sort::End,
@@ -203,7 +203,7 @@ pub(crate) fn sort_of(kind: TokenKind<'_>) -> Sort {
     }
 }
 
-/// What punctuation is to the search.
+/// What punctuation is here.
 fn sort_of_punct(punct: Punct) -> Sort {
     match punct {
         Punct::Comma => Sort::Comma,

@@ -94,6 +94,13 @@ impl System for Host<'_> {
         }
     }
 
+    fn directory(&self) -> Result<String, ReadFault> {
+        match env::current_dir(self.rt) {
+            Ok(path) => Ok(path.into_string()),
+            Err(error) => Err(unread(error.kind())),
+        }
+    }
+
     fn shows_colours(&self) -> bool {
         self.rt.stdout().is_terminal() && wants_colours(self.rt)
     }
@@ -196,7 +203,7 @@ fn names_in(rt: &HostRuntime, folder: &str) -> Result<Vec<String>, ReadFault> {
     Ok(names)
 }
 
-/// Why a folder is not read.
+/// Why a folder is not read, or not known.
 fn unread(kind: ErrorKind) -> ReadFault {
     match kind {
         ErrorKind::OutOfMemory => ReadFault::Memory,

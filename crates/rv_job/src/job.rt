@@ -2,7 +2,8 @@
 
 use crate::cases::AskedCases;
 use crate::files::{AskedCode, AskedImage, OutputFormat, ReportFormat};
-use crate::runs::{Asked, Coverage, Results, Shown};
+use crate::links::LinkWords;
+use crate::runs::{Asked, Coverage, Debugged, Results, Shown};
 use rv_link::LinkOptions;
 
 /// What the command line asks for.
@@ -16,6 +17,8 @@ pub enum Job<'a> {
     Trace(Asked<'a>, Shown<'a>),
     /// Runs, and counts what is executed.
     Stats(Asked<'a>, Coverage<'a>),
+    /// Lets a debugger have a run.
+    Debug(Asked<'a>, Debugged<'a>),
     /// Runs cases, and says of which what came is what must come.
     Test(AskedCases<'a>),
     /// Answers calls, an object of JSON a line.
@@ -27,10 +30,14 @@ pub enum Job<'a> {
     Build {
         exe: &'a str,
         map: Option<&'a str>,
+        /// Whether the executable has names and lines for debuggers.
+        debug: bool,
         options: LinkOptions,
         /// Whether the ends of regions are padded.
         pads_ends: bool,
         sources: Vec<&'a str>,
+        /// The archives behind the sources.
+        libraries: LinkWords<'a>,
         /// Whether a fault is explained.
         explains: bool,
     },
@@ -50,7 +57,7 @@ pub enum Job<'a> {
         options: LinkOptions,
         /// Whether the ends of regions are padded.
         pads_ends: bool,
-        objects: Vec<&'a str>,
+        files: LinkWords<'a>,
         /// Whether a fault is explained.
         explains: bool,
     },

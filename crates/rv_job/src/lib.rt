@@ -13,11 +13,13 @@
 mod cases;
 mod files;
 mod job;
+mod links;
 mod options;
 mod runs;
 
 pub use cases::AskedCases;
 pub use files::{AskedCode, AskedImage, ImageFormat, OutputFormat, ReportFormat, TextFormat};
 pub use job::{Job, Shell};
+pub use links::{LinkWord, LinkWords};
 pub use options::{TEXT_START, default_options};
-pub use runs::{Asked, Coverage, LineForm, Results, Shown, Until};
+pub use runs::{Asked, Coverage, Debugged, LineForm, Results, Shown, Until};

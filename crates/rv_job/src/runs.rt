@@ -41,6 +41,15 @@ pub struct Results<'a> {
     pub state: Option<&'a str>,
 }
 
+/// The streams of a run that is debugged, as standard input and output are the debugger's.
+#[derive(Clone, Copy, Drop)]
+pub struct Debugged<'a> {
+    /// The file of the guest's input; it has none where none is named.
+    pub input: Option<&'a str>,
+    /// The file that the guest writes to; the debugger shows it where none is named.
+    pub output: Option<&'a str>,
+}
+
 impl<'a> Asked<'a> {
     /// The files in their order.
     pub fn names(&self, alloc: Global) -> Result<Vec<&'a str>, AllocError> {

@@ -57,7 +57,7 @@ fn kind_of_other(file: &[u8]) -> &'static str {
     if file.is_empty() {
         "it is empty"
     } else if file.starts_with(b"!<arch>\n") {
-        "it is an archive: ar x takes its objects out, for rv ld to link"
+        "it is an archive: rv ld takes it by --library"
     } else if file.starts_with(b"\x7fELF") {
         "it ends inside its header, which has 64 bytes"
     } else if is_text(file) {

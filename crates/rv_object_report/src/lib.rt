@@ -19,6 +19,7 @@
 mod drafts;
 mod headers;
 mod indexes;
+mod near;
 mod records;
 mod references;
 mod remark;

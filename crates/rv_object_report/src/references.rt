@@ -115,7 +115,7 @@ pub(crate) fn definition_in(file: &[u8], name: &[u8], binding: u8) -> Option<(u3
 }
 
 /// The index of the section that has the symbols of a file.
-fn index_of_symbols(view: &ElfView<'_>) -> Option<u32> {
+pub(crate) fn index_of_symbols(view: &ElfView<'_>) -> Option<u32> {
     for index in 0..view.header().e_shnum {
         match section_at(view, index) {
             Some(header) if header.sh_type == SHT_SYMTAB => return Some(u32::from(index)),

@@ -1,6 +1,7 @@
 //! What is said of a fault of objects' files or of their link.
 
 use crate::headers::put_header;
+use crate::near::put_near;
 use crate::records::put_record;
 use crate::references::{show_definitions, show_references, show_site};
 use crate::search::faulty_site;
@@ -57,7 +58,10 @@ fn put_link(
 ) -> Result<(), Fault> {
     match fault {
         LinkFault::Undefined(name) => {
-            show_references(alloc, names, files, name.as_slice(), &mut remark.excerpt)?
+            show_references(alloc, names, files, name.as_slice(), &mut remark.excerpt)?;
+            remark.sentence.push_str(link_words(fault))?;
+            put_near(alloc, names, files, name.as_slice(), &mut remark.sentence)?;
+            return Ok(());
         }
         LinkFault::Duplicate(name) => {
             show_definitions(alloc, names, files, name.as_slice(), &mut remark.excerpt)?

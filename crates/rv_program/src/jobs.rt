@@ -5,12 +5,16 @@
 //! a small guest takes few pages of it.
 
 use rv_batch_jobs::answer_calls;
-use rv_build_jobs::{Inputs, assemble, build_files, link_files, load_program, print_map, run};
+use rv_build_jobs::{
+    Inputs, assemble, assembled_files, build_files, link_files, linked_files, load_program,
+    print_map, run,
+};
 use rv_case_jobs::run_cases;
 use rv_command_line::completions;
 use rv_file_jobs::{code, dump, elf, names, objdump, raw, sizes, write_image};
+use rv_gdb_jobs::debug;
 use rv_guests::Guests;
-use rv_job::{Asked, Coverage, Job, Results, Shell, Shown};
+use rv_job::{Asked, Coverage, Debugged, Job, Results, Shell, Shown};
 use rv_source_jobs::{check_files, explain, list};
 use rv_system::{JobError, System, print};
 use rv_watched_jobs::{run_with_results, stats, trace};
@@ -22,18 +26,34 @@ pub(crate) fn run_job<S: Guests>(system: &mut S, job: &Job<'_>) -> Result<u8, Jo
         Job::Watch(asked, results) => look_back(system, asked, results),
         Job::Trace(asked, shown) => show_steps(system, asked, shown),
         Job::Stats(asked, coverage) => count(system, asked, coverage),
+        Job::Debug(asked, streams) => let_debug(system, asked, streams),
         Job::Test(asked) => run_cases(system, asked),
         Job::Batch { limit } => answer_calls(system, *limit),
         Job::Build {
             exe,
             map,
+            debug,
             options,
             pads_ends,
             sources,
+            libraries,
             explains,
         } => {
-            let inputs = Inputs::of(system.alloc(), sources.as_slice(), *pads_ends)?;
-            build_files(system, exe, *map, &inputs, *options, *explains)
+            let sources = sources.as_slice();
+            if libraries.words.is_empty() {
+                let inputs = Inputs::of(system.alloc(), sources, *pads_ends)?;
+                return build_files(system, exe, *map, *debug, &inputs, *options, *explains);
+            }
+            let files = assembled_files(system, sources, libraries, *pads_ends, *explains)?;
+            link_files(
+                system,
+                exe,
+                *map,
+                *debug,
+                files.as_slice(),
+                *options,
+                *explains,
+            )
         }
         Job::Assemble {
             object,
@@ -46,11 +66,19 @@ pub(crate) fn run_job<S: Guests>(system: &mut S, job: &Job<'_>) -> Result<u8, Jo
             map,
             options,
             pads_ends,
-            objects,
+            files,
             explains,
         } => {
-            let inputs = Inputs::of(system.alloc(), objects.as_slice(), *pads_ends)?;
-            link_files(system, exe, *map, &inputs, *options, *explains)
+            let files = linked_files(system, files, *pads_ends)?;
+            link_files(
+                system,
+                exe,
+                *map,
+                false,
+                files.as_slice(),
+                *options,
+                *explains,
+            )
         }
         Job::Map {
             options,
@@ -116,6 +144,16 @@ fn count<S: Guests>(
 ) -> Result<u8, JobError> {
     let (program, image) = load_program(system, asked)?;
     stats(system, asked, coverage, program, image)
+}
+
+/// Lets a debugger have a run; the exit status.
+fn let_debug<S: Guests>(
+    system: &mut S,
+    asked: &Asked<'_>,
+    streams: &Debugged<'_>,
+) -> Result<u8, JobError> {
+    let (_, image) = load_program(system, asked)?;
+    debug(system, image, asked.limit, streams)
 }
 
 /// Prints what a shell completes words by; the exit status.

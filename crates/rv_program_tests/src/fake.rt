@@ -147,6 +147,10 @@ impl System for Fake<'_> {
         Ok(())
     }
 
+    fn directory(&self) -> Result<String, ReadFault> {
+        Err(ReadFault::Failed)
+    }
+
     fn variable(&self, _: &str) -> Result<Option<String>, AllocError> {
         Ok(None)
     }

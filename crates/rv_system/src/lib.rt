@@ -26,5 +26,6 @@ pub use files::{
     print_listing, print_parts, write,
 };
 pub use messages::fault_line;
+pub use shown::shown_name;
 pub use system::{FILE_LIMIT, Purpose, System};
 pub use whole::{ReadFault, read_whole};

@@ -6,7 +6,7 @@ ghost use Rattle.rv_system.specs.Messages.{escape_of, shown_byte, shown_name};
 use std::alloc::{AllocError, Global};
 
 /// A name in a line of a message: a byte that a map does not show stands as its number, as `\x1b`.
-pub(crate) fn shown_name(alloc: Global, name: &[u8]) -> Result<String, AllocError>
+pub fn shown_name(alloc: Global, name: &[u8]) -> Result<String, AllocError>
     ensures { IfOk result (λ shown. string_bytes shown ≡ shown_name name.now) }
 {
     let mut shown = String::new(alloc);

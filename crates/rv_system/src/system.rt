@@ -45,6 +45,9 @@ pub trait System {
     /// What a variable of the environment says, where it is set and not empty.
     fn variable(&self, name: &str) -> Result<Option<String>, AllocError>;
 
+    /// The working directory.
+    fn directory(&self) -> Result<String, ReadFault>;
+
     /// Whether standard output shows colours: it is a terminal, and nobody asked for none.
     fn shows_colours(&self) -> bool;
 

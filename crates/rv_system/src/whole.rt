@@ -8,7 +8,7 @@ use std::io::Read;
 use thiserror::Error;
 
 /// The bytes of one read.
-const PIECE: usize = 1 << 13;
+const PIECE: usize = 1 << 16;
 
 /// Why bytes were not read.
 #[derive(Debug, Drop, Error)]

@@ -1,0 +1,260 @@
+#!/usr/bin/env python3
+"""Runs the builds of tests/ over ./rv once more, with -g, and reads what then stands behind each executable.
+
+usage: debugged.py [NAME ..]     only cases whose path below tests/ begins so
+
+- In front is the executable without -g, but for the four fields of its header that lead to the section headers. The map
+  is the same, and what is refused is so for the same fault.
+- The sections of regions have their addresses, and the symbols are the globals of the map (System V gABI, "Sections",
+  "Symbol Table").
+- The line tables, run by the state machine of DWARF 5, 6.2, are the map's rows of code of each source that has some,
+  with an end behind each stretch. An entry of .debug_info (3.1.1, 7.5) and one of .debug_aranges (6.1.2) lead to each.
+
+Standard library alone; the last line is 'N passed, M failed'.
+"""
+
+import os
+import struct
+import subprocess
+import sys
+import tempfile
+from concurrent.futures import ThreadPoolExecutor
+from pathlib import Path
+
+from run import RV, SECONDS, Failed, calls, cases, same
+
+OPTION = "-g"
+STMT_LIST, LOW_PC, HIGH_PC, NAME, COMP_DIR = 0x10, 0x11, 0x12, 0x03, 0x1B
+ADDR, DATA1, DATA2, DATA8, STRING, SEC_OFFSET = 0x01, 0x0B, 0x05, 0x07, 0x08, 0x17
+SIZES = {ADDR: 8, DATA1: 1, DATA2: 2, DATA8: 8, SEC_OFFSET: 4}
+
+
+class Reader:
+    """Bytes of a section, read from a place on."""
+
+    def __init__(self, held, at=0):
+        self.held, self.at = held, at
+
+    def number(self, size, signed=False):
+        self.at += size
+        return int.from_bytes(self.held[self.at - size : self.at], "little", signed=signed)
+
+    def leb(self, signed=False):
+        value = shift = 0
+        while True:
+            byte = self.number(1)
+            value |= (byte & 127) << shift
+            shift += 7
+            if byte < 128:
+                return value - (signed and byte >= 64 and 1 << shift)
+
+    def string(self):
+        end = self.held.index(b"\0", self.at)
+        text, self.at = self.held[self.at : end], end + 1
+        return text
+
+    def form(self, form):
+        return self.string() if form == STRING else self.number(SIZES[form])
+
+    def unit(self):
+        """The end of the unit whose length stands here."""
+        return self.number(4) + self.at
+
+
+def sections(held):
+    """The header and the contents of each section, by its name."""
+    at, size, count, names = struct.unpack_from("<Q", held, 40)[0], *struct.unpack_from("<HHH", held, 58)
+    headers = [struct.unpack_from("<IIQQQQIIQQ", held, at + size * index) for index in range(count)]
+    body = lambda it: held[it[4] : it[4] + it[5]] if it[1] != 8 else b""
+    text = lambda it: Reader(body(headers[names]), it[0]).string().decode()
+    return {text(it): (it, body(it)) for it in headers}
+
+
+def symbols(found):
+    """The names and addresses of the symbols behind the local ones."""
+    (header, table), strings = found[".symtab"], found[".strtab"][1]
+    for at in range(24 * header[7], len(table), 24):
+        name, info, _, _, value, _ = struct.unpack_from("<IBBHQQ", table, at)
+        same("the binding of a symbol", 1, info >> 4)
+        yield Reader(strings, name).string().decode(), value
+
+
+def table(held, at):
+    """The entries of the line table at a place: rows, and the ends of sequences."""
+    it = Reader(held, at)
+    end = it.unit()
+    same("the head of a line table", (5, 8, 0), (it.number(2), it.number(1), it.number(1)))
+    begins = it.number(4) + it.at
+    step, operations, _ = (it.number(1) for _ in range(3))
+    base, span, first = it.number(1, True), it.number(1), it.number(1)
+    same("operations of an instruction", 1, operations)
+    lengths = [it.number(1) for _ in range(first - 1)]
+    files = []
+    for _ in range(2):
+        forms = [(it.leb(), it.leb()) for _ in range(it.number(1))]
+        files.append([[it.form(form) for _, form in forms] for _ in range(it.leb())])
+    same("the place of a line program", begins, it.at)
+    state = start = (0, 1, 1)
+    while it.at < end:
+        (address, file, line), code = state, it.number(1)
+        if code >= first:
+            ahead, lines = divmod(code - first, span)
+            state = (address + step * ahead, file, line + base + lines)
+            yield state
+        elif code == 0:
+            size, kind = it.leb(), it.number(1)
+            if kind == 1:
+                yield address
+                state = start
+            elif kind == 2:
+                state = (it.number(size - 1), file, line)
+        elif code == 1:
+            yield state
+        elif code == 2:
+            state = (address + step * it.leb(), file, line)
+        elif code == 3:
+            state = (address, file, line + it.leb(True))
+        elif code == 4:
+            state = (address, it.leb(), line)
+        elif code == 8:
+            state = (address + step * ((255 - first) // span), file, line)
+        elif code == 9:
+            state = (address + it.number(2), file, line)
+        else:
+            raise Failed(f"the opcode {code}, with {lengths[code - 1]} operands, in a line program")
+
+
+def attributes(held):
+    """The attributes of the entries that .debug_abbrev describes, by their codes, with their forms."""
+    it, found = Reader(held), {}
+    while code := it.leb():
+        it.leb(), it.number(1)
+        found[code] = []
+        while (pair := (it.leb(), it.leb())) != (0, 0):
+            found[code].append(pair)
+    return found
+
+
+def entries(found):
+    """The places of the units of .debug_info, with the attributes of their one entry."""
+    it, known = Reader(found[".debug_info"][1]), attributes(found[".debug_abbrev"][1])
+    while it.at < len(it.held):
+        place = it.at
+        end = it.unit()
+        same("the head of a unit", (5, 1, 8, 0), (it.number(2), it.number(1), it.number(1), it.number(4)))
+        yield place, {name: it.form(form) for name, form in known[it.leb()]}
+        same("the end of a unit", end, it.at)
+
+
+def ranges(found):
+    """The unit, the start and the size of each set of .debug_aranges."""
+    it = Reader(found[".debug_aranges"][1])
+    while it.at < len(it.held):
+        place = it.at
+        end = it.unit()
+        version, unit, sizes = it.number(2), it.number(4), (it.number(1), it.number(1))
+        same("the head of a set of addresses", (2, (8, 0)), (version, sizes))
+        it.at += -(it.at - place) % 16
+        pair = (it.number(8), it.number(8))
+        same("the end of a set of addresses", (0, 0, end), (it.number(8), it.number(8), it.at))
+        yield unit, *pair
+
+
+def code_of(rows, text, number):
+    """The rows of code of a source, as entries of a line table."""
+    rows = [it for it in rows if it[0] == number and it[5] and text[0] <= it[3] and it[3] + it[4] <= text[1]]
+    for row, behind in zip(rows, [*rows[1:], None]):
+        yield (row[3], 1, row[1])
+        if behind is None or behind[3] != row[3] + row[4]:
+            yield row[3] + row[4]
+
+
+def told(folder, text, names):
+    """What is to be found: addresses of regions, globals, and the path, the code and its extent of each source."""
+    lines = [it.split() for it in text.splitlines()]
+    region = {it[0]: (int(it[1], 16), int(it[2], 16)) for it in lines if it[0] in ("text", "rodata", "data", "bss")}
+    rows = [(*map(int, it[1:4]), int(it[4], 16), *map(int, it[5:])) for it in lines if it[0] == "row"]
+    codes = [(name, list(code_of(rows, region["text"], number))) for number, name in enumerate(names, 1)]
+    units = []
+    for name, code in codes:
+        if code:
+            start = min(it[0] for it in code if isinstance(it, tuple))
+            end = max(it for it in code if not isinstance(it, tuple))
+            units.append(((name.encode(), str(folder).encode(), start, end - start), code))
+    return region, [(it[1], int(it[2], 16)) for it in lines if it[0] == "global"], units
+
+
+def call(folder, words):
+    """What a call of rv says where it is refused."""
+    process = subprocess.run([RV, *words], cwd=folder, capture_output=True, timeout=SECONDS)
+    return process.stderr.decode("utf8", "replace") if process.returncode else None
+
+
+def compare(folder, words):
+    """Compares what one build makes without the option and with it, and reads what is added."""
+    skipped = ("-o", "--map")
+    given = [it for at, it in enumerate(words) if it not in (*skipped, OPTION) and words[at - 1] not in skipped]
+    results = [
+        call(folder, [given[0], "-o", it, "--map", f"{it}.map", *option, *given[1:]])
+        for it, option in (("plain", []), ("known", [OPTION]))
+    ]
+    # (a line of usage repeats the words of the call)
+    same("what is refused", *(it and it.replace(f" {OPTION} ", " ") for it in results))
+    if results[0]:
+        return
+    plain, known = ((folder / it).read_bytes() for it in ("plain", "known"))
+    text, other = ((folder / f"{it}.map").read_text() for it in ("plain", "known"))
+    same("the map", text, other)
+    loaded = lambda it: it[:40] + it[48:58] + it[64:]
+    same("the executable in front", loaded(plain), loaded(known[: len(plain)]))
+    found = sections(known)
+    names = [it for it in given[1:] if (folder / it).exists() and not it.startswith("-")]
+    region, wanted, units = told(folder, text, names)
+    same("regions", region, {it[1:]: (h[3], h[3] + h[5]) for it, (h, _) in found.items() if it[1:] in region})
+    for it, (header, body) in found.items():
+        at = header[3] - region["text"][0] + 0x1000
+        if it in (".text", ".rodata", ".data") and body:
+            same(f"the bytes of {it}", plain[at : at + len(body)], body)
+    same("symbols", wanted, list(symbols(found)))
+    heads, lines = [*entries(found)], found[".debug_line"][1]
+    known = [tuple(it[name] for name in (NAME, COMP_DIR, LOW_PC, HIGH_PC)) for _, it in heads]
+    same("units", [it for it, _ in units], known)
+    same("line tables", [code for _, code in units], [list(table(lines, it[STMT_LIST])) for _, it in heads])
+    same("addresses", [(at, it[LOW_PC], it[HIGH_PC]) for at, it in heads], list(ranges(found)))
+
+
+def run(case):
+    """How many builds of a case were compared, and what is wrong."""
+    name, files, head = case
+    count = 0
+    with tempfile.TemporaryDirectory() as folder:
+        folder = Path(folder).resolve()
+        for file, held in files.items():
+            (folder / file).write_bytes(held)
+        try:
+            for words, _ in calls(files, head):
+                if words[:1] == ["build"] and "-o" in words:
+                    compare(folder, words)
+                    count += 1
+                call(folder, words)
+        except (Failed, OSError, ValueError, KeyError, struct.error, subprocess.TimeoutExpired) as why:
+            return count, f"{name}: {why!r}"
+    return count, None
+
+
+def main(names):
+    if not RV.exists():
+        sys.exit("no ./rv: run make first")
+    with ThreadPoolExecutor(len(os.sched_getaffinity(0))) as pool:
+        results = list(pool.map(run, cases(names)))
+    for _, wrong in results:
+        if wrong:
+            print(wrong)
+    failed = sum(wrong is not None for _, wrong in results)
+    print(f"{sum(count for count, _ in results)} builds with {OPTION} and without")
+    print(f"{len(results) - failed} passed, {failed} failed")
+    return 1 if failed or not results else 0
+
+
+if __name__ == "__main__":
+    sys.exit(main(sys.argv[1:]))
