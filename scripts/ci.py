@@ -1,17 +1,22 @@
 #!/usr/bin/env python3
 """The kit's own `rt ci`, at its full strength, where a repository has many crates.
 
+usage: ci.py
+       ci.py must-fail [CRATE ..]    (the edits alone, as `rt must-fail`)
+
 `rt ci` asks before and after each crate for its stamp, a sum of its files and of the stamps below it, and makes it
 anew for each way that leads down to a crate: of these there are 800,000 below the program, which takes an hour of one
 processor. Here each stamp is made once (kit.py). It also plans on nearly twice the memory that these crates take, so
 that half the processors would be idle: here it gets as many lanes as there are processors and 5 GB of memory for
-each, unless RT_JOBS says how many. With a kit that kit.py does not know it is `rt ci` as it stands.
+each, unless RT_JOBS says how many. And it tries edits by the functions that they change (edits.py). With a kit that
+kit.py does not know it is `rt ci` as it stands.
 """
 
 import os
 import subprocess
 import sys
 
+import edits
 import kit
 
 EACH = 5_000_000_000
@@ -25,5 +30,6 @@ def lanes():
 
 if __name__ == "__main__":
     os.environ.setdefault("RT_JOBS", str(lanes()))
+    words = sys.argv[1:] or ["ci"]
     is_known = kit.version() in kit.KNOWN
-    sys.exit(kit.run(["ci"]) if is_known else subprocess.run(["rt", "ci"]).returncode)
+    sys.exit(kit.run(words, edits.try_by_function) if is_known else subprocess.run(["rt", *words]).returncode)

@@ -18,6 +18,6 @@ lint() {
 
 lint black --check --quiet --diff scripts tests bench examples
 lint flake8 scripts tests bench
-lint shellcheck scripts/*.sh .ci/run
-lint shfmt -i 2 -ci -d scripts/*.sh .ci/run
+lint shellcheck scripts/*.sh examples/*/*.sh .ci/run
+lint shfmt -i 2 -ci -d scripts/*.sh examples/*/*.sh .ci/run
 exit $failed

@@ -24,6 +24,7 @@ OF_PROGRAMS = [
     ["tests/run.py"],
     ["tests/agreeing.py"],
     ["tests/collected.py"],
+    ["tests/debugged.py"],
     ["tests/damaged.py", "--all"],
     ["tests/explained.py"],
     ["tests/documents.py"],
@@ -32,6 +33,7 @@ OF_PROGRAMS = [
     ["tests/terminal.py"],
     ["tests/streams.py"],
     ["tests/editors.py"],
+    ["tests/gdb.py"],
     ["tests/making.py"],
     ["tests/refused.py"],
 ]

@@ -29,7 +29,7 @@ TYPE = re.compile(r"(?:pub(?:\(crate\))? )?(struct|enum|trait|const|type) (\w+)"
 FUNCTION = re.compile(r"( *)(?:pub(?:\(crate\))? )?(?:const )?fn (\w+)")
 CLAUSE = re.compile(rf"\s*(?:requires|ensures ({WORD} )?)")
 CITED = re.compile(r"(?:\(|: (?=RISC-V|System V))((?:[^()]|\([^()]*\))*?)(?:\)|\.(?= |$))")
-NAMES = r"gABI=gABI|System psABI=psABI ISA=\bISA\b APM=Programmer's as=GNU.as ld=GNU.ld"
+NAMES = r"gABI=gABI ar=V,?..ar\b|GNU.ar\b psABI=psABI ISA=\bISA\b APM=Programmer's as=GNU.as ld=GNU.ld DWARF=DWARF"
 STANDARDS = dict(pair.split("=") for pair in f"{NAMES} Intel=Intel, Motorola=Motorola, IEEE=IEEE ECMA=ECMA".split())
 SAFETY = 0
 HOME, TYPES, FUNCTIONS, MODULES = {}, defaultdict(list), defaultdict(list), {}
@@ -41,7 +41,7 @@ prints each definition with its sections of standards and the claims that rest o
 enum, is under `specs.declared`. `scripts/trusted.py` makes this page.
 
 Standards: RISC-V Unprivileged ISA 20191213, RISC-V ELF psABI, Assembly Programmer's Manual (APM), System V gABI,
-GNU as, GNU ld.
+GNU as, GNU ar (System V "ar"), GNU ld, DWARF 5.
 """
 
 
@@ -226,7 +226,7 @@ def page(files):
         if file.folder == "specs":
             standards = ",".join(name for name, words in STANDARDS.items() if re.search(words, cited(file.head)))
             link = f"[{file.path.stem}](../{file.path.relative_to(TOP)})"
-            crates[file.crate].append(f"{link} {standards}".strip())
+            crates[file.crate].append(link + (f"<sup>{standards}</sup>" if standards else ""))
     return INTRODUCTION + "".join(f"\n**{crate}**\n" + ";\n".join(lines) + "\n" for crate, lines in crates.items())
 
 
