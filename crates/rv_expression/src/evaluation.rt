@@ -54,7 +54,7 @@ pub enum SymbolMeaning {
 }
 
 /// The value of an expression.
-#[derive(Clone, Copy, PartialEq, Eq, Drop)]
+#[derive(Clone, Copy, Drop)]
 pub enum Value<'a> {
     /// A number, modulo 2^64.
     Constant(u64),

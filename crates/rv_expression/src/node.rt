@@ -9,7 +9,7 @@ use rv_lexer::NumericReference;
 use std::alloc::AllocError;
 
 /// What an expression may refer to. Texts are parts of the source.
-#[derive(Clone, Copy, PartialEq, Eq, Drop)]
+#[derive(Clone, Copy, Drop)]
 pub enum Symbol<'a> {
     /// A name.
     Name(&'a [u8]),

@@ -1,7 +1,7 @@
 //! Punctuation and operators.
 
 /// Punctuation, an operator, or a sign that the language spells but leaves out.
-#[derive(Clone, Copy, PartialEq, Eq, Drop)]
+#[derive(Clone, Copy, Drop)]
 pub enum Punct {
     /// `,`
     Comma,

@@ -12,7 +12,7 @@ use crate::operation::{
 use crate::register::Reg;
 
 /// Register format (R-type): `rd, rs1, rs2`.
-#[derive(Clone, Copy, Debug, PartialEq, Eq, Drop)]
+#[derive(Clone, Copy, PartialEq, Eq, Drop)]
 pub struct RType {
     pub rd: Reg,
     pub rs1: Reg,
@@ -20,7 +20,7 @@ pub struct RType {
 }
 
 /// Immediate format (I-type): arithmetic, loads and `jalr`.
-#[derive(Clone, Copy, Debug, PartialEq, Eq, Drop)]
+#[derive(Clone, Copy, PartialEq, Eq, Drop)]
 pub struct IType {
     /// -2048 to 2047.
     pub immediate: i32,
@@ -29,7 +29,7 @@ pub struct IType {
 }
 
 /// Shift by a constant: the I-type with a shift amount in place of its immediate.
-#[derive(Clone, Copy, Debug, PartialEq, Eq, Drop)]
+#[derive(Clone, Copy, PartialEq, Eq, Drop)]
 pub struct Shift {
     pub rd: Reg,
     pub rs1: Reg,
@@ -38,7 +38,7 @@ pub struct Shift {
 }
 
 /// Store format (S-type): `rs2, immediate(rs1)`.
-#[derive(Clone, Copy, Debug, PartialEq, Eq, Drop)]
+#[derive(Clone, Copy, PartialEq, Eq, Drop)]
 pub struct SType {
     /// -2048 to 2047.
     pub immediate: i32,
@@ -47,7 +47,7 @@ pub struct SType {
 }
 
 /// Branch format (B-type): `rs1, rs2, offset`.
-#[derive(Clone, Copy, Debug, PartialEq, Eq, Drop)]
+#[derive(Clone, Copy, PartialEq, Eq, Drop)]
 pub struct BType {
     /// From the instruction's own address: even, -4096 to 4094.
     pub offset: i32,
@@ -56,7 +56,7 @@ pub struct BType {
 }
 
 /// Upper-immediate format (U-type): `lui` and `auipc`.
-#[derive(Clone, Copy, Debug, PartialEq, Eq, Drop)]
+#[derive(Clone, Copy, PartialEq, Eq, Drop)]
 pub struct UType {
     /// The upper 20 bits, 0 to 1048575.
     pub immediate: u32,
@@ -64,7 +64,7 @@ pub struct UType {
 }
 
 /// Jump format (J-type): `jal`.
-#[derive(Clone, Copy, Debug, PartialEq, Eq, Drop)]
+#[derive(Clone, Copy, PartialEq, Eq, Drop)]
 pub struct JType {
     /// From the instruction's own address: even, -1048576 to 1048574.
     pub offset: i32,
@@ -72,7 +72,7 @@ pub struct JType {
 }
 
 /// An atomic memory operation or store-conditional: `rd, rs2, (rs1)`.
-#[derive(Clone, Copy, Debug, PartialEq, Eq, Drop)]
+#[derive(Clone, Copy, PartialEq, Eq, Drop)]
 pub struct Atomic {
     pub rd: Reg,
     pub rs1: Reg,
@@ -84,7 +84,7 @@ pub struct Atomic {
 }
 
 /// A load-reserved: `rd, (rs1)`.
-#[derive(Clone, Copy, Debug, PartialEq, Eq, Drop)]
+#[derive(Clone, Copy, PartialEq, Eq, Drop)]
 pub struct Reserve {
     pub rd: Reg,
     pub rs1: Reg,
@@ -95,7 +95,7 @@ pub struct Reserve {
 }
 
 /// A memory-ordering fence, with every field that its word has.
-#[derive(Clone, Copy, Debug, PartialEq, Eq, Drop)]
+#[derive(Clone, Copy, PartialEq, Eq, Drop)]
 pub struct Fence {
     /// The fence mode, 0 to 15.
     pub fm: u8,
@@ -110,7 +110,7 @@ pub struct Fence {
 }
 
 /// An instruction of RV64IMA: its mnemonic and its operands.
-#[derive(Clone, Copy, Debug, PartialEq, Eq, Drop)]
+#[derive(Clone, Copy, PartialEq, Eq, Drop)]
 pub enum Inst {
     Lui(UType),
     Auipc(UType),

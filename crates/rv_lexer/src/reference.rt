@@ -8,7 +8,7 @@ ghost use Rattle.rv_expression_laws.specs.Front.{reference_in};
 use crate::word::is_digit;
 
 /// A reference to a numeric label, as `1b` and `01f`.
-#[derive(Clone, Copy, PartialEq, Eq, Drop)]
+#[derive(Clone, Copy, Drop)]
 pub struct NumericReference<'a> {
     /// The word as it is written.
     word: &'a [u8],

@@ -4,7 +4,7 @@ use crate::reference::NumericReference;
 use rv_expression_laws::Punct;
 
 /// What a token is. Texts are parts of the source.
-#[derive(Clone, Copy, PartialEq, Eq, Drop)]
+#[derive(Clone, Copy, Drop)]
 pub enum TokenKind<'a> {
     /// A line feed, which ends its line and its statement.
     Newline,

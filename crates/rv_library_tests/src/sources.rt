@@ -40,7 +40,10 @@ fn expressions(rt: HostRuntime) -> Result<(), Fail> {
     let alloc = rt.alloc();
     let mut lexer = Lexer::new(b"four * 2 + (. - 1b)");
     let expr = parse_expr(alloc, &mut lexer)?;
-    assert!(rt; eval(&expr, 1, &|name: &[u8]| meaning(name))? == Value::Constant(12));
+    let Value::Constant(number) = eval(&expr, 1, &|name: &[u8]| meaning(name))? else {
+        return Err(Fail::new("no number"));
+    };
+    assert_eq!(rt; number, 12);
     // the fault of a value has the line that is given
     let halves = parse_expr(alloc, &mut Lexer::new(b"1 / 0"))?;
     match eval(&halves, 7, &|name: &[u8]| meaning(name)) {

@@ -4,7 +4,7 @@ ghost use Rattle.std.specs.Prelude.{[]};
 ghost use Rattle.rv_paint.specs.Painting.{IsPainting};
 
 /// What a word of a listing is.
-#[derive(Clone, Copy, Debug, PartialEq, Eq, Drop)]
+#[derive(Clone, Copy, PartialEq, Eq, Drop)]
 pub(crate) enum Kind {
     /// Blanks, commas, comments, texts in quotes and other words.
     Plain,

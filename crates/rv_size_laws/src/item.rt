@@ -2,7 +2,7 @@
 
 /// The forms in which a statement can be written, shortest first. The conditional branches and `jal x0` of a label in
 /// another section, and those without compressed forms, have fewer.
-#[derive(Clone, Copy, PartialEq, Eq, Drop)]
+#[derive(Clone, Copy, Drop)]
 pub enum Forms {
     /// One form, of as many bytes as this at any distance.
     Settled(u32),
@@ -15,7 +15,7 @@ pub enum Forms {
 }
 
 /// A statement: its section, its forms, and for a branch or jump the statement to whose start it leads.
-#[derive(Clone, Copy, PartialEq, Eq, Drop)]
+#[derive(Clone, Copy, Drop)]
 pub struct Item {
     /// The constant that is added to the target, in bytes.
     pub addend: i64,

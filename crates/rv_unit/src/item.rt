@@ -3,7 +3,7 @@
 //! A source may have 4 million of them, so that a byte here is 4 MiB of memory.
 
 /// Where a statement stands in its section.
-#[derive(Clone, Copy, PartialEq, Eq, Drop)]
+#[derive(Clone, Copy, Drop)]
 pub struct Item {
     /// The index of its section in the source.
     pub section: u32,
