@@ -2,7 +2,7 @@
 
 A file has the day, the commit of the program, the processors of the machine, and rows. A row names its benchmark, what
 was measured, the tool, and figures by their names: seconds, bytes (of the source or the text), memory (bytes), rate
-(millions of instructions a second), exponent, ratio.
+(millions of instructions a second), programs (a second), exponent, ratio.
 """
 
 import datetime

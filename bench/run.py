@@ -1,16 +1,20 @@
 #!/usr/bin/env python3
 """Measures rv beside its peers, in one run on one machine: make bench.
 
-A benchmark is a function below. What it needs and can't find it names, and goes on. Each time is processor
+usage: run.py [NAME ..]     only these benchmarks; the tables of the others stay
+
+A benchmark is a function of BENCHMARKS. What it needs and can't find it names, and goes on. Each time is processor
 time, the least of three runs, with the start of the program. What is printed goes to bench/out/run.json as well.
 """
 
+import json
 import math
 import os
 import re
 import resource
 import shutil
 import subprocess
+import sys
 import tempfile
 import time
 from pathlib import Path
@@ -39,6 +43,10 @@ PROGRAMS = {
 }
 ARCHITECTURES = ("rv64ima", "rv64imac")
 STARTS = 50
+# Small programs, and how often each is run.
+SMALL = ("exit7", "number")
+CALLED = 200
+ANSWERED = 4000
 SOURCE_BYTES = 16 * 2**20
 STATEMENTS = 2**22
 SOURCES = 1000
@@ -170,6 +178,48 @@ def start(folder):
         least = min(least, time.perf_counter() - begun)
     print(f"Running {HELLO.name}: {least * 1000:.1f} ms")
     RESULTS.add("start", HELLO.name, "rv run", seconds=least)
+
+
+def watched(folder):
+    """Runs that are looked at: millions of instructions a second."""
+    if missing(GCC):
+        return
+    program = folder / "watched"
+    compile_for("rv64imac", HERE / "programs" / "dhrystone.c", program)
+    counted = subprocess.run([RV, "stats", "--json", program], input=b"40", capture_output=True).stderr
+    count = json.loads(counted)["instructions"]
+    print("Runs that are looked at: millions of instructions a second")
+    for words in ("run", "stats --lines", "trace -o /dev/null", "trace --events -o /dev/null"):
+        seconds, _ = best([RV, *words.split(), program], b"40")
+        print(f"rv {words:30}{count / seconds / 1e6:10.0f}")
+        RESULTS.add("watched", "dhrystone rv64imac", f"rv {words}", rate=count / seconds / 1e6)
+
+
+def calls(folder):
+    """Small programs, built and run: how many a second of a processor."""
+    print("Small programs: runs a second of a processor")
+    for name in SMALL:
+        source, program = HERE.parent / "examples" / f"{name}.s", folder / name
+        subprocess.run([RV, "build", "-o", program, source], check=True)
+        line = json.dumps({"sources": [source.read_text()]}) + "\n"
+        commands = {"rv batch": [RV, "batch"], "rv run, of the source": [RV, "run", source]}
+        commands["rv run, of the executable"] = [RV, "run", program]
+        if not missing("qemu-riscv64"):
+            commands["qemu-riscv64"] = ["qemu-riscv64", program]
+        for tool, words in commands.items():
+            times, given = (1, line.encode() * ANSWERED) if tool == "rv batch" else (CALLED, b"")
+            least = min(repeated(words, given, times) for _ in range(3))
+            rate = (ANSWERED if tool == "rv batch" else CALLED) / least
+            print(f"{name + '.s':12}{tool:28}{rate:10.0f}")
+            RESULTS.add("calls", f"{name}.s", tool, programs=rate)
+
+
+def repeated(words, given, times):
+    """The processor time of so many runs of a command."""
+    begun = spent()
+    for _ in range(times):
+        subprocess.run(words, input=given, capture_output=True)
+    return spent() - begun
 
 
 INSTRUCTIONS = (
@@ -562,12 +612,16 @@ def relaxation(folder):
             RESULTS.add("relaxation", kind, name, seconds=times, exponent=exponent, bytes=left[name])
 
 
-def main():
+BENCHMARKS = (hart, watched, calls, start, reading, compiler, many, objects, listings, statements, growth, relaxation)
+
+
+def main(names):
     RESULTS.begin(RV)
     with tempfile.TemporaryDirectory() as folder:
-        for benchmark in (hart, start, reading, compiler, many, objects, listings, statements, growth, relaxation):
-            benchmark(Path(folder))
+        for benchmark in BENCHMARKS:
+            if not names or benchmark.__name__ in names:
+                benchmark(Path(folder))
 
 
 if __name__ == "__main__":
-    main()
+    main(sys.argv[1:])

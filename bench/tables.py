@@ -63,13 +63,28 @@ def relaxation():
     return table(heads, rows)
 
 
-def running():
-    """Guests: millions of instructions a second."""
-    rows = [it for it in of("run", "hart") if "rate" in it]
+def by_tool(head, rows, figure):
+    """A table with a row for what was measured, and a column for each tool."""
     tools = [*dict.fromkeys(it["tool"] for it in rows)]
-    rates = {(it["what"], it["tool"]): f"{it['rate']:.0f}" for it in rows}
-    programs = [*dict.fromkeys(it["what"] for it in rows)]
-    return table(["Program", *tools], [[program, *(rates[program, tool] for tool in tools)] for program in programs])
+    figures = {(it["what"], it["tool"]): f"{it[figure]:,.0f}" for it in rows}
+    whats = [*dict.fromkeys(it["what"] for it in rows)]
+    return table([head, *tools], [[what, *(figures.get((what, tool), "") for tool in tools)] for what in whats])
+
+
+def running():
+    """Guests: millions of instructions a second, the mean of all programs."""
+    means = [it for it in of("run", "hart") if "rate" in it and it["what"].startswith("mean")]
+    return by_tool("Millions of instructions a second", means, "rate")
+
+
+def watched():
+    """Guests that are looked at: millions of instructions a second."""
+    return by_tool("Millions of instructions a second", of("run", "watched"), "rate")
+
+
+def calls():
+    """Small programs: runs a second."""
+    return by_tool("Runs a second", of("run", "calls"), "programs")
 
 
 def growth():
@@ -87,6 +102,8 @@ TABLES = {
     "building": (building, "run"),
     "relaxation": (relaxation, "run"),
     "running": (running, "run"),
+    "watched": (watched, "run"),
+    "calls": (calls, "run"),
     "growth": (growth, "growth"),
 }
 
@@ -115,8 +132,8 @@ def main():
         if sys.argv[1:] != ["--write"]:
             print(f"{name}\n\n{text}\n")
             continue
-        place = re.compile(rf"(?s)(<!-- table {name} -->\n).*?(\n<!-- end -->)")
-        page, count = place.subn(lambda found: f"{found[1]}{text}{found[2]}", page)
+        place = re.compile(rf"(?s)(<!-- table {name} -->\n).*?(<!-- end -->)")
+        page, count = place.subn(lambda found: f"{found[1]}{text}\n{found[2]}", page)
         if not count:
             print(f"RESULTS.md has no place for the table {name}")
     if sys.argv[1:] == ["--write"]:
