@@ -3,12 +3,16 @@
 //! A job writes no file before all that it writes is made.
 
 use crate::debugging::debugged;
+use crate::files::assembled_files;
+use crate::linking::link_inputs;
 use crate::loading::{given_sources, is_elf};
 use crate::padding::Inputs;
 use crate::refusing::{is_explained, program_image, refused_sources};
 use rv_chain::{Built, Fault, LinkOptions, assemble_object, build, build_exe};
 use rv_guests::{GuestInput, Guests, report_end, run_line};
-use rv_job::{Asked, default_options};
+use rv_job::{
+    Asked, AskedBuild, AskedMap, AskedObject, LinkOutputs, LinkSettings, default_options,
+};
 use rv_machine::End;
 use rv_system::{JobError, Purpose, System, borrowed, file_bytes, given_bytes, print, write};
 use std::alloc::{AllocError, Global};
@@ -94,47 +98,58 @@ fn executable<S: System>(
     }
 }
 
-/// Builds sources: writes the executable, with names and lines for debuggers where these are wanted, and the map where a
-/// file is named for it; the exit status.
+/// Builds sources, with the members that they ask for of the archives behind them, and writes what is asked for of it; the
+/// exit status.
 #[inline(never)]
-pub fn build_files<S: System>(
+pub fn build_files<S: System>(system: &mut S, asked: &AskedBuild<'_>) -> Result<u8, JobError> {
+    if !asked.libraries.words.is_empty() {
+        let files = assembled_files(system, asked)?;
+        return link_inputs(system, asked.outputs, asked.settings, files.as_slice());
+    }
+    let alloc: Global = system.alloc();
+    let inputs = Inputs::of(alloc, asked.sources.as_slice(), asked.settings.pads_ends)?;
+    build_inputs(system, asked.outputs, asked.settings, &inputs)
+}
+
+/// Builds sources and writes what is asked for of it; the exit status.
+fn build_inputs<S: System>(
     system: &mut S,
-    exe: &str,
-    map: Option<&str>,
-    debug: bool,
+    outputs: LinkOutputs<'_>,
+    settings: LinkSettings,
     inputs: &Inputs<'_>,
-    options: LinkOptions,
-    explains: bool,
 ) -> Result<u8, JobError> {
-    if debug {
-        let built = build_with_map(system, inputs, options, explains)?;
-        let debugged = debugged(system, exe, inputs.names(), built)?;
-        return write_built(system, exe, map, &debugged);
+    if outputs.debug || outputs.map.is_some() {
+        let built = build_with_map(system, inputs, settings)?;
+        return write_outputs(system, outputs, inputs.names(), built);
     }
-    if map.is_some() {
-        let built = build_with_map(system, inputs, options, explains)?;
-        return write_built(system, exe, map, &built);
-    }
+    let exe = build_without_map(system, inputs, settings)?;
+    write(system, outputs.exe, Purpose::ToRun, exe.as_slice())?;
+    Ok(0)
+}
+
+/// Reads the sources in their order and builds them: the executable.
+fn build_without_map<S: System>(
+    system: &mut S,
+    inputs: &Inputs<'_>,
+    settings: LinkSettings,
+) -> Result<Vec<u8>, JobError> {
     let alloc: Global = system.alloc();
     let read = inputs.sources(system)?;
     let sources = borrowed(alloc, read.as_slice())?;
-    let built = executable(
+    executable(
         system,
         inputs.names(),
         sources.as_slice(),
-        options,
-        explains,
-    )?;
-    write(system, exe, Purpose::ToRun, built.as_slice())?;
-    Ok(0)
+        settings.options,
+        settings.explains,
+    )
 }
 
 /// Reads the sources in their order and builds them: the executable and its map.
 fn build_with_map<S: System>(
     system: &mut S,
     inputs: &Inputs<'_>,
-    options: LinkOptions,
-    explains: bool,
+    settings: LinkSettings,
 ) -> Result<Built, JobError> {
     let alloc: Global = system.alloc();
     let read = inputs.sources(system)?;
@@ -143,8 +158,8 @@ fn build_with_map<S: System>(
         system,
         inputs.names(),
         sources.as_slice(),
-        options,
-        explains,
+        settings.options,
+        settings.explains,
     )
 }
 
@@ -164,28 +179,19 @@ pub(crate) fn built<S: System>(
 
 /// Prints the map of what sources build; the exit status.
 #[inline(never)]
-pub fn print_map<S: System>(
-    system: &mut S,
-    inputs: &Inputs<'_>,
-    options: LinkOptions,
-    explains: bool,
-) -> Result<u8, JobError> {
-    let built = build_with_map(system, inputs, options, explains)?;
+pub fn print_map<S: System>(system: &mut S, asked: &AskedMap<'_>) -> Result<u8, JobError> {
+    let alloc: Global = system.alloc();
+    let inputs = Inputs::of(alloc, asked.sources.as_slice(), asked.settings.pads_ends)?;
+    let built = build_with_map(system, &inputs, asked.settings)?;
     print(system, built.map.as_slice())?;
     Ok(0)
 }
 
 /// Reads a source, assembles it, and writes its object; the exit status.
 #[inline(never)]
-pub fn assemble<S: System>(
-    system: &mut S,
-    object: &str,
-    source: &str,
-    relax: bool,
-    explains: bool,
-) -> Result<u8, JobError> {
-    let file = assembled(system, source, relax, explains)?;
-    write(system, object, Purpose::ToRead, file.as_slice())?;
+pub fn assemble<S: System>(system: &mut S, asked: &AskedObject<'_>) -> Result<u8, JobError> {
+    let file = assembled(system, asked.source, asked.relax, asked.explains)?;
+    write(system, asked.object, Purpose::ToRead, file.as_slice())?;
     Ok(0)
 }
 
@@ -229,15 +235,21 @@ fn without_relaxation(alloc: Global, text: &[u8]) -> Result<Vec<u8>, AllocError>
     Ok(option)
 }
 
-/// Writes an executable, and then its map where a file is named for it; the exit status.
-pub(crate) fn write_built<S: System>(
+/// Writes what was made of files with these names: the executable, with names and lines for debuggers where these are
+/// wanted, and then the map where a file is named for it; the exit status.
+pub(crate) fn write_outputs<S: System>(
     system: &mut S,
-    exe: &str,
-    map: Option<&str>,
-    built: &Built,
+    outputs: LinkOutputs<'_>,
+    names: &[&str],
+    built: Built,
 ) -> Result<u8, JobError> {
-    write(system, exe, Purpose::ToRun, built.exe.as_slice())?;
-    if let Some(map) = map {
+    let built = if outputs.debug {
+        debugged(system, outputs.exe, names, built)?
+    } else {
+        built
+    };
+    write(system, outputs.exe, Purpose::ToRun, built.exe.as_slice())?;
+    if let Some(map) = outputs.map {
         write(system, map, Purpose::ToRead, built.map.as_slice())?;
     }
     Ok(0)

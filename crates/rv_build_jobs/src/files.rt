@@ -3,13 +3,13 @@
 use crate::building::assembled;
 use crate::padding;
 use rv_inputs::Form;
-use rv_job::{LinkWord, LinkWords};
-use rv_system::{JobError, ReadFault, System, cannot, file_bytes};
+use rv_job::{AskedBuild, LinkInput, LinkWord, LinkWords};
+use rv_system::{JobError, ReadFault, System, file_bytes};
 use std::alloc::{AllocError, Global};
 
 /// A file of a link.
 #[derive(Drop)]
-pub struct LinkFile {
+pub(crate) struct LinkFile {
     /// Its name, as messages show it.
     pub(crate) name: String,
     /// Its bytes.
@@ -51,7 +51,7 @@ impl Standing {
 }
 
 /// Reads the files that words name, in their order, with the padding behind them where it is wanted.
-pub fn linked_files<S: System>(
+pub(crate) fn linked_files<S: System>(
     system: &mut S,
     words: &LinkWords<'_>,
     padded: bool,
@@ -62,22 +62,19 @@ pub fn linked_files<S: System>(
     Ok(files)
 }
 
-/// Reads sources and assembles them; their objects, the files that words name behind them, and the padding where it is wanted.
-pub fn assembled_files<S: System>(
+/// Reads sources and assembles them: their objects, the archives behind them, and the padding where it is wanted.
+pub(crate) fn assembled_files<S: System>(
     system: &mut S,
-    sources: &[&str],
-    words: &LinkWords<'_>,
-    padded: bool,
-    explains: bool,
+    asked: &AskedBuild<'_>,
 ) -> Result<Vec<LinkFile>, JobError> {
     let alloc: Global = system.alloc();
     let mut files = Vec::new(alloc);
-    for source in sources {
-        let object = assembled(system, source, true, explains)?;
+    for source in &asked.sources {
+        let object = assembled(system, source, true, asked.settings.explains)?;
         files.push(LinkFile::object(alloc, source, object)?)?;
     }
-    put_words(system, words, &mut files)?;
-    put_padding(system, padded, &mut files)?;
+    put_words(system, &asked.libraries, &mut files)?;
+    put_padding(system, asked.settings.pads_ends, &mut files)?;
     Ok(files)
 }
 
@@ -92,8 +89,8 @@ fn put_words<S: System>(
         match word {
             LinkWord::StartGroup => standing = Standing::First,
             LinkWord::EndGroup => standing = Standing::Alone,
-            _ => {
-                let mut file = file_of(system, *word, words.folders.as_slice())?;
+            LinkWord::Input(input) => {
+                let mut file = file_of(system, *input, words.folders.as_slice())?;
                 file.joins = matches!(standing, Standing::Behind);
                 files.push(file)?;
                 standing = standing.next();
@@ -117,24 +114,23 @@ fn put_padding<S: System>(
     Ok(())
 }
 
-/// Reads the file of a word; a group has none.
+/// Reads the file that a link takes.
 fn file_of<S: System>(
     system: &mut S,
-    word: LinkWord<'_>,
+    input: LinkInput<'_>,
     folders: &[&str],
 ) -> Result<LinkFile, JobError> {
     let alloc: Global = system.alloc();
-    match word {
-        LinkWord::File(name) => {
+    match input {
+        LinkInput::Object(name) => {
             let bytes = file_bytes(system, name)?;
             Ok(LinkFile::object(alloc, name, bytes)?)
         }
-        LinkWord::Library(name) => {
+        LinkInput::Archive(name) => {
             let bytes = file_bytes(system, name)?;
             archive(String::from_str(alloc, name)?, bytes)
         }
-        LinkWord::Named(name) => named_archive(system, name, folders),
-        _ => Err(cannot(alloc, "read", "")?),
+        LinkInput::Named(name) => named_archive(system, name, folders),
     }
 }
 

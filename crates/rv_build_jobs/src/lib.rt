@@ -7,8 +7,9 @@
 //!
 //! ```text
 //! // rv build -o a a.s
-//! let inputs = Inputs::of(alloc, &["a.s"], false)?;
-//! let status = build_files(system, "a", None, false, &inputs, default_options(), false)?;
+//! if let Job::Build(asked) = &job {
+//!     let status = build_files(system, asked)?;
+//! }
 //! ```
 #![tactic(auto)]
 
@@ -23,7 +24,5 @@ mod rows;
 mod taking;
 
 pub use building::{assemble, build_files, print_map, run};
-pub use files::{LinkFile, assembled_files, linked_files};
 pub use linking::link_files;
 pub use loading::load_program;
-pub use padding::Inputs;

@@ -1,71 +1,95 @@
 //! Links objects, and the members of archives that they ask for.
 
-use crate::building::write_built;
-use crate::debugging::debugged;
-use crate::files::LinkFile;
+use crate::building::write_outputs;
+use crate::files::{LinkFile, linked_files};
 use crate::refusing::refused_objects;
 use crate::rows::warn_of_rows;
 use crate::taking::{bytes_of, names_of, objects_of};
-use rv_chain::{Built, LinkOptions, link_objects, link_objects_exe};
+use rv_chain::{link_objects, link_objects_exe};
+use rv_job::{AskedLink, LinkOutputs, LinkSettings};
 use rv_system::{JobError, Purpose, System, write};
 use std::alloc::Global;
 
-/// Links the files: writes the executable, with names and lines for debuggers where these are wanted, and the map where a
-/// file is named for it; the exit status.
+/// Links files and writes what is asked for of it; the exit status.
 #[inline(never)]
-pub fn link_files<S: System>(
-    system: &mut S,
-    exe: &str,
-    map: Option<&str>,
-    debug: bool,
-    files: &[LinkFile],
-    options: LinkOptions,
-    explains: bool,
-) -> Result<u8, JobError> {
-    let alloc: Global = system.alloc();
-    let taken = objects_of(system, files, explains)?;
-    let names = names_of(alloc, taken.as_slice())?;
-    let objects = bytes_of(alloc, taken.as_slice())?;
-    let refused = if debug || map.is_some() {
-        match link_objects(alloc, objects.as_slice(), options) {
-            Ok(built) => {
-                warn_of_rows(system, names.as_slice(), built.map.as_slice())?;
-                return write_linked(system, exe, map, debug, names.as_slice(), built);
-            }
-            Err(fault) => fault,
-        }
-    } else {
-        match link_objects_exe(alloc, objects.as_slice(), options) {
-            Ok(built) => {
-                write(system, exe, Purpose::ToRun, built.as_slice())?;
-                return Ok(0);
-            }
-            Err(fault) => fault,
-        }
-    };
-    Err(refused_objects(
-        system,
-        &refused,
-        names.as_slice(),
-        objects.as_slice(),
-        options,
-        explains,
-    )?)
+pub fn link_files<S: System>(system: &mut S, asked: &AskedLink<'_>) -> Result<u8, JobError> {
+    let files = linked_files(system, &asked.files, asked.settings.pads_ends)?;
+    link_inputs(system, asked.outputs, asked.settings, files.as_slice())
 }
 
-/// Writes what was linked of objects with these names, with names and lines for debuggers where these are wanted; the exit
-/// status.
-fn write_linked<S: System>(
+/// Links what is taken of files and writes what is asked for of it; the exit status.
+pub(crate) fn link_inputs<S: System>(
+    system: &mut S,
+    outputs: LinkOutputs<'_>,
+    settings: LinkSettings,
+    files: &[LinkFile],
+) -> Result<u8, JobError> {
+    let alloc: Global = system.alloc();
+    let taken = objects_of(system, files, settings.explains)?;
+    let names = names_of(alloc, taken.as_slice())?;
+    let objects = bytes_of(alloc, taken.as_slice())?;
+    if outputs.debug || outputs.map.is_some() {
+        return link_with_map(
+            system,
+            outputs,
+            settings,
+            names.as_slice(),
+            objects.as_slice(),
+        );
+    }
+    link_without_map(
+        system,
+        outputs.exe,
+        settings,
+        names.as_slice(),
+        objects.as_slice(),
+    )
+}
+
+/// Links objects and writes the executable; the exit status.
+fn link_without_map<S: System>(
     system: &mut S,
     exe: &str,
-    map: Option<&str>,
-    debug: bool,
+    settings: LinkSettings,
     names: &[&str],
-    built: Built,
+    objects: &[&[u8]],
 ) -> Result<u8, JobError> {
-    if debug {
-        let debugged = debugged(system, exe, names, built)?;
-        return write_built(system, exe, map, &debugged);
+    match link_objects_exe(system.alloc(), objects, settings.options) {
+        Ok(built) => {
+            write(system, exe, Purpose::ToRun, built.as_slice())?;
+            Ok(0)
+        }
+        Err(fault) => Err(refused_objects(
+            system,
+            &fault,
+            names,
+            objects,
+            settings.options,
+            settings.explains,
+        )?),
     }
-    write_built(system, exe, map, &built)
+}
+
+/// Links objects and writes what is asked for of it; the exit status.
+fn link_with_map<S: System>(
+    system: &mut S,
+    outputs: LinkOutputs<'_>,
+    settings: LinkSettings,
+    names: &[&str],
+    objects: &[&[u8]],
+) -> Result<u8, JobError> {
+    match link_objects(system.alloc(), objects, settings.options) {
+        Ok(built) => {
+            warn_of_rows(system, names, built.map.as_slice())?;
+            write_outputs(system, outputs, names, built)
+        }
+        Err(fault) => Err(refused_objects(
+            system,
+            &fault,
+            names,
+            objects,
+            settings.options,
+            settings.explains,
+        )?),
+    }
 }

@@ -22,7 +22,7 @@ const SOURCE: &[u8] = b".section .rodata
 
 /// The sources of a build, in their order.
 #[derive(Drop)]
-pub struct Inputs<'a> {
+pub(crate) struct Inputs<'a> {
     /// Those that the words name.
     files: &'a [&'a str],
     /// The names of all, as messages show them.
@@ -33,7 +33,11 @@ pub struct Inputs<'a> {
 
 impl<'a> Inputs<'a> {
     /// These files, and the padding behind them where it is wanted.
-    pub fn of(alloc: Global, files: &'a [&'a str], padded: bool) -> Result<Self, AllocError> {
+    pub(crate) fn of(
+        alloc: Global,
+        files: &'a [&'a str],
+        padded: bool,
+    ) -> Result<Self, AllocError> {
         let mut names = Vec::from_slice(alloc, files)?;
         if padded {
             names.push(NAME)?;

@@ -5,7 +5,9 @@ use crate::links::link_words;
 use crate::numbers::number;
 use crate::operands::{Flag, Operands, Refusal, Text, Texts};
 use crate::words::Help;
-use rv_job::{Job, TEXT_START};
+use rv_job::{
+    AskedBuild, AskedLink, AskedMap, AskedObject, Job, LinkOutputs, LinkSettings, TEXT_START,
+};
 use rv_link::LinkOptions;
 use rv_numbers::text_start;
 use std::alloc::{AllocError, Global};
@@ -22,17 +24,12 @@ pub(crate) fn build<'a>(operands: &mut Operands<'_, 'a>) -> Result<Job<'a>, Refu
     let map = operands.optional(written_map())?;
     let names_lines = "Adds names and lines for debuggers";
     let debug = operands.flag(Flag::letter("debug", 'g', names_lines))?;
-    let options = link_options(operands)?;
-    Ok(Job::Build {
-        exe,
-        map,
-        debug,
-        options,
-        pads_ends: pad_ends(operands, options)?,
-        explains: operands.flag(explain())?,
+    Ok(Job::Build(AskedBuild {
+        outputs: LinkOutputs { exe, map, debug },
+        settings: link_settings(operands)?,
         sources: operands.all(sources())?,
         libraries: link_words(operands, None)?,
-    })
+    }))
 }
 
 pub(crate) const LINK: Help = Help {
@@ -47,15 +44,12 @@ pub(crate) fn link<'a>(operands: &mut Operands<'_, 'a>) -> Result<Job<'a>, Refus
     let files = Texts::alone("OBJ", "The objects, in the order of their sections");
     let exe = operands.required(executable())?;
     let map = operands.optional(written_map())?;
-    let options = link_options(operands)?;
-    Ok(Job::Link {
-        exe,
-        map,
-        options,
-        pads_ends: pad_ends(operands, options)?,
-        explains: operands.flag(explain())?,
+    let debug = false;
+    Ok(Job::Link(AskedLink {
+        outputs: LinkOutputs { exe, map, debug },
+        settings: link_settings(operands)?,
         files: link_words(operands, Some(files))?,
-    })
+    }))
 }
 
 pub(crate) const MAP: Help = Help {
@@ -66,13 +60,10 @@ pub(crate) const MAP: Help = Help {
 };
 
 pub(crate) fn map<'a>(operands: &mut Operands<'_, 'a>) -> Result<Job<'a>, Refusal> {
-    let options = link_options(operands)?;
-    Ok(Job::Map {
-        options,
-        pads_ends: pad_ends(operands, options)?,
-        explains: operands.flag(explain())?,
+    Ok(Job::Map(AskedMap {
+        settings: link_settings(operands)?,
         sources: operands.all(sources())?,
-    })
+    }))
 }
 
 fn executable() -> Text {
@@ -92,6 +83,16 @@ pub(crate) fn explain() -> Flag {
 /// The sources of a word that takes several.
 pub(crate) fn sources() -> Texts {
     Texts::alone("SRC", "The sources, in the order of their sections")
+}
+
+/// How a link is made.
+fn link_settings(operands: &mut Operands<'_, '_>) -> Result<LinkSettings, Refusal> {
+    let options = link_options(operands)?;
+    Ok(LinkSettings {
+        options,
+        pads_ends: pad_ends(operands, options)?,
+        explains: operands.flag(explain())?,
+    })
 }
 
 /// Whether the ends of regions are padded.
@@ -148,12 +149,12 @@ pub(crate) fn assemble<'a>(operands: &mut Operands<'_, 'a>) -> Result<Job<'a>, R
     let idle = "As GCC says it; has no effect";
     operands.flag(Flag::letter("warnings", 'W', idle))?;
     operands.flag(Flag::letter("verbose", 'v', idle))?;
-    Ok(Job::Assemble {
+    Ok(Job::Assemble(AskedObject {
         object,
         source: operands.required(Text::alone("SRC", "The source"))?,
         relax,
         explains: asked || by_gcc,
-    })
+    }))
 }
 
 /// Takes the options `-m`; whether calls may be shortened, by the last of them that says so.

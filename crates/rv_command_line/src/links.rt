@@ -1,7 +1,7 @@
 //! The words that say what a link takes.
 
 use crate::operands::{Operands, Refusal, Texts};
-use rv_job::{LinkWord, LinkWords};
+use rv_job::{LinkInput, LinkWord, LinkWords};
 use std::alloc::Global;
 
 /// What a link takes, in the order of the words; `files` are the words alone, where they are among it, of which one has to be
@@ -12,15 +12,30 @@ pub(crate) fn link_words<'a>(
 ) -> Result<LinkWords<'a>, Refusal> {
     let alloc: Global = operands.alloc;
     let mut placed = Vec::new(alloc);
-    put(operands, library(), LinkWord::Library(""), &mut placed)?;
-    put(operands, named(), LinkWord::Named(""), &mut placed)?;
+    put(
+        operands,
+        library(),
+        LinkWord::Input(LinkInput::Archive("")),
+        &mut placed,
+    )?;
+    put(
+        operands,
+        named(),
+        LinkWord::Input(LinkInput::Named("")),
+        &mut placed,
+    )?;
     let folder = Texts::letter("folder", 'L', "DIR", "A folder in which -l looks");
     let folders = operands.all(folder)?;
     put(operands, start_group(), LinkWord::StartGroup, &mut placed)?;
     put(operands, end_group(), LinkWord::EndGroup, &mut placed)?;
     if let Some(files) = files {
         let files = files.unless_either(library(), named());
-        put(operands, files, LinkWord::File(""), &mut placed)?;
+        put(
+            operands,
+            files,
+            LinkWord::Input(LinkInput::Object("")),
+            &mut placed,
+        )?;
     }
     placed.sort_by_key(|word| word.0)?;
     let mut words = Vec::new(alloc);
@@ -66,9 +81,9 @@ fn put<'a>(
 /// The word with another value, where it has one.
 fn with_value<'a>(word: LinkWord<'a>, value: &'a str) -> LinkWord<'a> {
     match word {
-        LinkWord::File(_) => LinkWord::File(value),
-        LinkWord::Library(_) => LinkWord::Library(value),
-        LinkWord::Named(_) => LinkWord::Named(value),
+        LinkWord::Input(LinkInput::Object(_)) => LinkWord::Input(LinkInput::Object(value)),
+        LinkWord::Input(LinkInput::Archive(_)) => LinkWord::Input(LinkInput::Archive(value)),
+        LinkWord::Input(LinkInput::Named(_)) => LinkWord::Input(LinkInput::Named(value)),
         LinkWord::StartGroup => LinkWord::StartGroup,
         LinkWord::EndGroup => LinkWord::EndGroup,
     }

@@ -33,7 +33,7 @@ pub struct Point {
 }
 
 /// A point that was met: its kind, and where.
-#[derive(Clone, Copy, Drop)]
+#[derive(Clone, Copy, PartialEq, Eq, Drop)]
 pub struct Met {
     pub kind: PointKind,
     pub address: u64,

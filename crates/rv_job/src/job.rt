@@ -2,7 +2,7 @@
 
 use crate::cases::AskedCases;
 use crate::files::{AskedCode, AskedImage, OutputFormat, ReportFormat};
-use crate::links::LinkWords;
+use crate::links::{AskedBuild, AskedLink, AskedMap, AskedObject};
 use crate::runs::{Asked, Coverage, Debugged, Results, Shown};
 use rv_link::LinkOptions;
 
@@ -26,50 +26,14 @@ pub enum Job<'a> {
         /// The most instructions of a run, where a call says nothing.
         limit: u64,
     },
-    /// Writes the executable, and the map where a file is named for it.
-    Build {
-        exe: &'a str,
-        map: Option<&'a str>,
-        /// Whether the executable has names and lines for debuggers.
-        debug: bool,
-        options: LinkOptions,
-        /// Whether the ends of regions are padded.
-        pads_ends: bool,
-        sources: Vec<&'a str>,
-        /// The archives behind the sources.
-        libraries: LinkWords<'a>,
-        /// Whether a fault is explained.
-        explains: bool,
-    },
+    /// Builds sources.
+    Build(AskedBuild<'a>),
     /// Writes the object of a source.
-    Assemble {
-        object: &'a str,
-        source: &'a str,
-        /// Whether calls may be shortened.
-        relax: bool,
-        /// Whether a fault is explained.
-        explains: bool,
-    },
-    /// Links objects: writes the executable, and the map where a file is named for it.
-    Link {
-        exe: &'a str,
-        map: Option<&'a str>,
-        options: LinkOptions,
-        /// Whether the ends of regions are padded.
-        pads_ends: bool,
-        files: LinkWords<'a>,
-        /// Whether a fault is explained.
-        explains: bool,
-    },
-    /// Prints the map.
-    Map {
-        options: LinkOptions,
-        /// Whether the ends of regions are padded.
-        pads_ends: bool,
-        sources: Vec<&'a str>,
-        /// Whether a fault is explained.
-        explains: bool,
-    },
+    Assemble(AskedObject<'a>),
+    /// Links objects.
+    Link(AskedLink<'a>),
+    /// Prints the map of what sources build.
+    Map(AskedMap<'a>),
     /// Prints the listing; the files are read in the order of the words.
     Objdump {
         map: &'a str,

@@ -20,6 +20,9 @@ mod runs;
 pub use cases::AskedCases;
 pub use files::{AskedCode, AskedImage, ImageFormat, OutputFormat, ReportFormat, TextFormat};
 pub use job::{Job, Shell};
-pub use links::{LinkWord, LinkWords};
+pub use links::{
+    AskedBuild, AskedLink, AskedMap, AskedObject, LinkInput, LinkOutputs, LinkSettings, LinkWord,
+    LinkWords,
+};
 pub use options::{TEXT_START, default_options};
 pub use runs::{Asked, Coverage, Debugged, LineForm, Results, Shown, Until};

@@ -5,10 +5,7 @@
 //! a small guest takes few pages of it.
 
 use rv_batch_jobs::answer_calls;
-use rv_build_jobs::{
-    Inputs, assemble, assembled_files, build_files, link_files, linked_files, load_program,
-    print_map, run,
-};
+use rv_build_jobs::{assemble, build_files, link_files, load_program, print_map, run};
 use rv_case_jobs::run_cases;
 use rv_command_line::completions;
 use rv_file_jobs::{code, dump, elf, names, objdump, raw, sizes, write_image};
@@ -29,66 +26,10 @@ pub(crate) fn run_job<S: Guests>(system: &mut S, job: &Job<'_>) -> Result<u8, Jo
         Job::Debug(asked, streams) => let_debug(system, asked, streams),
         Job::Test(asked) => run_cases(system, asked),
         Job::Batch { limit } => answer_calls(system, *limit),
-        Job::Build {
-            exe,
-            map,
-            debug,
-            options,
-            pads_ends,
-            sources,
-            libraries,
-            explains,
-        } => {
-            let sources = sources.as_slice();
-            if libraries.words.is_empty() {
-                let inputs = Inputs::of(system.alloc(), sources, *pads_ends)?;
-                return build_files(system, exe, *map, *debug, &inputs, *options, *explains);
-            }
-            let files = assembled_files(system, sources, libraries, *pads_ends, *explains)?;
-            link_files(
-                system,
-                exe,
-                *map,
-                *debug,
-                files.as_slice(),
-                *options,
-                *explains,
-            )
-        }
-        Job::Assemble {
-            object,
-            source,
-            relax,
-            explains,
-        } => assemble(system, object, source, *relax, *explains),
-        Job::Link {
-            exe,
-            map,
-            options,
-            pads_ends,
-            files,
-            explains,
-        } => {
-            let files = linked_files(system, files, *pads_ends)?;
-            link_files(
-                system,
-                exe,
-                *map,
-                false,
-                files.as_slice(),
-                *options,
-                *explains,
-            )
-        }
-        Job::Map {
-            options,
-            pads_ends,
-            sources,
-            explains,
-        } => {
-            let inputs = Inputs::of(system.alloc(), sources.as_slice(), *pads_ends)?;
-            print_map(system, &inputs, *options, *explains)
-        }
+        Job::Build(asked) => build_files(system, asked),
+        Job::Assemble(asked) => assemble(system, asked),
+        Job::Link(asked) => link_files(system, asked),
+        Job::Map(asked) => print_map(system, asked),
         Job::Objdump {
             map,
             exe,
