@@ -22,7 +22,7 @@ FOLDERS = ("tests", "docs", "examples", "scripts", "bench")
 FILES = ("README.md", "crates.txt", "Makefile")
 SCRIPTS = "run agreeing collected damaged explained documents shells terminal streams editors making refused".split()
 PAGE = 4096
-# What only `expansion` of the library calls, of which crates/rv_parse_tests has the cases.
+# What only `expansion` of the library calls, of which crates/rv_call_tests has the cases.
 OF_LIBRARY = {
     "rv_pseudo::fault::takes_number_beside",
     "rv_pseudo::parcel::with_number",

@@ -1,7 +1,7 @@
 //! How many passes relaxation takes over calls of which each reaches only once its neighbour is shortened. The counts stand by
 //! hand: passes go forwards and backwards in turn, and the last shortens nothing.
 
-use crate::files::{CALL_PLT, RELAX, file, place};
+use crate::object_files::{CALL_PLT, RELAX, file, place};
 use crate::plans::text;
 use rv_object::read;
 use rv_relax::Plan;

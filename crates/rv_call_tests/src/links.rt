@@ -1,6 +1,6 @@
 //! What a link answers, and links of no object.
 
-use crate::files::{CALL_OF_FIRST, RELAX, START, file, place};
+use crate::object_files::{CALL_OF_FIRST, RELAX, START, file, place};
 use rv_image::Region;
 use rv_link::{LinkOptions, link, link_exe};
 use rv_object::{Object, read};

@@ -1,6 +1,6 @@
 //! The file of the object of a program that writes a text.
 
-use crate::sources::HELLO;
+use crate::hello_source::HELLO;
 use rv_assemble::assemble;
 use rv_elf::{ElfView, SectionIndex, SymbolIndex, rela_in, symbol_in};
 use rv_object::write;

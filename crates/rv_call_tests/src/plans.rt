@@ -1,7 +1,7 @@
 //! What a plan tells of the text of objects. The numbers stand by hand: a text begins at a multiple of all alignments, and
 //! `jal` reaches each target.
 
-use crate::files::{ALIGN, CALL_OF_FIRST, RELAX, file, place};
+use crate::object_files::{ALIGN, CALL_OF_FIRST, RELAX, file, place};
 use rv_fault::LinkFault;
 use rv_names::Names;
 use rv_object::{Object, read};

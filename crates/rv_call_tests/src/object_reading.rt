@@ -1,7 +1,7 @@
 //! Objects read as they were written, and one whose sections lie over each other. Files cut off, or with a byte changed,
 //! are in `tests/damaged.py`.
 
-use crate::sources::{HELLO, KINDS};
+use crate::hello_source::{HELLO, KINDS};
 use rv_assemble::assemble;
 use rv_object::{read, write};
 use std::alloc::{AllocError, Global};
