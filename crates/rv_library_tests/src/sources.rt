@@ -18,10 +18,11 @@ fn tokens(rt: HostRuntime) {
         last = token.kind;
     }
     assert_eq!(rt; names, 2);
-    assert!(rt; last == TokenKind::Newline);
+    assert!(rt; matches!(last, TokenKind::Newline));
     // a bad byte is given once
     lexer = Lexer::new(b"\x01 nop");
-    assert!(rt; lexer.next().map(|token| token.kind) == Some(TokenKind::BadByte));
+    let bad = lexer.next().map(|token| token.kind);
+    assert!(rt; matches!(bad, Some(TokenKind::BadByte)));
     assert!(rt; lexer.next().is_none());
 }
 
