@@ -10,16 +10,22 @@ processor. Here each stamp is made once (kit.py). It also plans on nearly twice 
 that half the processors would be idle: here it gets as many lanes as there are processors and 5 GB of memory for
 each, unless RT_JOBS says how many. And it tries edits by the functions that they change (edits.py). With a kit that
 kit.py does not know it is `rt ci` as it stands.
+
+A proof on a full disk ends with `it has no checked file in this check`, so there has to be room before the first.
 """
 
 import os
+import shutil
 import subprocess
 import sys
+import tempfile
 
 import edits
 import kit
 
 EACH = 5_000_000_000
+# What proofs of all crates write.
+ROOM = 12_000_000_000
 
 
 def lanes():
@@ -28,8 +34,18 @@ def lanes():
     return max(min(len(os.sched_getaffinity(0)), memory // EACH), 1)
 
 
+def stop_without_room():
+    """Ends the run where the disk has no room for all proofs."""
+    for folder in (os.getcwd(), tempfile.gettempdir()):
+        free = shutil.disk_usage(folder).free
+        if free < ROOM:
+            sys.exit(f"{folder}: {free // 10**9} GB are free, and the proofs of all crates need {ROOM // 10**9}")
+
+
 if __name__ == "__main__":
     os.environ.setdefault("RT_JOBS", str(lanes()))
     words = sys.argv[1:] or ["ci"]
+    if words == ["ci"]:
+        stop_without_room()
     is_known = kit.version() in kit.KNOWN
     sys.exit(kit.run(words, edits.try_by_function) if is_known else subprocess.run(["rt", *words]).returncode)
