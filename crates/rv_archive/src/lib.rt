@@ -7,9 +7,9 @@
 //! Main contract: [`Archive::read`] gives just what `rv_archive_laws` says that the file is (`specs/Reads`).
 //!
 //! It looks at no contents but those of the index and of the table of long names, so nothing is asked of members that nobody
-//! takes. A long name has at most 4,096 bytes: names may lie over each other, and so each costs little. An archive that has
-//! members and no index is refused, as GNU ld refuses it: what a link takes depends on the index alone, and `ranlib` makes
-//! one.
+//! takes. A long name is looked for in 4,096 bytes, so it has at most 4,094: names may lie over each other, and so each
+//! costs little. An archive that has members and no index is refused, as GNU ld refuses it: what a link takes depends on
+//! the index alone, and `ranlib` makes one.
 //!
 //! ```text
 //! let archive = Archive::read(alloc, &file)?;

@@ -14,8 +14,8 @@
 //! taken is determined.
 //!
 //! ```text
-//! part_at file 8                                 -- the index of the archive, where it has one
-//! name_at table (codes "f.o/            ")     -- Ok (codes "f.o")
+//! part_at file 8                                  -- the index of the archive, where it has one
+//! member_name table (codes "f.o/            ")   -- Ok (codes "f.o")
 //! ```
 //!
 //! [`Parts`]: ../specs/Parts.antt

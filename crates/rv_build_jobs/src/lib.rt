@@ -3,7 +3,8 @@
 //!
 //! Main functions: `run`, `build_files`, `assemble`, `link_files`, `print_map`, `load_program`. What is built, assembled and
 //! linked is said by the clauses of `build`, `build_exe`, `assemble_object` and `link_objects`, of which the bytes are handed
-//! on as they are; which members of archives are linked, by those of `taken_objects` (`rv_inputs`). It does not know the words of a command line.
+//! on as they are; which members of archives are linked, by those of `taken_objects` (`rv_inputs`). It does not know the
+//! words of a command line.
 //!
 //! ```text
 //! // rv build -o a a.s

@@ -7,7 +7,7 @@ use crate::totals::Totals;
 use rv_machine::{Event, ShowFault, Watched, Watcher};
 use rv_memory::Memory;
 
-/// The number of the instructions that a run has executed, as [`counts_text`](crate::counts_text) shows it.
+/// The number of the instructions that a run has executed.
 #[derive(Drop)]
 pub struct Executed {
     totals: Totals,

@@ -259,7 +259,7 @@ fn put_executable(out: &mut ElfWriter, exe: &[u8]) -> Result<(), AllocError>
     Ok(())
 }
 
-/// Writes the header of the executable, but for the four fields that lead to the section headers.
+/// Writes the header of the executable, whose four fields for section headers lead to those that follow.
 fn put_front(out: &mut ElfWriter, exe: &[u8], table: u64) -> Result<(), AllocError>
     requires { 64 ≤ length exe.now }
     ensures { OnOk result (out.new ≡ out.old ++ front_with exe.now table) }

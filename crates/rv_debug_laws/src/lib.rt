@@ -2,8 +2,9 @@
 //!
 //! It says which rows of a map are the code of a source ([`Code`]), which units describe a source ([`Units`]), which symbols
 //! a map's names have ([`Symbols`]), what an executable has to be for more to stand behind it ([`Stored`]), and how the
-//! file is laid out ([`File`]). What a reader finds in it ([`DebugFile`]) is said in the terms of readers alone: by its table
-//! of section headers, its strings and the state machine of line tables.
+//! file is laid out ([`File`]). What a reader finds in it ([`DebugFile`]) is said in the terms of readers: by its table of
+//! section headers, its strings and the state machine of line tables; but of `.debug_info` and the sections beside it by
+//! their bytes.
 //!
 //! Main definitions: `IsDebugFile`, `HasDebug`. It must not know statements or instructions.
 //!

@@ -123,7 +123,7 @@ impl<L: Write + Drop> Debugger<L> {
         if then != Then::AnswerAndLeave {
             return Ok(false);
         }
-        // the other side says that the answer came, and finds its stream closed where nobody waits for that
+        // the other side acknowledges the answer, and would find its stream closed if nobody waited for that
         self.wire.next(system)?;
         Ok(true)
     }
