@@ -1,5 +1,6 @@
 # The deepest stack where sp is among the program's variables: what it left below its highest value there. By hand: 48
-# bytes. The first half of an address that la loads counts for nothing, and neither does a value outside of the variables.
+# bytes. The first half of an address that la or li loads counts for nothing, and neither does a value outside of both
+# stacks.
 # rv: stats a.s
 # status: 0
 # errors has: deepest stack                          48
@@ -9,6 +10,9 @@
 # rv: stats c.s
 # status: 0
 # errors has: deepest stack                           0
+# rv: stats d.s
+# status: 0
+# errors has: deepest stack                        4080
 #--- a.s
 .globl _start
 _start: la sp, top
@@ -46,6 +50,12 @@ top:
 .globl _start
 _start: li sp, 64
   addi sp, sp, -64
+  li a0, 0
+  li a7, 93
+  ecall
+#--- d.s
+.globl _start
+_start: li sp, 0x3ffff010
   li a0, 0
   li a7, 93
   ecall

@@ -61,11 +61,12 @@ impl Depth {
     pub(crate) fn note(&mut self, begun: bool, sp: u64)
         ensures { self.new ≡ with_sp self.old begun sp }
     {
-        if STACK_START <= sp {
-            self.lowest = lower(self.lowest, sp);
+        if begun {
             return;
         }
-        if self.first <= sp && sp <= self.last && !begun {
+        if STACK_START <= sp {
+            self.lowest = lower(self.lowest, sp);
+        } else if self.first <= sp && sp <= self.last {
             self.lowest_own = lower(self.lowest_own, sp);
             self.highest_own = higher(self.highest_own, sp);
         }

@@ -1,6 +1,6 @@
 //! How many instructions a run executes, where nothing else of it is asked for.
 
-ghost use Rattle.std.specs.Prelude.{◌≡◌};
+ghost use Rattle.std.specs.Prelude.{◌≡◌, []};
 ghost use Rattle.rv_counts.specs.Totals.{totals_of};
 
 use crate::totals::Totals;
@@ -15,7 +15,9 @@ pub struct Executed {
 
 impl Executed {
     /// That of a run that has not begun.
-    pub fn new() -> Self {
+    pub fn new() -> Self
+        ensures { result.totals ≡ totals_of [] }
+    {
         Executed {
             totals: Totals::nothing(),
         }
