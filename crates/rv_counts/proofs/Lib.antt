@@ -12,3 +12,5 @@ pub mod DepthLemmas
 pub mod CountsLemmas
 -- The registers that the events of a run tell.
 pub mod RegistersLemmas
+-- Sums by a key: where the rows of one are, and that a list has each once.
+pub mod SumsLemmas

@@ -1,6 +1,6 @@
 -- What instructions are for (ISA, chapters 2, 7 and 8).
 
-use Rattle.std.specs.Prelude.{ℕ, ◌+◌, ◌-◌, ◌^◌, min}
+use Rattle.std.specs.Prelude.{ℕ, ◌+◌, ◌-◌, ◌^◌, min, List, [], ◌∷◌, codes}
 use Rattle.rv_isa.specs.declared.instruction.Format.{Format}
 use Rattle.rv_isa.specs.declared.instruction.Format.TheVariants as formats
 use Rattle.rv_counts.specs.declared.kinds.InstructionKind.{InstructionKind}
@@ -39,3 +39,15 @@ with_kind k Atomic = record k { atomic = more k.atomic 1 }
 with_kind k Branch = record k { branch = more k.branch 1 }
 with_kind k Jump = record k { jump = more k.jump 1 }
 with_kind k Other = record k { other = more k.other 1 }
+
+-- in the order of texts
+abbrev pub named_kinds : Kinds → List (List ℕ × ℕ)
+named_kinds k =
+    (codes "arithmetic", k.arithmetic)
+    ∷ (codes "load", k.load)
+    ∷ (codes "store", k.store)
+    ∷ (codes "atomic", k.atomic)
+    ∷ (codes "branch", k.branch)
+    ∷ (codes "jump", k.jump)
+    ∷ (codes "other", k.other)
+    ∷ []

@@ -8,3 +8,5 @@ pub mod Counted
 pub mod Depth
 -- The rows of a table of instructions, and what they have of the events of a run.
 pub mod Rows
+-- The counts of mnemonics, lines and functions, as sums over the rows of a table.
+pub mod Sums

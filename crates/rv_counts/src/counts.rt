@@ -10,11 +10,14 @@ ghost use Rattle.rv_machine.specs.Seen.{event_as};
 ghost use Rattle.rv_event_laws.specs.Event.{Event};
 ghost use Rattle.rv_counts.specs.Counted.{branches_taken, executions, has_executed};
 ghost use Rattle.rv_counts.specs.Depth.{deepest_of};
-ghost use Rattle.rv_counts.specs.Rows.{HasCounted, IsNoted, at_branch};
+ghost use Rattle.rv_counts.specs.Rows.{AreCounted, HasCounted, IsNoted, at_branch};
+ghost use Rattle.rv_counts.specs.Sums.{AreExecuted};
 
+use crate::addresses::ByAddress;
 use crate::branches::{Branches, branches_of};
 use crate::depth::Depth;
 use crate::jumps::turn_at;
+use crate::mnemonics::{MnemonicCount, mnemonics_of};
 use crate::registers::ToldRegisters;
 use crate::rows::{CountedInstruction, Done, Rows};
 use crate::totals::{Totals, is_executed};
@@ -75,6 +78,26 @@ impl Counts {
             × (result.taken ≡ branches_taken at_branch seen) }
     {
         branches_of(self.rows.all())
+    }
+
+    /// The mnemonics of the instructions that were executed, each with how often.
+    pub fn mnemonics(&self, alloc: Global) -> Result<Vec<MnemonicCount>, AllocError>
+        ensures { IfOk result (λ list. (seen : List Event) → length seen < 2 ^ 64
+            → HasCounted self.now.totals self.now.rows.rows.items self.now.registers.values
+            self.now.called self.now.depth seen
+            → AreExecuted (λ test. executions test seen) list.items) }
+    {
+        mnemonics_of(alloc, self.rows.all())
+    }
+
+    /// The instructions by their addresses.
+    pub fn by_address(&self, alloc: Global) -> Result<ByAddress, AllocError>
+        ensures { IfOk result (λ by. (seen : List Event) → length seen < 2 ^ 64
+            → HasCounted self.now.totals self.now.rows.rows.items self.now.registers.values
+            self.now.called self.now.depth seen
+            → AreCounted by.rows.items seen) }
+    {
+        ByAddress::of(alloc, self.rows.all())
     }
 
     /// How many bytes the stack had at most.

@@ -1,8 +1,8 @@
 //! What instructions are for, and how many of each kind were executed.
 
-ghost use Rattle.std.specs.Prelude.{◌≡◌};
+ghost use Rattle.std.specs.Prelude.{◌≡◌, map};
 ghost use Rattle.rv_isa.specs.Operations.{format_of};
-ghost use Rattle.rv_counts.specs.Kinds.{instruction_kind, no_kinds, with_kind};
+ghost use Rattle.rv_counts.specs.Kinds.{instruction_kind, named_kinds, no_kinds, with_kind};
 
 use rv_isa::{Format, Inst};
 
@@ -107,7 +107,9 @@ impl Kinds {
     }
 
     /// Each kind by its name, in the order in which texts have them.
-    pub fn named(&self) -> [(&'static str, u64); 7] {
+    pub fn named(&self) -> [(&'static str, u64); 7]
+        ensures { map (λ k. (k.0.now, k.1)) result ≡ named_kinds self.now }
+    {
         [
             ("arithmetic", self.arithmetic),
             ("load", self.load),
