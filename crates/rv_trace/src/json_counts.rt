@@ -4,7 +4,7 @@ use crate::ending::Ending;
 use crate::json_report::{file, near};
 use crate::lines::{Covered, coverage};
 use crate::places::Places;
-use crate::summary::{calls, tallies};
+use crate::summary::{calls, mnemonics};
 use rv_counts::{Counts, Totals};
 use rv_json::{number, number_or_null, put_line};
 use serde_json::{Map, Value, json, push, put};
@@ -26,7 +26,7 @@ pub fn counts_json(
     put(&mut object, alloc, "status", status)?;
     let kinds = kinds(alloc, &counts.totals())?;
     put(&mut object, alloc, "kinds", kinds)?;
-    let mnemonics = mnemonics(alloc, counts)?;
+    let mnemonics = executions(alloc, counts)?;
     put(&mut object, alloc, "mnemonics", mnemonics)?;
     let calls = called(alloc, counts, places)?;
     put(&mut object, alloc, "calls", calls)?;
@@ -73,11 +73,11 @@ fn kinds(alloc: Global, totals: &Totals) -> Result<Value, AllocError> {
 }
 
 /// How often each mnemonic was executed.
-fn mnemonics(alloc: Global, counts: &Counts) -> Result<Value, AllocError> {
+fn executions(alloc: Global, counts: &Counts) -> Result<Value, AllocError> {
     let mut object = Map::new(alloc);
-    for tally in &tallies(alloc, counts.instructions())? {
-        let count = number(alloc, tally.count)?;
-        put(&mut object, alloc, tally.name, count)?;
+    for executed in &mnemonics(alloc, counts)? {
+        let count = number(alloc, executed.count)?;
+        put(&mut object, alloc, executed.name, count)?;
     }
     Ok(Value::Object(object))
 }
@@ -85,7 +85,7 @@ fn mnemonics(alloc: Global, counts: &Counts) -> Result<Value, AllocError> {
 /// The functions and how often each was called.
 fn called(alloc: Global, counts: &Counts, places: &Places<'_>) -> Result<Value, AllocError> {
     let mut list = Vec::new(alloc);
-    for called in &calls(alloc, counts.instructions())? {
+    for called in &calls(alloc, counts)? {
         let (symbol, distance) = near(alloc, places, called.address)?;
         let address = number(alloc, called.address)?;
         let count = number(alloc, called.count)?;

@@ -6,7 +6,7 @@
 //! `report_text`).
 //!
 //! Main contract: that of `run_watched`, by which a run that is watched is the run of the machine, and each watcher is told
-//! exactly its events. What the texts show of the events is tested. It must not know files or the words of a command line.
+//! exactly its events; the counts that are shown are those of `rv_counts`. How the texts show them is tested. It must not know files or the words of a command line.
 //!
 //! ```text
 //! let places = Places::new(alloc, Some(&map), &[Source { name: "a.s", text }])?;

@@ -4,16 +4,9 @@
 
 use crate::columns::{put, put_decimal};
 use crate::places::Places;
-use rv_counts::{CountedInstruction, Counts};
+use rv_counts::Counts;
 use rv_map_laws::Row;
 use std::alloc::{AllocError, Global};
-
-/// An address and how often the instruction there was executed.
-#[derive(Clone, Copy, Drop)]
-struct Executed {
-    address: u64,
-    count: u64,
-}
 
 /// A statement and how often it was executed.
 #[derive(Clone, Copy, Drop)]
@@ -125,11 +118,11 @@ pub(crate) fn coverage(
     counts: &Counts,
     places: &Places<'_>,
 ) -> Result<Vec<Covered>, AllocError> {
-    let executed = by_address(alloc, counts.instructions())?;
+    let by_address = counts.by_address(alloc)?;
     let mut covered = Vec::new(alloc);
     for row in places.rows() {
         if row.instructions > 0 {
-            let count = count_at(executed.as_slice(), row.address);
+            let count = by_address.executions(row.address);
             covered.push(Covered { row: *row, count })?;
         }
     }
@@ -155,37 +148,4 @@ fn most_of_lines(alloc: Global, covered: &[Covered]) -> Result<Vec<Covered>, All
 
 fn is_same_line(one: &Row, other: &Row) -> bool {
     one.file == other.file && one.line == other.line
-}
-
-/// The addresses that were executed, in their order.
-fn by_address(
-    alloc: Global,
-    instructions: &[CountedInstruction],
-) -> Result<Vec<Executed>, AllocError> {
-    let mut ordered: Vec<Executed> = Vec::new(alloc);
-    for visited in instructions {
-        ordered.push(Executed {
-            address: visited.pc,
-            count: visited.count,
-        })?;
-    }
-    ordered.sort_by_key(|at| at.address)?;
-    let mut executed: Vec<Executed> = Vec::new(alloc);
-    for at in &ordered {
-        match executed.last_mut() {
-            Some(last) if last.address == at.address => {
-                last.count = last.count.saturating_add(at.count);
-            }
-            _ => executed.push(*at)?,
-        }
-    }
-    Ok(executed)
-}
-
-/// How often the instruction at an address was executed.
-fn count_at(executed: &[Executed], address: u64) -> u64 {
-    match executed.binary_search_by_key(&address, |at| at.address) {
-        Ok(index) => executed.get(index).map_or(0, |at| at.count),
-        Err(_) => 0,
-    }
 }

@@ -2,24 +2,9 @@
 
 use crate::columns::{fill_column, put, put_blanks, put_count, put_near, put_right, put_share};
 use crate::places::Places;
-use rv_counts::{Branches, CountedInstruction, Counts, Totals};
-use rv_isa::mnemonic;
+use rv_counts::{Branches, CallCount, Counts, MnemonicCount, Totals};
 use rv_map::put_hexadecimal;
 use std::alloc::{AllocError, Global};
-
-/// A mnemonic and how often it was executed.
-#[derive(Clone, Copy, Drop)]
-pub(crate) struct Tally {
-    pub name: &'static str,
-    pub count: u64,
-}
-
-/// An address and how often it was called.
-#[derive(Clone, Copy, Drop)]
-pub(crate) struct Called {
-    pub address: u64,
-    pub count: u64,
-}
 
 /// What a run did, counted: a line each for all instructions, compressed ones, loads, stores, branches and the stack; then
 /// by kind, by mnemonic, and calls by function.
@@ -32,8 +17,8 @@ pub fn counts_text(
     let totals = counts.totals();
     put_sums(&mut text, &totals, &counts.branches(), counts.deepest())?;
     put_kinds(&mut text, &totals)?;
-    put_mnemonics(alloc, &mut text, counts.instructions(), totals.executed)?;
-    put_calls(alloc, &mut text, counts.instructions(), places)?;
+    put_mnemonics(alloc, &mut text, counts, totals.executed)?;
+    put_calls(alloc, &mut text, counts, places)?;
     Ok(text)
 }
 
@@ -50,12 +35,12 @@ fn put_kinds(text: &mut Vec<u8>, totals: &Totals) -> Result<(), AllocError> {
 fn put_mnemonics(
     alloc: Global,
     text: &mut Vec<u8>,
-    instructions: &[CountedInstruction],
+    counts: &Counts,
     executed: u64,
 ) -> Result<(), AllocError> {
     put(text, "by mnemonic\n")?;
-    for tally in &tallies(alloc, instructions)? {
-        put_part(text, tally.name, tally.count, executed)?;
+    for executions in &mnemonics(alloc, counts)? {
+        put_part(text, executions.name, executions.count, executed)?;
     }
     Ok(())
 }
@@ -64,11 +49,11 @@ fn put_mnemonics(
 fn put_calls(
     alloc: Global,
     text: &mut Vec<u8>,
-    instructions: &[CountedInstruction],
+    counts: &Counts,
     places: &Places<'_>,
 ) -> Result<(), AllocError> {
     put(text, "calls\n")?;
-    for called in &calls(alloc, instructions)? {
+    for called in &calls(alloc, counts)? {
         put_called(text, called, places)?;
     }
     Ok(())
@@ -111,7 +96,11 @@ fn put_part(text: &mut Vec<u8>, name: &str, count: u64, whole: u64) -> Result<()
 }
 
 /// Adds the line of a function, by its symbol, or by its address where it has none.
-fn put_called(text: &mut Vec<u8>, called: &Called, places: &Places<'_>) -> Result<(), AllocError> {
+fn put_called(
+    text: &mut Vec<u8>,
+    called: &CallCount,
+    places: &Places<'_>,
+) -> Result<(), AllocError> {
     let start = text.len();
     put_blanks(text, 2)?;
     match places.symbol_at(called.address) {
@@ -127,68 +116,19 @@ fn put_called(text: &mut Vec<u8>, called: &Called, places: &Places<'_>) -> Resul
     Ok(())
 }
 
-fn add(sum: &mut u64, count: u64) {
-    *sum = sum.saturating_add(count);
-}
-
 /// The mnemonics by how often they were executed, then by name.
-pub(crate) fn tallies(
-    alloc: Global,
-    instructions: &[CountedInstruction],
-) -> Result<Vec<Tally>, AllocError> {
-    let mut tallies = Vec::new(alloc);
-    add_tallies(&mut tallies, instructions)?;
-    Ok(tallies)
-}
-
-fn add_tallies(
-    tallies: &mut Vec<Tally>,
-    instructions: &[CountedInstruction],
-) -> Result<(), AllocError> {
-    for visited in instructions {
-        if visited.count > 0 {
-            add_to(tallies, mnemonic(visited.inst), visited.count)?;
-        }
-    }
-    tallies.sort_by_key(|tally| tally.name)?;
-    tallies.sort_by_key(|tally| u64::MAX - tally.count)
-}
-
-/// Adds to the count of a mnemonic.
-fn add_to(tallies: &mut Vec<Tally>, name: &'static str, count: u64) -> Result<(), AllocError> {
-    match tallies.iter().position(|tally| tally.name == name) {
-        Some(index) => {
-            if let Some(tally) = tallies.get_mut(index) {
-                add(&mut tally.count, count);
-            }
-        }
-        None => tallies.push(Tally { name, count })?,
-    }
-    Ok(())
+pub(crate) fn mnemonics(alloc: Global, counts: &Counts) -> Result<Vec<MnemonicCount>, AllocError> {
+    let mut mnemonics = counts.mnemonics(alloc)?;
+    mnemonics.sort_by_key(|executions| executions.name)?;
+    mnemonics.sort_by_key(|executions| u64::MAX - executions.count)?;
+    Ok(mnemonics)
 }
 
 /// The addresses that were called by how often they were, then by address.
-pub(crate) fn calls(
-    alloc: Global,
-    instructions: &[CountedInstruction],
-) -> Result<Vec<Called>, AllocError> {
-    let mut calls = Vec::new(alloc);
-    add_calls(&mut calls, instructions)?;
-    Ok(calls)
-}
-
-fn add_calls(
-    calls: &mut Vec<Called>,
-    instructions: &[CountedInstruction],
-) -> Result<(), AllocError> {
-    for visited in instructions {
-        if visited.calls > 0 {
-            calls.push(Called {
-                address: visited.pc,
-                count: visited.calls,
-            })?;
-        }
-    }
+pub(crate) fn calls(alloc: Global, counts: &Counts) -> Result<Vec<CallCount>, AllocError> {
+    let by_address = counts.by_address(alloc)?;
+    let mut calls = by_address.calls(alloc)?;
     calls.sort_by_key(|called| called.address)?;
-    calls.sort_by_key(|called| u64::MAX - called.count)
+    calls.sort_by_key(|called| u64::MAX - called.count)?;
+    Ok(calls)
 }
