@@ -11,10 +11,10 @@ use Rattle.rv_isa.specs.declared.instruction.Inst.{Inst}
 use Rattle.rv_counts.specs.declared.rows.CountedInstruction.{CountedInstruction}
 use Rattle.rv_counts.specs.Totals.{one_if}
 use Rattle.rv_event_laws.specs.Event.{Event}
-use Rattle.rv_counts.specs.Counted.{executions, times_called}
+use Rattle.rv_counts.specs.Counted.{executions}
 use Rattle.rv_counts.specs.Rows.{AreCounted, capped, counted_if, sum_of}
-use Rattle.rv_counts.specs.Sums.{at_address, called_in, executed_in, pc_of, IsListOf}
-use Rattle.rv_counts.proofs.CountedLemmas.{one_if-le, executions-le, calls-le}
+use Rattle.rv_counts.specs.Sums.{at_address, executed_in, pc_of, IsListOf}
+use Rattle.rv_counts.proofs.CountedLemmas.{one_if-le, executions-le}
 use Rattle.rv_counts.proofs.RowsLemmas.{if_of}
 
 -- ---- lists in which each key stands once
@@ -157,7 +157,3 @@ rows_between address count all rows rest at n m rise is fits first rest_is last 
 pub executed_are : (rows : List CountedInstruction) (seen : List Event) → length seen < 2 ^ 64 → AreCounted rows seen → (test : ℕ → Inst → Bool) → executed_in rows test ≡ executions test seen
 executed_are rows seen short counted test =
     omega (arith, short, counted.executed test, executions-le test seen)
-
-pub called_are : (rows : List CountedInstruction) (seen : List Event) → length seen < 2 ^ 64 → AreCounted rows seen → (test : ℕ → Inst → Bool) → called_in rows test ≡ times_called test seen
-called_are rows seen short counted test =
-    omega (arith, short, counted.called test, calls-le test false seen)

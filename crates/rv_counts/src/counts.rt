@@ -8,13 +8,14 @@ ghost use Rattle.rv_isa_laws.specs.Memory.{Mem};
 ghost use Rattle.rv_machine.specs.Fetch.{fetched_of};
 ghost use Rattle.rv_machine.specs.Seen.{event_as};
 ghost use Rattle.rv_event_laws.specs.Event.{Event};
-ghost use Rattle.rv_counts.specs.Counted.{branches_taken, executions, has_executed};
+ghost use Rattle.rv_counts.specs.Counted.{branches_taken, executions, has_executed, times_called};
 ghost use Rattle.rv_counts.specs.Depth.{deepest_of};
 ghost use Rattle.rv_counts.specs.Rows.{AreCounted, HasCounted, IsNoted, at_branch};
-ghost use Rattle.rv_counts.specs.Sums.{AreExecuted};
+ghost use Rattle.rv_counts.specs.Sums.{AreCalled, AreExecuted};
 
 use crate::addresses::ByAddress;
 use crate::branches::{Branches, branches_of};
+use crate::calls::{CallCount, calls_of};
 use crate::depth::Depth;
 use crate::jumps::turn_at;
 use crate::mnemonics::{MnemonicCount, mnemonics_of};
@@ -88,6 +89,16 @@ impl Counts {
             → AreExecuted (λ test. executions test seen) list.items) }
     {
         mnemonics_of(alloc, self.rows.all())
+    }
+
+    /// The addresses that were called, each with how often.
+    pub fn calls(&self, alloc: Global) -> Result<Vec<CallCount>, AllocError>
+        ensures { IfOk result (λ list. (seen : List Event) → length seen < 2 ^ 64
+            → HasCounted self.now.totals self.now.rows.rows.items self.now.registers.values
+            self.now.called self.now.depth seen
+            → AreCalled (λ test. times_called test seen) list.items) }
+    {
+        calls_of(alloc, self.rows.all())
     }
 
     /// The instructions by their addresses.

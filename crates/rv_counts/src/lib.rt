@@ -23,6 +23,7 @@
 
 mod addresses;
 mod branches;
+mod calls;
 mod code_index;
 mod counts;
 mod depth;
@@ -35,8 +36,9 @@ mod registers;
 mod rows;
 mod totals;
 
-pub use addresses::{ByAddress, CallCount};
+pub use addresses::ByAddress;
 pub use branches::Branches;
+pub use calls::CallCount;
 pub use code_index::CodeIndex;
 pub use counts::Counts;
 pub use executed::Executed;

@@ -54,16 +54,21 @@ fn is_listed(list: &[MnemonicCount], name: &str) -> bool
     )
 }
 
-/// Lists a mnemonic that is not listed yet.
-fn list(list: &mut Vec<MnemonicCount>, name: &'static str, count: u64) -> Result<(), AllocError>
+/// Lists a mnemonic of rows that is not listed yet.
+fn list(
+    list: &mut Vec<MnemonicCount>,
+    rows: &[CountedInstruction],
+    name: &'static str,
+) -> Result<(), AllocError>
     ensures once { IfOk result (λ _. (key : List ℕ) → count_by (counts_mnemonic key) list.new.items
         ≡ (if bytes_eq name.now key then max 1 (count_by (counts_mnemonic key) list.old.items)
         else count_by (counts_mnemonic key) list.old.items)) }
-    ensures counted { IfOk result (λ _. (number : List ℕ → ℕ) → count ≡ number name.now → (key : List ℕ)
-        → All (λ t. counts_mnemonic key t ≡ true → t.count ≡ number key) list.old.items
-        → All (λ t. counts_mnemonic key t ≡ true → t.count ≡ number key) list.new.items) }
+    ensures counted { IfOk result (λ _. (key : List ℕ)
+        → All (λ t. counts_mnemonic key t ≡ true → t.count ≡ executed_in rows.now (of_mnemonic key)) list.old.items
+        → All (λ t. counts_mnemonic key t ≡ true → t.count ≡ executed_in rows.now (of_mnemonic key)) list.new.items) }
 {
     if !is_listed(list.as_slice(), name) {
+        let count = executed_as(rows, name);
         list.push(MnemonicCount { name, count })?;
     }
     Ok(())
@@ -86,8 +91,7 @@ fn list_row(
     if row.count == 0 {
         return Ok(());
     }
-    let name = mnemonic(row.inst);
-    list(executed, name, executed_as(rows, name))
+    list(executed, rows, mnemonic(row.inst))
 }
 
 /// The mnemonics of rows that were executed.

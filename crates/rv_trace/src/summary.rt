@@ -126,8 +126,7 @@ pub(crate) fn mnemonics(alloc: Global, counts: &Counts) -> Result<Vec<MnemonicCo
 
 /// The addresses that were called by how often they were, then by address.
 pub(crate) fn calls(alloc: Global, counts: &Counts) -> Result<Vec<CallCount>, AllocError> {
-    let by_address = counts.by_address(alloc)?;
-    let mut calls = by_address.calls(alloc)?;
+    let mut calls = counts.calls(alloc)?;
     calls.sort_by_key(|called| called.address)?;
     calls.sort_by_key(|called| u64::MAX - called.count)?;
     Ok(calls)
