@@ -7,15 +7,14 @@
 # errors has:   0000000000011004 ffffffff -1 v+0x4
 # errors has:   0000000000011008 12345678 v+0x8
 # errors has: refused calls
-# errors has:   call 10 at 0000000000010004 _start+0x4, answered -38: it is not one of 63, 64, 93; RARS's exit is 93 here
-# errors has:   and 1 more
+# errors has:   call 10, 2 times, first at 0000000000010004 _start+0x4, answered -38: it is not one of 63, 64, 93; RARS's exit is 93 here
 # errors has: stack
 # errors has:   000000003fffffe0 0000000000000000
 # errors has: > 000000003ffffff0 fffffffffffffffe -2
 # errors has:   000000003ffffff8 0000000000010000 _start
 # rv: run --report b.s
 # status: 0
-# errors has:   call 64 at 0000000000010008 _start+0x8, answered -9: it writes only where a0 is 1 or 2
+# errors has:   call 64 with a0 5 at 0000000000010008 _start+0x8, answered -9: it writes only where a0 is 1 or 2
 #--- a.s
 .option norvc
 .globl _start

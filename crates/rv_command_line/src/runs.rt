@@ -31,8 +31,10 @@ the guest wrote; that of memory of each page of 4096 bytes that is not all zeros
 address in 8 bytes, the lowest first, and its bytes. No file is written where no guest ran.
 
 That of --report --json has end, status, address, access (kind, bytes), at, registers, segments
-(start, end, rights) and latest; an instruction there has address, symbol, distance, file, line and
-instruction. It stands on standard error, without 'rv: END'.
+(start, end, rights), refused and latest; an instruction there has address, symbol, distance, file,
+line, instruction and alias, its shortest name. refused has calls, each different one with call, a0
+where that names no file, count and at, and others, how many more there were. It stands on standard
+error, without 'rv: END'.
 
 Of a run that --until ends, the end is Reached, and the exit status 0. A number above 2^53 is a
 text of its digits, and what is not known is null.",

@@ -4,9 +4,11 @@ use crate::ending::Ending;
 use crate::last::registers;
 use crate::lines::put_file;
 use crate::places::Places;
+use crate::refusals::Refusals;
 use crate::report::{Failed, Latest, Segments, failed_access, rights};
 use crate::visited::{bits_at, inst_of};
 use rv_disasm::{Targets, put_instruction};
+use rv_inspect::put_shortest;
 use rv_json::{name, number, number_or_null, put_line};
 use rv_machine::Watched;
 use rv_memory::Memory;
@@ -29,6 +31,7 @@ pub fn report_json<M: Memory>(
     let at = place(alloc, machine, places, machine.pc())?;
     let registers = registers(alloc, machine)?;
     let segments = segments_of(alloc, segments)?;
+    let refused = refused(alloc, machine, latest.refusals(), places)?;
     let latest = latest_of(alloc, machine, latest, places)?;
     let report = json!(in alloc; {
         "end": end,
@@ -38,6 +41,7 @@ pub fn report_json<M: Memory>(
         "at": at,
         "registers": registers,
         "segments": segments,
+        "refused": refused,
         "latest": latest
     })?;
     let mut text = Vec::new(alloc);
@@ -69,7 +73,7 @@ fn place<M: Memory>(
 ) -> Result<Value, AllocError> {
     let (symbol, distance) = near(alloc, places, address)?;
     let (file, line) = statement(alloc, places, address)?;
-    let instruction = instruction(alloc, machine, address)?;
+    let (instruction, alias) = instruction(alloc, machine, address)?;
     let address = number(alloc, address)?;
     json!(in alloc; {
         "address": address,
@@ -77,7 +81,8 @@ fn place<M: Memory>(
         "distance": distance,
         "file": file,
         "line": line,
-        "instruction": instruction
+        "instruction": instruction,
+        "alias": alias
     })
 }
 
@@ -112,18 +117,49 @@ pub(crate) fn file(alloc: Global, places: &Places<'_>, number: u64) -> Result<Va
     name(alloc, text.as_slice())
 }
 
-/// The text of the instruction at an address, or null where none stands there.
+/// The instruction at an address as its base instruction and by its shortest name, or null where none stands there.
 fn instruction<M: Memory>(
     alloc: Global,
     machine: &Watched<M>,
     address: u64,
-) -> Result<Value, AllocError> {
-    let Some(inst) = bits_at(machine.memory(), address).and_then(inst_of) else {
-        return Ok(Value::Null);
+) -> Result<(Value, Value), AllocError> {
+    let Some(bits) = bits_at(machine.memory(), address) else {
+        return Ok((Value::Null, Value::Null));
+    };
+    let Some(inst) = inst_of(bits) else {
+        return Ok((Value::Null, Value::Null));
     };
     let mut text = Vec::new(alloc);
     put_instruction(&mut text, Targets::Addresses(address), inst)?;
-    name(alloc, text.as_slice())
+    let mut alias = Vec::new(alloc);
+    put_shortest(&mut alias, address, bits, inst)?;
+    Ok((
+        name(alloc, text.as_slice())?,
+        name(alloc, alias.as_slice())?,
+    ))
+}
+
+/// The calls that were refused: each different one with how often and where first, and how many others there were.
+fn refused<M: Memory>(
+    alloc: Global,
+    machine: &Watched<M>,
+    refusals: &Refusals,
+    places: &Places<'_>,
+) -> Result<Value, AllocError> {
+    let mut list = Vec::new(alloc);
+    for refusal in refusals.named() {
+        if refusal.count > 0 {
+            let call = number(alloc, refusal.number)?;
+            let a0 = number_or_null(alloc, refusal.file)?;
+            let count = number(alloc, refusal.count)?;
+            let at = place(alloc, machine, places, refusal.pc)?;
+            let value = json!(in alloc; { "call": call, "a0": a0, "count": count, "at": at })?;
+            push(&mut list, value)?;
+        }
+    }
+    let others = number(alloc, refusals.others())?;
+    let calls = Value::Array(list);
+    json!(in alloc; { "calls": calls, "others": others })
 }
 
 /// The segments and the stack.

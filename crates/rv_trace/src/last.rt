@@ -46,7 +46,8 @@ impl<M: Memory> Watcher<M> for Last {
     ghost has_seen = { λ last seen. last.totals ≡ totals_of seen };
 
     #[inline]
-    fn before(&mut self, _: &Watched<M>) -> Result<(), ShowFault> {
+    fn before(&mut self, machine: &Watched<M>) -> Result<(), ShowFault> {
+        self.latest.look(machine);
         Ok(())
     }
 

@@ -1,4 +1,7 @@
 //! The calls of the environment that were refused in a run.
+//!
+//! Those are alike that have the same number and, of a number that there is, the same file. Of a few different ones all is
+//! kept, of further ones only how many calls there were, so that no run needs more memory for them.
 
 use crate::columns::{put, put_decimal, put_fixed};
 use crate::places::Places;
@@ -12,25 +15,114 @@ use std::alloc::AllocError;
 const NO_CALL: u64 = 38;
 /// The answer where a0 names no file, as its negative.
 const NO_FILE: u64 = 9;
+/// How many different refused calls are named.
+const NAMED: usize = 8;
 
-/// The calls that were refused: the first, and how many.
+/// Refused calls that are alike.
+#[derive(Clone, Copy, Drop)]
+pub(crate) struct Refusal {
+    /// Where the first stands.
+    pub pc: u64,
+    /// What a7 held.
+    pub number: u64,
+    /// What a0 held, where it names no file of the call.
+    pub file: Option<u64>,
+    /// How many they are.
+    pub count: u64,
+}
+
+/// The calls that were refused.
 #[derive(Clone, Copy, Drop)]
 pub(crate) struct Refusals {
-    /// Where the first stands, what a7 held, and the negative of its answer.
-    pc: u64,
-    number: u64,
-    answer: u64,
-    count: u64,
+    /// The different ones, in the order in which the run came to them; those of no call are behind them.
+    named: [Refusal; NAMED],
+    /// How many calls were refused that are like none of these.
+    others: u64,
+    /// What a0 holds before a step.
+    a0: u64,
+}
+
+impl Refusal {
+    /// Of no call.
+    const NONE: Self = Refusal {
+        pc: 0,
+        number: 0,
+        file: None,
+        count: 0,
+    };
+
+    /// Whether two are of calls that are alike.
+    fn is_like(&self, other: &Refusal) -> bool {
+        self.number == other.number && self.file == other.file
+    }
+
+    /// Adds its line.
+    fn put_line(&self, text: &mut Vec<u8>, places: &Places<'_>) -> Result<(), AllocError> {
+        put(text, "  call ")?;
+        put_decimal(text, self.number)?;
+        if let Some(file) = self.file {
+            put(text, " with a0 ")?;
+            put_decimal(text, file)?;
+        }
+        if self.count > 1 {
+            put(text, ", ")?;
+            put_decimal(text, self.count)?;
+            put(text, " times, first")?;
+        }
+        put(text, " at ")?;
+        put_fixed(text, self.pc, 8)?;
+        put_symbol(text, places, self.pc)?;
+        put(text, ", answered -")?;
+        put_decimal(text, self.answer())?;
+        put(text, self.why())?;
+        text.push(b'\n')?;
+        Ok(())
+    }
+
+    /// The negative of the answer to it.
+    fn answer(&self) -> u64 {
+        match self.file {
+            Some(_) => NO_FILE,
+            None => NO_CALL,
+        }
+    }
+
+    /// Why it was refused.
+    fn why(&self) -> &'static str {
+        match (self.file, self.number) {
+            (None, 10) => ": it is not one of 63, 64, 93; RARS's exit is 93 here",
+            (None, _) => ": it is not one of 63, 64, 93",
+            (_, 63) => ": it reads only where a0 is 0",
+            _ => ": it writes only where a0 is 1 or 2",
+        }
+    }
 }
 
 impl Refusals {
     /// None yet.
-    pub(crate) const NONE: Self = Refusals {
-        pc: 0,
-        number: 0,
-        answer: 0,
-        count: 0,
-    };
+    pub(crate) fn none() -> Self {
+        Refusals {
+            named: [Refusal::NONE; NAMED],
+            others: 0,
+            a0: 0,
+        }
+    }
+
+    /// Those that are named, and behind them some of no call.
+    pub(crate) fn named(&self) -> &[Refusal] {
+        self.named.as_slice()
+    }
+
+    /// How many calls are not named.
+    pub(crate) fn others(&self) -> u64 {
+        self.others
+    }
+
+    /// Looks at the machine before a step, which may change a0.
+    #[inline]
+    pub(crate) fn look<M: Memory>(&mut self, machine: &Watched<M>) {
+        self.a0 = machine.register(Reg::from_low_bits(10));
+    }
 
     /// Notes what a step did, where it is a call that was refused.
     #[inline]
@@ -42,51 +134,57 @@ impl Refusals {
             return;
         };
         let answer = setting.value.wrapping_neg();
-        if answer != NO_CALL && answer != NO_FILE {
-            return;
+        if answer == NO_CALL || answer == NO_FILE {
+            self.add(Refusal {
+                pc: event.pc,
+                number: machine.register(Reg::from_low_bits(17)),
+                file: if answer == NO_FILE {
+                    Some(self.a0)
+                } else {
+                    None
+                },
+                count: 1,
+            });
         }
-        if self.count == 0 {
-            self.pc = event.pc;
-            self.number = machine.register(Reg::from_low_bits(17));
-            self.answer = answer;
-        }
-        self.count = self.count.saturating_add(1);
     }
 
-    /// Adds the lines of the first call that was refused.
+    /// Counts a call among those that are like it.
+    #[inline(never)]
+    fn add(&mut self, refusal: Refusal) {
+        for named in self.named.iter_mut() {
+            if named.count == 0 {
+                *named = refusal;
+                return;
+            }
+            if named.is_like(&refusal) {
+                named.count = named.count.saturating_add(1);
+                return;
+            }
+        }
+        self.others = self.others.saturating_add(1);
+    }
+
+    /// Adds the lines of the calls that were refused.
     pub(crate) fn put_lines(
         &self,
         text: &mut Vec<u8>,
         places: &Places<'_>,
     ) -> Result<(), AllocError> {
-        if self.count == 0 {
+        if self.named[0].count == 0 {
             return Ok(());
         }
-        put(text, "refused calls\n  call ")?;
-        put_decimal(text, self.number)?;
-        put(text, " at ")?;
-        put_fixed(text, self.pc, 8)?;
-        put_symbol(text, places, self.pc)?;
-        put(text, ", answered -")?;
-        put_decimal(text, self.answer)?;
-        put(text, self.why())?;
-        text.push(b'\n')?;
-        if self.count == 1 {
-            return Ok(());
+        put(text, "refused calls\n")?;
+        for refusal in self.named() {
+            if refusal.count > 0 {
+                refusal.put_line(text, places)?;
+            }
         }
-        put(text, "  and ")?;
-        put_decimal(text, self.count.saturating_sub(1))?;
-        put(text, " more\n")
-    }
-
-    /// Why the first was refused.
-    fn why(&self) -> &'static str {
-        match (self.answer, self.number) {
-            (NO_CALL, 10) => ": it is not one of 63, 64, 93; RARS's exit is 93 here",
-            (NO_CALL, _) => ": it is not one of 63, 64, 93",
-            (_, 63) => ": it reads only where a0 is 0",
-            _ => ": it writes only where a0 is 1 or 2",
+        if self.others > 0 {
+            put(text, "  and ")?;
+            put_decimal(text, self.others)?;
+            put(text, " others\n")?;
         }
+        Ok(())
     }
 }
 

@@ -40,7 +40,7 @@ impl Latest {
         Latest {
             addresses: [0; 16],
             count: 0,
-            refusals: Refusals::NONE,
+            refusals: Refusals::none(),
         }
     }
 
@@ -52,6 +52,19 @@ impl Latest {
         self.refusals.note(event, machine);
         self.addresses[(self.count % 16) as usize] = event.pc;
         self.count = self.count.wrapping_add(1);
+    }
+
+    /// Looks at the machine before a step.
+    #[inline]
+    pub(crate) fn look<M: Memory>(&mut self, machine: &Watched<M>)
+        ensures { self.new.count ≡ self.old.count }
+    {
+        self.refusals.look(machine);
+    }
+
+    /// The calls that were refused.
+    pub(crate) fn refusals(&self) -> &Refusals {
+        &self.refusals
     }
 
     /// How many addresses are kept.
@@ -70,7 +83,8 @@ impl<M: Memory> Watcher<M> for Latest {
     ghost has_seen = { λ latest seen. latest.count ≡ length seen % 2 ^ 64 };
 
     #[inline]
-    fn before(&mut self, _: &Watched<M>) -> Result<(), ShowFault> {
+    fn before(&mut self, machine: &Watched<M>) -> Result<(), ShowFault> {
+        self.look(machine);
         Ok(())
     }
 
