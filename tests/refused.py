@@ -6,14 +6,16 @@ usage: refused.py [WORD ..]     only cases whose names begin so, as `ld` or `run
 A case is a command of ./rv, or a call that ./rv_refusal_tests makes (crates/rv_refusal_tests), and a source. It runs
 once as it is, which gives the ordinary answer and the count of requests; then once for each number up to that count
 with that request refused (refuse.c), and once with the number after it. Of a command is wanted `rv: out of memory` with
-status 1, no output but whole lines of a trace, no input taken and no file left, or, where it has begun a case of `test`
-or a call of `batch`, that this one fails so; of a call that it answers so, and gives the ordinary answer when it is
-made again. In the end the ordinary answer is wanted. A text of more than 64 KiB is written as it comes; no case has
-one. One line for each other answer. Needs a C compiler, `cc`, and glibc; the last line is 'N passed, M failed'.
+status 1, no output but whole lines of a trace or whole packets for gdb, no input taken but packets, and no file left,
+or, where it has begun a case of `test` or a call of `batch`, that this one fails so; of a call that it answers so, and
+gives the ordinary answer when it is made again. In the end the ordinary answer is wanted. A text of more than 64 KiB is
+written as it comes; no case has one. One line for each other answer. Needs a C compiler, `cc`, and glibc; the last line
+is 'N passed, M failed'.
 """
 
 import json
 import os
+import re
 import subprocess
 import sys
 import tempfile
@@ -21,6 +23,7 @@ from concurrent.futures import ThreadPoolExecutor
 from dataclasses import dataclass, replace
 from pathlib import Path
 
+from against.gdb_packets import framed
 from archives import archive_of
 
 TESTS = Path(__file__).resolve().parent
@@ -106,6 +109,15 @@ SOURCES = {
     "no_operands": Source([f"{START}addi a0, a1; {EXIT}"], fault="1.s:1: E7 BadOperands"),
 }
 OF_FIRST_FILE = ("read_object", "write_object")
+# What gdb asks of the run of `echo_four`, which reads four bytes to BUFFER and writes them: points, steps on and back,
+# what stops at the read, the run back from there, writes, after which a new run begins there, and the end.
+BUFFER = "11000"
+SESSION = f"""
+    qSupported:multiprocess+;swbreak+ ? vCont? Hg0 qC qfThreadInfo qXfer:features:read:target.xml:0,200 g p2 m10000,8
+    Z0,10002,4 c s g bs p20 z0,10002,4 Z2,{BUFFER},4 c m{BUFFER},4 bc vCont;c p20 bs m{BUFFER},4 s
+    P10=0100000000000000 M{BUFFER},2:7a79 m{BUFFER},4 G00 qRcmd,7374617473 vCont;s:1 c g k
+""".split()
+PACKETS = re.compile(rb"(?:\+|\$[^#]*#[0-9a-f]{2})*")
 
 
 @dataclass(frozen=True)
@@ -157,7 +169,9 @@ class Case:
                 self.words, cwd=folder, stdin=given, capture_output=True, timeout=SECONDS, env={**os.environ, **set_by}
             )
             taken = os.lseek(given.fileno(), 0, os.SEEK_CUR)
-            left = tuple((it.name, it.read_bytes()) for it in sorted(Path(folder).iterdir()))
+            # (what -g adds has the path of the folder, which is as long each time)
+            here = os.fsencode(os.path.realpath(folder))
+            left = tuple((it.name, it.read_bytes().replace(here, b"")) for it in sorted(Path(folder).iterdir()))
         message = process.stderr.decode("utf8", "replace").replace(f"{self.at}/", "")
         return Answer(process.returncode, process.stdout, message, taken, left)
 
@@ -181,7 +195,8 @@ class Case:
 
     def was_begun(self, came):
         """Whether an answer was begun, and tells then that memory ran out."""
-        begun = {"trace": self.has_lines, "test": self.has_failed, "batch": self.has_answer}.get(self.words[1])
+        kinds = {"trace": self.has_lines, "test": self.has_failed, "batch": self.has_answer, "gdb": self.has_packets}
+        begun = kinds.get(self.words[1])
         return begun is not None and begun(came)
 
     def has_lines(self, came):
@@ -189,6 +204,11 @@ class Case:
         lines, told, rest = came.message.partition(REFUSED.message)
         is_part = lines.endswith("\n") and self.wanted.message.startswith(lines)
         return is_part and not rest and replace(came, message=told) == REFUSED
+
+    def has_packets(self, came):
+        """Whether whole packets were sent, and then that memory ran out."""
+        is_part = self.wanted.out.startswith(came.out) and PACKETS.fullmatch(came.out) is not None
+        return is_part and replace(came, out=b"", taken=0) == REFUSED
 
     def has_failed(self, came):
         """Whether the one case failed, because memory ran out."""
@@ -207,6 +227,11 @@ class Case:
 def output_of(at, *words):
     """What ./rv writes to standard output for a call that makes what cases begin with, or are compared with."""
     return subprocess.run([RV, *words], cwd=at, check=True, timeout=SECONDS, stdout=subprocess.PIPE).stdout
+
+
+def ordinary(words, at, given=b""):
+    """The answer of a call of ./rv that has to succeed and to say nothing, where its program does not end it."""
+    return replace(Case("", [RV, *words], at, given, None).answer(), status=0, message="")
 
 
 def written(at, texts, options):
@@ -275,12 +300,16 @@ def commands(name, source, at, texts):
     calls += images(name, at) if name == "hello" else []
     if name == "two_files":
         (at / "x.a").write_bytes(archive_of([("2.o", objects[1])]))
-        words = ["ld", "-o", "exe", "--map", "map", objs[0], "--library", str(at / "x.a")]
-        calls += [(f"ld of an archive {name}", words, wrote(exe=exe, map=map_))]
+        library, outputs = ["--library", str(at / "x.a")], ["-o", "exe", "--map", "map"]
+        calls += [(f"ld of an archive {name}", ["ld", *outputs, objs[0], *library], wrote(exe=exe, map=map_))]
+        known = [("build -g", paths), ("build -g with an archive", [paths[0], *library])]
+        known = [(called, ["build", "-g", *outputs, *files]) for called, files in known]
+        calls += [(f"{called} {name}", words, ordinary(words, at)) for called, words in known]
     for called, words, wanted in calls:
         yield Case(called, [RV, *words], at, source.given if wanted is ran else b"", wanted)
     if name == "echo_four":
         yield from of_loops(name, source, at)
+        yield of_gdb(name, source, at)
 
 
 def of_loops(name, source, at):
@@ -296,6 +325,14 @@ def of_loops(name, source, at):
         given = json.dumps(call).encode() + b"\n"
         process = subprocess.run([RV, "batch"], input=given, check=True, timeout=SECONDS, stdout=subprocess.PIPE)
         yield Case(f"{called} {name}", [RV, "batch"], at, given, Answer(0, process.stdout, "", len(given), ()))
+
+
+def of_gdb(name, source, at):
+    """A session of gdb, whose packets come all at once."""
+    (at / "input").write_bytes(source.given)
+    words = ["gdb", "--input", str(at / "input"), str(at / "1.s")]
+    given = b"".join(framed(it.encode()) for it in SESSION)
+    return Case(f"gdb {name}", [RV, *words], at, given, ordinary(words, at, given))
 
 
 def images(name, at):
