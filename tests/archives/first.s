@@ -11,15 +11,8 @@
 # rv: ld -o exe --map map f.o --library start.a
 # rv: run exe
 # exit: 7
-#--- main.s
-.globl _start
-_start: call f
-li a7, 93
-ecall
-#--- f.s
-.globl f
-f: li a0, 7
-ret
+{{main.txt}}
+{{f.txt}}
 #--- f2.s
 .globl f
 f: li a0, 9

@@ -11,6 +11,9 @@
 # rv: ld -o exe --map map main.o --start-group --library a.a --library b.a --end-group
 # rv: run exe
 # exit: 33
+# rv: ld -o exe --map map --start-group --library b.a main.o --library a.a --end-group
+# rv: run exe
+# exit: 33
 # rv: ld -o exe --map map main.o --library a.a --library b.a --library a.a
 # rv: run exe
 # exit: 33
@@ -23,30 +26,4 @@
 # rv: ld -o exe main.o --start-group --start-group --end-group
 # status: 2
 # errors has: error: --start-group stands in another group
-#--- main.s
-.globl _start
-_start: call f
-li a7, 93
-ecall
-#--- f_g.s
-.globl f
-f: addi sp, sp, -16
-sd ra, 0(sp)
-call g
-addi a0, a0, 1
-ld ra, 0(sp)
-addi sp, sp, 16
-ret
-#--- g_h.s
-.globl g
-g: addi sp, sp, -16
-sd ra, 0(sp)
-call h
-addi a0, a0, 2
-ld ra, 0(sp)
-addi sp, sp, 16
-ret
-#--- h.s
-.globl h
-h: li a0, 30
-ret
+{{chain.txt}}

@@ -7,12 +7,5 @@
 # rv: ld -o exe --map map main.o --library lib.a
 # rv: run exe
 # exit: 7
-#--- main.s
-.globl _start
-_start: call f
-li a7, 93
-ecall
-#--- f.s
-.globl f
-f: li a0, 7
-ret
+{{main.txt}}
+{{f.txt}}

@@ -26,27 +26,12 @@
 # exit: 7
 # rv: ld -o exe --library one.a main.o
 # fault: L5 Undefined f
-#--- main.s
-.globl _start
-_start: call f
-li a7, 93
-ecall
-#--- f.s
-.globl f
-f: li a0, 7
-ret
+{{main.txt}}
+{{f.txt}}
 #--- bad.s
 .globl unused
 unused: tail nowhere
-#--- f_g.s
-.globl f
-f: addi sp, sp, -16
-sd ra, 0(sp)
-call g
-addi a0, a0, 1
-ld ra, 0(sp)
-addi sp, sp, 16
-ret
+{{f_g.txt}}
 #--- g.s
 .globl g
 g: li a0, 20

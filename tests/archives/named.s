@@ -1,7 +1,6 @@
 # -l NAME is libNAME.a of the first folder that has one; without any nothing behind it is read.
 # rv: as -o main.o main.s
 # rv: as -o f.o f.s
-# rv: as -o f2.o f2.s
 # archive: libx.a f.o
 # rv: ld -o exe --map map main.o -L nowhere -L . -l x
 # rv: run exe
@@ -21,16 +20,5 @@
 # rv: build -o exe main.s --library libx.a --gc-sections
 # rv: run exe
 # exit: 7
-#--- main.s
-.globl _start
-_start: call f
-li a7, 93
-ecall
-#--- f.s
-.globl f
-f: li a0, 7
-ret
-#--- f2.s
-.globl f
-f: li a0, 9
-ret
+{{main.txt}}
+{{f.txt}}
