@@ -13,15 +13,11 @@ usage: collected.py [NAME ..]     only cases whose path below tests/ begins so
 Standard library alone; the last line is 'N passed, M failed'.
 """
 
-import os
 import struct
-import subprocess
 import sys
-import tempfile
-from concurrent.futures import ThreadPoolExecutor
-from pathlib import Path
 
-from run import RV, SECONDS, Failed, calls, cases, same
+from run import Failed, same
+from twice import both, call, main
 
 OPTION = "--gc-sections"
 # Is refused beside that option, which would leave out what it adds.
@@ -92,24 +88,13 @@ def left_out(objects):
     return {(f + 1, it.number[s]) for f, it in enumerate(objects) for s in it.loaded if (f, s) not in kept}
 
 
-def call(folder, words):
-    """What a call of rv says where it is refused."""
-    process = subprocess.run([RV, *words], cwd=folder, capture_output=True, timeout=SECONDS)
-    return process.stderr.decode("utf8", "replace") if process.returncode else None
-
-
 def lines(folder, name, word):
     return {tuple(it.split()[1:]) for it in (folder / name).read_text().splitlines() if it.startswith(f"{word} ")}
 
 
 def compare(folder, words):
     """Compares what one build or link makes without the option and with it."""
-    skipped = ("-o", "--map")
-    given = [it for at, it in enumerate(words) if it not in (*skipped, OPTION) and words[at - 1] not in skipped]
-    results = [
-        call(folder, [given[0], "-o", it, "--map", f"{it}.map", *option, *given[1:]])
-        for it, option in (("whole", []), ("left", [OPTION]))
-    ]
+    given, results = both(folder, words, OPTION, ("whole", "left"))
     if results[0] and results[0].startswith(OF_A_SECTION):
         if results[1] is not None and not results[1].startswith(("rv: L7 ", *OF_A_SECTION)):
             raise Failed(f"{results[0].strip()} became {results[1].strip()}")
@@ -137,38 +122,10 @@ def compare(folder, words):
     same("names alone with the option", set(), alone)
 
 
-def run(case):
-    """How many builds and links of a case were compared, and what is wrong."""
-    name, files, head = case
-    count = 0
-    with tempfile.TemporaryDirectory() as folder:
-        folder = Path(folder)
-        for file, held in files.items():
-            (folder / file).write_bytes(held)
-        try:
-            for words, _ in calls(files, head):
-                if words[:1] in (["build"], ["ld"]) and "-o" in words and OTHER not in words:
-                    compare(folder, words)
-                    count += 1
-                call(folder, words)
-        except (Failed, OSError, ValueError, struct.error, subprocess.TimeoutExpired) as why:
-            return count, f"{name}: {why}"
-    return count, None
-
-
-def main(names):
-    if not RV.exists():
-        sys.exit("no ./rv: run make first")
-    with ThreadPoolExecutor(len(os.sched_getaffinity(0))) as pool:
-        results = list(pool.map(run, cases(names)))
-    for _, wrong in results:
-        if wrong:
-            print(wrong)
-    failed = sum(wrong is not None for _, wrong in results)
-    print(f"{sum(count for count, _ in results)} builds and links with {OPTION} and without")
-    print(f"{len(results) - failed} passed, {failed} failed")
-    return 1 if failed or not results else 0
+def is_compared(words):
+    """Whether a call makes an executable, and may have the option."""
+    return words[:1] in (["build"], ["ld"]) and "-o" in words and OTHER not in words
 
 
 if __name__ == "__main__":
-    sys.exit(main(sys.argv[1:]))
+    sys.exit(main(sys.argv[1:], f"builds and links with {OPTION} and without", is_compared, compare))

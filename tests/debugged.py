@@ -13,15 +13,11 @@ usage: debugged.py [NAME ..]     only cases whose path below tests/ begins so
 Standard library alone; the last line is 'N passed, M failed'.
 """
 
-import os
 import struct
-import subprocess
 import sys
-import tempfile
-from concurrent.futures import ThreadPoolExecutor
-from pathlib import Path
 
-from run import RV, SECONDS, Failed, calls, cases, same
+from run import Failed, same
+from twice import both, main
 
 OPTION = "-g"
 STMT_LIST, LOW_PC, HIGH_PC, NAME, COMP_DIR = 0x10, 0x11, 0x12, 0x03, 0x1B
@@ -184,20 +180,9 @@ def told(folder, text, names):
     return region, [(it[1], int(it[2], 16)) for it in lines if it[0] == "global"], units
 
 
-def call(folder, words):
-    """What a call of rv says where it is refused."""
-    process = subprocess.run([RV, *words], cwd=folder, capture_output=True, timeout=SECONDS)
-    return process.stderr.decode("utf8", "replace") if process.returncode else None
-
-
 def compare(folder, words):
     """Compares what one build makes without the option and with it, and reads what is added."""
-    skipped = ("-o", "--map")
-    given = [it for at, it in enumerate(words) if it not in (*skipped, OPTION) and words[at - 1] not in skipped]
-    results = [
-        call(folder, [given[0], "-o", it, "--map", f"{it}.map", *option, *given[1:]])
-        for it, option in (("plain", []), ("known", [OPTION]))
-    ]
+    given, results = both(folder, words, OPTION, ("plain", "known"))
     # (a line of usage repeats the words of the call)
     same("what is refused", *(it and it.replace(f" {OPTION} ", " ") for it in results))
     if results[0]:
@@ -223,38 +208,10 @@ def compare(folder, words):
     same("addresses", [(at, it[LOW_PC], it[HIGH_PC]) for at, it in heads], list(ranges(found)))
 
 
-def run(case):
-    """How many builds of a case were compared, and what is wrong."""
-    name, files, head = case
-    count = 0
-    with tempfile.TemporaryDirectory() as folder:
-        folder = Path(folder).resolve()
-        for file, held in files.items():
-            (folder / file).write_bytes(held)
-        try:
-            for words, _ in calls(files, head):
-                if words[:1] == ["build"] and "-o" in words:
-                    compare(folder, words)
-                    count += 1
-                call(folder, words)
-        except (Failed, OSError, ValueError, KeyError, struct.error, subprocess.TimeoutExpired) as why:
-            return count, f"{name}: {why!r}"
-    return count, None
-
-
-def main(names):
-    if not RV.exists():
-        sys.exit("no ./rv: run make first")
-    with ThreadPoolExecutor(len(os.sched_getaffinity(0))) as pool:
-        results = list(pool.map(run, cases(names)))
-    for _, wrong in results:
-        if wrong:
-            print(wrong)
-    failed = sum(wrong is not None for _, wrong in results)
-    print(f"{sum(count for count, _ in results)} builds with {OPTION} and without")
-    print(f"{len(results) - failed} passed, {failed} failed")
-    return 1 if failed or not results else 0
+def is_compared(words):
+    """Whether a call builds an executable."""
+    return words[:1] == ["build"] and "-o" in words
 
 
 if __name__ == "__main__":
-    sys.exit(main(sys.argv[1:]))
+    sys.exit(main(sys.argv[1:], f"builds with {OPTION} and without", is_compared, compare))
