@@ -27,7 +27,7 @@ OF_PROGRAMS = [
     ["tests/debugged.py"],
     ["tests/damaged.py", "--all"],
     ["tests/explained.py"],
-    ["tests/documents.py"],
+    ["tests/documents.py", "--all"],
     ["scripts/pictures.py", "--check"],
     ["tests/shells.py"],
     ["tests/terminal.py"],
