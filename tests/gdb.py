@@ -48,7 +48,8 @@ def is_said(came, wanted):
 
 def debug(folder, words, commands):
     """What gdb says to each command."""
-    first = ["set pagination off", "set confirm off", f"target remote | {RV} gdb {words}"]
+    # (on a machine that does other work as well, two seconds for an answer are not enough)
+    first = ["set pagination off", "set confirm off", "set remotetimeout 60", f"target remote | {RV} gdb {words}"]
     if (folder / "prog").exists():
         first.insert(0, "file prog")
     given = [*first, *(word for command in commands for word in (f"echo \\n{MARK}\\n", command))]
