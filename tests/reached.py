@@ -19,8 +19,9 @@ from pathlib import Path
 
 ROOT = Path(__file__).resolve().parent.parent
 FOLDERS = ("tests", "docs", "examples", "scripts", "bench")
-FILES = ("README.md", "crates.txt", "Makefile")
-SCRIPTS = "run agreeing collected damaged explained documents shells terminal streams editors making refused".split()
+FILES = ("README.md", "CONTRIBUTING.md", "crates.txt", "HANDLES", "Makefile")
+SCRIPTS = "run agreeing collected debugged damaged explained documents shells terminal streams editors".split()
+SCRIPTS += "gdb making refused".split()
 PAGE = 4096
 # What only `expansion` of the library calls, of which crates/rv_call_tests has the cases.
 OF_LIBRARY = {

@@ -115,7 +115,8 @@ BUFFER = "11000"
 SESSION = f"""
     qSupported:multiprocess+;swbreak+ ? vCont? Hg0 qC qfThreadInfo qXfer:features:read:target.xml:0,200 g p2 m10000,8
     Z0,10002,4 c s g bs p20 z0,10002,4 Z2,{BUFFER},4 c m{BUFFER},4 bc vCont;c p20 bs m{BUFFER},4 s
-    P10=0100000000000000 M{BUFFER},2:7a79 m{BUFFER},4 G00 qRcmd,7374617473 vCont;s:1 c g k
+    P10=0100000000000000 M{BUFFER},2:7a79 m{BUFFER},4 G00 qRcmd,7374617473
+    qRcmd,6c696d69742039 vCont;s:1 c g k
 """.split()
 PACKETS = re.compile(rb"(?:\+|\$[^#]*#[0-9a-f]{2})*")
 
@@ -331,7 +332,8 @@ def of_gdb(name, source, at):
     """A session of gdb, whose packets come all at once."""
     (at / "input").write_bytes(source.given)
     words = ["gdb", "--input", str(at / "input"), str(at / "1.s")]
-    given = b"".join(framed(it.encode()) for it in SESSION)
+    # (a `-` asks for the answer before it again)
+    given = b"-".join(framed(it.encode()) for it in SESSION)
     return Case(f"gdb {name}", [RV, *words], at, given, ordinary(words, at, given))
 
 

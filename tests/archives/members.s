@@ -9,6 +9,8 @@
 # archive: reversed.a g.o f_g.o
 # archive: empty.a
 # wide: wide.a bad.o f.o
+# archive: blank.a f.o
+# patch: blank.a 51 20
 # rv: ld -o exe --map map main.o --library one.a
 # rv: run exe
 # exit: 7
@@ -22,6 +24,10 @@
 # rv: run exe
 # exit: 7
 # rv: ld -o exe --map map main.o --library wide.a
+# rv: run exe
+# exit: 7
+# (a name that ends at a blank)
+# rv: ld -o exe --map map main.o --library blank.a
 # rv: run exe
 # exit: 7
 # rv: ld -o exe --library one.a main.o

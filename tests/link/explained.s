@@ -47,9 +47,10 @@ _start: call f
 .globl _start
 _start: call print_nubmer
 #--- print.s
-.globl print_number
+.globl print_number, print_numbers
 print: nop
 print_number: ret
+print_numbers: ret
 #--- one.s
 .globl _start, f
 _start: nop

@@ -158,6 +158,11 @@
 # status: 1
 # errors: rv: a.o: F6 BadString\n  record 1 of section 4 .symtab has a name without an end, or one that a map cannot show\n
 # rv: as -o a.o call.s
+# patch: a.o 12a 20
+# rv: ld --explain -o exe a.o
+# status: 1
+# errors: rv: a.o: F6 BadString\n  record 1 of section 4 .symtab has a name without an end, or one that a map cannot show\n
+# rv: as -o a.o call.s
 # patch: a.o 1b0 ff
 # rv: ld --explain -o exe a.o
 # status: 1
