@@ -28,7 +28,7 @@ pub(crate) fn decimal(field: &[u8]) -> Option<u64>
 }
 
 /// Whether a digit stands at the front.
-fn begins_number(field: &[u8]) -> bool
+pub(crate) fn begins_number(field: &[u8]) -> bool
     ensures { result ≡ begins_number field.now }
 {
     match field {

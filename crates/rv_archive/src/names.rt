@@ -3,9 +3,9 @@
 ghost use Rattle.std.specs.Prelude.{◌≡◌, ◌<◌, length, IfSome};
 ghost use Rattle.std.specs.List.{list_all};
 ghost use Rattle.rv_archive_laws.specs.Outcomes.{GivesOrRefuses, GivesOrNone};
-ghost use Rattle.rv_archive_laws.specs.Names.{first_byte, up_to, short_name, without_slash, long_name, is_bsd, is_shown_byte, message_name, found_name, member_name};
+ghost use Rattle.rv_archive_laws.specs.Names.{first_byte, up_to, short_name, without_slash, long_name, is_bsd_name, is_bsd_index, is_bsd, is_shown_byte, message_name, found_name, member_name};
 
-use crate::decimal::decimal;
+use crate::decimal::{begins_number, decimal};
 use memchr::memchr;
 use rv_archive_laws::ArchiveFault;
 
@@ -30,7 +30,21 @@ pub(crate) fn member_name<'a>(table: &'a [u8], field: &'a [u8]) -> Result<&'a [u
 fn is_bsd(field: &[u8]) -> bool
     ensures { result ≡ is_bsd field.now }
 {
-    field.starts_with(b"#1/") || field.starts_with(b"__.SYMDEF")
+    is_bsd_name(field) || is_bsd_index(field)
+}
+
+/// Whether the head has the length of a name that stands in front of the contents.
+fn is_bsd_name(field: &[u8]) -> bool
+    ensures { result ≡ is_bsd_name field.now }
+{
+    field.starts_with(b"#1/") && begins_number(&field[3..])
+}
+
+/// Whether it is BSD's index, whose name has no slash behind it as each name of GNU's has.
+fn is_bsd_index(field: &[u8]) -> bool
+    ensures { result ≡ is_bsd_index field.now }
+{
+    field.starts_with(b"__.SYMDEF") && first_byte(b'/', field).is_none()
 }
 
 /// A name that a message can show.

@@ -15,4 +15,4 @@
 
 mod worked;
 
-pub use worked::{index_names_members, members_are_taken, texts_are_members};
+pub use worked::{index_names_members, members_are_taken, slashes_end_names, texts_are_members};

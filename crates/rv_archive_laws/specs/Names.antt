@@ -1,12 +1,12 @@
 -- The name of a member, by what its head says (GNU ar, System V "ar"; LLVM's GNU archives are the
 -- same).
 
-use Rattle.std.specs.Prelude.{ℕ, ◌-◌, ◌==◌, nat_le, nat_eq, Bool, not, ◌&&◌, ◌||◌, List, length, take, drop, codes, Option, Some, None, option_and_then, Result, Ok, Err, if◌then◌else◌, bytes_eq}
+use Rattle.std.specs.Prelude.{ℕ, ◌-◌, ◌==◌, nat_le, nat_eq, Bool, not, ◌&&◌, ◌||◌, List, length, take, drop, codes, Option, Some, None, option_and_then, is_none, Result, Ok, Err, if◌then◌else◌, bytes_eq}
 use Rattle.std.specs.List.{starts_with, list_all, position}
 use Rattle.std.specs.Option.{option_or}
 use Rattle.rv_archive_laws.specs.declared.fault.ArchiveFault.{ArchiveFault}
 use Rattle.rv_archive_laws.specs.declared.fault.ArchiveFault.TheVariants.{BadName, BsdArchive}
-use Rattle.rv_archive_laws.specs.Decimal.{decimal}
+use Rattle.rv_archive_laws.specs.Decimal.{begins_number, decimal}
 
 abbrev pub first_byte : ℕ → List ℕ → Option ℕ
 first_byte byte bytes = position (λ b. b == byte) bytes
@@ -44,10 +44,17 @@ long_name table offset =
 
 -- ---- both
 
--- BSD's names, whose lengths stand in the head, and its index
+-- BSD's names: `#1/` and the length of a name that stands in front of the contents
+abbrev pub is_bsd_name : List ℕ → Bool
+is_bsd_name field = starts_with nat_eq field (codes "#1/") && begins_number (drop 3 field)
+
+-- BSD's index: its name has no slash behind it, as each name of GNU's has
+abbrev pub is_bsd_index : List ℕ → Bool
+is_bsd_index field =
+    starts_with nat_eq field (codes "__.SYMDEF") && is_none (first_byte 47 field)
+
 abbrev pub is_bsd : List ℕ → Bool
-is_bsd field =
-    starts_with nat_eq field (codes "#1/") || starts_with nat_eq field (codes "__.SYMDEF")
+is_bsd field = is_bsd_name field || is_bsd_index field
 
 -- a message can show it: one byte or more, and none is a control character
 abbrev pub is_shown_byte : ℕ → Bool
