@@ -10,8 +10,8 @@
 //!
 //! Nothing here runs.
 //!
-//! Main contracts: `one_archive`, the law that a file is one archive, or has one first fault; and `one_selection`, that what is
-//! taken is determined.
+//! Main contracts: `one_archive`, the law that a file is at most one archive or has at most one first fault, and never both; and
+//! `one_selection`, that what is taken is determined.
 //!
 //! ```text
 //! part_at file 8                                  -- the index of the archive, where it has one

@@ -5,7 +5,6 @@ use Rattle.std.specs.List.{slice_get}
 use Rattle.std.proofs.lemmas.List.{map-append}
 use Rattle.rv_list_laws.proofs.ElementsLemmas.{get_index_or}
 use Rattle.rv_list_laws.proofs.TakeDropLemmas.{take_next}
-use Rattle.rv_archive_laws.specs.Members.{Member}
 use Rattle.rv_archive_laws.specs.Reads.{Archive}
 use Rattle.rv_archive_laws.specs.Taken.{Offer}
 use Rattle.rv_inputs.specs.declared.fault.InputFault.{InputFault}
@@ -13,7 +12,7 @@ use Rattle.rv_inputs.specs.declared.fault.InputFault.TheVariants as faults
 use Rattle.rv_inputs.specs.declared.input.Form.{Form}
 use Rattle.rv_inputs.specs.declared.input.Form.TheVariants as forms
 use Rattle.rv_inputs.specs.declared.input.Input.{Input}
-use Rattle.rv_inputs.specs.Gathered.{Gathering, no_files, with_object, entry_offer, with_archive, Adds, AddsFile, Gathers}
+use Rattle.rv_inputs.specs.Gathered.{Gathering, no_files, with_object, member_object, entry_offer, with_archive, Adds, AddsFile, Gathers}
 use Rattle.rv_inputs.specs.Taken.{IsNotAdded, IsInputRefused}
 
 gathers_more : (xs : List Input) (from mid to : Gathering) (x : Input) → Gathers xs from mid → AddsFile x mid to → Gathers (xs ++ x ∷ []) from to
@@ -58,11 +57,11 @@ map_next f h g out new x old ys i d less pushed same is =
     ∙ ap (λ z. old ++ (map g (map h (take i ys)) ++ z ∷ [])) same
     ∙ ap (λ zs. old ++ zs) (sym (ap (λ l. map g (map h l)) (take_next ys i (get_or ys i d) (get_index_or ys i d less)) ∙ ap (map g) (map-append h (take i ys) (get_or ys i d ∷ [])) ∙ map-append g (map h (take i ys)) (h (get_or ys i d) ∷ [])))
 
-pub object_added : (bytes : List ℕ) (group : ℕ) (from to : Gathering) → to.objects ≡ from.objects ++ bytes ∷ []
+pub object_added : (bytes : List ℕ) (group : ℕ) (from to : Gathering) → to.objects ≡ from.objects ++ record { file = from.files + 1; member = None; bytes = bytes } ∷ []
     → to.offers ≡ from.offers ++ record { name = None; object = length from.objects; file = from.files + 1; group = group } ∷ [] → to.files ≡ from.files + 1 → to.group ≡ group → to ≡ with_object bytes group from
 object_added bytes group from to objects offers files group_is = λ i. record { objects = objects i; offers = offers i; files = files i; group = group_is i }
 
-pub archive_added : (a : Archive) (group first : ℕ) (from to : Gathering) → first ≡ length from.objects → to.objects ≡ from.objects ++ map (λ (m : Member). m.bytes) a.members
+pub archive_added : (a : Archive) (group first : ℕ) (from to : Gathering) → first ≡ length from.objects → to.objects ≡ from.objects ++ map (member_object (from.files + 1)) a.members
     → to.offers ≡ from.offers ++ map (entry_offer first (from.files + 1) group) a.index → to.files ≡ from.files + 1 → to.group ≡ group → to ≡ with_archive a group from
 archive_added a group first from to first_is objects offers files group_is =
     let offered : to.offers ≡ from.offers ++ map (entry_offer (length from.objects) (from.files + 1) group) a.index =

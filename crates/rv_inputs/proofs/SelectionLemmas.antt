@@ -19,26 +19,26 @@ use Rattle.rv_object_file_laws.specs.FirstFault.{first_fault}
 use Rattle.rv_inputs.specs.declared.fault.InputFault.{InputFault}
 use Rattle.rv_inputs.specs.declared.fault.InputFault.TheVariants as faults
 use Rattle.rv_inputs.specs.declared.input.Input.{Input}
-use Rattle.rv_inputs.specs.Gathered.{Gathering, no_files, Gathers}
+use Rattle.rv_inputs.specs.Gathered.{FiledObject, Gathering, no_files, Gathers}
 use Rattle.rv_inputs.specs.Names.{names_said}
 use Rattle.rv_inputs.specs.Taken.{AreNamesOf, wanted, IsTakenBehind, AreRead, IsUnread, IsUnreadIn, IsInputRefused}
 use Rattle.rv_inputs.specs.declared.taken.TakenObject.{TakenObject}
-use Rattle.rv_inputs.specs.Views.{object_bytes}
+use Rattle.rv_inputs.specs.Views.{object_of}
 use Rattle.rv_inputs.proofs.WholeLemmas.{get_either}
 
-module _ (objects : List (List ℕ)) (numbers : List ℕ) (n : ℕ) (names_of : ℕ → ObjectNames) (are : AreNamesOf objects (numbers ++ n ∷ []) names_of) where
+module _ (objects : List FiledObject) (numbers : List ℕ) (n : ℕ) (names_of : ℕ → ObjectNames) (are : AreNamesOf objects (numbers ++ n ∷ []) names_of) where
   pub names_before : AreNamesOf objects numbers names_of
-  names_before = λ i m bytes o here there object. are i m bytes o (get_front numbers (n ∷ []) i m here) there object
+  names_before = λ i m held o here there object. are i m held o (get_front numbers (n ∷ []) i m here) there object
 
-  pub names_last : (bytes : List ℕ) (o : Object) → slice_get objects n ≡ Some bytes → ObjectOf bytes o → names_of n ≡ names_said o
-  names_last bytes o there object = are (length numbers) n bytes o (get_last numbers n) there object
+  pub names_last : (held : FiledObject) (o : Object) → slice_get objects n ≡ Some held → ObjectOf held.bytes o → names_of n ≡ names_said o
+  names_last held o there object = are (length numbers) n held o (get_last numbers n) there object
 
 -- what is taken of these offers, as far as one has come
-abbrev pub TakesSo : List (List ℕ) → List Offer → Position → List ℕ → Type 0
+abbrev pub TakesSo : List FiledObject → List Offer → Position → List ℕ → Type 0
 TakesSo objects offers at numbers = (names_of : ℕ → ObjectNames) (more : List ℕ) → AreNamesOf objects numbers names_of → TakesFrom names_of wanted offers at numbers more → Takes names_of wanted offers (numbers ++ more)
 
 -- no object is taken yet
-pub takes_start : (objects : List (List ℕ)) (offers : List Offer) (at : Position) (numbers : List ℕ) → numbers ≡ [] → at ≡ front → TakesSo objects offers at numbers
+pub takes_start : (objects : List FiledObject) (offers : List Offer) (at : Position) (numbers : List ℕ) → numbers ≡ [] → at ≡ front → TakesSo objects offers at numbers
 takes_start objects offers at numbers none start =
     subst (TakesSo objects offers at) (sym none) (subst (λ p. TakesSo objects offers p []) (sym start) (λ names_of more are rest. rest))
 
@@ -49,7 +49,7 @@ pub below_start : (numbers : List ℕ) (n : ℕ) → numbers ≡ [] → (i k : �
 below_start numbers n none i k here = none_below n i k (subst (λ xs. slice_get xs i ≡ Some k) none here)
 
 -- one object more
-pub takes_more : (objects : List (List ℕ)) (offers : List Offer) (at now : Position) (numbers new : List ℕ) (n : ℕ) → new ≡ numbers ++ n ∷ [] → TakesSo objects offers at numbers
+pub takes_more : (objects : List FiledObject) (offers : List Offer) (at now : Position) (numbers new : List ℕ) (n : ℕ) → new ≡ numbers ++ n ∷ [] → TakesSo objects offers at numbers
     → ((names_of : ℕ → ObjectNames) → AreNamesOf objects numbers names_of → IsNext names_of wanted offers at numbers n now) → TakesSo objects offers now new
 takes_more objects offers at now numbers new n is so next =
     subst (TakesSo objects offers now) (sym is)
@@ -61,7 +61,7 @@ takes_more objects offers at now numbers new n is so next =
     (so names_of (n ∷ more) before (step.offer, step.next, step.object_is, tail)))
 
 -- no object more
-pub takes_all : (objects : List (List ℕ)) (offers : List Offer) (at : Position) (numbers : List ℕ) → TakesSo objects offers at numbers
+pub takes_all : (objects : List FiledObject) (offers : List Offer) (at : Position) (numbers : List ℕ) → TakesSo objects offers at numbers
     → ((names_of : ℕ → ObjectNames) → AreNamesOf objects numbers names_of → next_offer names_of wanted offers at numbers ≡ None)
     → (names_of : ℕ → ObjectNames) → AreNamesOf objects numbers names_of → Takes names_of wanted offers numbers
 takes_all objects offers at numbers so none names_of are =
@@ -93,15 +93,15 @@ next_first names_of offers at now numbers n (x ∷ xs) step takes =
     (xs, ap (λ z. z ∷ xs) same, subst (λ (z : ℕ). TakesFrom names_of wanted offers now (numbers ++ z ∷ []) xs) same behind)
 
 -- all that a link takes has what was taken so far at its front
-abbrev pub Follows : List (List ℕ) → List Offer → Position → List ℕ → Type 0
+abbrev pub Follows : List FiledObject → List Offer → Position → List ℕ → Type 0
 Follows objects offers at numbers = (names_of : ℕ → ObjectNames) → AreNamesOf objects numbers names_of → (all : List ℕ) → Takes names_of wanted offers all
     → (more : List ℕ) × (all ≡ numbers ++ more) × TakesFrom names_of wanted offers at numbers more
 
-pub follows_start : (objects : List (List ℕ)) (offers : List Offer) (at : Position) (numbers : List ℕ) → numbers ≡ [] → at ≡ front → Follows objects offers at numbers
+pub follows_start : (objects : List FiledObject) (offers : List Offer) (at : Position) (numbers : List ℕ) → numbers ≡ [] → at ≡ front → Follows objects offers at numbers
 follows_start objects offers at numbers none start =
     subst (Follows objects offers at) (sym none) (subst (λ p. Follows objects offers p []) (sym start) (λ names_of are all takes. (all, refl, takes)))
 
-pub follows_more : (objects : List (List ℕ)) (offers : List Offer) (at now : Position) (numbers new : List ℕ) (n : ℕ) → new ≡ numbers ++ n ∷ [] → Follows objects offers at numbers
+pub follows_more : (objects : List FiledObject) (offers : List Offer) (at now : Position) (numbers new : List ℕ) (n : ℕ) → new ≡ numbers ++ n ∷ [] → Follows objects offers at numbers
     → ((names_of : ℕ → ObjectNames) → AreNamesOf objects numbers names_of → IsNext names_of wanted offers at numbers n now) → Follows objects offers now new
 follows_more objects offers at now numbers new n is so next =
     subst (Follows objects offers now) (sym is)
@@ -119,37 +119,37 @@ taken_behind g at now numbers n so next = λ names_of are all takes.
     (step.0, was.1 ∙ ap (λ xs. numbers ++ xs) step.1)
 
 -- the objects taken so far were read
-none_read : (objects : List (List ℕ)) → AreRead objects []
+none_read : (objects : List FiledObject) → AreRead objects []
 none_read objects i n bytes here there = cc
 
-pub read_start : (objects : List (List ℕ)) (numbers : List ℕ) → numbers ≡ [] → AreRead objects numbers
+pub read_start : (objects : List FiledObject) (numbers : List ℕ) → numbers ≡ [] → AreRead objects numbers
 read_start objects numbers none = subst (AreRead objects) (sym none) (none_read objects)
 
-last_read : (objects : List (List ℕ)) (n j k : ℕ) (bytes held : List ℕ) → slice_get objects n ≡ Some bytes → first_fault bytes ≡ None → slice_get (n ∷ []) j ≡ Some k → slice_get objects k ≡ Some held → first_fault held ≡ None
-last_read objects n zero k bytes held at good here there =
+last_read : (objects : List FiledObject) (n j k : ℕ) (read held : FiledObject) → slice_get objects n ≡ Some read → first_fault read.bytes ≡ None → slice_get (n ∷ []) j ≡ Some k → slice_get objects k ≡ Some held → first_fault held.bytes ≡ None
+last_read objects n zero k read held at good here there =
     let same : n ≡ k = cc in
-    let found = subst (λ (m : ℕ). slice_get objects m ≡ Some bytes) same at in
-    subst (λ (b : List ℕ). first_fault b ≡ None) (one_value (slice_get objects k) bytes held found there) good
-last_read objects n (suc j) k bytes held at good here there = absurd (cc)
+    let found = subst (λ (m : ℕ). slice_get objects m ≡ Some read) same at in
+    subst (λ (b : FiledObject). first_fault b.bytes ≡ None) (one_value (slice_get objects k) read held found there) good
+last_read objects n (suc j) k read held at good here there = absurd (cc)
 
-pub read_more : (objects : List (List ℕ)) (numbers new : List ℕ) (n : ℕ) (bytes : List ℕ) → new ≡ numbers ++ n ∷ [] → slice_get objects n ≡ Some bytes → first_fault bytes ≡ None → AreRead objects numbers → AreRead objects new
-read_more objects numbers new n bytes is at good read i k held here there =
+pub read_more : (objects : List FiledObject) (numbers new : List ℕ) (n : ℕ) (one : FiledObject) → new ≡ numbers ++ n ∷ [] → slice_get objects n ≡ Some one → first_fault one.bytes ≡ None → AreRead objects numbers → AreRead objects new
+read_more objects numbers new n one is at good read i k held here there =
     elim (get_either numbers (n ∷ []) i k (subst (λ xs. slice_get xs i ≡ Some k) is here)) [
       | inl a ↦ read i k held a.1 there
-      | inr b ↦ last_read objects n b.0 k bytes held at good b.2 there
+      | inr b ↦ last_read objects n b.0 k one held at good b.2 there
     ]
 
-pub unread_in : (g : Gathering) (numbers : List ℕ) (n : ℕ) (bytes : List ℕ) (fault : InputFault) → AreRead g.objects numbers → IsTakenBehind g numbers n → slice_get g.objects n ≡ Some bytes → IsUnread bytes fault → IsUnreadIn g fault
-unread_in g numbers n bytes (faults.Archive file fault) read taken there unread = unread
-unread_in g numbers n bytes (faults.Object object fault) read taken there unread = record {
+pub unread_in : (g : Gathering) (numbers : List ℕ) (n : ℕ) (held : FiledObject) (fault : InputFault) → AreRead g.objects numbers → IsTakenBehind g numbers n → slice_get g.objects n ≡ Some held → IsUnread held fault → IsUnreadIn g fault
+unread_in g numbers n held (faults.Archive file fault) read taken there unread = unread
+unread_in g numbers n held (faults.Object object fault) read taken there unread = record {
   before = numbers;
   read = read;
   number = n;
   taken = taken;
   there = there ∙ ap (λ b. Some b) (sym unread.0);
-  fault = ap first_fault unread.0 ∙ unread.1;
+  fault = ap (λ (o : FiledObject). first_fault o.bytes) unread.0 ∙ unread.1;
 }
-unread_in g numbers n bytes faults.OutOfMemory read taken there unread = tt
+unread_in g numbers n held faults.OutOfMemory read taken there unread = tt
 
 pub refused_by : (inputs : List Input) (g : Gathering) (fault : InputFault) → Gathers inputs no_files g → IsUnreadIn g fault → IsInputRefused inputs fault
 refused_by inputs g (faults.Archive file fault) gathers unread = absurd unread
@@ -170,13 +170,13 @@ number_below offers count n known one = let below = known one.0 one.1 one.2 in o
 -- ---- the objects of numbers
 
 pub numbered_next : (objects : List TakenObject) (numbers : List ℕ) (i dn : ℕ) (d : TakenObject) (taken new : List TakenObject) → i < length numbers → get_or numbers i dn < length objects → new ≡ taken ++ get_or objects (get_or numbers i dn) d ∷ []
-    → map (slice_get (map object_bytes objects)) (take i numbers) ≡ map (λ (b : List ℕ). Some b) (map object_bytes taken)
-    → map (slice_get (map object_bytes objects)) (take (i + 1) numbers) ≡ map (λ (b : List ℕ). Some b) (map object_bytes new)
+    → map (slice_get (map object_of objects)) (take i numbers) ≡ map (λ (b : FiledObject). Some b) (map object_of taken)
+    → map (slice_get (map object_of objects)) (take (i + 1) numbers) ≡ map (λ (b : FiledObject). Some b) (map object_of new)
 numbered_next objects numbers i dn d taken new less below pushed is =
     let n = get_or numbers i dn in let x = get_or objects (get_or numbers i dn) d in
-    ap (map (slice_get (map object_bytes objects))) (take_next numbers i (get_or numbers i dn) (get_index_or numbers i dn less))
-    ∙ map-append (slice_get (map object_bytes objects)) (take i numbers) (n ∷ [])
-    ∙ ap (λ xs. xs ++ slice_get (map object_bytes objects) n ∷ []) is
-    ∙ ap (λ y. map (λ (b : List ℕ). Some b) (map object_bytes taken) ++ y ∷ []) (get_map object_bytes objects n x (get_index_or objects n d below))
-    ∙ sym (map-append (λ (b : List ℕ). Some b) (map object_bytes taken) (object_bytes x ∷ []))
-    ∙ ap (map (λ (b : List ℕ). Some b)) (sym (map-append object_bytes taken (x ∷ [])) ∙ sym (ap (map object_bytes) pushed))
+    ap (map (slice_get (map object_of objects))) (take_next numbers i (get_or numbers i dn) (get_index_or numbers i dn less))
+    ∙ map-append (slice_get (map object_of objects)) (take i numbers) (n ∷ [])
+    ∙ ap (λ xs. xs ++ slice_get (map object_of objects) n ∷ []) is
+    ∙ ap (λ y. map (λ (b : FiledObject). Some b) (map object_of taken) ++ y ∷ []) (get_map object_of objects n x (get_index_or objects n d below))
+    ∙ sym (map-append (λ (b : FiledObject). Some b) (map object_of taken) (object_of x ∷ []))
+    ∙ ap (map (λ (b : FiledObject). Some b)) (sym (map-append object_of taken (x ∷ [])) ∙ sym (ap (map object_of) pushed))

@@ -6,14 +6,13 @@ use Rattle.std.specs.List.{slice_get}
 use Rattle.std.proofs.lemmas.List.{length-map}
 use Rattle.rv_list_laws.proofs.MapLemmas.{get_unmap}
 use Rattle.rv_archive_laws.specs.Index.{Entry}
-use Rattle.rv_archive_laws.specs.Members.{Member}
 use Rattle.rv_archive_laws.specs.Reads.{Archive, Reads}
 use Rattle.rv_archive_laws.specs.Taken.{Offer}
 use Rattle.rv_members.specs.Filed.{AreFiled, AreKnown}
 use Rattle.rv_inputs.specs.declared.input.Form.{Form}
 use Rattle.rv_inputs.specs.declared.input.Form.TheVariants as forms
 use Rattle.rv_inputs.specs.declared.input.Input.{Input}
-use Rattle.rv_inputs.specs.Gathered.{Gathering, no_files, next_group, with_object, entry_offer, with_archive, Adds, AddsFile, Gathers}
+use Rattle.rv_inputs.specs.Gathered.{FiledObject, Gathering, no_files, next_group, with_object, member_object, entry_offer, with_archive, Adds, AddsFile, Gathers}
 use Rattle.rv_inputs.specs.Whole.{IsInOrder}
 use Rattle.rv_inputs.proofs.ArchiveLemmas.{AreWithin, index_within}
 
@@ -85,7 +84,7 @@ known_more xs ys n m le known more i o here =
       | inr b ↦ more b.0 o b.2
     ]
 
-whole_more : (g : Gathering) (objects : List (List ℕ)) (offers : List Offer) (group n : ℕ) → IsInOrder g → g.group ≤ group → group ≤ g.files + 1 → n ≡ length objects → length g.objects ≤ n
+whole_more : (g : Gathering) (objects : List FiledObject) (offers : List Offer) (group n : ℕ) → IsInOrder g → g.group ≤ group → group ≤ g.files + 1 → n ≡ length objects → length g.objects ≤ n
     → ((j : ℕ) (o : Offer) → slice_get offers j ≡ Some o → (o.file ≡ g.files + 1) × (o.group ≡ group)) → AreKnown offers n
     → IsInOrder (record { objects = objects; offers = g.offers ++ offers; files = g.files + 1; group = group })
 whole_more g objects offers group n whole up low is more at known = record {
@@ -122,14 +121,14 @@ one_known g group (suc j) o here = absurd (cc)
 
 whole_object : (bytes : List ℕ) (group : ℕ) (g : Gathering) → IsInOrder g → g.group ≤ group → group ≤ g.files + 1 → IsInOrder (with_object bytes group g)
 whole_object bytes group g whole up low =
-    let long = length_both g.objects (bytes ∷ []) in
-    whole_more g (g.objects ++ bytes ∷ []) (new_offer g group ∷ []) group (length g.objects + 1) whole up low (omega (arith, long)) (omega arith) (one_at g group) (one_known g group)
+    let long = length_both g.objects (record { file = g.files + 1; member = None; bytes = bytes } ∷ []) in
+    whole_more g (g.objects ++ record { file = g.files + 1; member = None; bytes = bytes } ∷ []) (new_offer g group ∷ []) group (length g.objects + 1) whole up low (omega (arith, long)) (omega arith) (one_at g group) (one_known g group)
 
 whole_archive : (bytes : List ℕ) (a : Archive) (group : ℕ) (g : Gathering) → Reads bytes (Ok a) → IsInOrder g → g.group ≤ group → group ≤ g.files + 1 → IsInOrder (with_archive a group g)
 whole_archive bytes a group g reads whole up low =
-    let long = length_both g.objects (map (λ (m : Member). m.bytes) a.members) in
-    let count = length-map a.members (λ (m : Member). m.bytes) in
-    whole_more g (g.objects ++ map (λ (m : Member). m.bytes) a.members) (map (entry_offer (length g.objects) (g.files + 1) group) a.index) group (length g.objects + length a.members) whole up low
+    let long = length_both g.objects (map (member_object (g.files + 1)) a.members) in
+    let count = length-map a.members (member_object (g.files + 1)) in
+    whole_more g (g.objects ++ map (member_object (g.files + 1)) a.members) (map (entry_offer (length g.objects) (g.files + 1) group) a.index) group (length g.objects + length a.members) whole up low
     (omega (arith, long, count)) (omega arith)
     (λ j o here. (let u = get_unmap (entry_offer (length g.objects) (g.files + 1) group) a.index j o here in (sym (ap (λ (x : Offer). x.file) u.2), sym (ap (λ (x : Offer). x.group) u.2))))
     (λ j o here.

@@ -11,13 +11,14 @@ use Rattle.rv_object_file_laws.specs.ObjectOf.{ObjectOf}
 use Rattle.rv_inputs.specs.declared.fault.InputFault.{InputFault}
 use Rattle.rv_inputs.specs.declared.fault.InputFault.TheVariants as faults
 use Rattle.rv_inputs.specs.declared.input.Input.{Input}
-use Rattle.rv_inputs.specs.Gathered.{Gathering, no_files, Gathers}
+use Rattle.rv_inputs.specs.Gathered.{FiledObject, Gathering, no_files, Gathers}
 use Rattle.rv_inputs.specs.Names.{names_said}
+use Rattle.rv_inputs.specs.Views.{object_of}
 
 -- the names of these objects, by their numbers, are what their files say
-abbrev pub AreNamesOf : List (List ℕ) → List ℕ → (ℕ → ObjectNames) → Type 0
-AreNamesOf objects numbers names_of = (i n : ℕ) (bytes : List ℕ) (o : Object) →
-    slice_get numbers i ≡ Some n → slice_get objects n ≡ Some bytes → ObjectOf bytes o →
+abbrev pub AreNamesOf : List FiledObject → List ℕ → (ℕ → ObjectNames) → Type 0
+AreNamesOf objects numbers names_of = (i n : ℕ) (held : FiledObject) (o : Object) →
+    slice_get numbers i ≡ Some n → slice_get objects n ≡ Some held → ObjectOf held.bytes o →
     names_of n ≡ names_said o
 
 -- a run begins at `_start`, so a link asks for it from the start (GNU ld, "Setting the Entry Point")
@@ -29,13 +30,13 @@ abbrev pub AreTakenOf : Gathering → List ℕ → Type 0
 AreTakenOf g numbers = (names_of : ℕ → ObjectNames) → AreNamesOf g.objects numbers names_of →
     Takes names_of wanted g.offers numbers
 
--- of these files a link takes objects of these bytes, in this order
-pub record AreObjectsTaken (inputs : List Input) (taken : List (List ℕ)) : Type 0 where
+-- of these files a link takes these objects, in this order
+pub record AreObjectsTaken (inputs : List Input) (taken : List FiledObject) : Type 0 where
   pub gathering : Gathering
   pub gathers : Gathers inputs no_files gathering
   pub numbers : List ℕ
   pub takes : AreTakenOf gathering numbers
-  pub bytes : map (slice_get gathering.objects) numbers ≡ map (λ x. Some x) taken
+  pub objects : map (slice_get gathering.objects) numbers ≡ map (λ x. Some x) taken
 
 -- why the file of a number is no archive; memory may run out whatever it is
 abbrev pub IsNoArchive : ℕ → List ℕ → InputFault → Type 0
@@ -64,31 +65,30 @@ IsTakenBehind g before number =
     → Takes names_of wanted g.offers all → (more : List ℕ) × (all ≡ before ++ number ∷ more)
 
 -- the objects of these numbers have no fault
-abbrev pub AreRead : List (List ℕ) → List ℕ → Type 0
-AreRead objects numbers = (i n : ℕ) (bytes : List ℕ) → slice_get numbers i ≡ Some n
-    → slice_get objects n ≡ Some bytes → first_fault bytes ≡ None
+abbrev pub AreRead : List FiledObject → List ℕ → Type 0
+AreRead objects numbers = (i n : ℕ) (held : FiledObject) → slice_get numbers i ≡ Some n
+    → slice_get objects n ≡ Some held → first_fault held.bytes ≡ None
 
--- of the objects that a link takes the one of these bytes is the first that has a fault, and has
--- this one
-pub record IsFirstUnread (g : Gathering) (held : List ℕ) (why : FileFault) : Type 0 where
+-- of the objects that a link takes this one is the first that has a fault, and has this one
+pub record IsFirstUnread (g : Gathering) (held : FiledObject) (why : FileFault) : Type 0 where
   pub before : List ℕ
   pub read : AreRead g.objects before
   pub number : ℕ
   pub taken : IsTakenBehind g before number
   pub there : slice_get g.objects number ≡ Some held
-  pub fault : first_fault held ≡ Some why
+  pub fault : first_fault held.bytes ≡ Some why
 
--- why the object of these bytes says nothing of names; memory may run out whatever it is
-abbrev pub IsUnread : List ℕ → InputFault → Type 0
-IsUnread bytes (faults.Archive file fault) = ⊥
-IsUnread bytes (faults.Object object fault) =
-    (object.bytes.now ≡ bytes) × (first_fault bytes ≡ Some fault)
-IsUnread bytes faults.OutOfMemory = ⊤
+-- why an object says nothing of names; memory may run out whatever it is
+abbrev pub IsUnread : FiledObject → InputFault → Type 0
+IsUnread held (faults.Archive file fault) = ⊥
+IsUnread held (faults.Object object fault) =
+    (object_of object ≡ held) × (first_fault held.bytes ≡ Some fault)
+IsUnread held faults.OutOfMemory = ⊤
 
 -- why one of those that a link takes does not
 abbrev pub IsUnreadIn : Gathering → InputFault → Type 0
 IsUnreadIn g (faults.Archive file fault) = ⊥
-IsUnreadIn g (faults.Object object fault) = IsFirstUnread g object.bytes.now fault
+IsUnreadIn g (faults.Object object fault) = IsFirstUnread g (object_of object) fault
 IsUnreadIn g faults.OutOfMemory = ⊤
 
 -- why there are none; memory may run out whatever the files are

@@ -6,9 +6,9 @@ ghost use Rattle.rv_archive_laws.specs.Reads.{Reads};
 ghost use Rattle.rv_archive_laws.specs.Index as laws;
 ghost use Rattle.rv_archive.specs.View.{plain_archive, plain_entry, plain_member};
 ghost use Rattle.rv_members.specs.Plain.{plain_offer};
-ghost use Rattle.rv_inputs.specs.Gathered.{no_files, next_group, entry_offer, with_object, Adds, AddsFile, Gathers};
+ghost use Rattle.rv_inputs.specs.Gathered.{no_files, next_group, member_object, entry_offer, with_object, Adds, AddsFile, Gathers};
 ghost use Rattle.rv_inputs.specs.Taken.{IsNoArchive, IsNotAdded, IsInputRefused};
-ghost use Rattle.rv_inputs.specs.Views.{gathering_of, object_bytes};
+ghost use Rattle.rv_inputs.specs.Views.{gathering_of, object_of};
 
 use crate::fault::InputFault;
 use crate::input::{Form, Input};
@@ -153,8 +153,8 @@ fn put_members<'a>(
     file: usize,
     members: &[Member<'a>],
 ) -> Result<(), AllocError>
-    ensures { OnOk result (map object_bytes objects.new.items
-        ≡ map object_bytes objects.old.items ++ map (λ m. m.bytes) (map plain_member members.now)) }
+    ensures { OnOk result (map object_of objects.new.items
+        ≡ map object_of objects.old.items ++ map (member_object file) (map plain_member members.now)) }
 {
     for i in 0..members.len() {
         let member = members[i];

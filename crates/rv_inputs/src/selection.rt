@@ -8,7 +8,7 @@ ghost use Rattle.rv_object_laws.specs.Object.{Object as SaidObject};
 ghost use Rattle.rv_members.specs.Plain.{plain_names};
 ghost use Rattle.rv_inputs.specs.Names.{names_said};
 ghost use Rattle.rv_inputs.specs.Taken.{AreTakenOf, IsUnread, IsUnreadIn};
-ghost use Rattle.rv_inputs.specs.Views.{gathering_of};
+ghost use Rattle.rv_inputs.specs.Views.{gathering_of, object_of};
 ghost use Rattle.rv_inputs.specs.Whole.{IsInOrder};
 
 use crate::fault::InputFault;
@@ -49,7 +49,7 @@ fn said_names<'a>(alloc: Global, object: TakenObject<'a>) -> Result<ObjectNames<
     ensures names { IfOk result (λ names. (said : SaidObject) × ObjectOf object.entry.bytes.now said
         × (plain_names names ≡ names_said said)) }
     ensures good { OnOk result (first_fault object.entry.bytes.now ≡ None) }
-    ensures refuses { IfErr result (IsUnread object.entry.bytes.now) }
+    ensures refuses { IfErr result (IsUnread (object_of object.entry)) }
 {
     match read(alloc, object.bytes) {
         Ok(said) => Ok(names_in(alloc, &said)?),

@@ -2,7 +2,7 @@
 
 ghost use Rattle.std.specs.Prelude.{◌≡◌, ◌<◌, ℕ, List, length, map, Some, IfOk, IfErr};
 ghost use Rattle.std.specs.List.{slice_get};
-ghost use Rattle.rv_inputs.specs.Views.{object_bytes};
+ghost use Rattle.rv_inputs.specs.Views.{object_of};
 ghost use Rattle.rv_inputs.specs.Taken.{AreObjectsTaken, IsInputRefused};
 
 use crate::fault::InputFault;
@@ -27,7 +27,7 @@ pub fn taken_objects<'a>(
     alloc: Global,
     inputs: &[Input<'a>],
 ) -> Result<Vec<TakenObject<'a>>, InputFault<'a>>
-    ensures taken { IfOk result (λ taken. AreObjectsTaken inputs.now (map object_bytes taken.items)) }
+    ensures taken { IfOk result (λ taken. AreObjectsTaken inputs.now (map object_of taken.items)) }
     ensures refuses { IfErr result (IsInputRefused inputs.now) }
 {
     let gathered = gather(alloc, inputs)?;
@@ -43,8 +43,8 @@ fn numbered<'a>(
     numbers: &[usize],
 ) -> Result<Vec<TakenObject<'a>>, AllocError>
     requires { (i n : ℕ) → slice_get numbers.now i ≡ Some n → n < length objects.now }
-    ensures { IfOk result (λ taken. map (slice_get (map object_bytes objects.now)) numbers.now
-        ≡ map (λ bytes. Some bytes) (map object_bytes taken.items)) }
+    ensures { IfOk result (λ taken. map (slice_get (map object_of objects.now)) numbers.now
+        ≡ map (λ o. Some o) (map object_of taken.items)) }
 {
     let mut taken = Vec::with_capacity(alloc, numbers.len())?;
     for i in 0..numbers.len() {

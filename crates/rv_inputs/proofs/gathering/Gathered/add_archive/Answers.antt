@@ -1,12 +1,11 @@
 use Rattle.std.proofs.Common.{◌≡◌, ◌+◌, ◌++◌, List, Some, length, map, refl, ap, subst, ◌∙◌, arith}
 use Rattle.std.specs.List.{slice_get}
 use Rattle.std.proofs.lemmas.List.{length-map}
-use Rattle.rv_archive_laws.specs.Members.{Member}
 use Rattle.rv_archive.specs.declared.index.Entry.{Entry as DeclaredEntry}
 use Rattle.rv_archive.specs.declared.members.Member.{Member as DeclaredMember}
 use Rattle.rv_archive.specs.View.{plain_archive, plain_entry, plain_member}
-use Rattle.rv_inputs.specs.Gathered.{entry_offer}
-use Rattle.rv_inputs.specs.Views.{gathering_of, object_bytes}
+use Rattle.rv_inputs.specs.Gathered.{member_object, entry_offer}
+use Rattle.rv_inputs.specs.Views.{gathering_of, object_of}
 use Rattle.rv_inputs.proofs.ArchiveLemmas.{index_within}
 use Rattle.rv_inputs.proofs.GatheringLemmas.{archive_added}
 use Rattle.rv_inputs.proofs.gathering.Gathered.add_archive.Goals as goal
@@ -24,9 +23,9 @@ put_index-requires c = λ i e here.
 pub returns-clause-added : goal.returns-clause-added
 returns-clause-added c =
     let archive = plain_archive c.in_ok-archive.archive in let from = gathering_of c.args.self.now in
-    let long = length-map c.args.self.now.objects.items object_bytes in
+    let long = length-map c.args.self.now.objects.items object_of in
     let first : c.len-first.result ≡ length from.objects = omega (arith, c.len-first.ensures, c.args.self.now.objects.ok.0, long) in
-    let objects = c.in_ok-put_members.ensures ∙ ap (λ (ms : List DeclaredMember). from.objects ++ map (λ (m : Member). m.bytes) (map plain_member ms)) c.as_slice.ensures.value in
+    let objects = c.in_ok-put_members.ensures ∙ ap (λ (ms : List DeclaredMember). from.objects ++ map (member_object (from.files + 1)) (map plain_member ms)) c.as_slice.ensures.value in
     let offers = c.in_ok-put_index.ensures ∙ ap (λ (es : List DeclaredEntry). from.offers ++ map (entry_offer c.len-first.result (from.files + 1) c.args.group) (map plain_entry es)) c.as_slice-2.ensures.value in (
       archive,
       c.in_ok-archive.ensures.reads,
