@@ -4,7 +4,7 @@
 //! the map; paths are as the words name them, below the working directory.
 
 use rv_chain::Built;
-use rv_debug::{SourceFile, debug_file};
+use rv_debug::{DebugFault, SourceFile, debug_file};
 use rv_system::{JobError, ReadFault, System};
 use std::alloc::{AllocError, Global};
 
@@ -24,13 +24,14 @@ pub(crate) fn debugged<S: System>(
         built.map.as_slice(),
         directory.as_bytes(),
         sources.as_slice(),
-    )? {
-        Some(file) => Ok(Built {
+    ) {
+        Ok(file) => Ok(Built {
             exe: file,
             map: built.map,
         }),
-        None => Err(JobError::Line(format!(in alloc;
-            "{exe}: names and lines for debuggers would need 4 GiB or more"
+        Err(DebugFault::OutOfMemory) => Err(JobError::Memory),
+        Err(fault) => Err(JobError::Line(format!(in alloc;
+            "{exe}: no names and lines for debuggers: {fault}"
         )?)),
     }
 }

@@ -1,15 +1,19 @@
 -- Why no file with debug information is made.
 
-use Rattle.std.specs.Prelude.{ℕ, ◌≡◌, ◌≤◌, ◌+◌, ◌^◌, ◌⊎◌, false, List, [], ◌∷◌, ◌++◌, length, Some, None}
+use Rattle.std.specs.Prelude.{ℕ, ◌≡◌, ◌≤◌, ◌+◌, ◌^◌, ◌⊎◌, false, List, [], ◌∷◌, ◌++◌, length, Some, None, ⊤}
 use Rattle.rv_fault.specs.declared.file_fault.FileFault.{FileFault}
 use Rattle.rv_elf_laws.specs.declared.program_header.ProgramHeader.{ProgramHeader}
 use Rattle.rv_elf_laws.specs.FirstFault.{first_true, open_tests}
 use Rattle.rv_elf_laws.specs.Sections.{program_headers}
 use Rattle.rv_map_laws.specs.declared.map.Region.{Region}
+use Rattle.rv_map_laws.specs.Limits.{IsMap}
 use Rattle.rv_map_laws.specs.Map.{Global, Map}
+use Rattle.rv_map_laws.specs.Text.{map_text}
 use Rattle.rv_line_laws.specs.declared.line_row.LineRow.{LineRow}
 use Rattle.rv_line_laws.specs.declared.line_row.SourceFile.{SourceFile}
 use Rattle.rv_lines.specs.Table.{IsLong}
+use Rattle.rv_debug.specs.declared.fault.DebugFault.{DebugFault}
+use Rattle.rv_debug.specs.declared.fault.DebugFault.TheVariants as faults
 use Rattle.rv_debug_laws.specs.Code.{are_by_file, code_of}
 use Rattle.rv_debug_laws.specs.Stored.{can_grow, stored_at}
 use Rattle.rv_debug_laws.specs.Symbols.{string_table}
@@ -24,12 +28,11 @@ IsUnstored programs r =
 -- the executable is none behind which more can stand, or has not the bytes of the map's regions
 abbrev pub IsOther : List ℕ → Map → Type 0
 IsOther exe m =
-    (2 ^ 32 ≤ length exe)
-    ⊎ (((fault : FileFault) × (first_true (open_tests exe) ≡ Some fault))
+    ((fault : FileFault) × (first_true (open_tests exe) ≡ Some fault))
     ⊎ ((can_grow exe ≡ false)
     ⊎ (IsUnstored (program_headers exe) m.text
     ⊎ (IsUnstored (program_headers exe) m.rodata
-    ⊎ IsUnstored (program_headers exe) m.data))))
+    ⊎ IsUnstored (program_headers exe) m.data)))
 
 -- the numbers of a source's unit need more than 32 bits
 abbrev pub IsLongUnit : (directory : List ℕ) → SourceFile → List LineRow → DebugBytes → Type 0
@@ -56,9 +59,37 @@ pub record HasLongSection (m : Map) (directory : List ℕ) (sources : List Sourc
     pub long : (2 ^ 32 ≤ length debug.lines)
         ⊎ ((2 ^ 32 ≤ length debug.info) ⊎ (2 ^ 32 ≤ length debug.ranges))
 
--- the map's rows are in another order, or what would be added needs more than 32 bits
-abbrev pub IsUnfit : Map → (labels : List Global) → (directory : List ℕ) → List SourceFile → Type 0
-IsUnfit m labels directory sources =
-    (are_by_file 0 m.rows ≡ false)
-    ⊎ ((2 ^ 32 ≤ length (string_table labels m.globals))
-    ⊎ (HasLongUnit m directory sources ⊎ HasLongSection m directory sources))
+-- a number of what would be added needs more than 32 bits
+abbrev pub AreLong : Map → (labels : List Global) → (directory : List ℕ) → List SourceFile → Type 0
+AreLong m labels directory sources =
+    (2 ^ 32 ≤ length (string_table labels m.globals))
+    ⊎ (HasLongUnit m directory sources ⊎ HasLongSection m directory sources)
+
+-- why the executable of a map gets no debug information; memory may run out whatever they are
+abbrev pub IsDebugRefused : (exe : List ℕ) → Map → (labels : List Global) → (directory : List ℕ)
+    → List SourceFile → DebugFault → Type 0
+IsDebugRefused exe m labels directory sources faults.NoMap = ⊥
+IsDebugRefused exe m labels directory sources faults.OtherExecutable = IsOther exe m
+IsDebugRefused exe m labels directory sources faults.RowsOutOfOrder = are_by_file 0 m.rows ≡ false
+IsDebugRefused exe m labels directory sources faults.TooLong =
+    (2 ^ 32 ≤ length exe) ⊎ AreLong m labels directory sources
+IsDebugRefused exe m labels directory sources faults.OutOfMemory = ⊤
+
+-- ---- by the text of the map
+
+-- the text is that of this map, and of no other
+pub record IsTextOf (text : List ℕ) (m : Map) : Type 0 where
+  pub is : text ≡ map_text m
+  pub only : (other : Map) → IsMap other → text ≡ map_text other → other ≡ m
+
+-- why the executable of a map of this text gets none
+abbrev pub IsTextRefused : (exe text : List ℕ) → (directory : List ℕ) → List SourceFile → DebugFault
+    → Type 0
+IsTextRefused exe text directory sources faults.NoMap = (m : Map) → IsMap m → text ≡ map_text m → ⊥
+IsTextRefused exe text directory sources faults.OtherExecutable = (m : Map) × IsTextOf text m
+    × IsDebugRefused exe m [] directory sources faults.OtherExecutable
+IsTextRefused exe text directory sources faults.RowsOutOfOrder = (m : Map) × IsTextOf text m
+    × IsDebugRefused exe m [] directory sources faults.RowsOutOfOrder
+IsTextRefused exe text directory sources faults.TooLong =
+    (m : Map) × IsTextOf text m × IsDebugRefused exe m [] directory sources faults.TooLong
+IsTextRefused exe text directory sources faults.OutOfMemory = ⊤

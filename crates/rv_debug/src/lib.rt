@@ -10,8 +10,8 @@
 //! with their files and lines. [`debug_file`] does that by the text of a map. It knows neither sources nor objects.
 //!
 //! ```text
-//! let file = with_debug(alloc, &exe, &map, &labels, directory, &sources)?.ok_or("too long")?;
-//! let same = debug_file(alloc, &exe, &map_text, directory, &sources)?.ok_or("no map, or too long")?;
+//! let file = with_debug(alloc, &exe, &map, &labels, directory, &sources)?;
+//! let same = debug_file(alloc, &exe, &map_text, directory, &sources)?;
 //! ```
 //!
 //! Source: System V gABI, "Sections", "Symbol Table"; DWARF Debugging Information Format, version 5, 3.1.1, 6.1.2, 6.2, 7.5.
@@ -19,6 +19,7 @@
 
 mod code;
 mod executable;
+mod fault;
 mod numbers;
 mod piece;
 mod symbols;
@@ -26,6 +27,7 @@ mod text;
 mod units;
 mod writing;
 
+pub use fault::DebugFault;
 pub use rv_lines::SourceFile;
 pub use rv_map::{Global, Map};
 pub use text::debug_file;

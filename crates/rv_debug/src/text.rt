@@ -1,30 +1,31 @@
 //! Executables with debug information by the text of their map.
 
-ghost use Rattle.std.specs.Prelude.{◌≡◌, [], IfOk, IfSome};
-ghost use Rattle.rv_map_laws.specs.Limits.{IsMap};
+ghost use Rattle.std.specs.Prelude.{ℕ, [], IfOk, IfErr};
 ghost use Rattle.rv_map_laws.specs.Map.{Map as PlainMap};
-ghost use Rattle.rv_map_laws.specs.Text.{map_text};
 ghost use Rattle.rv_debug_laws.specs.DebugFile.{HasDebug};
+ghost use Rattle.rv_debug.specs.Refused.{IsTextOf, IsTextRefused};
 
+use crate::fault::DebugFault;
 use crate::writing::with_debug;
 use rv_lines::SourceFile;
 use rv_map::read;
-use std::alloc::{AllocError, Global};
+use std::alloc::Global;
 
-/// The file of an executable with debug information, as [`with_debug`] gives it, by the text of its map and without labels;
-/// none also where the text is no map's.
+/// The file of an executable with debug information, as [`with_debug`] gives it, by the text of its map and without labels.
 pub fn debug_file(
     alloc: Global,
     exe: &[u8],
     map: &[u8],
     directory: &[u8],
     sources: &[SourceFile<'_>],
-) -> Result<Option<Vec<u8>>, AllocError>
-    ensures { IfOk result (λ file. IfSome file (λ file. (m : PlainMap) → IsMap m
-        → map.now ≡ map_text m → HasDebug exe.now m [] directory.now sources.now file.items)) }
+) -> Result<Vec<u8>, DebugFault>
+    ensures found { IfOk result (λ file. (m : PlainMap) × IsTextOf map.now m
+        × HasDebug exe.now m [] directory.now sources.now file.items) }
+    ensures refuses { IfErr result
+        (IsTextRefused exe.now map.now directory.now sources.now) }
 {
-    let Some(map) = read(alloc, map)? else {
-        return Ok(None);
-    };
-    with_debug(alloc, exe, &map, &[], directory, sources)
+    match read(alloc, map)? {
+        Some(map) => with_debug(alloc, exe, &map, &[], directory, sources),
+        None => Err(DebugFault::NoMap),
+    }
 }

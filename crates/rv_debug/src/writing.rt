@@ -1,19 +1,21 @@
 //! Writes the file: the executable, the table of section headers, and the sections that are not loaded.
 
-ghost use Rattle.std.specs.Prelude.{◌≡◌, ◌+◌, ◌*◌, ◌<◌, ◌≤◌, ◌⊎◌, ◌^◌, ◌++◌, ℕ, List, [], ◌∷◌, true, false, length, flat_map, replicate, IfOk, IfNone, IfSome, MatchOption, OnOk};
+ghost use Rattle.std.specs.Prelude.{◌≡◌, ◌+◌, ◌*◌, ◌<◌, ◌≤◌, ◌⊎◌, ◌^◌, ◌++◌, ℕ, List, [], ◌∷◌, true, false, length, flat_map, replicate, IfOk, IfErr, IfNone, IfSome, MatchOption, OnOk};
 ghost use Rattle.std.specs.List.{AllByRecursion};
 ghost use Rattle.rv_elf_laws.specs.FirstFault.{first_true, open_tests};
 ghost use Rattle.rv_elf_laws.specs.Records.{section_header_bytes};
 ghost use Rattle.rv_map_laws.specs.Limits.{AreRegions, IsRegion};
 ghost use Rattle.rv_map.specs.Views.{map_of};
+ghost use Rattle.rv_debug_laws.specs.Code.{are_by_file};
 ghost use Rattle.rv_debug_laws.specs.DebugFile.{AreStored, HasDebug, IsDebugFile};
 ghost use Rattle.rv_debug_laws.specs.File.{all_headers, file_with, gap_behind, headers_from, loaded_headers, null_header, pieces_of, region_header, symbols_piece, table_place, with_table};
 ghost use Rattle.rv_debug_laws.specs.Stored.{can_grow};
-ghost use Rattle.rv_debug.specs.Refused.{IsOther, IsUnfit};
+ghost use Rattle.rv_debug.specs.Refused.{IsOther, AreLong, IsDebugRefused};
 ghost use Rattle.rv_debug.specs.Views.{AreBounded, AreShort, AreTables, debug_of, front_with, globals_of, piece_bytes, piece_of, places_of, unloaded_of};
 
 use crate::code::are_by_file;
 use crate::executable::{open, stored_at};
+use crate::fault::DebugFault;
 use crate::numbers::{
     BSS_NAME, DATA_NAME, DEBUG_ABBREV_NAME, DEBUG_ARANGES_NAME, DEBUG_INFO_NAME, DEBUG_LINE_NAME,
     RODATA_NAME, SECTION_STRINGS, SECTION_TOTAL, SHSTRTAB, SHSTRTAB_NAME, STRTAB, STRTAB_NAME,
@@ -50,8 +52,7 @@ pub(crate) struct Tables {
 }
 
 /// The file of an executable with debug information: of its map, of labels that are no globals, and of its sources, which
-/// were assembled in this directory. None where the executable is none behind which more can stand, where it or the order
-/// of the rows is not the map's, or where a number of what would be added needs more than 32 bits.
+/// were assembled in this directory.
 pub fn with_debug(
     alloc: Allocator,
     exe: &[u8],
@@ -59,24 +60,30 @@ pub fn with_debug(
     labels: &[Global],
     directory: &[u8],
     sources: &[SourceFile<'_>],
-) -> Result<Option<Vec<u8>>, AllocError>
-    ensures written { IfOk result (λ file. IfSome file (λ file. IsDebugFile exe.now
-        (map_of map.now) (globals_of labels.now) directory.now sources.now file.items)) }
+) -> Result<Vec<u8>, DebugFault>
+    ensures written { IfOk result (λ file. IsDebugFile exe.now
+        (map_of map.now) (globals_of labels.now) directory.now sources.now file.items) }
     // What a reader finds in it.
-    ensures found { IfOk result (λ file. IfSome file (λ file. HasDebug exe.now
-        (map_of map.now) (globals_of labels.now) directory.now sources.now file.items)) }
-    ensures none { IfOk result (λ file. IfNone file (IsOther exe.now (map_of map.now)
-        ⊎ IsUnfit (map_of map.now) (globals_of labels.now) directory.now sources.now)) }
+    ensures found { IfOk result (λ file. HasDebug exe.now
+        (map_of map.now) (globals_of labels.now) directory.now sources.now file.items) }
+    ensures refuses { IfErr result (IsDebugRefused exe.now
+        (map_of map.now) (globals_of labels.now) directory.now sources.now) }
 {
     debug_file_is_read();
+    if exe.len() >= TOO_LONG {
+        return Err(DebugFault::TooLong);
+    }
     let Some(places) = places_in(exe, map) else {
-        return Ok(None);
+        return Err(DebugFault::OtherExecutable);
     };
+    if !are_by_file(map.rows.as_slice()) {
+        return Err(DebugFault::RowsOutOfOrder);
+    }
     let Some(tables) = tables_of(alloc, map, labels, directory, sources)? else {
-        return Ok(None);
+        return Err(DebugFault::TooLong);
     };
     let file = put_file(alloc, exe, map, places, &tables)?;
-    Ok(Some(file))
+    Ok(file)
 }
 
 /// Where the executable has the bytes of the map's regions.
@@ -86,13 +93,9 @@ fn places_in(exe: &[u8], map: &Map) -> Option<StoredPlaces>
     ensures known { IfSome result (λ places. AreBounded (map_of map.now) (places_of places)) }
     ensures opens { IfSome result (λ places. first_true (open_tests exe.now) ≡ None) }
     ensures grows { IfSome result (λ places. can_grow exe.now ≡ true) }
-    ensures short { IfSome result (λ places. length exe.now < 2 ^ 32) }
     ensures long { IfSome result (λ places. 64 ≤ length exe.now) }
     ensures none { IfNone result (IsOther exe.now (map_of map.now)) }
 {
-    if exe.len() >= TOO_LONG {
-        return None;
-    }
     let view = open(exe)?;
     regions_are_known(map);
     Some(StoredPlaces {
@@ -125,14 +128,12 @@ fn tables_of(
     directory: &[u8],
     sources: &[SourceFile<'_>],
 ) -> Result<Option<Tables>, AllocError>
+    requires { are_by_file 0 map.now.rows.items ≡ true }
     ensures some { IfOk result (λ tables. IfSome tables (AreTables (map_of map.now)
         (globals_of labels.now) directory.now sources.now)) }
     ensures none { IfOk result (λ tables. IfNone tables
-        (IsUnfit (map_of map.now) (globals_of labels.now) directory.now sources.now)) }
+        (AreLong (map_of map.now) (globals_of labels.now) directory.now sources.now)) }
 {
-    if !are_by_file(map.rows.as_slice()) {
-        return Ok(None);
-    }
     let strings = string_table(alloc, labels, map.globals.as_slice())?;
     if strings.len() >= TOO_LONG {
         return Ok(None);

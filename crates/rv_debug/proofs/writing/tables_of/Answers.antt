@@ -12,7 +12,7 @@ use Rattle.rv_debug.proofs.writing.tables_of.Goals as goal
 pub overflow_cast-result : goal.overflow_cast-result
 overflow_cast-result c =
     let short : length c.in_ok-strings.strings.items < 2 ^ 32 = omega (arith, c.len.ensures, c.if-len-ge-TOO_LONG.false, c.in_ok-strings.strings.ok.0) in
-    let few = few_labels c.args.labels.now (globals_of c.as_slice-2.result.now) c.in_ok-strings.strings.items c.in_ok-strings.ensures short in
+    let few = few_labels c.args.labels.now (globals_of c.as_slice.result.now) c.in_ok-strings.strings.items c.in_ok-strings.ensures short in
     omega (arith, few)
 
 pub returns-clause-some : goal.returns-clause-some
@@ -20,9 +20,9 @@ returns-clause-some c =
     let m = map_of c.args.map.now in
     let labels = globals_of c.args.labels.now in
     let short : length c.in_ok-strings.strings.items < 2 ^ 32 = omega (arith, c.len.ensures, c.if-len-ge-TOO_LONG.false, c.in_ok-strings.strings.ok.0) in
-    let few = few_labels c.args.labels.now (globals_of c.as_slice-2.result.now) c.in_ok-strings.strings.items c.in_ok-strings.ensures short in
+    let few = few_labels c.args.labels.now (globals_of c.as_slice.result.now) c.in_ok-strings.strings.items c.in_ok-strings.ensures short in
     let strings : c.in_ok-strings.strings.items ≡ string_table (globals_of c.args.labels.now) (map_of c.args.map.now).globals =
-    c.in_ok-strings.ensures ∙ ap (λ l. string_table (globals_of c.args.labels.now) (globals_of l)) c.as_slice-2.ensures.value in
+    c.in_ok-strings.ensures ∙ ap (λ l. string_table (globals_of c.args.labels.now) (globals_of l)) c.as_slice.ensures.value in
     let named : length (string_table (globals_of c.args.labels.now) (map_of c.args.map.now).globals) < 2 ^ 32 = omega (arith, short, ap length strings) in
     let table = length-table m labels named in
     let sizes = c.is_long.ensures.no c.if-is_long.false in
