@@ -3,7 +3,7 @@
 //! A job writes no file before all that it writes is made.
 
 use crate::debugging::debugged;
-use crate::files::assembled_files;
+use crate::files::{linked_files, object_files};
 use crate::linking::link_inputs;
 use crate::loading::{given_sources, is_elf};
 use crate::padding::Inputs;
@@ -14,7 +14,9 @@ use rv_job::{
     Asked, AskedBuild, AskedMap, AskedObject, LinkOutputs, LinkSettings, default_options,
 };
 use rv_machine::End;
-use rv_system::{JobError, Purpose, System, borrowed, file_bytes, given_bytes, print, write};
+use rv_system::{
+    JobError, Purpose, System, borrowed, file_bytes, files_bytes, given_bytes, print, write,
+};
 use std::alloc::{AllocError, Global};
 
 /// Runs an executable, or builds sources and runs what they come to; the exit status.
@@ -103,12 +105,30 @@ fn executable<S: System>(
 #[inline(never)]
 pub fn build_files<S: System>(system: &mut S, asked: &AskedBuild<'_>) -> Result<u8, JobError> {
     if !asked.libraries.words.is_empty() {
-        let files = assembled_files(system, asked)?;
-        return link_inputs(system, asked.outputs, asked.settings, files.as_slice());
+        return build_with_archives(system, asked);
     }
     let alloc: Global = system.alloc();
     let inputs = Inputs::of(alloc, asked.sources.as_slice(), asked.settings.pads_ends)?;
     build_inputs(system, asked.outputs, asked.settings, &inputs)
+}
+
+/// Builds sources with what archives behind them offer, and writes what is asked for of it; the exit status. All files are
+/// read before one is assembled.
+fn build_with_archives<S: System>(system: &mut S, asked: &AskedBuild<'_>) -> Result<u8, JobError> {
+    let alloc: Global = system.alloc();
+    let names = asked.sources.as_slice();
+    let read = files_bytes(system, names)?;
+    let mut behind = linked_files(system, &asked.libraries, asked.settings.pads_ends)?;
+    let sources = borrowed(alloc, read.as_slice())?;
+    let mut files = object_files(system, names, sources.as_slice(), asked.settings.explains)?;
+    files.append(&mut behind)?;
+    link_inputs(
+        system,
+        asked.outputs,
+        asked.settings,
+        sources.as_slice(),
+        files.as_slice(),
+    )
 }
 
 /// Builds sources and writes what is asked for of it; the exit status.
@@ -190,26 +210,33 @@ pub fn print_map<S: System>(system: &mut S, asked: &AskedMap<'_>) -> Result<u8, 
 /// Reads a source, assembles it, and writes its object; the exit status.
 #[inline(never)]
 pub fn assemble<S: System>(system: &mut S, asked: &AskedObject<'_>) -> Result<u8, JobError> {
-    let file = assembled(system, asked.source, asked.relax, asked.explains)?;
+    let text = file_bytes(system, asked.source)?;
+    let file = assembled(
+        system,
+        asked.source,
+        text.as_slice(),
+        asked.relax,
+        asked.explains,
+    )?;
     write(system, asked.object, Purpose::ToRead, file.as_slice())?;
     Ok(0)
 }
 
-/// Reads a source and assembles it: the bytes of its object.
+/// Assembles a source of this name: the bytes of its object.
 pub(crate) fn assembled<S: System>(
-    system: &mut S,
-    source: &str,
+    system: &S,
+    name: &str,
+    source: &[u8],
     relax: bool,
     explains: bool,
 ) -> Result<Vec<u8>, JobError> {
-    let text = file_bytes(system, source)?;
-    match object_of(system.alloc(), text.as_slice(), relax) {
+    match object_of(system.alloc(), source, relax) {
         Ok(file) => Ok(file),
         Err(fault) => Err(refused_sources(
             system,
             &fault,
+            &[name],
             &[source],
-            &[text.as_slice()],
             default_options(),
             explains,
         )?),

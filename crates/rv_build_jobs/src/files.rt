@@ -3,7 +3,7 @@
 use crate::building::assembled;
 use crate::padding;
 use rv_inputs::Form;
-use rv_job::{AskedBuild, LinkInput, LinkWord, LinkWords};
+use rv_job::{LinkInput, LinkWord, LinkWords};
 use rv_system::{JobError, ReadFault, System, file_bytes};
 use std::alloc::{AllocError, Global};
 
@@ -27,6 +27,15 @@ impl LinkFile {
             form: Form::Object,
             joins: false,
         })
+    }
+
+    fn archive(name: String, bytes: Vec<u8>) -> LinkFile {
+        LinkFile {
+            name,
+            bytes,
+            form: Form::Archive,
+            joins: false,
+        }
     }
 }
 
@@ -62,19 +71,19 @@ pub(crate) fn linked_files<S: System>(
     Ok(files)
 }
 
-/// Reads sources and assembles them: their objects, the archives behind them, and the padding where it is wanted.
-pub(crate) fn assembled_files<S: System>(
-    system: &mut S,
-    asked: &AskedBuild<'_>,
+/// Assembles sources with these names: their objects, as files.
+pub(crate) fn object_files<S: System>(
+    system: &S,
+    names: &[&str],
+    sources: &[&[u8]],
+    explains: bool,
 ) -> Result<Vec<LinkFile>, JobError> {
     let alloc: Global = system.alloc();
     let mut files = Vec::new(alloc);
-    for source in &asked.sources {
-        let object = assembled(system, source, true, asked.settings.explains)?;
-        files.push(LinkFile::object(alloc, source, object)?)?;
+    for (name, source) in names.iter().zip(sources.iter()) {
+        let object = assembled(system, name, source, true, explains)?;
+        files.push(LinkFile::object(alloc, name, object)?)?;
     }
-    put_words(system, &asked.libraries, &mut files)?;
-    put_padding(system, asked.settings.pads_ends, &mut files)?;
     Ok(files)
 }
 
@@ -128,20 +137,10 @@ fn file_of<S: System>(
         }
         LinkInput::Archive(name) => {
             let bytes = file_bytes(system, name)?;
-            archive(String::from_str(alloc, name)?, bytes)
+            Ok(LinkFile::archive(String::from_str(alloc, name)?, bytes))
         }
         LinkInput::Named(name) => named_archive(system, name, folders),
     }
-}
-
-/// An archive that stands alone.
-fn archive(name: String, bytes: Vec<u8>) -> Result<LinkFile, JobError> {
-    Ok(LinkFile {
-        name,
-        bytes,
-        form: Form::Archive,
-        joins: false,
-    })
 }
 
 /// Reads the archive of this name in the first folder that has one that can be read.
@@ -155,7 +154,7 @@ fn named_archive<S: System>(
         let folder = *folder;
         let path = format!(in alloc; "{folder}/lib{name}.a")?;
         match system.file(path.as_str()) {
-            Ok(bytes) => return archive(path, bytes),
+            Ok(bytes) => return Ok(LinkFile::archive(path, bytes)),
             Err(ReadFault::Memory) => return Err(JobError::Memory),
             Err(ReadFault::Failed) => {}
         }

@@ -2,7 +2,7 @@
 
 use crate::building::write_outputs;
 use crate::files::{LinkFile, linked_files};
-use crate::refusing::refused_objects;
+use crate::refusing::{Linked, refused_link};
 use crate::rows::warn_of_rows;
 use crate::taking::{bytes_of, names_of, objects_of};
 use rv_chain::{link_objects, link_objects_exe};
@@ -14,36 +14,31 @@ use std::alloc::Global;
 #[inline(never)]
 pub fn link_files<S: System>(system: &mut S, asked: &AskedLink<'_>) -> Result<u8, JobError> {
     let files = linked_files(system, &asked.files, asked.settings.pads_ends)?;
-    link_inputs(system, asked.outputs, asked.settings, files.as_slice())
+    link_inputs(system, asked.outputs, asked.settings, &[], files.as_slice())
 }
 
-/// Links what is taken of files and writes what is asked for of it; the exit status.
+/// Links what is taken of files and writes what is asked for of it; the exit status. The objects of these sources stand in
+/// front.
 pub(crate) fn link_inputs<S: System>(
     system: &mut S,
     outputs: LinkOutputs<'_>,
     settings: LinkSettings,
+    sources: &[&[u8]],
     files: &[LinkFile],
 ) -> Result<u8, JobError> {
     let alloc: Global = system.alloc();
-    let taken = objects_of(system, files, settings.explains)?;
+    let taken = objects_of(system, files, settings)?;
     let names = names_of(alloc, taken.as_slice())?;
     let objects = bytes_of(alloc, taken.as_slice())?;
+    let linked = Linked {
+        names: names.as_slice(),
+        objects: objects.as_slice(),
+        sources,
+    };
     if outputs.debug || outputs.map.is_some() {
-        return link_with_map(
-            system,
-            outputs,
-            settings,
-            names.as_slice(),
-            objects.as_slice(),
-        );
+        return link_with_map(system, outputs, settings, linked);
     }
-    link_without_map(
-        system,
-        outputs.exe,
-        settings,
-        names.as_slice(),
-        objects.as_slice(),
-    )
+    link_without_map(system, outputs.exe, settings, linked)
 }
 
 /// Links objects and writes the executable; the exit status.
@@ -51,22 +46,14 @@ fn link_without_map<S: System>(
     system: &mut S,
     exe: &str,
     settings: LinkSettings,
-    names: &[&str],
-    objects: &[&[u8]],
+    linked: Linked<'_>,
 ) -> Result<u8, JobError> {
-    match link_objects_exe(system.alloc(), objects, settings.options) {
+    match link_objects_exe(system.alloc(), linked.objects, settings.options) {
         Ok(built) => {
             write(system, exe, Purpose::ToRun, built.as_slice())?;
             Ok(0)
         }
-        Err(fault) => Err(refused_objects(
-            system,
-            &fault,
-            names,
-            objects,
-            settings.options,
-            settings.explains,
-        )?),
+        Err(fault) => Err(refused_link(system, &fault, linked, settings)?),
     }
 }
 
@@ -75,21 +62,13 @@ fn link_with_map<S: System>(
     system: &mut S,
     outputs: LinkOutputs<'_>,
     settings: LinkSettings,
-    names: &[&str],
-    objects: &[&[u8]],
+    linked: Linked<'_>,
 ) -> Result<u8, JobError> {
-    match link_objects(system.alloc(), objects, settings.options) {
+    match link_objects(system.alloc(), linked.objects, settings.options) {
         Ok(built) => {
-            warn_of_rows(system, names, built.map.as_slice())?;
-            write_outputs(system, outputs, names, built)
+            warn_of_rows(system, linked.names, built.map.as_slice())?;
+            write_outputs(system, outputs, linked.names, built)
         }
-        Err(fault) => Err(refused_objects(
-            system,
-            &fault,
-            names,
-            objects,
-            settings.options,
-            settings.explains,
-        )?),
+        Err(fault) => Err(refused_link(system, &fault, linked, settings)?),
     }
 }

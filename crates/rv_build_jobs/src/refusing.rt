@@ -3,11 +3,11 @@
 //! What explains a fault is looked for only once there is one, so a good build pays nothing for it.
 
 use rv_archive::{ArchiveFault, fault_name, fault_number};
-use rv_chain::{Fault, LinkOptions};
+use rv_chain::{Fault, LinkFault, LinkOptions};
 use rv_check::remark_of;
 use rv_fault_texts::Remark;
 use rv_image::{Image, load};
-use rv_job::Asked;
+use rv_job::{Asked, LinkSettings};
 use rv_object_report::{objects_remark, put_header};
 use rv_system::{JobError, System, fault_line, image_in};
 use std::alloc::{AllocError, Global};
@@ -32,24 +32,71 @@ pub(crate) fn refused_sources<S: System>(
     }
 }
 
-/// Why a link of objects' files is refused; `explains` says whether the words ask for more than the line of the fault.
-pub(crate) fn refused_objects<S: System>(
+/// What is linked, with names as messages show them.
+#[derive(Clone, Copy, Drop)]
+pub(crate) struct Linked<'l> {
+    pub(crate) names: &'l [&'l str],
+    pub(crate) objects: &'l [&'l [u8]],
+    /// The texts of the sources of the first objects.
+    pub(crate) sources: &'l [&'l [u8]],
+}
+
+/// Why a link is refused.
+pub(crate) fn refused_link<S: System>(
     system: &S,
     fault: &Fault,
-    names: &[&str],
-    files: &[&[u8]],
-    options: LinkOptions,
-    explains: bool,
+    linked: Linked<'_>,
+    settings: LinkSettings,
 ) -> Result<JobError, AllocError> {
     let alloc: Global = system.alloc();
-    let error = fault_line(alloc, fault, names)?;
-    if !is_explained(system, explains) {
+    let error = fault_line(alloc, fault, linked.names)?;
+    if !is_explained(system, settings.explains) {
         return Ok(error);
     }
-    match objects_remark(alloc, names, files, fault, options) {
+    match link_remark(alloc, fault, linked, settings.options) {
         Ok(remark) => explained(alloc, error, &remark),
-        Err(fault) => fault_line(alloc, &fault, names),
+        Err(fault) => fault_line(alloc, &fault, linked.names),
     }
+}
+
+/// What is said of the fault of a link: statements of sources, as where no archive is linked, or else places in objects.
+fn link_remark(
+    alloc: Global,
+    fault: &Fault,
+    linked: Linked<'_>,
+    options: LinkOptions,
+) -> Result<Remark, Fault> {
+    let Linked {
+        names,
+        objects,
+        sources,
+    } = linked;
+    if sources.is_empty() {
+        return objects_remark(alloc, names, objects, fault, options);
+    }
+    let mut said = remark_of(alloc, names, sources, fault, options)?;
+    if said.spot.is_none() {
+        let placed = objects_remark(alloc, names, objects, fault, options)?;
+        if placed.excerpt.is_empty() && !said.sentence.is_empty() {
+            return Ok(said);
+        }
+        return Ok(placed);
+    }
+    if is_of_a_name(fault) {
+        let names = &names[sources.len().min(names.len())..];
+        let objects = &objects[sources.len().min(objects.len())..];
+        let others = objects_remark(alloc, names, objects, fault, options)?;
+        said.excerpt.push_str(others.excerpt.as_str())?;
+    }
+    Ok(said)
+}
+
+/// Whether the places of a fault are those of a name, which objects behind the sources can have too.
+fn is_of_a_name(fault: &Fault) -> bool {
+    matches!(
+        fault,
+        Fault::Link(LinkFault::Undefined(_)) | Fault::Link(LinkFault::Duplicate(_))
+    )
 }
 
 /// The image of the executable that the words name.

@@ -3,6 +3,7 @@
 //! A tool that joins sections of objects, as `ld -r` does, joins their rows too, and leaves the sections that they name as they
 //! were. Such rows are rows all the same, so the link goes on; but what a map says of them is not so.
 
+use crate::taking::name_of;
 use rv_map::{Row, read};
 use rv_system::{JobError, System};
 use std::alloc::{AllocError, Global};
@@ -35,12 +36,7 @@ fn overlapping(alloc: Global, map: &[u8]) -> Result<Vec<u64>, AllocError> {
     let Some(map) = read(alloc, map)? else {
         return Ok(files);
     };
-    let mut rows: Vec<Row> = Vec::new(alloc);
-    for row in &map.rows {
-        if row.bytes > 0 {
-            rows.push(*row)?;
-        }
-    }
+    let mut rows = rows_with_bytes(alloc, map.rows.as_slice())?;
     rows.sort_by_key(|row| (row.file, row.address))?;
     for (row, next) in rows.iter().zip(rows.iter().skip(1)) {
         if row.file == next.file && next.address.wrapping_sub(row.address) < row.bytes {
@@ -50,10 +46,13 @@ fn overlapping(alloc: Global, map: &[u8]) -> Result<Vec<u64>, AllocError> {
     Ok(files)
 }
 
-/// The name of a file by its number, from 1.
-fn name_of<'a>(names: &[&'a str], file: u64) -> &'a str {
-    match usize::try_from(file.saturating_sub(1)) {
-        Ok(index) => names.get(index).copied().unwrap_or(""),
-        Err(_) => "",
+/// Those of rows that have bytes.
+fn rows_with_bytes(alloc: Global, rows: &[Row]) -> Result<Vec<Row>, AllocError> {
+    let mut some: Vec<Row> = Vec::new(alloc);
+    for row in rows {
+        if row.bytes > 0 {
+            some.push(*row)?;
+        }
     }
+    Ok(some)
 }

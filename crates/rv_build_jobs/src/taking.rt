@@ -1,10 +1,10 @@
 //! What a link takes of its files, with names that messages show.
 
 use crate::files::LinkFile;
-use crate::refusing::{refused_archive, refused_objects};
+use crate::refusing::{Linked, refused_archive, refused_link};
 use rv_chain::Fault;
 use rv_inputs::{Form, Input, InputFault, TakenObject, taken_objects};
-use rv_job::default_options;
+use rv_job::LinkSettings;
 use rv_system::{JobError, System, shown_name};
 use std::alloc::{AllocError, Global};
 
@@ -20,7 +20,7 @@ pub(crate) struct LinkedObject<'f> {
 pub(crate) fn objects_of<'f, S: System>(
     system: &S,
     files: &'f [LinkFile],
-    explains: bool,
+    settings: LinkSettings,
 ) -> Result<Vec<LinkedObject<'f>>, JobError> {
     let alloc: Global = system.alloc();
     if !files.iter().any(|file| matches!(file.form, Form::Archive)) {
@@ -34,10 +34,20 @@ pub(crate) fn objects_of<'f, S: System>(
             joins: file.joins,
         })?;
     }
+    let names = file_names(alloc, files)?;
     match taken_objects(alloc, inputs.as_slice()) {
-        Ok(taken) => Ok(named_objects(alloc, files, taken.as_slice())?),
-        Err(fault) => Err(refused_input(system, files, &fault, explains)?),
+        Ok(taken) => Ok(named_objects(alloc, names.as_slice(), taken.as_slice())?),
+        Err(fault) => Err(refused_input(system, names.as_slice(), &fault, settings)?),
     }
+}
+
+/// The names of files, in their order.
+fn file_names(alloc: Global, files: &[LinkFile]) -> Result<Vec<&str>, AllocError> {
+    let mut names: Vec<&str> = Vec::new(alloc);
+    for file in files {
+        names.push(file.name.as_str())?;
+    }
+    Ok(names)
 }
 
 /// The names of objects, in their order.
@@ -79,10 +89,10 @@ fn all_objects<'f>(
     Ok(objects)
 }
 
-/// What is taken of files, with its names.
+/// What is taken of files with these names, with its own names.
 fn named_objects<'f>(
     alloc: Global,
-    files: &[LinkFile],
+    files: &[&str],
     taken: &[TakenObject<'f>],
 ) -> Result<Vec<LinkedObject<'f>>, AllocError> {
     let mut objects = Vec::new(alloc);
@@ -98,10 +108,10 @@ fn named_objects<'f>(
 /// The name of an object: that of its file, or as `libc.a(strlen.o)`.
 fn object_name(
     alloc: Global,
-    files: &[LinkFile],
+    files: &[&str],
     object: &TakenObject<'_>,
 ) -> Result<String, AllocError> {
-    let file = name_of(files, object.file);
+    let file = name_of(files, object.file as u64);
     match object.member {
         Some(member) => {
             let member = shown_name(alloc, member)?;
@@ -112,35 +122,35 @@ fn object_name(
 }
 
 /// The name of a file by its number, from 1.
-fn name_of(files: &[LinkFile], number: usize) -> &str {
-    match files.get(number.saturating_sub(1)) {
-        Some(file) => file.name.as_str(),
-        None => "",
+pub(crate) fn name_of<'a>(names: &[&'a str], number: u64) -> &'a str {
+    match usize::try_from(number.saturating_sub(1)) {
+        Ok(index) => names.get(index).copied().unwrap_or(""),
+        Err(_) => "",
     }
 }
 
 /// Why it is not known what is taken of files.
 fn refused_input<S: System>(
     system: &S,
-    files: &[LinkFile],
+    files: &[&str],
     fault: &InputFault<'_>,
-    explains: bool,
+    settings: LinkSettings,
 ) -> Result<JobError, AllocError> {
     let alloc: Global = system.alloc();
     match fault {
         InputFault::Archive(file, fault) => {
-            refused_archive(system, name_of(files, *file), *fault, explains)
+            let name = name_of(files, *file as u64);
+            refused_archive(system, name, *fault, settings.explains)
         }
         InputFault::Object(object, fault) => {
             let name = object_name(alloc, files, object)?;
-            refused_objects(
-                system,
-                &Fault::File(1, *fault),
-                &[name.as_str()],
-                &[object.bytes],
-                default_options(),
-                explains,
-            )
+            let (names, objects) = ([name.as_str()], [object.bytes]);
+            let linked = Linked {
+                names: &names,
+                objects: &objects,
+                sources: &[],
+            };
+            refused_link(system, &Fault::File(1, *fault), linked, settings)
         }
         InputFault::OutOfMemory => Ok(JobError::Memory),
     }
