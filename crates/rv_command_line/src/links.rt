@@ -12,30 +12,15 @@ pub(crate) fn link_words<'a>(
 ) -> Result<LinkWords<'a>, Refusal> {
     let alloc: Global = operands.alloc;
     let mut placed = Vec::new(alloc);
-    put(
-        operands,
-        library(),
-        LinkWord::Input(LinkInput::Archive("")),
-        &mut placed,
-    )?;
-    put(
-        operands,
-        named(),
-        LinkWord::Input(LinkInput::Named("")),
-        &mut placed,
-    )?;
+    put(operands, library(), Kind::Archive, &mut placed)?;
+    put(operands, named(), Kind::Named, &mut placed)?;
     let folder = Texts::letter("folder", 'L', "DIR", "A folder in which -l looks");
     let folders = operands.all(folder)?;
-    put(operands, start_group(), LinkWord::StartGroup, &mut placed)?;
-    put(operands, end_group(), LinkWord::EndGroup, &mut placed)?;
+    put(operands, start_group(), Kind::StartGroup, &mut placed)?;
+    put(operands, end_group(), Kind::EndGroup, &mut placed)?;
     if let Some(files) = files {
         let files = files.unless_either(library(), named());
-        put(
-            operands,
-            files,
-            LinkWord::Input(LinkInput::Object("")),
-            &mut placed,
-        )?;
+        put(operands, files, Kind::Object, &mut placed)?;
     }
     placed.sort_by_key(|word| word.0)?;
     let mut words = Vec::new(alloc);
@@ -64,29 +49,41 @@ fn end_group() -> Texts {
     Texts::flag("end-group", "Ends a group of archives")
 }
 
-/// Puts the uses of an option to words, each with its place; `word` is what it stands for, with any value.
+/// What a word stands for.
+#[derive(Clone, Copy, Drop)]
+enum Kind {
+    Object,
+    Archive,
+    Named,
+    StartGroup,
+    EndGroup,
+}
+
+impl Kind {
+    /// The word of this kind with a value; those of groups have none.
+    fn with_value(self, value: &str) -> LinkWord<'_> {
+        match self {
+            Kind::Object => LinkWord::Input(LinkInput::Object(value)),
+            Kind::Archive => LinkWord::Input(LinkInput::Archive(value)),
+            Kind::Named => LinkWord::Input(LinkInput::Named(value)),
+            Kind::StartGroup => LinkWord::StartGroup,
+            Kind::EndGroup => LinkWord::EndGroup,
+        }
+    }
+}
+
+/// Puts the uses of an option, which are words of this kind, each with its place.
 fn put<'a>(
     operands: &mut Operands<'_, 'a>,
     texts: Texts,
-    word: LinkWord<'a>,
+    kind: Kind,
     placed: &mut Vec<(usize, LinkWord<'a>)>,
 ) -> Result<(), Refusal> {
     let uses = operands.all_placed(texts)?;
     for (place, value) in &uses {
-        placed.push((*place, with_value(word, value)))?;
+        placed.push((*place, kind.with_value(value)))?;
     }
     Ok(())
-}
-
-/// The word with another value, where it has one.
-fn with_value<'a>(word: LinkWord<'a>, value: &'a str) -> LinkWord<'a> {
-    match word {
-        LinkWord::Input(LinkInput::Object(_)) => LinkWord::Input(LinkInput::Object(value)),
-        LinkWord::Input(LinkInput::Archive(_)) => LinkWord::Input(LinkInput::Archive(value)),
-        LinkWord::Input(LinkInput::Named(_)) => LinkWord::Input(LinkInput::Named(value)),
-        LinkWord::StartGroup => LinkWord::StartGroup,
-        LinkWord::EndGroup => LinkWord::EndGroup,
-    }
 }
 
 /// Refuses groups that do not start or end, or stand in one another.

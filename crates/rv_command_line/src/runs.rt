@@ -208,9 +208,6 @@ pub(crate) fn gdb<'a>(operands: &mut Operands<'_, 'a>) -> Result<Job<'a>, Refusa
     };
     let limit = limit(operands)?;
     let (file, others) = operands.first_and_others(debugged_files())?;
-    if file == "-" || others.iter().any(|name| *name == "-") {
-        return Err(Refusal::Wanted("standard input is gdb's: name a file"));
-    }
     let asked = Asked {
         file,
         others,
@@ -221,6 +218,9 @@ pub(crate) fn gdb<'a>(operands: &mut Operands<'_, 'a>) -> Result<Job<'a>, Refusa
         parts_errors: false,
         explains: false,
     };
+    if asked.has_input() {
+        return Err(Refusal::Wanted("standard input is gdb's: name a file"));
+    }
     Ok(Job::Debug(asked, streams))
 }
 
