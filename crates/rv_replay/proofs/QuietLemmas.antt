@@ -1,6 +1,6 @@
 -- What a step makes of a hart has nothing to do with what was written.
 
-use Rattle.std.proofs.Common.{◌≡◌, ℕ, zero, suc, ◌+◌, ◌%◌, Bool, true, false, ◌||◌, ◌&&◌, List, refl, sym, ap, ◌∙◌, subst, zero-add, arith}
+use Rattle.std.proofs.Common.{◌≡◌, ◌≢◌, ℕ, zero, suc, ◌+◌, ◌%◌, ◌≤◌, Bool, true, false, ◌||◌, ◌&&◌, ◌∷◌, length, refl, sym, ap, ◌∙◌, zero-add, arith}
 use Rattle.std.specs.Prelude.{◌==◌, if◌then◌else◌}
 use Rattle.rv_isa.specs.declared.instruction.Inst.{Inst}
 use Rattle.rv_isa.specs.declared.instruction.Atomic.{Atomic as AtomicOperands}
@@ -10,11 +10,12 @@ use Rattle.rv_isa.specs.declared.operation.AtomicOperation.{AtomicOperation}
 use Rattle.rv_isa.specs.declared.operation.AtomicOperation.TheVariants.{Sc}
 use Rattle.rv_isa.specs.Operations.{format_of}
 use Rattle.rv_isa_laws.specs.Memory.{Mem, Read, Write, may}
-use Rattle.rv_isa_laws.specs.Hart.{Hart, End, register}
-use Rattle.rv_isa_laws.specs.Effect.{Effect, Next, On, Over, apply, environment_call}
+use Rattle.rv_isa_laws.specs.Hart.{Hart, End, Limit, register}
+use Rattle.rv_isa_laws.specs.Effect.{Next, On, Over, apply, follow, environment_call}
 use Rattle.rv_isa_laws.specs.Meaning.{address_of, load_width, store_width, atomic_width, atomic_effect, format_effect}
 use Rattle.rv_isa_laws.specs.Reader.{Reader}
-use Rattle.rv_isa_laws.specs.Run.{Fetched, Got, NoRight, NoInstruction, fetch, done, step}
+use Rattle.rv_isa_laws.specs.Run.{Fetched, Got, NoRight, NoInstruction, fetch, done, step, run}
+use Rattle.rv_event_laws.specs.Event.{Event, event_of, events, events_after}
 use Rattle.rv_machine.specs.LastState.{last_state, left_by}
 use Rattle.rv_replay.specs.Replayed.{quiet, quiet_state}
 
@@ -113,3 +114,25 @@ module _ {Spells StandsFor : ℕ → Inst → Type 0} (reader : Reader Spells St
   last_more (suc n) k h m =
       let next : suc n + k ≡ suc (n + k) = omega arith in
       ap (λ (j : ℕ). last_state reader j h m) next ∙ more_after n k h m (step reader h m) refl (last_more n k)
+
+  short_after : (k : ℕ) (x : Next) (e : Event) → ((g : Hart) (p : Mem) → length (events reader k g p) ≤ k) → length (e ∷ events_after x (events reader k)) ≤ suc k
+  short_after k (On g p) e later = omega (arith, later g p)
+  short_after k (Over _) e later = omega arith
+
+  -- no more events than steps
+  pub events_short : (k : ℕ) (h : Hart) (m : Mem) → length (events reader k h m) ≤ k
+  events_short zero h m = omega arith
+  events_short (suc k) h m = short_after k (step reader h m) (event_of (fetch reader m h.pc) h m) (events_short k)
+
+  over_after : (k j : ℕ) (h : Hart) (m : Mem) (x : Next) (e : Event) → step reader h m ≡ x → (follow x h (run reader k)).«end» ≢ Limit → length (e ∷ events_after x (events reader k)) ≤ j →
+      ((i : ℕ) (g : Hart) (p : Mem) → (run reader k g p).«end» ≢ Limit → length (events reader k g p) ≤ i → last_state reader i g p ≡ last_state reader k g p) →
+      last_state reader j h m ≡ left_by x h m (last_state reader k)
+  over_after k zero h m x e is ends long later = absurd (omega (arith, long))
+  over_after k (suc j) h m (On g p) e is ends long later =
+      ap (λ (y : Next). left_by y h m (last_state reader j)) is ∙ later j g p ends (omega (arith, long))
+  over_after k (suc j) h m (Over _) e is ends long later = ap (λ (y : Next). left_by y h m (last_state reader j)) is
+
+  -- a run that has ended stays as it is behind its last event
+  pub last_over : (k j : ℕ) (h : Hart) (m : Mem) → (run reader k h m).«end» ≢ Limit → length (events reader k h m) ≤ j → last_state reader j h m ≡ last_state reader k h m
+  last_over zero j h m ends long = absurd (ends refl)
+  last_over (suc k) j h m ends long = over_after k j h m (step reader h m) (event_of (fetch reader m h.pc) h m) refl ends long (λ i g p. last_over k i g p)

@@ -21,9 +21,9 @@
 mod copied;
 mod fault;
 mod given;
-mod nobody;
 mod replay;
 mod running;
+mod steps;
 mod written;
 
 pub use copied::copy_of;

@@ -1,10 +1,10 @@
 //! A run, somewhere on its way.
 
-ghost use Rattle.std.specs.Prelude.{◌≡◌, ◌≤◌, OnOk, IfOk, false, length, drop};
+ghost use Rattle.std.specs.Prelude.{◌≡◌, ◌≤◌, ◌<◌, ◌+◌, ◌-◌, ◌^◌, ℕ, OnOk, IfOk, MatchOption, None, false, length, drop};
 ghost use Rattle.rv_image.specs.Views.{image_of};
 ghost use Rattle.rv_image_laws.specs.Memory.{mem_of};
 ghost use Rattle.rv_memory.specs.HeldPages.{held_pages};
-ghost use Rattle.rv_replay.specs.Replayed.{IsStateAt};
+ghost use Rattle.rv_replay.specs.Replayed.{IsStateAt, IsStill};
 
 use crate::fault::ReplayFault;
 use crate::running::{machine_of, run_on};
@@ -13,14 +13,6 @@ use rv_image::Image;
 use rv_machine::{End, Watched};
 use rv_memory::Paged;
 use std::alloc::{AllocError, Global};
-
-/// How a run has ended, if it has.
-fn ended_by(end: End) -> Option<End> {
-    match end {
-        End::Limit => None,
-        end => Some(end),
-    }
-}
 
 /// A run of an image with an input, somewhere on its way.
 #[derive(Drop)]
@@ -37,20 +29,22 @@ pub struct Replay {
     /// Whether a stream has failed: then it is not known where the run stands.
     lost: bool,
     pub ghost within: { taken ≤ length input.items },
-    /// The machine is in the state after that count of instructions.
-    pub ghost replayed: { lost ≡ false →
-        ∥ IsStateAt (mem_of (image_of image)) image.entry input.items count machine.hart
+    /// The machine is in the state after that count of instructions, and where the run has ended after any number more.
+    pub ghost replayed: { lost ≡ false → (more : ℕ) → IsStill end more →
+        ∥ IsStateAt (mem_of (image_of image)) image.entry input.items (count + more) machine.hart
         (held_pages machine.memory) machine.intake.ended (drop taken input.items) ∥₁ },
 }
 
 impl Replay {
-    ghost use Rattle.rv_replay.specs.States.{IsReplayed};
+    ghost use Rattle.rv_replay.specs.States.{IsReplayed, IsAfter};
 
     /// Before the first instruction of an image, with an input.
     pub fn new(alloc: Global, image: Image, input: Vec<u8>) -> Result<Self, AllocError>
         ensures image { IfOk result (λ replay. replay.image ≡ image) }
         ensures input { IfOk result (λ replay. replay.input ≡ input) }
         ensures count { IfOk result (λ replay. replay.count ≡ 0) }
+        ensures end { IfOk result (λ replay. replay.end ≡ None) }
+        ensures lost { IfOk result (λ replay. replay.lost ≡ false) }
     {
         let machine = machine_of(alloc, &image)?;
         Ok(Replay {
@@ -70,6 +64,8 @@ impl Replay {
         ensures image { self.new.image ≡ self.old.image }
         ensures input { self.new.input ≡ self.old.input }
         ensures count { OnOk result (self.new.count ≡ 0) }
+        ensures end { OnOk result (self.new.end ≡ None) }
+        ensures lost { OnOk result (self.new.lost ≡ false) }
     {
         let machine = machine_of(alloc, &self.image)?;
         self.machine = machine;
@@ -85,7 +81,14 @@ impl Replay {
     pub fn advance(&mut self, count: u64) -> Result<(), ReplayFault>
         ensures image { self.new.image ≡ self.old.image }
         ensures input { self.new.input ≡ self.old.input }
+        ensures lost { OnOk result (self.new.lost ≡ self.old.lost) }
+        ensures most { OnOk result (self.new.count ≤ self.old.count + count) }
+        ensures count { OnOk result (self.old.count + count < 2 ^ 64 → self.new.end ≡ None →
+            self.new.count ≡ self.old.count + count) }
     {
+        if self.end.is_some() {
+            return Ok(());
+        }
         let count = count.min(u64::MAX - self.count);
         let rest = self.input.as_slice().split_at(self.taken).1;
         let whole = rest.len();
@@ -93,30 +96,50 @@ impl Replay {
         match ran {
             Ok(ran) => {
                 self.taken += whole - ran.left;
-                self.count += count;
-                self.end = ended_by(ran.end);
+                self.count += ran.steps;
+                self.end = ran.end;
                 Ok(())
             }
             Err(fault) => {
                 self.lost = true;
+                self.written.check()?;
                 Err(fault.into())
             }
         }
     }
 
-    /// Goes to the state after so many instructions, or to the end.
+    /// Goes to where the state after so many instructions is, or lies ahead.
+    fn go_before(&mut self, alloc: Global, count: u64) -> Result<(), AllocError>
+        ensures image { self.new.image ≡ self.old.image }
+        ensures input { self.new.input ≡ self.old.input }
+        ensures lost { OnOk result (self.new.lost ≡ false) }
+        ensures most { OnOk result (self.new.count ≤ count) }
+    {
+        if count < self.count || self.lost {
+            return self.restart(alloc);
+        }
+        Ok(())
+    }
+
+    /// Goes to the state after so many instructions; where the run ends before, to its end, which is that state too.
     pub fn go_to(&mut self, alloc: Global, count: u64) -> Result<(), ReplayFault>
         ensures image { self.new.image ≡ self.old.image }
         ensures input { self.new.input ≡ self.old.input }
+        ensures lost { OnOk result (self.new.lost ≡ false) }
+        ensures most { OnOk result (self.new.count ≤ count) }
+        ensures count { OnOk result (self.new.end ≡ None → self.new.count ≡ count) }
+        ensures state { OnOk result (∥ IsAfter self.new count ∥₁) }
     {
-        if count < self.count || self.lost {
-            self.restart(alloc)?;
-        }
-        self.advance(count - self.count)
+        self.go_before(alloc, count)?;
+        self.advance(count - self.count)?;
+        Ok(())
     }
 
     /// How many instructions were completed.
-    pub fn count(&self) -> u64 {
+    pub fn count(&self) -> u64
+        ensures { MatchOption self.now.end (result ≡ self.now.count)
+            (λ _. result ≡ self.now.count - 1) }
+    {
         match self.end {
             Some(_) => self.count.saturating_sub(1),
             None => self.count,
@@ -124,7 +147,9 @@ impl Replay {
     }
 
     /// How the run has ended, if it has.
-    pub fn end(&self) -> Option<End> {
+    pub fn end(&self) -> Option<End>
+        ensures { result ≡ self.now.end }
+    {
         self.end
     }
 
@@ -157,6 +182,10 @@ impl Replay {
     pub fn take_written(&mut self, alloc: Global) -> Vec<u8>
         ensures machine { self.new.machine ≡ self.old.machine }
         ensures count { self.new.count ≡ self.old.count }
+        ensures end { self.new.end ≡ self.old.end }
+        ensures lost { self.new.lost ≡ self.old.lost }
+        ensures image { self.new.image ≡ self.old.image }
+        ensures input { self.new.input ≡ self.old.input }
     {
         self.written.take(alloc)
     }

@@ -42,6 +42,14 @@ impl Written {
         self.fresh.len()
     }
 
+    /// Whether there was memory for all that was written.
+    pub fn check(&self) -> Result<(), AllocError> {
+        match self.refused {
+            Some(error) => Err(error),
+            None => Ok(()),
+        }
+    }
+
     /// What was written for the first time since the latest call.
     pub fn take(&mut self, alloc: Global) -> Vec<u8> {
         mem::replace(&mut self.fresh, Vec::new(alloc))

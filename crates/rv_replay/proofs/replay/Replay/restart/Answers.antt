@@ -12,5 +12,5 @@ invariant_of-self c =
     let first = begun (mem_of (image_of image)) image.entry c.args.self.now.input.items machine.hart (held_pages machine.memory) machine.intake.ended c.in_ok-machine.ensures.hart c.in_ok-machine.ensures.memory c.in_ok-machine.ensures.ended in
     record {
       within = omega arith;
-      replayed = λ going. ∣ first ∣₁;
+      replayed = λ going more none. ∣ first more none ∣₁;
     }
