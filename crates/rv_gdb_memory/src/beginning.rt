@@ -128,35 +128,44 @@ fn jump_word(place: u64, pc: u64) -> Option<u32> {
     })))
 }
 
+/// A place and the loader's jump from there to the pc, if it is free and the jump reaches.
+fn place_at(parts: &[Part], place: u64, pc: u64) -> Option<(u64, u32)> {
+    let range = Range {
+        address: place,
+        length: LOADER_BYTES,
+    };
+    let word = jump_word(place, pc)?;
+    if is_free(parts, range) {
+        Some((place, word))
+    } else {
+        None
+    }
+}
+
 /// A place for the loader beside one of the parts, from which it reaches the pc, and its jump there.
 fn place_for(parts: &[Part], pc: u64) -> Option<(u64, u32)> {
     for part in parts.iter().take(LOOKED_AT) {
         let end = part.address.wrapping_add(part.bytes.len() as u64);
         let behind = end.wrapping_add(7) & !7;
         let before = part.address.wrapping_sub(LOADER_BYTES) & !7;
-        for place in [before, behind] {
-            let range = Range {
-                address: place,
-                length: LOADER_BYTES,
-            };
-            if let Some(word) = jump_word(place, pc) {
-                if is_free(parts, range) {
-                    return Some((place, word));
-                }
-            }
+        if let Some(found) = place_at(parts, before, pc) {
+            return Some(found);
+        }
+        if let Some(found) = place_at(parts, behind, pc) {
+            return Some(found);
         }
     }
     None
 }
 
-/// A place for the bytes of the stack, anywhere.
-fn place_of_stack(parts: &[Part], length: u64) -> Option<u64> {
+/// A place for the bytes of the stack, anywhere but where the loader is to stand.
+fn place_of_stack(parts: &[Part], loader: Range, length: u64) -> Option<u64> {
     for shift in 33..63u32 {
         let range = Range {
             address: 1 << shift,
             length,
         };
-        if is_free(parts, range) {
+        if is_free(parts, range) && !do_meet(loader, range) {
             return Some(range.address);
         }
     }
@@ -177,6 +186,32 @@ fn used_stack(alloc: Global, memory: &Paged, writes: &[Write]) -> Result<Vec<u8>
     Vec::from_slice(alloc, whole.as_slice().split_at(start).1)
 }
 
+/// Adds the instructions that fill the stack.
+fn put_filling(bytes: &mut Vec<u8>) -> Result<(), AllocError> {
+    for word in &FILLING {
+        bytes.extend_from_slice(&word.to_le_bytes())?;
+    }
+    Ok(())
+}
+
+/// Adds the instructions that set x1 to x31.
+fn put_loads(bytes: &mut Vec<u8>) -> Result<(), AllocError> {
+    let mut load = FIRST_LOAD;
+    for _ in 1..32 {
+        bytes.extend_from_slice(&load.to_le_bytes())?;
+        load = load.wrapping_add(NEXT_LOAD);
+    }
+    Ok(())
+}
+
+/// Adds the values of x1 to x31.
+fn put_values(bytes: &mut Vec<u8>, registers: &[u64; REGISTERS]) -> Result<(), AllocError> {
+    for value in registers.as_slice().split_at(1).1.split_at(31).0 {
+        bytes.extend_from_slice(&value.to_le_bytes())?;
+    }
+    Ok(())
+}
+
 /// The loader.
 fn loader(
     alloc: Global,
@@ -187,21 +222,13 @@ fn loader(
 ) -> Result<Vec<u8>, AllocError> {
     let end = STACK_START + STACK_BYTES as u64;
     let mut bytes = Vec::new(alloc);
-    for word in &FILLING {
-        bytes.extend_from_slice(&word.to_le_bytes())?;
-    }
-    let mut load = FIRST_LOAD;
-    for _ in 1..32 {
-        bytes.extend_from_slice(&load.to_le_bytes())?;
-        load = load.wrapping_add(NEXT_LOAD);
-    }
+    put_filling(&mut bytes)?;
+    put_loads(&mut bytes)?;
     bytes.extend_from_slice(&jump.to_le_bytes())?;
     bytes.extend_from_slice(&saved.to_le_bytes())?;
     bytes.extend_from_slice(&end.wrapping_sub(stack_bytes).to_le_bytes())?;
     bytes.extend_from_slice(&end.to_le_bytes())?;
-    for value in registers.as_slice().split_at(1).1.split_at(31).0 {
-        bytes.extend_from_slice(&value.to_le_bytes())?;
-    }
+    put_values(&mut bytes, registers)?;
     Ok(bytes)
 }
 
@@ -229,6 +256,34 @@ fn parts_of(
     Ok(parts)
 }
 
+/// Adds the program headers of parts, of which the first's bytes stand at an offset.
+fn put_headers(file: &mut ElfWriter, first: u64, parts: &[Part]) -> Result<(), AllocError> {
+    let mut offset = first;
+    for part in parts {
+        let size = part.bytes.len() as u64;
+        file.program(&ProgramHeader {
+            p_type: PT_LOAD,
+            p_flags: part.flags,
+            p_offset: offset,
+            p_vaddr: part.address,
+            p_paddr: part.address,
+            p_filesz: size,
+            p_memsz: size,
+            p_align: 1,
+        })?;
+        offset = offset.wrapping_add(size);
+    }
+    Ok(())
+}
+
+/// Adds the bytes of parts.
+fn put_parts(file: &mut ElfWriter, parts: &[Part]) -> Result<(), AllocError> {
+    for part in parts {
+        file.raw(&part.bytes)?;
+    }
+    Ok(())
+}
+
 /// The file of parts.
 fn file_of(alloc: Global, entry: u64, parts: &[Part]) -> Result<Option<Vec<u8>>, AllocError> {
     let Ok(count) = u16::try_from(parts.len()) else {
@@ -250,24 +305,9 @@ fn file_of(alloc: Global, entry: u64, parts: &[Part]) -> Result<Option<Vec<u8>>,
         e_shnum: 0,
         e_shstrndx: 0,
     })?;
-    let mut offset = FILE_HEADER_SIZE as u64 + u64::from(count) * PROGRAM_HEADER_SIZE as u64;
-    for part in parts {
-        let size = part.bytes.len() as u64;
-        file.program(&ProgramHeader {
-            p_type: PT_LOAD,
-            p_flags: part.flags,
-            p_offset: offset,
-            p_vaddr: part.address,
-            p_paddr: part.address,
-            p_filesz: size,
-            p_memsz: size,
-            p_align: 1,
-        })?;
-        offset = offset.wrapping_add(size);
-    }
-    for part in parts {
-        file.raw(&part.bytes)?;
-    }
+    let first = FILE_HEADER_SIZE as u64 + u64::from(count) * PROGRAM_HEADER_SIZE as u64;
+    put_headers(&mut file, first, parts)?;
+    put_parts(&mut file, parts)?;
     Ok(Some(file.finish()))
 }
 
@@ -286,7 +326,11 @@ pub fn beginning_at(
     };
     let stack = used_stack(alloc, memory, wanted.writes)?;
     let length = stack.len() as u64;
-    let Some(saved) = place_of_stack(&parts, length) else {
+    let taken = Range {
+        address: place,
+        length: LOADER_BYTES,
+    };
+    let Some(saved) = place_of_stack(&parts, taken, length) else {
         return Ok(None);
     };
     parts.push(Part {
