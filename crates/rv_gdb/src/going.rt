@@ -1,5 +1,7 @@
 //! A program that goes on or back until something stops it.
 
+ghost use Rattle.std.specs.Prelude.{◌≡◌};
+
 use crate::reach::next_reach;
 use crate::session::Session;
 use crate::stop::Stop;
@@ -28,7 +30,9 @@ pub struct Search {
 
 impl Session {
     /// Goes on by an instruction; why the program stands then, if not for that alone.
-    fn step(&mut self) -> Result<Option<Stop>, ReplayFault> {
+    fn step(&mut self) -> Result<Option<Stop>, ReplayFault>
+        ensures { self.new.draft ≡ self.old.draft }
+    {
         if let Some(end) = self.replay.end() {
             return Ok(Some(Stop::Ended(end)));
         }
@@ -47,20 +51,21 @@ impl Session {
         if !self.points.watch() || self.replay.end().is_some() {
             return None;
         }
-        self.points.met_by(&next_reach(self.replay.machine()))
+        let input_left = self.replay.input_left().len() as u64;
+        self.points
+            .met_by(&next_reach(self.replay.machine(), input_left))
     }
 
     /// Begins to go; why the program stands at once, if it does.
-    pub(crate) fn begin(&mut self, motion: Motion) -> Result<Option<Stop>, ReplayFault> {
+    pub(crate) fn begin(&mut self, motion: Motion) -> Result<Option<Stop>, ReplayFault>
+        ensures { self.new.draft ≡ self.old.draft }
+    {
         match motion {
             Motion::Continue => {
                 self.going = Going::On;
                 Ok(None)
             }
-            Motion::Step => {
-                let stop = self.step()?;
-                Ok(Some(stop.unwrap_or(Stop::Done)))
-            }
+            Motion::Step => Ok(Some(self.step_on()?)),
             Motion::StepBack => Ok(Some(self.step_back()?)),
             Motion::ContinueBack => {
                 self.begin_search()?;
@@ -69,18 +74,39 @@ impl Session {
         }
     }
 
-    /// Goes back by an instruction; why the program stands then.
-    fn step_back(&mut self) -> Result<Stop, ReplayFault> {
+    /// Goes on by an instruction, unless that reaches a point at bytes; why the program stands then.
+    fn step_on(&mut self) -> Result<Stop, ReplayFault>
+        ensures { self.new.draft ≡ self.old.draft }
+    {
+        if let Some(met) = self.watched() {
+            return Ok(Stop::At(met));
+        }
+        match self.step()? {
+            Some(stop) => Ok(stop),
+            None => Ok(Stop::Done),
+        }
+    }
+
+    /// Goes back by an instruction, unless that has reached a point at bytes; why the program stands then.
+    fn step_back(&mut self) -> Result<Stop, ReplayFault>
+        ensures { self.new.draft ≡ self.old.draft }
+    {
         let count = self.replay.count();
         if count <= self.origin {
             return Ok(Stop::Start);
         }
         self.replay.go_to(self.alloc, count - 1)?;
+        if let Some(met) = self.watched() {
+            self.replay.go_to(self.alloc, count)?;
+            return Ok(Stop::At(met));
+        }
         Ok(Stop::Done)
     }
 
     /// Goes to the start, to look from there where the program would stop on its way back.
-    fn begin_search(&mut self) -> Result<(), ReplayFault> {
+    fn begin_search(&mut self) -> Result<(), ReplayFault>
+        ensures { self.new.draft ≡ self.old.draft }
+    {
         let from = self.replay.count();
         self.replay.go_to(self.alloc, self.origin)?;
         self.going = Going::Back(Search { from, found: None });
@@ -89,7 +115,9 @@ impl Session {
 
     /// Goes on by so many instructions at most, or until what was written fills a packet; why the program stands, if it
     /// does.
-    pub(crate) fn run_on(&mut self, steps: u64) -> Result<Option<Stop>, ReplayFault> {
+    pub(crate) fn run_on(&mut self, steps: u64) -> Result<Option<Stop>, ReplayFault>
+        ensures { self.new.draft ≡ self.old.draft }
+    {
         for _ in 0..steps {
             if let Some(met) = self.watched() {
                 return Ok(Some(Stop::At(met)));
@@ -109,7 +137,9 @@ impl Session {
         &mut self,
         search: Search,
         steps: u64,
-    ) -> Result<Option<Stop>, ReplayFault> {
+    ) -> Result<Option<Stop>, ReplayFault>
+        ensures { self.new.draft ≡ self.old.draft }
+    {
         let mut search = search;
         for _ in 0..steps {
             let count = self.replay.count();
@@ -129,7 +159,9 @@ impl Session {
     }
 
     /// Goes to what a search has found, or to the start.
-    fn end_search(&mut self, search: Search) -> Result<Stop, ReplayFault> {
+    fn end_search(&mut self, search: Search) -> Result<Stop, ReplayFault>
+        ensures { self.new.draft ≡ self.old.draft }
+    {
         match search.found {
             Some((count, met)) => {
                 self.replay.go_to(self.alloc, count)?;
@@ -143,7 +175,9 @@ impl Session {
     }
 
     /// Stops what goes; a search ends where it went back from.
-    pub(crate) fn stop_going(&mut self) -> Result<(), ReplayFault> {
+    pub(crate) fn stop_going(&mut self) -> Result<(), ReplayFault>
+        ensures { self.new.draft ≡ self.old.draft }
+    {
         if let Going::Back(search) = self.going {
             self.replay.go_to(self.alloc, search.from)?;
         }

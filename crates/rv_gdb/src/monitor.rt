@@ -1,5 +1,7 @@
 //! Lines for the simulator itself: `monitor stats` and `monitor limit N`.
 
+ghost use Rattle.std.specs.Prelude.{◌≡◌};
+
 use crate::session::Session;
 use rv_gdb_commands::{bytes_of, put_bytes, put_error, put_ok};
 use std::alloc::{AllocError, Global};
@@ -20,7 +22,9 @@ impl Session {
         &mut self,
         reply: &mut Vec<u8>,
         digits: &[u8],
-    ) -> Result<(), AllocError> {
+    ) -> Result<(), AllocError>
+        ensures { self.new.draft ≡ self.old.draft }
+    {
         let alloc: Global = self.alloc;
         let Some(line) = bytes_of(alloc, digits)? else {
             return put_error(reply);

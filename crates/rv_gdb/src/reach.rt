@@ -5,9 +5,9 @@
 
 use rv_compress::next_inst;
 use rv_gdb_commands::{Range, Reach};
-use rv_isa::{AtomicOperation, Format, LoadOperation, Reg, StoreOperation};
+use rv_isa::{AtomicOperation, Format, Inst, LoadOperation, Reg, StoreOperation};
 use rv_machine::Watched;
-use rv_memory::{Memory, Paged};
+use rv_memory::{Memory, Paged, Right};
 
 /// The numbers of the registers in which a call has its operands, and of that which names it.
 const A0: u32 = 10;
@@ -63,8 +63,8 @@ fn bytes_at(machine: &Watched<Paged>, base: Reg, distance: i32, length: u64) -> 
     }
 }
 
-/// What an instruction reaches by its format.
-fn reach_of(format: Format, machine: &Watched<Paged>) -> Reach {
+/// What an instruction reaches by its format, where so many bytes of the input are left.
+fn reach_of(format: Format, machine: &Watched<Paged>, input_left: u64) -> Reach {
     match format {
         Format::Load(operation, x) => Reach {
             read: Some(bytes_at(machine, x.rs1, x.immediate, load_bytes(operation))),
@@ -84,7 +84,7 @@ fn reach_of(format: Format, machine: &Watched<Paged>) -> Reach {
                 bytes_at(machine, x.rs1, 0, atomic_bytes(is_double)),
             )
         }
-        Format::Ecall => call_reach(machine),
+        Format::Ecall => call_reach(machine, input_left),
         _ => NOTHING,
     }
 }
@@ -103,30 +103,50 @@ fn atomic_reach(operation: AtomicOperation, range: Range) -> Reach {
     }
 }
 
-/// What a call reaches, at most: from a1 on as many bytes as a2 says.
-fn call_reach(machine: &Watched<Paged>) -> Reach {
-    let range = Range {
-        address: machine.register(Reg::from_low_bits(A1)),
-        length: machine.register(Reg::from_low_bits(A2)),
-    };
+/// What a call reaches: from a1 on as many bytes as a2 says, of the input no more than are left.
+fn call_reach(machine: &Watched<Paged>, input_left: u64) -> Reach {
+    let address = machine.register(Reg::from_low_bits(A1));
+    let length = machine.register(Reg::from_low_bits(A2));
     let file = machine.register(Reg::from_low_bits(A0));
     match machine.register(Reg::from_low_bits(A7)) {
         READ if file == 0 => Reach {
             read: None,
-            written: Some(range),
+            written: Some(Range {
+                address,
+                length: length.min(input_left),
+            }),
         },
         WRITE if file == 1 || file == 2 => Reach {
-            read: Some(range),
+            read: Some(Range { address, length }),
             written: None,
         },
         _ => NOTHING,
     }
 }
 
-/// What the next instruction of a machine reaches.
-pub fn next_reach(machine: &Watched<Paged>) -> Reach {
-    match next_inst(machine.memory().piece(machine.pc())) {
-        Some((inst, _)) => reach_of(inst.format(), machine),
+/// The two bytes of an instruction at an address; none where they may not be executed.
+fn parcel_at(memory: &Paged, address: u64) -> Option<u16> {
+    let number = memory.try_load(address, 2, Right::Execute)?;
+    Some(number as u16)
+}
+
+/// The next instruction, which two segments may share.
+fn inst_of(machine: &Watched<Paged>) -> Option<Inst> {
+    let memory = machine.memory();
+    let pc = machine.pc();
+    let [first, second] = parcel_at(memory, pc)?.to_le_bytes();
+    let [third, fourth] = match parcel_at(memory, pc.wrapping_add(2)) {
+        Some(parcel) => parcel.to_le_bytes(),
+        None => [0, 0],
+    };
+    let (inst, _) = next_inst(&[first, second, third, fourth])?;
+    Some(inst)
+}
+
+/// What the next instruction of a machine reaches, where so many bytes of the input are left.
+pub fn next_reach(machine: &Watched<Paged>, input_left: u64) -> Reach {
+    match inst_of(machine) {
+        Some(inst) => reach_of(inst.format(), machine, input_left),
         None => NOTHING,
     }
 }

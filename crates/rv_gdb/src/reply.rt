@@ -15,7 +15,7 @@ use std::alloc::AllocError;
 const PC: u32 = 32;
 
 /// How many numbers there are.
-const NUMBERS: u32 = 33;
+const NUMBERS: u32 = REGISTERS as u32;
 
 /// The value of a register by its number.
 pub fn value_of(machine: &Watched<Paged>, number: u32) -> u64

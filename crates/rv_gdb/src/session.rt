@@ -8,6 +8,7 @@ ghost use Rattle.std.specs.Prelude.{
   ℕ,
   List,
   ◌∷◌,
+  false,
   None,
   IfOk,
   OnOk,
@@ -16,6 +17,7 @@ ghost use Rattle.std.specs.Prelude.{
 ghost use Rattle.rv_memory.specs.HeldPages.{held_pages};
 ghost use Rattle.rv_gdb_commands.specs.Numbers.{number_on};
 ghost use Rattle.rv_gdb_commands.specs.Digits.{value_digits};
+ghost use Rattle.rv_gdb_commands.specs.Asked.{writes, begins_write};
 ghost use Rattle.rv_gdb.specs.Shown.{register_or_pc, all_values, Says, SaysBytes, AnswersCommand};
 
 use crate::going::Going;
@@ -23,8 +25,8 @@ use crate::reply::{put_registers, put_registers_of, value_of};
 use crate::stop::{Stop, put_stop};
 use crate::writing::Draft;
 use rv_gdb_commands::{
-    Command, Motion, Points, Range, SUPPORTED, command_of, put_description, put_done, put_error,
-    put_ok, put_value,
+    Command, Features, Motion, Points, Range, command_of, put_description, put_done, put_error,
+    put_ok, put_supported, put_value,
 };
 use rv_gdb_memory::{REGISTERS, put_memory};
 use rv_replay::{Replay, ReplayFault};
@@ -54,6 +56,8 @@ pub struct Session {
     pub(crate) limit: u64,
     /// Why the program stands.
     pub(crate) stop: Stop,
+    /// Which words the debugger takes.
+    features: Features,
     /// Whether a value was written, so that the run begins there.
     pub(crate) is_written: bool,
     /// How many instructions of the replay come before the state where the run begins.
@@ -64,7 +68,10 @@ pub struct Session {
 
 impl Session {
     /// Before the first packet, with the most instructions that the run has.
-    pub fn new(alloc: Global, replay: Replay, limit: u64) -> Self {
+    pub fn new(alloc: Global, replay: Replay, limit: u64) -> Self
+        ensures draft { result.draft ≡ None }
+        ensures replay { result.replay ≡ replay }
+    {
         Session {
             alloc,
             replay,
@@ -72,6 +79,10 @@ impl Session {
             going: Going::Stands,
             limit,
             stop: Stop::Done,
+            features: Features {
+                swbreak: false,
+                hwbreak: false,
+            },
             is_written: false,
             origin: 0,
             draft: None,
@@ -79,12 +90,16 @@ impl Session {
     }
 
     /// What the program has written that nobody has taken.
-    pub fn take_written(&mut self) -> Vec<u8> {
+    pub fn take_written(&mut self) -> Vec<u8>
+        ensures draft { self.new.draft ≡ self.old.draft }
+        ensures machine { self.new.replay.machine ≡ self.old.replay.machine }
+    {
         self.replay.take_written(self.alloc)
     }
 
     /// Does what a packet asks, and adds the content of the answer. Where nothing was written since the program stands,
-    /// `g`, `p` and `m` are answered by the registers and the memory of the replay's machine, and by nothing else.
+    /// `g`, `p` and `m` are answered by the registers and the memory of the replay's machine, and by nothing else; and
+    /// other packets than `G`, `P`, `M` and `X` write nothing.
     pub fn answer(&mut self, packet: &[u8], reply: &mut Vec<u8>) -> Result<Then, ReplayFault>
         ensures registers { (rest : List ℕ) → packet.now ≡ 103 ∷ rest → self.old.draft ≡ None →
             IfOk result (λ _. reply.new.items ≡ reply.old.items
@@ -95,6 +110,8 @@ impl Session {
         ensures memory { (range : List ℕ) → packet.now ≡ 109 ∷ range → self.old.draft ≡ None →
             IfOk result (λ _. (reply.new.items ≡ reply.old.items) ⊎ SaysBytes reply.old.items
             reply.new.items (held_pages self.old.replay.machine.memory) (number_on 0 range)) }
+        ensures written { (letter : ℕ) (rest : List ℕ) → packet.now ≡ letter ∷ rest →
+            begins_write letter ≡ false → self.old.draft ≡ None → self.new.draft ≡ None }
     {
         let command = command_of(packet);
         if command.reads() {
@@ -110,15 +127,17 @@ impl Session {
         command: Command,
         packet: &[u8],
         reply: &mut Vec<u8>,
-    ) -> Result<Then, ReplayFault> {
+    ) -> Result<Then, ReplayFault>
+        ensures { writes command ≡ false → self.old.draft ≡ None → self.new.draft ≡ None }
+    {
         match command {
             Command::Go(motion) => return self.begin_to_go(motion, reply),
             Command::Detach => {
                 put_ok(reply)?;
                 return Ok(Then::AnswerAndLeave);
             }
-            Command::Kill if packet.first() == Some(&b'k') => return Ok(Then::Leave),
-            Command::Kill => {
+            Command::Kill => return Ok(Then::Leave),
+            Command::KillProcess => {
                 put_ok(reply)?;
                 return Ok(Then::AnswerAndLeave);
             }
@@ -137,7 +156,9 @@ impl Session {
     }
 
     /// Has the program go, and adds the answer where it stands at once.
-    fn begin_to_go(&mut self, motion: Motion, reply: &mut Vec<u8>) -> Result<Then, ReplayFault> {
+    fn begin_to_go(&mut self, motion: Motion, reply: &mut Vec<u8>) -> Result<Then, ReplayFault>
+        ensures { self.old.draft ≡ None → self.new.draft ≡ None }
+    {
         if !self.begin_written()? {
             put_error(reply)?;
             return Ok(Then::Answer);
@@ -145,7 +166,7 @@ impl Session {
         match self.begin(motion)? {
             Some(stop) => {
                 self.stop = stop;
-                put_stop(reply, stop)?;
+                put_stop(reply, stop, self.features)?;
                 Ok(Then::Answer)
             }
             None => Ok(Then::Run),
@@ -153,7 +174,9 @@ impl Session {
     }
 
     /// Has the program go on by so many instructions at most; whether it stands, and the answer is added.
-    pub fn go_on(&mut self, steps: u64, reply: &mut Vec<u8>) -> Result<bool, ReplayFault> {
+    pub fn go_on(&mut self, steps: u64, reply: &mut Vec<u8>) -> Result<bool, ReplayFault>
+        ensures { self.new.draft ≡ self.old.draft }
+    {
         let stop = match self.going {
             Going::Stands => Some(self.stop),
             Going::On => self.run_on(steps)?,
@@ -164,15 +187,17 @@ impl Session {
         };
         self.going = Going::Stands;
         self.stop = stop;
-        put_stop(reply, stop)?;
+        put_stop(reply, stop, self.features)?;
         Ok(true)
     }
 
     /// Stops the program where it goes, and adds the answer.
-    pub fn interrupt(&mut self, reply: &mut Vec<u8>) -> Result<(), ReplayFault> {
+    pub fn interrupt(&mut self, reply: &mut Vec<u8>) -> Result<(), ReplayFault>
+        ensures { self.new.draft ≡ self.old.draft }
+    {
         self.stop_going()?;
         self.stop = Stop::Interrupted;
-        put_stop(reply, Stop::Interrupted)?;
+        put_stop(reply, Stop::Interrupted, self.features)?;
         Ok(())
     }
 
@@ -182,10 +207,15 @@ impl Session {
         command: Command,
         packet: &[u8],
         reply: &mut Vec<u8>,
-    ) -> Result<(), AllocError> {
+    ) -> Result<(), AllocError>
+        ensures { self.new.draft ≡ self.old.draft }
+    {
         match command {
-            Command::Supported => reply.extend_from_slice(SUPPORTED.as_bytes()),
-            Command::WhyStopped => put_stop(reply, self.stop),
+            Command::Supported(features) => {
+                self.features = features;
+                put_supported(reply)
+            }
+            Command::WhyStopped => put_stop(reply, self.stop, self.features),
             Command::IsAttached => reply.extend_from_slice(b"0"),
             Command::Motions => reply.extend_from_slice(b"vCont;c;C;s;S"),
             Command::Insert { kind, range } => {
@@ -196,7 +226,8 @@ impl Session {
                 self.points.remove(kind, range);
                 put_ok(reply)
             }
-            Command::SelectThread | Command::IsThreadAlive => put_ok(reply),
+            Command::Thread => put_ok(reply),
+            Command::OtherThread => put_error(reply),
             Command::CurrentThread => reply.extend_from_slice(b"QC1"),
             Command::Threads => reply.extend_from_slice(b"m1"),
             Command::MoreThreads => reply.extend_from_slice(b"l"),

@@ -1,6 +1,6 @@
 //! Why a program stands, as it is answered.
 
-use rv_gdb_commands::{Met, PointKind, put_byte, put_number};
+use rv_gdb_commands::{Features, Met, PointKind, put_byte, put_number};
 use rv_machine::End;
 use std::alloc::AllocError;
 
@@ -63,9 +63,21 @@ fn word_of(kind: PointKind) -> &'static [u8] {
     }
 }
 
+/// Whether a debugger takes the word of a point.
+fn takes(features: Features, kind: PointKind) -> bool {
+    match kind {
+        PointKind::Software => features.swbreak,
+        PointKind::Hardware => features.hwbreak,
+        PointKind::Write | PointKind::Read | PointKind::Access => true,
+    }
+}
+
 /// Adds a stop at a point; one at an instruction has no address.
-fn put_met(reply: &mut Vec<u8>, met: Met) -> Result<(), AllocError> {
+fn put_met(reply: &mut Vec<u8>, met: Met, features: Features) -> Result<(), AllocError> {
     put_signal(reply, Signal::Trap)?;
+    if !takes(features, met.kind) {
+        return Ok(());
+    }
     reply.extend_from_slice(word_of(met.kind))?;
     match met.kind {
         PointKind::Software | PointKind::Hardware => {}
@@ -75,11 +87,11 @@ fn put_met(reply: &mut Vec<u8>, met: Met) -> Result<(), AllocError> {
     Ok(())
 }
 
-/// Adds the answer that says why a program stands.
-pub fn put_stop(reply: &mut Vec<u8>, stop: Stop) -> Result<(), AllocError> {
+/// Adds the answer that says why a program stands, in words that the debugger takes.
+pub fn put_stop(reply: &mut Vec<u8>, stop: Stop, features: Features) -> Result<(), AllocError> {
     match stop {
         Stop::Done | Stop::Limit => put_signal(reply, Signal::Trap),
-        Stop::At(met) => put_met(reply, met),
+        Stop::At(met) => put_met(reply, met, features),
         Stop::Start => {
             put_signal(reply, Signal::Trap)?;
             reply.extend_from_slice(b"replaylog:begin;")

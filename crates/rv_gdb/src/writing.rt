@@ -3,7 +3,7 @@
 //! A debugger writes several values before it has the program go, and not every state in between can be run. So what it
 //! writes is kept, shown as if it stood there, and begins a run when the program is to go.
 
-ghost use Rattle.std.specs.Prelude.{◌≡◌, [], None};
+ghost use Rattle.std.specs.Prelude.{◌≡◌, [], None, length};
 
 use crate::reply::registers_of;
 use crate::session::Session;
@@ -28,15 +28,15 @@ pub struct Draft {
 }
 
 /// The number whose bytes these are, the lowest first.
-fn value_of(bytes: &[u8]) -> u64 {
-    let mut value: u64 = 0;
-    for byte in bytes.iter().rev() {
-        value = value << 8 | u64::from(*byte);
-    }
-    value
+fn value_of(bytes: &[u8]) -> u64
+    requires { length bytes.now ≡ 8 }
+{
+    let mut value = [0; VALUE_BYTES];
+    value.copy_from_slice(bytes);
+    u64::from_le_bytes(value)
 }
 
-/// Puts the values of all registers that stand one after the other; whether they are as many.
+/// Puts the values of all registers that stand one after the other; whether they are as many. x0 keeps none.
 fn put_all(registers: &mut [u64; REGISTERS], bytes: &[u8]) -> bool {
     if bytes.len() != VALUE_BYTES * REGISTERS {
         return false;
@@ -45,6 +45,7 @@ fn put_all(registers: &mut [u64; REGISTERS], bytes: &[u8]) -> bool {
         let start = VALUE_BYTES * number;
         registers[number] = value_of(&bytes[start..start + VALUE_BYTES]);
     }
+    registers[0] = 0;
     true
 }
 
@@ -92,13 +93,16 @@ impl Session {
         Ok(done)
     }
 
-    /// Writes a register, whose value stands in pairs of digits.
+    /// Writes a register, whose value stands in pairs of digits; x0 keeps none.
     fn write_register(&mut self, number: u64, digits: &[u8]) -> Result<bool, AllocError> {
         let Some(bytes) = bytes_of(self.alloc, digits)? else {
             return Ok(false);
         };
         if number >= REGISTERS as u64 || bytes.len() != VALUE_BYTES {
             return Ok(false);
+        }
+        if number == 0 {
+            return Ok(true);
         }
         let mut draft = self.take_draft();
         draft.registers[number as usize] = value_of(bytes.as_slice());
@@ -144,7 +148,9 @@ impl Session {
     }
 
     /// Has the run begin anew where a debugger has written; whether it can.
-    pub(crate) fn begin_written(&mut self) -> Result<bool, ReplayFault> {
+    pub(crate) fn begin_written(&mut self) -> Result<bool, ReplayFault>
+        ensures { self.old.draft ≡ None → self.new.draft ≡ None }
+    {
         let Some(draft) = self.draft.take() else {
             return Ok(true);
         };

@@ -1,9 +1,9 @@
 -- What packets ask that read, and the answer to what cannot be done (GDB manual, "Remote Protocol", "Packets").
 
-use Rattle.std.specs.Prelude.{◌≡◌, ℕ, Bool, true, false, List, [], ◌∷◌, ⊤}
+use Rattle.std.specs.Prelude.{◌≡◌, ℕ, ◌==◌, Bool, true, false, ◌||◌, List, [], ◌∷◌, ⊤}
 use Rattle.rv_gdb_commands.specs.Numbers.{number_on}
 use Rattle.rv_gdb_commands.specs.declared.command.Command.{Command}
-use Rattle.rv_gdb_commands.specs.declared.command.Command.TheVariants.{ReadRegisters, ReadRegister, ReadMemory, Unknown}
+use Rattle.rv_gdb_commands.specs.declared.command.Command.TheVariants.{ReadRegisters, ReadRegister, ReadMemory, WriteRegisters, WriteRegister, WriteMemory, WriteBytes, Unknown}
 
 -- bytes from the address that these digits spell first, or nothing that is known
 abbrev pub ReadsFrom : List ℕ → Command → Type 0
@@ -18,6 +18,18 @@ reads (ReadRegister _) = true
 reads (ReadMemory _) = true
 reads Unknown = true
 reads _ = false
+
+-- registers or memory are to be written
+abbrev pub writes : Command → Bool
+writes (WriteRegisters _) = true
+writes (WriteRegister _ _) = true
+writes (WriteMemory _ _) = true
+writes (WriteBytes _ _) = true
+writes _ = false
+
+-- the letters of such packets: G, P, M and X
+abbrev pub begins_write : ℕ → Bool
+begins_write letter = letter == 71 || letter == 80 || letter == 77 || letter == 88
 
 -- E01
 abbrev pub error_reply : List ℕ

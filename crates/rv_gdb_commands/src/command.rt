@@ -1,8 +1,8 @@
 //! What a packet asks.
 
-ghost use Rattle.std.specs.Prelude.{◌≡◌, ◌⊎◌, ℕ, List, ◌∷◌, IfSome, drop};
+ghost use Rattle.std.specs.Prelude.{◌≡◌, ◌⊎◌, ℕ, false, List, ◌∷◌, IfSome, drop};
 ghost use Rattle.rv_gdb_commands.specs.Numbers.{number_on};
-ghost use Rattle.rv_gdb_commands.specs.Asked.{ReadsFrom, reads};
+ghost use Rattle.rv_gdb_commands.specs.Asked.{ReadsFrom, reads, writes, begins_write};
 ghost use Rattle.rv_gdb_commands.specs.declared.command.Command.TheVariants.{ReadRegister, ReadRegisters, Unknown};
 
 use crate::numbers::{number_at, number_behind};
@@ -29,11 +29,18 @@ pub enum Motion {
     StepBack,
 }
 
+/// Which words of an answer a debugger takes.
+#[derive(Clone, Copy, Drop)]
+pub struct Features {
+    pub swbreak: bool,
+    pub hwbreak: bool,
+}
+
 /// What a packet asks. Where it brings data, `at` is the index of their first byte in the packet.
 #[derive(Clone, Copy, Drop)]
 pub enum Command {
-    /// What the other side can do.
-    Supported,
+    /// What the other side can do, and what this side takes.
+    Supported(Features),
     /// Why the program stands.
     WhyStopped,
     /// Whether the program was there before the debugger.
@@ -52,9 +59,10 @@ pub enum Command {
     Motions,
     Insert { kind: PointKind, range: Range },
     Remove { kind: PointKind, range: Range },
-    /// What a thread is asked for; there is one.
-    SelectThread,
-    IsThreadAlive,
+    /// The thread that there is.
+    Thread,
+    /// One that there is not.
+    OtherThread,
     CurrentThread,
     Threads,
     MoreThreads,
@@ -63,7 +71,10 @@ pub enum Command {
     /// A line for the simulator itself, as pairs of digits.
     Monitor { at: usize },
     Detach,
+    /// The end of the session, with no answer.
     Kill,
+    /// The same, with one.
+    KillProcess,
     /// Nothing that is known here.
     Unknown,
 }
@@ -83,7 +94,9 @@ impl Command {
     }
 
     /// Whether it writes registers or memory.
-    pub fn writes(self) -> bool {
+    pub fn writes(self) -> bool
+        ensures { result ≡ writes self }
+    {
         matches!(
             self,
             Command::WriteRegisters { .. }
@@ -139,7 +152,9 @@ fn point_in(packet: &[u8]) -> Option<(PointKind, Range)> {
 }
 
 /// How the first action of `vCont` has the program go; signals are for nobody here.
-fn action_of(letter: u8) -> Command {
+fn action_of(letter: u8) -> Command
+    ensures { writes result ≡ false }
+{
     match letter {
         b'c' | b'C' => Command::Go(Motion::Continue),
         b's' | b'S' => Command::Go(Motion::Step),
@@ -148,7 +163,9 @@ fn action_of(letter: u8) -> Command {
 }
 
 /// What a packet asks whose first letter is `v`.
-fn v_command(packet: &[u8]) -> Command {
+fn v_command(packet: &[u8]) -> Command
+    ensures { writes result ≡ false }
+{
     if packet == b"vCont?".as_slice() {
         return Command::Motions;
     }
@@ -156,13 +173,15 @@ fn v_command(packet: &[u8]) -> Command {
         return action_of(packet[6]);
     }
     if packet.starts_with(b"vKill;") {
-        return Command::Kill;
+        return Command::KillProcess;
     }
     Command::Unknown
 }
 
 /// What a query asks.
-fn query(packet: &[u8]) -> Command {
+fn query(packet: &[u8]) -> Command
+    ensures { writes result ≡ false }
+{
     match packet {
         b"qC" => Command::CurrentThread,
         b"qfThreadInfo" => Command::Threads,
@@ -171,10 +190,25 @@ fn query(packet: &[u8]) -> Command {
     }
 }
 
+/// Whether a word stands somewhere in a packet.
+fn has_word(packet: &[u8], word: &[u8]) -> bool {
+    for start in 0..packet.len() {
+        if packet.split_at(start).1.starts_with(word) {
+            return true;
+        }
+    }
+    false
+}
+
 /// What a query asks that has operands.
-fn long_query(packet: &[u8]) -> Command {
+fn long_query(packet: &[u8]) -> Command
+    ensures { writes result ≡ false }
+{
     if packet.starts_with(b"qSupported") {
-        return Command::Supported;
+        return Command::Supported(Features {
+            swbreak: has_word(packet, b"swbreak+"),
+            hwbreak: has_word(packet, b"hwbreak+"),
+        });
     }
     if packet.starts_with(b"qAttached") {
         return Command::IsAttached;
@@ -189,7 +223,9 @@ fn long_query(packet: &[u8]) -> Command {
 const DESCRIPTION: &[u8] = b"qXfer:features:read:target.xml:";
 
 /// A query for a part of the target's description.
-fn description_in(packet: &[u8]) -> Command {
+fn description_in(packet: &[u8]) -> Command
+    ensures { writes result ≡ false }
+{
     if !packet.starts_with(DESCRIPTION) {
         return Command::Unknown;
     }
@@ -214,7 +250,8 @@ fn write_register(packet: &[u8]) -> Command {
 
 /// A read of memory.
 fn read_memory(packet: &[u8]) -> Command
-    ensures { (digits : List ℕ) → drop 1 packet.now ≡ digits → ReadsFrom digits result }
+    ensures memory { (digits : List ℕ) → drop 1 packet.now ≡ digits → ReadsFrom digits result }
+    ensures reads { writes result ≡ false }
 {
     match range_at(packet, 1) {
         Some((range, _)) => Command::ReadMemory(range),
@@ -224,8 +261,9 @@ fn read_memory(packet: &[u8]) -> Command
 
 /// A read of a register.
 fn read_register(packet: &[u8]) -> Command
-    ensures { (digits : List ℕ) → drop 1 packet.now ≡ digits →
+    ensures register { (digits : List ℕ) → drop 1 packet.now ≡ digits →
         (result ≡ Unknown) ⊎ (result ≡ ReadRegister (number_on 0 digits)) }
+    ensures reads { writes result ≡ false }
 {
     match number_at(packet, 1) {
         Some(number) => Command::ReadRegister(number.value),
@@ -248,11 +286,42 @@ fn write_memory(letter: u8, packet: &[u8]) -> Command {
 }
 
 /// A point that is set or taken away, by the letter of the command.
-fn point_command(letter: u8, packet: &[u8]) -> Command {
+fn point_command(letter: u8, packet: &[u8]) -> Command
+    ensures { writes result ≡ false }
+{
     match point_in(packet) {
         Some((kind, range)) if letter == b'Z' => Command::Insert { kind, range },
         Some((kind, range)) => Command::Remove { kind, range },
         None => Command::Unknown,
+    }
+}
+
+/// A command to go on from where the program stands, by its letter: `C` and `S` have the digits of a signal, which is for
+/// nobody here. One that names an address is not known.
+fn go_command(letter: u8, packet: &[u8]) -> Command
+    ensures { writes result ≡ false }
+{
+    let length = match letter {
+        b'c' | b's' => 1,
+        _ => 3,
+    };
+    if packet.len() != length {
+        return Command::Unknown;
+    }
+    action_of(letter)
+}
+
+/// A question about a thread, whose number stands from an index on: 1, or 0 for any, or -1 for all.
+fn thread_command(packet: &[u8], at: usize) -> Command
+    ensures { writes result ≡ false }
+{
+    let name = packet.split_at(at.min(packet.len())).1;
+    if name == b"-1".as_slice() {
+        return Command::Thread;
+    }
+    match number_at(name, 0) {
+        Some(number) if number.value < 2 && number.end == name.len() => Command::Thread,
+        _ => Command::OtherThread,
     }
 }
 
@@ -262,6 +331,8 @@ pub fn command_of(packet: &[u8]) -> Command
     ensures register { (digits : List ℕ) → packet.now ≡ 112 ∷ digits →
         (result ≡ Unknown) ⊎ (result ≡ ReadRegister (number_on 0 digits)) }
     ensures memory { (digits : List ℕ) → packet.now ≡ 109 ∷ digits → ReadsFrom digits result }
+    ensures others { (letter : ℕ) (rest : List ℕ) → packet.now ≡ letter ∷ rest →
+        begins_write letter ≡ false → writes result ≡ false }
 {
     let Some(letter) = packet.first() else {
         return Command::Unknown;
@@ -274,12 +345,11 @@ pub fn command_of(packet: &[u8]) -> Command
         b'P' => write_register(packet),
         b'm' => read_memory(packet),
         b'M' | b'X' => write_memory(*letter, packet),
-        b'c' | b'C' => Command::Go(Motion::Continue),
-        b's' | b'S' => Command::Go(Motion::Step),
+        b'c' | b'C' | b's' | b'S' => go_command(*letter, packet),
         b'b' => back_command(packet),
         b'Z' | b'z' => point_command(*letter, packet),
-        b'H' => Command::SelectThread,
-        b'T' => Command::IsThreadAlive,
+        b'H' => thread_command(packet, 2),
+        b'T' => thread_command(packet, 1),
         b'D' => Command::Detach,
         b'k' => Command::Kill,
         b'v' => v_command(packet),
@@ -289,7 +359,9 @@ pub fn command_of(packet: &[u8]) -> Command
 }
 
 /// A command to go back.
-fn back_command(packet: &[u8]) -> Command {
+fn back_command(packet: &[u8]) -> Command
+    ensures { writes result ≡ false }
+{
     match packet {
         b"bs" => Command::Go(Motion::StepBack),
         b"bc" => Command::Go(Motion::ContinueBack),

@@ -20,8 +20,8 @@ mod points;
 mod reply;
 mod target;
 
-pub use command::{Command, Motion, Range, command_of};
+pub use command::{Command, Features, Motion, Range, command_of};
 pub use numbers::{Number, bytes_of, number_at, put_byte, put_bytes, put_number, put_value};
 pub use points::{Met, PointKind, Points, Reach, do_meet};
 pub use reply::{put_done, put_error, put_ok};
-pub use target::{SUPPORTED, put_description};
+pub use target::{put_description, put_supported};

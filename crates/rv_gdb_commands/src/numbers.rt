@@ -19,7 +19,7 @@ ghost use Rattle.std.specs.Prelude.{
 ghost use Rattle.rv_gdb_commands.specs.Numbers.{number_on};
 ghost use Rattle.rv_gdb_commands.specs.Digits.{byte_digits, digits, value_digits};
 
-use rv_gdb_packets::{byte_of, digit_of, glyph_of};
+use rv_gdb_packets::{digit_of, glyph_of};
 use std::alloc::{AllocError, Global};
 
 /// A number that stands in a packet.
@@ -79,20 +79,24 @@ pub fn number_behind(bytes: &[u8], at: usize, letter: u8) -> Option<Number>
 
 /// The bytes that pairs of digits spell, all of them.
 pub fn bytes_of(alloc: Global, digits: &[u8]) -> Result<Option<Vec<u8>>, AllocError> {
-    if digits.len() % 2 != 0 {
-        return Ok(None);
-    }
     let mut bytes = Vec::new(alloc);
-    for pair in digits.chunks(2) {
-        match pair {
-            [high, low] => match byte_of(*high, *low) {
-                Some(byte) => bytes.push(byte)?,
-                None => return Ok(None),
-            },
-            _ => return Ok(None),
+    let mut high = None;
+    for digit in digits {
+        let Some(value) = digit_of(*digit) else {
+            return Ok(None);
+        };
+        match high {
+            None => high = Some(value),
+            Some(first) => {
+                bytes.push(first << 4 | value)?;
+                high = None;
+            }
         }
     }
-    Ok(Some(bytes))
+    match high {
+        None => Ok(Some(bytes)),
+        Some(_) => Ok(None),
+    }
 }
 
 /// Adds the two digits of a byte.

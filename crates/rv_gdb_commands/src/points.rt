@@ -1,5 +1,7 @@
 //! Where a program is to stop.
 
+ghost use Rattle.std.specs.Prelude.{◌≤◌, length};
+
 use crate::command::Range;
 use std::alloc::{AllocError, Global};
 
@@ -62,6 +64,15 @@ pub fn do_meet(first: Range, second: Range) -> bool {
             || second.address.wrapping_sub(first.address) < first.length)
 }
 
+/// The first byte of a range that lies in another, where one does.
+fn first_in(range: Range, other: Range) -> u64 {
+    if range.address.wrapping_sub(other.address) < other.length {
+        range.address
+    } else {
+        other.address
+    }
+}
+
 /// Whether a point at bytes is for reads, or for writes.
 fn looks_at(kind: PointKind, writes: bool) -> bool {
     match kind {
@@ -72,7 +83,17 @@ fn looks_at(kind: PointKind, writes: bool) -> bool {
     }
 }
 
-/// Takes the first of such points out of a list.
+/// Whether such a point is in a list.
+fn is_among(list: &[Point], wanted: &Point) -> bool {
+    for point in list {
+        if *point == *wanted {
+            return true;
+        }
+    }
+    false
+}
+
+/// Takes such a point out of a list.
 fn remove_from(list: &mut Vec<Point>, wanted: &Point) {
     let found = list.iter().position(|point| *point == *wanted);
     if let Some(index) = found {
@@ -89,34 +110,49 @@ impl Points {
         }
     }
 
-    /// Sets a point; whether there was room.
+    /// Sets a point, if it is not set; whether there was room.
     pub fn insert(&mut self, kind: PointKind, range: Range) -> Result<bool, AllocError> {
+        let point = Point { kind, range };
         match kind {
-            PointKind::Software | PointKind::Hardware => self.insert_break(kind, range),
-            PointKind::Write | PointKind::Read | PointKind::Access => {
-                if self.watches.len() >= WATCH_LIMIT {
-                    return Ok(false);
-                }
-                self.watches.push(Point { kind, range })?;
-                Ok(true)
-            }
+            PointKind::Software | PointKind::Hardware => self.insert_break(point),
+            PointKind::Write | PointKind::Read | PointKind::Access => self.insert_watch(point),
         }
     }
 
-    /// Sets a point at an instruction; whether there was room.
-    fn insert_break(&mut self, kind: PointKind, range: Range) -> Result<bool, AllocError> {
-        if self.breaks.len() >= BREAK_LIMIT {
+    /// Sets a point at bytes, if it is not set; whether there was room.
+    fn insert_watch(&mut self, point: Point) -> Result<bool, AllocError> {
+        if is_among(&self.watches, &point) {
+            return Ok(true);
+        }
+        if self.watches.len() >= WATCH_LIMIT {
             return Ok(false);
         }
-        let index = self
-            .breaks
-            .partition_point(|point| point.range.address < range.address);
-        let index = index.min(self.breaks.len());
-        self.breaks.insert(index, Point { kind, range })?;
+        self.watches.push(point)?;
         Ok(true)
     }
 
-    /// Takes a point away, once.
+    /// Sets a point at an instruction, if it is not set; whether there was room.
+    fn insert_break(&mut self, point: Point) -> Result<bool, AllocError> {
+        if is_among(&self.breaks, &point) {
+            return Ok(true);
+        }
+        if self.breaks.len() >= BREAK_LIMIT {
+            return Ok(false);
+        }
+        let index = self.first_from(point.range.address);
+        self.breaks.insert(index, point)?;
+        Ok(true)
+    }
+
+    /// The index of the first point at an instruction from an address on.
+    fn first_from(&self, address: u64) -> usize
+        ensures { result ≤ length self.now.breaks.items }
+    {
+        self.breaks
+            .partition_point(|point| point.range.address < address)
+    }
+
+    /// Takes a point away.
     pub fn remove(&mut self, kind: PointKind, range: Range) {
         let wanted = Point { kind, range };
         remove_from(&mut self.breaks, &wanted);
@@ -125,12 +161,9 @@ impl Points {
 
     /// The point at an instruction.
     pub fn at(&self, pc: u64) -> Option<Met> {
-        let found = self
-            .breaks
-            .binary_search_by_key(&pc, |point| point.range.address);
-        match found {
-            Ok(index) if index < self.breaks.len() => Some(Met {
-                kind: self.breaks[index].kind,
+        match self.breaks.get(self.first_from(pc)) {
+            Some(point) if point.range.address == pc => Some(Met {
+                kind: point.kind,
                 address: pc,
             }),
             _ => None,
@@ -144,7 +177,7 @@ impl Points {
             if looks_at(point.kind, writes) && do_meet(point.range, range) {
                 return Some(Met {
                     kind: point.kind,
-                    address: range.address,
+                    address: first_in(range, point.range),
                 });
             }
         }

@@ -1,6 +1,8 @@
 //! The target's description: a hart of RV64 with the registers x0 to x31 and pc.
 
 use crate::command::Range;
+use crate::numbers::put_number;
+use rv_gdb_packets::CONTENT_LIMIT;
 use std::alloc::AllocError;
 
 /// The feature that a hart of RISC-V has at least; GDB knows the registers of `org.gnu.gdb.riscv.cpu` by these names.
@@ -46,9 +48,16 @@ pub static DESCRIPTION: &str = r#"<?xml version="1.0"?>
 </target>
 "#;
 
-/// What this side can do. A packet has as many bytes at most as its receiver keeps.
-pub static SUPPORTED: &str =
-    "PacketSize=4000;qXfer:features:read+;ReverseStep+;ReverseContinue+;swbreak+;hwbreak+;vContSupported+";
+/// What this side can do, beside how long a packet may be.
+static SUPPORTED: &[u8] =
+    b";qXfer:features:read+;ReverseStep+;ReverseContinue+;swbreak+;hwbreak+;vContSupported+";
+
+/// Adds what this side can do. A packet has as many bytes at most as its receiver keeps.
+pub fn put_supported(reply: &mut Vec<u8>) -> Result<(), AllocError> {
+    reply.extend_from_slice(b"PacketSize=")?;
+    put_number(reply, CONTENT_LIMIT as u64)?;
+    reply.extend_from_slice(SUPPORTED)
+}
 
 /// Adds a part of the target's description: `l` before the last, `m` before others.
 pub fn put_description(reply: &mut Vec<u8>, range: Range) -> Result<(), AllocError> {
