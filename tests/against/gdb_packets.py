@@ -12,6 +12,7 @@ than fit, with noise and acknowledgements between them, in pieces of random size
   writes     in the second half registers and memory are written, points are set, and the program goes on and back; what
              was written is read again
   memory     the process keeps below 64 MiB
+  waiting    a question that came twice before its answer is answered once, and an interrupt is heard behind a packet
 
 The last line is 'differs=0' where nothing is wrong, and only then the status is 0.
 """
@@ -312,6 +313,24 @@ class Session:
             self.ask(random_content(self.draw))
 
 
+def said_to(rv, folder, given):
+    """What a process says to bytes that come at once."""
+    words = [rv, "gdb", "prog.s"]
+    try:
+        return subprocess.run(words, cwd=folder, input=given, stdout=subprocess.PIPE, timeout=60).stdout
+    except subprocess.TimeoutExpired:
+        return b"nothing in 60 seconds"
+
+
+def waiting(rv, folder):
+    """The faults of what comes before it can be answered."""
+    question, end = framed(b"qSupported:swbreak+"), framed(b"k")
+    twice = said_to(rv, folder, question + question + end)
+    behind = said_to(rv, folder, framed(b"vCont;c") + framed(b"?") + b"\x03++++" + end)
+    faults = [] if twice.count(b"$PacketSize=4000;") == 1 else [f"asked twice: {twice}"]
+    return faults if behind.count(framed(b"T02thread:1;")) == 2 else [*faults, f"interrupted: {behind}"]
+
+
 def main():
     parser = argparse.ArgumentParser(description=__doc__, formatter_class=argparse.RawDescriptionHelpFormatter)
     parser.add_argument("--first", type=int, default=1)
@@ -320,6 +339,7 @@ def main():
     words = parser.parse_args()
     with tempfile.TemporaryDirectory() as name:
         session = Session(words.rv, Path(name), random.Random(words.first))
+        session.faults += waiting(words.rv, Path(name))
         session.ask(b"?")
         for turn in range(words.count):
             if turn == words.count // 2:

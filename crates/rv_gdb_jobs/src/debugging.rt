@@ -2,7 +2,8 @@
 
 use crate::wire::{Heard, Wire};
 use rv_gdb::{Session, Then};
-use rv_gdb_packets::{Message, Receiver, glyph_of};
+use rv_gdb_commands::put_bytes;
+use rv_gdb_packets::{Message, Receiver};
 use rv_image::Image;
 use rv_job::Debugged;
 use rv_replay::{Replay, ReplayFault};
@@ -112,6 +113,10 @@ impl<L: Write + Drop> Debugger<L> {
     /// Answers a packet; whether the session is over.
     fn answer<S: System>(&mut self, system: &mut S, packet: &[u8]) -> Result<bool, JobError> {
         print(system, b"+")?;
+        // a debugger that has waited for its first answer asks again, and takes one answer
+        if packet.starts_with(b"qSupported") && self.wire.is_next(packet)? {
+            return Ok(false);
+        }
         self.reply.clear();
         let then = lasting(self.alloc, self.session.answer(packet, &mut self.reply))?;
         match then {
@@ -158,7 +163,7 @@ impl<L: Write + Drop> Debugger<L> {
     /// What the other side says by now. It is sent nothing for its console, and says that this came, before or behind
     /// what else it says; so no read waits for long.
     fn hear<S: System>(&mut self, system: &mut S) -> Result<Heard, JobError> {
-        if self.wire.has_packet() {
+        if self.wire.is_full() {
             return Ok(Heard::Nothing);
         }
         self.send_console(system, &[])?;
@@ -187,10 +192,7 @@ impl<L: Write + Drop> Debugger<L> {
     fn send_console<S: System>(&mut self, system: &mut S, bytes: &[u8]) -> Result<(), JobError> {
         let mut content = Vec::new(self.alloc);
         content.push(b'O')?;
-        for byte in bytes {
-            content.push(glyph_of(*byte / 16))?;
-            content.push(glyph_of(*byte % 16))?;
-        }
+        put_bytes(&mut content, bytes)?;
         self.wire.send(system, content.as_slice())
     }
 }
