@@ -11,6 +11,6 @@ returns-clause-state c =
     let more : ℕ = c.args.count - new.count in
     let same : new.count + more ≡ c.args.count = omega (arith, c.in_ok-advance.ensures.most, c.in_ok-go_before.ensures.most) in
     let none : new.end ≡ None → more ≡ 0 = λ is.
-        let reached = c.in_ok-advance.ensures.count (omega (arith, c.in_ok-go_before.ensures.most)) is in
-        omega (arith, reached, c.in_ok-go_before.ensures.most) in
+    let reached = c.in_ok-advance.ensures.count (omega (arith, c.in_ok-go_before.ensures.most)) is in
+    omega (arith, reached, c.in_ok-go_before.ensures.most) in
     ∥∥₁_map (new.replayed (search rules) more (still new.end more none)) (λ at. subst (λ (n : ℕ). IsAfter new n) same at)
