@@ -322,7 +322,7 @@ Example:
 Cure: make it again
 
 A5 BadName
-Cause: a member's name is empty, has a control character or over 4,096 bytes,
+Cause: a member's name is empty, has a control character or over 4,094 bytes,
   or has no end in the table of long names
 Example:
     a damaged archive
