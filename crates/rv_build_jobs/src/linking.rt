@@ -30,9 +30,28 @@ pub(crate) fn link_inputs<S: System>(
     let taken = objects_of(system, files, settings)?;
     let names = names_of(alloc, taken.as_slice())?;
     let objects = bytes_of(alloc, taken.as_slice())?;
+    link_taken(
+        system,
+        outputs,
+        settings,
+        sources,
+        names.as_slice(),
+        objects.as_slice(),
+    )
+}
+
+/// Links objects with these names and writes what is asked for of it; the exit status.
+fn link_taken<S: System>(
+    system: &mut S,
+    outputs: LinkOutputs<'_>,
+    settings: LinkSettings,
+    sources: &[&[u8]],
+    names: &[&str],
+    objects: &[&[u8]],
+) -> Result<u8, JobError> {
     let linked = Linked {
-        names: names.as_slice(),
-        objects: objects.as_slice(),
+        names,
+        objects,
         sources,
     };
     if outputs.debug || outputs.map.is_some() {
