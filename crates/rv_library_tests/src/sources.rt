@@ -6,6 +6,14 @@ use rv_parse::{Statement, parse};
 use rv_unit::Unit;
 use std::test::Fail;
 
+fn is_newline(kind: TokenKind<'_>) -> bool {
+    matches!(kind, TokenKind::Newline)
+}
+
+fn is_bad_byte(kind: TokenKind<'_>) -> bool {
+    matches!(kind, TokenKind::BadByte)
+}
+
 #[test]
 fn tokens(rt: HostRuntime) {
     let mut lexer = Lexer::new(b"li a0, 1b # back\n");
@@ -18,11 +26,13 @@ fn tokens(rt: HostRuntime) {
         last = token.kind;
     }
     assert_eq!(rt; names, 2);
-    assert!(rt; matches!(last, TokenKind::Newline));
+    assert!(rt; is_newline(last));
     // a bad byte is given once
     lexer = Lexer::new(b"\x01 nop");
-    let bad = lexer.next().map(|token| token.kind);
-    assert!(rt; matches!(bad, Some(TokenKind::BadByte)));
+    match lexer.next() {
+        Some(token) => assert!(rt; is_bad_byte(token.kind)),
+        None => assert!(rt; false, "no token"),
+    }
     assert!(rt; lexer.next().is_none());
 }
 
