@@ -3,7 +3,7 @@
 //! It takes the events that [`run_watched`](rv_machine::run_watched) tells its watchers, and gives sums over them: how many
 //! instructions there were ([`Executed`]), with those of each kind and their loads and stores ([`Totals`]), and for each
 //! instruction how often it was executed, branched and was called, and how deep the stack went ([`Counts`]); also for
-//! each mnemonic, and for the address where a line or a function begins ([`ByAddress`]).
+//! each mnemonic, for each address that was called, and for that where a line begins ([`ByAddress`]).
 //!
 //! Main contract: what [`Counts`] has seen (`specs/Rows`): its totals are the sums of all events (`specs/Totals`), and for
 //! every test of addresses and instructions its counts of those that pass are the numbers of their executions, of the
