@@ -167,7 +167,7 @@ impl Part<'_> {
 fn put_program(file: &mut ElfWriter, start: u64, part: Part) -> Result<(), AllocError>
     requires below { memory_size_of (segment_part part) < 2 ^ 64 }
     requires after { start ≤ part.address }
-    requires far { part.address < 2 ^ 63 }
+    requires far { part.address - start < 2 ^ 63 }
     ensures bytes { OnOk result (file.new ≡ file.old
         ++ flat_map (program_bytes start) (filter has_memory (segment_part part.entry ∷ []))) }
 {
@@ -182,7 +182,7 @@ fn put_program(file: &mut ElfWriter, start: u64, part: Part) -> Result<(), Alloc
 fn program_header(start: u64, part: Part) -> ProgramHeader
     requires below { memory_size_of (segment_part part) < 2 ^ 64 }
     requires after { start ≤ part.address }
-    requires far { part.address < 2 ^ 63 }
+    requires far { part.address - start < 2 ^ 63 }
     ensures { result ≡ program_of start (segment_part part.entry) }
 {
     ProgramHeader {
@@ -200,7 +200,7 @@ fn program_header(start: u64, part: Part) -> ProgramHeader
 /// The stored bytes of a part at their place, zeros before them.
 fn put_part(file: &mut ElfWriter, start: u64, part: Part) -> Result<(), AllocError>
     requires after { start ≤ part.address }
-    requires far { part.address < 2 ^ 63 }
+    requires far { part.address - start < 2 ^ 63 }
     requires room { length file.old ≤ offset_of start (segment_part part) }
     ensures bytes { OnOk result
         (file.new ≡ with_contents file.old
