@@ -37,14 +37,16 @@ AreBuiltAlike =
 -- where texts are built, only want of memory keeps their files from being linked
 abbrev pub AreNotUnlinkable : Type 0
 AreNotUnlinkable =
-    (texts files : List (List ℕ)) (ground : Ground) (relax gc : Bool) (exe map : List ℕ) (fault : Fault)
+    (texts files : List (List ℕ)) (ground : Ground) (relax gc : Bool) (exe map : List ℕ)
+    (fault : Fault)
     → AreFilesFor texts files → AreBuilt texts ground relax gc exe map
     → AreUnlinkable files ground relax gc fault → fault ≡ Memory
 
 -- where the files are linked, only want of memory keeps the texts from being built
 abbrev pub AreNotRefused : Type 0
 AreNotRefused =
-    (texts files : List (List ℕ)) (ground : Ground) (relax gc : Bool) (exe map : List ℕ) (fault : Fault)
+    (texts files : List (List ℕ)) (ground : Ground) (relax gc : Bool) (exe map : List ℕ)
+    (fault : Fault)
     → AreFilesFor texts files → AreLinked files ground relax gc exe map
     → IsRefusedFor texts ground relax gc fault → fault ≡ Memory
 

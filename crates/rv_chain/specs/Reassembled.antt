@@ -47,4 +47,5 @@ RawListingsAreAccepted =
     (start : ℕ) (relax gc : Bool) (fault : Fault) (file : List ℕ) (image : Image) (text : List ℕ)
     (listing : IsRawListing image text)
     → first_fault file ≡ None → ImageOf file image → start ≡ listing.segment.address
-    → IsRefusedFor (text ∷ []) (usual start) relax gc fault → (fault ≡ Memory) ⊎ IsTooLongFor text fault
+    → IsRefusedFor (text ∷ []) (usual start) relax gc fault
+    → (fault ≡ Memory) ⊎ IsTooLongFor text fault

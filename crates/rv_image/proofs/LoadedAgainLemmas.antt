@@ -1,6 +1,6 @@
 -- What is written is loaded again: the executable of a linked program has no fault, and its image is the one that was meant.
 
-use Rattle.std.proofs.Common.{◌≡◌, ℕ, ◌+◌, ◌*◌, ◌-◌, ◌%◌, ◌/◌, ◌≤◌, ◌<◌, ◌^◌, ◌==◌, nat_le, nat_lt, Bool, true, false, not, ◌&&◌, List, [], ◌∷◌, ◌++◌, length, drop, map, filter, flat_map, None, refl, ap, sym, ◌∙◌, append_assoc, arith, sum_by}
+use Rattle.std.proofs.Common.{◌≡◌, ℕ, ◌+◌, ◌*◌, ◌-◌, ◌%◌, ◌/◌, ◌≤◌, ◌<◌, ◌^◌, ◌==◌, nat_le, nat_lt, Bool, true, false, not, ◌&&◌, List, [], ◌∷◌, ◌++◌, length, drop, map, filter, flat_map, None, inl, inr, refl, ap, sym, subst, ◌∙◌, append_assoc, arith, sum_by}
 use Rattle.std.proofs.Math.Nat.{le_trans}
 use Rattle.std.proofs.lemmas.Bool.{le-ltb, ne_eqb, and_left, and_right, cond-true, cond-false}
 use Rattle.std.proofs.lemmas.List.{length-append}
@@ -17,7 +17,7 @@ use Rattle.rv_elf_laws.specs.ReadBack.{file_header_again}
 use Rattle.rv_elf_laws.specs.Sections.{program_count, section_count, names_section, is_load, program_headers, is_past}
 use Rattle.rv_isa_laws.specs.Platform.{memory_limit}
 use Rattle.rv_image_laws.specs.Free.{highest, free_until}
-use Rattle.rv_image_laws.proofs.FreeLemmas.{free_low, free_apart}
+use Rattle.rv_image_laws.proofs.FreeLemmas.{free_is, free_low, free_apart}
 use Rattle.rv_image_laws.specs.Image.{Image}
 use Rattle.rv_image_laws.specs.ImageOf.{ImageOf, segment_in}
 use Rattle.rv_elf_laws.specs.FirstFault.{first_true, header_tests, table_tests, type_tests}
@@ -117,7 +117,17 @@ filter_fit start (p ∷ ps) h = go (has_memory p) refl (filter_fit start ps h.1)
     go true e rest = rw (cond-true (has_memory p) (p ∷ filter has_memory ps) (filter has_memory ps) e) (h.0, rest)
     go false e rest = rw (cond-false (has_memory p) (p ∷ filter has_memory ps) (filter has_memory ps) e) rest
 
+-- from where memory is free it is not so far to its end that an offset in the file has no number
+pub near_by : (start end : ℕ) → end ≤ free_until start → end - start < 2 ^ 64 - 0x1000
+near_by start end h = elim (free_is start) [
+  | inl below ↦ (let low = subst (λ n. end ≤ n) below.1 h in omega (arith, low))
+  | inr above ↦ (let low = subst (λ n. end ≤ n) above.1 h in omega (arith, low, above.0))
+]
+
 module _ (l : Linked) (laid : IsLaidOut l) where
+  near : l.map.bss.end - l.map.text.start < 2 ^ 64 - 0x1000
+  near = near_by l.map.text.start l.map.bss.end laid.in_free
+
   -- below the last page
   pub low : l.map.bss.end ≤ highest
   low = le_trans laid.in_free (free_low l.map.text.start)
@@ -147,7 +157,7 @@ module _ (l : Linked) (laid : IsLaidOut l) where
       record {
         p_type = omega arith;
         p_flags = omega arith;
-        p_offset = omega (arith, laid.rodata_fills, laid.data_fills, laid.data_after_rodata, laid.bss_after_data, laid.bss_ends, low);
+        p_offset = omega (arith, laid.rodata_fills, laid.data_fills, laid.data_after_rodata, laid.bss_after_data, laid.bss_ends, near);
         p_vaddr = omega (arith, laid.rodata_fills, laid.data_fills, laid.data_after_rodata, laid.bss_after_data, laid.bss_ends, low);
         p_paddr = omega (arith, laid.rodata_fills, laid.data_fills, laid.data_after_rodata, laid.bss_after_data, laid.bss_ends, low);
         p_filesz = omega (arith, laid.limit);
@@ -158,7 +168,7 @@ module _ (l : Linked) (laid : IsLaidOut l) where
         record {
           p_type = omega arith;
           p_flags = omega arith;
-          p_offset = omega (arith, laid.data_fills, laid.bss_after_data, laid.bss_ends, low);
+          p_offset = omega (arith, laid.data_fills, laid.bss_after_data, laid.bss_ends, near);
           p_vaddr = omega (arith, laid.data_fills, laid.bss_after_data, laid.bss_ends, low);
           p_paddr = omega (arith, laid.data_fills, laid.bss_after_data, laid.bss_ends, low);
           p_filesz = omega (arith, laid.data_fills, laid.bss_after_data, laid.bss_ends, low);

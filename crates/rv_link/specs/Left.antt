@@ -13,8 +13,8 @@ use Rattle.rv_link_laws.specs.WithMap.{map_where}
 
 -- objects are linked, to a map that says that these sections were dropped before, with its details
 -- or without
-pub record IsLinkWith (os : List Object) (ground : Ground) (drops : List SectionId) (with_map : Bool)
-    (l : Linked) : Type 0 where
+pub record IsLinkWith (os : List Object) (ground : Ground) (drops : List SectionId)
+    (with_map : Bool) (l : Linked) : Type 0 where
   pub whole : Linked
   pub linked : IsLinkOf os ground whole
   pub dropped : whole.map.drops ≡ drops

@@ -3,14 +3,13 @@
 //! Each pass fixes one thing: what names mean was first, then come addresses, then bytes. The order of the faults is that of the passes,
 //! so what costs least to see is told first.
 
-ghost use Rattle.std.specs.Prelude.{◌≡◌, ◌↔◌, ◌%◌, ◌<◌, ◌≤◌, [], All, List, Some, length, map, true, IfOk, IfErr, OnOk};
+ghost use Rattle.std.specs.Prelude.{◌≡◌, ◌%◌, ◌<◌, ◌≤◌, [], All, List, Some, length, map, true, IfOk, IfErr, OnOk};
 ghost use Rattle.std.specs.List.{list_any};
 ghost use Rattle.rv_map_laws.specs.Globals.{AreDistinct};
-ghost use Rattle.rv_image_laws.specs.Free.{free_until};
+ghost use Rattle.rv_image_laws.specs.Free as frees;
 ghost use Rattle.rv_image.specs.Views.{linked_of};
 ghost use Rattle.rv_object_laws.specs.Object.{Object as SaidObject};
 ghost use Rattle.rv_object_types.specs.View.{object_of};
-ghost use Rattle.rv_link_laws.specs.Ground.{IsGround};
 ghost use Rattle.rv_link_laws.specs.IsLinkOf.{most_files};
 ghost use Rattle.rv_link_laws.specs.Names.{global_names, entry_of};
 ghost use Rattle.rv_link_laws.specs.Refusals.{AreDoubled, ArePast, AreUnnamed, AreUnplaced, IsOddEntry, IsUnlinked};
@@ -94,19 +93,11 @@ pub fn within_limits(files: usize, ground: Ground) -> Result<(), LinkFault>
     if MOST_FILES < files {
         return Err(LinkFault::TooManyFiles);
     }
-    if !can_begin(ground) {
+    let free = free_until(ground.text);
+    if ground.text % 4096 != 0 || ground.ceiling <= ground.text || free < ground.ceiling {
         return Err(LinkFault::BadTextStart);
     }
     Ok(())
-}
-
-/// Whether text can begin on a ground: at a page below the ceiling, up to which memory is free.
-fn can_begin(ground: Ground) -> bool
-    ensures { (result ≡ true) ↔ IsGround ground }
-{
-    ground.text % 4096 == 0
-        && ground.text < ground.ceiling
-        && ground.ceiling <= free_until(ground.text)
 }
 
 /// What the names of objects mean: each has one definition for all files at most.
@@ -162,7 +153,7 @@ fn place<'p>(
 ) -> Result<Placement<'p>, LinkFault>
     requires page { ground.text % 4096 ≡ 0 }
     requires low { ground.text < ground.ceiling }
-    requires free { ground.ceiling ≤ free_until ground.text }
+    requires free { ground.ceiling ≤ frees.free_until ground.text }
     requires roomy { are_roomy_objects (planned_objects plan.now) ≡ true }
     ensures placed { IfOk result (IsPlacement (planned_objects plan.now) ground) }
     ensures room { IfOk result (λ placement. are_roomy placement ≡ true) }
@@ -227,7 +218,7 @@ fn finish(
 ) -> Result<Linked, LinkFault>
     requires few { length (resolution.now).objects.now ≤ most_files }
     requires placed { IsPlaced (all resolution.now) placement }
-    requires free { placement.bss.end ≤ free_until placement.text.start }
+    requires free { placement.bss.end ≤ frees.free_until placement.text.start }
     requires grown { AreGrown (all resolution.now) placement (λ goes. []) regions }
     requires even { entry % 2 ≡ 0 }
     requires drops { All (λ d. IsDrop d) drops.items }
