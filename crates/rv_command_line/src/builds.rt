@@ -107,29 +107,36 @@ fn pad_ends(operands: &mut Operands<'_, '_>, options: GroundOptions) -> Result<b
 
 /// What one can choose of a link.
 pub(crate) fn link_options(operands: &mut Operands<'_, '_>) -> Result<GroundOptions, Refusal> {
-    let ground = ground(operands)?;
-    let whole = Flag::long("no-relax", "Leaves every call its eight bytes");
-    let relax = !operands.flag(whole)?;
-    let collects = "Leaves out sections to which nothing leads from the entry";
-    let gc = operands.flag(Flag::long("gc-sections", collects))?;
-    Ok(GroundOptions { ground, relax, gc })
-}
-
-/// Where a program is put: below the stack from the start of its text, or from its origin on.
-fn ground(operands: &mut Operands<'_, '_>) -> Result<Ground, Refusal> {
     let start = "The address of the text, decimal or 0x and hexadecimal [default: 0x10000]";
     let start = operands.optional(Text::long("text-start", "N", start))?;
     let origin = "The address of the text, also behind the stack, such as 0x80000000";
     let origin = operands.optional(Text::long("origin", "N", origin))?;
-    let wanted_start = "a text start is decimal, or 0x and hexadecimal, below 2^64";
-    let wanted_origin = "an origin is decimal, or 0x and hexadecimal, below 2^64";
-    match (start, origin) {
-        (None, None) => Ok(usual(TEXT_START)),
-        (Some(text), None) => Ok(usual(number(text_start(text), wanted_start)?)),
-        (None, Some(text)) => Ok(ground_of(number(text_start(text), wanted_origin)?)),
-        (Some(_), Some(_)) => Err(Refusal::Wanted(
+    let whole = Flag::long("no-relax", "Leaves every call its eight bytes");
+    let relax = !operands.flag(whole)?;
+    let collects = "Leaves out sections to which nothing leads from the entry";
+    let gc = operands.flag(Flag::long("gc-sections", collects))?;
+    Ok(GroundOptions {
+        ground: ground(start, origin)?,
+        relax,
+        gc,
+    })
+}
+
+/// Where a program is put: below the stack from the start of its text, or from its origin on.
+fn ground(start: Option<&str>, origin: Option<&str>) -> Result<Ground, Refusal> {
+    if start.is_some() && origin.is_some() {
+        return Err(Refusal::Wanted(
             "--text-start and --origin both say where the text begins: leave one out",
-        )),
+        ));
+    }
+    if let Some(text) = origin {
+        let wanted = "an origin is decimal, or 0x and hexadecimal, below 2^64";
+        return Ok(ground_of(number(text_start(text), wanted)?));
+    }
+    let wanted = "a text start is decimal, or 0x and hexadecimal, below 2^64";
+    match start {
+        None => Ok(usual(TEXT_START)),
+        Some(text) => Ok(usual(number(text_start(text), wanted)?)),
     }
 }
 

@@ -1,8 +1,10 @@
 use Rattle.std.proofs.Common.{◌≡◌, ◌∙◌, ◌≤◌, ◌<◌, ◌++◌, ℕ, List, length, map, ap, sym, subst, refl, arith}
+use Rattle.std.proofs.Math.Nat.{le_trans}
 use Rattle.std.specs.Vec.{with_items}
 use Rattle.std.proofs.lemmas.List.{with_items_is}
 use Rattle.rv_list_laws.proofs.OptionsLemmas.{of_if_some}
 use Rattle.rv_isa_laws.specs.Platform.{memory_limit}
+use Rattle.rv_image_laws.proofs.FreeLemmas.{free_low}
 use Rattle.rv_link_laws.specs.declared.ground.Ground.{Ground}
 use Rattle.rv_link_laws.specs.Layout.{IsTooLarge}
 use Rattle.rv_shorten.specs.declared.object.ShortObject.{ShortObject}
@@ -24,6 +26,12 @@ of_same g p xs ys same placed = subst (λ l. IsPlacement (map short_object_of l)
 pub put_files-requires-clause-plans : goal.put_files-requires-clause-plans
 put_files-requires-clause-plans c =
     ap (map _) c.as_slice.ensures.value ∙ c.args.plan.now.planned ∙ sym (ap (map (λ (o : ShortObject). map kept_in o.sections.items)) c.as_slice-objects.ensures.value)
+
+pub put_files-requires-clause-high : goal.put_files-requires-clause-high
+put_files-requires-clause-high c = le_trans c.requires.free (free_low c.args.ground.text)
+
+pub regions_behind-requires-clause-high : goal.regions_behind-requires-clause-high
+regions_behind-requires-clause-high c = le_trans c.requires.free (free_low c.args.ground.text)
 
 pub returns-in_default-clause-refuses : goal.returns-in_default-clause-refuses
 returns-in_default-clause-refuses c = (
