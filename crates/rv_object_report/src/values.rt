@@ -132,11 +132,12 @@ fn told(
 /// The address of which these are the lowest four bytes: one of the program, which has less than 2^29 bytes from its text's start
 /// on, or a number.
 fn address_of(low: u32, text_start: u64) -> u64 {
-    let past = low.wrapping_sub(text_start as u32);
+    let low = u64::from(low);
+    let past = low.wrapping_sub(text_start) % 0x1_0000_0000;
     if past < 0x2000_0000 {
-        text_start.wrapping_add(u64::from(past))
+        text_start.wrapping_add(past)
     } else {
-        u64::from(low)
+        low
     }
 }
 
