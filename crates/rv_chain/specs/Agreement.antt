@@ -7,7 +7,7 @@ use Rattle.rv_chain_laws.specs.Objects.{IsObjectFile}
 use Rattle.rv_chain_laws.specs.Linking.{AreBuilt, AreLinked}
 use Rattle.rv_chain.specs.Refusals.{IsRefusedFor}
 use Rattle.rv_chain.specs.LinkRefusals.{AreUnlinkable}
-use Rattle.rv_link_laws.specs.declared.ground.Ground.{Ground}
+use Rattle.rv_link_laws.specs.declared.bounds.Ground.{Ground}
 use Rattle.rv_chain.specs.OneFault.{IsMemoryOrSame}
 
 -- ---- a text and the file of its object
@@ -29,33 +29,33 @@ AreFilesFor (text ∷ texts) (file ∷ files) = IsFileFor text file × AreFilesF
 -- what is built of texts and what is linked of their files is the same
 abbrev pub AreBuiltAlike : Type 0
 AreBuiltAlike =
-    (texts files : List (List ℕ)) (ground : Ground) (relax gc : Bool)
+    (texts files : List (List ℕ)) (bounds : Ground) (relax gc : Bool)
     (exe other_exe map other_map : List ℕ)
-    → AreFilesFor texts files → AreBuilt texts ground relax gc exe map
-    → AreLinked files ground relax gc other_exe other_map → (exe ≡ other_exe) × (map ≡ other_map)
+    → AreFilesFor texts files → AreBuilt texts bounds relax gc exe map
+    → AreLinked files bounds relax gc other_exe other_map → (exe ≡ other_exe) × (map ≡ other_map)
 
 -- where texts are built, only want of memory keeps their files from being linked
 abbrev pub AreNotUnlinkable : Type 0
 AreNotUnlinkable =
-    (texts files : List (List ℕ)) (ground : Ground) (relax gc : Bool) (exe map : List ℕ)
+    (texts files : List (List ℕ)) (bounds : Ground) (relax gc : Bool) (exe map : List ℕ)
     (fault : Fault)
-    → AreFilesFor texts files → AreBuilt texts ground relax gc exe map
-    → AreUnlinkable files ground relax gc fault → fault ≡ Memory
+    → AreFilesFor texts files → AreBuilt texts bounds relax gc exe map
+    → AreUnlinkable files bounds relax gc fault → fault ≡ Memory
 
 -- where the files are linked, only want of memory keeps the texts from being built
 abbrev pub AreNotRefused : Type 0
 AreNotRefused =
-    (texts files : List (List ℕ)) (ground : Ground) (relax gc : Bool) (exe map : List ℕ)
+    (texts files : List (List ℕ)) (bounds : Ground) (relax gc : Bool) (exe map : List ℕ)
     (fault : Fault)
-    → AreFilesFor texts files → AreLinked files ground relax gc exe map
-    → IsRefusedFor texts ground relax gc fault → fault ≡ Memory
+    → AreFilesFor texts files → AreLinked files bounds relax gc exe map
+    → IsRefusedFor texts bounds relax gc fault → fault ≡ Memory
 
 -- and where both are refused, neither for want of memory, it is for the same fault
 abbrev pub AreRefusedAlike : Type 0
 AreRefusedAlike =
-    (texts files : List (List ℕ)) (ground : Ground) (relax gc : Bool) (fault other : Fault)
-    → AreFilesFor texts files → IsRefusedFor texts ground relax gc fault
-    → AreUnlinkable files ground relax gc other → IsMemoryOrSame fault other
+    (texts files : List (List ℕ)) (bounds : Ground) (relax gc : Bool) (fault other : Fault)
+    → AreFilesFor texts files → IsRefusedFor texts bounds relax gc fault
+    → AreUnlinkable files bounds relax gc other → IsMemoryOrSame fault other
 
 pub record BuildsAsItLinks : Type 0 where
   pub alike : AreBuiltAlike

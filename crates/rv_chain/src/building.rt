@@ -67,23 +67,23 @@ pub fn build(alloc: Global, sources: &[&[u8]], options: LinkOptions) -> Result<B
 pub fn build_on(alloc: Global, sources: &[&[u8]], options: GroundOptions) -> Result<Built, Fault>
     ensures headline { IfOk result
         (λ built. TheHeadline (map now_of sources.now)
-        options.ground.text options.relax options.gc built.exe.items built.map.items) }
+        options.bounds.text options.relax options.gc built.exe.items built.map.items) }
     ensures listed { IfOk result
         (λ built. IsListedAs (map now_of sources.now) built.exe.items built.map.items) }
     ensures links { IfOk result
         (λ built. AreBuilt (map now_of sources.now)
-        options.ground options.relax options.gc built.exe.items built.map.items) }
+        options.bounds options.relax options.gc built.exe.items built.map.items) }
     // each value in the sources is plain arithmetic with the addresses of the map
     ensures values { IfOk result
-        (λ built. AreValued (map now_of sources.now) options.ground.text built.map.items) }
+        (λ built. AreValued (map now_of sources.now) options.bounds.text built.map.items) }
     // a source that is a raw listing has the bytes that were listed, and the entry
     ensures reassembles { IfOk result
-        (λ built. Reassembles (map now_of sources.now) options.ground.text built.exe.items) }
-    ensures good { IfOk result (λ _. AreGood (map now_of sources.now) options.ground) }
+        (λ built. Reassembles (map now_of sources.now) options.bounds.text built.exe.items) }
+    ensures good { IfOk result (λ _. AreGood (map now_of sources.now) options.bounds) }
     // The first fault: too many files, the ground, then the sources one by one, then the link, where no form that
     // was chosen because it reaches is out of reach.
     ensures refuses { IfErr result
-        (IsRefusedFor (map now_of sources.now) options.ground options.relax options.gc) }
+        (IsRefusedFor (map now_of sources.now) options.bounds options.relax options.gc) }
 {
     let linked = linked(alloc, sources, options, true)?;
     linked_runs_agree();
@@ -118,12 +118,12 @@ pub fn build_exe_on(
     // the clauses `headline`, `listed` and `links` of `build_on`, with the map that is not written
     ensures builds { IfOk result
         (λ exe. IsExecutableOf
-        (map now_of sources.now) options.ground options.relax options.gc exe.items) }
+        (map now_of sources.now) options.bounds options.relax options.gc exe.items) }
     ensures reassembles { IfOk result
-        (λ exe. Reassembles (map now_of sources.now) options.ground.text exe.items) }
-    ensures good { IfOk result (λ _. AreGood (map now_of sources.now) options.ground) }
+        (λ exe. Reassembles (map now_of sources.now) options.bounds.text exe.items) }
+    ensures good { IfOk result (λ _. AreGood (map now_of sources.now) options.bounds) }
     ensures refuses { IfErr result
-        (IsRefusedFor (map now_of sources.now) options.ground options.relax options.gc) }
+        (IsRefusedFor (map now_of sources.now) options.bounds options.relax options.gc) }
 {
     let linked = linked(alloc, sources, options, false)?;
     linked_runs_agree();
@@ -141,12 +141,12 @@ fn linked(
     with_map: bool,
 ) -> Result<Linked, Fault>
     ensures program { IfOk result (λ l. IsProgramWithFrom
-        (map now_of sources.now) options.ground options.relax options.gc with_map (linked_of l)) }
-    ensures good { IfOk result (λ _. AreGood (map now_of sources.now) options.ground) }
+        (map now_of sources.now) options.bounds options.relax options.gc with_map (linked_of l)) }
+    ensures good { IfOk result (λ _. AreGood (map now_of sources.now) options.bounds) }
     ensures refuses { IfErr result
-        (IsRefusedFor (map now_of sources.now) options.ground options.relax options.gc) }
+        (IsRefusedFor (map now_of sources.now) options.bounds options.relax options.gc) }
 {
-    within_limits(sources.len(), options.ground)?;
+    within_limits(sources.len(), options.bounds)?;
     let objects = objects(alloc, sources)?;
     // what they are linked to is the program of the sources
     objects_of_sources_link();

@@ -39,10 +39,10 @@ pub fn link_objects_on(
 ) -> Result<Built, Fault>
     ensures linked { IfOk result
         (λ built. AreLinked (map now_of objects.now)
-        options.ground options.relax options.gc built.exe.items built.map.items) }
+        options.bounds options.relax options.gc built.exe.items built.map.items) }
     // The first fault: too many files, the ground, then the files one by one, then the link.
     ensures refuses { IfErr result
-        (AreUnlinkable (map now_of objects.now) options.ground options.relax options.gc) }
+        (AreUnlinkable (map now_of objects.now) options.bounds options.relax options.gc) }
 {
     let linked = link_files(alloc, objects, options, true)?;
     let built = Built::of(alloc, &linked)?;
@@ -72,9 +72,9 @@ pub fn link_objects_exe_on(
 ) -> Result<Vec<u8>, Fault>
     ensures linked { IfOk result
         (λ exe. IsLinkedAs (map now_of objects.now)
-        options.ground options.relax options.gc exe.items) }
+        options.bounds options.relax options.gc exe.items) }
     ensures refuses { IfErr result
-        (AreUnlinkable (map now_of objects.now) options.ground options.relax options.gc) }
+        (AreUnlinkable (map now_of objects.now) options.bounds options.relax options.gc) }
 {
     let linked = link_files(alloc, objects, options, false)?;
     let exe = write_exec(alloc, &linked)?;
@@ -90,11 +90,11 @@ fn link_files(
 ) -> Result<Linked, Fault>
     ensures program { IfOk result
         (λ l. IsProgramWithOf (map now_of files.now)
-        options.ground options.relax options.gc with_map (linked_of l)) }
+        options.bounds options.relax options.gc with_map (linked_of l)) }
     ensures refuses { IfErr result
-        (AreUnlinkable (map now_of files.now) options.ground options.relax options.gc) }
+        (AreUnlinkable (map now_of files.now) options.bounds options.relax options.gc) }
 {
-    within_limits(files.len(), options.ground)?;
+    within_limits(files.len(), options.bounds)?;
     let read = read_objects(alloc, files)?;
     let linked = program(alloc, &read, options, with_map)?;
     Ok(linked)
@@ -108,9 +108,9 @@ pub(crate) fn program(
     with_map: bool,
 ) -> Result<Linked, LinkFault>
     ensures links { IfOk result (λ l. IsProgramWith (map object_of objects.now)
-        options.ground options.relax options.gc with_map (linked_of l)) }
+        options.bounds options.relax options.gc with_map (linked_of l)) }
     ensures refuses { IfErr result (HasNoProgram (map object_of objects.now)
-        options.ground options.relax options.gc) }
+        options.bounds options.relax options.gc) }
 {
     if with_map {
         link_on(alloc, objects, options)

@@ -4,7 +4,7 @@ use Rattle.std.specs.Prelude.{◌≡◌, ℕ, Bool, List}
 use Rattle.rv_statement_laws.specs.Statement.{Statement}
 use Rattle.rv_image_laws.specs.Linked.{Linked}
 use Rattle.rv_source_laws.specs.Compressed.{is_compressed}
-use Rattle.rv_link_laws.specs.declared.ground.Ground.{Ground}
+use Rattle.rv_link_laws.specs.declared.bounds.Ground.{Ground}
 use Rattle.rv_chain_laws.specs.Contents.{IsLinked}
 use Rattle.rv_link_laws.specs.WithMap.{map_where}
 use Rattle.rv_chain_laws.specs.Headline.{AllRead, TheHeadline}

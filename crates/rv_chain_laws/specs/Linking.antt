@@ -7,7 +7,7 @@ use Rattle.rv_image_laws.specs.Executable.{exe_of, linked_image}
 use Rattle.rv_image_laws.specs.ImageOf.{ImageOf}
 use Rattle.rv_image_laws.specs.FirstFault.{first_fault}
 use Rattle.rv_object_laws.specs.Object.{Object}
-use Rattle.rv_link_laws.specs.declared.ground.Ground.{Ground}
+use Rattle.rv_link_laws.specs.declared.bounds.Ground.{Ground}
 use Rattle.rv_link_laws.specs.IsProgramOf.{IsProgramOf}
 use Rattle.rv_link_laws.specs.TextStart.{AreWithin}
 use Rattle.rv_link_laws.specs.WithMap.{IsProgramWith}

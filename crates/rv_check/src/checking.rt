@@ -35,7 +35,7 @@ pub fn check(
     options: GroundOptions,
 ) -> Result<Report, Fault>
     ensures first { IfOk result (λ report. BeginsWithFaultOf
-        (map now_of sources.now) options.ground options.relax options.gc report.first) }
+        (map now_of sources.now) options.bounds options.relax options.gc report.first) }
 {
     match build_on(alloc, sources, options) {
         Ok(built) => {

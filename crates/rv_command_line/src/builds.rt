@@ -116,14 +116,14 @@ pub(crate) fn link_options(operands: &mut Operands<'_, '_>) -> Result<GroundOpti
     let collects = "Leaves out sections to which nothing leads from the entry";
     let gc = operands.flag(Flag::long("gc-sections", collects))?;
     Ok(GroundOptions {
-        ground: ground(start, origin)?,
+        bounds: bounds(start, origin)?,
         relax,
         gc,
     })
 }
 
 /// Where a program is put: below the stack from the start of its text, or from its origin on.
-fn ground(start: Option<&str>, origin: Option<&str>) -> Result<Ground, Refusal> {
+fn bounds(start: Option<&str>, origin: Option<&str>) -> Result<Ground, Refusal> {
     if start.is_some() && origin.is_some() {
         return Err(Refusal::Wanted(
             "--text-start and --origin both say where the text begins: leave one out",

@@ -10,12 +10,12 @@ pub const TEXT_START: u64 = 0x1_0000;
 
 /// The options of a build whose words say nothing else.
 pub fn default_options() -> GroundOptions
-    ensures ground { result.ground ≡ usual 0x1_0000 }
+    ensures bounds { result.bounds ≡ usual 0x1_0000 }
     ensures relax { result.relax ≡ true }
     ensures gc { result.gc ≡ false }
 {
     GroundOptions {
-        ground: usual_ground(TEXT_START),
+        bounds: usual_ground(TEXT_START),
         relax: true,
         gc: false,
     }

@@ -12,7 +12,7 @@ use Rattle.rv_list_laws.proofs.ElementsLemmas.{get_some}
 use Rattle.rv_map_laws.specs.declared.map.SectionId.{SectionId}
 use Rattle.rv_map_laws.specs.Limits.{IsMap}
 use Rattle.rv_object_laws.specs.Object.{Section, Object}
-use Rattle.rv_link_laws.specs.declared.ground.Ground.{Ground}
+use Rattle.rv_link_laws.specs.declared.bounds.Ground.{Ground}
 use Rattle.rv_link_laws.specs.Moves.{moves, has_room}
 use Rattle.rv_link_laws.specs.Inputs.{InputSection, goes_to_text, inputs_from, inputs_of, inputs, start_of}
 use Rattle.rv_link_laws.specs.Names.{entry_of}
@@ -69,9 +69,9 @@ places_at (f ∷ fs) (x ∷ os) e zero o at =
     (f, refl, long ∙ ap (λ z. length z.sections) same)
 places_at (f ∷ fs) (x ∷ os) e (suc file) o at = places_at fs os (let rest : map (λ f. length f.items) fs ≡ map (λ o. length o.sections) os = cc in rest) file o at
 
-has_its_room : (os : List Object) (ground : Ground) (p : Placement) → IsPlacement os ground p → are_roomy p ≡ true → (file : ℕ) (o : Object) (index : ℕ) (s : Section)
+has_its_room : (os : List Object) (bounds : Ground) (p : Placement) → IsPlacement os bounds p → are_roomy p ≡ true → (file : ℕ) (o : Object) (index : ℕ) (s : Section)
     → slice_get os file ≡ Some o → slice_get o.sections index ≡ Some s → IsTrue (list_all has_room (moves (starts_of p (suc file) index) s))
-has_its_room os ground p placed roomy file o index s at there =
+has_its_room os bounds p placed roomy file o index s at there =
     let (qs, qs_there, long) = places_at p.files.items os placed.each file o at in
     let inside : index < length qs.items = omega (arith, long, slice_get_within o.sections index s there) in
     let (q, q_there) = get_some qs.items index inside in
@@ -86,9 +86,9 @@ has_its_room os ground p placed roomy file o index s at there =
 
 -- ---- the whole
 
-pub is_link : (drops : List SectionId) (os : List Object) (ground : Ground) (p : Placement) (entry : ℕ) (r : Regions) → length os ≤ most_files → ground.text % 4096 ≡ 0 → ground.text < ground.ceiling → HasLinkNames os → IsPlacement os ground p → are_roomy p ≡ true
-    → entry_of (starts_of p) os ≡ Some entry → entry % 2 ≡ 0 → AreGrown os p (λ goes. []) r → IsMap (made drops os p entry r).map → IsLinkOf os ground (made drops os p entry r)
-is_link drops os ground p entry r few page low named placed roomy begins even grown readable =
+pub is_link : (drops : List SectionId) (os : List Object) (bounds : Ground) (p : Placement) (entry : ℕ) (r : Regions) → length os ≤ most_files → bounds.text % 4096 ≡ 0 → bounds.text < bounds.ceiling → HasLinkNames os → IsPlacement os bounds p → are_roomy p ≡ true
+    → entry_of (starts_of p) os ≡ Some entry → entry % 2 ≡ 0 → AreGrown os p (λ goes. []) r → IsMap (made drops os p entry r).map → IsLinkOf os bounds (made drops os p entry r)
+is_link drops os bounds p entry r few page low named placed roomy begins even grown readable =
     let resolved = named.resolved (starts_of p) (record (regions_of (layout_of p)) { globals = shown_globals os (layout_of p) }) refl in
     record {
       few = few;
@@ -103,7 +103,7 @@ is_link drops os ground p entry r few page low named placed roomy begins even gr
       bss = placed.laid.bss;
       below = placed.laid.below;
       memory = placed.laid.memory;
-      room = all_inputs os goes_to_text (λ i. IsTrue (list_all has_room (moves (start_of (starts_of p) i) i.section))) (has_its_room os ground p placed roomy);
+      room = all_inputs os goes_to_text (λ i. IsTrue (list_all has_room (moves (start_of (starts_of p) i) i.section))) (has_its_room os bounds p placed roomy);
       once = named.once;
       globals = refl;
       entry = begins;

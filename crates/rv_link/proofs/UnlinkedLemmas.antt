@@ -2,7 +2,7 @@
 
 use Rattle.std.proofs.Common.{◌≡◌, ℕ, List, [], ◌∷◌, length, true, inl, inr, refl, subst, sym}
 use Rattle.rv_object_laws.specs.Object.{Relocation, Object}
-use Rattle.rv_link_laws.specs.declared.ground.Ground.{Ground}
+use Rattle.rv_link_laws.specs.declared.bounds.Ground.{Ground}
 use Rattle.rv_link_laws.specs.Inputs.{InputSection, inputs}
 use Rattle.rv_link_laws.specs.IsLinkOf.{is_loaded}
 use Rattle.rv_link_laws.specs.Layout.{AreRoomy}
@@ -20,36 +20,36 @@ use Rattle.rv_link.specs.Untaken.{AreUnfilled}
 use Rattle.rv_link_laws.specs.TextStart.{AreWithin}
 
 -- why sections cannot be placed
-pub unplaced : (os : List Object) (ground : Ground) (fault : PlacementFault) → IsUnplaced os ground fault → AreUnplaced os ground (of_placement fault)
-unplaced os ground placements.TooLarge h = h
-unplaced os ground placements.OutOfMemory h = tt
+pub unplaced : (os : List Object) (bounds : Ground) (fault : PlacementFault) → IsUnplaced os bounds fault → AreUnplaced os bounds (of_placement fault)
+unplaced os bounds placements.TooLarge h = h
+unplaced os bounds placements.OutOfMemory h = tt
 
 -- what is told of names, and then of places
-pub unnamed : (os : List Object) (ground : Ground) (fault : LinkFault) → AreWithin (length os) ground → AreUnnamed os fault → IsUnlinked os ground fault
-unnamed os ground Overflow within h = absurd h
-unnamed os ground OddTarget within h = absurd h
-unnamed os ground DanglingPcrel within h = absurd h
-unnamed os ground AlignmentShort within h = absurd h
-unnamed os ground (Undefined name) within h = (within, h)
-unnamed os ground (Duplicate name) within h = (within, h)
-unnamed os ground EntryMissing within h = absurd h
-unnamed os ground ImageTooLarge within h = absurd h
-unnamed os ground BadTextStart within h = absurd h
-unnamed os ground TooManyFiles within h = absurd h
-unnamed os ground OutOfMemory within h = tt
+pub unnamed : (os : List Object) (bounds : Ground) (fault : LinkFault) → AreWithin (length os) bounds → AreUnnamed os fault → IsUnlinked os bounds fault
+unnamed os bounds Overflow within h = absurd h
+unnamed os bounds OddTarget within h = absurd h
+unnamed os bounds DanglingPcrel within h = absurd h
+unnamed os bounds AlignmentShort within h = absurd h
+unnamed os bounds (Undefined name) within h = (within, h)
+unnamed os bounds (Duplicate name) within h = (within, h)
+unnamed os bounds EntryMissing within h = absurd h
+unnamed os bounds ImageTooLarge within h = absurd h
+unnamed os bounds BadTextStart within h = absurd h
+unnamed os bounds TooManyFiles within h = absurd h
+unnamed os bounds OutOfMemory within h = tt
 
-pub not_placed : (os : List Object) (ground : Ground) (fault : LinkFault) → ComesToPlaces os ground → AreUnplaced os ground fault → IsUnlinked os ground fault
-not_placed os ground Overflow so h = absurd h
-not_placed os ground OddTarget so h = absurd h
-not_placed os ground DanglingPcrel so h = absurd h
-not_placed os ground AlignmentShort so h = (so, h)
-not_placed os ground (Undefined name) so h = absurd h
-not_placed os ground (Duplicate name) so h = absurd h
-not_placed os ground EntryMissing so h = absurd h
-not_placed os ground ImageTooLarge so h = (so, h)
-not_placed os ground BadTextStart so h = absurd h
-not_placed os ground TooManyFiles so h = absurd h
-not_placed os ground OutOfMemory so h = tt
+pub not_placed : (os : List Object) (bounds : Ground) (fault : LinkFault) → ComesToPlaces os bounds → AreUnplaced os bounds fault → IsUnlinked os bounds fault
+not_placed os bounds Overflow so h = absurd h
+not_placed os bounds OddTarget so h = absurd h
+not_placed os bounds DanglingPcrel so h = absurd h
+not_placed os bounds AlignmentShort so h = (so, h)
+not_placed os bounds (Undefined name) so h = absurd h
+not_placed os bounds (Duplicate name) so h = absurd h
+not_placed os bounds EntryMissing so h = absurd h
+not_placed os bounds ImageTooLarge so h = (so, h)
+not_placed os bounds BadTextStart so h = absurd h
+not_placed os bounds TooManyFiles so h = absurd h
+not_placed os bounds OutOfMemory so h = tt
 
 -- what nothing can be, is first of no list
 none_first : {X : Type 0} (Passes Fails : X → Type 0) → ((x : X) → Fails x → ⊥) → (xs : List X) → IsFirst Passes Fails xs → ⊥
@@ -57,16 +57,16 @@ none_first Passes Fails none [] h = h
 none_first Passes Fails none (x ∷ xs) (inl h) = none x h
 none_first Passes Fails none (x ∷ xs) (inr h) = none_first Passes Fails none xs h.1
 
-module _ (os : List Object) (ground : Ground) (p : Placement) (so : ComesToPlaces os ground) (placed : IsPlacement os ground p) (roomy : are_roomy p ≡ true) where
+module _ (os : List Object) (bounds : Ground) (p : Placement) (so : ComesToPlaces os bounds) (placed : IsPlacement os bounds p) (roomy : are_roomy p ≡ true) where
   rooms : AreRoomy os (starts_of p)
-  rooms = (are_rooms os ground p placed (are_roomy p) refl).0 roomy
+  rooms = (are_rooms os bounds p placed (are_roomy p) refl).0 roomy
 
   -- no relocation is refused for another reason
   never : {A : Type 0} (fault : LinkFault) → ((i : InputSection) (r : Relocation) → IsUntaken os (layout_of p) i fault r → ⊥) → IsFirstUntaken os (layout_of p) fault (inputs is_loaded os) → A
   never fault none h =
       absurd (none_first (AreTaken os (layout_of p)) (AreUntaken os (layout_of p) fault) (λ i. none_first (IsTaken os (layout_of p) i) (IsUntaken os (layout_of p) i fault) (none i) i.section.relocations) (inputs is_loaded os) h)
 
-  told : (fault : LinkFault) → IsFirstUntaken os (layout_of p) fault (inputs is_loaded os) → IsUnlinked os ground fault
+  told : (fault : LinkFault) → IsFirstUntaken os (layout_of p) fault (inputs is_loaded os) → IsUnlinked os bounds fault
   told Overflow h = (so, (layout_of p, placed.laid, rooms, h))
   told OddTarget h = (so, (layout_of p, placed.laid, rooms, h))
   told DanglingPcrel h = (so, (layout_of p, placed.laid, rooms, h))
@@ -79,6 +79,6 @@ module _ (os : List Object) (ground : Ground) (p : Placement) (so : ComesToPlace
   told TooManyFiles h = never TooManyFiles (λ i r n. n) h
   told OutOfMemory h = tt
 
-  pub unfilled : (fault : LinkFault) → AreUnfilled os p fault → IsUnlinked os ground fault
-  unfilled fault (inl e) = subst (IsUnlinked os ground) (sym e) tt
+  pub unfilled : (fault : LinkFault) → AreUnfilled os p fault → IsUnlinked os bounds fault
+  unfilled fault (inl e) = subst (IsUnlinked os bounds) (sym e) tt
   unfilled fault (inr h) = told fault h

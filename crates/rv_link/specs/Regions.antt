@@ -5,7 +5,7 @@ use Rattle.std.specs.List.{AllByRecursion}
 use Rattle.rv_map_laws.specs.Globals.{AreDistinct}
 use Rattle.rv_map_laws.specs.declared.map.Region.{Region}
 use Rattle.rv_object_laws.specs.Object.{Section, Object}
-use Rattle.rv_link_laws.specs.declared.ground.Ground.{Ground}
+use Rattle.rv_link_laws.specs.declared.bounds.Ground.{Ground}
 use Rattle.rv_link_laws.specs.Inputs.{Starts, InputSection, goes_to_text, goes_to_rodata, goes_to_data, inputs_from, inputs_of, inputs, Stand, sections_end, contents}
 use Rattle.rv_link_laws.specs.Untaken.{AreTaken, IsFirstUntaken}
 use Rattle.rv_map_laws.specs.Map.{Map}

@@ -21,7 +21,7 @@ pub struct LinkOptions {
 #[derive(Clone, Copy, Drop)]
 pub struct GroundOptions {
     /// Where the program may stand.
-    pub ground: Ground,
+    pub bounds: Ground,
     /// Whether calls become short that can be.
     pub relax: bool,
     /// Whether sections are left out to which nothing leads from the entry.
@@ -33,13 +33,13 @@ impl LinkOptions {
     pub fn grounded(&self) -> GroundOptions
         ensures { result
             ≡ record {
-              ground = grounds.usual self.now.text_start;
+              bounds = grounds.usual self.now.text_start;
               relax = self.now.relax;
               gc = self.now.gc;
             } }
     {
         GroundOptions {
-            ground: usual(self.text_start),
+            bounds: usual(self.text_start),
             relax: self.relax,
             gc: self.gc,
         }

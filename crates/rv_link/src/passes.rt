@@ -57,15 +57,15 @@ pub(crate) fn link_by_plan(
     plan: &Plan<'_, '_>,
     names: &Names<'_>,
     drops: Vec<SectionId>,
-    ground: Ground,
+    bounds: Ground,
     with_map: bool,
 ) -> Result<Linked, LinkFault>
-    requires within { AreWithin (length (planned_objects plan.now)) ground }
+    requires within { AreWithin (length (planned_objects plan.now)) bounds }
     requires names { IsNames (planned_objects plan.now) names.now }
     requires drops { All (λ d. IsDrop d) drops.items }
     ensures links { IfOk result (λ l. IsLinkWith (planned_objects plan.now)
-        ground drops.items with_map (linked_of l)) }
-    ensures refuses { IfErr result (IsUnlinked (planned_objects plan.now) ground) }
+        bounds drops.items with_map (linked_of l)) }
+    ensures refuses { IfErr result (IsUnlinked (planned_objects plan.now) bounds) }
 {
     let objects = plan.objects.as_slice();
     let resolved = Resolution { objects, names };
@@ -76,7 +76,7 @@ pub(crate) fn link_by_plan(
     if !plan.is_roomy() {
         return Err(LinkFault::AlignmentShort);
     }
-    let placement = place(alloc, plan, ground)?;
+    let placement = place(alloc, plan, bounds)?;
     let entry = entry(&resolved, &placement)?;
     // all addresses are fixed: those of sections, of what is kept of them, and of names
     let regions = fill(alloc, &resolved, &placement)?;
@@ -86,15 +86,15 @@ pub(crate) fn link_by_plan(
 }
 
 /// Whether so many files can be linked, to a program on a ground.
-pub fn within_limits(files: usize, ground: Ground) -> Result<(), LinkFault>
-    ensures within { OnOk result (AreWithin files ground) }
-    ensures refuses { IfErr result (ArePast files ground) }
+pub fn within_limits(files: usize, bounds: Ground) -> Result<(), LinkFault>
+    ensures within { OnOk result (AreWithin files bounds) }
+    ensures refuses { IfErr result (ArePast files bounds) }
 {
     if MOST_FILES < files {
         return Err(LinkFault::TooManyFiles);
     }
-    let free = free_until(ground.text);
-    if ground.text % 4096 != 0 || ground.ceiling <= ground.text || free < ground.ceiling {
+    let free = free_until(bounds.text);
+    if bounds.text % 4096 != 0 || bounds.ceiling <= bounds.text || free < bounds.ceiling {
         return Err(LinkFault::BadTextStart);
     }
     Ok(())
@@ -149,17 +149,17 @@ fn undefined(alloc: Global, name: &[u8]) -> Result<LinkFault, AllocError>
 fn place<'p>(
     alloc: Global,
     plan: &'p Plan<'_, '_>,
-    ground: Ground,
+    bounds: Ground,
 ) -> Result<Placement<'p>, LinkFault>
-    requires page { ground.text % 4096 ≡ 0 }
-    requires low { ground.text < ground.ceiling }
-    requires free { ground.ceiling ≤ frees.free_until ground.text }
+    requires page { bounds.text % 4096 ≡ 0 }
+    requires low { bounds.text < bounds.ceiling }
+    requires free { bounds.ceiling ≤ frees.free_until bounds.text }
     requires roomy { are_roomy_objects (planned_objects plan.now) ≡ true }
-    ensures placed { IfOk result (IsPlacement (planned_objects plan.now) ground) }
+    ensures placed { IfOk result (IsPlacement (planned_objects plan.now) bounds) }
     ensures room { IfOk result (λ placement. are_roomy placement ≡ true) }
-    ensures refuses { IfErr result (AreUnplaced (planned_objects plan.now) ground) }
+    ensures refuses { IfErr result (AreUnplaced (planned_objects plan.now) bounds) }
 {
-    let placement = Placement::of(alloc, plan, ground)?;
+    let placement = Placement::of(alloc, plan, bounds)?;
     Ok(placement)
 }
 

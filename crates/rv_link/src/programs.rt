@@ -54,9 +54,9 @@ pub fn link_on(
     options: GroundOptions,
 ) -> Result<Linked, LinkFault>
     ensures links { IfOk result (λ l. IsProgramOf (map object_of objects.now)
-        options.ground options.relax options.gc (linked_of l)) }
+        options.bounds options.relax options.gc (linked_of l)) }
     ensures refuses { IfErr result (HasNoProgram (map object_of objects.now)
-        options.ground options.relax options.gc) }
+        options.bounds options.relax options.gc) }
 {
     link_with_map(alloc, objects, options, true)
 }
@@ -90,9 +90,9 @@ pub fn link_exe_on(
     options: GroundOptions,
 ) -> Result<Linked, LinkFault>
     ensures links { IfOk result (λ l. IsProgramWithoutMap (map object_of objects.now)
-        options.ground options.relax options.gc (linked_of l)) }
+        options.bounds options.relax options.gc (linked_of l)) }
     ensures refuses { IfErr result (HasNoProgram (map object_of objects.now)
-        options.ground options.relax options.gc) }
+        options.bounds options.relax options.gc) }
 {
     link_with_map(alloc, objects, options, false)
 }
@@ -105,11 +105,11 @@ fn link_with_map(
     with_map: bool,
 ) -> Result<Linked, LinkFault>
     ensures links { IfOk result (λ l. IsProgramWith (map object_of objects.now)
-        options.ground options.relax options.gc with_map (linked_of l)) }
+        options.bounds options.relax options.gc with_map (linked_of l)) }
     ensures refuses { IfErr result (HasNoProgram (map object_of objects.now)
-        options.ground options.relax options.gc) }
+        options.bounds options.relax options.gc) }
 {
-    within_limits(objects.len(), options.ground)?;
+    within_limits(objects.len(), options.bounds)?;
     // where the program may stand is fixed from here on
     let names = named(alloc, objects)?;
     // what each name means is fixed: which symbol defines it, though not where that stands
@@ -127,12 +127,12 @@ fn link_collected(
     options: GroundOptions,
     with_map: bool,
 ) -> Result<Linked, LinkFault>
-    requires within { AreWithin (length objects.now) options.ground }
+    requires within { AreWithin (length objects.now) options.bounds }
     requires names { IsNames (map object_of objects.now) names.now }
     ensures links { IfOk result (λ l. IsProgramWith (map object_of objects.now)
-        options.ground options.relax true with_map (linked_of l)) }
+        options.bounds options.relax true with_map (linked_of l)) }
     ensures refuses { IfErr result (HasNoProgram (map object_of objects.now)
-        options.ground options.relax true) }
+        options.bounds options.relax true) }
 {
     let collection = Collection::of(alloc, objects, names)?;
     let kept = collection.left(alloc, objects)?;
@@ -150,15 +150,15 @@ fn link_left(
     options: GroundOptions,
     with_map: bool,
 ) -> Result<Linked, LinkFault>
-    requires within { AreWithin (length objects.now) options.ground }
+    requires within { AreWithin (length objects.now) options.bounds }
     requires names { IsNames (map object_of objects.now) names.now }
     requires drops { All (λ d. IsDrop d) drops.items }
     ensures links { IfOk result (λ l. IsLinkOfLeft (map object_of objects.now)
-        options.ground options.relax drops.items with_map (linked_of l)) }
+        options.bounds options.relax drops.items with_map (linked_of l)) }
     ensures refuses { IfErr result
-        (HasNoLink (map object_of objects.now) options.ground options.relax) }
+        (HasNoLink (map object_of objects.now) options.bounds options.relax) }
 {
     let plan = relaxed(alloc, objects, names, options.relax)?;
     // no call and no padding changes any more
-    link_by_plan(alloc, &plan, names, drops, options.ground, with_map)
+    link_by_plan(alloc, &plan, names, drops, options.bounds, with_map)
 }

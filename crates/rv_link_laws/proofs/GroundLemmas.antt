@@ -5,7 +5,7 @@ use Rattle.std.proofs.Math.Nat.{le_trans}
 use Rattle.rv_isa_laws.specs.Platform.{stack_start}
 use Rattle.rv_image_laws.specs.Free.{highest, free_until}
 use Rattle.rv_image_laws.proofs.FreeLemmas.{free_low, free_below}
-use Rattle.rv_link_laws.specs.declared.ground.Ground.{Ground}
+use Rattle.rv_link_laws.specs.declared.bounds.Ground.{Ground}
 use Rattle.rv_link_laws.specs.Ground.{usual, IsGround}
 use Rattle.rv_link_laws.specs.TextStart.{IsTextStart}
 

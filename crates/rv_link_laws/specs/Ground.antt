@@ -3,7 +3,7 @@
 use Rattle.std.specs.Prelude.{◌≡◌, ℕ, ◌%◌, ◌<◌, ◌≤◌}
 use Rattle.rv_isa_laws.specs.Platform.{stack_start}
 use Rattle.rv_image_laws.specs.Free.{free_until}
-use Rattle.rv_link_laws.specs.declared.ground.Ground.{Ground}
+use Rattle.rv_link_laws.specs.declared.bounds.Ground.{Ground}
 
 -- the ground of a text that starts below the stack: the program ends there, too
 abbrev pub usual : ℕ → Ground

@@ -5,7 +5,7 @@ use Rattle.std.specs.Prelude.{Bool, List}
 use Rattle.rv_image_laws.specs.Linked.{Linked}
 use Rattle.rv_map_laws.specs.declared.map.SectionId.{SectionId}
 use Rattle.rv_object_laws.specs.Object.{Object}
-use Rattle.rv_link_laws.specs.declared.ground.Ground.{Ground}
+use Rattle.rv_link_laws.specs.declared.bounds.Ground.{Ground}
 use Rattle.rv_link_laws.specs.Collects.{Collects}
 use Rattle.rv_link_laws.specs.IsLinkOf.{IsLinkOf}
 use Rattle.rv_link_laws.specs.Shortened.{Relaxes}

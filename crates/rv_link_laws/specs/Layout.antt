@@ -8,7 +8,7 @@ use Rattle.rv_size_laws.specs.Alignment.{aligned}
 use Rattle.rv_map_laws.specs.declared.map.Region.{Region}
 use Rattle.rv_map_laws.specs.Map.{Map, Global}
 use Rattle.rv_object_laws.specs.Object.{Section, Object, size_of}
-use Rattle.rv_link_laws.specs.declared.ground.Ground.{Ground}
+use Rattle.rv_link_laws.specs.declared.bounds.Ground.{Ground}
 use Rattle.rv_link_laws.specs.Moves.{moves, has_room, new_offset}
 use Rattle.rv_link_laws.specs.Inputs.{Starts, goes_to_text, goes_to_rodata, goes_to_data, goes_to_bss, inputs, start_of, Stand, Holds, gaps_of, greatest}
 use Rattle.rv_link_laws.specs.Names.{Outer, outer_address, globals_of, shown_linker_symbols}

@@ -15,7 +15,7 @@ use Rattle.rv_link_laws.specs.Exports.{first_duplicate}
 use Rattle.rv_link_laws.specs.Undefined.{first_undefined}
 use Rattle.rv_fault.specs.declared.link_fault.LinkFault.{LinkFault}
 use Rattle.rv_fault.specs.declared.link_fault.LinkFault.TheVariants.{Overflow, OddTarget, DanglingPcrel, AlignmentShort, Undefined, Duplicate, EntryMissing, ImageTooLarge, BadTextStart, TooManyFiles, OutOfMemory}
-use Rattle.rv_link_laws.specs.declared.ground.Ground.{Ground}
+use Rattle.rv_link_laws.specs.declared.bounds.Ground.{Ground}
 use Rattle.rv_link_laws.specs.Ground.{IsGround}
 use Rattle.rv_link_laws.specs.TextStart.{AreWithin}
 use Rattle.rv_link_laws.specs.Untaken.{IsFirstUntaken}

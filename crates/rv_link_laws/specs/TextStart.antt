@@ -2,7 +2,7 @@
 
 use Rattle.std.specs.Prelude.{ℕ, ◌≤◌}
 use Rattle.rv_link_laws.specs.IsLinkOf.{most_files}
-use Rattle.rv_link_laws.specs.declared.ground.Ground.{Ground}
+use Rattle.rv_link_laws.specs.declared.bounds.Ground.{Ground}
 use Rattle.rv_link_laws.specs.Ground.{usual, IsGround}
 
 -- a text starts at a page below the stack

@@ -17,10 +17,10 @@
 //! Source: System V gABI, "Sections", "Symbol Table", "Relocation"; RISC-V ELF psABI, "Relocations", "Linker Relaxation"; GNU ld.
 #![tactic(auto)]
 
-mod ground;
+mod bounds;
 mod law;
 
-pub use ground::Ground;
+pub use bounds::Ground;
 pub use law::{
     names_stay, nothing_begins, nothing_dangles, nothing_moves, one_collection, rows_in_order_stay,
     sites_of_whole_objects, text_starts, what_is_left, without_nothing,

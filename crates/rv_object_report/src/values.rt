@@ -57,7 +57,7 @@ pub fn value_of(
         second.as_slice(),
         site.rela.r_addend,
         symbol,
-        options.ground.text,
+        options.bounds.text,
     ))
 }
 

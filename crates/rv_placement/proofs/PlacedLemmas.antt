@@ -10,7 +10,7 @@ use Rattle.rv_size_laws.specs.Alignment.{aligned}
 use Rattle.rv_isa_laws.specs.Platform.{memory_limit}
 use Rattle.rv_image_laws.specs.Free.{highest, free_until}
 use Rattle.rv_image_laws.proofs.FreeLemmas.{free_low}
-use Rattle.rv_link_laws.specs.declared.ground.Ground.{Ground}
+use Rattle.rv_link_laws.specs.declared.bounds.Ground.{Ground}
 use Rattle.std.proofs.Math.Nat.{le_trans}
 use Rattle.rv_map_laws.specs.declared.map.Region.{Region}
 use Rattle.rv_object_laws.specs.Object.{Section, Object, size_of}

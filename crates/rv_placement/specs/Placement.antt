@@ -7,7 +7,7 @@ use Rattle.rv_size_laws.specs.Alignment.{aligned}
 use Rattle.rv_map_laws.specs.declared.map.Region.{Region}
 use Rattle.rv_object_laws.specs.Object.{Section, Object}
 use Rattle.rv_image_laws.specs.Free.{free_until}
-use Rattle.rv_link_laws.specs.declared.ground.Ground.{Ground}
+use Rattle.rv_link_laws.specs.declared.bounds.Ground.{Ground}
 use Rattle.rv_link_laws.specs.Moves.{moves, has_room}
 use Rattle.rv_link_laws.specs.Inputs.{Starts, goes_to_text, goes_to_rodata, goes_to_data, goes_to_bss, inputs, Holds, greatest}
 use Rattle.rv_link_laws.specs.Layout.{Layout, IsLayout, object_section, IsTooLarge, HasRoom}

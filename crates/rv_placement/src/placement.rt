@@ -4,7 +4,7 @@ ghost use Rattle.std.specs.Prelude.{◌≡◌, ◌+◌, ◌%◌, ◌<◌, ◌≤
 ghost use Rattle.std.specs.List.{slice_get};
 ghost use Rattle.rv_image_laws.specs.Free.{free_until};
 ghost use Rattle.rv_object_laws.specs.Object.{Object as PlainObject};
-ghost use Rattle.rv_link_laws.specs.declared.ground.Ground.{Ground as SaidGround};
+ghost use Rattle.rv_link_laws.specs.declared.bounds.Ground.{Ground as SaidGround};
 ghost use Rattle.rv_link_laws.specs.Names.{offset_address};
 ghost use Rattle.rv_shorten.specs.Sections.{short_section_of};
 ghost use Rattle.rv_shorten.specs.View.{short_object_of};
@@ -77,15 +77,15 @@ impl<'p> Placement<'p> {
     pub fn of(
         alloc: Global,
         plan: &'p Plan<'_, '_>,
-        ground: Ground,
+        bounds: Ground,
     ) -> Result<Placement<'p>, PlacementFault>
-        requires page { ground.text % 4096 ≡ 0 }
-        requires low { ground.text < ground.ceiling }
-        requires free { ground.ceiling ≤ free_until ground.text }
+        requires page { bounds.text % 4096 ≡ 0 }
+        requires low { bounds.text < bounds.ceiling }
+        requires free { bounds.ceiling ≤ free_until bounds.text }
         requires roomy { are_roomy_objects (planned_objects plan.now) ≡ true }
-        ensures placement { IfOk result (IsPlacement (planned_objects plan.now) ground) }
+        ensures placement { IfOk result (IsPlacement (planned_objects plan.now) bounds) }
         ensures room { IfOk result (λ placement. are_roomy placement ≡ true) }
-        ensures refuses { IfErr result (IsUnplaced (planned_objects plan.now) ground) }
+        ensures refuses { IfErr result (IsUnplaced (planned_objects plan.now) bounds) }
     {
         let mut files: Vec<Vec<PlacedSection<'p>>> = Vec::new(alloc);
         let mut gaps = Vec::new(alloc);
@@ -96,17 +96,17 @@ impl<'p> Placement<'p> {
             &mut gaps,
             objects,
             plan.paddings.as_slice(),
-            ground.text,
-            ground.ceiling,
+            bounds.text,
+            bounds.ceiling,
         )?;
         let Some(end) = found else {
             return Err(PlacementFault::TooLarge);
         };
         let text = Region {
-            start: ground.text,
+            start: bounds.text,
             end,
         };
-        let Some(behind) = regions_behind(files.as_mut_slice(), objects, end, ground.ceiling) else {
+        let Some(behind) = regions_behind(files.as_mut_slice(), objects, end, bounds.ceiling) else {
             return Err(PlacementFault::TooLarge);
         };
         if memory_of(text, behind) > MEMORY_LIMIT {
@@ -132,8 +132,8 @@ impl<'p> Placement<'p> {
 
     /// The address of a place of the objects; none where its section has none.
     pub fn address(&self, objects: &[ShortObject<'_, '_>], place: Place) -> Option<u64>
-        ensures { (ground : SaidGround) (o : PlainObject)
-            → IsPlacement (map short_object_of objects.now) ground self.now
+        ensures { (bounds : SaidGround) (o : PlainObject)
+            → IsPlacement (map short_object_of objects.now) bounds self.now
             → slice_get (map short_object_of objects.now) place.file.0 ≡ Some o
             → result ≡ offset_address (starts_of self.now (place.file.0 + 1) place.section.0)
             place.offset (slice_get o.sections place.section.0) }

@@ -9,16 +9,16 @@ use Rattle.rv_chain.proofs.building.build_exe.Goals as goal
 
 pub returns-clause-builds : goal.returns-clause-builds
 returns-clause-builds c =
-    subst (λ (o : GroundOptions). IfOk c.build_exe_on.result (λ exe. IsExecutableOf (map now_of c.args.sources.now) o.ground o.relax o.gc exe.items)) c.grounded.ensures c.build_exe_on.ensures.builds
+    subst (λ (o : GroundOptions). IfOk c.build_exe_on.result (λ exe. IsExecutableOf (map now_of c.args.sources.now) o.bounds o.relax o.gc exe.items)) c.grounded.ensures c.build_exe_on.ensures.builds
 
 pub returns-clause-reassembles : goal.returns-clause-reassembles
 returns-clause-reassembles c =
-    subst (λ (o : GroundOptions). IfOk c.build_exe_on.result (λ exe. Reassembles (map now_of c.args.sources.now) o.ground.text exe.items)) c.grounded.ensures c.build_exe_on.ensures.reassembles
+    subst (λ (o : GroundOptions). IfOk c.build_exe_on.result (λ exe. Reassembles (map now_of c.args.sources.now) o.bounds.text exe.items)) c.grounded.ensures c.build_exe_on.ensures.reassembles
 
 pub returns-clause-good : goal.returns-clause-good
 returns-clause-good c =
-    subst (λ (o : GroundOptions). IfOk c.build_exe_on.result (λ _. AreGood (map now_of c.args.sources.now) o.ground)) c.grounded.ensures c.build_exe_on.ensures.good
+    subst (λ (o : GroundOptions). IfOk c.build_exe_on.result (λ _. AreGood (map now_of c.args.sources.now) o.bounds)) c.grounded.ensures c.build_exe_on.ensures.good
 
 pub returns-clause-refuses : goal.returns-clause-refuses
 returns-clause-refuses c =
-    subst (λ (o : GroundOptions). IfErr c.build_exe_on.result (IsRefusedFor (map now_of c.args.sources.now) o.ground o.relax o.gc)) c.grounded.ensures c.build_exe_on.ensures.refuses
+    subst (λ (o : GroundOptions). IfErr c.build_exe_on.result (IsRefusedFor (map now_of c.args.sources.now) o.bounds o.relax o.gc)) c.grounded.ensures c.build_exe_on.ensures.refuses

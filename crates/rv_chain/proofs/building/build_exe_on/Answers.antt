@@ -20,9 +20,9 @@ returns-clause-builds c =
     let written = whole_written false (linked_of c.in_ok-linked.linked) from.whole exe from.shown c.in_ok-exe.ensures in
     record {
       map_bytes = text;
-      headline = headlined texts o.ground.text o.relax o.gc from.whole exe laid readable from.program (c.linked_runs_agree.ensures o.ground.text from.program.sources o.relax o.gc from.whole from.program.linked) written;
-      listed = listed_as texts o.ground.text o.relax o.gc from.whole exe text laid readable from.program (c.listing_is_the_sources.ensures o.ground.text from.program.sources o.relax o.gc from.whole from.program.linked) written refl;
-      links = (from.links.0, from.links.1, built_of from.links.0 o.ground o.relax o.gc from.whole exe text laid from.links.2 written refl);
+      headline = headlined texts o.bounds.text o.relax o.gc from.whole exe laid readable from.program (c.linked_runs_agree.ensures o.bounds.text from.program.sources o.relax o.gc from.whole from.program.linked) written;
+      listed = listed_as texts o.bounds.text o.relax o.gc from.whole exe text laid readable from.program (c.listing_is_the_sources.ensures o.bounds.text from.program.sources o.relax o.gc from.whole from.program.linked) written refl;
+      links = (from.links.0, from.links.1, built_of from.links.0 o.bounds o.relax o.gc from.whole exe text laid from.links.2 written refl);
     }
 
 pub returns-clause-reassembles : goal.returns-clause-reassembles
@@ -30,5 +30,5 @@ returns-clause-reassembles c =
     let o = c.args.options in
     let from = c.in_ok-linked.ensures.program in
     let exe = c.in_ok-exe.exe.items in
-    built_again c.raw_listings_reassemble.ensures (map now_of c.args.sources.now) o.ground.text o.relax o.gc from.whole exe (whole_laid_out c.in_ok-linked.linked false from.whole from.shown from.links.2.linked.readable) from.program
+    built_again c.raw_listings_reassemble.ensures (map now_of c.args.sources.now) o.bounds.text o.relax o.gc from.whole exe (whole_laid_out c.in_ok-linked.linked false from.whole from.shown from.links.2.linked.readable) from.program
     (whole_written false (linked_of c.in_ok-linked.linked) from.whole exe from.shown c.in_ok-exe.ensures)

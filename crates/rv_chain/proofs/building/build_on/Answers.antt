@@ -16,9 +16,9 @@ returns-clause-headline c =
     let from = c.in_ok-linked.ensures.program in
     let readable = from.links.2.linked.readable in
     let exe = c.in_ok-built.built.exe.items in
-    subst (λ text. TheHeadline texts o.ground.text o.relax o.gc exe text) (sym (whole_map l from.whole c.in_ok-built.built.map.items from.shown c.in_ok-built.ensures.map))
-    (headlined texts o.ground.text o.relax o.gc from.whole exe (whole_laid_out c.in_ok-linked.linked true from.whole from.shown readable) readable from.program
-    (c.linked_runs_agree.ensures o.ground.text from.program.sources o.relax o.gc from.whole from.program.linked) (whole_written true l from.whole exe from.shown c.in_ok-built.ensures.exe))
+    subst (λ text. TheHeadline texts o.bounds.text o.relax o.gc exe text) (sym (whole_map l from.whole c.in_ok-built.built.map.items from.shown c.in_ok-built.ensures.map))
+    (headlined texts o.bounds.text o.relax o.gc from.whole exe (whole_laid_out c.in_ok-linked.linked true from.whole from.shown readable) readable from.program
+    (c.linked_runs_agree.ensures o.bounds.text from.program.sources o.relax o.gc from.whole from.program.linked) (whole_written true l from.whole exe from.shown c.in_ok-built.ensures.exe))
 
 pub returns-clause-listed : goal.returns-clause-listed
 returns-clause-listed c =
@@ -28,8 +28,8 @@ returns-clause-listed c =
     let readable = from.links.2.linked.readable in
     let exe = c.in_ok-built.built.exe.items in
     let text = c.in_ok-built.built.map.items in
-    listed_as (map now_of c.args.sources.now) o.ground.text o.relax o.gc from.whole exe text (whole_laid_out c.in_ok-linked.linked true from.whole from.shown readable) readable from.program
-    (c.listing_is_the_sources.ensures o.ground.text from.program.sources o.relax o.gc from.whole from.program.linked) (whole_written true l from.whole exe from.shown c.in_ok-built.ensures.exe) (whole_map l from.whole text from.shown c.in_ok-built.ensures.map)
+    listed_as (map now_of c.args.sources.now) o.bounds.text o.relax o.gc from.whole exe text (whole_laid_out c.in_ok-linked.linked true from.whole from.shown readable) readable from.program
+    (c.listing_is_the_sources.ensures o.bounds.text from.program.sources o.relax o.gc from.whole from.program.linked) (whole_written true l from.whole exe from.shown c.in_ok-built.ensures.exe) (whole_map l from.whole text from.shown c.in_ok-built.ensures.map)
 
 pub returns-clause-links : goal.returns-clause-links
 returns-clause-links c =
@@ -41,7 +41,7 @@ returns-clause-links c =
     let text = c.in_ok-built.built.map.items in (
       from.links.0,
       from.links.1,
-      built_of from.links.0 o.ground o.relax o.gc from.whole exe text (whole_laid_out c.in_ok-linked.linked true from.whole from.shown readable) from.links.2 (whole_written true l from.whole exe from.shown c.in_ok-built.ensures.exe)
+      built_of from.links.0 o.bounds o.relax o.gc from.whole exe text (whole_laid_out c.in_ok-linked.linked true from.whole from.shown readable) from.links.2 (whole_written true l from.whole exe from.shown c.in_ok-built.ensures.exe)
           (whole_map l from.whole text from.shown c.in_ok-built.ensures.map),
     )
 
@@ -50,10 +50,10 @@ returns-clause-reassembles c =
     let o = c.args.options in
     let from = c.in_ok-linked.ensures.program in
     let exe = c.in_ok-built.built.exe.items in
-    built_again c.raw_listings_reassemble.ensures (map now_of c.args.sources.now) o.ground.text o.relax o.gc from.whole exe (whole_laid_out c.in_ok-linked.linked true from.whole from.shown from.links.2.linked.readable) from.program
+    built_again c.raw_listings_reassemble.ensures (map now_of c.args.sources.now) o.bounds.text o.relax o.gc from.whole exe (whole_laid_out c.in_ok-linked.linked true from.whole from.shown from.links.2.linked.readable) from.program
     (whole_written true (linked_of c.in_ok-linked.linked) from.whole exe from.shown c.in_ok-built.ensures.exe)
 
 pub returns-clause-values : goal.returns-clause-values
 returns-clause-values c =
     let h = returns-clause-headline c in
-    record { sources = h.sources; read = h.read; map = h.map; shown = h.shown; fits = h.fits; plain = c.values_are_plain.ensures h.sources h.map c.args.options.ground.text h.readable h.fits }
+    record { sources = h.sources; read = h.read; map = h.map; shown = h.shown; fits = h.fits; plain = c.values_are_plain.ensures h.sources h.map c.args.options.bounds.text h.readable h.fits }

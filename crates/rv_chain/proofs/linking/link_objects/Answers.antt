@@ -8,8 +8,8 @@ use Rattle.rv_chain.proofs.linking.link_objects.Goals as goal
 
 pub returns-clause-linked : goal.returns-clause-linked
 returns-clause-linked c =
-    subst (λ (o : GroundOptions). IfOk c.link_objects_on.result (λ built. AreLinked (map now_of c.args.objects.now) o.ground o.relax o.gc built.exe.items built.map.items)) c.grounded.ensures c.link_objects_on.ensures.linked
+    subst (λ (o : GroundOptions). IfOk c.link_objects_on.result (λ built. AreLinked (map now_of c.args.objects.now) o.bounds o.relax o.gc built.exe.items built.map.items)) c.grounded.ensures c.link_objects_on.ensures.linked
 
 pub returns-clause-refuses : goal.returns-clause-refuses
 returns-clause-refuses c =
-    subst (λ (o : GroundOptions). IfErr c.link_objects_on.result (AreUnlinkable (map now_of c.args.objects.now) o.ground o.relax o.gc)) c.grounded.ensures c.link_objects_on.ensures.refuses
+    subst (λ (o : GroundOptions). IfErr c.link_objects_on.result (AreUnlinkable (map now_of c.args.objects.now) o.bounds o.relax o.gc)) c.grounded.ensures c.link_objects_on.ensures.refuses

@@ -15,7 +15,7 @@ returns-clause-linked c =
       (
         found.1.0,
         found.1.1,
-        built_of found.1.0 o.ground o.relax o.gc from.whole exe text (whole_laid_out c.in_ok-linked.linked true from.whole from.shown from.program.linked.readable) from.program
+        built_of found.1.0 o.bounds o.relax o.gc from.whole exe text (whole_laid_out c.in_ok-linked.linked true from.whole from.shown from.program.linked.readable) from.program
             (whole_written true l from.whole exe from.shown c.in_ok-built.ensures.exe) (whole_map l from.whole text from.shown c.in_ok-built.ensures.map),
       ),
     )

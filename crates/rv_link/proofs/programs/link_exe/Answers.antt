@@ -9,8 +9,8 @@ use Rattle.rv_link.proofs.programs.link_exe.Goals as goal
 
 pub returns-clause-links : goal.returns-clause-links
 returns-clause-links c =
-    subst (λ (o : GroundOptions). IfOk c.link_exe_on.result (λ l. IsProgramWithoutMap (map object_of c.args.objects.now) o.ground o.relax o.gc (linked_of l))) c.grounded.ensures c.link_exe_on.ensures.links
+    subst (λ (o : GroundOptions). IfOk c.link_exe_on.result (λ l. IsProgramWithoutMap (map object_of c.args.objects.now) o.bounds o.relax o.gc (linked_of l))) c.grounded.ensures c.link_exe_on.ensures.links
 
 pub returns-clause-refuses : goal.returns-clause-refuses
 returns-clause-refuses c =
-    subst (λ (o : GroundOptions). IfErr c.link_exe_on.result (HasNoProgram (map object_of c.args.objects.now) o.ground o.relax o.gc)) c.grounded.ensures c.link_exe_on.ensures.refuses
+    subst (λ (o : GroundOptions). IfErr c.link_exe_on.result (HasNoProgram (map object_of c.args.objects.now) o.bounds o.relax o.gc)) c.grounded.ensures c.link_exe_on.ensures.refuses

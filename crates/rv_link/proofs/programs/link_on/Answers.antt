@@ -9,4 +9,4 @@ pub returns-clause-links : goal.returns-clause-links
 returns-clause-links c =
     let os = map object_of c.args.objects.now in
     let o = c.args.options in
-    IfOk-weaker c.link_with_map.result _ _ (λ l h. with_all os o.ground o.relax o.gc (linked_of l) h) c.link_with_map.ensures.links
+    IfOk-weaker c.link_with_map.result _ _ (λ l h. with_all os o.bounds o.relax o.gc (linked_of l) h) c.link_with_map.ensures.links
