@@ -26,7 +26,7 @@ ROWS = [
     ("rv image --", "--bin --ihex --srec --vhex --fill --help"),
     (
         "rv build -",
-        "-o --map -g --text-start --no-relax --gc-sections --pad-ends --explain "
+        "-o --map -g --text-start --origin --no-relax --gc-sections --pad-ends --explain "
         "--library -l -L --start-group --end-group --help",
     ),
     ("rv dump -", "--help"),

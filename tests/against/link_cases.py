@@ -19,7 +19,7 @@ FOLDER = ROOT / "tests" / "link"
 SCRIPT = """
 ENTRY(_start)
 SECTIONS {
-  . = 0x10000;
+  . = START;
   .text : { *(.text .text.*) }
   . = ALIGN(4096);
   .rodata : { rodata = .; *(.rodata .rodata.*) }
@@ -30,7 +30,7 @@ SECTIONS {
 }
 """
 
-# the case's name, what it shows, the assembler's options, and the sources
+# the case's name, what it shows, the assembler's options, the sources, and where the text begins if the words say so
 PROGRAMS = [
     (
         "gnu_calls_and_addresses",
@@ -194,6 +194,76 @@ x: j x
 """,
         ],
     ),
+    (
+        "gnu_origin_80000000",
+        "Text at 80000000h: a call, branches and jumps, addresses by their distance, and in four and eight bytes.",
+        ["-march=rv64ima", "-mno-relax"],
+        [
+            """
+.globl _start
+_start:
+ call f
+ beq a0, a1, 1f
+ j 1f
+ bltu a1, a0, _start
+1: la a1, word
+ lw a0, word+4
+ sw a0, word, t0
+ la gp, _end
+ tail f
+.section .rodata
+ .half 7
+ .balign 8
+ .dword _start+2
+.data
+word: .word 1b
+ .dword f
+ .word 2f - word - 1
+2: .word f - .
+.bss
+ .balign 64
+ .zero 5
+""",
+            """
+.globl f
+ nop
+f: la a0, here
+ jal ra, _start
+ ret
+.data
+ .byte 1
+ .balign 4
+here: .word 5f - 4f, _start
+.section .text.b,"ax"
+4: nop
+5: j f
+.bss
+ .zero 9
+""",
+        ],
+        "0x80000000",
+    ),
+    (
+        "gnu_origin_20000000",
+        "Text at 20000000h: addresses by their halves, too, and paddings.",
+        ["-march=rv64imac", "-mrelax"],
+        [
+            """
+.globl _start
+_start: c.nop
+ lui a2, %hi(word)
+ addi a2, a2, %lo(word)
+ lw a0, %lo(word+4)(a2)
+ .balign 8
+a: la a1, word
+ j a
+.data
+word: .dword a, _start
+ .word a - _start
+""",
+        ],
+        "0x20000000",
+    ),
 ]
 
 
@@ -236,21 +306,22 @@ def grouped(data):
     return " ".join(data[at : at + 4].hex() for at in range(0, len(data), 4))
 
 
-def case(folder, shows, options, sources):
+def case(folder, shows, options, sources, origin=None):
     """The lines of a case."""
     objects = []
     for i, source in enumerate(sources):
         (folder / f"{i}.s").write_text(source)
         run("as", *options, "-o", folder / f"{i}.o", folder / f"{i}.s")
         objects.append(folder / f"{i}.o")
-    (folder / "script").write_text(SCRIPT)
+    (folder / "script").write_text(SCRIPT.replace("START", origin or "0x10000"))
     run("ld", "--no-relax", "-T", folder / "script", "-o", folder / "program", *objects)
     elf = Elf((folder / "program").read_bytes())
     about = (
         f"{shows} GNU as 2.40, {' '.join(options)}, wrote the objects of the sources below, and GNU ld 2.40 makes of "
         "them what stands here: tests/against/link_cases.py."
     )
-    lines = ["# " + line for line in textwrap.wrap(about, 116)] + ["# options: --no-relax"]
+    lines = ["# " + line for line in textwrap.wrap(about, 116)]
+    lines.append("# options: --no-relax" + (f" --origin {origin}" if origin else ""))
     lines += [f"# {name}: {grouped(elf.region('.' + name)[1])}".rstrip() for name in ("text", "rodata", "data")]
     for name in ("rodata", "data"):
         start = elf.named(name)
@@ -267,5 +338,5 @@ def case(folder, shows, options, sources):
 def main():
     need(*(f"{GNU}{tool}" for tool in ("as", "ld")))
     with tempfile.TemporaryDirectory() as folder:
-        for name, shows, options, sources in PROGRAMS:
-            (FOLDER / f"{name}.s").write_text("\n".join(case(Path(folder), shows, options, sources)) + "\n")
+        for name, *program in PROGRAMS:
+            (FOLDER / f"{name}.s").write_text("\n".join(case(Path(folder), *program)) + "\n")

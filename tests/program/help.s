@@ -289,6 +289,7 @@ Options:
       --map <F>         Writes the map as well
   -g                    Adds names and lines for debuggers
       --text-start <N>  The address of the text, decimal or 0x and hexadecimal [default: 0x10000]
+      --origin <N>      The address of the text, also behind the stack, such as 0x80000000
       --no-relax        Leaves every call its eight bytes
       --gc-sections     Leaves out sections to which nothing leads from the entry
       --pad-ends        Puts 8 zeros behind constants and variables, as GCC loads past an object's end
@@ -339,6 +340,7 @@ Options:
   -o <EXE>              The executable to write
       --map <F>         Writes the map as well
       --text-start <N>  The address of the text, decimal or 0x and hexadecimal [default: 0x10000]
+      --origin <N>      The address of the text, also behind the stack, such as 0x80000000
       --no-relax        Leaves every call its eight bytes
       --gc-sections     Leaves out sections to which nothing leads from the entry
       --pad-ends        Puts 8 zeros behind constants and variables, as GCC loads past an object's end
@@ -363,6 +365,7 @@ Arguments:
 
 Options:
       --text-start <N>  The address of the text, decimal or 0x and hexadecimal [default: 0x10000]
+      --origin <N>      The address of the text, also behind the stack, such as 0x80000000
       --no-relax        Leaves every call its eight bytes
       --gc-sections     Leaves out sections to which nothing leads from the entry
       --pad-ends        Puts 8 zeros behind constants and variables, as GCC loads past an object's end
@@ -483,6 +486,7 @@ Options:
       --format <FORMAT>  gcc: lines as compilers write them, for editors; json: an object a line
       --json             Writes JSON, an object a line
       --text-start <N>   The address of the text, decimal or 0x and hexadecimal [default: 0x10000]
+      --origin <N>       The address of the text, also behind the stack, such as 0x80000000
       --no-relax         Leaves every call its eight bytes
       --gc-sections      Leaves out sections to which nothing leads from the entry
   -h, --help             Print help
@@ -552,6 +556,7 @@ Arguments:
 Options:
       --all             Shows all bytes of a line, and not the first rows alone
       --text-start <N>  The address of the text, decimal or 0x and hexadecimal [default: 0x10000]
+      --origin <N>      The address of the text, also behind the stack, such as 0x80000000
       --no-relax        Leaves every call its eight bytes
       --gc-sections     Leaves out sections to which nothing leads from the entry
   -h, --help            Print help

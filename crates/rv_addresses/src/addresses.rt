@@ -9,6 +9,7 @@ ghost use Rattle.std.specs.Option.{option_or};
 ghost use Rattle.rv_map_laws.specs.Globals.{global_address, linker_symbols};
 ghost use Rattle.rv_object_laws.specs.Object.{Object as SaidObject};
 ghost use Rattle.rv_object_laws.specs.Bindings as bindings;
+ghost use Rattle.rv_link_laws.specs.declared.bounds.Ground.{Ground};
 ghost use Rattle.rv_link_laws.specs.Names as laws;
 ghost use Rattle.rv_link_laws.specs.Layout.{outer_in, regions_of};
 ghost use Rattle.rv_shorten.specs.View.{short_object_of};
@@ -30,7 +31,7 @@ impl Resolution<'_, '_, '_, '_> {
         file: FileIndex,
         index: SymbolIndex,
     ) -> Option<u64>
-        ensures { (start : ℕ) (o : SaidObject) → IsPlacement (all self.now) start placement.now
+        ensures { (bounds : Ground) (o : SaidObject) → IsPlacement (all self.now) bounds placement.now
             → slice_get (all self.now) file.0 ≡ Some o → result ≡ option_and_then
             (laws.symbol_address (outer_in (all self.now) (layout_of placement.now))
             (starts_of placement.now (file.0 + 1)) o)
@@ -45,7 +46,7 @@ impl Resolution<'_, '_, '_, '_> {
 
     /// Where a run begins: the address of what `_start` means, if that stands at an even place of a section of text.
     pub fn entry(&self, placement: &Placement<'_>) -> Option<u64>
-        ensures { (start : ℕ) → IsPlacement (all self.now) start placement.now
+        ensures { (bounds : Ground) → IsPlacement (all self.now) bounds placement.now
             → result ≡ laws.entry_of (starts_of placement.now) (all self.now) }
     {
         match self.start() {
@@ -68,8 +69,8 @@ pub(crate) fn defined_address(
     file: FileIndex,
     definition: Definition,
 ) -> Option<u64>
-    ensures { (start : ℕ) (o : SaidObject)
-        → IsPlacement (map short_object_of objects.now) start placement.now
+    ensures { (bounds : Ground) (o : SaidObject)
+        → IsPlacement (map short_object_of objects.now) bounds placement.now
         → slice_get (map short_object_of objects.now) file.0 ≡ Some o
         → result ≡ laws.defined_address (starts_of placement.now (file.0 + 1)) o definition }
 {
@@ -91,7 +92,7 @@ pub(crate) fn defined_address(
 
 /// The address of a name that no object defines: what the linker gives; where it gives none, 0 for a weak symbol.
 fn undefined_address(placement: &Placement<'_>, binding: Binding, name: &[u8]) -> Option<u64>
-    ensures { (os : List SaidObject) (start : ℕ) → IsPlacement os start placement.now
+    ensures { (os : List SaidObject) (bounds : Ground) → IsPlacement os bounds placement.now
         → result ≡ option_or (global_address (linker_symbols (regions_of (layout_of placement.now))) name.now)
         (if bindings.is_weak binding then Some 0 else None) }
 {
@@ -103,7 +104,7 @@ fn undefined_address(placement: &Placement<'_>, binding: Binding, name: &[u8]) -
 
 /// The address of a name that the linker gives.
 fn linker_address(placement: &Placement<'_>, name: &[u8]) -> Option<u64>
-    ensures { (os : List SaidObject) (start : ℕ) → IsPlacement os start placement.now
+    ensures { (os : List SaidObject) (bounds : Ground) → IsPlacement os bounds placement.now
         → result ≡ global_address (linker_symbols (regions_of (layout_of placement.now))) name.now }
 {
     if name == b"_etext".as_slice() {
@@ -123,7 +124,7 @@ fn linker_address(placement: &Placement<'_>, name: &[u8]) -> Option<u64>
 
 /// The address of `__global_pointer$`, from which code reaches the most of the variables.
 pub(crate) fn global_pointer(placement: &Placement<'_>) -> u64
-    ensures { (os : List SaidObject) (start : ℕ) → IsPlacement os start placement.now
+    ensures { (os : List SaidObject) (bounds : Ground) → IsPlacement os bounds placement.now
         → result ≡ (placement.now).data.start + 0x800 }
 {
     placement.data.start.wrapping_add(0x800)

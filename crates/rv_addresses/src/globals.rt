@@ -8,6 +8,7 @@ ghost use Rattle.rv_map.specs.Views.{global_of};
 ghost use Rattle.rv_map_laws.specs.Name.{is_name};
 ghost use Rattle.rv_object_laws.specs.Object.{Object as SaidObject, Symbol as SaidSymbol};
 ghost use Rattle.rv_object_types.specs.Parts.{symbol_of};
+ghost use Rattle.rv_link_laws.specs.declared.bounds.Ground.{Ground};
 ghost use Rattle.rv_link_laws.specs.Moves.{Move};
 ghost use Rattle.rv_link_laws.specs.Layout.{shown_globals, regions_of};
 ghost use Rattle.rv_object_laws.specs.Bindings as bindings;
@@ -39,7 +40,7 @@ impl<'n> Resolution<'_, '_, 'n, '_> {
         placement: &Placement<'_>,
     ) -> Result<Vec<Global>, AllocError>
         ensures known { IfOk result (λ globals. All (λ g. IsGlobal (global_of g)) globals.items) }
-        ensures shown { (start : ℕ) → IsPlacement (all self.now) start placement.now
+        ensures shown { (bounds : Ground) → IsPlacement (all self.now) bounds placement.now
             → IfOk result (λ globals. map global_of globals.items
             ≡ shown_globals (all self.now) (layout_of placement.now)) }
     {
@@ -66,7 +67,7 @@ impl<'n> Resolution<'_, '_, 'n, '_> {
     ) -> Result<(), AllocError>
         ensures known { OnOk result (All (λ g. IsGlobal (global_of g)) globals.old.items
             → All (λ g. IsGlobal (global_of g)) globals.new.items) }
-        ensures added { OnOk result ((start : ℕ) → IsPlacement (all self.now) start placement.now
+        ensures added { OnOk result ((bounds : Ground) → IsPlacement (all self.now) bounds placement.now
             → map global_of globals.new.items ≡ map global_of globals.old.items
             ++ laws.shown_linker_symbols (all self.now) (regions_of (layout_of placement.now))) }
     {
@@ -118,8 +119,8 @@ impl<'n> Resolution<'_, '_, 'n, '_> {
     ) -> Result<(), AllocError>
         ensures known { OnOk result (All (λ g. IsGlobal (global_of g)) globals.old.items
             → All (λ g. IsGlobal (global_of g)) globals.new.items) }
-        ensures added { OnOk result ((start : ℕ)
-            → IsPlacement (all self.now) start placement.now
+        ensures added { OnOk result ((bounds : Ground)
+            → IsPlacement (all self.now) bounds placement.now
             → slice_get (all self.now) file.0 ≡ Some (short_object_of object.now)
             → map global_of globals.new.items ≡ map global_of globals.old.items
             ++ shown_in (all self.now) placement.now file.0
@@ -142,8 +143,8 @@ impl<'n> Resolution<'_, '_, 'n, '_> {
     ) -> Result<(), AllocError>
         ensures known { OnOk result (All (λ g. IsGlobal (global_of g)) globals.old.items
             → All (λ g. IsGlobal (global_of g)) globals.new.items) }
-        ensures added { OnOk result ((start : ℕ) (o : SaidObject) (s : SaidSymbol)
-            → IsPlacement (all self.now) start placement.now
+        ensures added { OnOk result ((bounds : Ground) (o : SaidObject) (s : SaidSymbol)
+            → IsPlacement (all self.now) bounds placement.now
             → slice_get (all self.now) file.0 ≡ Some o
             → slice_get o.symbols index.0 ≡ Some s
             → map global_of globals.new.items ≡ map global_of globals.old.items
@@ -168,8 +169,8 @@ impl<'n> Resolution<'_, '_, 'n, '_> {
     ) -> Option<(&'n [u8], u64)>
         ensures named { IfSome result (λ p. IsTrue (is_name p.0.now)) }
         ensures fits { IfSome result (λ p. p.1 < 2 ^ 64) }
-        ensures shown { (start : ℕ) (o : SaidObject) (s : SaidSymbol)
-            → IsPlacement (all self.now) start placement.now
+        ensures shown { (bounds : Ground) (o : SaidObject) (s : SaidSymbol)
+            → IsPlacement (all self.now) bounds placement.now
             → slice_get (all self.now) file.0 ≡ Some o
             → slice_get o.symbols index.0 ≡ Some s → listed result
             ≡ shown_in (all self.now) placement.now file.0 o index.0 (s ∷ []) }

@@ -3,7 +3,7 @@
 use crate::call::{Call, CallError, GivenSource, Program};
 use crate::given::{Given, Held, value_of};
 use crate::members::{put_end, put_end_line, put_faults, put_text};
-use rv_chain::{build, build_exe};
+use rv_chain::{build_exe_on, build_on};
 use rv_guests::status_of;
 use rv_job::default_options;
 use rv_json::number;
@@ -141,12 +141,12 @@ fn executable<S: System>(
 ) -> Result<Vec<u8>, JobError> {
     let alloc: Global = system.alloc();
     if !call.wants.map {
-        return match build_exe(alloc, texts, default_options()) {
+        return match build_exe_on(alloc, texts, default_options()) {
             Ok(exe) => Ok(exe),
             Err(fault) => Err(fault_line(alloc, &fault, names)?),
         };
     }
-    match build(alloc, texts, default_options()) {
+    match build_on(alloc, texts, default_options()) {
         Ok(built) => {
             put(
                 members,

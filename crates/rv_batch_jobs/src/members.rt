@@ -1,6 +1,6 @@
 //! The members of an answer.
 
-use rv_chain::LinkOptions;
+use rv_chain::GroundOptions;
 use rv_check::{Report, check};
 use rv_guests::end_line;
 use rv_machine::End;
@@ -48,7 +48,7 @@ pub(crate) fn put_faults(
     members: &mut Map<String, Value>,
     names: &[&str],
     sources: &[&[u8]],
-    options: LinkOptions,
+    options: GroundOptions,
 ) -> Result<(), JobError> {
     let report = match check(alloc, names, sources, options) {
         Ok(report) => report,

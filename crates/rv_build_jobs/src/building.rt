@@ -8,7 +8,7 @@ use crate::linking::link_inputs;
 use crate::loading::{given_sources, is_elf};
 use crate::padding::Inputs;
 use crate::refusing::{is_explained, program_image, refused_sources};
-use rv_chain::{Built, Fault, LinkOptions, assemble_object, build, build_exe};
+use rv_chain::{Built, Fault, GroundOptions, assemble_object, build_exe_on, build_on};
 use rv_guests::{GuestInput, Guests, report_end, run_line};
 use rv_job::{
     Asked, AskedBuild, AskedMap, AskedObject, LinkOutputs, LinkSettings, default_options,
@@ -91,10 +91,10 @@ fn executable<S: System>(
     system: &S,
     names: &[&str],
     sources: &[&[u8]],
-    options: LinkOptions,
+    options: GroundOptions,
     explains: bool,
 ) -> Result<Vec<u8>, JobError> {
-    match build_exe(system.alloc(), sources, options) {
+    match build_exe_on(system.alloc(), sources, options) {
         Ok(exe) => Ok(exe),
         Err(fault) => { Err(refused_sources(system, &fault, names, sources, options, explains)?) }
     }
@@ -188,10 +188,10 @@ pub(crate) fn built<S: System>(
     system: &S,
     names: &[&str],
     sources: &[&[u8]],
-    options: LinkOptions,
+    options: GroundOptions,
     explains: bool,
 ) -> Result<Built, JobError> {
-    match build(system.alloc(), sources, options) {
+    match build_on(system.alloc(), sources, options) {
         Ok(built) => Ok(built),
         Err(fault) => { Err(refused_sources(system, &fault, names, sources, options, explains)?) }
     }

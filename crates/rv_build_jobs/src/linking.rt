@@ -5,7 +5,7 @@ use crate::files::{LinkFile, linked_files};
 use crate::refusing::{Linked, refused_link};
 use crate::rows::warn_of_rows;
 use crate::taking::{bytes_of, names_of, objects_of};
-use rv_chain::{link_objects, link_objects_exe};
+use rv_chain::{link_objects_exe_on, link_objects_on};
 use rv_job::{AskedLink, LinkOutputs, LinkSettings};
 use rv_system::{JobError, Purpose, System, write};
 use std::alloc::Global;
@@ -67,7 +67,7 @@ fn link_without_map<S: System>(
     settings: LinkSettings,
     linked: Linked<'_>,
 ) -> Result<u8, JobError> {
-    match link_objects_exe(system.alloc(), linked.objects, settings.options) {
+    match link_objects_exe_on(system.alloc(), linked.objects, settings.options) {
         Ok(built) => {
             write(system, exe, Purpose::ToRun, built.as_slice())?;
             Ok(0)
@@ -83,7 +83,7 @@ fn link_with_map<S: System>(
     settings: LinkSettings,
     linked: Linked<'_>,
 ) -> Result<u8, JobError> {
-    match link_objects(system.alloc(), linked.objects, settings.options) {
+    match link_objects_on(system.alloc(), linked.objects, settings.options) {
         Ok(built) => {
             warn_of_rows(system, linked.names, built.map.as_slice())?;
             write_outputs(system, outputs, linked.names, built)

@@ -3,7 +3,7 @@
 //! What explains a fault is looked for only once there is one, so a good build pays nothing for it.
 
 use rv_archive::{ArchiveFault, fault_name, fault_number};
-use rv_chain::{Fault, LinkFault, LinkOptions};
+use rv_chain::{Fault, GroundOptions, LinkFault};
 use rv_check::remark_of;
 use rv_fault_texts::Remark;
 use rv_image::{Image, load};
@@ -18,7 +18,7 @@ pub(crate) fn refused_sources<S: System>(
     fault: &Fault,
     names: &[&str],
     sources: &[&[u8]],
-    options: LinkOptions,
+    options: GroundOptions,
     explains: bool,
 ) -> Result<JobError, AllocError> {
     let alloc: Global = system.alloc();
@@ -64,7 +64,7 @@ fn link_remark(
     alloc: Global,
     fault: &Fault,
     linked: Linked<'_>,
-    options: LinkOptions,
+    options: GroundOptions,
 ) -> Result<Remark, Fault> {
     let Linked {
         names,

@@ -1,6 +1,6 @@
 //! A second look at a run that did not exit: where it ended, and by which access.
 
-use rv_chain::build;
+use rv_chain::build_on;
 use rv_job::default_options;
 use rv_kept_runs::Console;
 use rv_machine::{End, Io, Watched, run_watched};
@@ -21,7 +21,7 @@ pub(crate) fn put_report(
     input: &[u8],
     most: u64,
 ) -> Result<(), JobError> {
-    let built = match build(alloc, &[source], default_options()) {
+    let built = match build_on(alloc, &[source], default_options()) {
         Ok(built) => built,
         Err(fault) => return Err(fault_line(alloc, &fault, &[name])?),
     };

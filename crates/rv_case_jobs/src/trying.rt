@@ -4,7 +4,7 @@ use crate::failure::Failure;
 use crate::files::CaseFiles;
 use crate::looking::put_report;
 use rv_cases::{Case, CaseError, Wanted};
-use rv_chain::{Fault, build_exe};
+use rv_chain::{Fault, build_exe_on};
 use rv_job::default_options;
 use rv_kept_runs::{KeptFault, run_kept};
 use rv_machine::{End, Outcome};
@@ -41,7 +41,7 @@ fn failure_of<S: System>(
         Ok(case) => case,
         Err(error) => return Err(case_line(alloc, name, error)?),
     };
-    match build_exe(alloc, &[source.as_slice()], default_options()) {
+    match build_exe_on(alloc, &[source.as_slice()], default_options()) {
         Ok(exe) => built_failure(alloc, name, source.as_slice(), &case, exe.as_slice(), limit),
         Err(fault) => refused_failure(alloc, name, &case, &fault),
     }

@@ -30,6 +30,8 @@ use Rattle.rv_assemble_laws.specs.IsObjectOf.{IsObjectOf}
 use Rattle.rv_assemble_laws.specs.FirstFault.{IsFirstFault}
 use Rattle.rv_fault.specs.declared.link_fault.LinkFault.{LinkFault}
 use Rattle.rv_fault.specs.declared.link_fault.LinkFault.TheVariants as links
+use Rattle.rv_link_laws.specs.Ground.{usual}
+use Rattle.rv_link_laws.proofs.GroundLemmas.{text_start_is}
 use Rattle.rv_link_laws.specs.TextStart.{IsTextStart}
 use Rattle.rv_link_laws.specs.Refusals.{ArePast, HasNoProgram}
 use Rattle.rv_raw_theorems.specs.Listed.{IsShortListing, listed, HaveNoFault, HaveAProgram}
@@ -95,7 +97,7 @@ one_text text [] other after e = (refl, let same : other ≡ text = cc in same)
 one_text text (b ∷ []) other after e = absurd (cc)
 one_text text (b ∷ c ∷ before) other after e = absurd (cc)
 
-past_none : (start : ℕ) (fault : LinkFault) → IsTextStart start → ArePast 1 start fault → ⊥
+past_none : (start : ℕ) (fault : LinkFault) → IsTextStart start → ArePast 1 (usual start) fault → ⊥
 past_none start links.TooManyFiles begins past = omega (arith, past)
 past_none start links.BadTextStart begins (few, unfit) = unfit begins
 past_none start _ begins past = past
@@ -130,7 +132,7 @@ module _ (no_fault : HaveNoFault) (has_program : HaveAProgram)
         faultless f none sized (inr (sound, long)) = sized f long
 
     has_object : (start : ℕ) (relax gc : Bool) (fault : LinkFault) (os : List Object) → IsTextStart start → start + length (flat_map raw_bytes (listing.before ++ listing.after)) ≤ stack_start → AreObjectsFrom (text ∷ []) os
-        → HasNoProgram os start relax gc fault → fault ≡ links.OutOfMemory
+        → HasNoProgram os (usual start) relax gc fault → fault ≡ links.OutOfMemory
     has_object start relax gc fault [] begins room are none = absurd are
     has_object start relax gc fault (o ∷ p ∷ os) begins room (one, more) none = absurd more
     has_object start relax gc fault (o ∷ []) begins room ((ss, reading, sound, is), more) none =
@@ -141,7 +143,7 @@ module _ (no_fault : HaveNoFault) (has_program : HaveAProgram)
   accepted start relax gc fault file image text listing sound loads starts refused = by fault refused
     where
       begins : IsTextStart start
-      begins = subst IsTextStart (sym starts) (listing.aligned, listing.below)
+      begins = subst IsTextStart (sym starts) (text_start_is listing.segment.address listing.aligned listing.below)
 
       room : start + length (flat_map raw_bytes (listing.before ++ listing.after)) ≤ stack_start
       room = subst (λ n. n + length (flat_map raw_bytes (listing.before ++ listing.after)) ≤ stack_start) (sym starts) (fits file image text listing sound loads)
@@ -156,7 +158,7 @@ module _ (no_fault : HaveNoFault) (has_program : HaveAProgram)
           let number_is : number ≡ 1 = first.number_is ∙ ap (λ n. n + 1) alone.0 in
           subst (λ n. IsTooLongFor text (Source n (At code line))) (sym number_is) (too_long image text listing code line (subst (λ t. IsFirstFault t (At code line)) alone.1 first.refused))
 
-      by : (f : Fault) → IsRefusedFor (text ∷ []) start relax gc f → (f ≡ Memory) ⊎ IsTooLongFor text f
+      by : (f : Fault) → IsRefusedFor (text ∷ []) (usual start) relax gc f → (f ≡ Memory) ⊎ IsTooLongFor text f
       by Memory h = inl refl
       by (File number f) h = absurd h
       by (Source number f) (named, within, first) = inr (first_of number f named first)

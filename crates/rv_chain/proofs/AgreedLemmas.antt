@@ -3,6 +3,7 @@
 use Rattle.std.proofs.Common.{◌≡◌, ℕ, Bool, ◌<◌, ◌^◌, inl, inr, List, [], ◌∷◌, length, refl, sym, ap, subst, ◌∙◌, None}
 use Rattle.rv_statement_laws.specs.Statement.{Statement}
 use Rattle.rv_parse_laws.specs.Reading.{Reads}
+use Rattle.rv_link_laws.specs.declared.bounds.Ground.{Ground}
 use Rattle.rv_map_laws.specs.Text.{map_text}
 use Rattle.rv_image_laws.specs.Executable.{exe_of}
 use Rattle.rv_object_laws.specs.Object.{Object}
@@ -64,55 +65,55 @@ module _ (laws : Laws) where
 
   -- ---- what is built and linked of these objects
 
-  built_of : (texts : List (List ℕ)) (os : List Object) (start : ℕ) (relax gc : Bool) (exe map : List ℕ) → AreObjectsFrom texts os → AreBuilt texts start relax gc exe map → IsBuiltOf os start relax gc exe map
-  built_of texts os start relax gc exe map from (ps, were, is) = subst (λ l. IsBuiltOf l start relax gc exe map) (same_each IsObjectFrom (one_from laws.sources) texts ps os were from) is
+  built_of : (texts : List (List ℕ)) (os : List Object) (bounds : Ground) (relax gc : Bool) (exe map : List ℕ) → AreObjectsFrom texts os → AreBuilt texts bounds relax gc exe map → IsBuiltOf os bounds relax gc exe map
+  built_of texts os bounds relax gc exe map from (ps, were, is) = subst (λ l. IsBuiltOf l bounds relax gc exe map) (same_each IsObjectFrom (one_from laws.sources) texts ps os were from) is
 
-  linked_of : (files : List (List ℕ)) (os : List Object) (start : ℕ) (relax gc : Bool) (exe map : List ℕ) → AreObjectsIn files os → AreLinked files start relax gc exe map → IsBuiltOf os start relax gc exe map
-  linked_of files os start relax gc exe map inside (within, (ps, were, is)) = subst (λ l. IsBuiltOf l start relax gc exe map) (same_each IsObjectIn (one_in laws.one_held) files ps os were inside) is
+  linked_of : (files : List (List ℕ)) (os : List Object) (bounds : Ground) (relax gc : Bool) (exe map : List ℕ) → AreObjectsIn files os → AreLinked files bounds relax gc exe map → IsBuiltOf os bounds relax gc exe map
+  linked_of files os bounds relax gc exe map inside (within, (ps, were, is)) = subst (λ l. IsBuiltOf l bounds relax gc exe map) (same_each IsObjectIn (one_in laws.one_held) files ps os were inside) is
 
   -- ---- the law
 
   built_alike : AreBuiltAlike
-  built_alike texts files start relax gc exe other_exe map other_map h built linked =
+  built_alike texts files bounds relax gc exe other_exe map other_map h built linked =
       let os = objects_of texts files h in
       let from : AreObjectsFrom texts os = are_from texts files h in
-      let b : IsBuiltOf os start relax gc exe map = built_of texts os start relax gc exe map from built in
-      let c : IsBuiltOf os start relax gc other_exe other_map = linked_of files os start relax gc other_exe other_map (are_in texts files h) linked in
-      let same : b.linked ≡ c.linked = laws.linking.one_linked os start relax gc b.linked c.linked (laws.linking.placed os (are_sound laws.sources texts os from)) b.links c.links in
+      let b : IsBuiltOf os bounds relax gc exe map = built_of texts os bounds relax gc exe map from built in
+      let c : IsBuiltOf os bounds relax gc other_exe other_map = linked_of files os bounds relax gc other_exe other_map (are_in texts files h) linked in
+      let same : b.linked ≡ c.linked = laws.linking.one_linked os bounds relax gc b.linked c.linked (laws.linking.placed os (are_sound laws.sources texts os from)) b.links c.links in
       (b.written ∙ ap exe_of same ∙ sym c.written, b.shown ∙ ap (λ l. map_text l.map) same ∙ sym c.shown)
 
   not_unlinkable : AreNotUnlinkable
-  not_unlinkable texts files start relax gc exe map (Source number fault) h built un = absurd un
-  not_unlinkable texts files start relax gc exe map (File number fault) h built (named, within, first) = absurd (no_unread files (objects_of texts files h) number fault (are_in texts files h) first)
-  not_unlinkable texts files start relax gc exe map (Link fault) h built (named, reason) =
+  not_unlinkable texts files bounds relax gc exe map (Source number fault) h built un = absurd un
+  not_unlinkable texts files bounds relax gc exe map (File number fault) h built (named, within, first) = absurd (no_unread files (objects_of texts files h) number fault (are_in texts files h) first)
+  not_unlinkable texts files bounds relax gc exe map (Link fault) h built (named, reason) =
       let os = objects_of texts files h in
-      let b : IsBuiltOf os start relax gc exe map = built_of texts os start relax gc exe map (are_from texts files h) built in
-      absurd (no_refusal laws.linking os start relax gc b.linked fault b.links named (refusal_in laws.one_held files os start relax gc fault (are_in texts files h) reason))
-  not_unlinkable texts files start relax gc exe map Memory h built un = refl
+      let b : IsBuiltOf os bounds relax gc exe map = built_of texts os bounds relax gc exe map (are_from texts files h) built in
+      absurd (no_refusal laws.linking os bounds relax gc b.linked fault b.links named (refusal_in laws.one_held files os bounds relax gc fault (are_in texts files h) reason))
+  not_unlinkable texts files bounds relax gc exe map Memory h built un = refl
 
   not_refused : AreNotRefused
-  not_refused texts files start relax gc exe map (Source number fault) h linked (named, within, first) =
+  not_refused texts files bounds relax gc exe map (Source number fault) h linked (named, within, first) =
       absurd (no_source laws.sources texts (objects_of texts files h) number fault (are_from texts files h) named first)
-  not_refused texts files start relax gc exe map (File number fault) h linked refused = absurd refused
-  not_refused texts files start relax gc exe map (Link fault) h linked (named, reason) =
+  not_refused texts files bounds relax gc exe map (File number fault) h linked refused = absurd refused
+  not_refused texts files bounds relax gc exe map (Link fault) h linked (named, reason) =
       let os = objects_of texts files h in
-      let c : IsBuiltOf os start relax gc exe map = linked_of files os start relax gc exe map (are_in texts files h) linked in
-      absurd (no_refusal laws.linking os start relax gc c.linked fault c.links named (refusal_from laws.sources texts os start relax gc fault (are_from texts files h) reason))
-  not_refused texts files start relax gc exe map Memory h linked refused = refl
+      let c : IsBuiltOf os bounds relax gc exe map = linked_of files os bounds relax gc exe map (are_in texts files h) linked in
+      absurd (no_refusal laws.linking os bounds relax gc c.linked fault c.links named (refusal_from laws.sources texts os bounds relax gc fault (are_from texts files h) reason))
+  not_refused texts files bounds relax gc exe map Memory h linked refused = refl
 
   refused_alike : AreRefusedAlike
-  refused_alike texts files start relax gc (Source number fault) other h (named, within, first) un =
+  refused_alike texts files bounds relax gc (Source number fault) other h (named, within, first) un =
       absurd (no_source laws.sources texts (objects_of texts files h) number fault (are_from texts files h) named first)
-  refused_alike texts files start relax gc (File number fault) other h refused un = absurd refused
-  refused_alike texts files start relax gc Memory other h refused un = inl refl
-  refused_alike texts files start relax gc (Link fault) (Source number other) h refused un = absurd un
-  refused_alike texts files start relax gc (Link fault) (File number other) h refused (named, within, first) = absurd (no_unread files (objects_of texts files h) number other (are_in texts files h) first)
-  refused_alike texts files start relax gc (Link fault) (Link other) h (named, reason) (called, again) =
+  refused_alike texts files bounds relax gc (File number fault) other h refused un = absurd refused
+  refused_alike texts files bounds relax gc Memory other h refused un = inl refl
+  refused_alike texts files bounds relax gc (Link fault) (Source number other) h refused un = absurd un
+  refused_alike texts files bounds relax gc (Link fault) (File number other) h refused (named, within, first) = absurd (no_unread files (objects_of texts files h) number other (are_in texts files h) first)
+  refused_alike texts files bounds relax gc (Link fault) (Link other) h (named, reason) (called, again) =
       let os = objects_of texts files h in
       let from : AreObjectsFrom texts os = are_from texts files h in
-      inr (inr (one_reason laws.linking os start relax gc fault other (are_sound laws.sources texts os from) named called
-      (refusal_from laws.sources texts os start relax gc fault from reason) (refusal_in laws.one_held files os start relax gc other (are_in texts files h) again)))
-  refused_alike texts files start relax gc (Link fault) Memory h refused un = inr (inl refl)
+      inr (inr (one_reason laws.linking os bounds relax gc fault other (are_sound laws.sources texts os from) named called
+      (refusal_from laws.sources texts os bounds relax gc fault from reason) (refusal_in laws.one_held files os bounds relax gc other (are_in texts files h) again)))
+  refused_alike texts files bounds relax gc (Link fault) Memory h refused un = inr (inl refl)
 
   pub agreed : BuildsAsItLinks
   agreed = record {

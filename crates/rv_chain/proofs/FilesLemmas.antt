@@ -15,6 +15,7 @@ use Rattle.rv_object_reader.specs.Found.{section_at, sections_from}
 use Rattle.rv_object_reader.proofs.ValidSectionsLemmas.{IsValid, section_valid}
 use Rattle.rv_object_reader.proofs.ValidSymbolsLemmas.{object_rows}
 use Rattle.rv_fault.specs.declared.link_fault.LinkFault.{LinkFault}
+use Rattle.rv_link_laws.specs.declared.bounds.Ground.{Ground}
 use Rattle.rv_link_laws.specs.TextStart.{AreWithin}
 use Rattle.rv_link_laws.specs.Refusals.{ArePast, HasNoProgram, IsSameFault}
 use Rattle.rv_unique_link_theorems.specs.Asked.{IsSound}
@@ -83,10 +84,10 @@ one_unread files n m f g first other =
     )
 
 -- a file is refused before its objects are linked
-file_first : (files : List (List ℕ)) (start : ℕ) (relax gc : Bool) (number : ℕ) (fault : FileFault) (other : LinkFault) → AreWithin (length files) start → IsFirstUnread files number fault
-    → ArePast (length files) start other ⊎ AreReadUnlinked files start relax gc other → ⊥
-file_first files start relax gc number fault other within first (inl past) = within_past (length files) start other within past
-file_first files start relax gc number fault other within first (inr (os, inside, un)) = no_unread files os number fault inside first
+file_first : (files : List (List ℕ)) (bounds : Ground) (relax gc : Bool) (number : ℕ) (fault : FileFault) (other : LinkFault) → AreWithin (length files) bounds → IsFirstUnread files number fault
+    → ArePast (length files) bounds other ⊎ AreReadUnlinked files bounds relax gc other → ⊥
+file_first files bounds relax gc number fault other within first (inl past) = within_past (length files) bounds other within past
+file_first files bounds relax gc number fault other within first (inr (os, inside, un)) = no_unread files os number fault inside first
 
 -- ---- the laws
 
@@ -94,39 +95,39 @@ module _ (one_held : (file : List ℕ) (o p : Object) → ObjectOf file o → Ob
   pub one_in : (file : List ℕ) (o p : Object) → IsObjectIn file o → IsObjectIn file p → o ≡ p
   one_in file o p (sound, is) (good, was) = one_held file o p is was
 
-  pub refusal_in : (files : List (List ℕ)) (os : List Object) (start : ℕ) (relax gc : Bool) (fault : LinkFault) → AreObjectsIn files os
-      → ArePast (length files) start fault ⊎ AreReadUnlinked files start relax gc fault → IsRefusal os start relax gc fault
-  refusal_in files os start relax gc fault inside (inl past) = inl (subst (λ n. ArePast n start fault) (count_each IsObjectIn files os inside) past)
-  refusal_in files os start relax gc fault inside (inr (ps, were, un)) =
-      inr (subst (λ l. HasNoProgram l start relax gc fault) (same_each IsObjectIn one_in files ps os were inside) un)
+  pub refusal_in : (files : List (List ℕ)) (os : List Object) (bounds : Ground) (relax gc : Bool) (fault : LinkFault) → AreObjectsIn files os
+      → ArePast (length files) bounds fault ⊎ AreReadUnlinked files bounds relax gc fault → IsRefusal os bounds relax gc fault
+  refusal_in files os bounds relax gc fault inside (inl past) = inl (subst (λ n. ArePast n bounds fault) (count_each IsObjectIn files os inside) past)
+  refusal_in files os bounds relax gc fault inside (inr (ps, were, un)) =
+      inr (subst (λ l. HasNoProgram l bounds relax gc fault) (same_each IsObjectIn one_in files ps os were inside) un)
 
   module _ (linking : LinkLaws) where
     for_memory : FilesForMemory
-    for_memory files start relax gc exe map (Source number fault) linked un = absurd un
-    for_memory files start relax gc exe map (File number fault) (within, (os, inside, built)) (named, also, first) = absurd (no_unread files os number fault inside first)
-    for_memory files start relax gc exe map (Link fault) (within, (os, inside, built)) (named, reason) =
-        absurd (no_refusal linking os start relax gc built.linked fault built.links named (refusal_in files os start relax gc fault inside reason))
-    for_memory files start relax gc exe map Memory linked un = refl
+    for_memory files bounds relax gc exe map (Source number fault) linked un = absurd un
+    for_memory files bounds relax gc exe map (File number fault) (within, (os, inside, built)) (named, also, first) = absurd (no_unread files os number fault inside first)
+    for_memory files bounds relax gc exe map (Link fault) (within, (os, inside, built)) (named, reason) =
+        absurd (no_refusal linking os bounds relax gc built.linked fault built.links named (refusal_in files os bounds relax gc fault inside reason))
+    for_memory files bounds relax gc exe map Memory linked un = refl
 
-    both_unlinked : (files : List (List ℕ)) (start : ℕ) (relax gc : Bool) (fault other : LinkFault) → IsNamed (Link fault) → IsNamed (Link other)
-        → ArePast (length files) start fault ⊎ AreReadUnlinked files start relax gc fault → ArePast (length files) start other ⊎ AreReadUnlinked files start relax gc other → IsSameFault fault other
-    both_unlinked files start relax gc fault other named called (inl past) (inl again) = past_once (length files) start fault other past again
-    both_unlinked files start relax gc fault other named called (inl past) (inr (os, inside, un)) =
-        one_reason linking os start relax gc fault other (are_sound files os inside) named called (refusal_in files os start relax gc fault inside (inl past)) (inr un)
-    both_unlinked files start relax gc fault other named called (inr (os, inside, un)) again =
-        one_reason linking os start relax gc fault other (are_sound files os inside) named called (inr un) (refusal_in files os start relax gc other inside again)
+    both_unlinked : (files : List (List ℕ)) (bounds : Ground) (relax gc : Bool) (fault other : LinkFault) → IsNamed (Link fault) → IsNamed (Link other)
+        → ArePast (length files) bounds fault ⊎ AreReadUnlinked files bounds relax gc fault → ArePast (length files) bounds other ⊎ AreReadUnlinked files bounds relax gc other → IsSameFault fault other
+    both_unlinked files bounds relax gc fault other named called (inl past) (inl again) = past_once (length files) bounds fault other past again
+    both_unlinked files bounds relax gc fault other named called (inl past) (inr (os, inside, un)) =
+        one_reason linking os bounds relax gc fault other (are_sound files os inside) named called (refusal_in files os bounds relax gc fault inside (inl past)) (inr un)
+    both_unlinked files bounds relax gc fault other named called (inr (os, inside, un)) again =
+        one_reason linking os bounds relax gc fault other (are_sound files os inside) named called (inr un) (refusal_in files os bounds relax gc other inside again)
 
     for_one : FilesForOne
-    for_one files start relax gc Memory other h k = inl refl
-    for_one files start relax gc (Source number fault) other h k = absurd h
-    for_one files start relax gc (File number fault) Memory h k = inr (inl refl)
-    for_one files start relax gc (File number fault) (Source place other) h k = absurd k
-    for_one files start relax gc (File number fault) (File place other) (named, within, first) (called, inside, second) = inr (inr (one_unread files number place fault other first second))
-    for_one files start relax gc (File number fault) (Link other) (named, within, first) (called, reason) = absurd (file_first files start relax gc number fault other within first reason)
-    for_one files start relax gc (Link fault) Memory h k = inr (inl refl)
-    for_one files start relax gc (Link fault) (Source place other) h k = absurd k
-    for_one files start relax gc (Link fault) (File place other) (named, reason) (called, within, first) = absurd (file_first files start relax gc place other fault within first reason)
-    for_one files start relax gc (Link fault) (Link other) (named, reason) (called, again) = inr (inr (both_unlinked files start relax gc fault other named called reason again))
+    for_one files bounds relax gc Memory other h k = inl refl
+    for_one files bounds relax gc (Source number fault) other h k = absurd h
+    for_one files bounds relax gc (File number fault) Memory h k = inr (inl refl)
+    for_one files bounds relax gc (File number fault) (Source place other) h k = absurd k
+    for_one files bounds relax gc (File number fault) (File place other) (named, within, first) (called, inside, second) = inr (inr (one_unread files number place fault other first second))
+    for_one files bounds relax gc (File number fault) (Link other) (named, within, first) (called, reason) = absurd (file_first files bounds relax gc number fault other within first reason)
+    for_one files bounds relax gc (Link fault) Memory h k = inr (inl refl)
+    for_one files bounds relax gc (Link fault) (Source place other) h k = absurd k
+    for_one files bounds relax gc (Link fault) (File place other) (named, reason) (called, within, first) = absurd (file_first files bounds relax gc place other fault within first reason)
+    for_one files bounds relax gc (Link fault) (Link other) (named, reason) (called, again) = inr (inr (both_unlinked files bounds relax gc fault other named called reason again))
 
     pub have_one_fault : FilesHaveOneFault
     have_one_fault = record { linked = for_memory; refused = for_one }

@@ -14,6 +14,7 @@ use Rattle.rv_statement_laws.specs.Statement.{Statement}
 use Rattle.rv_object_types.specs.declared.object.Object.{Object as DeclaredObject}
 use Rattle.rv_object_laws.specs.Object.{Object}
 use Rattle.rv_object_types.specs.View.{object_of}
+use Rattle.rv_link_laws.specs.declared.bounds.Ground.{Ground}
 use Rattle.rv_link_laws.specs.Shortened.{Relaxes}
 use Rattle.rv_link_laws.specs.Without.{without}
 use Rattle.rv_chain_laws.specs.Headline.{AllRead}
@@ -23,7 +24,7 @@ use Rattle.rv_chain_laws.specs.Objects.{AreEach, AreObjectsFrom}
 use Rattle.rv_fault.specs.declared.link_fault.LinkFault.{LinkFault}
 use Rattle.rv_fault.specs.declared.link_fault.LinkFault.TheVariants as faults
 use Rattle.rv_fault.specs.Fault.{of_link}
-use Rattle.rv_link_laws.specs.TextStart.{IsTextStart}
+use Rattle.rv_link_laws.specs.Ground.{IsGround}
 use Rattle.rv_object_types.proofs.WholeLemmas.{are_whole}
 use Rattle.rv_reach_theorems.specs.Reach.{is_short_call, is_chosen_branch, ShortCallsReach, ShortBranchesReach, ShortFormsReach}
 use Rattle.rv_chain.specs.Refusals.{IsRefusedAt, IsFirstRefused, IsRefusedIn, AreUnlinked, IsRefusedFor}
@@ -88,28 +89,28 @@ refused_there texts i os fault number h good is refused = record {
 }
 
 -- no short form is out of reach in what is left of the objects of sources
-pub short_forms_reach : ShortCallsReach → ShortBranchesReach → (sources : List (List Statement)) (objects : List DeclaredObject) (drops : List SectionId) (left : List Object) (start : ℕ)
-    (relax : Bool) → AreObjectsOf sources (map object_of objects) → Relaxes relax (without drops (map object_of objects)) left → IsTextStart start
-    → ShortFormsReach sources (without drops (map object_of objects)) left start
-short_forms_reach calls branches sources objects drops left start relax of relaxed at p placed section place i j before now ii jj was is short =
+pub short_forms_reach : ShortCallsReach → ShortBranchesReach → (sources : List (List Statement)) (objects : List DeclaredObject) (drops : List SectionId) (left : List Object) (bounds : Ground)
+    (relax : Bool) → AreObjectsOf sources (map object_of objects) → Relaxes relax (without drops (map object_of objects)) left → IsGround bounds
+    → ShortFormsReach sources (without drops (map object_of objects)) left bounds
+short_forms_reach calls branches sources objects drops left bounds relax of relaxed at p placed section place i j before now ii jj was is short =
     elim (or_cases (is_short_call before.kind now.kind) (is_chosen_branch sources i before) short) [
-      | inl call ↦ calls (map object_of objects) drops left start relax p (are_whole objects) relaxed at placed section place i j before now ii jj was is call
-      | inr branch ↦ branches sources (map object_of objects) drops left start relax p (are_whole objects) of relaxed at placed section place i j before now ii jj was is branch
+      | inl call ↦ calls (map object_of objects) drops left bounds relax p (are_whole objects) relaxed at placed section place i j before now ii jj was is call
+      | inr branch ↦ branches sources (map object_of objects) drops left bounds relax p (are_whole objects) of relaxed at placed section place i j before now ii jj was is branch
     ]
 
 -- a refused link of assembled sources
-pub link_refused : (texts : List (List ℕ)) (start : ℕ) (relax gc : Bool) (fault : LinkFault) → AreUnlinked texts start relax gc fault → IsRefusedFor texts start relax gc (of_link fault)
-link_refused texts start relax gc faults.OutOfMemory h = tt
-link_refused texts start relax gc faults.Overflow h = (tt, inr h)
-link_refused texts start relax gc faults.OddTarget h = (tt, inr h)
-link_refused texts start relax gc faults.DanglingPcrel h = (tt, inr h)
-link_refused texts start relax gc faults.AlignmentShort h = (tt, inr h)
-link_refused texts start relax gc (faults.Undefined name) h = (tt, inr h)
-link_refused texts start relax gc (faults.Duplicate name) h = (tt, inr h)
-link_refused texts start relax gc faults.EntryMissing h = (tt, inr h)
-link_refused texts start relax gc faults.ImageTooLarge h = (tt, inr h)
-link_refused texts start relax gc faults.BadTextStart h = (tt, inr h)
-link_refused texts start relax gc faults.TooManyFiles h = (tt, inr h)
+pub link_refused : (texts : List (List ℕ)) (bounds : Ground) (relax gc : Bool) (fault : LinkFault) → AreUnlinked texts bounds relax gc fault → IsRefusedFor texts bounds relax gc (of_link fault)
+link_refused texts bounds relax gc faults.OutOfMemory h = tt
+link_refused texts bounds relax gc faults.Overflow h = (tt, inr h)
+link_refused texts bounds relax gc faults.OddTarget h = (tt, inr h)
+link_refused texts bounds relax gc faults.DanglingPcrel h = (tt, inr h)
+link_refused texts bounds relax gc faults.AlignmentShort h = (tt, inr h)
+link_refused texts bounds relax gc (faults.Undefined name) h = (tt, inr h)
+link_refused texts bounds relax gc (faults.Duplicate name) h = (tt, inr h)
+link_refused texts bounds relax gc faults.EntryMissing h = (tt, inr h)
+link_refused texts bounds relax gc faults.ImageTooLarge h = (tt, inr h)
+link_refused texts bounds relax gc faults.BadTextStart h = (tt, inr h)
+link_refused texts bounds relax gc faults.TooManyFiles h = (tt, inr h)
 
 -- the text of a source at an index
 pub source_at : (sources : List (Bor (List ℕ))) (i : ℕ) (d : Bor (List ℕ)) → i < length sources → get_or (map now_of sources) i [] ≡ (get_or sources i d).now

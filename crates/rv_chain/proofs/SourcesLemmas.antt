@@ -19,6 +19,7 @@ use Rattle.rv_assemble_laws.specs.ShownNames.{HasNames}
 use Rattle.rv_assemble_laws.specs.IsObjectOf.{IsObjectOf}
 use Rattle.rv_assemble_laws.specs.FirstFault.{IsFirstFault}
 use Rattle.rv_fault.specs.declared.link_fault.LinkFault.{LinkFault}
+use Rattle.rv_link_laws.specs.declared.bounds.Ground.{Ground}
 use Rattle.rv_link_laws.specs.TextStart.{AreWithin}
 use Rattle.rv_link_laws.specs.Refusals.{ArePast, HasNoProgram, IsSameFault}
 use Rattle.rv_unique_link_theorems.specs.Asked.{IsSound}
@@ -140,49 +141,49 @@ module _ (laws : SourceLaws) where
 
   -- ---- why their objects are not linked
 
-  pub refusal_from : (texts : List (List ℕ)) (os : List Object) (start : ℕ) (relax gc : Bool) (fault : LinkFault) → AreObjectsFrom texts os
-      → ArePast (length texts) start fault ⊎ AreUnlinked texts start relax gc fault → IsRefusal os start relax gc fault
-  refusal_from texts os start relax gc fault from (inl past) = inl (subst (λ n. ArePast n start fault) (count_each IsObjectFrom texts os from) past)
-  refusal_from texts os start relax gc fault from (inr un) =
-      inr (subst (λ l. HasNoProgram l start relax gc fault) (same_each IsObjectFrom one_from texts (map object_of un.objects) os un.are from) un.unlinked)
+  pub refusal_from : (texts : List (List ℕ)) (os : List Object) (bounds : Ground) (relax gc : Bool) (fault : LinkFault) → AreObjectsFrom texts os
+      → ArePast (length texts) bounds fault ⊎ AreUnlinked texts bounds relax gc fault → IsRefusal os bounds relax gc fault
+  refusal_from texts os bounds relax gc fault from (inl past) = inl (subst (λ n. ArePast n bounds fault) (count_each IsObjectFrom texts os from) past)
+  refusal_from texts os bounds relax gc fault from (inr un) =
+      inr (subst (λ l. HasNoProgram l bounds relax gc fault) (same_each IsObjectFrom one_from texts (map object_of un.objects) os un.are from) un.unlinked)
 
   -- a source is refused before its objects are linked
-  source_first : (texts : List (List ℕ)) (start : ℕ) (relax gc : Bool) (number : ℕ) (fault : SourceFault) (other : LinkFault) → IsNamed (Source number fault) → AreWithin (length texts) start → IsFirstRefused texts number fault
-      → ArePast (length texts) start other ⊎ AreUnlinked texts start relax gc other → ⊥
-  source_first texts start relax gc number fault other named within first (inl past) = within_past (length texts) start other within past
-  source_first texts start relax gc number fault other named within first (inr un) = no_source texts (map object_of un.objects) number fault un.are named first
+  source_first : (texts : List (List ℕ)) (bounds : Ground) (relax gc : Bool) (number : ℕ) (fault : SourceFault) (other : LinkFault) → IsNamed (Source number fault) → AreWithin (length texts) bounds → IsFirstRefused texts number fault
+      → ArePast (length texts) bounds other ⊎ AreUnlinked texts bounds relax gc other → ⊥
+  source_first texts bounds relax gc number fault other named within first (inl past) = within_past (length texts) bounds other within past
+  source_first texts bounds relax gc number fault other named within first (inr un) = no_source texts (map object_of un.objects) number fault un.are named first
 
   -- ---- the laws
 
   module _ (linking : LinkLaws) where
     for_memory : SourcesForMemory
-    for_memory texts start relax gc l (Source number fault) (os, from, links) (named, within, first) = absurd (no_source texts os number fault from named first)
-    for_memory texts start relax gc l (File number fault) has refused = absurd refused
-    for_memory texts start relax gc l (Link fault) (os, from, links) (named, reason) =
-        absurd (no_refusal linking os start relax gc l fault links named (refusal_from texts os start relax gc fault from reason))
-    for_memory texts start relax gc l Memory has refused = refl
+    for_memory texts bounds relax gc l (Source number fault) (os, from, links) (named, within, first) = absurd (no_source texts os number fault from named first)
+    for_memory texts bounds relax gc l (File number fault) has refused = absurd refused
+    for_memory texts bounds relax gc l (Link fault) (os, from, links) (named, reason) =
+        absurd (no_refusal linking os bounds relax gc l fault links named (refusal_from texts os bounds relax gc fault from reason))
+    for_memory texts bounds relax gc l Memory has refused = refl
 
-    both_unlinked : (texts : List (List ℕ)) (start : ℕ) (relax gc : Bool) (fault other : LinkFault) → IsNamed (Link fault) → IsNamed (Link other)
-        → ArePast (length texts) start fault ⊎ AreUnlinked texts start relax gc fault → ArePast (length texts) start other ⊎ AreUnlinked texts start relax gc other → IsSameFault fault other
-    both_unlinked texts start relax gc fault other named called (inl past) (inl again) = past_once (length texts) start fault other past again
-    both_unlinked texts start relax gc fault other named called (inl past) (inr un) =
+    both_unlinked : (texts : List (List ℕ)) (bounds : Ground) (relax gc : Bool) (fault other : LinkFault) → IsNamed (Link fault) → IsNamed (Link other)
+        → ArePast (length texts) bounds fault ⊎ AreUnlinked texts bounds relax gc fault → ArePast (length texts) bounds other ⊎ AreUnlinked texts bounds relax gc other → IsSameFault fault other
+    both_unlinked texts bounds relax gc fault other named called (inl past) (inl again) = past_once (length texts) bounds fault other past again
+    both_unlinked texts bounds relax gc fault other named called (inl past) (inr un) =
         let os = map object_of un.objects in
-        one_reason linking os start relax gc fault other (are_sound texts os un.are) named called (refusal_from texts os start relax gc fault un.are (inl past)) (inr un.unlinked)
-    both_unlinked texts start relax gc fault other named called (inr un) again =
+        one_reason linking os bounds relax gc fault other (are_sound texts os un.are) named called (refusal_from texts os bounds relax gc fault un.are (inl past)) (inr un.unlinked)
+    both_unlinked texts bounds relax gc fault other named called (inr un) again =
         let os = map object_of un.objects in
-        one_reason linking os start relax gc fault other (are_sound texts os un.are) named called (inr un.unlinked) (refusal_from texts os start relax gc other un.are again)
+        one_reason linking os bounds relax gc fault other (are_sound texts os un.are) named called (inr un.unlinked) (refusal_from texts os bounds relax gc other un.are again)
 
     for_one : SourcesForOne
-    for_one texts start relax gc Memory other h k = inl refl
-    for_one texts start relax gc (File number fault) other h k = absurd h
-    for_one texts start relax gc (Source number fault) Memory h k = inr (inl refl)
-    for_one texts start relax gc (Source number fault) (File place other) h k = absurd k
-    for_one texts start relax gc (Source number fault) (Source place other) (named, within, first) (called, inside, second) = inr (inr (one_source texts number place fault other named called first second))
-    for_one texts start relax gc (Source number fault) (Link other) (named, within, first) (called, reason) = absurd (source_first texts start relax gc number fault other named within first reason)
-    for_one texts start relax gc (Link fault) Memory h k = inr (inl refl)
-    for_one texts start relax gc (Link fault) (File place other) h k = absurd k
-    for_one texts start relax gc (Link fault) (Source place other) (named, reason) (called, within, first) = absurd (source_first texts start relax gc place other fault called within first reason)
-    for_one texts start relax gc (Link fault) (Link other) (named, reason) (called, again) = inr (inr (both_unlinked texts start relax gc fault other named called reason again))
+    for_one texts bounds relax gc Memory other h k = inl refl
+    for_one texts bounds relax gc (File number fault) other h k = absurd h
+    for_one texts bounds relax gc (Source number fault) Memory h k = inr (inl refl)
+    for_one texts bounds relax gc (Source number fault) (File place other) h k = absurd k
+    for_one texts bounds relax gc (Source number fault) (Source place other) (named, within, first) (called, inside, second) = inr (inr (one_source texts number place fault other named called first second))
+    for_one texts bounds relax gc (Source number fault) (Link other) (named, within, first) (called, reason) = absurd (source_first texts bounds relax gc number fault other named within first reason)
+    for_one texts bounds relax gc (Link fault) Memory h k = inr (inl refl)
+    for_one texts bounds relax gc (Link fault) (File place other) h k = absurd k
+    for_one texts bounds relax gc (Link fault) (Source place other) (named, reason) (called, within, first) = absurd (source_first texts bounds relax gc place other fault called within first reason)
+    for_one texts bounds relax gc (Link fault) (Link other) (named, reason) (called, again) = inr (inr (both_unlinked texts bounds relax gc fault other named called reason again))
 
     pub have_one_fault : SourcesHaveOneFault
     have_one_fault = record { built = for_memory; refused = for_one }

@@ -3,6 +3,7 @@
 use Rattle.std.proofs.Common.{◌≡◌, ℕ, Bool, ◌+◌, ◌<◌, List, [], ◌∷◌, length, take, drop, get_or, sym, ap, ◌∙◌, inr, Some, None}
 use Rattle.std.specs.List.{AllByRecursion}
 use Rattle.rv_fault.specs.declared.file_fault.FileFault.{FileFault}
+use Rattle.rv_link_laws.specs.declared.bounds.Ground.{Ground}
 use Rattle.rv_object_laws.specs.Object.{Object}
 use Rattle.rv_object_file_laws.specs.FirstFault.{first_fault}
 use Rattle.rv_fault.specs.declared.link_fault.LinkFault.{LinkFault}
@@ -40,15 +41,15 @@ unread_in files i os (cases.Link fault) h good refused = refused
 unread_in files i os cases.Memory h good refused = tt
 
 -- a refused link of the objects in files
-pub link_unlinkable : (files : List (List ℕ)) (start : ℕ) (relax gc : Bool) (fault : LinkFault) → AreReadUnlinked files start relax gc fault → AreUnlinkable files start relax gc (of_link fault)
-link_unlinkable files start relax gc faults.OutOfMemory h = tt
-link_unlinkable files start relax gc faults.Overflow h = (tt, inr h)
-link_unlinkable files start relax gc faults.OddTarget h = (tt, inr h)
-link_unlinkable files start relax gc faults.DanglingPcrel h = (tt, inr h)
-link_unlinkable files start relax gc faults.AlignmentShort h = (tt, inr h)
-link_unlinkable files start relax gc (faults.Undefined name) h = (tt, inr h)
-link_unlinkable files start relax gc (faults.Duplicate name) h = (tt, inr h)
-link_unlinkable files start relax gc faults.EntryMissing h = (tt, inr h)
-link_unlinkable files start relax gc faults.ImageTooLarge h = (tt, inr h)
-link_unlinkable files start relax gc faults.BadTextStart h = (tt, inr h)
-link_unlinkable files start relax gc faults.TooManyFiles h = (tt, inr h)
+pub link_unlinkable : (files : List (List ℕ)) (bounds : Ground) (relax gc : Bool) (fault : LinkFault) → AreReadUnlinked files bounds relax gc fault → AreUnlinkable files bounds relax gc (of_link fault)
+link_unlinkable files bounds relax gc faults.OutOfMemory h = tt
+link_unlinkable files bounds relax gc faults.Overflow h = (tt, inr h)
+link_unlinkable files bounds relax gc faults.OddTarget h = (tt, inr h)
+link_unlinkable files bounds relax gc faults.DanglingPcrel h = (tt, inr h)
+link_unlinkable files bounds relax gc faults.AlignmentShort h = (tt, inr h)
+link_unlinkable files bounds relax gc (faults.Undefined name) h = (tt, inr h)
+link_unlinkable files bounds relax gc (faults.Duplicate name) h = (tt, inr h)
+link_unlinkable files bounds relax gc faults.EntryMissing h = (tt, inr h)
+link_unlinkable files bounds relax gc faults.ImageTooLarge h = (tt, inr h)
+link_unlinkable files bounds relax gc faults.BadTextStart h = (tt, inr h)
+link_unlinkable files bounds relax gc faults.TooManyFiles h = (tt, inr h)

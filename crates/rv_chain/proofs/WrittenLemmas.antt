@@ -11,6 +11,7 @@ use Rattle.rv_image_laws.specs.ImageOf.{ImageOf}
 use Rattle.rv_image_laws.specs.FirstFault.{first_fault}
 use Rattle.rv_image.proofs.LoadedAgainLemmas.{laid_out, reload_image, reload_fault}
 use Rattle.rv_object_laws.specs.Object.{Object}
+use Rattle.rv_link_laws.specs.declared.bounds.Ground.{Ground}
 use Rattle.rv_link_laws.specs.IsProgramOf.{IsProgramOf}
 use Rattle.rv_link_laws.specs.WithMap.{map_where}
 use Rattle.rv_chain_laws.specs.Linking.{IsBuiltOf}
@@ -25,7 +26,7 @@ same_layout with_map l h = record {
   data_after_rodata = h.data_after_rodata;
   bss_after_data = h.bss_after_data;
   bss_ends = h.bss_ends;
-  below_stack = h.below_stack;
+  in_free = h.in_free;
   limit = h.limit;
   even = h.even;
   entry = h.entry;
@@ -42,8 +43,8 @@ whole_written with_map l whole exe shown written = written ∙ ap exe_of shown
 pub whole_map : (l whole : Linked) (text : List ℕ) → l ≡ map_where true whole → text ≡ map_text l.map → text ≡ map_text whole.map
 whole_map l whole text shown written = written ∙ ap (λ l. map_text l.map) shown
 
-pub built_of : (os : List Object) (start : ℕ) (relax gc : Bool) (l : Linked) (exe text : List ℕ) → IsLaidOut l → IsProgramOf os start relax gc l → exe ≡ exe_of l → text ≡ map_text l.map → IsBuiltOf os start relax gc exe text
-built_of os start relax gc l exe text laid links written shown = record {
+pub built_of : (os : List Object) (bounds : Ground) (relax gc : Bool) (l : Linked) (exe text : List ℕ) → IsLaidOut l → IsProgramOf os bounds relax gc l → exe ≡ exe_of l → text ≡ map_text l.map → IsBuiltOf os bounds relax gc exe text
+built_of os bounds relax gc l exe text laid links written shown = record {
   linked = l;
   links = links;
   written = written;

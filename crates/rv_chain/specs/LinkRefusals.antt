@@ -1,4 +1,4 @@
--- Why files are not linked, by their bytes and the address at which the text starts: memory runs
+-- Why files are not linked, by their bytes and the ground of the program: memory runs
 -- out, or a fault names its cause.
 
 use Rattle.std.specs.Prelude.{◌≡◌, ℕ, ◌+◌, Bool, ⊤, ◌⊎◌, List, ◌∷◌, ◌++◌, length, Some, None}
@@ -7,6 +7,7 @@ use Rattle.rv_fault.specs.declared.file_fault.FileFault.{FileFault}
 use Rattle.rv_object_laws.specs.Object.{Object}
 use Rattle.rv_object_file_laws.specs.FirstFault.{first_fault}
 use Rattle.rv_fault.specs.declared.link_fault.LinkFault.{LinkFault}
+use Rattle.rv_link_laws.specs.declared.bounds.Ground.{Ground}
 use Rattle.rv_link_laws.specs.TextStart.{AreWithin}
 use Rattle.rv_link_laws.specs.Refusals.{ArePast, HasNoProgram}
 use Rattle.rv_fault.specs.declared.fault.Fault.{Fault}
@@ -40,17 +41,17 @@ AreUnread files (Link fault) = ⊥
 AreUnread files Memory = ⊤
 
 -- no file has a fault, and their objects have no program
-abbrev pub AreReadUnlinked : List (List ℕ) → ℕ → Bool → Bool → LinkFault → Type 0
-AreReadUnlinked files start relax gc fault =
-    (os : List Object) × AreObjectsIn files os × HasNoProgram os start relax gc fault
+abbrev pub AreReadUnlinked : List (List ℕ) → Ground → Bool → Bool → LinkFault → Type 0
+AreReadUnlinked files bounds relax gc fault =
+    (os : List Object) × AreObjectsIn files os × HasNoProgram os bounds relax gc fault
 
--- first the count of the files, then the text's start, then the files, and then the link
-abbrev pub AreUnlinkable : List (List ℕ) → ℕ → Bool → Bool → Fault → Type 0
-AreUnlinkable files start relax gc (Source number fault) = ⊥
-AreUnlinkable files start relax gc (File number fault) =
+-- first the count of the files, then the ground, then the files, and then the link
+abbrev pub AreUnlinkable : List (List ℕ) → Ground → Bool → Bool → Fault → Type 0
+AreUnlinkable files bounds relax gc (Source number fault) = ⊥
+AreUnlinkable files bounds relax gc (File number fault) =
     IsNamed (File number fault)
-    × AreWithin (length files) start × IsFirstUnread files number fault
-AreUnlinkable files start relax gc (Link fault) =
+    × AreWithin (length files) bounds × IsFirstUnread files number fault
+AreUnlinkable files bounds relax gc (Link fault) =
     IsNamed (Link fault)
-    × (ArePast (length files) start fault ⊎ AreReadUnlinked files start relax gc fault)
-AreUnlinkable files start relax gc Memory = ⊤
+    × (ArePast (length files) bounds fault ⊎ AreReadUnlinked files bounds relax gc fault)
+AreUnlinkable files bounds relax gc Memory = ⊤

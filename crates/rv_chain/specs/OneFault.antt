@@ -7,6 +7,7 @@ use Rattle.rv_fault.specs.declared.fault.Fault.TheVariants.{Source, File, Link, 
 use Rattle.rv_chain_laws.specs.Linking.{IsProgramOfObjectsFrom, AreLinked}
 use Rattle.rv_link_laws.specs.Refusals.{IsSameFault}
 use Rattle.rv_chain.specs.Refusals.{IsRefusedFor}
+use Rattle.rv_link_laws.specs.declared.bounds.Ground.{Ground}
 use Rattle.rv_chain.specs.LinkRefusals.{AreUnlinkable}
 
 -- the same fault: of one source or file, or of the link, where it has one number and tells one name
@@ -26,15 +27,15 @@ IsMemoryOrSame fault other = (fault ≡ Memory) ⊎ ((other ≡ Memory) ⊎ IsSa
 -- sources that have a program are refused for want of memory alone
 abbrev pub SourcesForMemory : Type 0
 SourcesForMemory =
-    (texts : List (List ℕ)) (start : ℕ) (relax gc : Bool) (l : Linked) (fault : Fault)
-    → IsProgramOfObjectsFrom texts start relax gc l → IsRefusedFor texts start relax gc fault
+    (texts : List (List ℕ)) (bounds : Ground) (relax gc : Bool) (l : Linked) (fault : Fault)
+    → IsProgramOfObjectsFrom texts bounds relax gc l → IsRefusedFor texts bounds relax gc fault
     → fault ≡ Memory
 
 -- and others, but for that, for one fault
 abbrev pub SourcesForOne : Type 0
 SourcesForOne =
-    (texts : List (List ℕ)) (start : ℕ) (relax gc : Bool) (fault other : Fault)
-    → IsRefusedFor texts start relax gc fault → IsRefusedFor texts start relax gc other
+    (texts : List (List ℕ)) (bounds : Ground) (relax gc : Bool) (fault other : Fault)
+    → IsRefusedFor texts bounds relax gc fault → IsRefusedFor texts bounds relax gc other
     → IsMemoryOrSame fault other
 
 pub record SourcesHaveOneFault : Type 0 where
@@ -46,15 +47,15 @@ pub record SourcesHaveOneFault : Type 0 where
 -- files that are linked are refused for want of memory alone
 abbrev pub FilesForMemory : Type 0
 FilesForMemory =
-    (files : List (List ℕ)) (start : ℕ) (relax gc : Bool) (exe map : List ℕ) (fault : Fault)
-    → AreLinked files start relax gc exe map → AreUnlinkable files start relax gc fault
+    (files : List (List ℕ)) (bounds : Ground) (relax gc : Bool) (exe map : List ℕ) (fault : Fault)
+    → AreLinked files bounds relax gc exe map → AreUnlinkable files bounds relax gc fault
     → fault ≡ Memory
 
 -- and others, but for that, for one fault
 abbrev pub FilesForOne : Type 0
 FilesForOne =
-    (files : List (List ℕ)) (start : ℕ) (relax gc : Bool) (fault other : Fault)
-    → AreUnlinkable files start relax gc fault → AreUnlinkable files start relax gc other
+    (files : List (List ℕ)) (bounds : Ground) (relax gc : Bool) (fault other : Fault)
+    → AreUnlinkable files bounds relax gc fault → AreUnlinkable files bounds relax gc other
     → IsMemoryOrSame fault other
 
 pub record FilesHaveOneFault : Type 0 where

@@ -12,6 +12,7 @@ use Rattle.rv_image_laws.specs.FirstFault.{first_fault}
 use Rattle.rv_listing_laws.specs.Raw.{IsRawListing, is_executable}
 use Rattle.rv_fault.specs.declared.fault.Fault.{Fault}
 use Rattle.rv_fault.specs.declared.fault.Fault.TheVariants.{Source, Memory}
+use Rattle.rv_link_laws.specs.Ground.{usual}
 use Rattle.rv_chain.specs.Refusals.{IsRefusedFor}
 
 -- an executable has an image that begins at this entry, and its one segment of code has these bytes
@@ -46,4 +47,5 @@ RawListingsAreAccepted =
     (start : ℕ) (relax gc : Bool) (fault : Fault) (file : List ℕ) (image : Image) (text : List ℕ)
     (listing : IsRawListing image text)
     → first_fault file ≡ None → ImageOf file image → start ≡ listing.segment.address
-    → IsRefusedFor (text ∷ []) start relax gc fault → (fault ≡ Memory) ⊎ IsTooLongFor text fault
+    → IsRefusedFor (text ∷ []) (usual start) relax gc fault
+    → (fault ≡ Memory) ⊎ IsTooLongFor text fault

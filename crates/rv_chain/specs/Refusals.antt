@@ -1,4 +1,4 @@
--- Why a build is refused, by the texts of its sources and the address at which the text starts:
+-- Why a build is refused, by the texts of its sources and the ground of the program:
 -- memory runs out, or a fault names its cause.
 
 use Rattle.std.specs.Prelude.{◌≡◌, ℕ, ◌+◌, Bool, ⊤, ◌⊎◌, List, ◌∷◌, ◌++◌, length, map}
@@ -7,6 +7,7 @@ use Rattle.rv_statement_laws.specs.Statement.{Statement}
 use Rattle.rv_object_types.specs.declared.object.Object.{Object as DeclaredObject}
 use Rattle.rv_object_laws.specs.Object.{Object}
 use Rattle.rv_object_types.specs.View.{object_of}
+use Rattle.rv_link_laws.specs.declared.bounds.Ground.{Ground}
 use Rattle.rv_link_laws.specs.Without.{without}
 use Rattle.rv_link_laws.specs.Refusals.{ArePast, HasNoProgram}
 use Rattle.rv_assemble_laws.specs.FirstFault.{IsFirstFault}
@@ -51,27 +52,27 @@ AreAssembled texts = (os : List Object) × AreObjectsFrom texts os
 
 -- and they have no program; a field that does not take its value is none of a form that was chosen
 -- because it reaches
-pub record AreUnlinked (texts : List (List ℕ)) (start : ℕ) (relax gc : Bool)
+pub record AreUnlinked (texts : List (List ℕ)) (bounds : Ground) (relax gc : Bool)
     (fault : LinkFault) : Type 0 where
   pub objects : List DeclaredObject
   pub are : AreObjectsFrom texts (map object_of objects)
-  pub unlinked : HasNoProgram (map object_of objects) start relax gc fault
+  pub unlinked : HasNoProgram (map object_of objects) bounds relax gc fault
   pub sources : List (List Statement)
   pub read : AllRead texts sources
   pub reached :
-      ShortFormsReach sources (without unlinked.drops (map object_of objects)) unlinked.left start
+      ShortFormsReach sources (without unlinked.drops (map object_of objects)) unlinked.left bounds
 
--- files and a start of the text that can be linked, and sources without a fault
-abbrev pub AreGood : List (List ℕ) → ℕ → Type 0
-AreGood texts start = AreWithin (length texts) start × AreAssembled texts
+-- files and a ground that can be linked, and sources without a fault
+abbrev pub AreGood : List (List ℕ) → Ground → Type 0
+AreGood texts bounds = AreWithin (length texts) bounds × AreAssembled texts
 
--- first the count of the files, then the text's start, then the sources, and then the link
-abbrev pub IsRefusedFor : List (List ℕ) → ℕ → Bool → Bool → Fault → Type 0
-IsRefusedFor texts start relax gc (Source number fault) =
+-- first the count of the files, then the ground, then the sources, and then the link
+abbrev pub IsRefusedFor : List (List ℕ) → Ground → Bool → Bool → Fault → Type 0
+IsRefusedFor texts bounds relax gc (Source number fault) =
     IsNamed (Source number fault)
-    × AreWithin (length texts) start × IsFirstRefused texts number fault
-IsRefusedFor texts start relax gc (File number fault) = ⊥
-IsRefusedFor texts start relax gc (Link fault) =
+    × AreWithin (length texts) bounds × IsFirstRefused texts number fault
+IsRefusedFor texts bounds relax gc (File number fault) = ⊥
+IsRefusedFor texts bounds relax gc (Link fault) =
     IsNamed (Link fault)
-    × (ArePast (length texts) start fault ⊎ AreUnlinked texts start relax gc fault)
-IsRefusedFor texts start relax gc Memory = ⊤
+    × (ArePast (length texts) bounds fault ⊎ AreUnlinked texts bounds relax gc fault)
+IsRefusedFor texts bounds relax gc Memory = ⊤

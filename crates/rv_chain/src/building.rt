@@ -4,6 +4,7 @@ ghost use Rattle.std.specs.Prelude.{◌<◌, ◌≤◌, ◌+◌, map, length, If
 ghost use Rattle.rv_statement.specs.View.{now_of};
 ghost use Rattle.rv_image.specs.Views.{linked_of};
 ghost use Rattle.rv_object_types.specs.View.{object_of};
+ghost use Rattle.rv_link_laws.specs.Ground.{usual};
 ghost use Rattle.rv_link_laws.specs.IsLinkOf.{most_files};
 ghost use Rattle.rv_chain_laws.specs.Headline.{TheHeadline};
 ghost use Rattle.rv_chain_laws.specs.Building.{IsProgramWithFrom, IsExecutableOf};
@@ -20,7 +21,7 @@ use rv_assemble::assemble;
 use rv_expression::SourceFault;
 use rv_fault::Fault;
 use rv_image::{Linked, write_exec};
-use rv_link::{LinkOptions, within_limits};
+use rv_link::{GroundOptions, LinkOptions, within_limits};
 use rv_object_types::Object;
 use rv_raw_theorems::raw_listings_reassemble;
 use rv_reach_theorems::{short_branches_reach, short_calls_reach};
@@ -46,18 +47,43 @@ pub fn build(alloc: Global, sources: &[&[u8]], options: LinkOptions) -> Result<B
         (λ built. IsListedAs (map now_of sources.now) built.exe.items built.map.items) }
     ensures links { IfOk result
         (λ built. AreBuilt (map now_of sources.now)
-        options.text_start options.relax options.gc built.exe.items built.map.items) }
+        (usual options.text_start) options.relax options.gc built.exe.items built.map.items) }
     // each value in the sources is plain arithmetic with the addresses of the map
     ensures values { IfOk result
         (λ built. AreValued (map now_of sources.now) options.text_start built.map.items) }
     // a source that is a raw listing has the bytes that were listed, and the entry
     ensures reassembles { IfOk result
         (λ built. Reassembles (map now_of sources.now) options.text_start built.exe.items) }
-    ensures good { IfOk result (λ _. AreGood (map now_of sources.now) options.text_start) }
+    ensures good { IfOk result (λ _. AreGood (map now_of sources.now) (usual options.text_start)) }
     // The first fault: too many files, the text's start, then the sources one by one, then the link, where no form that
     // was chosen because it reaches is out of reach.
     ensures refuses { IfErr result
-        (IsRefusedFor (map now_of sources.now) options.text_start options.relax options.gc) }
+        (IsRefusedFor (map now_of sources.now) (usual options.text_start) options.relax options.gc) }
+{
+    build_on(alloc, sources, options.grounded())
+}
+
+/// Assembles and links as `build`, to a program on any ground.
+pub fn build_on(alloc: Global, sources: &[&[u8]], options: GroundOptions) -> Result<Built, Fault>
+    ensures headline { IfOk result
+        (λ built. TheHeadline (map now_of sources.now)
+        options.bounds.text options.relax options.gc built.exe.items built.map.items) }
+    ensures listed { IfOk result
+        (λ built. IsListedAs (map now_of sources.now) built.exe.items built.map.items) }
+    ensures links { IfOk result
+        (λ built. AreBuilt (map now_of sources.now)
+        options.bounds options.relax options.gc built.exe.items built.map.items) }
+    // each value in the sources is plain arithmetic with the addresses of the map
+    ensures values { IfOk result
+        (λ built. AreValued (map now_of sources.now) options.bounds.text built.map.items) }
+    // a source that is a raw listing has the bytes that were listed, and the entry
+    ensures reassembles { IfOk result
+        (λ built. Reassembles (map now_of sources.now) options.bounds.text built.exe.items) }
+    ensures good { IfOk result (λ _. AreGood (map now_of sources.now) options.bounds) }
+    // The first fault: too many files, the ground, then the sources one by one, then the link, where no form that
+    // was chosen because it reaches is out of reach.
+    ensures refuses { IfErr result
+        (IsRefusedFor (map now_of sources.now) options.bounds options.relax options.gc) }
 {
     let linked = linked(alloc, sources, options, true)?;
     linked_runs_agree();
@@ -73,12 +99,31 @@ pub fn build_exe(alloc: Global, sources: &[&[u8]], options: LinkOptions) -> Resu
     // the clauses `headline`, `listed` and `links` of `build`, with the map that is not written
     ensures builds { IfOk result
         (λ exe. IsExecutableOf
-        (map now_of sources.now) options.text_start options.relax options.gc exe.items) }
+        (map now_of sources.now) (usual options.text_start) options.relax options.gc exe.items) }
     ensures reassembles { IfOk result
         (λ exe. Reassembles (map now_of sources.now) options.text_start exe.items) }
-    ensures good { IfOk result (λ _. AreGood (map now_of sources.now) options.text_start) }
+    ensures good { IfOk result (λ _. AreGood (map now_of sources.now) (usual options.text_start)) }
     ensures refuses { IfErr result
-        (IsRefusedFor (map now_of sources.now) options.text_start options.relax options.gc) }
+        (IsRefusedFor (map now_of sources.now) (usual options.text_start) options.relax options.gc) }
+{
+    build_exe_on(alloc, sources, options.grounded())
+}
+
+/// Assembles and links as `build_exe`, to a program on any ground.
+pub fn build_exe_on(
+    alloc: Global,
+    sources: &[&[u8]],
+    options: GroundOptions,
+) -> Result<Vec<u8>, Fault>
+    // the clauses `headline`, `listed` and `links` of `build_on`, with the map that is not written
+    ensures builds { IfOk result
+        (λ exe. IsExecutableOf
+        (map now_of sources.now) options.bounds options.relax options.gc exe.items) }
+    ensures reassembles { IfOk result
+        (λ exe. Reassembles (map now_of sources.now) options.bounds.text exe.items) }
+    ensures good { IfOk result (λ _. AreGood (map now_of sources.now) options.bounds) }
+    ensures refuses { IfErr result
+        (IsRefusedFor (map now_of sources.now) options.bounds options.relax options.gc) }
 {
     let linked = linked(alloc, sources, options, false)?;
     linked_runs_agree();
@@ -92,16 +137,16 @@ pub fn build_exe(alloc: Global, sources: &[&[u8]], options: LinkOptions) -> Resu
 fn linked(
     alloc: Global,
     sources: &[&[u8]],
-    options: LinkOptions,
+    options: GroundOptions,
     with_map: bool,
 ) -> Result<Linked, Fault>
     ensures program { IfOk result (λ l. IsProgramWithFrom
-        (map now_of sources.now) options.text_start options.relax options.gc with_map (linked_of l)) }
-    ensures good { IfOk result (λ _. AreGood (map now_of sources.now) options.text_start) }
+        (map now_of sources.now) options.bounds options.relax options.gc with_map (linked_of l)) }
+    ensures good { IfOk result (λ _. AreGood (map now_of sources.now) options.bounds) }
     ensures refuses { IfErr result
-        (IsRefusedFor (map now_of sources.now) options.text_start options.relax options.gc) }
+        (IsRefusedFor (map now_of sources.now) options.bounds options.relax options.gc) }
 {
-    within_limits(sources.len(), options.text_start)?;
+    within_limits(sources.len(), options.bounds)?;
     let objects = objects(alloc, sources)?;
     // what they are linked to is the program of the sources
     objects_of_sources_link();

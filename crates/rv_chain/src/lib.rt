@@ -9,7 +9,8 @@
 //! with the map is the sources' own (`rv_chain_laws/specs/Listed`). `build_exe` gives the same executable without the map's text.
 //! `assemble_object` gives the file that is written of a source's object. `link_objects` takes such files, and those that
 //! other tools wrote: it gives what is written of the link of the objects that they hold (`rv_chain_laws/specs/Linking`);
-//! `link_objects_exe` gives the same executable without the map's text.
+//! `link_objects_exe` gives the same executable without the map's text. `build_on` and its kin put the program on any ground
+//! ([`Ground`]): the same is promised of it.
 //! `builds_as_it_links` says that sources and the files of their objects come to the same executable and map, or to the
 //! same fault of the link (`specs/Agreement`). `run_exec` gives the machine's run over the file's image. What is refused
 //! has its reason in the clauses `refuses` (`specs/Refusals`, `specs/LinkRefusals`, and `Running` beside `Linking`): memory ran out, which
@@ -35,15 +36,15 @@ mod linking;
 mod running;
 
 pub use assembling::assemble_object;
-pub use building::{build, build_exe};
+pub use building::{build, build_exe, build_exe_on, build_on};
 pub use built::Built;
 pub use law::{
     builds_as_it_links, files_have_one_fault, raw_listings_are_accepted, sources_have_one_fault,
 };
-pub use linking::{link_objects, link_objects_exe};
+pub use linking::{link_objects, link_objects_exe, link_objects_exe_on, link_objects_on};
 pub use running::run_exec;
 pub use rv_expression::{SourceCode, SourceFault};
 pub use rv_fault::Fault;
 pub use rv_image::FileFault;
-pub use rv_link::{LinkFault, LinkOptions};
+pub use rv_link::{Ground, GroundOptions, LinkFault, LinkOptions, ground_of, usual};
 pub use rv_machine::{End, Outcome};

@@ -5,6 +5,7 @@ ghost use Rattle.rv_statement.specs.View.{now_of};
 ghost use Rattle.rv_image.specs.Views.{linked_of};
 ghost use Rattle.rv_object_types.specs.View.{object_of};
 ghost use Rattle.rv_link_laws.specs.IsLinkOf.{most_files};
+ghost use Rattle.rv_link_laws.specs.Ground.{usual};
 ghost use Rattle.rv_link_laws.specs.WithMap.{IsProgramWith};
 ghost use Rattle.rv_link_laws.specs.Refusals.{HasNoProgram};
 ghost use Rattle.rv_chain_laws.specs.Linking.{AreLinked, IsLinkedAs, IsProgramWithOf};
@@ -14,7 +15,7 @@ ghost use Rattle.rv_chain_laws.specs.Objects.{IsObjectIn, AreObjectsIn};
 use crate::built::Built;
 use rv_fault::Fault;
 use rv_image::{FileFault, Linked, write_exec};
-use rv_link::{LinkFault, LinkOptions, link, link_exe, within_limits};
+use rv_link::{GroundOptions, LinkFault, LinkOptions, link_exe_on, link_on, within_limits};
 use rv_object::{Object, read};
 use std::alloc::Global;
 
@@ -22,10 +23,26 @@ use std::alloc::Global;
 pub fn link_objects(alloc: Global, objects: &[&[u8]], options: LinkOptions) -> Result<Built, Fault>
     ensures linked { IfOk result
         (λ built. AreLinked (map now_of objects.now)
-        options.text_start options.relax options.gc built.exe.items built.map.items) }
+        (usual options.text_start) options.relax options.gc built.exe.items built.map.items) }
     // The first fault: too many files, the text's start, then the files one by one, then the link.
     ensures refuses { IfErr result
-        (AreUnlinkable (map now_of objects.now) options.text_start options.relax options.gc) }
+        (AreUnlinkable (map now_of objects.now) (usual options.text_start) options.relax options.gc) }
+{
+    link_objects_on(alloc, objects, options.grounded())
+}
+
+/// Links objects as `link_objects`, to a program on any ground.
+pub fn link_objects_on(
+    alloc: Global,
+    objects: &[&[u8]],
+    options: GroundOptions,
+) -> Result<Built, Fault>
+    ensures linked { IfOk result
+        (λ built. AreLinked (map now_of objects.now)
+        options.bounds options.relax options.gc built.exe.items built.map.items) }
+    // The first fault: too many files, the ground, then the files one by one, then the link.
+    ensures refuses { IfErr result
+        (AreUnlinkable (map now_of objects.now) options.bounds options.relax options.gc) }
 {
     let linked = link_files(alloc, objects, options, true)?;
     let built = Built::of(alloc, &linked)?;
@@ -40,9 +57,24 @@ pub fn link_objects_exe(
 ) -> Result<Vec<u8>, Fault>
     ensures linked { IfOk result
         (λ exe. IsLinkedAs (map now_of objects.now)
-        options.text_start options.relax options.gc exe.items) }
+        (usual options.text_start) options.relax options.gc exe.items) }
     ensures refuses { IfErr result
-        (AreUnlinkable (map now_of objects.now) options.text_start options.relax options.gc) }
+        (AreUnlinkable (map now_of objects.now) (usual options.text_start) options.relax options.gc) }
+{
+    link_objects_exe_on(alloc, objects, options.grounded())
+}
+
+/// Links objects as `link_objects_exe`, to a program on any ground.
+pub fn link_objects_exe_on(
+    alloc: Global,
+    objects: &[&[u8]],
+    options: GroundOptions,
+) -> Result<Vec<u8>, Fault>
+    ensures linked { IfOk result
+        (λ exe. IsLinkedAs (map now_of objects.now)
+        options.bounds options.relax options.gc exe.items) }
+    ensures refuses { IfErr result
+        (AreUnlinkable (map now_of objects.now) options.bounds options.relax options.gc) }
 {
     let linked = link_files(alloc, objects, options, false)?;
     let exe = write_exec(alloc, &linked)?;
@@ -53,16 +85,16 @@ pub fn link_objects_exe(
 fn link_files(
     alloc: Global,
     files: &[&[u8]],
-    options: LinkOptions,
+    options: GroundOptions,
     with_map: bool,
 ) -> Result<Linked, Fault>
     ensures program { IfOk result
         (λ l. IsProgramWithOf (map now_of files.now)
-        options.text_start options.relax options.gc with_map (linked_of l)) }
+        options.bounds options.relax options.gc with_map (linked_of l)) }
     ensures refuses { IfErr result
-        (AreUnlinkable (map now_of files.now) options.text_start options.relax options.gc) }
+        (AreUnlinkable (map now_of files.now) options.bounds options.relax options.gc) }
 {
-    within_limits(files.len(), options.text_start)?;
+    within_limits(files.len(), options.bounds)?;
     let read = read_objects(alloc, files)?;
     let linked = program(alloc, &read, options, with_map)?;
     Ok(linked)
@@ -72,18 +104,18 @@ fn link_files(
 pub(crate) fn program(
     alloc: Global,
     objects: &[Object<'_>],
-    options: LinkOptions,
+    options: GroundOptions,
     with_map: bool,
 ) -> Result<Linked, LinkFault>
     ensures links { IfOk result (λ l. IsProgramWith (map object_of objects.now)
-        options.text_start options.relax options.gc with_map (linked_of l)) }
+        options.bounds options.relax options.gc with_map (linked_of l)) }
     ensures refuses { IfErr result (HasNoProgram (map object_of objects.now)
-        options.text_start options.relax options.gc) }
+        options.bounds options.relax options.gc) }
 {
     if with_map {
-        link(alloc, objects, options)
+        link_on(alloc, objects, options)
     } else {
-        link_exe(alloc, objects, options)
+        link_exe_on(alloc, objects, options)
     }
 }
 

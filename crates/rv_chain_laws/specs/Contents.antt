@@ -6,13 +6,13 @@ use Rattle.std.specs.List.{AllByRecursion}
 use Rattle.rv_size_laws.specs.Alignment.{aligned}
 use Rattle.rv_isa_laws.specs.Bytes.{zeros}
 use Rattle.rv_isa.specs.Kinds.{width_of}
-use Rattle.rv_isa_laws.specs.Platform.{stack_start}
 use Rattle.rv_parcel.specs.declared.form.Compressed.{Compressed}
 use Rattle.rv_parcel.specs.Encoded.{IsLeastAs, IsEncodedAs}
 use Rattle.rv_statement_laws.specs.Statement.{Statement, StatementKind, Directs}
 use Rattle.rv_pseudo_laws.specs.Code.{Part, Closed, Open, Joined}
 use Rattle.rv_pseudo_laws.specs.Filled.{are_closed}
 use Rattle.rv_image_laws.specs.Linked.{Linked}
+use Rattle.rv_image_laws.specs.Free.{free_until}
 use Rattle.rv_unit_laws.specs.Sections.{goes_to_text, goes_to_rodata, goes_to_data}
 use Rattle.rv_source_laws.specs.Program.{Mapped, Program, program}
 use Rattle.rv_source_laws.specs.Lines.{parts, form_at, Line, AreLines}
@@ -88,7 +88,7 @@ contents bytes stop (b ∷ bs) =
 
 -- the linked program of sources, relaxed or not, with all sections or with those to which something
 -- leads: its map fits them with the least sizes, calls as short as they can be where it is relaxed,
--- and each region has the bytes of its sections, bss zeros
+-- all of it in free memory, and each region has the bytes of its sections, bss zeros
 pub record IsLinked (sources : List (List Statement)) (text_start : ℕ) (relax gc : Bool)
     (l : Linked) : Type 0 where
   pub collected : AreDrops gc (graph_of sources) l.map.drops
@@ -99,7 +99,7 @@ pub record IsLinked (sources : List (List Statement)) (text_start : ℕ) (relax 
   -- the bytes of each statement of code
   pub code : Mapped → List ℕ
   pub written : IsCodeWritten (program sources l.map) code
-  pub below : l.map.bss.end ≤ stack_start
+  pub below : l.map.bss.end ≤ free_until text_start
   pub text : l.text ≡
       contents code l.map.text.start
       (input_sections goes_to_text sources l.map)

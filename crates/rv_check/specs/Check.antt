@@ -2,6 +2,7 @@
 
 use Rattle.std.specs.Prelude.{◌≡◌, ℕ, Bool, List, Option, Some, None}
 use Rattle.rv_fault.specs.declared.fault.Fault.{Fault}
+use Rattle.rv_link_laws.specs.declared.bounds.Ground.{Ground}
 use Rattle.rv_chain.specs.Refusals.{AreGood, IsRefusedFor}
 use Rattle.rv_check.specs.declared.report.Finding.{Finding}
 
@@ -12,7 +13,7 @@ HasFirst (Some finding) fault = finding.fault ≡ fault
 
 -- the first finding is of the fault for which a build of these texts is refused;
 -- without one they have none
-abbrev pub BeginsWithFaultOf : List (List ℕ) → ℕ → Bool → Bool → Option Finding → Type 0
-BeginsWithFaultOf texts start relax gc None = AreGood texts start
-BeginsWithFaultOf texts start relax gc (Some finding) =
-    IsRefusedFor texts start relax gc finding.fault
+abbrev pub BeginsWithFaultOf : List (List ℕ) → Ground → Bool → Bool → Option Finding → Type 0
+BeginsWithFaultOf texts bounds relax gc None = AreGood texts bounds
+BeginsWithFaultOf texts bounds relax gc (Some finding) =
+    IsRefusedFor texts bounds relax gc finding.fault

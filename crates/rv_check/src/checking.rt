@@ -11,13 +11,13 @@ use crate::linking::link_remark;
 use crate::placing::place_of;
 use crate::report::{Finding, Report};
 use rv_assemble::{PlacedFault, first_fault};
-use rv_chain::build;
+use rv_chain::build_on;
 use rv_fault::{Fault, SourceCode, SourceFault};
 use rv_fault_texts::{
     Blocks, FaultPlace, Remark, blank, closing_of, directs, follows_from, is_of_macro,
     is_other_file, put_refused_names, put_sentence, section_before, without_macro, without_sort,
 };
-use rv_link::LinkOptions;
+use rv_link::GroundOptions;
 use rv_warnings::put_warnings;
 use std::alloc::{AllocError, Global};
 
@@ -32,12 +32,12 @@ pub fn check(
     alloc: Global,
     names: &[&str],
     sources: &[&[u8]],
-    options: LinkOptions,
+    options: GroundOptions,
 ) -> Result<Report, Fault>
     ensures first { IfOk result (λ report. BeginsWithFaultOf
-        (map now_of sources.now) options.text_start options.relax options.gc report.first) }
+        (map now_of sources.now) options.bounds options.relax options.gc report.first) }
 {
-    match build(alloc, sources, options) {
+    match build_on(alloc, sources, options) {
         Ok(built) => {
             let closing = closing_of(alloc, sources, built.map.as_slice())?;
             let warnings = all_warnings(alloc, sources, built.map.as_slice(), closing.warnings)?;
@@ -97,7 +97,7 @@ fn refused(
     names: &[&str],
     sources: &[&[u8]],
     fault: Fault,
-    options: LinkOptions,
+    options: GroundOptions,
 ) -> Result<Report, Fault>
     ensures { IfOk result (λ report. HasFirst report.first fault) }
 {
@@ -121,7 +121,7 @@ pub fn remark_of(
     names: &[&str],
     sources: &[&[u8]],
     fault: &Fault,
-    options: LinkOptions,
+    options: GroundOptions,
 ) -> Result<Remark, Fault> {
     match fault {
         Fault::Source(file, SourceFault::At { .. }) => source_remark(alloc, sources, *file),

@@ -5,7 +5,7 @@ use rv_fault::Fault;
 use rv_fault_texts::{
     NearName, Remark, link_words, near_name, put_bytes, show_definitions, show_undefined,
 };
-use rv_link::{LinkFault, LinkOptions};
+use rv_link::{GroundOptions, LinkFault};
 use std::alloc::{AllocError, Global};
 
 /// What is said of a fault of the link of sources with these names.
@@ -14,7 +14,7 @@ pub(crate) fn link_remark(
     names: &[&str],
     sources: &[&[u8]],
     fault: &LinkFault,
-    options: LinkOptions,
+    options: GroundOptions,
 ) -> Result<Remark, Fault> {
     let mut remark = Remark::new(alloc);
     let is_told = match fault {

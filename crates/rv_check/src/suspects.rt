@@ -3,7 +3,7 @@
 use rv_chain::assemble_object;
 use rv_fault::Fault;
 use rv_fault_texts::{LineToken, Remark, part, symbol_at};
-use rv_link::{LinkFault, LinkOptions};
+use rv_link::{GroundOptions, LinkFault};
 use rv_object_report::{Site, borrowed, faulty_site, put_value, row_of, symbol_of, value_of};
 use std::alloc::Global;
 
@@ -13,7 +13,7 @@ pub(crate) fn put_suspect(
     names: &[&str],
     sources: &[&[u8]],
     fault: &LinkFault,
-    options: LinkOptions,
+    options: GroundOptions,
     remark: &mut Remark,
 ) -> Result<bool, Fault> {
     let objects = objects_of(alloc, sources)?;

@@ -8,7 +8,7 @@ use crate::words::Help;
 use rv_job::{
     AskedBuild, AskedLink, AskedMap, AskedObject, Job, LinkOutputs, LinkSettings, TEXT_START,
 };
-use rv_link::LinkOptions;
+use rv_link::{Ground, GroundOptions, ground_of, usual};
 use rv_numbers::text_start;
 use std::alloc::{AllocError, Global};
 
@@ -96,7 +96,7 @@ fn link_settings(operands: &mut Operands<'_, '_>) -> Result<LinkSettings, Refusa
 }
 
 /// Whether the ends of regions are padded.
-fn pad_ends(operands: &mut Operands<'_, '_>, options: LinkOptions) -> Result<bool, Refusal> {
+fn pad_ends(operands: &mut Operands<'_, '_>, options: GroundOptions) -> Result<bool, Refusal> {
     let help = "Puts 8 zeros behind constants and variables, as GCC loads past an object's end";
     let pads = operands.flag(Flag::long("pad-ends", help))?;
     if pads && options.gc {
@@ -106,23 +106,38 @@ fn pad_ends(operands: &mut Operands<'_, '_>, options: LinkOptions) -> Result<boo
 }
 
 /// What one can choose of a link.
-pub(crate) fn link_options(operands: &mut Operands<'_, '_>) -> Result<LinkOptions, Refusal> {
+pub(crate) fn link_options(operands: &mut Operands<'_, '_>) -> Result<GroundOptions, Refusal> {
     let start = "The address of the text, decimal or 0x and hexadecimal [default: 0x10000]";
     let start = operands.optional(Text::long("text-start", "N", start))?;
+    let origin = "The address of the text, also behind the stack, such as 0x80000000";
+    let origin = operands.optional(Text::long("origin", "N", origin))?;
     let whole = Flag::long("no-relax", "Leaves every call its eight bytes");
     let relax = !operands.flag(whole)?;
     let collects = "Leaves out sections to which nothing leads from the entry";
     let gc = operands.flag(Flag::long("gc-sections", collects))?;
-    let wanted = "a text start is decimal, or 0x and hexadecimal, below 2^64";
-    let text_start = match start {
-        None => TEXT_START,
-        Some(text) => number(text_start(text), wanted)?,
-    };
-    Ok(LinkOptions {
-        text_start,
+    Ok(GroundOptions {
+        bounds: bounds(start, origin)?,
         relax,
         gc,
     })
+}
+
+/// Where a program is put: below the stack from the start of its text, or from its origin on.
+fn bounds(start: Option<&str>, origin: Option<&str>) -> Result<Ground, Refusal> {
+    if start.is_some() && origin.is_some() {
+        return Err(Refusal::Wanted(
+            "--text-start and --origin both say where the text begins: leave one out",
+        ));
+    }
+    if let Some(text) = origin {
+        let wanted = "an origin is decimal, or 0x and hexadecimal, below 2^64";
+        return Ok(ground_of(number(text_start(text), wanted)?));
+    }
+    let wanted = "a text start is decimal, or 0x and hexadecimal, below 2^64";
+    match start {
+        None => Ok(usual(TEXT_START)),
+        Some(text) => Ok(usual(number(text_start(text), wanted)?)),
+    }
 }
 
 pub(crate) const ASSEMBLE: Help = Help {

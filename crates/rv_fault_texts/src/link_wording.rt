@@ -18,8 +18,9 @@ pub fn link_words(fault: &LinkFault) -> &'static str {
         LinkFault::EntryMissing =>
             "a program begins at _start: one source needs .globl _start, and the label in .text",
         LinkFault::ImageTooLarge =>
-            "the program has over 256 MiB, or meets the stack at 0x3ff00000",
-        LinkFault::BadTextStart => "a text starts at a multiple of 4096 below 0x3ff00000",
+            "the program has over 256 MiB, passes 2^64, or meets the stack at 0x3ff00000: --origin puts it behind",
+        LinkFault::BadTextStart =>
+            "a text starts at a multiple of 4096 below 0x3ff00000; --origin also takes 0x40000000 and above",
         LinkFault::TooManyFiles => "1,024 files are the most",
         LinkFault::OutOfMemory => "out of memory",
     }

@@ -187,19 +187,22 @@ Example:
 Cure: add .globl _start, and the label in .text
 
 L8 ImageTooLarge
-Cause: the program passes 3FF00000h, or has over 256 MiB
+Cause: the program meets the stack at 3FF00000h, passes 2^64, or has over
+  256 MiB
 Example:
     .globl _start
     _start: ret
     .bss
     .zero 0x10000000
-Cure: lower --text-start, or make the program smaller
+Cure: lower --text-start, put it behind the stack by --origin 0x40000000, or
+  make the program smaller
 
 L9 BadTextStart
-Cause: the text start is no multiple of 4096 below 3FF00000h
+Cause: the text start is no multiple of 4096 below 3FF00000h, or the origin
+  none beside the stack
 Example:
     $ rv build -o a --text-start 4097 a.s
-Cure: give one that is
+Cure: give one that is; --origin also takes 40000000h and above
 
 L10 TooManyFiles
 Cause: more than 1,024 sources in a build, or objects in a link

@@ -10,7 +10,7 @@ pub mod WholeLemmas
 pub mod PartsLemmas
 -- The contents of the parts stand at their places.
 pub mod ContentsLemmas
--- No test finds a fault in program headers that ascend below the stack, whose contents stand in the file.
+-- No test finds a fault in program headers that ascend beside the stack, whose contents stand in the file.
 pub mod SoundLemmas
 -- What is written is loaded again: the executable of a linked program has no fault.
 pub mod LoadedAgainLemmas

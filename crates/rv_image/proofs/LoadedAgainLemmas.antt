@@ -1,6 +1,7 @@
 -- What is written is loaded again: the executable of a linked program has no fault, and its image is the one that was meant.
 
-use Rattle.std.proofs.Common.{◌≡◌, ℕ, ◌+◌, ◌*◌, ◌-◌, ◌%◌, ◌/◌, ◌≤◌, ◌<◌, ◌^◌, ◌==◌, nat_le, nat_lt, Bool, true, false, not, ◌&&◌, List, [], ◌∷◌, ◌++◌, length, drop, map, filter, flat_map, None, refl, ap, sym, ◌∙◌, append_assoc, arith, sum_by}
+use Rattle.std.proofs.Common.{◌≡◌, ℕ, ◌+◌, ◌*◌, ◌-◌, ◌%◌, ◌/◌, ◌≤◌, ◌<◌, ◌^◌, ◌==◌, nat_le, nat_lt, Bool, true, false, not, ◌&&◌, List, [], ◌∷◌, ◌++◌, length, drop, map, filter, flat_map, None, inl, inr, refl, ap, sym, subst, ◌∙◌, append_assoc, arith, sum_by}
+use Rattle.std.proofs.Math.Nat.{le_trans}
 use Rattle.std.proofs.lemmas.Bool.{le-ltb, ne_eqb, and_left, and_right, cond-true, cond-false}
 use Rattle.std.proofs.lemmas.List.{length-append}
 use Rattle.rv_list_laws.proofs.TruthLemmas.{flag_below, flags_fine}
@@ -14,7 +15,9 @@ use Rattle.rv_elf_laws.specs.Numbers.{elfmag, elfclass64, elfdata2lsb, ev_curren
 use Rattle.rv_elf_laws.specs.Records.{file_header_in, file_header_bytes}
 use Rattle.rv_elf_laws.specs.ReadBack.{file_header_again}
 use Rattle.rv_elf_laws.specs.Sections.{program_count, section_count, names_section, is_load, program_headers, is_past}
-use Rattle.rv_isa_laws.specs.Platform.{stack_start, memory_limit}
+use Rattle.rv_isa_laws.specs.Platform.{memory_limit}
+use Rattle.rv_image_laws.specs.Free.{highest, free_until}
+use Rattle.rv_image_laws.proofs.FreeLemmas.{free_is, free_low, free_apart}
 use Rattle.rv_image_laws.specs.Image.{Image}
 use Rattle.rv_image_laws.specs.ImageOf.{ImageOf, segment_in}
 use Rattle.rv_elf_laws.specs.FirstFault.{first_true, header_tests, table_tests, type_tests}
@@ -114,13 +117,27 @@ filter_fit start (p ∷ ps) h = go (has_memory p) refl (filter_fit start ps h.1)
     go true e rest = rw (cond-true (has_memory p) (p ∷ filter has_memory ps) (filter has_memory ps) e) (h.0, rest)
     go false e rest = rw (cond-false (has_memory p) (p ∷ filter has_memory ps) (filter has_memory ps) e) rest
 
+-- from where memory is free it is not so far to its end that an offset in the file has no number
+pub near_by : (start end : ℕ) → end ≤ free_until start → end - start < 2 ^ 64 - 0x1000
+near_by start end h = elim (free_is start) [
+  | inl below ↦ (let low = subst (λ n. end ≤ n) below.1 h in omega (arith, low))
+  | inr above ↦ (let low = subst (λ n. end ≤ n) above.1 h in omega (arith, low, above.0))
+]
+
 module _ (l : Linked) (laid : IsLaidOut l) where
-  pub ascend : Ascending l.map.text.start (all_parts l) stack_start
+  near : l.map.bss.end - l.map.text.start < 2 ^ 64 - 0x1000
+  near = near_by l.map.text.start l.map.bss.end laid.in_free
+
+  -- below the last page
+  pub low : l.map.bss.end ≤ highest
+  low = le_trans laid.in_free (free_low l.map.text.start)
+
+  pub ascend : Ascending l.map.text.start (all_parts l) l.map.bss.end
   ascend = (
     omega arith,
     (
       omega (arith, laid.text_fills, laid.rodata_after_text),
-      (omega (arith, laid.rodata_fills, laid.data_after_rodata), omega (arith, laid.data_fills, laid.bss_after_data, laid.bss_ends, laid.below_stack)),
+      (omega (arith, laid.rodata_fills, laid.data_after_rodata), omega (arith, laid.data_fills, laid.bss_after_data, laid.bss_ends)),
     ),
   )
 
@@ -130,8 +147,8 @@ module _ (l : Linked) (laid : IsLaidOut l) where
       p_type = omega arith;
       p_flags = omega arith;
       p_offset = omega arith;
-      p_vaddr = omega (arith, laid.text_fills, laid.rodata_fills, laid.data_fills, laid.rodata_after_text, laid.data_after_rodata, laid.bss_after_data, laid.bss_ends, laid.below_stack);
-      p_paddr = omega (arith, laid.text_fills, laid.rodata_fills, laid.data_fills, laid.rodata_after_text, laid.data_after_rodata, laid.bss_after_data, laid.bss_ends, laid.below_stack);
+      p_vaddr = omega (arith, laid.text_fills, laid.rodata_fills, laid.data_fills, laid.rodata_after_text, laid.data_after_rodata, laid.bss_after_data, laid.bss_ends, low);
+      p_paddr = omega (arith, laid.text_fills, laid.rodata_fills, laid.data_fills, laid.rodata_after_text, laid.data_after_rodata, laid.bss_after_data, laid.bss_ends, low);
       p_filesz = omega (arith, laid.limit);
       p_memsz = omega (arith, laid.limit);
       p_align = omega arith;
@@ -140,9 +157,9 @@ module _ (l : Linked) (laid : IsLaidOut l) where
       record {
         p_type = omega arith;
         p_flags = omega arith;
-        p_offset = omega (arith, laid.rodata_fills, laid.data_fills, laid.data_after_rodata, laid.bss_after_data, laid.bss_ends, laid.below_stack);
-        p_vaddr = omega (arith, laid.rodata_fills, laid.data_fills, laid.data_after_rodata, laid.bss_after_data, laid.bss_ends, laid.below_stack);
-        p_paddr = omega (arith, laid.rodata_fills, laid.data_fills, laid.data_after_rodata, laid.bss_after_data, laid.bss_ends, laid.below_stack);
+        p_offset = omega (arith, laid.rodata_fills, laid.data_fills, laid.data_after_rodata, laid.bss_after_data, laid.bss_ends, near);
+        p_vaddr = omega (arith, laid.rodata_fills, laid.data_fills, laid.data_after_rodata, laid.bss_after_data, laid.bss_ends, low);
+        p_paddr = omega (arith, laid.rodata_fills, laid.data_fills, laid.data_after_rodata, laid.bss_after_data, laid.bss_ends, low);
         p_filesz = omega (arith, laid.limit);
         p_memsz = omega (arith, laid.limit);
         p_align = omega arith;
@@ -151,11 +168,11 @@ module _ (l : Linked) (laid : IsLaidOut l) where
         record {
           p_type = omega arith;
           p_flags = omega arith;
-          p_offset = omega (arith, laid.data_fills, laid.bss_after_data, laid.bss_ends, laid.below_stack);
-          p_vaddr = omega (arith, laid.data_fills, laid.bss_after_data, laid.bss_ends, laid.below_stack);
-          p_paddr = omega (arith, laid.data_fills, laid.bss_after_data, laid.bss_ends, laid.below_stack);
-          p_filesz = omega (arith, laid.data_fills, laid.bss_after_data, laid.bss_ends, laid.below_stack);
-          p_memsz = omega (arith, laid.data_fills, laid.bss_after_data, laid.bss_ends, laid.below_stack);
+          p_offset = omega (arith, laid.data_fills, laid.bss_after_data, laid.bss_ends, near);
+          p_vaddr = omega (arith, laid.data_fills, laid.bss_after_data, laid.bss_ends, low);
+          p_paddr = omega (arith, laid.data_fills, laid.bss_after_data, laid.bss_ends, low);
+          p_filesz = omega (arith, laid.data_fills, laid.bss_after_data, laid.bss_ends, low);
+          p_memsz = omega (arith, laid.data_fills, laid.bss_after_data, laid.bss_ends, low);
           p_align = omega arith;
         },
         tt,
@@ -207,7 +224,7 @@ module _ (l : Linked) (laid : IsLaidOut l) where
       let start = l.map.text.start in
       let table = flat_map (program_bytes start) (parts_with_memory l) in
       let room : length (file_header_bytes (header_of l) ++ table) ≤ 0x1000 + (start - start) = omega (arith, short l) in
-      filter_stand start (exe_of l) (all_parts l) (all_stand start (file_header_bytes (header_of l) ++ table) (all_parts l) start stack_start (omega arith) (ascend l laid) room)
+      filter_stand start (exe_of l) (all_parts l) (all_stand start (file_header_bytes (header_of l) ++ table) (all_parts l) start l.map.bss.end (omega arith) (ascend l laid) room)
 
   pub memory_fits : loaded_size (program_headers (exe_of l)) ≤ memory_limit
   memory_fits =
@@ -221,7 +238,8 @@ module _ (l : Linked) (laid : IsLaidOut l) where
       let file = exe_of l in
       let tests = programs_tests file [] (program_headers file) in
       let sound : first_true tests ≡ None = ap (λ ps. first_true (programs_tests file [] ps)) programs_are
-      ∙ programs_sound l.map.text.start file [] (parts_with_memory l) l.map.text.start stand refl (filter_ascend l.map.text.start (all_parts l) stack_start (ascend l laid)) in
+      ∙ programs_sound l.map.text.start file [] (parts_with_memory l) l.map.text.start l.map.bss.end stand refl (filter_ascend l.map.text.start (all_parts l) l.map.bss.end (ascend l laid))
+      (omega (arith, low l laid)) (free_apart l.map.text.start l.map.bss.end laid.in_free) in
       first_true_none (header_tests file) (type_tests file ++ (table_tests file ++ (tests ++ whole_tests file))) (header_sound l file reads (omega (arith, long)))
       ∙ first_true_none (type_tests file) (table_tests file ++ (tests ++ whole_tests file)) (type_sound l file reads)
       ∙ first_true_none (table_tests file) (tests ++ whole_tests file) (table_sound l file reads (few_parts l) long)
@@ -259,7 +277,7 @@ laid_out l small = record {
   data_after_rodata = l.data_after_rodata;
   bss_after_data = l.bss_after_data;
   bss_ends = l.bss_ends;
-  below_stack = l.below_stack;
+  in_free = l.in_free;
   limit = l.limit;
   even = l.even;
   entry = small;

@@ -1,6 +1,6 @@
--- No test finds a fault in program headers that ascend below the stack, whose contents stand in the file.
+-- No test finds a fault in program headers that ascend beside the stack, whose contents stand in the file.
 
-use Rattle.std.proofs.Common.{◌≡◌, ℕ, ◌+◌, ◌-◌, ◌≤◌, ◌^◌, Bool, true, false, List, [], ◌∷◌, ◌++◌, length, take, drop, replicate, map, filter, None, refl, ap, sym, ◌∙◌, arith, sum_by, zero-add}
+use Rattle.std.proofs.Common.{◌≡◌, ℕ, ◌+◌, ◌-◌, ◌≤◌, ◌^◌, ◌⊎◌, inl, inr, Bool, true, false, List, [], ◌∷◌, ◌++◌, length, take, drop, replicate, map, filter, None, refl, ap, sym, ◌∙◌, arith, sum_by, zero-add}
 use Rattle.std.specs.List.{list_all}
 use Rattle.std.proofs.lemmas.Bool.{and_from, le-ltb, le-leb, cond-true, cond-false}
 use Rattle.std.proofs.lemmas.Bool.Decides.{nat_tests}
@@ -23,38 +23,57 @@ up_to : (low : ℕ) (parts : List Part) (high : ℕ) → Ascending low parts hig
 up_to low [] high h = h
 up_to low (part ∷ parts) high h = omega (arith, h.0, up_to (part.address + memory_size_of part) parts high h.1)
 
-off_stack : (address size : ℕ) → address + size ≤ stack_start → do_meet address size stack_start (stack_end - stack_start) ≡ false
-off_stack address size below = grind (arith, nat_tests)
+-- what ends by an address, and begins at another or behind it, ends below the stack or begins behind it
+abbrev pub IsBeside : (low high : ℕ) → Type 0
+IsBeside low high = (high ≤ stack_start) ⊎ (stack_end ≤ low)
 
-segment_sound : (start : ℕ) (before : List ProgramHeader) (part : Part) (low : ℕ) → list_all (ends_by low) before ≡ true → low ≤ part.address →
-    part.address + memory_size_of part ≤ stack_start → first_true (segment_tests before (program_of start part)) ≡ None
+before_stack : (address size : ℕ) → address + size ≤ stack_start → do_meet address size stack_start (stack_end - stack_start) ≡ false
+before_stack address size below = grind (arith, nat_tests)
+
+behind_stack : (address size : ℕ) → stack_end ≤ address → do_meet address size stack_start (stack_end - stack_start) ≡ false
+behind_stack address size above = grind (arith, nat_tests)
+
+off_stack : (address size low high : ℕ) → low ≤ address → address + size ≤ high → IsBeside low high → do_meet address size stack_start (stack_end - stack_start) ≡ false
+off_stack address size low high after below beside = elim beside [
+  | inl under ↦ before_stack address size (omega (arith, below, under))
+  | inr over ↦ behind_stack address size (omega (arith, after, over))
+]
+
+raise : (low lower high : ℕ) → lower ≤ low → IsBeside lower high → IsBeside low high
+raise low lower high up beside = elim beside [
+  | inl under ↦ inl under
+  | inr over ↦ inr (omega (arith, up, over))
+]
+
+segment_sound : (start : ℕ) (before : List ProgramHeader) (part : Part) (low high : ℕ) → list_all (ends_by low) before ≡ true → low ≤ part.address →
+    part.address + memory_size_of part ≤ high → high ≤ 2 ^ 64 → IsBeside low high → first_true (segment_tests before (program_of start part)) ≡ None
 unfolding segment_tests
-segment_sound start before part low ends after below =
+segment_sound start before part low high ends after below most beside =
     rw (
       le-ltb (memory_size_of part) (length part.stored) (omega arith),
-      le-ltb (2 ^ 64) (part.address + memory_size_of part) (omega arith),
+      le-ltb (2 ^ 64) (part.address + memory_size_of part) (omega (arith, below, most)),
       none_meets (program_of start part) before low ends after,
-      off_stack part.address (memory_size_of part) below,
+      off_stack part.address (memory_size_of part) low high after below beside,
     ) refl
 
-program_sound : (start : ℕ) (file : List ℕ) (before : List ProgramHeader) (part : Part) (low : ℕ) → Stands start file part → list_all (ends_by low) before ≡ true → low ≤ part.address →
-    part.address + memory_size_of part ≤ stack_start → first_true (program_tests file before (program_of start part)) ≡ None
+program_sound : (start : ℕ) (file : List ℕ) (before : List ProgramHeader) (part : Part) (low high : ℕ) → Stands start file part → list_all (ends_by low) before ≡ true → low ≤ part.address →
+    part.address + memory_size_of part ≤ high → high ≤ 2 ^ 64 → IsBeside low high → first_true (program_tests file before (program_of start part)) ≡ None
 unfolding program_tests
-program_sound start file before part low stands ends after below = rw stands.within (segment_sound start before part low ends after below)
+program_sound start file before part low high stands ends after below most beside = rw stands.within (segment_sound start before part low high ends after below most beside)
 
-pub programs_sound : (start : ℕ) (file : List ℕ) (before : List ProgramHeader) (parts : List Part) (low : ℕ) → AllStand start file parts → list_all (ends_by low) before ≡ true →
-    Ascending low parts stack_start → first_true (programs_tests file before (map (program_of start) parts)) ≡ None
-programs_sound start file before [] low stand ends up = refl
-programs_sound start file before (part ∷ parts) low stand ends up =
+pub programs_sound : (start : ℕ) (file : List ℕ) (before : List ProgramHeader) (parts : List Part) (low high : ℕ) → AllStand start file parts → list_all (ends_by low) before ≡ true →
+    Ascending low parts high → high ≤ 2 ^ 64 → IsBeside low high → first_true (programs_tests file before (map (program_of start) parts)) ≡ None
+programs_sound start file before [] low high stand ends up most beside = refl
+programs_sound start file before (part ∷ parts) low high stand ends up most beside =
     let this = program_of start part in
     let end = part.address + memory_size_of part in
-    let below = up_to end parts stack_start up.1 in
+    let below = up_to end parts high up.1 in
     let one : ends_by end this ≡ true = le-leb end end (omega arith) in
     let all : list_all (ends_by end) (before ++ (this ∷ [])) ≡ true =
     list_all-append (ends_by end) before (this ∷ []) ∙ and_from _ _ (all_end_later low end before (omega (arith, up.0)) ends) (and_from _ _ one refl) in
     first_true_none (program_tests file before this) (programs_tests file (before ++ (this ∷ [])) (map (program_of start) parts))
-    (program_sound start file before part low stand.0 ends up.0 below)
-    ∙ programs_sound start file (before ++ (this ∷ [])) parts end stand.1 all up.1
+    (program_sound start file before part low high stand.0 ends up.0 below most beside)
+    ∙ programs_sound start file (before ++ (this ∷ [])) parts end high stand.1 all up.1 most (raise end low high (omega (arith, up.0)) beside)
 
 -- all are loaded
 pub filter_loads : (start : ℕ) (parts : List Part) → filter is_load (map (program_of start) parts) ≡ map (program_of start) parts

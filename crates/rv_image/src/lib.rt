@@ -34,5 +34,5 @@ pub use round_trip::reload;
 pub use rv_fault::FileFault;
 pub use rv_map::{Global, Map};
 pub use rv_map_laws::{Region, Row, SectionId};
-pub use segment::{MEMORY_LIMIT, STACK_BYTES, STACK_START, Segment};
+pub use segment::{HIGHEST, MEMORY_LIMIT, STACK_BYTES, STACK_START, Segment};
 pub use writing::write_exec;

@@ -1,7 +1,8 @@
 //! What the linker makes.
 
 ghost use Rattle.std.specs.Prelude.{◌≡◌, ◌+◌, ◌-◌, ◌%◌, ◌^◌, ◌<◌, ◌≤◌, length};
-ghost use Rattle.rv_isa_laws.specs.Platform.{stack_start, memory_limit};
+ghost use Rattle.rv_isa_laws.specs.Platform.{memory_limit};
+ghost use Rattle.rv_image_laws.specs.Free.{free_until};
 
 use rv_map::Map;
 
@@ -25,8 +26,8 @@ pub struct Linked {
     pub ghost data_after_rodata: { map.rodata.end ≤ map.data.start },
     pub ghost bss_after_data: { map.data.end ≤ map.bss.start },
     pub ghost bss_ends: { map.bss.start ≤ map.bss.end },
-    /// The stack lies above.
-    pub ghost below_stack: { map.bss.end ≤ stack_start },
+    /// From the text on it meets neither the stack nor the last page.
+    pub ghost in_free: { map.bss.end ≤ free_until map.text.start },
     /// The memory has 256 MiB at most.
     pub ghost limit: { length text.items + length rodata.items + (map.bss.end - map.data.start)
         ≤ memory_limit },

@@ -6,6 +6,8 @@ ghost use Rattle.std.specs.Prelude.{◌+◌, ◌^◌, ◌≤◌, length};
 pub const STACK_START: u64 = 0x3ff0_0000;
 /// The bytes of the stack.
 pub const STACK_BYTES: usize = 0x10_0000;
+/// A program ends here or before: the last page stays free.
+pub const HIGHEST: u64 = 0xffff_ffff_ffff_f000;
 /// The most bytes of memory that the segments of a program have in sum.
 pub const MEMORY_LIMIT: u64 = 0x1000_0000;
 

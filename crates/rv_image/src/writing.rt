@@ -74,6 +74,7 @@ fn put_programs(file: &mut ElfWriter, linked: &Linked) -> Result<(), AllocError>
         ++ flat_map (program_bytes linked.now.map.text.start)
         (parts_with_memory (linked_of linked.now))) }
 {
+    lie_near(linked);
     let start = linked.map.text.start;
     put_program(file, start, text(linked))?;
     put_program(file, start, rodata(linked))?;
@@ -88,12 +89,18 @@ fn put_parts(file: &mut ElfWriter, linked: &Linked) -> Result<(), AllocError>
         (file.new
         ≡ with_parts linked.now.map.text.start file.old (all_parts (linked_of linked.now))) }
 {
+    lie_near(linked);
     let start = linked.map.text.start;
     put_part(file, start, text(linked))?;
     put_part(file, start, rodata(linked))?;
     put_part(file, start, data(linked))?;
     Ok(())
 }
+
+/// No part lies so far behind the text that its place in the file has no number: the stack ends the parts, or the last page.
+fn lie_near(linked: &Linked)
+    ensures { linked.now.map.bss.end - linked.now.map.text.start < 2 ^ 64 - 0x1000 }
+{}
 
 fn text(linked: &Linked) -> Part<'_>
     ensures { segment_part result
@@ -167,7 +174,7 @@ impl Part<'_> {
 fn put_program(file: &mut ElfWriter, start: u64, part: Part) -> Result<(), AllocError>
     requires below { memory_size_of (segment_part part) < 2 ^ 64 }
     requires after { start ≤ part.address }
-    requires far { part.address < 2 ^ 63 }
+    requires far { part.address - start < 2 ^ 64 - 0x1000 }
     ensures bytes { OnOk result (file.new ≡ file.old
         ++ flat_map (program_bytes start) (filter has_memory (segment_part part.entry ∷ []))) }
 {
@@ -182,7 +189,7 @@ fn put_program(file: &mut ElfWriter, start: u64, part: Part) -> Result<(), Alloc
 fn program_header(start: u64, part: Part) -> ProgramHeader
     requires below { memory_size_of (segment_part part) < 2 ^ 64 }
     requires after { start ≤ part.address }
-    requires far { part.address < 2 ^ 63 }
+    requires far { part.address - start < 2 ^ 64 - 0x1000 }
     ensures { result ≡ program_of start (segment_part part.entry) }
 {
     ProgramHeader {
@@ -200,7 +207,7 @@ fn program_header(start: u64, part: Part) -> ProgramHeader
 /// The stored bytes of a part at their place, zeros before them.
 fn put_part(file: &mut ElfWriter, start: u64, part: Part) -> Result<(), AllocError>
     requires after { start ≤ part.address }
-    requires far { part.address < 2 ^ 63 }
+    requires far { part.address - start < 2 ^ 64 - 0x1000 }
     requires room { length file.old ≤ offset_of start (segment_part part) }
     ensures bytes { OnOk result
         (file.new ≡ with_contents file.old

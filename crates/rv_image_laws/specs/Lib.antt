@@ -2,6 +2,8 @@
 pub mod Executable
 -- Why a file is no executable: tests in order, the first that is true gives the fault.
 pub mod FirstFault
+-- Which memory a program may have: what lies beside the stack, but for the last page.
+pub mod Free
 -- An image as a plain value: what memory holds before the first step.
 pub mod Image
 -- The image of a file.

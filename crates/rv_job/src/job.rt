@@ -4,7 +4,7 @@ use crate::cases::AskedCases;
 use crate::files::{AskedCode, AskedImage, OutputFormat, ReportFormat};
 use crate::links::{AskedBuild, AskedLink, AskedMap, AskedObject};
 use crate::runs::{Asked, Coverage, Debugged, Results, Shown};
-use rv_link::LinkOptions;
+use rv_link::GroundOptions;
 
 /// What the command line asks for.
 #[derive(Drop)]
@@ -49,7 +49,7 @@ pub enum Job<'a> {
     /// Prints the lines of sources with what they become.
     List {
         all: bool,
-        options: LinkOptions,
+        options: GroundOptions,
         sources: Vec<&'a str>,
     },
     /// Prints the bytes of a file.
@@ -73,7 +73,7 @@ pub enum Job<'a> {
     },
     /// Prints what is wrong with sources, or what they come to.
     Check {
-        options: LinkOptions,
+        options: GroundOptions,
         sources: Vec<&'a str>,
         format: ReportFormat,
     },

@@ -1,11 +1,11 @@
 //! What is asked of builds and links.
 
-use rv_link::LinkOptions;
+use rv_link::GroundOptions;
 
 /// How sources or objects are linked.
 #[derive(Clone, Copy, Drop)]
 pub struct LinkSettings {
-    pub options: LinkOptions,
+    pub options: GroundOptions,
     /// Whether the ends of regions are padded.
     pub pads_ends: bool,
     /// Whether a fault is explained.

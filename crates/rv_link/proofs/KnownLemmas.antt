@@ -3,9 +3,13 @@
 use Rattle.std.proofs.Common.{◌≤◌, ◌<◌, ◌+◌, ◌^◌, ℕ, Bool, true, false, List, [], ◌∷◌, nat_lt, sym, subst, arith}
 use Rattle.std.specs.Prelude.{if◌then◌else◌}
 use Rattle.std.specs.List.{AllByRecursion}
+use Rattle.std.proofs.Math.Nat.{le_trans}
+use Rattle.rv_image_laws.specs.Free.{highest}
+use Rattle.rv_image_laws.proofs.FreeLemmas.{free_low}
 use Rattle.rv_map_laws.specs.declared.map.Region.{Region}
 use Rattle.rv_map_laws.specs.Limits.{IsRegion}
 use Rattle.rv_object_laws.specs.Object.{Object}
+use Rattle.rv_link_laws.specs.declared.bounds.Ground.{Ground}
 use Rattle.rv_link_laws.specs.Inputs.{Starts, InputSection, goes_to_text, inputs, start_of, size, Stand, sections_end, gaps_of}
 use Rattle.rv_placement.specs.declared.placement.Placement.{Placement}
 use Rattle.rv_placement.specs.Placement.{starts_of, IsPlacement}
@@ -34,11 +38,11 @@ gaps_low starts stop (i ∷ is) h low =
     go true first last more = ((first, last), more)
     go false first last more = more
 
-module _ (os : List Object) (start : ℕ) (p : Placement) (placed : IsPlacement os start p) where
+module _ (os : List Object) (bounds : Ground) (p : Placement) (placed : IsPlacement os bounds p) where
   pub regions_known : IsRegion p.text × IsRegion p.rodata × IsRegion p.data × IsRegion p.bss
   regions_known =
       let (a, b, c, d, e, f, g) = placed.laid.ordered in
-      let low : p.bss.end ≤ 0x3ff0_0000 = placed.laid.below in (
+      let low : p.bss.end ≤ highest = le_trans placed.laid.below (le_trans placed.free (free_low bounds.text)) in (
         (omega (arith, a, b, c, d, e, f, g, low), omega (arith, a, b, c, d, e, f, g, low)),
         (omega (arith, a, b, c, d, e, f, g, low), omega (arith, a, b, c, d, e, f, g, low)),
         (omega (arith, a, b, c, d, e, f, g, low), omega (arith, a, b, c, d, e, f, g, low)),
@@ -50,4 +54,4 @@ module _ (os : List Object) (start : ℕ) (p : Placement) (placed : IsPlacement 
       let low = regions_known.0.1 in
       let end = placed.laid.text.2 in
       subst (AllByRecursion IsRegion) (sym placed.laid.gaps)
-      (gaps_low (starts_of p) start (inputs goes_to_text os) placed.laid.text.1 (subst (λ n. n < 2 ^ 64) end low))
+      (gaps_low (starts_of p) bounds.text (inputs goes_to_text os) placed.laid.text.1 (subst (λ n. n < 2 ^ 64) end low))

@@ -12,6 +12,7 @@ use Rattle.rv_object_laws.specs.declared.symbol.Definition.{Definition}
 use Rattle.rv_object_laws.specs.declared.symbol.Definition.TheVariants as definitions
 use Rattle.rv_object_laws.specs.Object.{Symbol, Object}
 use Rattle.rv_object_types.specs.View.{object_of}
+use Rattle.rv_link_laws.specs.declared.bounds.Ground.{Ground}
 use Rattle.rv_link_laws.specs.CallSites.{sites_of}
 use Rattle.rv_link_laws.specs.Collects.{Collects, graph_of}
 use Rattle.rv_link_laws.specs.IsProgramOf.{Leaves, IsProgramOf}
@@ -100,59 +101,59 @@ some_leaves relax gc ds =
 
 -- ---- what is seen of the objects is so of what is left
 
-pub past_unlinked : (left : List Object) (start : ℕ) (fault : LinkFault) → ArePast (length left) start fault → IsUnlinked left start fault
-past_unlinked left start TooManyFiles h = h
-past_unlinked left start BadTextStart h = h
-past_unlinked left start (Duplicate name) h = absurd h
-past_unlinked left start (Undefined name) h = absurd h
-past_unlinked left start EntryMissing h = absurd h
-past_unlinked left start AlignmentShort h = absurd h
-past_unlinked left start ImageTooLarge h = absurd h
-past_unlinked left start Overflow h = absurd h
-past_unlinked left start OddTarget h = absurd h
-past_unlinked left start DanglingPcrel h = absurd h
-past_unlinked left start OutOfMemory h = tt
+pub past_unlinked : (left : List Object) (bounds : Ground) (fault : LinkFault) → ArePast (length left) bounds fault → IsUnlinked left bounds fault
+past_unlinked left bounds TooManyFiles h = h
+past_unlinked left bounds BadTextStart h = h
+past_unlinked left bounds (Duplicate name) h = absurd h
+past_unlinked left bounds (Undefined name) h = absurd h
+past_unlinked left bounds EntryMissing h = absurd h
+past_unlinked left bounds AlignmentShort h = absurd h
+past_unlinked left bounds ImageTooLarge h = absurd h
+past_unlinked left bounds Overflow h = absurd h
+past_unlinked left bounds OddTarget h = absurd h
+past_unlinked left bounds DanglingPcrel h = absurd h
+past_unlinked left bounds OutOfMemory h = tt
 
-pub past : (ds : List DeclaredObject) (start : ℕ) (relax gc : Bool) (fault : LinkFault) → ArePast (length ds) start fault → HasNoProgram (map object_of ds) start relax gc fault
-past ds start relax gc fault h =
+pub past : (ds : List DeclaredObject) (bounds : Ground) (relax gc : Bool) (fault : LinkFault) → ArePast (length ds) bounds fault → HasNoProgram (map object_of ds) bounds relax gc fault
+past ds bounds relax gc fault h =
     let some = some_leaves relax gc ds in
     let same : length some.left ≡ length ds = some.alike.many ∙ length-map ds object_of in
-    record { drops = some.drops; left = some.left; leaves = some.leaves; unlinked = past_unlinked some.left start fault (subst (λ n. ArePast n start fault) (sym same) h) }
+    record { drops = some.drops; left = some.left; leaves = some.leaves; unlinked = past_unlinked some.left bounds fault (subst (λ n. ArePast n bounds fault) (sym same) h) }
 
-doubled_unlinked : (os left : List Object) (start : ℕ) (fault : LinkFault) → AreAlike os left → AreWithin (length os) start → AreDoubled os fault → IsUnlinked left start fault
-doubled_unlinked os left start (Duplicate name) same w h = (subst (λ n. AreWithin n start) (sym same.many) w, ap (first_again []) (same_names os left same.seen) ∙ h)
-doubled_unlinked os left start OutOfMemory same w h = tt
-doubled_unlinked os left start TooManyFiles same w h = absurd h
-doubled_unlinked os left start BadTextStart same w h = absurd h
-doubled_unlinked os left start (Undefined name) same w h = absurd h
-doubled_unlinked os left start EntryMissing same w h = absurd h
-doubled_unlinked os left start AlignmentShort same w h = absurd h
-doubled_unlinked os left start ImageTooLarge same w h = absurd h
-doubled_unlinked os left start Overflow same w h = absurd h
-doubled_unlinked os left start OddTarget same w h = absurd h
-doubled_unlinked os left start DanglingPcrel same w h = absurd h
+doubled_unlinked : (os left : List Object) (bounds : Ground) (fault : LinkFault) → AreAlike os left → AreWithin (length os) bounds → AreDoubled os fault → IsUnlinked left bounds fault
+doubled_unlinked os left bounds (Duplicate name) same w h = (subst (λ n. AreWithin n bounds) (sym same.many) w, ap (first_again []) (same_names os left same.seen) ∙ h)
+doubled_unlinked os left bounds OutOfMemory same w h = tt
+doubled_unlinked os left bounds TooManyFiles same w h = absurd h
+doubled_unlinked os left bounds BadTextStart same w h = absurd h
+doubled_unlinked os left bounds (Undefined name) same w h = absurd h
+doubled_unlinked os left bounds EntryMissing same w h = absurd h
+doubled_unlinked os left bounds AlignmentShort same w h = absurd h
+doubled_unlinked os left bounds ImageTooLarge same w h = absurd h
+doubled_unlinked os left bounds Overflow same w h = absurd h
+doubled_unlinked os left bounds OddTarget same w h = absurd h
+doubled_unlinked os left bounds DanglingPcrel same w h = absurd h
 
-pub doubled : (ds : List DeclaredObject) (start : ℕ) (relax gc : Bool) (fault : LinkFault) → AreWithin (length ds) start → AreDoubled (map object_of ds) fault → HasNoProgram (map object_of ds) start relax gc fault
-doubled ds start relax gc fault w h =
+pub doubled : (ds : List DeclaredObject) (bounds : Ground) (relax gc : Bool) (fault : LinkFault) → AreWithin (length ds) bounds → AreDoubled (map object_of ds) fault → HasNoProgram (map object_of ds) bounds relax gc fault
+doubled ds bounds relax gc fault w h =
     let some = some_leaves relax gc ds in
     record {
       drops = some.drops;
       left = some.left;
       leaves = some.leaves;
-      unlinked = doubled_unlinked (map object_of ds) some.left start fault some.alike (subst (λ n. AreWithin n start) (sym (length-map ds object_of)) w) h;
+      unlinked = doubled_unlinked (map object_of ds) some.left bounds fault some.alike (subst (λ n. AreWithin n bounds) (sym (length-map ds object_of)) w) h;
     }
 
 -- ---- the link of what relaxation leaves
 
 -- memory may run out whatever is left
-pub out_of_memory : (ds : List DeclaredObject) (start : ℕ) (relax : Bool) → HasNoLink (map object_of ds) start relax OutOfMemory
-out_of_memory ds start relax =
+pub out_of_memory : (ds : List DeclaredObject) (bounds : Ground) (relax : Bool) → HasNoLink (map object_of ds) bounds relax OutOfMemory
+out_of_memory ds bounds relax =
     let some = some_left relax (map object_of ds) (sites_text ds) in
     record { left = some.0; relaxed = some.1; unlinked = tt }
 
 -- what collection drops, where it is off: nothing
-pub none_dropped : (os : List Object) (start : ℕ) (relax : Bool) (drops : List SectionId) (with_map : Bool) (l : Linked) → drops ≡ [] → IsLinkOfLeft os start relax drops with_map l → IsProgramWith os start relax false with_map l
-none_dropped os start relax drops with_map l none h =
+pub none_dropped : (os : List Object) (bounds : Ground) (relax : Bool) (drops : List SectionId) (with_map : Bool) (l : Linked) → drops ≡ [] → IsLinkOfLeft os bounds relax drops with_map l → IsProgramWith os bounds relax false with_map l
+none_dropped os bounds relax drops with_map l none h =
     let whole = h.linked.whole in
     let none_here : whole.map.drops ≡ [] = h.linked.dropped ∙ none in
     record {
@@ -165,8 +166,8 @@ none_dropped os start relax drops with_map l none h =
       shown = h.linked.shown;
     }
 
-pub none_unlinked : (os : List Object) (start : ℕ) (relax : Bool) (fault : LinkFault) → HasNoLink os start relax fault → HasNoProgram os start relax false fault
-none_unlinked os start relax fault h = record {
+pub none_unlinked : (os : List Object) (bounds : Ground) (relax : Bool) (fault : LinkFault) → HasNoLink os bounds relax fault → HasNoProgram os bounds relax false fault
+none_unlinked os bounds relax fault h = record {
   drops = [];
   left = h.left;
   leaves = record { collected = refl; relaxed = subst (λ x. Relaxes relax x h.left) (sym (without_none os)) h.relaxed };
@@ -174,9 +175,9 @@ none_unlinked os start relax fault h = record {
 }
 
 -- and where it is on
-pub some_dropped : (os kept : List Object) (start : ℕ) (relax : Bool) (drops others : List SectionId) (with_map : Bool) (l : Linked) → Collects true os drops → kept ≡ without drops os → others ≡ drops → IsLinkOfLeft kept start relax others with_map l
-    → IsProgramWith os start relax true with_map l
-some_dropped os kept start relax drops others with_map l collects is same h =
+pub some_dropped : (os kept : List Object) (bounds : Ground) (relax : Bool) (drops others : List SectionId) (with_map : Bool) (l : Linked) → Collects true os drops → kept ≡ without drops os → others ≡ drops → IsLinkOfLeft kept bounds relax others with_map l
+    → IsProgramWith os bounds relax true with_map l
+some_dropped os kept bounds relax drops others with_map l collects is same h =
     let whole = h.linked.whole in
     let here : whole.map.drops ≡ drops = h.linked.dropped ∙ same in
     record {
@@ -193,12 +194,12 @@ some_dropped os kept start relax drops others with_map l collects is same h =
     }
 
 -- a program with its details
-pub with_all : (os : List Object) (start : ℕ) (relax gc : Bool) (l : Linked) → IsProgramWith os start relax gc true l → IsProgramOf os start relax gc l
-with_all os start relax gc l h = subst (IsProgramOf os start relax gc) (sym h.shown) h.program
+pub with_all : (os : List Object) (bounds : Ground) (relax gc : Bool) (l : Linked) → IsProgramWith os bounds relax gc true l → IsProgramOf os bounds relax gc l
+with_all os bounds relax gc l h = subst (IsProgramOf os bounds relax gc) (sym h.shown) h.program
 
-pub some_unlinked : (os kept : List Object) (start : ℕ) (relax : Bool) (drops : List SectionId) (fault : LinkFault) → Collects true os drops → kept ≡ without drops os → HasNoLink kept start relax fault
-    → HasNoProgram os start relax true fault
-some_unlinked os kept start relax drops fault collects is h = record {
+pub some_unlinked : (os kept : List Object) (bounds : Ground) (relax : Bool) (drops : List SectionId) (fault : LinkFault) → Collects true os drops → kept ≡ without drops os → HasNoLink kept bounds relax fault
+    → HasNoProgram os bounds relax true fault
+some_unlinked os kept bounds relax drops fault collects is h = record {
   drops = drops;
   left = h.left;
   leaves = record { collected = collects; relaxed = subst (λ x. Relaxes relax x h.left) is h.relaxed };

@@ -12,13 +12,13 @@ use Rattle.rv_list_laws.proofs.ElementsLemmas.{get_some}
 use Rattle.rv_map_laws.specs.declared.map.SectionId.{SectionId}
 use Rattle.rv_map_laws.specs.Limits.{IsMap}
 use Rattle.rv_object_laws.specs.Object.{Section, Object}
+use Rattle.rv_link_laws.specs.declared.bounds.Ground.{Ground}
 use Rattle.rv_link_laws.specs.Moves.{moves, has_room}
 use Rattle.rv_link_laws.specs.Inputs.{InputSection, goes_to_text, inputs_from, inputs_of, inputs, start_of}
 use Rattle.rv_link_laws.specs.Names.{entry_of}
 use Rattle.rv_link_laws.specs.IsLinkOf.{most_files, IsLinkOf, is_loaded}
 use Rattle.rv_link_laws.specs.Layout.{section_in, object_section, shown_globals, regions_of}
 use Rattle.rv_link_laws.specs.Untaken.{IsTaken, AreTaken}
-use Rattle.rv_isa_laws.specs.Platform.{stack_start}
 use Rattle.rv_relax.specs.Kept.{moves_of}
 use Rattle.rv_placement.specs.declared.placement.PlacedSection.{PlacedSection}
 use Rattle.rv_placement.specs.declared.placement.Placement.{Placement}
@@ -69,9 +69,9 @@ places_at (f ∷ fs) (x ∷ os) e zero o at =
     (f, refl, long ∙ ap (λ z. length z.sections) same)
 places_at (f ∷ fs) (x ∷ os) e (suc file) o at = places_at fs os (let rest : map (λ f. length f.items) fs ≡ map (λ o. length o.sections) os = cc in rest) file o at
 
-has_its_room : (os : List Object) (start : ℕ) (p : Placement) → IsPlacement os start p → are_roomy p ≡ true → (file : ℕ) (o : Object) (index : ℕ) (s : Section)
+has_its_room : (os : List Object) (bounds : Ground) (p : Placement) → IsPlacement os bounds p → are_roomy p ≡ true → (file : ℕ) (o : Object) (index : ℕ) (s : Section)
     → slice_get os file ≡ Some o → slice_get o.sections index ≡ Some s → IsTrue (list_all has_room (moves (starts_of p (suc file) index) s))
-has_its_room os start p placed roomy file o index s at there =
+has_its_room os bounds p placed roomy file o index s at there =
     let (qs, qs_there, long) = places_at p.files.items os placed.each file o at in
     let inside : index < length qs.items = omega (arith, long, slice_get_within o.sections index s there) in
     let (q, q_there) = get_some qs.items index inside in
@@ -86,14 +86,15 @@ has_its_room os start p placed roomy file o index s at there =
 
 -- ---- the whole
 
-pub is_link : (drops : List SectionId) (os : List Object) (start : ℕ) (p : Placement) (entry : ℕ) (r : Regions) → length os ≤ most_files → start % 4096 ≡ 0 → start < stack_start → HasLinkNames os → IsPlacement os start p → are_roomy p ≡ true
-    → entry_of (starts_of p) os ≡ Some entry → entry % 2 ≡ 0 → AreGrown os p (λ goes. []) r → IsMap (made drops os p entry r).map → IsLinkOf os start (made drops os p entry r)
-is_link drops os start p entry r few page low named placed roomy begins even grown readable =
+pub is_link : (drops : List SectionId) (os : List Object) (bounds : Ground) (p : Placement) (entry : ℕ) (r : Regions) → length os ≤ most_files → bounds.text % 4096 ≡ 0 → bounds.text < bounds.ceiling → HasLinkNames os → IsPlacement os bounds p → are_roomy p ≡ true
+    → entry_of (starts_of p) os ≡ Some entry → entry % 2 ≡ 0 → AreGrown os p (λ goes. []) r → IsMap (made drops os p entry r).map → IsLinkOf os bounds (made drops os p entry r)
+is_link drops os bounds p entry r few page low named placed roomy begins even grown readable =
     let resolved = named.resolved (starts_of p) (record (regions_of (layout_of p)) { globals = shown_globals os (layout_of p) }) refl in
     record {
       few = few;
       page = page;
       low = low;
+      free = placed.free;
       starts = starts_of p;
       text = placed.laid.text;
       gaps = placed.laid.gaps;
@@ -102,7 +103,7 @@ is_link drops os start p entry r few page low named placed roomy begins even gro
       bss = placed.laid.bss;
       below = placed.laid.below;
       memory = placed.laid.memory;
-      room = all_inputs os goes_to_text (λ i. IsTrue (list_all has_room (moves (start_of (starts_of p) i) i.section))) (has_its_room os start p placed roomy);
+      room = all_inputs os goes_to_text (λ i. IsTrue (list_all has_room (moves (start_of (starts_of p) i) i.section))) (has_its_room os bounds p placed roomy);
       once = named.once;
       globals = refl;
       entry = begins;

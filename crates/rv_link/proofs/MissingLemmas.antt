@@ -17,6 +17,7 @@ use Rattle.rv_object_laws.specs.declared.symbol.Definition.TheVariants as defini
 use Rattle.rv_object_laws.specs.Bindings.{is_global, is_weak}
 use Rattle.rv_object_laws.specs.Object.{Section, Symbol, Object}
 use Rattle.rv_object_types.specs.View.{object_of}
+use Rattle.rv_link_laws.specs.declared.bounds.Ground.{Ground}
 use Rattle.rv_link_laws.specs.Collects.{entry_place, Collects}
 use Rattle.rv_link_laws.specs.Inputs.{InputSection, goes_to_text, inputs_from, inputs_of}
 use Rattle.rv_link_laws.specs.IsLinkOf.{is_loaded}
@@ -154,8 +155,8 @@ pub missing_undefined : (os : List Object) (drops : List SectionId) → Collects
 missing_undefined os drops collected none = none_of (without drops os) (without drops os) (missing_unloaded os drops collected none)
 
 -- so no link is refused for one
-pub missing_first : (os : List Object) (start : ℕ) (relax : Bool) (name : Vec ℕ) → entry_place os ≡ None → HasNoProgram os start relax true (Undefined name) → ⊥
-missing_first os start relax name none h =
+pub missing_first : (os : List Object) (bounds : Ground) (relax : Bool) (name : Vec ℕ) → entry_place os ≡ None → HasNoProgram os bounds relax true (Undefined name) → ⊥
+missing_first os bounds relax name none h =
     let left = h.left in
     let unloaded : AreUnloaded left = unloaded_left relax (without h.drops os) left h.leaves.relaxed (missing_unloaded os h.drops h.leaves.collected none) in
     let found : first_undefined left ≡ Some name.items = h.unlinked.1.1 in
@@ -163,14 +164,14 @@ missing_first os start relax name none h =
     absurd (cc)
 
 -- it is refused for the entry
-pub missing_told : (ds : List DeclaredObject) (start : ℕ) (relax : Bool) → AreWithin (length ds) start → AreDistinct (global_names (map object_of ds)) → entry_place (map object_of ds) ≡ None
-    → HasNoProgram (map object_of ds) start relax true EntryMissing
-missing_told ds start relax within once none =
+pub missing_told : (ds : List DeclaredObject) (bounds : Ground) (relax : Bool) → AreWithin (length ds) bounds → AreDistinct (global_names (map object_of ds)) → entry_place (map object_of ds) ≡ None
+    → HasNoProgram (map object_of ds) bounds relax true EntryMissing
+missing_told ds bounds relax within once none =
     let os : List Object = map object_of ds in
     let some = some_leaves relax true ds in
     let left : List Object = some.left in
     let unloaded : AreUnloaded left = unloaded_left relax (without some.drops os) left some.leaves.relaxed (missing_unloaded os some.drops some.leaves.collected none) in
-    let few : AreWithin (length left) start = subst (λ n. AreWithin n start) (sym (some.alike.many ∙ length-map ds object_of)) within in
+    let few : AreWithin (length left) bounds = subst (λ n. AreWithin n bounds) (sym (some.alike.many ∙ length-map ds object_of)) within in
     let still : AreDistinct (global_names left) = subst AreDistinct (sym (same_names os left some.alike.seen)) once in
     record {
       drops = some.drops;

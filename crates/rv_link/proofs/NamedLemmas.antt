@@ -4,6 +4,9 @@ use Rattle.std.proofs.Common.{◌≡◌, ◌≤◌, ◌<◌, ◌+◌, ◌%◌, �
 use Rattle.std.specs.Prelude.{IsTrue, flat_map, is_some, not}
 use Rattle.std.specs.List.{AllByRecursion, slice_get}
 use Rattle.std.proofs.lemmas.Bool.{and_parts, ltb-true}
+use Rattle.std.proofs.Math.Nat.{le_trans}
+use Rattle.rv_image_laws.specs.Free.{highest}
+use Rattle.rv_image_laws.proofs.FreeLemmas.{free_low}
 use Rattle.rv_list_laws.proofs.EachLemmas.{each_append}
 use Rattle.rv_list_laws.proofs.FilterLemmas.{each_filter}
 use Rattle.rv_map_laws.specs.Globals.{shown, linker_symbols}
@@ -18,6 +21,7 @@ use Rattle.rv_object_laws.specs.Bindings.{is_shared}
 use Rattle.rv_object_laws.specs.Object.{Section, Symbol, Object}
 use Rattle.rv_object_types.specs.Parts.{symbol_of}
 use Rattle.rv_object_laws.specs.Valid.{is_shown, has_64_bits}
+use Rattle.rv_link_laws.specs.declared.bounds.Ground.{Ground}
 use Rattle.rv_link_laws.specs.Inputs.{Starts}
 use Rattle.rv_link_laws.specs.Moves.{Move, moves, new_offset}
 use Rattle.rv_link_laws.specs.Names.{Export, chosen, is_defined, is_export, exports_in, exports_from, exports_where, is_chosen, chosen_exports, offset_address, defined_address, export_address, globals_of, shown_linker_symbols}
@@ -102,10 +106,10 @@ shown_known starts (e ∷ es) all =
 
 -- ---- the linker's names
 
-linkers_known : (os : List Object) (start : ℕ) (p : Placement) → IsPlacement os start p → AllByRecursion IsGlobal (linker_symbols (regions_of (layout_of p)))
-linkers_known os start p placed =
+linkers_known : (os : List Object) (bounds : Ground) (p : Placement) → IsPlacement os bounds p → AllByRecursion IsGlobal (linker_symbols (regions_of (layout_of p)))
+linkers_known os bounds p placed =
     let (a, b, c, d, e, f, g) = placed.laid.ordered in
-    let low : p.bss.end ≤ 0x3ff0_0000 = placed.laid.below in
+    let low : p.bss.end ≤ highest = le_trans placed.laid.below (le_trans placed.free (free_low bounds.text)) in
     let text : p.text.end < 2 ^ 64 = omega (arith, b, c, d, e, f, g, low) in
     let zeros : p.bss.start < 2 ^ 64 = omega (arith, g, low) in
     let variables : p.data.end < 2 ^ 64 = omega (arith, f, g, low) in
@@ -113,10 +117,10 @@ linkers_known os start p placed =
     let pointer : p.data.start + 2048 < 2 ^ 64 = omega (arith, e, f, g, low) in
     ((refl, text), ((refl, zeros), ((refl, variables), ((refl, end), ((refl, pointer), tt)))))
 
-pub globals_known : (objects : List ShortObject) (start : ℕ) (p : Placement) → IsPlacement (map short_object_of objects) start p
+pub globals_known : (objects : List ShortObject) (bounds : Ground) (p : Placement) → IsPlacement (map short_object_of objects) bounds p
     → AllByRecursion IsGlobal (shown_globals (map short_object_of objects) (layout_of p))
-globals_known objects start p placed =
+globals_known objects bounds p placed =
     let os = map short_object_of objects in
     each_append IsGlobal (globals_of (starts_of p) os) (shown_linker_symbols os (regions_of (layout_of p)))
     (shown_known (starts_of p) (chosen_exports os) (each_filter IsShowable (is_chosen os) (exports_where is_shared os) (showable_from 1 os (can_show objects))))
-    (each_filter IsGlobal (λ g. not (is_some (chosen os g.name))) (linker_symbols (regions_of (layout_of p))) (linkers_known os start p placed))
+    (each_filter IsGlobal (λ g. not (is_some (chosen os g.name))) (linker_symbols (regions_of (layout_of p))) (linkers_known os bounds p placed))

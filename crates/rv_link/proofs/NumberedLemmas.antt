@@ -10,6 +10,7 @@ use Rattle.rv_object_laws.specs.declared.row.Row.{Row}
 use Rattle.rv_object_laws.specs.Object.{Object, size_of}
 use Rattle.rv_object_laws.specs.Valid.{is_row_in, is_counted, are_counted}
 use Rattle.rv_object_laws.proofs.CountedLemmas.{counted_widths}
+use Rattle.rv_link_laws.specs.declared.bounds.Ground.{Ground}
 use Rattle.rv_link_laws.specs.IsLinkOf.{inserted_row, by_ordinal, map_row, moves_at, row_in, rows_of, most_files}
 use Rattle.rv_link_laws.specs.Moves.{Move, moves, new_offset}
 use Rattle.rv_link_laws.specs.Layout.{object_section}
@@ -58,13 +59,13 @@ cut_numbered mss (r ∷ rows) h =
     let (line, ordinal, many) = is_numbered r both.0 in
     ((line, ordinal, omega (arith, many)), cut_numbered mss rows both.1)
 
-module _ (os : List Object) (start : ℕ) (p : Placement) (is : IsPlacement os start p) where
+module _ (os : List Object) (bounds : Ground) (p : Placement) (is : IsPlacement os bounds p) where
   row_known : (file : ℕ) (o : Object) → slice_get os file ≡ Some o → file < most_files → (r : Row) → is_row_in r (slice_get o.sections r.section) ≡ true → IsNumbered r
       → IsRow (row_in (starts_of p) (suc file) o r)
   row_known file o at few r lies numbered =
       let (s, there, within) = row_stands r (slice_get o.sections r.section) lies in
       let stands : object_section os file r.section ≡ Some s = in_object os file r.section o at ∙ there in
-      let (q, found) = is_placed os start p is file r.section s stands in
+      let (q, found) = is_placed os bounds p is file r.section s stands in
       let low = is.laid.low file r.section s stands in
       let planned : moves_of q.plan.now ≡ moves q.start s = is.planned file r.section s q stands found in
       let same : file + 1 ≡ suc file = omega arith in
@@ -110,7 +111,7 @@ module _ (os : List Object) (start : ℕ) (p : Placement) (is : IsPlacement os s
       (each_mapped IsRow (row_in (starts_of p) (suc file) o) (by_ordinal o.rows) (all_ordered (λ r. IsRow (row_in (starts_of p) (suc file) o r)) o.rows mine))
       (rows_known_from (suc file) xs (λ k q e. let next : suc file + k ≡ file + suc k = omega arith in ap (λ n. slice_get os n) next ∙ there (suc k) q e) few)
 
-pub rows_known : (objects : List ShortObject) (start : ℕ) (p : Placement) → IsPlacement (map short_object_of objects) start p → length (map short_object_of objects) ≤ most_files
+pub rows_known : (objects : List ShortObject) (bounds : Ground) (p : Placement) → IsPlacement (map short_object_of objects) bounds p → length (map short_object_of objects) ≤ most_files
     → AllByRecursion IsRow (rows_of (starts_of p) 1 (map short_object_of objects))
-rows_known objects start p is few =
-    rows_known_from (map short_object_of objects) start p is 0 objects (λ k o e. let plain : 0 + k ≡ k = omega arith in ap (λ n. slice_get (map short_object_of objects) n) plain ∙ e) few
+rows_known objects bounds p is few =
+    rows_known_from (map short_object_of objects) bounds p is 0 objects (λ k o e. let plain : 0 + k ≡ k = omega arith in ap (λ n. slice_get (map short_object_of objects) n) plain ∙ e) few

@@ -8,6 +8,7 @@ use Rattle.rv_list_laws.proofs.MapLemmas.{get_map_read}
 use Rattle.rv_list_laws.proofs.ElementsLemmas.{get_read}
 use Rattle.rv_list_laws.proofs.TestsLemmas.{all_get}
 use Rattle.rv_object_laws.specs.Object.{Object}
+use Rattle.rv_link_laws.specs.declared.bounds.Ground.{Ground}
 use Rattle.rv_link_laws.specs.Moves.{has_room}
 use Rattle.rv_link_laws.specs.Names.{object_at, no_object}
 use Rattle.rv_link_laws.specs.Layout.{section_in, object_section}
@@ -46,7 +47,7 @@ counts (y ∷ fs) (x ∷ os) e (suc file) o at f is =
     let more = counts fs os rest file o at f is in
     (omega (arith, more.0), more.1)
 
-module _ (objects : List ShortObject) (first : ℕ) (p : Placement) (placed : IsPlacement (map short_object_of objects) first p) (roomy : are_roomy p ≡ true) (file index : ℕ)
+module _ (objects : List ShortObject) (bounds : Ground) (p : Placement) (placed : IsPlacement (map short_object_of objects) bounds p) (roomy : are_roomy p ≡ true) (file index : ℕ)
     (here : index < length (object_at (map short_object_of objects) (file + 1)).sections)
     (o : ShortObject) (o_is : o ≡ get_or objects file o) where
   pub low : file < length objects

@@ -6,6 +6,7 @@ use Rattle.std.specs.Global.{Vec}
 use Rattle.std.specs.List.{AllByRecursion}
 use Rattle.rv_map_laws.specs.declared.map.Region.{Region}
 use Rattle.rv_object_laws.specs.Object.{Section, Object}
+use Rattle.rv_link_laws.specs.declared.bounds.Ground.{Ground}
 use Rattle.rv_link_laws.specs.Inputs.{InputSection, has_no_bytes, goes_to_text, goes_to_rodata, goes_to_data, inputs_from, inputs_of, inputs, Stand}
 use Rattle.rv_link_laws.specs.Names.{object_at, no_object}
 use Rattle.rv_link_laws.specs.Untaken.{AreTaken, AreUntaken, IsFirstUntaken}
@@ -175,9 +176,9 @@ file_closes os file goes =
 pub files_close : (os : List Object) (goes : Section → Bool) → left_files os (length os) goes ≡ []
 files_close os goes = ap (λ l. inputs_of goes (length os + 1) l) (drop_all (length os) os (omega arith))
 
-pub opens : (os : List Object) (p : Placement) (start : ℕ) (r : Regions) → IsPlacement os start p → r.text.items ≡ [] → r.rodata.items ≡ [] → r.data.items ≡ []
+pub opens : (os : List Object) (p : Placement) (bounds : Ground) (r : Regions) → IsPlacement os bounds p → r.text.items ≡ [] → r.rodata.items ≡ [] → r.data.items ≡ []
     → AreGrown os p (left_files os 0) r
-opens os p start r placed e f g = record {
+opens os p bounds r placed e f g = record {
   text = subst (λ l. IsGrown (linked_in os p) (starts_of p) p.text (inputs goes_to_text os) (inputs goes_to_text os) l) (sym e) (grown_first (linked_in os p) (starts_of p) p.text _ _ placed.laid.text);
   rodata = subst (λ l. IsGrown (linked_in os p) (starts_of p) p.rodata (inputs goes_to_rodata os) (inputs goes_to_rodata os) l) (sym f) (grown_first (linked_in os p) (starts_of p) p.rodata _ _ placed.laid.rodata);
   «data» = subst (λ l. IsGrown (linked_in os p) (starts_of p) p.data (inputs goes_to_data os) (inputs goes_to_data os) l) (sym g) (grown_first (linked_in os p) (starts_of p) p.data _ _ placed.laid.data);

@@ -2,6 +2,7 @@
 
 use Rattle.std.proofs.Common.{◌≡◌, ℕ, List, [], ◌∷◌, length, true, inl, inr, refl, subst, sym}
 use Rattle.rv_object_laws.specs.Object.{Relocation, Object}
+use Rattle.rv_link_laws.specs.declared.bounds.Ground.{Ground}
 use Rattle.rv_link_laws.specs.Inputs.{InputSection, inputs}
 use Rattle.rv_link_laws.specs.IsLinkOf.{is_loaded}
 use Rattle.rv_link_laws.specs.Layout.{AreRoomy}
@@ -19,36 +20,36 @@ use Rattle.rv_link.specs.Untaken.{AreUnfilled}
 use Rattle.rv_link_laws.specs.TextStart.{AreWithin}
 
 -- why sections cannot be placed
-pub unplaced : (os : List Object) (start : ℕ) (fault : PlacementFault) → IsUnplaced os start fault → AreUnplaced os start (of_placement fault)
-unplaced os start placements.TooLarge h = h
-unplaced os start placements.OutOfMemory h = tt
+pub unplaced : (os : List Object) (bounds : Ground) (fault : PlacementFault) → IsUnplaced os bounds fault → AreUnplaced os bounds (of_placement fault)
+unplaced os bounds placements.TooLarge h = h
+unplaced os bounds placements.OutOfMemory h = tt
 
 -- what is told of names, and then of places
-pub unnamed : (os : List Object) (start : ℕ) (fault : LinkFault) → AreWithin (length os) start → AreUnnamed os fault → IsUnlinked os start fault
-unnamed os start Overflow within h = absurd h
-unnamed os start OddTarget within h = absurd h
-unnamed os start DanglingPcrel within h = absurd h
-unnamed os start AlignmentShort within h = absurd h
-unnamed os start (Undefined name) within h = (within, h)
-unnamed os start (Duplicate name) within h = (within, h)
-unnamed os start EntryMissing within h = absurd h
-unnamed os start ImageTooLarge within h = absurd h
-unnamed os start BadTextStart within h = absurd h
-unnamed os start TooManyFiles within h = absurd h
-unnamed os start OutOfMemory within h = tt
+pub unnamed : (os : List Object) (bounds : Ground) (fault : LinkFault) → AreWithin (length os) bounds → AreUnnamed os fault → IsUnlinked os bounds fault
+unnamed os bounds Overflow within h = absurd h
+unnamed os bounds OddTarget within h = absurd h
+unnamed os bounds DanglingPcrel within h = absurd h
+unnamed os bounds AlignmentShort within h = absurd h
+unnamed os bounds (Undefined name) within h = (within, h)
+unnamed os bounds (Duplicate name) within h = (within, h)
+unnamed os bounds EntryMissing within h = absurd h
+unnamed os bounds ImageTooLarge within h = absurd h
+unnamed os bounds BadTextStart within h = absurd h
+unnamed os bounds TooManyFiles within h = absurd h
+unnamed os bounds OutOfMemory within h = tt
 
-pub not_placed : (os : List Object) (start : ℕ) (fault : LinkFault) → ComesToPlaces os start → AreUnplaced os start fault → IsUnlinked os start fault
-not_placed os start Overflow so h = absurd h
-not_placed os start OddTarget so h = absurd h
-not_placed os start DanglingPcrel so h = absurd h
-not_placed os start AlignmentShort so h = (so, h)
-not_placed os start (Undefined name) so h = absurd h
-not_placed os start (Duplicate name) so h = absurd h
-not_placed os start EntryMissing so h = absurd h
-not_placed os start ImageTooLarge so h = (so, h)
-not_placed os start BadTextStart so h = absurd h
-not_placed os start TooManyFiles so h = absurd h
-not_placed os start OutOfMemory so h = tt
+pub not_placed : (os : List Object) (bounds : Ground) (fault : LinkFault) → ComesToPlaces os bounds → AreUnplaced os bounds fault → IsUnlinked os bounds fault
+not_placed os bounds Overflow so h = absurd h
+not_placed os bounds OddTarget so h = absurd h
+not_placed os bounds DanglingPcrel so h = absurd h
+not_placed os bounds AlignmentShort so h = (so, h)
+not_placed os bounds (Undefined name) so h = absurd h
+not_placed os bounds (Duplicate name) so h = absurd h
+not_placed os bounds EntryMissing so h = absurd h
+not_placed os bounds ImageTooLarge so h = (so, h)
+not_placed os bounds BadTextStart so h = absurd h
+not_placed os bounds TooManyFiles so h = absurd h
+not_placed os bounds OutOfMemory so h = tt
 
 -- what nothing can be, is first of no list
 none_first : {X : Type 0} (Passes Fails : X → Type 0) → ((x : X) → Fails x → ⊥) → (xs : List X) → IsFirst Passes Fails xs → ⊥
@@ -56,16 +57,16 @@ none_first Passes Fails none [] h = h
 none_first Passes Fails none (x ∷ xs) (inl h) = none x h
 none_first Passes Fails none (x ∷ xs) (inr h) = none_first Passes Fails none xs h.1
 
-module _ (os : List Object) (start : ℕ) (p : Placement) (so : ComesToPlaces os start) (placed : IsPlacement os start p) (roomy : are_roomy p ≡ true) where
+module _ (os : List Object) (bounds : Ground) (p : Placement) (so : ComesToPlaces os bounds) (placed : IsPlacement os bounds p) (roomy : are_roomy p ≡ true) where
   rooms : AreRoomy os (starts_of p)
-  rooms = (are_rooms os start p placed (are_roomy p) refl).0 roomy
+  rooms = (are_rooms os bounds p placed (are_roomy p) refl).0 roomy
 
   -- no relocation is refused for another reason
   never : {A : Type 0} (fault : LinkFault) → ((i : InputSection) (r : Relocation) → IsUntaken os (layout_of p) i fault r → ⊥) → IsFirstUntaken os (layout_of p) fault (inputs is_loaded os) → A
   never fault none h =
       absurd (none_first (AreTaken os (layout_of p)) (AreUntaken os (layout_of p) fault) (λ i. none_first (IsTaken os (layout_of p) i) (IsUntaken os (layout_of p) i fault) (none i) i.section.relocations) (inputs is_loaded os) h)
 
-  told : (fault : LinkFault) → IsFirstUntaken os (layout_of p) fault (inputs is_loaded os) → IsUnlinked os start fault
+  told : (fault : LinkFault) → IsFirstUntaken os (layout_of p) fault (inputs is_loaded os) → IsUnlinked os bounds fault
   told Overflow h = (so, (layout_of p, placed.laid, rooms, h))
   told OddTarget h = (so, (layout_of p, placed.laid, rooms, h))
   told DanglingPcrel h = (so, (layout_of p, placed.laid, rooms, h))
@@ -78,6 +79,6 @@ module _ (os : List Object) (start : ℕ) (p : Placement) (so : ComesToPlaces os
   told TooManyFiles h = never TooManyFiles (λ i r n. n) h
   told OutOfMemory h = tt
 
-  pub unfilled : (fault : LinkFault) → AreUnfilled os p fault → IsUnlinked os start fault
-  unfilled fault (inl e) = subst (IsUnlinked os start) (sym e) tt
+  pub unfilled : (fault : LinkFault) → AreUnfilled os p fault → IsUnlinked os bounds fault
+  unfilled fault (inl e) = subst (IsUnlinked os bounds) (sym e) tt
   unfilled fault (inr h) = told fault h

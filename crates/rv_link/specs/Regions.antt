@@ -5,6 +5,7 @@ use Rattle.std.specs.List.{AllByRecursion}
 use Rattle.rv_map_laws.specs.Globals.{AreDistinct}
 use Rattle.rv_map_laws.specs.declared.map.Region.{Region}
 use Rattle.rv_object_laws.specs.Object.{Section, Object}
+use Rattle.rv_link_laws.specs.declared.bounds.Ground.{Ground}
 use Rattle.rv_link_laws.specs.Inputs.{Starts, InputSection, goes_to_text, goes_to_rodata, goes_to_data, inputs_from, inputs_of, inputs, Stand, sections_end, contents}
 use Rattle.rv_link_laws.specs.Untaken.{AreTaken, IsFirstUntaken}
 use Rattle.rv_map_laws.specs.Map.{Map}
@@ -23,7 +24,7 @@ use Rattle.rv_link.specs.Filled.{objects_of, linked_in}
 -- where the sections of objects stand, with room for their paddings, and what their relocations are
 -- worth
 pub record IsFixed (f : Fixed) : Type 0 where
-  pub first : ℕ
+  pub first : Ground
   pub placed : IsPlacement (objects_of f) first f.placement.now
   pub roomy : are_roomy f.placement.now ≡ true
   pub valued : IsValues (objects_of f) f.placement.now f.values.now
@@ -73,13 +74,13 @@ pub record HasLinkNames (os : List Object) : Type 0 where
       → m.globals ≡ globals_of starts os ++ shown_linker_symbols os m
       → AreResolved starts os (outer_address os m.globals)
 
--- objects whose sections stand from some address on
+-- objects whose sections stand on some ground
 pub record IsPlaced (os : List Object) (p : Placement) : Type 0 where
-  pub first : ℕ
+  pub first : Ground
   pub placed : IsPlacement os first p
 
 -- and have room for their paddings
 pub record IsReady (os : List Object) (p : Placement) : Type 0 where
-  pub first : ℕ
+  pub first : Ground
   pub placed : IsPlacement os first p
   pub roomy : are_roomy p ≡ true

@@ -7,6 +7,7 @@ ghost use Rattle.rv_map_laws.specs.declared.map.SectionId.{SectionId};
 ghost use Rattle.rv_object_laws.specs.Object.{Object};
 ghost use Rattle.rv_object_types.specs.View.{object_of};
 ghost use Rattle.rv_object_types.specs.declared.object.Object.{Object as AnyObject};
+ghost use Rattle.rv_link_laws.specs.declared.bounds.Ground.{Ground};
 ghost use Rattle.rv_link_laws.specs.Collects.{Collects, entry_place};
 ghost use Rattle.rv_link_laws.specs.Names.{global_names};
 ghost use Rattle.rv_link_laws.specs.Without.{without};
@@ -21,11 +22,11 @@ pub fn a_missing_entry_comes_first()
     ensures references { (objects : List Object) (drops : List SectionId) →
         Collects true objects drops → entry_place objects ≡ None →
         first_undefined (without drops objects) ≡ None }
-    ensures first { (objects : List Object) (text_start : ℕ) (relax : Bool) (name : SaidVec ℕ) →
+    ensures first { (objects : List Object) (bounds : Ground) (relax : Bool) (name : SaidVec ℕ) →
         entry_place objects ≡ None →
-        HasNoProgram objects text_start relax true (Undefined name) → ⊥ }
-    ensures told { (objects : List AnyObject) (text_start : ℕ) (relax : Bool) →
-        AreWithin (length objects) text_start → AreDistinct (global_names (map object_of objects)) →
+        HasNoProgram objects bounds relax true (Undefined name) → ⊥ }
+    ensures told { (objects : List AnyObject) (bounds : Ground) (relax : Bool) →
+        AreWithin (length objects) bounds → AreDistinct (global_names (map object_of objects)) →
         entry_place (map object_of objects) ≡ None →
-        HasNoProgram (map object_of objects) text_start relax true EntryMissing }
+        HasNoProgram (map object_of objects) bounds relax true EntryMissing }
 {}

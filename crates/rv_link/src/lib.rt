@@ -9,7 +9,8 @@
 //! (`rv_relax`): which calls may become short (`rv_link_sites`), which do, and what is kept of each padding. No size changes after
 //! that. All later passes ask the plan: whether paddings have room, places (`rv_placement`), values (`rv_link_values`), fields
 //! (`rv_reloc`). The objects are lent: each byte moves once, from its object into the program. [`link_exe`] gives the same program
-//! without the names and the rows of its map, for an executable alone: they cost more than all else.
+//! without the names and the rows of its map, for an executable alone: they cost more than all else. [`link_on`] links on any
+//! [`Ground`]: where the text begins, and where the program ends or before; [`link`] does below the stack.
 //!
 //! The faults come in the order of the passes. With collection a missing entry comes before a name without a meaning, by itself:
 //! [`a_missing_entry_comes_first`].
@@ -27,6 +28,7 @@
 
 mod fields;
 mod fixed;
+mod ground;
 mod law;
 mod options;
 mod passes;
@@ -35,9 +37,11 @@ mod regions;
 mod relaxation;
 mod with_map;
 
+pub use ground::{ground_of, usual};
 pub use law::a_missing_entry_comes_first;
-pub use options::LinkOptions;
+pub use options::{GroundOptions, LinkOptions};
 pub use passes::{MOST_FILES, within_limits};
-pub use programs::{link, link_exe};
+pub use programs::{link, link_exe, link_exe_on, link_on};
 pub use rv_fault::LinkFault;
 pub use rv_image::Linked;
+pub use rv_link_laws::Ground;

@@ -6,7 +6,7 @@
 ghost use Rattle.std.specs.Prelude.{◌≡◌, ◌%◌, ◌<◌, ◌≤◌, [], All, List, Some, length, map, true, IfOk, IfErr, OnOk};
 ghost use Rattle.std.specs.List.{list_any};
 ghost use Rattle.rv_map_laws.specs.Globals.{AreDistinct};
-ghost use Rattle.rv_isa_laws.specs.Platform.{stack_start};
+ghost use Rattle.rv_image_laws.specs.Free as frees;
 ghost use Rattle.rv_image.specs.Views.{linked_of};
 ghost use Rattle.rv_object_laws.specs.Object.{Object as SaidObject};
 ghost use Rattle.rv_object_types.specs.View.{object_of};
@@ -30,11 +30,13 @@ ghost use Rattle.rv_link_laws.specs.TextStart.{AreWithin};
 ghost use Rattle.rv_link.specs.Regions.{AreGrown, HasLinkNames, IsReady, IsPlaced};
 
 use crate::fixed::Fixed;
+use crate::ground::free_until;
 use crate::regions::Regions;
 use crate::with_map::{globals as globals_of_map, rows as rows_of_map};
 use rv_addresses::Resolution;
 use rv_fault::LinkFault;
-use rv_image::{Linked, STACK_START};
+use rv_image::Linked;
+use rv_link_laws::Ground;
 use rv_link_values::Values;
 use rv_map::Map;
 use rv_map_laws::SectionId;
@@ -48,22 +50,22 @@ use std::alloc::{AllocError, Global};
 /// The most files that are linked at once.
 pub const MOST_FILES: usize = 1024;
 
-/// Links objects by their plan into a program, whose text starts at an address, and whose names mean this. Its map says what was
+/// Links objects by their plan into a program on a ground, whose names mean this. Its map says what was
 /// dropped of them before, and has names and rows where they are wanted.
 pub(crate) fn link_by_plan(
     alloc: Global,
     plan: &Plan<'_, '_>,
     names: &Names<'_>,
     drops: Vec<SectionId>,
-    start: u64,
+    bounds: Ground,
     with_map: bool,
 ) -> Result<Linked, LinkFault>
-    requires within { AreWithin (length (planned_objects plan.now)) start }
+    requires within { AreWithin (length (planned_objects plan.now)) bounds }
     requires names { IsNames (planned_objects plan.now) names.now }
     requires drops { All (λ d. IsDrop d) drops.items }
     ensures links { IfOk result (λ l. IsLinkWith (planned_objects plan.now)
-        start drops.items with_map (linked_of l)) }
-    ensures refuses { IfErr result (IsUnlinked (planned_objects plan.now) start) }
+        bounds drops.items with_map (linked_of l)) }
+    ensures refuses { IfErr result (IsUnlinked (planned_objects plan.now) bounds) }
 {
     let objects = plan.objects.as_slice();
     let resolved = Resolution { objects, names };
@@ -74,7 +76,7 @@ pub(crate) fn link_by_plan(
     if !plan.is_roomy() {
         return Err(LinkFault::AlignmentShort);
     }
-    let placement = place(alloc, plan, start)?;
+    let placement = place(alloc, plan, bounds)?;
     let entry = entry(&resolved, &placement)?;
     // all addresses are fixed: those of sections, of what is kept of them, and of names
     let regions = fill(alloc, &resolved, &placement)?;
@@ -83,15 +85,16 @@ pub(crate) fn link_by_plan(
     Ok(linked)
 }
 
-/// Whether so many files can be linked, to a text that starts at an address.
-pub fn within_limits(files: usize, text_start: u64) -> Result<(), LinkFault>
-    ensures within { OnOk result (AreWithin files text_start) }
-    ensures refuses { IfErr result (ArePast files text_start) }
+/// Whether so many files can be linked, to a program on a ground.
+pub fn within_limits(files: usize, bounds: Ground) -> Result<(), LinkFault>
+    ensures within { OnOk result (AreWithin files bounds) }
+    ensures refuses { IfErr result (ArePast files bounds) }
 {
     if MOST_FILES < files {
         return Err(LinkFault::TooManyFiles);
     }
-    if text_start % 4096 != 0 || STACK_START <= text_start {
+    let free = free_until(bounds.text);
+    if bounds.text % 4096 != 0 || bounds.ceiling <= bounds.text || free < bounds.ceiling {
         return Err(LinkFault::BadTextStart);
     }
     Ok(())
@@ -143,15 +146,20 @@ fn undefined(alloc: Global, name: &[u8]) -> Result<LinkFault, AllocError>
 }
 
 /// Where the sections of objects stand by their plan.
-fn place<'p>(alloc: Global, plan: &'p Plan<'_, '_>, start: u64) -> Result<Placement<'p>, LinkFault>
-    requires page { start % 4096 ≡ 0 }
-    requires low { start < stack_start }
+fn place<'p>(
+    alloc: Global,
+    plan: &'p Plan<'_, '_>,
+    bounds: Ground,
+) -> Result<Placement<'p>, LinkFault>
+    requires page { bounds.text % 4096 ≡ 0 }
+    requires low { bounds.text < bounds.ceiling }
+    requires free { bounds.ceiling ≤ frees.free_until bounds.text }
     requires roomy { are_roomy_objects (planned_objects plan.now) ≡ true }
-    ensures placed { IfOk result (IsPlacement (planned_objects plan.now) start) }
+    ensures placed { IfOk result (IsPlacement (planned_objects plan.now) bounds) }
     ensures room { IfOk result (λ placement. are_roomy placement ≡ true) }
-    ensures refuses { IfErr result (AreUnplaced (planned_objects plan.now) start) }
+    ensures refuses { IfErr result (AreUnplaced (planned_objects plan.now) bounds) }
 {
-    let placement = Placement::of(alloc, plan, start)?;
+    let placement = Placement::of(alloc, plan, bounds)?;
     Ok(placement)
 }
 
@@ -210,6 +218,7 @@ fn finish(
 ) -> Result<Linked, LinkFault>
     requires few { length (resolution.now).objects.now ≤ most_files }
     requires placed { IsPlaced (all resolution.now) placement }
+    requires free { placement.bss.end ≤ frees.free_until placement.text.start }
     requires grown { AreGrown (all resolution.now) placement (λ goes. []) regions }
     requires even { entry % 2 ≡ 0 }
     requires drops { All (λ d. IsDrop d) drops.items }

@@ -4,6 +4,7 @@ ghost use Rattle.std.specs.Prelude.{All, length, true, map, IfOk, IfErr};
 ghost use Rattle.rv_image.specs.Views.{linked_of};
 ghost use Rattle.rv_map_laws.specs.Limits.{IsDrop};
 ghost use Rattle.rv_object_types.specs.View.{object_of};
+ghost use Rattle.rv_link_laws.specs.Ground.{usual};
 ghost use Rattle.rv_link_laws.specs.IsProgramOf.{IsProgramOf};
 ghost use Rattle.rv_link_laws.specs.Refusals.{HasNoProgram};
 ghost use Rattle.rv_names.specs.Names.{IsNames};
@@ -11,7 +12,7 @@ ghost use Rattle.rv_link.specs.Left.{HasNoLink, IsLinkOfLeft};
 ghost use Rattle.rv_link_laws.specs.TextStart.{AreWithin};
 ghost use Rattle.rv_link_laws.specs.WithMap.{IsProgramWith, IsProgramWithoutMap};
 
-use crate::options::LinkOptions;
+use crate::options::{GroundOptions, LinkOptions};
 use crate::passes::{link_by_plan, named, within_limits};
 use crate::relaxation::relaxed;
 use rv_collect::Collection;
@@ -22,7 +23,7 @@ use rv_names::Names;
 use rv_object_types::Object;
 use std::alloc::Global;
 
-/// Links objects into a program, whose text starts at an address. The objects are lent.
+/// Links objects into a program, whose text starts at an address below the stack. The objects are lent.
 ///
 /// # Errors
 ///
@@ -35,9 +36,27 @@ pub fn link(
     options: LinkOptions,
 ) -> Result<Linked, LinkFault>
     ensures links { IfOk result (λ l. IsProgramOf (map object_of objects.now)
-        options.text_start options.relax options.gc (linked_of l)) }
+        (usual options.text_start) options.relax options.gc (linked_of l)) }
     ensures refuses { IfErr result (HasNoProgram (map object_of objects.now)
-        options.text_start options.relax options.gc) }
+        (usual options.text_start) options.relax options.gc) }
+{
+    link_on(alloc, objects, options.grounded())
+}
+
+/// Links objects as `link`, on any ground.
+///
+/// # Errors
+///
+/// Those of `link`.
+pub fn link_on(
+    alloc: Global,
+    objects: &[Object<'_>],
+    options: GroundOptions,
+) -> Result<Linked, LinkFault>
+    ensures links { IfOk result (λ l. IsProgramOf (map object_of objects.now)
+        options.bounds options.relax options.gc (linked_of l)) }
+    ensures refuses { IfErr result (HasNoProgram (map object_of objects.now)
+        options.bounds options.relax options.gc) }
 {
     link_with_map(alloc, objects, options, true)
 }
@@ -53,9 +72,27 @@ pub fn link_exe(
     options: LinkOptions,
 ) -> Result<Linked, LinkFault>
     ensures links { IfOk result (λ l. IsProgramWithoutMap (map object_of objects.now)
-        options.text_start options.relax options.gc (linked_of l)) }
+        (usual options.text_start) options.relax options.gc (linked_of l)) }
     ensures refuses { IfErr result (HasNoProgram (map object_of objects.now)
-        options.text_start options.relax options.gc) }
+        (usual options.text_start) options.relax options.gc) }
+{
+    link_exe_on(alloc, objects, options.grounded())
+}
+
+/// Links objects as `link_exe`, on any ground.
+///
+/// # Errors
+///
+/// Those of `link`.
+pub fn link_exe_on(
+    alloc: Global,
+    objects: &[Object<'_>],
+    options: GroundOptions,
+) -> Result<Linked, LinkFault>
+    ensures links { IfOk result (λ l. IsProgramWithoutMap (map object_of objects.now)
+        options.bounds options.relax options.gc (linked_of l)) }
+    ensures refuses { IfErr result (HasNoProgram (map object_of objects.now)
+        options.bounds options.relax options.gc) }
 {
     link_with_map(alloc, objects, options, false)
 }
@@ -64,16 +101,16 @@ pub fn link_exe(
 fn link_with_map(
     alloc: Global,
     objects: &[Object<'_>],
-    options: LinkOptions,
+    options: GroundOptions,
     with_map: bool,
 ) -> Result<Linked, LinkFault>
     ensures links { IfOk result (λ l. IsProgramWith (map object_of objects.now)
-        options.text_start options.relax options.gc with_map (linked_of l)) }
+        options.bounds options.relax options.gc with_map (linked_of l)) }
     ensures refuses { IfErr result (HasNoProgram (map object_of objects.now)
-        options.text_start options.relax options.gc) }
+        options.bounds options.relax options.gc) }
 {
-    within_limits(objects.len(), options.text_start)?;
-    // the start of the text is fixed from here on
+    within_limits(objects.len(), options.bounds)?;
+    // where the program may stand is fixed from here on
     let names = named(alloc, objects)?;
     // what each name means is fixed: which symbol defines it, though not where that stands
     if options.gc {
@@ -87,15 +124,15 @@ fn link_collected(
     alloc: Global,
     objects: &[Object<'_>],
     names: &Names<'_>,
-    options: LinkOptions,
+    options: GroundOptions,
     with_map: bool,
 ) -> Result<Linked, LinkFault>
-    requires within { AreWithin (length objects.now) options.text_start }
+    requires within { AreWithin (length objects.now) options.bounds }
     requires names { IsNames (map object_of objects.now) names.now }
     ensures links { IfOk result (λ l. IsProgramWith (map object_of objects.now)
-        options.text_start options.relax true with_map (linked_of l)) }
+        options.bounds options.relax true with_map (linked_of l)) }
     ensures refuses { IfErr result (HasNoProgram (map object_of objects.now)
-        options.text_start options.relax true) }
+        options.bounds options.relax true) }
 {
     let collection = Collection::of(alloc, objects, names)?;
     let kept = collection.left(alloc, objects)?;
@@ -110,18 +147,18 @@ fn link_left(
     objects: &[Object<'_>],
     names: &Names<'_>,
     drops: Vec<SectionId>,
-    options: LinkOptions,
+    options: GroundOptions,
     with_map: bool,
 ) -> Result<Linked, LinkFault>
-    requires within { AreWithin (length objects.now) options.text_start }
+    requires within { AreWithin (length objects.now) options.bounds }
     requires names { IsNames (map object_of objects.now) names.now }
     requires drops { All (λ d. IsDrop d) drops.items }
     ensures links { IfOk result (λ l. IsLinkOfLeft (map object_of objects.now)
-        options.text_start options.relax drops.items with_map (linked_of l)) }
+        options.bounds options.relax drops.items with_map (linked_of l)) }
     ensures refuses { IfErr result
-        (HasNoLink (map object_of objects.now) options.text_start options.relax) }
+        (HasNoLink (map object_of objects.now) options.bounds options.relax) }
 {
     let plan = relaxed(alloc, objects, names, options.relax)?;
     // no call and no padding changes any more
-    link_by_plan(alloc, &plan, names, drops, options.text_start, with_map)
+    link_by_plan(alloc, &plan, names, drops, options.bounds, with_map)
 }

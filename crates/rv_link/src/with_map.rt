@@ -5,6 +5,7 @@
 
 ghost use Rattle.std.specs.Prelude.{◌≡◌, IfOk, map, ℕ};
 ghost use Rattle.rv_map.specs.Views.{global_of};
+ghost use Rattle.rv_link_laws.specs.declared.bounds.Ground.{Ground};
 ghost use Rattle.rv_link_laws.specs.IsLinkOf.{rows_of};
 ghost use Rattle.rv_link_laws.specs.Layout.{shown_globals};
 ghost use Rattle.rv_shorten.specs.View.{short_object_of};
@@ -26,7 +27,7 @@ pub(crate) fn globals(
     placement: &Placement<'_>,
     with_map: bool,
 ) -> Result<Vec<MapGlobal>, AllocError>
-    ensures { (start : ℕ) → IsPlacement (all resolution.now) start placement.now
+    ensures { (bounds : Ground) → IsPlacement (all resolution.now) bounds placement.now
         → IfOk result (λ globals. map global_of globals.items
         ≡ listed_where with_map (shown_globals (all resolution.now) (layout_of placement.now))) }
 {
@@ -43,7 +44,7 @@ pub(crate) fn rows(
     placement: &Placement<'_>,
     with_map: bool,
 ) -> Result<Vec<MapRow>, AllocError>
-    ensures { (start : ℕ) → IsPlacement (map short_object_of objects.now) start placement.now
+    ensures { (bounds : Ground) → IsPlacement (map short_object_of objects.now) bounds placement.now
         → IfOk result (λ rows. rows.items
         ≡ listed_where with_map (rows_of (starts_of placement.now) 1 (map short_object_of objects.now))) }
 {

@@ -1,3 +1,5 @@
+-- The ground below the stack, and how far grounds go.
+pub mod GroundLemmas
 -- Rows that stand by their ordinals stay so.
 pub mod OrdinalsLemmas
 -- What may change of a section of text lies in it, one behind the other.

@@ -6,12 +6,14 @@ use Rattle.std.specs.Prelude.{◌≡◌, ℕ, suc, ◌+◌, ◌-◌, ◌%◌, �
 use Rattle.std.specs.List.{AllByRecursion, list_any, list_all, slice_get}
 use Rattle.rv_map_laws.specs.Globals.{AreDistinct}
 use Rattle.rv_size_laws.specs.Alignment.{aligned}
-use Rattle.rv_isa_laws.specs.Platform.{stack_start, memory_limit}
+use Rattle.rv_isa_laws.specs.Platform.{memory_limit}
 use Rattle.rv_map_laws.specs.declared.map.Row.{Row as MapRow}
 use Rattle.rv_map_laws.specs.Limits.{IsMap}
 use Rattle.rv_image_laws.specs.Linked.{Linked}
+use Rattle.rv_image_laws.specs.Free.{free_until}
 use Rattle.rv_object_laws.specs.declared.row.Row.{Row}
 use Rattle.rv_object_laws.specs.Object.{Section, Object}
+use Rattle.rv_link_laws.specs.declared.bounds.Ground.{Ground}
 use Rattle.rv_link_laws.specs.Moves.{Move, moves, new_offset, has_room, lost}
 use Rattle.rv_link_laws.specs.Inputs.{Starts, goes_to_text, goes_to_rodata, goes_to_data, goes_to_bss, inputs, start_of, Holds, gaps_of, greatest, contents}
 use Rattle.rv_link_laws.specs.Names.{Outer, outer_address, globals_of, global_names, shown_linker_symbols, entry_of}
@@ -69,22 +71,23 @@ most_files = 1024
 abbrev pub outer_of : List Object → Linked → Outer
 outer_of os l = outer_address os l.map.globals
 
-pub record IsLinkOf (os : List Object) (text_start : ℕ) (l : Linked) : Type 0 where
+pub record IsLinkOf (os : List Object) (g : Ground) (l : Linked) : Type 0 where
   pub few : length os ≤ most_files
-  -- the text begins at a page below the stack
-  pub page : text_start % 4096 ≡ 0
-  pub low : text_start < stack_start
+  -- the text begins at a page below the ceiling, and memory is free up to there
+  pub page : g.text % 4096 ≡ 0
+  pub low : g.text < g.ceiling
+  pub free : g.ceiling ≤ free_until g.text
   -- where each section starts: text from the text's start, rodata and data at the next pages, bss
   -- after data
   pub starts : Starts
-  pub text : Holds starts l.map.text text_start (inputs goes_to_text os)
-  pub gaps : l.map.gaps ≡ gaps_of starts text_start (inputs goes_to_text os)
+  pub text : Holds starts l.map.text g.text (inputs goes_to_text os)
+  pub gaps : l.map.gaps ≡ gaps_of starts g.text (inputs goes_to_text os)
   pub rodata : Holds starts l.map.rodata (aligned 4096 l.map.text.end) (inputs goes_to_rodata os)
   pub «data» : Holds starts l.map.data (aligned 4096 l.map.rodata.end) (inputs goes_to_data os)
   pub bss : Holds starts l.map.bss (aligned (greatest (inputs goes_to_bss os)) l.map.data.end)
       (inputs goes_to_bss os)
-  -- all of it below the stack, and no more than may be loaded
-  pub below : l.map.bss.end ≤ stack_start
+  -- all of it below the ceiling, and no more than may be loaded
+  pub below : l.map.bss.end ≤ g.ceiling
   pub memory : (l.map.text.end - l.map.text.start) + (l.map.rodata.end - l.map.rodata.start) +
       (l.map.bss.end - l.map.data.start) ≤ memory_limit
   -- each alignment in code has room for its least padding

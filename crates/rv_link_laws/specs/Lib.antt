@@ -6,6 +6,8 @@ pub mod Inputs
 pub mod Names
 -- The relocations of objects: their values, and the bytes of a section with all of them applied.
 pub mod Values
+-- Where a link may put a program.
+pub mod Ground
 -- The linked program of objects, whoever made them.
 pub mod IsLinkOf
 -- Rows in the order of their ordinals.
@@ -32,7 +34,7 @@ pub mod Entry
 pub mod Exports
 -- References without a meaning.
 pub mod Undefined
--- Files and a text's start that can be linked.
+-- Files and a ground that can be linked.
 pub mod TextStart
 -- Programs with the details of their maps or without: the global names and the rows.
 pub mod WithMap

@@ -15,17 +15,19 @@ use Rattle.rv_link_laws.specs.Exports.{first_duplicate}
 use Rattle.rv_link_laws.specs.Undefined.{first_undefined}
 use Rattle.rv_fault.specs.declared.link_fault.LinkFault.{LinkFault}
 use Rattle.rv_fault.specs.declared.link_fault.LinkFault.TheVariants.{Overflow, OddTarget, DanglingPcrel, AlignmentShort, Undefined, Duplicate, EntryMissing, ImageTooLarge, BadTextStart, TooManyFiles, OutOfMemory}
-use Rattle.rv_link_laws.specs.TextStart.{IsTextStart, AreWithin}
+use Rattle.rv_link_laws.specs.declared.bounds.Ground.{Ground}
+use Rattle.rv_link_laws.specs.Ground.{IsGround}
+use Rattle.rv_link_laws.specs.TextStart.{AreWithin}
 use Rattle.rv_link_laws.specs.Untaken.{IsFirstUntaken}
 use Rattle.rv_fault.specs.LinkFault.{link_fault_number}
 
 -- ---- limits
 
 -- why others cannot: the count of files comes first
-abbrev pub ArePast : ℕ → ℕ → LinkFault → Type 0
-ArePast files start TooManyFiles = most_files < files
-ArePast files start BadTextStart = (files ≤ most_files) × (IsTextStart start → ⊥)
-ArePast files start _ = ⊥
+abbrev pub ArePast : ℕ → Ground → LinkFault → Type 0
+ArePast files g TooManyFiles = most_files < files
+ArePast files g BadTextStart = (files ≤ most_files) × (IsGround g → ⊥)
+ArePast files g _ = ⊥
 
 -- ---- names
 
@@ -54,62 +56,62 @@ LacksRoom os start =
     (starts : Starts) × Stand starts start (inputs goes_to_text os) × (AreRoomy os starts → ⊥)
 
 -- paddings come before what is too large, where each has room
-abbrev pub AreUnplaced : List Object → ℕ → LinkFault → Type 0
-AreUnplaced os start AlignmentShort = LacksRoom os start
-AreUnplaced os start ImageTooLarge = IsTooLarge os start × HasRoom os start
-AreUnplaced os start OutOfMemory = ⊤
-AreUnplaced os start _ = ⊥
+abbrev pub AreUnplaced : List Object → Ground → LinkFault → Type 0
+AreUnplaced os g AlignmentShort = LacksRoom os g.text
+AreUnplaced os g ImageTooLarge = IsTooLarge os g × HasRoom os g.text
+AreUnplaced os g OutOfMemory = ⊤
+AreUnplaced os g _ = ⊥
 
 -- where sections stand, the entry has no even address
 abbrev pub IsOddEntry : List Object → Layout → Type 0
 IsOddEntry os l = (a : ℕ) → entry_of l.starts os ≡ Some a → a % 2 ≡ 0 → ⊥
 
 -- `_start` means no even place of a section of text
-abbrev pub LacksEntry : List Object → ℕ → Type 0
-LacksEntry os start =
-    (has_entry os ≡ false) ⊎ ((l : Layout) × IsLayout os start l × IsOddEntry os l)
+abbrev pub LacksEntry : List Object → Ground → Type 0
+LacksEntry os g =
+    (has_entry os ≡ false) ⊎ ((l : Layout) × IsLayout os g l × IsOddEntry os l)
 
 -- ---- the whole
 
 -- what a link has come to when it looks at the entry, and when it looks at places
-abbrev pub ComesToEntry : List Object → ℕ → Type 0
-ComesToEntry os start = AreWithin (length os) start × AreNamed os
+abbrev pub ComesToEntry : List Object → Ground → Type 0
+ComesToEntry os g = AreWithin (length os) g × AreNamed os
 
-abbrev pub ComesToPlaces : List Object → ℕ → Type 0
-ComesToPlaces os start = ComesToEntry os start × (has_entry os ≡ true)
+abbrev pub ComesToPlaces : List Object → Ground → Type 0
+ComesToPlaces os g = ComesToEntry os g × (has_entry os ≡ true)
 
 -- at last a relocation that cannot be applied, the first by file, section and relocation
-abbrev pub IsUnapplied : List Object → ℕ → LinkFault → Type 0
-IsUnapplied os start fault =
-    ComesToPlaces os start
-    × ((l : Layout) × IsLayout os start l × AreRoomy os l.starts
+abbrev pub IsUnapplied : List Object → Ground → LinkFault → Type 0
+IsUnapplied os g fault =
+    ComesToPlaces os g
+    × ((l : Layout) × IsLayout os g l × AreRoomy os l.starts
     × IsFirstUntaken os l fault (inputs is_loaded os))
 
-abbrev pub IsUnlinked : List Object → ℕ → LinkFault → Type 0
-IsUnlinked os start TooManyFiles = ArePast (length os) start TooManyFiles
-IsUnlinked os start BadTextStart = ArePast (length os) start BadTextStart
-IsUnlinked os start (Duplicate name) =
-    AreWithin (length os) start × AreUnnamed os (Duplicate name)
-IsUnlinked os start (Undefined name) =
-    AreWithin (length os) start × AreUnnamed os (Undefined name)
-IsUnlinked os start EntryMissing = ComesToEntry os start × LacksEntry os start
-IsUnlinked os start AlignmentShort =
-    ComesToPlaces os start × AreUnplaced os start AlignmentShort
-IsUnlinked os start ImageTooLarge =
-    ComesToPlaces os start × AreUnplaced os start ImageTooLarge
-IsUnlinked os start Overflow = IsUnapplied os start Overflow
-IsUnlinked os start OddTarget = IsUnapplied os start OddTarget
-IsUnlinked os start DanglingPcrel = IsUnapplied os start DanglingPcrel
-IsUnlinked os start OutOfMemory = ⊤
+abbrev pub IsUnlinked : List Object → Ground → LinkFault → Type 0
+IsUnlinked os g TooManyFiles = ArePast (length os) g TooManyFiles
+IsUnlinked os g BadTextStart = ArePast (length os) g BadTextStart
+IsUnlinked os g (Duplicate name) =
+    AreWithin (length os) g × AreUnnamed os (Duplicate name)
+IsUnlinked os g (Undefined name) =
+    AreWithin (length os) g × AreUnnamed os (Undefined name)
+IsUnlinked os g EntryMissing = ComesToEntry os g × LacksEntry os g
+IsUnlinked os g AlignmentShort =
+    ComesToPlaces os g × AreUnplaced os g AlignmentShort
+IsUnlinked os g ImageTooLarge =
+    ComesToPlaces os g × AreUnplaced os g ImageTooLarge
+IsUnlinked os g Overflow = IsUnapplied os g Overflow
+IsUnlinked os g OddTarget = IsUnapplied os g OddTarget
+IsUnlinked os g DanglingPcrel = IsUnapplied os g DanglingPcrel
+IsUnlinked os g OutOfMemory = ⊤
 
 -- objects have no program, as what collection and relaxation leave of them cannot be linked;
 -- where no run can begin, collection leaves no reference, and so the missing entry comes first
-pub record HasNoProgram (os : List Object) (start : ℕ) (relax gc : Bool) (fault : LinkFault) :
+pub record HasNoProgram (os : List Object) (g : Ground) (relax gc : Bool) (fault : LinkFault) :
     Type 0 where
   pub drops : List SectionId
   pub left : List Object
   pub leaves : Leaves os relax gc drops left
-  pub unlinked : IsUnlinked left start fault
+  pub unlinked : IsUnlinked left g fault
 
 -- ---- one fault
 

@@ -1,8 +1,9 @@
 //! Laws of the definitions.
 
-ghost use Rattle.std.specs.Prelude.{◌≡◌, ℕ, ◌≤◌, [], Bool, List, None, filter, is_some, length, map, true};
+ghost use Rattle.std.specs.Prelude.{◌≡◌, ◌↔◌, ℕ, ◌%◌, ◌<◌, ◌≤◌, [], Bool, List, None, filter, is_some, length, map, true};
 ghost use Rattle.std.specs.List.{AllByRecursion};
 ghost use Rattle.std.specs.Option.{option_map};
+ghost use Rattle.rv_isa_laws.specs.Platform.{stack_start};
 ghost use Rattle.rv_map_laws.specs.declared.map.SectionId.{SectionId};
 ghost use Rattle.rv_collect_laws.specs.Graph.{is_dropped};
 ghost use Rattle.rv_size_laws.specs.Calls.{IsText, site_at};
@@ -17,8 +18,14 @@ ghost use Rattle.rv_link_laws.specs.Moves.{alignments_of, kept, moves, new_offse
 ghost use Rattle.rv_link_laws.specs.Names.{chosen, chosen_exports, entry_of, global_names, object_at, shared_place, symbol_place};
 ghost use Rattle.rv_link_laws.specs.Rising.{Rise};
 ghost use Rattle.rv_object_laws.specs.Whole.{IsWhole};
+ghost use Rattle.rv_link_laws.specs.TextStart.{IsTextStart};
 ghost use Rattle.rv_link_laws.specs.Within.{IsWithin};
 ghost use Rattle.rv_link_laws.specs.Without.{without, without_object};
+
+/// A text starts at any page below the stack, and nowhere else.
+pub fn text_starts()
+    ensures { (start : ℕ) → IsTextStart start ↔ ((start % 4096 ≡ 0) × (start < stack_start)) }
+{}
 
 /// A section without alignments in its code keeps its offsets and its bytes.
 pub fn nothing_moves()

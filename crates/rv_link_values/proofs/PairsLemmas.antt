@@ -5,6 +5,7 @@ use Rattle.std.specs.Prelude.{slice_index_or}
 use Rattle.std.specs.List.{slice_get}
 use Rattle.std.proofs.lemmas.Option.{unwrap_or-slice_get}
 use Rattle.rv_object_laws.specs.Object.{Relocation, Section, Object}
+use Rattle.rv_link_laws.specs.declared.bounds.Ground.{Ground}
 use Rattle.rv_link_laws.specs.Moves.{moves, new_offset}
 use Rattle.rv_link_laws.specs.Inputs.{InputSection}
 use Rattle.rv_link_laws.specs.Names.{Outer, object_at, no_object}
@@ -47,7 +48,7 @@ section_cases os file index = by (slice_get os file) refl
 
 -- ---- the value at an old offset of a section
 
-module _ (os : List Object) (start : ℕ) (p : Placement) (is : IsPlacement os start p) (outer : Outer) (file index offset : ℕ) where
+module _ (os : List Object) (bounds : Ground) (p : Placement) (is : IsPlacement os bounds p) (outer : Outer) (file index offset : ℕ) where
   abbrev worth : Option ℤ
   worth = value_at outer (starts_of p) os (Some (record { file = file + 1; section = index; offset = offset }))
 
@@ -77,7 +78,7 @@ module _ (os : List Object) (start : ℕ) (p : Placement) (is : IsPlacement os s
   pub without_place : placed_at p file index ≡ None → None ≡ worth
   without_place none = elim (section_cases os file index) [
     | inl gone ↦ sym (absent gone)
-    | inr (o, s, at, stands) ↦ absurd (not_placed os start p is file index s (ap (λ x. section_in x index) at ∙ stands) none)
+    | inr (o, s, at, stands) ↦ absurd (not_placed os bounds p is file index s (ap (λ x. section_in x index) at ∙ stands) none)
   ]
 
   pub without_high : (q : PlacedSection) → placed_at p file index ≡ Some q → high_of p os file index (new_offset (moves_of q.plan.now) offset) ≡ None → None ≡ worth

@@ -4,6 +4,7 @@ use Rattle.std.proofs.Common.{◌≡◌, ℕ, ◌+◌, List, Option, Some, subst
 use Rattle.std.specs.Prelude.{option_map, option_and_then}
 use Rattle.std.specs.List.{slice_get}
 use Rattle.rv_object_laws.specs.Object.{Object}
+use Rattle.rv_link_laws.specs.declared.bounds.Ground.{Ground}
 use Rattle.rv_link_laws.specs.Names.{symbol_address, symbol_place}
 use Rattle.rv_link_laws.specs.Layout.{outer_in}
 use Rattle.rv_object_types.specs.declared.place.Place.{Place as DeclaredPlace}
@@ -17,7 +18,7 @@ use Rattle.rv_link_values.specs.Values.{IsValues}
 -- what is said of an address by the objects and the placement of the code
 abbrev AddressIs : Option ℕ → ℕ → ℕ → List Object → Placement → Type 0
 AddressIs address file index os p =
-    (start : ℕ) (o : Object) → IsPlacement os start p → slice_get os file ≡ Some o
+    (bounds : Ground) (o : Object) → IsPlacement os bounds p → slice_get os file ≡ Some o
     → address ≡ option_and_then (symbol_address (outer_in os (layout_of p)) (starts_of p (file + 1)) o) (slice_get o.symbols index)
 
 pub address_is : (address : Option ℕ) (file index : ℕ) (v : Values) (os : List Object) (p : Placement) (o : Object) → IsValues os p v → slice_get os file ≡ Some o

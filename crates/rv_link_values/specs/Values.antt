@@ -4,6 +4,7 @@
 use Rattle.std.specs.Prelude.{◌≡◌, ℕ, ◌+◌, List, Some}
 use Rattle.std.specs.List.{slice_get}
 use Rattle.rv_object_laws.specs.Object.{Object}
+use Rattle.rv_link_laws.specs.declared.bounds.Ground.{Ground}
 use Rattle.rv_link_laws.specs.Inputs.{InputSection}
 use Rattle.rv_addresses.specs.Resolution.{all}
 use Rattle.rv_placement.specs.declared.placement.Placement.{Placement}
@@ -23,8 +24,8 @@ pub record IsValues (os : List Object) (p : Placement) (v : Values) : Type 0 whe
   pub objects : all v.resolution.now ≡ os
   pub placement : v.placement.now ≡ p
   -- the text begins anywhere
-  pub start : ℕ
-  pub placed : IsPlacement os start p
+  pub bounds : Ground
+  pub placed : IsPlacement os bounds p
   -- the high parts are found by where they stand
   pub highs : (file section offset : ℕ) →
       found v.highs file section offset ≡ high_of p os file section offset

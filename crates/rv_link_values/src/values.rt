@@ -6,6 +6,7 @@ ghost use Rattle.rv_isa.specs.Kinds.{is_low_part};
 ghost use Rattle.rv_object_laws.specs.Object.{Object as PlainObject};
 ghost use Rattle.rv_object_types.specs.Parts.{relocation_of};
 ghost use Rattle.rv_object_types.specs.Places.{place_of};
+ghost use Rattle.rv_link_laws.specs.declared.bounds.Ground.{Ground};
 ghost use Rattle.rv_link_laws.specs.Inputs.{InputSection};
 ghost use Rattle.rv_link_laws.specs.Values as laws;
 ghost use Rattle.rv_link_laws.specs.Layout.{outer_in};
@@ -45,7 +46,7 @@ impl<'p, 'o, 'a, 'n> Values<'p, 'o, 'a, 'n> {
         resolution: &'p Resolution<'p, 'o, 'a, 'n>,
         placement: &'p Placement<'p>,
     ) -> Result<Values<'p, 'o, 'a, 'n>, AllocError>
-        ensures { (start : ℕ) → IsPlacement (all resolution.now) start placement.now
+        ensures { (bounds : Ground) → IsPlacement (all resolution.now) bounds placement.now
             → IfOk result (IsValues (all resolution.now) placement.now) }
     {
         let highs = Highs::of(alloc, resolution.objects, placement)?;

@@ -9,7 +9,7 @@ use crate::tables::symbol_of;
 use crate::values::{put_value, value_of};
 use rv_fault::{Fault, FileFault};
 use rv_fault_texts::{Remark, link_words};
-use rv_link::{LinkFault, LinkOptions};
+use rv_link::{GroundOptions, LinkFault};
 use std::alloc::{AllocError, Global};
 
 /// What is said of the fault for which a link of files with these names is refused. An error is want of memory.
@@ -18,7 +18,7 @@ pub fn objects_remark(
     names: &[&str],
     files: &[&[u8]],
     fault: &Fault,
-    options: LinkOptions,
+    options: GroundOptions,
 ) -> Result<Remark, Fault> {
     let mut remark = Remark::new(alloc);
     match fault {
@@ -53,7 +53,7 @@ fn put_link(
     names: &[&str],
     files: &[&[u8]],
     fault: &LinkFault,
-    options: LinkOptions,
+    options: GroundOptions,
     remark: &mut Remark,
 ) -> Result<(), Fault> {
     match fault {
@@ -81,7 +81,7 @@ fn put_refused_value(
     names: &[&str],
     files: &[&[u8]],
     fault: &LinkFault,
-    options: LinkOptions,
+    options: GroundOptions,
     remark: &mut Remark,
 ) -> Result<(), Fault> {
     let Some(site) = faulty_site(alloc, files, fault, options)? else {

@@ -5,9 +5,9 @@
 
 use crate::drafts::{borrowed, copies, leave};
 use crate::sites::{Site, Sites};
-use rv_chain::link_objects_exe;
+use rv_chain::link_objects_exe_on;
 use rv_fault::Fault;
-use rv_link::{LinkFault, LinkOptions};
+use rv_link::{GroundOptions, LinkFault};
 use std::alloc::Global;
 
 /// More halvings than files have relocations.
@@ -18,7 +18,7 @@ pub fn faulty_site(
     alloc: Global,
     files: &[&[u8]],
     fault: &LinkFault,
-    options: LinkOptions,
+    options: GroundOptions,
 ) -> Result<Option<Site>, Fault> {
     let mut drafts = copies(alloc, files)?;
     let sites = Sites::of(alloc, files)?;
@@ -50,7 +50,7 @@ fn search(
     drafts: &mut [Vec<u8>],
     suspects: &[Site],
     wanted: Option<u8>,
-    options: LinkOptions,
+    options: GroundOptions,
 ) -> Result<Option<Site>, Fault> {
     let mut low = 0usize;
     let mut high = suspects.len();
@@ -79,10 +79,10 @@ fn is_there(
     alloc: Global,
     drafts: &[Vec<u8>],
     wanted: Option<u8>,
-    options: LinkOptions,
+    options: GroundOptions,
 ) -> Result<bool, Fault> {
     let files = borrowed(alloc, drafts)?;
-    match link_objects_exe(alloc, files.as_slice(), options) {
+    match link_objects_exe_on(alloc, files.as_slice(), options) {
         Ok(_) => Ok(false),
         Err(Fault::Memory) => Err(Fault::Memory),
         Err(Fault::Link(fault)) => Ok(fault.number() == wanted),

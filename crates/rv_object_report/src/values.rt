@@ -8,12 +8,12 @@ use crate::drafts::{borrowed, copies, leave, put_addend, put_kind};
 use crate::references::definition_in;
 use crate::sites::{Site, Sites};
 use crate::tables::symbol_named;
-use rv_chain::link_objects_exe;
+use rv_chain::link_objects_exe_on;
 use rv_elf::{ElfView, SHN_ABS, SHN_UNDEF, STB_GLOBAL, STB_WEAK};
 use rv_fault::Fault;
 use rv_fault_texts::put_bytes;
 use rv_isa::Kind;
-use rv_link::{LinkFault, LinkOptions};
+use rv_link::{GroundOptions, LinkFault};
 use rv_object_reader::kind_numbered;
 use std::alloc::{AllocError, Global};
 
@@ -36,7 +36,7 @@ pub fn value_of(
     alloc: Global,
     files: &[&[u8]],
     site: &Site,
-    options: LinkOptions,
+    options: GroundOptions,
 ) -> Result<Option<Value>, Fault> {
     let mut drafts = copies(alloc, files)?;
     let sites = Sites::of(alloc, files)?;
@@ -57,7 +57,7 @@ pub fn value_of(
         second.as_slice(),
         site.rela.r_addend,
         symbol,
-        options.text_start,
+        options.bounds.text,
     ))
 }
 
@@ -99,10 +99,10 @@ fn first_definition(files: &[&[u8]], name: &[u8], binding: u8) -> Option<(u32, u
 fn linked(
     alloc: Global,
     drafts: &[Vec<u8>],
-    options: LinkOptions,
+    options: GroundOptions,
 ) -> Result<Option<Vec<u8>>, Fault> {
     let files = borrowed(alloc, drafts)?;
-    match link_objects_exe(alloc, files.as_slice(), options) {
+    match link_objects_exe_on(alloc, files.as_slice(), options) {
         Ok(exe) => Ok(Some(exe)),
         Err(Fault::Memory) => Err(Fault::Memory),
         Err(_) => Ok(None),
@@ -121,12 +121,24 @@ fn told(
     let inside = offset.checked_sub(TEXT_OFFSET)?;
     let address = match number {
         Some(number) => number,
-        None => u64::from(word_at(first, offset)?),
+        None => address_of(word_at(first, offset)?, text_start),
     };
     Some(Value {
         place: text_start.wrapping_add(inside as u64),
         target: address.wrapping_add_signed(addend),
     })
+}
+
+/// The address of which these are the lowest four bytes: one of the program, which has less than 2^29 bytes from its text's start
+/// on, or a number.
+fn address_of(low: u32, text_start: u64) -> u64 {
+    let low = u64::from(low);
+    let past = low.wrapping_sub(text_start) % 0x1_0000_0000;
+    if past < 0x2000_0000 {
+        text_start.wrapping_add(past)
+    } else {
+        low
+    }
 }
 
 /// The offset of the first byte in which two programs differ.

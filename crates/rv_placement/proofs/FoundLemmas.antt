@@ -6,6 +6,7 @@ use Rattle.std.specs.List.{slice_get}
 use Rattle.std.proofs.lemmas.Option.{slice_get_within}
 use Rattle.rv_list_laws.proofs.ElementsLemmas.{get_some}
 use Rattle.rv_object_laws.specs.Object.{Section, Object}
+use Rattle.rv_link_laws.specs.declared.bounds.Ground.{Ground}
 use Rattle.rv_link_laws.specs.Moves.{moves, new_offset}
 use Rattle.rv_link_laws.specs.Names.{offset_address}
 use Rattle.rv_link_laws.specs.Layout.{section_in, object_section}
@@ -25,12 +26,12 @@ each_at (f ∷ fs) (o ∷ os) e zero index s at =
     get_some f.items index (omega (arith, slice_get_within o.sections index s at))
 each_at (f ∷ fs) (o ∷ os) e (suc file) index s at = each_at fs os (let same : map (λ f. length f.items) fs ≡ map (λ o. length o.sections) os = cc in same) file index s at
 
-pub is_placed : (os : List Object) (start : ℕ) (p : Placement) → IsPlacement os start p → (file index : ℕ) (s : Section) → object_section os file index ≡ Some s → (q : PlacedSection) × (placed_at p file index ≡ Some q)
-is_placed os start p is file index s at = each_at p.files.items os is.each file index s at
+pub is_placed : (os : List Object) (bounds : Ground) (p : Placement) → IsPlacement os bounds p → (file index : ℕ) (s : Section) → object_section os file index ≡ Some s → (q : PlacedSection) × (placed_at p file index ≡ Some q)
+is_placed os bounds p is file index s at = each_at p.files.items os is.each file index s at
 
-pub not_placed : (os : List Object) (start : ℕ) (p : Placement) → IsPlacement os start p → (file index : ℕ) (s : Section) → object_section os file index ≡ Some s → placed_at p file index ≡ None → ⊥
-not_placed os start p is file index s at none =
-    let (q, there) = is_placed os start p is file index s at in
+pub not_placed : (os : List Object) (bounds : Ground) (p : Placement) → IsPlacement os bounds p → (file index : ℕ) (s : Section) → object_section os file index ≡ Some s → placed_at p file index ≡ None → ⊥
+not_placed os bounds p is file index s at none =
+    let (q, there) = is_placed os bounds p is file index s at in
     let both : Some q ≡ None = sym there ∙ none in cc
 
 -- ---- addresses
@@ -59,10 +60,10 @@ pub address_unloaded : (os : List Object) (file index : ℕ) (o : Object) (start
 address_unloaded os file index o start offset s at is not =
     by_loaded s.loaded (Some ((start + new_offset (moves start s) offset) % 2 ^ 64)) not ∙ ap (offset_address start offset) (is ∙ in_object os file index o at)
 
-pub address_is : (os : List Object) (first : ℕ) (p : Placement) → IsPlacement os first p → (file index : ℕ) (o : Object) (offset n : ℕ) (s : Section) (q : PlacedSection)
+pub address_is : (os : List Object) (bounds : Ground) (p : Placement) → IsPlacement os bounds p → (file index : ℕ) (o : Object) (offset n : ℕ) (s : Section) (q : PlacedSection)
     → slice_get os file ≡ Some o → Some s ≡ object_section os file index → Some q ≡ placed_at p file index → s.loaded ≡ true → n ≡ new_offset (moves_of q.plan.now) offset
     → Some ((q.start + n) % 2 ^ 64) ≡ offset_address (starts_of p (file + 1) index) offset (slice_get o.sections index)
-address_is os first p is file index o offset n s q at stands there yes' new =
+address_is os bounds p is file index o offset n s q at stands there yes' new =
     let planned = is.planned file index s q (sym stands) (sym there) in
     let e : n ≡ new_offset (moves q.start s) offset = new ∙ ap (λ ms. new_offset ms offset) planned in
     let one : Some ((q.start + n) % 2 ^ 64) ≡ offset_address q.start offset (Some s) = ap (λ m. Some ((q.start + m) % 2 ^ 64)) e ∙ if_loaded s.loaded (Some ((q.start + new_offset (moves q.start s) offset) % 2 ^ 64)) yes' in

@@ -10,6 +10,7 @@ use Rattle.rv_map_laws.specs.declared.map.Row.{Row as MapRow}
 use Rattle.rv_object_laws.specs.declared.row.Row.{Row}
 use Rattle.rv_object_laws.specs.Object.{Section, Object, size_of}
 use Rattle.rv_object_laws.specs.Valid.{is_row_in, are_rows}
+use Rattle.rv_link_laws.specs.declared.bounds.Ground.{Ground}
 use Rattle.rv_link_laws.specs.IsLinkOf.{by_ordinal, map_row, moves_at, row_in, rows_of}
 use Rattle.rv_link_laws.specs.Moves.{new_offset, moves}
 use Rattle.rv_link_laws.specs.Layout.{object_section}
@@ -27,7 +28,7 @@ pub row_stands : (r : Row) (o : Option Section) → is_row_in r o ≡ true → (
 row_stands r None h = absurd (cc)
 row_stands r (Some s) h = (s, refl, leb-true (r.offset + r.bytes) (size_of s.contents) (and_parts s.loaded (nat_le (r.offset + r.bytes) (size_of s.contents)) h).1)
 
-module _ (os : List Object) (start : ℕ) (p : Placement) (is : IsPlacement os start p) (file : ℕ) (o : ShortObject) (at : slice_get os file ≡ Some (short_object_of o)) (rows : List Row)
+module _ (os : List Object) (bounds : Ground) (p : Placement) (is : IsPlacement os bounds p) (file : ℕ) (o : ShortObject) (at : slice_get os file ≡ Some (short_object_of o)) (rows : List Row)
     (lie : are_rows (short_object_of o).sections (moved_rows o rows) ≡ true) (i : ℕ) (d : Row) (inside : i < length rows) where
   abbrev r : Row
   r = get_or rows i d
@@ -46,7 +47,7 @@ module _ (os : List Object) (start : ℕ) (p : Placement) (is : IsPlacement os s
 
   -- each row has its section's place
   pub row_placed : None ≡ placed_at p file r.section → ⊥
-  row_placed none = not_placed os start p is file r.section stands.0 there (sym none)
+  row_placed none = not_placed os bounds p is file r.section stands.0 there (sym none)
 
   abbrev IsLow : PlacedSection → Row → Type 0
   IsLow q row = (row.offset + row.bytes < 2 ^ 64) × (q.start + new_offset (moves_of q.plan.now) row.offset < 2 ^ 64)

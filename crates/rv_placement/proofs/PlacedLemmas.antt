@@ -7,7 +7,11 @@ use Rattle.std.specs.List.{AllZip, slice_get}
 use Rattle.std.proofs.lemmas.Option.{slice_get-map}
 use Rattle.std.proofs.lemmas.Slice.Zip.{AllZip-long}
 use Rattle.rv_size_laws.specs.Alignment.{aligned}
-use Rattle.rv_isa_laws.specs.Platform.{stack_start, memory_limit}
+use Rattle.rv_isa_laws.specs.Platform.{memory_limit}
+use Rattle.rv_image_laws.specs.Free.{highest, free_until}
+use Rattle.rv_image_laws.proofs.FreeLemmas.{free_low}
+use Rattle.rv_link_laws.specs.declared.bounds.Ground.{Ground}
+use Rattle.std.proofs.Math.Nat.{le_trans}
 use Rattle.rv_map_laws.specs.declared.map.Region.{Region}
 use Rattle.rv_object_laws.specs.Object.{Section, Object, size_of}
 use Rattle.rv_link_laws.specs.Moves.{moves, new_offset}
@@ -127,10 +131,14 @@ holds starts to region place os e st ends = (
   ends ∙ sym (stand_ends to starts region.start os st) ∙ ap (λ n. sections_end starts n (inputs_of to 1 os)) e,
 )
 
-module _ (os : List Object) (start : ℕ) (p : Placement) (fs : List (List PlacedSection)) (begins : p.text.start ≡ start) (ends : p.text.end ≡ ended_files goes_to_text start os)
-    (behind : AreBehind os p.text.end p.rodata p.data p.bss) (ends_low : p.bss.end ≤ stack_start) (text : map (λ f. map (λ q. q.start) f) fs ≡ text_files start os) (kept : AllZip AreKept os fs)
-    (lists : lists_of p.files.items ≡ behind_files fs p.rodata p.data p.bss os) (gaps : p.gaps.items ≡ gapped_files start os)
+module _ (os : List Object) (g : Ground) (free : g.ceiling ≤ free_until g.text) (p : Placement) (fs : List (List PlacedSection)) (begins : p.text.start ≡ g.text) (ends : p.text.end ≡ ended_files goes_to_text g.text os)
+    (behind : AreBehind os p.text.end p.rodata p.data p.bss) (ends_low : p.bss.end ≤ g.ceiling) (text : map (λ f. map (λ q. q.start) f) fs ≡ text_files g.text os) (kept : AllZip AreKept os fs)
+    (lists : lists_of p.files.items ≡ behind_files fs p.rodata p.data p.bss os) (gaps : p.gaps.items ≡ gapped_files g.text os)
     (memory : memory_of p.text p.rodata p.data p.bss ≤ memory_limit) where
+  -- below the last page
+  high : g.ceiling ≤ highest
+  high = le_trans free (free_low g.text)
+
   abbrev after_rodata : List (List PlacedSection)
   after_rodata = started_files (goes Rodata) p.rodata.start fs os
 
@@ -150,24 +158,24 @@ module _ (os : List Object) (start : ℕ) (p : Placement) (fs : List (List Place
   kept_rodata : AllZip AreKept os after_rodata
   kept_rodata =
       let u = ups in
-      let few : p.rodata.end ≤ 0x3ff0_0000 = omega arith in
-      files_kept (goes Rodata) p.rodata.start 0x3ff0_0000 fs os (λ s. rodata_text s.loaded s.executable (has_no_bytes s.contents) s.writable) (omega arith) (subst (λ n. n ≤ 0x3ff0_0000) behind.rodata_end few) kept
+      let few : p.rodata.end ≤ g.ceiling = omega arith in
+      files_kept (goes Rodata) p.rodata.start g.ceiling fs os (λ s. rodata_text s.loaded s.executable (has_no_bytes s.contents) s.writable) (omega (arith, high)) (subst (λ n. n ≤ g.ceiling) behind.rodata_end few) kept
 
   kept_data : AllZip AreKept os after_data
   kept_data =
       let u = ups in
-      let few : p.data.end ≤ 0x3ff0_0000 = omega arith in
-      files_kept (goes Data) p.data.start 0x3ff0_0000 after_rodata os (λ s. data_text s.loaded s.executable (has_no_bytes s.contents) s.writable) (omega arith) (subst (λ n. n ≤ 0x3ff0_0000) behind.data_end few) kept_rodata
+      let few : p.data.end ≤ g.ceiling = omega arith in
+      files_kept (goes Data) p.data.start g.ceiling after_rodata os (λ s. data_text s.loaded s.executable (has_no_bytes s.contents) s.writable) (omega (arith, high)) (subst (λ n. n ≤ g.ceiling) behind.data_end few) kept_rodata
 
   kept_bss : AllZip AreKept os after_bss
   kept_bss =
-      files_kept (goes Bss) p.bss.start 0x3ff0_0000 after_data os (λ s. bss_text s.loaded s.executable (has_no_bytes s.contents) s.writable) (omega arith) (subst (λ n. n ≤ 0x3ff0_0000) behind.bss_end ends_low) kept_data
+      files_kept (goes Bss) p.bss.start g.ceiling after_data os (λ s. bss_text s.loaded s.executable (has_no_bytes s.contents) s.writable) (omega (arith, high)) (subst (λ n. n ≤ g.ceiling) behind.bss_end ends_low) kept_data
 
-  chosen_text : ChosenFiles goes_to_text start after_bss os
+  chosen_text : ChosenFiles goes_to_text g.text after_bss os
   chosen_text =
-      files_still goes_to_text (goes Bss) start p.bss.start after_data os (λ s. text_bss s.loaded s.executable (has_no_bytes s.contents) s.writable)
-      (files_still goes_to_text (goes Data) start p.data.start after_rodata os (λ s. text_data s.loaded s.executable (has_no_bytes s.contents) s.writable)
-      (files_still goes_to_text (goes Rodata) start p.rodata.start fs os (λ s. text_rodata s.loaded s.executable (has_no_bytes s.contents) s.writable) (files_text start fs os text)))
+      files_still goes_to_text (goes Bss) g.text p.bss.start after_data os (λ s. text_bss s.loaded s.executable (has_no_bytes s.contents) s.writable)
+      (files_still goes_to_text (goes Data) g.text p.data.start after_rodata os (λ s. text_data s.loaded s.executable (has_no_bytes s.contents) s.writable)
+      (files_still goes_to_text (goes Rodata) g.text p.rodata.start fs os (λ s. text_rodata s.loaded s.executable (has_no_bytes s.contents) s.writable) (files_text g.text fs os text)))
 
   chosen_rodata : ChosenFiles (goes Rodata) p.rodata.start after_bss os
   chosen_rodata =
@@ -189,7 +197,7 @@ module _ (os : List Object) (start : ℕ) (p : Placement) (fs : List (List Place
   all_kept = subst (AllZip AreKept os) (sym lists) kept_bss
 
   text_up : p.text.start ≤ p.text.end
-  text_up = let h = grows_files goes_to_text start os in let more : start ≤ p.text.end = subst (λ n. start ≤ n) (sym ends) h in omega arith
+  text_up = let h = grows_files goes_to_text g.text os in let more : g.text ≤ p.text.end = subst (λ n. g.text ≤ n) (sym ends) h in omega arith
 
   low : (file index : ℕ) (s : Section) → object_section os file index ≡ Some s
       → (size_of s.contents < 2 ^ 64) × (starts_of p (file + 1) index + new_offset (moves (starts_of p (file + 1) index) s) (size_of s.contents) < 2 ^ 64)
@@ -198,11 +206,11 @@ module _ (os : List Object) (start : ℕ) (p : Placement) (fs : List (List Place
       let kept = kept_at p.files.items os all_kept file index s q at there in
       (kept.1, subst (λ n. n + new_offset (moves n s) (size_of s.contents) < 2 ^ 64) (sym (start_is p file index q (sym there))) kept.2)
 
-  is_laid : IsLayout os start (layout_of p)
+  is_laid : IsLayout os g (layout_of p)
   is_laid = record {
     low = low;
-    text = (begins, stand goes_to_text start chosen_text, ends ∙ sym (stand_ends goes_to_text (starts_of p) start os (stand goes_to_text start chosen_text)));
-    gaps = gaps ∙ sym (stand_gaps (starts_of p) start os (stand goes_to_text start chosen_text));
+    text = (begins, stand goes_to_text g.text chosen_text, ends ∙ sym (stand_ends goes_to_text (starts_of p) g.text os (stand goes_to_text g.text chosen_text)));
+    gaps = gaps ∙ sym (stand_gaps (starts_of p) g.text os (stand goes_to_text g.text chosen_text));
     rodata = holds (starts_of p) (goes Rodata) p.rodata (aligned 4096 p.text.end) os behind.rodata_start (stand (goes Rodata) p.rodata.start chosen_rodata) behind.rodata_end;
     «data» = holds (starts_of p) (goes Data) p.data (aligned 4096 p.rodata.end) os behind.data_start (stand (goes Data) p.data.start chosen_data) behind.data_end;
     bss = holds (starts_of p) (goes Bss) p.bss (aligned (greatest (inputs goes_to_bss os)) p.data.end) os (behind.bss_start ∙ ap (λ n. aligned n p.data.end) (sym (greatest_is (goes Bss) 1 os))) (stand (goes Bss) p.bss.start chosen_bss)
@@ -212,8 +220,9 @@ module _ (os : List Object) (start : ℕ) (p : Placement) (fs : List (List Place
     memory = memory;
   }
 
-  pub is_placement : IsPlacement os start p
+  pub is_placement : IsPlacement os g p
   is_placement = record {
+    free = free;
     each = each_kept p.files.items os all_kept;
     planned = λ file index s q at there. (kept_at p.files.items os all_kept file index s q at there).0;
     laid = is_laid;
@@ -224,11 +233,11 @@ module _ (os : List Object) (start : ℕ) (p : Placement) (fs : List (List Place
 ends_so : (starts : Starts) (to : Section → Bool) (region : Region) (place : ℕ) (os : List Object) → Holds starts region place (inputs_of to 1 os) → region.end ≡ ended_files to region.start os
 ends_so starts to region place os h = h.2 ∙ stand_ends to starts place os h.1 ∙ ap (λ n. ended_files to n os) (sym h.0)
 
-module _ (os : List Object) (start : ℕ) (starts : Starts) (text rodata variables bss : Region) (t : Holds starts text start (inputs goes_to_text os))
+module _ (os : List Object) (g : Ground) (starts : Starts) (text rodata variables bss : Region) (t : Holds starts text g.text (inputs goes_to_text os))
     (r : Holds starts rodata (aligned 4096 text.end) (inputs goes_to_rodata os)) (v : Holds starts variables (aligned 4096 rodata.end) (inputs goes_to_data os))
     (b : Holds starts bss (aligned (greatest (inputs goes_to_bss os)) variables.end) (inputs goes_to_bss os)) where
-  text_is : text.end ≡ ended_files goes_to_text start os
-  text_is = t.2 ∙ stand_ends goes_to_text starts start os t.1
+  text_is : text.end ≡ ended_files goes_to_text g.text os
+  text_is = t.2 ∙ stand_ends goes_to_text starts g.text os t.1
 
   are_behind : AreBehind os text.end rodata variables bss
   are_behind = record {
@@ -240,7 +249,7 @@ module _ (os : List Object) (start : ℕ) (starts : Starts) (text rodata variabl
     bss_end = ends_so starts (goes Bss) bss (aligned (greatest (inputs goes_to_bss os)) variables.end) os b;
   }
 
-  text_passes : stack_start < ended_files goes_to_text start os → stack_start < bss.end
+  text_passes : g.ceiling < ended_files goes_to_text g.text os → g.ceiling < bss.end
   text_passes far =
       let x = rodata_up os text.end rodata variables bss are_behind in
       let y = data_up os text.end rodata variables bss are_behind in
@@ -248,10 +257,10 @@ module _ (os : List Object) (start : ℕ) (starts : Starts) (text rodata variabl
       let e = text_is in
       omega arith
 
-  behind_passes : (stop : ℕ) → stop ≡ ended_files goes_to_text start os → AreFar os stop → stack_start < bss.end
+  behind_passes : (stop : ℕ) → stop ≡ ended_files goes_to_text g.text os → AreFar os g.ceiling stop → g.ceiling < bss.end
   behind_passes stop e far = far rodata variables bss (subst (λ n. AreBehind os n rodata variables bss) (text_is ∙ sym e) are_behind)
 
-  too_much : (own : Region) (a c d : Region) → own.start ≡ start → own.end ≡ ended_files goes_to_text start os → AreBehind os own.end a c d → memory_limit < memory_of own a c d → memory_limit < memory_of text rodata variables bss
+  too_much : (own : Region) (a c d : Region) → own.start ≡ g.text → own.end ≡ ended_files goes_to_text g.text os → AreBehind os own.end a c d → memory_limit < memory_of own a c d → memory_limit < memory_of text rodata variables bss
   too_much own a c d e f h far =
       let m = are_behind in
       let one : own.start ≡ text.start = e ∙ sym t.0 in
@@ -264,11 +273,11 @@ module _ (os : List Object) (start : ℕ) (starts : Starts) (text rodata variabl
       let eight : d.end ≡ bss.end = h.bss_end ∙ ap (λ n. ended_files (goes Bss) n os) seven ∙ sym m.bss_end in
       omega arith
 
-pub text_too_large : (os : List Object) (start : ℕ) → stack_start < ended_files goes_to_text start os → IsTooLarge os start
-text_too_large os start far starts text rodata variables bss t r v b = inl (text_passes os start starts text rodata variables bss t r v b far)
+pub text_too_large : (os : List Object) (g : Ground) → g.ceiling < ended_files goes_to_text g.text os → IsTooLarge os g
+text_too_large os g far starts text rodata variables bss t r v b = inl (text_passes os g starts text rodata variables bss t r v b far)
 
-pub behind_too_large : (os : List Object) (start stop : ℕ) → stop ≡ ended_files goes_to_text start os → AreFar os stop → IsTooLarge os start
-behind_too_large os start stop e far starts text rodata variables bss t r v b = inl (behind_passes os start starts text rodata variables bss t r v b stop e far)
+pub behind_too_large : (os : List Object) (g : Ground) (stop : ℕ) → stop ≡ ended_files goes_to_text g.text os → AreFar os g.ceiling stop → IsTooLarge os g
+behind_too_large os g stop e far starts text rodata variables bss t r v b = inl (behind_passes os g starts text rodata variables bss t r v b stop e far)
 
-pub memory_too_large : (os : List Object) (start : ℕ) (own a c d : Region) → own.start ≡ start → own.end ≡ ended_files goes_to_text start os → AreBehind os own.end a c d → memory_limit < memory_of own a c d → IsTooLarge os start
-memory_too_large os start own a c d e f h far starts text rodata variables bss t r v b = inr (too_much os start starts text rodata variables bss t r v b own a c d e f h far)
+pub memory_too_large : (os : List Object) (g : Ground) (own a c d : Region) → own.start ≡ g.text → own.end ≡ ended_files goes_to_text g.text os → AreBehind os own.end a c d → memory_limit < memory_of own a c d → IsTooLarge os g
+memory_too_large os g own a c d e f h far starts text rodata variables bss t r v b = inr (too_much os g starts text rodata variables bss t r v b own a c d e f h far)

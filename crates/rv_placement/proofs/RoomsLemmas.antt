@@ -6,6 +6,7 @@ use Rattle.std.specs.Global.{Vec}
 use Rattle.std.specs.List.{list_all, slice_get}
 use Rattle.rv_list_laws.proofs.EachLemmas.{all_to_true, all_from_true}
 use Rattle.rv_object_laws.specs.Object.{Section, Object}
+use Rattle.rv_link_laws.specs.declared.bounds.Ground.{Ground}
 use Rattle.rv_link_laws.specs.Moves.{moves, has_room}
 use Rattle.rv_link_laws.specs.Inputs.{Starts, InputSection, goes_to_text, inputs, inputs_from, inputs_of, start_of}
 use Rattle.rv_link_laws.specs.Layout.{section_in, AreRoomy}
@@ -64,8 +65,8 @@ module _ (starts : Starts) where
       (λ k. ap (starts file) (let e : 0 + k ≡ k = omega arith in e) ∙ ap (λ n. starts n k) (let e : file ≡ file + 0 = omega arith in e) ∙ at 0 k)
       ∙ ap (λ b. are_roomy_in f.items && b) (room_files (suc file) fs os tail (λ j k s q a b. planned (suc j) k s q a b) (λ j k. ap (λ n. starts n k) (let e : suc file + j ≡ file + suc j = omega arith in e) ∙ at (suc j) k))
 
-pub are_rooms : (os : List Object) (start : ℕ) (p : Placement) → IsPlacement os start p → (b : Bool) → b ≡ are_roomy p → (b ≡ true) ↔ AreRoomy os (starts_of p)
-are_rooms os start p is b e =
+pub are_rooms : (os : List Object) (bounds : Ground) (p : Placement) → IsPlacement os bounds p → (b : Bool) → b ≡ are_roomy p → (b ≡ true) ↔ AreRoomy os (starts_of p)
+are_rooms os bounds p is b e =
     let same : list_all (room (starts_of p)) (inputs goes_to_text os) ≡ are_roomy p =
     room_files (starts_of p) 1 p.files.items os is.each is.planned (λ j k. ap (λ n. start_in (placed_at p n k)) (let g : 1 + j - 1 ≡ j = omega arith in g)) in
     (λ h. all_to_true (room (starts_of p)) (inputs goes_to_text os) (same ∙ sym e ∙ h), λ h. e ∙ sym same ∙ all_from_true (room (starts_of p)) (inputs goes_to_text os) h)

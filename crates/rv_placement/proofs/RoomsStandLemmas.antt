@@ -81,5 +81,5 @@ module _ (objects : List ShortObject) (start : ℕ) where
       let none : list_all (room starts) (inputs goes_to_text os) ≡ false = rooms starts h ∙ e in
       absurd (cc)
 
-  pub placed_roomy : are_roomy_objects os ≡ true → (p : Placement) → IsPlacement os start p → are_roomy p ≡ true
-  placed_roomy e p is = (are_rooms os start p is (are_roomy p) refl).1 (has_room_anywhere e (starts_of p) is.laid.text.1)
+  pub placed_roomy : are_roomy_objects os ≡ true → (ceiling : ℕ) (p : Placement) → IsPlacement os (record { text = start; ceiling = ceiling }) p → are_roomy p ≡ true
+  placed_roomy e ceiling p is = (are_rooms os (record { text = start; ceiling = ceiling }) p is (are_roomy p) refl).1 (has_room_anywhere e (starts_of p) is.laid.text.1)

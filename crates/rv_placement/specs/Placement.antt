@@ -1,11 +1,13 @@
 -- When sections stand where the layout of objects puts them.
 
-use Rattle.std.specs.Prelude.{◌≡◌, ℕ, ◌-◌, ⊤, Bool, List, length, map, Option, Some, None}
+use Rattle.std.specs.Prelude.{◌≡◌, ℕ, ◌-◌, ◌≤◌, ⊤, Bool, List, length, map, Option, Some, None}
 use Rattle.std.specs.List.{list_all, slice_get}
 use Rattle.std.specs.Global.{Vec}
 use Rattle.rv_size_laws.specs.Alignment.{aligned}
 use Rattle.rv_map_laws.specs.declared.map.Region.{Region}
 use Rattle.rv_object_laws.specs.Object.{Section, Object}
+use Rattle.rv_image_laws.specs.Free.{free_until}
+use Rattle.rv_link_laws.specs.declared.bounds.Ground.{Ground}
 use Rattle.rv_link_laws.specs.Moves.{moves, has_room}
 use Rattle.rv_link_laws.specs.Inputs.{Starts, goes_to_text, goes_to_rodata, goes_to_data, goes_to_bss, inputs, Holds, greatest}
 use Rattle.rv_link_laws.specs.Layout.{Layout, IsLayout, object_section, IsTooLarge, HasRoom}
@@ -42,7 +44,9 @@ layout_of p = record {
   gaps = p.gaps.items;
 }
 
-pub record IsPlacement (os : List Object) (text_start : ℕ) (p : Placement) : Type 0 where
+pub record IsPlacement (os : List Object) (g : Ground) (p : Placement) : Type 0 where
+  -- memory is free up to the ceiling
+  pub free : g.ceiling ≤ free_until g.text
   -- a place for each section of each object
   pub each : map (λ f. length f.items) p.files.items ≡ map (λ o. length o.sections) os
   -- with what is kept where it starts
@@ -50,7 +54,7 @@ pub record IsPlacement (os : List Object) (text_start : ℕ) (p : Placement) : T
       → object_section os file index ≡ Some s → placed_at p file index ≡ Some q
       → moves_of q.plan.now ≡ moves q.start s
   -- and the sections stand where the layout puts them
-  pub laid : IsLayout os text_start (layout_of p)
+  pub laid : IsLayout os g (layout_of p)
 
 -- whether each padding that is placed has room for what is kept of it
 abbrev pub are_roomy_in : List PlacedSection → Bool
@@ -60,9 +64,9 @@ abbrev pub are_roomy : Placement → Bool
 are_roomy p = list_all (λ f. are_roomy_in f.items) p.files.items
 
 -- why sections cannot be placed
-abbrev pub IsUnplaced : List Object → ℕ → PlacementFault → Type 0
-IsUnplaced os text_start TooLarge = IsTooLarge os text_start × HasRoom os text_start
-IsUnplaced os text_start OutOfMemory = ⊤
+abbrev pub IsUnplaced : List Object → Ground → PlacementFault → Type 0
+IsUnplaced os g TooLarge = IsTooLarge os g × HasRoom os g.text
+IsUnplaced os g OutOfMemory = ⊤
 
 -- sections have a layout, however large it is
 abbrev pub HasLayout : List Object → ℕ → Type 0

@@ -4,7 +4,6 @@ use Rattle.std.specs.Prelude.{◌≡◌, ℕ, ◌+◌, ◌<◌, ◌^◌, Bool, n
 use Rattle.std.specs.Global.{Vec}
 use Rattle.std.specs.List.{AllZip}
 use Rattle.rv_size_laws.specs.Alignment.{aligned}
-use Rattle.rv_isa_laws.specs.Platform.{stack_start}
 use Rattle.rv_map_laws.specs.declared.map.Region.{Region}
 use Rattle.rv_object_laws.specs.Object.{Section, Object, size_of}
 use Rattle.rv_link_laws.specs.Moves.{moves, new_offset}
@@ -137,7 +136,7 @@ behind_files fs rodata variables bss os =
     (started_files (goes Data) variables.start
     (started_files (goes Rodata) rodata.start fs os) os) os
 
--- wherever they stand, they pass the end of memory
-abbrev pub AreFar : List Object → ℕ → Type 0
-AreFar os stop =
-    (rodata variables bss : Region) → AreBehind os stop rodata variables bss → stack_start < bss.end
+-- wherever they stand, they pass a ceiling
+abbrev pub AreFar : List Object → ℕ → ℕ → Type 0
+AreFar os ceiling stop =
+    (rodata variables bss : Region) → AreBehind os stop rodata variables bss → ceiling < bss.end

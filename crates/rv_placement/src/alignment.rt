@@ -1,6 +1,7 @@
 //! The multiples at which sections begin.
 
 ghost use Rattle.std.specs.Prelude.{◌≡◌, ◌<◌, ◌≤◌, ◌^◌, map, max};
+ghost use Rattle.rv_image_laws.specs.Free.{highest};
 ghost use Rattle.rv_size_laws.specs.Alignment.{aligned};
 ghost use Rattle.rv_link_laws.specs.Inputs as inputs;
 ghost use Rattle.rv_shorten.specs.Sections.{short_section_of};
@@ -14,7 +15,7 @@ use rv_shorten::{ShortObject, ShortSection};
 pub(crate) fn next_multiple(alignment: u64, address: u64) -> u64
     requires some { 0 < alignment }
     requires small { alignment ≤ 4096 }
-    requires low { address ≤ 2 ^ 62 }
+    requires low { address ≤ highest }
     ensures { result ≡ aligned alignment address }
 {
     (address + (alignment - 1)) / alignment * alignment

@@ -2,8 +2,9 @@
 
 ghost use Rattle.std.specs.Prelude.{◌≡◌, ◌+◌, ◌%◌, ◌<◌, ◌≤◌, ℕ, true, IfOk, IfErr, Some, map, option_map};
 ghost use Rattle.std.specs.List.{slice_get};
-ghost use Rattle.rv_isa_laws.specs.Platform.{stack_start};
+ghost use Rattle.rv_image_laws.specs.Free.{free_until};
 ghost use Rattle.rv_object_laws.specs.Object.{Object as PlainObject};
+ghost use Rattle.rv_link_laws.specs.declared.bounds.Ground.{Ground as SaidGround};
 ghost use Rattle.rv_link_laws.specs.Names.{offset_address};
 ghost use Rattle.rv_shorten.specs.Sections.{short_section_of};
 ghost use Rattle.rv_shorten.specs.View.{short_object_of};
@@ -15,6 +16,7 @@ use crate::fault::PlacementFault;
 use crate::regions::{Regions, regions_behind};
 use crate::text::put_files;
 use rv_image::MEMORY_LIMIT;
+use rv_link_laws::Ground;
 use rv_map_laws::Region;
 use rv_object_types::{FileIndex, Place, SectionIndex};
 use rv_relax::{Plan, SectionPaddings};
@@ -49,8 +51,7 @@ pub struct Placement<'p> {
 
 /// The bytes of memory that the regions need.
 fn memory_of(text: Region, behind: Regions) -> u64
-    requires { (text.end ≤ stack_start) × (behind.rodata.end ≤ stack_start)
-        × (behind.bss.end ≤ stack_start) }
+    requires { (text.end ≤ behind.rodata.start) × (behind.rodata.end ≤ behind.data.start) }
     ensures { result ≡ laws.memory_of text behind.rodata behind.data behind.bss }
 {
     text.end.saturating_sub(text.start)
@@ -72,18 +73,19 @@ pub(crate) fn section_at<'s, 'o, 'a>(
 }
 
 impl<'p> Placement<'p> {
-    /// Places the sections of objects by their plan, in which each padding has room. The text begins at an address.
+    /// Places the sections of objects by their plan, in which each padding has room. The text begins where the ground does.
     pub fn of(
         alloc: Global,
         plan: &'p Plan<'_, '_>,
-        text_start: u64,
+        bounds: Ground,
     ) -> Result<Placement<'p>, PlacementFault>
-        requires page { text_start % 4096 ≡ 0 }
-        requires low { text_start < stack_start }
+        requires page { bounds.text % 4096 ≡ 0 }
+        requires low { bounds.text < bounds.ceiling }
+        requires free { bounds.ceiling ≤ free_until bounds.text }
         requires roomy { are_roomy_objects (planned_objects plan.now) ≡ true }
-        ensures placement { IfOk result (IsPlacement (planned_objects plan.now) text_start) }
+        ensures placement { IfOk result (IsPlacement (planned_objects plan.now) bounds) }
         ensures room { IfOk result (λ placement. are_roomy placement ≡ true) }
-        ensures refuses { IfErr result (IsUnplaced (planned_objects plan.now) text_start) }
+        ensures refuses { IfErr result (IsUnplaced (planned_objects plan.now) bounds) }
     {
         let mut files: Vec<Vec<PlacedSection<'p>>> = Vec::new(alloc);
         let mut gaps = Vec::new(alloc);
@@ -94,16 +96,17 @@ impl<'p> Placement<'p> {
             &mut gaps,
             objects,
             plan.paddings.as_slice(),
-            text_start,
+            bounds.text,
+            bounds.ceiling,
         )?;
         let Some(end) = found else {
             return Err(PlacementFault::TooLarge);
         };
         let text = Region {
-            start: text_start,
+            start: bounds.text,
             end,
         };
-        let Some(behind) = regions_behind(files.as_mut_slice(), objects, end) else {
+        let Some(behind) = regions_behind(files.as_mut_slice(), objects, end, bounds.ceiling) else {
             return Err(PlacementFault::TooLarge);
         };
         if memory_of(text, behind) > MEMORY_LIMIT {
@@ -129,8 +132,8 @@ impl<'p> Placement<'p> {
 
     /// The address of a place of the objects; none where its section has none.
     pub fn address(&self, objects: &[ShortObject<'_, '_>], place: Place) -> Option<u64>
-        ensures { (start : ℕ) (o : PlainObject)
-            → IsPlacement (map short_object_of objects.now) start self.now
+        ensures { (bounds : SaidGround) (o : PlainObject)
+            → IsPlacement (map short_object_of objects.now) bounds self.now
             → slice_get (map short_object_of objects.now) place.file.0 ≡ Some o
             → result ≡ offset_address (starts_of self.now (place.file.0 + 1) place.section.0)
             place.offset (slice_get o.sections place.section.0) }

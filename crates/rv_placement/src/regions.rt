@@ -4,7 +4,7 @@
 //! section is as long as in its object.
 
 ghost use Rattle.std.specs.Prelude.{◌≡◌, ◌+◌, ◌<◌, ◌≤◌, map, length, IfSome, IfNone};
-ghost use Rattle.rv_isa_laws.specs.Platform.{stack_start};
+ghost use Rattle.rv_image_laws.specs.Free.{highest};
 ghost use Rattle.rv_object_laws.specs.Object.{size_of};
 ghost use Rattle.rv_shorten.specs.Sections.{short_section_of};
 ghost use Rattle.rv_shorten.specs.View.{short_object_of};
@@ -13,7 +13,6 @@ ghost use Rattle.rv_placement.specs.Walk.{goes, next, ended, ended_files, start_
 use crate::alignment::{greatest_of, multiple_of, next_multiple};
 use crate::destination::{Destination, goes_to};
 use crate::placement::PlacedSection;
-use rv_image::STACK_START;
 use rv_map_laws::Region;
 use rv_shorten::{ShortObject, ShortSection};
 
@@ -32,45 +31,48 @@ pub(crate) struct Regions {
 }
 
 /// Where a section starts and ends that loses no byte and comes after an end; `None` where it
-/// passes the end of memory.
-fn behind(section: &ShortSection<'_, '_>, stop: u64) -> Option<(u64, u64)>
-    requires { stop ≤ stack_start }
+/// passes the ceiling.
+fn behind(section: &ShortSection<'_, '_>, stop: u64, ceiling: u64) -> Option<(u64, u64)>
+    requires low { stop ≤ ceiling }
+    requires high { ceiling ≤ highest }
     ensures found { IfSome result (λ found.
         (found.0 ≡ start_behind stop (short_section_of section.now))
         × (found.1 ≡ found.0 + size_of (short_section_of section.now).contents)
-        × (found.1 ≤ stack_start)) }
+        × (found.1 ≤ ceiling)) }
     ensures far { IfNone result
         (let s = short_section_of section.now in
-        stack_start < start_behind stop s + size_of s.contents) }
+        ceiling < start_behind stop s + size_of s.contents) }
 {
     let start = next_multiple(multiple_of(section), stop);
     let end = start.checked_add(section.size())?;
-    if end > STACK_START {
+    if end > ceiling {
         return None;
     }
     Some((start, end))
 }
 
 /// Moves a section that goes to a region behind an end. Gives the end after it, or `None` where it
-/// passes the end of memory.
+/// passes the ceiling.
 fn move_section(
     place: &mut PlacedSection<'_>,
     section: &ShortSection<'_, '_>,
     destination: Destination,
     stop: u64,
+    ceiling: u64,
 ) -> Option<u64>
-    requires { stop ≤ stack_start }
+    requires low { stop ≤ ceiling }
+    requires high { ceiling ≤ highest }
     ensures moved { IfSome result (λ end.
         (place.new ≡ moved_to (goes destination) stop place.old (short_section_of section.now))
         × (end ≡ next (goes destination) stop (short_section_of section.now))
-        × (end ≤ stack_start)) }
+        × (end ≤ ceiling)) }
     ensures far { IfNone result
-        (stack_start < next (goes destination) stop (short_section_of section.now)) }
+        (ceiling < next (goes destination) stop (short_section_of section.now)) }
 {
     if !goes_to(destination, section) {
         return Some(stop);
     }
-    let (start, end) = behind(section, stop)?;
+    let (start, end) = behind(section, stop, ceiling)?;
     place.start = start;
     Some(end)
 }
@@ -81,20 +83,22 @@ fn move_file(
     sections: &[ShortSection<'_, '_>],
     destination: Destination,
     first: u64,
+    ceiling: u64,
 ) -> Option<u64>
     requires each { length places.old ≡ length sections.now }
-    requires low { first ≤ stack_start }
+    requires low { first ≤ ceiling }
+    requires high { ceiling ≤ highest }
     ensures moved { IfSome result (λ end.
         (places.new
         ≡ started (goes destination) first places.old (map short_section_of sections.now))
         × (end ≡ ended (goes destination) first (map short_section_of sections.now))
-        × (end ≤ stack_start)) }
+        × (end ≤ ceiling)) }
     ensures far { IfNone result
-        (stack_start < ended (goes destination) first (map short_section_of sections.now)) }
+        (ceiling < ended (goes destination) first (map short_section_of sections.now)) }
 {
     let mut stop = first;
     for i in 0..sections.len() {
-        stop = move_section(&mut places[i], &sections[i], destination, stop)?;
+        stop = move_section(&mut places[i], &sections[i], destination, stop, ceiling)?;
     }
     Some(stop)
 }
@@ -105,80 +109,93 @@ fn move_files(
     objects: &[ShortObject<'_, '_>],
     destination: Destination,
     first: u64,
+    ceiling: u64,
 ) -> Option<u64>
     requires each { map length (lists_of files.old)
         ≡ map (λ o. length o.sections) (map short_object_of objects.now) }
-    requires low { first ≤ stack_start }
+    requires low { first ≤ ceiling }
+    requires high { ceiling ≤ highest }
     ensures moved { IfSome result (λ end. (lists_of files.new
         ≡ started_files (goes destination) first (lists_of files.old)
         (map short_object_of objects.now))
         × (end ≡ ended_files (goes destination) first (map short_object_of objects.now))
-        × (end ≤ stack_start)) }
+        × (end ≤ ceiling)) }
     ensures far { IfNone result
-        (stack_start < ended_files (goes destination) first (map short_object_of objects.now)) }
+        (ceiling < ended_files (goes destination) first (map short_object_of objects.now)) }
 {
     let mut stop = first;
     for i in 0..objects.len() {
         let sections = objects[i].sections.as_slice();
-        stop = move_file(files[i].as_mut_slice(), sections, destination, stop)?;
+        stop = move_file(
+            files[i].as_mut_slice(),
+            sections,
+            destination,
+            stop,
+            ceiling,
+        )?;
     }
     Some(stop)
 }
 
-/// Places the sections that go to a region from an address on; `None` where they pass the end of
-/// memory.
+/// Places the sections that go to a region from an address on; `None` where they pass the ceiling.
 fn region(
     files: &mut [Vec<PlacedSection<'_>>],
     objects: &[ShortObject<'_, '_>],
     destination: Destination,
     start: u64,
+    ceiling: u64,
 ) -> Option<Region>
-    requires { map length (lists_of files.old)
+    requires each { map length (lists_of files.old)
         ≡ map (λ o. length o.sections) (map short_object_of objects.now) }
+    requires high { ceiling ≤ highest }
     ensures moved { IfSome result (λ r. (r.start ≡ start) × (lists_of files.new
         ≡ started_files (goes destination) start (lists_of files.old)
         (map short_object_of objects.now))
         × (r.end ≡ ended_files (goes destination) start (map short_object_of objects.now))
-        × (r.end ≤ stack_start)) }
+        × (r.end ≤ ceiling)) }
     ensures far { IfNone result
-        (stack_start < ended_files (goes destination) start (map short_object_of objects.now)) }
+        (ceiling < ended_files (goes destination) start (map short_object_of objects.now)) }
 {
-    if start > STACK_START {
+    if start > ceiling {
         return None;
     }
-    let end = move_files(files, objects, destination, start)?;
+    let end = move_files(files, objects, destination, start, ceiling)?;
     Some(Region { start, end })
 }
 
 /// Places the regions behind a text that ends at an address: rodata and data at the next pages, bss
-/// after data. `None` where they pass the end of memory.
+/// after data. `None` where they pass the ceiling.
 pub(crate) fn regions_behind(
     files: &mut [Vec<PlacedSection<'_>>],
     objects: &[ShortObject<'_, '_>],
     text_end: u64,
+    ceiling: u64,
 ) -> Option<Regions>
     requires each { map length (lists_of files.old)
         ≡ map (λ o. length o.sections) (map short_object_of objects.now) }
-    requires low { text_end ≤ stack_start }
+    requires low { text_end ≤ ceiling }
+    requires high { ceiling ≤ highest }
     ensures behind { IfSome result
         (λ r. AreBehind (map short_object_of objects.now) text_end r.rodata r.data r.bss) }
     ensures moved { IfSome result (λ r. lists_of files.new
         ≡ behind_files (lists_of files.old) r.rodata r.data r.bss
         (map short_object_of objects.now)) }
-    ensures low { IfSome result (λ r. r.bss.end ≤ stack_start) }
-    ensures far { IfNone result (AreFar (map short_object_of objects.now) text_end) }
+    ensures low { IfSome result (λ r. r.bss.end ≤ ceiling) }
+    ensures far { IfNone result (AreFar (map short_object_of objects.now) ceiling text_end) }
 {
     let rodata = region(
         files,
         objects,
         Destination::Rodata,
         next_multiple(PAGE, text_end),
+        ceiling,
     )?;
     let data = region(
         files,
         objects,
         Destination::Data,
         next_multiple(PAGE, rodata.end),
+        ceiling,
     )?;
     let alignment = greatest_of(Destination::Bss, objects);
     let bss = region(
@@ -186,6 +203,7 @@ pub(crate) fn regions_behind(
         objects,
         Destination::Bss,
         next_multiple(alignment, data.end),
+        ceiling,
     )?;
     Some(Regions { rodata, data, bss })
 }

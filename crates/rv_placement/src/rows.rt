@@ -10,6 +10,7 @@ ghost use Rattle.std.specs.List.{slice_get};
 ghost use Rattle.rv_map_laws.specs.Limits.{IsRow};
 ghost use Rattle.rv_object_laws.specs.Object.{Object as PlainObject};
 ghost use Rattle.rv_object_laws.specs.Valid.{are_rows};
+ghost use Rattle.rv_link_laws.specs.declared.bounds.Ground.{Ground};
 ghost use Rattle.rv_link_laws.specs.IsLinkOf as laws;
 ghost use Rattle.rv_link_laws.specs.Moves.{new_offset};
 ghost use Rattle.rv_shorten.specs.View.{short_object_of};
@@ -73,7 +74,7 @@ impl<'p> Placement<'p> {
         requires own { IsTrue
             (are_rows (short_object_of object.now).sections (moved_rows object.now own.now)) }
         ensures known { OnOk result (All IsRow rows.old.items → All IsRow rows.new.items) }
-        ensures added { (os : List PlainObject) (start : ℕ) → IsPlacement os start self.now
+        ensures added { (os : List PlainObject) (bounds : Ground) → IsPlacement os bounds self.now
             → slice_get os file.0 ≡ Some (short_object_of object.now)
             → IfOk result (λ _. rows.new.items ≡ rows.old.items
             ++ map (laws.row_in (starts_of self.now) (file.0 + 1) (short_object_of object.now))
@@ -100,7 +101,7 @@ impl<'p> Placement<'p> {
     ) -> Result<(), AllocError>
         requires { file.0 + 1 < 2 ^ 64 }
         ensures known { OnOk result (All IsRow rows.old.items → All IsRow rows.new.items) }
-        ensures added { (os : List PlainObject) (start : ℕ) → IsPlacement os start self.now
+        ensures added { (os : List PlainObject) (bounds : Ground) → IsPlacement os bounds self.now
             → slice_get os file.0 ≡ Some (short_object_of object.now)
             → IfOk result (λ _. rows.new.items ≡ rows.old.items
             ++ map (laws.row_in (starts_of self.now) (file.0 + 1) (short_object_of object.now))
@@ -121,7 +122,7 @@ impl<'p> Placement<'p> {
         objects: &[ShortObject<'_, '_>],
     ) -> Result<Vec<MapRow>, AllocError>
         ensures known { IfOk result (λ rows. All IsRow rows.items) }
-        ensures rows { (start : ℕ) → IsPlacement (map short_object_of objects.now) start self.now
+        ensures rows { (bounds : Ground) → IsPlacement (map short_object_of objects.now) bounds self.now
             → IfOk result (λ rows. rows.items
             ≡ laws.rows_of (starts_of self.now) 1 (map short_object_of objects.now)) }
     {

@@ -3,6 +3,7 @@
 use Rattle.std.proofs.Common.{◌≡◌, ℕ, ◌+◌, ◌%◌, ◌^◌, true, false, [], ◌∷◌, Some, None, sym, ◌∙◌, ap, arith, inl, inr}
 use Rattle.std.specs.Prelude.{if◌then◌else◌, option_and_then}
 use Rattle.rv_object_laws.specs.Object.{Object}
+use Rattle.rv_link_laws.specs.Ground.{usual}
 use Rattle.rv_link_laws.specs.Inputs.{Starts}
 use Rattle.rv_link_laws.specs.Names.{begins_run, run_start, export_address, entry_of}
 use Rattle.rv_link_laws.specs.Entry.{is_entry, has_entry}
@@ -25,13 +26,13 @@ module _ (o : Object) (start : ℕ) (h : IsSimple o start) where
       ∙ ap (λ b. if b then export_address starts (entry_at o h.entered.index h.entered.offset) else None) runs
       ∙ address_in o start h (starts 1) h.entered.offset
 
-  not_odd : (p : Layout) → IsLayout (o ∷ []) start p → IsOddEntry (o ∷ []) p → ⊥
+  not_odd : (p : Layout) → IsLayout (o ∷ []) (usual start) p → IsOddEntry (o ∷ []) p → ⊥
   not_odd p placed odd =
       let at = stands o start h p.starts placed.text.1 in
       let page = h.begins.0 in
       let even = h.entered.even in
       odd ((p.starts 1 0 + h.entered.offset) % 2 ^ 64) (entry_address p.starts) (omega (arith, at, page, even))
 
-  pub has_it : LacksEntry (o ∷ []) start → ⊥
+  pub has_it : LacksEntry (o ∷ []) (usual start) → ⊥
   has_it (inl none) = absurd (let clash : true ≡ false = sym some_entry ∙ none in cc)
   has_it (inr (p, placed, odd)) = not_odd p placed odd

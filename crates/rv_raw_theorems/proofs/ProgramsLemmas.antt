@@ -13,6 +13,7 @@ use Rattle.rv_assemble_laws.specs.IsObjectOf.{IsObjectOf}
 use Rattle.rv_assemble_laws.proofs.FilledLemmas.{filled}
 use Rattle.rv_fault.specs.declared.link_fault.LinkFault.{LinkFault}
 use Rattle.rv_fault.specs.declared.link_fault.LinkFault.TheVariants.{Overflow, OddTarget, DanglingPcrel, AlignmentShort, Undefined, Duplicate, EntryMissing, ImageTooLarge, BadTextStart, TooManyFiles, OutOfMemory}
+use Rattle.rv_link_laws.specs.Ground.{usual}
 use Rattle.rv_link_laws.specs.TextStart.{IsTextStart}
 use Rattle.rv_link_laws.specs.Refusals.{IsUnlinked, HasNoProgram}
 use Rattle.rv_raw_theorems.specs.Listed.{listed, IsShortListing, FitsAt}
@@ -70,7 +71,7 @@ module _ (o : Object) (start : ℕ) (h : IsSimple o start) where
   clash : {X : Type 0} (x : X) (found : Option X) → found ≡ None → found ≡ Some x → ⊥
   clash x found none some = absurd (let e : Some x ≡ None = sym some ∙ none in cc)
 
-  only_memory : (fault : LinkFault) → IsUnlinked (o ∷ []) start fault → fault ≡ OutOfMemory
+  only_memory : (fault : LinkFault) → IsUnlinked (o ∷ []) (usual start) fault → fault ≡ OutOfMemory
   only_memory TooManyFiles many = absurd (omega (arith, many))
   only_memory BadTextStart (few, bad) = absurd (bad h.begins)
   only_memory (Duplicate name) (within, twice) = absurd (clash name.items _ (none_twice o start h) twice)
@@ -83,11 +84,11 @@ module _ (o : Object) (start : ℕ) (h : IsSimple o start) where
   only_memory DanglingPcrel (comes, (p, placed, room, first)) = absurd (all_taken o start h p placed DanglingPcrel first)
   only_memory OutOfMemory any = refl
 
-  pub refused : (relax gc : Bool) (fault : LinkFault) → HasNoProgram (o ∷ []) start relax gc fault → fault ≡ OutOfMemory
+  pub refused : (relax gc : Bool) (fault : LinkFault) → HasNoProgram (o ∷ []) (usual start) relax gc fault → fault ≡ OutOfMemory
   refused relax gc fault n =
       only_memory fault
-      (subst (λ os. IsUnlinked os start fault) (left_is o h.section h.alone h.leading h.loaded (text o start h) h.entered relax gc n.drops n.left n.leaves) n.unlinked)
+      (subst (λ os. IsUnlinked os (usual start) fault) (left_is o h.section h.alone h.leading h.loaded (text o start h) h.entered relax gc n.drops n.left n.leaves) n.unlinked)
 
 pub has_program : (before after : List Code) → IsShortListing before after → (o : Object) → IsObjectOf (listed before after) o → (start : ℕ) → IsTextStart start → FitsAt start before after
-    → (relax gc : Bool) (fault : LinkFault) → HasNoProgram (o ∷ []) start relax gc fault → fault ≡ OutOfMemory
+    → (relax gc : Bool) (fault : LinkFault) → HasNoProgram (o ∷ []) (usual start) relax gc fault → fault ≡ OutOfMemory
 has_program before after h o is start begins fits relax gc fault n = refused o start (simple before after h o is start begins fits) relax gc fault n

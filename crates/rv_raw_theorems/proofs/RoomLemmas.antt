@@ -7,6 +7,7 @@ use Rattle.rv_isa_laws.specs.Platform.{stack_start, memory_limit}
 use Rattle.rv_size_laws.specs.Alignment.{aligned}
 use Rattle.rv_map_laws.specs.declared.map.Region.{Region}
 use Rattle.rv_object_laws.specs.Object.{Section, Object, size_of}
+use Rattle.rv_link_laws.specs.Ground.{usual}
 use Rattle.rv_link_laws.specs.Inputs.{Starts, InputSection, has_no_bytes, goes_to_text, goes_to_rodata, goes_to_data, goes_to_bss, inputs, start_of, Holds, greatest}
 use Rattle.rv_link_laws.specs.Moves.{moves, has_room}
 use Rattle.rv_link_laws.specs.Refusals.{LacksRoom}
@@ -66,7 +67,7 @@ module _ (o : Object) (start : ℕ) (h : IsSimple o start) where
   by_one : aligned (greatest (inputs goes_to_bss (o ∷ []))) page ≡ page
   by_one = ap (λ is. aligned (greatest is) page) (inputs_none o h.section h.alone goes_to_bss no_bss) ∙ (let e : (page + (1 - 1)) / 1 * 1 ≡ page = omega arith in e)
 
-  pub not_too_large : IsTooLarge (o ∷ []) start → ⊥
+  pub not_too_large : IsTooLarge (o ∷ []) (usual start) → ⊥
   not_too_large large = by (large there code empty empty empty holds_code (none_behind goes_to_rodata no_rodata page refl) (none_behind goes_to_data no_data (aligned 4096 page) again) (none_behind goes_to_bss no_bss (aligned (greatest (inputs goes_to_bss (o ∷ []))) page) by_one))
     where
       by : (stack_start < page) ⊎ (memory_limit < memory_of code empty empty empty) → ⊥

@@ -8,6 +8,7 @@ use Rattle.rv_isa.specs.declared.kind.Kind.TheVariants as kinds
 use Rattle.rv_reloc_laws.specs.Ranges.{Refuses}
 use Rattle.rv_reloc_laws.specs.Values.{relative, calculation, value_of}
 use Rattle.rv_object_laws.specs.Object.{Relocation, Object}
+use Rattle.rv_link_laws.specs.Ground.{usual}
 use Rattle.rv_link_laws.specs.Inputs.{InputSection, inputs}
 use Rattle.rv_link_laws.specs.IsLinkOf.{is_loaded}
 use Rattle.rv_link_laws.specs.Names.{symbol_address}
@@ -35,7 +36,7 @@ none_fails P Q Good never [] h f = f
 none_fails P Q Good never (x ∷ xs) (one, h) (inl fails) = never x one fails
 none_fails P Q Good never (x ∷ xs) (one, h) (inr (passes, f)) = none_fails P Q Good never xs h f
 
-module _ (o : Object) (start : ℕ) (h : IsSimple o start) (p : Layout) (placed : IsLayout (o ∷ []) start p) where
+module _ (o : Object) (start : ℕ) (h : IsSimple o start) (p : Layout) (placed : IsLayout (o ∷ []) (usual start) p) where
   abbrev i : InputSection
   i = input o h.section h.alone
 

@@ -15,6 +15,7 @@ use Rattle.rv_assemble_laws.specs.Refusals.{statements_fault, IsTooLong}
 use Rattle.rv_assemble_laws.specs.IsObjectOf.{IsObjectOf}
 use Rattle.rv_fault.specs.declared.link_fault.LinkFault.{LinkFault}
 use Rattle.rv_fault.specs.declared.link_fault.LinkFault.TheVariants.{OutOfMemory}
+use Rattle.rv_link_laws.specs.Ground.{usual}
 use Rattle.rv_link_laws.specs.TextStart.{IsTextStart}
 use Rattle.rv_link_laws.specs.Refusals.{HasNoProgram}
 
@@ -45,5 +46,5 @@ HaveAProgram =
     (before after : List Code) → IsShortListing before after
     → (o : Object) → IsObjectOf (listed before after) o
     → (start : ℕ) → IsTextStart start → FitsAt start before after
-    → (relax gc : Bool) (fault : LinkFault) → HasNoProgram (o ∷ []) start relax gc fault
+    → (relax gc : Bool) (fault : LinkFault) → HasNoProgram (o ∷ []) (usual start) relax gc fault
     → fault ≡ OutOfMemory

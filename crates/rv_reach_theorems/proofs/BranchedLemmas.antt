@@ -22,6 +22,7 @@ use Rattle.rv_unit_laws.specs.Tables.{Tables, tables, opened_of, longest_section
 use Rattle.rv_object_laws.specs.declared.symbol.Definition.TheVariants as definitions
 use Rattle.rv_object_laws.specs.declared.row.Row.{Row}
 use Rattle.rv_object_laws.specs.Object.{Relocation, Section, Symbol, Object, size_of}
+use Rattle.rv_link_laws.specs.declared.bounds.Ground.{Ground}
 use Rattle.rv_link_laws.specs.Moves.{Move, moves, new_offset}
 use Rattle.rv_link_laws.specs.Inputs.{InputSection, goes_to_text, inputs}
 use Rattle.rv_link_laws.specs.Layout.{Layout, IsLayout, outer_in}
@@ -37,7 +38,7 @@ use Rattle.rv_link_laws.specs.Without.{without}
 use Rattle.rv_link_laws.proofs.TextInputsLemmas.{IsTextInput, whole_inputs}
 use Rattle.rv_link_laws.proofs.InputsLeftLemmas.{text_is, inputs_left}
 use Rattle.rv_link_laws.proofs.WholeLemmas.{whole_left}
-use Rattle.rv_link_laws.specs.TextStart.{IsTextStart}
+use Rattle.rv_link_laws.specs.Ground.{IsGround}
 use Rattle.rv_assemble_laws.specs.LaidStatements.{LaidStatement, expression_value, parts, laid_in, end_of, HasSize}
 use Rattle.rv_assemble_laws.specs.IsObjectOf.{Numbering, row_of, relocations_from, IsSectionOf, IsObjectOf}
 use Rattle.rv_sources_link_theorems.specs.Joins.{AreObjectsOf}
@@ -340,16 +341,16 @@ all_near_left sources drops us h = subst (AllByRecursion (HasNear sources)) (sym
 
 -- ---- where calls are shortened
 
-relaxed_one : (os : List Object) (whole : AllByRecursion IsWhole os) (kept : List ℕ) (greatest : IsGreatestClosed (sites_of os) kept) (start : ℕ) (p : Layout) (begins : IsTextStart start)
-    (placed : IsLayout (shortened kept os) start p) (k : ℕ) (i : InputSection) → slice_get (inputs goes_to_text os) k ≡ Some i → (q : Relocation) → IsNearIn i q → is_short_branch q.kind ≡ true
+relaxed_one : (os : List Object) (whole : AllByRecursion IsWhole os) (kept : List ℕ) (greatest : IsGreatestClosed (sites_of os) kept) (bounds : Ground) (p : Layout) (begins : IsGround bounds)
+    (placed : IsLayout (shortened kept os) bounds p) (k : ℕ) (i : InputSection) → slice_get (inputs goes_to_text os) k ≡ Some i → (q : Relocation) → IsNearIn i q → is_short_branch q.kind ≡ true
     → IsTaken (shortened kept os) p (left_input os kept i)
     (shortened_relocation (sizes_by os kept i.file i.index) (cuts (sizes_by os kept i.file i.index) i.section) q)
-relaxed_one os whole kept greatest start p begins placed k i there q it short =
+relaxed_one os whole kept greatest bounds p begins placed k i there q it short =
     subst (λ kind. IsTaken left p (left_input os kept i) (record { place = new_offset ms q.place; kind = kind; symbol = q.symbol; addend = q.addend })) (sym kind_is)
-    (taken_by left p (left_input os kept i) (new_offset ms q.place) q.symbol q.addend (address os kept start starts i it.to) (address os kept start starts i it.from)
-    (address_low os whole kept greatest start p begins placed k i there it.to it.low_to) target_is (ap (λ n. starts i.file i.index + new_offset (moves (starts i.file i.index) (left_input os kept i).section) (new_offset ms n)) it.place_is)
+    (taken_by left p (left_input os kept i) (new_offset ms q.place) q.symbol q.addend (address os kept bounds.text starts i it.to) (address os kept bounds.text starts i it.from)
+    (address_low os whole kept greatest bounds p begins placed k i there it.to it.low_to) target_is (ap (λ n. starts i.file i.index + new_offset (moves (starts i.file i.index) (left_input os kept i).section) (new_offset ms n)) it.place_is)
     q.kind short
-    (reaches_nearer (half_of q.kind) q.addend (pos (address os kept start starts i it.to) -ℤ pos (address os kept start starts i it.from)) (pos it.to -ℤ pos it.from)
+    (reaches_nearer (half_of q.kind) q.addend (pos (address os kept bounds.text starts i it.to) -ℤ pos (address os kept bounds.text starts i it.from)) (pos it.to -ℤ pos it.from)
     (closer (size_of i.section.contents) ms frame.frame.allowed.order (left_input os kept i).section plain.padded (starts i.file i.index) it.from it.to it.even_from it.even_to) it.reaches))
   where
     left : List Object
@@ -365,15 +366,15 @@ relaxed_one os whole kept greatest start p begins placed k i there q it short =
     input = each_get (IsTextInput os) (inputs goes_to_text os) k i (whole_inputs os whole) there
 
     frame : HasFrame os kept i
-    frame = frame_at os kept 0 0 (inputs goes_to_text os) (all_frames os whole kept greatest start p begins placed) k i there
+    frame = frame_at os kept 0 0 (inputs goes_to_text os) (all_frames os whole kept greatest bounds p begins placed) k i there
 
     plain : IsPlain os kept i
-    plain = each_get (IsPlain os kept) (inputs goes_to_text os) k i (plains os whole kept greatest start p begins placed) there
+    plain = each_get (IsPlain os kept) (inputs goes_to_text os) k i (plains os whole kept greatest bounds p begins placed) there
 
     kind_is : shortened_kind (sizes_by os kept i.file i.index) q ≡ q.kind
     kind_is = ap (λ b. if b && nat_lt (sizes_by os kept i.file i.index q.place) 8 then (if sizes_by os kept i.file i.index q.place == 2 then kinds.RvcJump else kinds.Jal) else q.kind) (no_call q.kind short)
 
-    target_is : target (outer_in left p) (p.starts i.file) (left_input os kept i).object q.symbol ≡ Some (address os kept start starts i it.to % 2 ^ 64)
+    target_is : target (outer_in left p) (p.starts i.file) (left_input os kept i).object q.symbol ≡ Some (address os kept bounds.text starts i it.to % 2 ^ 64)
     target_is =
         ap (target (outer_in left p) (p.starts i.file) (left_input os kept i).object) it.symbol_is
         ∙ ap (option_and_then (symbol_address (outer_in left p) (p.starts i.file) (left_input os kept i).object))
@@ -382,11 +383,11 @@ relaxed_one os whole kept greatest start p begins placed k i there q it short =
         ∙ here
       where
         here : symbol_address (outer_in left p) (p.starts i.file) (left_input os kept i).object
-            (shortened_symbol (sizes_by os kept i.file) i.object (record { name = it.x.name; binding = it.x.binding; definition = definitions.InSection i.index it.to })) ≡ Some (address os kept start starts i it.to % 2 ^ 64)
+            (shortened_symbol (sizes_by os kept i.file) i.object (record { name = it.x.name; binding = it.x.binding; definition = definitions.InSection i.index it.to })) ≡ Some (address os kept bounds.text starts i it.to % 2 ^ 64)
         here =
             ap (λ b. if not b then defined_address (p.starts i.file) (left_input os kept i).object (shortened_definition (sizes_by os kept i.file) i.object (definitions.InSection i.index it.to))
             else outer_in left p (shortened_symbol (sizes_by os kept i.file) i.object (record { name = it.x.name; binding = it.x.binding; definition = definitions.InSection i.index it.to }))) it.strong
-            ∙ subst (λ (u : Object). defined_address (p.starts i.file) (shortened_object (sizes_by os kept i.file) u) (shortened_definition (sizes_by os kept i.file) u (definitions.InSection i.index it.to)) ≡ Some (address os kept start starts i it.to % 2 ^ 64)) input.at
+            ∙ subst (λ (u : Object). defined_address (p.starts i.file) (shortened_object (sizes_by os kept i.file) u) (shortened_definition (sizes_by os kept i.file) u (definitions.InSection i.index it.to)) ≡ Some (address os kept bounds.text starts i it.to % 2 ^ 64)) input.at
             (defined_at os kept starts i.file i.index it.to i.section (subst (λ (u : Object). slice_get u.sections i.index ≡ Some i.section) (sym input.at) input.there) input.text)
 
 abbrev Reaching : List (List Statement) → List Object → Layout → (before now : Relocation) → (of to : InputSection) → Type 0
@@ -395,9 +396,9 @@ Reaching sources left p before now i j = is_chosen_branch sources i before ≡ t
 short_of : (sources : List (List Statement)) (i : InputSection) (q : Relocation) → is_chosen_branch sources i q ≡ true → is_short_branch q.kind ≡ true
 short_of sources i q chosen = (and_parts (is_short_branch q.kind) (not (is_of_parcel sources i q)) chosen).0
 
-short_reach : (sources : List (List Statement)) (os : List Object) → AllByRecursion IsWhole os → AllByRecursion (HasNear sources) (inputs goes_to_text os) → (kept : List ℕ) → IsGreatestClosed (sites_of os) kept → (start : ℕ) (p : Layout) → IsTextStart start
-    → IsLayout (shortened kept os) start p → ForEachLeft os (shortened kept os) (Reaching sources (shortened kept os) p)
-short_reach sources os whole nears kept greatest start p begins placed section place i j before now at_i at_j at_before at_now short =
+short_reach : (sources : List (List Statement)) (os : List Object) → AllByRecursion IsWhole os → AllByRecursion (HasNear sources) (inputs goes_to_text os) → (kept : List ℕ) → IsGreatestClosed (sites_of os) kept → (bounds : Ground) (p : Layout) → IsGround bounds
+    → IsLayout (shortened kept os) bounds p → ForEachLeft os (shortened kept os) (Reaching sources (shortened kept os) p)
+short_reach sources os whole nears kept greatest bounds p begins placed section place i j before now at_i at_j at_before at_now short =
     let sizes = sizes_by os kept i.file i.index in
     let ms = cuts sizes i.section in
     let left_j : ◌≡◌ {A = Option InputSection} (Some (left_input os kept i)) (Some j) =
@@ -409,14 +410,14 @@ short_reach sources os whole nears kept greatest start p begins placed section p
     let one : shortened_relocation sizes ms before ≡ now = cc in
     subst (λ x. IsTaken (shortened kept os) p x now) here
     (subst (λ x. IsTaken (shortened kept os) p (left_input os kept i) x) one
-    (relaxed_one os whole kept greatest start p begins placed section i at_i before
+    (relaxed_one os whole kept greatest bounds p begins placed section i at_i before
     (each_get (HasNear sources) (inputs goes_to_text os) section i nears at_i place before at_before short) (short_of sources i before short)))
 
 -- ---- where they are not
 
-whole_one : (os : List Object) → AllByRecursion IsWhole os → (start : ℕ) (p : Layout) → IsLayout os start p → (k : ℕ) (i : InputSection) → slice_get (inputs goes_to_text os) k ≡ Some i → (q : Relocation) → IsNearIn i q
+whole_one : (os : List Object) → AllByRecursion IsWhole os → (bounds : Ground) (p : Layout) → IsLayout os bounds p → (k : ℕ) (i : InputSection) → slice_get (inputs goes_to_text os) k ≡ Some i → (q : Relocation) → IsNearIn i q
     → is_short_branch q.kind ≡ true → IsTaken os p i q
-whole_one os whole start p placed k i there q it short =
+whole_one os whole bounds p placed k i there q it short =
     taken_by os p i q.place q.symbol q.addend (stands it.to) (stands it.from) low_to target_is (ap stands it.place_is) q.kind short
     (reaches_nearer (half_of q.kind) q.addend (pos (stands it.to) -ℤ pos (stands it.from)) (pos it.to -ℤ pos it.from)
     (subst (λ n. Nearer (pos n -ℤ pos (stands it.from)) (pos it.to -ℤ pos it.from)) (plain it.to)
@@ -433,7 +434,7 @@ whole_one os whole start p placed k i there q it short =
     input = each_get (IsTextInput os) (inputs goes_to_text os) k i (whole_inputs os whole) there
 
     room : IsLow p i
-    room = each_get (IsLow p) (inputs goes_to_text os) k i (lows os start p placed) there
+    room = each_get (IsLow p) (inputs goes_to_text os) k i (lows os bounds p placed) there
 
     padded : IsPaddedText i.section
     padded = record { text = input.text; low = room.0; paddings = input.paddings }
@@ -456,11 +457,11 @@ whole_one os whole start p placed k i there q it short =
         ∙ ap (offset_address (p.starts i.file i.index) it.to) input.there
         ∙ ap (λ b. if b then Some (stands it.to % 2 ^ 64) else None) (and_parts i.section.loaded i.section.executable input.text).0
 
-same_reach : (sources : List (List Statement)) (os us : List Object) (start : ℕ) (p : Layout) → AllByRecursion IsWhole os → AllByRecursion (HasNear sources) (inputs goes_to_text os) → us ≡ os → IsLayout us start p
+same_reach : (sources : List (List Statement)) (os us : List Object) (bounds : Ground) (p : Layout) → AllByRecursion IsWhole os → AllByRecursion (HasNear sources) (inputs goes_to_text os) → us ≡ os → IsLayout us bounds p
     → ForEachLeft os us (Reaching sources us p)
-same_reach sources os us start p whole nears same placed = subst (λ u. IsLayout u start p → ForEachLeft os u (Reaching sources u p)) (sym same) go placed
+same_reach sources os us bounds p whole nears same placed = subst (λ u. IsLayout u bounds p → ForEachLeft os u (Reaching sources u p)) (sym same) go placed
   where
-    go : IsLayout os start p → ForEachLeft os os (Reaching sources os p)
+    go : IsLayout os bounds p → ForEachLeft os os (Reaching sources os p)
     go placed section place i j before now at_i at_j at_before at_now short =
         let both : ◌≡◌ {A = Option InputSection} (Some i) (Some j) = sym at_i ∙ at_j in
         let here : i ≡ j = cc in
@@ -468,12 +469,12 @@ same_reach sources os us start p whole nears same placed = subst (λ u. IsLayout
         let one : before ≡ now = cc in
         subst (λ x. IsTaken os p x now) here
         (subst (λ x. IsTaken os p i x) one
-        (whole_one os whole start p placed section i at_i before (each_get (HasNear sources) (inputs goes_to_text os) section i nears at_i place before at_before short) (short_of sources i before short)))
+        (whole_one os whole bounds p placed section i at_i before (each_get (HasNear sources) (inputs goes_to_text os) section i nears at_i place before at_before short) (short_of sources i before short)))
 
 pub short_branches_reach : ShortBranchesReach
-short_branches_reach sources os drops us start false p whole h same begins placed =
-    same_reach sources (without drops os) us start p (whole_left drops os whole) (all_near_left sources drops os h) same placed
-short_branches_reach sources all drops us start true p whole h (kept, greatest, same) begins placed =
+short_branches_reach sources os drops us bounds false p whole h same begins placed =
+    same_reach sources (without drops os) us bounds p (whole_left drops os whole) (all_near_left sources drops os h) same placed
+short_branches_reach sources all drops us bounds true p whole h (kept, greatest, same) begins placed =
     let os = without drops all in
-    subst (λ u. IsLayout u start p → ForEachLeft os u (Reaching sources u p)) (sym same)
-    (short_reach sources os (whole_left drops all whole) (all_near_left sources drops all h) kept greatest start p begins) placed
+    subst (λ u. IsLayout u bounds p → ForEachLeft os u (Reaching sources u p)) (sym same)
+    (short_reach sources os (whole_left drops all whole) (all_near_left sources drops all h) kept greatest bounds p begins) placed

@@ -20,6 +20,7 @@ use Rattle.rv_size_laws.proofs.ReachingLemmas.{Nearer, reaches_nearer}
 use Rattle.rv_size_laws.proofs.ShorteningLemmas.{greatest_reaching}
 use Rattle.rv_object_laws.specs.Object.{Relocation, Section, Object, size_of}
 use Rattle.rv_object_laws.specs.Valid.{are_paddings}
+use Rattle.rv_link_laws.specs.declared.bounds.Ground.{Ground}
 use Rattle.rv_link_laws.specs.Moves.{Move, dropped, moves, new_offset, has_padding}
 use Rattle.rv_link_laws.specs.Inputs.{Starts, InputSection, goes_to_text, inputs, Stand}
 use Rattle.rv_link_laws.specs.Names.{Place}
@@ -35,7 +36,7 @@ use Rattle.rv_link_laws.proofs.TextInputsLemmas.{IsTextInput, whole_inputs}
 use Rattle.rv_link_laws.proofs.TextLineLemmas.{site_call, whole_text}
 use Rattle.rv_link_laws.proofs.WholeLemmas.{whole_left}
 use Rattle.rv_link_laws.proofs.TextPlacesLemmas.{target_named}
-use Rattle.rv_link_laws.specs.TextStart.{IsTextStart}
+use Rattle.rv_link_laws.specs.Ground.{IsGround}
 use Rattle.rv_link_laws.specs.Lists.{In}
 use Rattle.rv_cut_laws.specs.Cutting.{are_cuts}
 use Rattle.rv_cut_laws.proofs.ChangesLemmas as changed
@@ -136,8 +137,8 @@ frame_at os kept at gone (x ∷ is) (one, h) (suc k) i e =
 
 -- ---- what is left of objects
 
-module _ (os : List Object) (whole : AllByRecursion IsWhole os) (kept : List ℕ) (greatest : IsGreatestClosed (sites_of os) kept) (start : ℕ) (p : Layout) (begins : IsTextStart start)
-    (placed : IsLayout (shortened kept os) start p) where
+module _ (os : List Object) (whole : AllByRecursion IsWhole os) (kept : List ℕ) (greatest : IsGreatestClosed (sites_of os) kept) (bounds : Ground) (p : Layout) (begins : IsGround bounds)
+    (placed : IsLayout (shortened kept os) bounds p) where
   abbrev left : List Object
   left = shortened kept os
 
@@ -183,7 +184,7 @@ module _ (os : List Object) (whole : AllByRecursion IsWhole os) (kept : List ℕ
   IsLeftLow i = IsLow p (left_input os kept i)
 
   all_lows : AllByRecursion IsLeftLow is
-  all_lows = unmapped (IsLow p) (left_input os kept) is (subst (AllByRecursion (IsLow p)) left_is (lows left start p placed))
+  all_lows = unmapped (IsLow p) (left_input os kept) is (subst (AllByRecursion (IsLow p)) left_is (lows left bounds p placed))
 
   plains_from : (at gone : ℕ) (js : List InputSection) → Frames os kept at gone js → AllByRecursion (IsTextInput os) js → AllByRecursion BeginsSo js → AllByRecursion IsEvenCode js → AllByRecursion IsLeftLow js
       → AllByRecursion (IsPlain os kept) js
@@ -207,49 +208,49 @@ module _ (os : List Object) (whole : AllByRecursion IsWhole os) (kept : List ℕ
   pub plains : AllByRecursion (IsPlain os kept) is
   plains = plains_from 0 0 is all_frames inputs_are (all_begin os (sounds os whole)) (evens 1 os whole) all_lows
 
-  stand : Stand starts start (map (left_input os kept) is)
-  stand = subst (Stand starts start) left_is placed.text.1
+  stand : Stand starts bounds.text (map (left_input os kept) is)
+  stand = subst (Stand starts bounds.text) left_is placed.text.1
 
-  even_start : start % 2 ≡ 0
-  even_start = let page : start % 4096 ≡ 0 = begins.0 in omega (arith, page)
+  even_start : bounds.text % 2 ≡ 0
+  even_start = let page : bounds.text % 4096 ≡ 0 = begins.0 in omega (arith, page)
 
-  begun : start + 0 ≡ 0 + start + 0
+  begun : bounds.text + 0 ≡ 0 + bounds.text + 0
   begun = omega arith
 
   -- ---- two places
 
   pub near : (k : ℕ) (i : InputSection) → slice_get is k ≡ Some i → (l : ℕ) (j : InputSection) → slice_get is l ≡ Some j → (n m : ℕ) → n ≤ size_of i.section.contents → m ≤ size_of j.section.contents
       → N (base os i.file i.index + n) % 2 ≡ 0 → N (base os j.file j.index + m) % 2 ≡ 0
-      → Nearer (pos (address os kept start starts j m) -ℤ pos (address os kept start starts i n)) (pos (N (base os j.file j.index + m)) -ℤ pos (N (base os i.file i.index + n)))
+      → Nearer (pos (address os kept bounds.text starts j m) -ℤ pos (address os kept bounds.text starts i n)) (pos (N (base os j.file j.index + m)) -ℤ pos (N (base os i.file i.index + n)))
   near k i there l j there' n m low high even_i even_j = by (cases_lt k l)
     where
-      ahead : (k < l) ⊎ ((k ≡ l) × (n ≤ m)) → Nearer (pos (address os kept start starts j m) -ℤ pos (address os kept start starts i n)) (pos (N (base os j.file j.index + m)) -ℤ pos (N (base os i.file i.index + n)))
+      ahead : (k < l) ⊎ ((k ≡ l) × (n ≤ m)) → Nearer (pos (address os kept bounds.text starts j m) -ℤ pos (address os kept bounds.text starts i n)) (pos (N (base os j.file j.index + m)) -ℤ pos (N (base os i.file i.index + n)))
       ahead before =
-          nearer_ahead os kept start starts order i n j m
-          (in_order os kept start starts 0 0 start 0 is all_frames plains stand begun even_start even_start refl order k i there l j there' n m low high before) even_i even_j
+          nearer_ahead os kept bounds.text starts order i n j m
+          (in_order os kept bounds.text starts 0 0 bounds.text 0 is all_frames plains stand begun even_start even_start refl order k i there l j there' n m low high before) even_i even_j
 
-      behind : (l < k) ⊎ ((l ≡ k) × (m ≤ n)) → Nearer (pos (address os kept start starts j m) -ℤ pos (address os kept start starts i n)) (pos (N (base os j.file j.index + m)) -ℤ pos (N (base os i.file i.index + n)))
+      behind : (l < k) ⊎ ((l ≡ k) × (m ≤ n)) → Nearer (pos (address os kept bounds.text starts j m) -ℤ pos (address os kept bounds.text starts i n)) (pos (N (base os j.file j.index + m)) -ℤ pos (N (base os i.file i.index + n)))
       behind before =
-          nearer_behind os kept start starts order j m i n
-          (in_order os kept start starts 0 0 start 0 is all_frames plains stand begun even_start even_start refl order l j there' k i there m n high low before) even_j even_i
+          nearer_behind os kept bounds.text starts order j m i n
+          (in_order os kept bounds.text starts 0 0 bounds.text 0 is all_frames plains stand begun even_start even_start refl order l j there' k i there m n high low before) even_j even_i
 
-      by : (k < l) ⊎ (l ≤ k) → Nearer (pos (address os kept start starts j m) -ℤ pos (address os kept start starts i n)) (pos (N (base os j.file j.index + m)) -ℤ pos (N (base os i.file i.index + n)))
+      by : (k < l) ⊎ (l ≤ k) → Nearer (pos (address os kept bounds.text starts j m) -ℤ pos (address os kept bounds.text starts i n)) (pos (N (base os j.file j.index + m)) -ℤ pos (N (base os i.file i.index + n)))
       by (inl less) = ahead (inl less)
       by (inr le) = more (cases_lt l k)
         where
-          more : (l < k) ⊎ (k ≤ l) → Nearer (pos (address os kept start starts j m) -ℤ pos (address os kept start starts i n)) (pos (N (base os j.file j.index + m)) -ℤ pos (N (base os i.file i.index + n)))
+          more : (l < k) ⊎ (k ≤ l) → Nearer (pos (address os kept bounds.text starts j m) -ℤ pos (address os kept bounds.text starts i n)) (pos (N (base os j.file j.index + m)) -ℤ pos (N (base os i.file i.index + n)))
           more (inl less) = behind (inl less)
           more (inr up) = last (cases_lt n m)
             where
-              last : (n < m) ⊎ (m ≤ n) → Nearer (pos (address os kept start starts j m) -ℤ pos (address os kept start starts i n)) (pos (N (base os j.file j.index + m)) -ℤ pos (N (base os i.file i.index + n)))
+              last : (n < m) ⊎ (m ≤ n) → Nearer (pos (address os kept bounds.text starts j m) -ℤ pos (address os kept bounds.text starts i n)) (pos (N (base os j.file j.index + m)) -ℤ pos (N (base os i.file i.index + n)))
               last (inl less) = ahead (inr (omega (arith, le, up), omega (arith, less)))
               last (inr down) = behind (inr (omega (arith, le, up), down))
 
   pub even_at : (k : ℕ) (i : InputSection) → slice_get is k ≡ Some i → (n : ℕ) → n ≤ size_of i.section.contents → n % 2 ≡ 0 → N (base os i.file i.index + n) % 2 ≡ 0
-  even_at k i there n low even = stays_even os kept start starts 0 0 start 0 is all_frames plains stand begun even_start even_start refl order k i there n low even
+  even_at k i there n low even = stays_even os kept bounds.text starts 0 0 bounds.text 0 is all_frames plains stand begun even_start even_start refl order k i there n low even
 
   -- each place has an address of 64 bits
-  pub address_low : (k : ℕ) (i : InputSection) → slice_get is k ≡ Some i → (n : ℕ) → n ≤ size_of i.section.contents → address os kept start starts i n < 2 ^ 64
+  pub address_low : (k : ℕ) (i : InputSection) → slice_get is k ≡ Some i → (n : ℕ) → n ≤ size_of i.section.contents → address os kept bounds.text starts i n < 2 ^ 64
   address_low k i there n low =
       let room = each_get IsLeftLow is k i all_lows there in
       let plain = each_get (IsPlain os kept) is k i plains there in
@@ -263,7 +264,7 @@ module _ (os : List Object) (whole : AllByRecursion IsWhole os) (kept : List ℕ
 
   -- a place past the end of its section stands as far past the end
   past_end_is : (k : ℕ) (i : InputSection) → slice_get is k ≡ Some i → (n : ℕ)
-      → address os kept start starts i n ≡ address os kept start starts i (min n (size_of i.section.contents)) + (n - size_of i.section.contents)
+      → address os kept bounds.text starts i n ≡ address os kept bounds.text starts i (min n (size_of i.section.contents)) + (n - size_of i.section.contents)
   past_end_is k i there n = by (cases_lt (size_of i.section.contents) n)
     where
       ms : List Move
@@ -281,11 +282,11 @@ module _ (os : List Object) (whole : AllByRecursion IsWhole os) (kept : List ℕ
       order_is : are_cuts 0 size ms ≡ true
       order_is = (frame_at os kept 0 0 is all_frames k i there).frame.allowed.order
 
-      by : (size < n) ⊎ (n ≤ size) → address os kept start starts i n ≡ address os kept start starts i (min n size) + (n - size)
+      by : (size < n) ⊎ (n ≤ size) → address os kept bounds.text starts i n ≡ address os kept bounds.text starts i (min n size) + (n - size)
       by (inr low) =
           let same : min n size ≡ n = omega (arith, low) in
           let none : n - size ≡ 0 = omega (arith, low) in
-          (let a = address os kept start starts i n in let e : a ≡ a + 0 = omega arith in e) ∙ ap (λ m. address os kept start starts i m + 0) (sym same) ∙ ap (λ m. address os kept start starts i (min n size) + m) (sym none)
+          (let a = address os kept bounds.text starts i n in let e : a ≡ a + 0 = omega arith in e) ∙ ap (λ m. address os kept bounds.text starts i m + 0) (sym same) ∙ ap (λ m. address os kept bounds.text starts i (min n size) + m) (sym none)
       by (inl past) =
           let same : min n size ≡ size = omega (arith, past) in
           let dropped_all = all_dropped 0 size n ms order_is (omega (arith, past)) in
@@ -296,8 +297,8 @@ module _ (os : List Object) (whole : AllByRecursion IsWhole os) (kept : List ℕ
           let padded_all = ended (starts i.file i.index) (new_offset ms n) left_of plain.padded up in
           let low = within_paddings (starts i.file i.index) (new_offset ms size) left_of plain.padded in
           let whole = padded_all ∙ ap (dropped (moves (starts i.file i.index) left_of)) cut_size in
-          let sum : address os kept start starts i n ≡ address os kept start starts i size + (n - size) = omega (arith, moved, whole, low) in
-          sum ∙ ap (λ m. address os kept start starts i m + (n - size)) (sym same)
+          let sum : address os kept bounds.text starts i n ≡ address os kept bounds.text starts i size + (n - size) = omega (arith, moved, whole, low) in
+          sum ∙ ap (λ m. address os kept bounds.text starts i m + (n - size)) (sym same)
 
   -- ---- a call
 
@@ -377,18 +378,18 @@ module _ (os : List Object) (whole : AllByRecursion IsWhole os) (kept : List ℕ
       pub past : ℕ
       pub target_is : target (outer_in left p) (starts i.file) (left_input os kept i).object q.symbol ≡ Some ((to + past) % 2 ^ 64)
       pub constant_is : constant os i q ≡ int_wrap w64 (q.addend +ℤ pos past)
-      pub reaches : Reaches (half (its i q.place)) (constant os i q) (pos to -ℤ pos (address os kept start starts i q.place))
+      pub reaches : Reaches (half (its i q.place)) (constant os i q) (pos to -ℤ pos (address os kept bounds.text starts i q.place))
 
     leads_to : (t : Option Place) → target_place os i q ≡ t → is_text_place os t ≡ true
         → Reaches (half (its i q.place)) (constant os i q) (pos (N (text_offset os t)) -ℤ pos (N (first + q.place))) → LeadsTo
     leads_to None e leads far = absurd (cc)
     leads_to (Some t) e leads far = record {
-      to = address os kept start starts j moves_at;
+      to = address os kept bounds.text starts j moves_at;
       past = t.offset - size_of j.section.contents;
       target_is = target_stands os kept starts (regions_of p) i q t it input.at e ∙ ap (λ a. Some (a % 2 ^ 64)) (sym address_is ∙ past_end_is spot.number j spot.there t.offset);
       constant_is = ap (λ o. int_wrap w64 (q.addend +ℤ pos (excess os o))) e ∙ ap (λ x. int_wrap w64 (q.addend +ℤ pos (past_end x t.offset))) home_is;
       reaches = reaches_nearer (half (its i q.place)) (constant os i q)
-          (pos (address os kept start starts j moves_at) -ℤ pos (address os kept start starts i q.place)) (pos (N (base os j.file j.index + moves_at)) -ℤ pos (N (first + q.place)))
+          (pos (address os kept bounds.text starts j moves_at) -ℤ pos (address os kept bounds.text starts i q.place)) (pos (N (base os j.file j.index + moves_at)) -ℤ pos (N (first + q.place)))
           (near k i there spot.number j spot.there q.place moves_at low_q low_t even_q even_t) far_j;
     }
       where
@@ -425,7 +426,7 @@ module _ (os : List Object) (whole : AllByRecursion IsWhole os) (kept : List ℕ
         stood : ℕ → ℕ → Section → ℕ
         stood f x s = starts f x + new_offset (moves (starts f x) (shortened_text (sizes_by os kept f x) s)) (new_offset (cuts (sizes_by os kept f x) s) t.offset)
 
-        address_is : address os kept start starts j t.offset ≡ stands os kept starts t it.section
+        address_is : address os kept bounds.text starts j t.offset ≡ stands os kept starts t it.section
         address_is = ap (λ f. stood f j.index j.section) spot.in_file ∙ ap (λ x. stood t.file x j.section) spot.at_index ∙ ap (stood t.file t.section) spot.section
 
     leads : LeadsTo
@@ -437,11 +438,11 @@ module _ (os : List Object) (whole : AllByRecursion IsWhole os) (kept : List ℕ
     now kind = record { place = new_offset (cuts (its i) i.section) q.place; kind = kind; symbol = q.symbol; addend = q.addend }
 
     abbrev away : ℤ
-    away = (pos leads.to -ℤ pos (address os kept start p.starts i q.place)) +ℤ constant os i q
+    away = (pos leads.to -ℤ pos (address os kept bounds.text p.starts i q.place)) +ℤ constant os i q
 
-    worth_is : int_wrap w64 ((pos (unwrap_or (target (outer_in left p) (starts i.file) (left_input os kept i).object q.symbol) 0) +ℤ q.addend) -ℤ pos (address os kept start starts i q.place)) ≡ away
+    worth_is : int_wrap w64 ((pos (unwrap_or (target (outer_in left p) (starts i.file) (left_input os kept i).object q.symbol) 0) +ℤ q.addend) -ℤ pos (address os kept bounds.text starts i q.place)) ≡ away
     worth_is =
-        past_value leads.to (unwrap_or (target (outer_in left p) (starts i.file) (left_input os kept i).object q.symbol) 0) (address os kept start starts i q.place) leads.past q.addend (constant os i q)
+        past_value leads.to (unwrap_or (target (outer_in left p) (starts i.file) (left_input os kept i).object q.symbol) 0) (address os kept bounds.text starts i q.place) leads.past q.addend (constant os i q)
         (half (its i q.place)) (half_most (its i q.place)) leads.constant_is leads.reaches.added (ap (λ o. unwrap_or o 0) leads.target_is)
 
     takes_four : its i q.place ≡ 4 → IsTaken left p (left_input os kept i) (now kinds.Jal)
@@ -498,9 +499,9 @@ same_reach os left p same section place i j before now at_i at_j at_before at_no
     never true e = absurd (cc)
     never false e = absurd (cc)
 
-short_reach : (os : List Object) → AllByRecursion IsWhole os → (kept : List ℕ) → IsGreatestClosed (sites_of os) kept → (start : ℕ) (p : Layout) → IsTextStart start → IsLayout (shortened kept os) start p
+short_reach : (os : List Object) → AllByRecursion IsWhole os → (kept : List ℕ) → IsGreatestClosed (sites_of os) kept → (bounds : Ground) (p : Layout) → IsGround bounds → IsLayout (shortened kept os) bounds p
     → ForEachLeft os (shortened kept os) (Reaches_in (shortened kept os) p)
-short_reach os whole kept greatest start p begins placed section place i j before now at_i at_j at_before at_now short =
+short_reach os whole kept greatest bounds p begins placed section place i j before now at_i at_j at_before at_now short =
     let sizes = sizes_by os kept i.file i.index in
     let ms = cuts sizes i.section in
     let left_j : ◌≡◌ {A = Option InputSection} (Some (left_input os kept i)) (Some j) =
@@ -512,11 +513,11 @@ short_reach os whole kept greatest start p begins placed section place i j befor
     let one : shortened_relocation sizes ms before ≡ now = cc in
     subst (λ x. IsTaken (shortened kept os) p x now) here
     (subst (λ x. IsTaken (shortened kept os) p (left_input os kept i) x) one
-    (is_taken os whole kept greatest start p begins placed section i at_i place before at_before
+    (is_taken os whole kept greatest bounds p begins placed section i at_i place before at_before
     (was_shortened sizes before (ap (λ (x : Relocation). is_short_call before.kind x.kind) one ∙ short))))
 
 pub short_calls_reach : ShortCallsReach
-short_calls_reach os drops us start false p whole same begins placed = same_reach (without drops os) us p same
-short_calls_reach all drops us start true p whole (kept, greatest, same) begins placed =
+short_calls_reach os drops us bounds false p whole same begins placed = same_reach (without drops os) us p same
+short_calls_reach all drops us bounds true p whole (kept, greatest, same) begins placed =
     let os = without drops all in
-    subst (λ u. IsLayout u start p → ForEachLeft os u (Reaches_in u p)) (sym same) (short_reach os (whole_left drops all whole) kept greatest start p begins) placed
+    subst (λ u. IsLayout u bounds p → ForEachLeft os u (Reaches_in u p)) (sym same) (short_reach os (whole_left drops all whole) kept greatest bounds p begins) placed

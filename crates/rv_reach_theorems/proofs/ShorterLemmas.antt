@@ -12,6 +12,7 @@ use Rattle.rv_size_laws.specs.Calls.{site_at, bytes_of, InOrder, is_call as is_c
 use Rattle.rv_size_laws.proofs.ShorteningLemmas.{before_all}
 use Rattle.rv_object_laws.specs.Object.{Section, Object, size_of}
 use Rattle.rv_object_laws.specs.Valid.{is_even, is_section_alignment, are_paddings, fit_inside}
+use Rattle.rv_link_laws.specs.declared.bounds.Ground.{Ground}
 use Rattle.rv_link_laws.specs.Inputs.{InputSection, goes_to_text, inputs_from, inputs_of, inputs}
 use Rattle.rv_link_laws.specs.Moves.{moves, new_offset}
 use Rattle.rv_object_laws.specs.Whole.{IsWholeSection, IsWhole}
@@ -153,7 +154,7 @@ IsLowAt start s = (size_of s.contents < 2 ^ 64) × (start + new_offset (moves st
 abbrev pub IsLow : Layout → InputSection → Type 0
 IsLow p i = IsLowAt (p.starts i.file i.index) i.section
 
-module _ (left : List Object) (start : ℕ) (p : Layout) (placed : IsLayout left start p) where
+module _ (left : List Object) (bounds : Ground) (p : Layout) (placed : IsLayout left bounds p) where
   low_at : (file index : ℕ) (s : Section) → object_section left file index ≡ Some s → IsLowAt (p.starts (suc file) index) s
   low_at file index s there = subst (λ n. IsLowAt n s) (ap (λ k. p.starts k index) (let same : file + 1 ≡ suc file = omega arith in same)) (placed.low file index s there)
 

@@ -13,11 +13,12 @@ use Rattle.rv_object_laws.specs.declared.row.Row.{Row}
 use Rattle.rv_object_laws.specs.Object.{Relocation, Object}
 use Rattle.rv_object_laws.specs.Whole.{IsWhole}
 use Rattle.rv_source_laws.specs.Compressed.{names_parcel}
+use Rattle.rv_link_laws.specs.declared.bounds.Ground.{Ground}
 use Rattle.rv_link_laws.specs.Inputs.{InputSection, goes_to_text, inputs}
 use Rattle.rv_link_laws.specs.CallSites.{is_call}
 use Rattle.rv_link_laws.specs.Shortened.{Relaxes}
 use Rattle.rv_link_laws.specs.Without.{without}
-use Rattle.rv_link_laws.specs.TextStart.{IsTextStart}
+use Rattle.rv_link_laws.specs.Ground.{IsGround}
 use Rattle.rv_link_laws.specs.Untaken.{IsTaken}
 use Rattle.rv_link_laws.specs.Layout.{Layout, IsLayout}
 use Rattle.rv_sources_link_theorems.specs.Joins.{AreObjectsOf}
@@ -74,10 +75,10 @@ ForEachLeft os left P =
 -- each such call takes its value
 abbrev pub ShortCallsReach : Type 0
 ShortCallsReach =
-    (objects : List Object) (drops : List SectionId) (left : List Object) (start : ℕ)
+    (objects : List Object) (drops : List SectionId) (left : List Object) (bounds : Ground)
     (relax : Bool) (l : Layout)
     → AllByRecursion IsWhole objects → Relaxes relax (without drops objects) left
-    → IsTextStart start → IsLayout left start l
+    → IsGround bounds → IsLayout left bounds l
     → ForEachLeft (without drops objects) left
     (λ before now i j. is_short_call before.kind now.kind ≡ true → IsTaken left l j now)
 
@@ -86,18 +87,18 @@ ShortCallsReach =
 abbrev pub ShortBranchesReach : Type 0
 ShortBranchesReach =
     (sources : List (List Statement)) (objects : List Object) (drops : List SectionId)
-    (left : List Object) (start : ℕ) (relax : Bool) (l : Layout)
+    (left : List Object) (bounds : Ground) (relax : Bool) (l : Layout)
     → AllByRecursion IsWhole objects → AreObjectsOf sources objects
     → Relaxes relax (without drops objects) left
-    → IsTextStart start → IsLayout left start l
+    → IsGround bounds → IsLayout left bounds l
     → ForEachLeft (without drops objects) left
     (λ before now i j. is_chosen_branch sources i before ≡ true → IsTaken left l j now)
 
 -- both, where what relaxation leaves of objects of sources is placed: a build has no fault at such
 -- a field
-abbrev pub ShortFormsReach : List (List Statement) → List Object → List Object → ℕ → Type 0
-ShortFormsReach sources os left start =
-    (l : Layout) → IsLayout left start l
+abbrev pub ShortFormsReach : List (List Statement) → List Object → List Object → Ground → Type 0
+ShortFormsReach sources os left bounds =
+    (l : Layout) → IsLayout left bounds l
     → ForEachLeft os left
     (λ before now i j.
     (is_short_call before.kind now.kind || is_chosen_branch sources i before) ≡ true

@@ -1,6 +1,7 @@
 -- The memory of a linked program's image realizes its sources: any number of sections, code and data.
 
 use Rattle.std.proofs.Common.{◌≡◌, ℕ, suc, ◌+◌, ◌-◌, ◌%◌, ◌^◌, ◌<◌, ◌≤◌, Bool, true, false, List, [], ◌∷◌, ◌++◌, length, refl, sym, ap, ◌∙◌, subst, arith, map, Option, Some, None, length-append, ◌⊎◌, inl, inr}
+use Rattle.std.proofs.Math.Nat.{le_trans}
 use Rattle.std.proofs.lemmas.Bool.Decides.{nat_tests}
 use Rattle.std.proofs.lemmas.Bool.{cases_lt, and_parts, and_from, eqb-true}
 use Rattle.std.proofs.lemmas.List.{length-replicate, get_or-replicate}
@@ -34,6 +35,8 @@ use Rattle.rv_map_laws.specs.declared.map.Region.{Region}
 use Rattle.rv_map_laws.specs.declared.map.SectionId.{SectionId}
 use Rattle.rv_collect_laws.specs.Graph.{is_dropped}
 use Rattle.rv_image_laws.specs.Linked.{Linked}
+use Rattle.rv_image_laws.specs.Free.{highest, free_until}
+use Rattle.rv_image_laws.proofs.FreeLemmas.{free_low}
 use Rattle.rv_image_laws.specs.Executable.{linked_image}
 use Rattle.rv_isa_laws.specs.Platform.{stack_start, stack_end}
 use Rattle.rv_image_laws.specs.Memory.{mem_of}
@@ -56,7 +59,7 @@ use Rattle.rv_runs_theorems.proofs.RegionsLemmas.{within_parts, bytes_front, Siz
 use Rattle.rv_runs_theorems.proofs.HeldLemmas.{held_of}
 use Rattle.rv_runs_theorems.proofs.HomesLemmas.{sections_of, sections_in, IsSeated, IsAtHome, seats, homes, to_blocks, from_blocks}
 use Rattle.rv_runs_theorems.proofs.AlignmentsLemmas.{even_files}
-use Rattle.rv_runs_theorems.proofs.LaidOutLemmas.{AreRegions, apart, rights-are, text_held, rodata_held, data_held, bss_held, stack_zero}
+use Rattle.rv_runs_theorems.proofs.LaidOutLemmas.{AreRegions, apart, rights-are, text_held, rodata_held, data_held, bss_held, stack_zero, text_off_stack}
 use Rattle.rv_runs_theorems.proofs.AscendingLemmas.{true_false}
 
 -- ---- the lines of a statement
@@ -384,7 +387,7 @@ module _ (sources : List (List Statement)) (a : ℕ) (relax gc : Bool) (l : Link
     data_after = subst (λ x. map_of.rodata.end ≤ x) (sym data_holds.0) (above 4096 map_of.rodata.end (omega arith));
     bss_after = subst (λ x. map_of.data.end ≤ x) (sym bss_holds.0) (above (greatest (region goes_to_bss)) map_of.data.end (some_alignment (region goes_to_bss)));
     bss_ends = subst (λ x. map_of.bss.start ≤ x) (sym bss_holds.2) (subst (λ x. x ≤ layout_end (aligned (greatest (region goes_to_bss)) map_of.data.end) (region goes_to_bss)) (sym bss_holds.0) (end_above (region goes_to_bss) (aligned (greatest (region goes_to_bss)) map_of.data.end) (is_aligned goes_to_bss)));
-    below = h.below;
+    below = subst (λ x. map_of.bss.end ≤ free_until x) (sym text_holds.0) h.below;
   }
 
   module _ (reader : Reader Spells StandsFor) where
@@ -428,7 +431,7 @@ module _ (sources : List (List Statement)) (a : ℕ) (relax gc : Bool) (l : Link
         (lies goes_to_bss map_of.bss.start (aligned (greatest (region goes_to_bss)) map_of.data.end) map_of.bss.end bss_holds.0 bss_holds.1 bss_holds.2)))))))))
 
     -- the ends of the regions in their order
-    text_room : map_of.text.end ≤ stack_start
+    text_room : map_of.text.end ≤ highest
     text_room =
         let r = are_regions in
         let e1 = r.rodata_after in
@@ -437,7 +440,7 @@ module _ (sources : List (List Statement)) (a : ℕ) (relax gc : Bool) (l : Link
         let e4 = r.data in
         let e5 = r.bss_after in
         let e6 = r.bss_ends in
-        let e7 = r.below in
+        let e7 : map_of.bss.end ≤ highest = le_trans r.below (free_low map_of.text.start) in
         omega arith
 
     rodata_past : map_of.text.end ≤ map_of.rodata.start
@@ -537,18 +540,16 @@ module _ (sources : List (List Statement)) (a : ℕ) (relax gc : Bool) (l : Link
         let r = are_regions in
         let e1 = rodata_past in
         let e2 = data_past in
-        let e3 = text_room in
         let f1 : is_within map_of.rodata.start map_of.rodata.end x ≡ false = apart map_of.text.start map_of.text.end map_of.rodata.start map_of.rodata.end x e1 inside in
         let f2 : is_within map_of.data.start map_of.bss.end x ≡ false = apart map_of.text.start map_of.text.end map_of.data.start map_of.bss.end x e2 inside in
-        let f3 : is_within stack_start stack_end x ≡ false = apart map_of.text.start map_of.text.end stack_start stack_end x e3 inside in
+        let f3 : is_within stack_start stack_end x ≡ false = text_off_stack l are_regions x inside in
         ap (λ b. b || is_within map_of.data.start map_of.bss.end x || is_within stack_start stack_end x) f1 ∙ ap (λ b. false || b || is_within stack_start stack_end x) f2 ∙ ap (λ b. false || false || b) f3
 
     unwritten : (x : ℕ) → is_in map_of.text x ≡ true → right_at map_of x Write ≡ false
     unwritten x inside =
         let e2 = data_past in
-        let e3 = text_room in
         let f2 : is_within map_of.data.start map_of.bss.end x ≡ false = apart map_of.text.start map_of.text.end map_of.data.start map_of.bss.end x e2 inside in
-        let f3 : is_within stack_start stack_end x ≡ false = apart map_of.text.start map_of.text.end stack_start stack_end x e3 inside in
+        let f3 : is_within stack_start stack_end x ≡ false = text_off_stack l are_regions x inside in
         ap (λ b. b || is_within stack_start stack_end x) f2 ∙ ap (λ b. false || b) f3
 
     wider : (low high a' b' x : ℕ) → low ≤ a' → b' ≤ high → is_within a' b' x ≡ true → is_within low high x ≡ true
@@ -605,7 +606,7 @@ module _ (sources : List (List Statement)) (a : ℕ) (relax gc : Bool) (l : Link
                   | inl low ↦ region_zero goes_to_data map_of.data.start (aligned 4096 map_of.rodata.end) map_of.data.end x l.data data_holds.0 data_holds.1 data_holds.2 data_is (data_sized goes_to_data not_data) (data_held l are_regions) none parts.0 low
                   | inr high ↦ bss_zero x high parts.1
                 ]
-            | inr inside ↦ stack_zero l are_regions x (within_parts stack_start stack_end x inside).0
+            | inr inside ↦ (let parts = within_parts stack_start stack_end x inside in stack_zero l are_regions x parts.0 parts.1)
           ]
         ]
 

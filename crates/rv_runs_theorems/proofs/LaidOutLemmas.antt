@@ -1,6 +1,6 @@
 -- The memory of a linked program's image: its rights are those of the map's regions, and its bytes are theirs.
 
-use Rattle.std.proofs.Common.{◌≡◌, ℕ, suc, ◌+◌, ◌-◌, ◌<◌, ◌≤◌, Bool, true, false, List, [], ◌∷◌, ◌++◌, length, refl, sym, ap, ◌∙◌, subst, arith, map, append_assoc, length-append, Option, Some, None}
+use Rattle.std.proofs.Common.{◌≡◌, ℕ, suc, ◌+◌, ◌-◌, ◌<◌, ◌≤◌, Bool, true, false, List, [], ◌∷◌, ◌++◌, length, refl, sym, ap, ◌∙◌, subst, arith, map, append_assoc, length-append, Option, Some, None, inl, inr}
 use Rattle.std.proofs.lemmas.Bool.Decides.{nat_tests}
 use Rattle.std.proofs.lemmas.Bool.{eqb-true, not-false}
 use Rattle.std.proofs.lemmas.List.{length-replicate}
@@ -10,6 +10,8 @@ use Rattle.rv_list_laws.proofs.TruthLemmas.{or_false}
 use Rattle.rv_isa_laws.specs.Bytes.{zeros}
 use Rattle.rv_isa_laws.specs.Memory.{Mem, Right, Read, Write, Execute}
 use Rattle.rv_image_laws.specs.Linked.{Linked}
+use Rattle.rv_image_laws.specs.Free.{free_until}
+use Rattle.rv_image_laws.proofs.FreeLemmas.{free_apart}
 use Rattle.rv_image_laws.specs.Executable.{Part, memory_size_of, all_parts, has_memory, segment_of_part, linked_image}
 use Rattle.rv_image_laws.specs.Segment.{Segment}
 use Rattle.rv_isa_laws.specs.Platform.{stack_start, stack_end}
@@ -18,7 +20,7 @@ use Rattle.rv_source_laws.specs.Start.{is_within, is_in, right_at}
 use Rattle.rv_runs_theorems.proofs.WordsLemmas.{HasBytes, bytes_behind}
 use Rattle.rv_runs_theorems.proofs.RegionsLemmas.{bytes_front}
 
--- the regions hold their bytes, one after the other, bss after the data, all below the stack
+-- the regions hold their bytes, one after the other, bss after the data, all in free memory
 pub record AreRegions (l : Linked) : Type 0 where
   pub text : l.map.text.start + length l.text ≡ l.map.text.end
   pub rodata : l.map.rodata.start + length l.rodata ≡ l.map.rodata.end
@@ -27,7 +29,7 @@ pub record AreRegions (l : Linked) : Type 0 where
   pub data_after : l.map.rodata.end ≤ l.map.data.start
   pub bss_after : l.map.data.end ≤ l.map.bss.start
   pub bss_ends : l.map.bss.start ≤ l.map.bss.end
-  pub below : l.map.bss.end ≤ stack_start
+  pub below : l.map.bss.end ≤ free_until l.map.text.start
 
 -- ---- a part without memory is no segment, and holds no address
 
@@ -131,8 +133,14 @@ has_all m a all same = subst (λ y. HasBytes m y all) (let e : a + 0 ≡ a = ome
 within-true : (a b x : ℕ) → a ≤ x → x < b → is_within a b x ≡ true
 within-true a b x lo hi = grind (arith, nat_tests)
 
+within-low : (a b x : ℕ) → x < a → is_within a b x ≡ false
+within-low a b x lo = grind (arith, nat_tests)
+
 within-high : (a b x : ℕ) → b ≤ x → is_within a b x ≡ false
 within-high a b x hi = grind (arith, nat_tests)
+
+from_within : (a b x : ℕ) → is_within a b x ≡ true → a ≤ x
+from_within a b x inside = grind (arith, nat_tests)
 
 pub apart : (a b c d x : ℕ) → b ≤ c → is_within a b x ≡ true → is_within c d x ≡ false
 apart a b c d x le inside = grind (arith, nat_tests)
@@ -243,19 +251,51 @@ module _ (l : Linked) (are : AreRegions l) where
   pub bss_held : HasBytes m l.map.data.end (zeros (l.map.bss.end - l.map.data.end))
   bss_held = subst (λ x. HasBytes m x (zeros (l.map.bss.end - l.map.data.end))) are.data (bytes_behind m l.map.data.start l.data (zeros (l.map.bss.end - l.map.data.end)) all_data)
 
-  -- in the stack
-  pub stack_zero : (x : ℕ) → stack_start ≤ x → m.byte x ≡ 0
-  stack_zero x high =
+  -- in no region
+  elsewhere : (x : ℕ) → is_in l.map.text x ≡ false → is_in l.map.rodata x ≡ false → is_within l.map.data.start l.map.bss.end x ≡ false → m.byte x ≡ 0
+  elsewhere x te re de =
+      ap (λ o. byte_in o x) (segment-is x)
+      ∙ byte_none _ _ _ t r d (is_in l.map.text x) (is_in l.map.rodata x) (is_within l.map.data.start l.map.bss.end x) x te re de
+
+  behind_zero : (x : ℕ) → l.map.bss.end ≤ x → m.byte x ≡ 0
+  behind_zero x high =
       let a = are.rodata_after in
       let b = rodata_ordered in
       let c = are.data_after in
       let e = data_ordered in
       let f = are.bss_after in
       let g = are.bss_ends in
-      let h = are.below in
       let te : l.map.text.end ≤ x = omega arith in
       let re : l.map.rodata.end ≤ x = omega arith in
-      let de : l.map.bss.end ≤ x = omega arith in
-      ap (λ o. byte_in o x) (segment-is x)
-      ∙ byte_none _ _ _ t r d (is_in l.map.text x) (is_in l.map.rodata x) (is_within l.map.data.start l.map.bss.end x) x
-      (within-high l.map.text.start l.map.text.end x te) (within-high l.map.rodata.start l.map.rodata.end x re) (within-high l.map.data.start l.map.bss.end x de)
+      elsewhere x (within-high l.map.text.start l.map.text.end x te) (within-high l.map.rodata.start l.map.rodata.end x re) (within-high l.map.data.start l.map.bss.end x high)
+
+  before_zero : (x : ℕ) → x < l.map.text.start → m.byte x ≡ 0
+  before_zero x low =
+      let a = are.rodata_after in
+      let b = rodata_ordered in
+      let c = are.data_after in
+      let e = are.text in
+      let rs : x < l.map.rodata.start = omega arith in
+      let ds : x < l.map.data.start = omega arith in
+      elsewhere x (within-low l.map.text.start l.map.text.end x low) (within-low l.map.rodata.start l.map.rodata.end x rs) (within-low l.map.data.start l.map.bss.end x ds)
+
+  -- in the stack
+  pub stack_zero : (x : ℕ) → stack_start ≤ x → x < stack_end → m.byte x ≡ 0
+  stack_zero x low high = elim (free_apart l.map.text.start l.map.bss.end are.below) [
+    | inl under ↦ behind_zero x (omega (arith, under, low))
+    | inr over ↦ before_zero x (omega (arith, over, high))
+  ]
+
+  -- an address of the text is none of the stack
+  pub text_off_stack : (x : ℕ) → is_in l.map.text x ≡ true → is_within stack_start stack_end x ≡ false
+  text_off_stack x inside = elim (free_apart l.map.text.start l.map.bss.end are.below) [
+    | inl under ↦
+        let a = are.rodata_after in
+        let b = rodata_ordered in
+        let c = are.data_after in
+        let e = data_ordered in
+        let f = are.bss_after in
+        let g = are.bss_ends in
+        apart l.map.text.start l.map.text.end stack_start stack_end x (omega (arith, under)) inside
+    | inr over ↦ within-high stack_start stack_end x (omega (arith, over, from_within l.map.text.start l.map.text.end x inside))
+  ]

@@ -1,7 +1,7 @@
 //! What the program says of sources that it is to check.
 
 use crate::formats::{put_json, put_line_of_compilers};
-use rv_chain::LinkOptions;
+use rv_chain::GroundOptions;
 use rv_check::{Finding, Report, check};
 use rv_fault_texts::Remark;
 use rv_job::ReportFormat;
@@ -16,7 +16,7 @@ const FAULTY: u8 = 1;
 pub fn check_files<S: System>(
     system: &mut S,
     names: &[&str],
-    options: LinkOptions,
+    options: GroundOptions,
     format: ReportFormat,
 ) -> Result<u8, JobError> {
     let alloc: Global = system.alloc();

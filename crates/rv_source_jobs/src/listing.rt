@@ -1,6 +1,6 @@
 //! Sources with what they become: each line with its address and its bytes.
 
-use rv_chain::{LinkOptions, build};
+use rv_chain::{GroundOptions, build_on};
 use rv_image::Image;
 use rv_list::{ROWS, Source, SourceLines};
 use rv_map::Map;
@@ -15,7 +15,7 @@ use std::alloc::{AllocError, Global};
 pub fn list<S: System>(
     system: &mut S,
     names: &[&str],
-    options: LinkOptions,
+    options: GroundOptions,
     all: bool,
 ) -> Result<u8, JobError> {
     let read = files_bytes(system, names)?;
@@ -27,7 +27,7 @@ fn print_lines<S: System>(
     system: &mut S,
     names: &[&str],
     read: &[Vec<u8>],
-    options: LinkOptions,
+    options: GroundOptions,
     all: bool,
 ) -> Result<u8, JobError> {
     let alloc: Global = system.alloc();
@@ -57,9 +57,9 @@ fn program(
     alloc: Global,
     names: &[&str],
     texts: &[&[u8]],
-    options: LinkOptions,
+    options: GroundOptions,
 ) -> Result<(Map, Image), JobError> {
-    let built = match build(alloc, texts, options) {
+    let built = match build_on(alloc, texts, options) {
         Ok(built) => built,
         Err(fault) => return Err(fault_line(alloc, &fault, names)?),
     };

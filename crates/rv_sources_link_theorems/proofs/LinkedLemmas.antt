@@ -4,6 +4,7 @@ use Rattle.std.proofs.Common.{◌≡◌, ℕ, suc, ◌+◌, Bool, true, false, L
 use Rattle.std.proofs.lemmas.Bool.{and_parts, not-true}
 use Rattle.std.specs.Prelude.{ℤ, Some, ◌&&◌, not, IsTrue, if◌then◌else◌, filter, flat_map}
 use Rattle.std.specs.List.{AllByRecursion}
+use Rattle.std.proofs.Math.Nat.{le_trans}
 use Rattle.rv_list_laws.proofs.EachLemmas.{each_map, each_split}
 use Rattle.rv_list_laws.proofs.TruthLemmas.{and_first}
 use Rattle.rv_size_laws.specs.Alignment.{aligned}
@@ -31,6 +32,7 @@ use Rattle.rv_image_laws.specs.Linked.{Linked}
 use Rattle.rv_chain_laws.specs.Contents.{IsWritten, IsLinked, contents as source_contents}
 use Rattle.rv_runs_theorems.proofs.HomesLemmas.{IsAtHome, homes, from_blocks, sections_in}
 use Rattle.rv_object_laws.specs.Object.{Section, Object}
+use Rattle.rv_link_laws.specs.declared.bounds.Ground.{Ground}
 use Rattle.rv_link_laws.specs.Inputs as objects
 use Rattle.rv_link_laws.specs.Inputs.{Starts, InputSection, inputs_from, inputs_of, inputs, contents, Holds}
 use Rattle.rv_link_laws.specs.Values.{initial_bytes, linked_bytes, IsRelocated}
@@ -162,7 +164,7 @@ good_all (ss ∷ sources) (o ∷ os) (is, h) = (no_first_fault ss is.good, good_
 
 -- ---- all regions
 
-module _ (sources : List (List Statement)) (os : List Object) (text_start : ℕ) (l : Linked) (h : AreObjectsOf sources os) (masks : AreMasked l.map.drops 1 sources os h) (link : IsLinkOf os text_start l)
+module _ (sources : List (List Statement)) (os : List Object) (bounds : Ground) (l : Linked) (h : AreObjectsOf sources os) (masks : AreMasked l.map.drops 1 sources os h) (link : IsLinkOf os bounds l)
     (given : AreGiven (program sources l.map) os) where
   abbrev p : Program
   p = program sources l.map
@@ -264,8 +266,8 @@ module _ (sources : List (List Statement)) (os : List Object) (text_start : ℕ)
       (λ file s z e home fit. fit.figures (ap (λ y. y.executable) home ∙ (bss_front s e).1))
       (λ file s z e home fit. fit.sized)
 
-  text_region : IsRegion p os starts bytes_of true Written text_start (inputs objects.goes_to_text os) (source.input_sections goes_to_text sources l.map)
-  text_region = region p os starts bytes_of true Written text_start (inputs objects.goes_to_text os) (source.input_sections goes_to_text sources l.map) text_good link.text.1
+  text_region : IsRegion p os starts bytes_of true Written bounds.text (inputs objects.goes_to_text os) (source.input_sections goes_to_text sources l.map)
+  text_region = region p os starts bytes_of true Written bounds.text (inputs objects.goes_to_text os) (source.input_sections goes_to_text sources l.map) text_good link.text.1
 
   rodata_region : IsRegion p os starts (spelled p) true Fit (aligned 4096 l.map.text.end) (inputs objects.goes_to_rodata os) (source.input_sections goes_to_rodata sources l.map)
   rodata_region = region p os starts (spelled p) true Fit (aligned 4096 l.map.text.end) (inputs objects.goes_to_rodata os) (source.input_sections goes_to_rodata sources l.map) rodata_good link.rodata.1
@@ -322,7 +324,7 @@ module _ (sources : List (List Statement)) (os : List Object) (text_start : ℕ)
   bss_at : bss_start ≡ aligned (source.greatest (source.input_sections goes_to_bss sources l.map)) l.map.data.end
   bss_at = ap (λ n. aligned n l.map.data.end) (greatest_same p os starts (spelled p) false Fit (inputs objects.goes_to_bss os) (source.input_sections goes_to_bss sources l.map) bss_good)
 
-  fits : source.Fits sources l.map text_start
+  fits : source.Fits sources l.map bounds.text
   fits = record {
     good = good_all sources os h;
     rows = ap (map source.identity_of_row) (rows_ours sources os l.map starts h masks link.rows) ∙ marks starts l.map.drops 1 sources os h masks;
@@ -335,7 +337,7 @@ module _ (sources : List (List Statement)) (os : List Object) (text_start : ℕ)
   }
 
   -- where the names resolve
-  pub linked : (relax gc : Bool) → AreDrops gc (graph_of sources) l.map.drops → Sized sources l.map → Shortened relax sources l.map → Resolves sources l.map → IsLinked sources text_start relax gc l
+  pub linked : (relax gc : Bool) → AreDrops gc (graph_of sources) l.map.drops → Sized sources l.map → Shortened relax sources l.map → Resolves sources l.map → IsLinked sources bounds.text relax gc l
   linked relax gc collected sized shortened resolves = record {
     collected = collected;
     fits = fits;
@@ -344,7 +346,7 @@ module _ (sources : List (List Statement)) (os : List Object) (text_start : ℕ)
     resolves = resolves;
     code = bytes_of;
     written = written_by p.mapped at_home in_text;
-    below = link.below;
+    below = le_trans link.below link.free;
     text = link.text_bytes ∙ ap (λ n. contents (linked_bytes (outer_of os l) starts os) starts n (inputs objects.goes_to_text os)) link.text.0
         ∙ text_region.bytes refl ∙ ap (λ n. source_contents bytes_of n (source.input_sections goes_to_text sources l.map)) (sym link.text.0);
     rodata = link.rodata_bytes ∙ ap (λ n. contents (linked_bytes (outer_of os l) starts os) starts n (inputs objects.goes_to_rodata os)) link.rodata.0

@@ -16,6 +16,7 @@ use Rattle.rv_source_laws.specs.Sized.{Sized}
 use Rattle.rv_source_laws.specs.Shortened.{Shortened, HaveBytes, text_of}
 use Rattle.rv_chain_laws.specs.Contents.{IsLinked}
 use Rattle.rv_object_laws.specs.Object.{Object}
+use Rattle.rv_link_laws.specs.declared.bounds.Ground.{Ground}
 use Rattle.rv_link_laws.specs.CallSites.{base_in}
 use Rattle.rv_link_laws.specs.Inputs.{Starts, InputSection, goes_to_text, inputs}
 use Rattle.rv_link_laws.specs.IsLinkOf.{IsLinkOf}
@@ -36,13 +37,13 @@ use Rattle.rv_sources_link_theorems.proofs.moves.ShrunkLemmas as shrunk
 use Rattle.rv_sources_link_theorems.proofs.SizedLemmas.{sized_from}
 use Rattle.rv_sources_link_theorems.proofs.calls.UncutLemmas.{IsUncut, all_uncut, assembled_laid, assembled_dropped, all_assembled}
 
-module _ (sources : List (List Statement)) (os : List Object) (text_start : ℕ) (l : Linked) (h : AreKept sources os) (masks : AreMasked l.map.drops 1 sources os h) (us : List Object) (k : AreAssembled sources us)
-    (sizes : ℕ → ℕ → Sizes) (c : AreCut sizes 1 sources os h us k) (link : IsLinkOf us text_start l) where
+module _ (sources : List (List Statement)) (os : List Object) (bounds : Ground) (l : Linked) (h : AreKept sources os) (masks : AreMasked l.map.drops 1 sources os h) (us : List Object) (k : AreAssembled sources us)
+    (sizes : ℕ → ℕ → Sizes) (c : AreCut sizes 1 sources os h us k) (link : IsLinkOf us bounds l) where
   abbrev pub p : Program
   p = program sources l.map
 
   pub begun : AllByRecursion (Begun link.starts) (inputs goes_to_text us)
-  begun = begun_all link.starts text_start (inputs goes_to_text us) link.text.1
+  begun = begun_all link.starts bounds.text (inputs goes_to_text us) link.text.1
 
   -- the objects with their paddings shrunk
   abbrev pub ws : List Object
@@ -51,8 +52,8 @@ module _ (sources : List (List Statement)) (os : List Object) (text_start : ℕ)
   abbrev pub are : shrunk.AreObjectsOf sources ws
   are = objects_shrink link.starts 1 sources us k begun
 
-  pub made : IsLinkOf ws text_start l
-  made = shrunk_link us text_start l link (λ goes. all_tidy link.starts goes 1 sources us k begun) (all_begin link.starts 1 sources us k begun)
+  pub made : IsLinkOf ws bounds l
+  made = shrunk_link us bounds l link (λ goes. all_tidy link.starts goes 1 sources us k begun) (all_begin link.starts 1 sources us k begun)
 
   pub finals : AreFinal sizes 1 sources os h ws are
   finals = all_final link.starts sizes 1 sources os h us k c begun
@@ -87,9 +88,9 @@ module _ (sources : List (List Statement)) (os : List Object) (text_start : ℕ)
       subst (HaveBytes size) (sym (text_is p starts at sizes 0 (inputs goes_to_text os) (source.input_sections source_text sources l.map) are_pieces))
       (have_bytes p starts at sizes size 0 (inputs goes_to_text os) (source.input_sections source_text sources l.map) are_pieces (apart p starts at sizes 1 os) by)
 
-  pub joined : (relax gc : Bool) → AreDrops gc (graph_of sources) l.map.drops → Shortened relax sources l.map → IsLinked sources text_start relax gc l
+  pub joined : (relax gc : Bool) → AreDrops gc (graph_of sources) l.map.drops → Shortened relax sources l.map → IsLinked sources bounds.text relax gc l
   joined relax gc collected shortened =
-      linked sources ws text_start l are left_masks made (given sources ws text_start l are left_masks made) relax gc collected sized shortened (resolves sources ws text_start l are left_masks made)
+      linked sources ws bounds l are left_masks made (given sources ws bounds l are left_masks made) relax gc collected sized shortened (resolves sources ws bounds l are left_masks made)
 
 -- ---- without relaxation
 
@@ -117,11 +118,11 @@ eight_all : (size : ℕ → ℕ) → ((n : ℕ) → size n ≡ 8) → (offset : 
 eight_all size e offset [] = tt
 eight_all size e offset (i ∷ is) = ((λ n. sym (e (offset i n))), eight_all size e offset is)
 
-pub unrelaxed : (sources : List (List Statement)) (os : List Object) (text_start : ℕ) (gc : Bool) (l : Linked) (h : AreKept sources os) → AreMasked l.map.drops 1 sources os h → AreDrops gc (graph_of sources) l.map.drops
-    → IsLinkOf os text_start l → IsLinked sources text_start false gc l
-unrelaxed sources os text_start gc l h masks collected link =
+pub unrelaxed : (sources : List (List Statement)) (os : List Object) (bounds : Ground) (gc : Bool) (l : Linked) (h : AreKept sources os) → AreMasked l.map.drops 1 sources os h → AreDrops gc (graph_of sources) l.map.drops
+    → IsLinkOf os bounds l → IsLinked sources bounds.text false gc l
+unrelaxed sources os bounds gc l h masks collected link =
     let k = all_assembled sources os h in
     let c = whole_from 1 sources os h in
-    joined sources os text_start l h masks os k (λ f j n. 8) c link false gc collected
-    (bytes_of_calls sources os text_start l h masks os k (λ f j n. 8) c link (λ n. 8)
+    joined sources os bounds l h masks os k (λ f j n. 8) c link false gc collected
+    (bytes_of_calls sources os bounds l h masks os k (λ f j n. 8) c link (λ n. 8)
     (eight_all (λ n. 8) (λ n. refl) (λ i n. 0 + base_in (inputs goes_to_text os) i.file i.index + n) (inputs goes_to_text os)))

@@ -26,6 +26,7 @@ use Rattle.rv_source_laws.specs.Shortened as line
 use Rattle.rv_source_laws.specs.Shortened.{Placed, HaveBytes, text_of, full_length, placed_from, sites_at, has_compressed, aim_of}
 use Rattle.rv_chain_laws.specs.Contents.{IsLinked}
 use Rattle.rv_object_laws.specs.Object.{Section, Symbol, Object, size_of, stored}
+use Rattle.rv_link_laws.specs.declared.bounds.Ground.{Ground}
 use Rattle.rv_link_laws.specs.CallSites.{base_in, start_padding, changes, site_of, sites_from, sites_of, is_entered}
 use Rattle.rv_link_laws.specs.Inputs.{Starts, InputSection, goes_to_text, inputs_from, inputs_of, inputs, begins_at}
 use Rattle.rv_link_laws.specs.IsLinkOf.{IsLinkOf}
@@ -189,22 +190,22 @@ module _ (p : Program) (starts : Starts) (at : ℕ → List LaidStatement) (size
 
 -- ---- the sites of sources are those of their objects
 
-module _ (sources : List (List Statement)) (os : List Object) (text_start : ℕ) (l : Linked) (h : AreKept sources os) (masks : AreMasked l.map.drops 1 sources os h) (us : List Object) (k : AreAssembled sources us)
-    (sizes : ℕ → ℕ → Sizes) (c : AreCut sizes 1 sources os h us k) (link : IsLinkOf us text_start l) where
+module _ (sources : List (List Statement)) (os : List Object) (bounds : Ground) (l : Linked) (h : AreKept sources os) (masks : AreMasked l.map.drops 1 sources os h) (us : List Object) (k : AreAssembled sources us)
+    (sizes : ℕ → ℕ → Sizes) (c : AreCut sizes 1 sources os h us k) (link : IsLinkOf us bounds l) where
   abbrev p : Program
   p = program sources l.map
 
   abbrev starts : Starts
-  starts = relaxed.starts sources os text_start l h masks us k sizes c link
+  starts = relaxed.starts sources os bounds l h masks us k sizes c link
 
   abbrev at : ℕ → List LaidStatement
-  at = relaxed.at sources os text_start l h masks us k sizes c link
+  at = relaxed.at sources os bounds l h masks us k sizes c link
 
   abbrev ws : List Object
-  ws = relaxed.ws sources os text_start l h masks us k sizes c link
+  ws = relaxed.ws sources os bounds l h masks us k sizes c link
 
   are : shrunk.AreObjectsOf sources ws
-  are = relaxed.are sources os text_start l h masks us k sizes c link
+  are = relaxed.are sources os bounds l h masks us k sizes c link
 
   abbrev bs : List source.InputSection
   bs = source.input_sections source_text sources l.map
@@ -213,16 +214,16 @@ module _ (sources : List (List Statement)) (os : List Object) (text_start : ℕ)
   text = text_of sources l.map
 
   pieces_are : ArePieces p starts at sizes (inputs goes_to_text os) bs
-  pieces_are = relaxed.are_pieces sources os text_start l h masks us k sizes c link
+  pieces_are = relaxed.are_pieces sources os bounds l h masks us k sizes c link
 
   text_line : text ≡ lines p starts at sizes 0 (inputs goes_to_text os) bs pieces_are
   text_line = text_is p starts at sizes 0 (inputs goes_to_text os) bs pieces_are
 
-  finals : AreFinal sizes 1 sources os h ws (relaxed.are sources os text_start l h masks us k sizes c link)
-  finals = relaxed.finals sources os text_start l h masks us k sizes c link
+  finals : AreFinal sizes 1 sources os h ws (relaxed.are sources os bounds l h masks us k sizes c link)
+  finals = relaxed.finals sources os bounds l h masks us k sizes c link
 
-  statements : p.statements ≡ all_statements starts 1 sources ws (relaxed.are sources os text_start l h masks us k sizes c link)
-  statements = statements_ours sources ws l.map starts (relaxed.are sources os text_start l h masks us k sizes c link) (relaxed.left_masks sources os text_start l h masks us k sizes c link) (relaxed.made sources os text_start l h masks us k sizes c link).rows
+  statements : p.statements ≡ all_statements starts 1 sources ws (relaxed.are sources os bounds l h masks us k sizes c link)
+  statements = statements_ours sources ws l.map starts (relaxed.are sources os bounds l h masks us k sizes c link) (relaxed.left_masks sources os bounds l h masks us k sizes c link) (relaxed.made sources os bounds l h masks us k sizes c link).rows
 
   -- what is known of each file
   abbrev AreHere : ℕ → (ts : List (List Statement)) (vs : List Object) → AreKept ts vs → Type 0
@@ -241,7 +242,7 @@ module _ (sources : List (List Statement)) (os : List Object) (text_start : ℕ)
 
   all_here : AreHere 1 sources os h
   all_here =
-      heres 1 sources os h ws (relaxed.are sources os text_start l h masks us k sizes c link) (omega arith) (all_at os) (relaxed.are_files sources os text_start l h masks us k sizes c link)
+      heres 1 sources os h ws (relaxed.are sources os bounds l h masks us k sizes c link) (omega arith) (all_at os) (relaxed.are_files sources os bounds l h masks us k sizes c link)
       (λ i. ap (laid_by sources os h) (let e : 1 + i - 1 ≡ i = omega arith in e))
 
   -- ---- a file
@@ -253,15 +254,15 @@ module _ (sources : List (List Statement)) (os : List Object) (text_start : ℕ)
     flag : o.rvc ≡ has_compressed p f
     flag =
         is.rvc ∙ ap (list_any (λ (z : LaidStatement). is_compressed_code z.located)) (sym here.laid)
-        ∙ sym (flags_by starts sizes 1 (f - 1) sources os h ws (relaxed.are sources os text_start l h masks us k sizes c link) finals)
-        ∙ ap (λ n. list_any (λ (e : MaybeMapped). (e.located.file == n) && is_compressed_code e.located) (all_statements starts 1 sources ws (relaxed.are sources os text_start l h masks us k sizes c link)))
+        ∙ sym (flags_by starts sizes 1 (f - 1) sources os h ws (relaxed.are sources os bounds l h masks us k sizes c link) finals)
+        ∙ ap (λ n. list_any (λ (e : MaybeMapped). (e.located.file == n) && is_compressed_code e.located) (all_statements starts 1 sources ws (relaxed.are sources os bounds l h masks us k sizes c link)))
         (let low = here.low in let e : 1 + (f - 1) ≡ f = omega (arith, low) in e)
         ∙ ap (list_any (λ (e : MaybeMapped). (e.located.file == f) && is_compressed_code e.located)) (sym statements)
 
     meant : (z : Located) (name : Primary) (y : Option Symbol) → StandsFor (tables ss) is.laid z.ordinal name y
         → stands_in os (option_and_then (symbol_place os f) y) ≡ option_and_then (aim_at text) (aim_of p (renumbered f z) name)
     meant z name y s =
-        targets.meant p starts at sizes os bs pieces_are sources h ws (relaxed.are sources os text_start l h masks us k sizes c link) finals all_here statements f ss o is here z name y s
+        targets.meant p starts at sizes os bs pieces_are sources h ws (relaxed.are sources os bounds l h masks us k sizes c link) finals all_here statements f ss o is here z name y s
         ∙ ap (λ t. option_and_then (aim_at t) (aim_of p (renumbered f z) name)) (sym text_line)
 
     abbrev input : ℕ → Section → InputSection
@@ -338,9 +339,9 @@ module _ (sources : List (List Statement)) (os : List Object) (text_start : ℕ)
 
 -- ---- the whole
 
-module _ (sources : List (List Statement)) (os : List Object) (text_start : ℕ) (gc : Bool) (l : Linked) (h : AreKept sources os) (masks : AreMasked l.map.drops 1 sources os h)
+module _ (sources : List (List Statement)) (os : List Object) (bounds : Ground) (gc : Bool) (l : Linked) (h : AreKept sources os) (masks : AreMasked l.map.drops 1 sources os h)
     (collected : AreDrops gc (graph_of sources) l.map.drops) (kept : List ℕ) (greatest : IsGreatestClosed (sites_of os) kept)
-    (link : IsLinkOf (shortened kept os) text_start l) where
+    (link : IsLinkOf (shortened kept os) bounds l) where
   abbrev sizes : ℕ → ℕ → Sizes
   sizes = sizes_by os kept
 
@@ -360,7 +361,7 @@ module _ (sources : List (List Statement)) (os : List Object) (text_start : ℕ)
   c = are_cut sizes 1 sources os h fits
 
   same : line.sites_of sources l.map ≡ sites_of os
-  same = sites_equal sources os text_start l h masks (shortened kept os) k sizes c link
+  same = sites_equal sources os bounds l h masks (shortened kept os) k sizes c link
 
   by_line : (is : List InputSection) → AllByRecursion (λ (i : InputSection). (n : ℕ) → sizes i.file i.index n ≡ size_at (sites_of os) kept (0 + base_in (inputs goes_to_text os) i.file i.index + n)) is
   by_line [] = tt
@@ -369,17 +370,17 @@ module _ (sources : List (List Statement)) (os : List Object) (text_start : ℕ)
   bytes : HaveBytes (size_at (sites_of os) kept) (text_of sources l.map)
   bytes =
       bytes_same (size_at (sites_of os) kept) (size_at (sites_of os) kept) (size_same (sites_of os) kept) (text_of sources l.map)
-      (relaxed.bytes_of_calls sources os text_start l h masks (shortened kept os) k sizes c link (size_at (sites_of os) kept) (by_line (inputs goes_to_text os)))
+      (relaxed.bytes_of_calls sources os bounds l h masks (shortened kept os) k sizes c link (size_at (sites_of os) kept) (by_line (inputs goes_to_text os)))
 
-  pub shortens : IsLinked sources text_start true gc l
+  pub shortens : IsLinked sources bounds.text true gc l
   shortens =
-      relaxed.joined sources os text_start l h masks (shortened kept os) k sizes c link true gc collected
+      relaxed.joined sources os bounds l h masks (shortened kept os) k sizes c link true gc collected
       (kept, subst (λ ss. IsGreatestClosed ss kept) (sym same) greatest, subst (λ ss. HaveBytes (size_at ss kept) (text_of sources l.map)) (sym same) bytes)
 
 -- of objects without the sections that collection dropped
-pub kept_link : (sources : List (List Statement)) (os : List Object) (text_start : ℕ) (relax gc : Bool) (l : Linked) (h : AreKept sources os) → AreMasked l.map.drops 1 sources os h
-    → AreDrops gc (graph_of sources) l.map.drops → (left : List Object) → Relaxes relax os left → IsLinkOf left text_start l → IsLinked sources text_start relax gc l
-kept_link sources os text_start false gc l h masks collected left same link =
-    relaxed.unrelaxed sources os text_start gc l h masks collected (subst (λ us. IsLinkOf us text_start l) same link)
-kept_link sources os text_start true gc l h masks collected left (kept, greatest, same) link =
-    shortens sources os text_start gc l h masks collected kept greatest (subst (λ us. IsLinkOf us text_start l) same link)
+pub kept_link : (sources : List (List Statement)) (os : List Object) (bounds : Ground) (relax gc : Bool) (l : Linked) (h : AreKept sources os) → AreMasked l.map.drops 1 sources os h
+    → AreDrops gc (graph_of sources) l.map.drops → (left : List Object) → Relaxes relax os left → IsLinkOf left bounds l → IsLinked sources bounds.text relax gc l
+kept_link sources os bounds false gc l h masks collected left same link =
+    relaxed.unrelaxed sources os bounds gc l h masks collected (subst (λ us. IsLinkOf us bounds l) same link)
+kept_link sources os bounds true gc l h masks collected left (kept, greatest, same) link =
+    shortens sources os bounds gc l h masks collected kept greatest (subst (λ us. IsLinkOf us bounds l) same link)

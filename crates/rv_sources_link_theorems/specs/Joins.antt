@@ -7,6 +7,7 @@ use Rattle.rv_image_laws.specs.Linked.{Linked}
 use Rattle.rv_chain_laws.specs.Contents.{IsLinked}
 use Rattle.rv_object_laws.specs.Object.{Object}
 use Rattle.rv_assemble_laws.specs.IsObjectOf.{IsObjectOf}
+use Rattle.rv_link_laws.specs.declared.bounds.Ground.{Ground}
 use Rattle.rv_link_laws.specs.IsProgramOf.{IsProgramOf}
 
 -- each object is that of its source
@@ -20,15 +21,15 @@ AreObjectsOf (ss ∷ sources) (o ∷ os) = IsObjectOf ss o × AreObjectsOf sourc
 -- the sources
 abbrev pub Joins : Type 0
 Joins =
-    (sources : List (List Statement)) (os : List Object) (text_start : ℕ)
+    (sources : List (List Statement)) (os : List Object) (bounds : Ground)
     (relax gc : Bool) (l : Linked)
-    → AreObjectsOf sources os → IsProgramOf os text_start relax gc l
-    → IsLinked sources text_start relax gc l
+    → AreObjectsOf sources os → IsProgramOf os bounds relax gc l
+    → IsLinked sources bounds.text relax gc l
 
 -- and it is flagged as compressed code where the sources have some
 abbrev pub IsFlagged : Type 0
 IsFlagged =
-    (sources : List (List Statement)) (os : List Object) (text_start : ℕ)
+    (sources : List (List Statement)) (os : List Object) (bounds : Ground)
     (relax gc : Bool) (l : Linked)
-    → AreObjectsOf sources os → IsProgramOf os text_start relax gc l
+    → AreObjectsOf sources os → IsProgramOf os bounds relax gc l
     → l.rvc ≡ is_compressed sources

@@ -2,6 +2,7 @@
 
 ghost use Rattle.std.specs.Prelude.{[], ◌∷◌};
 ghost use Rattle.rv_assemble_laws.specs.IsObjectOf.{IsObjectOf};
+ghost use Rattle.rv_link_laws.specs.Ground.{usual};
 ghost use Rattle.rv_link_laws.specs.IsLinkOf.{IsLinkOf};
 ghost use Rattle.rv_sources_link_theorems.specs.TwoFiles.{first_source, second_source, first_object, second_object, two_files};
 
@@ -13,5 +14,5 @@ pub fn two_files_are_objects()
 
 /// Their program: a name means its own file's label, else the other's.
 pub fn two_files_link()
-    ensures { IsLinkOf (first_object ∷ second_object ∷ []) 0x10000 two_files }
+    ensures { IsLinkOf (first_object ∷ second_object ∷ []) (usual 0x10000) two_files }
 {}

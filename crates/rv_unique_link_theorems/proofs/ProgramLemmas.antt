@@ -10,6 +10,7 @@ use Rattle.rv_map_laws.specs.Map.{Map}
 use Rattle.rv_map_laws.specs.declared.map.Region.{Region}
 use Rattle.rv_image_laws.specs.Linked.{Linked}
 use Rattle.rv_object_laws.specs.Object.{Section, Object}
+use Rattle.rv_link_laws.specs.declared.bounds.Ground.{Ground}
 use Rattle.rv_link_laws.specs.Inputs.{Starts, has_no_bytes, goes_to_text, goes_to_rodata, goes_to_data, inputs, contents}
 use Rattle.rv_link_laws.specs.Names.{Outer, outer_address, globals_of, shown_linker_symbols}
 use Rattle.rv_link_laws.specs.Values.{target, value, IsRelocated, linked_bytes}
@@ -55,8 +56,8 @@ values_between s t g h os agreed same none =
 
 -- ---- a linked program
 
-module _ (os : List Object) (start : ℕ) (l : Linked) (h : IsLinkOf os start l) where
-  pub linked_laid : AreLaid os start h.starts l.map.text l.map.rodata l.map.data l.map.bss
+module _ (os : List Object) (bounds : Ground) (l : Linked) (h : IsLinkOf os bounds l) where
+  pub linked_laid : AreLaid os bounds.text h.starts l.map.text l.map.rodata l.map.data l.map.bss
   linked_laid = record { in_text = h.text; in_rodata = h.rodata; in_data = h.data; in_bss = h.bss }
 
   -- none of its references is undefined
@@ -78,15 +79,15 @@ rodata_loads x e = and_four_first x.loaded (not x.executable) (not (has_no_bytes
 data_loads : (x : Section) → goes_to_data x ≡ true → x.loaded ≡ true
 data_loads x e = and_four_first x.loaded (not x.executable) (not (has_no_bytes x.contents)) x.writable e
 
-module _ (os : List Object) (start : ℕ) (l m : Linked) (placed : HavePlacedRows os) (h : IsLinkOf os start l) (k : IsLinkOf os start m) (drops : l.map.drops ≡ m.map.drops) where
+module _ (os : List Object) (bounds : Ground) (l m : Linked) (placed : HavePlacedRows os) (h : IsLinkOf os bounds l) (k : IsLinkOf os bounds m) (drops : l.map.drops ≡ m.map.drops) where
   one : AreOne os h.starts k.starts l.map.text m.map.text l.map.rodata m.map.rodata l.map.data m.map.data l.map.bss m.map.bss
-  one = laid_same os start h.starts k.starts l.map.text m.map.text l.map.rodata m.map.rodata l.map.data m.map.data l.map.bss m.map.bss (linked_laid os start l h) (linked_laid os start m k)
+  one = laid_same os bounds.text h.starts k.starts l.map.text m.map.text l.map.rodata m.map.rodata l.map.data m.map.data l.map.bss m.map.bss (linked_laid os bounds l h) (linked_laid os bounds m k)
 
   same_globals : l.map.globals ≡ m.map.globals
   same_globals = h.globals ∙ every_same h.starts k.starts os one.agreed l.map m.map one.same_text one.same_data one.same_bss ∙ sym k.globals
 
   same_gaps : l.map.gaps ≡ m.map.gaps
-  same_gaps = h.gaps ∙ gaps_same h.starts k.starts start (inputs goes_to_text os) one.in_text ∙ sym k.gaps
+  same_gaps = h.gaps ∙ gaps_same h.starts k.starts bounds.text (inputs goes_to_text os) one.in_text ∙ sym k.gaps
 
   same_rows : l.map.rows ≡ m.map.rows
   same_rows = h.rows ∙ all_rows h.starts k.starts 1 os one.agreed placed ∙ sym k.rows
@@ -103,7 +104,7 @@ module _ (os : List Object) (start : ℕ) (l m : Linked) (placed : HavePlacedRow
       contents_same h.starts k.starts (linked_bytes (outer_of os l) h.starts os) (linked_bytes (outer_of os m) k.starts os) r.start (inputs goes os) same
       (each_from_both (StartsSame h.starts k.starts) (ValuesSame h.starts k.starts (outer_of os m) os) (λ i. linked_bytes (outer_of os l) h.starts os i ≡ linked_bytes (outer_of os m) k.starts os i)
       (λ i at values. ap (λ g. linked_bytes g h.starts os i) same_outer ∙ bytes_same h.starts k.starts (outer_of os m) os i at values) (inputs goes os) same
-      (all_values h.starts k.starts (outer_of os m) os goes and_four_first one.agreed (linked_meant os start l h)))
+      (all_values h.starts k.starts (outer_of os m) os goes and_four_first one.agreed (linked_meant os bounds l h)))
       ∙ ap (λ x. contents (linked_bytes (outer_of os m) k.starts os) k.starts x.start (inputs goes os)) is
 
   same_map : l.map ≡ m.map

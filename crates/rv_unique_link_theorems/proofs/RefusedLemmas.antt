@@ -4,10 +4,11 @@ use Rattle.std.proofs.Common.{◌≡◌, ℕ, ◌<◌, true, false, refl, sym, a
 use Rattle.std.specs.Prelude.{◌⊎◌, is_some}
 use Rattle.rv_image_laws.specs.Linked.{Linked}
 use Rattle.rv_object_laws.specs.Object.{Object}
+use Rattle.rv_link_laws.specs.declared.bounds.Ground.{Ground}
 use Rattle.rv_link_laws.specs.IsLinkOf.{IsLinkOf}
 use Rattle.rv_link_laws.specs.Layout.{memory_of, IsTooLarge}
 use Rattle.rv_link_laws.specs.Refusals.{LacksRoom, LacksEntry, IsUnapplied, IsUnlinked}
-use Rattle.rv_isa_laws.specs.Platform.{stack_start, memory_limit}
+use Rattle.rv_isa_laws.specs.Platform.{memory_limit}
 use Rattle.rv_link_laws.specs.Exports.{first_duplicate}
 use Rattle.rv_link_laws.specs.Undefined.{first_undefined}
 use Rattle.rv_link_laws.proofs.EntryLemmas.{entry_some}
@@ -21,30 +22,30 @@ use Rattle.rv_unique_link_theorems.proofs.UntakenLemmas.{roomy_same, linked_one,
 pub none_some : (f : Option (List ℕ)) (name : List ℕ) → f ≡ None → f ≡ Some name → ⊥
 none_some f name a b = let t : ◌≡◌ {A = Option (List ℕ)} None (Some name) = sym a ∙ b in absurd (cc)
 
-module _ (os : List Object) (start : ℕ) (l : Linked) (h : IsLinkOf os start l) where
-  has_its_entry : LacksEntry os start → ⊥
+module _ (os : List Object) (bounds : Ground) (l : Linked) (h : IsLinkOf os bounds l) where
+  has_its_entry : LacksEntry os bounds → ⊥
   has_its_entry (inl none) = let t : false ≡ true = sym none ∙ sym (entry_some h.starts os) ∙ ap is_some h.entry in absurd (cc)
   has_its_entry (inr (p, placed, odd)) =
-      odd l.map.entry (sym (all_entries h.starts p.starts os (linked_one os start l p OutOfMemory h placed).agreed) ∙ h.entry) h.even
+      odd l.map.entry (sym (all_entries h.starts p.starts os (linked_one os bounds l p OutOfMemory h placed).agreed) ∙ h.entry) h.even
 
-  has_its_room : LacksRoom os start → ⊥
-  has_its_room (starts, stand, cramped) = cramped (roomy_same h.starts starts os start h.text.1 stand h.room)
+  has_its_room : LacksRoom os bounds.text → ⊥
+  has_its_room (starts, stand, cramped) = cramped (roomy_same h.starts starts os bounds.text h.text.1 stand h.room)
 
-  fits : IsTooLarge os start → ⊥
+  fits : IsTooLarge os bounds → ⊥
   fits large = by (large h.starts l.map.text l.map.rodata l.map.data l.map.bss h.text h.rodata h.data h.bss)
     where
-      by : (stack_start < l.map.bss.end) ⊎ (memory_limit < memory_of l.map.text l.map.rodata l.map.data l.map.bss) → ⊥
+      by : (bounds.ceiling < l.map.bss.end) ⊎ (memory_limit < memory_of l.map.text l.map.rodata l.map.data l.map.bss) → ⊥
       by (inl high) = let low = h.below in absurd (omega (arith, high, low))
       by (inr much) = let few = h.memory in absurd (omega (arith, much, few))
 
-  taken : (fault : LinkFault) → IsUnapplied os start fault → ⊥
-  taken fault (so, (p, placed, roomy, first)) = linked_taken os start l p fault h placed first
+  taken : (fault : LinkFault) → IsUnapplied os bounds fault → ⊥
+  taken fault (so, (p, placed, roomy, first)) = linked_taken os bounds l p fault h placed first
 
-  pub refused : (fault : LinkFault) → IsUnlinked os start fault → fault ≡ OutOfMemory
+  pub refused : (fault : LinkFault) → IsUnlinked os bounds fault → fault ≡ OutOfMemory
   refused TooManyFiles u = let few = h.few in absurd (omega (arith, u, few))
   refused BadTextStart u = absurd (u.1 (h.page, h.low))
   refused (Duplicate name) u = absurd (none_some (first_duplicate os) name.items (no_duplicate os h.once) u.1)
-  refused (Undefined name) u = absurd (none_some (first_undefined os) name.items (linked_meant os start l h) u.1.1)
+  refused (Undefined name) u = absurd (none_some (first_undefined os) name.items (linked_meant os bounds l h) u.1.1)
   refused EntryMissing u = absurd (has_its_entry u.1)
   refused AlignmentShort u = absurd (has_its_room u.1)
   refused ImageTooLarge u = absurd (fits u.1.0)

@@ -6,6 +6,7 @@ use Rattle.std.specs.List.{AllByRecursion, list_all}
 use Rattle.rv_list_laws.proofs.EachLemmas.{each_from_both}
 use Rattle.rv_image_laws.specs.Linked.{Linked}
 use Rattle.rv_object_laws.specs.Object.{Relocation, Object}
+use Rattle.rv_link_laws.specs.declared.bounds.Ground.{Ground}
 use Rattle.rv_link_laws.specs.Moves.{moves, has_room}
 use Rattle.rv_link_laws.specs.Inputs.{Starts, InputSection, goes_to_text, inputs, start_of, Stand}
 use Rattle.rv_link_laws.specs.Names.{outer_address}
@@ -29,8 +30,8 @@ roomy_same s t os start h k roomy =
     each_from_both (StartsSame s t) (λ i. IsTrue (list_all has_room (moves (start_of s i) i.section))) (λ i. IsTrue (list_all has_room (moves (start_of t i) i.section)))
     (λ i same room. subst (λ n. IsTrue (list_all has_room (moves n i.section))) same room) (inputs goes_to_text os) (stand_same s t start (inputs goes_to_text os) h k).0 roomy
 
-module _ (os : List Object) (start : ℕ) (p : Layout) (placed : IsLayout os start p) where
-  pub placed_laid : AreLaid os start p.starts p.text p.rodata p.data p.bss
+module _ (os : List Object) (bounds : Ground) (p : Layout) (placed : IsLayout os bounds p) where
+  pub placed_laid : AreLaid os bounds.text p.starts p.text p.rodata p.data p.bss
   placed_laid = record { in_text = placed.text; in_rodata = placed.rodata; in_data = placed.data; in_bss = placed.bss }
 
 -- ---- relocations
@@ -51,9 +52,9 @@ refused_by os p i OutOfMemory r h = h
 held_by : (os : List Object) (p : Layout) (i : InputSection) (r : Relocation) → IsTaken os p i r → IsHeld (value (outer_in os p) p.starts os i r) r
 held_by os p i r h = record { found = h.found; alone = h.alone; takes = h.takes }
 
-module _ (os : List Object) (start : ℕ) (l : Linked) (p : Layout) (f : LinkFault) (h : IsLinkOf os start l) (placed : IsLayout os start p) where
+module _ (os : List Object) (bounds : Ground) (l : Linked) (p : Layout) (f : LinkFault) (h : IsLinkOf os bounds l) (placed : IsLayout os bounds p) where
   pub linked_one : AreOne os h.starts p.starts l.map.text p.text l.map.rodata p.rodata l.map.data p.data l.map.bss p.bss
-  linked_one = laid_same os start h.starts p.starts l.map.text p.text l.map.rodata p.rodata l.map.data p.data l.map.bss p.bss (linked_laid os start l h) (placed_laid os start p placed)
+  linked_one = laid_same os bounds.text h.starts p.starts l.map.text p.text l.map.rodata p.rodata l.map.data p.data l.map.bss p.bss (linked_laid os bounds l h) (placed_laid os bounds p placed)
 
   same_names : outer_of os l ≡ outer_in os p
   same_names = ap (outer_address os) (h.globals ∙ every_same h.starts p.starts os linked_one.agreed l.map (regions_of p) linked_one.same_text linked_one.same_data linked_one.same_bss)
@@ -73,11 +74,11 @@ module _ (os : List Object) (start : ℕ) (l : Linked) (p : Layout) (f : LinkFau
   linked_taken first =
       all_first ⊥ (λ i. AllByRecursion (λ r. here i r ≡ there i r) i.section.relocations) (λ i. AllByRecursion (IsRelocated (outer_of os l) h.starts os i) i.section.relocations) (AreTaken os p) (AreUntaken os p f)
       (λ i. all_first ⊥ (λ r. here i r ≡ there i r) (IsRelocated (outer_of os l) h.starts os i) (IsTaken os p i) (IsUntaken os p i f) (apart_at i) i.section.relocations)
-      (inputs is_loaded os) (values_between h.starts p.starts (outer_of os l) (outer_in os p) os linked_one.agreed same_names (linked_meant os start l h)) h.relocated first
+      (inputs is_loaded os) (values_between h.starts p.starts (outer_of os l) (outer_in os p) os linked_one.agreed same_names (linked_meant os bounds l h)) h.relocated first
 
-module _ (os : List Object) (start : ℕ) (p q : Layout) (f g : LinkFault) (placed : IsLayout os start p) (again : IsLayout os start q) where
+module _ (os : List Object) (bounds : Ground) (p q : Layout) (f g : LinkFault) (placed : IsLayout os bounds p) (again : IsLayout os bounds q) where
   two : AreOne os p.starts q.starts p.text q.text p.rodata q.rodata p.data q.data p.bss q.bss
-  two = laid_same os start p.starts q.starts p.text q.text p.rodata q.rodata p.data q.data p.bss q.bss (placed_laid os start p placed) (placed_laid os start q again)
+  two = laid_same os bounds.text p.starts q.starts p.text q.text p.rodata q.rodata p.data q.data p.bss q.bss (placed_laid os bounds p placed) (placed_laid os bounds q again)
 
   both_names : outer_in os p ≡ outer_in os q
   both_names = ap (outer_address os) (every_same p.starts q.starts os two.agreed (regions_of p) (regions_of q) two.same_text two.same_data two.same_bss)

@@ -3,6 +3,7 @@
 use Rattle.std.proofs.Common.{◌≡◌, ℕ, Bool, List, sym, subst}
 use Rattle.rv_image_laws.specs.Linked.{Linked}
 use Rattle.rv_object_laws.specs.Object.{Object}
+use Rattle.rv_link_laws.specs.declared.bounds.Ground.{Ground}
 use Rattle.rv_link_laws.specs.IsLinkOf.{IsLinkOf}
 use Rattle.rv_link_laws.specs.Without.{without}
 use Rattle.rv_link_laws.specs.IsProgramOf.{IsProgramOf}
@@ -16,20 +17,20 @@ use Rattle.rv_unique_link_theorems.proofs.ProgramLemmas.{same_program}
 use Rattle.rv_unique_link_theorems.proofs.RefusedLemmas.{refused}
 use Rattle.rv_unique_link_theorems.proofs.ReasonsLemmas.{one_reason}
 
-module _ (os : List Object) (start : ℕ) (relax gc : Bool) where
-  pub one_program : (l m : Linked) → HavePlacedRows os → IsProgramOf os start relax gc l → IsProgramOf os start relax gc m → l ≡ m
+module _ (os : List Object) (bounds : Ground) (relax gc : Bool) where
+  pub one_program : (l m : Linked) → HavePlacedRows os → IsProgramOf os bounds relax gc l → IsProgramOf os bounds relax gc m → l ≡ m
   one_program l m placed a b =
       let same = one_leaves os relax gc l.map.drops m.map.drops a.left b.left a.leaves b.leaves in
-      same_program a.left start l m (left_placed relax (without l.map.drops os) a.left a.leaves.relaxed (without_placed l.map.drops os placed)) a.linked
-      (subst (λ left. IsLinkOf left start m) same.1 b.linked) (sym same.0)
+      same_program a.left bounds l m (left_placed relax (without l.map.drops os) a.left a.leaves.relaxed (without_placed l.map.drops os placed)) a.linked
+      (subst (λ left. IsLinkOf left bounds m) same.1 b.linked) (sym same.0)
 
-  pub never_both : (l : Linked) (fault : LinkFault) → IsProgramOf os start relax gc l → HasNoProgram os start relax gc fault → fault ≡ OutOfMemory
+  pub never_both : (l : Linked) (fault : LinkFault) → IsProgramOf os bounds relax gc l → HasNoProgram os bounds relax gc fault → fault ≡ OutOfMemory
   never_both l fault a b =
       let same = one_leaves os relax gc l.map.drops b.drops a.left b.left a.leaves b.leaves in
-      refused a.left start l a.linked fault (subst (λ left. IsUnlinked left start fault) same.1 b.unlinked)
+      refused a.left bounds l a.linked fault (subst (λ left. IsUnlinked left bounds fault) same.1 b.unlinked)
 
-  pub one_refusal : (f g : LinkFault) → LeavesEven os start relax gc
-      → HasNoProgram os start relax gc f → (f ≡ OutOfMemory → ⊥) → HasNoProgram os start relax gc g → (g ≡ OutOfMemory → ⊥) → IsSameFault f g
+  pub one_refusal : (f g : LinkFault) → LeavesEven os bounds.text relax gc
+      → HasNoProgram os bounds relax gc f → (f ≡ OutOfMemory → ⊥) → HasNoProgram os bounds relax gc g → (g ≡ OutOfMemory → ⊥) → IsSameFault f g
   one_refusal f g even a known b same_known =
       let same = one_leaves os relax gc a.drops b.drops a.left b.left a.leaves b.leaves in
-      one_reason a.left start (even a.drops a.left a.leaves) f g a.unlinked known (subst (λ left. IsUnlinked left start g) same.1 b.unlinked) same_known
+      one_reason a.left bounds (even a.drops a.left a.leaves) f g a.unlinked known (subst (λ left. IsUnlinked left bounds g) same.1 b.unlinked) same_known

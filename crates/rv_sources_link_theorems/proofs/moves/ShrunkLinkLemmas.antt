@@ -19,6 +19,7 @@ use Rattle.rv_object_laws.specs.declared.row.Row.{Row}
 use Rattle.rv_object_laws.specs.declared.symbol.Binding.{Binding}
 use Rattle.rv_object_laws.specs.declared.symbol.Binding.TheVariants as bindings
 use Rattle.rv_object_laws.specs.Object.{Contents, Progbits, Note, Nobits, Section, Symbol, Object, size_of}
+use Rattle.rv_link_laws.specs.declared.bounds.Ground.{Ground}
 use Rattle.rv_link_laws.specs.Moves.{Move, alignments_of, plan, moves, new_offset, kept, has_room, lost}
 use Rattle.rv_link_laws.specs.Inputs.{Starts, InputSection, has_no_bytes, goes_to_text, goes_to_rodata, goes_to_data, goes_to_bss, inputs_from, inputs_of, inputs, raised, begins_at, start_of, size, Stand, sections_end, Holds, gaps_of, greatest, contents}
 use Rattle.rv_object_laws.specs.Bindings.{is_shared, is_global, is_weak}
@@ -344,7 +345,7 @@ rodata_same start s = ap (λ b. ((s.loaded && not s.executable) && not b) && not
 
 -- ---- the whole
 
-module _ (os : List Object) (text_start : ℕ) (l : Linked) (link : IsLinkOf os text_start l) where
+module _ (os : List Object) (bounds : Ground) (l : Linked) (link : IsLinkOf os bounds l) where
   abbrev st : Starts
   st = link.starts
 
@@ -394,14 +395,15 @@ module _ (os : List Object) (text_start : ℕ) (l : Linked) (link : IsLinkOf os 
     linker_same : shown_linker_symbols os l.map ≡ shown_linker_symbols us l.map
     linker_same = λ i. filter (λ (g : Global). not (sym (some_same st os g.name) i)) (linker_symbols l.map)
 
-    pub shrunk_link : IsLinkOf us text_start l
+    pub shrunk_link : IsLinkOf us bounds l
     shrunk_link = record {
       few = subst (λ n. n ≤ 1024) (sym (few_same st 1 os)) link.few;
       page = link.page;
       low = link.low;
+      free = link.free;
       starts = st;
-      text = held_in goes_to_text l.map.text text_start text_is link.text;
-      gaps = link.gaps ∙ sym (gaps_same st text_start (inputs goes_to_text os) (tidy goes_to_text)) ∙ ap (gaps_of st text_start) (sym text_is);
+      text = held_in goes_to_text l.map.text bounds.text text_is link.text;
+      gaps = link.gaps ∙ sym (gaps_same st bounds.text (inputs goes_to_text os) (tidy goes_to_text)) ∙ ap (gaps_of st bounds.text) (sym text_is);
       rodata = held_in goes_to_rodata l.map.rodata (aligned 4096 l.map.text.end) rodata_is link.rodata;
       «data» = held_in goes_to_data l.map.data (aligned 4096 l.map.rodata.end) data_is link.data;
       bss = subst (λ n. Holds st l.map.bss (aligned n l.map.data.end) (inputs goes_to_bss us))

@@ -11,6 +11,7 @@ use Rattle.rv_source_laws.specs.Program.{Program, program}
 use Rattle.rv_source_laws.specs.Resolves.{Resolves, definitions, shown_symbols, export_address, run_start}
 use Rattle.rv_image_laws.specs.Linked.{Linked}
 use Rattle.rv_object_laws.specs.Object.{Object}
+use Rattle.rv_link_laws.specs.declared.bounds.Ground.{Ground}
 use Rattle.rv_link_laws.specs.Names as objects
 use Rattle.rv_link_laws.specs.IsLinkOf.{IsLinkOf}
 use Rattle.rv_sources_link_theorems.proofs.sections.FilesLemmas.{files, rows_ours, statements_ours}
@@ -22,7 +23,7 @@ use Rattle.rv_sources_link_theorems.proofs.names.GlobalsLemmas.{AddressAlike, ad
 use Rattle.rv_sources_link_theorems.proofs.names.EntryLemmas.{StartsAlike, starts_alike, entry_alike}
 use Rattle.rv_sources_link_theorems.proofs.moves.ShrunkLemmas.{AreObjectsOf, AreMasked}
 
-module _ (sources : List (List Statement)) (os : List Object) (text_start : ℕ) (l : Linked) (h : AreObjectsOf sources os) (masks : AreMasked l.map.drops 1 sources os h) (link : IsLinkOf os text_start l) where
+module _ (sources : List (List Statement)) (os : List Object) (bounds : Ground) (l : Linked) (h : AreObjectsOf sources os) (masks : AreMasked l.map.drops 1 sources os h) (link : IsLinkOf os bounds l) where
   abbrev p : Program
   p = program sources l.map
 

@@ -2,15 +2,17 @@
 
 use Rattle.std.proofs.Common.{[], ◌∷◌, refl, arith}
 use Rattle.std.specs.Int.{int_wrap}
+use Rattle.rv_link_laws.specs.Ground.{usual}
 use Rattle.rv_link_laws.specs.IsLinkOf.{IsLinkOf}
 use Rattle.rv_sources_link_theorems.specs.TwoFiles.{first_object, second_object, two_files, starts}
 
-pub linked : IsLinkOf (first_object ∷ second_object ∷ []) 0x10000 two_files
+pub linked : IsLinkOf (first_object ∷ second_object ∷ []) (usual 0x10000) two_files
 unfolding int_wrap
 linked = record {
   few = omega arith;
   page = refl;
   low = omega arith;
+  free = omega arith;
   starts = starts;
   text = (refl, (refl, (refl, tt)), refl);
   gaps = refl;

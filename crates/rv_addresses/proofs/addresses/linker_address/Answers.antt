@@ -6,7 +6,7 @@ use Rattle.rv_link_laws.proofs.LinkerNamesLemmas.{tested, passed_over}
 use Rattle.rv_addresses.proofs.addresses.linker_address.Goals as goal
 
 pub returns-else-eq-5 : goal.returns-else-eq-5
-returns-else-eq-5 c = λ os start h.
+returns-else-eq-5 c = λ os bounds h.
     let p = c.args.placement.now in
     let name = c.args.name.now in
     let text = tested name c.as_slice.result.now (codes "_etext") c.eq.result false c.as_slice.ensures c.eq.ensures c.if-eq.false in

@@ -10,11 +10,11 @@ pub returns-then-with_map-clause-links : goal.returns-then-with_map-clause-links
 returns-then-with_map-clause-links c =
     let os = map object_of c.args.objects.now in
     let o = c.args.options in
-    subst (λ (with_map : Bool). IfOk c.link.result (λ l. IsProgramWith os o.text_start o.relax o.gc with_map (linked_of l))) (sym c.if-with_map.true)
-    (IfOk-weaker c.link.result _ _ (λ l h. record { whole = linked_of l; program = h; shown = refl }) c.link.ensures.links)
+    subst (λ (with_map : Bool). IfOk c.link_on.result (λ l. IsProgramWith os o.bounds o.relax o.gc with_map (linked_of l))) (sym c.if-with_map.true)
+    (IfOk-weaker c.link_on.result _ _ (λ l h. record { whole = linked_of l; program = h; shown = refl }) c.link_on.ensures.links)
 
 pub returns-else-with_map-clause-links : goal.returns-else-with_map-clause-links
 returns-else-with_map-clause-links c =
     let os = map object_of c.args.objects.now in
     let o = c.args.options in
-    subst (λ (with_map : Bool). IfOk c.link_exe.result (λ l. IsProgramWith os o.text_start o.relax o.gc with_map (linked_of l))) (sym c.if-with_map.false) c.link_exe.ensures.links
+    subst (λ (with_map : Bool). IfOk c.link_exe_on.result (λ l. IsProgramWith os o.bounds o.relax o.gc with_map (linked_of l))) (sym c.if-with_map.false) c.link_exe_on.ensures.links

@@ -1,12 +1,16 @@
-use Rattle.std.proofs.Common.{map}
-use Rattle.std.proofs.lemmas.Result.{IfOk-weaker}
+use Rattle.std.proofs.Common.{map, subst}
+use Rattle.std.specs.Prelude.{IfOk, IfErr}
 use Rattle.rv_image.specs.Views.{linked_of}
 use Rattle.rv_object_types.specs.View.{object_of}
-use Rattle.rv_link.proofs.LeftLemmas.{with_all}
+use Rattle.rv_link_laws.specs.IsProgramOf.{IsProgramOf}
+use Rattle.rv_link_laws.specs.Refusals.{HasNoProgram}
+use Rattle.rv_link.specs.declared.options.GroundOptions.{GroundOptions}
 use Rattle.rv_link.proofs.programs.link.Goals as goal
 
 pub returns-clause-links : goal.returns-clause-links
 returns-clause-links c =
-    let os = map object_of c.args.objects.now in
-    let o = c.args.options in
-    IfOk-weaker c.link_with_map.result _ _ (λ l h. with_all os o.text_start o.relax o.gc (linked_of l) h) c.link_with_map.ensures.links
+    subst (λ (o : GroundOptions). IfOk c.link_on.result (λ l. IsProgramOf (map object_of c.args.objects.now) o.bounds o.relax o.gc (linked_of l))) c.grounded.ensures c.link_on.ensures.links
+
+pub returns-clause-refuses : goal.returns-clause-refuses
+returns-clause-refuses c =
+    subst (λ (o : GroundOptions). IfErr c.link_on.result (HasNoProgram (map object_of c.args.objects.now) o.bounds o.relax o.gc)) c.grounded.ensures c.link_on.ensures.refuses

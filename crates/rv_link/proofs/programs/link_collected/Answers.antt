@@ -18,19 +18,19 @@ pub returns-in_err-collection-clause-refuses : goal.returns-in_err-collection-cl
 returns-in_err-collection-clause-refuses c =
     let found = err_from_is_err_and c.from_residual.result c.from_residual.ensures.1 in
     let o = c.args.options in
-    rw (found.1, found.2) (doubled c.args.objects.now o.text_start o.relax true OutOfMemory c.requires.within tt)
+    rw (found.1, found.2) (doubled c.args.objects.now o.bounds o.relax true OutOfMemory c.requires.within tt)
 
 pub returns-in_err-kept-clause-refuses : goal.returns-in_err-kept-clause-refuses
 returns-in_err-kept-clause-refuses c =
     let found = err_from_is_err_and c.from_residual-in_err-kept.result c.from_residual-in_err-kept.ensures.1 in
     let o = c.args.options in
-    rw (found.1, found.2) (doubled c.args.objects.now o.text_start o.relax true OutOfMemory c.requires.within tt)
+    rw (found.1, found.2) (doubled c.args.objects.now o.bounds o.relax true OutOfMemory c.requires.within tt)
 
 pub returns-in_err-drops-clause-refuses : goal.returns-in_err-drops-clause-refuses
 returns-in_err-drops-clause-refuses c =
     let found = err_from_is_err_and c.from_residual-in_err-drops.result c.from_residual-in_err-drops.ensures.1 in
     let o = c.args.options in
-    rw (found.1, found.2) (doubled c.args.objects.now o.text_start o.relax true OutOfMemory c.requires.within tt)
+    rw (found.1, found.2) (doubled c.args.objects.now o.bounds o.relax true OutOfMemory c.requires.within tt)
 
 pub link_left-requires-clause-within : goal.link_left-requires-clause-within
 link_left-requires-clause-within c =
@@ -39,7 +39,7 @@ link_left-requires-clause-within c =
     let drops = drops_of os c.in_ok-collection.collection in
     let many : length c.deref.result.now ≡ length c.args.objects.now =
     ap length c.deref.ensures.value ∙ sym (length-map kept object_of) ∙ ap length c.in_ok-kept.ensures ∙ as_many_objects drops os ∙ length-map c.args.objects.now object_of in
-    subst (λ n. AreWithin n c.args.options.text_start) (sym many) c.requires.within
+    subst (λ n. AreWithin n c.args.options.bounds) (sym many) c.requires.within
 
 pub link_left-requires-clause-names : goal.link_left-requires-clause-names
 link_left-requires-clause-names c =
@@ -54,8 +54,8 @@ returns-clause-links c =
     let o = c.args.options in
     let drops = drops_of os c.in_ok-collection.collection in
     let is : map object_of c.deref.result.now ≡ without drops os = ap (map object_of) c.deref.ensures.value ∙ c.in_ok-kept.ensures in
-    IfOk-weaker c.link_left.result (λ l. IsLinkOfLeft (map object_of c.deref.result.now) o.text_start o.relax c.in_ok-drops.drops.items c.args.with_map (linked_of l)) _
-    (λ l h. some_dropped os (map object_of c.deref.result.now) o.text_start o.relax drops c.in_ok-drops.drops.items c.args.with_map (linked_of l) c.in_ok-collection.ensures is c.in_ok-drops.ensures.dropped h) c.link_left.ensures.links
+    IfOk-weaker c.link_left.result (λ l. IsLinkOfLeft (map object_of c.deref.result.now) o.bounds o.relax c.in_ok-drops.drops.items c.args.with_map (linked_of l)) _
+    (λ l h. some_dropped os (map object_of c.deref.result.now) o.bounds o.relax drops c.in_ok-drops.drops.items c.args.with_map (linked_of l) c.in_ok-collection.ensures is c.in_ok-drops.ensures.dropped h) c.link_left.ensures.links
 
 pub returns-clause-refuses : goal.returns-clause-refuses
 returns-clause-refuses c =
@@ -63,5 +63,5 @@ returns-clause-refuses c =
     let o = c.args.options in
     let drops = drops_of os c.in_ok-collection.collection in
     let is : map object_of c.deref.result.now ≡ without drops os = ap (map object_of) c.deref.ensures.value ∙ c.in_ok-kept.ensures in
-    IfErr-weaker c.link_left.result (HasNoLink (map object_of c.deref.result.now) o.text_start o.relax) _
-    (λ fault h. some_unlinked os (map object_of c.deref.result.now) o.text_start o.relax drops fault c.in_ok-collection.ensures is h) c.link_left.ensures.refuses
+    IfErr-weaker c.link_left.result (HasNoLink (map object_of c.deref.result.now) o.bounds o.relax) _
+    (λ fault h. some_unlinked os (map object_of c.deref.result.now) o.bounds o.relax drops fault c.in_ok-collection.ensures is h) c.link_left.ensures.refuses

@@ -16,14 +16,14 @@ returns-in_err-plan-clause-refuses c =
     let found = err_from_is_err_and c.from_residual.result c.from_residual.ensures.1 in
     let os = map object_of c.args.objects.now in
     rw (found.1, found.2)
-    (subst (HasNoLink os c.args.options.text_start c.args.options.relax) (sym c.in_err-plan.ensures.refuses) (out_of_memory c.args.objects.now c.args.options.text_start c.args.options.relax))
+    (subst (HasNoLink os c.args.options.bounds c.args.options.relax) (sym c.in_err-plan.ensures.refuses) (out_of_memory c.args.objects.now c.args.options.bounds c.args.options.relax))
 
 pub link_by_plan-requires-clause-within : goal.link_by_plan-requires-clause-within
 link_by_plan-requires-clause-within c =
     let os = map object_of c.args.objects.now in
     let left = planned_objects c.in_ok-plan.plan in
     let many : length left ≡ length c.args.objects.now = (alike c.args.options.relax os left c.in_ok-plan.ensures.relaxes).many ∙ length-map c.args.objects.now object_of in
-    subst (λ n. AreWithin n c.args.options.text_start) (sym many) c.requires.within
+    subst (λ n. AreWithin n c.args.options.bounds) (sym many) c.requires.within
 
 pub link_by_plan-requires-clause-names : goal.link_by_plan-requires-clause-names
 link_by_plan-requires-clause-names c =
@@ -35,17 +35,17 @@ pub returns-clause-links : goal.returns-clause-links
 returns-clause-links c =
     let os = map object_of c.args.objects.now in
     let left = planned_objects c.in_ok-plan.plan in
-    let start = c.args.options.text_start in
+    let bounds = c.args.options.bounds in
     let drops = c.args.drops.items in
     let with_map = c.args.with_map in
-    IfOk-weaker c.link_by_plan.result (λ l. IsLinkWith left start drops with_map (linked_of l)) (λ l. IsLinkOfLeft os start c.args.options.relax drops with_map (linked_of l))
+    IfOk-weaker c.link_by_plan.result (λ l. IsLinkWith left bounds drops with_map (linked_of l)) (λ l. IsLinkOfLeft os bounds c.args.options.relax drops with_map (linked_of l))
     (λ l links. record { left = left; relaxed = c.in_ok-plan.ensures.relaxes; linked = links })
     c.link_by_plan.ensures.links
 
 pub returns-clause-refuses : goal.returns-clause-refuses
 returns-clause-refuses c =
     let left = planned_objects c.in_ok-plan.plan in
-    IfErr-weaker c.link_by_plan.result (IsUnlinked left c.args.options.text_start)
-    (HasNoLink (map object_of c.args.objects.now) c.args.options.text_start c.args.options.relax)
+    IfErr-weaker c.link_by_plan.result (IsUnlinked left c.args.options.bounds)
+    (HasNoLink (map object_of c.args.objects.now) c.args.options.bounds c.args.options.relax)
     (λ fault unlinked. record { left = left; relaxed = c.in_ok-plan.ensures.relaxes; unlinked = unlinked })
     c.link_by_plan.ensures.refuses

@@ -8,4 +8,4 @@ abbrev pub invariant-loop-i : goal.invariant-loop-i
 invariant-loop-i l =
     (take l.i l.places ++ started (goes l.destination) l.stop (drop l.i l.places) (map short_section_of (drop l.i l.sections)) ≡ started (goes l.destination) l.first l.initial.places (map short_section_of l.sections))
     × (ended (goes l.destination) l.stop (map short_section_of (drop l.i l.sections)) ≡ ended (goes l.destination) l.first (map short_section_of l.sections))
-    × (l.stop ≤ 0x3ff0_0000)
+    × (l.stop ≤ l.ceiling)

@@ -20,8 +20,8 @@ returns-in_err-stop-clause-far c =
     let here = c.as_slice-sections.ensures.value ∙ ap (λ o. o.sections.items) (sym c.index-objects-i.is) in
     let far = ap (λ l. ended (goes c.args.destination) c.loop-i.stop (map short_section_of l)) here in
     if_none c.from_residual.result
-    (files_far (goes c.args.destination) 0x3ff0_0000 c.loop-i.stop (ended_files (goes c.args.destination) c.args.first (map short_object_of c.args.objects.now)) c.args.objects.now c.loop-i.i o c.loop-i-test.true c.index-objects-i.is
-    (subst (λ l. 0x3ff0_0000 < ended (goes c.args.destination) c.loop-i.stop (map short_section_of l)) here c.in_err-stop.ensures.far) c.loop-i.invariant.1)
+    (files_far (goes c.args.destination) c.args.ceiling c.loop-i.stop (ended_files (goes c.args.destination) c.args.first (map short_object_of c.args.objects.now)) c.args.objects.now c.loop-i.i o c.loop-i-test.true c.index-objects-i.is
+    (subst (λ l. c.args.ceiling < ended (goes c.args.destination) c.loop-i.stop (map short_section_of l)) here c.in_err-stop.ensures.far) c.loop-i.invariant.1)
 
 pub loop-i-preserved : goal.loop-i-preserved
 loop-i-preserved c =

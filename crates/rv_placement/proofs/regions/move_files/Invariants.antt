@@ -9,4 +9,4 @@ invariant-loop-i l =
     (take l.i (lists_of l.files) ++ started_files (goes l.destination) l.stop (drop l.i (lists_of l.files)) (map short_object_of (drop l.i l.objects))
     ≡ started_files (goes l.destination) l.first (lists_of l.initial.files) (map short_object_of l.objects))
     × (ended_files (goes l.destination) l.stop (map short_object_of (drop l.i l.objects)) ≡ ended_files (goes l.destination) l.first (map short_object_of l.objects))
-    × (l.stop ≤ 0x3ff0_0000) × (map length (lists_of l.files) ≡ map (λ o. length o.sections) (map short_object_of l.objects))
+    × (l.stop ≤ l.ceiling) × (map length (lists_of l.files) ≡ map (λ o. length o.sections) (map short_object_of l.objects))

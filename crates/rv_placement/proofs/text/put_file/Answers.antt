@@ -12,7 +12,7 @@ use Rattle.rv_placement.proofs.text.put_file.Goals as goal
 
 pub returns-in-None-clause-far : goal.returns-in-None-clause-far
 returns-in-None-clause-far c =
-    file_far goes_to_text 0x3ff0_0000 c.loop-i.stop (ended goes_to_text c.args.first (map short_section_of c.args.sections.now)) c.args.sections.now c.loop-i.i c.index-sections-i.result c.loop-i-test.true
+    file_far goes_to_text c.args.ceiling c.loop-i.stop (ended goes_to_text c.args.first (map short_section_of c.args.sections.now)) c.args.sections.now c.loop-i.i c.index-sections-i.result c.loop-i-test.true
     c.index-sections-i.is (told_none _ c.in_ok-end.field-0 c.in-None.is c.in_ok-end.ensures.far) c.loop-i.invariant.1
 
 pub bounds-plans-i : goal.bounds-plans-i

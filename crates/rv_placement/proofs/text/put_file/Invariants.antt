@@ -10,6 +10,6 @@ abbrev pub invariant-loop-i : goal.invariant-loop-i
 invariant-loop-i l =
     (map (λ q. q.start) l.places.items ++ text_starts l.stop (map short_section_of (drop l.i l.sections)) ≡ text_starts l.first (map short_section_of l.sections))
     × (ended goes_to_text l.stop (map short_section_of (drop l.i l.sections)) ≡ ended goes_to_text l.first (map short_section_of l.sections))
-    × (l.stop ≤ 0x3ff0_0000)
+    × (l.stop ≤ l.ceiling)
     × AllZip IsKept (map short_section_of (take l.i l.sections)) l.places.items
     × (l.gaps.items ++ gapped l.stop (map short_section_of (drop l.i l.sections)) ≡ l.initial.gaps.items ++ gapped l.first (map short_section_of l.sections))

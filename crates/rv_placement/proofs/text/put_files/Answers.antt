@@ -25,8 +25,8 @@ of_object o = map kept_in o.sections.items
 pub returns-in-None-clause-far : goal.returns-in-None-clause-far
 returns-in-None-clause-far c =
     let far = told_none _ c.in_ok-end.field-0 c.in-None.is c.in_ok-end.ensures.far in
-    files_far goes_to_text 0x3ff0_0000 c.loop-i.stop (ended_files goes_to_text c.args.first (map short_object_of c.args.objects.now)) c.args.objects.now c.loop-i.i c.index-objects-i.result c.loop-i-test.true
-    c.index-objects-i.is (subst (λ l. 0x3ff0_0000 < ended goes_to_text c.loop-i.stop (map short_section_of l)) (c.as_slice-sections.ensures.value ∙ ap (λ o. o.sections.items) (sym c.index-objects-i.is)) far) c.loop-i.invariant.1
+    files_far goes_to_text c.args.ceiling c.loop-i.stop (ended_files goes_to_text c.args.first (map short_object_of c.args.objects.now)) c.args.objects.now c.loop-i.i c.index-objects-i.result c.loop-i-test.true
+    c.index-objects-i.is (subst (λ l. c.args.ceiling < ended goes_to_text c.loop-i.stop (map short_section_of l)) (c.as_slice-sections.ensures.value ∙ ap (λ o. o.sections.items) (sym c.index-objects-i.is)) far) c.loop-i.invariant.1
 
 pub bounds-plans-i : goal.bounds-plans-i
 bounds-plans-i c = inside_same_maps of_plans of_object c.args.plans.now c.args.objects.now c.requires.plans c.loop-i.i c.loop-i-test.true

@@ -10,6 +10,6 @@ abbrev pub invariant-loop-i : goal.invariant-loop-i
 invariant-loop-i l =
     (map (λ f. map (λ q. q.start) f) (lists_of l.files.items) ++ text_files l.stop (map short_object_of (drop l.i l.objects)) ≡ text_files l.first (map short_object_of l.objects))
     × (ended_files goes_to_text l.stop (map short_object_of (drop l.i l.objects)) ≡ ended_files goes_to_text l.first (map short_object_of l.objects))
-    × (l.stop ≤ 0x3ff0_0000)
+    × (l.stop ≤ l.ceiling)
     × AllZip AreKept (map short_object_of (take l.i l.objects)) (lists_of l.files.items)
     × (l.gaps.items ++ gapped_files l.stop (map short_object_of (drop l.i l.objects)) ≡ l.initial.gaps.items ++ gapped_files l.first (map short_object_of l.objects))

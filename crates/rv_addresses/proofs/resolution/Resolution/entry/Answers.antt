@@ -11,18 +11,18 @@ use Rattle.rv_addresses.proofs.MeantLemmas.{kept_held}
 use Rattle.rv_addresses.proofs.resolution.Resolution.entry.Goals as goal
 
 pub returns-then-can_begin : goal.returns-then-can_begin
-returns-then-can_begin c = λ start stands.
+returns-then-can_begin c = λ bounds stands.
     let os = map short_object_of c.args.self.now.objects.now in
     let starts = starts_of c.args.placement.now in
     let x = c.in-Some.meant in
     let k = kept_held os start_name x (sym c.start.ensures ∙ c.in-Some.is) in
-    c.defined_address.ensures start k.export.object stands k.at
+    c.defined_address.ensures bounds k.export.object stands k.at
     ∙ sym
     (start_kept starts os x k
     ∙ ap (λ b. if b then defined_address (starts (x.file.0 + 1)) k.export.object x.definition else None) (sym (c.can_begin.ensures k.export.object k.at) ∙ c.if-can_begin.true))
 
 pub returns-else-can_begin : goal.returns-else-can_begin
-returns-else-can_begin c = λ start stands.
+returns-else-can_begin c = λ bounds stands.
     let os = map short_object_of c.args.self.now.objects.now in
     let starts = starts_of c.args.placement.now in
     let x = c.in-Some.meant in
@@ -32,7 +32,7 @@ returns-else-can_begin c = λ start stands.
     ∙ ap (λ b. if b then defined_address (starts (x.file.0 + 1)) k.export.object x.definition else None) (sym (c.can_begin.ensures k.export.object k.at) ∙ c.if-can_begin.false))
 
 pub returns-in-None : goal.returns-in-None
-returns-in-None c = λ start stands.
+returns-in-None c = λ bounds stands.
     let os = map short_object_of c.args.self.now.objects.now in
     let starts = starts_of c.args.placement.now in
     let found : option_map meant_of (chosen os start_name) ≡ None = sym c.start.ensures ∙ c.in-None.is in

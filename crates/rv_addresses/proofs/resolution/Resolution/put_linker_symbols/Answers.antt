@@ -14,7 +14,7 @@ returns-clause-known c = λ before.
     (c.in_ok-put_linker_symbol-2.ensures.known (c.in_ok-put_linker_symbol.ensures.known before))))
 
 pub returns-clause-added : goal.returns-clause-added
-returns-clause-added c = λ start stands.
+returns-clause-added c = λ bounds stands.
     let os = map short_object_of c.args.self.now.objects.now in
     let p : Global → Bool = λ g. not (is_some (chosen os g.name)) in
     let l = c.args.placement.now in
@@ -30,4 +30,4 @@ returns-clause-added c = λ start stands.
     let before = map global_of c.put_linker_symbol-4.new.globals.items in
     let fourth = filtered_more p old _ before (a ∷ b ∷ d ∷ []) e third c.in_ok-put_linker_symbol-4.ensures.added in
     filtered_more p old _ (map global_of c.put_linker_symbol-5.new.globals.items) (a ∷ b ∷ d ∷ e ∷ []) f fourth
-    (c.in_ok-put_linker_symbol-5.ensures.added ∙ ap (λ n. before ++ filter p (global (codes "__global_pointer$") n ∷ [])) (c.global_pointer.ensures os start stands))
+    (c.in_ok-put_linker_symbol-5.ensures.added ∙ ap (λ n. before ++ filter p (global (codes "__global_pointer$") n ∷ [])) (c.global_pointer.ensures os bounds stands))

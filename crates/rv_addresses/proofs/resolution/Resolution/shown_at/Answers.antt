@@ -11,7 +11,7 @@ use Rattle.rv_addresses.proofs.CutsLemmas.{object_is, symbol_is}
 use Rattle.rv_addresses.proofs.resolution.Resolution.shown_at.Goals as goal
 
 pub returns-then-not-is_chosen-clause-shown : goal.returns-then-not-is_chosen-clause-shown
-returns-then-not-is_chosen-clause-shown c = λ start o s stands at there.
+returns-then-not-is_chosen-clause-shown c = λ bounds o s stands at there.
     let os = map short_object_of c.args.self.now.objects.now in
     let x = c.in_ok-object.object.now in
     let file = c.in_ok-object.ensures.lookup in
@@ -25,7 +25,7 @@ returns-then-not-is_chosen-clause-shown c = λ start o s stands at there.
     sym (none_shown os c.args.placement.now c.args.file.0 o c.args.index.0 s other)
 
 pub returns-in_err-address-clause-shown : goal.returns-in_err-address-clause-shown
-returns-in_err-address-clause-shown c = λ start o s stands at there.
+returns-in_err-address-clause-shown c = λ bounds o s stands at there.
     let os = map short_object_of c.args.self.now.objects.now in
     let p = c.args.placement.now in
     let x = c.in_ok-object.object.now in
@@ -38,11 +38,11 @@ returns-in_err-address-clause-shown c = λ start o s stands at there.
     let moved : slice_get o.symbols c.args.index.0 ≡ Some own = there ∙ ap Some (sym one) in
     let it : is_chosen_at os c.args.file.0 o c.args.index.0 own ≡ true = sym (c.is_chosen.ensures.chosen o (moves_by_section x) at moved) ∙ c.if-not-is_chosen.false in
     let address : None ≡ defined_address (starts_of p (c.args.file.0 + 1)) o own.definition =
-    c.in_err-address.ensures start o stands at ∙ ap (defined_address (starts_of p (c.args.file.0 + 1)) o) c.definition-definition.ensures in
+    c.in_err-address.ensures bounds o stands at ∙ ap (defined_address (starts_of p (c.args.file.0 + 1)) o) c.definition-definition.ensures in
     ap listed c.from_residual-in_err-address.ensures ∙ one_shown os p c.args.file.0 o c.args.index.0 own s None it address one
 
 pub returns-clause-shown : goal.returns-clause-shown
-returns-clause-shown c = λ start o s stands at there.
+returns-clause-shown c = λ bounds o s stands at there.
     let os = map short_object_of c.args.self.now.objects.now in
     let p = c.args.placement.now in
     let x = c.in_ok-object.object.now in
@@ -55,5 +55,5 @@ returns-clause-shown c = λ start o s stands at there.
     let moved : slice_get o.symbols c.args.index.0 ≡ Some own = there ∙ ap Some (sym one) in
     let it : is_chosen_at os c.args.file.0 o c.args.index.0 own ≡ true = sym (c.is_chosen.ensures.chosen o (moves_by_section x) at moved) ∙ c.if-not-is_chosen.false in
     let address : Some c.in_ok-address.address ≡ defined_address (starts_of p (c.args.file.0 + 1)) o own.definition =
-    c.in_ok-address.ensures start o stands at ∙ ap (defined_address (starts_of p (c.args.file.0 + 1)) o) c.definition-definition.ensures in
+    c.in_ok-address.ensures bounds o stands at ∙ ap (defined_address (starts_of p (c.args.file.0 + 1)) o) c.definition-definition.ensures in
     one_shown os p c.args.file.0 o c.args.index.0 own s (Some c.in_ok-address.address) it address one

@@ -20,17 +20,17 @@ put_rows-requires-2-clause-own c =
     ∙ all_ordered (λ r. is_row_in r (slice_get sections r.section)) (moved_rows o rows) o.lie
 
 pub returns-then-are_ordered-clause-added : goal.returns-then-are_ordered-clause-added
-returns-then-are_ordered-clause-added c os start is at =
+returns-then-are_ordered-clause-added c os bounds is at =
     let o = c.args.object.now in
     let rows = o.whole.now.rows.items in
     let own : c.as_slice-own.result.now ≡ by_ordinal rows = sym c.if-are_ordered.ensures ∙ ap by_ordinal c.as_slice-own.ensures.value in
     subst (λ l. IfOk c.put_rows.result (λ _. c.put_rows.new.rows.items ≡ c.args.rows.now.items ++ map (row_in (starts_of c.args.self.now) (c.args.file.0 + 1) (short_object_of o)) l))
-    (sorted_moved o c.as_slice-own.result.now rows own) (c.put_rows.ensures.added os start is at)
+    (sorted_moved o c.as_slice-own.result.now rows own) (c.put_rows.ensures.added os bounds is at)
 
 pub returns-clause-added : goal.returns-clause-added
-returns-clause-added c os start is at =
+returns-clause-added c os bounds is at =
     let o = c.args.object.now in
     let rows = o.whole.now.rows.items in
     let own : c.as_slice.result.now ≡ by_ordinal rows = c.as_slice.ensures.value ∙ c.in_ok-sorted.ensures ∙ ap by_ordinal c.as_slice-own.ensures.value in
     subst (λ l. IfOk c.put_rows-2.result (λ _. c.put_rows-2.new.rows.items ≡ c.args.rows.now.items ++ map (row_in (starts_of c.args.self.now) (c.args.file.0 + 1) (short_object_of o)) l))
-    (sorted_moved o c.as_slice.result.now rows own) (c.put_rows-2.ensures.added os start is at)
+    (sorted_moved o c.as_slice.result.now rows own) (c.put_rows-2.ensures.added os bounds is at)
