@@ -51,7 +51,8 @@ pub struct Placement<'p> {
 
 /// The bytes of memory that the regions need.
 fn memory_of(text: Region, behind: Regions) -> u64
-    requires { (text.end ≤ behind.rodata.start) × (behind.rodata.end ≤ behind.data.start) }
+    requires { (text.end ≤ behind.rodata.start) × (behind.rodata.start ≤ behind.rodata.end)
+        × (behind.rodata.end ≤ behind.data.start) }
     ensures { result ≡ laws.memory_of text behind.rodata behind.data behind.bss }
 {
     text.end.saturating_sub(text.start)

@@ -43,7 +43,7 @@ module _ (os : List Object) (bounds : Ground) (l : Linked) (h : IsLinkOf os boun
 
   pub refused : (fault : LinkFault) → IsUnlinked os bounds fault → fault ≡ OutOfMemory
   refused TooManyFiles u = let few = h.few in absurd (omega (arith, u, few))
-  refused BadTextStart u = absurd (u.1 (h.page, h.low))
+  refused BadTextStart u = absurd (u.1 (h.page, h.low, h.free))
   refused (Duplicate name) u = absurd (none_some (first_duplicate os) name.items (no_duplicate os h.once) u.1)
   refused (Undefined name) u = absurd (none_some (first_undefined os) name.items (linked_meant os bounds l h) u.1.1)
   refused EntryMissing u = absurd (has_its_entry u.1)

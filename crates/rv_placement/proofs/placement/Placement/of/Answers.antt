@@ -58,7 +58,8 @@ memory_of-requires c =
     let r = c.in-Some-regions_behind.behind in
     let h = c.in-Some-regions_behind.ensures.behind in
     let os = map short_object_of c.as_slice-objects.result.now in
-    ((rodata_up os c.in-Some.end r.rodata r.data r.bss h).0, (data_up os c.in-Some.end r.rodata r.data r.bss h).0)
+    let up = rodata_up os c.in-Some.end r.rodata r.data r.bss h in
+    (up.0, up.1, (data_up os c.in-Some.end r.rodata r.data r.bss h).0)
 
 pub returns-then-memory_of-gt-MEMORY_LIMIT-clause-refuses : goal.returns-then-memory_of-gt-MEMORY_LIMIT-clause-refuses
 returns-then-memory_of-gt-MEMORY_LIMIT-clause-refuses c =
