@@ -8,6 +8,7 @@ qemu-riscv64; what is not installed is passed over, with a line. Standard librar
 'N passed, M failed'.
 """
 
+import importlib.util
 import json
 import os
 import re
@@ -149,6 +150,17 @@ def in_python(rv, folder, environment):
     yield "grade.py", status == 0 and message.startswith(GRADES), message
     status, message = ran([sys.executable, "-m", "doctest", TOP / "python/rv/__init__.py"], folder, env=words)
     yield "the examples in the package", status == 0 and not message, message
+    if not importlib.util.find_spec("pip"):
+        print("pip is not there")
+        return
+    pip = [sys.executable, "-m", "pip", "--disable-pip-version-check", "install", "--quiet", "--no-index"]
+    status, message = ran([*pip, "--target", folder / "installed", TOP / "python"], folder)
+    yield "pip installs the package", status == 0, message
+    words["PYTHONPATH"] = str(folder / "installed")
+    script = "import doctest, sys, rv; print(rv.__file__); sys.exit(doctest.testmod(rv).failed)"
+    status, message = ran([sys.executable, "-c", script], folder, env=words)
+    wanted = str(folder / "installed/rv/__init__.py\n")
+    yield "the package that pip installs", status == 0 and message == wanted, message
 
 
 def known(rv):
