@@ -4,6 +4,9 @@
 # make refused     refuses each request for memory of ./rv and of the library's calls in turn
 # make test        the whole gate: every proof from nothing, the must-fail edits, the tests, the programs and their cases,
 #                  and what each crate cost
+# make library     proves and builds librv.a and librv.so in out/library; make quick-library, with no proof, in
+#                  out/quick-library
+# make check-library  runs programs in C, C++, Rust and Python over that library
 # make definitions prints the definitions on which all that is proved rests, in reading order
 # make lint        looks at the layout and the rules of the Python and shell files
 # make reached     lists the functions of rv that no case of tests/ reaches
@@ -12,14 +15,18 @@
 # make growth      draws how their times grow: bench/growth.svg
 # make install     PREFIX=/usr/local by default; the proved program, which it proves first unless make has, the man
 #                  page and the completions of shells, and an assembler for gcc -B PREFIX/libexec/rv/
+#                  and the library, its header, and rv.pc for pkg-config (make install-library: these alone)
 
 PREFIX ?= /usr/local
 TO = $(DESTDIR)$(PREFIX)
 EXAMPLE := examples/exit7.s
 PROGRAM := crates/rv_cli/out/rv_cli
-# What the program is made of: no test crate, and no edit that must fail.
-FILES := $(shell find crates \( -name out -o -name must-fail -o -name '*_tests' \) -prune -o -type f -print)
+# What the program is made of: no test crate, and no edit that must fail; and what the library has beside it.
+NOT_BUILT := -name out -o -name must-fail
+FILES := $(shell find crates \( $(NOT_BUILT) -o -name '*_tests' -o -name rv_library \) -prune -o -type f -print)
 SOURCES := crates.txt $(FILES)
+OF_LIBRARY := $(shell find crates/rv_library \( $(NOT_BUILT) \) -prune -o -type f -print)
+OF_LIBRARY += include/rv.h scripts/library.py
 
 # ./rv is a copy of the program that was made last. Each has a file of its own, so `make` makes the proved one however
 # new an unproved one is.
@@ -27,8 +34,13 @@ PROVED := out/proved/rv
 UNPROVED := out/quick/rv
 # It notes which of its functions are entered, and is not proved.
 COUNTED := out/counted/rv
+# The library for other languages, proved and not, and its version.
+LIBRARY := out/library
+QUICK_LIBRARY := out/quick-library
+VERSION := $(shell sed -n 's/^.define RV_VERSION "\(.*\)"/\1/p' include/rv.h)
 
-.PHONY: all quick proved check refused test definitions lint reached bench growth install clean
+.PHONY: all quick proved check refused test library quick-library check-library definitions lint reached bench growth
+.PHONY: install install-library clean
 
 all: proved
 	$(RUN_EXAMPLE)
@@ -93,6 +105,19 @@ refused: rv rv_refusal_tests
 test:
 	scripts/test.py
 
+library: $(LIBRARY)/librv.a
+
+quick-library: $(QUICK_LIBRARY)/librv.a
+
+$(LIBRARY)/librv.a: $(SOURCES) $(OF_LIBRARY)
+	scripts/library.py $(LIBRARY)
+
+$(QUICK_LIBRARY)/librv.a: $(SOURCES) $(OF_LIBRARY)
+	scripts/library.py --quick $(QUICK_LIBRARY)
+
+check-library:
+	tests/library.py
+
 definitions:
 	@scripts/trusted.py
 
@@ -109,13 +134,20 @@ bench: rv
 growth: rv
 	python3 bench/growth.py
 
-install: proved
+install: proved install-library
 	install -D -m 755 rv $(TO)/bin/rv
 	install -D -m 755 scripts/as.sh $(TO)/libexec/rv/as
 	scripts/manual_page.py | install -D -m 644 /dev/stdin $(TO)/share/man/man1/rv.1
 	./rv completions bash | install -D -m 644 /dev/stdin $(TO)/share/bash-completion/completions/rv
 	./rv completions zsh | install -D -m 644 /dev/stdin $(TO)/share/zsh/site-functions/_rv
 	./rv completions fish | install -D -m 644 /dev/stdin $(TO)/share/fish/vendor_completions.d/rv.fish
+
+install-library: library
+	install -D -m 644 include/rv.h $(TO)/include/rv.h
+	install -D -m 644 $(LIBRARY)/librv.a $(TO)/lib/librv.a
+	install -D -m 755 $(LIBRARY)/librv.so.$(VERSION) $(TO)/lib/librv.so.$(VERSION)
+	cp -P $(LIBRARY)/librv.so.? $(LIBRARY)/librv.so $(TO)/lib
+	sed 's|@PREFIX@|$(PREFIX)|; s|@VERSION@|$(VERSION)|' include/rv.pc.in | install -D -m 644 /dev/stdin $(TO)/lib/pkgconfig/rv.pc
 
 clean:
 	rm -rf rv rv_refusal_tests out crates/*/out

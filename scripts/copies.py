@@ -254,7 +254,7 @@ def handed_on(files):
 
 def lemma_files():
     """The files of lemmas, in the order of crates.txt."""
-    order = re.findall(r"^(rv_\w+):", (TOP / "crates.txt").read_text(encoding="utf-8"), re.M)
+    order = re.findall(r"^(rv_\w+)(?: staticlib)?:", (TOP / "crates.txt").read_text(encoding="utf-8"), re.M)
     for crate in order:
         for path in sorted((TOP / "crates" / crate / "proofs").rglob("*.antt")):
             if path.name not in NO_LEMMAS and "declared" not in path.parts:

@@ -100,7 +100,7 @@ def crates_named():
     """The crates that each line of crates.txt names."""
     lines = (TOP / "crates.txt").read_text(encoding="utf-8").splitlines()
     split = (line.partition(":") for line in lines if line and not line.startswith("#"))
-    return {crate: set(names.split()) for crate, _, names in split}
+    return {crate.split()[0]: set(names.split()) for crate, _, names in split}
 
 
 def main():

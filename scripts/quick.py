@@ -8,8 +8,10 @@ what nothing but that reads, and is compiled and linked as `rt run` does it with
 the proved program, but for a test of the processor at the start. `rv --version` says that nothing is proved.
 """
 
+import os
 import re
 import resource
+import shutil
 import sys
 import tempfile
 import threading
@@ -140,6 +142,81 @@ def step(what, expected):
 def processor_seconds():
     used = [resource.getrusage(it) for it in (resource.RUSAGE_SELF, resource.RUSAGE_CHILDREN)]
     return sum(it.ru_utime + it.ru_stime for it in used)
+
+
+# What a library's exports are called by, so that all of them are in the module of a program.
+CALLER = """
+/// Calls each export once.
+fn main(rt: HostRuntime) {
+    let alloc = rt.alloc();
+CALLS}
+"""
+
+
+def as_program(crate, room):
+    """Copies the repository such that a static library is a program, which calls each of its exports; the top of the
+    copy."""
+    top, own = f"{room}/top", f"{room}/top/crates/{crate}"
+    shutil.copytree(f"{kit.ROOT}/crates", f"{top}/crates", ignore=shutil.ignore_patterns("out", "proofs", "must-fail"))
+    with open(f"{kit.ROOT}/crates.txt") as it, open(f"{top}/crates.txt", "w") as out:
+        out.write(it.read().replace(f"\n{crate} staticlib:", f"\n{crate}:"))
+    with open(f"{own}/src/lib.rt") as it, open(f"{own}/src/main.rt", "w") as out:
+        out.write(it.read() + CALLER.replace("CALLS", calls(f"{own}/src")))
+    os.remove(f"{own}/src/lib.rt")
+    return top
+
+
+def calls(sources):
+    """A call of each function that the files of a folder export, with nothing in its slices."""
+    found = ""
+    for name in sorted(os.listdir(sources)):
+        with open(f"{sources}/{name}") as it:
+            exports = re.findall(r'pub extern "C" fn (\w+)\(([^)]*)\)', it.read())
+        for function, parameters in exports:
+            types = [it.split(":")[1].strip() for it in parameters.split(",") if it.strip()]
+            made = "".join(f"    let mut x{at} = {VALUES[it][0]};\n" for at, it in enumerate(types) if VALUES[it][0])
+            words = ", ".join(VALUES[it][1].replace("X", f"x{at}") for at, it in enumerate(types))
+            found += f"{made}    let _ = {function}({words});\n"
+    return found
+
+
+# For the types of the exports' parameters: a variable that holds a value, and what is passed.
+VALUES = {
+    "Global": ("", "alloc"),
+    "u32": ("", "0"),
+    "u64": ("", "0"),
+    "&[u8]": ("", 'b""'),
+    "&[u64]": ("", "&[]"),
+    "&mut [u8]": ("[0u8; 1]", "&mut X"),
+    "&mut u64": ("0u64", "&mut X"),
+    "&mut Answer": ("Answer { length: 0, second_length: 0, kind: 0, number: 0, file: 0, line: 0 }", "&mut X"),
+    "&mut Ended": ("Ended { address: 0, kind: 0, code: 0 }", "&mut X"),
+    "&mut State": ("State { registers: [0; 32], pc: 0, count: 0 }", "&mut X"),
+}
+
+
+def exported(crate, source, target):
+    """Copies a module such that the functions that a crate exports have the names by which C calls them, which `rt try`
+    does not give them."""
+    found = re.compile(rf'^define internal (?=[^@\n]*@"{crate}::\w+::(rv_\w+)"\()', re.M)
+    with open(source, encoding="latin-1") as it:
+        text = it.read()
+    names = "|".join(found.findall(text))
+    with open(target, "w", encoding="latin-1") as out:
+        out.write(re.sub(rf'@"{crate}::\w+::({names})"', r"@\1", found.sub("define ", text)))
+
+
+def library(crate, room):
+    """The object of a static library, for shared libraries too; it has a program's `main` and what that needs."""
+    kit.folder()
+    top = as_program(crate, room)
+    with step("1 of 3  reads all sources and lowers them", 70):
+        module = kit.lowered(crate, room, top)
+    with step("2 of 3  takes out what serves trying alone", 25):
+        turned(module, f"{room}/turned.ll")
+        exported(crate, f"{room}/turned.ll", f"{room}/exported.ll")
+    with step("3 of 3  optimizes the whole and compiles it", 105):
+        return kit.compiled("exported.ll", room, "-fPIC")
 
 
 def main(program, file):

@@ -19,7 +19,7 @@ from pathlib import Path
 
 TOP = Path(__file__).resolve().parent.parent
 CRATES, PAGE = TOP / "crates", TOP / "docs/DEFINITIONS.md"
-ORDER = re.findall(r"^(\w+):", (TOP / "crates.txt").read_text(encoding="utf-8"), re.M)
+ORDER = re.findall(r"^(\w+)(?: staticlib)?:", (TOP / "crates.txt").read_text(encoding="utf-8"), re.M)
 WORD = r"[A-Za-z_][\w'-]*"
 USE = re.compile(r"^\s*(?:(?:unfoldable|pub|ghost) )*use (Rattle[\w.]+?)(?:\.\{([^}]*)\})?(?: as (\w+))?;?$", re.M)
 RUST_USE = re.compile(r"^(?:pub(?:\(crate\))? )?use (\w+)::(?:\w+::)*(?:\{([^}]*)\}|(\w+))(?: as (\w+))?;", re.M)
