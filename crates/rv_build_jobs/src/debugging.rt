@@ -4,8 +4,8 @@
 //! the map; paths of sources are as the words name them, below the working directory, and those of objects as the objects name
 //! their sources.
 
-use rv_debug::{DebugFault, SourceFile, debug_file};
 use rv_chain::{Built, FileFault};
+use rv_debug::{DebugFault, SourceFile, debug_file};
 use rv_source_names::{path_from, source_of, with_source};
 use rv_system::{JobError, ReadFault, System};
 use std::alloc::{AllocError, Global};

@@ -171,7 +171,9 @@ fn names_source(operands: &mut Operands<'_, '_>) -> Result<bool, Refusal> {
     let help = "Names the source in the object, for rv ld -g";
     let mut names = operands.flag(Flag::letter("debug", 'g', help))?;
     for format in DEBUG_FORMATS {
-        names |= operands.flag(Flag::long(format, "As GCC says it: -g"))?;
+        if operands.flag(Flag::long(format, "As GCC says it: -g"))? {
+            names = true;
+        }
     }
     Ok(names)
 }
@@ -238,7 +240,9 @@ fn is_debug_format(word: &str) -> bool {
         return true;
     }
     match word.strip_prefix("--") {
-        Some(name) => name.starts_with("gdwarf") && !DEBUG_FORMATS.contains(&name),
+        Some(name) => {
+            name.starts_with("gdwarf") && !DEBUG_FORMATS.iter().any(|format| *format == name)
+        }
         None => false,
     }
 }

@@ -11,7 +11,7 @@ use Rattle.rv_source_name_laws.specs.SourceNames.{SourceName, IsSourceName, name
 
 -- the name of its bytes
 module _ (name : SourceName) (good : IsSourceName name) where
-  rest : List ℕ
+  abbrev rest : List ℕ
   rest = name.path ++ 0 ∷ []
 
   behind : drop (length name.directory + 1) (name_bytes name) ≡ rest

@@ -14,11 +14,7 @@ pub struct SourceName {
 }
 
 /// The path by which a source is found from a directory: its own, unless it was assembled elsewhere.
-pub fn path_from(
-    alloc: Global,
-    directory: &[u8],
-    name: &SourceName,
-) -> Result<Vec<u8>, AllocError>
+pub fn path_from(alloc: Global, directory: &[u8], name: &SourceName) -> Result<Vec<u8>, AllocError>
     ensures { IfOk result
         (λ path. path.items ≡ laws.path_from directory.now (plain_source name.now)) }
 {

@@ -25,10 +25,7 @@ pub fn source_of(alloc: Global, file: &[u8]) -> Result<Option<SourceName>, Alloc
 }
 
 /// The source that sections name.
-fn source_in(
-    alloc: Global,
-    sections: &[Section<'_>],
-) -> Result<Option<SourceName>, AllocError>
+fn source_in(alloc: Global, sections: &[Section<'_>]) -> Result<Option<SourceName>, AllocError>
     ensures { IfOk result (λ name. option_map plain_source name
         ≡ laws.name_of_section (laws.last_source None (map section_of sections.now))) }
 {
