@@ -1,6 +1,6 @@
 //! Finds the name of a source in an object's file.
 
-ghost use Rattle.std.specs.Prelude.{◌≡◌, None, Some, map, option_map, IfOk};
+ghost use Rattle.std.specs.Prelude.{◌≡◌, ◌+◌, None, Some, drop, length, map, option_map, IfOk};
 ghost use Rattle.std.specs.Option.{option_copied};
 ghost use Rattle.rv_object_types.specs.Sections.{section_of};
 ghost use Rattle.rv_source_name_laws.specs.SourceNames as laws;
@@ -65,11 +65,18 @@ fn name_in(alloc: Global, bytes: &[u8]) -> Result<Option<SourceName>, AllocError
     let Some(directory) = string_in(bytes, 0) else {
         return Ok(None);
     };
-    let behind = bytes.get(directory.len() + 1..).unwrap_or(&[]);
+    let behind = behind(bytes, directory);
     let Some(path) = string_in(behind, 0) else {
         return Ok(None);
     };
     name_by(alloc, directory, behind, path)
+}
+
+/// What stands behind a directory at the front of some bytes and its zero.
+fn behind<'b>(bytes: &'b [u8], directory: &[u8]) -> &'b [u8]
+    ensures { result.now ≡ drop (length directory.now + 1) bytes.now }
+{
+    bytes.get(directory.len() + 1..).unwrap_or(&[])
 }
 
 /// The name of a directory and of the path at the front of what stands behind it, unless one is empty or more stands there.
