@@ -9,6 +9,7 @@ usage: debugged.py [NAME ..]     only cases whose path below tests/ begins so
   "Symbol Table").
 - The line tables, run by the state machine of DWARF 5, 6.2, are the map's rows of code of each source that has some,
   with an end behind each stretch. An entry of .debug_info (3.1.1, 7.5) and one of .debug_aranges (6.1.2) lead to each.
+- Objects of `rv as -g` are linked by `rv ld -g` to the same bytes, and without -g to the executable without it.
 
 Standard library alone; the last line is 'N passed, M failed'.
 """
@@ -17,7 +18,7 @@ import struct
 import sys
 
 from run import Failed, same
-from twice import both, main
+from twice import both, call, main
 
 OPTION = "-g"
 STMT_LIST, LOW_PC, HIGH_PC, NAME, COMP_DIR = 0x10, 0x11, 0x12, 0x03, 0x1B
@@ -195,6 +196,10 @@ def compare(folder, words):
     found = sections(known)
     names = [it for it in given[1:] if (folder / it).exists() and not it.startswith("-")]
     region, wanted, units = told(folder, text, names)
+    # (objects of many sources are assembled one by one)
+    if len(names) < 5 and not {"-l", "--library"} & set(given):
+        options = [it for it in given[1:] if it not in names]
+        same("what objects are linked to", [known, plain], link(folder, options, names))
     same("regions", region, {it[1:]: (h[3], h[3] + h[5]) for it, (h, _) in found.items() if it[1:] in region})
     for it, (header, body) in found.items():
         at = header[3] - region["text"][0] + 0x1000
@@ -206,6 +211,16 @@ def compare(folder, words):
     same("units", [it for it, _ in units], known)
     same("line tables", [code for _, code in units], [list(table(lines, it[STMT_LIST])) for _, it in heads])
     same("addresses", [(at, it[LOW_PC], it[HIGH_PC]) for at, it in heads], list(ranges(found)))
+
+
+def link(folder, options, names):
+    """Assembles sources and links their objects, with -g, and links them without it: the bytes of both."""
+    objects = [f"{number}.o" for number in range(len(names))]
+    calls = [["as", OPTION, "-o", made, name] for made, name in zip(objects, names)]
+    calls += [["ld", *more, "-o", made, *options, *objects] for made, more in (("linked", [OPTION]), ("less", []))]
+    for words in calls:
+        same(" ".join(words), None, call(folder, words))
+    return [(folder / it).read_bytes() for it in ("linked", "less")]
 
 
 def is_compared(words):

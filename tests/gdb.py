@@ -2,7 +2,7 @@
 """Debugs programs with gdb over `rv gdb`, and compares what gdb says: tests/gdb/NAME.gdb.
 
 The head of a session has `# KEY: VALUE`: `rv`, the words of `rv gdb` (prog.s, or prog where it is made); `build`, the
-sources of which `rv build -g` makes it; `gcc`, more words for GCC, which then links start.s and prog.c; `file NAME`,
+sources of which `rv build -g` makes it; `link`, those of which `rv as -g` and `rv ld -g` make it; `gcc`, more words for GCC, which then links start.s and prog.c; `file NAME`,
 all of a file when the session is over, with the escapes of C. A line `#--- NAME` begins a file. Behind `#--- session` a
 command stands as `(gdb) COMMAND`, and below it what gdb says, blank lines at its ends aside; a line `...` is any lines.
 Expected values come from the source of the program, and the words around them from gdb.
@@ -65,6 +65,14 @@ def debug(folder, words, commands):
     return ran.stdout.split(f"\n{MARK}\n")[1:]
 
 
+def link(folder, sources):
+    """Assembles sources and links their objects."""
+    objects = [it.replace(".s", ".o") for it in sources]
+    for made, source in zip(objects, sources):
+        subprocess.run([RV, "as", "-g", "-o", made, source], cwd=folder, check=True, timeout=60)
+    subprocess.run([RV, "ld", "-g", "-o", "prog", *objects], cwd=folder, check=True, timeout=60)
+
+
 def faults(path):
     """What is wrong in a session; None where a tool is missing."""
     keys, files, session = parts_of(path.read_text())
@@ -80,6 +88,8 @@ def faults(path):
             subprocess.run(words.split(), cwd=folder, check=True, timeout=60)
         if "build" in values:
             subprocess.run([RV, *f"build -g -o prog {values['build']}".split()], cwd=folder, check=True, timeout=60)
+        if "link" in values:
+            link(folder, values["link"].split())
         words = values.get("rv", "prog" if (folder / "prog").exists() else "prog.s")
         said = debug(folder, words, [command for command, _ in session])
         said += [""] * (len(session) - len(said))

@@ -305,12 +305,21 @@ def commands(name, source, at, texts):
         calls += [(f"ld of an archive {name}", ["ld", *outputs, objs[0], *library], wrote(exe=exe, map=map_))]
         known = [("build -g", paths), ("build -g with an archive", [paths[0], *library])]
         known = [(called, ["build", "-g", *outputs, *files]) for called, files in known]
+        known += named(at, paths, outputs)
         calls += [(f"{called} {name}", words, ordinary(words, at)) for called, words in known]
     for called, words, wanted in calls:
         yield Case(called, [RV, *words], at, source.given if wanted is ran else b"", wanted)
     if name == "echo_four":
         yield from of_loops(name, source, at)
         yield of_gdb(name, source, at)
+
+
+def named(at, paths, outputs):
+    """Calls with -g of an object of a source and of objects that name theirs, one by a path below a directory."""
+    objects = [str(at / f"named{number}.o") for number in range(len(paths))]
+    for made, path in zip(objects, [Path(paths[0]).name, *paths[1:]]):
+        output_of(at, "as", "-g", "-o", made, path)
+    return [("as -g", ["as", "-g", "-o", "obj", paths[0]]), ("ld -g", ["ld", "-g", *outputs, *objects])]
 
 
 def of_loops(name, source, at):

@@ -6,7 +6,7 @@ Of each source, by default those of examples/ and of the cases of tests/run, and
 without code:
 
   nm         each global has the map's address
-  readelf    the decoded lines are the map's rows of code
+  readelf    the decoded lines are the map's rows of code, and those of `rv ld -g` of objects of `rv as -g`
   addr2line  each row of code has its source and line
   dwarfdump  `llvm-dwarfdump --verify` finds nothing wrong
   objdump    -dl shows the lines that it shows of GNU as and ld, in the same order
@@ -77,6 +77,14 @@ def shown_lines(folder, exe):
     return found
 
 
+def lines_of_objects(folder, names):
+    """The lines that readelf decodes of what `rv ld -g` links of objects of `rv as -g`."""
+    for name in names:
+        output(folder, RV, "as", "-g", "-o", f"{name}.o", name)
+    output(folder, RV, "ld", "-g", "-o", "linked", *(f"{name}.o" for name in names))
+    return output(folder, f"{GNU}readelf", "--debug-dump=decodedline", "linked")
+
+
 def said_by_gdb(folder, firsts):
     """What gdb says otherwise of the first address of each line with code."""
     words = ["-ex", "set pagination off"]
@@ -119,6 +127,8 @@ def differences(folder, names):
         output(folder, RV, "image", "--bin", "-o", "b.bin", "plain")
         if (folder / "a.bin").read_bytes() != (folder / "b.bin").read_bytes():
             yield words[0]
+    if lines_of_objects(folder, names) != decoded:
+        yield "readelf of objects"
     for name in names:
         output(folder, f"{GNU}as", "-g", "-march=rv64imac", "-mabi=lp64", "-o", f"{name}.o", name)
     output(folder, f"{GNU}ld", "-o", "gnu", *(f"{name}.o" for name in names))

@@ -314,6 +314,12 @@ Arguments:
 Options:
   -o <OBJ>                  The object to write
       --explain             Shows below a fault where it stands and why, as on a terminal
+  -g                        Names the source in the object, for rv ld -g
+      --gdwarf-5            As GCC says it: -g
+      --gdwarf-4            As GCC says it: -g
+      --gdwarf-3            As GCC says it: -g
+      --gdwarf-2            As GCC says it: -g
+      --gdwarf2             As GCC says it: -g
   -m <OPTION>               As GCC says it: arch=rv64imac, abi=lp64, isa-spec=20191213, no-relax
   -f <OPTION>               As GCC says it: no-pic
   -I <DIR>                  As GCC says it; no source includes a file
@@ -339,6 +345,7 @@ Arguments:
 Options:
   -o <EXE>              The executable to write
       --map <F>         Writes the map as well
+  -g                    Adds names and lines for debuggers
       --text-start <N>  The address of the text, decimal or 0x and hexadecimal [default: 0x10000]
       --origin <N>      The address of the text, also behind the stack, such as 0x80000000
       --no-relax        Leaves every call its eight bytes

@@ -2,7 +2,7 @@
 //!
 //! A job writes no file before all that it writes is made.
 
-use crate::debugging::debugged;
+use crate::debugging::{debugged, named_object, paths_of_names};
 use crate::files::{linked_files, object_files};
 use crate::linking::link_inputs;
 use crate::loading::{given_sources, is_elf};
@@ -140,7 +140,12 @@ fn build_inputs<S: System>(
 ) -> Result<u8, JobError> {
     if outputs.debug || outputs.map.is_some() {
         let built = build_with_map(system, inputs, settings)?;
-        return write_outputs(system, outputs, inputs.names(), built);
+        if !outputs.debug {
+            return write_outputs(system, outputs, built);
+        }
+        let paths = paths_of_names(system.alloc(), inputs.names())?;
+        let built = debugged(system, outputs.exe, paths.as_slice(), built)?;
+        return write_outputs(system, outputs, built);
     }
     let exe = build_without_map(system, inputs, settings)?;
     write(system, outputs.exe, Purpose::ToRun, exe.as_slice())?;
@@ -218,6 +223,11 @@ pub fn assemble<S: System>(system: &mut S, asked: &AskedObject<'_>) -> Result<u8
         asked.relax,
         asked.explains,
     )?;
+    let file = if asked.debug {
+        named_object(system, asked.source, file.as_slice())?
+    } else {
+        file
+    };
     write(system, asked.object, Purpose::ToRead, file.as_slice())?;
     Ok(0)
 }
@@ -262,19 +272,12 @@ fn without_relaxation(alloc: Global, text: &[u8]) -> Result<Vec<u8>, AllocError>
     Ok(option)
 }
 
-/// Writes what was made of files with these names: the executable, with names and lines for debuggers where these are
-/// wanted, and then the map where a file is named for it; the exit status.
+/// Writes the executable, and then the map where a file is named for it; the exit status.
 pub(crate) fn write_outputs<S: System>(
     system: &mut S,
     outputs: LinkOutputs<'_>,
-    names: &[&str],
     built: Built,
 ) -> Result<u8, JobError> {
-    let built = if outputs.debug {
-        debugged(system, outputs.exe, names, built)?
-    } else {
-        built
-    };
     write(system, outputs.exe, Purpose::ToRun, built.exe.as_slice())?;
     if let Some(map) = outputs.map {
         write(system, map, Purpose::ToRead, built.map.as_slice())?;

@@ -1,23 +1,25 @@
 //! Executables with names and lines for debuggers.
 //!
 //! They stand behind the executable, whose image stays what it is, and the map stays the same too. Names and lines are those of
-//! the map; paths are as the words name them, below the working directory.
+//! the map; paths of sources are as the words name them, below the working directory, and those of objects as the objects name
+//! their sources.
 
-use rv_chain::Built;
+use rv_chain::{Built, FileFault};
 use rv_debug::{DebugFault, SourceFile, debug_file};
+use rv_source_names::{path_from, source_of, with_source};
 use rv_system::{JobError, ReadFault, System};
 use std::alloc::{AllocError, Global};
 
-/// What was built of sources with these names, with names and lines behind the executable.
+/// What was built of sources with these paths, with names and lines behind the executable.
 pub(crate) fn debugged<S: System>(
     system: &S,
     exe: &str,
-    names: &[&str],
+    paths: &[Vec<u8>],
     built: Built,
 ) -> Result<Built, JobError> {
     let alloc: Global = system.alloc();
     let directory = directory(system)?;
-    let sources = source_files(alloc, names)?;
+    let sources = source_files(alloc, paths)?;
     match debug_file(
         alloc,
         built.exe.as_slice(),
@@ -46,12 +48,57 @@ fn directory<S: System>(system: &S) -> Result<String, JobError> {
 }
 
 /// The sources, by their paths.
-fn source_files<'a>(alloc: Global, names: &[&'a str]) -> Result<Vec<SourceFile<'a>>, AllocError> {
+fn source_files(alloc: Global, paths: &[Vec<u8>]) -> Result<Vec<SourceFile<'_>>, AllocError> {
     let mut sources = Vec::new(alloc);
-    for name in names {
+    for path in paths {
         sources.push(SourceFile {
-            path: name.as_bytes(),
+            path: path.as_slice(),
         })?;
     }
     Ok(sources)
+}
+
+/// The paths of sources with these names.
+pub(crate) fn paths_of_names(alloc: Global, names: &[&str]) -> Result<Vec<Vec<u8>>, AllocError> {
+    let mut paths: Vec<Vec<u8>> = Vec::new(alloc);
+    for name in names {
+        paths.push(Vec::from_slice(alloc, name.as_bytes())?)?;
+    }
+    Ok(paths)
+}
+
+/// The paths of the sources of objects with these names: an object that names no source has its own.
+pub(crate) fn paths_of_objects<S: System>(
+    system: &S,
+    names: &[&str],
+    objects: &[&[u8]],
+) -> Result<Vec<Vec<u8>>, JobError> {
+    let alloc: Global = system.alloc();
+    let directory = directory(system)?;
+    let mut paths: Vec<Vec<u8>> = Vec::new(alloc);
+    for (name, object) in names.iter().zip(objects.iter()) {
+        let path = match source_of(alloc, object)? {
+            Some(source) => path_from(alloc, directory.as_bytes(), &source)?,
+            None => Vec::from_slice(alloc, name.as_bytes())?,
+        };
+        paths.push(path)?;
+    }
+    Ok(paths)
+}
+
+/// The file of an object with the name of its source, which was assembled in the working directory.
+pub(crate) fn named_object<S: System>(
+    system: &S,
+    source: &str,
+    object: &[u8],
+) -> Result<Vec<u8>, JobError> {
+    let alloc: Global = system.alloc();
+    let directory = directory(system)?;
+    match with_source(alloc, object, directory.as_bytes(), source.as_bytes()) {
+        Ok(named) => Ok(named),
+        Err(FileFault::OutOfMemory) => Err(JobError::Memory),
+        Err(fault) => Err(JobError::Line(format!(in alloc;
+            "{source}: no name for debuggers: {fault}"
+        )?)),
+    }
 }

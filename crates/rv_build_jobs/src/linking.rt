@@ -1,6 +1,7 @@
 //! Links objects, and the members of archives that they ask for.
 
 use crate::building::write_outputs;
+use crate::debugging::{debugged, paths_of_objects};
 use crate::files::{LinkFile, linked_files};
 use crate::refusing::{Linked, refused_link};
 use crate::rows::warn_of_rows;
@@ -86,7 +87,12 @@ fn link_with_map<S: System>(
     match link_objects_on(system.alloc(), linked.objects, settings.options) {
         Ok(built) => {
             warn_of_rows(system, linked.names, built.map.as_slice())?;
-            write_outputs(system, outputs, linked.names, built)
+            if !outputs.debug {
+                return write_outputs(system, outputs, built);
+            }
+            let paths = paths_of_objects(system, linked.names, linked.objects)?;
+            let built = debugged(system, outputs.exe, paths.as_slice(), built)?;
+            write_outputs(system, outputs, built)
         }
         Err(fault) => Err(refused_link(system, &fault, linked, settings)?),
     }

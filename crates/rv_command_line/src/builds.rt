@@ -22,8 +22,7 @@ pub(crate) const BUILD: Help = Help {
 pub(crate) fn build<'a>(operands: &mut Operands<'_, 'a>) -> Result<Job<'a>, Refusal> {
     let exe = operands.required(executable())?;
     let map = operands.optional(written_map())?;
-    let names_lines = "Adds names and lines for debuggers";
-    let debug = operands.flag(Flag::letter("debug", 'g', names_lines))?;
+    let debug = operands.flag(names_and_lines())?;
     Ok(Job::Build(AskedBuild {
         outputs: LinkOutputs { exe, map, debug },
         settings: link_settings(operands)?,
@@ -44,7 +43,7 @@ pub(crate) fn link<'a>(operands: &mut Operands<'_, 'a>) -> Result<Job<'a>, Refus
     let files = Texts::alone("OBJ", "The objects, in the order of their sections");
     let exe = operands.required(executable())?;
     let map = operands.optional(written_map())?;
-    let debug = false;
+    let debug = operands.flag(names_and_lines())?;
     Ok(Job::Link(AskedLink {
         outputs: LinkOutputs { exe, map, debug },
         settings: link_settings(operands)?,
@@ -72,6 +71,11 @@ fn executable() -> Text {
 
 fn written_map() -> Text {
     Text::long("map", "F", "Writes the map as well")
+}
+
+/// Whether an executable is one for debuggers.
+fn names_and_lines() -> Flag {
+    Flag::letter("debug", 'g', "Adds names and lines for debuggers")
 }
 
 /// Whether a fault is explained.
@@ -154,6 +158,7 @@ What GCC says of the code that it made is taken where it agrees with RV64IMAC an
 pub(crate) fn assemble<'a>(operands: &mut Operands<'_, 'a>) -> Result<Job<'a>, Refusal> {
     let object = operands.required(Text::output("OBJ", "The object to write"))?;
     let asked = operands.flag(explain())?;
+    let debug = names_source(operands)?;
     let relax = machine(operands)?;
     code(operands)?;
     let include = "As GCC says it; no source includes a file";
@@ -168,8 +173,24 @@ pub(crate) fn assemble<'a>(operands: &mut Operands<'_, 'a>) -> Result<Job<'a>, R
         object,
         source: operands.required(Text::alone("SRC", "The source"))?,
         relax,
+        debug,
         explains: asked || by_gcc,
     }))
+}
+
+/// The words by which GCC asks for debug information; it says one of them, beside its `-Wa,-g`.
+const DEBUG_FORMATS: [&str; 5] = ["gdwarf-5", "gdwarf-4", "gdwarf-3", "gdwarf-2", "gdwarf2"];
+
+/// Whether the object names its source.
+fn names_source(operands: &mut Operands<'_, '_>) -> Result<bool, Refusal> {
+    let help = "Names the source in the object, for rv ld -g";
+    let mut names = operands.flag(Flag::letter("debug", 'g', help))?;
+    for format in DEBUG_FORMATS {
+        if operands.flag(Flag::long(format, "As GCC says it: -g"))? {
+            names = true;
+        }
+    }
+    Ok(names)
 }
 
 /// Takes the options `-m`; whether calls may be shortened, by the last of them that says so.
@@ -209,9 +230,9 @@ fn foreign(alloc: Global, letter: &str, option: &str) -> Result<Refusal, AllocEr
     )?))
 }
 
-/// Refuses words for `as` that ask for debug information: all that `clap` can say of one is that it is a file's name behind
-/// `--`, which misleads.
-pub(crate) fn refuse_debug_information(alloc: Global, words: &[&str]) -> Result<(), Refusal> {
+/// Refuses words for `as` that ask for debug information in another form: all that `clap` can say of one is that it is a
+/// file's name behind `--`, which misleads.
+pub(crate) fn refuse_debug_formats(alloc: Global, words: &[&str]) -> Result<(), Refusal> {
     if words.get(1).copied() != Some("as") {
         return Ok(());
     }
@@ -219,16 +240,24 @@ pub(crate) fn refuse_debug_information(alloc: Global, words: &[&str]) -> Result<
         if *word == "--" {
             break;
         }
-        if asks_for_debug_information(word) {
+        if is_debug_format(word) {
             return Err(Refusal::Wrong(format!(in alloc;
-                "'{word}' asks for debug information, which is not written: leave out -g"
+                "'{word}' asks for debug information that is not written: say -g"
             )?));
         }
     }
     Ok(())
 }
 
-/// Whether a word asks for debug information, as GCC says it where it is given `-g`.
-fn asks_for_debug_information(word: &str) -> bool {
-    word == "-g" || word.starts_with("--gdwarf") || word.starts_with("-gdwarf")
+/// Whether a word asks for debug information in a form that GNU as has, and `rv as` has not.
+fn is_debug_format(word: &str) -> bool {
+    if word.starts_with("-gdwarf") || word.starts_with("--gstabs") {
+        return true;
+    }
+    match word.strip_prefix("--") {
+        Some(name) => {
+            name.starts_with("gdwarf") && !DEBUG_FORMATS.iter().any(|format| *format == name)
+        }
+        None => false,
+    }
 }

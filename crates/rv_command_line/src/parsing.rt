@@ -1,6 +1,6 @@
 //! What the words of a command line ask for.
 
-use crate::builds::refuse_debug_information;
+use crate::builds::refuse_debug_formats;
 use crate::commands::command;
 use crate::operands::{Operands, Refusal};
 use crate::runs::default_run;
@@ -18,7 +18,7 @@ pub fn parse_job<'a>(
     limit: Option<&str>,
 ) -> Result<Job<'a>, Error> {
     let mut command = command(alloc, words.get(1).copied())?;
-    match refuse_debug_information(alloc, words) {
+    match refuse_debug_formats(alloc, words) {
         Ok(()) => {}
         Err(refusal) => return Err(usage(&mut command, refusal)?),
     }

@@ -54,6 +54,8 @@ pub struct AskedObject<'a> {
     pub source: &'a str,
     /// Whether calls may be shortened.
     pub relax: bool,
+    /// Whether the object names its source, for debuggers.
+    pub debug: bool,
     /// Whether a fault is explained.
     pub explains: bool,
 }

@@ -1,0 +1,2 @@
+-- A name that is written is found again.
+pub mod SourceLemmas

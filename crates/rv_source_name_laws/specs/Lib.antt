@@ -1,0 +1,2 @@
+-- How an object's file names its source.
+pub mod SourceNames

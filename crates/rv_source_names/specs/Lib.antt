@@ -1,0 +1,2 @@
+-- What a name of the code stands for.
+pub mod Views
