@@ -84,7 +84,7 @@ past_is os bounds relax gc drops left fault leaves h =
     }
 
 -- why objects are refused
-abbrev pub IsRefusal : List Object → ℕ → Bool → Bool → LinkFault → Type 0
+abbrev pub IsRefusal : List Object → Ground → Bool → Bool → LinkFault → Type 0
 IsRefusal os bounds relax gc fault = ArePast (length os) bounds fault ⊎ HasNoProgram os bounds relax gc fault
 
 told : (os : List Object) (bounds : Ground) (relax gc : Bool) (drops : List SectionId) (left : List Object) (fault : LinkFault) → Leaves os relax gc drops left → IsRefusal os bounds relax gc fault → HasNoProgram os bounds relax gc fault
