@@ -7,6 +7,7 @@ is refused so is refused in the whole crate as well, because a whole check prove
 """
 
 import difflib
+import os
 import re
 import tempfile
 
@@ -91,6 +92,39 @@ def by_function(check):
 
 def try_by_function(rt):
     """Changes the kit's module, here alone, so that it tries edits so, and in its own way those not refused so."""
+    (over_seeds if hasattr(rt, "seeded") else in_one_folder)(rt)
+
+
+def over_seeds(rt):
+    """The same with a kit that tries each edit over a copy of what a check of the crate proved, its seed: here the seed
+    is what the functions that the edits change need, and it has to serve these functions again in the end."""
+    of_whole_crate, whole_seed, check, asked = rt.must_fail, rt.seeded, by_function(rt.checked), {}
+
+    def checked(crate, texts, flags, kept):
+        is_seed = not texts and kept in asked
+        return check(crate, texts, flags, Kept(kept, asked[kept]) if is_seed else kept)
+
+    def seeded(crate, flags, start=None):
+        paths = [paths_of(rt, crate, it) for it in rt.edits_of(crate)[0]]
+        if start or not all(paths):
+            return whole_seed(crate, flags, start)
+        room = tempfile.mkdtemp(prefix=f"rt-edits-{os.getpid()}-")
+        rt.SEEDS.append(room)
+        seed = f"{room}/seed"
+        os.mkdir(seed)
+        asked[seed] = set().union(*paths)
+        return whole_seed(crate, flags) if checked(crate, {}, flags, seed).returncode else room
+
+    def must_fail(crate, edit, flags, kept=None):
+        paths = paths_of(rt, crate, edit)
+        tried = of_whole_crate(crate, edit, flags, Kept(kept or "", paths)) if paths else ("", "")
+        return tried if tried[0] == rt.REFUSED else of_whole_crate(crate, edit, flags, kept)
+
+    rt.checked, rt.seeded, rt.must_fail = checked, seeded, must_fail
+
+
+def in_one_folder(rt):
+    """The same with a kit that tries a crate's edits one after the other over what the earlier ones kept."""
     of_whole_crate, rt.checked = rt.must_fail_all, by_function(rt.checked)
 
     def must_fail_all(crate, edits, flags):
