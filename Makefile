@@ -7,6 +7,7 @@
 # make library     proves and builds librv.a and librv.so in out/library; make quick-library, with no proof, in
 #                  out/quick-library
 # make check-library  runs programs in C, C++, Rust and Python over that library
+# make page        makes page/, on which rv runs in a browser: by the proved library if make library has made it
 # make definitions prints the definitions on which all that is proved rests, in reading order
 # make lint        looks at the layout and the rules of the Python and shell files
 # make reached     lists the functions of rv that no case of tests/ reaches
@@ -39,8 +40,13 @@ LIBRARY := out/library
 QUICK_LIBRARY := out/quick-library
 VERSION := $(shell sed -n 's/^.define RV_VERSION "\(.*\)"/\1/p' include/rv.h)
 
-.PHONY: all quick proved check refused test library quick-library check-library definitions lint reached bench growth
-.PHONY: install install-library clean
+# The page, and the library's code for it.
+PAGE := page
+PAGE_CODE := out/page/rv.wasm
+OF_PAGE := $(shell find web -type f) $(wildcard examples/*.s docs/manual/*.md) scripts/page.py scripts/language.py
+
+.PHONY: all quick proved check refused test library quick-library check-library page definitions lint reached bench
+.PHONY: growth install install-library clean
 
 all: proved
 	$(RUN_EXAMPLE)
@@ -91,6 +97,7 @@ check: rv
 	tests/editors.py
 	tests/gdb.py
 	tests/making.py
+	tests/page.py
 	scripts/links.py
 	scripts/want_of_memory.py
 	scripts/definitions.py
@@ -117,6 +124,14 @@ $(QUICK_LIBRARY)/librv.a: $(SOURCES) $(OF_LIBRARY)
 
 check-library:
 	tests/library.py
+
+page: $(PAGE)/data/facts.json
+
+$(PAGE)/data/facts.json: $(PAGE_CODE) $(OF_PAGE)
+	scripts/page.py $(PAGE) $(PAGE_CODE)
+
+$(PAGE_CODE): $(SOURCES) $(OF_LIBRARY) $(wildcard web/wasm/*.c $(LIBRARY)/librv.a)
+	scripts/page.py --code $(PAGE_CODE)
 
 definitions:
 	@scripts/trusted.py
@@ -150,4 +165,4 @@ install-library: library
 	sed 's|@PREFIX@|$(PREFIX)|; s|@VERSION@|$(VERSION)|' include/rv.pc.in | install -D -m 644 /dev/stdin $(TO)/lib/pkgconfig/rv.pc
 
 clean:
-	rm -rf rv rv_refusal_tests out crates/*/out
+	rm -rf rv rv_refusal_tests out $(PAGE) crates/*/out

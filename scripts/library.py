@@ -25,6 +25,9 @@ import quick
 
 ROOT = Path(kit.ROOT)
 CRATE = "rv_library"
+# Where `make library` puts it, and the module that a proved build was made of, for the page.
+FOLDER = ROOT / "out/library"
+MODULE = ROOT / "crates" / CRATE / "out" / f"{CRATE}.bc"
 # The version is the header's; the first number is that of what programs were linked with.
 VERSION = re.search(r'#define RV_VERSION "(.*)"', (ROOT / "include/rv.h").read_text())[1]
 SONAME = f"librv.so.{VERSION.split('.')[0]}"
@@ -76,7 +79,8 @@ def join(made, folder, *more):
 
 def main(*words):
     if words[0] == "lib":
-        return kit.run(["lib"])
+        with tempfile.TemporaryDirectory(prefix="library-") as room:
+            return kit.run(["lib"], kit.keeping(MODULE, room))
     folder = Path(words[-1])
     if words[0] == "--quick":
         with tempfile.TemporaryDirectory(prefix="quick-") as room:

@@ -206,8 +206,8 @@ def exported(crate, source, target):
         out.write(re.sub(rf'@"{crate}::\w+::({names})"', r"@\1", found.sub("define ", text)))
 
 
-def library(crate, room):
-    """The object of a static library, for shared libraries too; it has a program's `main` and what that needs."""
+def library_module(crate, room):
+    """The module of a static library, which has a program's `main` too."""
     kit.folder()
     top = as_program(crate, room)
     with step("1 of 3  reads all sources and lowers them", 70):
@@ -215,6 +215,12 @@ def library(crate, room):
     with step("2 of 3  takes out what serves trying alone", 25):
         turned(module, f"{room}/turned.ll")
         exported(crate, f"{room}/turned.ll", f"{room}/exported.ll")
+    return f"{room}/exported.ll"
+
+
+def library(crate, room):
+    """The object of a static library, for shared libraries too; it has a program's `main` and what that needs."""
+    library_module(crate, room)
     with step("3 of 3  optimizes the whole and compiles it", 105):
         return kit.compiled("exported.ll", room, "-fPIC")
 

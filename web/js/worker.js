@@ -1,0 +1,58 @@
+/**
+ * The thread in which rv runs. Each message is a call, `{id, call, words}`, and its answer `{id, answer}` or
+ * `{id, trouble}`; a long one tells how far it is, `{id, done}`.
+ */
+
+import { Library } from "./library.js";
+import { programOf } from "./program.js";
+import { Runs } from "./seeking.js";
+
+/** @type {Library} */
+let library;
+/** The instructions of the program that was built last, by address. @type {Map<bigint, {text: string, size: number}>} */
+let texts = new Map();
+
+const textAt = (address) => texts.get(address);
+
+function build({ sources, names }) {
+  const findings = new TextDecoder().decode(library.check(sources, names)).split("\n").filter(Boolean)
+    .map((it) => JSON.parse(it));
+  const built = library.build(sources);
+  if (built.fault) {
+    return { findings, fault: built.fault };
+  }
+  const program = programOf(library, built.executable, built.map);
+  const all = program.statements.flatMap((it) => it.instructions);
+  texts = new Map(all.map((it) => [it.address, { text: it.text, size: it.bytes.length }]));
+  return { findings, program };
+}
+
+const CALLS = {
+  async open({ module }) {
+    library = await Library.over(module);
+    return true;
+  },
+  build,
+  state: ({ executable, input, steps, address, size }) => library.state(executable, input, steps, address, size),
+  length: ({ executable, input, limit }, told) => new Runs(library, told).toEnd(executable, input, limit),
+  reach: ({ executable, input, from, addresses, limit }, told) =>
+    new Runs(library, told).toOne(executable, input, from, addresses, limit),
+  over: ({ executable, input, from, limit }, told) =>
+    new Runs(library, told).over(executable, input, from, textAt, limit),
+  out: ({ executable, input, from, limit }, told) =>
+    new Runs(library, told).out(executable, input, from, textAt, limit),
+};
+
+async function answer({ id, call, words }) {
+  try {
+    self.postMessage({ id, answer: await CALLS[call](words, (done) => self.postMessage({ id, done })) });
+  } catch (trouble) {
+    self.postMessage({ id, trouble: String(trouble.message ?? trouble) });
+  }
+}
+
+// (one call after the other: the first has to wait for the module)
+let before = Promise.resolve();
+self.onmessage = ({ data }) => {
+  before = before.then(() => answer(data));
+};
