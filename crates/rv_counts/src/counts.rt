@@ -24,7 +24,7 @@ use crate::rows::{CountedInstruction, Done, Rows};
 use crate::totals::{Totals, is_executed};
 use rv_image::Image;
 use rv_isa::Reg;
-use rv_machine::{Event as Told, Fetched, ShowFault, Watched, Watcher};
+use rv_machine::{Event as Told, Fetched, Look, ShowFault, Watched, Watcher};
 use rv_memory::Memory;
 use std::alloc::{AllocError, Global};
 
@@ -156,7 +156,7 @@ impl<M: Memory> Watcher<M> for Counts {
         HasCounted c.totals c.rows.rows.items c.registers.values c.called c.depth seen };
 
     #[inline]
-    fn before(&mut self, _: &Watched<M>) -> Result<(), ShowFault> {
+    fn before(&mut self, _: &Look, _: &Watched<M>) -> Result<(), ShowFault> {
         Ok(())
     }
 

@@ -4,7 +4,7 @@ ghost use Rattle.std.specs.Prelude.{◌≡◌, []};
 ghost use Rattle.rv_counts.specs.Totals.{totals_of};
 
 use crate::totals::Totals;
-use rv_machine::{Event, ShowFault, Watched, Watcher};
+use rv_machine::{Event, Look, ShowFault, Watched, Watcher};
 use rv_memory::Memory;
 
 /// The number of the instructions that a run has executed.
@@ -35,7 +35,7 @@ impl<M: Memory> Watcher<M> for Executed {
     ghost has_seen = { λ executed seen. executed.totals ≡ totals_of seen };
 
     #[inline]
-    fn before(&mut self, _: &Watched<M>) -> Result<(), ShowFault> {
+    fn before(&mut self, _: &Look, _: &Watched<M>) -> Result<(), ShowFault> {
         Ok(())
     }
 

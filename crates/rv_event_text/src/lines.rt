@@ -8,7 +8,7 @@ ghost use Rattle.rv_event_laws.specs.Event.{Event};
 ghost use Rattle.rv_event_text.specs.Written.{HasLines};
 
 use crate::line::put_event;
-use rv_machine::{Event as Told, ShowFault, Watched, Watcher};
+use rv_machine::{Event as Told, Look, ShowFault, Watched, Watcher};
 use rv_memory::Memory;
 use std::alloc::Global;
 use std::io::Write;
@@ -78,7 +78,7 @@ impl<M: Memory, L: Write> Watcher<M> for EventLines<L> {
     ghost has_seen = { λ lines told. HasLines (L.contents lines.lines) lines.kept.items told };
 
     #[inline]
-    fn before(&mut self, _: &Watched<M>) -> Result<(), ShowFault> {
+    fn before(&mut self, _: &Look, _: &Watched<M>) -> Result<(), ShowFault> {
         Ok(())
     }
 

@@ -3,11 +3,10 @@
 //! GDB takes a watchpoint of RISC-V for one that stops before the instruction that reads or writes, as the processors' own
 //! do, on the way back before it is undone. So it is told by what an instruction asks, before it is done.
 
-use rv_compress::next_inst;
 use rv_gdb_commands::{Range, Reach};
-use rv_isa::{AtomicOperation, Format, Inst, LoadOperation, Reg, StoreOperation};
-use rv_machine::Watched;
-use rv_memory::{Memory, Paged, Right};
+use rv_isa::{AtomicOperation, Format, LoadOperation, Reg, StoreOperation};
+use rv_machine::{Fetched, Watched, bits_at as code_at, spelled};
+use rv_memory::Paged;
 
 /// The numbers of the registers in which a call has its operands, and of that which names it.
 const A0: u32 = 10;
@@ -124,29 +123,10 @@ fn call_reach(machine: &Watched<Paged>, input_left: u64) -> Reach {
     }
 }
 
-/// The two bytes of an instruction at an address; none where they may not be executed.
-fn parcel_at(memory: &Paged, address: u64) -> Option<u16> {
-    let number = memory.try_load(address, 2, Right::Execute)?;
-    Some(number as u16)
-}
-
-/// The next instruction, which two segments may share.
-fn inst_of(machine: &Watched<Paged>) -> Option<Inst> {
-    let memory = machine.memory();
-    let pc = machine.pc();
-    let [first, second] = parcel_at(memory, pc)?.to_le_bytes();
-    let [third, fourth] = match parcel_at(memory, pc.wrapping_add(2)) {
-        Some(parcel) => parcel.to_le_bytes(),
-        None => [0, 0],
-    };
-    let (inst, _) = next_inst(&[first, second, third, fourth])?;
-    Some(inst)
-}
-
 /// What the next instruction of a machine reaches, where so many bytes of the input are left.
 pub fn next_reach(machine: &Watched<Paged>, input_left: u64) -> Reach {
-    match inst_of(machine) {
-        Some(inst) => reach_of(inst.format(), machine, input_left),
-        None => NOTHING,
+    match spelled(code_at(machine.memory(), machine.pc())) {
+        Fetched::Got(inst, _) => reach_of(inst.format(), machine, input_left),
+        Fetched::NoRight | Fetched::NoInstruction => NOTHING,
     }
 }

@@ -19,7 +19,7 @@ ghost use Rattle.rv_machine.specs.Asked.{IsAsked, IsAskedBy};
 ghost use Rattle.rv_machine.specs.declared.action.Action.TheVariants.{Break};
 ghost use Rattle.rv_machine.specs.End.{law_end};
 ghost use Rattle.rv_event_laws.specs.Event.{access, destination, set_to, sets, event_of};
-ghost use Rattle.rv_machine.specs.Fetch.{fetched_of};
+ghost use Rattle.rv_machine.specs.Fetch.{fetched_of, code_at};
 ghost use Rattle.rv_machine.specs.Hart.{hart_of};
 ghost use Rattle.rv_machine.specs.Registers.{register_value};
 ghost use Rattle.rv_machine.specs.Seen.{AreSeen, AreMoved, IsLook, event_as};
@@ -27,7 +27,7 @@ ghost use Rattle.rv_machine.specs.Seen.{AreSeen, AreMoved, IsLook, event_as};
 use crate::action::{Action, Update, asked};
 use crate::alu;
 use crate::end::End;
-use crate::fetch::{Fetched, fetch};
+use crate::fetch::{Fetched, bits_at, spelled};
 use crate::hart::Hart;
 use rv_event_laws::{Access, Setting};
 use rv_isa::{Format, Inst, Reg};
@@ -74,14 +74,18 @@ pub struct Accesses {
     pub stored: Option<Access>,
 }
 
-/// What a step is about to do.
+/// What stands at the address of the next instruction, and what its step is about to do.
 #[derive(Clone, Copy, Drop)]
-pub(crate) struct Look {
+pub struct Look {
+    /// The address of the instruction.
     pub pc: u64,
+    /// The bits of the word or the parcel that stands there; none where they may not be executed.
+    pub bits: Option<u32>,
+    /// What they spell.
     pub fetched: Fetched,
     /// What the instruction asks; where there is none, a breakpoint, which nobody does.
-    pub action: Action,
-    pub accesses: Accesses,
+    pub(crate) action: Action,
+    pub(crate) accesses: Accesses,
 }
 
 /// What an instruction asks, and what that reads and writes, if it goes on.
@@ -261,10 +265,11 @@ fn asked_accesses<M: Memory>(inst: &Inst, bytes: u64, hart: &Hart, memory: &M) -
 
 /// A look at what asks nothing.
 #[inline]
-fn without(pc: u64, fetched: Fetched) -> Look
+fn without(pc: u64, bits: Option<u32>, fetched: Fetched) -> Look
     ensures { result
         ≡ record {
           pc = pc;
+          bits = bits;
           fetched = fetched;
           action = Break;
           accesses = record { read = None; stored = None };
@@ -272,6 +277,7 @@ fn without(pc: u64, fetched: Fetched) -> Look
 {
     Look {
         pc,
+        bits,
         fetched,
         action: Action::Break,
         accesses: Accesses {
@@ -284,23 +290,27 @@ fn without(pc: u64, fetched: Fetched) -> Look
 /// Fetches the next instruction, and looks at what it reads and writes, if it goes on.
 pub(crate) fn look_at<M: Memory>(hart: &Hart, memory: &M) -> Look
     ensures asked { IsAskedBy result.fetched hart.now result.action }
+    ensures pc { result.pc ≡ hart.now.pc }
+    ensures bits { result.bits ≡ code_at (M.mem memory.now) hart.now.pc }
     ensures look { (reader : Reader Spells StandsFor) (input console : List ℕ) →
         let before = hart_of hart.now input console in
         IsLook result (fetched_at reader (M.mem memory.now) before.pc) before (M.mem memory.now) }
 {
     let pc = hart.pc;
-    match fetch(memory, pc) {
+    let bits = bits_at(memory, pc);
+    match spelled(bits) {
         Fetched::Got(inst, bytes) => {
             let asks = asked_accesses(&inst, bytes, hart, memory);
             Look {
                 pc,
+                bits,
                 fetched: Fetched::Got(inst, bytes),
                 action: asks.action,
                 accesses: asks.accesses,
             }
         }
-        Fetched::NoRight => without(pc, Fetched::NoRight),
-        Fetched::NoInstruction => without(pc, Fetched::NoInstruction),
+        Fetched::NoRight => without(pc, bits, Fetched::NoRight),
+        Fetched::NoInstruction => without(pc, bits, Fetched::NoInstruction),
     }
 }
 

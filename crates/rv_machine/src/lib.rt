@@ -51,8 +51,8 @@ mod watching;
 mod word;
 
 pub use end::End;
-pub use event::{Event, Span};
-pub use fetch::Fetched;
+pub use event::{Event, Look, Span};
+pub use fetch::{Fetched, bits_at, spelled};
 pub use io::Io;
 pub use laws::runs_agree;
 pub use machine::Machine;

@@ -1,8 +1,8 @@
 //! Runs that are looked at between their steps.
 //!
 //! A watched run does the steps of `run_io` by the same functions, without the quick ones that no one could look at, and
-//! tells its watcher the event of each. A watcher only looks: it cannot change hart or memory, so what it shows is of the
-//! run itself. The machine is left in the run's last state.
+//! tells its watcher what stands at each step's address and the event of each step. A watcher only looks: it cannot
+//! change hart or memory, so what it shows is of the run itself. The machine is left in the run's last state.
 
 ghost use Rattle.std.specs.Prelude.{◌≡◌, ℕ, List, [], ◌++◌, ◌∷◌, false, IfOk};
 ghost use Rattle.std.specs.Io.KnownBytes.{Appends};
@@ -10,6 +10,8 @@ ghost use Rattle.rv_isa_laws.specs.Word.{Spells};
 ghost use Rattle.rv_parcel.specs.Parcel.{StandsFor};
 ghost use Rattle.rv_isa_laws.specs.Hart.{start};
 ghost use Rattle.rv_isa_laws.specs.Reader.{Reader};
+ghost use Rattle.rv_isa_laws.specs.Run.{fetch};
+ghost use Rattle.rv_machine.specs.Fetch.{fetched_of, code_at};
 ghost use Rattle.rv_machine.specs.Hart.{hart_of};
 ghost use Rattle.rv_machine.specs.Registers.{register_value};
 ghost use Rattle.rv_machine.specs.Streams.{MayFollow};
@@ -19,7 +21,7 @@ ghost use Rattle.rv_machine.specs.Watching.{Shows, Unfailed, FailsIn};
 ghost use Rattle.rv_machine.specs.StreamSteps.{input_left, HasRead};
 
 use crate::end::End;
-use crate::event::{Event as Told, Stepped, ended, look_at, went_on};
+use crate::event::{Event as Told, Look, Stepped, ended, look_at, went_on};
 use crate::hart::Hart;
 use crate::running::{Intake, RunFault};
 use crate::streams::{GuestIn, GuestOut};
@@ -74,8 +76,12 @@ pub trait Watcher<M: Memory> {
     /// That the watcher shows exactly these events, in its own words.
     ghost has_seen: { Self → List Event → Type 0 };
 
-    /// Looks at the machine before a step.
-    fn before(&mut self, machine: &Watched<M>) -> Result<(), ShowFault>
+    /// Is told what stands at the address of the next instruction, and looks at the machine before its step.
+    fn before(&mut self, look: &Look, machine: &Watched<M>) -> Result<(), ShowFault>
+        requires pc { look.now.pc ≡ machine.now.hart.pc }
+        requires bits { look.now.bits ≡ code_at (M.mem machine.now.memory) machine.now.hart.pc }
+        requires fetched { (reader : Reader Spells StandsFor) → fetched_of look.now.fetched
+            ≡ fetch reader (M.mem machine.now.memory) machine.now.hart.pc }
         ensures kept { IfOk result
             (λ _. (past : List Event) → has_seen self.old past → has_seen self.new past) };
 
@@ -157,11 +163,11 @@ pub fn run_watched<M: Memory, R: GuestIn, W: GuestOut, T: Watcher<M>>(
 {
     let mut remaining = limit;
     while remaining > 0 {
-        match watcher.before(machine) {
+        let look = look_at(&machine.hart, &machine.memory);
+        match watcher.before(&look, machine) {
             Ok(()) => {}
             Err(fault) => return Err(WatchFault::Watcher(fault)),
         }
-        let look = look_at(&machine.hart, &machine.memory);
         match step_told(
             &look,
             &mut machine.hart,

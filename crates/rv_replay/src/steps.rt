@@ -2,7 +2,7 @@
 
 ghost use Rattle.std.specs.Prelude.{◌≡◌, ◌%◌, ◌^◌, length};
 
-use rv_machine::{Event, ShowFault, Watched, Watcher};
+use rv_machine::{Event, Look, ShowFault, Watched, Watcher};
 use rv_memory::Memory;
 
 /// How many instructions a run has begun, modulo 2^64.
@@ -15,7 +15,7 @@ impl<M: Memory> Watcher<M> for Steps {
     ghost has_seen = { λ steps seen. steps.count ≡ length seen % 2 ^ 64 };
 
     #[inline]
-    fn before(&mut self, _: &Watched<M>) -> Result<(), ShowFault> {
+    fn before(&mut self, _: &Look, _: &Watched<M>) -> Result<(), ShowFault> {
         Ok(())
     }
 

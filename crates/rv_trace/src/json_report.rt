@@ -6,11 +6,10 @@ use crate::lines::put_file;
 use crate::places::Places;
 use crate::refusals::Refusals;
 use crate::report::{Failed, Latest, Segments, failed_access, rights};
-use crate::visited::{bits_at, inst_of};
 use rv_disasm::{Targets, put_instruction};
 use rv_inspect::put_shortest;
 use rv_json::{name, number, number_or_null, put_line};
-use rv_machine::Watched;
+use rv_machine::{Fetched, Watched, bits_at, spelled};
 use rv_memory::Memory;
 use serde_json::{Value, json, push};
 use std::alloc::{AllocError, Global};
@@ -126,7 +125,7 @@ fn instruction<M: Memory>(
     let Some(bits) = bits_at(machine.memory(), address) else {
         return Ok((Value::Null, Value::Null));
     };
-    let Some(inst) = inst_of(bits) else {
+    let Fetched::Got(inst, _) = spelled(Some(bits)) else {
         return Ok((Value::Null, Value::Null));
     };
     let mut text = Vec::new(alloc);

@@ -10,7 +10,7 @@ use crate::report::{Latest, Segments};
 use rv_counts::Totals;
 use rv_isa::Reg;
 use rv_json::{number, number_or_null, put_line};
-use rv_machine::{Event, ShowFault, Watched, Watcher};
+use rv_machine::{Event, Look, ShowFault, Watched, Watcher};
 use rv_memory::Memory;
 use serde_json::{Map, Value, json, put};
 use sha2::{Digest, Sha256};
@@ -46,7 +46,7 @@ impl<M: Memory> Watcher<M> for Last {
     ghost has_seen = { λ last seen. last.totals ≡ totals_of seen };
 
     #[inline]
-    fn before(&mut self, machine: &Watched<M>) -> Result<(), ShowFault> {
+    fn before(&mut self, _: &Look, machine: &Watched<M>) -> Result<(), ShowFault> {
         self.latest.look(machine);
         Ok(())
     }

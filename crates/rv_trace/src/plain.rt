@@ -12,10 +12,9 @@ use crate::columns::{fill_column, put, put_fixed};
 use crate::places::Places;
 use crate::report::{Bounds, Segments, rights};
 use crate::trace::put_bytes;
-use crate::visited::{bits_at, inst_of};
 use rv_image::{STACK_BYTES, STACK_START};
 use rv_isa::{Format, Inst, Reg, mnemonic};
-use rv_machine::{Event, ShowFault, Watched, Watcher};
+use rv_machine::{Event, Fetched, Look, ShowFault, Watched, Watcher};
 use rv_map::put_hexadecimal;
 use rv_memory::Memory;
 use std::alloc::{AllocError, Global};
@@ -125,17 +124,16 @@ impl<M: Memory, L: Write> Watcher<M> for PlainTrace<'_, L> {
     ghost has_seen = { λ _ _. ⊤ };
 
     #[inline]
-    fn before(&mut self, machine: &Watched<M>) -> Result<(), ShowFault> {
+    fn before(&mut self, look: &Look, _: &Watched<M>) -> Result<(), ShowFault> {
         self.count = self.count.saturating_add(1);
         if self.count < self.first {
             return Ok(());
         }
-        let pc = machine.pc();
-        let Some(inst) = bits_at(machine.memory(), pc).and_then(inst_of) else {
+        let Fetched::Got(inst, _) = look.fetched else {
             return Ok(());
         };
         let is_call = matches!(&inst, Inst::Ecall);
-        self.open = Some(Opened { pc, inst });
+        self.open = Some(Opened { pc: look.pc, inst });
         if is_call {
             return self.write_kept();
         }

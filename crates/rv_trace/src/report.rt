@@ -10,11 +10,10 @@ use crate::memory_lines::{put_stack, put_words_around};
 use crate::pattern::put_line;
 use crate::places::Places;
 use crate::refusals::Refusals;
-use crate::visited::{bits_at, inst_of};
 use rv_image::{Image, STACK_BYTES, STACK_START};
 use rv_inspect::put_shortest;
 use rv_isa::{Format, Inst, Reg};
-use rv_machine::{End, Event, ShowFault, Watched, Watcher};
+use rv_machine::{End, Event, Fetched, Look, ShowFault, Watched, Watcher, bits_at, spelled};
 use rv_memory::Memory;
 use std::alloc::{AllocError, Global};
 
@@ -83,7 +82,7 @@ impl<M: Memory> Watcher<M> for Latest {
     ghost has_seen = { λ latest seen. latest.count ≡ length seen % 2 ^ 64 };
 
     #[inline]
-    fn before(&mut self, machine: &Watched<M>) -> Result<(), ShowFault> {
+    fn before(&mut self, _: &Look, machine: &Watched<M>) -> Result<(), ShowFault> {
         self.look(machine);
         Ok(())
     }
@@ -288,18 +287,15 @@ fn put_place<M: Memory>(
     let start = text.len();
     put_near(text, places.symbol_at(address))?;
     fill_column(text, start, 20)?;
-    match bits_at(machine.memory(), address) {
-        None => put(text, "no instruction: the bytes may not be executed")?,
-        Some(bits) => match inst_of(bits) {
-            None => put(text, "no instruction: the bytes spell none")?,
-            Some(inst) => {
-                let target = target_of(address, &inst);
-                put_shortest(text, address, bits, inst)?;
-                put_target(text, places, target)?;
-            }
-        },
-    }
-    Ok(())
+    let Some(bits) = bits_at(machine.memory(), address) else {
+        return put(text, "no instruction: the bytes may not be executed");
+    };
+    let Fetched::Got(inst, _) = spelled(Some(bits)) else {
+        return put(text, "no instruction: the bytes spell none");
+    };
+    let target = target_of(address, &inst);
+    put_shortest(text, address, bits, inst)?;
+    put_target(text, places, target)
 }
 
 /// Where a branch or a jump at an address leads.
@@ -493,7 +489,10 @@ pub(crate) fn failed_access<M: Memory>(end: &End, machine: &Watched<M>) -> Optio
 
 /// The instruction at pc.
 fn inst_at<M: Memory>(machine: &Watched<M>) -> Option<Inst> {
-    inst_of(bits_at(machine.memory(), machine.pc())?)
+    match spelled(bits_at(machine.memory(), machine.pc())) {
+        Fetched::Got(inst, _) => Some(inst),
+        Fetched::NoRight | Fetched::NoInstruction => None,
+    }
 }
 
 /// Adds a register: its name, its value, that in decimal where it is small, and the symbol that it points into.

@@ -14,9 +14,9 @@ use crate::counter::{Counter, DIGITS};
 use crate::moved::put_span;
 use crate::pattern::{BEFORE_SOURCE, Effects, Patterns};
 use crate::places::Places;
-use crate::visited::{VisitedInstructions, bits_at};
+use crate::visited::{VisitedInstruction, VisitedInstructions};
 use rv_image::Image;
-use rv_machine::{Event, ShowFault, Span, Watched, Watcher};
+use rv_machine::{Event, Fetched, Look, ShowFault, Span, Watched, Watcher};
 use rv_memory::Memory;
 use std::alloc::{AllocError, Global};
 use std::io::Write;
@@ -226,22 +226,22 @@ impl<M: Memory, L: Write> Watcher<M> for Trace<'_, L> {
     ghost has_seen = { λ _ _. ⊤ };
 
     #[inline]
-    fn before(&mut self, machine: &Watched<M>) -> Result<(), ShowFault> {
+    fn before(&mut self, look: &Look, _: &Watched<M>) -> Result<(), ShowFault> {
         self.count.advance();
         if self.count.number() < self.first {
             return Ok(());
         }
-        let pc = machine.pc();
-        if let Some(index) = self.instructions.fixed_at(pc) {
-            return self.begin(index);
-        }
-        let Some(bits) = bits_at(machine.memory(), pc) else {
+        let Fetched::Got(inst, _) = look.fetched else {
             return Ok(());
         };
-        match self.instructions.find(pc, bits)? {
-            Some(index) => self.begin(index),
-            None => Ok(()),
-        }
+        let Some(bits) = look.bits else {
+            return Ok(());
+        };
+        let pc = look.pc;
+        let index = self
+            .instructions
+            .find(VisitedInstruction { pc, bits, inst })?;
+        self.begin(index)
     }
 
     #[inline]

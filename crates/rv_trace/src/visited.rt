@@ -2,12 +2,9 @@
 //!
 //! An instruction is the bits that stand at its address: code that changes itself has one for each.
 
-use rv_compress::expand;
 use rv_counts::CodeIndex;
-use rv_encode::decode;
 use rv_image::Image;
 use rv_isa::Inst;
-use rv_memory::{Memory, Right};
 use std::alloc::{AllocError, Global};
 
 /// An instruction at an address.
@@ -31,41 +28,6 @@ impl VisitedInstruction {
 pub(crate) struct VisitedInstructions {
     index: CodeIndex,
     instructions: Vec<VisitedInstruction>,
-    /// Whether no code can be written, so that an address has one instruction only.
-    is_fixed: bool,
-}
-
-/// The bits of the word or the parcel at an address; none where they may not be executed.
-#[inline]
-pub(crate) fn bits_at<M: Memory>(memory: &M, pc: u64) -> Option<u32> {
-    let bits = match memory.try_load(pc, 4, Right::Execute) {
-        Some(bits) => bits,
-        None => memory.try_load(pc, 2, Right::Execute)?,
-    };
-    if bits % 4 == 3 {
-        Some((bits % 0x1_0000_0000) as u32)
-    } else {
-        Some((bits % 0x1_0000) as u32)
-    }
-}
-
-/// The instruction that bits spell.
-pub(crate) fn inst_of(bits: u32) -> Option<Inst> {
-    if bits % 4 == 3 {
-        decode(bits)
-    } else {
-        expand((bits % 0x1_0000) as u16)
-    }
-}
-
-/// Whether no segment of an image may be executed and written.
-fn has_fixed_code(image: &Image) -> bool {
-    for segment in &image.segments {
-        if segment.flags & 3 == 3 {
-            return false;
-        }
-    }
-    true
 }
 
 impl VisitedInstructions {
@@ -74,7 +36,6 @@ impl VisitedInstructions {
         Ok(VisitedInstructions {
             index: CodeIndex::new(alloc, image)?,
             instructions: Vec::new(alloc),
-            is_fixed: has_fixed_code(image),
         })
     }
 
@@ -83,44 +44,26 @@ impl VisitedInstructions {
         self.instructions.as_slice()
     }
 
-    /// The index of the only instruction that an address can have, if the run has come to it.
+    /// The index of an instruction, which is added where it is none of these.
     #[inline]
-    pub(crate) fn fixed_at(&self, pc: u64) -> Option<usize> {
-        if !self.is_fixed {
-            return None;
-        }
-        let index = self.index.get(pc)?;
-        if self.instructions.get(index)?.pc == pc {
-            Some(index)
-        } else {
-            None
-        }
-    }
-
-    /// The index of the instruction of these bits at an address, which is made where there is none; none where the bits spell no
-    /// instruction.
-    #[inline]
-    pub(crate) fn find(&mut self, pc: u64, bits: u32) -> Result<Option<usize>, AllocError> {
-        if let Some(index) = self.index.get(pc) {
+    pub(crate) fn find(&mut self, next: VisitedInstruction) -> Result<usize, AllocError> {
+        if let Some(index) = self.index.get(next.pc) {
             if let Some(visited) = self.instructions.get(index) {
-                if visited.pc == pc && visited.bits == bits {
-                    return Ok(Some(index));
+                if visited.pc == next.pc && visited.bits == next.bits {
+                    return Ok(index);
                 }
             }
         }
-        self.add(pc, bits)
+        self.add(next)
     }
 
-    /// Adds an instruction, if the bits spell one; its index.
+    /// Adds an instruction; its index.
     #[inline(never)]
-    fn add(&mut self, pc: u64, bits: u32) -> Result<Option<usize>, AllocError> {
-        let Some(inst) = inst_of(bits) else {
-            return Ok(None);
-        };
+    fn add(&mut self, next: VisitedInstruction) -> Result<usize, AllocError> {
+        let pc = next.pc;
         let index = self.instructions.len();
-        self.instructions
-            .push(VisitedInstruction { pc, bits, inst })?;
+        self.instructions.push(next)?;
         self.index.set(pc, index);
-        Ok(Some(index))
+        Ok(index)
     }
 }

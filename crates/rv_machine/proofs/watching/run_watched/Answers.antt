@@ -17,6 +17,15 @@ use Rattle.rv_machine.proofs.StreamLemmas.{went_on, came_to, rests_at, stopped, 
 use Rattle.rv_machine.proofs.watching.run_watched.Goals as goal
 use Rattle.std.proofs.KnownBytes.{Keeps-refl, Appends-trans}
 
+pub before-requires-clause-pc : goal.before-requires-clause-pc
+before-requires-clause-pc g c = c.look_at-look.ensures.pc
+
+pub before-requires-clause-bits : goal.before-requires-clause-bits
+before-requires-clause-bits g c = c.look_at-look.ensures.bits
+
+pub before-requires-clause-fetched : goal.before-requires-clause-fetched
+before-requires-clause-fetched g c = λ r. (c.look_at-look.ensures.look r [] []).1.0
+
 pub loop-remaining-init : goal.loop-remaining-init
 loop-remaining-init g c = record {
   so_far = (
