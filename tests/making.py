@@ -14,7 +14,12 @@ from pathlib import Path
 TOP = Path(__file__).resolve().parent.parent
 SAYS = re.compile(r"rv \d+\.\d+\.\d+ \((all|not) proved, commit ([0-9a-f]{11}[0-9a-f+]|not recorded)\)\n")
 PLACE = b"(not marked, commit not recorded)"
-MAKERS = (["scripts/build.py", "rv_cli"], ["scripts/quick.py", "rv_cli", "made"])
+MAKERS = (
+    ["scripts/build.py", "rv_cli"],
+    ["scripts/quick.py", "rv_cli", "made"],
+    ["scripts/library.py", "made"],
+    ["scripts/library.py", "--quick", "made"],
+)
 
 
 def output(words, folder, path=os.environ["PATH"]):
@@ -36,14 +41,14 @@ def makers(folder):
     rt.write_text("#!/bin/sh\necho another-kit\n")
     rt.chmod(0o755)
     for script, *words in MAKERS:
-        words = [sys.executable, TOP / script, *words]
+        name, words = " ".join([script, *words]), [sys.executable, TOP / script, *words]
         status, message = output(words, folder, f"{folder}:{os.environ['PATH']}")
-        yield f"{script}, another toolchain", status == 1 and message.startswith(
+        yield f"{name}, another toolchain", status == 1 and message.startswith(
             "the toolchain here is another-kit, "
         ), message
         status, message = output(words, folder, "")
-        yield f"{script}, no toolchain", status == 1 and message.startswith("rt is not on the PATH: "), message
-        yield f"{script} makes nothing then", not (folder / "made").exists(), ""
+        yield f"{name}, no toolchain", status == 1 and message.startswith("rt is not on the PATH: "), message
+        yield f"{name} makes nothing then", not (folder / "made").exists(), ""
 
 
 def marks(folder):
