@@ -141,7 +141,8 @@ class Tab:
                 if found := self.run(script, *given):
                     return found
             except Refused as why:
-                if "Execution context" not in str(why) and "navigated" not in str(why):
+                # (the page may just be opening)
+                if "context" not in str(why) and "navigated" not in str(why):
                     raise
             time.sleep(0.05)
         raise TimeoutError(f"{seconds} s for {script} {given}")

@@ -202,7 +202,7 @@ def tells_of_crashes(person):
     person.put(SEVEN.replace("ecall", "sd   a0, (a7)"))
     person.click("run")
     person.shows("end", "StoreOutside 5d after 3 instructions")
-    person.shows("end", ":4: sd a0,0(a7) at 10004")
+    person.shows("end", ":4: sd a0,0(a7) at 10006")
     person.shows("end", "Cure: ")
 
 

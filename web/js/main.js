@@ -92,9 +92,9 @@ class Page {
     });
     for (const it of ["region", "address"]) {
       byId(it).addEventListener("change", ({ target }) => {
-        if (target.id === "address") {
-          byId("region").value = "other";
-        }
+        const region = byId("region");
+        region.value = target.id === "address" ? "other" : region.value;
+        region.dataset.chosen = region.value;
         session.window = panes.windowOf(session);
         session.look();
       });

@@ -111,9 +111,9 @@ export function showRegisters({ state, last }, names) {
   place.replaceChildren(make("table", {}, head, make("tbody", {}, ...rows)));
 }
 
-/** The parts of memory that can be shown. @param {Session} session */
+/** The parts of memory that can be shown: the one that was chosen, or else the first. @param {Session} session */
 export function showRegions({ program }) {
-  const select = byId("region"), chosen = select.value;
+  const select = byId("region"), chosen = select.dataset.chosen;
   const names = {
     rodata: "Constants", data: "Variables", bss: "Zeroed variables", text: "Code", stack: "Stack", other: "Address",
   };
