@@ -1,4 +1,4 @@
-use Rattle.std.proofs.Common.{◌≡◌, List, ℕ, None, ap, subst, ◌∙◌}
+use Rattle.std.proofs.Common.{◌≡◌, None, ap, subst, ◌∙◌}
 use Rattle.rv_object_laws.specs.Object.{Object}
 use Rattle.rv_object_types.specs.View.{object_of}
 use Rattle.rv_object_file_laws.specs.FirstFault.{first_fault}

@@ -1,4 +1,4 @@
-use Rattle.std.proofs.Common.{◌≡◌, ◌<◌, ◌+◌, ◌∙◌, length, map, drop, refl, sym, ap, rules}
+use Rattle.std.proofs.Common.{◌<◌, ◌+◌, ◌∙◌, length, map, drop, refl, sym, ap, rules}
 use Rattle.std.proofs.lemmas.List.{drop_all}
 use Rattle.std.specs.Option.{option_copied}
 use Rattle.rv_list_laws.proofs.TakeDropLemmas.{drop_read_or}
