@@ -1,13 +1,10 @@
-use Rattle.std.proofs.Common.{◌<◌, ◌+◌, ◌∙◌, length, map, drop, refl, sym, ap, rules}
+use Rattle.std.proofs.Common.{◌<◌, ◌+◌, ◌∙◌, length, map, drop, sym, ap, rules}
 use Rattle.std.proofs.lemmas.List.{drop_all}
 use Rattle.std.specs.Option.{option_copied}
 use Rattle.rv_list_laws.proofs.TakeDropLemmas.{drop_read_or}
 use Rattle.rv_object_types.specs.Sections.{section_of}
 use Rattle.rv_source_name_laws.specs.SourceNames.{last_source}
 use Rattle.rv_source_names.proofs.reading.last_source.Goals as goal
-
-pub loop-section-init : goal.loop-section-init
-loop-section-init c = refl
 
 pub loop-section-preserved : goal.loop-section-preserved
 loop-section-preserved c =
