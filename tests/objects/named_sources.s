@@ -21,8 +21,8 @@
 # archive: x.a b.o
 # rv: ld -g -o linked a.o --library x.a
 # same: linked built
-# rv: ld -g --gc-sections --no-relax --text-start 0x80000000 -o linked a.o b.o
-# rv: build -g --gc-sections --no-relax --text-start 0x80000000 -o built a.s b.s
+# rv: ld -g --gc-sections --no-relax --origin 0x80000000 -o linked a.o b.o
+# rv: build -g --gc-sections --no-relax --origin 0x80000000 -o built a.s b.s
 # same: linked built
 #--- a.s
 .globl _start

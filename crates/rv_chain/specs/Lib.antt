@@ -1,6 +1,6 @@
 -- That texts are built as the files of their objects are linked.
 pub mod Agreement
--- Why files are not linked, by their bytes and the ground of the program: memory runs out.
+-- Why files are not linked, by their bytes and the ground of the program: memory runs out, or a fault names its cause.
 pub mod LinkRefusals
 -- That sources, and files, are refused for want of memory or for one fault.
 pub mod OneFault

@@ -171,7 +171,7 @@ impl<'p, 'o, 'a, 'n> Fixed<'p, 'o, 'a, 'n> {
         ensures taken { OnOk result (AreTakenOf self.now input.now) }
         ensures refuses { IfErr result (OrMemory (AreUntakenOf self.now input.now)) }
     {
-        put_zeros(out, input.placed.start - region - out.len() as u64)?;
+        put_zeros(out, input.placed.start - (region + out.len() as u64))?;
         self.put_bytes(alloc, input, out)
     }
 }

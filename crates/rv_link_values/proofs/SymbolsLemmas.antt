@@ -27,7 +27,7 @@ pub address_is : (address : Option ℕ) (file index : ℕ) (v : Values) (os : Li
 address_is address file index v os p o h at claim =
     let by_objects : AddressIs address file index os v.placement.now = subst (λ x. AddressIs address file index x v.placement.now) h.objects claim in
     let both : AddressIs address file index os p = subst (AddressIs address file index os) h.placement by_objects in
-    both h.start o h.placed at
+    both h.bounds o h.placed at
 
 -- what is said of a place by the objects of the code
 abbrev PlaceIs : Option DeclaredPlace → ℕ → ℕ → List Object → Type 0

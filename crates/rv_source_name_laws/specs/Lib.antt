@@ -1,2 +1,2 @@
--- How an object's file names its source.
+-- How an object's file names its source: the section `.rv.source`.
 pub mod SourceNames

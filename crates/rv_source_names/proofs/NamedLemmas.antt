@@ -1,6 +1,6 @@
 -- An object keeps what every object keeps, with a section more that nothing refers to.
 
-use Rattle.std.proofs.Common.{◌≡◌, ℕ, zero, suc, ◌+◌, ◌≤◌, nat_lt, nat_le, true, false, ◌&&◌, List, [], ◌∷◌, ◌++◌, length, Option, Some, None, refl, sym, ap, ◌∙◌, arith, absurd}
+use Rattle.std.proofs.Common.{◌≡◌, ℕ, zero, suc, ◌≤◌, true, ◌&&◌, List, [], ◌∷◌, ◌++◌, length, refl, ap, ◌∙◌, arith}
 use Rattle.std.specs.List.{list_all, slice_get}
 use Rattle.std.proofs.lemmas.Bool.{and_parts, and_from, lt-ltb, ltb-true}
 use Rattle.std.proofs.lemmas.List.{length-append}
@@ -22,7 +22,7 @@ defined_further n m (Absolute value) more h = refl
 defined_further n m (InSection section offset) more h = lt-ltb section m (omega (arith, more, ltb-true section n h))
 defined_further n m (Skipped value) more h = refl
 
-pub defined_by : (n m : ℕ) (symbols : List Symbol) → n ≤ m → list_all (λ s. is_defined_in n s.definition) symbols ≡ true → list_all (λ s. is_defined_in m s.definition) symbols ≡ true
+defined_by : (n m : ℕ) (symbols : List Symbol) → n ≤ m → list_all (λ s. is_defined_in n s.definition) symbols ≡ true → list_all (λ s. is_defined_in m s.definition) symbols ≡ true
 defined_by n m [] more h = refl
 defined_by n m (s ∷ ss) more h =
     let both = and_parts (is_defined_in n s.definition) (list_all (λ s. is_defined_in n s.definition) ss) h in

@@ -12,7 +12,7 @@ use Rattle.rv_link_values.proofs.values.Values.value_at.Goals as goal
 pub returns-in_err-placed : goal.returns-in_err-placed
 returns-in_err-placed c = λ os p h.
     let none : placed_at p c.args.place.file.0 c.args.place.section.0 ≡ None = sym (ap (λ r. placed_at r c.args.place.file.0 c.args.place.section.0) h.placement) ∙ sym c.in_err-placed.ensures in
-    c.from_residual.ensures ∙ without_place os h.start p h.placed (outer_in os (layout_of p)) c.args.place.file.0 c.args.place.section.0 c.args.place.offset none
+    c.from_residual.ensures ∙ without_place os h.bounds p h.placed (outer_in os (layout_of p)) c.args.place.file.0 c.args.place.section.0 c.args.place.offset none
 
 pub returns-in_err-high : goal.returns-in_err-high
 returns-in_err-high c = λ os p h.
@@ -22,7 +22,7 @@ returns-in_err-high c = λ os p h.
     ap (high_of p os c.args.place.file.0 c.args.place.section.0) (sym c.new_offset.ensures)
     ∙ sym (h.highs c.args.place.file.0 c.args.place.section.0 c.new_offset.result)
     ∙ sym c.in_err-high.ensures in
-    c.from_residual-in_err-high.ensures ∙ without_high os h.start p h.placed (outer_in os (layout_of p)) c.args.place.file.0 c.args.place.section.0 c.args.place.offset q there none
+    c.from_residual-in_err-high.ensures ∙ without_high os h.bounds p h.placed (outer_in os (layout_of p)) c.args.place.file.0 c.args.place.section.0 c.args.place.offset q there none
 
 pub returns : goal.returns
 returns c = λ os p h.
@@ -32,5 +32,5 @@ returns c = λ os p h.
     ap (high_of p os c.args.place.file.0 c.args.place.section.0) (sym c.new_offset.ensures)
     ∙ sym (h.highs c.args.place.file.0 c.args.place.section.0 c.new_offset.result)
     ∙ sym c.in_ok-high.ensures in
-    with_high os h.start p h.placed (outer_in os (layout_of p)) c.args.place.file.0 c.args.place.section.0 c.args.place.offset q there (relocation_of c.in_ok-high.high) high _
+    with_high os h.bounds p h.placed (outer_in os (layout_of p)) c.args.place.file.0 c.args.place.section.0 c.args.place.offset q there (relocation_of c.in_ok-high.high) high _
     (λ i at. to_z-of_z w64 c.own_value.result (search rules) ∙ c.own_value.ensures os p i h at)
