@@ -2,6 +2,7 @@
 
 use Rattle.std.specs.Prelude.{◌≡◌, ℕ, List, [], length, Option, Some, None, Result, Ok, Err}
 use Rattle.rv_fault.specs.declared.fault.Fault.{Fault}
+use Rattle.rv_link_laws.specs.Ground.{usual}
 use Rattle.rv_system.specs.Messages.{fault_text}
 use Rattle.rv_check.specs.Check.{BeginsWithFaultOf}
 use Rattle.rv_check.specs.declared.report.Finding.{Finding}
@@ -20,7 +21,7 @@ abbrev pub IsCheck : (bytes lengths : List ℕ) → (start flags : ℕ) →
 IsCheck bytes lengths start flags (Ok None) = Unit {0}
 IsCheck bytes lengths start flags (Ok (Some c)) =
     (texts : List (List ℕ)) × (texts_by_lengths lengths bytes ≡ Some texts)
-    × BeginsWithFaultOf texts start (relaxes flags) (collects flags) c.report.first
+    × BeginsWithFaultOf texts (usual start) (relaxes flags) (collects flags) c.report.first
 IsCheck bytes lengths start flags (Err fault) = Unit {0}
 
 -- an answer with the numbers of the first finding

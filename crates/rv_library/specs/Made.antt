@@ -2,6 +2,7 @@
 
 use Rattle.std.specs.Prelude.{◌≡◌, ◌⊎◌, ℕ, Bool, true, false, List, Option, Some, None, Result, Ok, Err, ⊤}
 use Rattle.rv_fault.specs.declared.fault.Fault.{Fault}
+use Rattle.rv_link_laws.specs.Ground.{usual}
 use Rattle.rv_chain_laws.specs.Headline.{TheHeadline}
 use Rattle.rv_chain_laws.specs.Building.{IsExecutableOf}
 use Rattle.rv_chain_laws.specs.Linking.{AreLinked, IsLinkedAs}
@@ -22,7 +23,8 @@ AreUnfit bytes lengths flags = (are_known flags ≡ false) ⊎ (texts_by_lengths
 abbrev pub IsBuilt : List (List ℕ) → ℕ → (relax gc with_map : Bool) → Made → Type 0
 IsBuilt texts start relax gc true made =
     TheHeadline texts start relax gc made.first.items made.second.items
-IsBuilt texts start relax gc false made = IsExecutableOf texts start relax gc made.first.items
+IsBuilt texts start relax gc false made =
+    IsExecutableOf texts (usual start) relax gc made.first.items
 
 -- what is built of the texts that the bytes are, or the fault for which that is refused
 abbrev pub IsBuild : (bytes lengths : List ℕ) → (start flags : ℕ) → Result (Option Made) Fault →
@@ -33,13 +35,14 @@ IsBuild bytes lengths start flags (Ok (Some made)) =
     × IsBuilt texts start (relaxes flags) (collects flags) (has_map flags) made
 IsBuild bytes lengths start flags (Err fault) =
     (texts : List (List ℕ)) → texts_by_lengths lengths bytes ≡ Some texts →
-    IsRefusedFor texts start (relaxes flags) (collects flags) fault
+    IsRefusedFor texts (usual start) (relaxes flags) (collects flags) fault
 
 -- the executable of these objects' files, and its map where it is wanted
 abbrev pub IsLinkage : List (List ℕ) → ℕ → (relax gc with_map : Bool) → Made → Type 0
 IsLinkage files start relax gc true made =
-    AreLinked files start relax gc made.first.items made.second.items
-IsLinkage files start relax gc false made = IsLinkedAs files start relax gc made.first.items
+    AreLinked files (usual start) relax gc made.first.items made.second.items
+IsLinkage files start relax gc false made =
+    IsLinkedAs files (usual start) relax gc made.first.items
 
 -- what is linked of the files that the bytes are, or the fault for which that is refused
 abbrev pub IsLink : (bytes lengths : List ℕ) → (start flags : ℕ) → Result (Option Made) Fault →
@@ -50,7 +53,7 @@ IsLink bytes lengths start flags (Ok (Some made)) =
     × IsLinkage files start (relaxes flags) (collects flags) (has_map flags) made
 IsLink bytes lengths start flags (Err fault) =
     (files : List (List ℕ)) → texts_by_lengths lengths bytes ≡ Some files →
-    AreUnlinkable files start (relaxes flags) (collects flags) fault
+    AreUnlinkable files (usual start) (relaxes flags) (collects flags) fault
 
 -- the file of a source's object, or the fault for which that is refused
 abbrev pub IsAssembly : List ℕ → Result (Option Made) Fault → Type 0

@@ -2,6 +2,7 @@
 
 ghost use Rattle.std.specs.Prelude.{map, IfOk, IfErr};
 ghost use Rattle.rv_statement.specs.View.{now_of};
+ghost use Rattle.rv_link_laws.specs.Ground.{usual};
 ghost use Rattle.rv_chain.specs.Refusals.{IsRefusedFor};
 ghost use Rattle.rv_library.specs.Made.{GivesBuild, IsBuild, IsBuilt};
 
@@ -68,7 +69,7 @@ fn built(
     ensures built { IfOk result (IsBuilt (map now_of texts.now)
         options.text_start options.relax options.gc with_map) }
     ensures refused { IfErr result (IsRefusedFor (map now_of texts.now)
-        options.text_start options.relax options.gc) }
+        (usual options.text_start) options.relax options.gc) }
 {
     if with_map {
         let built = build(alloc, texts, options)?;

@@ -74,7 +74,7 @@ fn findings_of(
         alloc,
         names.as_slice(),
         texts.as_slice(),
-        options_of(text_start, flags),
+        options_of(text_start, flags).grounded(),
     )?;
     let text = report_text(alloc, &report, names.as_slice())?;
     Ok(Some(Checked { report, text }))

@@ -2,6 +2,7 @@
 
 ghost use Rattle.std.specs.Prelude.{map, IfOk, IfErr};
 ghost use Rattle.rv_statement.specs.View.{now_of};
+ghost use Rattle.rv_link_laws.specs.Ground.{usual};
 ghost use Rattle.rv_chain.specs.LinkRefusals.{AreUnlinkable};
 ghost use Rattle.rv_library.specs.Made.{GivesLink, IsLink, IsLinkage};
 
@@ -68,7 +69,7 @@ fn linked(
     ensures linked { IfOk result (IsLinkage (map now_of files.now)
         options.text_start options.relax options.gc with_map) }
     ensures refused { IfErr result (AreUnlinkable (map now_of files.now)
-        options.text_start options.relax options.gc) }
+        (usual options.text_start) options.relax options.gc) }
 {
     if with_map {
         let linked = link_objects(alloc, files, options)?;

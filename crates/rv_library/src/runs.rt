@@ -17,7 +17,7 @@ use crate::streams::{Console, Input};
 use rv_fault::Fault;
 use rv_image::{FileFault, Image, load};
 use rv_machine::{
-    End, Event, Outcome, RunFault, ShowFault, WatchFault, Watched, Watcher, run_io, run_watched,
+    End, Event, Look, Outcome, RunFault, ShowFault, WatchFault, Watched, Watcher, run_io, run_watched,
 };
 use rv_memory::{Memory, Paged};
 use std::alloc::{AllocError, Global};
@@ -69,7 +69,7 @@ impl<M: Memory> Watcher<M> for Steps {
     ghost has_seen = { λ steps seen. steps.count ≡ min (length seen) (2 ^ 64 - 1) };
 
     #[inline]
-    fn before(&mut self, _: &Watched<M>) -> Result<(), ShowFault> {
+    fn before(&mut self, _: &Look, _: &Watched<M>) -> Result<(), ShowFault> {
         Ok(())
     }
 
