@@ -54,12 +54,19 @@ class Page {
     on("busy", ({ label, done }) => this.#showBusy(`${label} …${done ? ` ${counted(done, "instruction")}` : ""}`));
     on("idle", () => this.#showBusy(""));
     on("trouble", (text) => this.say(text));
+    on("settled", () => this.#isReady(true));
+  }
+
+  /** Whether all that was written is built and shown; who waits for the page reads it. */
+  #isReady(is) {
+    document.documentElement.dataset.ready = String(is);
   }
 
   /** What is pressed or written. */
   #listen() {
     const { session, editor } = this;
     editor.addEventListener("change", () => {
+      this.#isReady(false);
       session.files[session.current].text = editor.text;
       this.keep();
       this.build();
@@ -86,6 +93,7 @@ class Page {
     const slide = later(() => session.show(Number(byId("slider").value)), 15);
     byId("slider").addEventListener("input", slide);
     byId("input").addEventListener("input", ({ target }) => {
+      this.#isReady(false);
       session.input = target.value;
       this.keep();
       this.build();
@@ -124,6 +132,7 @@ class Page {
     const { name, text } = this.examples[index];
     history.replaceState(null, "", location.pathname + location.search);
     byId("examples").value = String(index);
+    this.#isReady(false);
     await this.session.open([{ name, text }], inputOf(text));
     this.keep();
   }
@@ -390,7 +399,6 @@ async function start() {
       session.open(shared.files, shared.input);
     }
   });
-  document.documentElement.dataset.ready = "true";
   return page;
 }
 

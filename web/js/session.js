@@ -90,7 +90,7 @@ export class Session extends EventTarget {
 
   /** Checks and builds what the files have now, and goes to the start. */
   async build() {
-    this.#version += 1;
+    const version = ++this.#version;
     if (this.#machine.isBusy) {
       this.#machine.stop();
     }
@@ -109,6 +109,9 @@ export class Session extends EventTarget {
     if (this.program) {
       await this.show(0);
       await this.#glance();
+    }
+    if (version === this.#version) {
+      this.#tell("settled");
     }
   }
 
