@@ -1,6 +1,6 @@
 # Text at 80000000h: a call, branches and jumps, addresses by their distance, and in four and eight bytes. GNU as
 # 2.40, -march=rv64ima -mno-relax, wrote the objects of the sources below, and GNU ld 2.40 makes of them what stands
-# here: tests/against/link_cases.py.
+# here (tests/against/link_cases.py).
 # options: --no-relax --origin 0x80000000
 # text: 97000000 e7800004 6306b500 6f008000 e3e8a5fe 97250000 9385c5fe 17250000 032585fe 97220000 23aea2fc 97210000 93812102 17030000 6700c300 13000000 17250000 130585fd eff09ffb 67800000 13000000 6ff0dffe
 # rodata: 07000000 00000000 02000080 00000000
