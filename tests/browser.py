@@ -103,7 +103,7 @@ class Chromium:
             self.process.wait()
 
 
-KEY_CODES = {"Enter": 13, "Tab": 9, "Escape": 27, **{f"F{at}": 111 + at for at in range(1, 13)}}
+KEY_CODES = {"Enter": 13, "Tab": 9, "Escape": 27, "Space": 32, **{f"F{at}": 111 + at for at in range(1, 13)}}
 BITS = {"Alt": 1, "Control": 2, "Shift": 8}
 
 
@@ -153,7 +153,8 @@ class Tab:
     def press(self, keys):
         """Presses keys, as `Control+Enter`."""
         *held, key = keys.split("+")
-        words = {"key": key, "code": key, "windowsVirtualKeyCode": KEY_CODES[key]}
+        sign = " " if key == "Space" else key
+        words = {"key": sign, "code": key, "windowsVirtualKeyCode": KEY_CODES[key]}
         words["modifiers"] = sum(BITS[it] for it in held)
         self.command("Input.dispatchKeyEvent", type="rawKeyDown", **words)
         self.command("Input.dispatchKeyEvent", type="keyUp", **words)
@@ -168,6 +169,8 @@ class Tab:
 
     def picture(self, whole=False):
         """A PNG of what is seen, or of the whole page, in base64."""
+        # (a whole page has no scroll bar, and must not be laid out for one)
+        self.command("Emulation.setScrollbarsHidden", hidden=whole)
         return self.command("Page.captureScreenshot", format="png", captureBeyondViewport=whole)["data"]
 
 

@@ -32,7 +32,7 @@ MOST_PACKED = 400_000
 SAMPLED = 10
 WIDE, MIDDLE, NARROW, LEAST = (1440, 900), (900, 1000), (390, 844), (320, 640)
 LEAST_CONTRAST = 4.5
-READY = "() => document.documentElement.dataset.ready === 'true'"
+READY = "() => document.documentElement?.dataset.ready === 'true'"
 SEVEN = """.globl _start
 _start: li   a0, 7
         li   a7, 93
@@ -100,9 +100,8 @@ class Person(browser.Tab):
 
     def settle(self):
         """Waits until what was done is shown: what is written is built after a pause."""
-        time.sleep(0.3)
         self.until("isIdle")
-        time.sleep(0.1)
+        self.wait(READY)
 
     def put(self, text):
         self.look("put", text)
@@ -317,7 +316,7 @@ def is_told_to_all(person):
     person.put(FAULTY)
     nodes = [it for it in person.command("Accessibility.getFullAXTree")["nodes"] if not it.get("ignored")]
     value = lambda it, key: str(it.get(key, {}).get("value", "")).strip()
-    controls = {"button", "textbox", "combobox", "slider", "link", "option", "listbox", "group", "region", "dialog"}
+    controls = {"button", "textbox", "combobox", "slider", "link", "option", "listbox", "region", "dialog"}
     nameless = [value(it, "role") for it in nodes if value(it, "role") in controls and not value(it, "name")]
     same("without a name", [], nameless)
     wanted = {"banner", "main", "navigation", "region", "heading", "status", "log"}
@@ -419,15 +418,17 @@ def pictures(person, folder):
         person.enter()
         person.put(program)
         person.look("breakAt", 15)
-        for it in ("run", "step", "step", "step"):
+        for it, place in (("run", "Step 9"), ("step", "Step 10"), ("step", "Step 11"), ("step", "Step 12")):
             person.click(it)
-            person.settle()
+            person.shows("place", place)
         keep(f"stepping-{theme}")
         person.put(faulty)
         keep(f"faults-{theme}")
         person.put(program.replace("sb   t1, (a1)", "sb   t1, (t0)"))
         person.click("run")
-        person.settle()
+        person.shows("place", "Step 9")
+        person.click("run")
+        person.shows("end", "StoreOutside")
         keep(f"crash-{theme}")
         person.put(program)
         for name, size in (("narrow", NARROW), ("middle", MIDDLE)):

@@ -37,6 +37,8 @@ class Page {
     this.session = session;
     this.language = language;
     this.examples = examples;
+    this.isBusy = false;
+    this.busyText = "";
     this.editor = new Editor(byId("editor"), language);
     this.build = later(() => session.build(), PAUSE);
     this.#hear();
@@ -54,6 +56,36 @@ class Page {
     on("busy", ({ label, done }) => this.#showBusy(`${label} …${done ? ` ${counted(done, "instruction")}` : ""}`));
     on("idle", () => this.#showBusy(""));
     on("trouble", (text) => this.say(text));
+    on("stopped", () => this.say(`Stopped. ${panes.placeInWords(this.session)}`));
+    on("settled", () => this.#setReady(true));
+  }
+
+  /** Whether all that was written is built and shown. */
+  get isReady() {
+    return document.documentElement.dataset.ready === "true";
+  }
+
+  #setReady(is) {
+    document.documentElement.dataset.ready = String(is);
+    this.#showButtons();
+  }
+
+  /** Something was written, which is built once no more is written for a while. */
+  #wrote() {
+    this.session.forget();
+    this.#setReady(false);
+    this.keep();
+    this.build();
+  }
+
+  /** Runs what stands there now, so first of all it has to be built. */
+  async #run() {
+    if (!this.isReady) {
+      await new Promise((done) => this.session.addEventListener("settled", done, { once: true }));
+    }
+    if (!this.isBusy) {
+      await this.session.run();
+    }
   }
 
   /** What is pressed or written. */
@@ -61,34 +93,34 @@ class Page {
     const { session, editor } = this;
     editor.addEventListener("change", () => {
       session.files[session.current].text = editor.text;
-      this.keep();
-      this.build();
+      // (so the example can be chosen anew)
+      byId("examples").value = "";
+      this.#wrote();
     });
     editor.addEventListener("move", () => this.#showCaret());
     editor.addEventListener("breakpoint", ({ detail }) => session.toggle(session.current, detail));
     const actions = {
-      run: () => this.isBusy || session.run(),
-      stop: () => this.isBusy && session.stop(),
+      run: () => this.#run(),
+      stop: () => session.stop(),
       restart: () => session.show(0),
       back: () => session.show(session.aim - 1),
-      step: () => session.isAtEnd || session.show(session.aim + 1),
-      over: () => session.isAtEnd || session.over(),
-      out: () => session.isAtEnd || session.out(),
+      step: () => session.show(session.aim + 1),
+      over: () => session.over(),
+      out: () => session.out(),
       cursor: () => session.toLine(editor.line),
       share: () => this.share(),
       keys: () => byId("keys-box").showModal(),
       about: () => byId("about-box").showModal(),
     };
     for (const [id, action] of Object.entries(actions)) {
-      byId(id).addEventListener("click", action);
+      byId(id).addEventListener("click", ({ currentTarget }) => isOff(currentTarget) || action());
     }
     // (only the newest place is shown while the slider moves)
     const slide = later(() => session.show(Number(byId("slider").value)), 15);
     byId("slider").addEventListener("input", slide);
     byId("input").addEventListener("input", ({ target }) => {
       session.input = target.value;
-      this.keep();
-      this.build();
+      this.#wrote();
     });
     for (const it of ["region", "address"]) {
       byId(it).addEventListener("change", ({ target }) => {
@@ -101,19 +133,29 @@ class Page {
     }
     byId("examples").addEventListener("change", ({ target }) => target.value && this.choose(Number(target.value)));
     document.addEventListener("keydown", (event) => this.#key(event));
+    // (before all others, so that none keeps Escape from what runs)
+    document.addEventListener("keydown", (event) => this.#escape(event), { capture: true });
+  }
+
+  #escape(event) {
+    if (event.key === "Escape" && this.isBusy && !isBoxOpen()) {
+      event.preventDefault();
+      event.stopPropagation();
+      byId("stop").click();
+    }
   }
 
   #key(event) {
     const name = `${event.ctrlKey || event.metaKey ? "Ctrl+" : ""}${event.shiftKey ? "Shift+" : ""}${event.key}`;
     const [, , button] = KEYS.find(([key]) => key === name) ?? [];
-    if (event.defaultPrevented || document.querySelector("dialog[open]") || button === undefined) {
+    if (event.defaultPrevented || isBoxOpen() || button === undefined || button === "stop") {
       return;
     }
     if (name === "F9") {
       this.session.toggle(this.session.current, this.editor.line);
-    } else if (button === null || button === "stop" && !this.isBusy) {
+    } else if (button === null) {
       return;
-    } else if (byId(button).getAttribute("aria-disabled") !== "true") {
+    } else {
       byId(button).click();
     }
     event.preventDefault();
@@ -124,6 +166,7 @@ class Page {
     const { name, text } = this.examples[index];
     history.replaceState(null, "", location.pathname + location.search);
     byId("examples").value = String(index);
+    this.#setReady(false);
     await this.session.open([{ name, text }], inputOf(text));
     this.keep();
   }
@@ -156,13 +199,13 @@ class Page {
     const add = () => {
       session.files.push({ name: this.#freeName(), text: "" });
       open(session.files.length - 1);
-      session.build();
+      this.#wrote();
     };
     const remove = () => {
       session.files.splice(session.current, 1);
       session.breakpoints.clear();
       open(0);
-      session.build();
+      this.#wrote();
     };
     const small = (sign, name, onclick) => make("button", { type: "button", class: "small", onclick, "aria-label": name }, sign);
     const plus = small("+", "Add a file", add), minus = small("−", `Remove ${session.files[session.current].name}`, remove);
@@ -179,7 +222,7 @@ class Page {
     if (name) {
       this.session.files[at].name = name;
       this.#showTabs();
-      this.session.build();
+      this.#wrote();
     }
   }
 
@@ -276,8 +319,14 @@ class Page {
     const text = has ? `Step ${session.step.toLocaleString("en")} of ${length}` : "No run";
     byId("place").textContent = text;
     slider.setAttribute("aria-valuetext", text);
+    this.#showButtons();
+  }
+
+  #showButtons() {
+    const { session, isBusy } = this, has = session.state !== null && !isBusy;
     const isOn = has && !session.isAtEnd, isBehind = has && session.step > 0;
-    const may = { run: has, cursor: has, step: isOn, over: isOn, out: isOn, back: isBehind, restart: isBehind };
+    const run = has || !this.isReady && !isBusy;
+    const may = { run, stop: isBusy, cursor: has, step: isOn, over: isOn, out: isOn, back: isBehind, restart: isBehind };
     for (const [id, is] of Object.entries(may)) {
       // (what has the focus keeps it, so that a key can be pressed again)
       byId(id).setAttribute("aria-disabled", String(!is));
@@ -286,7 +335,7 @@ class Page {
 
   #showBusy(text) {
     this.isBusy = text !== "";
-    byId("stop").setAttribute("aria-disabled", String(!this.isBusy));
+    this.#showButtons();
     if (this.isBusy || byId("status").textContent === this.busyText) {
       this.say(text);
     }
@@ -317,6 +366,14 @@ class Page {
       // then it is not kept
     }
   }
+}
+
+function isOff(button) {
+  return button.getAttribute("aria-disabled") === "true";
+}
+
+function isBoxOpen() {
+  return document.querySelector("dialog[open]") !== null;
 }
 
 function kept() {
@@ -390,7 +447,6 @@ async function start() {
       session.open(shared.files, shared.input);
     }
   });
-  document.documentElement.dataset.ready = "true";
   return page;
 }
 

@@ -20,7 +20,8 @@ export function showListing(session, go) {
   if (!rows.length) {
     place.replaceChildren(make("p", { class: "empty" }, program ? "No statement has bytes." : "Nothing is built."));
   } else {
-    const head = headings(["Stop", "Address", "Bytes", "Instruction", "Line"]);
+    const head = headings(["Address", "Bytes", "Instruction", "Line"], "", make("th", { scope: "col" },
+      make("span", { class: "unseen" }, "Breakpoint")));
     const left = all.length - rows.length;
     const rest = left ? [make("p", { class: "empty" }, `${left} more rows are not shown.`)] : [];
     place.replaceChildren(make("table", {}, head, make("tbody", {}, ...rows)), ...rest);
@@ -29,8 +30,8 @@ export function showListing(session, go) {
   byId("sizes").textContent = full.map((it) => `${it.name} ${it.end - it.start}`).join(" · ");
 }
 
-function headings(names, kind) {
-  return make("thead", { class: kind }, make("tr", {}, ...names.map((it) => make("th", { scope: "col" }, it))));
+function headings(names, kind, ...before) {
+  return make("thead", { class: kind }, make("tr", {}, ...before, ...names.map((it) => make("th", { scope: "col" }, it))));
 }
 
 function rowsOf(statement, session, go) {

@@ -10,11 +10,15 @@ import { readHead } from "./lesson.js";
 
 /** How far the length of a run is looked for unasked, and how far a run goes unless its head says another limit. */
 const GLANCE = 200_000, LIMIT = 100_000_000;
+/** From so many instructions on, to show a state takes as long as a run. */
+const FAR = 3_000_000;
 const ENCODER = new TextEncoder();
 
 export class Session extends EventTarget {
   #machine;
   #version = 0;
+  /** How many calls go on that may take long. */
+  #long = 0;
   /** @type {File[]} */
   files = [];
   current = 0;
@@ -50,11 +54,15 @@ export class Session extends EventTarget {
     this.dispatchEvent(new CustomEvent(name, { detail }));
   }
 
-  /** A call to the machine, of which nothing is heard any more once the program has changed. */
+  /**
+   * A call to the machine, of which nothing is heard any more once the program has changed. One that may take long has a
+   * label, with which it tells how far it is; the others tell nothing, and so are never waited for.
+   */
   async #ask(name, words, label) {
     const version = this.#version;
-    const told = (done) => version === this.#version && this.#tell("busy", { label, done });
+    const told = (done) => label && version === this.#version && this.#tell("busy", { label, done });
     if (label) {
+      this.#long += 1;
       this.#tell("busy", { label, done: 0 });
     }
     try {
@@ -66,7 +74,7 @@ export class Session extends EventTarget {
       }
       return undefined;
     } finally {
-      if (label) {
+      if (label && --this.#long === 0) {
         this.#tell("idle");
       }
     }
@@ -74,6 +82,11 @@ export class Session extends EventTarget {
 
   get #run() {
     return { executable: this.program.executable, input: ENCODER.encode(this.input) };
+  }
+
+  /** Hears nothing more of what was asked, because the files have changed and will be built. */
+  forget() {
+    this.#version += 1;
   }
 
   /** Takes other files; the first is shown. @param {File[]} files */
@@ -90,18 +103,25 @@ export class Session extends EventTarget {
 
   /** Checks and builds what the files have now, and goes to the start. */
   async build() {
-    this.#version += 1;
+    const version = ++this.#version;
     if (this.#machine.isBusy) {
       this.#machine.stop();
     }
     const [sources, names] = ["text", "name"].map((key) => this.files.map((it) => ENCODER.encode(it[key])));
     const made = await this.#ask("build", { sources, names });
-    if (!made) {
-      return;
+    if (made) {
+      await this.#begin(made);
     }
-    this.findings = made.findings;
-    this.fault = made.fault;
-    this.program = made.program ?? null;
+    if (version === this.#version) {
+      this.#tell("settled");
+    }
+  }
+
+  /** Takes what was built, and goes to its start. */
+  async #begin({ findings, fault, program }) {
+    this.findings = this.#inOrder(findings);
+    this.fault = fault;
+    this.program = program ?? null;
     this.state = this.last = null;
     this.step = this.length = 0;
     this.isWhole = false;
@@ -110,6 +130,14 @@ export class Session extends EventTarget {
       await this.show(0);
       await this.#glance();
     }
+  }
+
+  /** What is wrong, by file and line; what is wrong with the program comes last. */
+  #inOrder(findings) {
+    const file = (it) => this.files.findIndex(({ name }) => name === it.file);
+    const place = (it) => (it.line ? [file(it), it.line, it.column ?? 0] : [this.files.length, 0, 0]);
+    const compare = (one, other) => one.map((it, at) => it - other[at]).find((it) => it !== 0) ?? 0;
+    return findings.toSorted((one, other) => compare(place(one), place(other)));
   }
 
   /** Looks how long the run is, if it is short. */
@@ -133,7 +161,8 @@ export class Session extends EventTarget {
     }
     const { address, size } = this.window;
     this.aim = Math.max(step, 0);
-    const state = await this.#ask("state", { ...this.#run, steps: this.aim, address, size });
+    const label = this.aim > FAR ? "Going there" : undefined;
+    const state = await this.#ask("state", { ...this.#run, steps: this.aim, address, size }, label);
     if (!state) {
       return;
     }
@@ -203,14 +232,17 @@ export class Session extends EventTarget {
     return this.#go("out", {}, "Running");
   }
 
-  /** Ends what goes on; the program stays where it was. */
+  /** Ends what goes on; the program stays where it was, or is at its start if to come there takes long. */
   async stop() {
     this.#version += 1;
     this.#machine.stop();
-    this.#tell("idle");
-    const step = this.step;
+    const step = this.step > FAR ? 0 : this.step;
     await this.build();
+    const version = this.#version;
     await this.show(step);
+    if (version === this.#version) {
+      this.#tell("stopped");
+    }
   }
 
   /** The first instruction at a line or behind it. */

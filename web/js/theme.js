@@ -1,14 +1,13 @@
 /** Light and dark: as the system has it, or as the button says; the choice is kept in this browser. */
 
 const KEY = "rv-theme", ORDER = ["light dark", "light", "dark"];
-const NAMES = { "light dark": "as the system", light: "light", dark: "dark" };
+const NAMES = { "light dark": "auto", light: "light", dark: "dark" };
 
 /** @param {HTMLButtonElement} button */
 export function themed(button) {
   const put = (theme) => {
     document.documentElement.style.colorScheme = theme;
-    button.setAttribute("aria-label", `Theme: ${NAMES[theme]}`);
-    button.textContent = theme === "dark" ? "Dark" : theme === "light" ? "Light" : "Auto";
+    button.textContent = `Theme: ${NAMES[theme]}`;
   };
   let at = Math.max(ORDER.indexOf(read()), 0);
   put(ORDER[at]);
