@@ -108,13 +108,14 @@ def run_by_program(call, folder):
     return {"console": letters(process.stdout), "end": end, "isSame": True}
 
 
-def differences(tab, name, calls, each=200):
+def differences(tab, name, calls, each=50):
     """Compares calls, shows a few that differ, and gives their count."""
     with ThreadPoolExecutor(len(os.sched_getaffinity(0))) as pool:
-        wanted = pool.map(by_program, [it for _, it in calls])
-        parts = [[it for _, it in calls[at : at + each]] for at in range(0, len(calls), each)]
-        came = [it for part in parts for it in tab.look("given", part)]
-        wrong = [(it[0], one, other) for it, one, other in zip(calls, wanted, came) if one != other]
+        wanted = [*pool.map(by_program, [it for _, it in calls])]
+    # (only then, because Chromium is not heard while processes begin beside it)
+    parts = [[it for _, it in calls[at : at + each]] for at in range(0, len(calls), each)]
+    came = [it for part in parts for it in tab.look("given", part)]
+    wrong = [(it[0], one, other) for it, one, other in zip(calls, wanted, came) if one != other]
     print(f"{len(calls)} {name} compared, {len(wrong)} differ", flush=True)
     for it in wrong[:5]:
         print(*it, sep="\n  ")
