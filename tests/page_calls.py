@@ -18,7 +18,8 @@ ROOT = Path(__file__).resolve().parent.parent
 RV = ROOT / "rv"
 # A case with longer sources is left out, and a run has so many instructions at most.
 LONGEST, MOST, LIMIT = 4_000_000, 10_000_000, 20_000
-TEXT_START, WITH_MAP = 0x10000, 4
+# (an address is written as hexadecimal, because JSON's numbers lose its last digits)
+TEXT_START, WITH_MAP = "0x10000", 4
 KNOWN = {"--no-relax": 1, "--gc-sections": 2}
 VERBS = ("build", "ld", "as", "list", "check")
 NUMBER = re.compile(r"0x[0-9a-fA-F]+|\d+")
@@ -56,7 +57,7 @@ def names_of(call, words, files):
         elif it in KNOWN and is_link:
             call["flags"] |= KNOWN[it]
         elif it == "--text-start" and is_link and NUMBER.fullmatch(words[0]):
-            call["start"] = int(words.pop(0), 0)
+            call["start"] = hex(int(words.pop(0), 0))
         elif it in files:
             names.append(it)
         else:
@@ -90,7 +91,7 @@ def by_program(call):
             Path(folder, name).write_bytes(base64.b64decode(text))
         if verb == "check":
             return {"text": digest(program(["check", "--json", *names], folder).stdout)}
-        options = [it for it, bit in KNOWN.items() if call["flags"] & bit] + ["--text-start", hex(call["start"])]
+        options = [it for it, bit in KNOWN.items() if call["flags"] & bit] + ["--text-start", call["start"]]
         more = {"as": ["-o", "obj"], "list": []}.get(verb, ["-o", "exe", "--map", "map", *options])
         process = program([verb, *more, *names], folder)
         if process.returncode:
