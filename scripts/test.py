@@ -35,7 +35,7 @@ OF_PROGRAMS = [
     ["tests/editors.py"],
     ["tests/gdb.py"],
     ["tests/making.py"],
-    ["tests/page.py", "--all"],
+    ["tests/page.py"],
     ["tests/refused.py"],
 ]
 OF_FILES = [

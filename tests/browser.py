@@ -18,6 +18,9 @@ SECONDS = 120
 NAMES = ("chromium", "chromium-browser", "google-chrome", "chrome")
 WORDS = ["--headless=new", "--no-sandbox", "--disable-gpu", "--no-first-run", "--disable-extensions"]
 WORDS += ["--disable-background-networking", "--disable-component-update", "--disable-sync", "--remote-debugging-pipe"]
+# (a page without a window is not to be served last)
+WORDS += ["--disable-renderer-backgrounding", "--disable-background-timer-throttling"]
+WORDS += ["--disable-backgrounding-occluded-windows"]
 
 
 def program():

@@ -18,7 +18,8 @@ ROOT = Path(__file__).resolve().parent.parent
 RV = ROOT / "rv"
 # A case with longer sources is left out, and a run has so many instructions at most.
 LONGEST, MOST, LIMIT = 4_000_000, 10_000_000, 20_000
-TEXT_START, WITH_MAP = 0x10000, 4
+# (an address is written as hexadecimal, because JSON's numbers lose its last digits)
+TEXT_START, WITH_MAP = "0x10000", 4
 KNOWN = {"--no-relax": 1, "--gc-sections": 2}
 VERBS = ("build", "ld", "as", "list", "check")
 NUMBER = re.compile(r"0x[0-9a-fA-F]+|\d+")
@@ -56,7 +57,7 @@ def names_of(call, words, files):
         elif it in KNOWN and is_link:
             call["flags"] |= KNOWN[it]
         elif it == "--text-start" and is_link and NUMBER.fullmatch(words[0]):
-            call["start"] = int(words.pop(0), 0)
+            call["start"] = hex(int(words.pop(0), 0))
         elif it in files:
             names.append(it)
         else:
@@ -90,7 +91,7 @@ def by_program(call):
             Path(folder, name).write_bytes(base64.b64decode(text))
         if verb == "check":
             return {"text": digest(program(["check", "--json", *names], folder).stdout)}
-        options = [it for it, bit in KNOWN.items() if call["flags"] & bit] + ["--text-start", hex(call["start"])]
+        options = [it for it, bit in KNOWN.items() if call["flags"] & bit] + ["--text-start", call["start"]]
         more = {"as": ["-o", "obj"], "list": []}.get(verb, ["-o", "exe", "--map", "map", *options])
         process = program([verb, *more, *names], folder)
         if process.returncode:
@@ -108,13 +109,14 @@ def run_by_program(call, folder):
     return {"console": letters(process.stdout), "end": end, "isSame": True}
 
 
-def differences(tab, name, calls, each=200):
+def differences(tab, name, calls, each=50):
     """Compares calls, shows a few that differ, and gives their count."""
     with ThreadPoolExecutor(len(os.sched_getaffinity(0))) as pool:
-        wanted = pool.map(by_program, [it for _, it in calls])
-        parts = [[it for _, it in calls[at : at + each]] for at in range(0, len(calls), each)]
-        came = [it for part in parts for it in tab.look("given", part)]
-        wrong = [(it[0], one, other) for it, one, other in zip(calls, wanted, came) if one != other]
+        wanted = [*pool.map(by_program, [it for _, it in calls])]
+    # (only then, because Chromium is not heard while processes begin beside it)
+    parts = [[it for _, it in calls[at : at + each]] for at in range(0, len(calls), each)]
+    came = [it for part in parts for it in tab.look("given", part)]
+    wrong = [(it[0], one, other) for it, one, other in zip(calls, wanted, came) if one != other]
     print(f"{len(calls)} {name} compared, {len(wrong)} differ", flush=True)
     for it in wrong[:5]:
         print(*it, sep="\n  ")

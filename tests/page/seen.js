@@ -93,26 +93,27 @@ globalThis.seen = {
     return found;
   },
 
-  /** The milliseconds of a run and of a state after so many instructions, once the engine has made its good code. */
-  async speed(source, count) {
+  /** Makes a program ready to be timed: the engine makes its good code of what is called often. */
+  async warm(source) {
     const library = await libraryOfPage();
     const { executable } = library.build([new TextEncoder().encode(source)]), none = new Uint8Array();
-    for (const it of [1e5, 1e5, 1e6]) {
-      library.run(executable, none, it);
-      library.state(executable, none, it);
+    globalThis.timedForTests = (name, count) => library[name](executable, none, count);
+    for (const count of [1e5, 1e5, 1e6, 1e6]) {
+      timedForTests("run", count);
+      timedForTests("state", count);
     }
-    return ["run", "state"].map((name) => {
-      const start = performance.now();
-      library[name](executable, none, count);
-      return performance.now() - start;
-    });
+  },
+
+  /** So many instructions of that program, by a function of the library. */
+  runs(name, count) {
+    timedForTests(name, count);
   },
 };
 
 function isText(it) {
   const own = [...it.childNodes].some((node) => node.nodeType === Node.TEXT_NODE && node.data.trim());
-  const isOff = it.matches("textarea, [aria-disabled=true], :disabled, option, .unseen");
-  return own && it.checkVisibility() && !isOff;
+  const isOff = it.closest("textarea, [aria-disabled=true], :disabled, option, .unseen");
+  return own && it.checkVisibility() && isOff === null;
 }
 
 /** A colour of CSS as the canvas paints it: red, green, blue, and from 0 to 1 how much it covers. */
