@@ -10,7 +10,6 @@ use Rattle.rv_library.specs.declared.answers.Answer.{Answer}
 use Rattle.rv_library.specs.declared.checking.Checked.{Checked}
 use Rattle.rv_library.specs.Answer.{answer_of, refusal_of}
 use Rattle.rv_library.specs.Given.{IsRefusalGiven, have_room, put_in, room_status}
-use Rattle.rv_library.specs.Made.{AreUnfit}
 use Rattle.rv_library.specs.Options.{relaxes, collects}
 use Rattle.rv_library.specs.Texts.{texts_by_lengths}
 

@@ -1,6 +1,6 @@
 -- What is made of sources and of objects, or why nothing is.
 
-use Rattle.std.specs.Prelude.{◌≡◌, ◌⊎◌, ℕ, Bool, true, false, List, Option, Some, None, Result, Ok, Err, ⊤}
+use Rattle.std.specs.Prelude.{◌≡◌, ◌⊎◌, ℕ, Bool, true, false, List, Option, Some, None, Result, Ok, Err}
 use Rattle.rv_fault.specs.declared.fault.Fault.{Fault}
 use Rattle.rv_link_laws.specs.Ground.{usual}
 use Rattle.rv_chain_laws.specs.Headline.{TheHeadline}

@@ -1,7 +1,6 @@
 -- Runs of executables, and the states that they reach.
 
-use Rattle.std.specs.Prelude.{◌≡◌, ℕ, ◌-◌, ◌^◌, min, List, length, Option, Some, None, Result, Ok, Err, ⊤}
-use Rattle.rv_isa.specs.declared.instruction.Inst.{Inst}
+use Rattle.std.specs.Prelude.{◌≡◌, ℕ, ◌-◌, ◌^◌, min, List, length, None, Result, Ok, Err, ⊤}
 use Rattle.rv_isa_laws.specs.Word.{Spells}
 use Rattle.rv_parcel.specs.Parcel.{StandsFor}
 use Rattle.rv_isa_laws.specs.Hart as laws

@@ -1,6 +1,6 @@
 //! Buffers of the caller.
 
-ghost use Rattle.std.specs.Prelude.{◌≡◌, length};
+ghost use Rattle.std.specs.Prelude.{◌≡◌};
 ghost use Rattle.rv_library.specs.Given.{have_room, put_in};
 
 /// Puts bytes at the front of a buffer, as many as there is room for; whether all of them were put.

@@ -17,7 +17,8 @@ use crate::streams::{Console, Input};
 use rv_fault::Fault;
 use rv_image::{FileFault, Image, load};
 use rv_machine::{
-    End, Event, Look, Outcome, RunFault, ShowFault, WatchFault, Watched, Watcher, run_io, run_watched,
+    End, Event, Look, Outcome, RunFault, ShowFault, WatchFault, Watched, Watcher, run_io,
+    run_watched,
 };
 use rv_memory::{Memory, Paged};
 use std::alloc::{AllocError, Global};

@@ -2,7 +2,6 @@
 //!
 //! The machine of `rv_machine` is a function of an executable and an input, so a count of instructions names a state.
 
-ghost use Rattle.std.specs.Prelude.{◌≡◌};
 ghost use Rattle.rv_library.specs.GivenRuns.{AreRegisters, GivesState, IsShown, IsStateGiven};
 
 use crate::answers::{Answer, give_bytes};

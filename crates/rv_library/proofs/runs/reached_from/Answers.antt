@@ -1,5 +1,4 @@
 use Rattle.std.proofs.Common.{◌≡◌, ℕ, List, [], ◌++◌, refl, sym, ap, ◌∙◌}
-use Rattle.rv_isa_laws.specs.Hart as laws
 use Rattle.rv_isa_laws.specs.Hart.{start}
 use Rattle.rv_image.specs.Views.{image_of}
 use Rattle.rv_memory.specs.HeldPages.{held_pages}
