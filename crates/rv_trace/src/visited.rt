@@ -60,9 +60,10 @@ impl VisitedInstructions {
     /// Adds an instruction; its index.
     #[inline(never)]
     fn add(&mut self, next: VisitedInstruction) -> Result<usize, AllocError> {
-        let pc = next.pc;
+        let VisitedInstruction { pc, bits, inst } = next;
         let index = self.instructions.len();
-        self.instructions.push(next)?;
+        self.instructions
+            .push(VisitedInstruction { pc, bits, inst })?;
         self.index.set(pc, index);
         Ok(index)
     }
