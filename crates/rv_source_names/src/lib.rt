@@ -8,8 +8,8 @@
 //! It knows neither statements nor addresses.
 //!
 //! ```text
-//! let named = with_source(alloc, &object, b"/home/me", b"prog.s")?;
-//! let name = source_of(alloc, &named)?;         // Some: /home/me, prog.s
+//! let named = with_source(alloc, &object, b"/demo", b"prog.s")?;
+//! let name = source_of(alloc, &named)?;         // Some: /demo, prog.s
 //! ```
 //!
 //! Source: this project's format; System V gABI, "Sections".
