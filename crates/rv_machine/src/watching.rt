@@ -71,6 +71,15 @@ pub struct Watched<M: Memory> {
     intake: Intake,
 }
 
+/// What a machine is made of between two steps.
+#[derive(Drop)]
+pub struct Parts<M: Memory> {
+    pub hart: Hart,
+    pub memory: M,
+    /// Whether a take of the input has given nothing: then none takes more.
+    pub input_ended: bool,
+}
+
 /// Who is told what each step of a machine did, and looks at the machine before and after it.
 pub trait Watcher<M: Memory> {
     /// That the watcher shows exactly these events, in its own words.
@@ -99,14 +108,66 @@ impl<M: Memory> Watched<M> {
         ensures memory { M.mem result.memory ≡ M.mem memory }
         ensures ended { result.intake.ended ≡ false }
     {
-        Watched {
+        Watched::from_parts(Parts {
             hart: Hart::new(entry),
             memory,
+            input_ended: false,
+        })
+    }
+
+    /// A machine in the state that its parts say.
+    pub fn from_parts(parts: Parts<M>) -> Self
+        ensures hart { result.hart ≡ parts.hart }
+        ensures memory { M.mem result.memory ≡ M.mem parts.memory }
+        ensures ended { result.intake.ended ≡ parts.input_ended }
+    {
+        let Parts {
+            hart,
+            memory,
+            input_ended,
+        } = parts;
+        Watched {
+            hart,
+            memory,
             intake: Intake {
-                ended: false,
+                ended: input_ended,
                 buffer: [0; 4096],
             },
         }
+    }
+
+    /// What it is made of.
+    pub fn into_parts(self) -> Parts<M>
+        ensures hart { result.hart ≡ self.hart }
+        ensures memory { M.mem result.memory ≡ M.mem self.memory }
+        ensures ended { result.input_ended ≡ self.intake.ended }
+    {
+        let Watched {
+            hart,
+            memory,
+            intake,
+        } = self;
+        Parts {
+            hart,
+            memory,
+            input_ended: intake.ended,
+        }
+    }
+
+    /// Registers, pc and reservation.
+    #[inline]
+    pub fn hart(&self) -> &Hart
+        ensures { result.now ≡ self.now.hart }
+    {
+        &self.hart
+    }
+
+    /// Whether a take of the input has given nothing.
+    #[inline]
+    pub fn input_ended(&self) -> bool
+        ensures { result ≡ self.now.intake.ended }
+    {
+        self.intake.ended
     }
 
     /// The address of the next instruction.

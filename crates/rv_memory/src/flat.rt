@@ -222,6 +222,21 @@ pub(crate) fn overwrite(bytes: &mut [u8], at: usize, by: &[u8])
     bytes[at..at + by.len()].copy_from_slice(by);
 }
 
+/// The same segments.
+pub fn copied_segments(alloc: Global, segments: &[Segment]) -> Result<Vec<Segment>, AllocError>
+    ensures { IfOk result (λ copies. map segment_of copies.items ≡ map segment_of segments.now) }
+{
+    let mut copies = Vec::with_capacity(alloc, segments.len())?;
+    for segment in segments {
+        copies.push(Segment {
+            address: segment.address,
+            bytes: Vec::from_slice(alloc, &segment.bytes)?,
+            flags: segment.flags,
+        })?;
+    }
+    Ok(copies)
+}
+
 impl Flat {
     ghost use Rattle.rv_memory.specs.Held.{held, pieces};
 
@@ -254,6 +269,17 @@ impl Flat {
             segments,
             code: Cell::new(0),
             data: Cell::new(0),
+        })
+    }
+
+    /// The same memory once more.
+    pub(crate) fn copied(&self, alloc: Global) -> Result<Self, AllocError>
+        ensures { IfOk result (λ copy. pieces copy ≡ pieces self.now) }
+    {
+        Ok(Flat {
+            segments: copied_segments(alloc, &self.segments)?,
+            code: Cell::new(self.code.get()),
+            data: Cell::new(self.data.get()),
         })
     }
 

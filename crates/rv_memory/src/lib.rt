@@ -28,7 +28,7 @@ mod pieces;
 mod ranges;
 mod stretch;
 
-pub use flat::Flat;
+pub use flat::{Flat, copied_segments};
 pub use memory::{Memory, Right};
 pub use paged::Paged;
 pub use ranges::{append_bytes, put_bytes};

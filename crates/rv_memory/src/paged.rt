@@ -111,6 +111,16 @@ fn bytes_before_end(flat: &Flat, start: u64, bytes: u64) -> u64
     bytes
 }
 
+/// The room in which all of the stack can be made, where it is made from an address on.
+fn room_above(alloc: Global, base: u64) -> Result<Vec<u8>, AllocError>
+    ensures { IfOk result (λ room. CanDeepen base room.items (vec_capacity room)) }
+{
+    if base <= STACK_START {
+        return Ok(Vec::new(alloc));
+    }
+    Vec::with_capacity(alloc, STACK_BYTES)
+}
+
 impl Paged {
     ghost use Rattle.rv_memory.specs.HeldPages.{held_pages, pages_in, stack_in};
 
@@ -137,6 +147,26 @@ impl Paged {
             data,
             written,
             base: MADE_FROM,
+            room,
+        })
+    }
+
+    /// The same memory once more.
+    pub fn copied(&self, alloc: Global) -> Result<Self, AllocError>
+        ensures { IfOk result (λ copy. held_pages copy ≡ held_pages self.now) }
+    {
+        let flat = self.flat.copied(alloc)?;
+        let pages = Vec::from_slice(alloc, &self.pages)?;
+        let room = room_above(alloc, self.base)?;
+        Ok(Paged {
+            flat,
+            pages,
+            code: self.code,
+            code_bytes: self.code_bytes,
+            stack: self.stack,
+            data: self.data,
+            written: self.written,
+            base: self.base,
             room,
         })
     }
