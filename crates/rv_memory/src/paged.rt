@@ -20,6 +20,7 @@ ghost use Rattle.std.specs.Prelude.{
   ◌%◌,
   ◌^◌,
   ◌<◌,
+  ◌≤◌,
   true,
   false,
   length,
@@ -51,7 +52,7 @@ ghost use Rattle.rv_memory.specs.Quick.{AreKnown, IsEnd};
 ghost use Rattle.rv_memory.specs.Rights.{right_of, IsWidth, IsToLoad};
 ghost use Rattle.rv_memory.specs.Stretches.{IsStretch};
 ghost use Rattle.rv_memory.specs.Unmade.{lies_unmade, IsUnmade, CanDeepen};
-ghost use Rattle.rv_isa_laws.specs.Platform.{stack_start};
+ghost use Rattle.rv_isa_laws.specs.Platform.{stack_end, stack_start};
 
 use crate::flat::{Flat, give, is_held};
 use crate::memory::{Memory, Right};
@@ -169,6 +170,17 @@ impl Paged {
             base: self.base,
             room,
         })
+    }
+
+    /// The address from which on the bytes of the stack are kept. All of its bytes below are 0.
+    #[inline]
+    pub fn stack_from(&self) -> u64
+        ensures low { stack_start ≤ result }
+        ensures high { result ≤ stack_end }
+        ensures zeros { (x : ℕ) → stack_start ≤ x → x < result →
+            (held_pages self.now).byte x ≡ 0 }
+    {
+        self.base
     }
 
     /// Whether an address lies where the stack is not made yet.
