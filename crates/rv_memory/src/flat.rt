@@ -54,6 +54,7 @@ ghost use Rattle.rv_image_laws.specs.Memory.{lies_in, gives_right, right_in, seg
 ghost use Rattle.std.specs.List.{All};
 ghost use Rattle.rv_image.specs.Views.{image_of};
 
+use crate::copies::copied_segments;
 use crate::memory::{Memory, Right};
 use crate::pieces::{Pieces, have_right, load_number, number, store_number};
 use crate::stretch::Stretch;
@@ -220,21 +221,6 @@ pub(crate) fn overwrite(bytes: &mut [u8], at: usize, by: &[u8])
     ensures { bytes.new ≡ take at bytes.old ++ (by.now ++ drop (at + length by.now) bytes.old) }
 {
     bytes[at..at + by.len()].copy_from_slice(by);
-}
-
-/// The same segments.
-pub fn copied_segments(alloc: Global, segments: &[Segment]) -> Result<Vec<Segment>, AllocError>
-    ensures { IfOk result (λ copies. map segment_of copies.items ≡ map segment_of segments.now) }
-{
-    let mut copies = Vec::with_capacity(alloc, segments.len())?;
-    for segment in segments {
-        copies.push(Segment {
-            address: segment.address,
-            bytes: Vec::from_slice(alloc, &segment.bytes)?,
-            flags: segment.flags,
-        })?;
-    }
-    Ok(copies)
 }
 
 impl Flat {

@@ -20,6 +20,7 @@
 //! Source: RISC-V Unprivileged ISA 20191213, sections 1.4 and 2.6; System V gABI, segment flags.
 #![tactic(auto)]
 
+mod copies;
 mod flat;
 mod memory;
 mod page;
@@ -28,7 +29,8 @@ mod pieces;
 mod ranges;
 mod stretch;
 
-pub use flat::{Flat, copied_segments};
+pub use copies::copied_image;
+pub use flat::Flat;
 pub use memory::{Memory, Right};
 pub use paged::Paged;
 pub use ranges::{append_bytes, put_bytes};

@@ -18,7 +18,6 @@
 //! Source: RISC-V Unprivileged ISA 20191213, section 1.5.
 #![tactic(auto)]
 
-mod copied;
 mod fault;
 mod given;
 mod replay;
@@ -26,6 +25,5 @@ mod running;
 mod steps;
 mod written;
 
-pub use copied::copy_of;
 pub use fault::ReplayFault;
 pub use replay::Replay;

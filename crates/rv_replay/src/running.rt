@@ -9,13 +9,12 @@ ghost use Rattle.rv_memory.specs.HeldPages.{held_pages};
 ghost use Rattle.rv_machine.specs.Hart.{hart_of};
 ghost use Rattle.rv_replay.specs.Replayed.{IsStateAt, IsStill, is_limit as is_limit_by};
 
-use crate::copied::copy_of;
 use crate::given::Given;
 use crate::steps::Steps;
 use crate::written::Written;
 use rv_image::Image;
 use rv_machine::{End, WatchFault, Watched, run_watched};
-use rv_memory::Paged;
+use rv_memory::{Paged, copied_image};
 use std::alloc::{AllocError, Global};
 
 /// What came of going on.
@@ -65,7 +64,7 @@ pub fn machine_of(alloc: Global, image: &Image) -> Result<Watched<Paged>, AllocE
     ensures memory { IfOk result (λ machine. held_pages machine.memory ≡ mem_of (image_of image.now)) }
     ensures ended { IfOk result (λ machine. machine.intake.ended ≡ false) }
 {
-    let memory = Paged::new(alloc, copy_of(alloc, image)?)?;
+    let memory = Paged::new(alloc, copied_image(alloc, image)?)?;
     Ok(Watched::new(memory, image.entry))
 }
 

@@ -1,4 +1,4 @@
-//! Images a second time.
+//! Images a second time: a machine takes its image, and whoever runs it again keeps one.
 
 ghost use Rattle.std.specs.Prelude.{◌≡◌, IfOk, map};
 ghost use Rattle.rv_image.specs.SegmentView.{segment_of};
@@ -8,10 +8,13 @@ use rv_image::{Image, Segment};
 use std::alloc::{AllocError, Global};
 
 /// The same segments.
-fn copied_segments(alloc: Global, segments: &[Segment]) -> Result<Vec<Segment>, AllocError>
+pub(crate) fn copied_segments(
+    alloc: Global,
+    segments: &[Segment],
+) -> Result<Vec<Segment>, AllocError>
     ensures { IfOk result (λ copies. map segment_of copies.items ≡ map segment_of segments.now) }
 {
-    let mut copies = Vec::new(alloc);
+    let mut copies = Vec::with_capacity(alloc, segments.len())?;
     for segment in segments {
         copies.push(Segment {
             address: segment.address,
@@ -23,7 +26,7 @@ fn copied_segments(alloc: Global, segments: &[Segment]) -> Result<Vec<Segment>, 
 }
 
 /// The same image.
-pub fn copy_of(alloc: Global, image: &Image) -> Result<Image, AllocError>
+pub fn copied_image(alloc: Global, image: &Image) -> Result<Image, AllocError>
     ensures view { IfOk result (λ copy. image_of copy ≡ image_of image.now) }
     ensures entry { IfOk result (λ copy. copy.entry ≡ image.now.entry) }
 {
