@@ -2,6 +2,8 @@
 pub mod CallLemmas
 -- The events of a run, step by step.
 mod EventLemmas
+-- How many instructions a run takes, step by step.
+pub mod CountLemmas
 -- What a fetch comes to, by what may be executed and the low bits of the first byte.
 pub mod FetchLemmas
 -- Known bytes that are consumed or appended, one after the other.

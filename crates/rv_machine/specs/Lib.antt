@@ -20,6 +20,8 @@ pub mod Streams
 pub mod StreamSteps
 -- What the outcome of a run is in the definitions.
 pub mod Outcome
+-- How many instructions a run takes.
+pub mod Counts
 -- What an action has to do with the instruction that a word or a parcel spells.
 pub mod Asked
 -- The events of the code as those of the definitions.

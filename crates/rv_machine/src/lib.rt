@@ -59,6 +59,6 @@ pub use laws::runs_agree;
 pub use machine::Machine;
 pub use outcome::{Outcome, run};
 pub use registers::Registers;
-pub use running::{RunFault, run_io};
+pub use running::{Ran, RunFault, run_counted, run_io};
 pub use streams::{GuestIn, GuestOut, IoFailed};
 pub use watching::{Parts, ShowFault, WatchFault, Watched, Watcher, run_watched};
