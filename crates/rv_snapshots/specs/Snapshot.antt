@@ -1,68 +1,78 @@
--- A state of a run as bytes. It begins with 36 numbers of 8 bytes, the lowest byte first:
+-- A state of a run as bytes. It begins with 37 numbers of 8 bytes, the lowest byte first:
 --
 --   31  x1 to x31
 --    1  pc
---    2  the reservation: its address, and its width in bytes, 0 where there is none
+--    3  the reservation: 1 where there is one and else 0, its address, its width in bytes
 --    1  how many bytes of the input were taken
 --    1  how many pieces of memory follow
 --
 -- A piece is its address and its length, numbers of 8 bytes, and its bytes. No bytes at all are the
 -- state at the start.
 
-use Rattle.std.specs.Prelude.{ℕ, zero, suc, ◌*◌, Bool, ◌&&◌, if◌then◌else◌, nat_le, List, [], ◌∷◌, length, take, drop, Option, Some, None, option_map}
+use Rattle.std.specs.Prelude.{ℕ, zero, suc, ◌*◌, Bool, ◌&&◌, ◌||◌, not, if◌then◌else◌, nat_le, List, [], ◌∷◌, length, take, drop, slice_index, Option, Some, None, option_map}
+use Rattle.std.specs.List.{list_all}
 use Rattle.byteorder.specs.Endian.{little_number}
-use Rattle.rv_isa_laws.specs.Memory.{Mem, Write, may, with_bytes}
+use Rattle.rv_isa_laws.specs.Memory.{Mem, Read, Write, may, with_bytes}
 use Rattle.rv_isa_laws.specs.Hart.{Hart, Reservation, start}
 use Rattle.rv_image_laws.specs.Image.{Image}
-use Rattle.rv_image_laws.specs.Memory.{mem_of}
+use Rattle.rv_image_laws.specs.Segment.{Segment}
+use Rattle.rv_image_laws.specs.Memory.{mem_of, gives_right}
 
--- the number at index k
-abbrev pub word : List ℕ → ℕ → ℕ
-word bytes k = little_number 8 (drop (8 * k) bytes)
-
--- the first n numbers
-abbrev pub words : ℕ → List ℕ → List ℕ
+-- the first n numbers of 8 bytes
+unfoldable pub words : ℕ → List ℕ → List ℕ
 words zero bytes = []
-words (suc n) bytes = word bytes 0 ∷ words n (drop 8 bytes)
+words (suc n) bytes = little_number 8 bytes ∷ words n (drop 8 bytes)
 
-abbrev pub reservation_in : (address width : ℕ) → Option Reservation
-reservation_in address zero = None
-reservation_in address (suc n) = Some (record { address = address; bytes = suc n })
+abbrev pub reservation_by : (is_there address width : ℕ) → Option Reservation
+reservation_by zero address width = None
+reservation_by (suc n) address width = Some (record { address = address; bytes = width })
 
--- nothing of the console is kept
-abbrev pub hart_in : (input snapshot : List ℕ) → Hart
-hart_in input snapshot = record {
-  registers = 0 ∷ words 31 snapshot;
-  pc = word snapshot 31;
-  reservation = reservation_in (word snapshot 32) (word snapshot 33);
-  input = drop (word snapshot 34) input;
+-- the hart that the numbers of a head say, with what is left of the input; nothing of the console
+-- is kept
+abbrev pub hart_by : (numbers input : List ℕ) → Hart
+hart_by numbers input = record {
+  registers = 0 ∷ take 31 numbers;
+  pc = slice_index numbers 31;
+  reservation = reservation_by (slice_index numbers 32) (slice_index numbers 33)
+      (slice_index numbers 34);
+  input = drop (slice_index numbers 35) input;
   console = [];
 }
 
 -- a memory with so many pieces put into it; none where one is cut, or may not be written, or where
 -- bytes are left behind the last
-abbrev pub with_pieces : ℕ → List ℕ → Mem → Option Mem
+unfoldable pub with_pieces : ℕ → List ℕ → Mem → Option Mem
 with_pieces zero [] m = Some m
 with_pieces zero (b ∷ bytes) m = None
 with_pieces (suc n) bytes m =
-    let address = word bytes 0 in
-    let count = word bytes 1 in
+    let address = little_number 8 bytes in
+    let count = little_number 8 (drop 8 bytes) in
     let behind = drop 16 bytes in
     if nat_le 16 (length bytes) && nat_le count (length behind) && may m address count Write
     then with_pieces n (drop count behind) (with_bytes m address (take count behind))
     else None
 
--- whether it has all of the numbers, and no more of the input was taken than there is
-abbrev pub has_head : (input snapshot : List ℕ) → Bool
-has_head input snapshot =
-    nat_le 288 (length snapshot) && nat_le (word snapshot 34) (length input)
+-- the state that a head and pieces say; none where more of the input was taken than there is
+abbrev pub state_by : Image → (numbers pieces input : List ℕ) → Option (Hart × Mem)
+state_by image numbers pieces input =
+    if nat_le (slice_index numbers 35) (length input)
+    then option_map (λ memory. (hart_by numbers input, memory))
+    (with_pieces (slice_index numbers 36) pieces (mem_of image))
+    else None
 
 -- the state, of a run of the image with this input; none where the bytes are no snapshot of one
 abbrev pub state_in : Image → (input snapshot : List ℕ) → Option (Hart × Mem)
 state_in image input [] = Some (start image.entry input, mem_of image)
 state_in image input (b ∷ bytes) =
     let snapshot = b ∷ bytes in
-    if has_head input snapshot
-    then option_map (λ memory. (hart_in input snapshot, memory))
-    (with_pieces (word snapshot 35) (drop 288 snapshot) (mem_of image))
+    if nat_le 296 (length snapshot)
+    then state_by image (words 37 snapshot) (drop 296 snapshot) input
     else None
+
+-- what may be written can be read (gABI, segment flags)
+abbrev pub is_readable : Segment → Bool
+is_readable s = not (gives_right s.flags Write) || gives_right s.flags Read
+
+-- whether each state of a run of the image has a snapshot
+abbrev pub has_snapshots : Image → Bool
+has_snapshots image = list_all is_readable image.segments

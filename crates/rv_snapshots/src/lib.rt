@@ -15,8 +15,16 @@
 //! ```
 #![tactic(auto)]
 
+mod laws;
+mod pieces;
 mod reading;
 mod writing;
 
+pub use laws::{keeping_goes_on, runs_keep, snapshots_keep};
 pub use reading::{Resumed, resume};
 pub use writing::snapshot;
+
+/// How many numbers the head of a snapshot has.
+pub(crate) const HEAD_NUMBERS: usize = 37;
+/// How many bytes these are.
+pub(crate) const HEAD_BYTES: usize = 296;
