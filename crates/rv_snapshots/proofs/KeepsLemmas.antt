@@ -1,7 +1,7 @@
 -- What no step of a run changes, and no piece of a snapshot.
 
-use Rattle.std.proofs.Common.{◌≡◌, ℕ, zero, suc, ◌+◌, ◌%◌, ◌^◌, ◌≤◌, Bool, true, false, cond, ◌||◌, ◌&&◌, List, [], ◌∷◌, length, take, drop, Option, Some, None, refl, sym, ap, ◌∙◌, subst, arith}
-use Rattle.std.specs.Prelude.{◌==◌, if◌then◌else◌, min, nat_le, option_map}
+use Rattle.std.proofs.Common.{◌≡◌, ℕ, zero, suc, ◌+◌, ◌%◌, ◌^◌, ◌≤◌, Bool, true, false, cond, ◌||◌, ◌&&◌, List, [], ◌∷◌, length, length-take, take, drop, Option, Some, None, refl, sym, ap, ◌∙◌, subst, arith}
+use Rattle.std.specs.Prelude.{◌==◌, if◌then◌else◌, min, nat_le, option_map, slice_index}
 use Rattle.std.proofs.lemmas.Bool.{and_parts}
 use Rattle.std.proofs.lemmas.Bool.Decides.{nat_tests}
 use Rattle.std.proofs.lemmas.Grind.{common_steps}
@@ -129,3 +129,46 @@ run_keeps h h' m m' run =
     let r : Reader Spells StandsFor = record { word = word_read; parcel = reader; words = word_read-exact; parcels = reader-exact } in
     let last = run r in
     subst (λ (n : Mem). Keeps m n) (ap (λ (s : Hart × Mem). s.1) last.1) (last_keeps r last.0 h m)
+
+-- and so do pieces
+piece_keeps : (t : Bool) (m n p : Mem) (o : Option Mem) → (t ≡ true → Keeps m n) → (o ≡ Some p → Keeps n p) → (if t then o else None) ≡ Some p → Keeps m p
+piece_keeps true m n p o put rest e = keeps_on m n p (put refl) (rest e)
+piece_keeps false m n p o put rest e = absurd (cc)
+
+pieces_keep : (n : ℕ) (bytes : List ℕ) (m p : Mem) → with_pieces n bytes m ≡ Some p → Keeps m p
+unfolding with_pieces
+pieces_keep zero [] m p e = let same : m ≡ p = cc in subst (λ (q : Mem). Keeps m q) same (keeps_all m)
+pieces_keep zero (b ∷ bytes) m p e = absurd (cc)
+pieces_keep (suc n) bytes m p e =
+    let address = little_number 8 bytes in
+    let count = little_number 8 (drop 8 bytes) in
+    let behind = drop 16 bytes in
+    piece_keeps (nat_le 16 (length bytes) && nat_le count (length behind) && may m address count Write)
+    m (with_bytes m address (take count behind)) p (with_pieces n (drop count behind) (with_bytes m address (take count behind)))
+    (λ t.
+        let can = (and_parts (nat_le 16 (length bytes) && nat_le count (length behind)) (may m address count Write) t).1 in
+        keeps_bytes m address (take count behind)
+        (may-front m address count (length (take count behind)) Write (omega (arith, length-take count behind)) can))
+    (pieces_keep n (drop count behind) (with_bytes m address (take count behind)) p) e
+
+abbrev memory_in : Mem → Option (Hart × Mem) → Mem
+memory_in d None = d
+memory_in d (Some s) = s.1
+
+state_by_keeps : (t : Bool) (hart : Hart) (h : Hart) (m n : Mem) (o : Option Mem) → ((p : Mem) → o ≡ Some p → Keeps m p) →
+    (if t then option_map {U = Hart × Mem} (λ (memory : Mem). (hart, memory)) o else None) ≡ Some (h, n) → Keeps m n
+state_by_keeps true hart h m n (Some p) all e = subst (λ (q : Mem). Keeps m q) (ap (memory_in n) e) (all p refl)
+state_by_keeps true hart h m n None all e = absurd (cc)
+state_by_keeps false hart h m n o all e = absurd (cc)
+
+long_keeps : (t : Bool) (image : Image) (numbers pieces input : List ℕ) (h : Hart) (m : Mem) →
+    (if t then state_by image numbers pieces input else None) ≡ Some (h, m) → Keeps (mem_of image) m
+long_keeps true image numbers pieces input h m e =
+    state_by_keeps (nat_le (slice_index numbers 35) (length input)) (hart_by numbers input) h (mem_of image) m
+    (with_pieces (slice_index numbers 36) pieces (mem_of image)) (λ p. pieces_keep (slice_index numbers 36) pieces (mem_of image) p) e
+long_keeps false image numbers pieces input h m e = absurd (cc)
+
+pub state_keeps : (image : Image) (input snapshot : List ℕ) (h : Hart) (m : Mem) → state_in image input snapshot ≡ Some (h, m) → Keeps (mem_of image) m
+state_keeps image input [] h m e = subst (λ (q : Mem). Keeps (mem_of image) q) (ap (memory_in m) e) (keeps_all (mem_of image))
+state_keeps image input (b ∷ bytes) h m e =
+    long_keeps (nat_le 296 (length (b ∷ bytes))) image (words 37 (b ∷ bytes)) (drop 296 (b ∷ bytes)) input h m e

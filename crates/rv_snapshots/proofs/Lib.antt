@@ -1,2 +1,10 @@
 -- What no step of a run changes, and no piece of a snapshot.
 mod KeepsLemmas
+-- The numbers of a snapshot's head, read and written.
+mod WordsLemmas
+-- Pieces put into memory, one after the other.
+mod PieceLemmas
+-- The state of a snapshot, part by part.
+mod StateLemmas
+-- What pieces make of an image's memory, with one more piece, and with more.
+mod MakeLemmas

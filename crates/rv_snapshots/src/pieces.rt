@@ -1,9 +1,13 @@
 //! What of a machine's memory is not as in its image, piece by piece.
+//!
+//! An area is cut into chunks, and a chunk that is as in the image is no piece. A chunk that differs is one as a whole: where
+//! it differs is not looked for.
 
 ghost use Rattle.std.specs.Prelude.{
   ◌≡◌,
   ℕ,
   ◌+◌,
+  ◌-◌,
   ◌*◌,
   ◌^◌,
   ◌≤◌,
@@ -12,17 +16,17 @@ ghost use Rattle.std.specs.Prelude.{
   [],
   true,
   length,
-  replicate,
   OnOk,
 };
-ghost use Rattle.rv_isa_laws.specs.Memory.{Mem, Right, bytes_at, may, Read as ToRead, Write as ToWrite};
+ghost use Rattle.rv_isa_laws.specs.Memory.{Mem, bytes_at, may, Read as ToRead, Write as ToWrite};
+ghost use Rattle.byteorder.specs.Endian.{little_bytes};
 ghost use Rattle.rv_memory.specs.HeldPages.{held_pages};
 
 use byteorder::{ByteOrder, LittleEndian};
 use rv_memory::{Memory, Paged, append_bytes};
 use std::alloc::{AllocError, Global};
 
-/// The most bytes of memory of which a piece is made as one.
+/// How many bytes a piece has at most.
 const CHUNK_BYTES: usize = 4096;
 
 /// Pieces of memory, one after the other.
@@ -30,7 +34,7 @@ const CHUNK_BYTES: usize = 4096;
 pub struct Pieces {
     pub count: u64,
     pub bytes: Vec<u8>,
-    /// A piece has its address and its length at least.
+    /// Each has its address and its length at least.
     pub ghost within: { 16 * count ≤ length bytes.items },
 }
 
@@ -48,39 +52,54 @@ impl Pieces {
         }
     }
 
-    /// Adds the pieces of an area of memory: of those chunks that are not as in the image, where its bytes are these.
+    /// Adds what differs of an area, where the image has these bytes.
     pub fn add_area(&mut self, memory: &Paged, address: u64, bytes: &[u8]) -> Result<(), AllocError>
         requires reads { may (held_pages memory.now) address (length bytes.now) ToRead ≡ true }
         requires writes { may (held_pages memory.now) address (length bytes.now) ToWrite ≡ true }
         requires ends { address + length bytes.now ≤ 2 ^ 64 }
         ensures { OnOk result ((image : Mem) →
             bytes_at image address (length bytes.now) ≡ bytes.now →
-            ((x : ℕ) (right : Right) → (held_pages memory.now).has x right ≡ image.has x right) →
             Add self.old self.new image (held_pages memory.now) address (length bytes.now)) }
     {
         let mut from = 0;
         while from < bytes.len() {
             let count = (bytes.len() - from).min(CHUNK_BYTES);
-            self.add_chunk(memory, address + from as u64, &bytes[from..from + count])?;
+            let chunk = &bytes[from..from + count];
+            self.add_chunk(memory, address + from as u64, chunk)?;
             from += count;
         }
         Ok(())
     }
 
-    /// Adds the pieces of memory from an address to another, where the image has zeros.
-    pub fn add_zeros(&mut self, memory: &Paged, start: u64, end: u64) -> Result<(), AllocError> {
+    /// Adds what differs of an area, where the image has zeros.
+    pub fn add_zeros(&mut self, memory: &Paged, start: u64, end: u64) -> Result<(), AllocError>
+        requires order { start ≤ end }
+        requires reads { may (held_pages memory.now) start (end - start) ToRead ≡ true }
+        requires writes { may (held_pages memory.now) start (end - start) ToWrite ≡ true }
+        ensures { OnOk result ((image : Mem) →
+            ((x : ℕ) → start ≤ x → x < end → image.byte x ≡ 0) →
+            Add self.old self.new image (held_pages memory.now) start (end - start)) }
+    {
         let zeros = [0; CHUNK_BYTES];
         let mut address = start;
         while address < end {
             let count = (end - address).min(CHUNK_BYTES as u64);
-            self.add_chunk(memory, address, &zeros[..count as usize])?;
+            let chunk = &zeros[..count as usize];
+            self.add_chunk(memory, address, chunk)?;
             address += count;
         }
         Ok(())
     }
 
-    /// Adds the piece of some memory, unless it is as in the image, where its bytes are these.
-    fn add_chunk(&mut self, memory: &Paged, address: u64, bytes: &[u8]) -> Result<(), AllocError> {
+    /// Adds a chunk, unless it is as in the image, where it has these bytes.
+    fn add_chunk(&mut self, memory: &Paged, address: u64, bytes: &[u8]) -> Result<(), AllocError>
+        requires reads { may (held_pages memory.now) address (length bytes.now) ToRead ≡ true }
+        requires writes { may (held_pages memory.now) address (length bytes.now) ToWrite ≡ true }
+        requires ends { address + length bytes.now ≤ 2 ^ 64 }
+        ensures { OnOk result ((image : Mem) →
+            bytes_at image address (length bytes.now) ≡ bytes.now →
+            Add self.old self.new image (held_pages memory.now) address (length bytes.now)) }
+    {
         if has_bytes(memory, address, bytes) {
             return Ok(());
         }
@@ -88,14 +107,28 @@ impl Pieces {
     }
 
     /// Adds a piece.
-    fn add(&mut self, memory: &Paged, address: u64, count: u64) -> Result<(), AllocError> {
-        let mut numbers = [0; 16];
-        LittleEndian::write_u64_into(&[address, count], &mut numbers);
-        self.bytes.extend_from_slice(&numbers)?;
+    fn add(&mut self, memory: &Paged, address: u64, count: u64) -> Result<(), AllocError>
+        requires reads { may (held_pages memory.now) address count ToRead ≡ true }
+        requires writes { may (held_pages memory.now) address count ToWrite ≡ true }
+        requires ends { address + count ≤ 2 ^ 64 }
+        ensures { OnOk result ((image : Mem) →
+            Add self.old self.new image (held_pages memory.now) address count) }
+    {
+        let head = numbers_of_piece(address, count);
+        self.bytes.extend_from_slice(&head)?;
         append_bytes(memory, address, count, &mut self.bytes)?;
         self.count += 1;
         Ok(())
     }
+}
+
+/// Address and length of a piece.
+fn numbers_of_piece(address: u64, count: u64) -> [u8; 16]
+    ensures { result ≡ little_bytes 8 address ++ little_bytes 8 count }
+{
+    let mut head = [0; 16];
+    LittleEndian::write_u64_into(&[address, count], &mut head);
+    head
 }
 
 /// Whether memory surely has these bytes from an address on.

@@ -175,9 +175,12 @@ fn put_piece<'b>(memory: &mut Paged, bytes: &'b [u8]) -> Option<&'b [u8]>
         return None;
     }
     let address = LittleEndian::read_u64(bytes);
-    let count = LittleEndian::read_u64(&bytes[8..]);
+    let count = LittleEndian::read_u64(bytes.split_at(8).1);
     let behind = bytes.split_at(16).1;
-    if count > behind.len() as u64 || !memory.may(address, count, Right::Write) {
+    if count > behind.len() as u64 {
+        return None;
+    }
+    if !memory.may(address, count, Right::Write) {
         return None;
     }
     let (piece, rest) = behind.split_at(count as usize);
