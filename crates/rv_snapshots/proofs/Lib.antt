@@ -8,3 +8,9 @@ mod PieceLemmas
 mod StateLemmas
 -- What pieces make of an image's memory, with one more piece, and with more.
 mod MakeLemmas
+-- The memory of an image: what of it may be written, and what stands there.
+mod ImageLemmas
+-- Pieces of segment after segment, and then of the stack, make the machine's memory.
+mod ReachLemmas
+-- The numbers of a head, of which the hart is made.
+mod HeadLemmas

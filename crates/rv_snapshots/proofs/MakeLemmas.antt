@@ -80,7 +80,7 @@ pub none_added : (pieces : Pieces) (image machine : Mem) (a : ℕ) → Add piece
 none_added pieces image machine a = λ m made. (m, made, record { before = λ x old. old; now = λ x low high. absurd (omega arith) })
 
 -- none for what is as in the image
-image_or_own : (m i w : ℕ) → i ≡ w → (m ≡ i) ⊎ (m ≡ w) → m ≡ w
+pub image_or_own : (m i w : ℕ) → i ≡ w → (m ≡ i) ⊎ (m ≡ w) → m ≡ w
 image_or_own m i w e (inl f) = f ∙ e
 image_or_own m i w e (inr f) = f
 

@@ -1,0 +1,152 @@
+-- The memory of an image: what of it may be written, and what stands there.
+
+use Rattle.std.proofs.Common.{◌≡◌, ℕ, zero, suc, ◌+◌, ◌-◌, ◌%◌, ◌^◌, ◌≤◌, ◌<◌, Bool, true, false, not, cond, ◌&&◌, ◌||◌, ◌⊎◌, inl, inr, List, [], ◌∷◌, ◌++◌, Option, Some, None, length, get_or, slice_get, take, drop, refl, ap, sym, subst, ◌∙◌, arith}
+use Rattle.std.specs.Prelude.{nat_le, nat_lt}
+use Rattle.std.specs.List.{list_all}
+use Rattle.std.proofs.lemmas.Bool.{and_parts, cases_lt}
+use Rattle.std.proofs.lemmas.Bool.Decides.{nat_tests}
+use Rattle.std.proofs.lemmas.List.{take_all}
+use Rattle.std.proofs.Math.Path.{fun_ext}
+use Rattle.rv_isa_laws.specs.Memory.{Mem, Right, Read, Write, Execute, may, bytes_at}
+use Rattle.rv_isa_laws.specs.Platform.{stack_start, stack_end}
+use Rattle.rv_image_laws.specs.Image.{Image}
+use Rattle.rv_image_laws.specs.Segment.{Segment, meets_stack, meets_segment, are_apart}
+use Rattle.rv_image_laws.specs.Memory.{lies_in, segment_at, byte_in, right_in, gives_right, in_stack, mem_of}
+use Rattle.rv_memory.specs.Flat.{memory_of, AreDisjoint}
+use Rattle.rv_memory.proofs.FlatLemmas.{segment-held, bytes-within, may-within}
+use Rattle.rv_memory.proofs.MemoryLemmas.{may-parts, may-front, bytes-take}
+use Rattle.rv_memory.proofs.NewLemmas.{IsStack, disjoint-with-stack}
+use Rattle.rv_snapshots.specs.Keeps.{Keeps}
+use Rattle.rv_snapshots.specs.Snapshot.{is_readable, has_snapshots}
+
+-- a part of a range has its rights, and its bytes
+pub may_inside : (m : Mem) (a n j k b : ℕ) (r : Right) → b ≡ a + j → j + k ≤ n → may m a n r ≡ true → may m b k r ≡ true
+may_inside m a n j k b r at within h =
+    let rest : n ≡ j + (n - j) = omega arith in
+    let behind : may m b (n - j) r ≡ true = may-parts m a j (n - j) b n r at rest (may-front m a n j r (omega arith) h) ∙ h in
+    may-front m b (n - j) k r (omega arith) behind
+
+pub bytes_inside : (m : Mem) (a n j k b : ℕ) → b ≡ a + j → j + k ≤ n → bytes_at m b k ≡ take k (drop j (bytes_at m a n))
+bytes_inside m a n zero k b at within = ap (λ (x : ℕ). bytes_at m x k) (let e : b ≡ a = omega arith in e) ∙ bytes-take m a n k (omega arith)
+bytes_inside m a zero (suc j) k b at within = absurd (omega arith)
+bytes_inside m a (suc n) (suc j) k b at within = bytes_inside m (a + 1) n j k b (omega arith) (omega arith)
+
+-- memories with the same bytes, or more rights
+bytes_same : (m n : Mem) (a k : ℕ) → m.byte ≡ n.byte → bytes_at m a k ≡ bytes_at n a k
+bytes_same m n a zero e = refl
+bytes_same m n a (suc k) e =
+    ap (λ (f : ℕ → ℕ). f (a % 2 ^ 64) ∷ bytes_at m (a + 1) k) e ∙ ap (λ (l : List ℕ). n.byte (a % 2 ^ 64) ∷ l) (bytes_same m n (a + 1) k e)
+
+may_more : (m n : Mem) (a k : ℕ) (r : Right) → ((x : ℕ) → m.has x r ≡ true → n.has x r ≡ true) → may m a k r ≡ true → may n a k r ≡ true
+may_more m n a zero r more h = refl
+may_more m n a (suc k) r more h =
+    let both = and_parts (m.has (a % 2 ^ 64) r) (may m (a + 1) k r) h in
+    rw (more (a % 2 ^ 64) both.0) (may_more m n (a + 1) k r more both.1)
+
+-- segments that are apart share no address
+last_byte : Segment
+last_byte = record { address = 0x3FFF_FFFF; bytes = 0 ∷ []; flags = 6 }
+
+last_zero : (k : ℕ) → get_or last_byte.bytes k 0 ≡ 0
+unfolding last_byte
+last_zero zero = refl
+last_zero (suc k) = refl
+
+is_stack : IsStack last_byte
+unfolding last_byte
+is_stack = record { low = omega arith; high = omega arith; ends = omega arith; zeros = last_zero; flags = refl }
+
+front_get : {A : Type 0} (xs ys : List A) (i : ℕ) (x : A) → slice_get xs i ≡ Some x → slice_get (xs ++ ys) i ≡ Some x
+front_get [] ys i x e = absurd (cc)
+front_get (z ∷ xs) ys zero x e = e
+front_get (z ∷ xs) ys (suc i) x e = front_get xs ys i x e
+
+pub disjoint : (ss : List Segment) → are_apart ss ≡ true → AreDisjoint ss
+disjoint ss apart i j x s t at_i at_j held_s held_t =
+    disjoint-with-stack ss last_byte is_stack apart i j x s t (front_get ss (last_byte ∷ []) i s at_i) (front_get ss (last_byte ∷ []) j t at_j) held_s held_t
+
+-- none has an address of the stack
+meets : (s : Segment) (x : ℕ) → lies_in s x ≡ true → stack_start ≤ x → x < stack_end → meets_stack s ≡ true
+meets s x h low high = grind (arith, nat_tests)
+
+away : (b : Bool) (s : Segment) (x : ℕ) → lies_in s x ≡ b → not (meets_stack s) ≡ true → stack_start ≤ x → x < stack_end → lies_in s x ≡ false
+away true s x e h low high = absurd (let m : meets_stack s ≡ true = meets s x e low high in let f : not (meets_stack s) ≡ false = rw m refl in cc)
+away false s x e h low high = e
+
+pub none_in_stack : (ss : List Segment) (x : ℕ) → are_apart ss ≡ true → stack_start ≤ x → x < stack_end → segment_at ss x ≡ None
+none_in_stack [] x apart low high = refl
+none_in_stack (s ∷ ss) x apart low high =
+    let both = and_parts (not (meets_stack s) && list_all (λ t. not (meets_segment s t)) ss) (are_apart ss) apart in
+    let first = and_parts (not (meets_stack s)) (list_all (λ t. not (meets_segment s t)) ss) both.0 in
+    ap (λ (b : Bool). cond b (Some s) (segment_at ss x)) (away (lies_in s x) s x refl first.0 low high) ∙ none_in_stack ss x both.1 low high
+
+pub stack_zero : (image : Image) (x : ℕ) → are_apart image.segments ≡ true → stack_start ≤ x → x < stack_end → (mem_of image).byte x ≡ 0
+stack_zero image x apart low high = ap (λ (o : Option Segment). byte_in o x) (none_in_stack image.segments x apart low high)
+
+-- the stack can be read and written
+or_right : (b c : Bool) → c ≡ true → (b || c) ≡ true
+or_right true c h = refl
+or_right false c h = h
+
+or_left : (b c : Bool) → b ≡ true → (b || c) ≡ true
+or_left true c h = refl
+or_left false c h = absurd (cc)
+
+stack_has : (x : ℕ) → stack_start ≤ x → x < stack_end → (in_stack x Read ≡ true) × (in_stack x Write ≡ true)
+stack_has x low high = let t : (nat_le stack_start x && nat_lt x stack_end) ≡ true = grind (arith, nat_tests) in (t, t)
+
+pub stack_may : (image : Image) (a n : ℕ) → stack_start ≤ a → a + n ≤ stack_end →
+    (may (mem_of image) a n Read ≡ true) × (may (mem_of image) a n Write ≡ true)
+stack_may image a zero low high = (refl, refl)
+stack_may image a (suc n) low high =
+    let wraps : a % 2 ^ 64 ≡ a = omega arith in
+    let here = stack_has a low (omega arith) in
+    let rest = stack_may image (a + 1) n (omega arith) (omega arith) in
+    let read : (mem_of image).has (a % 2 ^ 64) Read ≡ true = rw wraps (or_right (right_in (segment_at image.segments a) Read) (in_stack a Read) here.0) in
+    let write : (mem_of image).has (a % 2 ^ 64) Write ≡ true = rw wraps (or_right (right_in (segment_at image.segments a) Write) (in_stack a Write) here.1) in
+    (rw read rest.0, rw write rest.1)
+
+-- rights of the image's memory are the machine's
+pub kept_may : (image m : Mem) (a n : ℕ) (r : Right) → Keeps image m → may image a n r ≡ true → may m a n r ≡ true
+kept_may image m a n r keeps h = may_more image m a n r (λ x has. keeps.rights x r ∙ has) h
+
+-- a segment's rights and bytes
+pub segment_may : (image : Image) (i : ℕ) (s : Segment) (r : Right) → are_apart image.segments ≡ true → slice_get image.segments i ≡ Some s →
+    s.address + length s.bytes ≤ 2 ^ 64 → gives_right s.flags r ≡ true → may (mem_of image) s.address (length s.bytes) r ≡ true
+segment_may image i s r apart at fits right =
+    may_more (memory_of image.segments) (mem_of image) s.address (length s.bytes) r
+    (λ x has. or_left (right_in (segment_at image.segments x) r) (in_stack x r) has)
+    (may-within image.segments i s s.address (length s.bytes) r (disjoint image.segments apart) at fits (omega arith) (omega arith) right)
+
+pub segment_bytes : (image : Image) (i : ℕ) (s : Segment) → are_apart image.segments ≡ true → slice_get image.segments i ≡ Some s →
+    s.address + length s.bytes ≤ 2 ^ 64 → bytes_at (mem_of image) s.address (length s.bytes) ≡ s.bytes
+segment_bytes image i s apart at fits =
+    bytes_same (mem_of image) (memory_of image.segments) s.address (length s.bytes) refl
+    ∙ bytes-within image.segments i s s.address 0 (length s.bytes) (disjoint image.segments apart) at fits (omega arith) (omega arith)
+    ∙ take_all (length s.bytes) s.bytes (omega arith)
+
+-- what may be written can be read
+pub readable : (ss : List Segment) (i : ℕ) (s : Segment) → list_all is_readable ss ≡ true → slice_get ss i ≡ Some s → is_readable s ≡ true
+readable [] i s all at = absurd (cc)
+readable (t ∷ ss) zero s all at =
+    let same : t ≡ s = cc in
+    subst (λ (u : Segment). is_readable u ≡ true) same (and_parts (is_readable t) (list_all is_readable ss) all).0
+readable (t ∷ ss) (suc i) s all at = readable ss i s (and_parts (is_readable t) (list_all is_readable ss) all).1 at
+
+or_second : (b c : Bool) → b ≡ true → (not b || c) ≡ true → c ≡ true
+or_second true c e h = h
+or_second false c e h = absurd (cc)
+
+pub can_be_read : (s : Segment) → is_readable s ≡ true → gives_right s.flags Write ≡ true → gives_right s.flags Read ≡ true
+can_be_read s h write = or_second (gives_right s.flags Write) (gives_right s.flags Read) write h
+
+-- the segment of an address has an index
+first_or_later : (b : Bool) (t s : Segment) (ss : List Segment) (x : ℕ) → cond b (Some t) (segment_at ss x) ≡ Some s →
+    (segment_at ss x ≡ Some s → (k : ℕ) × (k < length ss) × (slice_get ss k ≡ Some s)) →
+    (k : ℕ) × (k < suc (length ss)) × (slice_get (t ∷ ss) k ≡ Some s)
+first_or_later true t s ss x e later = (0, omega arith, e)
+first_or_later false t s ss x e later = let f = later e in let low = f.1 in (suc f.0, omega arith, f.2)
+
+pub index_of : (ss : List Segment) (x : ℕ) (s : Segment) → segment_at ss x ≡ Some s → (k : ℕ) × (k < length ss) × (slice_get ss k ≡ Some s)
+index_of [] x s e = absurd (cc)
+index_of (t ∷ ss) x s e = first_or_later (lies_in t x) t s ss x e (index_of ss x s)
