@@ -1,7 +1,7 @@
 -- The numbers of a head, of which the hart is made.
 
 use Rattle.std.proofs.Common.{◌≡◌, ℕ, ◌+◌, ◌-◌, ◌≤◌, List, [], ◌∷◌, ◌++◌, Option, length, take, drop, get_or, append-nil, refl, sym, ap, ◌∙◌, arith}
-use Rattle.std.proofs.lemmas.List.{take_at, drop_at, get_or-append_right}
+use Rattle.std.proofs.lemmas.List.{take_at, take_all, drop_at, get_or-append_right}
 use Rattle.std.specs.Prelude.{slice_index}
 use Rattle.rv_isa_laws.specs.Hart.{Hart, Reservation}
 use Rattle.rv_snapshots.specs.Snapshot.{hart_by, reservation_by}
@@ -15,10 +15,10 @@ two_parts front zeros back long six =
     ap (λ (l : List ℕ). l ++ (back ++ drop 6 (drop 31 (front ++ zeros)))) (take_at front zeros 31 long)
     ∙ ap (λ (l : List ℕ). front ++ (back ++ l)) none ∙ ap (λ (l : List ℕ). front ++ l) (append-nil back)
 
-abbrev tail_of : (pc t a w taken count : ℕ) → List ℕ
+abbrev pub tail_of : (pc t a w taken count : ℕ) → List ℕ
 tail_of pc t a w taken count = pc ∷ t ∷ a ∷ w ∷ taken ∷ count ∷ []
 
-abbrev made : List ℕ → ℕ → Option Reservation → List ℕ → Hart
+abbrev pub made : List ℕ → ℕ → Option Reservation → List ℕ → Hart
 made registers pc reservation input = record { registers = registers; pc = pc; reservation = reservation; input = input; console = [] }
 
 module _ (front : List ℕ) (pc t a w taken count : ℕ) (long : length front ≡ 31) where
@@ -57,3 +57,10 @@ head_taken numbers front pc t a w taken count long is = ap (λ (l : List ℕ). s
 
 pub head_count : (numbers front : List ℕ) (pc t a w taken count : ℕ) → length front ≡ 31 → numbers ≡ front ++ tail_of pc t a w taken count → slice_index numbers 36 ≡ count
 head_count numbers front pc t a w taken count long is = ap (λ (l : List ℕ). slice_index l 36) is ∙ count_at front pc t a w taken count long
+
+-- registers, of which x0 is 0
+pub registers_split : (registers : List ℕ) → length registers ≡ 32 → slice_index registers 0 ≡ 0 → registers ≡ 0 ∷ take 31 (drop 1 registers)
+registers_split [] count zero_first = absurd (omega arith)
+registers_split (x ∷ xs) count zero_first =
+    let long : length xs ≤ 31 = omega arith in
+    ap (λ (y : ℕ). y ∷ xs) zero_first ∙ ap (λ (l : List ℕ). 0 ∷ l) (sym (take_all 31 xs long))

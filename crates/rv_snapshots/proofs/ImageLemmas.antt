@@ -1,7 +1,7 @@
 -- The memory of an image: what of it may be written, and what stands there.
 
-use Rattle.std.proofs.Common.{◌≡◌, ℕ, zero, suc, ◌+◌, ◌-◌, ◌%◌, ◌^◌, ◌≤◌, ◌<◌, Bool, true, false, not, cond, ◌&&◌, ◌||◌, ◌⊎◌, inl, inr, List, [], ◌∷◌, ◌++◌, Option, Some, None, length, get_or, slice_get, take, drop, refl, ap, sym, subst, ◌∙◌, arith}
-use Rattle.std.specs.Prelude.{nat_le, nat_lt}
+use Rattle.std.proofs.Common.{◌≡◌, ℕ, zero, suc, ◌+◌, ◌-◌, ◌%◌, ◌^◌, ◌≤◌, ◌<◌, Bool, true, false, not, cond, ◌&&◌, ◌||◌, ◌⊎◌, inl, inr, List, [], ◌∷◌, ◌++◌, Option, Some, None, length, get_or, slice_get, take, drop, map, refl, ap, sym, subst, ◌∙◌, arith}
+use Rattle.std.specs.Prelude.{nat_le, nat_lt, replicate, if◌then◌else◌}
 use Rattle.std.specs.List.{list_all}
 use Rattle.std.proofs.lemmas.Bool.{and_parts, cases_lt}
 use Rattle.std.proofs.lemmas.Bool.Decides.{nat_tests}
@@ -12,12 +12,17 @@ use Rattle.rv_isa_laws.specs.Platform.{stack_start, stack_end}
 use Rattle.rv_image_laws.specs.Image.{Image}
 use Rattle.rv_image_laws.specs.Segment.{Segment, meets_stack, meets_segment, are_apart}
 use Rattle.rv_image_laws.specs.Memory.{lies_in, segment_at, byte_in, right_in, gives_right, in_stack, mem_of}
+use Rattle.rv_image.specs.SegmentView.{segment_of}
+use Rattle.rv_image.specs.Views.{image_of}
+use Rattle.rv_image.specs.declared.image.Image.{Image as DeclaredImage}
+use Rattle.rv_image.specs.declared.segment.Segment.{Segment as DeclaredSegment}
 use Rattle.rv_memory.specs.Flat.{memory_of, AreDisjoint}
-use Rattle.rv_memory.proofs.FlatLemmas.{segment-held, bytes-within, may-within}
+use Rattle.rv_memory.proofs.FlatLemmas.{element, bytes-within, may-within}
 use Rattle.rv_memory.proofs.MemoryLemmas.{may-parts, may-front, bytes-take}
 use Rattle.rv_memory.proofs.NewLemmas.{IsStack, disjoint-with-stack}
 use Rattle.rv_snapshots.specs.Keeps.{Keeps}
 use Rattle.rv_snapshots.specs.Snapshot.{is_readable, has_snapshots}
+use Rattle.rv_snapshots.specs.Pieces.{written_size}
 
 -- a part of a range has its rights, and its bytes
 pub may_inside : (m : Mem) (a n j k b : ℕ) (r : Right) → b ≡ a + j → j + k ≤ n → may m a n r ≡ true → may m b k r ≡ true
@@ -140,6 +145,11 @@ or_second false c e h = absurd (cc)
 pub can_be_read : (s : Segment) → is_readable s ≡ true → gives_right s.flags Write ≡ true → gives_right s.flags Read ≡ true
 can_be_read s h write = or_second (gives_right s.flags Write) (gives_right s.flags Read) write h
 
+-- an element of the code's list
+pub segment_read : (image : DeclaredImage) (list : List DeclaredSegment) (i : ℕ) (s : DeclaredSegment) → list ≡ image.segments.items → i < length list → s ≡ get_or list i s →
+    slice_get (image_of image).segments i ≡ Some (segment_of s)
+segment_read image list i s same within is = ap (λ (l : List DeclaredSegment). slice_get (map segment_of l) i) (sym same) ∙ element list i s within is
+
 -- the segment of an address has an index
 first_or_later : (b : Bool) (t s : Segment) (ss : List Segment) (x : ℕ) → cond b (Some t) (segment_at ss x) ≡ Some s →
     (segment_at ss x ≡ Some s → (k : ℕ) × (k < length ss) × (slice_get ss k ≡ Some s)) →
@@ -150,3 +160,37 @@ first_or_later false t s ss x e later = let f = later e in let low = f.1 in (suc
 pub index_of : (ss : List Segment) (x : ℕ) (s : Segment) → segment_at ss x ≡ Some s → (k : ℕ) × (k < length ss) × (slice_get ss k ≡ Some s)
 index_of [] x s e = absurd (cc)
 index_of (t ∷ ss) x s e = first_or_later (lies_in t x) t s ss x e (index_of ss x s)
+
+-- zeros, as they stand in an array and in memory
+abbrev nothing : ℕ
+nothing = 0
+
+pub all_zero : (n k : ℕ) → get_or (replicate n nothing) k 0 ≡ nothing
+all_zero zero k = refl
+all_zero (suc n) zero = refl
+all_zero (suc n) (suc k) = all_zero n k
+
+pub zero_bytes : (m : Mem) (a n : ℕ) (zeros : List ℕ) → ((k : ℕ) → get_or zeros k 0 ≡ 0) → n ≤ length zeros → a + n ≤ 2 ^ 64 →
+    ((x : ℕ) → a ≤ x → x < a + n → m.byte x ≡ 0) → bytes_at m a n ≡ take n zeros
+zero_bytes m a zero zeros all long fits none = refl
+zero_bytes m a (suc n) [] all long fits none = absurd (omega arith)
+zero_bytes m a (suc n) (z ∷ zeros) all long fits none =
+    let wraps : a % 2 ^ 64 ≡ a = omega arith in
+    let first : m.byte (a % 2 ^ 64) ≡ z = ap m.byte wraps ∙ none a (omega arith) (omega arith) ∙ sym (all 0) in
+    let rest = zero_bytes m (a + 1) n zeros (λ k. all (suc k)) (omega arith) (omega arith) (λ x low high. none x (omega arith) (omega arith)) in
+    ap (λ (b : ℕ). b ∷ bytes_at m (a + 1) n) first ∙ ap (λ (l : List ℕ). z ∷ l) rest
+
+-- what of a segment may be written can be read, and is written
+written_may_by : (b : Bool) (image : Image) (m : Mem) (i : ℕ) (s : Segment) → Keeps (mem_of image) m → has_snapshots image ≡ true → are_apart image.segments ≡ true →
+    slice_get image.segments i ≡ Some s → s.address + length s.bytes ≤ 2 ^ 64 → gives_right s.flags Write ≡ b →
+    (may m s.address (if b then length s.bytes else 0) Read ≡ true) × (may m s.address (if b then length s.bytes else 0) Write ≡ true)
+written_may_by true image m i s keeps all apart at fits right =
+    (kept_may (mem_of image) m s.address (length s.bytes) Read keeps
+    (segment_may image i s Read apart at fits (can_be_read s (readable image.segments i s all at) right)),
+    kept_may (mem_of image) m s.address (length s.bytes) Write keeps (segment_may image i s Write apart at fits right))
+written_may_by false image m i s keeps all apart at fits right = (refl, refl)
+
+pub written_may : (image : Image) (m : Mem) (i : ℕ) (s : Segment) → Keeps (mem_of image) m → has_snapshots image ≡ true → are_apart image.segments ≡ true →
+    slice_get image.segments i ≡ Some s → s.address + length s.bytes ≤ 2 ^ 64 →
+    (may m s.address (written_size s) Read ≡ true) × (may m s.address (written_size s) Write ≡ true)
+written_may image m i s keeps all apart at fits = written_may_by (gives_right s.flags Write) image m i s keeps all apart at fits refl

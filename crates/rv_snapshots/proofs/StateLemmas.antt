@@ -52,3 +52,11 @@ state_of_pieces image numbers pieces input count o within is made =
     let t : nat_le (slice_index numbers 35) (length input) ≡ true = grind (arith, nat_tests) in
     let e : with_pieces (slice_index numbers 36) pieces (mem_of image) ≡ o = ap (λ (k : ℕ). with_pieces k pieces (mem_of image)) (sym is) ∙ made in
     if_true (nat_le (slice_index numbers 35) (length input)) _ _ t ∙ mapped (hart_by numbers input) _ _ e
+
+-- the state of a head and pieces
+pub whole_state : (image : Image) (numbers pieces input bytes : List ℕ) (count taken : ℕ) (h : Hart) (m : Mem) → 296 ≤ length bytes → words 37 bytes ≡ numbers →
+    drop 296 bytes ≡ pieces → slice_index numbers 35 ≡ taken → slice_index numbers 36 ≡ count → taken ≤ length input → with_pieces count pieces (mem_of image) ≡ Some m →
+    hart_by numbers input ≡ h → state_in image input bytes ≡ said h m
+whole_state image numbers pieces input bytes count taken h m long head rest took counted within made hart =
+    state_long image input bytes long ∙ ap (λ (n : List ℕ). state_by image n (drop 296 bytes) input) head ∙ ap (λ (p : List ℕ). state_by image numbers p input) rest
+    ∙ state_of_pieces image numbers pieces input count (Some m) (omega arith) (sym counted) made ∙ same_state (hart_by numbers input) h m m hart refl

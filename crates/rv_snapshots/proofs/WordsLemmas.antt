@@ -57,3 +57,11 @@ written_words (suc n) (x ∷ xs) rest count small =
     ∙ ap (λ (y : ℕ). y ∷ words n (drop 8 (little_bytes 8 x ++ behind))) first
     ∙ ap (λ (ys : List ℕ). x ∷ words n ys) left
     ∙ ap (λ (ys : List ℕ). x ∷ ys) later
+
+-- and behind them is what follows
+length_written : (numbers : List ℕ) → length (flat_map (little_bytes 8) numbers) ≡ 8 * length numbers
+length_written [] = refl
+length_written (x ∷ xs) = omega (arith, length-append (little_bytes 8 x) (flat_map (little_bytes 8) xs), length-bytes_low_first 0 8 x, length_written xs)
+
+pub written_rest : (n : ℕ) (numbers rest : List ℕ) → length numbers ≡ n → drop (8 * n) (flat_map (little_bytes 8) numbers ++ rest) ≡ rest
+written_rest n numbers rest count = drop_at (flat_map (little_bytes 8) numbers) rest (8 * n) (omega (arith, length_written numbers))

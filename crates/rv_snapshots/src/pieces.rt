@@ -16,6 +16,7 @@ ghost use Rattle.std.specs.Prelude.{
   [],
   true,
   length,
+  slice_index,
   OnOk,
 };
 ghost use Rattle.rv_isa_laws.specs.Memory.{Mem, bytes_at, may, Read as ToRead, Write as ToWrite};
@@ -64,8 +65,7 @@ impl Pieces {
         let mut from = 0;
         while from < bytes.len() {
             let count = (bytes.len() - from).min(CHUNK_BYTES);
-            let chunk = &bytes[from..from + count];
-            self.add_chunk(memory, address + from as u64, chunk)?;
+            self.add_chunk(memory, address + from as u64, &bytes[from..from + count])?;
             from += count;
         }
         Ok(())
@@ -80,12 +80,31 @@ impl Pieces {
             ((x : ℕ) → start ≤ x → x < end → image.byte x ≡ 0) →
             Add self.old self.new image (held_pages memory.now) start (end - start)) }
     {
-        let zeros = [0; CHUNK_BYTES];
+        let zeros = zeros();
+        self.add_zeros_by(memory, start, end, &zeros)
+    }
+
+    /// The same in chunks of these zeros.
+    fn add_zeros_by(
+        &mut self,
+        memory: &Paged,
+        start: u64,
+        end: u64,
+        zeros: &[u8],
+    ) -> Result<(), AllocError>
+        requires order { start ≤ end }
+        requires some { 0 < length zeros.now }
+        requires zeros { (k : ℕ) → slice_index zeros.now k ≡ 0 }
+        requires reads { may (held_pages memory.now) start (end - start) ToRead ≡ true }
+        requires writes { may (held_pages memory.now) start (end - start) ToWrite ≡ true }
+        ensures { OnOk result ((image : Mem) →
+            ((x : ℕ) → start ≤ x → x < end → image.byte x ≡ 0) →
+            Add self.old self.new image (held_pages memory.now) start (end - start)) }
+    {
         let mut address = start;
         while address < end {
-            let count = (end - address).min(CHUNK_BYTES as u64);
-            let chunk = &zeros[..count as usize];
-            self.add_chunk(memory, address, chunk)?;
+            let count = (end - address).min(zeros.len() as u64);
+            self.add_chunk(memory, address, zeros.split_at(count as usize).0)?;
             address += count;
         }
         Ok(())
@@ -120,6 +139,13 @@ impl Pieces {
         self.count += 1;
         Ok(())
     }
+}
+
+/// A chunk of zeros.
+fn zeros() -> [u8; CHUNK_BYTES]
+    ensures { (k : ℕ) → slice_index result k ≡ 0 }
+{
+    [0; CHUNK_BYTES]
 }
 
 /// Address and length of a piece.

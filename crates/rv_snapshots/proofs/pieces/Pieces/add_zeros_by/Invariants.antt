@@ -2,7 +2,7 @@ use Rattle.std.proofs.Common.{◌-◌, ◌≡◌, ◌≤◌, ◌<◌, ℕ}
 use Rattle.rv_isa_laws.specs.Memory.{Mem}
 use Rattle.rv_memory.specs.HeldPages.{held_pages}
 use Rattle.rv_snapshots.specs.Pieces.{Add}
-use Rattle.rv_snapshots.proofs.pieces.Pieces.add_zeros.Given as goal
+use Rattle.rv_snapshots.proofs.pieces.Pieces.add_zeros_by.Given as goal
 
 -- the pieces of the chunks so far
 abbrev pub invariant-loop-address : goal.invariant-loop-address
