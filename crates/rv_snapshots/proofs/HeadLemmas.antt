@@ -1,6 +1,6 @@
 -- The numbers of a head, of which the hart is made.
 
-use Rattle.std.proofs.Common.{◌≡◌, ℕ, ◌+◌, ◌-◌, ◌≤◌, List, [], ◌∷◌, ◌++◌, Option, length, take, drop, get_or, append-nil, refl, sym, ap, ◌∙◌, arith}
+use Rattle.std.proofs.Common.{◌≡◌, ℕ, ◌-◌, ◌≤◌, List, [], ◌∷◌, ◌++◌, Option, length, take, drop, get_or, append-nil, sym, ap, ◌∙◌, arith}
 use Rattle.std.proofs.lemmas.List.{take_at, take_all, drop_at, get_or-append_right}
 use Rattle.std.specs.Prelude.{slice_index}
 use Rattle.rv_isa_laws.specs.Hart.{Hart, Reservation}

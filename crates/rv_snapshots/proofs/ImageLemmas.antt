@@ -1,13 +1,12 @@
 -- The memory of an image: what of it may be written, and what stands there.
 
-use Rattle.std.proofs.Common.{◌≡◌, ℕ, zero, suc, ◌+◌, ◌-◌, ◌%◌, ◌^◌, ◌≤◌, ◌<◌, Bool, true, false, not, cond, ◌&&◌, ◌||◌, ◌⊎◌, inl, inr, List, [], ◌∷◌, ◌++◌, Option, Some, None, length, get_or, slice_get, take, drop, map, refl, ap, sym, subst, ◌∙◌, arith}
+use Rattle.std.proofs.Common.{◌≡◌, ℕ, zero, suc, ◌+◌, ◌-◌, ◌%◌, ◌^◌, ◌≤◌, ◌<◌, Bool, true, false, not, cond, ◌&&◌, ◌||◌, List, [], ◌∷◌, ◌++◌, Option, Some, None, length, get_or, slice_get, take, drop, map, refl, ap, sym, subst, ◌∙◌, arith}
 use Rattle.std.specs.Prelude.{nat_le, nat_lt, replicate, if◌then◌else◌}
 use Rattle.std.specs.List.{list_all}
-use Rattle.std.proofs.lemmas.Bool.{and_parts, cases_lt}
+use Rattle.std.proofs.lemmas.Bool.{and_parts}
 use Rattle.std.proofs.lemmas.Bool.Decides.{nat_tests}
 use Rattle.std.proofs.lemmas.List.{take_all}
-use Rattle.std.proofs.Math.Path.{fun_ext}
-use Rattle.rv_isa_laws.specs.Memory.{Mem, Right, Read, Write, Execute, may, bytes_at}
+use Rattle.rv_isa_laws.specs.Memory.{Mem, Right, Read, Write, may, bytes_at}
 use Rattle.rv_isa_laws.specs.Platform.{stack_start, stack_end}
 use Rattle.rv_image_laws.specs.Image.{Image}
 use Rattle.rv_image_laws.specs.Segment.{Segment, meets_stack, meets_segment, are_apart}
@@ -184,10 +183,11 @@ zero_bytes m a (suc n) (z ∷ zeros) all long fits none =
 written_may_by : (b : Bool) (image : Image) (m : Mem) (i : ℕ) (s : Segment) → Keeps (mem_of image) m → has_snapshots image ≡ true → are_apart image.segments ≡ true →
     slice_get image.segments i ≡ Some s → s.address + length s.bytes ≤ 2 ^ 64 → gives_right s.flags Write ≡ b →
     (may m s.address (if b then length s.bytes else 0) Read ≡ true) × (may m s.address (if b then length s.bytes else 0) Write ≡ true)
-written_may_by true image m i s keeps all apart at fits right =
-    (kept_may (mem_of image) m s.address (length s.bytes) Read keeps
-    (segment_may image i s Read apart at fits (can_be_read s (readable image.segments i s all at) right)),
-    kept_may (mem_of image) m s.address (length s.bytes) Write keeps (segment_may image i s Write apart at fits right))
+written_may_by true image m i s keeps all apart at fits right = (
+  kept_may (mem_of image) m s.address (length s.bytes) Read keeps
+      (segment_may image i s Read apart at fits (can_be_read s (readable image.segments i s all at) right)),
+  kept_may (mem_of image) m s.address (length s.bytes) Write keeps (segment_may image i s Write apart at fits right),
+)
 written_may_by false image m i s keeps all apart at fits right = (refl, refl)
 
 pub written_may : (image : Image) (m : Mem) (i : ℕ) (s : Segment) → Keeps (mem_of image) m → has_snapshots image ≡ true → are_apart image.segments ≡ true →

@@ -1,6 +1,6 @@
 -- What no step of a run changes, and no piece of a snapshot.
 
-use Rattle.std.proofs.Common.{◌≡◌, ℕ, zero, suc, ◌+◌, ◌%◌, ◌^◌, ◌≤◌, Bool, true, false, cond, ◌||◌, ◌&&◌, List, [], ◌∷◌, length, length-take, take, drop, Option, Some, None, refl, sym, ap, ◌∙◌, subst, arith}
+use Rattle.std.proofs.Common.{◌≡◌, ℕ, zero, suc, ◌+◌, ◌%◌, ◌^◌, Bool, true, false, ◌||◌, ◌&&◌, List, [], ◌∷◌, length, length-take, take, drop, Option, Some, None, refl, sym, ap, ◌∙◌, subst, arith}
 use Rattle.std.specs.Prelude.{◌==◌, if◌then◌else◌, min, nat_le, option_map, slice_index}
 use Rattle.std.proofs.lemmas.Bool.{and_parts}
 use Rattle.std.proofs.lemmas.Bool.Decides.{nat_tests}
@@ -8,8 +8,8 @@ use Rattle.std.proofs.lemmas.Grind.{common_steps}
 use Rattle.byteorder.specs.Endian.{little_number}
 use Rattle.rv_isa.specs.declared.instruction.Inst.{Inst}
 use Rattle.rv_isa_laws.specs.Bytes.{little_endian}
-use Rattle.rv_isa_laws.specs.Memory.{Mem, Right, Read, Write, may, with_byte, with_bytes, with_number}
-use Rattle.rv_isa_laws.specs.Hart.{Hart, start, register}
+use Rattle.rv_isa_laws.specs.Memory.{Mem, Read, Write, may, with_byte, with_bytes, with_number}
+use Rattle.rv_isa_laws.specs.Hart.{Hart, register}
 use Rattle.rv_isa_laws.specs.Effect.{Effect, Goes, Loads, Stores, Reserves, Conditional, Updates, Calls, Breaks, Next, On, Over, apply, environment_call}
 use Rattle.rv_isa_laws.specs.Meaning.{effect}
 use Rattle.rv_isa_laws.specs.Reader.{Reader}
@@ -146,9 +146,9 @@ pieces_keep (suc n) bytes m p e =
     piece_keeps (nat_le 16 (length bytes) && nat_le count (length behind) && may m address count Write)
     m (with_bytes m address (take count behind)) p (with_pieces n (drop count behind) (with_bytes m address (take count behind)))
     (λ t.
-        let can = (and_parts (nat_le 16 (length bytes) && nat_le count (length behind)) (may m address count Write) t).1 in
-        keeps_bytes m address (take count behind)
-        (may-front m address count (length (take count behind)) Write (omega (arith, length-take count behind)) can))
+    let can = (and_parts (nat_le 16 (length bytes) && nat_le count (length behind)) (may m address count Write) t).1 in
+    keeps_bytes m address (take count behind)
+    (may-front m address count (length (take count behind)) Write (omega (arith, length-take count behind)) can))
     (pieces_keep n (drop count behind) (with_bytes m address (take count behind)) p) e
 
 abbrev memory_in : Mem → Option (Hart × Mem) → Mem

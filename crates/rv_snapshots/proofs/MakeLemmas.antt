@@ -1,6 +1,6 @@
 -- What pieces make of an image's memory, with one more piece, and with more.
 
-use Rattle.std.proofs.Common.{◌≡◌, ℕ, suc, ◌+◌, ◌-◌, ◌%◌, ◌^◌, ◌≤◌, ◌<◌, Bool, true, ◌⊎◌, inl, inr, List, [], ◌∷◌, ◌++◌, length, get_or, append_assoc, refl, sym, ap, subst, ◌∙◌, arith}
+use Rattle.std.proofs.Common.{◌≡◌, ℕ, suc, ◌+◌, ◌-◌, ◌%◌, ◌^◌, ◌≤◌, ◌<◌, Bool, true, ◌⊎◌, inl, inr, List, ◌++◌, length, get_or, append_assoc, sym, ap, subst, ◌∙◌, arith}
 use Rattle.std.proofs.Math.Path.{fun_ext}
 use Rattle.byteorder.specs.Endian.{little_bytes}
 use Rattle.rv_isa_laws.specs.Memory.{Mem, Right, Write, may, bytes_at, with_bytes}
@@ -91,12 +91,15 @@ byte_of m a x bs fits is low high =
 
 pub same_skipped : (pieces : Pieces) (image machine : Mem) (a : ℕ) (bs : List ℕ) → a + length bs ≤ 2 ^ 64 → bytes_at image a (length bs) ≡ bs →
     bytes_at machine a (length bs) ≡ bs → Add pieces pieces image machine a (length bs)
-same_skipped pieces image machine a bs fits as_image as_machine = λ m made.
-    (m, made, record {
-      before = λ x old. old;
-      now = λ x low high. image_or_own (m.byte x) (image.byte x) (machine.byte x)
-          (byte_of image a x bs fits as_image low high ∙ sym (byte_of machine a x bs fits as_machine low high)) (made.bytes x);
-    })
+same_skipped pieces image machine a bs fits as_image as_machine = λ m made. (
+  m,
+  made,
+  record {
+    before = λ x old. old;
+    now = λ x low high. image_or_own (m.byte x) (image.byte x) (machine.byte x)
+        (byte_of image a x bs fits as_image low high ∙ sym (byte_of machine a x bs fits as_machine low high)) (made.bytes x);
+  },
+)
 
 -- those of two areas, one after the other
 in_either : (machine m n p : Mem) (a c d x : ℕ) → IsNearer machine m n a c → IsNearer machine n p (a + c) d → a ≤ x → x < a + (c + d) →
@@ -110,8 +113,11 @@ pub more_added : (p q r : Pieces) (image machine : Mem) (a b c d e : ℕ) → b 
 more_added p q r image machine a b c d e at sum f g = λ m made.
     let s = f m made in
     let t = g s.0 s.1 in
-    let g' : IsNearer machine s.0 t.0 (a + c) d = subst (λ (y : ℕ). IsNearer machine s.0 t.0 y d) at t.2 in
-    (t.0, t.1, record {
-      before = λ x old. t.2.before x (s.2.before x old);
-      now = λ x low high. in_either machine m s.0 t.0 a c d x s.2 g' low (omega arith) (place x (a + c) d);
-    })
+    let g' : IsNearer machine s.0 t.0 (a + c) d = subst (λ (y : ℕ). IsNearer machine s.0 t.0 y d) at t.2 in (
+      t.0,
+      t.1,
+      record {
+        before = λ x old. t.2.before x (s.2.before x old);
+        now = λ x low high. in_either machine m s.0 t.0 a c d x s.2 g' low (omega arith) (place x (a + c) d);
+      },
+    )

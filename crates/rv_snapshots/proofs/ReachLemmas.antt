@@ -1,21 +1,21 @@
 -- Pieces of segment after segment, and then of the stack, make the machine's memory.
 
-use Rattle.std.proofs.Common.{◌≡◌, ℕ, suc, ◌+◌, ◌-◌, ◌≤◌, ◌<◌, Bool, true, false, ◌&&◌, ◌||◌, ◌⊎◌, inl, inr, List, [], ◌∷◌, ◌++◌, append-nil, Option, Some, None, length, slice_get, refl, ap, sym, subst, ◌∙◌, arith}
-use Rattle.std.specs.Prelude.{nat_le, nat_lt, if◌then◌else◌}
+use Rattle.std.proofs.Common.{◌≡◌, ℕ, ◌+◌, ◌≤◌, ◌<◌, Bool, true, false, ◌||◌, ◌⊎◌, inl, inr, List, [], ◌++◌, append-nil, Option, Some, None, length, slice_get, refl, ap, sym, subst, ◌∙◌, arith}
+use Rattle.std.specs.Prelude.{if◌then◌else◌}
 use Rattle.std.proofs.lemmas.Bool.{cases_lt}
 use Rattle.std.proofs.lemmas.Bool.Decides.{nat_tests}
 use Rattle.std.proofs.Math.Path.{fun_ext}
-use Rattle.rv_isa_laws.specs.Memory.{Mem, Right, Read, Write}
+use Rattle.rv_isa_laws.specs.Memory.{Mem, Right, Write}
 use Rattle.rv_isa_laws.specs.Platform.{stack_start, stack_end}
 use Rattle.rv_image_laws.specs.Image.{Image}
 use Rattle.rv_image_laws.specs.Segment.{Segment, are_apart}
-use Rattle.rv_image_laws.specs.Memory.{lies_in, segment_at, right_in, gives_right, in_stack, mem_of}
+use Rattle.rv_image_laws.specs.Memory.{segment_at, right_in, gives_right, in_stack, mem_of}
 use Rattle.rv_memory.proofs.FlatLemmas.{holds-range, segment-held, same-memory}
 use Rattle.rv_snapshots.specs.Keeps.{Keeps}
 use Rattle.rv_snapshots.specs.Snapshot.{with_pieces}
 use Rattle.rv_snapshots.specs.Pieces.{Make, IsNearer, Add, Reach, written_size}
 use Rattle.rv_snapshots.specs.declared.pieces.Pieces.{Pieces}
-use Rattle.rv_snapshots.proofs.ImageLemmas.{none_in_stack, stack_zero, index_of}
+use Rattle.rv_snapshots.proofs.ImageLemmas.{stack_zero, index_of}
 use Rattle.rv_snapshots.proofs.MakeLemmas.{image_or_own}
 use Rattle.rv_snapshots.proofs.PieceLemmas.{no_pieces}
 

@@ -1,4 +1,4 @@
-use Rattle.std.proofs.Common.{◌≡◌, ℕ, ◌≤◌, List, length, take, rules, refl, ap, sym, ◌∙◌, arith}
+use Rattle.std.proofs.Common.{◌≡◌, length, take, rules, ap, sym, ◌∙◌}
 use Rattle.rv_isa_laws.specs.Memory.{bytes_at}
 use Rattle.rv_memory.specs.HeldPages.{held_pages}
 use Rattle.rv_memory.proofs.MemoryLemmas.{bytes-take}

@@ -1,6 +1,4 @@
-use Rattle.std.proofs.Common.{◌≡◌, ℕ, ◌≤◌, ◌<◌, true, false, length, length-drop, drop, rules, refl, ap, sym, ◌∙◌, arith}
-use Rattle.byteorder.specs.Endian.{little_number}
-use Rattle.rv_isa_laws.specs.Memory.{may, Write}
+use Rattle.std.proofs.Common.{length-drop, rules, arith}
 use Rattle.rv_memory.specs.HeldPages.{held_pages}
 use Rattle.rv_snapshots.proofs.PieceLemmas.{short_piece, cut_piece, barred_piece, taken_piece}
 use Rattle.rv_snapshots.proofs.reading.put_piece.Goals as goal

@@ -1,11 +1,7 @@
-use Rattle.std.proofs.Common.{◌≡◌, length, rules, refl, ap, sym, ◌∙◌, arith}
+use Rattle.std.proofs.Common.{sym, ◌∙◌, arith}
 use Rattle.std.proofs.lemmas.Bool.Decides.{nat_tests}
 use Rattle.rv_image.specs.Views.{image_of}
-use Rattle.rv_isa_laws.specs.Hart.{start}
-use Rattle.rv_image_laws.specs.Memory.{mem_of}
-use Rattle.rv_machine.specs.Hart.{hart_of}
-use Rattle.rv_memory.specs.HeldPages.{held_pages}
-use Rattle.rv_snapshots.proofs.StateLemmas.{same_state, state_at_start, state_short, state_long}
+use Rattle.rv_snapshots.proofs.StateLemmas.{same_state, state_at_start}
 use Rattle.rv_snapshots.proofs.reading.resume.Goals as goal
 
 pub returns-then-is_empty-clause-state : goal.returns-then-is_empty-clause-state

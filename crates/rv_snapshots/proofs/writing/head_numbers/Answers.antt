@@ -1,5 +1,4 @@
-use Rattle.std.proofs.Common.{◌≡◌, ℕ, List, [], ◌∷◌, ◌++◌, length, take, drop, rules, refl, ap, sym, ◌∙◌, arith}
-use Rattle.rv_machine.specs.Hart.{hart_of}
+use Rattle.std.proofs.Common.{◌≡◌, ℕ, List, [], ◌∷◌, ◌++◌, length, take, drop, rules, refl, ap, sym, ◌∙◌}
 use Rattle.rv_snapshots.proofs.HeadLemmas.{two_parts, registers_split, made, head_hart, head_taken, head_count}
 use Rattle.rv_snapshots.proofs.writing.head_numbers.Goals as goal
 

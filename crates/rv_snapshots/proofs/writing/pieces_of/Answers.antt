@@ -1,4 +1,4 @@
-use Rattle.std.proofs.Common.{◌≡◌, ℕ, ◌+◌, ◌-◌, ◌≤◌, ◌<◌, true, Some, length, map, slice_get, rules, refl, ap, sym, ◌∙◌, arith}
+use Rattle.std.proofs.Common.{◌≡◌, ◌-◌, ◌≤◌, true, length, map, rules, ap, arith}
 use Rattle.std.proofs.lemmas.List.{length-map}
 use Rattle.rv_isa_laws.specs.Memory.{Read, Write}
 use Rattle.rv_image_laws.specs.Segment.{are_apart}

@@ -1,5 +1,4 @@
-use Rattle.std.proofs.Common.{◌≡◌, ℕ, List, [], Some, length, drop, refl, ap, sym, ◌∙◌, arith}
-use Rattle.rv_isa_laws.specs.Memory.{Mem}
+use Rattle.std.proofs.Common.{[], Some, drop, ap, ◌∙◌}
 use Rattle.rv_image.specs.Views.{image_of}
 use Rattle.rv_machine.specs.declared.hart.Hart.{Hart}
 use Rattle.rv_machine.specs.Hart.{hart_of}

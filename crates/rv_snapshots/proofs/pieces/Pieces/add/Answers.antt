@@ -1,4 +1,4 @@
-use Rattle.std.proofs.Common.{◌≡◌, ◌++◌, ℕ, List, refl, ap, ◌∙◌, arith}
+use Rattle.std.proofs.Common.{◌++◌, ℕ, List, refl, ap, ◌∙◌, arith}
 use Rattle.rv_isa_laws.specs.Memory.{bytes_at}
 use Rattle.rv_memory.specs.HeldPages.{held_pages}
 use Rattle.rv_snapshots.proofs.MakeLemmas.{one_added}

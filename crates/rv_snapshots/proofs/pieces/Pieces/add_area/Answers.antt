@@ -1,5 +1,5 @@
-use Rattle.std.proofs.Common.{◌≡◌, ℕ, ◌+◌, ◌-◌, ◌≤◌, List, length, length-take, length-drop, take, drop, refl, ap, sym, ◌∙◌, arith}
-use Rattle.rv_isa_laws.specs.Memory.{Mem, bytes_at, Read, Write}
+use Rattle.std.proofs.Common.{◌≡◌, ℕ, ◌+◌, ◌-◌, List, length, length-take, length-drop, take, drop, refl, ap, ◌∙◌, arith}
+use Rattle.rv_isa_laws.specs.Memory.{bytes_at, Read, Write}
 use Rattle.rv_memory.specs.HeldPages.{held_pages}
 use Rattle.rv_snapshots.proofs.ImageLemmas.{may_inside, bytes_inside}
 use Rattle.rv_snapshots.proofs.MakeLemmas.{more_added}

@@ -1,4 +1,3 @@
-use Rattle.std.proofs.Common.{◌≡◌, true, rules, sym, ◌∙◌, arith}
 use Rattle.rv_memory.specs.HeldPages.{held_pages}
 use Rattle.rv_snapshots.proofs.MakeLemmas.{same_skipped}
 use Rattle.rv_snapshots.proofs.pieces.Pieces.add_chunk.Goals as goal

@@ -1,6 +1,5 @@
-use Rattle.std.proofs.Common.{◌≡◌, ℕ, ◌+◌, ◌-◌, ◌≤◌, ◌<◌, List, length, take, refl, ap, sym, ◌∙◌, arith}
-use Rattle.std.proofs.lemmas.List.{length-take-le}
-use Rattle.rv_isa_laws.specs.Memory.{Mem, bytes_at, Read, Write}
+use Rattle.std.proofs.Common.{◌≡◌, ◌+◌, ◌-◌, length, ap, sym, ◌∙◌, arith}
+use Rattle.rv_isa_laws.specs.Memory.{bytes_at, Read, Write}
 use Rattle.rv_memory.specs.HeldPages.{held_pages}
 use Rattle.rv_snapshots.proofs.ImageLemmas.{may_inside, zero_bytes}
 use Rattle.rv_snapshots.proofs.MakeLemmas.{more_added}
