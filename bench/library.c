@@ -9,13 +9,13 @@
 
 enum { ROOM = 1 << 16 };
 
-int main(int count, char **words)
+int main(int argc, char **words)
 {
     static uint8_t source[ROOM], executable[ROOM], console[ROOM];
     struct rv_answer answer;
     struct rv_end end;
-    uint64_t length;
-    long times = count == 3 ? strtol(words[2], NULL, 10) : 0;
+    uint64_t length, count;
+    long times = argc == 3 ? strtol(words[2], NULL, 10) : 0;
     FILE *file = times > 0 ? fopen(words[1], "rb") : NULL;
     clock_t start;
 
@@ -26,7 +26,7 @@ int main(int count, char **words)
     for (long at = 0; at < times; at++) {
         if (rv_build(source, length, &length, 1, RV_TEXT_START, 0, executable, ROOM, console, 0, &answer) != RV_OK)
             return 1;
-        if (rv_run(executable, answer.length, source, 0, 1000000, console, ROOM, &end, &answer) != RV_OK)
+        if (rv_run(executable, answer.length, source, 0, 1000000, console, ROOM, &end, &count, &answer) != RV_OK)
             return 1;
     }
     printf("%.0f\n", times / ((double)(clock() - start) / CLOCKS_PER_SEC));

@@ -6,8 +6,9 @@
        rv_build          sources      an executable, and its map
        rv_as             a source     an object
        rv_ld             objects      an executable, and its map
-       rv_run            an executable and an input     the console and the end of the run
+       rv_run            an executable and an input     the console, the end of the run, and its length
        rv_state          the same, and a number of instructions     registers, pc, memory and console after them
+       rv_resume         the same, and a kept state     the state so many instructions behind it, shown and kept
        rv_list           sources      each line with its address and its bytes
        rv_check          sources      their faults and warnings, in JSON
        rv_disassemble    bytes        the text of the first instruction
@@ -65,10 +66,11 @@ enum rv_status {
        code and its place, and the first buffer for output has a line that says so, as far as it has room. The other
        buffers are as they were. */
     RV_REFUSED = 2,
-    /* malloc has given no memory. Buffers are as they were; in rv_state and rv_run too. */
+    /* malloc has given no memory. Buffers are as they were; in rv_run, rv_state and rv_resume too. */
     RV_MEMORY = 3,
     /* The arguments do not belong together: lengths that do not add up, a flag that there is not, a name that is no
-       UTF-8; in rv_disassemble, bytes that begin with no instruction. Buffers are as they were. */
+       UTF-8; in rv_disassemble, bytes that begin with no instruction; in rv_resume, bytes that are no state of this
+       run. Buffers are as they were. */
     RV_UNFIT = 4,
     /* The guest has written more than 64 MiB, and more than the caller has room for. */
     RV_TOO_LONG = 5,
@@ -164,19 +166,19 @@ struct rv_end {
 /* Runs an executable with an input, for at most `limit` instructions.
 
    `console` gets what the program writes, as far as it has room, and answer->length says how many bytes it wrote.
-   `end` says how the run ended. A program that reads gets the bytes of `input`, and then the end of its input.
+   `end` says how the run ended, and *count how many instructions it took, with the one that ended it. A program that
+   reads gets the bytes of `input`, and then the end of its input.
 
    The console is kept up to 64 MiB, or up to console_room where that is more; a run that writes more is stopped with
    RV_TOO_LONG.
 
-   RV_REFUSED: the executable cannot be loaded; `console` has the line of the fault. `end` is written with RV_OK and
-   RV_SMALL alone. How many instructions there were, rv_state tells: this call executes them in the quickest way and
-   does not count. */
+   RV_REFUSED: the executable cannot be loaded; `console` has the line of the fault. `end` and *count are written with
+   RV_OK and RV_SMALL alone. */
 uint32_t rv_run(const uint8_t *executable, size_t executable_length,
                 const uint8_t *input, size_t input_length,
                 uint64_t limit,
                 uint8_t *console, size_t console_room,
-                struct rv_end *end, struct rv_answer *answer);
+                struct rv_end *end, uint64_t *count, struct rv_answer *answer);
 
 struct rv_state {
     /* x0 to x31. */
@@ -196,7 +198,7 @@ enum rv_rights {
 
 /* The state of the run of rv_run after `steps` instructions, or at its end where that comes before. It is a function of
    its arguments: to step forwards ask for one more, to step backwards for one less. Each call runs the program from its
-   start, so its time grows with `steps`; a call that goes on from a kept state is not there yet.
+   start, so its time grows with `steps`; rv_resume goes on from a state that was kept.
 
    An instruction that ends the run is not completed: registers, memory and console are as before it, and `end` says how
    it ended. With steps instructions done and no end, end->kind is RV_LIMIT.
@@ -212,6 +214,32 @@ uint32_t rv_state(const uint8_t *executable, size_t executable_length,
                   uint8_t *rights, size_t rights_room,
                   uint8_t *console, size_t console_room,
                   struct rv_state *state, struct rv_end *end, struct rv_answer *answer);
+
+/* The state that `steps` instructions leave of a state that the caller has kept, shown as rv_state does; `kept` gets it
+   as bytes, and answer->second_length says how many they are. `from` is what such a call has put into `kept`, of the same
+   executable and input; with a length of 0, the state at the start. So a debugger keeps a state now and then, and steps
+   on, or back to one less than it has, from the nearest.
+
+       rv_resume(.., from, length of it, 0, ..)    shows a state that was kept, and runs nothing
+       rv_resume(.., from, length of it, 1, ..)    steps
+
+   `console` gets what these steps wrote alone, and state->count is how many they were. Of a run that has ended the state
+   before the instruction that ended it is kept, which ends it again.
+
+   A kept state has 296 bytes, and for each 4096 bytes of the program's data and stack that are not as in the executable
+   about as many more; its form is that of this version of the library. Nothing in it is believed: whatever bytes `from`
+   has are a state of a machine with this executable and input, whether a run comes to it or not, or are refused with
+   RV_UNFIT. So is an executable with a segment that may be written and not be read, which no linker makes. The rest is as
+   in rv_state; `kept` is written with RV_OK and RV_SMALL alone. */
+uint32_t rv_resume(const uint8_t *executable, size_t executable_length,
+                   const uint8_t *input, size_t input_length,
+                   const uint8_t *from, size_t from_length,
+                   uint64_t steps, uint64_t address,
+                   uint8_t *memory, size_t memory_room,
+                   uint8_t *rights, size_t rights_room,
+                   uint8_t *console, size_t console_room,
+                   uint8_t *kept, size_t kept_room,
+                   struct rv_state *state, struct rv_end *end, struct rv_answer *answer);
 
 /* Builds sources and lists them: each line with its number, its address and the bytes that it became, four on a row
    and at most `rows` rows a line (5 is what GNU as shows). `names` are the names of the sources, each shown above its
@@ -260,12 +288,13 @@ uint32_t rv_disassemble(const uint8_t *bytes, size_t bytes_length,
            const uint64_t length = strlen(source);
            struct rv_answer answer;
            struct rv_end end;
+           uint64_t count;
 
            if (rv_build((const uint8_t *)source, length, &length, 1, RV_TEXT_START, 0,
                         executable, sizeof executable, console, 0, &answer) != RV_OK)
                return -1;
            if (rv_run(executable, answer.length, (const uint8_t *)"", 0, 1000000,
-                      console, sizeof console, &end, &answer) > RV_SMALL)
+                      console, sizeof console, &end, &count, &answer) > RV_SMALL)
                return -1;
            return end.kind == RV_EXITED ? (int)end.code : -1;
        }

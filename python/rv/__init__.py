@@ -46,6 +46,7 @@ __all__ = [
     "disassembly",
     "link",
     "listing",
+    "resume",
     "run",
     "state",
 ]
@@ -97,6 +98,8 @@ class Run:
     console: bytes
     """All that the program wrote."""
     end: End
+    count: int
+    """How many instructions there were, with the one that ended the run."""
 
 
 @dataclass(frozen=True)
@@ -117,6 +120,8 @@ class State:
     """What was written so far."""
     end: End
     """`EndKind.LIMIT` where the run goes on."""
+    kept: bytes = b""
+    """Of `resume`: this state, for another call of it."""
 
     def register(self, name: str) -> int:
         """The value of a register by its name, as `a0` or `x10`."""
@@ -182,8 +187,8 @@ def run(executable: bytes, input: Text = b"", limit: int = LIMIT) -> Run:
 
     Raises `TooLong` for a program that writes more than 64 MiB.
     """
-    console, end = _calls.run(_bytes(executable), _bytes(input), limit)
-    return Run(console, _end(end))
+    console, end, count = _calls.run(_bytes(executable), _bytes(input), limit)
+    return Run(console, _end(end), count)
 
 
 def state(executable: bytes, steps: int, input: Text = b"", address: int = 0, size: int = 0) -> State:
@@ -191,16 +196,18 @@ def state(executable: bytes, steps: int, input: Text = b"", address: int = 0, si
 
     To step forwards ask for one more, and to step backwards for one less.
     """
-    made = _calls.state(_bytes(executable), _bytes(input), steps, address, size)
-    return State(
-        registers=tuple(made.state.registers),
-        pc=made.state.pc,
-        count=made.state.count,
-        memory=made.memory,
-        rights=tuple(Rights(it) for it in made.rights),
-        console=made.console,
-        end=_end(made.end),
-    )
+    return _state(_calls.state(_bytes(executable), _bytes(input), steps, address, size))
+
+
+def resume(
+    executable: bytes, kept: bytes, steps: int = 1, input: Text = b"", address: int = 0, size: int = 0
+) -> State:
+    """The machine so many instructions after a state that was kept, of the same executable and input; after the start
+    where `kept` is empty. Its `count` and `console` are those of these instructions alone.
+
+    Raises `ValueError` for bytes that are no state of such a run.
+    """
+    return _state(_calls.resume(_bytes(executable), _bytes(input), kept, steps, address, size))
 
 
 def listing(*sources: Text, names: Sequence[str] = (), rows: int = 5, text_start: int = TEXT_START) -> str:
@@ -241,6 +248,19 @@ def _text(found: bytes) -> str:
 
 def _built(executable: bytes, map_text: bytes, has_map: bool) -> Built:
     return Built(executable, _text(map_text) if has_map else None)
+
+
+def _state(made: _calls.Reached) -> State:
+    return State(
+        registers=tuple(made.state.registers),
+        pc=made.state.pc,
+        count=made.state.count,
+        memory=made.memory,
+        rights=tuple(Rights(it) for it in made.rights),
+        console=made.console,
+        end=_end(made.end),
+        kept=made.kept,
+    )
 
 
 def _end(end: _calls.End) -> End:

@@ -94,12 +94,26 @@ FUNCTIONS = {
     "rv_build": (*TEXTS, *OPTIONS, *OUTPUT, *OUTPUT, *ANSWER),
     "rv_as": (*INPUT, *OUTPUT, *ANSWER),
     "rv_ld": (*TEXTS, *OPTIONS, *OUTPUT, *OUTPUT, *ANSWER),
-    "rv_run": (*INPUT, *INPUT, c_uint64, *OUTPUT, POINTER(End), *ANSWER),
+    "rv_run": (*INPUT, *INPUT, c_uint64, *OUTPUT, POINTER(End), POINTER(c_uint64), *ANSWER),
     "rv_state": (
         *INPUT,
         *INPUT,
         c_uint64,
         c_uint64,
+        *OUTPUT,
+        *OUTPUT,
+        *OUTPUT,
+        POINTER(HartState),
+        POINTER(End),
+        *ANSWER,
+    ),
+    "rv_resume": (
+        *INPUT,
+        *INPUT,
+        *INPUT,
+        c_uint64,
+        c_uint64,
+        *OUTPUT,
         *OUTPUT,
         *OUTPUT,
         *OUTPUT,
@@ -207,29 +221,39 @@ def assemble(source: bytes) -> bytes:
     return call("rv_as", given(source), (ROOM,))[0]
 
 
-def run(executable: bytes, given_input: bytes, limit: int) -> tuple[bytes, End]:
-    end = End()
+def run(executable: bytes, given_input: bytes, limit: int) -> tuple[bytes, End, int]:
+    end, count = End(), c_uint64()
     before = (*given(executable), *given(given_input), number(limit))
-    return call("rv_run", before, (ROOM,), lambda: (end,))[0], end
+    return call("rv_run", before, (ROOM,), lambda: (end, count))[0], end, count.value
 
 
 @dataclass
 class Reached:
-    """What rv_state gives."""
+    """What rv_state and rv_resume give; the latter alone what is kept."""
 
     state: HartState
     end: End
     memory: bytes
     rights: bytes
     console: bytes
+    kept: bytes = b""
 
 
 def state(executable: bytes, given_input: bytes, steps: int, address: int, size: int) -> Reached:
+    return reached("rv_state", (*given(executable), *given(given_input), number(steps), number(address)), size, (ROOM,))
+
+
+def resume(executable: bytes, given_input: bytes, kept: bytes, steps: int, address: int, size: int) -> Reached:
+    before = (*given(executable), *given(given_input), *given(kept), number(steps), number(address))
+    return reached("rv_resume", before, size, (ROOM, ROOM))
+
+
+def reached(name: str, before: tuple[object, ...], size: int, rooms: Sequence[int]) -> Reached:
+    """Calls what shows a state, with a window of memory."""
     hart, end = HartState(), End()
     memory, rights = Buffer(size), Buffer(size)
-    before = (*given(executable), *given(given_input), number(steps), number(address), *memory.words, *rights.words)
-    console = call("rv_state", before, (ROOM,), lambda: (hart, end))[0]
-    return Reached(hart, end, memory.front(size), rights.front(size), console)
+    made = call(name, (*before, *memory.words, *rights.words), rooms, lambda: (hart, end))
+    return Reached(hart, end, memory.front(size), rights.front(size), *made)
 
 
 def listing(sources: Sequence[bytes], names: Sequence[bytes], text_start: int, bits: int, rows: int) -> bytes:

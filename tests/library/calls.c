@@ -28,6 +28,8 @@ static uint8_t executable[ROOM], map[ROOM], console[ROOM];
 static struct rv_answer answer;
 static struct rv_end end;
 static struct rv_state state;
+static uint64_t answer_length, count;
+static uint8_t memory[16], rights[16];
 static uint64_t lengths[4] = {sizeof EXIT7 - 1};
 
 static uint32_t build(size_t count, size_t room, uint32_t flags)
@@ -117,35 +119,33 @@ static void runs(void)
     uint64_t length = strlen(hello);
 
     check(build(1, ROOM, 0) == RV_OK, "the build of a run");
-    check(rv_run(executable, 4108, bytes(""), 0, 3, console, 0, &end, &answer) == RV_OK, "a run");
+    check(rv_run(executable, 4108, bytes(""), 0, 3, console, 0, &end, &count, &answer) == RV_OK, "a run");
     check(end.kind == RV_EXITED && end.code == 7 && end.address == 0 && answer.length == 0, "its end");
-    check(rv_run(executable, 4108, bytes(""), 0, 2, console, 0, &end, &answer) == RV_OK && end.kind == RV_LIMIT,
+    check(rv_run(executable, 4108, bytes(""), 0, 2, console, 0, &end, &count, &answer) == RV_OK && end.kind == RV_LIMIT,
           "its limit");
     /* the input may be the executable itself */
-    check(rv_run(executable, 4108, executable, 4108, 3, console, ROOM, &end, &answer) == RV_OK && end.code == 7,
+    check(rv_run(executable, 4108, executable, 4108, 3, console, ROOM, &end, &count, &answer) == RV_OK && end.code == 7,
           "one for both");
     end.kind = 77;
-    check(rv_run(executable, 4107, bytes(""), 0, 3, console, ROOM, &end, &answer) == RV_REFUSED, "a file that is cut");
+    check(rv_run(executable, 4107, bytes(""), 0, 3, console, ROOM, &end, &count, &answer) == RV_REFUSED, "a file that is cut");
     check(answer.kind == 'F' && answer.number == 1 && end.kind == 77, "F1");
-    check(rv_run(bytes(""), 0, bytes(""), 0, 3, console, ROOM, &end, &answer) == RV_REFUSED && answer.number == 1,
+    check(rv_run(bytes(""), 0, bytes(""), 0, 3, console, ROOM, &end, &count, &answer) == RV_REFUSED && answer.number == 1,
           "no file");
 
     check(rv_build(bytes(hello), length, &length, 1, RV_TEXT_START, 0, executable, ROOM, map, 0, &answer) == RV_OK,
           "hello");
     length = answer.length;
     memset(console, GUARD, ROOM);
-    check(rv_run(executable, length, bytes(""), 0, 1000, console, ROOM, &end, &answer) == RV_OK, "its run");
+    check(rv_run(executable, length, bytes(""), 0, 1000, console, ROOM, &end, &count, &answer) == RV_OK, "its run");
     check(answer.length == 5 && !memcmp(console, "hello", 5) && console[5] == GUARD, "its console");
     memset(console, GUARD, ROOM);
-    check(rv_run(executable, length, bytes(""), 0, 1000, console, 4, &end, &answer) == RV_SMALL, "a small console");
+    check(rv_run(executable, length, bytes(""), 0, 1000, console, 4, &end, &count, &answer) == RV_SMALL, "a small console");
     check(answer.length == 5 && !memcmp(console, "hell", 4) && console[4] == GUARD && end.kind == RV_EXITED,
           "its front");
 }
 
 static void states(void)
 {
-    uint8_t memory[16], rights[16];
-
     check(build(1, ROOM, 0) == RV_OK, "the build of states");
     check(rv_state(executable, 4108, bytes(""), 0, 0, 0, memory, 0, rights, 0, console, 0, &state, &end, &answer) ==
               RV_OK,
@@ -195,12 +195,89 @@ static void texts(void)
     check(!memcmp(console, "{\"code\":\"E7\",\"column\":3,\"file\":\"a.s\",\"line\":1,", 46), "its line");
 }
 
+static uint32_t resume(const char *input, const uint8_t *from, size_t length, uint64_t steps, uint8_t *kept, size_t room)
+{
+    return rv_resume(executable, answer_length, bytes(input), strlen(input), from, length, steps, 0x3ffffff0, memory, 16,
+                     rights, 16, console, ROOM, kept, room, &state, &end, &answer);
+}
+
+/* A program that reads a byte at a time onto its stack, and writes it: each byte takes ten instructions. */
+static const char ECHO[] = ".option norvc\n.globl _start\n_start: addi sp, sp, -16\n"
+                           "1: li a0, 0\nmv a1, sp\nli a2, 1\nli a7, 63\necall\nbeqz a0, 2f\n"
+                           "li a0, 1\nli a7, 64\necall\nj 1b\n2: li a7, 93\necall\n";
+
+static void resumes(void)
+{
+    static uint8_t first[ROOM], second[ROOM], third[ROOM];
+    uint64_t length = sizeof ECHO - 1, whole;
+    size_t at;
+
+    check(rv_build(bytes(ECHO), sizeof ECHO - 1, &length, 1, RV_TEXT_START, 0, executable, ROOM, map, 0, &answer) == RV_OK,
+          "the build of what is resumed");
+    answer_length = answer.length;
+    memset(first, GUARD, ROOM);
+    check(resume("xyz", bytes(""), 0, 0, first, ROOM) == RV_OK && state.pc == 0x10000 && state.count == 0 &&
+              end.kind == RV_LIMIT && answer.length == 0,
+          "the start, kept");
+    check(answer.second_length == 296 && first[296] == GUARD, "its head alone");
+    whole = answer.second_length;
+    check(resume("xyz", bytes(""), 0, 0, first, 295) == RV_SMALL && answer.second_length == 296 &&
+              resume("xyz", bytes(""), 0, 0, first, 296) == RV_OK,
+          "a byte of room");
+
+    /* one instruction, and ten for a byte */
+    check(resume("xyz", first, whole, 11, second, ROOM) == RV_OK && state.pc == 0x10004 && state.count == 11,
+          "a turn from the start");
+    check(answer.length == 1 && console[0] == 'x' && memory[0] == 'x' && rights[0] == (RV_READ | RV_WRITE), "its byte");
+    check(answer.second_length == 296 + 16 + 4096, "a page of the stack");
+    whole = answer.second_length;
+    check(resume("xyz", second, whole, 10, third, ROOM) == RV_OK && answer.length == 1 && console[0] == 'y' &&
+              state.count == 10 && memory[0] == 'y',
+          "a turn from there");
+    check(resume("xyz", second, whole, 0, third, ROOM) == RV_OK && answer.length == 0 && memory[0] == 'x' &&
+              answer.second_length == whole && !memcmp(second, third, whole),
+          "the same state again");
+    check(resume("xyz", second, whole, 1000, third, ROOM) == RV_OK && end.kind == RV_EXITED && end.code == 0 &&
+              answer.length == 2 && !memcmp(console, "yz", 2),
+          "on to the end");
+    check(resume("xyz", third, answer.second_length, 5, second, ROOM) == RV_OK && end.kind == RV_EXITED &&
+              state.count == 1 && answer.length == 0,
+          "the end ends again");
+
+    /* what is no state: cut, more input taken than there is, a piece that goes over the end of memory that may be
+       written, one in the text, bytes behind the last piece */
+    check(resume("xyz", bytes(""), 0, 11, first, ROOM) == RV_OK, "a state to break");
+    whole = answer.second_length;
+    for (at = 1; at < whole; at += at < 296 ? 1 : 97)
+        if (resume("xyz", first, at, 0, second, ROOM) != RV_UNFIT)
+            check(0, "a state that is cut");
+    check(resume("", first, whole, 0, second, ROOM) == RV_UNFIT, "more input taken than there is");
+    first[whole] = 0;
+    check(resume("xyz", first, whole + 1, 0, second, ROOM) == RV_UNFIT, "bytes behind the last piece");
+    memcpy(third, first, whole);
+    third[296] += 1;
+    check(resume("xyz", third, whole, 0, second, ROOM) == RV_UNFIT, "a piece past the stack");
+    memset(third + 296, 0, 8);
+    third[298] = 1;
+    check(resume("xyz", third, whole, 0, second, ROOM) == RV_UNFIT, "a piece in the text");
+    memcpy(third, first, whole);
+    third[288] = 0;
+    check(resume("xyz", third, whole, 0, second, ROOM) == RV_UNFIT, "fewer pieces than there are");
+    third[288] = 2;
+    check(resume("xyz", third, whole, 0, second, ROOM) == RV_UNFIT, "more pieces than there are");
+    memset(second, GUARD, ROOM);
+    check(resume("xyz", third, whole, 0, second, ROOM) == RV_UNFIT && second[0] == GUARD && answer.length == 0 &&
+              answer.second_length == 0,
+          "a buffer as it was");
+}
+
 int main(void)
 {
     builds();
     faults();
     runs();
     states();
+    resumes();
     texts();
     printf("%d passed, %d failed\n", passed, failed);
     return failed > 0;

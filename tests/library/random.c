@@ -111,6 +111,7 @@ static void call(uint64_t which)
     struct rv_answer answer;
     struct rv_state state;
     struct rv_end end;
+    uint64_t count;
 
     memset(&answer, GUARD, sizeof answer);
     switch (which) {
@@ -130,7 +131,7 @@ static void call(uint64_t which)
         break;
     case 3:
         status = rv_run(first.bytes, first.length, second.bytes, second.length, draw(20000), a.bytes, a.length, &end,
-                        &answer);
+                        &count, &answer);
         judge("rv_run", status, &answer, &a, NULL);
         break;
     case 4:

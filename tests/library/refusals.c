@@ -77,8 +77,9 @@ static uint32_t links(void)
 static uint32_t runs(void)
 {
     struct rv_end end;
+    uint64_t count;
 
-    return rv_run(executable, executable_length, (const uint8_t *)"", 0, 1000, out, ROOM, &end, &answer);
+    return rv_run(executable, executable_length, (const uint8_t *)"", 0, 1000, out, ROOM, &end, &count, &answer);
 }
 
 static uint32_t reaches_a_state(void)
@@ -88,6 +89,15 @@ static uint32_t reaches_a_state(void)
 
     return rv_state(executable, executable_length, (const uint8_t *)"", 0, 8, RV_TEXT_START, out, 64, more, 64,
                     out + 64, ROOM - 64, &state, &end, &answer);
+}
+
+static uint32_t goes_on(void)
+{
+    struct rv_state state;
+    struct rv_end end;
+
+    return rv_resume(executable, executable_length, (const uint8_t *)"", 0, (const uint8_t *)"", 0, 8, RV_TEXT_START,
+                     out, 64, more, 64, out + 64, ROOM - 64, more + 64, ROOM - 64, &state, &end, &answer);
 }
 
 static uint32_t lists(void)
@@ -157,6 +167,7 @@ int main(void)
     refuse_each("rv_ld", links);
     refuse_each("rv_run", runs);
     refuse_each("rv_state", reaches_a_state);
+    refuse_each("rv_resume", goes_on);
     refuse_each("rv_list", lists);
     refuse_each("rv_check", checks);
     refuse_each("rv_disassemble", disassembles);

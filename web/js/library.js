@@ -182,18 +182,23 @@ export class Library {
     });
   }
 
-  /** A run, without its states: the console and the end. */
+  /** A run, without its states: the console, the end, and how many instructions it took. */
   run(executable, input, limit) {
     return this.#framed((frame) => {
-      const console = frame.room(CONSOLE_ROOM), end = frame.room(END), answer = frame.room(ANSWER);
+      const [console, end, count, answer] = [CONSOLE_ROOM, END, 8, ANSWER].map((it) => frame.room(it));
       const words = [...frame.put(executable), ...frame.put(input), BigInt(limit)];
-      const status = this.#exports.rv_run(...words, ...console, end[0], answer[0]);
+      const status = this.#exports.rv_run(...words, ...console, end[0], count[0], answer[0]);
       const told = answered(frame.view(answer));
       if (status === REFUSED) {
         return { fault: faultOf(told, frame.front(console, told.length)) };
       }
       demand(status);
-      return { console: frame.front(console, told.length), written: told.length, end: endOf(frame.view(end)) };
+      return {
+        console: frame.front(console, told.length),
+        written: told.length,
+        end: endOf(frame.view(end)),
+        count: Number(frame.view(count).getBigUint64(0, true)),
+      };
     });
   }
 
@@ -203,28 +208,58 @@ export class Library {
    */
   state(executable, input, steps, address = 0n, size = 0) {
     return this.#framed((frame) => {
-      const [memory, rights, console, state, end, answer] =
-        [size, size, CONSOLE_ROOM, STATE, END, ANSWER].map((it) => frame.room(it));
-      const words = [...frame.put(executable), ...frame.put(input), BigInt(steps), address];
-      const records = [state[0], end[0], answer[0]];
-      const status = this.#exports.rv_state(...words, ...memory, ...rights, ...console, ...records);
-      const told = answered(frame.view(answer));
-      if (status === REFUSED) {
-        return { fault: faultOf(told, frame.front(console, told.length)) };
-      }
-      demand(status);
-      const hart = frame.view(state);
-      return {
-        registers: Array.from({ length: 32 }, (_, at) => hart.getBigUint64(8 * at, true)),
-        pc: hart.getBigUint64(256, true),
-        count: Number(hart.getBigUint64(264, true)),
-        end: endOf(frame.view(end)),
-        memory: frame.front(memory, size),
-        rights: frame.front(rights, size),
-        console: frame.front(console, told.length),
-        written: told.length,
-      };
+      const run = [...frame.put(executable), ...frame.put(input)];
+      return this.#shown(frame, "rv_state", [...run, BigInt(steps), address], size);
     });
+  }
+
+  /**
+   * The state some instructions after one that was kept, with what they wrote, and kept itself; after the start where
+   * `kept` is empty.
+   * @param {Uint8Array} kept
+   * @returns {{fault: Fault} | State & {kept: Uint8Array}}
+   */
+  resume(executable, input, kept, steps, address = 0n, size = 0) {
+    for (let room = kept.length + ROOM; ;) {
+      const found = this.#framed((frame) => {
+        const run = [...frame.put(executable), ...frame.put(input), ...frame.put(kept)], next = frame.room(room);
+        const state = this.#shown(frame, "rv_resume", [...run, BigInt(steps), address], size, next);
+        const length = state.second ?? 0;
+        if (length > room) {
+          room = length;
+          return null;
+        }
+        return { ...state, kept: frame.front(next, length) };
+      });
+      if (found) {
+        return found;
+      }
+    }
+  }
+
+  /** Has a call show a state, and give more to a buffer behind the console's where there is one. */
+  #shown(frame, name, words, size, more = []) {
+    const [memory, rights, console, state, end, answer] =
+      [size, size, CONSOLE_ROOM, STATE, END, ANSWER].map((it) => frame.room(it));
+    const records = [state[0], end[0], answer[0]];
+    const status = this.#exports[name](...words, ...memory, ...rights, ...console, ...more, ...records);
+    const told = answered(frame.view(answer));
+    if (status === REFUSED) {
+      return { fault: faultOf(told, frame.front(console, told.length)) };
+    }
+    demand(status);
+    const hart = frame.view(state);
+    return {
+      registers: Array.from({ length: 32 }, (_, at) => hart.getBigUint64(8 * at, true)),
+      pc: hart.getBigUint64(256, true),
+      count: Number(hart.getBigUint64(264, true)),
+      end: endOf(frame.view(end)),
+      memory: frame.front(memory, size),
+      rights: frame.front(rights, size),
+      console: frame.front(console, told.length),
+      written: told.length,
+      second: told.second,
+    };
   }
 }
 

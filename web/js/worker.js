@@ -9,6 +9,8 @@ import { Runs } from "./seeking.js";
 
 /** @type {Library} */
 let library;
+/** @type {Runs} */
+let runs;
 /** The instructions of the program that was built last, by address. @type {Map<bigint, {text: string, size: number}>} */
 let texts = new Map();
 
@@ -30,17 +32,16 @@ function build({ sources, names }) {
 const CALLS = {
   async open({ module }) {
     library = await Library.over(module);
+    runs = new Runs(library);
     return true;
   },
   build,
-  state: ({ executable, input, steps, address, size }) => library.state(executable, input, steps, address, size),
-  length: ({ executable, input, limit }, told) => new Runs(library, told).toEnd(executable, input, limit),
+  state: ({ executable, input, steps, address, size }, told) => runs.at(executable, input, steps, told, address, size),
+  length: ({ executable, input, limit }, told) => runs.at(executable, input, limit, told),
   reach: ({ executable, input, from, addresses, limit }, told) =>
-    new Runs(library, told).toOne(executable, input, from, addresses, limit),
-  over: ({ executable, input, from, limit }, told) =>
-    new Runs(library, told).over(executable, input, from, textAt, limit),
-  out: ({ executable, input, from, limit }, told) =>
-    new Runs(library, told).out(executable, input, from, textAt, limit),
+    runs.toOne(executable, input, from, addresses, limit, told),
+  over: ({ executable, input, from, limit }, told) => runs.over(executable, input, from, textAt, limit, told),
+  out: ({ executable, input, from, limit }, told) => runs.out(executable, input, from, textAt, limit, told),
 };
 
 async function answer({ id, call, words }) {

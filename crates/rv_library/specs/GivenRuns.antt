@@ -5,11 +5,11 @@ use Rattle.rv_isa_laws.specs.Memory.{Mem, Right, Read, Write, Execute, may, numb
 use Rattle.rv_system.specs.Messages.{fault_text}
 use Rattle.rv_memory.specs.HeldPages.{held_pages}
 use Rattle.rv_machine.specs.Registers.{register_value}
-use Rattle.rv_machine.specs.declared.outcome.Outcome.{Outcome}
 use Rattle.rv_library.specs.declared.answers.Answer.{Answer}
 use Rattle.rv_library.specs.declared.ends.Ended.{Ended}
 use Rattle.rv_library.specs.declared.runs.Stop.{Stop}
 use Rattle.rv_library.specs.declared.runs.Stop.TheVariants.{Refused, TooLong, Unknown}
+use Rattle.rv_library.specs.declared.runs.Counted.{Counted}
 use Rattle.rv_library.specs.declared.runs.Reached.{Reached}
 use Rattle.rv_library.specs.declared.states.State.{State}
 use Rattle.rv_library.specs.Answer.{answer_of}
@@ -26,19 +26,20 @@ IsStopGiven TooLong status console console' answer =
 IsStopGiven Unknown status console console' answer =
     (status ≡ 6) × (console' ≡ console) × (answer ≡ answer_of 0 0)
 
-abbrev pub IsOutcomeGiven : Result Outcome Stop → (status : ℕ) → (console console' : List ℕ) →
-    Ended → Answer → Type 0
-IsOutcomeGiven (Ok o) status console console' e answer =
-    (e ≡ end_numbers o.«end») × IsBytesGiven o.console.items status console console' answer
-IsOutcomeGiven (Err stop) status console console' e answer =
+abbrev pub IsOutcomeGiven : Result Counted Stop → (status : ℕ) → (console console' : List ℕ) →
+    Ended → (count : ℕ) → Answer → Type 0
+IsOutcomeGiven (Ok c) status console console' e count answer =
+    (e ≡ end_numbers c.outcome.«end») × (count ≡ c.count)
+    × IsBytesGiven c.outcome.console.items status console console' answer
+IsOutcomeGiven (Err stop) status console console' e count answer =
     IsStopGiven stop status console console' answer
 
 -- what the run of a file comes to is given
 abbrev pub GivesRun : (file input : List ℕ) → (limit status : ℕ) → (console console' : List ℕ) →
-    Ended → Answer → Type 0
-GivesRun file input limit status console console' e answer =
-    (ran : Result Outcome Stop) × IsRan file input limit ran
-    × IsOutcomeGiven ran status console console' e answer
+    Ended → (count : ℕ) → Answer → Type 0
+GivesRun file input limit status console console' e count answer =
+    (ran : Result Counted Stop) × IsRan file input limit ran
+    × IsOutcomeGiven ran status console console' e count answer
 
 -- a byte that may be read or executed is shown, another one as 0
 abbrev pub shown_byte : Mem → ℕ → ℕ

@@ -14,6 +14,8 @@ pub mod Ran
 pub mod Ends
 -- How what a run came to, and the state that it reached, are given to the caller.
 pub mod GivenRuns
+-- Runs that go on from a kept state, and how what they reach is given to the caller.
+pub mod Resumed
 -- Texts of which it is proved how they are given to the caller, and not what they say.
 pub mod Texted
 -- What a check of sources finds, and how it is given to the caller.

@@ -86,7 +86,7 @@ fn give_found(found: Option<Made>, first: &mut [u8], second: &mut [u8], answer: 
 }
 
 /// Gives bytes to two buffers; the status.
-fn give_both(
+pub(crate) fn give_both(
     bytes: &[u8],
     others: &[u8],
     first: &mut [u8],

@@ -4,8 +4,7 @@ ghost use Rattle.rv_library.specs.GivenRuns.{GivesRun, IsOutcomeGiven, IsStopGiv
 
 use crate::answers::{Answer, TOO_LONG, UNKNOWN, give_bytes, refuse, told};
 use crate::ends::{Ended, end_of};
-use crate::runs::{Stop, ran};
-use rv_machine::Outcome;
+use crate::runs::{Counted, Stop, ran};
 use std::alloc::Global;
 
 /// Runs an executable: `rv_run` of `include/rv.h`.
@@ -17,29 +16,32 @@ pub extern "C" fn rv_run(
     limit: u64,
     console: &mut [u8],
     end: &mut Ended,
+    count: &mut u64,
     answer: &mut Answer,
 ) -> u32
-    // the outcome of the run, as `run_exec` promises it, and how it is given
-    ensures { GivesRun executable.now input.now limit result console.old console.new end.new answer.new }
+    // the outcome of the run, as `run_exec` promises it, with its length, and how it is given
+    ensures { GivesRun executable.now input.now limit result console.old console.new end.new count.new answer.new }
 {
     let found = ran(alloc, executable, input, limit, console.len());
-    give_outcome(alloc, found, console, end, answer)
+    give_outcome(alloc, found, console, end, count, answer)
 }
 
 /// Gives the outcome of a run, or why it was stopped; the status.
 fn give_outcome(
     alloc: Global,
-    found: Result<Outcome, Stop>,
+    found: Result<Counted, Stop>,
     console: &mut [u8],
     end: &mut Ended,
+    count: &mut u64,
     answer: &mut Answer,
 ) -> u32
-    ensures { IsOutcomeGiven found result console.old console.new end.new answer.new }
+    ensures { IsOutcomeGiven found result console.old console.new end.new count.new answer.new }
 {
     match found {
-        Ok(outcome) => {
-            *end = end_of(outcome.end);
-            give_bytes(outcome.console.as_slice(), console, answer)
+        Ok(counted) => {
+            *end = end_of(counted.outcome.end);
+            *count = counted.count;
+            give_bytes(counted.outcome.console.as_slice(), console, answer)
         }
         Err(stop) => give_stop(alloc, stop, console, answer),
     }

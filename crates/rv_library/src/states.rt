@@ -78,7 +78,7 @@ fn give_state(
 }
 
 /// Shows a machine.
-fn show(
+pub(crate) fn show(
     reached: &Reached,
     address: u64,
     memory: &mut [u8],

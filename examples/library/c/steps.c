@@ -54,9 +54,8 @@ int main(int count, char **words)
 {
     static uint8_t source[ROOM], executable[ROOM], input[ROOM], console[ROOM];
     struct rv_answer answer;
-    struct rv_state state;
     struct rv_end end;
-    uint64_t length, steps;
+    uint64_t length, instructions, steps;
     size_t input_length;
     uint32_t status;
     FILE *file;
@@ -73,16 +72,13 @@ int main(int count, char **words)
         refuse(words[1], status, &answer, executable);
     length = answer.length;
 
-    status = rv_run(executable, length, input, input_length, LIMIT, console, ROOM, &end, &answer);
+    status = rv_run(executable, length, input, input_length, LIMIT, console, ROOM, &end, &instructions, &answer);
     if (status != RV_OK)
         refuse(words[1], status, &answer, console);
     fwrite(console, 1, answer.length, stdout);
     printf("end %" PRIu32 ", code %" PRIu32 "\n", end.kind, end.code);
 
-    /* the end once more, for the count of instructions, and back from there */
-    rv_state(executable, length, input, input_length, LIMIT, 0, console, 0, console, 0, console, 0, &state, &end,
-             &answer);
-    for (steps = state.count < 3 ? 0 : state.count - 3; steps < state.count; steps++)
+    for (steps = instructions < 3 ? 0 : instructions - 3; steps < instructions; steps++)
         show(executable, length, input, input_length, steps);
     return 0;
 }

@@ -78,8 +78,9 @@ std::uint32_t run(std::string_view executable)
     Bytes console(1 << 16);
     rv_answer answer;
     rv_end end;
+    std::uint64_t count;
     const auto status = rv_run(pointer(executable), executable.size(), pointer(""), 0, 1000000, console.data(),
-                               console.size(), &end, &answer);
+                               console.size(), &end, &count, &answer);
     std::cout << taken(status, answer, console);
     if (end.kind != RV_EXITED)
         throw std::runtime_error("the program did not exit");

@@ -21,11 +21,10 @@ def grade(source: bytes, name: str) -> str:
     except rv.Fault:
         first = rv.check(source, names=[name])[0]
         return f"line {first.line}: {first.message}"
-    end = rv.run(executable, limit=LIMIT).end
-    count = rv.state(executable, LIMIT).count
-    if end.kind is not rv.EndKind.EXITED:
-        return f"does not exit: {end.kind.name} after {count} instructions"
-    return f"right, in {count} instructions" if end.code == WANTED else f"exits with {end.code}"
+    run = rv.run(executable, limit=LIMIT)
+    if run.end.kind is not rv.EndKind.EXITED:
+        return f"does not exit: {run.end.kind.name} after {run.count} instructions"
+    return f"right, in {run.count} instructions" if run.end.code == WANTED else f"exits with {run.end.code}"
 
 
 def main(*names: str) -> None:

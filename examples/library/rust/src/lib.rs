@@ -60,6 +60,7 @@ pub mod ffi {
             console: *mut u8,
             console_room: usize,
             end: *mut End,
+            count: *mut u64,
             answer: *mut Answer,
         ) -> u32;
         pub fn rv_state(
@@ -75,6 +76,27 @@ pub mod ffi {
             rights_room: usize,
             console: *mut u8,
             console_room: usize,
+            state: *mut State,
+            end: *mut End,
+            answer: *mut Answer,
+        ) -> u32;
+        pub fn rv_resume(
+            executable: *const u8,
+            executable_length: usize,
+            input: *const u8,
+            input_length: usize,
+            from: *const u8,
+            from_length: usize,
+            steps: u64,
+            address: u64,
+            memory: *mut u8,
+            memory_room: usize,
+            rights: *mut u8,
+            rights_room: usize,
+            console: *mut u8,
+            console_room: usize,
+            kept: *mut u8,
+            kept_room: usize,
             state: *mut State,
             end: *mut End,
             answer: *mut Answer,
@@ -134,6 +156,8 @@ impl std::error::Error for Error {}
 pub struct Run {
     pub console: Vec<u8>,
     pub end: End,
+    /// How many instructions there were.
+    pub count: u64,
 }
 
 impl Run {
@@ -193,7 +217,7 @@ pub fn build(sources: &[&[u8]]) -> Result<Vec<u8>, Error> {
 
 /// Runs an executable for at most `limit` instructions.
 pub fn run(executable: &[u8], input: &[u8], limit: u64) -> Result<Run, Error> {
-    let mut end = End::default();
+    let (mut end, mut count) = (End::default(), 0);
     let console = bytes_of(|console, answer| unsafe {
         ffi::rv_run(
             executable.as_ptr(),
@@ -204,10 +228,15 @@ pub fn run(executable: &[u8], input: &[u8], limit: u64) -> Result<Run, Error> {
             console.as_mut_ptr(),
             console.len(),
             &mut end,
+            &mut count,
             answer,
         )
     })?;
-    Ok(Run { console, end })
+    Ok(Run {
+        console,
+        end,
+        count,
+    })
 }
 
 /// The machine after so many instructions, with the bytes of memory from an address on in `memory`.
@@ -240,6 +269,68 @@ pub fn state(
         )
     })?;
     Ok(state)
+}
+
+/// A machine, and its state as bytes for [`resume`].
+#[derive(Clone, Debug, PartialEq, Eq)]
+pub struct Resumed {
+    pub state: State,
+    pub end: End,
+    /// What the instructions of this call wrote.
+    pub console: Vec<u8>,
+    pub kept: Vec<u8>,
+}
+
+/// The machine so many instructions after a kept state, or after the start where `from` is empty, with the bytes of memory
+/// from an address on in `memory`.
+pub fn resume(
+    executable: &[u8],
+    input: &[u8],
+    from: &[u8],
+    steps: u64,
+    address: u64,
+    memory: &mut [u8],
+) -> Result<Resumed, Error> {
+    let (mut state, mut end, mut length) = (State::default(), End::default(), 0);
+    let mut kept = vec![0; from.len() + ROOM];
+    loop {
+        let console = bytes_of(|console, answer| unsafe {
+            let status = ffi::rv_resume(
+                executable.as_ptr(),
+                executable.len(),
+                input.as_ptr(),
+                input.len(),
+                from.as_ptr(),
+                from.len(),
+                steps,
+                address,
+                memory.as_mut_ptr(),
+                memory.len(),
+                [].as_mut_ptr(),
+                0,
+                console.as_mut_ptr(),
+                console.len(),
+                kept.as_mut_ptr(),
+                kept.len(),
+                &mut state,
+                &mut end,
+                answer,
+            );
+            length = answer.second_length as usize;
+            // (a console that had room is whole)
+            if status == 1 && answer.length as usize <= console.len() { 0 } else { status }
+        })?;
+        if length <= kept.len() {
+            kept.truncate(length);
+            return Ok(Resumed {
+                state,
+                end,
+                console,
+                kept,
+            });
+        }
+        kept.resize(length, 0);
+    }
 }
 
 /// The text of the instruction at the front of bytes; none where there is none.

@@ -8,13 +8,17 @@ fn shown(path: &str) -> Result<(), Box<dyn std::error::Error>> {
     let executable = rv::build(&[&fs::read(path)?])?;
     let run = rv::run(&executable, b"", 1_000_000)?;
     println!("exit {:?}", run.code());
-    let last = rv::state(&executable, b"", 1_000_000, 0, &mut [])?;
-    for steps in (0..last.count).rev() {
-        let pc = rv::state(&executable, b"", steps, 0, &mut [])?.pc;
+    let mut machines = vec![rv::resume(&executable, b"", b"", 0, 0, &mut [])?];
+    for step in 1..run.count as usize {
+        let before = &machines[step - 1].kept;
+        machines.push(rv::resume(&executable, b"", before, 1, 0, &mut [])?);
+    }
+    for (steps, machine) in machines.iter().enumerate().rev() {
+        let pc = machine.state.pc;
         let mut code = [0; 4];
-        let state = rv::state(&executable, b"", steps, pc, &mut code)?;
+        rv::resume(&executable, b"", &machine.kept, 0, pc, &mut code)?;
         let text = rv::disassemble(&code, pc).unwrap_or_default();
-        println!("{steps:3} {pc:8x}: {text:20} a0 = {}", state.registers[10]);
+        println!("{steps:3} {pc:8x}: {text:20} a0 = {}", machine.state.registers[10]);
     }
     Ok(())
 }
