@@ -99,7 +99,7 @@ fn resumed_from(
     runs_keep();
     keeping_goes_on();
     let Resumed { machine, taken } = state;
-    let reached = run_on(alloc, machine, &input[taken..], steps, most)?;
+    let reached = run_on(alloc, machine, input.split_at(taken).1, steps, most)?;
     match snapshot(alloc, image, &reached.machine, taken + reached.taken)? {
         Some(kept) => Ok(Some(Resumption { reached, kept })),
         None => Ok(None),

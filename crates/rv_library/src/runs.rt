@@ -187,7 +187,7 @@ pub(crate) fn run_on(
     requires { machine.intake.ended ≡ false }
     ensures taken { IfOk result (λ r. r.taken ≤ length input.now) }
     ensures reached { IfOk result
-        (IsReachedOn (hart_of machine.entry.hart input.now []) (held_pages machine.entry.memory)
+        (IsReachedOn (hart_of machine.hart input.now []) (held_pages machine.memory)
         input.now steps) }
     ensures refused { (file : List ℕ) → IfErr result (IsStop file) }
 {
