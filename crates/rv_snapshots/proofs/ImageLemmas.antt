@@ -1,11 +1,12 @@
 -- The memory of an image: what of it may be written, and what stands there.
 
-use Rattle.std.proofs.Common.{◌≡◌, ℕ, zero, suc, ◌+◌, ◌-◌, ◌%◌, ◌^◌, ◌≤◌, ◌<◌, Bool, true, false, not, cond, ◌&&◌, ◌||◌, List, [], ◌∷◌, ◌++◌, Option, Some, None, length, get_or, slice_get, take, drop, map, refl, ap, sym, subst, ◌∙◌, arith}
+use Rattle.std.proofs.Common.{◌≡◌, ℕ, zero, suc, ◌+◌, ◌-◌, ◌%◌, ◌^◌, ◌≤◌, ◌<◌, Bool, true, false, not, cond, ◌&&◌, ◌||◌, List, [], ◌∷◌, Option, Some, None, length, get_or, slice_get, take, drop, map, refl, ap, sym, subst, ◌∙◌, arith}
 use Rattle.std.specs.Prelude.{nat_le, nat_lt, replicate, if◌then◌else◌}
 use Rattle.std.specs.List.{list_all}
-use Rattle.std.proofs.lemmas.Bool.{and_parts}
+use Rattle.std.proofs.lemmas.Bool.{and_parts, false_from_ne_true, not_from_true, true≢false}
 use Rattle.std.proofs.lemmas.Bool.Decides.{nat_tests}
 use Rattle.std.proofs.lemmas.List.{take_all}
+use Rattle.rv_list_laws.proofs.ElementsLemmas.{get_front}
 use Rattle.rv_isa_laws.specs.Memory.{Mem, Right, Read, Write, may, bytes_at}
 use Rattle.rv_isa_laws.specs.Platform.{stack_start, stack_end}
 use Rattle.rv_image_laws.specs.Image.{Image}
@@ -60,29 +61,24 @@ is_stack : IsStack last_byte
 unfolding last_byte
 is_stack = record { low = omega arith; high = omega arith; ends = omega arith; zeros = last_zero; flags = refl }
 
-front_get : {A : Type 0} (xs ys : List A) (i : ℕ) (x : A) → slice_get xs i ≡ Some x → slice_get (xs ++ ys) i ≡ Some x
-front_get [] ys i x e = absurd (cc)
-front_get (z ∷ xs) ys zero x e = e
-front_get (z ∷ xs) ys (suc i) x e = front_get xs ys i x e
-
 pub disjoint : (ss : List Segment) → are_apart ss ≡ true → AreDisjoint ss
 disjoint ss apart i j x s t at_i at_j held_s held_t =
-    disjoint-with-stack ss last_byte is_stack apart i j x s t (front_get ss (last_byte ∷ []) i s at_i) (front_get ss (last_byte ∷ []) j t at_j) held_s held_t
+    disjoint-with-stack ss last_byte is_stack apart i j x s t (get_front ss (last_byte ∷ []) i s at_i) (get_front ss (last_byte ∷ []) j t at_j) held_s held_t
 
 -- none has an address of the stack
-meets : (s : Segment) (x : ℕ) → lies_in s x ≡ true → stack_start ≤ x → x < stack_end → meets_stack s ≡ true
-meets s x h low high = grind (arith, nat_tests)
-
-away : (b : Bool) (s : Segment) (x : ℕ) → lies_in s x ≡ b → not (meets_stack s) ≡ true → stack_start ≤ x → x < stack_end → lies_in s x ≡ false
-away true s x e h low high = absurd (let m : meets_stack s ≡ true = meets s x e low high in let f : not (meets_stack s) ≡ false = rw m refl in cc)
-away false s x e h low high = e
+away : (s : Segment) (x : ℕ) → not (meets_stack s) ≡ true → stack_start ≤ x → x < stack_end → lies_in s x ≡ false
+away s x h low high =
+    false_from_ne_true (lies_in s x)
+    (λ held.
+    let meets : meets_stack s ≡ true = grind (arith, nat_tests) in
+    true≢false (sym h ∙ not_from_true (meets_stack s) meets))
 
 pub none_in_stack : (ss : List Segment) (x : ℕ) → are_apart ss ≡ true → stack_start ≤ x → x < stack_end → segment_at ss x ≡ None
 none_in_stack [] x apart low high = refl
 none_in_stack (s ∷ ss) x apart low high =
     let both = and_parts (not (meets_stack s) && list_all (λ t. not (meets_segment s t)) ss) (are_apart ss) apart in
     let first = and_parts (not (meets_stack s)) (list_all (λ t. not (meets_segment s t)) ss) both.0 in
-    ap (λ (b : Bool). cond b (Some s) (segment_at ss x)) (away (lies_in s x) s x refl first.0 low high) ∙ none_in_stack ss x both.1 low high
+    ap (λ (b : Bool). cond b (Some s) (segment_at ss x)) (away s x first.0 low high) ∙ none_in_stack ss x both.1 low high
 
 pub stack_zero : (image : Image) (x : ℕ) → are_apart image.segments ≡ true → stack_start ≤ x → x < stack_end → (mem_of image).byte x ≡ 0
 stack_zero image x apart low high = ap (λ (o : Option Segment). byte_in o x) (none_in_stack image.segments x apart low high)
@@ -137,12 +133,8 @@ readable (t ∷ ss) zero s all at =
     subst (λ (u : Segment). is_readable u ≡ true) same (and_parts (is_readable t) (list_all is_readable ss) all).0
 readable (t ∷ ss) (suc i) s all at = readable ss i s (and_parts (is_readable t) (list_all is_readable ss) all).1 at
 
-or_second : (b c : Bool) → b ≡ true → (not b || c) ≡ true → c ≡ true
-or_second true c e h = h
-or_second false c e h = absurd (cc)
-
 pub can_be_read : (s : Segment) → is_readable s ≡ true → gives_right s.flags Write ≡ true → gives_right s.flags Read ≡ true
-can_be_read s h write = or_second (gives_right s.flags Write) (gives_right s.flags Read) write h
+can_be_read s h write = subst (λ (b : Bool). (not b || gives_right s.flags Read) ≡ true) write h
 
 -- an element of the code's list
 pub segment_read : (image : DeclaredImage) (list : List DeclaredSegment) (i : ℕ) (s : DeclaredSegment) → list ≡ image.segments.items → i < length list → s ≡ get_or list i s →

@@ -8,6 +8,7 @@ use Rattle.std.proofs.lemmas.Grind.{common_steps}
 use Rattle.byteorder.specs.Endian.{little_number}
 use Rattle.rv_isa.specs.declared.instruction.Inst.{Inst}
 use Rattle.rv_isa_laws.specs.Bytes.{little_endian}
+use Rattle.rv_isa_laws.proofs.BytesLemmas.{little_long}
 use Rattle.rv_isa_laws.specs.Memory.{Mem, Read, Write, may, with_byte, with_bytes, with_number}
 use Rattle.rv_isa_laws.specs.Hart.{Hart, register}
 use Rattle.rv_isa_laws.specs.Effect.{Effect, Goes, Loads, Stores, Reserves, Conditional, Updates, Calls, Breaks, Next, On, Over, apply, environment_call}
@@ -58,13 +59,9 @@ keeps_bytes m a (b ∷ bs) h =
     keeps_on m n (with_bytes n (a + 1) bs) (keeps_byte m (a % 2 ^ 64) b both.0)
     (keeps_bytes n (a + 1) bs (may_as m (a + 1) (a % 2 ^ 64) b (length bs) both.1))
 
-length_little_endian : (n v : ℕ) → length (little_endian n v) ≡ n
-length_little_endian zero v = refl
-length_little_endian (suc n) v = ap suc (length_little_endian n _)
-
 keeps_number : (m : Mem) (a n v : ℕ) → may m a n Write ≡ true → Keeps m (with_number m a n v)
 keeps_number m a n v h =
-    let long : may m a (length (little_endian n v)) Write ≡ true = rw length_little_endian h in
+    let long : may m a (length (little_endian n v)) Write ≡ true = rw little_long h in
     subst (λ (p : Mem). Keeps m p) (sym (with_number-bytes m a n v)) (keeps_bytes m a (little_endian n v) long)
 
 -- what follows a step keeps it

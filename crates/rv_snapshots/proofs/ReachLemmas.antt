@@ -1,8 +1,8 @@
 -- Pieces of segment after segment, and then of the stack, make the machine's memory.
 
-use Rattle.std.proofs.Common.{◌≡◌, ℕ, ◌+◌, ◌≤◌, ◌<◌, Bool, true, false, ◌||◌, ◌⊎◌, inl, inr, List, [], ◌++◌, append-nil, Option, Some, None, length, slice_get, refl, ap, sym, subst, ◌∙◌, arith}
+use Rattle.std.proofs.Common.{◌≡◌, ℕ, ◌+◌, ◌≤◌, ◌<◌, Bool, true, false, ◌⊎◌, inl, inr, List, [], ◌++◌, append-nil, Option, Some, None, length, slice_get, refl, ap, sym, subst, ◌∙◌, arith}
 use Rattle.std.specs.Prelude.{if◌then◌else◌}
-use Rattle.std.proofs.lemmas.Bool.{cases_lt}
+use Rattle.std.proofs.lemmas.Bool.{cases_lt, or_cases}
 use Rattle.std.proofs.lemmas.Bool.Decides.{nat_tests}
 use Rattle.std.proofs.Math.Path.{fun_ext}
 use Rattle.rv_isa_laws.specs.Memory.{Mem, Right, Write}
@@ -71,10 +71,6 @@ in_segment pieces image machine m n x (Some s) reach all is right =
 stack_range : (x : ℕ) → in_stack x Write ≡ true → (stack_start ≤ x) × (x < stack_end)
 stack_range x h = grind (arith, nat_tests)
 
-or_either : (b c : Bool) → (b || c) ≡ true → (b ≡ true) ⊎ (c ≡ true)
-or_either true c h = inl refl
-or_either false c h = inr h
-
 in_the_stack : (image : Image) (machine m n : Mem) (start count x : ℕ) → are_apart image.segments ≡ true → stack_start ≤ start → start + count ≡ stack_end →
     ((y : ℕ) → stack_start ≤ y → y < start → machine.byte y ≡ 0) → (n.byte x ≡ (mem_of image).byte x) ⊎ (n.byte x ≡ machine.byte x) →
     IsNearer machine m n start count → stack_start ≤ x → x < stack_end → n.byte x ≡ machine.byte x
@@ -93,7 +89,7 @@ module _ (old new : Pieces) (image : Image) (machine : Mem) (start count : ℕ) 
       in_the_stack image machine reach.memory m start count x apart low ends zeros (made.bytes x) nearer range.0 range.1
 
   byte_by : (b : Bool) (x : ℕ) → (mem_of image).has x Write ≡ b → m.byte x ≡ machine.byte x
-  byte_by true x can = written x (or_either (right_in (segment_at image.segments x) Write) (in_stack x Write) can)
+  byte_by true x can = written x (or_cases (right_in (segment_at image.segments x) Write) (in_stack x Write) can)
   byte_by false x none = image_or_own (m.byte x) ((mem_of image).byte x) (machine.byte x) (sym (keeps.bytes x none)) (made.bytes x)
 
   whole : m ≡ machine

@@ -4,5 +4,5 @@ pub mod Snapshot
 pub mod Keeps
 -- The state that a machine of the code is in.
 pub mod Views
--- What pieces of memory make of an image's memory on the way to a machine's.
+-- What pieces of memory make of an image's memory, on the way to a machine's.
 pub mod Pieces
