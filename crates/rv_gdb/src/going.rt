@@ -15,15 +15,19 @@ pub enum Going {
     Stands,
     /// On.
     On,
-    /// On from the start to where it is to go back from, to see where it would have stopped last.
+    /// On from a state before, to see where it would have stopped last on its way there.
     Back(Search),
 }
 
-/// A search for the latest state before one where the program stops on its way back.
+/// A search for the latest state before one where the program stops on its way back. It looks at a part of the way after
+/// the other, the last part first; each begins where a state was kept.
 #[derive(Clone, Copy, Drop)]
 pub struct Search {
     /// How many instructions come before the state that it goes back from.
     from: u64,
+    /// How many come before the first state of the part that is looked at, and before the one after its last.
+    start: u64,
+    end: u64,
     /// How many come before the latest state that was found, and what is met there.
     found: Option<(u64, Met)>,
 }
@@ -103,13 +107,26 @@ impl Session {
         Ok(Stop::Done)
     }
 
-    /// Goes to the start, to look from there where the program would stop on its way back.
+    /// Goes to where the last part of the way begins, to look from there where the program would stop on its way back.
     fn begin_search(&mut self) -> Result<(), ReplayFault>
         ensures { self.new.draft ≡ self.old.draft }
     {
         let from = self.replay.count();
-        self.replay.go_to(self.alloc, self.origin)?;
-        self.going = Going::Back(Search { from, found: None });
+        self.search_before(from, from)
+    }
+
+    /// Goes to where the part of the way before a state begins, and has it looked at next.
+    fn search_before(&mut self, from: u64, end: u64) -> Result<(), ReplayFault>
+        ensures { self.new.draft ≡ self.old.draft }
+    {
+        let start = self.replay.kept_before(end).max(self.origin);
+        self.replay.go_to(self.alloc, start)?;
+        self.going = Going::Back(Search {
+            from,
+            start,
+            end,
+            found: None,
+        });
         Ok(())
     }
 
@@ -143,8 +160,8 @@ impl Session {
         let mut search = search;
         for _ in 0..steps {
             let count = self.replay.count();
-            if count >= search.from {
-                return Ok(Some(self.end_search(search)?));
+            if count >= search.end {
+                return self.end_part(search);
             }
             if let Some(met) = self.points.at(self.replay.machine().pc()) {
                 search.found = Some((count, met));
@@ -158,20 +175,21 @@ impl Session {
         Ok(None)
     }
 
-    /// Goes to what a search has found, or to the start.
-    fn end_search(&mut self, search: Search) -> Result<Stop, ReplayFault>
+    /// Goes to what was found in a part of the way, or to the part before, or to the start where none is before; why the
+    /// program stands, if the search is at its end.
+    fn end_part(&mut self, search: Search) -> Result<Option<Stop>, ReplayFault>
         ensures { self.new.draft ≡ self.old.draft }
     {
-        match search.found {
-            Some((count, met)) => {
-                self.replay.go_to(self.alloc, count)?;
-                Ok(Stop::At(met))
-            }
-            None => {
-                self.replay.go_to(self.alloc, self.origin)?;
-                Ok(Stop::Start)
-            }
+        if let Some((count, met)) = search.found {
+            self.replay.go_to(self.alloc, count)?;
+            return Ok(Some(Stop::At(met)));
         }
+        if search.start <= self.origin {
+            self.replay.go_to(self.alloc, self.origin)?;
+            return Ok(Some(Stop::Start));
+        }
+        self.search_before(search.from, search.start)?;
+        Ok(None)
     }
 
     /// Stops what goes; a search ends where it went back from.

@@ -1,18 +1,25 @@
 //! A run, somewhere on its way.
 
-ghost use Rattle.std.specs.Prelude.{◌≡◌, ◌≤◌, ◌<◌, ◌+◌, ◌-◌, ◌^◌, ℕ, OnOk, IfOk, MatchOption, None, false, length, drop};
+ghost use Rattle.std.specs.Prelude.{◌≡◌, ◌≤◌, ◌<◌, ◌+◌, ◌-◌, ◌^◌, ℕ, OnOk, IfOk, MatchOption, None, true, false, length, drop};
+ghost use Rattle.std.specs.List.{All};
 ghost use Rattle.rv_image.specs.Views.{image_of};
 ghost use Rattle.rv_image_laws.specs.Memory.{mem_of};
 ghost use Rattle.rv_memory.specs.HeldPages.{held_pages};
+ghost use Rattle.rv_replay.specs.Kept.{IsOfRun, CanBeKept};
 ghost use Rattle.rv_replay.specs.Replayed.{IsStateAt, IsStill};
 
+use crate::copied::machine_again;
 use crate::fault::ReplayFault;
+use crate::kept::{Kept, KeptStates};
 use crate::running::{machine_of, run_on};
 use crate::written::Written;
 use rv_image::Image;
 use rv_machine::{End, Watched};
 use rv_memory::Paged;
 use std::alloc::{AllocError, Global};
+
+/// How many instructions are run again at most for a step back after another: a thousandth of a second.
+const SHORT: u64 = 0x4000;
 
 /// A run of an image with an input, somewhere on its way.
 #[derive(Drop)]
@@ -26,6 +33,8 @@ pub struct Replay {
     /// How many instructions were begun; the last of them ended the run, if it has ended.
     count: u64,
     end: Option<End>,
+    /// States on the way to where it stands.
+    kept: KeptStates,
     /// Whether a stream has failed: then it is not known where the run stands.
     lost: bool,
     pub ghost within: { taken ≤ length input.items },
@@ -33,6 +42,10 @@ pub struct Replay {
     pub ghost replayed: { lost ≡ false → (more : ℕ) → IsStill end more →
         ∥ IsStateAt (mem_of (image_of image)) image.entry input.items (count + more) machine.hart
         (held_pages machine.memory) machine.intake.ended (drop taken input.items) ∥₁ },
+    pub ghost kept_states: { ∥ All (IsOfRun (mem_of (image_of image)) image.entry input.items)
+        kept.states.items ∥₁ },
+    /// There are no more of them than there is room for.
+    pub ghost few: { CanBeKept kept.most image },
 }
 
 impl Replay {
@@ -47,7 +60,9 @@ impl Replay {
         ensures lost { IfOk result (λ replay. replay.lost ≡ false) }
     {
         let machine = machine_of(alloc, &image)?;
+        let kept = KeptStates::new(alloc, &image);
         Ok(Replay {
+            kept,
             image,
             input,
             taken: 0,
@@ -70,15 +85,97 @@ impl Replay {
         let machine = machine_of(alloc, &self.image)?;
         self.machine = machine;
         self.taken = 0;
-        self.written.rewind();
+        self.written.rewind(0);
         self.count = 0;
         self.end = None;
         self.lost = false;
         Ok(())
     }
 
-    /// Goes on by so many instructions, or to the end; no more than 2^64 - 1 in all.
+    /// Makes room for the state where it stands; whether it can be kept: there is room, the run goes on, and it is not kept.
+    fn make_room(&mut self) -> bool
+        ensures image { self.new.image ≡ self.old.image }
+        ensures input { self.new.input ≡ self.old.input }
+        ensures lost { self.new.lost ≡ self.old.lost }
+        ensures count { self.new.count ≡ self.old.count }
+        ensures end { self.new.end ≡ self.old.end }
+        ensures known { result ≡ true → self.new.lost ≡ false }
+        ensures room { result ≡ true → length self.new.kept.states.items < self.new.kept.most }
+    {
+        if self.lost || self.end.is_some() {
+            return false;
+        }
+        self.kept.make_room(self.count);
+        self.kept.takes(self.count)
+    }
+
+    /// Keeps the state where it stands, if it can be kept.
+    fn keep(&mut self) -> Result<(), AllocError>
+        ensures image { self.new.image ≡ self.old.image }
+        ensures input { self.new.input ≡ self.old.input }
+        ensures lost { self.new.lost ≡ self.old.lost }
+        ensures count { self.new.count ≡ self.old.count }
+        ensures end { self.new.end ≡ self.old.end }
+    {
+        if !self.make_room() {
+            return Ok(());
+        }
+        let alloc = *self.input.allocator();
+        let machine = machine_again(alloc, &self.machine)?;
+        self.kept.push(Kept {
+            count: self.count,
+            taken: self.taken,
+            written: self.written.position(),
+            machine,
+        })
+    }
+
+    /// Has the run stand at a state of it that was kept.
+    fn restore(&mut self, kept: Kept)
+        requires { ∥ IsOfRun (mem_of (image_of self.old.image)) self.old.image.entry
+            self.old.input.items kept ∥₁ }
+        ensures image { self.new.image ≡ self.old.image }
+        ensures input { self.new.input ≡ self.old.input }
+        ensures lost { self.new.lost ≡ false }
+        ensures count { self.new.count ≡ kept.count }
+    {
+        let Kept {
+            count,
+            taken,
+            written,
+            machine,
+        } = kept;
+        self.machine = machine;
+        self.taken = taken;
+        self.written.rewind(written);
+        self.count = count;
+        self.end = None;
+        self.lost = false;
+    }
+
+    /// Goes on by so many instructions, or to the end; no more than 2^64 - 1 in all. On the way states are kept.
     pub fn advance(&mut self, count: u64) -> Result<(), ReplayFault>
+        ensures image { self.new.image ≡ self.old.image }
+        ensures input { self.new.input ≡ self.old.input }
+        ensures lost { OnOk result (self.new.lost ≡ self.old.lost) }
+        ensures most { OnOk result (self.new.count ≤ self.old.count + count) }
+        ensures count { OnOk result (self.old.count + count < 2 ^ 64 → self.new.end ≡ None →
+            self.new.count ≡ self.old.count + count) }
+    {
+        let mut left = count;
+        while left > 0 && self.end.is_none() {
+            let part = left.min(self.kept.due_in(self.count).max(1));
+            self.run(part)?;
+            left -= part;
+            if self.kept.due_in(self.count) == 0 {
+                self.keep()?;
+            }
+        }
+        Ok(())
+    }
+
+    /// Goes on in the same way, and keeps nothing.
+    fn run(&mut self, count: u64) -> Result<(), ReplayFault>
         ensures image { self.new.image ≡ self.old.image }
         ensures input { self.new.input ≡ self.old.input }
         ensures lost { OnOk result (self.new.lost ≡ self.old.lost) }
@@ -115,8 +212,31 @@ impl Replay {
         ensures lost { OnOk result (self.new.lost ≡ false) }
         ensures most { OnOk result (self.new.count ≤ count) }
     {
-        if count < self.count || self.lost {
-            return self.restart(alloc);
+        if self.count <= count && !self.lost {
+            return Ok(());
+        }
+        match self.kept.take_before(count) {
+            Some(kept) => {
+                self.restore(kept);
+                self.keep()
+            }
+            None => self.restart(alloc),
+        }
+    }
+
+    /// Goes on to a little before the state after so many instructions, if that is far, and keeps the state there: further
+    /// steps back are short.
+    fn approach(&mut self, count: u64) -> Result<(), ReplayFault>
+        requires { self.old.count ≤ count }
+        ensures image { self.new.image ≡ self.old.image }
+        ensures input { self.new.input ≡ self.old.input }
+        ensures lost { OnOk result (self.new.lost ≡ self.old.lost) }
+        ensures most { OnOk result (self.new.count ≤ count) }
+    {
+        let far = count - self.count;
+        if far > SHORT {
+            self.advance(far - SHORT)?;
+            self.keep()?;
         }
         Ok(())
     }
@@ -131,8 +251,19 @@ impl Replay {
         ensures state { OnOk result (∥ IsAfter self.new count ∥₁) }
     {
         self.go_before(alloc, count)?;
+        self.approach(count)?;
         self.advance(count - self.count)?;
         Ok(())
+    }
+
+    /// How many instructions come before the latest state before one that was kept, or before the first; from there the way
+    /// to it is short.
+    pub fn kept_before(&self, count: u64) -> u64
+        ensures below { 0 < count → result < count }
+        ensures latest { All (λ kept. kept.count < count → kept.count ≤ result)
+            self.now.kept.states.items }
+    {
+        self.kept.latest_below(count)
     }
 
     /// How many instructions were completed.

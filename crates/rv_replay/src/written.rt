@@ -3,6 +3,8 @@
 //! A run that is run again writes again what it has written before. So it is counted how many bytes stand before a state,
 //! and how many were given out.
 
+ghost use Rattle.std.specs.Prelude.{◌≡◌};
+
 use rv_machine::{GuestOut, IoFailed};
 use std::alloc::{AllocError, Global};
 use std::mem;
@@ -32,9 +34,18 @@ impl Written {
         }
     }
 
-    /// Has the run stand at its start again.
-    pub fn rewind(&mut self) {
-        self.position = 0;
+    /// How many bytes were written from the start of the run to where it stands.
+    pub fn position(&self) -> u64
+        ensures { result ≡ self.now.position }
+    {
+        self.position
+    }
+
+    /// Has the run stand where so many bytes were written again.
+    pub fn rewind(&mut self, position: u64)
+        ensures { self.new ≡ record self.old { position = position } }
+    {
+        self.position = position;
     }
 
     /// How many bytes wait to be taken.

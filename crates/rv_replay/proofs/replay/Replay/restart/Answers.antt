@@ -13,4 +13,6 @@ invariant_of-self c =
     record {
       within = omega arith;
       replayed = λ going more none. ∣ first more none ∣₁;
+      kept_states = c.args.self.now.kept_states;
+      few = c.args.self.now.few;
     }

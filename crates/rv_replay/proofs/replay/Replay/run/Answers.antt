@@ -6,7 +6,7 @@ use Rattle.rv_image_laws.specs.Memory.{mem_of}
 use Rattle.rv_memory.specs.HeldPages.{held_pages}
 use Rattle.rv_replay.specs.Replayed.{IsStateAt}
 use Rattle.rv_replay.proofs.ReplayedLemmas.{still}
-use Rattle.rv_replay.proofs.replay.Replay.advance.Goals as goal
+use Rattle.rv_replay.proofs.replay.Replay.run.Goals as goal
 
 pub invariant_of-self-in-Ok : goal.invariant_of-self-in-Ok
 invariant_of-self-in-Ok c =
@@ -25,4 +25,6 @@ invariant_of-self-in-Ok c =
           let here = subst (λ (xs : List ℕ). IsStateAt (mem_of (image_of old.image)) old.image.entry input old.count old.machine.hart (held_pages old.machine.memory) old.machine.intake.ended xs) (sym is) from in
           let there = c.in-Ok.ensures.state (mem_of (image_of old.image)) old.image.entry input old.count more stays here in
           subst (λ (xs : List ℕ). IsStateAt (mem_of (image_of old.image)) old.image.entry input (old.count + c.in-Ok.ran.steps + more) new.hart (held_pages new.memory) new.intake.ended xs) further there);
+      kept_states = old.kept_states;
+      few = old.few;
     }
