@@ -2,5 +2,5 @@
 pub mod QuietLemmas
 -- Going on from a state of a run leads to another.
 pub mod ReplayedLemmas
--- States that are kept, when some are dropped.
+-- States that are kept, when some are dropped or one is added.
 pub mod KeptLemmas
