@@ -3,7 +3,7 @@
 use Rattle.std.proofs.Common.{◌≡◌, ℕ, zero, suc, ◌+◌, ◌-◌, ◌%◌, ◌^◌, ◌≤◌, ◌<◌, Bool, true, false, not, cond, ◌&&◌, ◌||◌, List, [], ◌∷◌, Option, Some, None, length, get_or, slice_get, take, drop, map, refl, ap, sym, subst, ◌∙◌, arith}
 use Rattle.std.specs.Prelude.{nat_le, nat_lt, replicate, if◌then◌else◌}
 use Rattle.std.specs.List.{list_all}
-use Rattle.std.proofs.lemmas.Bool.{and_parts, false_from_ne_true, not_from_true, true≢false}
+use Rattle.std.proofs.lemmas.Bool.{and_parts}
 use Rattle.std.proofs.lemmas.Bool.Decides.{nat_tests}
 use Rattle.std.proofs.lemmas.List.{take_all}
 use Rattle.rv_list_laws.proofs.ElementsLemmas.{get_front}
@@ -66,19 +66,15 @@ disjoint ss apart i j x s t at_i at_j held_s held_t =
     disjoint-with-stack ss last_byte is_stack apart i j x s t (get_front ss (last_byte ∷ []) i s at_i) (get_front ss (last_byte ∷ []) j t at_j) held_s held_t
 
 -- none has an address of the stack
-away : (s : Segment) (x : ℕ) → not (meets_stack s) ≡ true → stack_start ≤ x → x < stack_end → lies_in s x ≡ false
-away s x h low high =
-    false_from_ne_true (lies_in s x)
-    (λ held.
-    let meets : meets_stack s ≡ true = grind (arith, nat_tests) in
-    true≢false (sym h ∙ not_from_true (meets_stack s) meets))
+lacks : (s : Segment) (x : ℕ) → not (meets_stack s) ≡ true → stack_start ≤ x → x < stack_end → lies_in s x ≡ false
+lacks s x away low high = grind (arith, nat_tests)
 
 pub none_in_stack : (ss : List Segment) (x : ℕ) → are_apart ss ≡ true → stack_start ≤ x → x < stack_end → segment_at ss x ≡ None
 none_in_stack [] x apart low high = refl
 none_in_stack (s ∷ ss) x apart low high =
     let both = and_parts (not (meets_stack s) && list_all (λ t. not (meets_segment s t)) ss) (are_apart ss) apart in
     let first = and_parts (not (meets_stack s)) (list_all (λ t. not (meets_segment s t)) ss) both.0 in
-    ap (λ (b : Bool). cond b (Some s) (segment_at ss x)) (away s x first.0 low high) ∙ none_in_stack ss x both.1 low high
+    ap (λ (b : Bool). cond b (Some s) (segment_at ss x)) (lacks s x first.0 low high) ∙ none_in_stack ss x both.1 low high
 
 pub stack_zero : (image : Image) (x : ℕ) → are_apart image.segments ≡ true → stack_start ≤ x → x < stack_end → (mem_of image).byte x ≡ 0
 stack_zero image x apart low high = ap (λ (o : Option Segment). byte_in o x) (none_in_stack image.segments x apart low high)
@@ -134,7 +130,7 @@ readable (t ∷ ss) zero s all at =
 readable (t ∷ ss) (suc i) s all at = readable ss i s (and_parts (is_readable t) (list_all is_readable ss) all).1 at
 
 pub can_be_read : (s : Segment) → is_readable s ≡ true → gives_right s.flags Write ≡ true → gives_right s.flags Read ≡ true
-can_be_read s h write = subst (λ (b : Bool). (not b || gives_right s.flags Read) ≡ true) write h
+can_be_read s h write = rw write at h
 
 -- an element of the code's list
 pub segment_read : (image : DeclaredImage) (list : List DeclaredSegment) (i : ℕ) (s : DeclaredSegment) → list ≡ image.segments.items → i < length list → s ≡ get_or list i s →

@@ -8,7 +8,6 @@ use Rattle.std.proofs.lemmas.Grind.{common_steps}
 use Rattle.byteorder.specs.Endian.{little_number}
 use Rattle.rv_isa.specs.declared.instruction.Inst.{Inst}
 use Rattle.rv_isa_laws.specs.Bytes.{little_endian}
-use Rattle.rv_isa_laws.proofs.BytesLemmas.{little_long}
 use Rattle.rv_isa_laws.specs.Memory.{Mem, Read, Write, may, with_byte, with_bytes, with_number}
 use Rattle.rv_isa_laws.specs.Hart.{Hart, register}
 use Rattle.rv_isa_laws.specs.Effect.{Effect, Goes, Loads, Stores, Reserves, Conditional, Updates, Calls, Breaks, Next, On, Over, apply, environment_call}
@@ -17,6 +16,7 @@ use Rattle.rv_isa_laws.specs.Reader.{Reader}
 use Rattle.rv_isa_laws.specs.Run.{Fetched, Got, NoRight, NoInstruction, fetch, done, step}
 use Rattle.rv_isa_laws.specs.Word.{Spells}
 use Rattle.rv_parcel.specs.Parcel.{StandsFor}
+use Rattle.rv_isa_laws.proofs.BytesLemmas.{little_long}
 use Rattle.rv_isa_laws.proofs.ReaderLemmas.{word_read, word_read-exact}
 use Rattle.rv_parcel.proofs.ReaderLemmas.{reader, reader-exact}
 use Rattle.rv_image_laws.specs.Image.{Image}

@@ -7,7 +7,8 @@
 //! written, and any bytes are either the state of `state_in` or refused.
 //!
 //! Main contracts: `resume` gives the machine of `state_in`, and of what `snapshot` gives, `state_in` is the machine that it
-//! was given. It must not know files, streams or how a run ends.
+//! was given. That it may be called for a machine of a run, the laws tell: [`runs_keep`], [`snapshots_keep`] and
+//! [`keeping_goes_on`]. It must not know files, streams or how a run ends.
 //!
 //! ```text
 //! let kept = snapshot(alloc, &image, &machine, taken)?;

@@ -5,8 +5,6 @@
 ghost use Rattle.std.specs.Prelude.{
   ◌≡◌,
   ◌≤◌,
-  ◌<◌,
-  ◌+◌,
   ◌++◌,
   ℕ,
   List,
@@ -24,7 +22,6 @@ ghost use Rattle.std.specs.Prelude.{
   MatchOption,
 };
 ghost use Rattle.rv_image.specs.Views.{image_of};
-ghost use Rattle.rv_image_laws.specs.Memory.{mem_of};
 ghost use Rattle.rv_machine.specs.Hart.{hart_of, reservation_of};
 ghost use Rattle.rv_memory.specs.HeldPages.{held_pages};
 ghost use Rattle.rv_snapshots.specs.Snapshot.{

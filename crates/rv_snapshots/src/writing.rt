@@ -6,16 +6,12 @@
 ghost use Rattle.std.specs.Prelude.{
   ◌≡◌,
   ◌≤◌,
-  ◌<◌,
-  ◌^◌,
   ℕ,
-  ◌++◌,
   List,
   [],
   true,
   false,
   Some,
-  None,
   length,
   drop,
   slice_index,
@@ -27,7 +23,7 @@ ghost use Rattle.std.specs.Prelude.{
 ghost use Rattle.rv_isa_laws.specs.Memory.{Mem, bytes_at, may, Read as ToRead, Write as ToWrite};
 ghost use Rattle.rv_image.specs.SegmentView.{segment_of};
 ghost use Rattle.rv_image.specs.Views.{image_of};
-ghost use Rattle.rv_image_laws.specs.Memory.{mem_of, gives_right};
+ghost use Rattle.rv_image_laws.specs.Memory.{mem_of};
 ghost use Rattle.rv_machine.specs.Hart.{hart_of, reservation_of};
 ghost use Rattle.rv_memory.specs.HeldPages.{held_pages};
 ghost use Rattle.rv_snapshots.specs.Keeps.{Keeps};
