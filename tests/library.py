@@ -4,8 +4,8 @@
 usage: library.py [FOLDER]    (that of librv; out/library if it is there, else out/quick-library)
 
 Expected values come from the worked rows of the definitions (crates/rv_examples), from GNU's tools and from
-qemu-riscv64; what is not installed is passed over, with a line. Standard library alone; the last line is
-'N passed, M failed'.
+qemu-riscv64, and random arguments go to each function under valgrind, ASan and UBSan (tests/against/library_calls.py);
+what is not installed is passed over, with a line. Standard library alone; the last line is 'N passed, M failed'.
 """
 
 import importlib.util
@@ -18,6 +18,8 @@ import sys
 import tempfile
 from concurrent.futures import ThreadPoolExecutor
 from pathlib import Path
+
+from against import library_calls
 
 TOP = Path(__file__).resolve().parent.parent
 FOLDERS = ("out/library", "out/quick-library")
@@ -66,6 +68,8 @@ ENDS = (
 # Of the cases of tests/ one in so many is tried, if its sources are not longer than this; the most instructions of
 # its run.
 EACH, LONG, LIMIT = 12, 100_000, 100_000
+# How many seeds make random calls.
+SEEDS = 10
 # Sources that GNU as assembles as well, one instruction a line.
 CODE = "addi a0, a1, -3\nsd s0, 16(sp)\nlui t0, 0x12345\nmul a2, a3, a4\namoswap.w.aq t0, t1, (a0)\nsraiw a5, a5, 3\n"
 
@@ -261,6 +265,13 @@ def beside_gnu(rv, folder):
     yield "an executable of GNU ld", status == 0 and rv.run(theirs).end.code == 42, ""
 
 
+def random_calls(rv, librv, folder):
+    """Random arguments of each function, under each tool that looks for wrong accesses."""
+    for name, found, counts in library_calls.compared(rv, librv, folder, SEEDS):
+        print("\n".join(library_calls.told(name, counts)), flush=True)
+        yield f"random calls, {name}", not found, "\n".join(found)
+
+
 def said(words, folder):
     """The status, standard output and the message of a command of ./rv, without `rv: `."""
     how = {"stdin": subprocess.DEVNULL, "capture_output": True, "cwd": folder, "timeout": 60}
@@ -350,6 +361,7 @@ def results(rv, folder):
     package = known(rv)
     yield from worked(package)
     yield from at_once(package)
+    yield from random_calls(package, rv, folder)
     yield from beside_gnu(package, folder)
     yield from beside_rv(package, folder)
 
