@@ -56,13 +56,17 @@ def shown(page, known):
 
 
 def directives(text, page):
-    """Each directive with its operands, which the manual has behind it or behind another of its sort."""
-    found = re.findall(r'\("(\.[^"]+)", DirectiveWord::(\w+)', text)
-    behind = {}
-    for name, _, operands in (it.partition(" ") for it in CODE.findall(page)):
-        for sort in (sort for it, sort in found if it == name and operands and sort not in ("Ignored", "Enters")):
-            behind.setdefault(sort, operands)
-    return {name: behind.get(sort, "") for name, sort in sorted(found)}
+    """Each directive with its operands, which the manual has behind it, behind another of its sort, or behind the one
+    before it in a list."""
+    sorts, behind = dict(re.findall(r'\("(\.[^"]+)", DirectiveWord::(\w+)', text)), {}
+    lists = re.findall(r"^- (`\..*?)(?:: |$)", page, re.M)
+    for line, is_list in [(page, False), *((it, True) for it in lists)]:
+        last = ""
+        for name, _, operands in (it.partition(" ") for it in CODE.findall(line)):
+            last = operands or (last if is_list else "")
+            if last and sorts.get(name, "Ignored") not in ("Ignored", "Enters"):
+                behind.setdefault(sorts[name], last)
+    return {name: behind.get(sort, "") for name, sort in sorted(sorts.items())}
 
 
 def entries(text):
