@@ -34,13 +34,13 @@ Breakpoint 1 at 0x10050
 one
 Breakpoint 1, 0x0000000000010050 in ?? ()
 (gdb) monitor stats
-7999998 instructions from the start, limit 1000000000000
+8000002 instructions from the start, limit 1000000000000
 (gdb) reverse-stepi
 0x000000000001004c in ?? ()
 (gdb) reverse-stepi
 0x0000000000010048 in ?? ()
 (gdb) print $t0
-$1 = 3999999
+$1 = 4000000
 (gdb) watch *(int *) 0x11000
 Hardware watchpoint 2: *(int *) 0x11000
 (gdb) reverse-continue
