@@ -43,7 +43,8 @@ export class Runs {
     if (first.fault || first.end.name !== "Limit" || addresses.includes(first.pc)) {
       return first.count;
     }
-    const broken = new States(this.#library, withBreaks(executable, addresses), input, states.nearest(from + 1));
+    const start = { step: first.count, kept: first.kept, written: first.written };
+    const broken = new States(this.#library, withBreaks(executable, addresses), input, start);
     const state = broken.at(limit, told);
     // (the `ebreak` counts, and is not done in the true run)
     const isThere = !state.fault && state.end.name === "Breakpoint" && addresses.includes(state.pc);

@@ -37,19 +37,19 @@ export class States {
   }
 
   /** The nearest state that is kept at a step or below. @returns {Kept} */
-  nearest(step) {
+  #nearest(step) {
     return this.#all.findLast((it) => it.step <= step);
   }
 
   /**
    * The state after some instructions, or at the end of the run where that comes before.
    * @param {Told} [told] hears how many instructions are done
-   * @returns {{fault: import("./library.js").Fault} | State}
+   * @returns {{fault: import("./library.js").Fault} | State & {kept: Uint8Array}}
    */
   at(step, told = () => {}, address = 0n, size = 0) {
     let last = Date.now();
     for (let slice = FIRST_SLICE; ; slice = Math.min(slice * GROWTH, LONGEST_SLICE)) {
-      const from = this.nearest(step), steps = Math.min(slice, step - from.step);
+      const from = this.#nearest(step), steps = Math.min(slice, step - from.step);
       const state = this.#from(from, steps, address, size);
       if (state.fault || state.end.name !== "Limit" || state.count === step) {
         return state;

@@ -29,6 +29,9 @@ function build({ sources, names }) {
   return { findings, program };
 }
 
+/** A state as the page shows it. */
+const shown = ({ kept, ...state }) => state;
+
 const CALLS = {
   async open({ module }) {
     library = await Library.over(module);
@@ -36,8 +39,9 @@ const CALLS = {
     return true;
   },
   build,
-  state: ({ executable, input, steps, address, size }, told) => runs.at(executable, input, steps, told, address, size),
-  length: ({ executable, input, limit }, told) => runs.at(executable, input, limit, told),
+  state: ({ executable, input, steps, address, size }, told) =>
+    shown(runs.at(executable, input, steps, told, address, size)),
+  length: ({ executable, input, limit }, told) => shown(runs.at(executable, input, limit, told)),
   reach: ({ executable, input, from, addresses, limit }, told) =>
     runs.toOne(executable, input, from, addresses, limit, told),
   over: ({ executable, input, from, limit }, told) => runs.over(executable, input, from, textAt, limit, told),
