@@ -4,7 +4,7 @@
  */
 
 /** The first slice is short, because engines run a function's quick code only from its next call on. */
-const FIRST_SLICE = 100_000, GROWTH = 4, LONGEST_SLICE = 25_600_000;
+const FIRST_SLICE = 100_000, GROWTH = 4, LONGEST_SLICE = 6_400_000;
 /** How many states are kept at most, and how many bytes they have together. */
 const MOST_STATES = 200, MOST_BYTES = 1 << 26;
 /** How often to tell how far a run is, in milliseconds. */
