@@ -8,8 +8,8 @@ usage: ci.py
 anew for each way that leads down to a crate: of these there are 800,000 below the program, which takes an hour of one
 processor. Here each stamp is made once (kit.py). It also plans on nearly twice the memory that these crates take, so
 that half the processors would be idle: here it gets as many lanes as there are processors and 5 GB of memory for
-each, unless RT_JOBS says how many. And it tries edits by the functions that they change (edits.py). With a kit that
-kit.py does not know it is `rt ci` as it stands.
+each, unless RT_JOBS says how many. It tries edits by the functions that they change (edits.py), and builds the static
+library that it has proved (library.py). With a kit that kit.py does not know it is `rt ci` as it stands.
 
 A proof on a full disk ends with `it has no checked file in this check`, so there has to be room before the first.
 """
@@ -22,6 +22,7 @@ import tempfile
 
 import edits
 import kit
+import library
 
 EACH = 5_000_000_000
 # What proofs of all crates write.
@@ -42,10 +43,16 @@ def stop_without_room():
             sys.exit(f"{folder}: {free // 10**9} GB are free, and the proofs of all crates need {ROOM // 10**9}")
 
 
+def change(rt):
+    """Changes the kit's module, here alone."""
+    edits.try_by_function(rt)
+    library.build_in_gate(rt)
+
+
 if __name__ == "__main__":
     os.environ.setdefault("RT_JOBS", str(lanes()))
     words = sys.argv[1:] or ["ci"]
     if words == ["ci"]:
         stop_without_room()
     is_known = kit.version() in kit.KNOWN
-    sys.exit(kit.run(words, edits.try_by_function) if is_known else subprocess.run(["rt", *words]).returncode)
+    sys.exit(kit.run(words, change) if is_known else subprocess.run(["rt", *words]).returncode)

@@ -25,9 +25,10 @@ import quick
 
 ROOT = Path(kit.ROOT)
 CRATE = "rv_library"
-# Where `make library` puts it, and the module that a proved build was made of, for the page.
+# Where `make library` puts it, the module that a proved build was made of, for the page, and the gate's archive.
 FOLDER = ROOT / "out/library"
 MODULE = ROOT / "crates" / CRATE / "out" / f"{CRATE}.bc"
+ARCHIVE = MODULE.with_suffix(".a")
 # The version is the header's; the first number is that of what programs were linked with.
 VERSION = re.search(r'#define RV_VERSION "(.*)"', (ROOT / "include/rv.h").read_text())[1]
 SONAME = f"librv.so.{VERSION.split('.')[0]}"
@@ -57,6 +58,35 @@ def proved():
     if process.returncode:
         build.stop(CRATE, process.returncode, process.stdout)
     return own / "out" / f"lib{CRATE}.a"
+
+
+def build_in_gate(rt):
+    """Changes the kit's module, here alone, so that `rt ci` also builds a static library, which it only proves: as a
+    program, it is compiled from what that check proved, and what was built is kept for the next run."""
+    prove, made, is_whole = rt.Crate.ci, rt.Kept.made, rt.Kept.is_whole
+    own = [ARCHIVE.name, MODULE.name]
+
+    def ci(crate, flags, tests):
+        if tests or not crate.is_static:
+            return prove(crate, flags, tests)
+        words = crate.words(flags, keeps=False)
+        with tempfile.TemporaryDirectory(prefix="proved-") as room:
+            status = crate.prove(["check", *words, "-o", f"{room}/checked"])
+            for flag in ("--logic-built", "--jobs"):
+                at = words.index(flag)
+                words[at : at + 2] = []
+            toolchain = kit.keeping_toolchain(f"{crate.folder}/out/{own[1]}", room)
+            words += ["--crate-checked", f"{room}/checked", "--toolchain", toolchain, "--backend", "llvm"]
+            return status or crate.call(rt.rtlib.RATTLE, "build", *words, "-o", f"out/{own[0]}")
+
+    def built(crate):
+        return [it for it in own if os.path.isfile(f"{crate.folder}/out/{it}")]
+
+    rt.Crate.ci = ci
+    rt.Kept.made = lambda kept, crate, tests: built(crate) if crate.is_static and not tests else made(kept, crate, tests)
+    rt.Kept.is_whole = lambda kept, crate, tests, files: (
+        files == own if crate.is_static and not tests else is_whole(kept, crate, tests, files)
+    )
 
 
 def join(made, folder, *more):

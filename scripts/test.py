@@ -2,10 +2,11 @@
 """The whole gate: make test.
 
 First `rt ci` (ci.py), with what each crate cost (gate_times.py): every proof from nothing, the wrong bodies that must
-be refused, the tests of the library. Then, over the programs that it built, the cases of tests/ and each request for
-memory refused; and the links of the documents, where want of memory is made, that a word of the definitions leads to
-one thing, what each storey names, which lemmas stand twice, and that the list of definitions and the lines on modules
-are today's. The last line sums all up as 'N passed, M failed'; the exit status is 0 if nothing failed.
+be refused, the tests of the library. Then, over the programs and the library that it built, the cases of tests/, the
+programs in other languages that call the library, the page, and each request for memory refused; and the links of the
+documents, where want of memory is made, that a word of the definitions leads to one thing, what each storey names,
+which lemmas stand twice, and that the list of definitions and the lines on modules are today's. The last line sums all
+up as 'N passed, M failed'; the exit status is 0 if nothing failed.
 """
 
 import re
@@ -15,6 +16,7 @@ import sys
 from pathlib import Path
 
 import gate_times
+import library
 import marks
 
 ROOT = Path(__file__).resolve().parent.parent
@@ -35,8 +37,11 @@ OF_PROGRAMS = [
     ["tests/editors.py"],
     ["tests/gdb.py"],
     ["tests/making.py"],
-    ["tests/page.py"],
     ["tests/refused.py"],
+]
+OF_LIBRARY = [
+    ["tests/library.py", "out/library"],
+    ["tests/page.py", "--make"],
 ]
 OF_FILES = [
     ["scripts/links.py"],
@@ -78,6 +83,10 @@ def main():
     copy(PROVED, ROOT / "rv")
     copy(ROOT / "crates/rv_refusal_tests/out/rv_refusal_tests", ROOT / "rv_refusal_tests")
     scripts = [*(OF_PROGRAMS if (ROOT / "rv").exists() else []), *OF_FILES]
+    shutil.rmtree(library.FOLDER, ignore_errors=True)
+    if library.ARCHIVE.exists():
+        library.join(library.ARCHIVE, library.FOLDER)
+        scripts += OF_LIBRARY
     sums += [result(words) for words in scripts]
     passed, failed = map(sum, zip(*sums))
     print(f"\n{passed} passed, {failed} failed", flush=True)
