@@ -1,75 +1,97 @@
-"""What ./rv gives for calls that need no files, and what the library gives in a page: cases of tests/, and random
-programs."""
+"""What ./rv gives for calls that need no files of a system, and what the library gives in a page: cases of tests/, and
+random programs.
+
+A case is its files and the calls that make others of them, up to the first that the library has not: each call is
+asked of both, with what each made itself.
+"""
 
 import base64
 import hashlib
 import json
 import os
-import random
 import re
 import subprocess
 import tempfile
+from collections import Counter
 from concurrent.futures import ThreadPoolExecutor
 from pathlib import Path
 
+import random_programs
 import run as cases_of
 
 ROOT = Path(__file__).resolve().parent.parent
 RV = ROOT / "rv"
-# A case with longer sources is left out, and a run has so many instructions at most.
-LONGEST, MOST, LIMIT = 4_000_000, 10_000_000, 20_000
+# A run has so many instructions at most, unless its case says fewer; and so many are those of a random program.
+MOST, LIMIT = 10_000_000, 20_000
 # (an address is written as hexadecimal, because JSON's numbers lose its last digits)
 TEXT_START, WITH_MAP = "0x10000", 4
 KNOWN = {"--no-relax": 1, "--gc-sections": 2}
-VERBS = ("build", "ld", "as", "list", "check")
+MAKERS = {"build": "executable", "ld": "executable", "as": "object"}
 NUMBER = re.compile(r"0x[0-9a-fA-F]+|\d+")
+# What a case changes in a file behind a call.
+CHANGES = {"patch", "cut", "archive", "wide", "unindexed"}
+# The bytes of one message to the page.
+MESSAGE = 8_000_000
 
 
 def letters(bytes_):
     return base64.b64encode(bytes_).decode()
 
 
-def call_of(files, head):
-    """A case as the library is asked it, or nothing where it needs files or another call."""
-    (words, _), *rest = cases_of.calls(files, head)
-    if not words or words[0] not in VERBS or any(key == "environment" for key, _ in head):
+def asked(files, head):
+    """A case as both are asked it, or nothing where its first call is none of the library's."""
+    if any(key == "environment" for key, _ in head):
         return None
-    call = {"verb": words[0], "flags": WITH_MAP, "start": TEXT_START, "limit": None, "input": ""}
-    names = names_of(call, words[1:], files)
-    if not names or call["verb"] == "as" and len(names) != 1:
-        return None
-    texts = [files[it] for it in names]
-    if sum(map(len, texts)) > LONGEST:
-        return None
-    if rest and rest[0][0][:1] == ["run"] and rest[0][0][-1] == "exe" and call["verb"] in ("build", "ld"):
-        put_run(call, *rest[0])
-    return {**call, "names": names, "texts": [*map(letters, texts)]}
+    steps, known = [], {*files}
+    for words, expected in cases_of.calls(files, head):
+        made = steps_of(words, expected, known)
+        steps += made
+        known |= {it["to"] for it in made if "to" in it}
+        if not made or CHANGES & {key for key, _ in expected}:
+            break
+    held = {it: letters(files[it]) for step in steps for it in step["names"] if it in files}
+    return {"files": held, "steps": steps} if steps else None
 
 
-def names_of(call, words, files):
-    """The files among the words of a call, whose options are put into it; none where it has other words."""
-    names, words = [], [*words]
-    is_link = call["verb"] in ("build", "ld")
+def steps_of(words, expected, known):
+    """What a call asks of the library; nothing where it needs other calls or other files."""
+    verb, *rest = words or [""]
+    if verb == "run" and rest and rest[-1] in known:
+        limit = number_behind("--limit", rest[:-1])
+        if len(rest) != (1 if limit is None else 3):
+            return []
+        given = b"".join(cases_of.repeated_text(value) for key, value in expected if key == "input")
+        step = {"verb": "run", "names": rest[-1:], "limit": MOST if limit is None else limit, "input": letters(given)}
+        builds = [step_of("build", [*rest[-1:], "-o", "exe"], known), {**step, "names": ["exe"]}]
+        return builds if rest[-1].endswith(".s") else [step]
+    step = step_of(verb, rest, known) if verb in (*MAKERS, "list", "check") else None
+    return [step] if step else []
+
+
+def number_behind(option, words):
+    value = words[words.index(option) + 1] if option in words else ""
+    return int(value) if value.isdigit() else None
+
+
+def step_of(verb, words, known):
+    """A call with its files and options; nothing where it has other words."""
+    step, words = {"verb": verb, "names": [], "flags": WITH_MAP, "start": TEXT_START, "to": verb}, [*words]
     while words:
         it = words.pop(0)
         if it in ("-o", "--map"):
-            words.pop(0)
-        elif it in KNOWN and is_link:
-            call["flags"] |= KNOWN[it]
-        elif it == "--text-start" and is_link and NUMBER.fullmatch(words[0]):
-            call["start"] = hex(int(words.pop(0), 0))
-        elif it in files:
-            names.append(it)
+            step["to"] = words.pop(0) if it == "-o" else (words.pop(0), step["to"])[1]
+        elif it in KNOWN and verb in ("build", "ld"):
+            step["flags"] |= KNOWN[it]
+        elif it == "--text-start" and verb in ("build", "ld") and NUMBER.fullmatch(words[0]):
+            step["start"] = hex(int(words.pop(0), 0))
+        elif verb == "check" and it.startswith("--format="):
+            continue
+        elif it in known and not it.endswith(".a"):
+            step["names"].append(it)
         else:
-            return []
-    return names
-
-
-def put_run(call, words, expected):
-    """Adds the run of what is built."""
-    limit = words[words.index("--limit") + 1] if "--limit" in words else ""
-    call["limit"] = int(limit) if limit.isdigit() else MOST
-    call["input"] = letters(b"".join(cases_of.repeated_text(value) for key, value in expected if key == "input"))
+            return None
+    is_whole = step["names"] and (verb != "as" or len(step["names"]) == 1) and step["to"] != "-"
+    return step if is_whole else None
 
 
 def program(words, folder, given=b""):
@@ -82,42 +104,80 @@ def fault_of(process):
     return process.stderr.decode("utf8", "replace").splitlines()[-1].removeprefix("rv: ")
 
 
-def by_program(call):
-    """What ./rv gives."""
-    verb, names = call["verb"], call["names"]
-    digest = lambda it: hashlib.sha256(it).hexdigest()
+def digest(bytes_):
+    return hashlib.sha256(bytes_).hexdigest()
+
+
+def by_program(case):
+    """What ./rv gives for each call, up to the first that is refused."""
+    found = []
     with tempfile.TemporaryDirectory() as folder:
-        for name, text in zip(names, call["texts"]):
-            Path(folder, name).write_bytes(base64.b64decode(text))
-        if verb == "check":
-            return {"text": digest(program(["check", "--json", *names], folder).stdout)}
-        options = [it for it, bit in KNOWN.items() if call["flags"] & bit] + ["--text-start", call["start"]]
-        more = {"as": ["-o", "obj"], "list": []}.get(verb, ["-o", "exe", "--map", "map", *options])
-        process = program([verb, *more, *names], folder)
-        if process.returncode:
-            return {"fault": fault_of(process)}
-        if verb == "list":
-            return {"text": digest(process.stdout)}
-        made = {"object": "obj"} if verb == "as" else {"executable": "exe", "map": "map"}
-        found = {it: digest(Path(folder, file).read_bytes()) for it, file in made.items()}
-        return found if call["limit"] is None else {**found, **run_by_program(call, folder)}
+        for name, held in case["files"].items():
+            Path(folder, name).write_bytes(base64.b64decode(held))
+        for step in case["steps"]:
+            found.append(step_by_program(step, folder))
+            if "fault" in found[-1]:
+                break
+    return found
 
 
-def run_by_program(call, folder):
-    process = program(["run", "--limit", str(call["limit"]), "exe"], folder, base64.b64decode(call["input"]))
+def step_by_program(step, folder):
+    verb, names = step["verb"], step["names"]
+    if verb == "check":
+        return {"text": digest(program(["check", "--json", *names], folder).stdout)}
+    if verb == "run":
+        return run_by_program(step, folder)
+    options = ["--text-start", step.get("start", TEXT_START)]
+    options += [it for it, bit in KNOWN.items() if step["flags"] & bit]
+    words = {"as": ["-o", step["to"]], "list": []}.get(verb, ["-o", step["to"], "--map", "map", *options])
+    process = program([verb, *words, *names], folder)
+    if process.returncode:
+        return {"fault": fault_of(process)}
+    if verb == "list":
+        return {"text": digest(process.stdout)}
+    made = {MAKERS[verb]: step["to"], **({} if verb == "as" else {"map": "map"})}
+    return {it: digest(Path(folder, file).read_bytes()) for it, file in made.items()}
+
+
+def run_by_program(step, folder):
+    words = ["run", "--limit", str(step["limit"]), *step["names"]]
+    process = program(words, folder, base64.b64decode(step["input"]))
+    is_fault = process.returncode == 1 and process.stderr.startswith(b"rv: ")
+    if is_fault:
+        return {"fault": fault_of(process)}
     end = fault_of(process) if process.stderr.startswith(b"rv: ") else f"exit {process.returncode}"
     return {"console": letters(process.stdout), "end": end, "isSame": True}
 
 
-def differences(tab, name, calls, each=50):
-    """Compares calls, shows a few that differ, and gives their count."""
+def outcome(given):
+    """What came of a call, in a word."""
+    if "fault" in given:
+        return "refused"
+    return given["end"].split()[0] if "end" in given else "+".join(given)
+
+
+def parts(cases):
+    """Cases in messages of some bytes each."""
+    part, size = [], 0
+    for it in cases:
+        part.append(it)
+        size += 300 + sum(map(len, it["files"].values()))
+        if size > MESSAGE:
+            yield part
+            part, size = [], 0
+    yield part
+
+
+def differences(tab, name, cases):
+    """Compares cases, tells what came of them and a few that differ, and gives how many differ."""
     with ThreadPoolExecutor(len(os.sched_getaffinity(0))) as pool:
-        wanted = [*pool.map(by_program, [it for _, it in calls])]
+        wanted = [*pool.map(by_program, [it for _, it in cases])]
     # (only then, because Chromium is not heard while processes begin beside it)
-    parts = [[it for _, it in calls[at : at + each]] for at in range(0, len(calls), each)]
-    came = [it for part in parts for it in tab.look("given", part)]
-    wrong = [(it[0], one, other) for it, one, other in zip(calls, wanted, came) if one != other]
-    print(f"{len(calls)} {name} compared, {len(wrong)} differ", flush=True)
+    came = [it for part in parts(it for _, it in cases) for it in tab.look("given", part)]
+    wrong = [(it[0], one, other) for it, one, other in zip(cases, wanted, came) if one != other]
+    ends = Counter(outcome(it) for case in wanted for it in case)
+    print(f"{len(cases)} {name} compared, {len(wrong)} differ; {ends.total()} calls: ", end="")
+    print(", ".join(f"{count} {it}" for it, count in ends.most_common()), flush=True)
     for it in wrong[:5]:
         print(*it, sep="\n  ")
     return len(wrong)
@@ -125,54 +185,16 @@ def differences(tab, name, calls, each=50):
 
 def cases():
     """The cases that can be asked, and how many there are in all."""
-    known = [(name, call_of(files, head)) for name, files, head in cases_of.cases([])]
+    known = [(name, asked(files, head)) for name, files, head in cases_of.cases([])]
     return [it for it in known if it[1]], len(known)
 
 
-class Random:
-    """A random program, of any statements, so that most end in some access or at the limit."""
-
-    def __init__(self, seed, words):
-        self.any, self.words = random.Random(seed), words
-        self.registers = words["registers"]
-        jumps = ("jalr", "jr", "c.jr", "c.jalr", "jump")
-        self.names = [name for name, form in words["mnemonics"].items() if form and name not in jumps]
-
-    def number(self):
-        return str(self.any.choice([0, 1, -1, 4, 8, 16, 31, 2047, -2048, self.any.randrange(-40, 40)]))
-
-    def operand(self, word):
-        if word in ("label", "x"):
-            return f"l{self.any.randrange(8)}"
-        return self.number() if word in ("number", "n") else self.any.choice(self.registers[:16])
-
-    def statement(self):
-        name = self.any.choice(self.names)
-        operands = re.sub(r"[a-z]\w*", lambda it: self.operand(it[0]), self.words["mnemonics"][name])
-        if re.match(r"(lr|sc|amo\w+)\.|[ls][bhwd]u?$", name):
-            operands = re.sub(r"-?\d*\(\w+\)", lambda _: f"({self.any.choice(['s0', 's1'])})", operands)
-        return f"{name} {operands}"
-
-    def text(self):
-        values = [0, 1, -1, 2**63, 2**31 - 1, self.any.getrandbits(64)]
-        lines = [".globl _start", "_start: la s0, room", "la s1, room + 64"]
-        lines += [f"li {self.any.choice(self.registers[5:])}, {self.any.choice(values)}" for _ in range(6)]
-        for at in range(8):
-            lines += [f"l{at}:", *(self.statement() for _ in range(self.any.randrange(1, 6)))]
-        lines += ["li a7, 64", "li a0, 1", "la a1, room", "li a2, 128", "ecall", "li a7, 93", "mv a0, s3", "ecall"]
-        return "\n".join([*lines, ".data", "room: .zero 128", ""])
-
-
-def random_calls(count, language):
+def random_cases(count, language):
+    """Random programs, each built and run; of every fifth the faults and warnings, of every fifth the listing."""
     words = json.loads(language.read_text())
     for seed in range(count):
-        texts = [letters(Random(seed, words).text().encode())]
-        yield f"random {seed}", {
-            "verb": "build",
-            "flags": WITH_MAP,
-            "start": TEXT_START,
-            "limit": LIMIT,
-            "input": "",
-            "names": ["a.s"],
-            "texts": texts,
-        }
+        text, given = random_programs.program(seed, words)
+        more = {0: [step_of("check", ["a.s"], {"a.s"})], 1: [step_of("list", ["a.s"], {"a.s"})]}.get(seed % 5, [])
+        run = {"verb": "run", "names": ["exe"], "limit": LIMIT, "input": letters(given)}
+        steps = [*more, step_of("build", ["a.s", "-o", "exe"], {"a.s"}), run]
+        yield f"random {seed}", {"files": {"a.s": letters(text.encode())}, "steps": steps}
