@@ -3,6 +3,7 @@ alone."""
 
 import fcntl
 import functools
+import gzip
 import http.server
 import json
 import os
@@ -13,6 +14,7 @@ import tempfile
 import threading
 import time
 from contextlib import contextmanager
+from pathlib import Path
 
 SECONDS = 120
 NAMES = ("chromium", "chromium-browser", "google-chrome", "chrome")
@@ -28,8 +30,30 @@ def program():
     return next(filter(None, map(shutil.which, NAMES)), None)
 
 
-class Quiet(http.server.SimpleHTTPRequestHandler):
+@functools.cache
+def packed(path, _):
+    """A file as servers send it; the second word is its time."""
+    return gzip.compress(path.read_bytes(), 9)
+
+
+class Packing(http.server.SimpleHTTPRequestHandler):
+    """Gives the files of a folder, packed, and writes no log."""
+
     extensions_map = {**http.server.SimpleHTTPRequestHandler.extensions_map, ".wasm": "application/wasm"}
+
+    def do_GET(self):
+        path = Path(self.translate_path(self.path))
+        path = path / "index.html" if path.is_dir() else path
+        if not path.is_file():
+            self.send_error(404)
+            return
+        held = packed(path, path.stat().st_mtime_ns)
+        self.send_response(200)
+        self.send_header("Content-Type", self.guess_type(path))
+        self.send_header("Content-Encoding", "gzip")
+        self.send_header("Content-Length", str(len(held)))
+        self.end_headers()
+        self.wfile.write(held)
 
     def log_message(self, *_):
         pass
@@ -38,7 +62,7 @@ class Quiet(http.server.SimpleHTTPRequestHandler):
 @contextmanager
 def served(folder):
     """The address of a server of a folder."""
-    server = http.server.ThreadingHTTPServer(("127.0.0.1", 0), functools.partial(Quiet, directory=str(folder)))
+    server = http.server.ThreadingHTTPServer(("127.0.0.1", 0), functools.partial(Packing, directory=str(folder)))
     threading.Thread(target=server.serve_forever, daemon=True).start()
     try:
         yield f"http://127.0.0.1:{server.server_address[1]}/"
@@ -106,7 +130,16 @@ class Chromium:
             self.process.wait()
 
 
-KEY_CODES = {"Enter": 13, "Tab": 9, "Escape": 27, "Space": 32, **{f"F{at}": 111 + at for at in range(1, 13)}}
+# Where the middle of an element is, once it is scrolled to.
+PLACE = """(selector) => {
+  const it = document.querySelector(selector);
+  it?.scrollIntoView({ block: "nearest" });
+  const box = it?.getBoundingClientRect();
+  return box ? { x: box.left + box.width / 2, y: box.top + box.height / 2 } : null;
+}"""
+KEY_CODES = {"Enter": 13, "Tab": 9, "Escape": 27, "Space": 32}
+KEY_CODES |= {"End": 35, "Home": 36, "ArrowLeft": 37, "ArrowUp": 38, "ArrowRight": 39, "ArrowDown": 40}
+KEY_CODES |= {f"F{at}": 111 + at for at in range(1, 13)}
 BITS = {"Alt": 1, "Control": 2, "Shift": 8}
 
 
@@ -159,8 +192,21 @@ class Tab:
         sign = " " if key == "Space" else key
         words = {"key": sign, "code": key, "windowsVirtualKeyCode": KEY_CODES[key]}
         words["modifiers"] = sum(BITS[it] for it in held)
-        self.command("Input.dispatchKeyEvent", type="rawKeyDown", **words)
+        # (Enter is done by what it writes)
+        down = {"type": "keyDown", "text": "\r"} if keys == "Enter" else {"type": "rawKeyDown"}
+        self.command("Input.dispatchKeyEvent", **down, **words)
         self.command("Input.dispatchKeyEvent", type="keyUp", **words)
+
+    def point(self, selector, clicks=1):
+        """Moves the mouse to the middle of an element, and clicks so many times."""
+        place = self.run(PLACE, selector)
+        if place is None:
+            raise Refused(f"nothing is {selector}")
+        told = {"x": place["x"], "y": place["y"]}
+        self.command("Input.dispatchMouseEvent", type="mouseMoved", **told)
+        for count in range(1, clicks + 1):
+            for kind in ("mousePressed", "mouseReleased"):
+                self.command("Input.dispatchMouseEvent", type=kind, button="left", clickCount=count, **told)
 
     def size(self, width, height):
         words = {"width": width, "height": height, "deviceScaleFactor": 1, "mobile": width < 600}

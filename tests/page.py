@@ -8,19 +8,18 @@ usage: page.py                  over page/, with every tenth case
        page.py --only NAME      one use alone, as `shares`
        page.py --random N       N random programs in place of 300
        page.py --pictures DIR   keeps what was seen
-       page.py --figures        prints sizes and times
+       page.py --make           makes the page first, where Chromium is installed
 
-Where Chromium is not installed or does not start, or there is no page of today's sources, it says so and passes; it makes
-none. Standard library alone; the last line is 'N passed, M failed'.
+Where Chromium is not installed or does not start, or there is no page of today's sources, it says so and passes.
+Standard library alone; the last line is 'N passed, M failed'.
 """
 
 import argparse
 import base64
 import gzip
-import resource
+import json
 import subprocess
 import sys
-import tempfile
 import time
 from pathlib import Path
 
@@ -29,7 +28,7 @@ import page_calls
 
 ROOT = Path(__file__).resolve().parent.parent
 PAGE = ROOT / "page"
-SEEN = (ROOT / "tests/page/seen.js").read_text()
+SEEN = "".join((ROOT / "tests/page" / it).read_text() for it in ("seen.js", "audit.js"))
 MOST_PACKED = 400_000
 SAMPLED = 10
 WIDE, MIDDLE, NARROW, LEAST = (1440, 900), (900, 1000), (390, 844), (320, 640)
@@ -43,6 +42,15 @@ _start: li   a0, 7
         ecall
 """
 FAULTY = SEVEN.replace("li   a0, 7", "addi a0, zero, 4000")
+STORES = """.globl _start
+_start: la   a0, place
+        li   a1, 0x41
+        sb   a1, 1(a0)
+        li   a7, 93
+        ecall
+.data
+place:  .word 7
+"""
 CALLS = """.globl _start
 _start: li   a0, 1
         call twice
@@ -52,6 +60,10 @@ _start: li   a0, 1
 twice:  add  a0, a0, a0
         ret
 """
+TWO = [
+    ".globl _start\n_start: call seven\n        li a7, 93\n        ecall\n",
+    ".globl seven\nseven: li a0, 7\n       ret\n",
+]
 # It is to be stopped while a person waits, on a machine that does other work.
 AT_ONCE = 3
 ENDLESS = "# limit: 100000000000\n.globl _start\n_start: addi a0, a0, 1\n        j _start\n"
@@ -122,6 +134,19 @@ class Person(browser.Tab):
     def click(self, *buttons):
         for it in buttons:
             self.look("click", it)
+
+    def handles(self, selector):
+        """The handles by which DevTools knows elements."""
+        words = {"expression": f"[...document.querySelectorAll({json.dumps(selector)})]"}
+        found = self.command("Runtime.evaluate", **words)["result"]["objectId"]
+        held = self.command("Runtime.getProperties", objectId=found, ownProperties=True)["result"]
+        return [it["value"]["objectId"] for it in held if it["name"].isdigit()]
+
+    def told(self, handle):
+        """The name of an element, and whether it takes the focus."""
+        script = "function() { return [this.tagName + (this.className && '.' + this.className), this.tabIndex >= 0]; }"
+        words = {"functionDeclaration": script, "returnByValue": True}
+        return self.command("Runtime.callFunctionOn", objectId=handle, **words)["result"]["value"]
 
     def has_register(self, number, value):
         same(f"x{number}", f"{value:016x}", self.look("register", number))
@@ -224,6 +249,9 @@ def tells_of_crashes(person):
     person.shows("end", "StoreOutside 5d after 3 instructions")
     person.shows("end", ":4: sd a0,0(a7) at 10006")
     person.shows("end", "Cure: ")
+    same("the line that is marked", "        sd   a0, (a7)", person.look("shown", ".layer .now").rstrip("\n"))
+    person.point("#end .link")
+    same("the line of the crash", 4, person.look("line"))
 
 
 def reads_and_writes(person):
@@ -262,15 +290,45 @@ def keeps_what_was_written(person):
     same("the program of the last visit", CALLS, person.look("value", "source"))
 
 
+def keeps_each_program(person):
+    """An example takes the place of nothing that was written here."""
+    person.enter()
+    person.put(CALLS)
+    person.look("choose", "upper.s")
+    person.settle()
+    same("what is open", "upper.s", person.look("chosen", "examples"))
+    person.put(SEVEN)
+    person.look("choose", "a new program")
+    person.settle()
+    person.shows("faults", "No fault")
+    first = person.look("programs", "Examples")[0]
+    same("the programs that were written here", ["upper.s", first], person.look("programs", "Yours"))
+    person.look("choose", first)
+    person.settle()
+    same("the program of before", CALLS, person.look("value", "source"))
+    person.enter(has_forgotten=False)
+    same("it at the next visit", CALLS, person.look("value", "source"))
+    same("and the other one", [first, "upper.s"], person.look("programs", "Yours"))
+
+
 def has_several_files(person):
     person.enter()
-    person.put(".globl _start\n_start: call seven\n        li a7, 93\n        ecall\n")
+    person.put(TWO[0])
     person.shows("faults", "L5")
     person.look("addFile")
-    person.put(".globl seven\nseven: li a0, 7\n       ret\n")
+    person.put(TWO[1])
     person.shows("faults", "No fault")
     person.click("run")
     person.shows("end", "Exited with 7")
+    # the file in which the run is is shown, but not while another is written
+    person.click("restart")
+    person.shows("place", "Step 0 of")
+    same("the file of the start", TWO[0], person.look("value", "source"))
+    person.click("step")
+    person.shows("place", "Step 1 of")
+    same("the file of the function", TWO[1], person.look("value", "source"))
+    person.put(TWO[1] + "# more\n")
+    same("the file that is written", TWO[1] + "# more\n", person.look("value", "source"))
 
 
 def completes(person):
@@ -282,8 +340,23 @@ def completes(person):
     person.press("Tab")
     demand("amoadd.d" in person.look("value", "source"), "Tab does not take the choice")
     person.write(" a0, a1, (s")
-    time.sleep(0.1)
+    person.until("choices")
     demand(any(it.startswith("sp") for it in person.look("choices")), f"offered is {person.look('choices')}")
+
+
+def completes_in_sight(person):
+    """In the last line of a long source too, when faults come and take room from the editor."""
+    person.enter()
+    person.put(SEVEN + "# more\n" * 60)
+    person.write("        amo")
+    person.until("choices")
+    person.shows("faults", "E6 UnknownMnemonic")
+    for size in (WIDE, NARROW):
+        person.size(*size)
+        time.sleep(0.2)
+        for it in ("#choices", ".layer .line:last-child"):
+            demand(person.look("isInSight", it, "#editor"), f"{it} is out of sight, {size[0]} wide")
+    person.size(*WIDE)
 
 
 def tells_of_exercises(person):
@@ -291,6 +364,7 @@ def tells_of_exercises(person):
         person.enter()
         demand(person.look("choose", name), f"there is no {name}")
         person.settle()
+        person.shows("end", "Exercise: wanted is ")
         person.click("run")
         person.shows("end", "The exercise is not met yet")
         text = person.look("value", "source")
@@ -302,52 +376,225 @@ def tells_of_exercises(person):
         person.shows("end", "The exercise is met")
 
 
-def needs_no_mouse(person):
+def leads_both_ways(person):
+    """From a statement to its code, and from code to its statement."""
     person.enter()
-    seen = set()
-    for _ in range(80):
-        person.press("Tab")
-        found = person.look("focused")
-        if found["tag"] == "BODY":
-            break
-        demand(found["isRinged"], f"the focus on {found['id'] or found['name']} is not seen")
-        seen.add(found["id"])
-        if found["id"] == "source":
-            person.press("Escape")
-    buttons = "share keys about theme run stop restart step back over out cursor".split()
-    lost = {*buttons, "examples", "slider", "source", "listing", "registers", "region", "memory", "input"} - seen
-    demand(not lost, f"the Tab key does not come to {sorted(lost)}")
-    person.look("put", CALLS)
+    person.put(CALLS)
+    person.look("caret", "add  a0")
+    same("the code of the line", ["add a0,a0,a0"], person.look("rows", "cursor"))
+    person.press("ArrowDown")
+    same("the code of the next line", ["jalr zero,0(ra)"], person.look("rows", "cursor"))
+    person.point("#listing tr[data-line='5'] .text")
+    same("the line of the code", 5, person.look("line"))
+    person.look("focusOn", "#listing tr[data-line='3'] .link")
+    person.press("Enter")
+    same("the line of the code, by a key", 3, person.look("line"))
+    same("what has the focus", "source", person.look("focused")["id"])
+
+
+def explains_faults(person):
+    """What is under the mouse, and what is opened, tells of a fault; its place leads to it."""
+    person.enter()
+    person.put(FAULTY)
+    person.point(".layer .marked")
+    demand("E14: " in person.look("shown", ".tip"), f"the mouse shows {person.look('shown', '.tip')!r}")
+    person.look("caret", "ecall")
+    person.point("#faults .link")
+    same("the line of the fault", 2, person.look("line"))
+    person.point("#faults summary")
+    demand("Cure: " in person.look("shown", "#faults details"), "no cure is shown")
+
+
+def shows_memory(person):
+    person.enter()
+    person.put(STORES)
+    same("the part that is shown", "Variables", person.look("chosen", "region"))
+    for _ in range(4):
+        person.click("step")
+    person.shows("place", "Step 4 of 6")
+    same("the bytes", "07410000", person.look("bytes")[:8])
+    same("what has changed", "41", person.look("shown", "#memory .changed"))
+    demand("place" in person.look("shown", "#memory .names"), "the label is not shown")
+    person.look("set", "address", "10000", "change")
     person.settle()
+    same("the part of an address", "Address", person.look("chosen", "region"))
+    demand(person.look("bytes").startswith("17050000"[:2]), "the code at 10000 is not shown")
+
+
+def opens_boxes(person):
+    """The keyboard opens a box, stays in it, and closes it, and then is where it was."""
+    person.enter()
+    for box in ("keys", "about"):
+        person.look("focus", box)
+        person.press("Space")
+        demand(person.look("isOpen", f"{box}-box"), f"{box} opens no box")
+        for _ in range(3):
+            person.press("Tab")
+            found = person.look("focused")
+            # (what is around the page is come to as well)
+            demand(found["isInBox"] or found["tag"] == "BODY", f"Tab leads from the box of {box} to {found['place']}")
+        person.press("Escape")
+        demand(not person.look("isOpen", f"{box}-box"), f"Escape leaves the box of {box} open")
+        same("what has the focus", box, person.look("focused")["id"])
+
+
+def needs_no_mouse(person):
+    """Each control is come to by Tab, on and back, and is ringed there; the keys of the box of keys do what it says."""
+    for text in (CALLS, FAULTY):
+        person.enter()
+        person.put(text)
+        person.look("addFile")
+        person.settle()
+        person.look("focus", "theme")
+        for keys in ("Tab", "Shift+Tab"):
+            wanted, seen = {*person.look("controls")}, {*walked(person, keys)}
+            same(f"controls that {keys} does not come to", [], sorted(wanted - seen))
+    same("what only a mouse does", [], clicked_alone(person))
+    person.enter()
+    person.put(CALLS)
     steps = [("F7", 1), ("F8", 4), ("F7", 5), ("Shift+F8", 7), ("Shift+F7", 6)]
     for keys, step in steps:
         person.press(keys)
         person.shows("place", f"Step {step} of")
     person.press("Control+Enter")
     person.shows("end", "Exited with 4")
+    person.look("focus", "slider")
+    person.press("Home")
+    person.press("ArrowRight")
+    person.shows("place", "Step 1 of")
     person.look("caret", "add  a0")
     person.press("F9")
     person.press("Control+Enter")
     person.shows("place", "Step 2 of")
+    person.press("Shift+F9")
+    person.shows("place", "Step 5 of")
+
+
+def walked(person, keys):
+    """What the focus comes to with a key until it has gone round."""
+    first = None
+    for _ in range(200):
+        person.press(keys)
+        found = person.look("focused")
+        if found["tag"] == "BODY":
+            continue
+        if found["place"] == first:
+            return
+        first = first or found["place"]
+        demand(found["isRinged"], f"the focus on {found['place']} is not seen")
+        yield found["place"]
+        if found["id"] == "source":
+            person.press("Escape")
+    raise Failed(f"{keys} does not go round")
+
+
+# What hears the mouse and takes no focus, and how a keyboard does the same.
+BY_KEYS = {
+    "TR": "the link in the row",
+    "DIV.gutter": "F9",
+    "TEXTAREA": "the list of faults tells what is under the mouse",
+    "DIV": "the arrows and Tab, in a list of completions",
+}
+
+
+def clicked_alone(person):
+    """Elements without focus that hear the mouse, but those of BY_KEYS."""
+    found = []
+    for it in person.handles("body *"):
+        words = {"objectId": it, "depth": 0}
+        heard = {one["type"] for one in person.command("DOMDebugger.getEventListeners", **words)["listeners"]}
+        if heard & {"click", "mousedown", "dblclick", "mousemove"}:
+            name, has_focus = person.told(it)
+            found += [] if has_focus or name in BY_KEYS else [name]
+    return sorted(set(found))
 
 
 def is_told_to_all(person):
-    """Names, landmarks, headings, and what leads nowhere, as far as a tree of the browser tells them."""
+    """Names, roles and landmarks, as the browser's own tree tells them to readers of the screen."""
     person.enter()
     person.put(FAULTY)
-    nodes = [it for it in person.command("Accessibility.getFullAXTree")["nodes"] if not it.get("ignored")]
-    value = lambda it, key: str(it.get(key, {}).get("value", "")).strip()
-    controls = {"button", "textbox", "combobox", "slider", "link", "option", "listbox", "region", "dialog"}
-    nameless = [value(it, "role") for it in nodes if value(it, "role") in controls and not value(it, "name")]
-    same("without a name", [], nameless)
-    wanted = {"banner", "main", "navigation", "region", "heading", "status", "log"}
-    lost = wanted - {value(it, "role") for it in nodes}
-    demand(not lost, f"there is no {sorted(lost)}")
+    for box in (None, "keys", "about"):
+        if box:
+            person.click(box)
+        nodes = [it for it in person.command("Accessibility.getFullAXTree")["nodes"] if not it.get("ignored")]
+        value = lambda it, key: str(it.get(key, {}).get("value", "")).strip()
+        with_focus = [it for it in nodes if any(one["name"] == "focusable" for one in it.get("properties", ()))]
+        controls = [it for it in nodes if value(it, "role") in CONTROLS] + with_focus
+        demand(len(with_focus) >= (2 if box else 20), f"only {len(with_focus)} controls are there")
+        nameless = [value(it, "role") for it in controls if not value(it, "name")]
+        same("without a name", [], nameless)
+        same("without a role", [], [value(it, "name") for it in controls if value(it, "role") in ("generic", "none", "")])
+        person.look("closeBoxes")
+        if not box:
+            lost = LANDMARKS - {value(it, "role") for it in nodes}
+            demand(not lost, f"there is no {sorted(lost)}")
     found = person.look("structure")
     same("ids that stand twice", [], found["twice"])
     same("what is pointed to and is not there", [], found["lost"])
     same("headings of the first level", 1, found["first"])
     demand(found["language"] == "en" and found["title"], "the page has no language or no title")
+
+
+CONTROLS = {"button", "textbox", "combobox", "slider", "link", "option", "listbox", "region", "dialog", "log"}
+CONTROLS |= {"DisclosureTriangle", "menu", "navigation"}
+LANDMARKS = {"banner", "main", "navigation", "region", "heading", "status", "log"}
+
+
+def passes_an_audit(person):
+    """The rules of audit.js, in both themes, wide and narrow, with faults, a run, completions, files and boxes."""
+    found = []
+    for theme in ("light", "dark"):
+        person.theme(theme)
+        for name, prepare in STATES.items():
+            person.enter()
+            prepare(person)
+            for size in (WIDE, MIDDLE, NARROW, LEAST):
+                person.size(*size)
+                found += [f"{name}, {theme}, {size[0]} wide: {it}" for it in person.run("() => audit()")]
+            person.size(*WIDE)
+    person.theme("light")
+    same("what the audit has found", [], found)
+
+
+def in_faults(person):
+    person.put(FAULTY + "bogus\nlw a0, a1, a2\n")
+    person.point("#faults summary")
+
+
+def in_a_run(person):
+    person.put(STORES)
+    person.click("step", "step", "step", "step")
+    person.settle()
+
+
+def in_a_crash(person):
+    person.put("# exit: 7\n" + SEVEN.replace("ecall", "sd   a0, (a7)"))
+    person.click("run")
+    person.shows("end", "Cure: ")
+
+
+def in_completions(person):
+    person.put(".globl _start\n_start: ")
+    person.write("amoad")
+    person.until("choices")
+
+
+def in_files(person):
+    person.put(CALLS)
+    person.look("addFile")
+    person.settle()
+
+
+STATES = {
+    "a new page": lambda person: None,
+    "faults": in_faults,
+    "a run": in_a_run,
+    "a crash": in_a_crash,
+    "completions": in_completions,
+    "files": in_files,
+    "the keys": lambda person: person.click("keys"),
+    "about": lambda person: person.click("about"),
+}
 
 
 def is_readable(person):
@@ -406,8 +653,10 @@ def is_small(_):
 
 
 USES = [writes_and_mends, steps_on_and_back, goes_over_and_out, stops_where_told, ends_an_endless_loop]
-USES += [tells_of_crashes, reads_and_writes, shares, keeps_what_was_written, has_several_files, completes]
-USES += [tells_of_exercises, needs_no_mouse, is_told_to_all, is_readable, fits_narrow_screens]
+USES += [tells_of_crashes, reads_and_writes, shares, keeps_what_was_written, keeps_each_program, has_several_files]
+USES += [completes, completes_in_sight]
+USES += [tells_of_exercises, leads_both_ways, explains_faults, shows_memory, opens_boxes, needs_no_mouse]
+USES += [is_told_to_all, passes_an_audit, is_readable, fits_narrow_screens]
 USES += [asks_no_other_host, says_what_it_needs, is_small]
 
 
@@ -421,7 +670,7 @@ def compare(person, step, count):
     person.enter()
     held, known = page_calls.cases()
     yield page_calls.differences(person, f"of {known} cases of tests/", held[::step])
-    calls = [*page_calls.random_calls(count, PAGE / "data/language.json")]
+    calls = [*page_calls.random_cases(count, PAGE / "data/language.json")]
     yield page_calls.differences(person, "random programs", calls)
 
 
@@ -465,39 +714,9 @@ def pictures(person, folder):
         person.look("closeBoxes")
 
 
-def figures(person):
-    """Prints sizes, and times on this machine."""
-    code = (PAGE / "rv.wasm").read_bytes()
-    print(f"{packed():,} bytes packed; rv.wasm {len(code):,}, packed {len(gzip.compress(code, 9)):,}")
-    times = []
-    for _ in range(5):
-        start = time.monotonic()
-        person.enter()
-        times.append(time.monotonic() - start)
-    print(f"from the address to a program that can be stepped: {sorted(times)[2]:.2f} s, the middle of five")
-    loop = ".globl _start\n_start: addi a0, a0, 3\n xor a2, a0, a1\n add a3, a3, a2\n slli a4, a3, 1\n j _start\n"
-    count = 50_000_000
-    person.look("warm", loop)
-    time.sleep(3)
-    told = []
-    for name in ("run", "state"):
-        start = processor_seconds(person)
-        person.look("runs", name, count)
-        told.append(f"rv_{name} {count / (processor_seconds(person) - start) / 1e6:.0f}")
-    if page_calls.RV.exists():
-        with tempfile.TemporaryDirectory() as folder:
-            Path(folder, "a.s").write_text(loop)
-            start = resource.getrusage(resource.RUSAGE_CHILDREN).ru_utime
-            page_calls.program(["run", "--limit", str(count), "a.s"], folder)
-            taken = resource.getrusage(resource.RUSAGE_CHILDREN).ru_utime - start
-            told.append(f"./rv {count / taken / 1e6:.0f}")
-    print(f"million instructions a second of a processor: {', '.join(told)}", flush=True)
-
-
-def processor_seconds(person):
-    """What the page's process has taken."""
-    person.command("Performance.enable")
-    return {it["name"]: it["value"] for it in person.command("Performance.getMetrics")["metrics"]}["ProcessTime"]
+def made_page():
+    """Makes the page of today's sources; the status of what makes it."""
+    return subprocess.run(["make", "--no-print-directory", "page"], cwd=ROOT).returncode
 
 
 def missing():
@@ -547,8 +766,10 @@ def main():
     parser.add_argument("--random", type=int, default=300)
     parser.add_argument("--only", default="")
     parser.add_argument("--pictures", type=Path)
-    parser.add_argument("--figures", action="store_true")
+    parser.add_argument("--make", action="store_true")
     words = parser.parse_args()
+    if words.make and browser.program() and (status := made_page()):
+        return status
     if why := missing():
         return passed_over(why)
     with browser.served(PAGE) as address, browser.browsing() as chromium:
@@ -558,8 +779,6 @@ def main():
         passed, failed = used(person, words.only)
         if words.pictures:
             pictures(person, words.pictures)
-        if words.figures:
-            figures(person)
         if not words.only and page_calls.RV.exists():
             wrong = [*compare(person, 1 if words.all else SAMPLED, words.random)]
             passed += wrong.count(0)

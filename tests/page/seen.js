@@ -16,6 +16,20 @@ globalThis.seen = {
   forget: () => localStorage.clear(),
   hash: () => location.hash,
   width: () => document.documentElement.scrollWidth,
+  line: () => {
+    const { value, selectionStart } = document.getElementById("source");
+    return value.slice(0, selectionStart).split("\n").length;
+  },
+  rows: (kind) => [...document.querySelectorAll(`#listing tr.${kind} .text`)].map((it) => it.firstChild.data),
+  shown: (selector) => [...document.querySelectorAll(selector)].filter((it) => it.checkVisibility())
+    .map((it) => it.innerText).join(" "),
+  chosen: (id) => document.getElementById(id).selectedOptions[0].text,
+  bytes: () => [...document.querySelectorAll("#memory .byte")].map((it) => it.textContent).join(""),
+  focusOn: (selector) => document.querySelector(selector).focus(),
+  isOpen: (id) => document.getElementById(id).open,
+  /** The places of all controls that Tab should come to. */
+  controls: () => [...document.querySelectorAll("button, select, input, textarea, summary, a[href], [tabindex='0']")]
+    .filter((it) => it.checkVisibility() && !it.matches(":disabled") && !it.closest("dialog")).map(placeOf),
   closeBoxes: () => document.querySelectorAll("dialog").forEach((it) => it.close()),
 
   /** Puts a text in place of the source, as a person does who selects all of it and pastes. */
@@ -52,14 +66,24 @@ globalThis.seen = {
     area.setSelectionRange(at, at);
   },
 
+  /** The names in a part of the list of programs. */
+  programs: (label) => [...document.querySelectorAll(`#examples optgroup[label="${label}"] option`)].map((it) => it.text),
+
+  /** Whether an element is wholly within what scrolls around it. */
+  isInSight(selector, around) {
+    const own = document.querySelector(selector).getBoundingClientRect();
+    const box = document.querySelector(around).getBoundingClientRect();
+    return own.top >= box.top && own.bottom <= box.bottom && own.left >= box.left && own.right <= box.right;
+  },
+
   addFile: () => document.querySelector('#files [aria-label="Add a file"]').click(),
 
   /** What has the focus, and whether this is seen. */
   focused() {
-    const it = document.activeElement, around = it.id === "source" ? it.closest(".editor") : it;
+    const it = document.activeElement, around = it.id === "source" ? it.closest(".pane") : it;
     const { outlineStyle, outlineWidth } = getComputedStyle(around);
-    const name = it.getAttribute("aria-label") ?? it.textContent.trim();
-    return { id: it.id, tag: it.tagName, name, isRinged: outlineStyle !== "none" && parseFloat(outlineWidth) >= 2 };
+    const isRinged = outlineStyle !== "none" && parseFloat(outlineWidth) >= 2;
+    return { id: it.id, tag: it.tagName, place: placeOf(it), isRinged, isInBox: it.closest("dialog[open]") !== null };
   },
 
   /** Each text with too little contrast to what is behind it (WCAG 2.2, 1.4.3). */
@@ -110,6 +134,11 @@ globalThis.seen = {
   },
 };
 
+/** What an element is, and the how manieth of the page. */
+function placeOf(it) {
+  return `${it.tagName} ${it.id || it.getAttribute("aria-label") || it.textContent.trim()} ${[...document.querySelectorAll("*")].indexOf(it)}`;
+}
+
 function isText(it) {
   const own = [...it.childNodes].some((node) => node.nodeType === Node.TEXT_NODE && node.data.trim());
   const isOff = it.closest("textarea, [aria-disabled=true], :disabled, option, .unseen");
@@ -144,8 +173,14 @@ function luminance(colour) {
   return 0.2126 * linear[0] + 0.7152 * linear[1] + 0.0722 * linear[2];
 }
 
+/** How much of an element is seen through it and what is around it. */
+function opacityOf(element) {
+  return element ? Number(getComputedStyle(element).opacity) * opacityOf(element.parentElement) : 1;
+}
+
 function contrastOf(element) {
-  const ground = behind(element), text = over(channels(getComputedStyle(element).color), ground);
+  const ground = behind(element), [red, green, blue, cover] = channels(getComputedStyle(element).color);
+  const text = over([red, green, blue, cover * opacityOf(element)], ground);
   const [low, high] = [luminance(ground), luminance(text)].sort((a, b) => a - b);
   return (high + 0.05) / (low + 0.05);
 }
@@ -173,29 +208,48 @@ function ended({ name, code, address }) {
   return name === "Exited" ? `exit ${code}` : isAlone ? name : `${name} ${address.toString(16)}`;
 }
 
-async function givenFor(library, { verb, names, texts, start, flags, ...run }) {
-  const bytes = texts.map(unpacked), named = names.map((it) => new TextEncoder().encode(it));
-  const options = { start: BigInt(start), flags };
-  const made = {
+/** What each call of a case gives, up to the first that is refused; what one makes, the next may name. */
+async function givenFor(library, { files, steps }) {
+  const held = new Map(Object.entries(files).map(([name, it]) => [name, unpacked(it)])), found = [];
+  for (const step of steps) {
+    const made = madeBy(library, held, step);
+    found.push(made.fault ? { fault: lineOf(made.fault, step.names) } : await shown(made));
+    if (made.fault) {
+      break;
+    }
+    held.set(step.to, made.executable ?? made.object);
+  }
+  return found;
+}
+
+function madeBy(library, held, { verb, names, start, flags, ...run }) {
+  const bytes = names.map((it) => held.get(it)), named = names.map((it) => new TextEncoder().encode(it));
+  return {
     as: () => library.assemble(bytes[0]),
     list: () => library.list(bytes, named),
     check: () => ({ text: library.check(bytes, named) }),
-    build: () => library.build(bytes, options),
-    ld: () => library.link(bytes, options),
+    build: () => library.build(bytes, { start: BigInt(start), flags }),
+    ld: () => library.link(bytes, { start: BigInt(start), flags }),
+    run: () => ranFor(library, bytes[0], run),
   }[verb]();
-  if (made.fault) {
-    return { fault: `${made.fault.file ? names[made.fault.file - 1] : ""}${made.fault.text}` };
-  }
-  const found = {};
-  for (const [name, held] of Object.entries(made).filter(([, it]) => it instanceof Uint8Array)) {
-    found[name] = await hashed(held);
-  }
-  return run.limit === null || !made.executable ? found : { ...found, ...ranFor(library, made.executable, run) };
+}
+
+function lineOf({ file, text }, names) {
+  return `${file ? names[file - 1] : ""}${text}`;
+}
+
+/** Files by their hashes. */
+async function shown(made) {
+  const all = Object.entries(made).map(async ([key, it]) => [key, it instanceof Uint8Array ? await hashed(it) : it]);
+  return Object.fromEntries(await Promise.all(all));
 }
 
 /** The run, and whether the state at its end has the same end and console. */
 function ranFor(library, executable, { input, limit }) {
   const ran = library.run(executable, unpacked(input), limit), state = library.state(executable, unpacked(input), limit);
+  if (ran.fault) {
+    return ran;
+  }
   const isSame = ended(state.end) === ended(ran.end) && packed(state.console) === packed(ran.console);
   return { console: packed(ran.console), end: ended(ran.end), isSame };
 }

@@ -3,7 +3,7 @@
  * the list, and Enter takes it once an arrow was used, so that a line can end in what is a word already.
  */
 
-import { make } from "./dom.js";
+import { make, putAt } from "./dom.js";
 
 const MOST = 8;
 
@@ -119,15 +119,28 @@ export class Completion {
       },
     }, make("span", { class: "name" }, name), make("span", { class: "operands" }, operands)));
     this.#list.replaceChildren(...rows);
-    const line = this.#area.value.slice(0, this.#start).split("\n").length, style = getComputedStyle(this.#area);
-    this.#list.style.top = `${parseFloat(style.paddingTop) + line * parseFloat(style.lineHeight)}px`;
-    this.#list.style.left = `calc(${this.#area.offsetLeft}px + ${style.paddingLeft} + ${column}ch)`;
+    const { paddingLeft } = getComputedStyle(this.#area);
+    this.#list.style.left = `calc(${this.#area.offsetLeft}px + ${paddingLeft} + ${column}ch)`;
     this.#list.hidden = false;
+    this.place();
     this.#mark();
   }
 
+  /** Puts the list, if it is shown, where it is seen. */
+  place() {
+    const { paddingTop, lineHeight } = getComputedStyle(this.#area), height = parseFloat(lineHeight);
+    if (!this.#list.hidden) {
+      const before = this.#area.value.slice(0, this.#start).split("\n").length - 1;
+      putAt(this.#list, this.#area.closest(".editor"), parseFloat(paddingTop) + before * height, height);
+    }
+  }
+
   #mark() {
-    [...this.#list.children].forEach((it, at) => it.setAttribute("aria-selected", String(at === this.#chosen)));
+    const rows = [...this.#list.children], { offsetTop, offsetHeight } = rows[this.#chosen];
+    rows.forEach((it, at) => it.setAttribute("aria-selected", String(at === this.#chosen)));
+    // (in a low editor the list scrolls)
+    this.#list.scrollTop = Math.min(this.#list.scrollTop, offsetTop);
+    this.#list.scrollTop = Math.max(this.#list.scrollTop, offsetTop + offsetHeight - this.#list.clientHeight);
     this.#area.setAttribute("aria-activedescendant", `choice-${this.#chosen}`);
   }
 }

@@ -47,6 +47,21 @@ export function reveal(box, part) {
   }
 }
 
+/**
+ * Puts a box that belongs to a row of what scrolls below that row, or above where more room is there; it is no higher
+ * than that room.
+ * @param {HTMLElement} it @param {HTMLElement} around what scrolls @param {number} top of the row @param {number} height
+ */
+export function putAt(it, around, top, height) {
+  const above = top - around.scrollTop, below = around.clientHeight - above - height;
+  it.style.maxHeight = it.style.marginLeft = "";
+  const isAbove = it.offsetHeight > below && above > below;
+  it.style.maxHeight = `${Math.max(isAbove ? above : below, 2 * height)}px`;
+  it.style.top = `${isAbove ? top - it.offsetHeight : top + height}px`;
+  const over = it.getBoundingClientRect().right - around.getBoundingClientRect().left - around.clientWidth;
+  it.style.marginLeft = over > 0 ? `${-over}px` : "";
+}
+
 /** Hexadecimal, with zeros in front. @param {bigint | number} value */
 export function hex(value, digits = 0) {
   return value.toString(16).padStart(digits, "0");

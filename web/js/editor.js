@@ -5,7 +5,7 @@
  */
 
 import { Completion } from "./completion.js";
-import { make, reveal } from "./dom.js";
+import { make, putAt, reveal } from "./dom.js";
 
 /** @typedef {{line: number, column: number | null, end: number | null, severity: string, text: string}} Mark */
 
@@ -37,12 +37,14 @@ export class Editor extends EventTarget {
     this.#completion = new Completion(this.#area, place.querySelector(".choices"), language);
     this.#area.addEventListener("input", () => this.#changed());
     this.#area.addEventListener("keydown", (event) => this.#key(event));
-    for (const it of ["keyup", "click", "focus"]) {
+    for (const it of ["keyup", "click", "focus", "selectionchange"]) {
       this.#area.addEventListener(it, () => this.#moved());
     }
     this.#area.addEventListener("mousemove", (event) => this.#hover(event));
     this.#area.addEventListener("mouseleave", () => this.#showTip(null));
     this.#gutter.addEventListener("click", (event) => this.#clickGutter(event));
+    // (the list of faults below takes room from the editor, and gives it back)
+    new ResizeObserver(() => this.#keepInSight()).observe(place);
   }
 
   get text() {
@@ -72,6 +74,7 @@ export class Editor extends EventTarget {
   /** @param {Mark[]} marks */
   set marks(marks) {
     this.#marks = marks;
+    this.#area.setAttribute("aria-invalid", String(marks.some((it) => it.severity === "error")));
     this.#paint();
   }
 
@@ -88,6 +91,14 @@ export class Editor extends EventTarget {
     this.#reveal(line);
   }
 
+  /** Where the caret is stays in sight, with what is offered there. */
+  #keepInSight() {
+    if (document.activeElement === this.#area) {
+      this.#reveal(this.line);
+      this.#completion.place();
+    }
+  }
+
   #reveal(line) {
     const row = this.#layer.children[line - 1];
     if (row) {
@@ -97,6 +108,7 @@ export class Editor extends EventTarget {
 
   #changed() {
     this.#paint();
+    this.#reveal(this.line);
     this.#completion.offer();
     this.dispatchEvent(new Event("change"));
     this.#moved();
@@ -187,8 +199,8 @@ export class Editor extends EventTarget {
     this.#tip.hidden = !row;
     if (row) {
       this.#tip.textContent = mark.text;
-      this.#tip.style.top = `${row.offsetTop + row.offsetHeight}px`;
       this.#tip.style.left = `${this.#layer.offsetLeft + 16}px`;
+      putAt(this.#tip, this.#place, row.offsetTop, row.offsetHeight);
     }
   }
 }

@@ -43,6 +43,24 @@ export function endInWords({ name, code, address }) {
   return name === "Breakpoint" || name === "Limit" ? name : `${name} ${address.toString(16)}`;
 }
 
+const quoted = (text) => JSON.stringify(text);
+
+/** What a head wants: the fault of the build, or the end of the run, the console, and how many instructions. */
+export function wanted(text) {
+  const head = readHead(text);
+  if (head.has("fault")) {
+    return [head.get("fault")];
+  }
+  const all = [head.get("end") ?? `exit ${head.get("exit") ?? 0}`];
+  if (head.has("console")) {
+    all.push(quoted(unescaped(head.get("console"))));
+  }
+  if (head.has("instructions")) {
+    all.push(`at most ${head.get("instructions")} instructions`);
+  }
+  return all;
+}
+
 /**
  * What a run, or a fault of the build, is beside the head.
  * @param {string} text the first source
@@ -51,23 +69,19 @@ export function endInWords({ name, code, address }) {
  * @returns {{wanted: string, came: string, isMet: boolean}[]}
  */
 export function verdict(text, { state, fault }, names) {
-  const head = readHead(text);
-  const row = (wanted, came) => ({ wanted, came, isMet: wanted === came });
-  const shown = fault && `${fault.file ? names[fault.file - 1] : ""}${fault.text}`;
-  if (head.has("fault")) {
-    return [row(head.get("fault"), shown ?? "no fault")];
+  const head = readHead(text), all = wanted(text);
+  if (fault || head.has("fault")) {
+    const came = fault ? `${fault.file ? names[fault.file - 1] : ""}${fault.text}` : "no fault";
+    return [{ wanted: all[0], came, isMet: all[0] === came }];
   }
-  if (fault) {
-    return [row(`exit ${head.get("exit") ?? 0}`, shown)];
-  }
-  const rows = [row(head.get("end") ?? `exit ${head.get("exit") ?? 0}`, endInWords(state.end))];
+  const came = [endInWords(state.end)];
   if (head.has("console")) {
-    const quoted = (it) => JSON.stringify(it);
-    rows.push(row(quoted(unescaped(head.get("console"))), quoted(new TextDecoder().decode(state.console))));
+    came.push(quoted(new TextDecoder().decode(state.console)));
   }
+  const rows = came.map((it, at) => ({ wanted: all[at], came: it, isMet: all[at] === it }));
   if (head.has("instructions")) {
-    const most = Number(head.get("instructions"));
-    rows.push({ wanted: `at most ${most} instructions`, came: String(state.count), isMet: state.count <= most });
+    const isMet = state.count <= Number(head.get("instructions"));
+    rows.push({ wanted: all.at(-1), came: String(state.count), isMet });
   }
   return rows;
 }

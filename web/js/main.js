@@ -5,13 +5,14 @@ import { Editor } from "./editor.js";
 import { inputOf } from "./lesson.js";
 import { Machine } from "./machine.js";
 import * as panes from "./panes.js";
+import { Picker } from "./picker.js";
 import { Session } from "./session.js";
 import { addressOf, programIn } from "./share.js";
+import { Shelf } from "./shelf.js";
 import { themed } from "./theme.js";
 import { Language } from "./tokens.js";
 
 const PAUSE = 150;
-const KEPT = "rv-program";
 /** The smallest module with a memory of 64-bit addresses. */
 const WITH_MEMORY64 = Uint8Array.of(0, 0x61, 0x73, 0x6d, 1, 0, 0, 0, 5, 3, 1, 4, 1);
 const NO_MEMORY64 = "rv needs WebAssembly with 64-bit memory, which this browser does not have. Current versions of Chrome, "
@@ -32,11 +33,11 @@ const KEYS = [
 ];
 
 class Page {
-  /** @param {Session} session @param {Language} language @param {object[]} examples */
-  constructor(session, language, examples) {
+  /** @param {Session} session @param {Language} language @param {Picker} picker */
+  constructor(session, language, picker) {
     this.session = session;
     this.language = language;
-    this.examples = examples;
+    this.picker = picker;
     this.isBusy = false;
     this.busyText = "";
     this.editor = new Editor(byId("editor"), language);
@@ -51,6 +52,7 @@ class Page {
     on("files", () => this.#showFile());
     on("built", () => this.#showBuilt());
     on("state", () => this.#showState());
+    on("moved", () => this.#follow());
     on("length", () => this.#showPlace());
     on("breakpoints", () => this.#showBreakpoints());
     on("busy", ({ label, done }) => this.#showBusy(`${label} …${done ? ` ${counted(done, "instruction")}` : ""}`));
@@ -74,7 +76,7 @@ class Page {
   #wrote() {
     this.session.forget();
     this.#setReady(false);
-    this.keep();
+    this.picker.keep(this.session);
     this.build();
   }
 
@@ -93,8 +95,6 @@ class Page {
     const { session, editor } = this;
     editor.addEventListener("change", () => {
       session.files[session.current].text = editor.text;
-      // (so the example can be chosen anew)
-      byId("examples").value = "";
       this.#wrote();
     });
     editor.addEventListener("move", () => this.#showCaret());
@@ -131,7 +131,7 @@ class Page {
         session.look();
       });
     }
-    byId("examples").addEventListener("change", ({ target }) => target.value && this.choose(Number(target.value)));
+    this.picker.addEventListener("open", ({ detail }) => this.#open(detail));
     document.addEventListener("keydown", (event) => this.#key(event));
     // (before all others, so that none keeps Escape from what runs)
     document.addEventListener("keydown", (event) => this.#escape(event), { capture: true });
@@ -161,14 +161,13 @@ class Page {
     event.preventDefault();
   }
 
-  /** Opens an example in place of what is there. */
-  async choose(index) {
-    const { name, text } = this.examples[index];
-    history.replaceState(null, "", location.pathname + location.search);
-    byId("examples").value = String(index);
+  /** Opens a program; one that was chosen is not that of the address. */
+  async #open({ files, input, isChosen }) {
+    if (isChosen) {
+      history.replaceState(null, "", location.pathname + location.search);
+    }
     this.#setReady(false);
-    await this.session.open([{ name, text }], inputOf(text));
-    this.keep();
+    await this.session.open(files, input ?? inputOf(files[0].text));
   }
 
   #showFile() {
@@ -227,18 +226,23 @@ class Page {
   }
 
   #showBuilt() {
-    const { session, editor } = this;
+    const { session } = this;
     this.#showFindings();
-    panes.showListing(session, (file, line) => {
-      if (file !== session.current) {
-        session.current = file;
-        this.#showFile();
-      }
-      editor.go(line);
-    });
+    panes.showListing(session, (file, line) => this.#leadTo(file, line));
     panes.showRegions(session);
     session.window = panes.windowOf(session);
     this.#showState();
+  }
+
+  /** Shows a file; with a line, the caret goes there. */
+  #leadTo(file, line, column = 1) {
+    if (file !== this.session.current) {
+      this.session.current = file;
+      this.#showFile();
+    }
+    if (line) {
+      this.editor.go(line, column);
+    }
   }
 
   #showFindings() {
@@ -255,15 +259,9 @@ class Page {
   }
 
   #finding(finding, mark) {
-    const { session, language, editor } = this, entry = language.entries[finding.code];
+    const { session, language } = this, entry = language.entries[finding.code];
     const at = Math.max(session.files.findIndex((it) => it.name === finding.file), 0);
-    const open = () => {
-      if (at !== session.current) {
-        session.current = at;
-        this.#showFile();
-      }
-      editor.go(Math.max(mark.line, 1), mark.column ?? 1);
-    };
+    const open = () => this.#leadTo(at, Math.max(mark.line, 1), mark.column ?? 1);
     const place = finding.line ? `${finding.file}:${finding.line}` : "The program";
     const more = entry && make("details", {}, make("summary", {}, entry.title),
       make("p", {}, `Cause: ${entry.cause}.`), make("pre", {}, entry.example), make("p", {}, `Cure: ${entry.cure}.`));
@@ -292,11 +290,11 @@ class Page {
   #showState() {
     const { session, editor, language } = this;
     const now = session.now;
-    editor.now = now?.file === session.current && !session.isAtEnd ? now.line : 0;
+    editor.now = now?.file === session.current && !session.isExit ? now.line : 0;
     panes.showRegisters(session, language.registers);
     panes.showMemory(session);
     panes.showConsole(session);
-    panes.showEnd(session, language.entries);
+    panes.showEnd(session, language.entries, (file, line) => this.#leadTo(file, line));
     panes.markListing(session, editor.line);
     this.#showPlace();
     this.say(panes.placeInWords(session));
@@ -305,6 +303,15 @@ class Page {
     if (session.state && (window.address !== session.window.address || window.size !== session.window.size)) {
       session.window = window;
       session.look();
+    }
+  }
+
+  /** Shows the file in which the run is now. */
+  #follow() {
+    const { session } = this, file = session.now?.file ?? session.current;
+    if (file !== session.current && file < session.files.length) {
+      this.#leadTo(file);
+      this.#showState();
     }
   }
 
@@ -356,16 +363,6 @@ class Page {
       this.say("The address of the page has the program now.");
     }
   }
-
-  /** Keeps the program for the next visit, where the browser allows it. */
-  keep() {
-    try {
-      const { files, input } = this.session;
-      localStorage.setItem(KEPT, JSON.stringify({ files, input }));
-    } catch {
-      // then it is not kept
-    }
-  }
 }
 
 function isOff(button) {
@@ -374,16 +371,6 @@ function isOff(button) {
 
 function isBoxOpen() {
   return document.querySelector("dialog[open]") !== null;
-}
-
-function kept() {
-  try {
-    const { files, input } = JSON.parse(localStorage.getItem(KEPT));
-    const isFile = (it) => typeof it.name === "string" && typeof it.text === "string";
-    return files.length && files.every(isFile) ? { files, input: String(input) } : null;
-  } catch {
-    return null;
-  }
 }
 
 /** Where a finding stands: from its column, which counts bytes, to the end of the word there. */
@@ -395,13 +382,6 @@ function markOf({ file, line, column, severity, message, code }, files, language
   const end = column ? (token?.start ?? 0) + (token?.text.length ?? 1) : text.replace(/\s*#.*/, "").length;
   const told = code ? `${code}: ${message}` : message;
   return { line: line ?? 0, column: start + 1, end: Math.max(end, start + 1), severity, text: told };
-}
-
-function showExamples(examples) {
-  const groups = Map.groupBy(examples.map((it, at) => ({ ...it, at })), (it) => it.group);
-  const own = make("option", { value: "" }, "Your program");
-  byId("examples").replaceChildren(own, ...[...groups].map(([label, all]) =>
-    make("optgroup", { label }, ...all.map((it) => make("option", { value: String(it.at) }, it.name)))));
 }
 
 function showFacts({ kind, commit, version }) {
@@ -432,21 +412,23 @@ async function start() {
   byId("keys-table").replaceChildren(make("tbody", {}, ...rows));
   const [tables, examples, facts] = await Promise.all(["language", "examples", "facts"].map(read));
   showFacts(facts);
-  showExamples(examples);
   if (!WebAssembly.validate(WITH_MEMORY64)) {
     byId("status").textContent = NO_MEMORY64;
     return;
   }
-  const session = new Session(new Machine(await code()));
-  const page = new Page(session, new Language(tables), examples);
-  const own = (await programIn(location.hash)) ?? kept();
-  await (own ? session.open(own.files, own.input) : page.choose(0));
-  addEventListener("hashchange", async () => {
+  const picker = new Picker(byId("examples"), new Shelf(), examples);
+  const page = new Page(new Session(new Machine(await code())), new Language(tables), picker);
+  const open = async () => {
     const shared = await programIn(location.hash);
     if (shared) {
-      session.open(shared.files, shared.input);
+      picker.open(shared);
     }
-  });
+    return shared !== null;
+  };
+  addEventListener("hashchange", open);
+  if (!await open()) {
+    picker.begin();
+  }
   return page;
 }
 

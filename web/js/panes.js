@@ -1,7 +1,7 @@
 /** What is shown of a program and of a state: machine code, registers, memory, the console, the end. */
 
 import { byId, counted, hex, hexBytes, make, reveal } from "./dom.js";
-import { endInWords, isExercise, verdict } from "./lesson.js";
+import { endInWords, isExercise, verdict, wanted } from "./lesson.js";
 
 const MOST_ROWS = 2000, SHOWN_BYTES = 8, ROW = 8n;
 const STACK_END = 0x40000000n, STACK_ROOM = 512n, DATA_ROOM = 1024n;
@@ -220,29 +220,36 @@ export function placeInWords({ state, now, files, isAtEnd }) {
   return now ? `Next: ${files[now.file].name}:${now.line}, ${text}` : `Next: no statement, at ${hex(state.pc)}`;
 }
 
-/** How the run has ended, in words, and whether the exercise is met. @param {Session} session */
-export function showEnd(session, entries) {
+/**
+ * How the run has ended, in words, and whether the exercise is met.
+ * @param {Session} session
+ * @param {(file: number, line: number) => void} go leads to a line of the source
+ */
+export function showEnd(session, entries, go) {
   const { state, program, files } = session, parts = [];
   if (state && session.isAtEnd) {
-    parts.push(...report(session, entries));
+    parts.push(...report(session, entries, go));
   }
   const came = !program && session.fault ? { fault: session.fault } : state && session.isAtEnd ? { state } : null;
   if (files[0] && isExercise(files[0].text)) {
-    parts.push(exercise(came && verdict(files[0].text, came, files.map((it) => it.name))));
+    const names = files.map((it) => it.name);
+    parts.push(came ? exercise(verdict(files[0].text, came, names)) : task(wanted(files[0].text)));
   }
   byId("end").replaceChildren(...parts);
 }
 
-function report(session, entries) {
-  const { state } = session, { end } = state, isExit = end.name === "Exited";
+function report(session, entries, go) {
+  const { state, isExit } = session, { end } = state;
   const title = isExit ? `Exited with ${end.code}` : endInWords(end);
   const after = ` after ${counted(state.count, "instruction")}`;
   const parts = [make("p", { class: isExit ? "outcome" : "outcome bad" }, make("strong", {}, title), after)];
   const statement = session.now;
   if (!isExit) {
     const text = statement?.instructions.find((it) => it.address === state.pc)?.text;
-    const where = statement ? `${session.files[statement.file].name}:${statement.line}: ` : "";
-    parts.push(make("p", {}, `${where}${text ?? "no statement"} at ${hex(state.pc)}`));
+    const onclick = () => go(statement.file, statement.line);
+    const where = statement && make("button", { type: "button", class: "link", onclick },
+      `${session.files[statement.file].name}:${statement.line}`);
+    parts.push(make("p", {}, where, `${where ? ": " : ""}${text ?? "no statement"} at ${hex(state.pc)}`));
     const entry = entries[end.name];
     if (entry) {
       parts.push(make("p", { class: "why" }, sentence(entry.cause)));
@@ -256,10 +263,11 @@ function sentence(text) {
   return `${text[0].toUpperCase()}${text.slice(1)}.`;
 }
 
+function task(all) {
+  return make("p", { class: "exercise" }, make("strong", {}, "Exercise"), `: wanted is ${all.join(", ")}`);
+}
+
 function exercise(rows) {
-  if (!rows) {
-    return make("p", { class: "exercise" }, "Exercise: run it to its end.");
-  }
   const isMet = rows.every((it) => it.isMet);
   const wrong = rows.filter((it) => !it.isMet).map((it) => make("li", {}, `wanted ${it.wanted}, came ${it.came}`));
   const told = make("strong", {}, isMet ? "✓ The exercise is met." : "The exercise is not met yet.");

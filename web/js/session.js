@@ -127,7 +127,7 @@ export class Session extends EventTarget {
     this.isWhole = false;
     this.#tell("built");
     if (this.program) {
-      await this.show(0);
+      await this.#show(0);
       await this.#glance();
     }
   }
@@ -154,8 +154,14 @@ export class Session extends EventTarget {
     this.isWhole ||= end.name !== "Limit";
   }
 
+  /** Goes to the state after some instructions. */
+  async show(step) {
+    await this.#show(step);
+    this.#tell("moved");
+  }
+
   /** Shows the state after some instructions; again, if only what is shown of it has changed. */
-  async show(step, isAgain = false) {
+  async #show(step, isAgain = false) {
     if (!this.program) {
       return;
     }
@@ -181,11 +187,16 @@ export class Session extends EventTarget {
 
   /** Shows the state again, with another part of memory. */
   look() {
-    return this.show(this.step, true);
+    return this.#show(this.step, true);
   }
 
   get isAtEnd() {
     return this.state !== null && this.state.end.name !== "Limit";
+  }
+
+  /** Whether the run has ended as its program wanted. */
+  get isExit() {
+    return this.state?.end.name === "Exited";
   }
 
   /** Goes to where a call of the machine says. */
