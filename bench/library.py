@@ -1,9 +1,10 @@
 #!/usr/bin/env python3
-"""Measures many small builds and runs: calls of librv in one process, and as many calls of the program ./rv.
+"""Measures many small builds and runs: calls of librv in one process, and calls of the program ./rv, a process each.
 
 usage: library.py [TIMES [FOLDER]]    (100000; the folder of librv, out/library or out/quick-library)
 
-Prints how many builds with a run there are in a second of a processor, by both. It needs cc and ./rv.
+Prints how many builds with a run there are in a second of a processor, by both: of the program a hundredth of the times
+is measured. What is printed goes to bench/out/library.json as well. It needs cc and ./rv.
 """
 
 import resource
@@ -11,6 +12,8 @@ import subprocess
 import sys
 import tempfile
 from pathlib import Path
+
+from results import Results
 
 TOP = Path(__file__).resolve().parent.parent
 FOLDERS = ("out/library", "out/quick-library")
@@ -40,8 +43,16 @@ def main():
     librv = next((TOP / it for it in sys.argv[2:] or FOLDERS if (TOP / it / "librv.a").exists()), None)
     if librv is None or not (TOP / "rv").exists():
         sys.exit("no librv, or no ./rv: run make and make library first")
-    print(f"librv: {by_library(librv, times):.0f} builds with a run in a second of a processor")
-    print(f"./rv:  {by_program(max(times // 100, 1)):.0f}")
+    results = Results("library")
+    results.begin(TOP / "rv")
+    print("Builds with a run in a second of a processor")
+    few = max(times // 100, 1)
+    for tool, count, rate in (
+        ("librv, one process", times, by_library(librv, times)),
+        ("rv run, a process each", few, by_program(few)),
+    ):
+        print(f"{tool:26}{count:8} times{rate:10.0f}")
+        results.add("library", SOURCE.name, tool, times=count, programs=rate)
 
 
 if __name__ == "__main__":

@@ -1,8 +1,8 @@
 """What a run of the benchmarks measured, as JSON in bench/out: tables.py makes the tables of RESULTS.md of it.
 
 A file has the day, the commit of the program, the processors of the machine, and rows. A row names its benchmark, what
-was measured, the tool, and figures by their names: seconds, bytes (of the source or the text), memory (bytes), rate
-(millions of instructions a second), programs (a second), exponent, ratio.
+was measured, the tool, and figures by their names: seconds, bytes (of the source, the text or files), packed (bytes),
+memory (bytes), rate (millions of instructions a second), programs (a second), times, exponent, ratio.
 """
 
 import datetime

@@ -1,5 +1,5 @@
 #!/usr/bin/env python3
-"""Makes the tables of bench/RESULTS.md of what `make bench` and `make growth` measured last.
+"""Makes the tables of bench/RESULTS.md of what `make bench`, `make growth`, library.py and web.py measured last.
 
 usage: tables.py             prints the tables
        tables.py --write     puts each into RESULTS.md, between the lines `<!-- table NAME -->` and `<!-- end -->`
@@ -96,6 +96,26 @@ def growth():
     return table(["What", "By", "Seconds", "Exponent"], rows)
 
 
+def library():
+    """Builds with a run: how many a second of a processor, and how many were measured."""
+    rows = of("library", "library")
+    cells = [[it["what"], it["tool"], f"{it['times']:,}", f"{it['programs']:,.0f}"] for it in rows]
+    return table(["What", "By", "Measured", "Builds with a run a second"], cells)
+
+
+def page():
+    """The page's size, its start, and the pace of runs in it."""
+    kilobytes = lambda it: f"{it['bytes'] / 1000:,.0f} kB, {it['packed'] / 1000:,.0f} kB packed"
+    rows = [[f"size, {it['what']}", kilobytes(it)] for it in of("page", "page sizes")]
+    rows += [[f"first interaction, {it['what']}", f"{it['seconds']:.2f} s"] for it in of("page", "page start")]
+    return table(["What", "Measured"], rows)
+
+
+def pace():
+    """Runs in the page and by the program: millions of instructions a second."""
+    return by_tool("Millions of instructions a second", of("page", "page pace"), "rate")
+
+
 # Each table by its name, and the file of bench/out that it is made of.
 TABLES = {
     "targets": (targets, "targets"),
@@ -104,6 +124,9 @@ TABLES = {
     "running": (running, "run"),
     "watched": (watched, "run"),
     "calls": (calls, "run"),
+    "library": (library, "library"),
+    "page": (page, "page"),
+    "pace": (pace, "page"),
     "growth": (growth, "growth"),
 }
 
