@@ -1,6 +1,7 @@
 # make quick       builds the program as ./rv in minutes, with no proof, and runs an example with it
 # make             proves and builds the program as ./rv, and runs the example
-# make check       runs the cases of tests/ over ./rv, whichever of both made it, in about a minute
+# make check       runs the cases of tests/ over ./rv, whichever of both made it, in about a minute; where Chromium is
+#                  installed it makes the page too, if there is none of today's sources, and uses it
 # make refused     refuses each request for memory of ./rv and of the library's calls in turn
 # make test        the whole gate: every proof from nothing, the must-fail edits, the tests, the programs and their cases,
 #                  and what each crate cost
@@ -97,7 +98,7 @@ check: rv
 	tests/editors.py
 	tests/gdb.py
 	tests/making.py
-	tests/page.py
+	tests/page.py --make
 	scripts/links.py
 	scripts/want_of_memory.py
 	scripts/definitions.py
