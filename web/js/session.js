@@ -166,9 +166,10 @@ export class Session extends EventTarget {
       return;
     }
     const { address, size } = this.window;
-    this.aim = Math.max(step, 0);
-    const label = this.aim > FAR ? "Going there" : undefined;
-    const state = await this.#ask("state", { ...this.#run, steps: this.aim, address, size }, label);
+    const aim = Math.max(step, 0);
+    this.aim = aim;
+    const label = aim > FAR ? "Going there" : undefined;
+    const state = await this.#ask("state", { ...this.#run, steps: aim, address, size }, label);
     if (!state) {
       return;
     }
@@ -180,7 +181,9 @@ export class Session extends EventTarget {
       this.last = this.state;
     }
     this.state = { ...state, address };
-    this.step = this.aim = state.count;
+    this.step = state.count;
+    // (a step that was asked for since counts from where this one was to lead)
+    this.aim = this.aim === aim ? state.count : this.aim;
     this.#learn(state);
     this.#tell("state");
   }
