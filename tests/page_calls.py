@@ -23,6 +23,8 @@ ROOT = Path(__file__).resolve().parent.parent
 RV = ROOT / "rv"
 # A run has so many instructions at most, unless its case says fewer; and so many are those of a random program.
 MOST, LIMIT = 10_000_000, 20_000
+# JSON's numbers are exact below.
+EXACT = 2**53
 # (an address is written as hexadecimal, because JSON's numbers lose its last digits)
 TEXT_START, WITH_MAP = "0x10000", 4
 KNOWN = {"--no-relax": 1, "--gc-sections": 2}
@@ -70,7 +72,7 @@ def steps_of(words, expected, known):
 
 def number_behind(option, words):
     value = words[words.index(option) + 1] if option in words else ""
-    return int(value) if value.isdigit() else None
+    return int(value) if value.isdigit() and int(value) < EXACT else None
 
 
 def step_of(verb, words, known):
@@ -90,7 +92,9 @@ def step_of(verb, words, known):
             step["names"].append(it)
         else:
             return None
-    is_whole = step["names"] and (verb != "as" or len(step["names"]) == 1) and step["to"] != "-"
+    # (there are no folders and no standard output)
+    is_file = step["to"] != "-" and "/" not in step["to"]
+    is_whole = step["names"] and (verb != "as" or len(step["names"]) == 1) and is_file
     return step if is_whole else None
 
 
