@@ -3,7 +3,7 @@
 
 First `rt ci` (ci.py), with what each crate cost (gate_times.py): every proof from nothing, the wrong bodies that must
 be refused, the tests of the library. Then, over the programs and the library that it built, the cases of tests/, the
-programs in other languages that call the library, the page, and each request for memory refused; and the links of the
+programs in other languages that call the library, and each request for memory refused; and the links of the
 documents, where want of memory is made, that a word of the definitions leads to one thing, what each storey names,
 which lemmas stand twice, and that the list of definitions and the lines on modules are today's. The last line sums all
 up as 'N passed, M failed'; the exit status is 0 if nothing failed.
@@ -37,12 +37,10 @@ OF_PROGRAMS = [
     ["tests/editors.py"],
     ["tests/gdb.py"],
     ["tests/making.py"],
+    ["tests/page.py"],
     ["tests/refused.py"],
 ]
-OF_LIBRARY = [
-    ["tests/library.py", "out/library"],
-    ["tests/page.py", "--make"],
-]
+OF_LIBRARY = [["tests/library.py", "out/library"]]
 OF_FILES = [
     ["scripts/links.py"],
     ["scripts/want_of_memory.py"],
