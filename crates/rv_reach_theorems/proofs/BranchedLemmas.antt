@@ -50,7 +50,7 @@ use Rattle.rv_sources_link_theorems.proofs.fields.RangesLemmas.{even_bytes}
 use Rattle.rv_sources_link_theorems.proofs.statements.SettledLemmas.{IsInstructed, IsSettled, settled as settled_all, IsLaidIn, laid_are_in}
 use Rattle.rv_sources_link_theorems.proofs.calls.UncutLemmas.{IsUncut, uncut, sections_same}
 use Rattle.rv_link_laws.specs.Lists.{In}
-use Rattle.rv_unique_link_theorems.proofs.FoundLemmas.{EachOf, all_of}
+use Rattle.rv_unique_theorems.proofs.FoundLemmas.{EachOf, all_of}
 use Rattle.rv_reach_theorems.specs.Reach.{is_short_branch, is_parcel_statement, is_in_row, is_of_parcel, is_chosen_branch, ForEachLeft, ShortBranchesReach}
 use Rattle.rv_reach_theorems.proofs.MovingLemmas.{IsPaddedText, rises}
 use Rattle.rv_reach_theorems.proofs.SpansLemmas.{left_input, lefts, IsPlain, address}

@@ -16,7 +16,7 @@ use Rattle.rv_cut_laws.specs.Alignments.{are_alignments}
 use Rattle.rv_cut_laws.proofs.AlignmentsLemmas.{next_alignment, other_alignments}
 use Rattle.rv_cut_laws.proofs.ApartLemmas.{of_section}
 use Rattle.rv_cut_laws.proofs.OrderedLemmas.{AreOrdered, ordered}
-use Rattle.rv_unique_link_theorems.proofs.EvensLemmas.{section_padded, dropped_even}
+use Rattle.rv_unique_theorems.proofs.EvensLemmas.{section_padded, dropped_even}
 
 -- ---- and no more than lies between
 

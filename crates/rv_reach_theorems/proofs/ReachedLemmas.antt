@@ -44,7 +44,7 @@ use Rattle.rv_cut_laws.proofs.ListsLemmas.{filter_in, ordered_in}
 use Rattle.rv_cut_laws.proofs.SectionsLemmas.{short_parts, same_text}
 use Rattle.rv_cut_laws.proofs.ShortLemmas.{size_left, paddings_stay}
 use Rattle.rv_cut_laws.proofs.ShiftsLemmas as cut
-use Rattle.rv_unique_link_theorems.proofs.MultiplesLemmas.{BeginsSo, all_begin}
+use Rattle.rv_unique_theorems.proofs.MultiplesLemmas.{BeginsSo, all_begin}
 use Rattle.rv_reach_theorems.specs.Reach.{is_short_call, ForEachLeft, ShortCallsReach}
 use Rattle.rv_reach_theorems.proofs.MovingLemmas.{rises, ended, within as within_paddings}
 use Rattle.rv_reach_theorems.proofs.LinesLemmas.{IsFramed, Frames, frames, all_dropped}

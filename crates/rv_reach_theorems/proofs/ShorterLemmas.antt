@@ -20,8 +20,8 @@ use Rattle.rv_link_laws.specs.Lists.{In}
 use Rattle.rv_link_laws.specs.Layout.{Layout, IsLayout, section_in, object_section}
 use Rattle.rv_cut_laws.proofs.ChangesLemmas as changed
 use Rattle.rv_cut_laws.proofs.LineLemmas.{Later}
-use Rattle.rv_unique_link_theorems.specs.Asked.{IsSound}
-use Rattle.rv_unique_link_theorems.proofs.FoundLemmas.{EachOf, all_of}
+use Rattle.rv_unique_theorems.specs.Asked.{IsSound}
+use Rattle.rv_unique_theorems.proofs.FoundLemmas.{EachOf, all_of}
 use Rattle.rv_reach_theorems.proofs.LinesLemmas.{Ordered}
 
 -- ---- what whole objects keep

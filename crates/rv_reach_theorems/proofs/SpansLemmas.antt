@@ -25,7 +25,7 @@ use Rattle.rv_link_laws.proofs.InputsLemmas.{raised_most}
 use Rattle.rv_cut_laws.proofs.CallKindsLemmas.{call_no_align}
 use Rattle.rv_cut_laws.proofs.ShiftsLemmas as cut
 use Rattle.rv_cut_laws.proofs.ShiftsLemmas.{more_dropped}
-use Rattle.rv_unique_link_theorems.proofs.MultiplesLemmas.{aligned_near}
+use Rattle.rv_unique_theorems.proofs.MultiplesLemmas.{aligned_near}
 use Rattle.rv_reach_theorems.proofs.MovingLemmas as padding
 use Rattle.rv_reach_theorems.proofs.MovingLemmas.{IsPaddedText}
 use Rattle.rv_reach_theorems.proofs.LinesLemmas.{IsFramed, Frames}

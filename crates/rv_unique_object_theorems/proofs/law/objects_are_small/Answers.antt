@@ -1,8 +1,0 @@
-use Rattle.rv_unique_object_theorems.proofs.SmallLemmas.{few_sections, short_sections}
-use Rattle.rv_unique_object_theorems.proofs.law.objects_are_small.Goals as goal
-
-pub returns-clause-few : goal.returns-clause-few
-returns-clause-few c = few_sections
-
-pub returns-clause-short : goal.returns-clause-short
-returns-clause-short c = short_sections

@@ -1,5 +1,0 @@
-use Rattle.rv_unique_object_theorems.proofs.FileRoomLemmas.{has_file}
-use Rattle.rv_unique_object_theorems.proofs.law.objects_have_files.Goals as goal
-
-pub returns : goal.returns
-returns c = has_file

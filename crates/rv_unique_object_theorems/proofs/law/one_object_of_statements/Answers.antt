@@ -1,5 +1,0 @@
-use Rattle.rv_unique_object_theorems.proofs.OneObjectLemmas.{one_object}
-use Rattle.rv_unique_object_theorems.proofs.law.one_object_of_statements.Goals as goal
-
-pub returns : goal.returns
-returns c = λ statements o p names h k. one_object statements names o p h k

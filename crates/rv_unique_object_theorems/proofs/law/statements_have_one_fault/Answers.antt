@@ -1,5 +1,0 @@
-use Rattle.rv_unique_object_theorems.proofs.OneFaultLemmas.{one_fault}
-use Rattle.rv_unique_object_theorems.proofs.law.statements_have_one_fault.Goals as goal
-
-pub returns : goal.returns
-returns c = one_fault
