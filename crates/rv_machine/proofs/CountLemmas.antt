@@ -1,15 +1,19 @@
 -- How many instructions a run takes, step by step.
 
-use Rattle.std.proofs.Common.{◌≡◌, ℕ, zero, suc, ◌-◌, ◌≤◌, false, List, ◌∷◌, ◌++◌, length, ap, ◌∙◌, arith}
+use Rattle.std.proofs.Common.{◌≡◌, ℕ, zero, suc, ◌-◌, ◌≤◌, false, List, ◌∷◌, ◌++◌, length, Result, ap, ◌∙◌, subst, arith}
 use Rattle.rv_isa.specs.declared.instruction.Inst.{Inst}
+use Rattle.rv_isa_laws.specs.Word as Word
+use Rattle.rv_parcel.specs.Parcel as Parcel
 use Rattle.rv_isa_laws.specs.Memory.{Mem}
 use Rattle.rv_isa_laws.specs.Hart as laws
 use Rattle.rv_isa_laws.specs.Effect.{Next, On, Over}
 use Rattle.rv_isa_laws.specs.Reader.{Reader}
-use Rattle.rv_isa_laws.specs.Run.{fetch, step}
+use Rattle.rv_isa_laws.specs.Run.{fetch, step, run}
 use Rattle.rv_event_laws.specs.Event.{event_of, events, events_after}
 use Rattle.rv_machine.specs.declared.hart.Hart.{Hart}
-use Rattle.rv_machine.specs.Counts.{run_length, left_over}
+use Rattle.rv_machine.specs.declared.running.Ran.{Ran}
+use Rattle.rv_machine.specs.declared.running.RunFault.{RunFault}
+use Rattle.rv_machine.specs.Counts.{run_length, left_over, AccordsIn, RunsTo}
 use Rattle.rv_machine.specs.Hart.{hart_of}
 use Rattle.rv_machine.specs.Streams.{MayFollow}
 use Rattle.rv_machine.specs.StreamSteps.{Input, HasRead}
@@ -63,3 +67,10 @@ module _ {Spells StandsFor : ℕ → Inst → Type 0} (reader : Reader Spells St
       let done : left_over reader remaining now m ≡ next = left-done remaining next now m e is (over (more ++ rest) written) in
       let most : run_length reader limit begun first ≤ limit = taken-most limit begun first in
       omega (arith, left, done, most, is, least)
+
+-- what a run comes to, from the same hart and memory
+pub runs_from : (reader : Reader Word.Spells Parcel.StandsFor) (result : Result Ran RunFault) (written : List ℕ) (state : laws.Hart × Mem) (limit : ℕ) (h k : laws.Hart) (m n : Mem) → h ≡ k → m ≡ n →
+    RunsTo result written state reader limit h m → AccordsIn result written (run reader limit k n) (run_length reader limit k n)
+runs_from reader result written state limit h k m n hart memory runs =
+    subst (λ (x : Mem). AccordsIn result written (run reader limit k x) (run_length reader limit k x)) memory
+    (subst (λ (x : laws.Hart). AccordsIn result written (run reader limit x m) (run_length reader limit x m)) hart runs.0)

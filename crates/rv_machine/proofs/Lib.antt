@@ -14,6 +14,8 @@ mod MovedLemmas
 pub mod NumberLemmas
 -- What a quick step comes to, in the terms of the definitions.
 pub mod QuickLemmas
+-- What an instruction asks of memory, by the action that it is.
+pub mod RequestLemmas
 -- A run, step by step.
 pub mod RunLemmas
 -- A run over streams, step by step.

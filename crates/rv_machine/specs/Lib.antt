@@ -20,8 +20,10 @@ pub mod Streams
 pub mod StreamSteps
 -- What the outcome of a run is in the definitions.
 pub mod Outcome
--- How many instructions a run takes.
+-- How many instructions a run takes, and what a run over streams comes to with their count.
 pub mod Counts
+-- A load or a store that an instruction asks, and the effect that it is.
+pub mod Request
 -- What an action has to do with the instruction that a word or a parcel spells.
 pub mod Asked
 -- The events of the code as those of the definitions.

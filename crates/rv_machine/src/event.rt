@@ -112,7 +112,7 @@ pub(crate) enum Stepped {
 
 /// The low bytes of a number.
 #[inline]
-fn low_bytes(value: u64, bytes: u64) -> u64
+pub(crate) fn low_bytes(value: u64, bytes: u64) -> u64
     requires { IsWidth bytes }
     ensures { result ≡ value % 2 ^ (8 * bytes) }
 {

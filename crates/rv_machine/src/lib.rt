@@ -6,8 +6,9 @@
 //! Main contract: `run` answers, by every reading that is exact, the outcome `machine_run` of the image's memory, its
 //! entry and the input; `Machine::step` does one `step` of that run. `run_io` reads and writes streams so that it comes
 //! to `machine_run` of what was read, and where a stream fails to the beginning of its console. `run_watched` does the
-//! same, and tells a [`Watcher`] exactly the events of the run, which `rv_event_laws` defines. It must not know sources,
-//! maps or files: an image is all that it sees.
+//! same, and tells a [`Watcher`] exactly the events of the run, which `rv_event_laws` defines. `run_machine` runs a machine
+//! that is lent, and leaves it in the run's last state; what a load or a store there asks ([`Request`]), another may answer
+//! in place of memory. It must not know sources, maps or files: an image is all that it sees.
 //!
 //! A step is fetched and done by `advance`, but for the bytes that a call moves (`Flow`): those a machine takes from its
 //! input and puts onto its console, and `run_io` moves between memory and streams.
@@ -40,8 +41,10 @@ mod laws;
 mod machine;
 mod outcome;
 mod parcel;
+mod putting;
 mod quick;
 mod registers;
+mod request;
 mod running;
 mod state;
 mod streams;
@@ -50,6 +53,7 @@ mod transfers;
 mod watching;
 mod word;
 
+pub use action::{Load, Store};
 pub use end::End;
 pub use event::{Event, Look, Span};
 pub use fetch::{Fetched, bits_at, spelled};
@@ -59,6 +63,7 @@ pub use laws::runs_agree;
 pub use machine::Machine;
 pub use outcome::{Outcome, run};
 pub use registers::Registers;
-pub use running::{Ran, RunFault, run_counted, run_io};
+pub use request::Request;
+pub use running::{Ran, RunFault, run_counted, run_io, run_machine};
 pub use streams::{GuestIn, GuestOut, IoFailed};
 pub use watching::{Parts, ShowFault, WatchFault, Watched, Watcher, run_watched};

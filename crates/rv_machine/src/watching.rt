@@ -66,9 +66,9 @@ pub enum WatchFault {
 /// A hart over a memory that can be looked at between its steps. Its calls use streams.
 #[derive(Drop)]
 pub struct Watched<M: Memory> {
-    hart: Hart,
-    memory: M,
-    intake: Intake,
+    pub(crate) hart: Hart,
+    pub(crate) memory: M,
+    pub(crate) intake: Intake,
 }
 
 /// What a machine is made of between two steps.

@@ -1,18 +1,21 @@
 -- What a memory of pages knows of its segments, before and after bytes are put.
 
-use Rattle.std.proofs.Common.{◌≡◌, ℕ, suc, ◌*◌, Bool, true, false, cond, List, [], ◌∷◌, Option, Some, None, length, get_or, refl, ap, sym, ◌∙◌, arith}
-use Rattle.rv_isa_laws.specs.Memory.{Right, Execute}
-use Rattle.rv_image_laws.specs.Segment.{Segment, do_meet}
+use Rattle.std.proofs.Common.{◌≡◌, ℕ, suc, ◌+◌, ◌-◌, ◌%◌, ◌^◌, ◌<◌, Bool, true, false, cond, List, [], ◌∷◌, Option, Some, None, length, get_or, refl, ap, sym, subst, ◌∙◌, arith}
+use Rattle.rv_isa_laws.specs.Memory.{Mem, Right, Execute, may}
+use Rattle.rv_image_laws.specs.Segment.{Segment}
 use Rattle.rv_image_laws.specs.Memory.{lies_in, segment_at, gives_right, right_in}
 use Rattle.rv_memory.specs.Rights.{IsWidth}
 use Rattle.rv_memory.specs.Stretches.{IsStretch, AreAlike}
-use Rattle.rv_memory.specs.Pages.{AreOrdered, AreListed, HoldsPage, has_byte_on}
-use Rattle.rv_memory.specs.Flat.{no_segment}
-use Rattle.rv_memory.specs.Unmade.{IsUnmade}
-use Rattle.rv_memory.specs.Quick.{room_of, IsQuick, AreKnown}
+use Rattle.rv_memory.specs.Pages.{AreOrdered, AreBehind, AreListed}
+use Rattle.rv_memory.specs.Flat.{memory_of, no_segment}
+use Rattle.rv_memory.specs.Unmade.{IsUnmade, with_unmade}
+use Rattle.rv_memory.specs.Quick.{room_of, IsQuick, IsEnd, AreNear, AreKnown}
 use Rattle.rv_memory.specs.declared.page.Page.{Page}
 use Rattle.rv_memory.specs.declared.stretch.Near.{Near}
+use Rattle.rv_memory.specs.declared.stretch.Nears.{Nears}
+use Rattle.std.proofs.lemmas.Bool.{and_parts}
 use Rattle.rv_memory.proofs.FlatLemmas.{holds-same}
+use Rattle.rv_memory.proofs.MemoryLemmas.{may-at}
 use Rattle.rv_memory.proofs.StretchLemmas.{still}
 
 alike-rest : (s t : Segment) (ss ts : List Segment) → AreAlike (s ∷ ss) (t ∷ ts) → AreAlike ss ts
@@ -22,13 +25,6 @@ alike-rest s t ss ts alike = record {
   lengths = λ k. alike.lengths (suc k);
   flags = λ k. alike.flags (suc k);
 }
-
--- the same pages have a byte of each
-byte-still : (n k : ℕ) (ss ts : List Segment) → AreAlike ss ts → has_byte_on n (get_or ts k no_segment) ≡ has_byte_on n (get_or ss k no_segment)
-byte-still n k ss ts alike =
-    let s : Segment = get_or ss k no_segment in
-    let t : Segment = get_or ts k no_segment in
-    ap (λ (a : ℕ). do_meet a (length t.bytes) (4096 * n) 4096) (alike.addresses k) ∙ ap (λ (m : ℕ). do_meet s.address m (4096 * n) 4096) (alike.lengths k)
 
 right-by : (b : Bool) (s t : Segment) (o p : Option Segment) (r : Right) → t.flags ≡ s.flags → right_in o r ≡ right_in p r →
     right_in (cond b (Some t) o) r ≡ right_in (cond b (Some s) p) r
@@ -76,36 +72,37 @@ ordered-still ss ts alike ordered = record {
   filled = λ i within. rw (alike.lengths i) (ordered.filled i (omega (arith, within, alike.count)));
 }
 
-whole-still : (ss ts : List Segment) (n flags i : ℕ) → AreAlike ss ts → HoldsPage ss n flags i → HoldsPage ts n flags i
-whole-still ss ts n flags i alike whole = record {
-  within = omega (arith, whole.within, alike.count);
-  low = rw (alike.addresses i) whole.low;
-  high = rw (alike.addresses i, alike.lengths i) whole.high;
-  gives = rw (alike.flags i) whole.gives;
-}
+behind-still : (ss ts : List Segment) → AreAlike ss ts → AreBehind ss → AreBehind ts
+behind-still [] [] alike behind = behind
+behind-still [] (t ∷ ts) alike behind = absurd (omega (arith, alike.count))
+behind-still (s ∷ ss) [] alike behind = absurd (omega (arith, alike.count))
+behind-still (s ∷ ss) (t ∷ ts) alike behind = ordered-still ss ts (alike-rest s t ss ts alike) behind
 
-pages-still : (ss ts : List Segment) (i : ℕ) (pages : List Page) → AreAlike ss ts → AreListed ss i pages → AreListed ts i pages
-pages-still ss ts i pages alike are = record {
+pages-still : (ss ts : List Segment) (pages : List Page) → AreAlike ss ts → AreListed ss pages → AreListed ts pages
+pages-still ss ts pages alike are = record {
   ascending = are.ascending;
-  all = λ k n other within byte. are.all k n other (omega (arith, within, alike.count)) (sym (byte-still n k ss ts alike) ∙ byte);
-  right = λ k within flags j says. whole-still ss ts _ flags j alike (are.right k within flags j says);
+  all = λ x none. none-still x ss ts alike (are.all x none);
+  stack = are.stack;
 }
 
 quick-still : (ss ts : List Segment) (i : ℕ) (near : Near) (r : Right) → AreAlike ss ts → IsQuick ss i near r → IsQuick ts i near r
 quick-still ss ts i near r alike quick = λ bytes width. still ss ts i near.start (room_of near bytes) bytes r alike (quick bytes width)
 
-pub known-still : (ss ts : List Segment) (pages : List Page) (code stack low written : Near) (n : ℕ) → AreAlike ss ts →
-    AreKnown ss pages code stack low written n → AreKnown ts pages code stack low written n
-known-still ss ts pages code stack low written n alike known = record {
-  ordered = ordered-still ss ts alike known.ordered;
-  listed = pages-still ss ts _ pages alike known.listed;
-  stack_listed = known.stack_listed;
-  code_executes = quick-still ss ts 0 code Execute alike known.code_executes;
-  code_ends = λ some. alike-rights _ Execute ss ts alike ∙ known.code_ends some;
-  stack_reads = quick-still ss ts _ stack _ alike known.stack_reads;
-  stack_writes = quick-still ss ts _ stack _ alike known.stack_writes;
-  low_reads = quick-still ss ts _ low _ alike known.low_reads;
-  low_writes = quick-still ss ts _ written _ alike known.low_writes;
+near-still : (ss ts : List Segment) (nears : Nears) → AreAlike ss ts → AreNear ss nears → AreNear ts nears
+near-still ss ts nears alike are = record {
+  code_executes = quick-still ss ts 0 nears.code Execute alike are.code_executes;
+  code_ends = λ some. alike-rights _ Execute ss ts alike ∙ are.code_ends some;
+  low_reads = quick-still ss ts _ nears.low _ alike are.low_reads;
+  low_writes = quick-still ss ts _ nears.low_written _ alike are.low_writes;
+  high_reads = quick-still ss ts _ nears.high _ alike are.high_reads;
+  high_writes = quick-still ss ts _ nears.high_written _ alike are.high_writes;
+}
+
+pub known-still : (ss ts : List Segment) (pages : List Page) (nears : Nears) → AreAlike ss ts → AreKnown ss pages nears → AreKnown ts pages nears
+known-still ss ts pages nears alike known = record {
+  behind = behind-still ss ts alike known.behind;
+  listed = pages-still ss ts pages alike known.listed;
+  near = near-still ss ts nears alike known.near;
 }
 
 -- the stretch for an access of a width
@@ -113,3 +110,20 @@ pub quick-at : (ss : List Segment) (i j start room bytes n : ℕ) (near : Near) 
     n ≡ bytes → room ≡ room_of near n → IsStretch ss j start room bytes r
 quick-at ss i j start room bytes n near r quick width same begins fits is =
     rw (same, begins, is, fits) (quick bytes width)
+
+-- bytes that begin before the end of code and go on behind it lack the right
+pub past-end : (ss : List Segment) (base start n a bytes k : ℕ) → IsEnd ss start n → k ≡ (a + (2 ^ 64 - start)) % 2 ^ 64 → k < n → n - k < bytes →
+    a < 2 ^ 64 → start < 2 ^ 64 → may (with_unmade base (memory_of ss)) a bytes Execute ≡ false
+past-end ss base start n a bytes k ends is low past small begins = never (may (with_unmade base (memory_of ss)) a bytes Execute) refl
+  where
+    never : (b : Bool) → may (with_unmade base (memory_of ss)) a bytes Execute ≡ b → b ≡ false
+    never false e = refl
+    never true e =
+        let m : Mem = with_unmade base (memory_of ss) in
+        let x : ℕ = (a + (n - k)) % 2 ^ 64 in
+        let one = may-at m a bytes (n - k) Execute past e in
+        let both = and_parts (m.has (x % 2 ^ 64) Execute) (may m (x + 1) 0 Execute) one in
+        let place : x % 2 ^ 64 ≡ (start + n) % 2 ^ 64 = omega (arith, is, low, small, begins) in
+        let some : (memory_of ss).has ((start + n) % 2 ^ 64) Execute ≡ true = subst (λ (y : ℕ). (memory_of ss).has y Execute ≡ true) place both.0 in
+        let none : (memory_of ss).has ((start + n) % 2 ^ 64) Execute ≡ false = ends (omega (arith, low)) in
+        absurd (cc)

@@ -1,16 +1,16 @@
 -- Segments put in the order of their addresses, without those that have no bytes: the same memory, in which a binary search finds the segment of an address.
 
 use Rattle.std.proofs.Common.{◌≡◌, ℕ, zero, suc, ◌+◌, ◌≤◌, ◌<◌, ◌==◌, Bool, true, false, not, cond, ◌⊎◌, inl, inr, List, [], ◌∷◌, Option, Some, None, length, get_or, slice_get, map, refl, ap, sym, subst, ◌∙◌, arith, Result, Ok, Err, MatchResult}
-use Rattle.std.specs.List.{Contains, All, filter, swap, position_or_len}
+use Rattle.std.specs.List.{Contains, All, filter, remove, swap, position_or_len}
 use Rattle.std.specs.List.Sorted.{IsPermutation, IsSearchInRange, IsBinarySearchResult, IsNonDecreasingBy}
 use Rattle.std.specs.Ordering.{nat_cmp, ordering_index}
-use Rattle.std.proofs.lemmas.Bool.{cases_eq, cases_order}
+use Rattle.std.proofs.lemmas.Bool.{cases_eq, cases_lt, cases_order}
 use Rattle.std.proofs.lemmas.Bool.Decides.{nat_tests}
 use Rattle.std.proofs.lemmas.Cmp.{ranked}
-use Rattle.std.proofs.lemmas.List.Edits.{swapped_from_swap}
+use Rattle.std.proofs.lemmas.List.Edits.{swapped_from_swap, length-remove, get_or-remove_below, get_or-remove_above}
 use Rattle.std.proofs.lemmas.List.Folds.{find_at}
-use Rattle.std.proofs.lemmas.List.Sorted.{IsPermutation-keeps, IsPermutation-sym, Contains-permutation}
-use Rattle.std.proofs.lemmas.List.{get_or-map, length-map}
+use Rattle.std.proofs.lemmas.List.Sorted.{IsPermutation-keeps, IsPermutation-remove, IsPermutation-sym, Contains-permutation}
+use Rattle.std.proofs.lemmas.List.{get_or-map, get_or_default, length-map}
 use Rattle.std.proofs.lemmas.Option.{slice_get_within, slice_get_read, get_or_from_slice_get}
 use Rattle.std.proofs.Math.Path.{fun_ext}
 use Rattle.rv_isa_laws.specs.Memory.{Right}
@@ -19,8 +19,8 @@ use Rattle.rv_image.specs.SegmentView.{segment_of}
 use Rattle.rv_image.specs.declared.segment.Segment.{Segment as DeclaredSegment}
 use Rattle.rv_image_laws.specs.Memory.{lies_in, segment_at, byte_in, right_in}
 use Rattle.rv_memory.specs.Flat.{memory_of, AreDisjoint, no_segment}
-use Rattle.rv_memory.specs.Pages.{AreOrdered, IsLastBegun}
-use Rattle.rv_memory.proofs.FlatLemmas.{disjoint-rest, segment-held, held-segment, holds-range, range-holds, same-memory}
+use Rattle.rv_memory.specs.Pages.{AreBehind, AreOrdered, IsLastBegun}
+use Rattle.rv_memory.proofs.FlatLemmas.{disjoint-rest, element-or, segment-held, held-segment, holds-range, range-holds, same-memory}
 
 -- what a binary search by a number finds among elements by ascending numbers
 module _ {X : Type 0} (n : X → ℕ) (l : List X) (rises : IsNonDecreasingBy n l) (k : ℕ) where
@@ -305,3 +305,62 @@ ordered-is (x ∷ xs) rises filled = record {
       let in_i : i < length (x ∷ xs) = omega (arith, within, long) in
       rw (get_or-map segment_of (x ∷ xs) i x no_segment in_i) (filled i x in_i);
 }
+
+-- the others are in order too
+pub ordered-behind : (ss : List Segment) → AreOrdered ss → AreBehind ss
+ordered-behind [] ordered = ordered
+ordered-behind (s ∷ ss) ordered = record {
+  rises = λ i j low within. ordered.rises (suc i) (suc j) (omega (arith, low)) (omega (arith, within));
+  filled = λ i within. ordered.filled (suc i) (omega (arith, within));
+}
+
+-- and those that are left
+ordered-removed : (ss : List Segment) (i : ℕ) → i < length ss → AreOrdered ss → AreOrdered (remove ss i)
+ordered-removed ss i within ordered = record {
+  rises = λ j k low in_k.
+      let count = length-remove ss i within in
+      elim (cases_lt k i) [
+        | inl k_low ↦ rw (get_or-remove_below ss i no_segment j (omega (arith, low, k_low)) within, get_or-remove_below ss i no_segment k k_low within) (ordered.rises j k low (omega (arith, in_k, count)))
+        | inr k_high ↦ elim (cases_lt j i) [
+          | inl j_low ↦ rw (get_or-remove_below ss i no_segment j j_low within, get_or-remove_above ss i no_segment k k_high within) (ordered.rises j (k + 1) (omega (arith, low)) (omega (arith, in_k, count)))
+          | inr j_high ↦ rw (get_or-remove_above ss i no_segment j j_high within, get_or-remove_above ss i no_segment k k_high within) (ordered.rises (j + 1) (k + 1) (omega (arith, low)) (omega (arith, in_k, count)))
+        ]
+      ];
+  filled = λ k in_k.
+      let count = length-remove ss i within in
+      elim (cases_lt k i) [
+        | inl low ↦ rw (get_or-remove_below ss i no_segment k low within) (ordered.filled k (omega (arith, in_k, count)))
+        | inr high ↦ rw (get_or-remove_above ss i no_segment k high within) (ordered.filled (k + 1) (omega (arith, in_k, count)))
+      ];
+}
+
+map-removed : (xs : List DeclaredSegment) (i : ℕ) → map segment_of (remove xs i) ≡ remove (map segment_of xs) i
+map-removed [] zero = refl
+map-removed [] (suc i) = refl
+map-removed (x ∷ xs) zero = refl
+map-removed (x ∷ xs) (suc i) = ap (λ (ss : List Segment). segment_of x ∷ ss) (map-removed xs i)
+
+-- with the one at an index put in front
+pub moved-first : (xs ys : List DeclaredSegment) (i : ℕ) (x : DeclaredSegment) → i < length xs → x ≡ get_or xs i x → ys ≡ x ∷ remove xs i →
+    map segment_of ys ≡ get_or (map segment_of xs) i no_segment ∷ remove (map segment_of xs) i
+moved-first xs ys i x within is new =
+    ap (map segment_of) new ∙ ap (λ (ss : List Segment). segment_of x ∷ ss) (map-removed xs i)
+    ∙ ap (λ (s : Segment). s ∷ remove (map segment_of xs) i) (sym (element-or xs i x within is))
+
+pub forward-kept : (ss : List Segment) (i : ℕ) → i < length ss → AreDisjoint ss → AreKept ss (get_or ss i no_segment ∷ remove ss i)
+forward-kept ss i within apart =
+    let s : Segment = get_or ss i no_segment in
+    let is : s ≡ get_or ss i s = get_or_default ss i no_segment s within in
+    permuted-kept ss (s ∷ remove ss i) (IsPermutation-remove ss i s within is) apart
+
+pub forward-behind : (ss : List Segment) (i : ℕ) → i < length ss → AreOrdered ss → AreBehind (get_or ss i no_segment ∷ remove ss i)
+forward-behind ss i within ordered = ordered-removed ss i within ordered
+
+-- an address that the first has not is among the others, or nowhere
+pub found-behind : (s : Segment) (ss : List Segment) (x i : ℕ) → lies_in s x ≡ false → segment_at ss x ≡ slice_get ss i → segment_at (s ∷ ss) x ≡ slice_get (s ∷ ss) (i + 1)
+found-behind s ss x i lacks found =
+    let next : suc i ≡ i + 1 = omega arith in
+    rw lacks (found ∙ ap (λ (k : ℕ). slice_get (s ∷ ss) k) next)
+
+pub none-behind : (s : Segment) (ss : List Segment) (x : ℕ) → lies_in s x ≡ false → segment_at ss x ≡ None → segment_at (s ∷ ss) x ≡ None
+none-behind s ss x lacks none = rw lacks none

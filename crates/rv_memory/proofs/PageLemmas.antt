@@ -11,18 +11,18 @@ use Rattle.std.proofs.lemmas.Grind.{common_steps}
 use Rattle.std.proofs.lemmas.List.{get_or-take, get_or_default, get_or-append-add, length-take, length-take-le}
 use Rattle.std.proofs.lemmas.List.Folds.{Any-from_list_any, list_any_none, list_any-append, list_any_at, list_any_more}
 use Rattle.std.proofs.lemmas.List.Sorted.{IsNonDecreasingBy-from_default}
-use Rattle.std.proofs.lemmas.Option.{slice_get_within, slice_get-get_or, get_or_from_slice_get}
+use Rattle.std.proofs.lemmas.Option.{slice_get_within, get_or_from_slice_get}
 use Rattle.rv_image_laws.specs.Segment.{Segment}
 use Rattle.rv_isa_laws.specs.Memory.{Right, Read, Write, Execute}
-use Rattle.rv_image_laws.specs.Memory.{lies_in, segment_at, gives_right, right_in}
+use Rattle.rv_isa_laws.specs.Platform.{stack_start}
+use Rattle.rv_image_laws.specs.Memory.{lies_in, segment_at, gives_right}
 use Rattle.rv_memory.specs.Flat.{AreDisjoint, no_segment}
-use Rattle.rv_memory.specs.Pages.{AreOrdered, has_byte_on, is_listed, is_reached, with_page, no_page, AreAscending, HoldsPage, IsRight, AreRight, ArePages, AreListed}
-use Rattle.rv_memory.specs.Unmade.{IsGap, deep, deeper}
+use Rattle.rv_memory.specs.Pages.{AreOrdered, has_byte_on, is_listed, is_reached, with_page, no_page, AreAscending, ArePages, AreListed}
+use Rattle.rv_memory.specs.Unmade.{IsGap, IsUnmade, deep}
 use Rattle.rv_memory.specs.declared.page.Page.{Page}
-use Rattle.rv_memory.specs.declared.page.PageRights.TheVariants.{Same}
-use Rattle.rv_memory.proofs.FlatLemmas.{holds-range, range-holds, held-segment}
+use Rattle.rv_memory.proofs.FlatLemmas.{holds-range, range-holds}
 use Rattle.rv_memory.proofs.OrderLemmas.{searched, apart-at, none-found}
-use Rattle.rv_memory.proofs.UnmadeLemmas.{address-at, address-other, size-at, size-other, other-at, same-at, deep-count, long-deeper, holds-deep}
+use Rattle.rv_memory.proofs.UnmadeLemmas.{address-at, size-at, other-at, deep-count, unmade-gap}
 
 rising : (pages : List Page) → AreAscending pages → IsNonDecreasingBy (λ (page : Page). page.number) pages
 rising pages up = IsNonDecreasingBy-from_default (λ (page : Page). page.number) pages no_page
@@ -102,7 +102,6 @@ pub record AreMore (segments : List Segment) (first m : ℕ) (old pages : List P
   pub ascending : AreAscending pages
   pub listed : (n : ℕ) → is_listed n pages ≡ (is_listed n old || (nat_le first n && nat_lt n m))
   pub reached : (n : ℕ) → m ≤ n → is_reached n pages ≡ true → is_listed n old ≡ true
-  pub right : (k : ℕ) → k < length pages → IsRight segments (get_or pages k no_page)
 
 -- a page that is reached from a segment's first one on is in the list: segments before it end below, or on this page
 pub reached-listed : (ss : List Segment) (index : ℕ) (old : List Page) (n : ℕ) → index < length ss → AreDisjoint ss → AreOrdered ss → ArePages (take index ss) old →
@@ -133,40 +132,9 @@ reached-listed ss index old n within apart ordered before low reached =
           absurd (omega (arith, in_j, e))
     ]
 
--- the rights of a page, by the segments so far and one more
-whole-more : (ss : List Segment) (index n flags i : ℕ) → HoldsPage (take index ss) n flags i → HoldsPage (take (index + 1) ss) n flags i
-whole-more ss index n flags i whole =
-    let in_i : i < index = omega (arith, whole.within, length-take index ss) in
-    let in_ss : i < length ss = omega (arith, whole.within, length-take index ss) in
-    let same : get_or (take (index + 1) ss) i no_segment ≡ get_or (take index ss) i no_segment =
-    get_or-take (index + 1) ss i no_segment (omega (arith, in_i)) ∙ sym (get_or-take index ss i no_segment in_i) in
-    record {
-      within = omega (arith, in_i, in_ss, length-take (index + 1) ss);
-      low = rw same whole.low;
-      high = rw same whole.high;
-      gives = rw same whole.gives;
-    }
-
-pub whole-take : (ss : List Segment) (index n flags : ℕ) → index < length ss → HoldsPage ss n flags index → HoldsPage (take (index + 1) ss) n flags index
-whole-take ss index n flags within whole =
-    let same : get_or (take (index + 1) ss) index no_segment ≡ get_or ss index no_segment = get_or-take (index + 1) ss index no_segment (omega arith) in
-    record {
-      within = omega (arith, within, length-take (index + 1) ss);
-      low = rw same whole.low;
-      high = rw same whole.high;
-      gives = rw same whole.gives;
-    }
-
-pub right-take : (ss : List Segment) (index : ℕ) (page : Page) → index < length ss → IsRight ss page →
-    ((flags i : ℕ) → page.rights ≡ Same flags i → i ≡ index) → IsRight (take (index + 1) ss) page
-right-take ss index page within right same flags i says =
-    let is : i ≡ index = same flags i says in
-    subst (λ (j : ℕ). HoldsPage (take (index + 1) ss) page.number flags j) (sym is)
-    (whole-take ss index page.number flags within (subst (λ (j : ℕ). HoldsPage ss page.number flags j) is (right flags i says)))
-
 -- no segment has no page
 pub no-pages : ArePages [] []
-no-pages = record { ascending = λ i j low within. absurd (omega arith); all = λ n. refl; right = λ k within. absurd (omega arith) }
+no-pages = record { ascending = λ i j low within. absurd (omega arith); all = λ n. refl }
 
 or-nothing : (first n : ℕ) (b : Bool) → b ≡ (b || (nat_le first n && nat_lt n first))
 or-nothing first n true = refl
@@ -185,7 +153,6 @@ more-start ss index first old within apart ordered before is = record {
   ascending = before.ascending;
   listed = λ n. or-nothing first n (is_listed n old);
   reached = λ n low reached. reached-listed ss index old n within apart ordered before (omega (arith, low, is)) reached;
-  right = λ k in_k flags i says. whole-more ss index _ flags i (before.right k in_k flags i says);
 }
 
 nat-next : (n m : ℕ) → (n ≡ m → ⊥) → nat_lt n m ≡ nat_lt n (m + 1)
@@ -208,9 +175,9 @@ one-more : (first m n : ℕ) (o b : Bool) → first ≤ m → o ≡ true → n �
 one-more first m n true b low e is h = h
 one-more first m n false b low e is h = absurd (cc)
 
-more-by : (b : Bool) (ss : List Segment) (first m : ℕ) (old pages : List Page) (page : Page) → first ≤ m → page.number ≡ m → IsRight ss page →
+more-by : (b : Bool) (ss : List Segment) (first m : ℕ) (old pages : List Page) (page : Page) → first ≤ m → page.number ≡ m →
     AreMore ss first m old pages → is_reached m pages ≡ b → AreMore ss first (m + 1) old (cond b pages (pages ++ (page ∷ [])))
-more-by true ss first m old pages page low is right more e = record {
+more-by true ss first m old pages page low is more e = record {
   ascending = more.ascending;
   listed = λ n. elim (cases_eq n m) [
     | inl same ↦
@@ -222,9 +189,8 @@ more-by true ss first m old pages page low is right more e = record {
         more.listed n ∙ ap (λ (b : Bool). is_listed n old || (nat_le first n && b)) test
   ];
   reached = λ n above reached. more.reached n (omega (arith, above)) reached;
-  right = more.right;
 }
-more-by false ss first m old pages page low is right more e = record {
+more-by false ss first m old pages page low is more e = record {
   ascending = put-ascends pages page more.ascending (rw is e);
   listed = λ n.
       let parts : is_listed n (pages ++ (page ∷ [])) ≡ (is_listed n pages || (page.number == n || false)) = list_any-append _ pages (page ∷ []) in
@@ -233,17 +199,13 @@ more-by false ss first m old pages page low is right more e = record {
       let parts : is_reached n (pages ++ (page ∷ [])) ≡ (is_reached n pages || (nat_le n page.number || false)) = list_any-append _ pages (page ∷ []) in
       let past : nat_le n page.number ≡ false = (let h = above in let i = is in grind (arith, nat_tests)) in
       more.reached n (omega (arith, above)) (first-reached (is_reached n pages) (nat_le n page.number) past (sym parts ∙ reached));
-  right = λ k within. elim (cases_lt k (length pages)) [
-    | inl before ↦ rw (put-first pages page k before) (more.right k before)
-    | inr past ↦ rw (put-last pages page k (omega (arith, past, within, long pages page))) right
-  ];
 }
 
-pub more-next : (ss : List Segment) (first m : ℕ) (old pages : List Page) (page : Page) → first ≤ m → page.number ≡ m → IsRight ss page →
+pub more-next : (ss : List Segment) (first m : ℕ) (old pages : List Page) (page : Page) → first ≤ m → page.number ≡ m →
     AreMore ss first m old pages → AreMore ss first (m + 1) old (with_page page pages)
-more-next ss first m old pages page low is right more =
+more-next ss first m old pages page low is more =
     subst (λ (b : Bool). AreMore ss first (m + 1) old (cond b pages (pages ++ (page ∷ [])))) (ap (λ (n : ℕ). is_reached n pages) (sym is))
-    (more-by (is_reached m pages) ss first m old pages page low is right more refl)
+    (more-by (is_reached m pages) ss first m old pages page low is more refl)
 
 -- the pages between those of a segment's first and last byte are those that have a byte of it
 span : (s : Segment) (n : ℕ) → 0 < length s.bytes →
@@ -262,7 +224,6 @@ more-all ss index first m old pages within ordered before low high more = record
       rw (low, high) (span (get_or ss index no_segment) n (ordered.filled index within)) in
       more.listed n ∙ ap (λ (b : Bool). b || (nat_le first n && nat_lt n m)) (before.all n)
       ∙ ap (λ (b : Bool). list_any (has_byte_on n) (take index ss) || b) here ∙ sym (list_any_more (has_byte_on n) ss index no_segment within);
-  right = more.right;
 }
 
 -- the three bits of flags that are rights
@@ -271,23 +232,50 @@ gives-low flags Execute = let e : flags % 8 % 2 ≡ flags % 2 = omega arith in a
 gives-low flags Write = let e : flags % 8 / 2 % 2 ≡ flags / 2 % 2 = omega arith in ap (λ (n : ℕ). n == 1) e
 gives-low flags Read = let e : flags % 8 / 4 % 2 ≡ flags / 4 % 2 = omega arith in ap (λ (n : ℕ). n == 1) e
 
--- the pages of the segments, one of which has more in front, are those of all but that one
-pub pages-listed : (ss : List Segment) (i start : ℕ) (pages : List Page) → IsGap ss i start → ArePages (deep ss i start) pages → AreRight ss pages → AreListed ss i pages
-pages-listed ss i start pages gap are right = record {
-  ascending = are.ascending;
-  all = λ k n other within byte.
-      are.all n ∙ list_any_at _ (deep ss i start) k no_segment (omega (arith, within, deep-count ss i start)) (ap (λ (u : Segment). has_byte_on n u) (other-at ss i start k other) ∙ byte);
-  right = right;
-}
+-- an address that a segment holds has a page in the list
+listed-at : (ss : List Segment) (i start : ℕ) (pages : List Page) (x k : ℕ) → ArePages (deep ss i start) pages → k < length ss →
+    lies_in (get_or (deep ss i start) k no_segment) x ≡ true → is_listed (x / 4096) pages ≡ true
+listed-at ss i start pages x k are within h =
+    let s : Segment = get_or (deep ss i start) k no_segment in
+    let range = holds-range s x h in
+    are.all (x / 4096) ∙ list_any_at _ (deep ss i start) k no_segment (omega (arith, within, deep-count ss i start)) (on-page s x range.0 range.1)
 
--- and of the whole of that one
-pub deep-pages : (ss : List Segment) (i start n : ℕ) (pages : List Page) → IsGap ss i start → ArePages (deep ss i start) pages →
-    start ≤ 4096 * n → 4096 * n < (get_or ss i no_segment).address + length (get_or ss i no_segment).bytes → is_listed n pages ≡ true
-deep-pages ss i start n pages gap are low high =
-    let s : Segment = get_or ss i no_segment in
-    let byte : has_byte_on n (deeper start s) ≡ true = (let size = long-deeper s start in let under = gap.low in grind (arith, nat_tests)) in
-    are.all n ∙ list_any_at _ (deep ss i start) i no_segment (omega (arith, gap.within, deep-count ss i start))
-    (ap (λ (u : Segment). has_byte_on n u) (same-at ss i i (deeper start s) gap.within refl) ∙ byte)
+-- what a segment holds it holds too where one of them has more in front
+held-deep : (ss : List Segment) (i start x k : ℕ) → IsGap ss i start → lies_in (get_or ss k no_segment) x ≡ true → lies_in (get_or (deep ss i start) k no_segment) x ≡ true
+held-deep ss i start x k gap h = elim (cases_eq k i) [
+  | inl same ↦
+      let here : lies_in (get_or ss i no_segment) x ≡ true = subst (λ (j : ℕ). lies_in (get_or ss j no_segment) x ≡ true) same h in
+      let range = holds-range (get_or ss i no_segment) x here in
+      let address = address-at ss i start k gap.within same in
+      let size = size-at ss i start k gap.within same in
+      range-holds (get_or (deep ss i start) k no_segment) x (omega (arith, address, range.0, gap.low)) (omega (arith, address, size, range.1, gap.low))
+  | inr other ↦ subst (λ (u : Segment). lies_in u x ≡ true) (sym (other-at ss i start k other)) h
+]
+
+-- the pages of segments of which the one at index i is to have all of the stack
+pub pages-listed : (ss : List Segment) (i base : ℕ) (pages : List Page) → AreDisjoint ss → IsUnmade ss i base → ArePages (deep ss i stack_start) pages → AreListed ss pages
+pages-listed ss i base pages apart is are = record {
+  ascending = are.ascending;
+  all = λ x none. none-found ss x (segment_at ss x) (λ k within h.
+      let listed = listed-at ss i stack_start pages x k are within (held-deep ss i stack_start x k gap h) in
+      cc) refl;
+  stack = λ x low high.
+      let address = address-at ss i stack_start i gap.within refl in
+      let size = size-at ss i stack_start i gap.within refl in
+      let held = range-holds (get_or (deep ss i stack_start) i no_segment) x (omega (arith, address, low)) (omega (arith, address, size, high, gap.low, is.top.starts, is.top.ends)) in
+      listed-at ss i stack_start pages x i are gap.within held;
+}
+  where
+    gap : IsGap ss i stack_start
+    gap = unmade-gap ss i base apart is
+
+-- the same pages, where each address has the segment that it had
+pub listed-again : (ss ts : List Segment) (pages : List Page) → ((x : ℕ) → segment_at ts x ≡ segment_at ss x) → AreListed ss pages → AreListed ts pages
+listed-again ss ts pages found are = record {
+  ascending = are.ascending;
+  all = λ x none. found x ∙ are.all x none;
+  stack = are.stack;
+}
 
 pub deep-end : (ss : List Segment) (i start j : ℕ) → IsGap ss i start →
     (get_or (deep ss i start) j no_segment).address + length (get_or (deep ss i start) j no_segment).bytes ≡ (get_or ss j no_segment).address + length (get_or ss j no_segment).bytes
@@ -297,60 +285,3 @@ deep-end ss i start j gap = elim (cases_eq j i) [
       rw here (let address = address-at ss i start j gap.within same in let size = size-at ss i start j gap.within same in omega (arith, address, size, gap.low))
   | inr other ↦ ap (λ (u : Segment). u.address + length u.bytes) (other-at ss i start j other)
 ]
-
--- a page put behind others is right, as they are
-right-by : (b : Bool) (ss : List Segment) (pages : List Page) (page : Page) → AreRight ss pages → IsRight ss page → AreRight ss (cond b pages (pages ++ (page ∷ [])))
-right-by true ss pages page before right k within = before k within
-right-by false ss pages page before right k within = elim (cases_lt k (length pages)) [
-  | inl low ↦ rw (put-first pages page k low) (before k low)
-  | inr past ↦ rw (put-last pages page k (omega (arith, past, within, long pages page))) right
-]
-
-pub right-next : (ss : List Segment) (pages : List Page) (page : Page) → AreRight ss pages → IsRight ss page → AreRight ss (with_page page pages)
-right-next ss pages page before right = right-by (is_reached page.number pages) ss pages page before right
-
-pub right-deep : (ss : List Segment) (i start : ℕ) (page : Page) → IsGap ss i start → IsRight ss page → IsRight (deep ss i start) page
-right-deep ss i start page gap right flags j says = holds-deep ss i start page.number flags j gap (right flags j says)
-
--- an address whose page is not listed lies in no segment but that one
-pub not-listed : (ss : List Segment) (i : ℕ) (pages : List Page) (x : ℕ) → AreListed ss i pages → lies_in (get_or ss i no_segment) x ≡ false →
-    is_listed (x / 4096) pages ≡ false → segment_at ss x ≡ None
-not-listed ss i pages x are lacks none = none-found ss x (segment_at ss x) never refl
-  where
-    never : (k : ℕ) → k < length ss → lies_in (get_or ss k no_segment) x ≡ true → ⊥
-    never k within h = elim (cases_eq k i) [
-      | inl same ↦ (let e : lies_in (get_or ss i no_segment) x ≡ true = subst (λ (j : ℕ). lies_in (get_or ss j no_segment) x ≡ true) same h in cc)
-      | inr other ↦
-          let range = holds-range (get_or ss k no_segment) x h in
-          let byte : has_byte_on (x / 4096) (get_or ss k no_segment) ≡ true = on-page (get_or ss k no_segment) x range.0 range.1 in
-          let some : is_listed (x / 4096) pages ≡ true = are.all k (x / 4096) other within byte in
-          cc
-    ]
-
--- the segment of an address, its index, and its rights
-pub record IsFound (ss : List Segment) (x i flags : ℕ) : Type 0 where
-  pub within : i < length ss
-  pub found : segment_at ss x ≡ slice_get ss i
-  pub rights : (r : Right) → gives_right flags r ≡ right_in (segment_at ss x) r
-
--- where its page has one right
-pub whole-found : (ss : List Segment) (j : ℕ) (pages : List Page) (k flags i x : ℕ) → AreDisjoint ss → AreListed ss j pages → k < length pages →
-    (get_or pages k no_page).number ≡ x / 4096 → (get_or pages k no_page).rights ≡ Same flags i → IsFound ss x i flags
-whole-found ss j pages k flags i x apart are within number says =
-    let whole = are.right k within flags i says in
-    let s : Segment = get_or ss i no_segment in
-    let at : slice_get ss i ≡ Some s = slice_get-get_or ss i no_segment whole.within in
-    let held : lies_in s x ≡ true = range-holds s x (omega (arith, whole.low, number)) (omega (arith, whole.high, number)) in
-    let here : segment_at ss x ≡ Some s = held-segment ss i x s apart at held in
-    record {
-      within = whole.within;
-      found = here ∙ sym at;
-      rights = λ r. rw (here, whole.gives) (gives-low s.flags r);
-    }
-
-pub page-found : (ss : List Segment) (j : ℕ) (pages listed : List Page) (page : Page) (k flags i x : ℕ) → AreDisjoint ss → AreListed ss j pages → listed ≡ pages →
-    (k < length listed) × ((get_or listed k no_page).number ≡ x / 4096) → page ≡ get_or pages k page → page.rights ≡ Same flags i → IsFound ss x i flags
-page-found ss j pages listed page k flags i x apart are same found is says =
-    let here = subst (λ (l : List Page). (k < length l) × ((get_or l k no_page).number ≡ x / 4096)) same found in
-    let rights = ap (λ (p : Page). p.rights) (get_or_default pages k no_page page here.0 ∙ sym is) in
-    whole-found ss j pages k flags i x apart are here.0 here.1 (rights ∙ says)

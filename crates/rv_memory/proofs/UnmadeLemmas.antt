@@ -13,11 +13,11 @@ use Rattle.rv_image.specs.SegmentView.{segment_of}
 use Rattle.rv_image.specs.declared.segment.Segment.{Segment as DeclaredSegment}
 use Rattle.rv_image_laws.specs.Memory.{lies_in, segment_at, byte_in, right_in, gives_right}
 use Rattle.rv_memory.specs.Flat.{memory_of, AreDisjoint, no_segment}
-use Rattle.rv_memory.specs.Pages.{AreOrdered, AreListed, HoldsPage, has_byte_on}
+use Rattle.rv_memory.specs.Pages.{AreOrdered, AreBehind, AreListed}
 use Rattle.rv_memory.specs.Unmade.{lies_unmade, in_unmade, with_unmade, IsUnmade, IsGap, deep, deeper}
 use Rattle.rv_memory.specs.declared.page.Page.{Page}
 use Rattle.rv_memory.proofs.NewLemmas.{or-true}
-use Rattle.rv_memory.proofs.FlatLemmas.{element-or, holds-range, range-holds, held-segment, same-memory}
+use Rattle.rv_memory.proofs.FlatLemmas.{element-or, holds-range, range-holds, held-segment, disjoint-rest, same-memory}
 
 pub unmade-range : (base x : ℕ) → lies_unmade base x ≡ true → (stack_start ≤ x) × (x < base)
 unmade-range base x h = grind (arith, nat_tests)
@@ -354,36 +354,46 @@ deep-ordered ss i start gap ordered = record {
       ];
 }
 
-pub holds-deep : (ss : List Segment) (i start n flags j : ℕ) → IsGap ss i start → HoldsPage ss n flags j → HoldsPage (deep ss i start) n flags j
-holds-deep ss i start n flags j gap holds = elim (cases_eq j i) [
-  | inl same ↦
-      let whole = subst (λ (k : ℕ). HoldsPage ss n flags k) same holds in
-      let address = address-at ss i start j gap.within same in
-      let size = size-at ss i start j gap.within same in
-      record {
-        within = omega (arith, holds.within, deep-count ss i start);
-        low = omega (arith, address, whole.low, gap.low);
-        high = omega (arith, address, size, whole.high, gap.low);
-        gives = whole.gives ∙ ap (λ (f : ℕ). f % 8) (sym (flags-at ss i start j gap.within same));
-      }
-  | inr other ↦
-      let address = address-other ss i start j other in
-      let size = size-other ss i start j other in
-      record {
-        within = omega (arith, holds.within, deep-count ss i start);
-        low = omega (arith, address, holds.low);
-        high = omega (arith, address, size, holds.high);
-        gives = holds.gives ∙ ap (λ (u : Segment). u.flags % 8) (sym (other-at ss i start j other));
-      }
-]
+-- what the longer segment does not hold has no segment more
+deep-none : (b : Bool) (ss : List Segment) (i start x : ℕ) → IsGap ss i start → lies_in (deeper start (get_or ss i no_segment)) x ≡ b → (b ≡ true → ⊥) →
+    segment_at ss x ≡ None → segment_at (deep ss i start) x ≡ None
+deep-none true ss i start x gap h never none = absurd (never refl)
+deep-none false ss i start x gap h never none =
+    let s : Segment = get_or ss i no_segment in
+    set-missed ss i x s (deeper start s) (slice_get-get_or ss i no_segment gap.within) (lacks (lies_in s x) s start x gap.low refl h) h ∙ none
 
-pub deep-listed : (ss : List Segment) (i start : ℕ) (pages : List Page) → IsGap ss i start → AreListed ss i pages → AreListed (deep ss i start) i pages
-deep-listed ss i start pages gap are = record {
+pub deep-listed : (ss : List Segment) (i base : ℕ) (pages : List Page) → AreDisjoint ss → IsUnmade ss i base → AreListed ss pages → AreListed (deep ss i stack_start) pages
+deep-listed ss i base pages apart is are = record {
   ascending = are.ascending;
-  all = λ k n other within byte.
-      are.all k n other (omega (arith, within, deep-count ss i start)) (ap (λ (u : Segment). has_byte_on n u) (sym (other-at ss i start k other)) ∙ byte);
-  right = λ k within flags j says. holds-deep ss i start _ flags j gap (are.right k within flags j says);
+  all = λ x none.
+      let s : Segment = get_or ss i no_segment in
+      let gap = unmade-gap ss i base apart is in
+      deep-none (lies_in (deeper stack_start s) x) ss i stack_start x gap refl (λ h.
+      let range = deep-range s stack_start x gap.low h in
+      let listed = are.stack x range.0 (omega (arith, range.1, is.top.starts, is.top.ends)) in
+      cc) (are.all x none);
+  stack = are.stack;
 }
+
+deep-rest : (ss : List Segment) (i start : ℕ) → IsGap ss i start → AreBehind ss → AreBehind (deep ss i start)
+deep-rest [] i start gap behind = behind
+deep-rest (s ∷ ss) zero start gap behind = behind
+deep-rest (s ∷ ss) (suc i) start gap behind = deep-ordered ss i start rest behind
+  where
+    none-rest : (b : Bool) (x : ℕ) → cond b (Some s) (segment_at ss x) ≡ None → segment_at ss x ≡ None
+    none-rest true x e = absurd (cc)
+    none-rest false x e = e
+
+    rest : IsGap ss i start
+    rest = record {
+      apart = disjoint-rest s ss gap.apart;
+      within = omega (arith, gap.within);
+      low = gap.low;
+      free = λ x low high. none-rest (lies_in s x) x (gap.free x low high);
+    }
+
+pub deep-behind : (ss : List Segment) (i base : ℕ) → AreDisjoint ss → IsUnmade ss i base → AreBehind ss → AreBehind (deep ss i stack_start)
+deep-behind ss i base apart is behind = deep-rest ss i stack_start (unmade-gap ss i base apart is) behind
 
 pub deep-unmade : (ss : List Segment) (i base : ℕ) → AreDisjoint ss → IsUnmade ss i base → IsUnmade (deep ss i stack_start) i stack_start
 deep-unmade ss i base apart is = record {

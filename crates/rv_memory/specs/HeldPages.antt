@@ -1,20 +1,15 @@
 -- The memory that pages in the code keep, as data.
 
-use Rattle.std.specs.Prelude.{List, slice_index_or}
+use Rattle.std.specs.Prelude.{List}
 use Rattle.rv_isa_laws.specs.Memory.{Mem}
 use Rattle.rv_image_laws.specs.Segment.{Segment}
 use Rattle.rv_memory.specs.Held.{held, pieces}
-use Rattle.rv_memory.specs.Flat.{no_segment}
 use Rattle.rv_memory.specs.Unmade.{with_unmade}
 use Rattle.rv_memory.specs.declared.paged.Paged.{Paged}
 
 -- its segments
 abbrev pub pages_in : Paged → List Segment
 pages_in paged = pieces paged.flat
-
--- the one that has the stack, as far as it is made
-abbrev pub stack_in : Paged → Segment
-stack_in paged = slice_index_or (pages_in paged) paged.stack.segment no_segment
 
 -- the memory that they make, with the part of the stack that is not made yet
 abbrev pub held_pages : Paged → Mem

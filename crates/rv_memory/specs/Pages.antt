@@ -1,11 +1,12 @@
 -- The list of pages by which the bytes of segments are found.
 
-use Rattle.std.specs.Prelude.{◌≡◌, ℕ, ◌+◌, ◌*◌, ◌%◌, ◌<◌, ◌≤◌, ◌==◌, nat_le, Bool, if◌then◌else◌, List, [], ◌∷◌, ◌++◌, length, slice_index_or, true}
+use Rattle.std.specs.Prelude.{◌≡◌, ℕ, ◌+◌, ◌*◌, ◌/◌, ◌<◌, ◌≤◌, ◌==◌, nat_le, Bool, if◌then◌else◌, List, [], ◌∷◌, ◌++◌, length, drop, slice_index_or, true, false, None}
 use Rattle.std.specs.List.{list_any}
+use Rattle.rv_isa_laws.specs.Platform.{stack_start, stack_end}
 use Rattle.rv_image_laws.specs.Segment.{Segment, do_meet}
+use Rattle.rv_image_laws.specs.Memory.{segment_at}
 use Rattle.rv_memory.specs.Flat.{no_segment}
 use Rattle.rv_memory.specs.declared.page.Page.{Page}
-use Rattle.rv_memory.specs.declared.page.PageRights.TheVariants.{Same, Mixed}
 
 -- segments with bytes, by ascending addresses
 pub record AreOrdered (segments : List Segment) : Type 0 where
@@ -14,6 +15,10 @@ pub record AreOrdered (segments : List Segment) : Type 0 where
       ≤ (slice_index_or segments j no_segment).address
   pub filled : (i : ℕ) → i < length segments →
       0 < length (slice_index_or segments i no_segment).bytes
+
+-- segments of which all but the first are so
+abbrev pub AreBehind : List Segment → Type 0
+AreBehind segments = AreOrdered (drop 1 segments)
 
 -- the segment at index i begins at the address or below, and each later one above it, unless that
 -- at i begins there
@@ -40,7 +45,7 @@ abbrev pub with_page : Page → List Page → List Page
 with_page page pages = if is_reached page.number pages then pages else pages ++ (page ∷ [])
 
 abbrev pub no_page : Page
-no_page = record { number = 0; rights = Mixed }
+no_page = record { number = 0; segment = 0 }
 
 -- the numbers ascend
 abbrev pub AreAscending : List Page → Type 0
@@ -48,35 +53,13 @@ AreAscending pages =
     (i j : ℕ) → i < j → j < length pages →
     (slice_index_or pages i no_page).number < (slice_index_or pages j no_page).number
 
--- the segment at index i has all bytes of the page of this number, and these are the rights that
--- it gives
-pub record HoldsPage (segments : List Segment) (number flags i : ℕ) : Type 0 where
-  pub within : i < length segments
-  pub low : (slice_index_or segments i no_segment).address ≤ 4096 * number
-  pub high : 4096 * number + 4096
-      ≤ (slice_index_or segments i no_segment).address
-      + length (slice_index_or segments i no_segment).bytes
-  pub gives : flags ≡ (slice_index_or segments i no_segment).flags % 8
-
--- where a page says that all of its bytes have the same rights, they have
-abbrev pub IsRight : List Segment → Page → Type 0
-IsRight segments page =
-    (flags i : ℕ) → page.rights ≡ Same flags i → HoldsPage segments page.number flags i
-
-abbrev pub AreRight : List Segment → List Page → Type 0
-AreRight segments pages =
-    (k : ℕ) → k < length pages → IsRight segments (slice_index_or pages k no_page)
-
--- the pages of segments: each that has a byte of theirs, by ascending numbers, with its rights
+-- the pages of segments: each that has a byte of theirs, by ascending numbers
 pub record ArePages (segments : List Segment) (pages : List Page) : Type 0 where
   pub ascending : AreAscending pages
   pub all : (number : ℕ) → is_listed number pages ≡ list_any (has_byte_on number) segments
-  pub right : (k : ℕ) → k < length pages → IsRight segments (slice_index_or pages k no_page)
 
--- pages by which the bytes of all segments but that at index i are found
-pub record AreListed (segments : List Segment) (i : ℕ) (pages : List Page) : Type 0 where
+-- pages by which the bytes of segments and those of the whole stack, whether made or not, are found
+pub record AreListed (segments : List Segment) (pages : List Page) : Type 0 where
   pub ascending : AreAscending pages
-  pub all : (k number : ℕ) → (k ≡ i → ⊥) → k < length segments →
-      has_byte_on number (slice_index_or segments k no_segment) ≡ true →
-      is_listed number pages ≡ true
-  pub right : (k : ℕ) → k < length pages → IsRight segments (slice_index_or pages k no_page)
+  pub all : (x : ℕ) → is_listed (x / 4096) pages ≡ false → segment_at segments x ≡ None
+  pub stack : (x : ℕ) → stack_start ≤ x → x < stack_end → is_listed (x / 4096) pages ≡ true

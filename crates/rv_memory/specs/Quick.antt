@@ -2,14 +2,14 @@
 
 use Rattle.std.specs.Prelude.{◌≡◌, ℕ, ◌+◌, ◌*◌, ◌%◌, ◌^◌, ◌<◌, ◌≤◌, ◌==◌, true, false, if◌then◌else◌, List}
 use Rattle.rv_isa_laws.specs.Memory.{Right, Read, Write, Execute}
-use Rattle.rv_isa_laws.specs.Platform.{stack_start, stack_end}
 use Rattle.rv_image_laws.specs.Segment.{Segment}
 use Rattle.rv_memory.specs.Flat.{memory_of}
 use Rattle.rv_memory.specs.Rights.{IsWidth}
 use Rattle.rv_memory.specs.Stretches.{IsStretch}
-use Rattle.rv_memory.specs.Pages.{AreOrdered, AreListed, is_listed}
+use Rattle.rv_memory.specs.Pages.{AreBehind, AreListed}
 use Rattle.rv_memory.specs.declared.page.Page.{Page}
 use Rattle.rv_memory.specs.declared.stretch.Near.{Near}
+use Rattle.rv_memory.specs.declared.stretch.Nears.{Nears}
 
 -- how many addresses an access of so many bytes can begin at
 abbrev pub room_of : Near → ℕ → ℕ
@@ -28,18 +28,17 @@ abbrev pub IsEnd : List Segment → ℕ → ℕ → Type 0
 IsEnd segments start bytes =
     0 < bytes → (memory_of segments).has ((start + bytes) % 2 ^ 64) Execute ≡ false
 
--- the segments are in order, and all but the stack have these pages; what is near to code, stack and data, to be read
--- and to be written, is right, and so is where code ends
-pub record AreKnown (segments : List Segment) (list : List Page)
-    (code stack low written : Near) (code_bytes : ℕ) : Type 0 where
-  pub ordered : AreOrdered segments
-  pub listed : AreListed segments stack.segment list
-  -- every page of the stack is in the list, whether it is made or not
-  pub stack_listed : (number : ℕ) → stack_start ≤ 4096 * number → 4096 * number < stack_end →
-      is_listed number list ≡ true
-  pub code_executes : IsQuick segments 0 code Execute
-  pub code_ends : IsEnd segments code.start code_bytes
-  pub stack_reads : IsQuick segments stack.segment stack Read
-  pub stack_writes : IsQuick segments stack.segment stack Write
-  pub low_reads : IsQuick segments low.segment low Read
-  pub low_writes : IsQuick segments written.segment written Write
+-- what is near to code, and below and above to be read and to be written, is right, and so is where code ends
+pub record AreNear (segments : List Segment) (nears : Nears) : Type 0 where
+  pub code_executes : IsQuick segments 0 nears.code Execute
+  pub code_ends : IsEnd segments nears.code.start nears.code_bytes
+  pub low_reads : IsQuick segments nears.low.segment nears.low Read
+  pub low_writes : IsQuick segments nears.low_written.segment nears.low_written Write
+  pub high_reads : IsQuick segments nears.high.segment nears.high Read
+  pub high_writes : IsQuick segments nears.high_written.segment nears.high_written Write
+
+-- the segments but the first are in order, and are found by these pages and by what is near
+pub record AreKnown (segments : List Segment) (list : List Page) (nears : Nears) : Type 0 where
+  pub behind : AreBehind segments
+  pub listed : AreListed segments list
+  pub near : AreNear segments nears

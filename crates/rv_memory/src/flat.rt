@@ -22,6 +22,7 @@ ghost use Rattle.std.specs.Prelude.{
   length,
   take,
   drop,
+  ◌∷◌,
   ◌++◌,
   IfSome,
   IfOk,
@@ -47,11 +48,11 @@ ghost use Rattle.rv_image.specs.SegmentView.{segment_of};
 ghost use Rattle.rv_memory.specs.Rights.{right_of, IsWidth, IsToLoad, MayLoad};
 ghost use Rattle.rv_memory.specs.Flat.{memory_of, AreDisjoint, no_segment, with_part};
 ghost use Rattle.rv_memory.specs.Stretches.{AreAlike, IsStretch};
-ghost use Rattle.rv_memory.specs.Pages.{AreOrdered, IsLastBegun};
+ghost use Rattle.rv_memory.specs.Pages.{AreBehind, AreOrdered, IsLastBegun};
 ghost use Rattle.rv_memory.specs.Unmade.{HasTop, IsFree, IsTop, deeper, with_unmade};
 ghost use Rattle.rv_isa_laws.specs.Platform.{stack_end, stack_start};
 ghost use Rattle.rv_image_laws.specs.Memory.{lies_in, gives_right, right_in, segment_at, mem_of};
-ghost use Rattle.std.specs.List.{All};
+ghost use Rattle.std.specs.List.{All, remove};
 ghost use Rattle.rv_image.specs.Views.{image_of};
 
 use crate::copies::copied_segments;
@@ -161,6 +162,17 @@ fn put_in_order(segments: &mut Vec<Segment>)
     segments.sort_unstable_by_key(|segment| segment.address);
 }
 
+/// Puts the segment at an index in front of the others.
+fn put_first(segments: &mut Vec<Segment>, i: usize)
+    requires { i < length segments.old.items }
+    ensures { map segment_of segments.new.items
+        ≡ slice_index_or (map segment_of segments.old.items) i no_segment
+        ∷ remove (map segment_of segments.old.items) i }
+{
+    let segment = segments.remove(i);
+    segments.insert(0, segment).unwrap();
+}
+
 /// The index of the last segment that begins at the address or below.
 fn last_begun(segments: &[Segment], address: u64) -> Option<usize>
     requires { AreOrdered (map segment_of segments.now) }
@@ -172,6 +184,27 @@ fn last_begun(segments: &[Segment], address: u64) -> Option<usize>
     match segments.binary_search_by_key(&address, |segment| segment.address) {
         Ok(i) => Some(i),
         Err(i) => { if i > 0 { Some(i - 1) } else { None } }
+    }
+}
+
+/// The index of the segment in which an address lies, by a binary search.
+fn position_among(segments: &[Segment], address: u64) -> Option<usize>
+    requires apart { AreDisjoint (map segment_of segments.now) }
+    requires ordered { AreOrdered (map segment_of segments.now) }
+    ensures within { IfSome result (λ i. i < length segments.now) }
+    ensures found { MatchOption result (segment_at (map segment_of segments.now) address ≡ None)
+        (λ i. segment_at (map segment_of segments.now) address
+        ≡ slice_get (map segment_of segments.now) i) }
+{
+    match last_begun(segments, address) {
+        Some(i) => {
+            if is_held(&segments[i], address) {
+                Some(i)
+            } else {
+                None
+            }
+        }
+        None => None,
     }
 }
 
@@ -313,34 +346,46 @@ impl Flat {
         }
     }
 
-    /// The index of the segment in which an address lies, by a binary search: the segments have bytes and are in the order
-    /// of their addresses.
+    /// The index of the segment in which an address lies: the first, or by a binary search one of the others, which have
+    /// bytes and are in the order of their addresses.
     pub(crate) fn position_in_order(&self, address: u64) -> Option<usize>
-        requires { AreOrdered (pieces self.now) }
+        requires { AreBehind (pieces self.now) }
         ensures within { IfSome result (λ i. i < length self.now.segments.items) }
         ensures found { MatchOption result (segment_at (pieces self.now) address ≡ None)
             (λ i. segment_at (pieces self.now) address ≡ slice_get (pieces self.now) i) }
     {
-        match last_begun(&self.segments, address) {
-            Some(i) => {
-                if is_held(&self.segments[i], address) {
-                    Some(i)
-                } else {
-                    None
-                }
-            }
+        let [first, others @ ..] = self.segments.as_slice() else {
+            return None;
+        };
+        if is_held(first, address) {
+            return Some(0);
+        }
+        match position_among(others, address) {
+            Some(i) => Some(i + 1),
             None => None,
         }
     }
 
     /// The index of the segment that has the stack from an address on.
     pub(crate) fn stack_index(&self, from: u64) -> usize
-        requires ordered { AreOrdered (pieces self.now) }
+        requires ordered { AreBehind (pieces self.now) }
         requires top { HasTop (pieces self.now) from }
         ensures within { result < length (pieces self.now) }
         ensures top { IsTop from (slice_index_or (pieces self.now) result no_segment) }
     {
         self.position_in_order(from).unwrap()
+    }
+
+    /// Puts the segment at an index in front of all, where an access of code looks, if there is one.
+    pub(crate) fn bring_forward(&mut self, i: usize)
+        requires { AreOrdered (pieces self.old) }
+        ensures behind { AreBehind (pieces self.new) }
+        ensures memory { held self.new ≡ held self.old }
+        ensures found { (x : ℕ) → segment_at (pieces self.new) x ≡ segment_at (pieces self.old) x }
+    {
+        if i < self.segments.len() {
+            put_first(&mut self.segments, i);
+        }
     }
 
     /// Puts zeros in front of the segment at the index, from an address on where no segment lies, in an empty list with

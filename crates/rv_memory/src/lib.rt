@@ -2,7 +2,7 @@
 //!
 //! It takes an image and gives a memory, [`Flat`] or [`Paged`], and the trait [`Memory`] by which a hart sees it. A
 //! `Flat` keeps each segment as one piece and looks at one after the other; a `Paged` has a list of pages of 4096 bytes by
-//! ascending numbers, each with its rights, and a look-up is a binary search.
+//! ascending numbers, each with a segment that has bytes of it, and a look-up is a binary search.
 //!
 //! Main contract: the clauses of the trait tie every call to `mem`, the memory as data: `load` answers the little-endian
 //! number that stands there, `store` changes exactly its bytes, and `try_load` and `try_store` do so exactly where

@@ -1,8 +1,8 @@
 //! Pages of 4096 bytes, in a list by ascending numbers: a look-up is a binary search.
 //!
-//! The bytes of neighbouring pages lie one after the other in their segment: a page says in which, and which rights they
-//! have. That is one right for all of them, or the page is mixed, and then a search among the segments finds a byte's:
-//! a table for each mixed page would take 480 MiB for 60,000 segments of one byte.
+//! The bytes of neighbouring pages lie one after the other in their segment: a page says in which, as a hint, since a page
+//! may have bytes of several. Where that segment has not the byte, a search among the segments finds its own: a table for
+//! each mixed page would take 480 MiB for 60,000 segments of one byte.
 
 ghost use Rattle.std.specs.Prelude.{
   ◌≡◌,
@@ -35,15 +35,12 @@ ghost use Rattle.rv_memory.specs.Pages.{
   AreAscending,
   AreOrdered,
   ArePages,
-  AreRight,
-  IsRight,
   has_byte_on,
   is_listed,
   is_reached,
   no_page,
   with_page,
 };
-ghost use Rattle.rv_memory.specs.declared.page.PageRights.TheVariants.{Same};
 
 use rv_image::Segment;
 use std::alloc::{AllocError, Global};
@@ -51,21 +48,13 @@ use std::alloc::{AllocError, Global};
 /// How many bytes a page has.
 const PAGE_BYTES: u64 = 4096;
 
-/// The rights of a page's bytes.
-#[derive(Clone, Copy, Drop)]
-pub enum PageRights {
-    /// All have the same, segment flags, and lie in the segment at the index.
-    Same(u8, usize),
-    /// Each byte has those of its own segment, or of the stack where it is not made yet, and none elsewhere.
-    Mixed,
-}
-
 /// A page.
 #[derive(Clone, Copy, Drop)]
 pub struct Page {
     /// The quotient of its addresses by 4096.
     pub number: u64,
-    pub rights: PageRights,
+    /// The index of the first segment that has a byte of it.
+    pub segment: usize,
 }
 
 /// The index of the page of an address, where there is one.
@@ -106,30 +95,12 @@ fn add_page(pages: &mut Vec<Page>, page: Page) -> Result<(), AllocError>
     Ok(())
 }
 
-/// The page of a number, with the rights that the segment at the index gives, if it has all of the page's bytes.
-fn page_in(segments: &[Segment], index: usize, number: u64) -> Page
-    requires index { index < length segments.now }
-    requires number { number < 2 ^ 52 }
-    ensures number { result.number ≡ number }
-    ensures right { IsRight (map segment_of segments.now) result }
-    ensures same { (flags i : ℕ) → result.rights ≡ Same flags i → i ≡ index }
-{
-    let segment = &segments[index];
-    let start = number * PAGE_BYTES;
-    let length = segment.bytes.len() as u64;
-    if segment.address <= start
-        && length >= PAGE_BYTES
-        && start - segment.address <= length - PAGE_BYTES
-    {
-        let flags = (segment.flags % 8) as u8;
-        return Page {
-            number,
-            rights: PageRights::Same(flags, index),
-        };
-    }
-    Page {
-        number,
-        rights: PageRights::Mixed,
+/// The index of the segment at an index, after the one at `first` was put in front of all.
+pub(crate) fn index_behind(first: usize, index: usize) -> usize {
+    match index {
+        _ if index == first => 0,
+        _ if index < first => index.wrapping_add(1),
+        _ => index,
     }
 }
 
@@ -147,11 +118,12 @@ fn start_of(segments: &[Segment], index: usize, top: usize, start: u64) -> u64
 }
 
 /// Adds the pages of the segment at an index, behind those of the segments before it, where the segment at `top` begins at
-/// `start`, from where on it is to have bytes.
+/// `start`, from where on it is to have bytes. They have `hint` as the segment's index.
 fn add_pages(
     pages: &mut Vec<Page>,
     segments: &[Segment],
     index: usize,
+    hint: usize,
     top: usize,
     start: u64,
 ) -> Result<(), AllocError>
@@ -160,37 +132,40 @@ fn add_pages(
     requires ordered { AreOrdered (map segment_of segments.now) }
     requires before { ArePages (take index (deep (map segment_of segments.now) top start))
         pages.old.items }
-    requires right { AreRight (map segment_of segments.now) pages.old.items }
-    ensures pages { OnOk result
+    ensures { OnOk result
         (ArePages (take (index + 1) (deep (map segment_of segments.now) top start))
         pages.new.items) }
-    ensures right { OnOk result (AreRight (map segment_of segments.now) pages.new.items) }
 {
     let segment = &segments[index];
     let first = start_of(segments, index, top, start) / PAGE_BYTES;
     let last = (segment.address + (segment.bytes.len() as u64 - 1)) / PAGE_BYTES;
     for number in first..last + 1 {
-        add_page(pages, page_in(segments, index, number))?;
+        let page = Page {
+            number,
+            segment: hint,
+        };
+        add_page(pages, page)?;
     }
     Ok(())
 }
 
-/// The pages of segments, of which the one at `top` is to have bytes from `start` on.
+/// The pages of segments, of which the one at `top` is to have bytes from `start` on. They name the segments by the
+/// indices that these have when the one at `first` is put in front.
 pub(crate) fn pages_of(
     alloc: Global,
     segments: &[Segment],
+    first: usize,
     top: usize,
     start: u64,
 ) -> Result<Vec<Page>, AllocError>
     requires gap { IsGap (map segment_of segments.now) top start }
     requires ordered { AreOrdered (map segment_of segments.now) }
-    ensures pages { IfOk result
+    ensures { IfOk result
         (λ pages. ArePages (deep (map segment_of segments.now) top start) pages.items) }
-    ensures right { IfOk result (λ pages. AreRight (map segment_of segments.now) pages.items) }
 {
     let mut pages = Vec::new(alloc);
     for i in 0..segments.len() {
-        add_pages(&mut pages, segments, i, top, start)?;
+        add_pages(&mut pages, segments, i, index_behind(first, i), top, start)?;
     }
     Ok(pages)
 }

@@ -1,17 +1,19 @@
 //! A memory that keeps pages of 4096 bytes, and of the stack no more than is used.
 //!
-//! A list has every page of the image and of the stack by ascending numbers, each with its rights: one for the whole page
-//! where all of its bytes agree, else those of its segments. A look-up is a binary search, after a look at what is made of
-//! the stack. The bytes of neighbouring pages lie one after the other in their segment, where the image had them, so none
-//! is copied.
+//! A list has every page of the image and of the stack by ascending numbers, each with the index of a segment that has
+//! bytes of it. A look-up is a binary search, after a look at what is made of the stack. The bytes of neighbouring pages
+//! lie one after the other in their segment, where the image had them, so none is copied.
 //!
 //! At the start the stack's segment has only the last of its bytes. Below are zeros that no segment has: a load reads them
 //! as they are, and the first store there has the segment begin at the stack's start. The room for that is asked for at
 //! the start, as a store cannot want memory.
 //!
-//! In front of the search stand stretches: of code, of the stack and of data. One compare tells which, and one whether an
-//! access of its width lies in it, wherever pages end. All else is out of line, so that the hot loop takes these into
-//! itself. Contracts do not see what a `Cell` holds, so the index of the latest segment found is tested like any other.
+//! In front of the search stand stretches: of code, and of the two segments where most data and the stack are, whichever
+//! of them is the higher one. One compare tells which, and one whether an access of its width lies in it, wherever pages
+//! end. All else is out of line, so that the hot loop takes these into itself. The segment of the entry is put in front
+//! of all others, since a constant index costs least; the others are in the order of their addresses. So it is the same
+//! to a program where in memory it stands. Contracts do not see what a `Cell` holds, so the index of the latest segment
+//! found is tested like any other.
 
 ghost use Rattle.std.specs.Prelude.{
   ◌≡◌,
@@ -48,7 +50,7 @@ ghost use Rattle.rv_isa_laws.specs.Memory.{
 ghost use Rattle.rv_image.specs.Views.{image_of};
 ghost use Rattle.rv_image_laws.specs.Memory.{mem_of, lies_in, segment_at, gives_right, right_in};
 ghost use Rattle.rv_memory.specs.Held.{pieces};
-ghost use Rattle.rv_memory.specs.Quick.{AreKnown, IsEnd};
+ghost use Rattle.rv_memory.specs.Quick.{AreKnown};
 ghost use Rattle.rv_memory.specs.Rights.{right_of, IsWidth, IsToLoad};
 ghost use Rattle.rv_memory.specs.Stretches.{IsStretch};
 ghost use Rattle.rv_memory.specs.Unmade.{lies_unmade, IsUnmade, CanDeepen};
@@ -56,9 +58,9 @@ ghost use Rattle.rv_isa_laws.specs.Platform.{stack_end, stack_start};
 
 use crate::flat::{Flat, give, is_held};
 use crate::memory::{Memory, Right};
-use crate::page::{Page, PageRights, page_of, pages_of};
+use crate::page::{Page, index_behind, page_of, pages_of};
 use crate::pieces::{Pieces, have_right, load_number, number, store_number};
-use crate::stretch::{Near, Stretch, near_of};
+use crate::stretch::{Nears, Stretch, nears_of, sides};
 use rv_image::{Image, STACK_BYTES, STACK_START};
 use std::alloc::{AllocError, Global};
 use std::mem;
@@ -72,26 +74,18 @@ const MADE_FROM: u64 = STACK_START + (STACK_BYTES - MADE_AT_START) as u64;
 /// Pages by ascending numbers: all of an image's segments and of the stack.
 #[derive(Drop)]
 pub struct Paged {
-    /// The bytes of the pages: segments in the order of their addresses.
+    /// The bytes of the pages: the segment of the entry, and the others in the order of their addresses.
     pub(crate) flat: Flat,
     pages: Vec<Page>,
-    /// The first segment, where a fetch looks first: linkers put code there.
-    code: Near,
-    /// How many bytes from the start of code on lie before one that may not be executed; 0 where that is not known.
-    code_bytes: u64,
-    /// Where an access at the stack's start or above looks.
-    stack: Near,
-    /// Where a load below looks: the segment before the stack, where linkers put data; constants in a program without
-    /// data.
-    data: Near,
-    /// Where a store below looks: the same segment.
-    written: Near,
+    nears: Nears,
+    /// The index of the segment that has the stack.
+    top: usize,
     /// From here on the stack is made.
     pub(crate) base: u64,
     /// Empty, with room for the bytes of the whole stack until it is made.
     room: Vec<u8>,
-    ghost known: { AreKnown (pieces flat) pages.items code stack «data» written code_bytes },
-    ghost unmade: { IsUnmade (pieces flat) stack.segment base },
+    ghost known: { AreKnown (pieces flat) pages.items nears },
+    ghost unmade: { IsUnmade (pieces flat) top base },
     ghost has_room: { CanDeepen base room.items (vec_capacity room) },
 }
 
@@ -100,16 +94,6 @@ pub struct Paged {
 struct Found {
     segment: usize,
     flags: u8,
-}
-
-/// The count of bytes from an address on, where the byte behind them may not be executed; else 0.
-fn bytes_before_end(flat: &Flat, start: u64, bytes: u64) -> u64
-    ensures { IsEnd (pieces flat.now) start result }
-{
-    if flat.may(start.wrapping_add(bytes), 1, Right::Execute) {
-        return 0;
-    }
-    bytes
 }
 
 /// The room in which all of the stack can be made, where it is made from an address on.
@@ -123,30 +107,27 @@ fn room_above(alloc: Global, base: u64) -> Result<Vec<u8>, AllocError>
 }
 
 impl Paged {
-    ghost use Rattle.rv_memory.specs.HeldPages.{held_pages, pages_in, stack_in};
+    ghost use Rattle.rv_memory.specs.HeldPages.{held_pages, pages_in};
 
     /// The memory of an image, with the stack.
     pub fn new(alloc: Global, image: Image) -> Result<Self, AllocError>
         ensures { IfOk result (λ paged. held_pages paged ≡ mem_of (image_of image)) }
     {
-        let flat = Flat::in_order(alloc, image, MADE_FROM)?;
-        let top = flat.stack_index(MADE_FROM);
-        let pages = pages_of(alloc, &flat.segments, top, STACK_START)?;
+        let entry = image.entry;
+        let mut flat = Flat::in_order(alloc, image, MADE_FROM)?;
+        let first = flat.position_in_order(entry).unwrap_or(0);
+        let (low, high) = sides(&flat.segments);
+        let stack = flat.stack_index(MADE_FROM);
+        let pages = pages_of(alloc, &flat.segments, first, stack, STACK_START)?;
         let room = Vec::with_capacity(alloc, STACK_BYTES)?;
-        let below = top.wrapping_sub(1);
-        let code = near_of(&flat, 0, (Right::Execute, Right::Execute));
-        let code_bytes = bytes_before_end(&flat, code.start, code.room_1);
-        let stack = near_of(&flat, top, (Right::Read, Right::Write));
-        let data = near_of(&flat, below, (Right::Read, Right::Read));
-        let written = near_of(&flat, below, (Right::Write, Right::Write));
+        flat.bring_forward(first);
+        let nears = nears_of(&flat, index_behind(first, low), index_behind(first, high));
+        let top = flat.stack_index(MADE_FROM);
         Ok(Paged {
             flat,
             pages,
-            code,
-            code_bytes,
-            stack,
-            data,
-            written,
+            nears,
+            top,
             base: MADE_FROM,
             room,
         })
@@ -162,11 +143,8 @@ impl Paged {
         Ok(Paged {
             flat,
             pages,
-            code: self.code,
-            code_bytes: self.code_bytes,
-            stack: self.stack,
-            data: self.data,
-            written: self.written,
+            nears: self.nears,
+            top: self.top,
             base: self.base,
             room,
         })
@@ -213,21 +191,11 @@ impl Paged {
         ensures made { self.new.base ≡ stack_start }
         ensures memory { held_pages self.new ≡ held_pages self.old }
     {
-        let top = self.stack.segment;
         let alloc = *self.room.allocator();
         let room = mem::replace(&mut self.room, Vec::new(alloc));
-        self.flat.deepen(top, STACK_START, room);
-        let below = top.wrapping_sub(1);
-        let code = near_of(&self.flat, 0, (Right::Execute, Right::Execute));
-        let code_bytes = bytes_before_end(&self.flat, code.start, code.room_1);
-        let stack = near_of(&self.flat, top, (Right::Read, Right::Write));
-        let data = near_of(&self.flat, below, (Right::Read, Right::Read));
-        let written = near_of(&self.flat, below, (Right::Write, Right::Write));
-        self.code = code;
-        self.code_bytes = code_bytes;
-        self.stack = stack;
-        self.data = data;
-        self.written = written;
+        self.flat.deepen(self.top, STACK_START, room);
+        let (low, high) = (self.nears.low.segment, self.nears.high.segment);
+        self.nears = nears_of(&self.flat, low, high);
         self.base = STACK_START;
     }
 
@@ -242,25 +210,27 @@ impl Paged {
         self.deepen();
     }
 
-    /// The segment of an address in the stack that is made, and its rights.
-    fn find_stack(&self, address: u64) -> Option<Found>
+    /// The segment at the index, and its rights, where it has the address.
+    fn found_at(&self, segment: usize, address: u64) -> Option<Found>
         ensures within { IfSome result
             (λ found. found.segment < length self.now.flat.segments.items) }
-        ensures found { MatchOption result
-            (lies_in (stack_in self.now) address ≡ false)
+        ensures found { IfSome result
             (λ found. segment_at (pages_in self.now) address
             ≡ slice_get (pages_in self.now) found.segment) }
         ensures rights { IfSome result (λ found. (right : ARight) →
             gives_right found.flags right
             ≡ right_in (segment_at (pages_in self.now) address) right) }
     {
-        let segment = &self.flat.segments[self.stack.segment];
-        if !is_held(segment, address) {
+        if segment >= self.flat.segments.len() {
+            return None;
+        }
+        let held = &self.flat.segments[segment];
+        if !is_held(held, address) {
             return None;
         }
         Some(Found {
-            segment: self.stack.segment,
-            flags: (segment.flags % 8) as u8,
+            segment,
+            flags: (held.flags % 8) as u8,
         })
     }
 
@@ -275,15 +245,14 @@ impl Paged {
             gives_right found.flags right
             ≡ right_in (segment_at (pages_in self.now) address) right) }
     {
-        match self.find_stack(address) {
+        match self.found_at(self.top, address) {
             Some(found) => Some(found),
             None => self.find_listed(address),
         }
     }
 
-    /// The same, where the stack has not the address: its page tells both, or that several segments are to be searched.
+    /// The same by the list of pages.
     fn find_listed(&self, address: u64) -> Option<Found>
-        requires { lies_in (stack_in self.now) address ≡ false }
         ensures within { IfSome result
             (λ found. found.segment < length self.now.flat.segments.items) }
         ensures found { MatchOption result (segment_at (pages_in self.now) address ≡ None)
@@ -293,17 +262,18 @@ impl Paged {
             gives_right found.flags right
             ≡ right_in (segment_at (pages_in self.now) address) right) }
     {
-        match page_of(&self.pages, address) {
-            Some(i) => match self.pages[i].rights {
-                PageRights::Same(flags, segment) => Some(Found { segment, flags }),
-                PageRights::Mixed => self.find_mixed(address),
-            },
-            None => None,
+        let i = match page_of(&self.pages, address) {
+            Some(i) => i,
+            None => return None,
+        };
+        match self.found_at(self.pages[i].segment, address) {
+            Some(found) => Some(found),
+            None => self.find_other(address),
         }
     }
 
-    /// The same for a page of several rights.
-    fn find_mixed(&self, address: u64) -> Option<Found>
+    /// The same on a page of several segments.
+    fn find_other(&self, address: u64) -> Option<Found>
         ensures within { IfSome result
             (λ found. found.segment < length self.now.flat.segments.items) }
         ensures found { MatchOption result (segment_at (pages_in self.now) address ≡ None)
@@ -359,7 +329,8 @@ impl Paged {
             .part(self.flat.latest(right), address, bytes, right)
     }
 
-    /// The number of bytes that may be executed.
+    /// The number of bytes that may be executed. Those that begin in the stretch of code and go on behind code lack the
+    /// right, so that a loop at the end of code needs no search.
     #[inline(always)]
     fn fetch(&self, address: u64, bytes: u64) -> Option<u64>
         requires { IsWidth bytes }
@@ -371,15 +342,19 @@ impl Paged {
         ensures bytes { IfSome result
             (λ _. (k : ℕ) → k < bytes → (held_pages self.now).byte ((address + k) % 2 ^ 64) < 256) }
     {
-        let stretch = self.code.stretch(bytes);
+        let stretch = self.nears.code.stretch(bytes);
         if let Some(number) = self.near(0, stretch, address, bytes, Right::Execute) {
             return Some(number);
+        }
+        let at = address.wrapping_sub(self.nears.code.start);
+        let code_bytes = self.nears.code_bytes;
+        if at < code_bytes && code_bytes - at < bytes {
+            return None;
         }
         self.fetch_elsewhere(address, bytes)
     }
 
-    /// The same, where the stretch of code does not hold them. Those that begin in it and go on behind code lack the right,
-    /// so that a loop at the end of code needs no search.
+    /// The same, where the stretch of code does not hold them and code does not end within them.
     #[cold]
     #[inline(never)]
     fn fetch_elsewhere(&self, address: u64, bytes: u64) -> Option<u64>
@@ -392,15 +367,11 @@ impl Paged {
         ensures bytes { IfSome result
             (λ _. (k : ℕ) → k < bytes → (held_pages self.now).byte ((address + k) % 2 ^ 64) < 256) }
     {
-        let at = address.wrapping_sub(self.code.start);
-        if at < self.code_bytes && self.code_bytes - at < bytes {
-            return None;
-        }
         self.load_elsewhere(address, bytes, Right::Execute)
     }
 
-    /// The number of bytes that may be read, where the stretch on their side of the stack's start holds them. Each has
-    /// its own branch: a choice between two stretches by value costs more.
+    /// The number of bytes that may be read, where the stretch on their side holds them. Each has its own branch: a choice
+    /// between two stretches by value costs more.
     #[inline(always)]
     fn read_near(&self, address: u64, bytes: u64) -> Option<u64>
         requires { IsWidth bytes }
@@ -410,15 +381,15 @@ impl Paged {
         ensures bytes { IfSome result
             (λ _. (k : ℕ) → k < bytes → (held_pages self.now).byte ((address + k) % 2 ^ 64) < 256) }
     {
-        if address < STACK_START {
-            let stretch = self.data.stretch(bytes);
+        if address < self.nears.divide {
+            let stretch = self.nears.low.stretch(bytes);
             return self.near(stretch.segment, stretch, address, bytes, Right::Read);
         }
-        let stretch = self.stack.stretch(bytes);
+        let stretch = self.nears.high.stretch(bytes);
         self.near(stretch.segment, stretch, address, bytes, Right::Read)
     }
 
-    /// Puts bytes where the stretch on their side of the stack's start holds the address; whether it does.
+    /// Puts bytes where the stretch on their side holds the address; whether it does.
     #[inline(always)]
     fn put_near(&mut self, address: u64, bytes: &[u8]) -> bool
         requires { IsWidth (length bytes.now) }
@@ -427,11 +398,11 @@ impl Paged {
             × (held_pages self.new ≡ with_bytes (held_pages self.old) address bytes.now))
             (held_pages self.new ≡ held_pages self.old) }
     {
-        if address < STACK_START {
-            let stretch = self.written.stretch(bytes.len() as u64);
+        if address < self.nears.divide {
+            let stretch = self.nears.low_written.stretch(bytes.len() as u64);
             return self.flat.put_near(stretch, address, bytes);
         }
-        let stretch = self.stack.stretch(bytes.len() as u64);
+        let stretch = self.nears.high_written.stretch(bytes.len() as u64);
         self.flat.put_near(stretch, address, bytes)
     }
 

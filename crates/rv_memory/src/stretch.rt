@@ -7,10 +7,11 @@
 ghost use Rattle.std.specs.Prelude.{◌≡◌, ◌<◌};
 ghost use Rattle.rv_memory.specs.Rights.{right_of, IsWidth};
 ghost use Rattle.rv_memory.specs.Held.{pieces};
-ghost use Rattle.rv_memory.specs.Quick.{IsQuick, room_of};
+ghost use Rattle.rv_memory.specs.Quick.{AreNear, IsEnd, IsQuick, room_of};
 
 use crate::flat::{Flat, is_given};
-use crate::memory::Right;
+use crate::memory::{Memory, Right};
+use rv_image::Segment;
 
 /// The first addresses of a segment that gives a right: all from which an access of one width lies in the segment.
 #[derive(Clone, Copy, Drop)]
@@ -57,15 +58,29 @@ impl Near {
     }
 }
 
-/// The segment at the index, where it gives two rights; else no access can begin in it.
-pub(crate) fn near_of(flat: &Flat, i: usize, rights: (Right, Right)) -> Near
+/// Where accesses look before they search, and where code ends.
+#[derive(Clone, Copy, Drop)]
+pub struct Nears {
+    /// The first segment, where a fetch looks.
+    pub code: Near,
+    /// How many bytes from the start of code on lie before one that may not be executed; 0 where that is not known.
+    pub code_bytes: u64,
+    /// An access here or above looks at the higher of two segments, another at the lower one.
+    pub divide: u64,
+    pub low: Near,
+    pub low_written: Near,
+    pub high: Near,
+    pub high_written: Near,
+}
+
+/// The segment at the index, where it gives the right; else no access can begin in it.
+fn near_of(flat: &Flat, i: usize, right: Right) -> Near
     ensures index { result.segment ≡ i }
-    ensures first { IsQuick (pieces flat.now) i result (right_of (rights.0)) }
-    ensures second { IsQuick (pieces flat.now) i result (right_of (rights.1)) }
+    ensures quick { IsQuick (pieces flat.now) result.segment result (right_of right) }
 {
     if i < flat.segments.len() {
         let segment = &flat.segments[i];
-        if is_given(segment, rights.0) && is_given(segment, rights.1) {
+        if is_given(segment, right) {
             let length = segment.bytes.len() as u64;
             return Near {
                 segment: i,
@@ -84,5 +99,45 @@ pub(crate) fn near_of(flat: &Flat, i: usize, rights: (Right, Right)) -> Near
         room_2: 0,
         room_4: 0,
         room_8: 0,
+    }
+}
+
+/// The count of bytes from an address on, where the byte behind them may not be executed; else 0.
+fn bytes_before_end(flat: &Flat, start: u64, bytes: u64) -> u64
+    ensures { IsEnd (pieces flat.now) start result }
+{
+    if flat.may(start.wrapping_add(bytes), 1, Right::Execute) {
+        return 0;
+    }
+    bytes
+}
+
+/// The two segments, in the order of their addresses, where most loads and stores are: the last one, and below it the last
+/// that may be written, or else the next one. Linkers put data last, below the stack or above it.
+pub(crate) fn sides(segments: &[Segment]) -> (usize, usize) {
+    let high = segments.len().saturating_sub(1);
+    let low = segments[..high]
+        .iter()
+        .rposition(|segment| is_given(segment, Right::Write));
+    (low.unwrap_or(high.saturating_sub(1)), high)
+}
+
+/// Where accesses look, with the indices of the lower and of the higher of two segments.
+pub(crate) fn nears_of(flat: &Flat, low: usize, high: usize) -> Nears
+    ensures { AreNear (pieces flat.now) result }
+{
+    let code = near_of(flat, 0, Right::Execute);
+    let divide = match flat.segments.get(high) {
+        Some(segment) => segment.address,
+        None => 0,
+    };
+    Nears {
+        code,
+        code_bytes: bytes_before_end(flat, code.start, code.room_1),
+        divide,
+        low: near_of(flat, low, Right::Read),
+        low_written: near_of(flat, low, Right::Write),
+        high: near_of(flat, high, Right::Read),
+        high_written: near_of(flat, high, Right::Write),
     }
 }

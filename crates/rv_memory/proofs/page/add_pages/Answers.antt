@@ -1,11 +1,12 @@
-use Rattle.std.proofs.Common.{◌≡◌, ◌<◌, ◌+◌, ◌-◌, ◌/◌, ◌∙◌, List, sym, ap, get_or, map, take, length, arith}
+use Rattle.std.proofs.Common.{◌≡◌, ◌<◌, ◌+◌, ◌-◌, ◌/◌, ◌∙◌, List, sym, ap, refl, get_or, map, take, length, arith}
 use Rattle.std.proofs.lemmas.List.{length-map}
 use Rattle.rv_image_laws.specs.Segment.{Segment}
 use Rattle.rv_image.specs.SegmentView.{segment_of}
 use Rattle.rv_memory.specs.Flat.{no_segment}
+use Rattle.rv_memory.specs.declared.page.Page.{Page}
 use Rattle.rv_memory.specs.Unmade.{deep}
 use Rattle.rv_memory.proofs.FlatLemmas.{element-or}
-use Rattle.rv_memory.proofs.PageLemmas.{more-start, more-next, more-all, right-take, right-next, right-deep, deep-end}
+use Rattle.rv_memory.proofs.PageLemmas.{more-start, more-next, more-all, deep-end}
 use Rattle.rv_memory.proofs.UnmadeLemmas.{deep-apart, deep-ordered, deep-count}
 use Rattle.rv_memory.proofs.page.add_pages.Goals as goal
 
@@ -22,25 +23,21 @@ pub loop-number-init : goal.loop-number-init
 loop-number-init c =
     let ss : List Segment = map segment_of c.args.segments.now in
     let ds : List Segment = deep ss c.args.top c.args.start in
-    let within : c.args.index < length ds = omega (arith, c.requires.index, length-map c.args.segments.now segment_of, deep-count ss c.args.top c.args.start) in (
-      more-start ds c.args.index (c.start_of-first.result / 4096) c.args.pages.now.items within (deep-apart ss c.args.top c.args.start c.requires.gap) (deep-ordered ss c.args.top c.args.start c.requires.gap c.requires.ordered) c.requires.before
-          (ap (λ n. n / 4096) c.start_of-first.ensures),
-      c.requires.right,
-    )
+    let within : c.args.index < length ds = omega (arith, c.requires.index, length-map c.args.segments.now segment_of, deep-count ss c.args.top c.args.start) in
+    more-start ds c.args.index (c.start_of-first.result / 4096) c.args.pages.now.items within (deep-apart ss c.args.top c.args.start c.requires.gap) (deep-ordered ss c.args.top c.args.start c.requires.gap c.requires.ordered) c.requires.before
+    (ap (λ n. n / 4096) c.start_of-first.ensures)
 
 pub loop-number-preserved : goal.loop-number-preserved
 loop-number-preserved c =
     let ss : List Segment = map segment_of c.args.segments.now in
     let ds : List Segment = deep ss c.args.top c.args.start in
-    let within : c.args.index < length ds = omega (arith, c.requires.index, length-map c.args.segments.now segment_of, deep-count ss c.args.top c.args.start) in
-    let right = right-take ds c.args.index c.page_in.result within (right-deep ss c.args.top c.args.start c.page_in.result c.requires.gap c.page_in.ensures.right) c.page_in.ensures.same in
-    let next = more-next (take (c.args.index + 1) ds) (c.start_of-first.result / 4096) c.loop-number.number c.args.pages.now.items c.loop-number.pages.items c.page_in.result
-    (omega (arith, c.loop-number.auto.number)) c.page_in.ensures.number right c.loop-number.invariant.0 in
-    let both = right-next ss c.loop-number.pages.items c.page_in.result c.loop-number.invariant.1 c.page_in.ensures.right in
-    (rw c.in_ok-add_page.ensures.added next, rw c.in_ok-add_page.ensures.added both)
+    let page : Page = record { number = c.loop-number.number; segment = c.args.hint } in
+    let next = more-next (take (c.args.index + 1) ds) (c.start_of-first.result / 4096) c.loop-number.number c.args.pages.now.items c.loop-number.pages.items page
+    (omega (arith, c.loop-number.auto.number)) refl c.loop-number.invariant in
+    rw c.in_ok-add_page.ensures.added next
 
-pub returns-clause-pages : goal.returns-clause-pages
-returns-clause-pages c =
+pub returns : goal.returns
+returns c =
     let xs = c.args.segments.now in
     let ss : List Segment = map segment_of xs in
     let ds : List Segment = deep ss c.args.top c.args.start in
@@ -57,4 +54,4 @@ returns-clause-pages c =
     omega (arith, some, c.len.ensures, c.loop-number-test.false, c.loop-number.auto.number-end, c.loop-number.auto.number) in
     let last : s.address + (length s.bytes.items - 1) ≡ (get_or ds c.args.index no_segment).address + (length (get_or ds c.args.index no_segment).bytes - 1) = omega (arith, some, more, here, ends) in
     more-all ds c.args.index (c.start_of-first.result / 4096) c.loop-number.number c.args.pages.now.items c.loop-number.pages.items deep_within ordered c.requires.before
-    (ap (λ n. n / 4096) c.start_of-first.ensures) (end ∙ ap (λ n. n / 4096 + 1) last) c.loop-number.invariant.0
+    (ap (λ n. n / 4096) c.start_of-first.ensures) (end ∙ ap (λ n. n / 4096 + 1) last) c.loop-number.invariant

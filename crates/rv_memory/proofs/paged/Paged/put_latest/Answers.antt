@@ -5,7 +5,7 @@ use Rattle.rv_memory.proofs.KnownLemmas.{known-still, unmade-still}
 use Rattle.rv_memory.proofs.paged.Paged.put_latest.Goals as goal
 
 pub invariant_of-self : goal.invariant_of-self
-invariant_of-self c = record { known = known-still _ _ _ _ _ _ _ _ c.put_part.ensures.alike c.args.self.now.known; unmade = unmade-still _ _ _ _ c.put_part.ensures.alike c.args.self.now.unmade; has_room = c.args.self.now.has_room }
+invariant_of-self c = record { known = known-still _ _ _ _ c.put_part.ensures.alike c.args.self.now.known; unmade = unmade-still _ _ _ _ c.put_part.ensures.alike c.args.self.now.unmade; has_room = c.args.self.now.has_room }
 
 pub returns : goal.returns
 returns c =

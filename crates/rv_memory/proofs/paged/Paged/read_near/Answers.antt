@@ -5,9 +5,9 @@ use Rattle.rv_memory.proofs.paged.Paged.read_near.Goals as goal
 pub near-requires-clause-known : goal.near-requires-clause-known
 near-requires-clause-known c =
     let s = c.stretch-stretch in
-    quick-at _ _ _ _ _ c.args.bytes c.args.bytes c.args.self.now.data _ c.args.self.now.known.low_reads c.requires s.ensures.segment s.ensures.start refl s.ensures.room
+    quick-at _ _ _ _ _ c.args.bytes c.args.bytes c.args.self.now.nears.low _ c.args.self.now.known.near.low_reads c.requires s.ensures.segment s.ensures.start refl s.ensures.room
 
 pub near-requires-2-clause-known : goal.near-requires-2-clause-known
 near-requires-2-clause-known c =
     let s = c.stretch-stretch-2 in
-    quick-at _ _ _ _ _ c.args.bytes c.args.bytes c.args.self.now.stack _ c.args.self.now.known.stack_reads c.requires s.ensures.segment s.ensures.start refl s.ensures.room
+    quick-at _ _ _ _ _ c.args.bytes c.args.bytes c.args.self.now.nears.high _ c.args.self.now.known.near.high_reads c.requires s.ensures.segment s.ensures.start refl s.ensures.room

@@ -11,7 +11,7 @@ use Rattle.rv_memory.proofs.paged.PagedPieces.put_within.Goals as goal
 
 pub invariant_of-self : goal.invariant_of-self
 invariant_of-self c = record {
-  known = known-still _ _ _ _ _ _ _ _ c.put_from.ensures.alike c.make.new.self.known;
+  known = known-still _ _ _ _ c.put_from.ensures.alike c.make.new.self.known;
   unmade = unmade-still _ _ _ _ c.put_from.ensures.alike c.make.new.self.unmade;
   has_room = c.make.new.self.has_room;
 }

@@ -1,0 +1,4 @@
+-- A run with devices beside the run without them.
+pub mod BesideLemmas
+-- What stood on the console before a run changes nothing of it: the run writes behind.
+pub mod BehindLemmas

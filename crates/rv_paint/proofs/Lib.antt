@@ -1,4 +1,0 @@
--- What `memchr` finds.
-pub mod EscapesLemmas
--- Texts with colours, one after another.
-pub mod PaintingLemmas

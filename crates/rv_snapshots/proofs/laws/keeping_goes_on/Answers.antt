@@ -1,8 +1,0 @@
-use Rattle.rv_snapshots.proofs.KeepsLemmas.{keeps_all, keeps_on}
-use Rattle.rv_snapshots.proofs.laws.keeping_goes_on.Goals as goal
-
-pub returns-clause-start : goal.returns-clause-start
-returns-clause-start c = keeps_all
-
-pub returns-clause-on : goal.returns-clause-on
-returns-clause-on c = keeps_on
