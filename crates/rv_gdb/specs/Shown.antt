@@ -4,10 +4,10 @@ use Rattle.std.specs.Prelude.{◌≡◌, ◌⊎◌, ℕ, zero, suc, ◌==◌, if
 use Rattle.rv_isa_laws.specs.Memory.{Mem, bytes_at}
 use Rattle.rv_machine.specs.declared.hart.Hart.{Hart}
 use Rattle.rv_machine.specs.Registers.{register_value}
-use Rattle.rv_gdb_commands.specs.declared.command.Command.{Command}
-use Rattle.rv_gdb_commands.specs.declared.command.Command.TheVariants.{ReadRegisters, ReadRegister, ReadMemory, Unknown}
-use Rattle.rv_gdb_commands.specs.Asked.{error_reply}
-use Rattle.rv_gdb_commands.specs.Digits.{digits, value_digits}
+use Rattle.rv_gdb_packets.specs.declared.command.Command.{Command}
+use Rattle.rv_gdb_packets.specs.declared.command.Command.TheVariants.{ReadRegisters, ReadRegister, ReadMemory, Unknown}
+use Rattle.rv_gdb_packets.specs.Asked.{error_reply}
+use Rattle.rv_gdb_packets.specs.Digits.{digits, value_digits}
 
 -- x0 to x31 by their numbers, and pc behind them, as the target's description numbers them
 abbrev pub register_or_pc : Hart → ℕ → ℕ

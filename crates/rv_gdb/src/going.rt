@@ -5,8 +5,8 @@ ghost use Rattle.std.specs.Prelude.{◌≡◌};
 use crate::reach::next_reach;
 use crate::session::Session;
 use crate::stop::Stop;
-use rv_gdb_commands::{Met, Motion};
-use rv_replay::ReplayFault;
+use rv_gdb_packets::{Met, Motion};
+use rv_states::ReplayFault;
 
 /// How a program goes.
 #[derive(Clone, Copy, Drop)]

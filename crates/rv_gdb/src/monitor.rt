@@ -3,7 +3,7 @@
 ghost use Rattle.std.specs.Prelude.{◌≡◌};
 
 use crate::session::Session;
-use rv_gdb_commands::{bytes_of, put_bytes, put_error, put_ok};
+use rv_gdb_packets::{bytes_of, put_bytes, put_error, put_ok};
 use std::alloc::{AllocError, Global};
 use std::str::from_utf8;
 

@@ -3,7 +3,7 @@
 //! GDB takes a watchpoint of RISC-V for one that stops before the instruction that reads or writes, as the processors' own
 //! do, on the way back before it is undone. So it is told by what an instruction asks, before it is done.
 
-use rv_gdb_commands::{Range, Reach};
+use rv_gdb_packets::{Range, Reach};
 use rv_isa::{AtomicOperation, Format, LoadOperation, Reg, StoreOperation};
 use rv_machine::{Fetched, Watched, bits_at as code_at, spelled};
 use rv_memory::Paged;

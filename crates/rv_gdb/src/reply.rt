@@ -1,11 +1,11 @@
 //! The registers, as they are answered.
 
 ghost use Rattle.std.specs.Prelude.{◌≡◌, ◌++◌, ◌<◌, OnOk, flat_map};
-ghost use Rattle.rv_gdb_commands.specs.Digits.{value_digits};
+ghost use Rattle.rv_gdb_packets.specs.Digits.{value_digits};
 ghost use Rattle.rv_gdb.specs.Shown.{register_or_pc, all_values};
 
-use rv_gdb_commands::put_value;
-use rv_gdb_memory::REGISTERS;
+use crate::beginning::REGISTERS;
+use rv_gdb_packets::put_value;
 use rv_isa::Reg;
 use rv_machine::Watched;
 use rv_memory::Paged;

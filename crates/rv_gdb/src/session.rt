@@ -15,21 +15,22 @@ ghost use Rattle.std.specs.Prelude.{
   flat_map,
 };
 ghost use Rattle.rv_memory.specs.HeldPages.{held_pages};
-ghost use Rattle.rv_gdb_commands.specs.Numbers.{number_on};
-ghost use Rattle.rv_gdb_commands.specs.Digits.{value_digits};
-ghost use Rattle.rv_gdb_commands.specs.Asked.{writes, begins_write};
+ghost use Rattle.rv_gdb_packets.specs.Numbers.{number_on};
+ghost use Rattle.rv_gdb_packets.specs.Digits.{value_digits};
+ghost use Rattle.rv_gdb_packets.specs.Asked.{writes, begins_write};
 ghost use Rattle.rv_gdb.specs.Shown.{register_or_pc, all_values, Says, SaysBytes, AnswersCommand};
 
+use crate::beginning::REGISTERS;
 use crate::going::Going;
+use crate::memory::put_memory;
 use crate::reply::{put_registers, put_registers_of, value_of};
 use crate::stop::{Stop, put_stop};
 use crate::writing::Draft;
-use rv_gdb_commands::{
+use rv_gdb_packets::{
     Command, Features, Motion, Points, Range, command_of, put_description, put_done, put_error,
     put_ok, put_supported, put_value,
 };
-use rv_gdb_memory::{REGISTERS, put_memory};
-use rv_replay::{Replay, ReplayFault};
+use rv_states::{Replay, ReplayFault};
 use std::alloc::{AllocError, Global};
 
 /// What follows a packet.

@@ -1,6 +1,6 @@
 //! Why a program stands, as it is answered.
 
-use rv_gdb_commands::{Features, Met, PointKind, put_byte, put_number};
+use rv_gdb_packets::{Features, Met, PointKind, put_byte, put_number};
 use rv_machine::End;
 use std::alloc::AllocError;
 

@@ -5,12 +5,13 @@
 
 ghost use Rattle.std.specs.Prelude.{◌≡◌, [], None, length};
 
+use crate::beginning::{OWN_SEGMENTS, REGISTERS, Wanted, beginning_at};
+use crate::memory::{Write, stand_in};
 use crate::reply::registers_of;
 use crate::session::Session;
 use crate::stop::Stop;
-use rv_gdb_commands::{Command, Range, bytes_of};
-use rv_gdb_memory::{OWN_SEGMENTS, REGISTERS, Wanted, Write, beginning_at, stand_in};
-use rv_replay::{Replay, ReplayFault};
+use rv_gdb_packets::{Command, Range, bytes_of};
+use rv_states::{Replay, ReplayFault};
 use std::alloc::{AllocError, Global};
 
 /// The bytes of a register's value.

@@ -2,11 +2,10 @@
 
 use crate::wire::{Heard, Wire};
 use rv_gdb::{Session, Then};
-use rv_gdb_commands::put_bytes;
-use rv_gdb_packets::{Message, Receiver};
+use rv_gdb_packets::{Message, Receiver, put_bytes};
 use rv_image::Image;
 use rv_job::Debugged;
-use rv_replay::{Replay, ReplayFault};
+use rv_states::{Replay, ReplayFault};
 use rv_system::{JobError, System, cannot, file_bytes, print};
 use std::alloc::Global;
 use std::io::Write;

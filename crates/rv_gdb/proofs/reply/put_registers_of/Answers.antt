@@ -2,7 +2,7 @@ use Rattle.std.proofs.Common.{◌≡◌, ◌++◌, ◌+◌, ℕ, suc, List, [], 
 use Rattle.std.specs.List.{flat_map}
 use Rattle.std.proofs.lemmas.List.{flat_map_more}
 use Rattle.rv_machine.specs.declared.hart.Hart.{Hart}
-use Rattle.rv_gdb_commands.specs.Digits.{value_digits}
+use Rattle.rv_gdb_packets.specs.Digits.{value_digits}
 use Rattle.rv_gdb.specs.Shown.{register_or_pc, values, all_values}
 use Rattle.rv_gdb.proofs.reply.put_registers_of.Goals as goal
 

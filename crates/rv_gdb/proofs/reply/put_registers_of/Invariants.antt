@@ -1,6 +1,6 @@
 use Rattle.std.proofs.Common.{◌≡◌, ◌++◌}
 use Rattle.std.specs.List.{flat_map}
-use Rattle.rv_gdb_commands.specs.Digits.{value_digits}
+use Rattle.rv_gdb_packets.specs.Digits.{value_digits}
 use Rattle.rv_gdb.specs.Shown.{values}
 use Rattle.rv_gdb.proofs.reply.put_registers_of.Given as goal
 

@@ -4,8 +4,8 @@ use Rattle.std.proofs.lemmas.List.{flat_map_more}
 use Rattle.rv_isa_laws.specs.Memory.{Mem, bytes_at}
 use Rattle.rv_memory.specs.HeldPages.{held_pages}
 use Rattle.rv_memory.proofs.MemoryLemmas.{bytes-more}
-use Rattle.rv_gdb_commands.specs.Digits.{byte_digits, digits}
-use Rattle.rv_gdb_memory.proofs.memory.put_memory.Goals as goal
+use Rattle.rv_gdb_packets.specs.Digits.{byte_digits, digits}
+use Rattle.rv_gdb.proofs.memory.put_memory.Goals as goal
 
 -- the digits of one byte more
 more : (m : Mem) (a n w b : ℕ) (start before after : List ℕ) → w ≡ (a + n) % 2 ^ 64 → b ≡ m.byte (w % 2 ^ 64) → before ≡ start ++ digits (bytes_at m a n) → after ≡ before ++ byte_digits b →

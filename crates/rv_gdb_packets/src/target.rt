@@ -1,8 +1,8 @@
 //! The target's description: a hart of RV64 with the registers x0 to x31 and pc.
 
+use crate::body::CONTENT_LIMIT;
 use crate::command::Range;
 use crate::numbers::put_number;
-use rv_gdb_packets::CONTENT_LIMIT;
 use std::alloc::AllocError;
 
 /// The feature that a hart of RISC-V has at least; GDB knows the registers of `org.gnu.gdb.riscv.cpu` by these names.

@@ -16,10 +16,10 @@ ghost use Rattle.std.specs.Prelude.{
   length,
   drop,
 };
-ghost use Rattle.rv_gdb_commands.specs.Numbers.{number_on};
-ghost use Rattle.rv_gdb_commands.specs.Digits.{byte_digits, digits, value_digits};
+ghost use Rattle.rv_gdb_packets.specs.Numbers.{number_on};
+ghost use Rattle.rv_gdb_packets.specs.Digits.{byte_digits, digits, value_digits};
 
-use rv_gdb_packets::{digit_of, glyph_of};
+use crate::digits::{digit_of, glyph_of};
 use std::alloc::{AllocError, Global};
 
 /// A number that stands in a packet.

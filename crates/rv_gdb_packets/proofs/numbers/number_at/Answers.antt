@@ -1,7 +1,7 @@
 use Rattle.std.proofs.Common.{◌≡◌, ◌+◌, ◌*◌, ◌<◌, ℕ, suc, List, ◌∷◌, length, drop, get_or, Some, sym, ap, ◌∙◌, drop-cons, arith, rules}
 use Rattle.rv_gdb_packets.specs.Packets.{digit_value}
-use Rattle.rv_gdb_commands.specs.Numbers.{number_on, with_digit}
-use Rattle.rv_gdb_commands.proofs.numbers.number_at.Goals as goal
+use Rattle.rv_gdb_packets.specs.Numbers.{number_on, with_digit}
+use Rattle.rv_gdb_packets.proofs.numbers.number_at.Goals as goal
 
 -- a digit more is read
 more : (n d i : ℕ) (xs : List ℕ) (t : ℕ) → i < length xs → digit_value (get_or xs i 0) ≡ Some d → number_on n (drop i xs) ≡ t → number_on (n * 16 + d) (drop (i + 1) xs) ≡ t

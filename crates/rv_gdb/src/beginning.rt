@@ -10,7 +10,7 @@ use rv_elf::{
     PROGRAM_HEADER_SIZE, PT_LOAD, ProgramHeader,
 };
 use rv_encode::encode;
-use rv_gdb_commands::{Range, do_meet};
+use rv_gdb_packets::{Range, do_meet};
 use rv_image::{Image, STACK_BYTES, STACK_START, load};
 use rv_isa::{Inst, JType, Reg, is_jump_offset};
 use rv_memory::Paged;

@@ -1,9 +1,9 @@
 -- What packets ask that read, and the answer to what cannot be done (GDB manual, "Remote Protocol", "Packets").
 
 use Rattle.std.specs.Prelude.{◌≡◌, ℕ, ◌==◌, Bool, true, false, ◌||◌, List, [], ◌∷◌, ⊤}
-use Rattle.rv_gdb_commands.specs.Numbers.{number_on}
-use Rattle.rv_gdb_commands.specs.declared.command.Command.{Command}
-use Rattle.rv_gdb_commands.specs.declared.command.Command.TheVariants.{ReadRegisters, ReadRegister, ReadMemory, WriteRegisters, WriteRegister, WriteMemory, WriteBytes, Unknown}
+use Rattle.rv_gdb_packets.specs.Numbers.{number_on}
+use Rattle.rv_gdb_packets.specs.declared.command.Command.{Command}
+use Rattle.rv_gdb_packets.specs.declared.command.Command.TheVariants.{ReadRegisters, ReadRegister, ReadMemory, WriteRegisters, WriteRegister, WriteMemory, WriteBytes, Unknown}
 
 -- bytes from the address that these digits spell first, or nothing that is known
 abbrev pub ReadsFrom : List ℕ → Command → Type 0

@@ -3,9 +3,9 @@
 ghost use Rattle.std.specs.Prelude.{◌≡◌, ◌++◌, ◌%◌, ◌^◌, [], IfOk, IfSome};
 ghost use Rattle.rv_isa_laws.specs.Memory.{bytes_at};
 ghost use Rattle.rv_memory.specs.HeldPages.{held_pages};
-ghost use Rattle.rv_gdb_commands.specs.Digits.{digits};
+ghost use Rattle.rv_gdb_packets.specs.Digits.{digits};
 
-use rv_gdb_commands::{Range, put_byte};
+use rv_gdb_packets::{Range, put_byte};
 use rv_memory::{Memory, Paged};
 use std::alloc::{AllocError, Global};
 

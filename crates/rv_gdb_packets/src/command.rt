@@ -1,9 +1,9 @@
 //! What a packet asks.
 
 ghost use Rattle.std.specs.Prelude.{◌≡◌, ◌⊎◌, ℕ, false, List, ◌∷◌, IfSome, drop};
-ghost use Rattle.rv_gdb_commands.specs.Numbers.{number_on};
-ghost use Rattle.rv_gdb_commands.specs.Asked.{ReadsFrom, reads, writes, begins_write};
-ghost use Rattle.rv_gdb_commands.specs.declared.command.Command.TheVariants.{ReadRegister, ReadRegisters, Unknown};
+ghost use Rattle.rv_gdb_packets.specs.Numbers.{number_on};
+ghost use Rattle.rv_gdb_packets.specs.Asked.{ReadsFrom, reads, writes, begins_write};
+ghost use Rattle.rv_gdb_packets.specs.declared.command.Command.TheVariants.{ReadRegister, ReadRegisters, Unknown};
 
 use crate::numbers::{number_at, number_behind};
 use crate::points::PointKind;
@@ -182,12 +182,17 @@ fn v_command(packet: &[u8]) -> Command
 fn query(packet: &[u8]) -> Command
     ensures { writes result ≡ false }
 {
-    match packet {
-        b"qC" => Command::CurrentThread,
-        b"qfThreadInfo" => Command::Threads,
-        b"qsThreadInfo" => Command::MoreThreads,
-        _ => long_query(packet),
+    // (a `match` of these would be one test a byte)
+    if packet == b"qC".as_slice() {
+        return Command::CurrentThread;
     }
+    if packet == b"qfThreadInfo".as_slice() {
+        return Command::Threads;
+    }
+    if packet == b"qsThreadInfo".as_slice() {
+        return Command::MoreThreads;
+    }
+    long_query(packet)
 }
 
 /// Whether a word stands somewhere in a packet.

@@ -1,7 +1,7 @@
 //! Answers to what was done, or not.
 
 ghost use Rattle.std.specs.Prelude.{◌≡◌, ◌++◌, OnOk};
-ghost use Rattle.rv_gdb_commands.specs.Asked.{error_reply};
+ghost use Rattle.rv_gdb_packets.specs.Asked.{error_reply};
 
 use std::alloc::AllocError;
 

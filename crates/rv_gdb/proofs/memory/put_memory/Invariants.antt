@@ -1,8 +1,8 @@
 use Rattle.std.proofs.Common.{◌≡◌, ◌++◌, []}
 use Rattle.rv_isa_laws.specs.Memory.{bytes_at}
 use Rattle.rv_memory.specs.HeldPages.{held_pages}
-use Rattle.rv_gdb_commands.specs.Digits.{digits}
-use Rattle.rv_gdb_memory.proofs.memory.put_memory.Given as goal
+use Rattle.rv_gdb_packets.specs.Digits.{digits}
+use Rattle.rv_gdb.proofs.memory.put_memory.Given as goal
 
 -- what was added are the digits of as many bytes
 abbrev pub invariant-loop-index : goal.invariant-loop-index
