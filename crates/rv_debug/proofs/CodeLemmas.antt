@@ -10,8 +10,8 @@ use Rattle.rv_list_laws.proofs.EachLemmas.{each_get_or, each_more}
 use Rattle.rv_list_laws.proofs.ElementsLemmas.{append_some_more}
 use Rattle.rv_map_laws.specs.declared.map.Region.{Region}
 use Rattle.rv_map_laws.specs.declared.map.Row.{Row}
-use Rattle.rv_line_laws.specs.declared.line_row.LineRow.{LineRow}
-use Rattle.rv_line_laws.specs.LineTable.{code_end}
+use Rattle.rv_debug_laws.specs.declared.line_row.LineRow.{LineRow}
+use Rattle.rv_debug_laws.specs.LineTable.{code_end}
 use Rattle.rv_debug_laws.specs.Code.{are_by_file, code_of, code_extent, is_code_of, line_row, widened}
 
 -- rows that stand by their files, behind one of a file

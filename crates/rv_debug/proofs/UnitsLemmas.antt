@@ -8,9 +8,9 @@ use Rattle.rv_list_laws.proofs.EachLemmas.{each_append, each_weaker}
 use Rattle.rv_map_laws.specs.declared.map.Region.{Region}
 use Rattle.rv_map_laws.specs.declared.map.Row.{Row}
 use Rattle.rv_map_laws.specs.Map.{Map}
-use Rattle.rv_line_laws.specs.declared.line_row.LineRow.{LineRow}
-use Rattle.rv_line_laws.specs.declared.line_row.SourceFile.{SourceFile}
-use Rattle.rv_lines.specs.Table.{IsUnitOf}
+use Rattle.rv_debug_laws.specs.declared.line_row.LineRow.{LineRow}
+use Rattle.rv_debug_laws.specs.declared.line_row.SourceFile.{SourceFile}
+use Rattle.rv_debug.specs.Table.{IsUnitOf}
 use Rattle.rv_debug_laws.specs.Code.{code_of, code_extent}
 use Rattle.rv_debug_laws.specs.Units.{AddUnits, AddsCode, DebugBytes, address_ranges, assembly_language, code_pair, entry_numbers, info_unit, no_debug, unit_entry}
 use Rattle.rv_debug.specs.Refused.{HasLongUnit, IsLongUnit}

@@ -9,15 +9,15 @@ use Rattle.rv_elf_laws.specs.FirstFault.{first_true, open_tests}
 use Rattle.rv_elf_laws.specs.declared.section_header.SectionHeader.{SectionHeader}
 use Rattle.rv_elf_laws.specs.Records.{section_header_bytes}
 use Rattle.rv_map_laws.specs.Limits.{AreRegions}
-use Rattle.rv_map_laws.specs.Map.{Global, Map}
-use Rattle.rv_line_laws.specs.declared.line_row.SourceFile.{SourceFile}
+use Rattle.rv_map_laws.specs.Map.{Map}
+use Rattle.rv_debug_laws.specs.declared.line_row.SourceFile.{SourceFile}
 use Rattle.rv_debug_laws.specs.DebugFile.{AreStored, IsDebugFile}
 use Rattle.rv_debug_laws.specs.File.{Places, UnloadedPiece, all_headers, file_with, gap_behind, headers_from, loaded_headers, null_header, piece_header, pieces_of, section_strings, table_place, with_table}
 use Rattle.rv_debug_laws.specs.Stored.{can_grow}
-use Rattle.rv_debug_laws.specs.Symbols.{name_strings, string_table}
+use Rattle.rv_debug_laws.specs.Symbols.{KnownName, Names, name_strings, string_table}
 use Rattle.rv_debug_laws.proofs.SymbolsLemmas.{few_names}
-use Rattle.rv_map.specs.declared.map.Global.{Global as DeclaredGlobal}
-use Rattle.rv_map.specs.Views.{global_of}
+use Rattle.rv_labels.specs.declared.known.KnownName.{KnownName as DeclaredName}
+use Rattle.rv_labels.specs.Known.{known_of as name_view}
 use Rattle.rv_debug.specs.declared.piece.Piece.{Piece as DeclaredPiece}
 use Rattle.rv_debug.specs.declared.writing.StoredPlaces.{StoredPlaces}
 use Rattle.rv_debug.specs.declared.writing.Tables.{Tables}
@@ -139,12 +139,12 @@ room_more place ps i p here room =
     omega (arith, room, all)
 
 -- the whole file
-pub debug_file : (exe : List ℕ) (m : Map) (labels : List Global) (directory : List ℕ) (sources : List SourceFile) (file : List ℕ)
+pub debug_file : (exe : List ℕ) (m : Map) (names : Names) (directory : List ℕ) (sources : List SourceFile) (file : List ℕ)
     (places : StoredPlaces) (tables : Tables) → AreStored exe m (places_of places) → AreBounded m (places_of places) → first_true (open_tests exe) ≡ None →
-    can_grow exe ≡ true → length exe < 2 ^ 32 → AreTables m labels directory sources tables →
+    can_grow exe ≡ true → length exe < 2 ^ 32 → AreTables m names directory sources tables →
     file ≡ file_with exe m (places_of places) (pieces_of tables.locals tables.symbols.items tables.strings.items (debug_of tables.debug)) →
-    IsDebugFile exe m labels directory sources file
-debug_file exe m labels directory sources file places tables stored known opens grows short are is = record {
+    IsDebugFile exe m names directory sources file
+debug_file exe m names directory sources file places tables stored known opens grows short are is = record {
   at = places_of places;
   debug = debug_of tables.debug;
   opens = opens;
@@ -169,18 +169,19 @@ debug_file exe m labels directory sources file places tables stored known opens 
 }
 
 -- there are fewer labels than bytes of names
-pub few_labels : (labels : List DeclaredGlobal) (globals : List Global) (strings : List ℕ) → strings ≡ string_table (map global_of labels) globals →
+pub few_labels : (labels globals : List DeclaredName) (strings : List ℕ) → strings ≡ string_table (record { labels = map name_view labels; globals = map name_view globals }) →
     length strings < 2 ^ 32 → 1 + length labels < 2 ^ 32
 few_labels labels globals strings is short =
-    let plain : List Global = map global_of labels in
-    let size : length strings ≡ 1 + length (name_strings plain ++ name_strings globals) = ap length is ∙ one (name_strings plain ++ name_strings globals) in
+    let plain : List KnownName = map name_view labels in
+    let others : List KnownName = map name_view globals in
+    let size : length strings ≡ 1 + length (name_strings plain ++ name_strings others) = ap length is ∙ one (name_strings plain ++ name_strings others) in
     omega (
       arith,
       short,
       size,
-      length-append (name_strings plain) (name_strings globals),
+      length-append (name_strings plain) (name_strings others),
       few_names plain,
-      length-map labels global_of,
+      length-map labels name_view,
     )
   where
     one : (xs : List ℕ) → length (0 ∷ xs) ≡ 1 + length xs

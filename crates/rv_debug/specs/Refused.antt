@@ -7,16 +7,17 @@ use Rattle.rv_elf_laws.specs.FirstFault.{first_true, open_tests}
 use Rattle.rv_elf_laws.specs.Sections.{program_headers}
 use Rattle.rv_map_laws.specs.declared.map.Region.{Region}
 use Rattle.rv_map_laws.specs.Limits.{IsMap}
-use Rattle.rv_map_laws.specs.Map.{Global, Map}
+use Rattle.rv_map_laws.specs.Map.{Map}
 use Rattle.rv_map_laws.specs.Text.{map_text}
-use Rattle.rv_line_laws.specs.declared.line_row.LineRow.{LineRow}
-use Rattle.rv_line_laws.specs.declared.line_row.SourceFile.{SourceFile}
-use Rattle.rv_lines.specs.Table.{IsLong}
+use Rattle.rv_debug_laws.specs.declared.line_row.LineRow.{LineRow}
+use Rattle.rv_debug_laws.specs.declared.line_row.SourceFile.{SourceFile}
+use Rattle.rv_debug.specs.Table.{IsLong}
 use Rattle.rv_debug.specs.declared.fault.DebugFault.{DebugFault}
 use Rattle.rv_debug.specs.declared.fault.DebugFault.TheVariants as faults
 use Rattle.rv_debug_laws.specs.Code.{are_by_file, code_of}
+use Rattle.rv_debug_laws.specs.Labels.{Described, link_names}
 use Rattle.rv_debug_laws.specs.Stored.{can_grow, stored_at}
-use Rattle.rv_debug_laws.specs.Symbols.{string_table}
+use Rattle.rv_debug_laws.specs.Symbols.{Names, string_table}
 use Rattle.rv_debug_laws.specs.Units.{AddUnits, DebugBytes, no_debug}
 
 -- no place of 64 bits has the bytes of a region
@@ -60,20 +61,20 @@ pub record HasLongSection (m : Map) (directory : List ℕ) (sources : List Sourc
         ⊎ ((2 ^ 32 ≤ length debug.info) ⊎ (2 ^ 32 ≤ length debug.ranges))
 
 -- a number of what would be added needs more than 32 bits
-abbrev pub AreLong : Map → (labels : List Global) → (directory : List ℕ) → List SourceFile → Type 0
-AreLong m labels directory sources =
-    (2 ^ 32 ≤ length (string_table labels m.globals))
+abbrev pub AreLong : Map → (names : Names) → (directory : List ℕ) → List SourceFile → Type 0
+AreLong m names directory sources =
+    (2 ^ 32 ≤ length (string_table names))
     ⊎ (HasLongUnit m directory sources ⊎ HasLongSection m directory sources)
 
 -- why the executable of a map gets no debug information; memory may run out whatever they are
-abbrev pub IsDebugRefused : (exe : List ℕ) → Map → (labels : List Global) → (directory : List ℕ)
+abbrev pub IsDebugRefused : (exe : List ℕ) → Map → (names : Names) → (directory : List ℕ)
     → List SourceFile → DebugFault → Type 0
-IsDebugRefused exe m labels directory sources faults.NoMap = ⊥
-IsDebugRefused exe m labels directory sources faults.OtherExecutable = IsOther exe m
-IsDebugRefused exe m labels directory sources faults.RowsOutOfOrder = are_by_file 0 m.rows ≡ false
-IsDebugRefused exe m labels directory sources faults.TooLong =
-    (2 ^ 32 ≤ length exe) ⊎ AreLong m labels directory sources
-IsDebugRefused exe m labels directory sources faults.OutOfMemory = ⊤
+IsDebugRefused exe m names directory sources faults.NoMap = ⊥
+IsDebugRefused exe m names directory sources faults.OtherExecutable = IsOther exe m
+IsDebugRefused exe m names directory sources faults.RowsOutOfOrder = are_by_file 0 m.rows ≡ false
+IsDebugRefused exe m names directory sources faults.TooLong =
+    (2 ^ 32 ≤ length exe) ⊎ AreLong m names directory sources
+IsDebugRefused exe m names directory sources faults.OutOfMemory = ⊤
 
 -- ---- by the text of the map
 
@@ -82,14 +83,21 @@ pub record IsTextOf (text : List ℕ) (m : Map) : Type 0 where
   pub is : text ≡ map_text m
   pub only : (other : Map) → IsMap other → text ≡ map_text other → other ≡ m
 
--- why the executable of a map of this text gets none
-abbrev pub IsTextRefused : (exe text : List ℕ) → (directory : List ℕ) → List SourceFile → DebugFault
-    → Type 0
-IsTextRefused exe text directory sources faults.NoMap = (m : Map) → IsMap m → text ≡ map_text m → ⊥
-IsTextRefused exe text directory sources faults.OtherExecutable = (m : Map) × IsTextOf text m
-    × IsDebugRefused exe m [] directory sources faults.OtherExecutable
-IsTextRefused exe text directory sources faults.RowsOutOfOrder = (m : Map) × IsTextOf text m
-    × IsDebugRefused exe m [] directory sources faults.RowsOutOfOrder
-IsTextRefused exe text directory sources faults.TooLong =
-    (m : Map) × IsTextOf text m × IsDebugRefused exe m [] directory sources faults.TooLong
-IsTextRefused exe text directory sources faults.OutOfMemory = ⊤
+-- why the executable of a map of this text, linked of these objects, gets none
+abbrev pub IsRefusedBy : (exe text : List ℕ) → List Described → (directory : List ℕ)
+    → List SourceFile → DebugFault → Type 0
+IsRefusedBy exe text objects directory sources fault =
+    (m : Map) × IsTextOf text m
+    × IsDebugRefused exe m (link_names m.rows m.globals objects) directory sources fault
+
+abbrev pub IsTextRefused : (exe text : List ℕ) → List Described → (directory : List ℕ)
+    → List SourceFile → DebugFault → Type 0
+IsTextRefused exe text objects directory sources faults.NoMap =
+    (m : Map) → IsMap m → text ≡ map_text m → ⊥
+IsTextRefused exe text objects directory sources faults.OtherExecutable =
+    IsRefusedBy exe text objects directory sources faults.OtherExecutable
+IsTextRefused exe text objects directory sources faults.RowsOutOfOrder =
+    IsRefusedBy exe text objects directory sources faults.RowsOutOfOrder
+IsTextRefused exe text objects directory sources faults.TooLong =
+    IsRefusedBy exe text objects directory sources faults.TooLong
+IsTextRefused exe text objects directory sources faults.OutOfMemory = ⊤

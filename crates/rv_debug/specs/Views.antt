@@ -3,13 +3,15 @@
 use Rattle.std.specs.Prelude.{ℕ, ◌≡◌, ◌+◌, ◌<◌, ◌^◌, List, ◌++◌, length, take, drop, map, flat_map}
 use Rattle.std.specs.List.{AllByRecursion}
 use Rattle.rv_elf_laws.specs.Fields.{bytes_of, e_shoff, e_shentsize, e_shnum, e_shstrndx, section_header_size}
-use Rattle.rv_map_laws.specs.Limits.{IsGlobal, IsRegion}
-use Rattle.rv_map_laws.specs.Map.{Global, Map}
-use Rattle.rv_map.specs.declared.map.Global.{Global as DeclaredGlobal}
-use Rattle.rv_map.specs.Views.{global_of}
-use Rattle.rv_line_laws.specs.declared.line_row.SourceFile.{SourceFile}
+use Rattle.rv_map_laws.specs.Limits.{IsRegion}
+use Rattle.rv_map_laws.specs.Map.{Map}
+use Rattle.rv_labels.specs.declared.described.Described.{Described as DeclaredDescribed}
+use Rattle.rv_labels.specs.declared.known.KnownName.{KnownName as DeclaredName}
+use Rattle.rv_labels.specs.Known.{described_of, known_of}
+use Rattle.rv_debug_laws.specs.declared.line_row.SourceFile.{SourceFile}
 use Rattle.rv_debug_laws.specs.File.{UnloadedPiece, Places, section_total, shstrtab_index}
-use Rattle.rv_debug_laws.specs.Symbols.{string_table, symbol_table}
+use Rattle.rv_debug_laws.specs.Labels.{Described}
+use Rattle.rv_debug_laws.specs.Symbols.{IsKnownName, KnownName, Names, string_table, symbol_table}
 use Rattle.rv_debug_laws.specs.Units.{AddUnits, DebugBytes, no_debug}
 use Rattle.rv_debug.specs.declared.piece.Piece.{Piece as DeclaredPiece}
 use Rattle.rv_debug.specs.declared.units.DebugSections.{DebugSections}
@@ -30,8 +32,11 @@ piece_of p = record {
 abbrev pub unloaded_of : List DeclaredPiece → List UnloadedPiece
 unloaded_of pieces = map piece_of pieces
 
-abbrev pub globals_of : List DeclaredGlobal → List Global
-globals_of globals = map global_of globals
+abbrev pub known_list : List DeclaredName → List KnownName
+known_list names = map known_of names
+
+abbrev pub plain_objects : List DeclaredDescribed → List Described
+plain_objects objects = map described_of objects
 
 abbrev pub debug_of : DebugSections → DebugBytes
 debug_of d = record { lines = d.lines.items; info = d.info.items; ranges = d.ranges.items }
@@ -66,13 +71,13 @@ pub record AreShort (t : Tables) : Type 0 where
   pub info : length t.debug.info.items < 2 ^ 32
   pub ranges : length t.debug.ranges.items < 2 ^ 32
 
--- the tables of a map, its labels and its sources
-pub record AreTables (m : Map) (labels : List Global) (directory : List ℕ)
+-- the tables of a map, its names and its sources
+pub record AreTables (m : Map) (names : Names) (directory : List ℕ)
     (sources : List SourceFile) (t : Tables) : Type 0 where
-  pub locals : t.locals ≡ length labels
-  pub symbols : t.symbols.items ≡ symbol_table m labels
-  pub strings : t.strings.items ≡ string_table labels m.globals
+  pub locals : t.locals ≡ length names.labels
+  pub symbols : t.symbols.items ≡ symbol_table m names
+  pub strings : t.strings.items ≡ string_table names
   pub units : AddUnits m directory 1 sources no_debug (debug_of t.debug)
   pub short : AreShort t
-  pub labelled : AllByRecursion IsGlobal labels
-  pub known : AllByRecursion IsGlobal m.globals
+  pub labelled : AllByRecursion IsKnownName names.labels
+  pub known : AllByRecursion IsKnownName names.globals

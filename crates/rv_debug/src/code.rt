@@ -2,10 +2,10 @@
 
 ghost use Rattle.std.specs.Prelude.{◌≡◌, ◌+◌, ◌≤◌, ◌<◌, ◌^◌, ◌++◌, [], ◌∷◌, true, min, max, length, take, drop, IfOk, OnOk};
 ghost use Rattle.std.specs.List.{AllByRecursion};
-ghost use Rattle.rv_line_laws.specs.LineTable.{code_end};
+ghost use Rattle.rv_debug_laws.specs.LineTable.{code_end};
 ghost use Rattle.rv_debug_laws.specs.Code.{are_by_file, code_of, code_extent, is_code_of, line_row};
 
-use rv_lines::LineRow;
+use rv_debug_laws::LineRow;
 use rv_map::{Region, Row};
 use std::alloc::{AllocError, Global};
 

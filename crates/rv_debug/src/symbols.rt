@@ -1,72 +1,69 @@
-//! The symbols of a map's names.
+//! The symbols of names.
 
 ghost use Rattle.std.specs.Prelude.{◌≡◌, ◌+◌, ◌<◌, ◌^◌, ◌++◌, [], ◌∷◌, length, IfOk, OnOk};
 ghost use Rattle.std.specs.List.{AllByRecursion};
 ghost use Rattle.rv_elf_laws.specs.Records.{symbol_bytes};
-ghost use Rattle.rv_map_laws.specs.Limits.{IsGlobal};
-ghost use Rattle.rv_map.specs.Views.{global_of, map_of};
-ghost use Rattle.rv_debug.specs.Views.{globals_of};
-ghost use Rattle.rv_debug_laws.specs.Symbols.{has_address, name_strings, address_section, string_table, global_symbol, symbol_table, symbols_from};
+ghost use Rattle.rv_map.specs.Views.{map_of};
+ghost use Rattle.rv_labels.specs.Known.{known_of, plain_names};
+ghost use Rattle.rv_debug.specs.Views.{known_list};
+ghost use Rattle.rv_debug_laws.specs.Symbols.{IsKnownName, has_address, name_strings, address_section, string_table, name_symbol, symbol_table, symbols_from, type_number};
 
 use crate::numbers::{BSS, DATA, RODATA, TEXT};
 use rv_elf::{ElfWriter, SHN_ABS, STB_GLOBAL, STB_LOCAL, SYMBOL_SIZE, Symbol};
-use rv_map::{Global, Map, Region};
-use std::alloc::{AllocError, Global as Allocator};
+use rv_labels::{KnownName, Names, SymbolType};
+use rv_map::{Map, Region};
+use std::alloc::{AllocError, Global};
 
 /// The strings: the empty name, those of labels, and those of globals, each with a zero behind it.
-pub(crate) fn string_table(
-    alloc: Allocator,
-    labels: &[Global],
-    globals: &[Global],
-) -> Result<Vec<u8>, AllocError>
-    ensures { IfOk result (λ strings. strings.items
-        ≡ string_table (globals_of labels.now) (globals_of globals.now)) }
+pub(crate) fn string_table(alloc: Global, names: &Names<'_, '_>) -> Result<Vec<u8>, AllocError>
+    ensures { IfOk result (λ strings. strings.items ≡ string_table (plain_names names.now)) }
 {
     let mut strings = Vec::new(alloc);
     strings.push(0)?;
-    put_names(&mut strings, labels)?;
-    put_names(&mut strings, globals)?;
+    put_names(&mut strings, names.labels.as_slice())?;
+    put_names(&mut strings, names.globals.as_slice())?;
     Ok(strings)
 }
 
 /// Adds names, each with a zero behind it.
-fn put_names(strings: &mut Vec<u8>, globals: &[Global]) -> Result<(), AllocError>
+fn put_names(strings: &mut Vec<u8>, names: &[KnownName<'_>]) -> Result<(), AllocError>
     ensures { OnOk result
-        (strings.new.items ≡ strings.old.items ++ name_strings (globals_of globals.now)) }
+        (strings.new.items ≡ strings.old.items ++ name_strings (known_list names.now)) }
 {
-    for global in globals {
-        put_name(strings, global)?;
+    for known in names {
+        put_name(strings, known)?;
     }
     Ok(())
 }
 
 /// Adds a name, and a zero.
-fn put_name(strings: &mut Vec<u8>, global: &Global) -> Result<(), AllocError>
+fn put_name(strings: &mut Vec<u8>, known: &KnownName<'_>) -> Result<(), AllocError>
     ensures { OnOk result
-        (strings.new.items ≡ strings.old.items ++ name_strings (global_of global.now ∷ [])) }
+        (strings.new.items ≡ strings.old.items ++ name_strings (known_of known.now ∷ [])) }
 {
-    strings.extend_from_slice(&global.name)?;
+    strings.extend_from_slice(known.name)?;
     strings.push(0)?;
     Ok(())
 }
 
 /// The symbols: symbol 0, then the labels, which are local, then the globals.
 pub(crate) fn symbol_table(
-    alloc: Allocator,
+    alloc: Global,
     map: &Map,
-    labels: &[Global],
+    names: &Names<'_, '_>,
 ) -> Result<Vec<u8>, AllocError>
-    requires { length (string_table (globals_of labels.now) (map_of map.now).globals) < 2 ^ 32 }
+    requires { length (string_table (plain_names names.now)) < 2 ^ 32 }
     ensures symbols { IfOk result (λ symbols. symbols.items
-        ≡ symbol_table (map_of map.now) (globals_of labels.now)) }
+        ≡ symbol_table (map_of map.now) (plain_names names.now)) }
     ensures labels { IfOk result (λ symbols.
-        AllByRecursion IsGlobal (globals_of labels.now)) }
-    ensures globals { IfOk result (λ symbols. AllByRecursion IsGlobal (map_of map.now).globals) }
+        AllByRecursion IsKnownName (plain_names names.now).labels) }
+    ensures globals { IfOk result (λ symbols.
+        AllByRecursion IsKnownName (plain_names names.now).globals) }
 {
     let mut out = ElfWriter::new(alloc);
     out.zeros(SYMBOL_SIZE)?;
-    let name = put_symbols(&mut out, map, STB_LOCAL, 1, labels)?;
-    put_symbols(&mut out, map, STB_GLOBAL, name, map.globals.as_slice())?;
+    let name = put_symbols(&mut out, map, STB_LOCAL, 1, names.labels.as_slice())?;
+    put_symbols(&mut out, map, STB_GLOBAL, name, names.globals.as_slice())?;
     Ok(out.finish())
 }
 
@@ -76,19 +73,19 @@ fn put_symbols(
     map: &Map,
     binding: u8,
     first: u64,
-    globals: &[Global],
+    names: &[KnownName<'_>],
 ) -> Result<u64, AllocError>
-    requires room { first + length (name_strings (globals_of globals.now)) < 2 ^ 32 }
+    requires room { first + length (name_strings (known_list names.now)) < 2 ^ 32 }
     requires binding { binding < 2 }
     ensures written { OnOk result (out.new
-        ≡ out.old ++ symbols_from (map_of map.now) binding first (globals_of globals.now)) }
-    ensures next { IfOk result (λ name. name ≡ first + length (name_strings (globals_of globals.now))) }
-    ensures known { OnOk result (AllByRecursion IsGlobal (globals_of globals.now)) }
+        ≡ out.old ++ symbols_from (map_of map.now) binding first (known_list names.now)) }
+    ensures next { IfOk result (λ name. name ≡ first + length (name_strings (known_list names.now))) }
+    ensures known { OnOk result (AllByRecursion IsKnownName (known_list names.now)) }
 {
     let mut name = first;
-    for global in globals {
-        put_symbol(out, map, binding, name as u32, global)?;
-        name = name + global.name.len() as u64 + 1;
+    for known in names {
+        put_symbol(out, map, binding, name as u32, known)?;
+        name = name + known.name.len() as u64 + 1;
     }
     Ok(name)
 }
@@ -99,23 +96,35 @@ fn put_symbol(
     map: &Map,
     binding: u8,
     name: u32,
-    global: &Global,
+    known: &KnownName<'_>,
 ) -> Result<(), AllocError>
     requires { binding < 2 }
     ensures written { OnOk result (out.new
-        ≡ out.old ++ symbol_bytes (global_symbol (map_of map.now) binding name (global_of global.now))) }
-    ensures known { OnOk result (IsGlobal (global_of global.now)) }
+        ≡ out.old ++ symbol_bytes (name_symbol (map_of map.now) binding name (known_of known.now))) }
+    ensures known { OnOk result (IsKnownName (known_of known.now)) }
 {
-    let address = global.address;
+    let address = known.address;
     out.symbol(&Symbol {
         st_name: name,
-        st_info: binding * 16,
+        st_info: binding * 16 + type_number(known.kind),
         st_other: 0,
         st_shndx: address_section(map, address),
         st_value: address,
-        st_size: 0,
+        st_size: known.size,
     })?;
     Ok(())
+}
+
+/// STT_NOTYPE, STT_OBJECT, STT_FUNC.
+fn type_number(kind: SymbolType) -> u8
+    ensures is { result ≡ type_number kind }
+    ensures low { result < 16 }
+{
+    match kind {
+        SymbolType::NoType => 0,
+        SymbolType::Datum => 1,
+        SymbolType::Function => 2,
+    }
 }
 
 /// The index of an address's section: that of the region in which it lies, or else at whose end it stands.

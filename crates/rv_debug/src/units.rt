@@ -10,7 +10,8 @@ ghost use Rattle.rv_debug.specs.Views.{debug_of};
 
 use crate::code::{code_extent, code_of, count_up_to};
 use crate::numbers::TOO_LONG;
-use rv_lines::{LineRow, SourceFile, line_unit};
+use crate::unit::line_unit;
+use rv_debug_laws::{LineRow, SourceFile};
 use rv_map::{Map, Region, Row};
 use std::alloc::{AllocError, Global};
 

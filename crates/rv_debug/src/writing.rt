@@ -11,7 +11,8 @@ ghost use Rattle.rv_debug_laws.specs.DebugFile.{AreStored, HasDebug, IsDebugFile
 ghost use Rattle.rv_debug_laws.specs.File.{all_headers, file_with, gap_behind, headers_from, loaded_headers, null_header, pieces_of, region_header, symbols_piece, table_place, with_table};
 ghost use Rattle.rv_debug_laws.specs.Stored.{can_grow};
 ghost use Rattle.rv_debug.specs.Refused.{IsOther, AreLong, IsDebugRefused};
-ghost use Rattle.rv_debug.specs.Views.{AreBounded, AreShort, AreTables, debug_of, front_with, globals_of, piece_bytes, piece_of, places_of, unloaded_of};
+ghost use Rattle.rv_debug.specs.Views.{AreBounded, AreShort, AreTables, debug_of, front_with, piece_bytes, piece_of, places_of, unloaded_of};
+ghost use Rattle.rv_labels.specs.Known.{plain_names};
 
 use crate::code::are_by_file;
 use crate::executable::{open, stored_at};
@@ -24,14 +25,14 @@ use crate::numbers::{
 use crate::piece::Piece;
 use crate::symbols::{string_table, symbol_table};
 use crate::units::{ABBREVIATIONS, DebugSections, units_of};
-use rv_debug_laws::debug_file_is_read;
+use rv_debug_laws::{SourceFile, debug_file_is_read};
 use rv_elf::{
     ElfWriter, SECTION_HEADER_SIZE, SHF_ALLOC, SHF_EXECINSTR, SHF_WRITE, SHT_NOBITS, SHT_NULL,
     SHT_PROGBITS, SHT_STRTAB, SHT_SYMTAB, SYMBOL_SIZE, SectionHeader,
 };
-use rv_lines::SourceFile;
-use rv_map::{Global, Map, Region};
-use std::alloc::{AllocError, Global as Allocator};
+use rv_labels::Names;
+use rv_map::{Map, Region};
+use std::alloc::{AllocError, Global};
 
 /// Where the executable has the bytes of its regions.
 #[derive(Clone, Copy, Drop)]
@@ -51,23 +52,23 @@ pub(crate) struct Tables {
     pub debug: DebugSections,
 }
 
-/// The file of an executable with debug information: of its map, of labels that are no globals, and of its sources, which
-/// were assembled in this directory.
+/// The file of an executable with debug information: of its map, of what is known of its names, and of its sources, which were
+/// assembled in this directory.
 pub fn with_debug(
-    alloc: Allocator,
+    alloc: Global,
     exe: &[u8],
     map: &Map,
-    labels: &[Global],
+    names: &Names<'_, '_>,
     directory: &[u8],
     sources: &[SourceFile<'_>],
 ) -> Result<Vec<u8>, DebugFault>
     ensures written { IfOk result (λ file. IsDebugFile exe.now
-        (map_of map.now) (globals_of labels.now) directory.now sources.now file.items) }
+        (map_of map.now) (plain_names names.now) directory.now sources.now file.items) }
     // What a reader finds in it.
     ensures found { IfOk result (λ file. HasDebug exe.now
-        (map_of map.now) (globals_of labels.now) directory.now sources.now file.items) }
+        (map_of map.now) (plain_names names.now) directory.now sources.now file.items) }
     ensures refuses { IfErr result (IsDebugRefused exe.now
-        (map_of map.now) (globals_of labels.now) directory.now sources.now) }
+        (map_of map.now) (plain_names names.now) directory.now sources.now) }
 {
     debug_file_is_read();
     if exe.len() >= TOO_LONG {
@@ -79,7 +80,7 @@ pub fn with_debug(
     if !are_by_file(map.rows.as_slice()) {
         return Err(DebugFault::RowsOutOfOrder);
     }
-    let Some(tables) = tables_of(alloc, map, labels, directory, sources)? else {
+    let Some(tables) = tables_of(alloc, map, names, directory, sources)? else {
         return Err(DebugFault::TooLong);
     };
     let file = put_file(alloc, exe, map, places, &tables)?;
@@ -122,23 +123,23 @@ fn region_is_known(region: Region)
 
 /// The tables of the sections that are not loaded; none where a number needs more than 32 bits.
 fn tables_of(
-    alloc: Allocator,
+    alloc: Global,
     map: &Map,
-    labels: &[Global],
+    names: &Names<'_, '_>,
     directory: &[u8],
     sources: &[SourceFile<'_>],
 ) -> Result<Option<Tables>, AllocError>
     requires { are_by_file 0 map.now.rows.items ≡ true }
     ensures some { IfOk result (λ tables. IfSome tables (AreTables (map_of map.now)
-        (globals_of labels.now) directory.now sources.now)) }
+        (plain_names names.now) directory.now sources.now)) }
     ensures none { IfOk result (λ tables. IfNone tables
-        (AreLong (map_of map.now) (globals_of labels.now) directory.now sources.now)) }
+        (AreLong (map_of map.now) (plain_names names.now) directory.now sources.now)) }
 {
-    let strings = string_table(alloc, labels, map.globals.as_slice())?;
+    let strings = string_table(alloc, names)?;
     if strings.len() >= TOO_LONG {
         return Ok(None);
     }
-    let symbols = symbol_table(alloc, map, labels)?;
+    let symbols = symbol_table(alloc, map, names)?;
     let rows = map.rows.as_slice();
     let Some(debug) = units_of(alloc, map, rows, directory, sources)? else {
         return Ok(None);
@@ -147,7 +148,7 @@ fn tables_of(
         return Ok(None);
     }
     Ok(Some(Tables {
-        locals: labels.len() as u32,
+        locals: names.labels.len() as u32,
         symbols,
         strings,
         debug,
@@ -165,7 +166,7 @@ fn is_long(debug: &DebugSections) -> bool
 }
 
 /// The sections that are not loaded, in their order.
-fn pieces_in(alloc: Allocator, tables: &Tables) -> Result<Vec<Piece<'_>>, AllocError>
+fn pieces_in(alloc: Global, tables: &Tables) -> Result<Vec<Piece<'_>>, AllocError>
     requires { 1 + tables.now.locals < 2 ^ 32 }
     ensures { IfOk result (λ pieces. unloaded_of pieces.items ≡ pieces_of tables.now.locals
         tables.now.symbols.items tables.now.strings.items (debug_of tables.now.debug)) }
@@ -200,7 +201,7 @@ fn symbols_piece(locals: u32, bytes: &[u8]) -> Piece<'_>
 
 /// The file: the executable, the section headers, and the contents of what is not loaded.
 fn put_file(
-    alloc: Allocator,
+    alloc: Global,
     exe: &[u8],
     map: &Map,
     places: StoredPlaces,

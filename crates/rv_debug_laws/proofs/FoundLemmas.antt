@@ -6,11 +6,11 @@ use Rattle.std.proofs.lemmas.List.{length-append}
 use Rattle.rv_elf_laws.specs.ReadBack.{FitsSectionHeader}
 use Rattle.rv_elf_laws.specs.Records.{section_header_bytes}
 use Rattle.rv_elf_laws.specs.Sections.{indexed_contents, names_section, section_headers, string_at, symbols_in}
-use Rattle.rv_map_laws.specs.Map.{Global, Map}
-use Rattle.rv_line_laws.specs.declared.line_row.SourceFile.{SourceFile}
+use Rattle.rv_map_laws.specs.Map.{Map}
+use Rattle.rv_debug_laws.specs.declared.line_row.SourceFile.{SourceFile}
 use Rattle.rv_debug_laws.specs.DebugFile.{HasDebug, IsDebugFile, line_tables, source_tables}
 use Rattle.rv_debug_laws.specs.File.{UnloadedPiece, all_headers, file_with, gap_behind, pieces_of, section_names, section_strings, table_place}
-use Rattle.rv_debug_laws.specs.Symbols.{named_symbol, name_strings, string_table, symbol_table}
+use Rattle.rv_debug_laws.specs.Symbols.{Names, named_symbol, name_strings, string_table, symbol_table}
 use Rattle.rv_debug_laws.specs.Units.{abbreviations}
 use Rattle.rv_debug_laws.proofs.GrownLemmas.{shstrndx_is}
 use Rattle.rv_debug_laws.proofs.ImageLemmas.{is_long, same_image, same_soundness}
@@ -19,20 +19,20 @@ use Rattle.rv_debug_laws.proofs.SectionsLemmas.{FitsPiece, found, headed, header
 use Rattle.rv_debug_laws.proofs.SymbolsLemmas.{few_names, length-table, symbols_found}
 
 -- the headers' names are the sections'
-names_read : (exe : List ℕ) (m : Map) (labels : List Global) (directory : List ℕ) (sources : List SourceFile) (file : List ℕ)
-    (h : IsDebugFile exe m labels directory sources file) →
+names_read : (exe : List ℕ) (m : Map) (names : Names) (directory : List ℕ) (sources : List SourceFile) (file : List ℕ)
+    (h : IsDebugFile exe m names directory sources file) →
     map (λ x. string_at section_strings x.sh_name)
-    (all_headers exe m h.at (pieces_of (length labels) (symbol_table m labels) (string_table labels m.globals) h.debug))
+    (all_headers exe m h.at (pieces_of (length names.labels) (symbol_table m names) (string_table names) h.debug))
     ≡ map (λ name. Some name) section_names
-names_read exe m labels directory sources file h = refl
+names_read exe m names directory sources file h = refl
 
-module _ (exe : List ℕ) (m : Map) (labels : List Global) (directory : List ℕ) (sources : List SourceFile) (file : List ℕ)
-    (h : IsDebugFile exe m labels directory sources file) where
+module _ (exe : List ℕ) (m : Map) (names : Names) (directory : List ℕ) (sources : List SourceFile) (file : List ℕ)
+    (h : IsDebugFile exe m names directory sources file) where
   abbrev pieces : List UnloadedPiece
-  pieces = pieces_of (length labels) (symbol_table m labels) (string_table labels m.globals) h.debug
+  pieces = pieces_of (length names.labels) (symbol_table m names) (string_table names) h.debug
 
   abbrev whole : List ℕ
-  whole = file_with exe m h.at (pieces_of (length labels) (symbol_table m labels) (string_table labels m.globals) h.debug)
+  whole = file_with exe m h.at (pieces_of (length names.labels) (symbol_table m names) (string_table names) h.debug)
 
   abbrev behind : List ℕ
   behind = replicate (gap_behind exe) 0
@@ -44,10 +44,10 @@ module _ (exe : List ℕ) (m : Map) (labels : List Global) (directory : List ℕ
   small : table_place exe < 2 ^ 40
   small = let short = h.fits.executable in omega (arith, short)
 
-  few : 1 + length labels < 2 ^ 32
+  few : 1 + length names.labels < 2 ^ 32
   few =
       let short = h.fits.strings in
-      omega (arith, short, few_names labels, length-append (name_strings labels) (name_strings m.globals))
+      omega (arith, short, few_names names.labels, length-append (name_strings names.labels) (name_strings names.globals))
 
   plain : (name kind : ℕ) (bytes : List ℕ) → name < 2 ^ 32 → kind < 2 ^ 32 →
       FitsPiece (record { name = name; kind = kind; link = 0; info = 0; alignment = 1; entry_size = 0; bytes = bytes })
@@ -71,7 +71,7 @@ module _ (exe : List ℕ) (m : Map) (labels : List Global) (directory : List ℕ
       entry_size = omega arith;
     },
     (
-      plain 34 3 (string_table labels m.globals) (omega arith) (omega arith),
+      plain 34 3 (string_table names) (omega arith) (omega arith),
       (
         plain 42 3 section_strings (omega arith) (omega arith),
         (
@@ -87,7 +87,7 @@ module _ (exe : List ℕ) (m : Map) (labels : List Global) (directory : List ℕ
 
   fits : AllByRecursion FitsSectionHeader (all_headers exe m h.at pieces)
   fits =
-      let symbols = length-table m labels h.fits.strings in
+      let symbols = length-table m names h.fits.strings in
       let strings = h.fits.strings in
       let lines = h.fits.lines in
       let info = h.fits.info in
@@ -123,15 +123,15 @@ module _ (exe : List ℕ) (m : Map) (labels : List Global) (directory : List ℕ
   low : table_place exe < 2 ^ 64
   low = omega (arith, small)
 
-  names : indexed_contents whole (names_section whole) ≡ section_strings
-  names =
-      ap (indexed_contents whole) (shstrndx_is exe behind long)
+  called : indexed_contents whole (names_section whole) ≡ section_strings
+  called =
+      ap (indexed_contents whole) (shstrndx_is exe behind (table_place exe) 12 7 long (omega arith))
       ∙ found whole 7 _ _ (headed exe m h.at pieces long low refl fits).1.1.1.1.1.1.1.0 refl (stand exe m h.at pieces long low refl fits).1.1.0
 
-  symbols : indexed_contents whole 5 ≡ symbol_table m labels
+  symbols : indexed_contents whole 5 ≡ symbol_table m names
   symbols = found whole 5 _ _ (headed exe m h.at pieces long low refl fits).1.1.1.1.1.0 refl (stand exe m h.at pieces long low refl fits).0
 
-  strings : indexed_contents whole 6 ≡ string_table labels m.globals
+  strings : indexed_contents whole 6 ≡ string_table names
   strings = found whole 6 _ _ (headed exe m h.at pieces long low refl fits).1.1.1.1.1.1.0 refl (stand exe m h.at pieces long low refl fits).1.0
 
   lines : indexed_contents whole 8 ≡ h.debug.lines
@@ -151,20 +151,20 @@ module _ (exe : List ℕ) (m : Map) (labels : List Global) (directory : List ℕ
       let added = tables_added m directory 1 sources (record { lines = []; info = []; ranges = [] }) h.debug h.units in
       ap (line_tables (length (source_tables m 1 sources))) (lines ∙ added.written ∙ sym (append-nil added.added)) ∙ added.tables []
 
-  found_there : HasDebug exe m labels directory sources whole
+  found_there : HasDebug exe m names directory sources whole
   found_there =
       let inside : table_place exe + 768 ≤ length whole = room exe m h.at pieces long low refl fits in
       let headers : section_headers whole ≡ all_headers exe m h.at pieces = headers_are exe m h.at pieces long low refl fits in
       record {
         behind = behind;
         front = refl;
-        sound = same_soundness exe behind h.opens h.grows low inside;
-        image = same_image exe behind h.opens h.grows low inside;
-        names = (λ i. map (λ x. string_at (names i) x.sh_name) (headers i)) ∙ names_read exe m labels directory sources file h;
+        sound = same_soundness exe behind (table_place exe) 12 7 h.opens h.grows low (omega arith) (omega arith) (omega arith) inside;
+        image = same_image exe behind (table_place exe) 12 7 h.opens h.grows low (omega arith) (omega arith) (omega arith) inside;
+        called = (λ i. map (λ x. string_at (called i) x.sh_name) (headers i)) ∙ names_read exe m names directory sources file h;
         at = h.at;
         stored = h.stored;
         loaded = ap (take 5) headers;
-        symbols = (λ i. map (named_symbol (strings i)) (drop 1 (symbols_in (symbols i)))) ∙ symbols_found m labels h.fits.strings h.fits.labelled h.fits.globals;
+        symbols = (λ i. map (named_symbol (strings i)) (drop 1 (symbols_in (symbols i)))) ∙ symbols_found m names h.fits.strings h.fits.labelled h.fits.globals;
         tables = tables;
         debug = h.debug;
         units = h.units;
@@ -174,5 +174,5 @@ module _ (exe : List ℕ) (m : Map) (labels : List Global) (directory : List ℕ
         ranges = ranges;
       }
 
-  pub debug_found : HasDebug exe m labels directory sources file
-  debug_found = subst (λ f. HasDebug exe m labels directory sources f) (sym h.is) found_there
+  pub debug_found : HasDebug exe m names directory sources file
+  debug_found = subst (λ f. HasDebug exe m names directory sources f) (sym h.is) found_there

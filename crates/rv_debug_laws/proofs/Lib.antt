@@ -4,7 +4,7 @@ pub mod GrownLemmas
 pub mod ImageLemmas
 -- Tables of records that were written are read again.
 pub mod RecordsLemmas
--- The symbols of a map's names are found, with their names.
+-- The symbols of names are found, with their names.
 pub mod SymbolsLemmas
 -- The tables of units that stand one after another.
 pub mod LinesLemmas
@@ -12,3 +12,9 @@ pub mod LinesLemmas
 pub mod SectionsLemmas
 -- A reader finds in a file with debug information what was written.
 pub mod FoundLemmas
+-- The lengths of a unit lead to what they say.
+pub mod UnitLemmas
+-- A name that is written is found again.
+pub mod SourceLemmas
+-- A file with the debug sections of objects is loaded as the executable in front.
+pub mod CarriedLemmas

@@ -3,12 +3,12 @@
 use Rattle.std.proofs.Common.{◌≡◌, ◌∙◌, ℕ, ◌+◌, suc, List, [], ◌∷◌, ◌++◌, length, take, drop, Option, Some, ap, refl, sym, append_assoc, append-nil}
 use Rattle.std.proofs.lemmas.List.{append_cancel_left, take-append-drop}
 use Rattle.rv_map_laws.specs.Map.{Map}
-use Rattle.rv_line_laws.specs.declared.line_row.SourceFile.{SourceFile}
-use Rattle.rv_line_laws.specs.declared.line_row.LineRow.{LineRow}
-use Rattle.rv_line_laws.specs.LineProgram.{Entry}
-use Rattle.rv_line_laws.specs.LineTable.{entries_of}
-use Rattle.rv_line_laws.specs.LineUnit.{IsUnit, length_at, table_at}
-use Rattle.rv_line_laws.proofs.UnitLemmas.{table_found, unit_found}
+use Rattle.rv_debug_laws.specs.declared.line_row.SourceFile.{SourceFile}
+use Rattle.rv_debug_laws.specs.declared.line_row.LineRow.{LineRow}
+use Rattle.rv_debug_laws.specs.LineProgram.{Entry}
+use Rattle.rv_debug_laws.specs.LineTable.{entries_of}
+use Rattle.rv_debug_laws.specs.LineUnit.{IsUnit, length_at, table_at}
+use Rattle.rv_debug_laws.proofs.UnitLemmas.{table_found, unit_found}
 use Rattle.rv_debug_laws.specs.Code.{code_of}
 use Rattle.rv_debug_laws.specs.DebugFile.{behind_unit, code_table, line_tables, source_tables}
 use Rattle.rv_debug_laws.specs.Units.{AddUnits, AddsCode, DebugBytes}

@@ -129,7 +129,7 @@ module _ (exe : List ℕ) (m : Map) (at : Places) (ps : List UnloadedPiece) (lon
   behind = replicate (gap_behind exe) 0 ++ (table ++ contents)
 
   same : length (with_table exe) ≡ length exe
-  same = same_length exe behind long
+  same = same_length exe behind (table_place exe) 12 7 long
 
   table_size : length table ≡ 768
   table_size = length-header_table (all_headers exe m at ps) ∙ ap (λ n. 64 * n) twelve
@@ -157,11 +157,11 @@ module _ (exe : List ℕ) (m : Map) (at : Places) (ps : List UnloadedPiece) (lon
       )
 
   start : number_in e_shoff 0 (file_with exe m at ps) ≡ table_place exe
-  start = shoff_is exe behind long small
+  start = shoff_is exe behind (table_place exe) 12 7 long small
 
   pub headers_are : section_headers (file_with exe m at ps) ≡ all_headers exe m at ps
   headers_are =
-      let count = shnum_is exe behind long ∙ sym twelve in
+      let count = shnum_is exe behind (table_place exe) 12 7 long (omega arith) ∙ sym twelve in
       (λ i. records section_header_at 64 (count i) (start i) (file_with exe m at ps))
       ∙ headers_back (all_headers exe m at ps) (table_place exe) (file_with exe m at ps) contents fits at_table
 

@@ -3,8 +3,8 @@
 use Rattle.std.specs.Prelude.{ℕ, ◌+◌, ◌==◌, min, max, nat_le, nat_lt, Bool, true, ◌&&◌, List, [], ◌∷◌, map, filter}
 use Rattle.rv_map_laws.specs.declared.map.Region.{Region}
 use Rattle.rv_map_laws.specs.declared.map.Row.{Row}
-use Rattle.rv_line_laws.specs.declared.line_row.LineRow.{LineRow}
-use Rattle.rv_line_laws.specs.LineTable.{code_end}
+use Rattle.rv_debug_laws.specs.declared.line_row.LineRow.{LineRow}
+use Rattle.rv_debug_laws.specs.LineTable.{code_end}
 
 -- a row of the source of this number that has instructions in the text
 abbrev pub is_code_of : Region → ℕ → Row → Bool

@@ -151,12 +151,16 @@ gap_behind exe = (8 - length exe % 8) % 8
 abbrev pub table_place : List ℕ → ℕ
 table_place exe = length exe + gap_behind exe
 
--- the executable, but for the four fields of its header that say where the table is
+-- a file, but for the four fields of its header that say where the table is, how many headers it
+-- has, and which section has the names
+abbrev pub retabled : List ℕ → (place count names : ℕ) → List ℕ
+retabled file place count names =
+    take 40 file ++ (bytes_of e_shoff place ++ (take 10 (drop 48 file)
+    ++ (bytes_of e_shentsize section_header_size ++ (bytes_of e_shnum count
+    ++ (bytes_of e_shstrndx names ++ drop 64 file)))))
+
 abbrev pub with_table : List ℕ → List ℕ
-with_table exe =
-    take 40 exe ++ (bytes_of e_shoff (table_place exe) ++ (take 10 (drop 48 exe)
-    ++ (bytes_of e_shentsize section_header_size ++ (bytes_of e_shnum section_total
-    ++ (bytes_of e_shstrndx shstrtab_index ++ drop 64 exe)))))
+with_table exe = retabled exe (table_place exe) section_total shstrtab_index
 
 abbrev pub null_header : SectionHeader
 null_header = record {

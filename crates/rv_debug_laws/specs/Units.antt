@@ -6,11 +6,11 @@ use Rattle.std.specs.Prelude.{ℕ, ◌≡◌, ◌-◌, suc, List, [], ◌∷◌,
 use Rattle.std.specs.Int.{w16, w32, w64, to_le_bytes}
 use Rattle.rv_map_laws.specs.declared.map.Region.{Region}
 use Rattle.rv_map_laws.specs.Map.{Map}
-use Rattle.rv_line_laws.specs.declared.line_row.SourceFile.{SourceFile}
-use Rattle.rv_line_laws.specs.declared.line_row.LineRow.{LineRow}
-use Rattle.rv_line_laws.specs.LineProgram.{line_table}
-use Rattle.rv_line_laws.specs.LineTable.{entries_of}
-use Rattle.rv_line_laws.specs.LineUnit.{IsUnit, header, sized, string}
+use Rattle.rv_debug_laws.specs.declared.line_row.SourceFile.{SourceFile}
+use Rattle.rv_debug_laws.specs.declared.line_row.LineRow.{LineRow}
+use Rattle.rv_debug_laws.specs.LineProgram.{line_table}
+use Rattle.rv_debug_laws.specs.LineTable.{entries_of}
+use Rattle.rv_debug_laws.specs.LineUnit.{IsUnit, header, sized, string}
 use Rattle.rv_debug_laws.specs.Code.{code_of, code_extent}
 
 -- the sections that grow with each source

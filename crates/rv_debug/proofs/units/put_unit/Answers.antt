@@ -1,6 +1,6 @@
 use Rattle.std.proofs.Common.{◌<◌, [], ◌∷◌, length, rules}
 use Rattle.rv_list_laws.proofs.OptionsLemmas.{of_if_some}
-use Rattle.rv_lines.specs.Table.{IsUnitOf}
+use Rattle.rv_debug.specs.Table.{IsUnitOf}
 use Rattle.rv_debug.specs.Views.{debug_of}
 use Rattle.rv_debug.proofs.UnitsLemmas.{adds_line_unit}
 use Rattle.rv_debug.proofs.units.put_unit.Goals as goal

@@ -1,0 +1,37 @@
+//! Puts the debug sections of objects behind an executable.
+//!
+//! It takes the file of an executable with section headers, such as rv_debug gives, and the files of the objects that were
+//! linked, each with the addresses that its symbols have in the program. It gives the same executable with the debug
+//! sections of these objects, which compilers make: debuggers so know the lines, types and variables of other languages,
+//! and how frames stand on the stack.
+//!
+//! Main contract: [`with_sections_of`] answers just `IsCarriedFile` of rv_debug_laws. The sections of one name are merged in
+//! the order of the objects, behind that of the executable, whose offsets so hold; relocations are applied, each to the
+//! address of its symbol, or to its place in a merged section; a field that means code which was dropped gets the number
+//! that says so. [`has_debug_sections`] and [`has_line_table`] tell what an object brings. The executable stands in front to the byte, but for the fields of its header that lead to the section
+//! headers, and is loaded as the same image. Nothing here knows DWARF: contents are bytes with relocations.
+//!
+//! ```text
+//! let objects = [Carried { file: &object, addresses: &addresses }];
+//! let file = with_sections_of(alloc, &exe, &objects)?;
+//! ```
+//!
+//! Source: System V gABI, "Sections", "String Table", "Symbol Table", "Relocation"; RISC-V ELF psABI, "Relocations"; DWARF
+//! Debugging Information Format, version 5, 7.4 and appendix B.
+#![tactic(auto)]
+
+mod fault;
+mod fill;
+mod headers;
+mod merged;
+mod named;
+mod names;
+mod part;
+mod said;
+mod source;
+mod writing;
+
+pub use fault::CarryFault;
+pub use rv_debug_laws::Carried;
+pub use said::{has_debug_sections, has_line_table};
+pub use writing::with_sections_of;

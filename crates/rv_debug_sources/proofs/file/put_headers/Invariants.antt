@@ -1,0 +1,8 @@
+use Rattle.std.proofs.Common.{◌≡◌, ◌++◌}
+use Rattle.rv_debug_sources.specs.Unloaded.{headers_bytes}
+use Rattle.rv_debug_sources.proofs.HeadersLemmas.{headers_left}
+use Rattle.rv_debug_sources.proofs.file.put_headers.Given as goal
+
+-- the bytes so far, with the headers that are left
+abbrev pub invariant-loop-index : goal.invariant-loop-index
+invariant-loop-index l = l.out ++ headers_left l.view.file.now l.index ≡ l.initial.out ++ headers_bytes l.view.file.now

@@ -1,0 +1,35 @@
+//! Sources and objects with the sections that debuggers read, as compilers write these (`.debug_info` and others).
+//!
+//! Such a section is not loaded, and the language keeps of sections that are not loaded their bytes alone. So that what they
+//! refer to is kept, the source is changed before it is read ([`changed_source`]): each `.section` of a debug section gets the
+//! flag `a`, in its line, as `specs/Sources` defines it by tokens, and LEB128 numbers become bytes. What is assembled of it has
+//! relocations for these sections as for loaded data. Of the object the rows of their statements are left out
+//! ([`without_debug_rows`]), and in its file they lose the flag again ([`unloaded`]): the file has what it has without this,
+//! and the relocations of these sections.
+//!
+//! It knows neither what the sections mean nor where statements stand.
+//!
+//! ```text
+//! let changed = changed_source(alloc, b"f: ret\n.section .debug_x,\"\"\n.8byte f\n")?;
+//! // f: ret
+//! // .section .debug_x,"a"
+//! // .8byte f
+//! ```
+//!
+//! Source: GNU as, "Statements", ".section", ".uleb128", ".sleb128"; DWARF 5, 7.6 "Variable Length Data"; System V gABI,
+//! "Sections".
+#![tactic(auto)]
+
+mod edit;
+mod file;
+mod leb128;
+mod name;
+mod object;
+mod source;
+mod statement;
+mod tokens;
+
+pub use edit::{Change, Edit};
+pub use file::unloaded;
+pub use object::without_debug_rows;
+pub use source::changed_source;

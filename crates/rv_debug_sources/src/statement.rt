@@ -1,0 +1,167 @@
+//! A statement, by its tokens.
+
+ghost use Rattle.std.specs.Prelude.{◌≡◌, map, option_and_then, slice_get};
+ghost use Rattle.rv_lexer.specs.Token.{kind_of, string_bytes, token_of};
+ghost use Rattle.rv_debug_sources.specs.Sources as laws;
+
+use crate::edit::{Change, Edit, Statement};
+use crate::tokens::{is_comma_at, is_debug_at, is_minus_at, is_word_at, number_at};
+use rv_lexer::{Token, TokenKind, string_contains};
+
+/// What becomes of a statement.
+pub(crate) fn statement_in(tokens: &[Token<'_>]) -> Statement
+    ensures { result ≡ laws.statement_in (map token_of tokens.now) }
+{
+    if is_word_at(tokens, 0, b".section") && is_debug_at(tokens, 1) {
+        return opening_in(tokens);
+    }
+    if is_word_at(tokens, 0, b".uleb128") {
+        return unsigned_in(tokens);
+    }
+    if is_word_at(tokens, 0, b".sleb128") {
+        return signed_in(tokens);
+    }
+    Statement::Kept
+}
+
+/// What becomes of the statement that opens a debug section.
+fn opening_in(tokens: &[Token<'_>]) -> Statement
+    ensures { result ≡ laws.opening_in (map token_of tokens.now) }
+{
+    if tokens.len() == 2 {
+        return behind_name(tokens);
+    }
+    if is_comma_at(tokens, 2) {
+        return inside_flags(tokens);
+    }
+    Statement::Loading
+}
+
+/// Flags go behind the name.
+fn behind_name(tokens: &[Token<'_>]) -> Statement
+    ensures { result ≡ laws.behind_name (slice_get (map token_of tokens.now) 1) }
+{
+    match tokens.get(1) {
+        Some(name) => insertion(name.stop as usize, Change::Flags),
+        None => Statement::Kept,
+    }
+}
+
+/// The flag goes behind the quote that opens the flags.
+fn inside_flags(tokens: &[Token<'_>]) -> Statement
+    ensures { result ≡ laws.inside_flags (slice_get (map token_of tokens.now) 3) }
+{
+    match tokens.get(3) {
+        Some(flags) => flags_by(flags.start, flags.kind),
+        None => Statement::Loading,
+    }
+}
+
+/// The flag goes into flags that begin at this offset, unless they have it.
+fn flags_by(start: u32, flags: TokenKind<'_>) -> Statement
+    ensures { result ≡ laws.flags_by start (kind_of flags.entry) }
+{
+    match flags {
+        TokenKind::Text(flags) => flags_with(start, flags),
+        _ => Statement::Loading,
+    }
+}
+
+/// The flag goes into these flags, which begin at this offset, unless they have it.
+fn flags_with(start: u32, flags: &[u8]) -> Statement
+    ensures { result ≡ laws.flags_with start (string_bytes flags.now) }
+{
+    if string_contains(flags, b'a') {
+        return Statement::Loading;
+    }
+    insertion(start as usize + 1, Change::Flag)
+}
+
+/// A text goes to an offset.
+fn insertion(at: usize, change: Change) -> Statement
+    ensures { result ≡ laws.insertion at change }
+{
+    Statement::Changed(Edit {
+        start: at,
+        stop: at,
+        change,
+    })
+}
+
+/// What becomes of `.uleb128`.
+fn unsigned_in(tokens: &[Token<'_>]) -> Statement
+    ensures { result ≡ laws.unsigned_in (map token_of tokens.now) }
+{
+    if tokens.len() != 2 {
+        return Statement::Kept;
+    }
+    match number_at(tokens, 1) {
+        Some(number) => replaced_by(tokens, 1, Change::Unsigned(number)),
+        None => Statement::Kept,
+    }
+}
+
+/// What becomes of `.sleb128`.
+fn signed_in(tokens: &[Token<'_>]) -> Statement
+    ensures { result ≡ laws.signed_in (map token_of tokens.now) }
+{
+    if tokens.len() == 2 {
+        return replaced(tokens, 1, above(number_at(tokens, 1)));
+    }
+    if tokens.len() == 3 && is_minus_at(tokens, 1) {
+        return replaced(tokens, 2, below(number_at(tokens, 2)));
+    }
+    Statement::Kept
+}
+
+/// A signed number that is not negative, if it has 64 bits.
+fn above(number: Option<u64>) -> Option<Change>
+    ensures { result ≡ option_and_then laws.above number }
+{
+    match number {
+        Some(number) if number < 1 << 63 => Some(Change::Signed(false, number)),
+        _ => None,
+    }
+}
+
+/// The signed number below 0, if it has 64 bits.
+fn below(number: Option<u64>) -> Option<Change>
+    ensures { result ≡ option_and_then laws.below number }
+{
+    match number {
+        Some(0) => Some(Change::Signed(false, 0)),
+        Some(number) if number <= 1 << 63 => Some(Change::Signed(true, number - 1)),
+        _ => None,
+    }
+}
+
+/// The tokens from the first to another in its line give way to a text, if there is one.
+fn replaced(tokens: &[Token<'_>], last: usize, change: Option<Change>) -> Statement
+    ensures { result ≡ laws.replaced (map token_of tokens.now) last change }
+{
+    match change {
+        Some(change) => replaced_by(tokens, last, change),
+        None => Statement::Kept,
+    }
+}
+
+/// The tokens from the first to another in its line give way to a text.
+fn replaced_by(tokens: &[Token<'_>], last: usize, change: Change) -> Statement
+    ensures { result ≡ laws.replaced_by (slice_get (map token_of tokens.now) 0)
+        (slice_get (map token_of tokens.now) last) change }
+{
+    let Some(first) = tokens.get(0) else {
+        return Statement::Kept;
+    };
+    let Some(last) = tokens.get(last) else {
+        return Statement::Kept;
+    };
+    if first.line != last.line {
+        return Statement::Kept;
+    }
+    Statement::Changed(Edit {
+        start: first.start as usize,
+        stop: last.stop as usize,
+        change,
+    })
+}

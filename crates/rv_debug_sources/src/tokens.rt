@@ -1,0 +1,115 @@
+//! Tokens of a statement, by their indices.
+
+ghost use Rattle.std.specs.Prelude.{◌≡◌, Some, map, slice_get};
+ghost use Rattle.rv_lexer.specs.Token.{kind_of, token_of};
+ghost use Rattle.rv_debug_laws.specs.Marks as marks;
+ghost use Rattle.rv_debug_sources.specs.Sources as laws;
+
+use crate::name::is_debug_name;
+use rv_lexer::{Punct, Token, TokenKind};
+
+/// Whether this word stands at an index.
+pub(crate) fn is_word_at(tokens: &[Token<'_>], index: usize, word: &[u8]) -> bool
+    ensures { result ≡ laws.is_this_word word.now (laws.kind_in (slice_get (map token_of tokens.now) index)) }
+{
+    match tokens.get(index) {
+        Some(token) => is_word(token.kind, word),
+        None => false,
+    }
+}
+
+fn is_word(kind: TokenKind<'_>, word: &[u8]) -> bool
+    ensures { result ≡ laws.is_this_word word.now (Some (kind_of kind.entry)) }
+{
+    match kind {
+        TokenKind::Name(name) => name == word,
+        _ => false,
+    }
+}
+
+/// Whether the name of a debug section stands at an index.
+pub(crate) fn is_debug_at(tokens: &[Token<'_>], index: usize) -> bool
+    ensures { result ≡ laws.is_debug (laws.kind_in (slice_get (map token_of tokens.now) index)) }
+{
+    match tokens.get(index) {
+        Some(token) => is_debug(token.kind),
+        None => false,
+    }
+}
+
+fn is_debug(kind: TokenKind<'_>) -> bool
+    ensures { result ≡ laws.is_debug (Some (kind_of kind.entry)) }
+{
+    match kind {
+        TokenKind::Name(name) => is_debug_name(name),
+        _ => false,
+    }
+}
+
+/// Whether a comma stands at an index.
+pub(crate) fn is_comma_at(tokens: &[Token<'_>], index: usize) -> bool
+    ensures { result ≡ marks.is_comma (laws.kind_in (slice_get (map token_of tokens.now) index)) }
+{
+    match tokens.get(index) {
+        Some(token) => is_comma(token.kind),
+        None => false,
+    }
+}
+
+fn is_comma(kind: TokenKind<'_>) -> bool
+    ensures { result ≡ marks.is_comma (Some (kind_of kind.entry)) }
+{
+    matches!(kind, TokenKind::Punct(Punct::Comma))
+}
+
+/// Whether a minus sign stands at an index.
+pub(crate) fn is_minus_at(tokens: &[Token<'_>], index: usize) -> bool
+    ensures { result ≡ marks.is_minus (laws.kind_in (slice_get (map token_of tokens.now) index)) }
+{
+    match tokens.get(index) {
+        Some(token) => is_minus(token.kind),
+        None => false,
+    }
+}
+
+fn is_minus(kind: TokenKind<'_>) -> bool
+    ensures { result ≡ marks.is_minus (Some (kind_of kind.entry)) }
+{
+    matches!(kind, TokenKind::Punct(Punct::Minus))
+}
+
+/// The number that stands at an index.
+pub(crate) fn number_at(tokens: &[Token<'_>], index: usize) -> Option<u64>
+    ensures { result ≡ marks.token_number (laws.kind_in (slice_get (map token_of tokens.now) index)) }
+{
+    match tokens.get(index) {
+        Some(token) => number_of(token.kind),
+        None => None,
+    }
+}
+
+fn number_of(kind: TokenKind<'_>) -> Option<u64>
+    ensures { result ≡ marks.token_number (Some (kind_of kind.entry)) }
+{
+    match kind {
+        TokenKind::Number(_, number) => Some(number),
+        _ => None,
+    }
+}
+
+/// Whether a statement ends in front of a token.
+pub(crate) fn is_end(kind: TokenKind<'_>) -> bool
+    ensures { result ≡ marks.ends_statement (kind_of kind.entry) }
+{
+    matches!(
+        kind,
+        TokenKind::Newline | TokenKind::Punct(Punct::Semicolon) | TokenKind::End
+    )
+}
+
+/// Whether a token is a colon.
+pub(crate) fn is_colon(kind: TokenKind<'_>) -> bool
+    ensures { result ≡ marks.is_colon (kind_of kind.entry) }
+{
+    matches!(kind, TokenKind::Punct(Punct::Colon))
+}

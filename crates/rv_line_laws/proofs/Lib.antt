@@ -1,2 +1,0 @@
--- The lengths of a unit lead to what they say.
-pub mod UnitLemmas

@@ -1,0 +1,2 @@
+-- The last token of a source.
+pub mod MarksLemmas

@@ -1,0 +1,2 @@
+-- What the reader has read, and what is left.
+pub mod Reading

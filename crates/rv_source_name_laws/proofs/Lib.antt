@@ -1,2 +1,0 @@
--- A name that is written is found again.
-pub mod SourceLemmas

@@ -1,2 +1,0 @@
--- An object keeps what every object keeps, with a section more that nothing refers to.
-pub mod NamedLemmas

@@ -1,2 +1,0 @@
--- What a name of the code stands for.
-pub mod Views
