@@ -2,6 +2,8 @@
 mod AddingLemmas
 -- What names mean of an object of which calls are cut short.
 mod CutsLemmas
+-- Objects whose symbols stand where they end: their names mean the same, and their sections are the same.
+pub mod EndsLemmas
 -- Where a run begins: at what `_start` means.
 mod EntryLemmas
 -- Whether a symbol of a file is the definition that its name means, as the table tells.
@@ -10,5 +12,7 @@ mod ExportedLemmas
 mod KnownLemmas
 -- What a symbol means: its definition, and the address and the place of that.
 mod MeantLemmas
+-- The extents of symbols, one after another.
+mod ReachLemmas
 -- Where no reference is undefined, each has an address.
 mod ResolvedLemmas

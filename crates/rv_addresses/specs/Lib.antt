@@ -10,3 +10,7 @@ pub mod Resolved
 pub mod Shown
 -- That no name has two definitions has one proof at most, so that a struct can keep it.
 pub mod Named
+-- Where the symbols of objects stand, and how many bytes are left of each.
+pub mod Extents
+-- What is left of objects whose symbols stand where they end.
+pub mod Ended

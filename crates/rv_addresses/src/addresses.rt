@@ -91,7 +91,11 @@ pub(crate) fn defined_address(
 }
 
 /// The address of a name that no object defines: what the linker gives; where it gives none, 0 for a weak symbol.
-fn undefined_address(placement: &Placement<'_>, binding: Binding, name: &[u8]) -> Option<u64>
+pub(crate) fn undefined_address(
+    placement: &Placement<'_>,
+    binding: Binding,
+    name: &[u8],
+) -> Option<u64>
     ensures { (os : List SaidObject) (bounds : Ground) → IsPlacement os bounds placement.now
         → result ≡ option_or (global_address (linker_symbols (regions_of (layout_of placement.now))) name.now)
         (if bindings.is_weak binding then Some 0 else None) }

@@ -14,3 +14,5 @@ pub mod Parts
 pub mod Reads
 -- Which objects a link takes, of those that its files offer, and in which order.
 pub mod Taken
+-- An archive that GNU ar made of two texts, one of them with a long name, and the index that it made of two objects.
+pub mod Worked

@@ -11,7 +11,8 @@
 //! Nothing here runs.
 //!
 //! Main contracts: `one_archive`, the law that a file is at most one archive or has at most one first fault, and never both; and
-//! `one_selection`, that what is taken is determined.
+//! `one_selection`, that what is taken is determined. What files that GNU ar made come to ([`Worked`]) is said by closed contracts,
+//! which the check computes, so that a definition that said something else would fail.
 //!
 //! ```text
 //! part_at file 8                                  -- the index of the archive, where it has one
@@ -24,12 +25,15 @@
 //! [`Index`]: ../specs/Index.antt
 //! [`Reads`]: ../specs/Reads.antt
 //! [`Taken`]: ../specs/Taken.antt
+//! [`Worked`]: ../specs/Worked.antt
 //!
 //! Source: System V "ar" (<ar.h>); GNU binutils, "ar"; LLVM's llvm-ar writes the same; GNU ld, "Options".
 #![tactic(auto)]
 
 mod fault;
 mod law;
+mod worked;
 
 pub use fault::ArchiveFault;
 pub use law::{one_archive, one_selection};
+pub use worked::{index_names_members, members_are_taken, slashes_end_names, texts_are_members};

@@ -1,6 +1,6 @@
 -- What sites drop, as a list of numbers: its sums, and what is dropped before an offset.
 
-use Rattle.std.proofs.Common.{◌≡◌, inl, inr, ⊎_elim, ℕ, zero, suc, ◌+◌, ◌-◌, ◌*◌, ◌≤◌, ◌<◌, min, false, IsTrue, List, [], ◌∷◌, length, set, take, drop, slice_index, slice_index_or, sum, pos, refl, ap, arith}
+use Rattle.std.proofs.Common.{◌≡◌, inl, inr, ⊎_elim, ℕ, zero, suc, ◌+◌, ◌-◌, ◌*◌, ◌≤◌, ◌<◌, min, false, IsTrue, List, [], ◌∷◌, length, set, take, drop, slice_index, slice_index_or, sum, pos, refl, ap, ◌∙◌, arith}
 use Rattle.std.proofs.lemmas.Bool.{cases_lt}
 use Rattle.std.proofs.lemmas.List.{get_or_past, drop_all}
 use Rattle.std.proofs.lemmas.List.Sums.{sum_by-cons}
@@ -11,6 +11,7 @@ use Rattle.rv_size_laws.specs.Offsets.{offset, rest}
 use Rattle.rv_size_laws.specs.Calls.{bytes_of, Offers, is_call, site_at, dropped_of, dropped, whole_sizes, IsFamily, InOrder, IsOutside}
 use Rattle.rv_size_laws.proofs.ShorteningLemmas.{IsOpen, before_all}
 use Rattle.rv_size_laws.proofs.OffsetsLemmas.{whole as parts}
+use Rattle.rv_size_laws.proofs.ReachingLemmas.{offset_more}
 use Rattle.rv_size_laws.specs.Sites.{site_end}
 use Rattle.rv_call_sizes.specs.Passes.{IsPlace, drops}
 
@@ -48,7 +49,27 @@ drop_at (site ∷ sites) [] i lt same = absurd (omega arith)
 drop_at (site ∷ sites) (k ∷ kept) zero lt same = refl
 drop_at (site ∷ sites) (k ∷ kept) (suc i) lt same = drop_at sites kept i (omega arith) (omega arith)
 
+pub drops_length : (sites : List Site) (kept : List ℕ) → length kept ≡ length sites → length (drops sites kept) ≡ length sites
+drops_length [] kept same = refl
+drops_length (site ∷ sites) [] same = absurd (omega arith)
+drops_length (site ∷ sites) (k ∷ kept) same = ap suc (drops_length sites kept (omega arith))
+
+-- what a site drops more where fewer of its bytes are kept
+pub drops_set : (sites : List Site) (kept : List ℕ) (i new : ℕ) → length kept ≡ length sites → new ≤ slice_index kept i → slice_index kept i ≤ bytes_of (site_at sites i).kind
+    → drops sites (set kept i new) ≡ set (drops sites kept) i (slice_index (drops sites kept) i + (slice_index kept i - new))
+drops_set [] kept i new same less most = refl
+drops_set (site ∷ sites) [] i new same less most = absurd (omega arith)
+drops_set (site ∷ sites) (k ∷ kept) zero new same less most =
+    let more : bytes_of site.kind - new ≡ (bytes_of site.kind - k) + (k - new) = omega arith in
+    ap (λ n. n ∷ drops sites kept) more
+drops_set (site ∷ sites) (k ∷ kept) (suc i) new same less most = ap (λ others. (bytes_of site.kind - k) ∷ others) (drops_set sites kept i new (omega arith) less most)
+
 -- ---- sums
+
+-- what is dropped up to the next site
+pub dropped_next : (sites : List Site) (kept : List ℕ) (i : ℕ) → i < length sites → length kept ≡ length sites
+    → offset (drops sites kept) (i + 1) ≡ offset (drops sites kept) i + (bytes_of (site_at sites i).kind - slice_index kept i)
+dropped_next sites kept i within same = offset_more (drops sites kept) i ∙ ap (λ n. offset (drops sites kept) i + n) (drop_at sites kept i within same)
 
 -- of a call at least two bytes of eight are kept, of a padding all
 own_low : (kind : SiteKind) (k : ℕ) → Offers kind k → 4 * (bytes_of kind - k) ≤ 3 * bytes_of kind

@@ -6,3 +6,7 @@ pub mod JudgingLemmas
 pub mod TablesLemmas
 -- The search for an offset among sites one behind the other.
 pub mod LaidLemmas
+-- Sums of numbers by 64: how they come about, what they tell, and how they change.
+pub mod SumsLemmas
+-- Steps that come one by one between the passes.
+pub mod ChasingLemmas

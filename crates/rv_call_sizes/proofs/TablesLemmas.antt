@@ -32,7 +32,7 @@ first_table sites kept stands whole same none = record {
 
 -- ---- numbers are small
 
-drops_low : (sites : List Site) (kept : List ℕ) → IsInput sites → IsFamily sites kept → sum (drops sites kept) ≤ 27 * 2 ^ 121
+pub drops_low : (sites : List Site) (kept : List ℕ) → IsInput sites → IsFamily sites kept → sum (drops sites kept) ≤ 27 * 2 ^ 121
 drops_low sites kept input f = omega (arith, sum_low (9 * 2 ^ 123) sites kept input.text.in_order input.ends f)
 
 pub offset_low : (sites : List Site) (kept : List ℕ) (i : ℕ) → IsInput sites → IsFamily sites kept → offset (drops sites kept) i ≤ 27 * 2 ^ 121
@@ -113,7 +113,7 @@ backward_table sites i kept stands left new lt offered table is = record {
 -- ---- distances
 
 -- a call and its target after relaxation, by the sums of what is dropped
-away_by : (sites : List Site) (i : ℕ) (kept : List ℕ) (call : CallSite) (count : ℕ) (far away : ℤ) → IsInput sites → i < length sites → IsFamily sites kept
+pub away_by : (sites : List Site) (i : ℕ) (kept : List ℕ) (call : CallSite) (count : ℕ) (far away : ℤ) → IsInput sites → i < length sites → IsFamily sites kept
     → (site_at sites i).kind ≡ Call call → IsPlace sites call.target count → far ≡ pos call.target -ℤ pos (site_at sites i).offset
     → away ≡ far -ℤ distance (drops sites kept) i count
     → away ≡ pos (new_offset sites kept call.target) -ℤ pos (new_offset sites kept (site_at sites i).offset)

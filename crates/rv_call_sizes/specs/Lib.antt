@@ -2,3 +2,5 @@
 pub mod Passes
 -- Sites for worked numbers.
 pub mod Worked
+-- The sums of numbers by 64, of these sums again, and once more: what lies before a place is read in a few of each.
+pub mod Sums

@@ -4,18 +4,23 @@
 //! those ahead of it the bytes from each on (`specs/Passes`). Both are exact while sizes change in between, so a pass
 //! forwards sees what the calls before a site have become, and one backwards what those after it have.
 
-ghost use Rattle.std.specs.Prelude.{◌≡◌, ℕ, ◌+◌, ◌-◌, ◌*◌, ◌^◌, ◌<◌, ◌≤◌, ◌≤ℤ◌, pos, neg_ℤ, ◌-ℤ◌, not, length, slice_index, if◌then◌else◌, IsTrue};
+ghost use Rattle.std.specs.Prelude.{◌≡◌, ℕ, ◌+◌, ◌-◌, ◌*◌, ◌^◌, ◌<◌, ◌≤◌, ◌≤ℤ◌, pos, neg_ℤ, ◌-ℤ◌, not, length, slice_index, if◌then◌else◌, IsTrue, IfOk, OnOk};
 ghost use Rattle.rv_size_laws.specs.Offsets.{offset, rest};
 ghost use Rattle.rv_size_laws.specs.Tables.{forwards_away, backwards_away};
-ghost use Rattle.rv_size_laws.specs.Calls.{IsClosed, IsGreatestClosed, Shortenings, calls, whole_sizes};
+ghost use Rattle.rv_size_laws.specs.Calls.{IsClosed, IsFamily, IsGreatestClosed, Shortenings, calls, whole_sizes};
 ghost use Rattle.rv_call_sizes.specs.Passes.{AreTargets, CannotShrink, HasForm, IsInput, IsTable, IsTurn, IsVisit, drops};
 
+use crate::chase::shorten_one_by_one;
 use crate::places::dropped_bytes;
 use crate::reach::judged_size;
 use rv_size_laws::{Call, Site, SiteKind};
+use std::alloc::{AllocError, Global};
+
+/// How many passes there are before calls are looked at one by one. Most texts are settled by then.
+const PASSES_ALONE: usize = 4;
 
 /// What lies between two places, in bytes.
-fn between(from: u128, to: u128) -> i128
+pub(crate) fn between(from: u128, to: u128) -> i128
     requires from { from ≤ 9 * 2 ^ 123 }
     requires to { to ≤ 9 * 2 ^ 123 }
     ensures { result ≡ pos to -ℤ pos from }
@@ -24,7 +29,7 @@ fn between(from: u128, to: u128) -> i128
 }
 
 /// Whether no form of a call is shorter than this size.
-fn is_shortest(call: &Call, size: u32) -> bool
+pub(crate) fn is_shortest(call: &Call, size: u32) -> bool
     requires { HasForm call.now size }
     ensures { IsTrue result → CannotShrink call.now size }
 {
@@ -259,30 +264,54 @@ fn shorten(
     shorten_backwards(sites, targets, kept, stands)
 }
 
+/// Puts into the table what is dropped from each site on.
+fn fill(sites: &[Site], kept: &[u32], stands: &mut [u128])
+    requires input { IsInput sites.now }
+    requires family { IsFamily sites.now kept.now }
+    requires same_length { length stands.old ≡ length sites.now + 1 }
+    ensures { IsTable sites.now 0 kept.now stands.new }
+{
+    let mut after = 0;
+    let mut i = sites.len();
+    stands[i] = after;
+    while i > 0 {
+        i -= 1;
+        after += u128::from(dropped_bytes(&sites[i].kind, kept[i]));
+        stands[i] = after;
+    }
+}
+
 /// Shortens in passes, forwards and backwards in turn, until one finds nothing to shorten, and tells how many there were.
-/// At first the sites are whole, and nothing is dropped.
+/// At first the sites are whole, and nothing is dropped. Where the first passes don't settle all, as each only shortens what waited
+/// for the one before, what is left is [chased](shorten_one_by_one) before the next.
 pub(crate) fn settle(
+    alloc: Global,
     sites: &[Site],
     targets: &[usize],
     kept: &mut [u32],
     stands: &mut [u128],
-) -> usize
+) -> Result<usize, AllocError>
     requires input { IsInput sites.now }
     requires targets { AreTargets sites.now targets.now }
     requires many { length sites.now < 2 ^ 63 }
     requires whole { kept.old ≡ whole_sizes sites.now }
     requires same_length { length stands.old ≡ length sites.now + 1 }
     requires none { (j : ℕ) → slice_index stands.old j ≡ 0 }
-    ensures greatest { IsGreatestClosed sites.now kept.new }
-    ensures few { result ≤ 2 * calls sites.now + 1 }
+    ensures greatest { OnOk result (IsGreatestClosed sites.now kept.new) }
+    ensures few { IfOk result (λ rounds. rounds ≤ 2 * calls sites.now + 1) }
 {
     let mut rounds = 0;
     let mut forwards = true;
     'rounds: loop {
         rounds += 1;
         if shorten(sites, targets, forwards, kept, stands) == 0 {
-            return rounds;
+            return Ok(rounds);
         }
         forwards = !forwards;
+        if rounds >= PASSES_ALONE {
+            shorten_one_by_one(alloc, sites, targets, kept)?;
+            fill(sites, kept, stands);
+            forwards = true;
+        }
     }
 }

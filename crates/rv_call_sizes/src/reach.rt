@@ -58,3 +58,14 @@ pub(crate) fn judged_size(call: &Call, size: u32, distance: i128) -> u32
     }
     size
 }
+
+/// How many bytes more have to be dropped between a call and its target before its next shorter form can reach, at least 1.
+/// A call with a constant that is no immediate waits in vain.
+pub(crate) fn lacking(call: &Call, size: u32, distance: i128) -> usize {
+    let reach = if size > 4 { 1 << 20 } else { 1 << 11 };
+    let reached = distance.saturating_add(i128::from(call.addend));
+    let past = reached
+        .saturating_sub(reach - 2)
+        .max((-reach).saturating_sub(reached));
+    usize::try_from(past).unwrap_or(usize::MAX).max(1)
+}

@@ -23,7 +23,7 @@ impl CallSizes {
     ///
     /// # Errors
     ///
-    /// `AllocError` where there is no memory for 28 bytes a site.
+    /// `AllocError` where there is no memory for 28 bytes a site, or 60 where calls wait for one another.
     pub fn greatest(alloc: Global, sites: &[Site]) -> Result<CallSizes, AllocError>
         requires { IsInput sites.now }
         ensures greatest { IfOk result (λ found. IsGreatestClosed sites.now found.kept.items) }
@@ -32,7 +32,7 @@ impl CallSizes {
         let mut kept = whole(alloc, sites)?;
         let targets = targets(alloc, sites)?;
         let mut stands = vec![in alloc; 0; sites.len() + 1]?;
-        let rounds = settle(sites, &targets, &mut kept, &mut stands);
+        let rounds = settle(alloc, sites, &targets, &mut kept, &mut stands)?;
         Ok(CallSizes { kept, rounds })
     }
 }

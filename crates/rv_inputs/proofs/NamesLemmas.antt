@@ -9,7 +9,7 @@ use Rattle.rv_list_laws.proofs.TakeDropLemmas.{take_next}
 use Rattle.rv_object_laws.specs.Object.{Symbol}
 use Rattle.rv_object_types.specs.declared.symbol.Symbol.{Symbol as DeclaredSymbol}
 use Rattle.rv_object_types.specs.Parts.{symbol_of}
-use Rattle.rv_members.specs.Plain.{plain_texts}
+use Rattle.rv_inputs.specs.Plain.{plain_texts}
 use Rattle.rv_inputs.specs.Names.{names_where}
 
 last_by : (test : Symbol → Bool) (x : Symbol) (t : Bool) → test x ≡ t → names_where test (x ∷ []) ≡ cond t (x.name ∷ []) []

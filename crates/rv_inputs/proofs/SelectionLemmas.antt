@@ -10,11 +10,11 @@ use Rattle.rv_archive_laws.proofs.OneSelectionLemmas.{not_both, one_value}
 use Rattle.rv_archive_laws.specs.Taken.{ObjectNames, Offer, Position, front, behind_offer, next_offer, TakesFrom, Takes}
 use Rattle.rv_object_laws.specs.Object.{Object}
 use Rattle.rv_object_file_laws.specs.ObjectOf.{ObjectOf}
-use Rattle.rv_members.specs.declared.search.Search.{Search}
-use Rattle.rv_members.specs.Filed.{AreKnown}
-use Rattle.rv_members.specs.Left.{IsFree}
-use Rattle.rv_members.specs.Plain.{plain_offer}
-use Rattle.rv_members.specs.State.{IsNext}
+use Rattle.rv_inputs.specs.declared.search.Search.{Search}
+use Rattle.rv_inputs.specs.Filed.{AreKnown}
+use Rattle.rv_inputs.specs.Left.{IsFree}
+use Rattle.rv_inputs.specs.Plain.{plain_offer}
+use Rattle.rv_inputs.specs.State.{IsNext}
 use Rattle.rv_object_file_laws.specs.FirstFault.{first_fault}
 use Rattle.rv_inputs.specs.declared.fault.InputFault.{InputFault}
 use Rattle.rv_inputs.specs.declared.fault.InputFault.TheVariants as faults

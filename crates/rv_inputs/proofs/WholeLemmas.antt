@@ -8,7 +8,7 @@ use Rattle.rv_list_laws.proofs.MapLemmas.{get_unmap}
 use Rattle.rv_archive_laws.specs.Index.{Entry}
 use Rattle.rv_archive_laws.specs.Reads.{Archive, Reads}
 use Rattle.rv_archive_laws.specs.Taken.{Offer}
-use Rattle.rv_members.specs.Filed.{AreFiled, AreKnown}
+use Rattle.rv_inputs.specs.Filed.{AreFiled, AreKnown}
 use Rattle.rv_inputs.specs.declared.input.Form.{Form}
 use Rattle.rv_inputs.specs.declared.input.Form.TheVariants as forms
 use Rattle.rv_inputs.specs.declared.input.Input.{Input}

@@ -2,7 +2,7 @@
 
 use Rattle.std.specs.Prelude.{ℕ, List, map}
 use Rattle.std.specs.Option.{option_copied}
-use Rattle.rv_members.specs.Plain.{plain_offer}
+use Rattle.rv_inputs.specs.Plain.{plain_offer}
 use Rattle.rv_inputs.specs.declared.gathering.Gathered.{Gathered}
 use Rattle.rv_inputs.specs.declared.taken.TakenObject.{TakenObject}
 use Rattle.rv_inputs.specs.Gathered.{FiledObject, Gathering}

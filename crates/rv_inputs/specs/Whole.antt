@@ -3,7 +3,7 @@
 use Rattle.std.specs.Prelude.{◌≡◌, ℕ, ◌≤◌, length, Some}
 use Rattle.std.specs.List.{slice_get}
 use Rattle.rv_archive_laws.specs.Taken.{Offer}
-use Rattle.rv_members.specs.Filed.{AreFiled, AreKnown}
+use Rattle.rv_inputs.specs.Filed.{AreFiled, AreKnown}
 use Rattle.rv_inputs.specs.Gathered.{Gathering}
 
 -- offers stand in the order of files and groups, up to the last one, and are of objects

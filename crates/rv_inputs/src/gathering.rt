@@ -5,16 +5,16 @@ ghost use Rattle.std.specs.List.{slice_get};
 ghost use Rattle.rv_archive_laws.specs.Reads.{Reads};
 ghost use Rattle.rv_archive_laws.specs.Index as laws;
 ghost use Rattle.rv_archive.specs.View.{plain_archive, plain_entry, plain_member};
-ghost use Rattle.rv_members.specs.Plain.{plain_offer};
+ghost use Rattle.rv_inputs.specs.Plain.{plain_offer};
 ghost use Rattle.rv_inputs.specs.Gathered.{no_files, next_group, member_object, entry_offer, with_object, Adds, AddsFile, Gathers};
 ghost use Rattle.rv_inputs.specs.Taken.{IsNoArchive, IsNotAdded, IsInputRefused};
 ghost use Rattle.rv_inputs.specs.Views.{gathering_of, object_of};
 
 use crate::fault::InputFault;
 use crate::input::{Form, Input};
+use crate::offer::Offer;
 use crate::taken::TakenObject;
 use rv_archive::{Archive, Entry, Member, ReadFault};
-use rv_members::Offer;
 use std::alloc::{AllocError, Global};
 
 /// What some files offer.

@@ -1,13 +1,13 @@
 //! The names of an object that concern other objects.
 
 ghost use Rattle.std.specs.Prelude.{◌≡◌, map, IfOk};
-ghost use Rattle.rv_members.specs.Plain.{plain_names, plain_texts};
+ghost use Rattle.rv_inputs.specs.Plain.{plain_names, plain_texts};
 ghost use Rattle.rv_object_types.specs.Parts.{symbol_of};
 ghost use Rattle.rv_object_types.specs.View.{object_of};
 ghost use Rattle.rv_link_laws.specs.Names as laws;
 ghost use Rattle.rv_inputs.specs.Names.{gives_name, asks_name, names_said, names_where};
 
-use rv_members::ObjectNames;
+use crate::object_names::ObjectNames;
 use rv_object_types::{Binding, Definition, Object, Symbol};
 use std::alloc::{AllocError, Global};
 

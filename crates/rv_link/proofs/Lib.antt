@@ -22,3 +22,5 @@ pub mod NamedLemmas
 pub mod MissingLemmas
 -- Relocations without a field: their value is 0, and nothing is written.
 pub mod IdleLemmas
+-- The ends of the symbols of what a plan leaves of objects are what relaxation leaves of their ends.
+mod ExtentsLemmas

@@ -10,3 +10,7 @@ pub mod Made
 pub mod Regions
 -- The link of what relaxation leaves of objects.
 pub mod Left
+-- Where the link of objects puts their symbols, and how many bytes are left of each.
+pub mod Extents
+-- The extents of the symbols of what a plan leaves of objects.
+pub mod PlannedExtents

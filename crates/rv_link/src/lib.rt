@@ -12,6 +12,9 @@
 //! without the names and the rows of its map, for an executable alone: they cost more than all else. [`link_on`] links on any
 //! [`Ground`]: where the text begins, and where the program ends or before; [`link`] does below the stack.
 //!
+//! [`symbol_extents_on`] tells where such a link puts each symbol of each object, and how many bytes are left of it, without making a
+//! byte: for debuggers, who ask for symbols that no map shows.
+//!
 //! The faults come in the order of the passes. With collection a missing entry comes before a name without a meaning, by itself:
 //! [`a_missing_entry_comes_first`].
 //!
@@ -21,11 +24,14 @@
 //! let first = linked.entry();
 //! let file = write_exec(alloc, &linked)?;
 //! let fault = link(alloc, &[], options);                      // Err(EntryMissing)
+//! let extents = symbol_extents_on(alloc, objects.as_slice(), sizes.as_slice(), options.grounded())?;
+//! let extent = extents[0][1];                                 // Some(SymbolExtent { address: 0x1_0000, size: 12 })
 //! ```
 //!
 //! Source: System V gABI, "Sections", "Symbol Table", "Relocation"; RISC-V ELF psABI, "Relocations", "Linker Relaxation"; GNU ld.
 #![tactic(auto)]
 
+mod extents;
 mod fields;
 mod fixed;
 mod ground;
@@ -37,11 +43,13 @@ mod regions;
 mod relaxation;
 mod with_map;
 
+pub use extents::symbol_extents_on;
 pub use ground::{ground_of, usual};
 pub use law::a_missing_entry_comes_first;
 pub use options::{GroundOptions, LinkOptions};
 pub use passes::{MOST_FILES, within_limits};
 pub use programs::{link, link_exe, link_exe_on, link_on};
+pub use rv_addresses::SymbolExtent;
 pub use rv_fault::LinkFault;
 pub use rv_image::Linked;
 pub use rv_link_laws::Ground;

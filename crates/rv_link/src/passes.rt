@@ -22,6 +22,7 @@ ghost use Rattle.rv_link.specs.Left.{IsLinkWith};
 ghost use Rattle.rv_link_laws.specs.WithMap.{map_where};
 ghost use Rattle.rv_names.specs.Names.{IsDuplicate, IsNames};
 ghost use Rattle.rv_addresses.specs.Resolution.{all};
+ghost use Rattle.rv_link_laws.specs.Entry.{has_entry};
 ghost use Rattle.rv_link_laws.specs.Exports.{first_duplicate};
 ghost use Rattle.rv_link_laws.specs.Undefined.{first_undefined};
 ghost use Rattle.rv_fault.specs.declared.link_fault.LinkFault.TheVariants.{EntryMissing, OutOfMemory};
@@ -69,20 +70,40 @@ pub(crate) fn link_by_plan(
 {
     let objects = plan.objects.as_slice();
     let resolved = Resolution { objects, names };
-    resolve(alloc, &resolved)?;
-    if !resolved.has_entry() {
-        return Err(LinkFault::EntryMissing);
-    }
-    if !plan.is_roomy() {
-        return Err(LinkFault::AlignmentShort);
-    }
-    let placement = place(alloc, plan, bounds)?;
+    let placement = placed(alloc, plan, &resolved, bounds)?;
     let entry = entry(&resolved, &placement)?;
     // all addresses are fixed: those of sections, of what is kept of them, and of names
     let regions = fill(alloc, &resolved, &placement)?;
     // all bytes are fixed; what is left is to show them
     let linked = finish(alloc, &resolved, drops, placement, entry, regions, with_map)?;
     Ok(linked)
+}
+
+/// Where the sections of objects stand by their plan, on a ground: each reference has a meaning, a run can begin, and each padding has
+/// room.
+pub(crate) fn placed<'p>(
+    alloc: Global,
+    plan: &'p Plan<'_, '_>,
+    resolution: &Resolution<'_, '_, '_, '_>,
+    bounds: Ground,
+) -> Result<Placement<'p>, LinkFault>
+    requires within { AreWithin (length (planned_objects plan.now)) bounds }
+    requires same { all resolution.now ≡ planned_objects plan.now }
+    ensures named { IfOk result (λ _. HasLinkNames (all resolution.now)) }
+    ensures begins { IfOk result (λ _. has_entry (all resolution.now) ≡ true) }
+    ensures placed { IfOk result (IsPlacement (all resolution.now) bounds) }
+    ensures room { IfOk result (λ placement. are_roomy placement ≡ true) }
+    ensures refuses { IfErr result (IsUnlinked (planned_objects plan.now) bounds) }
+{
+    resolve(alloc, resolution)?;
+    if !resolution.has_entry() {
+        return Err(LinkFault::EntryMissing);
+    }
+    if !plan.is_roomy() {
+        return Err(LinkFault::AlignmentShort);
+    }
+    let placement = place(alloc, plan, bounds)?;
+    Ok(placement)
 }
 
 /// Whether so many files can be linked, to a program on a ground.

@@ -3,7 +3,7 @@
 ghost use Rattle.std.specs.Prelude.{◌≡◌, map, IfOk, IfErr};
 ghost use Rattle.rv_object_types.specs.View.{object_of};
 ghost use Rattle.rv_link_laws.specs.Shortened.{Relaxes};
-ghost use Rattle.rv_relax.specs.Plan.{planned_objects};
+ghost use Rattle.rv_relax.specs.Plan.{RelaxesBy, planned_cuts, planned_objects, whole_objects};
 ghost use Rattle.rv_names.specs.Names.{IsNames};
 ghost use Rattle.rv_fault.specs.declared.link_fault.LinkFault.TheVariants.{OutOfMemory};
 
@@ -24,6 +24,9 @@ pub(crate) fn relaxed<'o, 'a>(
     requires { IsNames (map object_of objects.now) names.now }
     ensures relaxes { IfOk result
         (λ plan. Relaxes relax (map object_of objects.now) (planned_objects plan)) }
+    ensures whole { IfOk result (λ plan. whole_objects plan ≡ map object_of objects.now) }
+    ensures cuts { IfOk result (λ plan. RelaxesBy relax (map object_of objects.now)
+        (planned_objects plan) (planned_cuts plan)) }
     ensures refuses { IfErr result (λ fault. fault ≡ OutOfMemory) }
 {
     if !relax {

@@ -11,7 +11,8 @@ ghost use Rattle.rv_object_types.specs.View.{object_of};
 ghost use Rattle.rv_link_laws.specs.CallSites.{sites_of};
 ghost use Rattle.rv_link_laws.specs.Moves.{has_room};
 ghost use Rattle.rv_link_laws.specs.Shortened.{Relaxes};
-ghost use Rattle.rv_shorten.specs.View.{short_object_of, whole_object_of};
+ghost use Rattle.rv_shorten.specs.Cuts.{no_cuts};
+ghost use Rattle.rv_shorten.specs.View.{moves_by_section, short_object_of, whole_object_of};
 ghost use Rattle.rv_relax.specs.CallSizes.{AreCallSizes};
 ghost use Rattle.rv_relax.specs.Kept.{kept_in, moves_of};
 ghost use Rattle.rv_relax.specs.Told.{told_objects};
@@ -48,7 +49,7 @@ struct Cut<'o, 'a> {
 }
 
 impl<'o, 'a> Cut<'o, 'a> {
-    ghost use Rattle.rv_relax.specs.Plan.{objects_of_line};
+    ghost use Rattle.rv_relax.specs.Plan.{RelaxesBy, objects_of_line};
 
     /// What is cut of the calls of a text.
     fn of(alloc: Global, text_line: &TextLine<'o, 'a>) -> Result<Cut<'o, 'a>, AllocError>
@@ -56,6 +57,8 @@ impl<'o, 'a> Cut<'o, 'a> {
             (λ cut. map whole_object_of cut.objects.items ≡ objects_of_line text_line.now) }
         ensures relaxes { IfOk result (λ cut. Relaxes true (objects_of_line text_line.now)
             (map short_object_of cut.objects.items)) }
+        ensures cuts { IfOk result (λ cut. RelaxesBy true (objects_of_line text_line.now)
+            (map short_object_of cut.objects.items) (map moves_by_section cut.objects.items)) }
         ensures calls { IfOk result (λ cut. AreCallSizes true (objects_of_line text_line.now)
             (told_objects Calls cut.objects.items)) }
         ensures rounds { IfOk result
@@ -70,7 +73,7 @@ impl<'o, 'a> Cut<'o, 'a> {
 }
 
 impl<'o, 'a> TextLine<'o, 'a> {
-    ghost use Rattle.rv_relax.specs.Plan.{objects_of_line, planned_objects};
+    ghost use Rattle.rv_relax.specs.Plan.{RelaxesBy, objects_of_line, planned_cuts, planned_objects, whole_objects};
 
     /// The plan of its text with calls relaxed, as [`Plan::relaxed`] gives it. The sites give their memory back before there
     /// are paddings, so that a text of many alignments never has both.
@@ -79,8 +82,12 @@ impl<'o, 'a> TextLine<'o, 'a> {
     ///
     /// Want of memory.
     pub fn into_plan(self, alloc: Global) -> Result<Plan<'o, 'a>, AllocError>
+        ensures whole { IfOk result
+            (λ plan. whole_objects plan ≡ objects_of_line self.entry) }
         ensures relaxes { IfOk result
             (λ plan. Relaxes true (objects_of_line self.entry) (planned_objects plan)) }
+        ensures cuts { IfOk result (λ plan. RelaxesBy true (objects_of_line self.entry)
+            (planned_objects plan) (planned_cuts plan)) }
     {
         let Cut { objects, rounds } = Cut::of(alloc, &self)?;
         drop(self);
@@ -125,7 +132,7 @@ fn are_roomy(plans: &[SectionPaddings]) -> bool
 }
 
 impl<'o, 'a> Plan<'o, 'a> {
-    ghost use Rattle.rv_relax.specs.Plan.{IsUnplanned, are_roomy_objects, planned_objects, objects_of_line, rounds_of, whole_objects};
+    ghost use Rattle.rv_relax.specs.Plan.{IsUnplanned, are_roomy_objects, planned_cuts, planned_objects, objects_of_line, rounds_of, whole_objects};
 
     /// The plan of a text in which each alignment has as many bytes as it needs (`Plan::relaxed`).
     ///
@@ -189,6 +196,7 @@ impl<'o, 'a> Plan<'o, 'a> {
     pub fn whole(alloc: Global, objects: &'o [Object<'a>]) -> Result<Plan<'o, 'a>, AllocError>
         ensures whole { IfOk result (λ plan. whole_objects plan ≡ map object_of objects.now) }
         ensures same { IfOk result (λ plan. planned_objects plan ≡ map object_of objects.now) }
+        ensures cuts { IfOk result (λ plan. planned_cuts plan ≡ no_cuts (map object_of objects.now)) }
         ensures rounds { IfOk result (λ plan. rounds_of plan ≡ 0) }
     {
         let objects = whole(alloc, objects)?;

@@ -12,3 +12,5 @@ pub mod RunningLemmas
 pub mod StepsLemmas
 -- The fields of objects of the code fit, and their paddings lie apart.
 pub mod CodeObjectsLemmas
+-- What the walk along the sites cuts of sections is what the sizes of calls say.
+pub mod CutsLemmas

@@ -8,5 +8,7 @@ pub mod Bytes
 pub mod Sections
 -- What an object stands for of which calls are cut short.
 pub mod View
+-- What relaxation cuts of the sections of objects, by file and section.
+pub mod Cuts
 -- The cut of a site.
 pub mod SiteCuts

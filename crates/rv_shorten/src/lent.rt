@@ -4,7 +4,8 @@ ghost use Rattle.std.specs.Prelude.{◌≡◌, [], map, IfOk};
 ghost use Rattle.rv_object_types.specs.Sections.{section_of};
 ghost use Rattle.rv_object_types.specs.View.{object_of};
 ghost use Rattle.rv_shorten.specs.Sections.{moves_in_all, short_section_of, whole_section_of};
-ghost use Rattle.rv_shorten.specs.View.{short_object_of, whole_object_of};
+ghost use Rattle.rv_shorten.specs.Cuts.{no_cuts};
+ghost use Rattle.rv_shorten.specs.View.{moves_by_section, short_object_of, whole_object_of};
 
 use crate::object::ShortObject;
 use crate::section::ShortSection;
@@ -43,6 +44,8 @@ pub fn whole<'o, 'a>(
         (λ left. map whole_object_of left.items ≡ map object_of objects.now) }
     ensures same { IfOk result
         (λ left. map short_object_of left.items ≡ map object_of objects.now) }
+    ensures none { IfOk result
+        (λ left. map moves_by_section left.items ≡ no_cuts (map object_of objects.now)) }
 {
     let mut left = Vec::with_capacity(alloc, objects.len())?;
     for object in objects {

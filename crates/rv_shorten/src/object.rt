@@ -59,7 +59,7 @@ fn moved_row(row: Row, cuts: &[Cut]) -> Row
 }
 
 impl<'o, 'a> ShortObject<'o, 'a> {
-    ghost use Rattle.rv_shorten.specs.View.{short_object_of, whole_object_of};
+    ghost use Rattle.rv_shorten.specs.View.{moves_by_section, short_object_of, whole_object_of};
 
     /// An object of which these sections are left.
     pub(crate) fn of(
@@ -74,6 +74,7 @@ impl<'o, 'a> ShortObject<'o, 'a> {
         ensures whole { whole_object_of result ≡ object_of whole.now }
         ensures left { short_object_of result
             ≡ cutting.cut_object (moves_in_all sections.entry.items) (object_of whole.now) }
+        ensures cuts { moves_by_section result ≡ moves_in_all sections.entry.items }
     {
         ShortObject { whole, sections }
     }

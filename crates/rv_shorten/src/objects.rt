@@ -5,7 +5,8 @@ ghost use Rattle.rv_size_laws.specs.Calls.{IsText};
 ghost use Rattle.rv_object_types.specs.View.{object_of};
 ghost use Rattle.rv_link_laws.specs.CallSites.{sites_of};
 ghost use Rattle.rv_link_laws.specs.Shortened.{shortened};
-ghost use Rattle.rv_shorten.specs.View.{short_object_of, whole_object_of};
+ghost use Rattle.rv_shorten.specs.Cuts.{object_cuts, walked_cuts};
+ghost use Rattle.rv_shorten.specs.View.{moves_by_section, short_object_of, whole_object_of};
 ghost use Rattle.rv_cut_laws.specs.Walk.{AreWalked, walked};
 
 use crate::object::ShortObject;
@@ -27,6 +28,8 @@ fn shorten_all<'o, 'a>(
         (λ left. map whole_object_of left.items ≡ map object_of objects.now) }
     ensures left { IfOk result (λ left. map short_object_of left.items
         ≡ walked (map object_of objects.now) sites.now kept.now) }
+    ensures cuts { IfOk result (λ left. map moves_by_section left.items
+        ≡ walked_cuts (map object_of objects.now) sites.now kept.now) }
 {
     let mut left = Vec::with_capacity(alloc, objects.len())?;
     let mut at = 0;
@@ -57,6 +60,8 @@ pub fn shorten<'o, 'a>(
         (λ left. map whole_object_of left.items ≡ map object_of objects.now) }
     ensures left { IfOk result (λ left. map short_object_of left.items
         ≡ shortened kept.now (map object_of objects.now)) }
+    ensures cuts { IfOk result (λ left. map moves_by_section left.items
+        ≡ object_cuts kept.now (map object_of objects.now)) }
 {
     shorten_all(alloc, objects, sites, kept)
 }

@@ -6,6 +6,7 @@ use Rattle.rv_size_laws.specs.Steps.{Begins}
 use Rattle.rv_size_laws.proofs.StepsLemmas.{rounds_few, one_round_more, round_and_steps}
 use Rattle.rv_size_laws.proofs.ShorteningLemmas.{shortening, shortened_greatest}
 use Rattle.rv_call_sizes.proofs.TablesLemmas.{first_table}
+use Rattle.rv_call_sizes.proofs.ChasingLemmas.{round_more}
 use Rattle.rv_call_sizes.proofs.passes.settle.Goals as goal
 
 pub rounds-init : goal.rounds-init
@@ -39,4 +40,17 @@ pub rounds-preserved : goal.rounds-preserved
 rounds-preserved c = record {
   table = c.shorten.ensures.table;
   rounds_done = one_round_more c.rounds.invariant.rounds_done c.shorten.ensures.shortenings (omega (arith, c.if-shorten-eq0.false));
+}
+
+pub rounds-smaller-then-rounds-ge-PASSES_ALONE : goal.rounds-smaller-then-rounds-ge-PASSES_ALONE
+rounds-smaller-then-rounds-ge-PASSES_ALONE c =
+    let more = one_round_more c.rounds.invariant.rounds_done c.shorten.ensures.shortenings (omega (arith, c.if-shorten-eq0.false)) in
+    let few : c.rounds.rounds + 1 ≤ 2 * calls c.args.sites.now = rounds_few (shortening c.args.sites.now) c.shorten.new.kept (c.rounds.rounds + 1) more in
+    let smaller : 2 * calls c.args.sites.now - (c.rounds.rounds + 1) < 2 * calls c.args.sites.now - c.rounds.rounds = omega arith in
+    smaller
+
+pub rounds-preserved-then-rounds-ge-PASSES_ALONE : goal.rounds-preserved-then-rounds-ge-PASSES_ALONE
+rounds-preserved-then-rounds-ge-PASSES_ALONE c = record {
+  table = c.fill.ensures;
+  rounds_done = round_more c.shorten_one_by_one.new.kept c.rounds.invariant.rounds_done c.shorten.ensures.shortenings (omega (arith, c.if-shorten-eq0.false)) c.in_ok-shorten_one_by_one.ensures.shortenings;
 }

@@ -4,7 +4,7 @@ use Rattle.rv_list_laws.proofs.ElementsLemmas.{get_index_or}
 use Rattle.rv_list_laws.proofs.MapLemmas.{get_map}
 use Rattle.rv_archive.specs.declared.index.Entry.{Entry as DeclaredEntry}
 use Rattle.rv_archive.specs.View.{plain_entry}
-use Rattle.rv_members.specs.Plain.{plain_offer}
+use Rattle.rv_inputs.specs.Plain.{plain_offer}
 use Rattle.rv_inputs.specs.Gathered.{entry_offer}
 use Rattle.rv_inputs.proofs.GatheringLemmas.{map_next}
 use Rattle.rv_inputs.proofs.gathering.put_index.Goals as goal

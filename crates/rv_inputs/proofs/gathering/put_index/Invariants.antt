@@ -1,6 +1,6 @@
 use Rattle.std.proofs.Common.{◌≡◌, ◌++◌, map, take}
 use Rattle.rv_archive.specs.View.{plain_entry}
-use Rattle.rv_members.specs.Plain.{plain_offer}
+use Rattle.rv_inputs.specs.Plain.{plain_offer}
 use Rattle.rv_inputs.specs.Gathered.{entry_offer}
 use Rattle.rv_inputs.proofs.gathering.put_index.Given as goal
 

@@ -1,6 +1,6 @@
 use Rattle.std.proofs.Common.{◌≡◌, List, map, sym, ap, subst, ◌∙◌, arith}
 use Rattle.std.proofs.lemmas.List.{take_all}
-use Rattle.rv_members.specs.Plain.{plain_texts}
+use Rattle.rv_inputs.specs.Plain.{plain_texts}
 use Rattle.rv_object_types.specs.declared.symbol.Symbol.{Symbol}
 use Rattle.rv_object_types.specs.Parts.{symbol_of}
 use Rattle.rv_inputs.specs.Names.{asks_name, names_where}

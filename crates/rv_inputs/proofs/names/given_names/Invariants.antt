@@ -1,5 +1,5 @@
 use Rattle.std.proofs.Common.{◌≡◌, map, take}
-use Rattle.rv_members.specs.Plain.{plain_texts}
+use Rattle.rv_inputs.specs.Plain.{plain_texts}
 use Rattle.rv_object_types.specs.Parts.{symbol_of}
 use Rattle.rv_inputs.specs.Names.{gives_name, names_where}
 use Rattle.rv_inputs.proofs.names.given_names.Given as goal

@@ -4,8 +4,8 @@ use Rattle.std.proofs.lemmas.Result.{err_from_is_err_and}
 use Rattle.rv_list_laws.proofs.ElementsLemmas.{get_index_or}
 use Rattle.rv_list_laws.proofs.MapLemmas.{get_map}
 use Rattle.rv_archive_laws.specs.Taken.{ObjectNames, Offer, Position, next_offer}
-use Rattle.rv_members.specs.Plain.{plain_offer}
-use Rattle.rv_members.specs.State.{IsState, IsNext, position_of}
+use Rattle.rv_inputs.specs.Plain.{plain_offer}
+use Rattle.rv_inputs.specs.State.{IsState, IsNext, position_of}
 use Rattle.rv_inputs.specs.Taken.{AreNamesOf, wanted}
 use Rattle.rv_inputs.specs.Views.{gathering_of, object_of}
 use Rattle.rv_inputs.proofs.SelectionLemmas.{takes_start, below_start, takes_more, takes_all, below_more, names_before, names_last, offers_one, number_below, follows_start, follows_more, taken_behind, read_start, read_more, unread_in}

@@ -1,9 +1,9 @@
 use Rattle.std.proofs.Common.{◌≡◌, ◌<◌, ℕ, Some, length, map}
 use Rattle.std.specs.List.{slice_get}
 use Rattle.rv_archive_laws.specs.Taken.{ObjectNames}
-use Rattle.rv_members.specs.Left.{left}
-use Rattle.rv_members.specs.Plain.{plain_offer}
-use Rattle.rv_members.specs.State.{IsState, position_of}
+use Rattle.rv_inputs.specs.Left.{left}
+use Rattle.rv_inputs.specs.Plain.{plain_offer}
+use Rattle.rv_inputs.specs.State.{IsState, position_of}
 use Rattle.rv_inputs.specs.Taken.{AreNamesOf, wanted, AreRead}
 use Rattle.rv_inputs.specs.Views.{object_of}
 use Rattle.rv_inputs.proofs.SelectionLemmas.{TakesSo, Follows}
